@@ -1,0 +1,26 @@
+-- Texts and words, as lists of bytes.
+use Rattle.std.specs.Prelude.{◌≡◌, ℕ, ◌≤◌, Bool, true, false, ◌||◌, ◌&&◌, List, [], ◌∷◌, length, nat_eq, nat_le}
+use Rattle.std.specs.List.{list_all}
+
+-- a text has at most 1,048,576 bytes
+abbrev pub IsText : List ℕ → Type 0
+IsText bytes = length bytes ≤ 1048576
+
+-- a letter of ASCII or `_`
+abbrev pub begins_word : ℕ → Bool
+begins_word b = (nat_le 65 b && nat_le b 90) || ((nat_le 97 b && nat_le b 122) || nat_eq b 95)
+
+-- such a byte, or a decimal digit
+abbrev pub is_word_byte : ℕ → Bool
+is_word_byte b = begins_word b || (nat_le 48 b && nat_le b 57)
+
+-- the first byte is there and begins a word
+abbrev pub has_word_start : List ℕ → Bool
+has_word_start [] = false
+has_word_start (b ∷ bytes) = begins_word b
+
+-- a word: a letter or `_`, then letters, digits or `_`, at most 64 bytes in all
+pub record IsWord (bytes : List ℕ) : Type 0 where
+  pub start : has_word_start bytes ≡ true
+  pub each : list_all is_word_byte bytes ≡ true
+  pub short : length bytes ≤ 64

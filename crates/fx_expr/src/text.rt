@@ -1,0 +1,136 @@
+ghost use Rattle.std.specs.Prelude.{◌≡◌, ◌++◌, ◌<◌, [], ◌∷◌, Some, IfOk, OnOk, OnErr, length, slice_get, nat_eq, refl};
+ghost use Rattle.std.specs.Option.{option_copied};
+ghost use Rattle.std.specs.Ordering.{nat_cmp};
+ghost use Rattle.std.specs.Cmp.{partial_equiv_from_equiv};
+ghost use Rattle.std.specs.Cmp.Lexicographic.{pointwise, slice_cmp, nat_list_eq_equiv, nat_list_cmp_total, texts_ties, texts_po};
+ghost use Rattle.fx_expr.specs.Bytes.{IsText};
+
+use fx_base::NoMemory;
+use std::alloc::Global;
+use std::cmp::Ordering;
+use std::marker::Model;
+
+/// The most bytes that a text may have.
+pub const TEXT_LIMIT: usize = 1_048_576;
+
+/// A text value: at most [`TEXT_LIMIT`] bytes of any kind, UTF-8 or not. Contracts see the list of its bytes.
+#[derive(Debug, Drop)]
+pub struct Text {
+    bytes: Vec<u8>,
+}
+
+impl Model for Text {
+    ghost use Rattle.std.specs.Prelude.{List, ℕ};
+    ghost use Rattle.fx_expr.specs.Bytes.{IsText};
+
+    ghost Value = { List ℕ };
+
+    ghost view = { λ t. t.bytes.items };
+
+    ghost invariant = { λ t. IsText t.bytes.items };
+}
+
+impl Text {
+    /// The empty text.
+    pub fn new(alloc: Global) -> Text
+        ensures { result ≡ [] }
+    {
+        Text {
+            bytes: Vec::new(alloc),
+        }
+    }
+
+    /// The text of these bytes; the caller keeps the limit.
+    pub fn from_vec(v: Vec<u8>) -> Text
+        requires { IsText v.items }
+        ensures { result ≡ v.items }
+    {
+        Text { bytes: v }
+    }
+
+    pub fn as_slice(&self) -> &[u8]
+        ensures value { result.now ≡ self.now }
+        ensures limit { IsText self.now }
+    {
+        self.bytes.as_slice()
+    }
+
+    pub fn into_vec(self) -> Vec<u8>
+        ensures value { result.items ≡ self }
+        ensures limit { IsText self }
+    {
+        let Text { bytes } = self;
+        bytes
+    }
+
+    /// An equal text of its own.
+    pub fn copy(&self, alloc: Global) -> Result<Text, NoMemory>
+        ensures { IfOk result (λ text. text ≡ self.now) }
+    {
+        let bytes = Vec::from_slice(alloc, self.bytes.as_slice())?;
+        Ok(Text { bytes })
+    }
+
+    /// The number of bytes.
+    pub fn len(&self) -> u64
+        ensures value { result ≡ length self.now }
+        ensures limit { IsText self.now }
+    {
+        self.bytes.len() as u64
+    }
+
+    /// The byte at `i`; None exactly from `len` on.
+    pub fn at(&self, i: u64) -> Option<&u8>
+        ensures { option_copied result ≡ slice_get self.now i }
+    {
+        self.bytes.get(i as usize)
+    }
+
+    /// Adds a byte at the end; the caller keeps the limit. A refusal changes nothing.
+    pub fn add(&mut self, item: u8) -> Result<(), NoMemory>
+        requires { IsText (self.old ++ item ∷ []) }
+        ensures ok { OnOk result (self.new ≡ self.old ++ item ∷ []) }
+        ensures err { OnErr result (self.new ≡ self.old) }
+    {
+        self.bytes.push(item)?;
+        Ok(())
+    }
+}
+
+impl PartialEq for Text {
+    ghost eq = { pointwise nat_eq };
+
+    ghost laws = { partial_equiv_from_equiv nat_list_eq_equiv };
+
+    fn eq(&self, other: &Text) -> bool {
+        self.bytes.as_slice() == other.bytes.as_slice()
+    }
+}
+
+impl Eq for Text {
+    ghost laws = { nat_list_eq_equiv };
+}
+
+impl PartialOrd for Text {
+    ghost partial_cmp = { λ x y. Some (slice_cmp nat_cmp x y) };
+
+    ghost laws = { texts_po };
+
+    fn partial_cmp(&self, other: &Text) -> Option<Ordering> {
+        Some(self.cmp(other))
+    }
+}
+
+impl Ord for Text {
+    ghost cmp = { slice_cmp nat_cmp };
+
+    ghost total = { nat_list_cmp_total };
+
+    ghost matches_partial_cmp = { λ x y. refl };
+
+    ghost matches_eq = { texts_ties };
+
+    fn cmp(&self, other: &Text) -> Ordering {
+        self.bytes.as_slice().cmp(other.bytes.as_slice())
+    }
+}
