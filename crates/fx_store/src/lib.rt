@@ -1,0 +1,20 @@
+//! Filestores: paths, and the files, directories and links that stand at them.
+#![tactic(auto)]
+
+mod bytes;
+mod changes;
+mod link;
+mod name;
+mod names;
+mod node;
+mod path;
+mod paths;
+
+pub use bytes::{Bytes, LongText};
+pub use changes::{Change, Changes};
+pub use link::LinkText;
+pub use name::{Name, PathFault};
+pub use names::{NameList, Names};
+pub use node::{Landing, Node};
+pub use path::Path;
+pub use paths::Paths;
