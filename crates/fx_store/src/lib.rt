@@ -3,6 +3,7 @@
 
 mod bytes;
 mod changes;
+pub mod laws;
 mod link;
 mod name;
 mod names;
