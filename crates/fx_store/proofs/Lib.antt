@@ -1,3 +1,4 @@
 pub mod Asks
 pub mod Landings
 pub mod Examples
+mod NameTests

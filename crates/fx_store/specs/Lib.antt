@@ -1,4 +1,5 @@
 pub mod Names
+pub mod Orders
 pub mod Faults
 pub mod Changes
 pub mod Whole

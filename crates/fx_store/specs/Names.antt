@@ -1,9 +1,9 @@
 -- Names, link texts and paths: lists of bytes, and lists of names from the root on.
-use Rattle.std.specs.Prelude.{ℕ, ◌≤◌, ◌<◌, Bool, cond, not, ◌&&◌, ◌||◌, List, [], ◌∷◌, length, drop, nat_lt, nat_le, ◌==◌, IsTrue, All, codes, bytes_eq}
+use Rattle.std.specs.Prelude.{ℕ, ◌≤◌, ◌<◌, Bool, true, false, cond, not, ◌&&◌, ◌||◌, List, [], ◌∷◌, length, drop, nat_lt, nat_le, ◌==◌, IsTrue, All, codes, bytes_eq}
 use Rattle.std.specs.declared.cmp.Ordering.{Ordering}
-use Rattle.std.specs.Ordering.{nat_cmp}
+use Rattle.std.specs.Ordering.{nat_cmp, eq_by_cmp}
 use Rattle.std.specs.Cmp.Lexicographic.{slice_cmp}
-use Rattle.std.specs.List.{list_any, list_all, slice_split, flat_map, starts_with}
+use Rattle.std.specs.List.{list_any, list_all, slice_split, flat_map}
 use Rattle.std.specs.List.Sorted.{IsStrictlySortedBy}
 use Rattle.std.specs.Str.{is_utf8}
 
@@ -52,29 +52,39 @@ pub record IsPathSet (set : List (List (List ℕ))) : Type 0 where
   pub paths : All IsPath set
   pub ascending : IsStrictlySortedBy path_cmp set
 
+-- whether the key is one of these
+abbrev pub is_in : {K : Type 0} → (K → K → Ordering) → List K → K → Bool
+is_in R keys key = list_any (eq_by_cmp R key) keys
+
 -- whether the set of names has this one
 abbrev pub has : List (List ℕ) → List ℕ → Bool
-has names name = list_any (bytes_eq name) names
+has names name = is_in name_cmp names name
+
+-- whether the set of paths has this one
+abbrev pub has_path : List (List (List ℕ)) → List (List ℕ) → Bool
+has_path paths path = is_in path_cmp paths path
 
 -- the text of a path: `/` for the root, and else each name with `/` before it
 abbrev pub path_text : List (List ℕ) → List ℕ
 path_text [] = 47 ∷ []
 path_text (name ∷ names) = flat_map (λ n. 47 ∷ n) (name ∷ names)
 
--- a link text says where it starts, and the steps from there
+-- whether a link text starts at the root
 abbrev pub is_absolute : List ℕ → Bool
-is_absolute text = starts_with (λ a b. a == b) text (47 ∷ [])
+is_absolute [] = false
+is_absolute (b ∷ bs) = is_slash b
 
--- the bytes after a leading `/`
+-- the bytes after a leading `/`, or all bytes where there is none
 abbrev pub after_slash : List ℕ → List ℕ
-after_slash text = cond (is_absolute text) (drop 1 text) text
+after_slash [] = []
+after_slash (b ∷ bs) = cond (is_slash b) bs (b ∷ bs)
 
--- the parts between the slashes; of no bytes there are none
+-- the parts between the slashes; no bytes have no part
 abbrev pub parts : List ℕ → List (List ℕ)
 parts [] = []
 parts (b ∷ bs) = slice_split is_slash (b ∷ bs)
 
--- the components of a link text
+-- the components of a link text, and the names of a path text
 abbrev pub components : List ℕ → List (List ℕ)
 components text = parts (after_slash text)
 

@@ -8,6 +8,7 @@ mod link;
 mod name;
 mod names;
 mod node;
+mod parts;
 mod path;
 mod paths;
 

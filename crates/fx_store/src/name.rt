@@ -1,10 +1,14 @@
 //! Names of entries, and why the bytes of a name, a path or a link text are refused.
-ghost use Rattle.std.specs.Prelude.{◌≡◌, ℕ, List, IfOk, ◌↔◌, IsTrue};
-ghost use Rattle.std.proofs.Common.{rules};
-ghost use Rattle.std.specs.Cmp.{partial_order_from_total, on_total, on_per, on_equiv};
-ghost use Rattle.std.specs.Ordering.{nat_cmp, as_partial_cmp};
+ghost use Rattle.std.specs.Prelude.{◌≡◌, ℕ, List, IfOk, bytes_eq, refl};
+ghost use Rattle.std.specs.Cmp.{partial_equiv_from_equiv};
+ghost use Rattle.std.specs.Cmp.Lexicographic.{nat_list_eq_equiv, texts_po, texts_ties};
+ghost use Rattle.std.specs.Ordering.{as_partial_cmp};
 ghost use Rattle.std.specs.Hash as fed;
-ghost use Rattle.fx_store.specs.Names.{is_name, IsName, name_cmp};
+ghost use Rattle.std.specs.Hash.{items_Alike, same_Alike};
+ghost use Rattle.std.specs.Cmp.{unsigned_Decides};
+ghost use Rattle.std.specs.Str.{is_utf8};
+ghost use Rattle.fx_store.specs.Names.{is_name, is_reserved, IsName, name_cmp};
+ghost use Rattle.fx_store.specs.Orders.{name_total};
 
 use fx_base::NoMemory;
 use std::alloc::{AllocError, AllocFailed, Global};
@@ -61,6 +65,9 @@ pub struct Name {
 }
 
 impl Model for Name {
+    ghost use Rattle.std.specs.Prelude.{List, ℕ};
+    ghost use Rattle.fx_store.specs.Names.{IsName};
+
     ghost Value = { List ℕ };
 
     ghost view = { λ n. n.bytes.items };
@@ -69,6 +76,28 @@ impl Model for Name {
 }
 
 impl Name {
+    ghost use Rattle.fx_store.specs.Faults.{Answers, read_name};
+
+    /// Reads a name: `BadName` where the bytes are none.
+    pub fn read(alloc: Global, bytes: &[u8]) -> Result<Name, PathFault>
+        ensures { Answers result (read_name bytes.now) }
+    {
+        if !is_name(bytes) {
+            return Err(PathFault::BadName);
+        }
+        Ok(Name::of(alloc, bytes)?)
+    }
+
+    /// The name that the bytes are, for bytes that were tested.
+    pub(crate) fn of(alloc: Global, bytes: &[u8]) -> Result<Name, NoMemory>
+        requires { IsName bytes.now }
+        ensures { IfOk result (λ n. n ≡ bytes.now) }
+    {
+        Ok(Name {
+            bytes: Vec::from_slice(alloc, bytes)?,
+        })
+    }
+
     pub fn as_slice(&self) -> &[u8]
         ensures bytes { result.now ≡ self.now }
         ensures name { IsName self.now }
@@ -77,10 +106,104 @@ impl Name {
     }
 
     pub fn copy(&self, alloc: Global) -> Result<Name, NoMemory>
-        ensures { IfOk result (λ n. n ≡ self.now) }
+        ensures copied { IfOk result (λ n. n ≡ self.now) }
+        ensures name { IsName self.now }
     {
         Ok(Name {
             bytes: Vec::from_slice(alloc, &self.bytes)?,
         })
+    }
+}
+
+/// Whether the bytes are a name.
+#[tactic(auto, using(std::proofs::lemmas::Bool::Decides::nat_tests), unfolding(crate::specs::Names::is_name))]
+pub fn is_name(bytes: &[u8]) -> bool
+    ensures { result ≡ is_name bytes.now }
+{
+    if bytes.is_empty() {
+        return false;
+    }
+    if bytes.len() > 255 {
+        return false;
+    }
+    if bytes.contains(&b'/') {
+        return false;
+    }
+    if bytes.contains(&0) {
+        return false;
+    }
+    if is_reserved(bytes) {
+        return false;
+    }
+    is_text(bytes)
+}
+
+fn is_reserved(bytes: &[u8]) -> bool
+    ensures { result ≡ is_reserved bytes.now }
+{
+    bytes == b".".as_slice() || bytes == b"..".as_slice() || bytes == b".forest-links".as_slice()
+}
+
+fn is_text(bytes: &[u8]) -> bool
+    ensures { result ≡ is_utf8 bytes.now }
+{
+    str::from_utf8(bytes).is_ok()
+}
+
+impl Clone for Name {
+    ghost is_clone = { λ x y. y ≡ x };
+
+    fn clone(&self) -> Result<Name, AllocError> {
+        Ok(Name {
+            bytes: self.bytes.clone()?,
+        })
+    }
+}
+
+impl PartialEq for Name {
+    ghost eq = { bytes_eq };
+
+    ghost laws = { partial_equiv_from_equiv nat_list_eq_equiv };
+
+    fn eq(&self, other: &Name) -> bool {
+        self.bytes == other.bytes
+    }
+}
+
+impl Eq for Name {
+    ghost laws = { nat_list_eq_equiv };
+}
+
+impl PartialOrd for Name {
+    ghost partial_cmp = { as_partial_cmp name_cmp };
+
+    ghost laws = { texts_po };
+
+    fn partial_cmp(&self, other: &Name) -> Option<Ordering> {
+        Some(self.cmp(other))
+    }
+}
+
+impl Ord for Name {
+    ghost cmp = { name_cmp };
+
+    ghost total = { name_total };
+
+    ghost matches_partial_cmp = { λ _ _. refl };
+
+    ghost matches_eq = { texts_ties };
+
+    fn cmp(&self, other: &Name) -> Ordering {
+        self.bytes.cmp(&other.bytes)
+    }
+}
+
+impl Hash for Name {
+    ghost hash_input = { fed.slice fed.u8 };
+
+    ghost respects_eq = { (items_Alike (same_Alike fed.u8 unsigned_Decides)).fed };
+
+    fn hash<H: Hasher>(&self, state: &mut H) {
+        self.bytes.hash(state);
     }
 }

@@ -1,10 +1,22 @@
 //! Paths, as lists of names from the root on.
-ghost use Rattle.std.specs.Prelude.{◌≡◌, ℕ, List, [], length, slice_get, option_copied};
-ghost use Rattle.fx_store.specs.Names.{IsPath};
+ghost use Rattle.std.specs.Prelude.{◌≡◌, ℕ, List, [], length, IfOk, slice_get, option_copied, refl};
+ghost use Rattle.std.specs.Cmp.{partial_equiv_from_equiv, partial_order_from_total, eq_by_cmp_equiv};
+ghost use Rattle.std.specs.Ordering.{as_partial_cmp, eq_by_cmp};
+ghost use Rattle.std.specs.Hash as fed;
+ghost use Rattle.std.proofs.Common.{ap};
+ghost use Rattle.fx_store.specs.Names.{IsPath, path_cmp};
+ghost use Rattle.fx_store.specs.Orders.{path_total, path_eq_same};
 
-use crate::name::Name;
-use std::alloc::Global;
+use crate::name::{Name, PathFault};
+use crate::parts::{add_names, are_names, has_more_parts};
+use fx_base::NoMemory;
+use std::alloc::{AllocError, Global};
+use std::cmp::Ordering;
+use std::hash::{Hash, Hasher};
 use std::marker::Model;
+
+/// The most names that a path has.
+const MAX_NAMES: usize = 64;
 
 /// A path of at most 64 names, the first below the root. The root has none. Paths are ordered name by name, so a
 /// directory comes just before all that is below it.
@@ -14,6 +26,9 @@ pub struct Path {
 }
 
 impl Model for Path {
+    ghost use Rattle.std.specs.Prelude.{List, ℕ};
+    ghost use Rattle.fx_store.specs.Names.{IsPath};
+
     ghost Value = { List (List ℕ) };
 
     ghost view = { λ p. p.names.items };
@@ -22,12 +37,60 @@ impl Model for Path {
 }
 
 impl Path {
+    ghost use Rattle.fx_store.specs.Faults.{Answers, read_path, joined, extended};
+
     pub fn root(alloc: Global) -> Path
         ensures { result ≡ [] }
     {
         Path {
             names: Vec::new(alloc),
         }
+    }
+
+    /// Reads a path text: `/`, or each name with a `/` before it. It is `BadName` where it is no path text of any
+    /// length, and else `TooDeep` where it has more than 64 names.
+    pub fn read(alloc: Global, text: &[u8]) -> Result<Path, PathFault>
+        ensures { Answers result (read_path text.now) }
+    {
+        match text.split_first() {
+            Some((b'/', [])) => Ok(Path::root(alloc)),
+            Some((b'/', rest)) => Path::root(alloc).extend(alloc, rest),
+            _ => Err(PathFault::BadName),
+        }
+    }
+
+    /// The path with one name more: `TooDeep` where it has 64 names already.
+    pub fn join(&self, alloc: Global, name: &Name) -> Result<Path, PathFault>
+        ensures { Answers result (joined self.now name.now) }
+    {
+        if self.names.len() >= MAX_NAMES {
+            return Err(PathFault::TooDeep);
+        }
+        let mut names = Vec::from_clones(alloc, &self.names)?;
+        names.push(name.copy(alloc)?)?;
+        Ok(Path { names })
+    }
+
+    /// The path that goes on by the names of a text, which has one `/` between each two. It is `BadName` where the
+    /// text is not made so, and else `TooDeep` where there are more than 64 names.
+    pub fn extend(&self, alloc: Global, text: &[u8]) -> Result<Path, PathFault>
+        ensures { Answers result (extended self.now text.now) }
+    {
+        if !are_names(text) {
+            return Err(PathFault::BadName);
+        }
+        if has_more_parts(text, MAX_NAMES - self.names.len()) {
+            return Err(PathFault::TooDeep);
+        }
+        let mut names = Vec::from_clones(alloc, &self.names)?;
+        add_names(alloc, &mut names, text)?;
+        Ok(Path { names })
+    }
+
+    pub fn compare(&self, other: &Path) -> Ordering
+        ensures { result ≡ path_cmp self.now other.now }
+    {
+        self.cmp(other)
     }
 
     /// The number of names.
@@ -44,5 +107,72 @@ impl Path {
         ensures path { IsPath self.now }
     {
         self.names.get(i as usize)
+    }
+
+    pub fn copy(&self, alloc: Global) -> Result<Path, NoMemory>
+        ensures copied { IfOk result (λ p. p ≡ self.now) }
+        ensures path { IsPath self.now }
+    {
+        Ok(Path {
+            names: Vec::from_clones(alloc, &self.names)?,
+        })
+    }
+}
+
+impl Clone for Path {
+    ghost is_clone = { λ x y. y ≡ x };
+
+    fn clone(&self) -> Result<Path, AllocError> {
+        Ok(Path {
+            names: self.names.clone()?,
+        })
+    }
+}
+
+impl PartialEq for Path {
+    ghost eq = { eq_by_cmp path_cmp };
+
+    ghost laws = { partial_equiv_from_equiv (eq_by_cmp_equiv path_total) };
+
+    fn eq(&self, other: &Path) -> bool {
+        self.names == other.names
+    }
+}
+
+impl Eq for Path {
+    ghost laws = { eq_by_cmp_equiv path_total };
+}
+
+impl PartialOrd for Path {
+    ghost partial_cmp = { as_partial_cmp path_cmp };
+
+    ghost laws = { partial_order_from_total path_total };
+
+    fn partial_cmp(&self, other: &Path) -> Option<Ordering> {
+        Some(self.cmp(other))
+    }
+}
+
+impl Ord for Path {
+    ghost cmp = { path_cmp };
+
+    ghost total = { path_total };
+
+    ghost matches_partial_cmp = { λ _ _. refl };
+
+    ghost matches_eq = { λ _ _. refl };
+
+    fn cmp(&self, other: &Path) -> Ordering {
+        self.names.cmp(&other.names)
+    }
+}
+
+impl Hash for Path {
+    ghost hash_input = { fed.slice (fed.slice fed.u8) };
+
+    ghost respects_eq = { λ x y e. ap (fed.slice (fed.slice fed.u8)) (path_eq_same x y e) };
+
+    fn hash<H: Hasher>(&self, state: &mut H) {
+        self.names.hash(state);
     }
 }
