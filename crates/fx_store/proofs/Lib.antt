@@ -2,3 +2,5 @@ pub mod Asks
 pub mod Landings
 pub mod Examples
 mod NameTests
+pub mod Ascending
+mod Sets

@@ -1,7 +1,7 @@
 -- Names, link texts and paths: lists of bytes, and lists of names from the root on.
 use Rattle.std.specs.Prelude.{ℕ, ◌≤◌, ◌<◌, Bool, true, false, cond, not, ◌&&◌, ◌||◌, List, [], ◌∷◌, length, drop, nat_lt, nat_le, ◌==◌, IsTrue, All, codes, bytes_eq}
 use Rattle.std.specs.declared.cmp.Ordering.{Ordering}
-use Rattle.std.specs.Ordering.{nat_cmp, eq_by_cmp}
+use Rattle.std.specs.Ordering.{nat_cmp, eq_by_cmp, is_lt}
 use Rattle.std.specs.Cmp.Lexicographic.{slice_cmp}
 use Rattle.std.specs.List.{list_any, list_all, slice_split, flat_map}
 use Rattle.std.specs.List.Sorted.{IsStrictlySortedBy}
@@ -55,6 +55,12 @@ pub record IsPathSet (set : List (List (List ℕ))) : Type 0 where
 -- whether the key is one of these
 abbrev pub is_in : {K : Type 0} → (K → K → Ordering) → List K → K → Bool
 is_in R keys key = list_any (eq_by_cmp R key) keys
+
+-- whether the key is greater than the last of these
+abbrev pub is_above : {K : Type 0} → (K → K → Ordering) → List K → K → Bool
+is_above R [] key = true
+is_above R (k ∷ []) key = is_lt (R k key)
+is_above R (k ∷ l ∷ keys) key = is_above R (l ∷ keys) key
 
 -- whether the set of names has this one
 abbrev pub has : List (List ℕ) → List ℕ → Bool

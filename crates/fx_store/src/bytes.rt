@@ -3,7 +3,7 @@ ghost use Rattle.std.specs.Prelude.{◌≡◌, ℕ, ◌≤◌, ◌<◌, List, []
 ghost use Rattle.fx_store.specs.Names.{IsContent};
 
 use fx_base::NoMemory;
-use std::alloc::Global;
+use std::alloc::{AllocError, Global};
 use std::marker::Model;
 
 /// What a file holds: at most 1,048,576 bytes.
@@ -50,7 +50,7 @@ impl Bytes {
     }
 
     /// Adds a byte at the end, which needs room below the limit.
-    pub fn add(&mut self, item: u8) -> Result<(), NoMemory>
+    pub fn add(&mut self, _alloc: Global, item: u8) -> Result<(), NoMemory>
         requires { length self.old < 1048576 }
         ensures ok { OnOk result (self.new ≡ self.old ++ item ∷ []) }
         ensures err { OnErr result (self.new ≡ self.old) }
@@ -79,6 +79,16 @@ impl Bytes {
     {
         Ok(Bytes {
             bytes: Vec::from_slice(alloc, &self.bytes)?,
+        })
+    }
+}
+
+impl Clone for Bytes {
+    ghost is_clone = { λ x y. y ≡ x };
+
+    fn clone(&self) -> Result<Bytes, AllocError> {
+        Ok(Bytes {
+            bytes: self.bytes.clone()?,
         })
     }
 }
@@ -124,7 +134,7 @@ impl LongText {
     }
 
     /// Adds a byte at the end.
-    pub fn add(&mut self, item: u8) -> Result<(), NoMemory>
+    pub fn add(&mut self, _alloc: Global, item: u8) -> Result<(), NoMemory>
         ensures ok { OnOk result (self.new ≡ self.old ++ item ∷ []) }
         ensures err { OnErr result (self.new ≡ self.old) }
     {

@@ -1,9 +1,10 @@
 //! Changes of a filestore.
-ghost use Rattle.std.specs.Prelude.{◌≡◌, ℕ, List, [], length, slice_get, option_copied};
+ghost use Rattle.std.specs.Prelude.{◌≡◌, ◌↔◌, ◌++◌, ◌∷◌, [], length, IsTrue, IfOk, OnOk, OnErr, slice_get, option_copied};
 
 use crate::node::Node;
 use crate::path::Path;
-use std::alloc::Global;
+use fx_base::NoMemory;
+use std::alloc::{AllocError, Global};
 use std::marker::Model;
 
 /// What stands at a path from now on: a node, or nothing.
@@ -11,6 +12,28 @@ use std::marker::Model;
 pub struct Change {
     pub path: Path,
     pub node: Option<Node>,
+}
+
+impl Change {
+    pub fn copy(&self, alloc: Global) -> Result<Change, NoMemory>
+        ensures { IfOk result (λ c. c ≡ self.now) }
+    {
+        Ok(Change {
+            path: self.path.copy(alloc)?,
+            node: self.node.clone()?,
+        })
+    }
+}
+
+impl Clone for Change {
+    ghost is_clone = { λ x y. y ≡ x };
+
+    fn clone(&self) -> Result<Change, AllocError> {
+        Ok(Change {
+            path: self.path.clone()?,
+            node: self.node.clone()?,
+        })
+    }
 }
 
 /// Changes in ascending order of path, at most one of each path.
@@ -32,7 +55,17 @@ impl Model for Changes {
 }
 
 impl Changes {
-    ghost use Rattle.fx_store.specs.Changes.{IsChanges};
+    ghost use Rattle.fx_store.specs.Changes.{IsChanges, changed_paths};
+    ghost use Rattle.std.specs.List.Sorted.{IsStrictlySortedBy};
+    ghost use Rattle.fx_store.specs.Names.{path_cmp};
+
+    pub fn new(alloc: Global) -> Changes
+        ensures { result ≡ [] }
+    {
+        Changes {
+            changes: Vec::new(alloc),
+        }
+    }
 
     pub fn len(&self) -> u64
         ensures len { result ≡ length self.now }
@@ -47,5 +80,34 @@ impl Changes {
         ensures ascending { IsChanges self.now }
     {
         self.changes.get(i as usize)
+    }
+
+    /// Whether a path is greater than that of each of these, so that a change of it may be added.
+    pub fn is_next(&self, path: &Path) -> bool
+        ensures { IsTrue result ↔ IsStrictlySortedBy path_cmp (changed_paths self.now ++ path.now ∷ []) }
+    {
+        match self.changes.last() {
+            Some(last) => last.path.compare(path).is_lt(),
+            None => true,
+        }
+    }
+
+    /// Adds a change at the end, which needs a path that is greater than that of each of these.
+    pub fn add(&mut self, _alloc: Global, item: Change) -> Result<(), NoMemory>
+        requires { IsStrictlySortedBy path_cmp (changed_paths self.old ++ item.path ∷ []) }
+        ensures ok { OnOk result (self.new ≡ self.old ++ item ∷ []) }
+        ensures err { OnErr result (self.new ≡ self.old) }
+    {
+        self.changes.push(item)?;
+        Ok(())
+    }
+
+    pub fn copy(&self, alloc: Global) -> Result<Changes, NoMemory>
+        ensures copied { IfOk result (λ s. s ≡ self.now) }
+        ensures ascending { IsChanges self.now }
+    {
+        Ok(Changes {
+            changes: Vec::from_clones(alloc, &self.changes)?,
+        })
     }
 }

@@ -8,6 +8,7 @@ mod link;
 mod name;
 mod names;
 mod node;
+mod order;
 mod parts;
 mod path;
 mod paths;

@@ -10,6 +10,7 @@ use std::marker::Model;
 
 /// The most bytes, and the most components, that a link text has.
 const MAX_BYTES: usize = 4096;
+
 const MAX_COMPONENTS: usize = 64;
 
 /// Where a link leads: `/`, or components with one `/` between each two and an optional leading `/`, in 1 to 4,096

@@ -1,8 +1,12 @@
 //! Nodes of a filestore, and where a path leads.
+ghost use Rattle.std.specs.Prelude.{◌≡◌, IfOk};
+
 use crate::bytes::Bytes;
 use crate::link::LinkText;
 use crate::names::{NameList, Names};
 use crate::path::Path;
+use fx_base::NoMemory;
+use std::alloc::{AllocError, Global};
 
 /// What stands at a path: a file with its bytes, a directory with its names, or a link with its text.
 #[derive(Drop)]
@@ -10,6 +14,30 @@ pub enum Node {
     File(Bytes),
     Dir(Names),
     Link(LinkText),
+}
+
+impl Node {
+    pub fn copy(&self, alloc: Global) -> Result<Node, NoMemory>
+        ensures { IfOk result (λ n. n ≡ self.now) }
+    {
+        match self {
+            Node::File(bytes) => Ok(Node::File(bytes.copy(alloc)?)),
+            Node::Dir(names) => Ok(Node::Dir(names.copy(alloc)?)),
+            Node::Link(text) => Ok(Node::Link(text.copy(alloc)?)),
+        }
+    }
+}
+
+impl Clone for Node {
+    ghost is_clone = { λ x y. y ≡ x };
+
+    fn clone(&self) -> Result<Node, AllocError> {
+        match self {
+            Node::File(bytes) => Ok(Node::File(bytes.clone()?)),
+            Node::Dir(names) => Ok(Node::Dir(names.clone()?)),
+            Node::Link(text) => Ok(Node::Link(text.clone()?)),
+        }
+    }
 }
 
 /// Where a path leads once its links are followed.

@@ -1,8 +1,11 @@
 //! Sets of paths.
-ghost use Rattle.std.specs.Prelude.{◌≡◌, ℕ, List, [], length, slice_get, option_copied};
-ghost use Rattle.fx_store.specs.Names.{IsPathSet};
+ghost use Rattle.std.specs.Prelude.{◌≡◌, ◌↔◌, ◌++◌, ◌∷◌, [], length, IsTrue, IfOk, OnOk, OnErr, slice_get, option_copied};
+ghost use Rattle.std.specs.List.Sorted.{IsStrictlySortedBy};
+ghost use Rattle.fx_store.specs.Names.{IsPathSet, has_path, path_cmp};
 
+use crate::order::is_above;
 use crate::path::Path;
+use fx_base::NoMemory;
 use std::alloc::Global;
 use std::marker::Model;
 
@@ -13,6 +16,9 @@ pub struct Paths {
 }
 
 impl Model for Paths {
+    ghost use Rattle.std.specs.Prelude.{List, ℕ};
+    ghost use Rattle.fx_store.specs.Names.{IsPathSet};
+
     ghost Value = { List (List (List ℕ)) };
 
     ghost view = { λ s. s.paths.items };
@@ -21,6 +27,14 @@ impl Model for Paths {
 }
 
 impl Paths {
+    pub fn new(alloc: Global) -> Paths
+        ensures { result ≡ [] }
+    {
+        Paths {
+            paths: Vec::new(alloc),
+        }
+    }
+
     pub fn len(&self) -> u64
         ensures len { result ≡ length self.now }
         ensures set { IsPathSet self.now }
@@ -34,5 +48,40 @@ impl Paths {
         ensures set { IsPathSet self.now }
     {
         self.paths.get(i as usize)
+    }
+
+    /// Whether a path is one of these, by binary search.
+    pub fn has(&self, path: &Path) -> bool
+        ensures found { result ≡ has_path self.now path.now }
+        ensures set { IsPathSet self.now }
+    {
+        self.paths.binary_search(path).is_ok()
+    }
+
+    /// Whether a path is greater than each of these, so that it may be added.
+    pub fn is_next(&self, path: &Path) -> bool
+        ensures { IsTrue result ↔ IsStrictlySortedBy path_cmp (self.now ++ path.now ∷ []) }
+    {
+        is_above(&self.paths, path)
+    }
+
+    /// Adds a path at the end, which needs one that is greater than each of these.
+    pub fn add(&mut self, _alloc: Global, item: Path) -> Result<(), NoMemory>
+        requires { IsStrictlySortedBy path_cmp (self.old ++ item ∷ []) }
+        ensures ok { OnOk result (self.new ≡ self.old ++ item ∷ []) }
+        ensures err { OnErr result (self.new ≡ self.old) }
+    {
+        prove!(item.len() <= 64);
+        self.paths.push(item)?;
+        Ok(())
+    }
+
+    pub fn copy(&self, alloc: Global) -> Result<Paths, NoMemory>
+        ensures copied { IfOk result (λ s. s ≡ self.now) }
+        ensures set { IsPathSet self.now }
+    {
+        Ok(Paths {
+            paths: Vec::from_clones(alloc, &self.paths)?,
+        })
     }
 }
