@@ -2,8 +2,24 @@
 //! expressions, and their evaluation.
 #![tactic(auto)]
 
+mod env;
+mod expr;
+mod fault;
+mod keyed;
+mod lists;
+mod set;
+mod shape;
 mod text;
+mod value;
 mod word;
 
+pub use env::Env;
+pub use expr::{BinOp, Expr, UnOp};
+pub use fault::{EvalFault, ExprFault};
+pub use keyed::Keyed;
+pub use lists::{Texts, Values};
+pub use set::TextSet;
+pub use shape::Shape;
 pub use text::{TEXT_LIMIT, Text};
+pub use value::{Rows, Value};
 pub use word::{WORD_LIMIT, Word};

@@ -1,0 +1,4 @@
+pub mod Bound
+pub mod Order
+pub mod Trees
+pub mod Zips

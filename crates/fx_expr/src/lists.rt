@@ -1,0 +1,128 @@
+ghost use Rattle.std.specs.Prelude.{◌≡◌, ◌++◌, [], ◌∷◌, IfOk, OnOk, OnErr, length, slice_get};
+ghost use Rattle.std.specs.Option.{option_map, option_copied};
+ghost use Rattle.fx_expr.specs.Views.{tree_of};
+
+use crate::set::copy_texts;
+use crate::text::Text;
+use crate::value::{Value, copy_values};
+use fx_base::NoMemory;
+use std::alloc::Global;
+use std::marker::Model;
+
+/// A list of values. Contracts see the list of their trees.
+#[derive(Drop)]
+pub struct Values {
+    items: Vec<Value>,
+}
+
+impl Model for Values {
+    ghost use Rattle.std.specs.Prelude.{List, map};
+    ghost use Rattle.fx_expr.specs.Codes.{coded_trees};
+    ghost use Rattle.fx_expr.specs.Tree.{Tree};
+
+    ghost Value = { List Tree };
+
+    ghost coded = { coded_trees };
+
+    ghost use Rattle.fx_expr.specs.Views.{tree_of};
+
+    ghost view = { λ v. map tree_of v.items.items };
+}
+
+impl Values {
+    /// The empty list.
+    pub fn new(alloc: Global) -> Values
+        ensures { result ≡ [] }
+    {
+        Values {
+            items: Vec::new(alloc),
+        }
+    }
+
+    /// The number of values.
+    pub fn len(&self) -> u64
+        ensures { result ≡ length self.now }
+    {
+        self.items.len() as u64
+    }
+
+    /// The value at `i`; None exactly from `len` on.
+    pub fn at(&self, i: u64) -> Option<&Value>
+        ensures { option_map (λ value. tree_of value.now) result ≡ slice_get self.now i }
+    {
+        self.items.get(i as usize)
+    }
+
+    /// Adds a value at the end. A refusal changes nothing.
+    pub fn add(&mut self, item: Value) -> Result<(), NoMemory>
+        ensures ok { OnOk result (self.new ≡ self.old ++ tree_of item ∷ []) }
+        ensures err { OnErr result (self.new ≡ self.old) }
+    {
+        self.items.push(item)?;
+        Ok(())
+    }
+
+    /// An equal list of its own.
+    pub fn copy(&self, alloc: Global) -> Result<Values, NoMemory>
+        ensures { IfOk result (λ values. values ≡ self.now) }
+    {
+        let items = copy_values(alloc, self.items.as_slice())?;
+        Ok(Values { items })
+    }
+}
+
+/// A list of texts.
+#[derive(Debug, Drop)]
+pub struct Texts {
+    items: Vec<Text>,
+}
+
+impl Model for Texts {
+    ghost use Rattle.std.specs.Prelude.{List, ℕ};
+
+    ghost Value = { List (List ℕ) };
+
+    ghost view = { λ t. t.items.items };
+}
+
+impl Texts {
+    /// The empty list.
+    pub fn new(alloc: Global) -> Texts
+        ensures { result ≡ [] }
+    {
+        Texts {
+            items: Vec::new(alloc),
+        }
+    }
+
+    /// The number of texts.
+    pub fn len(&self) -> u64
+        ensures { result ≡ length self.now }
+    {
+        self.items.len() as u64
+    }
+
+    /// The text at `i`; None exactly from `len` on.
+    pub fn at(&self, i: u64) -> Option<&Text>
+        ensures { option_copied result ≡ slice_get self.now i }
+    {
+        self.items.get(i as usize)
+    }
+
+    /// Adds a text at the end. A refusal changes nothing.
+    pub fn add(&mut self, item: Text) -> Result<(), NoMemory>
+        ensures ok { OnOk result (self.new ≡ self.old ++ item ∷ []) }
+        ensures err { OnErr result (self.new ≡ self.old) }
+    {
+        self.items.push(item)?;
+        Ok(())
+    }
+
+    /// An equal list of its own.
+    pub fn copy(&self, alloc: Global) -> Result<Texts, NoMemory>
+        ensures { IfOk result (λ texts. texts ≡ self.now) }
+    {
+        let items = copy_texts(alloc, self.items.as_slice())?;
+        Ok(Texts { items })
+    }
+}
