@@ -1,0 +1,9 @@
+pub mod Digits
+pub mod Gaps
+pub mod Heads
+pub mod Marks
+pub mod Runs
+pub mod Stands
+pub mod Steps
+pub mod Strings
+pub mod Unique

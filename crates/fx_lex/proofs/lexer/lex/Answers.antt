@@ -1,0 +1,61 @@
+use Rattle.std.proofs.Common.{◌≡◌, ◌+◌, length, drop, sym, ap, ◌∙◌, subst, inl, arith, length-drop}
+use Rattle.std.proofs.lemmas.List.{take_rest, length_push}
+use Rattle.fx_lex.specs.declared.token.LexFault.TheVariants.{BadToken}
+use Rattle.fx_lex.specs.Reading.{Reads, AreTokensOf, IsBadAt}
+use Rattle.fx_lex.specs.Found.{IsFoundAt}
+use Rattle.fx_lex.proofs.Steps.{steps_gap, steps_token, reads_end, reads_bad}
+use Rattle.fx_lex.proofs.Unique.{tokens_unique, place_unique, tokens_exclude}
+use Rattle.fx_lex.proofs.lexer.lex.Goals as goal
+
+pub loop-at-preserved-in-Gap : goal.loop-at-preserved-in-Gap
+loop-at-preserved-in-Gap c =
+    let text = c.args.text.now in
+    let at = c.loop-at.at in
+    let found = subst (λ l. IsFoundAt l c.in_ok-len.field-0) (take_rest text at) c.in_ok-len.ensures in
+    let here = subst (λ f. IsFoundAt (drop at text) f) c.in-Gap.is found in
+    record {
+      reads = steps_gap text at c.in-Gap.len c.loop-at.items.items c.loop-at.invariant.reads here.1 here.2;
+      within = omega (arith, here.1, length-drop at text, c.loop-at.invariant.within);
+      few = omega (arith, c.loop-at.invariant.few);
+    }
+
+pub loop-at-preserved : goal.loop-at-preserved
+loop-at-preserved c =
+    let text = c.args.text.now in
+    let at = c.loop-at.at in
+    let found = subst (λ l. IsFoundAt l c.in_ok-len.field-0) (take_rest text at) c.in_ok-len.ensures in
+    let here = subst (λ f. IsFoundAt (drop at text) f) c.in-Token.is found in
+    let pushed = c.in_ok-push-in-Token.ensures.items in
+    let grown : length c.push.new.self.items ≡ length c.loop-at.items.items + 1 = ap length pushed ∙ length_push _ _ in
+    record {
+      reads = subst (λ l. Reads text (at + c.in-Token.len) (drop (at + c.in-Token.len) text) l) (sym pushed) (steps_token text at c.in-Token.len c.loop-at.items.items c.loop-at.invariant.reads here.1 c.in-Token.token here.2);
+      within = omega (arith, here.1, length-drop at text, c.loop-at.invariant.within);
+      few = omega (arith, here.0, c.loop-at.invariant.few, grown);
+    }
+
+bad : (c : goal.After-drop-items-in-Nothing) → IsBadAt c.args.text.now c.loop-at.at
+bad c =
+    let text = c.args.text.now in
+    let at = c.loop-at.at in
+    let found = subst (λ l. IsFoundAt l c.in_ok-len.field-0) (take_rest text at) c.in_ok-len.ensures in
+    reads_bad text at c.loop-at.items.items c.loop-at.invariant.reads c.loop-at-test.true (subst (λ f. IsFoundAt (drop at text) f) c.in-Nothing.is found)
+
+pub returns-in-Nothing-clause-given : goal.returns-in-Nothing-clause-given
+returns-in-Nothing-clause-given c = λ spanned r. (tt, absurd (tokens_exclude c.args.text.now spanned c.loop-at.at r (bad c)))
+
+pub returns-in-Nothing-clause-told : goal.returns-in-Nothing-clause-told
+returns-in-Nothing-clause-told c = λ place b. inl (ap BadToken (place_unique c.args.text.now c.loop-at.at place (bad c) b))
+
+pub returns-in-Nothing-clause-fault : goal.returns-in-Nothing-clause-fault
+returns-in-Nothing-clause-fault c = bad c
+
+pub returns-clause-tokens : goal.returns-clause-tokens
+returns-clause-tokens c =
+    let all = reads_end c.args.text.now c.loop-at.at c.loop-at.items.items c.loop-at.invariant.reads c.loop-at.invariant.within c.loop-at-test.false in
+    subst (λ l. AreTokensOf c.args.text.now l) (sym (ap (λ t. t.spanned) c.of.ensures)) all
+
+pub returns-clause-given : goal.returns-clause-given
+returns-clause-given c = λ spanned r. (tokens_unique c.args.text.now c.of.result.spanned spanned (returns-clause-tokens c) r, tt)
+
+pub returns-clause-told : goal.returns-clause-told
+returns-clause-told c = λ place b. tokens_exclude c.args.text.now c.of.result.spanned place (returns-clause-tokens c) b

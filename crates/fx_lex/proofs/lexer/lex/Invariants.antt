@@ -1,0 +1,13 @@
+use Rattle.std.proofs.Common.{◌-◌, ◌≤◌, length, drop}
+use Rattle.fx_lex.specs.Reading.{Reads}
+use Rattle.fx_lex.proofs.lexer.lex.Given as goal
+
+abbrev pub invariant-loop-at : goal.invariant-loop-at
+invariant-loop-at l = record {
+  reads : Reads l.text l.at (drop l.at l.text) l.items.items;
+  within : l.at ≤ length l.text;
+  few : length l.items.items ≤ l.at;
+}
+
+abbrev pub decreases-loop-at : goal.decreases-loop-at
+decreases-loop-at l = length l.initial.text - l.at

@@ -1,0 +1,58 @@
+ghost use Rattle.std.specs.Prelude.{◌≡◌, ◌≤◌, length, slice_get};
+ghost use Rattle.std.specs.Option.{option_copied};
+
+use crate::token::Spanned;
+use std::marker::Model;
+
+/// The most tokens that a text of at most so many bytes can have.
+pub const TOKEN_LIMIT: usize = 65_536;
+
+/// The tokens of a text in order, each with its span, and the length of the text. Contracts see both. Only
+/// [`lex`](crate::lex) makes one.
+#[derive(Debug, Drop)]
+pub struct Tokens {
+    items: Vec<Spanned>,
+    text_len: u32,
+}
+
+impl Model for Tokens {
+    ghost use Rattle.std.specs.Prelude.{◌≤◌, length};
+    ghost use Rattle.fx_lex.specs.TokenList.{TokenList};
+
+    ghost Value = { TokenList };
+
+    ghost view = { λ t. record { spanned = t.items.items; text_len = t.text_len } };
+
+    ghost invariant = { λ t. length t.items.items ≤ 65536 };
+}
+
+impl Tokens {
+    pub(crate) fn of(items: Vec<Spanned>, text_len: u32) -> Tokens
+        requires { length items.items ≤ 65536 }
+        ensures { result ≡ record { spanned = items.items; text_len = text_len } }
+    {
+        Tokens { items, text_len }
+    }
+
+    /// How many tokens there are: at most [`TOKEN_LIMIT`].
+    pub fn len(&self) -> u64
+        ensures value { result ≡ length self.now.spanned }
+        ensures limit { length self.now.spanned ≤ 65536 }
+    {
+        self.items.len() as u64
+    }
+
+    /// The token at `i`; None exactly from `len` on.
+    pub fn at(&self, i: u64) -> Option<&Spanned>
+        ensures { option_copied result ≡ slice_get self.now.spanned i }
+    {
+        self.items.get(i as usize)
+    }
+
+    /// The length of the text in bytes.
+    pub fn text_len(&self) -> u32
+        ensures { result ≡ self.now.text_len }
+    {
+        self.text_len
+    }
+}

@@ -1,0 +1,91 @@
+ghost use Rattle.std.specs.Prelude.{◌≡◌, ◌≤◌, ◌<◌, true, length, IfOk, slice_index};
+ghost use Rattle.fx_expr.specs.Bytes.{has_word_start};
+ghost use Rattle.fx_lex.specs.Spelling.{is_digit};
+ghost use Rattle.fx_lex.specs.Kinds.{byte_kind};
+ghost use Rattle.fx_lex.specs.Found.{IsFoundAt};
+
+use crate::byte::{begins_word, digits_len, is_blank, is_digit, line_len, word_len};
+use crate::mark::{mark_of_one, mark_of_two};
+use crate::number::number_of;
+use crate::string::string_at;
+use crate::token::Token;
+use fx_base::NoMemory;
+use fx_expr::{WORD_LIMIT, Word};
+use std::alloc::Global;
+
+/// What stands at a place of a text, and how many bytes it has.
+#[derive(Drop)]
+pub(crate) enum Found {
+    Gap(usize),
+    Token(Token, usize),
+    Nothing,
+}
+
+/// The word whose first byte stands at the front.
+fn word_at(alloc: Global, bytes: &[u8]) -> Result<Found, NoMemory>
+    requires { has_word_start bytes.now ≡ true }
+    ensures { IfOk result (IsFoundAt bytes.now) }
+{
+    let len = word_len(bytes);
+    if len > WORD_LIMIT {
+        return Ok(Found::Nothing);
+    }
+    let word = Vec::from_slice(alloc, &bytes[..len])?;
+    Ok(Found::Token(Token::Word(Word::from_vec(word)), len))
+}
+
+/// The number whose first digit stands at the front.
+fn number_at(bytes: &[u8]) -> Found
+    requires some { 0 < length bytes.now }
+    requires digit { is_digit (slice_index bytes.now 0) ≡ true }
+    ensures { IsFoundAt bytes.now result }
+{
+    let len = digits_len(bytes);
+    match number_of(&bytes[..len]) {
+        Some(number) => Found::Token(Token::Number(number), len),
+        None => Found::Nothing,
+    }
+}
+
+/// The mark at the front, where nothing else can begin.
+fn mark_at(bytes: &[u8]) -> Found
+    requires some { 0 < length bytes.now }
+    requires kind { byte_kind (slice_index bytes.now 0) ≡ 5 }
+    ensures { IsFoundAt bytes.now result }
+{
+    let first = bytes[0];
+    if bytes.len() > 1 && bytes[1] == first {
+        if let Some(mark) = mark_of_two(first) {
+            return Found::Token(Token::Mark(mark), 2);
+        }
+    }
+    match mark_of_one(first) {
+        Some(mark) => Found::Token(Token::Mark(mark), 1),
+        None => Found::Nothing,
+    }
+}
+
+/// What stands at the front: a gap, the longest token, or neither.
+pub(crate) fn found_at(alloc: Global, bytes: &[u8]) -> Result<Found, NoMemory>
+    requires some { 0 < length bytes.now }
+    requires short { length bytes.now ≤ 65536 }
+    ensures { IfOk result (IsFoundAt bytes.now) }
+{
+    let first = bytes[0];
+    if is_blank(first) {
+        return Ok(Found::Gap(1));
+    }
+    if first == b'#' {
+        return Ok(Found::Gap(line_len(bytes)));
+    }
+    if begins_word(first) {
+        return word_at(alloc, bytes);
+    }
+    if is_digit(first) {
+        return Ok(number_at(bytes));
+    }
+    if first == b'"' {
+        return string_at(alloc, bytes);
+    }
+    Ok(mark_at(bytes))
+}
