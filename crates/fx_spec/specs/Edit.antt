@@ -1,0 +1,188 @@
+-- What edits change, as rules that consult a filestore: an edit answers its changes in ascending order of path, or the first
+-- refusal that applies. It looks at each path that it may change before it answers.
+use Rattle.std.specs.Prelude.{ℕ, zero, suc, ◌+◌, ◌-◌, Bool, true, false, cond, not, ◌&&◌, List, [], ◌∷◌, ◌++◌, map, length, slice_index_or, nat_lt, bytes_eq, Option, Some, None, Result, Ok, Err}
+use Rattle.std.specs.List.{list_all, filter}
+use Rattle.fx_store.specs.declared.node.Node.{Node}
+use Rattle.fx_store.specs.declared.node.Node.TheVariants.{File, Dir, Link}
+use Rattle.fx_store.specs.declared.node.Landing.{Landing}
+use Rattle.fx_store.specs.declared.node.Landing.TheVariants.{At, Absent, Blocked, TooManyLinks}
+use Rattle.fx_store.specs.declared.changes.Change.{Change}
+use Rattle.fx_store.specs.declared.name.PathFault.{PathFault}
+use Rattle.fx_store.specs.declared.name.PathFault.TheVariants.{BadName, TooDeep, NoMemory}
+use Rattle.fx_store.specs.Changes.{changed_paths}
+use Rattle.fx_store.specs.Faults.{read_link}
+use Rattle.fx_store.specs.Names.{is_name, has}
+use Rattle.fx_store.specs.Rule.{Ask, Answer, Look, look_all, ◌>>=◌}
+use Rattle.fx_store.specs.Resolve.{resolve, ◌/ₚ◌, parent, is_full}
+use Rattle.fx_expr.specs.Sets.{set_of, with_text}
+use Rattle.fx_expr.specs.Tree.{Tree}
+use Rattle.fx_spec.specs.declared.refusal.Refusal.{Refusal}
+use Rattle.fx_spec.specs.SpecTree.{SpecTree}
+use Rattle.fx_spec.specs.Move.{Answered, unrefused, needed}
+use Rattle.fx_spec.specs.Place.{PlaceTree}
+
+-- the path has this node from now on, or none
+abbrev pub set_to : List (List ℕ) → Node → Change
+set_to p node = record { path = p; node = Some node }
+
+abbrev pub removed : List (List ℕ) → Change
+removed p = record { path = p; node = None }
+
+-- the names that a directory lists
+abbrev pub names_of : Option Node → List (List ℕ)
+names_of (Some (Dir names)) = names
+names_of _ = []
+
+-- an edit's changes, once each changed path is looked at
+abbrev pub touching : List Change → Ask (Answered (List Change))
+touching changes = look_all (changed_paths changes) (Answer (Ok changes))
+
+-- the entry at a path and all that is below it, removed; so many levels are at most there
+abbrev pub clear_all : (List (List ℕ) → Ask (List Change)) → List (List ℕ) → List (List ℕ) → Ask (List Change)
+clear_all clear q [] = Answer []
+clear_all clear q (n ∷ names) = clear (q /ₚ n) >>= λ first. clear_all clear q names >>= λ rest. Answer (first ++ rest)
+
+abbrev pub cleared : List (List ℕ) → (List (List ℕ) → Ask (List Change)) → Option Node → Ask (List Change)
+cleared q clear None = Answer []
+cleared q clear (Some node) = clear_all clear q (names_of (Some node)) >>= λ below. Answer (removed q ∷ below)
+
+abbrev pub clear_levels : ℕ → List (List ℕ) → Ask (List Change)
+clear_levels zero q = Answer []
+clear_levels (suc levels) q = Look q (cleared q (λ p. clear_levels levels p))
+
+unfoldable pub clear : List (List ℕ) → Ask (List Change)
+clear q = clear_levels 64 q
+
+-- an entry of a directory that lists the new names in place of the old: a new name is an empty file, a dropped one is
+-- removed with all below, and one that stays is not touched
+abbrev pub entry : List (List ℕ) → List (List ℕ) → List (List ℕ) → List ℕ → Ask (List Change)
+entry q old new n =
+    let added = Look (q /ₚ n) (λ node. Answer (set_to (q /ₚ n) (File []) ∷ [])) in
+    let dropped = clear (q /ₚ n) in
+    cond (has new n) (cond (has old n) (Answer []) added) dropped
+
+abbrev pub entries : (List ℕ → Ask (List Change)) → List (List ℕ) → Ask (List Change)
+entries change [] = Answer []
+entries change (n ∷ names) = change n >>= λ first. entries change names >>= λ rest. Answer (first ++ rest)
+
+-- a directory's names replaced, at a path that has room for names below it
+abbrev pub new_names : List (List ℕ) → List (List ℕ) → List (List ℕ) → Ask (Answered (List Change))
+new_names q old new =
+    entries (entry q old new) (set_of (old ++ new)) >>= λ below. Answer (Ok (set_to q (Dir new) ∷ below))
+
+-- no names are stored below a path of 64 names
+abbrev pub lacks_room : List (List ℕ) → Node → Bool
+lacks_room q (File bytes) = false
+lacks_room q (Dir names) = is_full q && nat_lt 0 (length names)
+lacks_room q (Link text) = false
+
+abbrev pub unless_deep : Bool → Ask (Answered (List Change)) → Ask (Answered (List Change))
+unless_deep true rule = Answer (Err Refusal.TooDeep)
+unless_deep false rule = rule
+
+-- the content of the node landed at, replaced by that of the same kind
+abbrev pub replaced : List (List ℕ) → Node → Option Node → Ask (Answered (List Change))
+replaced q (File bytes) (Some (File old)) = Answer (Ok (set_to q (File bytes) ∷ []))
+replaced q (Link text) (Some (Link old)) = Answer (Ok (set_to q (Link text) ∷ []))
+replaced q (Dir names) (Some (Dir old)) = unless_deep (lacks_room q (Dir names)) (new_names q old names)
+replaced q node found = Answer (Err (Refusal.Blocked q))
+
+-- the empty files of a new directory
+abbrev pub children : List (List ℕ) → Node → List Change
+children q (File bytes) = []
+children q (Dir names) = map (λ n. set_to (q /ₚ n) (File [])) names
+children q (Link text) = []
+
+-- the missing directories on the way, and the node with the files that it lists
+abbrev pub made : List (List ℕ) → List ℕ → List (List ℕ) → Node → List Change
+made here n [] node = set_to (here /ₚ n) node ∷ children (here /ₚ n) node
+made here n (m ∷ names) node = set_to (here /ₚ n) (Dir (m ∷ [])) ∷ made (here /ₚ n) m names node
+
+-- the node is made at the missing names of a directory
+abbrev pub make : List (List ℕ) → List (List ℕ) → Node → Ask (Answered (List Change))
+make here [] node = Answer (Err (Refusal.Blocked here))
+make here (n ∷ names) node =
+    Look here λ found.
+    let changes = made here n names node in
+    look_all (changed_paths changes) (Answer (Ok (set_to here (Dir (with_text n (names_of found))) ∷ changes)))
+
+abbrev pub is_too_deep : List (List ℕ) → List (List ℕ) → Node → Bool
+is_too_deep here names node = cond (nat_lt 64 (length here + length names)) true (lacks_room (here ++ names) node)
+
+-- a store by where the path lands; `p` is the place's path
+abbrev pub store_landed : List (List ℕ) → Node → Landing → Ask (Answered (List Change))
+store_landed p node (At q) = Look q (replaced q node)
+store_landed p node (Absent here names) = unless_deep (is_too_deep here names node) (make here names node)
+store_landed p node (Blocked q) = Answer (Err (Refusal.Blocked q))
+store_landed p node TooManyLinks = Answer (Err (Refusal.Blocked p))
+
+-- the node that a value makes at a form
+abbrev pub names_node : List (List ℕ) → Answered Node
+names_node names = cond (list_all is_name names) (Ok (Dir names)) (Err Refusal.BadName)
+
+abbrev pub link_node : Result (List ℕ) PathFault → Answered Node
+link_node (Ok text) = Ok (Link text)
+link_node (Err BadName) = Err Refusal.BadName
+link_node (Err TooDeep) = Err Refusal.TooDeep
+link_node (Err NoMemory) = Err Refusal.BadName
+
+abbrev pub stored_node : SpecTree → Tree → Answered Node
+stored_node SpecTree.file (Tree.str bytes) = Ok (File bytes)
+stored_node SpecTree.dir (Tree.names names) = names_node names
+stored_node SpecTree.link (Tree.str text) = link_node (read_link text)
+stored_node _ v = Err Refusal.WrongForm
+
+-- the last link is followed for a file or directory
+abbrev pub follows_last : Node → Bool
+follows_last (File bytes) = true
+follows_last (Dir names) = true
+follows_last (Link text) = false
+
+-- `store`: the value becomes the content of the node where the place's path lands
+abbrev pub store_at : Tree → PlaceTree → Ask (Answered (List Change))
+store_at v at = unrefused (λ node. resolve at.path (follows_last node) >>= store_landed at.path node) (stored_node at.spec v)
+
+-- the empty node of a description's bare form: that of an option's part, of a pair's first part, of a file or a directory
+abbrev pub bare_node : SpecTree → Option Node
+bare_node SpecTree.file = Some (File [])
+bare_node SpecTree.dir = Some (Dir [])
+bare_node SpecTree.link = None
+bare_node (SpecTree.focus e s) = None
+bare_node (SpecTree.pair x a b) = bare_node a
+bare_node (SpecTree.comp s x e) = None
+bare_node (SpecTree.opt s) = bare_node s
+bare_node (SpecTree.pred e) = None
+
+abbrev pub create_landed : List (List ℕ) → Node → Landing → Ask (Answered (List Change))
+create_landed p node (At q) = Answer (Err Refusal.Exists)
+create_landed p node (Absent here names) = unless_deep (is_too_deep here names node) (make here names node)
+create_landed p node (Blocked q) = Answer (Err (Refusal.Blocked q))
+create_landed p node TooManyLinks = Answer (Err (Refusal.Blocked p))
+
+-- `create`: an empty file or directory, where nothing is yet
+abbrev pub create_at : PlaceTree → Ask (Answered (List Change))
+create_at at = unrefused (λ node. resolve at.path false >>= create_landed at.path node) (needed Refusal.NoDefault (bare_node at.spec))
+
+-- the last name of a path
+abbrev pub last_name : List (List ℕ) → List ℕ
+last_name q = slice_index_or q (length q - 1) []
+
+abbrev pub without_name : List ℕ → List (List ℕ) → List (List ℕ)
+without_name n names = filter (λ m. not (bytes_eq n m)) names
+
+-- the entry and all below it go, and its name goes from the directory above; the root stays
+abbrev pub remove_entry : List (List ℕ) → Ask (Answered (List Change))
+remove_entry [] = Answer (Err (Refusal.Blocked []))
+remove_entry (n ∷ names) =
+    let q = n ∷ names in
+    Look (parent q) λ above. clear q >>= λ below. Answer (Ok (set_to (parent q) (Dir (without_name (last_name q) (names_of above))) ∷ below))
+
+abbrev pub remove_landed : List (List ℕ) → Landing → Ask (Answered (List Change))
+remove_landed p (At q) = remove_entry q
+remove_landed p (Absent here names) = Answer (Err Refusal.Absent)
+remove_landed p (Blocked q) = Answer (Err (Refusal.Blocked q))
+remove_landed p TooManyLinks = Answer (Err (Refusal.Blocked p))
+
+-- `remove`: the entry at the place's own path goes, the last link not followed
+abbrev pub remove_at : PlaceTree → Ask (Answered (List Change))
+remove_at at = resolve at.path false >>= remove_landed at.path

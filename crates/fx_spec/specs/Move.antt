@@ -1,0 +1,185 @@
+-- What moves and fetches answer, as rules that consult a filestore. A refusal is the first that applies, in the order in
+-- which each rule asks.
+use Rattle.std.specs.Prelude.{ℕ, Bool, true, false, cond, ◌&&◌, List, [], ◌∷◌, Option, Some, None, is_some, Result, Ok, Err}
+use Rattle.std.specs.Ordering.{is_lt}
+use Rattle.fx_store.specs.Names.{name_cmp}
+use Rattle.fx_store.specs.Rule.{Ask, Answer, ◌>>=◌}
+use Rattle.fx_expr.specs.Eval.{Outcome, eval_of, names_in}
+use Rattle.fx_expr.specs.Sets.{has_text}
+use Rattle.fx_expr.specs.ShapeTree.{ShapeTree}
+use Rattle.fx_expr.specs.Tree.{Tree}
+use Rattle.fx_spec.specs.declared.refusal.Refusal.{Refusal}
+use Rattle.fx_spec.specs.SpecTree.{SpecTree}
+use Rattle.fx_spec.specs.Describe.{Bindings, content, file_value, dir_value, link_value, exists, focus_path, value}
+use Rattle.fx_spec.specs.Place.{Step, First, Second, Inside, Down, Elem, Address, PlaceTree, place}
+
+-- an answer or a refusal
+abbrev pub Answered : Type 0 → Type 0
+Answered A = Result A Refusal
+
+-- the rule that goes on with an answer, where it isn't refused
+abbrev pub unrefused : {A B : Type 0} → (A → Ask (Answered B)) → Answered A → Ask (Answered B)
+unrefused next (Ok a) = next a
+unrefused next (Err f) = Answer (Err f)
+
+-- the value of a command's own expression
+abbrev pub evaluated : Outcome → Answered Tree
+evaluated (Ok v) = Ok v
+evaluated (Err f) = Err (Refusal.Expr f)
+
+-- a value that has to be there
+abbrev pub needed : {A : Type 0} → Refusal → Option A → Answered A
+needed refusal None = Err refusal
+needed refusal (Some a) = Ok a
+
+-- the rule for a command that needs its place
+abbrev pub at_place : {B : Type 0} → SpecTree → Address → (PlaceTree → Ask (Answered B)) → Ask (Answered B)
+at_place root a next = place root a >>= λ at. unrefused next (needed Refusal.NoPlace at)
+
+-- the address with one more step, where the step's path is formed
+abbrev pub then_step : {A : Type 0} → Step → Address → Answered A → Answered Address
+then_step step a (Ok q) = Ok (step ∷ a)
+then_step step a (Err f) = Err f
+
+-- the element of a comprehension that is asked for
+abbrev pub element : Address → Option (List ℕ) → Answered Address
+element a None = Err Refusal.NoElement
+element a (Some t) = Ok (Elem t ∷ a)
+
+-- the least text of a set, the least above a text, and the greatest below it
+abbrev pub least : List (List ℕ) → Option (List ℕ)
+least [] = None
+least (t ∷ ts) = Some t
+
+abbrev pub least_above : List ℕ → List (List ℕ) → Option (List ℕ)
+least_above t [] = None
+least_above t (u ∷ us) = cond (is_lt (name_cmp t u)) (Some u) (least_above t us)
+
+abbrev pub later_or : Option (List ℕ) → Option (List ℕ) → Option (List ℕ)
+later_or (Some t) u = Some t
+later_or None u = u
+
+abbrev pub greatest_below : List ℕ → List (List ℕ) → Option (List ℕ)
+greatest_below t [] = None
+greatest_below t (u ∷ us) = later_or (greatest_below t us) (cond (is_lt (name_cmp u t)) (Some u) None)
+
+abbrev pub this_if : List ℕ → Bool → Option (List ℕ)
+this_if t false = None
+this_if t true = Some t
+
+-- a choice among the elements of a comprehension's set
+abbrev pub chosen : Address → (List (List ℕ) → Option (List ℕ)) → Outcome → Answered Address
+chosen a choice (Ok set) = element a (choice (names_in set))
+chosen a choice (Err f) = Err (Refusal.Expr f)
+
+-- `into`: to the first part, to the least element, or inside an entry
+abbrev pub go_into : Address → List (List ℕ) → Bindings → SpecTree → Ask (Answered Address)
+go_into a p env (SpecTree.pair x s₁ s₂) = Answer (Ok (First ∷ a))
+go_into a p env (SpecTree.comp s x e) = Answer (chosen a least (eval_of env e))
+go_into a p env (SpecTree.opt s) = exists p >>= λ there. Answer (cond there (Ok (Inside ∷ a)) (Err Refusal.Lacks))
+go_into a p env _ = Answer (Err Refusal.NoStep)
+
+-- `to`: to the element that is this text
+abbrev pub go_to : List ℕ → Address → List (List ℕ) → Bindings → SpecTree → Ask (Answered Address)
+go_to t a p env (SpecTree.comp s x e) = Answer (chosen a (λ set. this_if t (has_text t set)) (eval_of env e))
+go_to t a p env _ = Answer (Err Refusal.NoStep)
+
+-- `down`: to the part at the focus's path, which need not be there
+abbrev pub go_down : Address → List (List ℕ) → Bindings → SpecTree → Ask (Answered Address)
+go_down a p env (SpecTree.focus e s) = Answer (then_step Down a (focus_path p (eval_of env e)))
+go_down a p env _ = Answer (Err Refusal.NoStep)
+
+-- to another element of the comprehension around the place, by its set as it is now
+abbrev pub another : Address → (List (List ℕ) → Option (List ℕ)) → List (List ℕ) → Bindings → SpecTree → Ask (Answered Address)
+another a choice p env (SpecTree.comp s x e) = Answer (chosen a choice (eval_of env e))
+another a choice p env _ = Answer (Err Refusal.NoStep)
+
+-- `next`: from the first part, which needs a value, to the second; or to the next greater element
+abbrev pub go_next : SpecTree → Address → Ask (Answered Address)
+go_next root (First ∷ a) =
+    at_place root (First ∷ a) λ at. value at.path at.env at.spec >>= λ v. Answer (cond (is_some v) (Ok (Second ∷ a)) (Err Refusal.Lacks))
+go_next root (Elem t ∷ a) =
+    at_place root (Elem t ∷ a) λ at. at_place root a λ above. another a (least_above t) above.path above.env above.spec
+go_next root a = at_place root a λ at. Answer (Err Refusal.NoStep)
+
+-- `prev`: from the second part to the first, or to the next smaller element
+abbrev pub go_prev : SpecTree → Address → Ask (Answered Address)
+go_prev root (Second ∷ a) = at_place root (Second ∷ a) λ at. Answer (Ok (First ∷ a))
+go_prev root (Elem t ∷ a) =
+    at_place root (Elem t ∷ a) λ at. at_place root a λ above. another a (greatest_below t) above.path above.env above.spec
+go_prev root a = at_place root a λ at. Answer (Err Refusal.NoStep)
+
+-- `out`: back from a part, an element or an entry; `up`: back from a focus's path
+abbrev pub go_out : Address → Answered Address
+go_out [] = Err Refusal.NoStep
+go_out (Down ∷ a) = Err Refusal.NoStep
+go_out (step ∷ a) = Ok a
+
+abbrev pub go_up : Address → Answered Address
+go_up (Down ∷ a) = Ok a
+go_up a = Err Refusal.NoStep
+
+-- the shape of a description's value
+abbrev pub value_shape : SpecTree → ShapeTree
+value_shape SpecTree.file = ShapeTree.str
+value_shape SpecTree.dir = ShapeTree.names
+value_shape SpecTree.link = ShapeTree.str
+value_shape (SpecTree.focus e s) = value_shape s
+value_shape (SpecTree.pair x a b) = ShapeTree.pair (value_shape a) (value_shape b)
+value_shape (SpecTree.comp s x e) = ShapeTree.table (value_shape s)
+value_shape (SpecTree.opt s) = ShapeTree.opt (value_shape s)
+value_shape (SpecTree.pred e) = ShapeTree.bool
+
+-- the shape of what a fetch gives at a form; a pair has no fetch
+abbrev pub fetch_shape : SpecTree → Option ShapeTree
+fetch_shape SpecTree.file = Some ShapeTree.str
+fetch_shape SpecTree.dir = Some ShapeTree.names
+fetch_shape SpecTree.link = Some ShapeTree.str
+fetch_shape (SpecTree.focus e s) = Some ShapeTree.str
+fetch_shape (SpecTree.pair x a b) = None
+fetch_shape (SpecTree.comp s x e) = Some ShapeTree.names
+fetch_shape (SpecTree.opt s) = Some ShapeTree.bool
+fetch_shape (SpecTree.pred e) = Some ShapeTree.bool
+
+abbrev pub same_shape : ShapeTree → ShapeTree → Bool
+same_shape ShapeTree.str ShapeTree.str = true
+same_shape ShapeTree.int ShapeTree.int = true
+same_shape ShapeTree.bool ShapeTree.bool = true
+same_shape ShapeTree.names ShapeTree.names = true
+same_shape (ShapeTree.pair a b) (ShapeTree.pair c d) = same_shape a c && same_shape b d
+same_shape (ShapeTree.opt a) (ShapeTree.opt b) = same_shape a b
+same_shape (ShapeTree.table a) (ShapeTree.table b) = same_shape a b
+same_shape _ _ = false
+
+abbrev pub has_fetch_shape : ShapeTree → Option ShapeTree → Bool
+has_fetch_shape wanted None = false
+has_fetch_shape wanted (Some shape) = same_shape shape wanted
+
+-- what a fetch gives at a form: a file's bytes, a directory's names, a link's text, a focus's text, a comprehension's set,
+-- whether an option's entry is there, or whether a predicate is true
+abbrev pub fetched : List (List ℕ) → Bindings → SpecTree → Ask (Answered Tree)
+fetched p env SpecTree.file = content file_value true p >>= λ v. Answer (needed Refusal.Lacks v)
+fetched p env SpecTree.dir = content dir_value true p >>= λ v. Answer (needed Refusal.Lacks v)
+fetched p env SpecTree.link = content link_value false p >>= λ v. Answer (needed Refusal.Lacks v)
+fetched p env (SpecTree.focus e s) = Answer (evaluated (eval_of env e))
+fetched p env (SpecTree.pair x a b) = Answer (Err Refusal.WrongForm)
+fetched p env (SpecTree.comp s x e) = Answer (evaluated (eval_of env e))
+fetched p env (SpecTree.opt s) = exists p >>= λ there. Answer (Ok (Tree.bool there))
+fetched p env (SpecTree.pred e) = Answer (evaluated (eval_of env e))
+
+-- the rule, where the form has the wanted shape
+abbrev pub of_shape : Bool → Ask (Answered Tree) → Ask (Answered Tree)
+of_shape false rule = Answer (Err Refusal.WrongForm)
+of_shape true rule = rule
+
+-- `fetch x : shape` and `value x : shape`
+abbrev pub fetch_at : ShapeTree → PlaceTree → Ask (Answered Tree)
+fetch_at shape at = of_shape (has_fetch_shape shape (fetch_shape at.spec)) (fetched at.path at.env at.spec)
+
+abbrev pub whole_at : ShapeTree → PlaceTree → Ask (Answered Tree)
+whole_at shape at =
+    of_shape (same_shape (value_shape at.spec) shape) (value at.path at.env at.spec >>= λ v. Answer (needed Refusal.Lacks v))
+
+-- `validate x`: whether there is a value
+abbrev pub validate_at : PlaceTree → Ask (Answered Tree)
+validate_at at = value at.path at.env at.spec >>= λ v. Answer (Ok (Tree.bool (is_some v)))

@@ -1,0 +1,34 @@
+//! Laws of what descriptions and transactions mean. Each stands on a function that does nothing, so that it is proved with
+//! the crate.
+ghost use Rattle.fx_spec.specs.Examples.{FetchesFile, StopsAfterStore, StoreAtRoot, StoresNames, CreatesEntry, JoinsFiles};
+ghost use Rattle.fx_spec.specs.Laws.{UndoneLeavesAll, DependsOnWay, LeavesAsData, CompleteHasEachOnce};
+
+/// What some transactions do on small filestores: their outputs, ends, consulted paths and changes.
+pub fn worked_transactions()
+    ensures fetches_file { FetchesFile }
+    ensures stops_after_store { StopsAfterStore }
+    ensures store_at_root { StoreAtRoot }
+    ensures stores_names { StoresNames }
+    ensures creates_entry { CreatesEntry }
+    ensures joins_files { JoinsFiles }
+{}
+
+/// A transaction that stops or aborts leaves the filestore as it was.
+pub fn an_undone_transaction_leaves_all()
+    ensures { UndoneLeavesAll }
+{}
+
+/// What a transaction answers, changes and consults depends on nothing but what stands at the paths that it consults.
+pub fn a_transaction_depends_on_its_way()
+    ensures { DependsOnWay }
+{}
+
+/// The filestore that a transaction leaves, as a finite map, has at each path what its commands leave there.
+pub fn a_transaction_leaves_as_data()
+    ensures { LeavesAsData }
+{}
+
+/// A complete order has each transaction of the plan exactly once, and nothing else.
+pub fn a_complete_order_has_each_transaction_once()
+    ensures { CompleteHasEachOnce }
+{}

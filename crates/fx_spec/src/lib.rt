@@ -1,0 +1,19 @@
+//! Descriptions, scripts and plans as syntax trees, and the definitions of what they mean on a filestore.
+#![tactic(auto)]
+
+mod checked;
+mod command;
+pub mod laws;
+mod place;
+mod plan;
+mod refusal;
+mod spec;
+mod txn;
+
+pub use checked::{Checked, Script};
+pub use command::{Act, Command, Commands};
+pub use place::Place;
+pub use plan::Plan;
+pub use refusal::{End, Refusal};
+pub use spec::Spec;
+pub use txn::{Txn, Txns};
