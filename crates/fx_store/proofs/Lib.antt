@@ -4,3 +4,6 @@ pub mod Examples
 mod NameTests
 pub mod Ascending
 mod Sets
+pub mod Stores
+pub mod Tables
+pub mod WholeStores

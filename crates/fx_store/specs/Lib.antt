@@ -3,6 +3,7 @@ pub mod Orders
 pub mod Faults
 pub mod Changes
 pub mod Whole
+pub mod Filestore
 pub mod Rule
 pub mod Resolve
 pub mod Landings

@@ -102,6 +102,21 @@ impl Changes {
         Ok(())
     }
 
+    pub fn as_slice(&self) -> &[Change]
+        ensures changes { result.now ≡ self.now }
+        ensures ascending { IsChanges self.now }
+    {
+        self.changes.as_slice()
+    }
+
+    pub fn into_vec(self) -> Vec<Change>
+        ensures changes { result.items ≡ self }
+        ensures ascending { IsChanges self }
+    {
+        let Changes { changes } = self;
+        changes
+    }
+
     pub fn copy(&self, alloc: Global) -> Result<Changes, NoMemory>
         ensures copied { IfOk result (λ s. s ≡ self.now) }
         ensures ascending { IsChanges self.now }

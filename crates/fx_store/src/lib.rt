@@ -3,6 +3,7 @@
 
 mod bytes;
 mod changes;
+mod filestore;
 pub mod laws;
 mod link;
 mod name;
@@ -15,6 +16,7 @@ mod paths;
 
 pub use bytes::{Bytes, LongText};
 pub use changes::{Change, Changes};
+pub use filestore::Filestore;
 pub use link::LinkText;
 pub use name::{Name, PathFault};
 pub use names::{NameList, Names};

@@ -1,5 +1,4 @@
-use Rattle.std.proofs.Common.{ℕ, List, ap, ◌∙◌}
-use Rattle.std.specs.Cmp.Lexicographic.{lists_ties, texts_ties, pointwise}
+use Rattle.std.specs.Cmp.Lexicographic.{lists_ties, texts_ties}
 use Rattle.fx_store.specs.Names.{name_cmp}
 use Rattle.fx_store.proofs.path.PathPartialEq.eq.Goals as goal
 
