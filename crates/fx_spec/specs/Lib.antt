@@ -15,4 +15,5 @@ pub mod Order
 pub mod Levels
 pub mod WellShaped
 pub mod Examples
+pub mod Bases
 pub mod Laws

@@ -1,6 +1,7 @@
 //! Descriptions, scripts and plans as syntax trees, and the definitions of what they mean on a filestore.
 #![tactic(auto)]
 
+mod base;
 mod checked;
 mod command;
 pub mod laws;
@@ -10,6 +11,7 @@ mod refusal;
 mod spec;
 mod txn;
 
+pub use base::Base;
 pub use checked::{Checked, Script};
 pub use command::{Act, Command, Commands};
 pub use place::Place;
