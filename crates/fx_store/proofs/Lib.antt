@@ -7,3 +7,4 @@ mod Sets
 pub mod Stores
 pub mod Tables
 pub mod WholeStores
+pub mod Relisted

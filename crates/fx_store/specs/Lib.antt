@@ -8,3 +8,4 @@ pub mod Rule
 pub mod Resolve
 pub mod Landings
 pub mod Examples
+pub mod Relisted

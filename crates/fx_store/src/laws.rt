@@ -5,6 +5,7 @@ ghost use Rattle.fx_store.specs.Whole.{Store};
 ghost use Rattle.fx_store.specs.Rule.{Ask, Known, AgreesWith, FollowedAt, follow, DependsOnAsked};
 ghost use Rattle.fx_store.specs.Landings.{LandsByTheRules, LandingsAreTrue, LandingDependsOnLooks};
 ghost use Rattle.fx_store.specs.Examples.{ResolveExamples};
+ghost use Rattle.fx_store.specs.Relisted.{RelistingKeepsWhole};
 
 /// What a rule answers and what it consults depends on nothing but what is at the paths that it consulted.
 pub fn a_rule_depends_on_what_it_asked<T>()
@@ -35,4 +36,10 @@ pub fn a_landing_depends_on_its_looks()
 /// Where paths land in a filestore with an empty directory, an empty file and a link.
 pub fn resolution_examples()
     ensures { ResolveExamples }
+{}
+
+/// A whole filestore stays whole where a directory lists other names: a new entry is a node that lists nothing, and a
+/// dropped one goes with all that is below it.
+pub fn relisting_a_directory_keeps_the_filestore_whole()
+    ensures { RelistingKeepsWhole }
 {}
