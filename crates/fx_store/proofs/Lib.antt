@@ -8,3 +8,5 @@ pub mod Stores
 pub mod Tables
 pub mod WholeStores
 pub mod Relisted
+pub mod Overlays
+pub mod FlatStores

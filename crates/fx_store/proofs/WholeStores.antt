@@ -13,11 +13,11 @@ use Rattle.fx_store.proofs.Sets.{IsNameSet-none}
 use Rattle.fx_store.proofs.Stores.{get-set_node, IsWhole-same}
 
 -- what the root alone gives
-abbrev bare : Store
+abbrev pub bare : Store
 bare [] = Some (Dir [])
 bare (name ∷ path) = None
 
-get-root_only : (q : List (List ℕ)) → bare q ≡ get root_only q
+pub get-root_only : (q : List (List ℕ)) → bare q ≡ get root_only q
 get-root_only [] = sym (get-set_node empty [] [] (Some (Dir [])))
 get-root_only (name ∷ path) = sym (get-set_node empty [] (name ∷ path) (Some (Dir [])) ∙ get-empty path_cmp (name ∷ path))
 

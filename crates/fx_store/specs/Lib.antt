@@ -4,6 +4,7 @@ pub mod Faults
 pub mod Changes
 pub mod Whole
 pub mod Filestore
+pub mod Flat
 pub mod Rule
 pub mod Resolve
 pub mod Landings

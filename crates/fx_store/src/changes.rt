@@ -67,6 +67,14 @@ impl Changes {
         }
     }
 
+    /// The changes of a list, which needs ascending paths.
+    pub fn from_vec(changes: Vec<Change>) -> Changes
+        requires { IsChanges changes.items }
+        ensures { result ≡ changes.items }
+    {
+        Changes { changes }
+    }
+
     pub fn len(&self) -> u64
         ensures len { result ≡ length self.now }
         ensures ascending { IsChanges self.now }

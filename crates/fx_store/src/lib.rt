@@ -3,6 +3,7 @@
 
 mod bytes;
 mod changes;
+mod files;
 mod filestore;
 pub mod laws;
 mod link;
@@ -16,6 +17,7 @@ mod paths;
 
 pub use bytes::{Bytes, LongText};
 pub use changes::{Change, Changes};
+pub use files::Files;
 pub use filestore::Filestore;
 pub use link::LinkText;
 pub use name::{Name, PathFault};

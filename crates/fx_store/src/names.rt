@@ -35,6 +35,14 @@ impl Names {
         }
     }
 
+    /// The names of a list, which needs each once and in ascending order.
+    pub fn from_vec(names: Vec<Name>) -> Names
+        requires { IsNameSet names.items }
+        ensures { result ≡ names.items }
+    {
+        Names { names }
+    }
+
     pub fn len(&self) -> u64
         ensures len { result ≡ length self.now }
         ensures set { IsNameSet self.now }

@@ -1,5 +1,5 @@
 //! Paths, as lists of names from the root on.
-ghost use Rattle.std.specs.Prelude.{◌≡◌, ℕ, List, [], length, IfOk, slice_get, option_copied, refl};
+ghost use Rattle.std.specs.Prelude.{◌≡◌, ℕ, List, [], ◌∷◌, length, IfOk, slice_get, option_copied, refl};
 ghost use Rattle.std.specs.Cmp.{partial_equiv_from_equiv, partial_order_from_total, eq_by_cmp_equiv};
 ghost use Rattle.std.specs.Ordering.{as_partial_cmp, eq_by_cmp};
 ghost use Rattle.std.specs.Hash as fed;
@@ -7,7 +7,7 @@ ghost use Rattle.std.proofs.Common.{ap};
 ghost use Rattle.fx_store.specs.Names.{IsPath, path_cmp};
 ghost use Rattle.fx_store.specs.Orders.{path_total, path_eq_same};
 
-use crate::name::{Name, PathFault};
+use crate::name::{Name, PathFault, is_name};
 use crate::parts::{add_names, are_names, has_more_parts};
 use fx_base::NoMemory;
 use std::alloc::{AllocError, Global};
@@ -45,6 +45,16 @@ impl Path {
         Path {
             names: Vec::new(alloc),
         }
+    }
+
+    /// The path of an entry of the root.
+    pub(crate) fn child(alloc: Global, name: Name) -> Result<Path, NoMemory>
+        ensures { IfOk result (λ p. p ≡ name ∷ []) }
+    {
+        prove!(is_name(name.as_slice()));
+        let mut names = Vec::new(alloc);
+        names.push(name)?;
+        Ok(Path { names })
     }
 
     /// Reads a path text: `/`, or each name with a `/` before it. It is `BadName` where it is no path text of any
