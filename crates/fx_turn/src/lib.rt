@@ -14,3 +14,6 @@ pub use kept::Kept;
 pub use seat::Seat;
 pub use turn::Turn;
 pub use view::View;
+
+#[cfg(test)]
+mod tests;
