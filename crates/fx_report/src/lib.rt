@@ -1,0 +1,10 @@
+//! The printed forms: values, the lines of a value, and the report of a run.
+#![tactic(auto)]
+
+mod lines;
+mod printed;
+mod quotes;
+mod values;
+
+pub use lines::{report, value_line};
+pub use printed::{PrintedEntries, PrintedEntry, Retries, Retry};

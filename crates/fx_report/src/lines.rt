@@ -1,0 +1,189 @@
+ghost use Rattle.std.specs.Prelude.{◌≡◌, ◌++◌, OnOk, IfOk};
+ghost use Rattle.std.specs.List.{flat_map};
+ghost use Rattle.fx_expr.specs.Views.{tree_of};
+ghost use Rattle.fx_report.specs.Report as report;
+
+use crate::printed::{PrintedEntries, PrintedEntry, Retries, Retry};
+use crate::quotes::{add_bytes, add_number, add_quoted_path};
+use crate::values::add_value;
+use fx_base::NoMemory;
+use fx_expr::{ExprFault, Value, Values};
+use fx_spec::{End, Refusal};
+use fx_store::LongText;
+use std::alloc::Global;
+
+/// Adds the words and the number after them.
+#[tactic(auto, unfolding(crate::specs::Report::field))]
+fn add_field(out: &mut Vec<u8>, words: &[u8], number: u64) -> Result<(), NoMemory>
+    ensures { OnOk result (out.new.items ≡ out.old.items ++ report.field words.now number) }
+{
+    add_bytes(out, words)?;
+    add_number(out, number)
+}
+
+/// Adds a line of words and a number.
+fn add_count_line(out: &mut Vec<u8>, words: &[u8], count: u64) -> Result<(), NoMemory>
+    ensures { OnOk result (out.new.items ≡ out.old.items ++ report.line (report.field words.now count)) }
+{
+    add_field(out, words, count)?;
+    add_bytes(out, b"\n")
+}
+
+fn add_fault(out: &mut Vec<u8>, fault: &ExprFault) -> Result<(), NoMemory>
+    ensures { OnOk result (out.new.items ≡ out.old.items ++ report.fault_name fault.now) }
+{
+    match fault {
+        ExprFault::TooLong => add_bytes(out, b"TooLong"),
+        ExprFault::Overflow => add_bytes(out, b"Overflow"),
+        ExprFault::NotNumber => add_bytes(out, b"NotNumber"),
+    }
+}
+
+fn add_refusal(out: &mut Vec<u8>, refusal: &Refusal) -> Result<(), NoMemory>
+    ensures { OnOk result (out.new.items ≡ out.old.items ++ report.refusal_text refusal.now) }
+{
+    match refusal {
+        Refusal::NoStep => add_bytes(out, b"NoStep"),
+        Refusal::NoElement => add_bytes(out, b"NoElement"),
+        Refusal::NoPlace => add_bytes(out, b"NoPlace"),
+        Refusal::Lacks => add_bytes(out, b"Lacks"),
+        Refusal::WrongForm => add_bytes(out, b"WrongForm"),
+        Refusal::Blocked(path) => {
+            add_bytes(out, b"Blocked ")?;
+            add_quoted_path(out, path)
+        }
+        Refusal::TooDeep => add_bytes(out, b"TooDeep"),
+        Refusal::BadName => add_bytes(out, b"BadName"),
+        Refusal::NoDefault => add_bytes(out, b"NoDefault"),
+        Refusal::Expr(fault) => {
+            add_bytes(out, b"Expr ")?;
+            add_fault(out, fault)
+        }
+        Refusal::Absent => add_bytes(out, b"Absent"),
+        Refusal::Exists => add_bytes(out, b"Exists"),
+    }
+}
+
+fn add_stop(out: &mut Vec<u8>, command: u32, refusal: &Refusal) -> Result<(), NoMemory>
+    ensures { OnOk result (out.new.items ≡ out.old.items ++ report.end_text (End.Stopped command refusal.now)) }
+{
+    add_field(out, b"stopped ", u64::from(command))?;
+    add_field(out, b" ", u64::from(refusal.number()))?;
+    add_bytes(out, b" ")?;
+    add_refusal(out, refusal)
+}
+
+fn add_end(out: &mut Vec<u8>, end: &End) -> Result<(), NoMemory>
+    ensures { OnOk result (out.new.items ≡ out.old.items ++ report.end_text end.now) }
+{
+    match end {
+        End::Done => add_bytes(out, b"done"),
+        End::Stopped { command, refusal } => add_stop(out, *command, refusal),
+        End::Aborted => add_bytes(out, b"aborted"),
+    }
+}
+
+fn add_entry_line(out: &mut Vec<u8>, number: u64, entry: &PrintedEntry) -> Result<(), NoMemory>
+    ensures { OnOk result (out.new.items ≡ out.old.items ++ report.entry_line number entry.now) }
+{
+    add_field(out, b"entry ", number)?;
+    add_field(out, b" shell ", u64::from(entry.shell))?;
+    add_field(out, b" txn ", u64::from(entry.txn))?;
+    add_bytes(out, b" ")?;
+    add_end(out, &entry.end)?;
+    add_bytes(out, b"\n")?;
+    Ok(())
+}
+
+fn add_print_line(out: &mut Vec<u8>, value: &Value) -> Result<(), NoMemory>
+    ensures { OnOk result (out.new.items ≡ out.old.items ++ report.print_line (tree_of value.now)) }
+{
+    add_bytes(out, b"print ")?;
+    add_value(out, value)?;
+    add_bytes(out, b"\n")?;
+    Ok(())
+}
+
+fn add_print_lines(out: &mut Vec<u8>, outputs: &Values) -> Result<(), NoMemory>
+    ensures { OnOk result (out.new.items ≡ out.old.items ++ flat_map report.print_line outputs.now) }
+{
+    for i in 0..outputs.len() {
+        if let Some(value) = outputs.at(i) {
+            add_print_line(out, value)?;
+        }
+    }
+    Ok(())
+}
+
+#[tactic(auto, unfolding(crate::specs::Report::entry_text))]
+fn add_entry(out: &mut Vec<u8>, number: u64, entry: &PrintedEntry) -> Result<(), NoMemory>
+    ensures { OnOk result (out.new.items ≡ out.old.items ++ report.entry_text number entry.now) }
+{
+    add_entry_line(out, number, entry)?;
+    add_print_lines(out, &entry.outputs)
+}
+
+fn add_entries(out: &mut Vec<u8>, entries: &PrintedEntries) -> Result<(), NoMemory>
+    ensures { OnOk result (out.new.items ≡ out.old.items ++ report.entries_text 0 entries.now) }
+{
+    for i in 0..entries.len() {
+        if let Some(entry) = entries.at(i) {
+            add_entry(out, i, entry)?;
+        }
+    }
+    Ok(())
+}
+
+fn add_retry(out: &mut Vec<u8>, retry: &Retry) -> Result<(), NoMemory>
+    ensures { OnOk result (out.new.items ≡ out.old.items ++ report.retry_line retry.now) }
+{
+    add_field(out, b"retry shell ", u64::from(retry.shell))?;
+    add_field(out, b" txn ", u64::from(retry.txn))?;
+    add_field(out, b" entry ", retry.entry)?;
+    add_bytes(out, b" path ")?;
+    add_quoted_path(out, &retry.path)?;
+    add_bytes(out, b"\n")?;
+    Ok(())
+}
+
+fn add_retries(out: &mut Vec<u8>, retries: &Retries) -> Result<(), NoMemory>
+    ensures { OnOk result (out.new.items ≡ out.old.items ++ flat_map report.retry_line retries.now) }
+{
+    for i in 0..retries.len() {
+        if let Some(retry) = retries.at(i) {
+            add_retry(out, retry)?;
+        }
+    }
+    Ok(())
+}
+
+/// The report of a run: a head, each entry with its outputs, each retry, and a last line.
+#[tactic(auto, unfolding(crate::specs::Report::report_text))]
+pub fn report(
+    alloc: Global,
+    entries: &PrintedEntries,
+    retries: &Retries,
+) -> Result<LongText, NoMemory>
+    ensures { IfOk result (λ text. text ≡ report.report_text entries.now retries.now) }
+{
+    let mut out = Vec::new(alloc);
+    add_bytes(&mut out, b"forest report 1\n")?;
+    add_count_line(&mut out, b"entries ", entries.len())?;
+    add_entries(&mut out, entries)?;
+    add_count_line(&mut out, b"retries ", retries.len())?;
+    add_retries(&mut out, retries)?;
+    add_bytes(&mut out, b"end\n")?;
+    Ok(LongText::from_vec(out))
+}
+
+/// The line that shows a value.
+#[tactic(auto, unfolding(crate::specs::Report::value_line))]
+pub fn value_line(alloc: Global, value: &Value) -> Result<LongText, NoMemory>
+    ensures { IfOk result (λ text. text ≡ report.value_line (tree_of value.now)) }
+{
+    let mut out = Vec::new(alloc);
+    add_bytes(&mut out, b"value ")?;
+    add_value(&mut out, value)?;
+    add_bytes(&mut out, b"\n")?;
+    Ok(LongText::from_vec(out))
+}

@@ -1,0 +1,111 @@
+ghost use Rattle.std.specs.Prelude.{◌≡◌, ◌<◌, ◌++◌, [], ◌∷◌, false, OnOk};
+ghost use Rattle.std.specs.Fmt.{decimal, digit_glyph};
+ghost use Rattle.std.specs.List.{flat_map};
+ghost use Rattle.fx_store.specs.Names.{path_text};
+ghost use Rattle.fx_report.specs.Print.{hex_pair, quote, spelled};
+
+use fx_base::NoMemory;
+use fx_store::{Name, Path};
+
+/// Adds the bytes at the end of the text.
+pub(crate) fn add_bytes(out: &mut Vec<u8>, bytes: &[u8]) -> Result<(), NoMemory>
+    ensures { OnOk result (out.new.items ≡ out.old.items ++ bytes.now) }
+{
+    out.extend_from_slice(bytes)?;
+    Ok(())
+}
+
+/// Adds a number in decimal digits, without leading zeros.
+pub(crate) fn add_number(out: &mut Vec<u8>, number: u64) -> Result<(), NoMemory>
+    ensures { OnOk result (out.new.items ≡ out.old.items ++ decimal number) }
+{
+    let digits = number.to_string(*out.allocator())?;
+    add_bytes(out, digits.as_bytes())
+}
+
+fn hex_digit(value: u8) -> u8
+    requires { value < 16 }
+    ensures { result ≡ digit_glyph false value }
+{
+    if value < 10 {
+        b'0' + value
+    } else {
+        b'a' + (value - 10)
+    }
+}
+
+fn add_hex_pair(out: &mut Vec<u8>, byte: u8) -> Result<(), NoMemory>
+    ensures { OnOk result (out.new.items ≡ out.old.items ++ hex_pair byte) }
+{
+    let pair = [hex_digit(byte / 16), hex_digit(byte % 16)];
+    add_bytes(out, &pair)
+}
+
+/// Adds a byte as it is spelled between quotation marks.
+#[tactic(auto, unfolding(crate::specs::Print::spelled))]
+fn add_spelled(out: &mut Vec<u8>, byte: u8) -> Result<(), NoMemory>
+    ensures { OnOk result (out.new.items ≡ out.old.items ++ spelled byte) }
+{
+    match byte {
+        b'"' => add_bytes(out, b"\\\""),
+        b'\\' => add_bytes(out, b"\\\\"),
+        b'\n' => add_bytes(out, b"\\n"),
+        b' '..=b'~' => add_bytes(out, &[byte]),
+        _ => {
+            add_bytes(out, b"\\x")?;
+            add_hex_pair(out, byte)
+        }
+    }
+}
+
+pub(crate) fn add_all_spelled(out: &mut Vec<u8>, bytes: &[u8]) -> Result<(), NoMemory>
+    ensures { OnOk result (out.new.items ≡ out.old.items ++ flat_map spelled bytes.now) }
+{
+    for byte in bytes {
+        add_spelled(out, *byte)?;
+    }
+    Ok(())
+}
+
+/// Adds the bytes between quotation marks.
+#[tactic(auto, unfolding(crate::specs::Print::quote))]
+pub(crate) fn add_quote(out: &mut Vec<u8>, bytes: &[u8]) -> Result<(), NoMemory>
+    ensures { OnOk result (out.new.items ≡ out.old.items ++ quote bytes.now) }
+{
+    add_bytes(out, b"\"")?;
+    add_all_spelled(out, bytes)?;
+    add_bytes(out, b"\"")
+}
+
+fn add_spelled_name(out: &mut Vec<u8>, name: &Name) -> Result<(), NoMemory>
+    ensures { OnOk result (out.new.items ≡ out.old.items ++ flat_map spelled (47 ∷ name.now)) }
+{
+    add_spelled(out, b'/')?;
+    add_all_spelled(out, name.as_slice())
+}
+
+/// Adds each name of a path with `/` before it, as it is spelled between quotation marks.
+fn add_spelled_names(out: &mut Vec<u8>, path: &Path) -> Result<(), NoMemory>
+    ensures { OnOk result
+        (out.new.items ≡ out.old.items ++ flat_map spelled (flat_map (λ name. 47 ∷ name) path.now)) }
+{
+    for i in 0..path.len() {
+        if let Some(name) = path.name(i) {
+            add_spelled_name(out, name)?;
+        }
+    }
+    Ok(())
+}
+
+/// Adds the text of a path between quotation marks.
+pub(crate) fn add_quoted_path(out: &mut Vec<u8>, path: &Path) -> Result<(), NoMemory>
+    ensures { OnOk result (out.new.items ≡ out.old.items ++ quote (path_text path.now)) }
+{
+    if path.len() == 0 {
+        return add_quote(out, b"/");
+    }
+    add_bytes(out, b"\"")?;
+    add_spelled_names(out, path)?;
+    add_bytes(out, b"\"")?;
+    Ok(())
+}
