@@ -60,3 +60,7 @@ below_place x xs y i up e =
 pub placed : (xs : List (List ℕ)) (x : List ℕ) (r : Option ℕ) → MatchOption r (has_text x xs ≡ false) (λ i. slice_get xs i ≡ Some x) → is_some r ≡ has_text x xs
 placed xs x None h = sym h
 placed xs x (Some i) h = sym (any_passes_from_place (λ y. pointwise nat_eq y x) xs i x h (same_text x))
+
+pub ascending_one : (xs : List (List ℕ)) (x : List ℕ) → xs ≡ x ∷ [] → IsAscending xs
+unfolding IsStrictlySortedBy
+ascending_one xs x e = subst (λ (ys : List (List ℕ)). IsAscending ys) (sym e) (tt, tt)

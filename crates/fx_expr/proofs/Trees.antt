@@ -3,7 +3,8 @@ use Rattle.std.proofs.Common.{◌≡◌, ℕ, List, [], ◌∷◌, map, refl, ap
 use Rattle.std.specs.List.{zip}
 use Rattle.fx_expr.specs.declared.value.Value.{Value, the_lemmas}
 use Rattle.fx_expr.specs.declared.value.Value.TheVariants.{Table}
-use Rattle.fx_expr.specs.Tree.{Tree, rows}
+use Rattle.fx_expr.specs.Tree.{Tree, rows, entries}
+use Rattle.fx_expr.specs.Eval.{entries_in}
 use Rattle.fx_expr.specs.Rows.{keys_of, values_of}
 use Rattle.fx_expr.specs.Views.{tree_of, entry_tree}
 
@@ -21,3 +22,14 @@ entries_again (x ∷ es) (v ∷ vs) e =
 
 pub same_table : (es fs : List (List ℕ × Value)) → map entry_tree es ≡ map entry_tree fs → tree_of (Table es) ≡ tree_of (Table fs)
 same_table es fs e = table_tree es ∙ ap (λ r. Tree.table (rows r)) e ∙ sym (table_tree fs)
+
+entries_rows : (es : List (List ℕ × Tree)) → entries (rows es) ≡ es
+entries_rows [] = refl
+entries_rows (e ∷ es) = ap (λ l. e ∷ l) (entries_rows es)
+
+keys_entries : (es : List (List ℕ × Value)) → map (λ e. e.0) (map entry_tree es) ≡ keys_of es
+keys_entries [] = refl
+keys_entries (e ∷ es) = ap (λ l. e.0 ∷ l) (keys_entries es)
+
+pub table_keys : (es : List (List ℕ × Value)) → map (λ e. e.0) (entries_in (tree_of (Table es))) ≡ keys_of es
+table_keys es = ap (λ t. map (λ e. e.0) (entries_in t)) (table_tree es) ∙ ap (λ l. map (λ e. e.0) l) (entries_rows (map entry_tree es)) ∙ keys_entries es

@@ -1,7 +1,7 @@
 -- What an expression gives in an environment: a value, or the fault of the first part that has one. The parts of an
 -- operator are taken from left to right. Where a value has not the shape that its operator takes, which no well-shaped
 -- expression meets, a default stands in for it.
-use Rattle.std.specs.Prelude.{ℕ, ◌+◌, ℤ, pos, negsuc, ◌+ℤ◌, ◌-ℤ◌, neg_ℤ, int_lt, int_le, Bool, true, false, cond, not, ◌&&◌, List, [], ◌∷◌, ◌++◌, map, drop, length, nat_eq, nat_lt, nat_le, Option, Some, None, Result, Ok, Err}
+use Rattle.std.specs.Prelude.{ℕ, ◌+◌, ◌-◌, ◌^◌, ℤ, pos, negsuc, ◌+ℤ◌, ◌-ℤ◌, neg_ℤ, int_lt, int_le, Bool, true, false, cond, not, ◌&&◌, List, [], ◌∷◌, ◌++◌, map, take, drop, length, slice_index, nat_eq, nat_lt, nat_le, Option, Some, None, Result, Ok, Err}
 use Rattle.std.specs.List.{filter, slice_split}
 use Rattle.std.specs.Option.{unwrap_or}
 use Rattle.std.specs.Cmp.Lexicographic.{pointwise, slice_cmp}
@@ -64,9 +64,10 @@ size_in _ = 0
 abbrev pub joined : List ℕ → List ℕ → Outcome
 joined a b = cond (nat_le (length a + length b) 1048576) (Ok (Tree.str (a ++ b))) (Err TooLong)
 
--- whether the integer is one of 64 bits, with a sign
+-- whether the integer is one of 64 bits, from -2^63 to 2^63 - 1
 abbrev pub fits_64 : ℤ → Bool
-fits_64 n = int_le (negsuc 9223372036854775807) n && int_le n (pos 9223372036854775807)
+fits_64 (pos n) = nat_lt n (2 ^ 63)
+fits_64 (negsuc n) = nat_lt n (2 ^ 63)
 
 -- the integer; Overflow where it does not fit
 abbrev pub in_range : ℤ → Outcome
@@ -99,9 +100,7 @@ pieces text = filter (λ piece. nat_lt 0 (length piece)) (slice_split (λ b. nat
 
 -- the text without one line feed at its end
 abbrev pub without_line_feed : List ℕ → List ℕ
-without_line_feed [] = []
-without_line_feed (b ∷ []) = cond (nat_eq b 10) [] (b ∷ [])
-without_line_feed (b ∷ c ∷ bytes) = b ∷ without_line_feed (c ∷ bytes)
+without_line_feed text = cond (nat_eq (slice_index text (length text - 1)) 10) (take (length text - 1) text) text
 
 -- an optional `-` and one or more digits
 abbrev pub digits_in : List ℕ → List ℕ
@@ -113,11 +112,13 @@ is_numeral numeral = nat_lt 0 (length (digits_in numeral)) && all_ascii_digits (
 abbrev pub numeral_value : List ℕ → ℤ
 numeral_value numeral = let value = pos (digits_value 10 (digits_in numeral)) in cond (starts_with_minus numeral) (neg_ℤ value) value
 
+-- a numeral of an integer of 64 bits
+abbrev pub spells_64 : List ℕ → Bool
+spells_64 numeral = is_numeral numeral && fits_64 (numeral_value numeral)
+
 -- the integer that the text spells; NotNumber where it spells none that fits
 abbrev pub read_integer : List ℕ → Outcome
-read_integer text =
-    let numeral = without_line_feed text in
-    cond (is_numeral numeral && fits_64 (numeral_value numeral)) (Ok (Tree.int (numeral_value numeral))) (Err NotNumber)
+read_integer text = let numeral = without_line_feed text in cond (spells_64 numeral) (Ok (Tree.int (numeral_value numeral))) (Err NotNumber)
 
 -- the value that an operator's first part decides alone
 abbrev pub decided : BinOp → Tree → Option Tree

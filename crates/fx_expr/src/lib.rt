@@ -3,10 +3,16 @@
 #![tactic(auto)]
 
 mod env;
+mod eval;
 mod expr;
 mod fault;
+mod glob;
 mod keyed;
+mod lines;
 mod lists;
+mod number;
+mod operators;
+mod parts;
 mod set;
 mod shape;
 mod text;
@@ -14,8 +20,10 @@ mod value;
 mod word;
 
 pub use env::Env;
+pub use eval::a_value_has_its_expressions_shape;
 pub use expr::{BinOp, Expr, UnOp};
 pub use fault::{EvalFault, ExprFault};
+pub use glob::matches;
 pub use keyed::Keyed;
 pub use lists::{Texts, Values};
 pub use set::TextSet;

@@ -1,0 +1,178 @@
+// What the operators give of values that they take.
+ghost use Rattle.std.specs.Prelude.{◌≡◌, ◌+ℤ◌, ◌-ℤ◌, pos};
+ghost use Rattle.std.specs.Option.{option_map};
+ghost use Rattle.fx_expr.specs.Eval.{joined, in_range, united, same_value, is_less, size_in, read_integer, two, one, decided};
+ghost use Rattle.fx_expr.specs.Gives.{Gives};
+ghost use Rattle.fx_expr.specs.Takes.{Comparable, Ordered, Sized, TakesTwo, TakesOne, LooksAt};
+ghost use Rattle.fx_expr.specs.Tree.{Tree};
+ghost use Rattle.fx_expr.specs.Views.{tree_of};
+
+use crate::expr::{BinOp, UnOp};
+use crate::fault::{EvalFault, ExprFault};
+use crate::lines::lines;
+use crate::number::{decimal, read_integer};
+use crate::parts::{
+    integer, into_first, into_keys, into_names, into_second, into_text, is_present, names, text,
+    truth,
+};
+use crate::set::TextSet;
+use crate::text::{TEXT_LIMIT, Text};
+use crate::value::Value;
+use fx_base::NoMemory;
+use std::alloc::Global;
+
+// The most that a union may weigh: the bytes of its elements, and one more for each.
+const UNION_LIMIT: u64 = 33_554_432;
+
+// What an operator's first part decides alone.
+pub(crate) fn decides(op: BinOp, first: &Value) -> Option<bool>
+    requires { LooksAt op (tree_of first.now) }
+    ensures { option_map (λ b. Tree.bool b) result ≡ decided op (tree_of first.now) }
+{
+    match op {
+        BinOp::And => if truth(first) { None } else { Some(false) },
+        BinOp::Or => if truth(first) { Some(true) } else { None },
+        _ => None,
+    }
+}
+
+pub(crate) fn apply_two(op: BinOp, first: Value, second: Value) -> Result<Value, EvalFault>
+    requires { TakesTwo op (tree_of first) (tree_of second) }
+    ensures { Gives tree_of result (two op (tree_of first) (tree_of second)) }
+{
+    match op {
+        BinOp::Join => join(into_text(first), &into_text(second)),
+        BinOp::Plus => plus(integer(&first), integer(&second)),
+        BinOp::Minus => minus(integer(&first), integer(&second)),
+        BinOp::Equal => Ok(Value::Bool(is_equal(&first, &second))),
+        BinOp::Less => Ok(Value::Bool(is_less(&first, &second))),
+        BinOp::And => Ok(Value::Bool(truth(&second))),
+        BinOp::Or => Ok(Value::Bool(truth(&second))),
+        BinOp::Member => Ok(Value::Bool(names(&second).has(text(&first)))),
+        BinOp::Union => unite(into_names(first), into_names(second)),
+        BinOp::Without => Ok(Value::Names(into_names(first).without(names(&second)))),
+    }
+}
+
+pub(crate) fn apply_one(alloc: Global, op: UnOp, value: Value) -> Result<Value, EvalFault>
+    requires { TakesOne op (tree_of value) }
+    ensures { Gives tree_of result (one op (tree_of value)) }
+{
+    match op {
+        UnOp::Not => Ok(Value::Bool(!truth(&value))),
+        UnOp::One => singleton(alloc, into_text(value)),
+        UnOp::Lines => line_set(alloc, text(&value)),
+        UnOp::Size => Ok(Value::Int(size(&value))),
+        UnOp::Int => spelled(text(&value).as_slice()),
+        UnOp::Text => spelling(alloc, integer(&value)),
+        UnOp::First => Ok(into_first(value)),
+        UnOp::Second => Ok(into_second(value)),
+        UnOp::Keys => Ok(Value::Names(into_keys(value))),
+        UnOp::Present => Ok(Value::Bool(is_present(&value))),
+    }
+}
+
+fn join(first: Text, second: &Text) -> Result<Value, EvalFault>
+    ensures { Gives tree_of result (joined first second.now) }
+{
+    let mut bytes = first.into_vec();
+    let more = second.as_slice();
+    if bytes.len() + more.len() > TEXT_LIMIT {
+        return Err(EvalFault::Fault(ExprFault::TooLong));
+    }
+    match bytes.extend_from_slice(more) {
+        Ok(()) => Ok(Value::Str(Text::from_vec(bytes))),
+        Err(_) => Err(EvalFault::NoMemory),
+    }
+}
+
+fn plus(a: i64, b: i64) -> Result<Value, EvalFault>
+    ensures { Gives tree_of result (in_range (a +ℤ b)) }
+{
+    match a.checked_add(b) {
+        Some(sum) => Ok(Value::Int(sum)),
+        None => Err(EvalFault::Fault(ExprFault::Overflow)),
+    }
+}
+
+fn minus(a: i64, b: i64) -> Result<Value, EvalFault>
+    ensures { Gives tree_of result (in_range (a -ℤ b)) }
+{
+    match a.checked_sub(b) {
+        Some(rest) => Ok(Value::Int(rest)),
+        None => Err(EvalFault::Fault(ExprFault::Overflow)),
+    }
+}
+
+fn is_equal(first: &Value, second: &Value) -> bool
+    requires { Comparable (tree_of first.now) (tree_of second.now) }
+    ensures { result ≡ same_value (tree_of first.now) (tree_of second.now) }
+{
+    match first {
+        Value::Str(a) => *a == *text(second),
+        Value::Int(a) => *a == integer(second),
+        Value::Bool(a) => *a == truth(second),
+        Value::Names(a) => *a == *names(second),
+        _ => unreachable!(),
+    }
+}
+
+fn is_less(first: &Value, second: &Value) -> bool
+    requires { Ordered (tree_of first.now) (tree_of second.now) }
+    ensures { result ≡ is_less (tree_of first.now) (tree_of second.now) }
+{
+    match first {
+        Value::Str(a) => *a < *text(second),
+        Value::Int(a) => *a < integer(second),
+        _ => unreachable!(),
+    }
+}
+
+fn unite(first: TextSet, second: TextSet) -> Result<Value, EvalFault>
+    ensures { Gives tree_of result (united first second) }
+{
+    let both = first.union(second)?;
+    if both.weighs_at_most(UNION_LIMIT) {
+        Ok(Value::Names(both))
+    } else {
+        Err(EvalFault::Fault(ExprFault::TooLong))
+    }
+}
+
+fn singleton(alloc: Global, text: Text) -> Result<Value, EvalFault>
+    ensures { Gives tree_of result (one UnOp.One (Tree.str text)) }
+{
+    Ok(Value::Names(TextSet::of(alloc, text)?))
+}
+
+fn line_set(alloc: Global, text: &Text) -> Result<Value, EvalFault>
+    ensures { Gives tree_of result (one UnOp.Lines (Tree.str text.now)) }
+{
+    Ok(Value::Names(lines(alloc, text)?))
+}
+
+fn size(value: &Value) -> i64
+    requires { Sized (tree_of value.now) }
+    ensures { result ≡ pos (size_in (tree_of value.now)) }
+{
+    match value {
+        Value::Str(text) => text.len() as i64,
+        Value::Names(names) => names.len() as i64,
+        _ => unreachable!(),
+    }
+}
+
+fn spelled(text: &[u8]) -> Result<Value, EvalFault>
+    ensures { Gives tree_of result (read_integer text.now) }
+{
+    match read_integer(text) {
+        Ok(n) => Ok(Value::Int(n)),
+        Err(fault) => Err(EvalFault::Fault(fault)),
+    }
+}
+
+fn spelling(alloc: Global, n: i64) -> Result<Value, EvalFault>
+    ensures { Gives tree_of result (one UnOp.Text (Tree.int n)) }
+{
+    Ok(Value::Str(decimal(alloc, n)?))
+}
