@@ -1,0 +1,9 @@
+pub mod Listing
+pub mod Path
+pub mod Tree
+pub mod Host
+pub mod Sink
+pub mod Calls
+pub mod MemorySink
+pub mod Memory
+pub mod MemoryHost
