@@ -3,7 +3,7 @@
 #![tactic(auto)]
 
 mod env;
-mod eval;
+mod evaluation;
 mod expr;
 mod fault;
 mod glob;
@@ -20,7 +20,7 @@ mod value;
 mod word;
 
 pub use env::Env;
-pub use eval::a_value_has_its_expressions_shape;
+pub use evaluation::{a_value_has_its_expressions_shape, eval};
 pub use expr::{BinOp, Expr, UnOp};
 pub use fault::{EvalFault, ExprFault};
 pub use glob::matches;
