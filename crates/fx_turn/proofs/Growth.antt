@@ -21,6 +21,9 @@ module _ {I : Type 0} where
   pub begins_more : (xs ys zs : List I) → Begins xs ys → Begins xs (ys ++ zs)
   begins_more xs ys zs b = record { rest = b.rest ++ zs; whole = ap (λ l. l ++ zs) b.whole ∙ append_assoc xs b.rest zs }
 
+  pub begins_on : (xs ys zs : List I) → Begins xs ys → Begins ys zs → Begins xs zs
+  begins_on xs ys zs b c = subst (Begins xs) (sym c.whole) (begins_more xs ys c.rest b)
+
   -- the shorter of two beginnings begins the longer
   shorter : (xs ys r t : List I) → xs ++ r ≡ ys ++ t → length xs ≤ length ys → Begins xs ys
   shorter [] ys r t e l = begins_nil ys

@@ -21,10 +21,10 @@ IsSamePlace p q = (q.table_id ≡ p.table_id) × (q.id ≡ p.id)
 abbrev pub IsGiven : {O I : Type 0} → (I → ℕ) → View O I → List I → Type 0
 IsGiven {O} {I} shell v h = (h ≡ v.seen) ⊎ ((x : I) × (h ≡ v.seen ++ x ∷ []) × (v.number ≡ Some (shell x)))
 
--- the slots that a seat carries: in its turn the one slot, out of which it has taken the value
-abbrev pub carries : {K : Type 0} → Bool → List (ℕ × Option K)
-carries true = (0, None) ∷ []
-carries false = []
+-- the slots that are out with a seat: in its turn the one slot, out of which it has taken the value
+abbrev pub slots_out : {K : Type 0} → Bool → List (ℕ × Option K)
+slots_out true = (0, None) ∷ []
+slots_out false = []
 
 module _ {K O I : Type 0} where
   -- a split seat that is not in its turn

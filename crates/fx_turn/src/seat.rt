@@ -1,7 +1,7 @@
 //! A seat of a turn.
 ghost use Rattle.std.specs.Prelude.{◌≡◌, true, None, Some};
 ghost use Rattle.fx_turn.specs.Histories.{own};
-ghost use Rattle.fx_turn.specs.Places.{carries};
+ghost use Rattle.fx_turn.specs.Places.{slots_out};
 
 use crate::kept::Kept;
 use crate::order::Place;
@@ -17,6 +17,6 @@ pub struct Seat<K: Kept> {
     pub ghost live: { place.me.0.live ≡ true },
     pub ghost number_is: { place.me.0.number ≡ number },
     pub ghost splits_is: { place.me.0.splits ≡ splits },
-    pub ghost carries: { place.me.1 ≡ carries place.me.0.in_turn },
+    pub ghost carries: { place.me.1 ≡ slots_out place.me.0.in_turn },
     pub ghost mine_is: { own K.shell place.me.0.number place.me.0.seen ≡ place.me.0.mine },
 }

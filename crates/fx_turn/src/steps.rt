@@ -1,14 +1,17 @@
 //! The calls of a turn as steps on the table.
 ghost use Rattle.std.specs.Prelude.{◌≡◌, ◌+◌, ◌<◌, [], ◌∷◌, true, false, None, Some, IfOk, IfErr, MatchOption, All};
+ghost use Rattle.std.specs.Slots.{IsFull, slots_items, slots_len};
+ghost use Rattle.atomic_table.specs.Table.{Final, Seen};
 ghost use Rattle.fx_turn.specs.Histories.{Begins, own, count};
 ghost use Rattle.fx_turn.specs.Views.{maker_of, parted, newcomer, taking, giving, joining, joins};
 ghost use Rattle.fx_turn.specs.Plays.{Fits};
+ghost use Rattle.fx_turn.specs.Rule.{Ordered};
 ghost use Rattle.fx_turn.specs.Places.{IsPlaceOf, IsSamePlace, IsIdle, IsOut, IsGiven, Holds};
 
 use crate::kept::Kept;
 use crate::order::{Board, Place, Top};
 use crate::plays::{Know, Learn, Note, Part, Post, Release, Try};
-use atomic_table::{Refused, Table};
+use atomic_table::{Closed, Refused, Table};
 use fx_base::NoMemory;
 use std::alloc::Global;
 use std::snapshot::Snapshot;
@@ -114,6 +117,16 @@ pub(crate) fn take_in<K: Kept>(top: &Top<K>, maker: &mut Place<K>, place: Place<
     top.load::<Learn<K>>(maker, 0);
 }
 
+// The table's end. Its last state meets the rule, and has the maker's view.
+fn end<K: Kept>(board: Board<K>, maker: Place<K>) -> Closed<Option<K>, Global>
+    requires { IsPlaceOf board.shared.table_id maker }
+    ensures words { IsFull result.words }
+    ensures slots { IsFull result.slots × (slots_len result.slots ≡ 1) }
+    ensures last { Final (Seen (Ordered K.base K.history K.shell) maker.id maker.me.0) (slots_items result.words) (slots_items result.slots) }
+{
+    board.close_with(maker)
+}
+
 /// Ends the table, and answers the value that is home.
 pub(crate) fn shut<K: Kept>(board: Board<K>, maker: Place<K>) -> K
     requires table { IsPlaceOf board.shared.table_id maker }
@@ -122,7 +135,7 @@ pub(crate) fn shut<K: Kept>(board: Board<K>, maker: Place<K>) -> K
     ensures kept { Fits K.base K.history K.shell maker.me.0 result }
     ensures joined { All (λ j. count K.shell j.0 (K.history result) ≡ j.1) maker.me.0.joined }
 {
-    let mut closed = board.close_with(maker);
+    let mut closed = end(board, maker);
     let home = closed.take(0);
     closed.free();
     home.unwrap()

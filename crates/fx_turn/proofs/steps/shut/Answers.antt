@@ -9,14 +9,14 @@ use Rattle.fx_turn.proofs.steps.shut.Goals as goal
 
 pub unwrap-requires : goal.unwrap-requires
 unwrap-requires g c =
-    let f = c.close_with-closed.ensures.values.2 in
+    let f = c.end-closed.ensures.last in
     let closed = closes _ _ _ f.0 _ _ f.1.0 f.1.1 c.requires.maker.0 c.requires.maker.1 c.requires.all in
     let home = some-injective _ _ (sym (f.4 0 (Some closed.kept) closed.home) ∙ c.take-home.ensures.value) in
     subst IsSome home refl
 
 pub returns-clause-kept : goal.returns-clause-kept
 returns-clause-kept g c =
-    let f = c.close_with-closed.ensures.values.2 in
+    let f = c.end-closed.ensures.last in
     let closed = closes _ _ _ f.0 _ _ f.1.0 f.1.1 c.requires.maker.0 c.requires.maker.1 c.requires.all in
     let home = some-injective _ _ (sym (f.4 0 (Some closed.kept) closed.home) ∙ c.take-home.ensures.value) in
     let is : closed.kept ≡ c.unwrap.result = cc (home, c.unwrap.ensures) in
@@ -24,7 +24,7 @@ returns-clause-kept g c =
 
 pub returns-clause-joined : goal.returns-clause-joined
 returns-clause-joined g c =
-    let f = c.close_with-closed.ensures.values.2 in
+    let f = c.end-closed.ensures.last in
     let closed = closes _ _ _ f.0 _ _ f.1.0 f.1.1 c.requires.maker.0 c.requires.maker.1 c.requires.all in
     let home = some-injective _ _ (sym (f.4 0 (Some closed.kept) closed.home) ∙ c.take-home.ensures.value) in
     let is : closed.kept ≡ c.unwrap.result = cc (home, c.unwrap.ensures) in
