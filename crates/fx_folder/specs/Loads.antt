@@ -46,7 +46,7 @@ IsHeavy entries i e = (e.1.kind ≡ kind.File) × ((1048576 < size_of e) ⊎ (67
 -- why entry `i` is refused. The root is a node too, so the entry of number 99,999 is node 100,001. Folders and the table of
 -- links are not built.
 abbrev pub IsCauseAt : List Named → ℕ → Named → FolderCause → Type 0
-IsCauseAt entries i e (BadName path) = (path ≡ below e.0) × (is_name e.0 ≡ false)
+IsCauseAt entries i e (BadName path) = (path ≡ below e.0) × (is_name e.0 ≡ false) × (e.0 ≢ table_name)
 IsCauseAt entries i e (TooLarge path) = (path ≡ below e.0) × ((99999 ≤ i) ⊎ IsHeavy entries i e)
 IsCauseAt entries i e (Strange path) = (path ≡ below e.0) × (e.1.kind ≡ kind.Other)
 IsCauseAt entries i e (NotBuilt path) = (path ≡ below e.0) × ((e.1.kind ≡ kind.Folder) ⊎ (e.0 ≡ table_name))
