@@ -37,7 +37,7 @@ abbrev pub IsFrontOf : Entry → Entry → Type 0
 IsFrontOf e whole = (n : ℕ) × (e ≡ file (take n whole.bytes))
 
 -- the new tree has a part of that folder at these parts, and is the old one elsewhere
-record IsPartOf (tree tree' : Tree) (at : Parts) (nodes : Nodes) (last : Parts) : Type 0 where
+pub record IsPartOf (tree tree' : Tree) (at : Parts) (nodes : Nodes) (last : Parts) : Type 0 where
   pub outside : (q : Parts) → rest_of at q ≡ None → get tree' q ≡ get tree q
   pub inside : (path : Parts) (e : Entry) → get tree' (at ++ path) ≡ Some e
       → (whole : Entry) × (host_entry (get nodes path) ≡ Some whole) × ((e ≡ whole) ⊎ ((path ≡ last) × IsFrontOf e whole))
