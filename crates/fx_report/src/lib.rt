@@ -4,6 +4,8 @@
 mod lines;
 mod printed;
 mod quotes;
+#[cfg(test)]
+mod tests;
 mod values;
 
 pub use lines::{report, value_line};

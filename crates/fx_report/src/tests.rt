@@ -1,0 +1,202 @@
+//! Whole reports and every printed form, against texts that were written by hand.
+ghost use Rattle.std.specs.Prelude.{◌≡◌, ◌≤◌, length, IfOk};
+ghost use Rattle.std.specs.declared.cmp.Ordering.{Ordering};
+ghost use Rattle.std.specs.Ordering.{nat_cmp};
+ghost use Rattle.std.specs.Cmp.Lexicographic.{slice_cmp};
+
+use crate::{PrintedEntries, PrintedEntry, Retries, Retry, report, value_line};
+use fx_base::NoMemory;
+use fx_expr::{ExprFault, Keyed, Text, TextSet, Value, Values};
+use fx_spec::{End, Refusal};
+use fx_store::Path;
+use std::alloc::Global;
+use std::process::Abort;
+use std::test::Fail;
+
+fn text(alloc: Global, bytes: &[u8]) -> Result<Text, NoMemory>
+    requires { length bytes.now ≤ 1000 }
+    ensures { IfOk result (λ text. text ≡ bytes.now) }
+{
+    let bytes = Vec::from_slice(alloc, bytes)?;
+    Ok(Text::from_vec(bytes))
+}
+
+fn set_of(alloc: Global, first: &[u8], second: &[u8]) -> Result<TextSet, NoMemory>
+    requires first_short { length first.now ≤ 1000 }
+    requires second_short { length second.now ≤ 1000 }
+    requires ordered { slice_cmp nat_cmp first.now second.now ≡ Ordering.Less }
+    ensures { IfOk result (λ set. length set ≡ 2) }
+{
+    let mut set = TextSet::new(alloc);
+    set.add(text(alloc, first)?)?;
+    set.add(text(alloc, second)?)?;
+    Ok(set)
+}
+
+fn boxed(alloc: Global, value: Value) -> Result<Box<Value>, NoMemory> {
+    Ok(Box::new(alloc, value)?)
+}
+
+fn table_of_a_and_b(alloc: Global) -> Result<Value, NoMemory> {
+    let keys = set_of(alloc, b"a.txt", b"b.txt")?;
+    let mut values = Vec::new(alloc);
+    values.push(Value::Str(text(alloc, b"A")?))?;
+    values.push(Value::Int(7))?;
+    Ok(Value::Table(Keyed::from_parts(keys, values)))
+}
+
+fn shows(rt: &(impl Abort + AllocGlobal), value: Value, line: &[u8]) -> Result<(), NoMemory> {
+    let shown = value_line(rt.alloc(), &value)?;
+    assert_eq!(rt; shown.as_slice(), line);
+    Ok(())
+}
+
+#[test]
+fn every_form_of_value(rt: HostRuntime) -> Result<(), Fail> {
+    let alloc = rt.alloc();
+    shows(
+        &rt,
+        Value::Str(text(alloc, b"a\"\n\xc3\xa9")?),
+        b"value \"a\\\"\\n\\xc3\\xa9\"\n",
+    )?;
+    shows(
+        &rt,
+        Value::Str(text(alloc, b"\\ ~\x1f\x7f\x00")?),
+        b"value \"\\\\ ~\\x1f\\x7f\\x00\"\n",
+    )?;
+    shows(&rt, Value::Str(text(alloc, b"")?), b"value \"\"\n")?;
+    shows(&rt, Value::Int(0), b"value 0\n")?;
+    shows(&rt, Value::Int(i64::MAX), b"value 9223372036854775807\n")?;
+    shows(&rt, Value::Int(i64::MIN), b"value -9223372036854775808\n")?;
+    shows(&rt, Value::Bool(true), b"value true\n")?;
+    shows(&rt, Value::Bool(false), b"value false\n")?;
+    shows(&rt, Value::Names(TextSet::new(alloc)), b"value {}\n")?;
+    shows(
+        &rt,
+        Value::Names(set_of(alloc, b"a", b"b")?),
+        b"value {\"a\", \"b\"}\n",
+    )?;
+    shows(&rt, Value::Nothing, b"value none\n")?;
+    shows(
+        &rt,
+        Value::Some(boxed(alloc, Value::Bool(true))?),
+        b"value some(true)\n",
+    )?;
+    let first = boxed(alloc, Value::Names(set_of(alloc, b"a.txt", b"c")?))?;
+    let second = boxed(alloc, table_of_a_and_b(alloc)?)?;
+    shows(
+        &rt,
+        Value::Pair(first, second),
+        b"value <{\"a.txt\", \"c\"}, [\"a.txt\" = \"A\", \"b.txt\" = 7]>\n",
+    )?;
+    shows(&rt, Value::Table(Keyed::new(alloc)), b"value []\n")?;
+    Ok(())
+}
+
+fn path(alloc: Global, text: &[u8]) -> Result<Path, Fail> {
+    Ok(Path::read(alloc, text).ok().ok_or("no path")?)
+}
+
+fn done(alloc: Global, shell: u32, txn: u32, output: &[u8]) -> Result<PrintedEntry, NoMemory>
+    requires { length output.now ≤ 1000 }
+{
+    let mut outputs = Values::new(alloc);
+    outputs.add(Value::Str(text(alloc, output)?))?;
+    Ok(PrintedEntry {
+        shell,
+        txn,
+        outputs,
+        end: End::Done,
+    })
+}
+
+fn stopped(alloc: Global, command: u32, refusal: Refusal) -> PrintedEntry {
+    PrintedEntry {
+        shell: 0,
+        txn: 0,
+        outputs: Values::new(alloc),
+        end: End::Stopped { command, refusal },
+    }
+}
+
+#[test]
+fn two_shells_that_change_what_the_other_reads(rt: HostRuntime) -> Result<(), Fail> {
+    let alloc = rt.alloc();
+    let mut entries = PrintedEntries::new(alloc);
+    entries.add(done(alloc, 0, 0, b"1")?)?;
+    entries.add(done(alloc, 1, 0, b"10")?)?;
+    let mut retries = Retries::new(alloc);
+    retries.add(Retry {
+        shell: 1,
+        txn: 0,
+        entry: 0,
+        path: path(alloc, b"/y")?,
+    })?;
+    assert_eq!(rt; (entries.len(), retries.len()), (2, 1));
+    assert_eq!(rt; entries.at(1).map(|e| e.shell), Some(1));
+    assert_eq!(rt; retries.at(0).map(|r| r.shell), Some(1));
+    assert!(rt; entries.at(2).is_none() && retries.at(1).is_none());
+    let printed = report(alloc, &entries, &retries)?;
+    assert_eq!(rt;
+        printed.as_slice(),
+        b"forest report 1\nentries 2\nentry 0 shell 0 txn 0 done\nprint \"1\"\nentry 1 shell 1 txn 0 done\nprint \"10\"\nretries 1\nretry shell 1 txn 0 entry 0 path \"/y\"\nend\n".as_slice()
+    );
+    Ok(())
+}
+
+#[test]
+fn a_shell_that_finds_its_element_gone(rt: HostRuntime) -> Result<(), Fail> {
+    let alloc = rt.alloc();
+    let mut entries = PrintedEntries::new(alloc);
+    entries.add(PrintedEntry {
+        shell: 1,
+        txn: 0,
+        outputs: Values::new(alloc),
+        end: End::Done,
+    })?;
+    entries.add(stopped(alloc, 2, Refusal::NoElement))?;
+    let mut retries = Retries::new(alloc);
+    retries.add(Retry {
+        shell: 0,
+        txn: 0,
+        entry: 0,
+        path: path(alloc, b"/")?,
+    })?;
+    let printed = report(alloc, &entries, &retries)?;
+    assert_eq!(rt;
+        printed.as_slice(),
+        b"forest report 1\nentries 2\nentry 0 shell 1 txn 0 done\nentry 1 shell 0 txn 0 stopped 2 2 NoElement\nretries 1\nretry shell 0 txn 0 entry 0 path \"/\"\nend\n".as_slice()
+    );
+    Ok(())
+}
+
+#[test]
+fn every_end_once(rt: HostRuntime) -> Result<(), Fail> {
+    let alloc = rt.alloc();
+    let mut entries = PrintedEntries::new(alloc);
+    entries.add(PrintedEntry {
+        shell: 63,
+        txn: 99_999,
+        outputs: Values::new(alloc),
+        end: End::Aborted,
+    })?;
+    entries.add(stopped(alloc, 0, Refusal::NoStep))?;
+    entries.add(stopped(alloc, 1, Refusal::NoPlace))?;
+    entries.add(stopped(alloc, 2, Refusal::Lacks))?;
+    entries.add(stopped(alloc, 3, Refusal::WrongForm))?;
+    entries.add(stopped(alloc, 4, Refusal::Blocked(path(alloc, b"/l41/a b")?)))?;
+    entries.add(stopped(alloc, 5, Refusal::TooDeep))?;
+    entries.add(stopped(alloc, 6, Refusal::BadName))?;
+    entries.add(stopped(alloc, 7, Refusal::NoDefault))?;
+    entries.add(stopped(alloc, 8, Refusal::Expr(ExprFault::TooLong)))?;
+    entries.add(stopped(alloc, 9, Refusal::Expr(ExprFault::Overflow)))?;
+    entries.add(stopped(alloc, 10, Refusal::Expr(ExprFault::NotNumber)))?;
+    entries.add(stopped(alloc, 11, Refusal::Absent))?;
+    entries.add(stopped(alloc, u32::MAX, Refusal::Exists))?;
+    let printed = report(alloc, &entries, &Retries::new(alloc))?;
+    assert_eq!(rt;
+        printed.as_slice(),
+        b"forest report 1\nentries 14\nentry 0 shell 63 txn 99999 aborted\nentry 1 shell 0 txn 0 stopped 0 1 NoStep\nentry 2 shell 0 txn 0 stopped 1 3 NoPlace\nentry 3 shell 0 txn 0 stopped 2 4 Lacks\nentry 4 shell 0 txn 0 stopped 3 5 WrongForm\nentry 5 shell 0 txn 0 stopped 4 6 Blocked \"/l41/a b\"\nentry 6 shell 0 txn 0 stopped 5 7 TooDeep\nentry 7 shell 0 txn 0 stopped 6 8 BadName\nentry 8 shell 0 txn 0 stopped 7 9 NoDefault\nentry 9 shell 0 txn 0 stopped 8 10 Expr TooLong\nentry 10 shell 0 txn 0 stopped 9 10 Expr Overflow\nentry 11 shell 0 txn 0 stopped 10 10 Expr NotNumber\nentry 12 shell 0 txn 0 stopped 11 11 Absent\nentry 13 shell 0 txn 0 stopped 4294967295 12 Exists\nretries 0\nend\n".as_slice()
+    );
+    Ok(())
+}
