@@ -33,10 +33,6 @@ abbrev pub names_of : Option Node → List (List ℕ)
 names_of (Some (Dir names)) = names
 names_of _ = []
 
--- an edit's changes, once each changed path is looked at
-abbrev pub touching : List Change → Ask (Answered (List Change))
-touching changes = look_all (changed_paths changes) (Answer (Ok changes))
-
 -- the entry at a path and all that is below it, removed; so many levels are at most there
 abbrev pub clear_all : (List (List ℕ) → Ask (List Change)) → List (List ℕ) → List (List ℕ) → Ask (List Change)
 clear_all clear q [] = Answer []

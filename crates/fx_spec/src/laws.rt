@@ -1,7 +1,7 @@
 //! Laws of what descriptions and transactions mean. Each stands on a function that does nothing, so that it is proved with
 //! the crate.
 ghost use Rattle.fx_spec.specs.Examples.{FetchesFile, StopsAfterStore, StoreAtRoot, StoresNames, CreatesEntry, JoinsFiles};
-ghost use Rattle.fx_spec.specs.Laws.{UndoneLeavesAll, DependsOnWay, LeavesAsData, CompleteHasEachOnce};
+ghost use Rattle.fx_spec.specs.Laws.{UndoneLeavesAll, DependsOnWay, LeavesAsData, CompleteHasEachOnce, PlacesHavePaths, EditsKeepWhole};
 
 /// What some transactions do on small filestores: their outputs, ends, consulted paths and changes.
 pub fn worked_transactions()
@@ -31,4 +31,14 @@ pub fn a_transaction_leaves_as_data()
 /// A complete order has each transaction of the plan exactly once, and nothing else.
 pub fn a_complete_order_has_each_transaction_once()
     ensures { CompleteHasEachOnce }
+{}
+
+/// The path of each place is a path: its names are names, and at most 64.
+pub fn places_have_paths()
+    ensures { PlacesHavePaths }
+{}
+
+/// An edit that is not refused leaves a whole filestore whole.
+pub fn edits_keep_a_filestore_whole()
+    ensures { EditsKeepWhole }
 {}

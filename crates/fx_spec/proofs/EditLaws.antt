@@ -1,0 +1,330 @@
+-- Places have paths, and each edit that is not refused leaves a whole filestore whole.
+use Rattle.std.proofs.Common.{◌≡◌, ℕ, suc, ◌+◌, ◌≤◌, Bool, true, false, cond, ◌||◌, ◌&&◌, refl, subst, sym, ◌∙◌, List, [], ◌∷◌, ◌++◌, map, length, Option, Some, None, Result, Ok, Err, nat_lt, nat_le, arith, bytes_eq, codes}
+use Rattle.std.proofs.lemmas.List.Elements.{All-nil, All-cons, All-append, All-head, All-tail}
+use Rattle.std.proofs.lemmas.Bool.{true≢false, ltb-false, lt-ltb}
+use Rattle.std.specs.List.{All, list_all, slice_split}
+use Rattle.std.specs.Option.{option_map, IfSome}
+use Rattle.fx_store.specs.declared.node.Node.{Node}
+use Rattle.fx_store.specs.declared.node.Node.TheVariants.{File, Dir, Link}
+use Rattle.fx_store.specs.declared.node.Landing.{Landing}
+use Rattle.fx_store.specs.declared.node.Landing.TheVariants.{At, Absent, Blocked, TooManyLinks}
+use Rattle.fx_store.specs.declared.changes.Change.{Change}
+use Rattle.fx_store.specs.declared.name.PathFault.{PathFault}
+use Rattle.fx_store.specs.declared.name.PathFault.TheVariants.{BadName, TooDeep, NoMemory}
+use Rattle.fx_store.specs.Faults.{extended, path_of, read_link}
+use Rattle.fx_store.specs.Names.{is_slash, is_name, IsName, IsPath, IsNameSet, IsContent, IsLinkText, is_component, components, has_link_form}
+use Rattle.fx_store.specs.Landings.{Resolves, arrived, stays, rises, lacks, enters, ends_at_file, stops_at_file, ends_at_link, follows, tires, IsTrueOf}
+use Rattle.fx_store.specs.Resolve.{Component, CurDir, ParentDir, Normal, component_of, components_of, names_only, absent, ◌/ₚ◌, is_full, resolve, lands}
+use Rattle.fx_store.specs.Rule.{Ask, Answer, answer, ◌>>=◌}
+use Rattle.fx_store.specs.Whole.{Store, IsWhole, IsNode, over}
+use Rattle.fx_store.proofs.Asks.{answer-bind}
+use Rattle.fx_store.proofs.Landings.{lands_by_the_rules, landings_are_true}
+use Rattle.fx_expr.specs.Bindings.{bind}
+use Rattle.fx_expr.specs.Eval.{Outcome, eval_of, text_in}
+use Rattle.fx_expr.specs.Sets.{IsAscending}
+use Rattle.fx_expr.specs.Tree.{Tree}
+use Rattle.fx_expr.proofs.Canon.{ascending_set}
+use Rattle.fx_spec.specs.declared.refusal.Refusal.{Refusal}
+use Rattle.fx_spec.specs.SpecTree.{SpecTree}
+use Rattle.fx_spec.specs.Describe.{Bindings, with_some, exists, extension, focus_path, value}
+use Rattle.fx_spec.specs.Place.{Step, First, Second, Inside, Down, Elem, PlaceTree, placed, where_true, has_element, at_path, lead, place}
+use Rattle.fx_spec.specs.Move.{Answered, unrefused, needed}
+use Rattle.fx_spec.specs.Edit.{set_to, replaced, lacks_room, unless_deep, is_too_deep, new_names, make, store_landed, names_node, link_node, stored_node, follows_last, store_at, bare_node, create_landed, create_at, remove_landed}
+use Rattle.fx_spec.specs.Laws.{IsStorable, KeepsWhole, EditsKeepWhole, PlacesHavePaths}
+use Rattle.fx_spec.proofs.EditsWhole.{IsWhole-put}
+use Rattle.fx_spec.proofs.EditsKeep.{same_ok, new_names_keep, remove_keeps}
+use Rattle.fx_spec.proofs.EditsMake.{CanMake, make_keeps}
+
+-- ------------------------------------------------------------------------------------------------------------- places
+
+all_pass : {A : Type 0} (test : A → Bool) (xs : List A) → list_all test xs ≡ true → All (λ x. test x ≡ true) xs
+all_pass test [] e = All-nil (λ x. test x ≡ true)
+all_pass test (x ∷ xs) e = at (test x) refl e (all_pass test xs)
+  where
+    at : (b : Bool) → test x ≡ b → (b && list_all test xs) ≡ true → (list_all test xs ≡ true → All (λ x. test x ≡ true) xs) → All (λ x. test x ≡ true) (x ∷ xs)
+    at true f h rest = All-cons (λ x. test x ≡ true) x xs f (rest h)
+    at false f h rest = absurd (true≢false (sym h))
+
+extended_path : (p : List (List ℕ)) (text : List ℕ) (q : List (List ℕ)) → IsPath p → extended p text ≡ Ok q → IsPath q
+extended_path p text q ok e = at (list_all is_name (slice_split is_slash text)) refl e
+  where
+    long : (b : Bool) → nat_lt 64 (length (p ++ slice_split is_slash text)) ≡ b → All IsName (slice_split is_slash text) → ◌≡◌ {A = Result (List (List ℕ)) PathFault} (cond b (Err TooDeep) (Ok (p ++ slice_split is_slash text))) (Ok q) → IsPath q
+    long true f names e = cc
+    long false f names e =
+        let same : p ++ slice_split is_slash text ≡ q = cc in
+        subst IsPath same (record { names = All-append IsName p (slice_split is_slash text) ok.names names; short = ltb-false 64 (length (p ++ slice_split is_slash text)) f })
+
+    at : (b : Bool) → list_all is_name (slice_split is_slash text) ≡ b → ◌≡◌ {A = Result (List (List ℕ)) PathFault} (cond b (path_of (p ++ slice_split is_slash text)) (Err BadName)) (Ok q) → IsPath q
+    at true f e = long (nat_lt 64 (length (p ++ slice_split is_slash text))) refl (all_pass is_name (slice_split is_slash text) f) e
+    at false f e = cc
+
+some_same : {A : Type 0} (a b : A) → Some a ≡ Some b → a ≡ b
+some_same a b e = cc
+
+focus_has_path : (p : List (List ℕ)) (o : Outcome) (env : Bindings) (s : SpecTree) (at : PlaceTree) → IsPath p → at_path env s (focus_path p o) ≡ Some at → IsPath at.path
+focus_has_path p (Ok v) env s at ok e = by_extended (extended p (text_in v)) refl e
+  where
+    by_extended : (x : Result (List (List ℕ)) PathFault) → extended p (text_in v) ≡ x → at_path env s (extension x) ≡ Some at → IsPath at.path
+    by_extended (Ok q) f e = subst (λ (a : PlaceTree). IsPath a.path) (some_same (placed q env s) at e) (extended_path p (text_in v) q ok f)
+    by_extended (Err BadName) f e = cc
+    by_extended (Err TooDeep) f e = cc
+    by_extended (Err NoMemory) f e = cc
+focus_has_path p (Err f) env s at ok e = cc
+
+option_path : (p : List (List ℕ)) (o : Option Tree) (place_of : Tree → PlaceTree) (at : PlaceTree) → ((v : Tree) → (place_of v).path ≡ p) → IsPath p → option_map place_of o ≡ Some at → IsPath at.path
+option_path p None place_of at same ok e = cc
+option_path p (Some v) place_of at same ok e = subst (λ (a : PlaceTree). IsPath a.path) (some_same (place_of v) at e) (subst IsPath (sym (same v)) ok)
+
+true_path : (b : Bool) (here at : PlaceTree) → IsPath here.path → where_true b here ≡ Some at → IsPath at.path
+true_path true here at ok e = subst (λ (a : PlaceTree). IsPath a.path) (some_same here at e) ok
+true_path false here at ok e = cc
+
+leads_to_path : (S : Store) (step : Step) (p : List (List ℕ)) (env : Bindings) (spec : SpecTree) (at : PlaceTree) → IsPath p → answer S (lead step p env spec) ≡ Some at → IsPath at.path
+leads_to_path S First p env (SpecTree.pair x a b) at ok e = subst (λ (a : PlaceTree). IsPath a.path) (some_same _ at e) ok
+leads_to_path S Second p env (SpecTree.pair x a b) at ok e =
+    option_path p (answer S (value p env a)) (λ v. placed p (bind env x v) b) at (λ v. refl) ok (sym (answer-bind S (value p env a) (λ v. Answer (option_map (λ v. placed p (bind env x v) b) v))) ∙ e)
+leads_to_path S (Elem t) p env (SpecTree.comp s x e) at ok h = true_path (has_element t (eval_of env e)) (placed p (bind env x (Tree.str t)) s) at ok h
+leads_to_path S Inside p env (SpecTree.opt s) at ok e =
+    true_path (answer S (exists p)) (placed p env s) at ok (sym (answer-bind S (exists p) (λ there. Answer (where_true there (placed p env s)))) ∙ e)
+leads_to_path S Down p env (SpecTree.focus e s) at ok h = focus_has_path p (eval_of env e) env s at ok h
+leads_to_path S _ p env _ at ok e = cc
+
+root_path : IsPath []
+root_path = record { names = All-nil IsName; short = omega arith }
+
+pub places_have_paths : PlacesHavePaths
+unfolding place
+places_have_paths S root [] at e = subst (λ (a : PlaceTree). IsPath a.path) (some_same (placed [] [] root) at e) root_path
+places_have_paths S root (step ∷ above) at e =
+    go (answer S (place root above)) (λ up f. places_have_paths S root above up f) refl (sym (answer-bind S (place root above) (with_some λ at. lead step at.path at.env at.spec)) ∙ e)
+  where
+    go : (o : Option PlaceTree) → ((up : PlaceTree) → answer S (place root above) ≡ Some up → IsPath up.path) → answer S (place root above) ≡ o → answer S (with_some (λ (at : PlaceTree). lead step at.path at.env at.spec) o) ≡ Some at → IsPath at.path
+    go None next f e = cc
+    go (Some up) next f e = leads_to_path S step up.path up.env up.spec at (next up f) e
+
+-- ------------------------------------------------------------------------------------- the names of an absent landing
+
+abbrev AllNames : List (List ℕ) → Type 0
+AllNames [] = Unit {0}
+AllNames (n ∷ names) = IsName n × AllNames names
+
+abbrev AllNormal : List Component → Type 0
+AllNormal [] = Unit {0}
+AllNormal (CurDir ∷ rest) = AllNormal rest
+AllNormal (ParentDir ∷ rest) = AllNormal rest
+AllNormal (Normal n ∷ rest) = IsName n × AllNormal rest
+
+abbrev HasNames : Landing → Type 0
+HasNames (At q) = Unit {0}
+HasNames (Absent here names) = AllNames names
+HasNames (Blocked q) = Unit {0}
+HasNames TooManyLinks = Unit {0}
+
+all-normal-append : (a b : List Component) → AllNormal a → AllNormal b → AllNormal (a ++ b)
+all-normal-append [] b x y = y
+all-normal-append (CurDir ∷ a) b x y = all-normal-append a b x y
+all-normal-append (ParentDir ∷ a) b x y = all-normal-append a b x y
+all-normal-append (Normal n ∷ a) b x y = (x.0, all-normal-append a b x.1 y)
+
+names_only_are : (rest : List Component) (names : List (List ℕ)) → AllNormal rest → names_only rest ≡ Some names → AllNames names
+names_only_are [] names ok e = subst AllNames (some_same [] names e) tt
+names_only_are (CurDir ∷ rest) names ok e = cc
+names_only_are (ParentDir ∷ rest) names ok e = cc
+names_only_are (Normal n ∷ rest) names ok e = at (names_only rest) refl e (λ more f. names_only_are rest more ok.1 f)
+  where
+    at : (o : Option (List (List ℕ))) → names_only rest ≡ o → option_map (λ ns. n ∷ ns) o ≡ Some names → ((more : List (List ℕ)) → names_only rest ≡ Some more → AllNames more) → AllNames names
+    at None f e next = cc
+    at (Some more) f e next = subst AllNames (some_same (n ∷ more) names e) (ok.0, next more f)
+
+missing_names : (here : List (List ℕ)) (rest : List Component) → AllNormal rest → HasNames (absent here (names_only rest))
+missing_names here rest ok = at (names_only rest) refl
+  where
+    at : (o : Option (List (List ℕ))) → names_only rest ≡ o → HasNames (absent here o)
+    at None e = tt
+    at (Some names) e = names_only_are rest names ok e
+
+-- the components of a link text are names, or lead nowhere else
+component_normal : (c : List ℕ) (rest : List Component) → is_component c ≡ true → AllNormal rest → AllNormal (component_of c ∷ rest)
+component_normal c rest e ok = at (bytes_eq c (codes ".")) (bytes_eq c (codes "..")) refl refl
+  where
+    at : (a b : Bool) → bytes_eq c (codes ".") ≡ a → bytes_eq c (codes "..") ≡ b → AllNormal (cond a CurDir (cond b ParentDir (Normal c)) ∷ rest)
+    at true b f g = ok
+    at false true f g = ok
+    at false false f g = (plain (is_name c) refl, ok)
+      where
+        plain : (b : Bool) → is_name c ≡ b → is_name c ≡ true
+        plain true h = h
+        plain false h = absurd (true≢false (sym e ∙ (λ i. h i || f i || g i)))
+
+components_normal : (parts : List (List ℕ)) → list_all is_component parts ≡ true → AllNormal (map component_of parts)
+components_normal [] e = tt
+components_normal (c ∷ parts) e = at (is_component c) refl e (components_normal parts)
+  where
+    at : (b : Bool) → is_component c ≡ b → (b && list_all is_component parts) ≡ true → (list_all is_component parts ≡ true → AllNormal (map component_of parts)) → AllNormal (component_of c ∷ map component_of parts)
+    at true f h rest = component_normal c (map component_of parts) f (rest h)
+    at false f h rest = absurd (true≢false (sym h))
+
+link_normal : (text : List ℕ) → IsLinkText text → AllNormal (components_of text)
+link_normal text ok = components_normal (components text) (last_of (nat_lt 0 (length text)) (nat_le (length text) 4096) (list_all is_component (components text)) ok.form)
+  where
+    last_of : (a b c : Bool) → (a && b && c) ≡ true → c ≡ true
+    last_of true true c e = e
+    last_of true false c e = absurd (true≢false (sym e))
+    last_of false b c e = absurd (true≢false (sym e))
+
+resolved_names : (S : Store) → IsWhole S → (follow : Bool) {links : ℕ} {here : List (List ℕ)} {rest : List Component} {l : Landing} → Resolves S follow links here rest l → AllNormal rest → HasNames l
+resolved_names S whole follow arrived ok = tt
+resolved_names S whole follow (stays r) ok = resolved_names S whole follow r ok
+resolved_names S whole follow (rises r) ok = resolved_names S whole follow r ok
+resolved_names S whole follow (lacks {here = here} {n} {rest} e) ok = missing_names here (Normal n ∷ rest) ok
+resolved_names S whole follow (enters e r) ok = resolved_names S whole follow r ok.1
+resolved_names S whole follow (ends_at_file e) ok = tt
+resolved_names S whole follow (stops_at_file e) ok = tt
+resolved_names S whole follow (ends_at_link e g) ok = tt
+resolved_names S whole follow (follows {here = here} {n} {text} {rest} e g r) ok =
+    let link : IsLinkText text = subst (λ x. IfSome x (IsNode (here /ₚ n))) e (whole.nodes (here /ₚ n)) in
+    resolved_names S whole follow r (all-normal-append (components_of text) rest (link_normal text link) ok.1)
+resolved_names S whole follow (tires e g) ok = tt
+
+path_normal : (p : List (List ℕ)) → All IsName p → AllNormal (map Normal p)
+path_normal [] ok = tt
+path_normal (n ∷ p) ok = (All-head IsName n p ok, path_normal p (All-tail IsName n p ok))
+
+pub landing_names : (S : Store) → IsWhole S → (p : List (List ℕ)) (follow : Bool) → IsPath p → HasNames (lands S p follow)
+landing_names S whole p follow ok = resolved_names S whole follow ((lands_by_the_rules S whole p follow (lands S p follow)).1 refl) (path_normal p ok.names)
+
+all_names : (names : List (List ℕ)) → AllNames names → All IsName names
+all_names [] ok = All-nil IsName
+all_names (n ∷ names) ok = All-cons IsName n names ok.0 (all_names names ok.1)
+
+-- ---------------------------------------------------------------------------------------------------------------- edits
+
+-- a node within its limits wherever it stands
+abbrev NodeOk : Node → Type 0
+NodeOk (File bytes) = IsContent bytes
+NodeOk (Dir names) = IsNameSet names
+NodeOk (Link text) = IsLinkText text
+
+names_node_ok : (names : List (List ℕ)) → IsAscending names → (node : Node) → names_node names ≡ Ok node → NodeOk node
+names_node_ok names ascending node e = at (list_all is_name names) refl e
+  where
+    at : (b : Bool) → list_all is_name names ≡ b → ◌≡◌ {A = Answered Node} (cond b (Ok (Dir names)) (Err Refusal.BadName)) (Ok node) → NodeOk node
+    at true f h = subst NodeOk (same_ok (Dir names) node h) (record { names = all_pass is_name names f; ascending = ascending })
+    at false f h = cc
+
+link_node_ok : (text : List ℕ) → IsContent text → (node : Node) → link_node (read_link text) ≡ Ok node → NodeOk node
+link_node_ok text content node e = at (has_link_form text) (nat_lt 64 (length (components text))) refl refl e
+  where
+    at : (a b : Bool) → has_link_form text ≡ a → nat_lt 64 (length (components text)) ≡ b → link_node (cond a (cond b (Err TooDeep) (Ok text)) (Err BadName)) ≡ Ok node → NodeOk node
+    at true true f g h = cc
+    at true false f g h = subst NodeOk (same_ok (Link text) node h) (record { form = f; short = ltb-false 64 (length (components text)) g; bytes = content.bytes })
+    at false b f g h = cc
+
+stored_node_ok : (spec : SpecTree) (v : Tree) → IsStorable v → (node : Node) → stored_node spec v ≡ Ok node → NodeOk node
+stored_node_ok SpecTree.file (Tree.str bytes) ok node e = subst NodeOk (same_ok (File bytes) node e) ok
+stored_node_ok SpecTree.dir (Tree.names names) ok node e = names_node_ok names ok node e
+stored_node_ok SpecTree.link (Tree.str text) ok node e = link_node_ok text ok node e
+stored_node_ok _ v ok node e = cc
+
+both_false : (a b : Bool) → (a && b) ≡ false → (a ≡ true) → b ≡ false
+both_false true b e h = e
+both_false false b e h = absurd (true≢false (sym h))
+
+-- a directory's names have room where the test says so
+has_room : (q names : List (List ℕ)) → lacks_room q (Dir names) ≡ false → length q ≡ 64 → names ≡ []
+has_room q [] e full = refl
+has_room q (n ∷ names) e full =
+    absurd (true≢false (sym (lt-ltb 0 (suc (length names)) (omega arith)) ∙ both_false (is_full q) (nat_lt 0 (length (n ∷ names))) e (lt-ltb 63 (length q) (omega (arith, full)))))
+
+unless-ok : (b : Bool) (S : Store) (rule : Ask (Answered (List Change))) (cs : List Change) → answer S (unless_deep b rule) ≡ Ok cs → (b ≡ false) × (answer S rule ≡ Ok cs)
+unless-ok true S rule cs e = cc
+unless-ok false S rule cs e = (refl, e)
+
+-- the content of a node that is there
+replaced_keeps : (S : Store) → IsWhole S → (q : List (List ℕ)) (node : Node) → NodeOk node → (x : Option Node) → S q ≡ x → (cs : List Change) → answer S (replaced q node x) ≡ Ok cs → IsWhole (over S cs)
+replaced_keeps S whole q (File bytes) ok (Some (File old)) there cs e =
+    subst (λ cs. IsWhole (over S cs)) (same_ok (set_to q (File bytes) ∷ []) cs e) (
+    IsWhole-put S q (File old) (File bytes) whole there (λ names f. file_no_dir old names f) (λ n. refl) (record { childless = λ n. refl; limits = ok }))
+  where
+    file_no_dir : (old : List ℕ) (names : List (List ℕ)) → File old ≡ Dir names → ⊥
+    file_no_dir old names f = cc
+replaced_keeps S whole q (Link text) ok (Some (Link old)) there cs e =
+    subst (λ cs. IsWhole (over S cs)) (same_ok (set_to q (Link text) ∷ []) cs e) (
+    IsWhole-put S q (Link old) (Link text) whole there (λ names f. link_no_dir old names f) (λ n. refl) (record { childless = λ n. refl; limits = ok }))
+  where
+    link_no_dir : (old : List ℕ) (names : List (List ℕ)) → Link old ≡ Dir names → ⊥
+    link_no_dir old names f = cc
+replaced_keeps S whole q (Dir names) ok (Some (Dir old)) there cs e =
+    let w : (lacks_room q (Dir names) ≡ false) × (answer S (new_names q old names) ≡ Ok cs) = unless-ok (lacks_room q (Dir names)) S (new_names q old names) cs e in
+    new_names_keep S q old names whole there ok (λ full. has_room q names w.0 full) cs w.1
+replaced_keeps S whole q node ok x there cs e = cc
+
+can_make : (q : List (List ℕ)) (node : Node) → NodeOk node → lacks_room q node ≡ false → CanMake q node
+can_make q (File bytes) ok e = ok
+can_make q (Dir names) ok e = (ok, λ full. has_room q names e full)
+can_make q (Link text) ok e = ok
+
+not_too_deep : (here names : List (List ℕ)) (node : Node) → is_too_deep here names node ≡ false → (length here + length names ≤ 64) × (lacks_room (here ++ names) node ≡ false)
+not_too_deep here names node e = at (nat_lt 64 (length here + length names)) refl e
+  where
+    at : (b : Bool) → nat_lt 64 (length here + length names) ≡ b → cond b true (lacks_room (here ++ names) node) ≡ false → (length here + length names ≤ 64) × (lacks_room (here ++ names) node ≡ false)
+    at true f h = absurd (true≢false h)
+    at false f h = (ltb-false 64 (length here + length names) f, h)
+
+-- the node made at an absent landing
+absent_keeps : (S : Store) → IsWhole S → (here names : List (List ℕ)) (node : Node) → NodeOk node → IsTrueOf S (Absent here names) → AllNames names → KeepsWhole S (unless_deep (is_too_deep here names node) (make here names node))
+absent_keeps S whole here [] node ok true_of valid cs e = absurd true_of
+absent_keeps S whole here (n ∷ names) node ok true_of valid cs e =
+    let w : (is_too_deep here (n ∷ names) node ≡ false) × (answer S (make here (n ∷ names) node) ≡ Ok cs) = unless-ok (is_too_deep here (n ∷ names) node) S (make here (n ∷ names) node) cs e in
+    let room : (length here + length (n ∷ names) ≤ 64) × (lacks_room (here ++ n ∷ names) node ≡ false) = not_too_deep here (n ∷ names) node w.0 in
+    make_keeps S here n names node whole true_of.0.0 true_of.0.1 true_of.1 (all_names (n ∷ names) valid) (omega (arith, room.0)) (can_make (here ++ n ∷ names) node ok room.1) cs w.1
+
+store_landed_keeps : (S : Store) → IsWhole S → (p : List (List ℕ)) (node : Node) → NodeOk node → (l : Landing) → IsTrueOf S l → HasNames l → KeepsWhole S (store_landed p node l)
+store_landed_keeps S whole p node ok (At q) true_of names cs e = replaced_keeps S whole q node ok (S q) refl cs e
+store_landed_keeps S whole p node ok (Absent here names) true_of valid cs e = absent_keeps S whole here names node ok true_of valid cs e
+store_landed_keeps S whole p node ok (Blocked q) true_of names cs e = cc
+store_landed_keeps S whole p node ok TooManyLinks true_of names cs e = cc
+
+create_landed_keeps : (S : Store) → IsWhole S → (p : List (List ℕ)) (node : Node) → NodeOk node → (l : Landing) → IsTrueOf S l → HasNames l → KeepsWhole S (create_landed p node l)
+create_landed_keeps S whole p node ok (At q) true_of names cs e = cc
+create_landed_keeps S whole p node ok (Absent here names) true_of valid cs e = absent_keeps S whole here names node ok true_of valid cs e
+create_landed_keeps S whole p node ok (Blocked q) true_of names cs e = cc
+create_landed_keeps S whole p node ok TooManyLinks true_of names cs e = cc
+
+remove_landed_keeps : (S : Store) → IsWhole S → (p : List (List ℕ)) (l : Landing) → IsTrueOf S l → KeepsWhole S (remove_landed p l)
+remove_landed_keeps S whole p (At q) true_of cs e = remove_keeps S whole q true_of cs e
+remove_landed_keeps S whole p (Absent here names) true_of cs e = cc
+remove_landed_keeps S whole p (Blocked q) true_of cs e = cc
+remove_landed_keeps S whole p TooManyLinks true_of cs e = cc
+
+bare_node_ok : (spec : SpecTree) (node : Node) → needed Refusal.NoDefault (bare_node spec) ≡ Ok node → NodeOk node
+bare_node_ok SpecTree.file node e = subst NodeOk (same_ok (File []) node e) (record { short = omega arith; bytes = All-nil _ })
+bare_node_ok SpecTree.dir node e = subst NodeOk (same_ok (Dir []) node e) (record { names = All-nil _; ascending = ascending_set [] })
+bare_node_ok (SpecTree.pair x a b) node e = bare_node_ok a node e
+bare_node_ok (SpecTree.opt s) node e = bare_node_ok s node e
+bare_node_ok _ node e = cc
+
+store_keeps : (S : Store) → IsWhole S → (at : PlaceTree) → IsPath at.path → (v : Tree) → IsStorable v → KeepsWhole S (store_at v at)
+store_keeps S whole at ok v storable cs e = go (stored_node at.spec v) refl e
+  where
+    go : (x : Answered Node) → stored_node at.spec v ≡ x → answer S (unrefused (λ node. resolve at.path (follows_last node) >>= store_landed at.path node) x) ≡ Ok cs → IsWhole (over S cs)
+    go (Err f) g h = cc
+    go (Ok node) g h =
+        store_landed_keeps S whole at.path node (stored_node_ok at.spec v storable node g) (lands S at.path (follows_last node)) (landings_are_true S whole at.path (follows_last node)) (landing_names S whole at.path (follows_last node) ok)
+        cs (sym (answer-bind S (resolve at.path (follows_last node)) (store_landed at.path node)) ∙ h)
+
+create_keeps : (S : Store) → IsWhole S → (at : PlaceTree) → IsPath at.path → KeepsWhole S (create_at at)
+create_keeps S whole at ok cs e = go (needed Refusal.NoDefault (bare_node at.spec)) refl e
+  where
+    go : (x : Answered Node) → needed Refusal.NoDefault (bare_node at.spec) ≡ x → answer S (unrefused (λ node. resolve at.path false >>= create_landed at.path node) x) ≡ Ok cs → IsWhole (over S cs)
+    go (Err f) g h = cc
+    go (Ok node) g h =
+        create_landed_keeps S whole at.path node (bare_node_ok at.spec node g) (lands S at.path false) (landings_are_true S whole at.path false) (landing_names S whole at.path false ok)
+        cs (sym (answer-bind S (resolve at.path false) (create_landed at.path node)) ∙ h)
+
+pub edits_keep_whole : EditsKeepWhole
+edits_keep_whole = record {
+  store = store_keeps;
+  create = create_keeps;
+  remove = λ S whole at ok cs e. remove_landed_keeps S whole at.path (lands S at.path false) (landings_are_true S whole at.path false) cs (sym (answer-bind S (resolve at.path false) (remove_landed at.path)) ∙ e);
+}
