@@ -14,6 +14,8 @@ mod order;
 mod parts;
 mod path;
 mod paths;
+#[cfg(test)]
+mod tests;
 
 pub use bytes::{Bytes, LongText};
 pub use changes::{Change, Changes};

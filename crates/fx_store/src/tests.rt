@@ -1,0 +1,243 @@
+use crate::{
+    Bytes, Change, Changes, Files, Filestore, LinkText, LongText, Name, NameList, Names, Node,
+    Path, PathFault, Paths,
+};
+use fx_base::NoMemory;
+use std::alloc::{AllocError, Global};
+use std::process::Abort;
+use std::test::Fail;
+
+/// Bytes, and how reading them is refused.
+type Case = (&'static [u8], Option<PathFault>);
+
+const BAD: Option<PathFault> = Some(PathFault::BadName);
+
+const DEEP: Option<PathFault> = Some(PathFault::TooDeep);
+
+const NAMES: &[Case] = &[
+    (b"a", None),
+    (b"a b%\xc3\xa9", None),
+    (b"...", None),
+    (b".forest-links2", None),
+    (b"", BAD),
+    (b".", BAD),
+    (b"..", BAD),
+    (b".forest-links", BAD),
+    (b"a/b", BAD),
+    (b"a\x00", BAD),
+    (b"\xff", BAD),
+];
+
+const PATHS: &[Case] = &[
+    (b"/", None),
+    (b"/a", None),
+    (b"a", BAD),
+    (b"/a/", BAD),
+    (b"", BAD),
+    (b"//", BAD),
+    (b"/.", BAD),
+];
+
+const ENDS: &[Case] = &[
+    (b"b/c", None),
+    (b"", BAD),
+    (b"b//c", BAD),
+    (b"../x", BAD),
+    (b"/b", BAD),
+];
+
+const LINKS: &[Case] = &[
+    (b"/", None),
+    (b"..", None),
+    (b"a/./b", None),
+    (b"/a", None),
+    (b"a/", BAD),
+    (b"", BAD),
+    (b"//", BAD),
+    (b".forest-links", BAD),
+];
+
+fn name_fault(alloc: Global, bytes: &[u8]) -> Option<PathFault> {
+    Name::read(alloc, bytes).err()
+}
+
+fn path_fault(alloc: Global, text: &[u8]) -> Option<PathFault> {
+    Path::read(alloc, text).err()
+}
+
+fn end_fault(alloc: Global, text: &[u8]) -> Option<PathFault> {
+    Path::root(alloc).extend(alloc, text).err()
+}
+
+fn link_fault(alloc: Global, text: &[u8]) -> Option<PathFault> {
+    LinkText::read(alloc, text).err()
+}
+
+fn check(
+    rt: &impl Abort,
+    alloc: Global,
+    cases: &[Case],
+    fault: fn(Global, &[u8]) -> Option<PathFault>,
+)
+    requires { IsAlwaysCallable fault }
+{
+    for (text, want) in cases {
+        assert_eq!(rt; fault(alloc, text), *want, "at {text:?}");
+    }
+}
+
+fn repeated(alloc: Global, part: &[u8], count: usize) -> Result<Vec<u8>, AllocError> {
+    let mut text = Vec::new(alloc);
+    for _ in 0..count {
+        text.extend_from_slice(part)?;
+    }
+    Ok(text)
+}
+
+#[test]
+fn texts_are_read(rt: HostRuntime) {
+    let alloc = rt.alloc();
+    check(&rt, alloc, NAMES, name_fault);
+    check(&rt, alloc, PATHS, path_fault);
+    check(&rt, alloc, ENDS, end_fault);
+    check(&rt, alloc, LINKS, link_fault);
+}
+
+#[test]
+fn names_have_at_most_255_bytes(rt: HostRuntime) -> Result<(), Fail> {
+    let alloc = rt.alloc();
+    assert_eq!(rt; name_fault(alloc, &repeated(alloc, b"n", 255)?), None);
+    assert_eq!(rt; name_fault(alloc, &repeated(alloc, b"n", 256)?), BAD);
+    Ok(())
+}
+
+#[test]
+fn paths_have_at_most_64_names(rt: HostRuntime) -> Result<(), Fail> {
+    let alloc = rt.alloc();
+    assert_eq!(rt; path_fault(alloc, &repeated(alloc, b"/a", 64)?), None);
+    assert_eq!(rt; path_fault(alloc, &repeated(alloc, b"/a", 65)?), DEEP);
+    Ok(())
+}
+
+#[test]
+fn link_texts_have_at_most_64_components(rt: HostRuntime) -> Result<(), Fail> {
+    let alloc = rt.alloc();
+    assert_eq!(rt; link_fault(alloc, &repeated(alloc, b"/..", 64)?), None);
+    assert_eq!(rt; link_fault(alloc, &repeated(alloc, b"/..", 65)?), DEEP);
+    assert_eq!(rt; link_fault(alloc, &repeated(alloc, b"/..", 1366)?), BAD);
+    Ok(())
+}
+
+fn joined(alloc: Global) -> Result<Path, PathFault> {
+    let a = Path::read(alloc, b"/a")?;
+    let b = Name::read(alloc, b"b")?;
+    Ok(a.join(alloc, &b)?.copy(alloc)?)
+}
+
+#[test]
+fn paths_are_joined_and_compared(rt: HostRuntime) -> Result<(), Fail> {
+    let joined = joined(rt.alloc()).ok().ok_or("a path")?;
+    let read = Path::read(rt.alloc(), b"/a/b").ok().ok_or("a path")?;
+    assert!(rt; joined.compare(&read).is_eq());
+    assert!(rt; Path::root(rt.alloc()).compare(&read).is_lt());
+    Ok(())
+}
+
+fn some_bytes(alloc: Global) -> Result<Bytes, NoMemory> {
+    let mut bytes = Bytes::new(alloc);
+    bytes.add(alloc, b'h')?;
+    bytes.copy(alloc)
+}
+
+fn some_text(alloc: Global) -> Result<LongText, NoMemory> {
+    let mut text = LongText::new(alloc);
+    text.add(alloc, b'h')?;
+    Ok(text)
+}
+
+#[test]
+fn bytes_are_added(rt: HostRuntime) -> Result<(), Fail> {
+    assert_eq!(rt; some_bytes(rt.alloc())?.as_slice(), b"h".as_slice());
+    assert_eq!(rt; some_text(rt.alloc())?.as_slice(), b"h".as_slice());
+    Ok(())
+}
+
+fn some_names(alloc: Global, name: &Name) -> Result<Names, NoMemory> {
+    let mut names = Names::new(alloc);
+    let copy = name.copy(alloc)?;
+    if names.is_next(&copy) {
+        names.add(alloc, copy)?;
+    }
+    names.copy(alloc)
+}
+
+fn some_list(alloc: Global, name: &Name) -> Result<NameList, NoMemory> {
+    let mut names = NameList::new(alloc);
+    names.add(alloc, name.copy(alloc)?)?;
+    names.copy(alloc)
+}
+
+#[test]
+fn names_are_added(rt: HostRuntime) -> Result<(), Fail> {
+    let name = Name::read(rt.alloc(), b"a").ok().ok_or("a name")?;
+    assert!(rt; some_names(rt.alloc(), &name)?.has(&name));
+    assert_eq!(rt; some_list(rt.alloc(), &name)?.len(), 1);
+    Ok(())
+}
+
+fn some_paths(alloc: Global, path: &Path) -> Result<Paths, NoMemory> {
+    let mut paths = Paths::new(alloc);
+    let copy = path.copy(alloc)?;
+    if paths.is_next(&copy) {
+        paths.add(alloc, copy)?;
+    }
+    paths.copy(alloc)
+}
+
+fn some_changes(alloc: Global, path: Path) -> Result<Changes, NoMemory> {
+    let mut changes = Changes::new(alloc);
+    if changes.is_next(&path) {
+        changes.add(alloc, Change { path, node: None })?;
+    }
+    changes.copy(alloc)
+}
+
+#[test]
+fn paths_and_changes_are_added(rt: HostRuntime) -> Result<(), Fail> {
+    let root = Path::root(rt.alloc());
+    assert!(rt; some_paths(rt.alloc(), &root)?.has(&root));
+    assert_eq!(rt; some_changes(rt.alloc(), root)?.len(), 1);
+    Ok(())
+}
+
+fn one_file(alloc: Global, name: Name) -> Result<Filestore, NoMemory> {
+    let mut files = Files::new(alloc);
+    let bytes = some_bytes(alloc)?;
+    if files.is_next(&name) {
+        files.add(alloc, name, bytes)?;
+    }
+    Filestore::flat(alloc, files)?.copy(alloc)
+}
+
+fn size_of(node: Option<&Node>) -> u64 {
+    match node {
+        Some(Node::File(bytes)) => bytes.len(),
+        Some(Node::Dir(names)) => names.len(),
+        Some(Node::Link(_)) => 0,
+        None => 0,
+    }
+}
+
+#[test]
+fn a_filestore_is_made_and_copied(rt: HostRuntime) -> Result<(), Fail> {
+    assert_eq!(rt; Filestore::new(rt.alloc())?.places(), 1);
+    let name = Name::read(rt.alloc(), b"a").ok().ok_or("a name")?;
+    let store = one_file(rt.alloc(), name)?;
+    assert_eq!(rt; store.places(), 2);
+    let path = Path::read(rt.alloc(), b"/a").ok().ok_or("a path")?;
+    assert_eq!(rt; size_of(store.get(&path)), 1);
+    assert_eq!(rt; size_of(store.get(&Path::root(rt.alloc()))), 1);
+    assert!(rt; store.at(1).is_some());
+    assert!(rt; store.at(2).is_none());
+    Ok(())
+}
