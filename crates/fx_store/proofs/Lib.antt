@@ -10,3 +10,4 @@ pub mod WholeStores
 pub mod Relisted
 pub mod Overlays
 pub mod FlatStores
+pub mod SpellingLaws

@@ -10,3 +10,4 @@ pub mod Resolve
 pub mod Landings
 pub mod Examples
 pub mod Relisted
+pub mod Spelling

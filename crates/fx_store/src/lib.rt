@@ -14,6 +14,7 @@ mod order;
 mod parts;
 mod path;
 mod paths;
+pub mod spelling;
 #[cfg(test)]
 mod tests;
 
