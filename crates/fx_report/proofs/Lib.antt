@@ -1,2 +1,4 @@
+pub mod Cancel
+pub mod CancelReport
 pub mod Rows
 pub mod Steps

@@ -1,6 +1,6 @@
 -- The rows of a table, as texts beside values.
-use Rattle.std.proofs.Common.{◌≡◌, ℕ, ◌+◌, ◌<◌, ◌≤◌, zero, suc, List, [], ◌∷◌, ◌++◌, Option, Some, None, length, map, take, get_or, refl, sym, ap, ◌∙◌, arith, rules, codes}
-use Rattle.std.specs.List.{slice_get, flat_map, join_by, zip}
+use Rattle.std.proofs.Common.{◌≡◌, ℕ, ◌<◌, ◌≤◌, zero, suc, List, [], ◌∷◌, ◌++◌, Some, length, map, take, get_or, refl, ap, ◌∙◌, arith, rules, codes}
+use Rattle.std.specs.List.{slice_get, join_by, zip}
 use Rattle.std.proofs.lemmas.List.{take_all, length-map}
 use Rattle.std.proofs.lemmas.Slice.Zip.{length-zip}
 use Rattle.std.proofs.lemmas.List.Folds.{flat_map-map}

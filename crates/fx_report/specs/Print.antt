@@ -1,6 +1,6 @@
 -- How bytes and values are printed. Every printed text is plain ASCII, whatever the bytes are.
 use Rattle.std.specs.Prelude.{ℕ, ◌/◌, ◌%◌, ◌==◌, Bool, true, false, ◌&&◌, if◌then◌else◌, List, [], ◌∷◌, ◌++◌, codes, nat_le}
-use Rattle.std.specs.Fmt.{decimal, digit_glyph, signed_decimal}
+use Rattle.std.specs.Fmt.{digit_glyph, signed_decimal}
 use Rattle.std.specs.List.{flat_map, join_by}
 use Rattle.fx_expr.specs.Tree.{Tree, TreeRows, str, int, bool, names, pair, nothing, some, table, no_rows, row}
 

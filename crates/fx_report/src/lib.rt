@@ -1,6 +1,7 @@
 //! The printed forms: values, the lines of a value, and the report of a run.
 #![tactic(auto)]
 
+pub mod laws;
 mod lines;
 mod printed;
 mod quotes;
