@@ -49,6 +49,14 @@ impl Tokens {
         self.items.get(i as usize)
     }
 
+    /// All tokens in order.
+    pub fn as_slice(&self) -> &[Spanned]
+        ensures value { result.now ≡ self.now.spanned }
+        ensures limit { length self.now.spanned ≤ 65536 }
+    {
+        self.items.as_slice()
+    }
+
     /// The length of the text in bytes.
     pub fn text_len(&self) -> u32
         ensures { result ≡ self.now.text_len }

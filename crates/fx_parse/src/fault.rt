@@ -1,0 +1,33 @@
+use std::error::Error;
+use std::fmt;
+
+/// Why a text stands for nothing. A place is a byte of the text; its end is the text's length.
+#[derive(Clone, Copy, Debug, PartialEq, Eq, Hash)]
+pub enum ParseFault {
+    /// The text is longer than may be read.
+    TooLarge,
+    /// No token begins here.
+    BadToken(u32),
+    /// With this token the tokens so far begin nothing, or the text ends too early.
+    Unexpected(u32),
+    /// A form of level 65 begins here.
+    TooNested(u32),
+    /// The form here is not supported yet.
+    NotBuilt(u32),
+    NoMemory,
+}
+
+impl fmt::Display for ParseFault {
+    fn fmt<W: fmt::Write>(&self, f: &mut fmt::Formatter<W>) -> fmt::Result {
+        match self {
+            ParseFault::TooLarge => write!(f, "the text is too large"),
+            ParseFault::BadToken(place) => write!(f, "no token begins at byte {place}"),
+            ParseFault::Unexpected(place) => write!(f, "unexpected token at byte {place}"),
+            ParseFault::TooNested(place) => write!(f, "nested too deep at byte {place}"),
+            ParseFault::NotBuilt(place) => write!(f, "not supported yet, at byte {place}"),
+            ParseFault::NoMemory => write!(f, "out of memory"),
+        }
+    }
+}
+
+impl Error for ParseFault {}
