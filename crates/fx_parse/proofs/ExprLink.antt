@@ -135,13 +135,13 @@ opens n x ts h e some =
     ap (λ k. cond (is_nothing k) (Err (Unexpected (suc (length ts)))) (form_at (read_expr n) k ts)) e ∙ ap (λ b. cond b (Err (Unexpected (suc (length ts)))) (form_at (read_expr n) h ts)) some
 
 -- the levels of a front and of what follows
-front_low : (k l : List ℕ) → shallow (k ++ l) ≡ true → shallow k ≡ true
+pub front_low : (k l : List ℕ) → shallow (k ++ l) ≡ true → shallow k ≡ true
 front_low k l h = (and_parts _ _ (sym (list_all-append _ k l) ∙ h)).0
 
-rest_low : (k l : List ℕ) → shallow (k ++ l) ≡ true → shallow l ≡ true
+pub rest_low : (k l : List ℕ) → shallow (k ++ l) ≡ true → shallow l ≡ true
 rest_low k l h = (and_parts _ _ (sym (list_all-append _ k l) ∙ h)).1
 
-tail_low : (d : ℕ) (l : List ℕ) → shallow (d ∷ l) ≡ true → shallow l ≡ true
+pub tail_low : (d : ℕ) (l : List ℕ) → shallow (d ∷ l) ≡ true → shallow l ≡ true
 tail_low d l h = (and_parts _ _ h).1
 
 again_bin : (n : ℕ) (op : BinOp) (a b : ExprTree) (rest : List Token) → ((r : List Token) → read_expr n (expr_tokens a ++ r) ≡ Ok (a, r)) → ((r : List Token) → read_expr n (expr_tokens b ++ r) ≡ Ok (b, r)) → bracket_at (read_expr n) ((expr_tokens a ++ (binary_token op ∷ (expr_tokens b ++ closing ∷ []))) ++ rest) ≡ Ok (ExprTree.bin op a b, rest)

@@ -247,15 +247,15 @@ middle_spells (token.Number n) = tt
 middle_spells (token.Str v) = tt
 middle_spells (token.Mark m) = mark_middle_spells m
 
-is_open : (x : Token) → is_opening x ≡ true → x ≡ opening
+pub is_open : (x : Token) → is_opening x ≡ true → x ≡ opening
 is_open (token.Mark mark.LeftParen) e = refl
 is_open _ e = absurd cc
 
-is_close : (x : Token) → is_closing x ≡ true → x ≡ closing
+pub is_close : (x : Token) → is_closing x ≡ true → x ≡ closing
 is_close (token.Mark mark.RightParen) e = refl
 is_close _ e = absurd cc
 
-is_part : (x : Token) → is_comma x ≡ true → x ≡ comma
+pub is_part : (x : Token) → is_comma x ≡ true → x ≡ comma
 is_part (token.Mark mark.Comma) e = refl
 is_part _ e = absurd cc
 

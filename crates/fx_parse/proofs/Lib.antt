@@ -4,3 +4,6 @@ pub mod Places
 pub mod ExprMachine
 pub mod ExprLink
 pub mod ExprPlaces
+pub mod ReaderPlaces
+pub mod ShapeLink
+pub mod ShapeMachine

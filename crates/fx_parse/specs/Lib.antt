@@ -5,4 +5,5 @@ pub mod Laws
 pub mod ReadAt
 pub mod Readable
 pub mod Reader
+pub mod ShapeReader
 pub mod Stuck

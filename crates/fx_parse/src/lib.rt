@@ -1,4 +1,4 @@
-//! Expressions, read from the tokens of a text.
+//! Expressions and shapes, read from the tokens of a text.
 #![tactic(auto)]
 
 mod cursor;
@@ -7,8 +7,10 @@ mod fault;
 mod head;
 mod keyword;
 mod parse;
+mod shape;
+mod shape_head;
 mod stop;
 
 pub use fault::ParseFault;
 pub use keyword::{KEYWORDS, Keyword, keyword_of};
-pub use parse::{LEVEL_LIMIT, one_reading, parse_expr};
+pub use parse::{LEVEL_LIMIT, one_reading, parse_expr, parse_shape};

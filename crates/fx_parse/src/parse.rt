@@ -1,14 +1,16 @@
 ghost use Rattle.std.specs.Prelude.{◌≡◌, ℕ, ◌≤◌, length, IfOk, IfErr};
 ghost use Rattle.fx_expr.specs.ExprTree.{ExprTree};
-ghost use Rattle.fx_expr.specs.Views.{expr_tree};
-ghost use Rattle.fx_parse.specs.Grammars.{exprs};
-ghost use Rattle.fx_parse.specs.Laws.{OneExpression};
+ghost use Rattle.fx_expr.specs.ShapeTree.{ShapeTree};
+ghost use Rattle.fx_expr.specs.Views.{expr_tree, shape_tree};
+ghost use Rattle.fx_parse.specs.Grammars.{exprs, shapes};
+ghost use Rattle.fx_parse.specs.Laws.{OneExpression, OneShape};
 ghost use Rattle.fx_parse.specs.ReadAt.{place_left, fault_at, IsReadAt, IsParseFault};
 
 use crate::expr::expr_at;
 use crate::fault::ParseFault;
+use crate::shape::shape_at;
 use crate::stop::Stop;
-use fx_expr::Expr;
+use fx_expr::{Expr, Shape};
 use fx_lex::Tokens;
 use std::alloc::Global;
 
@@ -59,9 +61,32 @@ pub fn parse_expr(
     }
 }
 
-/// At most one expression stands at the front of tokens, and it ends at one place.
+/// The shape that stands from a token on, and the index of the token behind it, as [`parse_expr`] reads an expression.
+pub fn parse_shape(
+    alloc: Global,
+    tokens: &Tokens,
+    from: u32,
+    depth: u32,
+) -> Result<(Shape, u32), ParseFault>
+    requires start { from ≤ length tokens.now.spanned }
+    requires first { 1 ≤ depth }
+    requires last { depth ≤ 65 }
+    ensures found { IfOk result (λ x. IsReadAt shapes depth tokens.now from (shape_tree x.0) x.1) }
+    ensures only { (t : ShapeTree) (next : ℕ) → IsReadAt shapes depth tokens.now from t next →
+        IfOk result (λ x. (shape_tree x.0 ≡ t) × (x.1 ≡ next)) × IfErr result (λ e. e ≡ ParseFault.NoMemory) }
+    ensures fault { IfErr result (IsParseFault shapes depth tokens.now from) }
+{
+    let all = tokens.as_slice();
+    match shape_at(alloc, LEVEL_LIMIT + 1 - depth, &all[from as usize..]) {
+        Ok((shape, rest)) => Ok((shape, (all.len() - rest.len()) as u32)),
+        Err(stop) => Err(fault_at(tokens, stop)),
+    }
+}
+
+/// At most one expression and one shape stand at the front of tokens, and each ends at one place.
 pub fn one_reading()
-    ensures { OneExpression }
+    ensures expression { OneExpression }
+    ensures shape { OneShape }
 {}
 
 #[cfg(test)]
@@ -81,6 +106,22 @@ mod tests {
         match lex(alloc, text) {
             Ok(tokens) => match parse_expr(alloc, &tokens, 0, 1) {
                 Ok((_, next)) => write!(out, "up to {next}")?,
+                Err(fault) => write!(out, "{fault:?}")?,
+            },
+            Err(_) => write!(out, "no tokens")?,
+        }
+        Ok(out)
+    }
+
+    // What parse_shape answers at the front of a text.
+    fn shape_shown(alloc: Global, text: &[u8]) -> Result<String, Fail> {
+        let mut out = String::new(alloc);
+        if text.len() > 65_536 {
+            return Ok(out);
+        }
+        match lex(alloc, text) {
+            Ok(tokens) => match parse_shape(alloc, &tokens, 0, 1) {
+                Ok((shape, next)) => write!(out, "{shape:?} up to {next}")?,
                 Err(fault) => write!(out, "{fault:?}")?,
             },
             Err(_) => write!(out, "no tokens")?,
@@ -131,6 +172,25 @@ mod tests {
         assert_eq!(rt; shown(rt.alloc(), &deepest)?.as_str(), "up to 190");
         let deeper = nested(rt.alloc(), 64)?;
         assert_eq!(rt; shown(rt.alloc(), &deeper)?.as_str(), "TooNested(256)");
+        Ok(())
+    }
+
+    #[test]
+    fn shapes_and_places(rt: HostRuntime) -> Result<(), Fail> {
+        let rows: [(&[u8], &str); 8] = [
+            (b"str", "Str up to 1"),
+            (b"names x", "Names up to 1"),
+            (b"table(bool)", "Table(Bool) up to 4"),
+            (b"pair(opt(int), str)", "Pair(Opt(Int), Str) up to 9"),
+            (b"", "Unexpected(0)"),
+            (b"x", "Unexpected(0)"),
+            (b"pair(int)", "Unexpected(8)"),
+            (b"opt(int", "Unexpected(7)"),
+        ];
+        for (text, wanted) in &rows {
+            let found = shape_shown(rt.alloc(), text)?;
+            assert_eq!(rt; found.as_str(), *wanted);
+        }
         Ok(())
     }
 }

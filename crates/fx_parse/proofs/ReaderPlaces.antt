@@ -1,0 +1,98 @@
+-- What a reader says of trees, where it goes as a machine of its grammar does and reads the tokens of each tree.
+use Rattle.std.proofs.Common.{◌≡◌, ℕ, zero, suc, ◌+◌, ◌-◌, ◌≤◌, true, Result, Ok, Err, List, [], ◌∷◌, ◌++◌, length, drop, refl, sym, ap, ◌∙◌, subst, arith, length-append, length-drop}
+use Rattle.std.proofs.lemmas.List.{length-map, drop_at, drop-drop}
+use Rattle.fx_lex.specs.declared.token.Token.{Token}
+use Rattle.fx_lex.specs.declared.token.Spanned.{Spanned}
+use Rattle.fx_lex.specs.TokenList.{TokenList}
+use Rattle.fx_parse.specs.declared.stop.Stop.{Stop}
+use Rattle.fx_parse.specs.declared.stop.Stop.TheVariants as stop
+use Rattle.fx_parse.specs.declared.fault.ParseFault.TheVariants as fault
+use Rattle.fx_parse.specs.Stuck.{Stuck, Unexpected, TooNested, ◌>>=◌, Stops}
+use Rattle.fx_parse.specs.Readable.{Grammar, Stands, IsUnexpected, IsTooNested}
+use Rattle.fx_parse.specs.Reader.{kinds}
+use Rattle.fx_parse.specs.ReadAt.{IsReadAt, IsParseFault, fault_at}
+use Rattle.fx_parse.proofs.Machine.{Table, shallow, Outcome, scan, scan_says}
+use Rattle.fx_parse.proofs.Places.{Fits, unexpected_is, too_nested_is, stands_is}
+
+module _ {Tree : Type 0} where
+  -- readings that are equal
+  pub same_read : (t u : Tree) (x y : List Token) → ◌≡◌ {A = Result (Tree × List Token) Stuck} (Ok (t, x)) (Ok (u, y)) → (t ≡ u) × (x ≡ y)
+  same_read t u x y e =
+      let pair : ◌≡◌ {A = Tree × List Token} (t, x) (u, y) = cc in
+      (ap (λ p. p.0) pair, ap (λ p. p.1) pair)
+
+  pub ok_not_err : (p : Tree × List Token) (k : Stuck) → ◌≡◌ {A = Result (Tree × List Token) Stuck} (Ok p) (Err k) → ⊥
+  ok_not_err p k e = cc
+
+drop_kinds : (n : ℕ) (xs : List Spanned) → drop n (kinds xs) ≡ kinds (drop n xs)
+drop_kinds zero xs = refl
+drop_kinds (suc n) [] = refl
+drop_kinds (suc n) (x ∷ xs) = drop_kinds n xs
+
+module _ {Tree : Type 0} (g : Grammar Tree) where
+  module _ (d : ℕ) (list : TokenList) (from : ℕ) (within : from ≤ length list.spanned) (t : Tree) (rest : List Spanned) where
+    sizes : Stands g d (kinds (drop from list.spanned)) t (kinds rest) → length list.spanned - from ≡ length (g.tokens t) + length rest
+    sizes s =
+        sym (length-drop from list.spanned) ∙ sym (length-map (drop from list.spanned) (λ x. x.token)) ∙ ap length s.spelled ∙ length-append (g.tokens t) (kinds rest) ∙ ap (λ n. length (g.tokens t) + n) (length-map rest (λ x. x.token))
+
+    pub rest_within : Stands g d (kinds (drop from list.spanned)) t (kinds rest) → length rest ≤ length list.spanned
+    rest_within s = omega (arith, sizes s)
+
+    pub read_at : Stands g d (kinds (drop from list.spanned)) t (kinds rest) → IsReadAt g d list from t (length list.spanned - length rest)
+    read_at s =
+        let next : from + length (g.tokens t) ≡ length list.spanned - length rest = omega (arith, sizes s, within) in
+        let after : kinds rest ≡ kinds (drop (length list.spanned - length rest) list.spanned) =
+        sym (drop_at (g.tokens t) (kinds rest) (length (g.tokens t)) refl) ∙ ap (λ l. drop (length (g.tokens t)) l) (sym s.spelled) ∙ drop_kinds (length (g.tokens t)) (drop from list.spanned) ∙ ap kinds (drop-drop (length (g.tokens t)) from list.spanned) ∙ ap (λ n. kinds (drop n list.spanned)) next in
+        record {
+          within = omega (arith, sizes s);
+          stands = subst (λ l. Stands g d (kinds (drop from list.spanned)) t l) after s;
+        }
+
+pub next_is : (spanned rest : List Spanned) (next : ℕ) → next ≤ length spanned → kinds rest ≡ kinds (drop next spanned) → length spanned - length rest ≡ next
+next_is spanned rest next within e =
+    let size = sym (length-map rest (λ x. x.token)) ∙ ap length e ∙ length-map (drop next spanned) (λ x. x.token) ∙ length-drop next spanned in
+    omega (arith, size, within)
+
+-- a reader of a grammar by its machine
+pub record Follows {Sym : Type 0} {Tree : Type 0} (m : Table Sym) (g : Grammar Tree) (start : ℕ → Sym) (read : ℕ → List Token → Result (Tree × List Token) Stuck) : Type 0 where
+  pub fits : Fits m g start
+  pub follows : (left d : ℕ) → d + left ≡ 65 → (stack : List Sym) (ts : List Token) → scan m (start d ∷ stack) ts ≡ (read left ts >>= (λ r. scan m stack r.1))
+  pub again : (t : Tree) (left d : ℕ) (rest : List Token) → d + left ≡ 65 → g.IsRight t ≡ true → shallow (g.levels d t) ≡ true → read left (g.tokens t ++ rest) ≡ Ok (t, rest)
+
+module _ {Sym : Type 0} {Tree : Type 0} (m : Table Sym) (g : Grammar Tree) (start : ℕ → Sym) (read : ℕ → List Token → Result (Tree × List Token) Stuck) (reader : Follows m g start read) where
+  module _ (d left : ℕ) (levels : d + left ≡ 65) (ts : List Token) where
+    outcome : (r : Result (Tree × List Token) Stuck) → read left ts ≡ r → Outcome m (start d ∷ []) ts (r >>= (λ p. Ok p.1))
+    outcome r e =
+        subst (λ o. Outcome m (start d ∷ []) ts o) (reader.follows left d levels [] ts ∙ ap (λ o. o >>= (λ p. Ok p.1)) e) (scan_says m ts (start d ∷ []))
+
+    pub stands_read : (t : Tree) (rest : List Token) → Stands g d ts t rest → read left ts ≡ Ok (t, rest)
+    stands_read t rest s = ap (read left) s.spelled ∙ reader.again t left d rest levels s.right s.nested
+
+    pub read_stands : (t : Tree) (rest : List Token) → read left ts ≡ Ok (t, rest) → Stands g d ts t rest
+    read_stands t rest e =
+        let found = stands_is m g start reader.fits d ts rest (outcome (Ok (t, rest)) e) in
+        subst (λ u. Stands g d ts u rest) (sym (same_read t found.0 rest rest (sym e ∙ stands_read found.0 rest found.1)).0) found.1
+
+    pub read_unexpected : (k : ℕ) → read left ts ≡ Err (Unexpected k) → IsUnexpected g d ts k
+    read_unexpected k e = unexpected_is m g start reader.fits d ts k (outcome (Err (Unexpected k)) e)
+
+    pub read_too_nested : (k : ℕ) → read left ts ≡ Err (TooNested k) → IsTooNested g d ts k
+    read_too_nested k e = too_nested_is m g start reader.fits d ts k (outcome (Err (TooNested k)) e)
+
+  -- what the parser answers where the reader stops
+  module _ (d left : ℕ) (levels : d + left ≡ 65) (list : TokenList) (from : ℕ) where
+    pub stop_fault : (s : Stop) → Stops s (read left (kinds (drop from list.spanned))) → IsParseFault g d list from (fault_at list s)
+    stop_fault (stop.Unexpected k) e = (k, read_unexpected d left levels (kinds (drop from list.spanned)) k e, refl)
+    stop_fault (stop.TooNested k) e = (k, read_too_nested d left levels (kinds (drop from list.spanned)) k e, refl)
+    stop_fault stop.NoMemory e = tt
+
+    pub stop_only : (s : Stop) (p : Tree × List Token) → Stops s (read left (kinds (drop from list.spanned))) → read left (kinds (drop from list.spanned)) ≡ Ok p → fault_at list s ≡ fault.NoMemory
+    stop_only (stop.Unexpected k) p e f = absurd (ok_not_err p (Unexpected k) (sym f ∙ e))
+    stop_only (stop.TooNested k) p e f = absurd (ok_not_err p (TooNested k) (sym f ∙ e))
+    stop_only stop.NoMemory p e f = refl
+
+  -- at most one tree stands at the front of tokens
+  pub one_tree : (d : ℕ) (ts : List Token) (t u : Tree) (x y : List Token) → d ≤ 65 → Stands g d ts t x → Stands g d ts u y → (t ≡ u) × (x ≡ y)
+  one_tree d ts t u x y low s r =
+      let levels : d + (65 - d) ≡ 65 = omega (arith, low) in
+      same_read t u x y (sym (stands_read d (65 - d) levels ts t x s) ∙ stands_read d (65 - d) levels ts u y r)
