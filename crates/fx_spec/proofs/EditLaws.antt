@@ -1,7 +1,8 @@
 -- Places have paths, and each edit that is not refused leaves a whole filestore whole.
-use Rattle.std.proofs.Common.{◌≡◌, ℕ, suc, ◌+◌, ◌≤◌, Bool, true, false, cond, ◌||◌, ◌&&◌, refl, subst, sym, ◌∙◌, List, [], ◌∷◌, ◌++◌, map, length, Option, Some, None, Result, Ok, Err, nat_lt, nat_le, arith, bytes_eq, codes}
+use Rattle.std.proofs.Common.{◌≡◌, ℕ, ◌<◌, get_or, nat_eq, suc, ◌+◌, ◌≤◌, Bool, true, false, cond, ◌||◌, ◌&&◌, refl, subst, sym, ◌∙◌, List, [], ◌∷◌, ◌++◌, map, length, Option, Some, None, Result, Ok, Err, nat_lt, nat_le, arith, bytes_eq, codes}
 use Rattle.std.proofs.lemmas.List.Elements.{All-nil, All-cons, All-append, All-head, All-tail}
-use Rattle.std.proofs.lemmas.Bool.{true≢false, ltb-false, lt-ltb}
+use Rattle.std.proofs.lemmas.Bool.{true≢false, ltb-true, ltb-false, leb-true, lt-ltb}
+use Rattle.std.specs.Cmp.Lexicographic.{pointwise, texts_ties}
 use Rattle.std.specs.List.{All, list_all, slice_split}
 use Rattle.std.specs.Option.{option_map, IfSome}
 use Rattle.fx_store.specs.declared.node.Node.{Node}
@@ -18,10 +19,11 @@ use Rattle.fx_store.specs.Resolve.{Component, CurDir, ParentDir, Normal, compone
 use Rattle.fx_store.specs.Rule.{Ask, Answer, answer, ◌>>=◌}
 use Rattle.fx_store.specs.Whole.{Store, IsWhole, IsNode, over}
 use Rattle.fx_store.proofs.Asks.{answer-bind}
+use Rattle.fx_store.proofs.Relisted.{eq_names}
 use Rattle.fx_store.proofs.Landings.{lands_by_the_rules, landings_are_true}
 use Rattle.fx_expr.specs.Bindings.{bind}
 use Rattle.fx_expr.specs.Eval.{Outcome, eval_of, text_in}
-use Rattle.fx_expr.specs.Sets.{IsAscending}
+use Rattle.fx_expr.specs.Sets.{IsAscending, set_of}
 use Rattle.fx_expr.specs.Tree.{Tree}
 use Rattle.fx_expr.proofs.Canon.{ascending_set}
 use Rattle.fx_spec.specs.declared.refusal.Refusal.{Refusal}
@@ -29,8 +31,8 @@ use Rattle.fx_spec.specs.SpecTree.{SpecTree}
 use Rattle.fx_spec.specs.Describe.{Bindings, with_some, exists, extension, focus_path, value}
 use Rattle.fx_spec.specs.Place.{Step, First, Second, Inside, Down, Elem, PlaceTree, placed, where_true, has_element, at_path, lead, place}
 use Rattle.fx_spec.specs.Move.{Answered, unrefused, needed}
-use Rattle.fx_spec.specs.Edit.{set_to, replaced, lacks_room, unless_deep, is_too_deep, new_names, make, store_landed, names_node, link_node, stored_node, follows_last, store_at, bare_node, create_landed, create_at, remove_landed}
-use Rattle.fx_spec.specs.Laws.{IsStorable, KeepsWhole, EditsKeepWhole, PlacesHavePaths}
+use Rattle.fx_spec.specs.Edit.{set_to, replaced, lacks_room, unless_deep, is_too_deep, new_names, make, store_landed, names_node, link_node, form_node, is_content, is_storable, stored_node, follows_last, store_at, bare_node, create_landed, create_at, remove_landed}
+use Rattle.fx_spec.specs.Laws.{KeepsWhole, EditsKeepWhole, PlacesHavePaths}
 use Rattle.fx_spec.proofs.EditsWhole.{IsWhole-put}
 use Rattle.fx_spec.proofs.EditsKeep.{same_ok, new_names_keep, remove_keeps}
 use Rattle.fx_spec.proofs.EditsMake.{CanMake, make_keeps}
@@ -220,11 +222,48 @@ link_node_ok text content node e = at (has_link_form text) (nat_lt 64 (length (c
     at true false f g h = subst NodeOk (same_ok (Link text) node h) (record { form = f; short = ltb-false 64 (length (components text)) g; bytes = content.bytes })
     at false b f g h = cc
 
-stored_node_ok : (spec : SpecTree) (v : Tree) → IsStorable v → (node : Node) → stored_node spec v ≡ Ok node → NodeOk node
-stored_node_ok SpecTree.file (Tree.str bytes) ok node e = subst NodeOk (same_ok (File bytes) node e) ok
-stored_node_ok SpecTree.dir (Tree.names names) ok node e = names_node_ok names ok node e
-stored_node_ok SpecTree.link (Tree.str text) ok node e = link_node_ok text ok node e
-stored_node_ok _ v ok node e = cc
+content_ok : (bytes : List ℕ) → is_content bytes ≡ true → IsContent bytes
+content_ok bytes e = record { short = leb-true (length bytes) 1048576 (first_of_two (nat_le (length bytes) 1048576) (list_all (λ b. nat_lt b 256) bytes) e); bytes = small bytes (second_of_two (nat_le (length bytes) 1048576) (list_all (λ b. nat_lt b 256) bytes) e) }
+  where
+    first_of_two : (a b : Bool) → (a && b) ≡ true → a ≡ true
+    first_of_two true b e = refl
+    first_of_two false b e = absurd (true≢false (sym e))
+
+    second_of_two : (a b : Bool) → (a && b) ≡ true → b ≡ true
+    second_of_two true b e = e
+    second_of_two false b e = absurd (true≢false (sym e))
+
+    small : (bytes : List ℕ) → list_all (λ b. nat_lt b 256) bytes ≡ true → All (λ b. b < 256) bytes
+    small bytes e = λ k d l. ltb-true (get_or bytes k d) 256 (all_pass (λ b. nat_lt b 256) bytes e k d l)
+
+same_lists : (xs ys : List (List ℕ)) → pointwise (pointwise nat_eq) xs ys ≡ true → xs ≡ ys
+same_lists [] [] e = refl
+same_lists [] (y ∷ ys) e = absurd (true≢false (sym e))
+same_lists (x ∷ xs) [] e = absurd (true≢false (sym e))
+same_lists (x ∷ xs) (y ∷ ys) e = at (pointwise nat_eq x y) refl e (same_lists xs ys)
+  where
+    at : (b : Bool) → pointwise nat_eq x y ≡ b → (b && pointwise (pointwise nat_eq) xs ys) ≡ true → (pointwise (pointwise nat_eq) xs ys ≡ true → xs ≡ ys) → x ∷ xs ≡ y ∷ ys
+    at true f h rest =
+        let head : x ≡ y = eq_names x y (sym (texts_ties x y) ∙ f) in
+        let tail : xs ≡ ys = rest h in
+        cc
+    at false f h rest = absurd (true≢false (sym h))
+
+ascending_ok : (names : List (List ℕ)) → pointwise (pointwise nat_eq) (set_of names) names ≡ true → IsAscending names
+ascending_ok names e = subst IsAscending (same_lists (set_of names) names e) (ascending_set names)
+
+form_node_ok : (spec : SpecTree) (v : Tree) → is_storable v ≡ true → (node : Node) → form_node spec v ≡ Ok node → NodeOk node
+form_node_ok SpecTree.file (Tree.str bytes) ok node e = subst NodeOk (same_ok (File bytes) node e) (content_ok bytes ok)
+form_node_ok SpecTree.dir (Tree.names names) ok node e = names_node_ok names (ascending_ok names ok) node e
+form_node_ok SpecTree.link (Tree.str text) ok node e = link_node_ok text (content_ok text ok) node e
+form_node_ok _ v ok node e = cc
+
+stored_node_ok : (spec : SpecTree) (v : Tree) (node : Node) → stored_node spec v ≡ Ok node → NodeOk node
+stored_node_ok spec v node e = at (is_storable v) refl e
+  where
+    at : (b : Bool) → is_storable v ≡ b → ◌≡◌ {A = Answered Node} (cond b (form_node spec v) (Err Refusal.WrongForm)) (Ok node) → NodeOk node
+    at true f h = form_node_ok spec v f node h
+    at false f h = cc
 
 both_false : (a b : Bool) → (a && b) ≡ false → (a ≡ true) → b ≡ false
 both_false true b e h = e
@@ -304,13 +343,13 @@ bare_node_ok (SpecTree.pair x a b) node e = bare_node_ok a node e
 bare_node_ok (SpecTree.opt s) node e = bare_node_ok s node e
 bare_node_ok _ node e = cc
 
-store_keeps : (S : Store) → IsWhole S → (at : PlaceTree) → IsPath at.path → (v : Tree) → IsStorable v → KeepsWhole S (store_at v at)
-store_keeps S whole at ok v storable cs e = go (stored_node at.spec v) refl e
+store_keeps : (S : Store) → IsWhole S → (at : PlaceTree) → IsPath at.path → (v : Tree) → KeepsWhole S (store_at v at)
+store_keeps S whole at ok v cs e = go (stored_node at.spec v) refl e
   where
     go : (x : Answered Node) → stored_node at.spec v ≡ x → answer S (unrefused (λ node. resolve at.path (follows_last node) >>= store_landed at.path node) x) ≡ Ok cs → IsWhole (over S cs)
     go (Err f) g h = cc
     go (Ok node) g h =
-        store_landed_keeps S whole at.path node (stored_node_ok at.spec v storable node g) (lands S at.path (follows_last node)) (landings_are_true S whole at.path (follows_last node)) (landing_names S whole at.path (follows_last node) ok)
+        store_landed_keeps S whole at.path node (stored_node_ok at.spec v node g) (lands S at.path (follows_last node)) (landings_are_true S whole at.path (follows_last node)) (landing_names S whole at.path (follows_last node) ok)
         cs (sym (answer-bind S (resolve at.path (follows_last node)) (store_landed at.path node)) ∙ h)
 
 create_keeps : (S : Store) → IsWhole S → (at : PlaceTree) → IsPath at.path → KeepsWhole S (create_at at)

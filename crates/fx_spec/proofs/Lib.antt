@@ -6,3 +6,4 @@ pub mod EditsClear
 pub mod EditsKeep
 pub mod EditsMake
 pub mod EditLaws
+pub mod Transactions

@@ -1,6 +1,7 @@
 -- What edits change, as rules that consult a filestore: an edit answers its changes in ascending order of path, or the first
 -- refusal that applies. It looks at each path that it may change before it answers.
-use Rattle.std.specs.Prelude.{ℕ, zero, suc, ◌+◌, ◌-◌, Bool, true, false, cond, not, ◌&&◌, List, [], ◌∷◌, ◌++◌, map, length, slice_index_or, nat_lt, bytes_eq, Option, Some, None, Result, Ok, Err}
+use Rattle.std.specs.Prelude.{ℕ, zero, suc, ◌+◌, ◌-◌, Bool, true, false, cond, not, ◌&&◌, List, [], ◌∷◌, ◌++◌, map, length, slice_index_or, nat_eq, nat_lt, nat_le, bytes_eq, Option, Some, None, Result, Ok, Err}
+use Rattle.std.specs.Cmp.Lexicographic.{pointwise}
 use Rattle.std.specs.List.{list_all, filter}
 use Rattle.fx_store.specs.declared.node.Node.{Node}
 use Rattle.fx_store.specs.declared.node.Node.TheVariants.{File, Dir, Link}
@@ -122,11 +123,23 @@ link_node (Err BadName) = Err Refusal.BadName
 link_node (Err TooDeep) = Err Refusal.TooDeep
 link_node (Err NoMemory) = Err Refusal.BadName
 
+abbrev pub form_node : SpecTree → Tree → Answered Node
+form_node SpecTree.file (Tree.str bytes) = Ok (File bytes)
+form_node SpecTree.dir (Tree.names names) = names_node names
+form_node SpecTree.link (Tree.str text) = link_node (read_link text)
+form_node _ v = Err Refusal.WrongForm
+
+-- a text that a file can hold, and a set in order; each text and set of the program is one
+abbrev pub is_content : List ℕ → Bool
+is_content bytes = nat_le (length bytes) 1048576 && list_all (λ b. nat_lt b 256) bytes
+
+abbrev pub is_storable : Tree → Bool
+is_storable (Tree.str bytes) = is_content bytes
+is_storable (Tree.names names) = pointwise (pointwise nat_eq) (set_of names) names
+is_storable _ = true
+
 abbrev pub stored_node : SpecTree → Tree → Answered Node
-stored_node SpecTree.file (Tree.str bytes) = Ok (File bytes)
-stored_node SpecTree.dir (Tree.names names) = names_node names
-stored_node SpecTree.link (Tree.str text) = link_node (read_link text)
-stored_node _ v = Err Refusal.WrongForm
+stored_node form v = cond (is_storable v) (form_node form v) (Err Refusal.WrongForm)
 
 -- the last link is followed for a file or directory
 abbrev pub follows_last : Node → Bool

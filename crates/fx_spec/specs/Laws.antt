@@ -2,9 +2,8 @@
 use Rattle.std.specs.Prelude.{◌≡◌, ◌≢◌, ℕ, Bool, cond, ◌&&◌, nat_eq, nat_lt, List, count_by, Some, Ok}
 use Rattle.std.specs.FinMap.{get}
 use Rattle.fx_store.specs.declared.changes.Change.{Change}
-use Rattle.fx_store.specs.Names.{IsContent, IsPath}
+use Rattle.fx_store.specs.Names.{IsPath}
 use Rattle.fx_store.specs.Rule.{Ask, answer, SameOn}
-use Rattle.fx_expr.specs.Sets.{IsAscending}
 use Rattle.fx_expr.specs.Tree.{Tree}
 use Rattle.fx_store.specs.Whole.{Store, Nodes, IsWhole, over}
 use Rattle.fx_spec.specs.declared.refusal.End.{End}
@@ -15,7 +14,7 @@ use Rattle.fx_spec.specs.Move.{Answered}
 use Rattle.fx_spec.specs.Place.{Address, PlaceTree, place}
 use Rattle.fx_spec.specs.Plans.{Turn, count_of}
 use Rattle.fx_spec.specs.Transaction.{outputs, end, way, kept, left, left_nodes}
-use Rattle.fx_spec.specs.Order.{BaseTree, IsComplete}
+use Rattle.fx_spec.specs.Order.{BaseTree, state, IsComplete}
 
 -- a transaction that is not done leaves the filestore as it was
 abbrev pub UndoneLeavesAll : Type 0
@@ -43,21 +42,22 @@ abbrev pub CompleteHasEachOnce : Type 0
 CompleteHasEachOnce =
     (base : BaseTree) (o : List Turn) → IsComplete base o → (shell txn : ℕ) → count_by (is_turn shell txn) o ≡ cond (nat_lt txn (count_of base.plan shell)) 1 0
 
--- a value that a store can keep: a text that a file can hold, or a set in order
-abbrev pub IsStorable : Tree → Type 0
-IsStorable (Tree.str bytes) = IsContent bytes
-IsStorable (Tree.names names) = IsAscending names
-IsStorable _ = Unit {0}
-
 -- an edit leaves a whole filestore whole, where it is not refused
 abbrev pub KeepsWhole : Store → Ask (Answered (List Change)) → Type 0
 KeepsWhole S edit = (changes : List Change) → answer S edit ≡ Ok changes → IsWhole (over S changes)
 
 pub record EditsKeepWhole : Type 0 where
-  pub store : (S : Store) → IsWhole S → (at : PlaceTree) → IsPath at.path → (v : Tree) → IsStorable v → KeepsWhole S (store_at v at)
+  pub store : (S : Store) → IsWhole S → (at : PlaceTree) → IsPath at.path → (v : Tree) → KeepsWhole S (store_at v at)
   pub create : (S : Store) → IsWhole S → (at : PlaceTree) → IsPath at.path → KeepsWhole S (create_at at)
   pub remove : (S : Store) → IsWhole S → (at : PlaceTree) → IsPath at.path → KeepsWhole S (remove_at at)
 
 -- a place's path has at most 64 names
 abbrev pub PlacesHavePaths : Type 0
 PlacesHavePaths = (S : Store) (root : SpecTree) (a : Address) (at : PlaceTree) → answer S (place root a) ≡ Some at → IsPath at.path
+
+-- a transaction leaves a whole filestore whole, and so does each of an order
+abbrev pub TransactionsKeepWhole : Type 0
+TransactionsKeepWhole = (root : SpecTree) (t : List CommandTree) (S : Store) → IsWhole S → IsWhole (left root t S)
+
+abbrev pub StatesAreWhole : Type 0
+StatesAreWhole = (base : BaseTree) → IsWhole (get base.loaded) → (o : List Turn) (i : ℕ) → IsWhole (get (state base o i))

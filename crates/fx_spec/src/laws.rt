@@ -1,7 +1,7 @@
 //! Laws of what descriptions and transactions mean. Each stands on a function that does nothing, so that it is proved with
 //! the crate.
 ghost use Rattle.fx_spec.specs.Examples.{FetchesFile, StopsAfterStore, StoreAtRoot, StoresNames, CreatesEntry, JoinsFiles};
-ghost use Rattle.fx_spec.specs.Laws.{UndoneLeavesAll, DependsOnWay, LeavesAsData, CompleteHasEachOnce, PlacesHavePaths, EditsKeepWhole};
+ghost use Rattle.fx_spec.specs.Laws.{UndoneLeavesAll, DependsOnWay, LeavesAsData, CompleteHasEachOnce, PlacesHavePaths, EditsKeepWhole, TransactionsKeepWhole, StatesAreWhole};
 
 /// What some transactions do on small filestores: their outputs, ends, consulted paths and changes.
 pub fn worked_transactions()
@@ -41,4 +41,14 @@ pub fn places_have_paths()
 /// An edit that is not refused leaves a whole filestore whole.
 pub fn edits_keep_a_filestore_whole()
     ensures { EditsKeepWhole }
+{}
+
+/// A transaction leaves a whole filestore whole, whatever it does.
+pub fn transactions_keep_a_filestore_whole()
+    ensures { TransactionsKeepWhole }
+{}
+
+/// The state after any number of transactions of an order is whole, if the loaded filestore is.
+pub fn states_of_an_order_are_whole()
+    ensures { StatesAreWhole }
 {}
