@@ -55,7 +55,7 @@ then_equal Less = refl
 then_equal Equal = refl
 then_equal Greater = refl
 
-in_folder_cmp : (folder : Parts) (m n : List ℕ) → parts_cmp (folder ++ m ∷ []) (folder ++ n ∷ []) ≡ name_cmp m n
+pub in_folder_cmp : (folder : Parts) (m n : List ℕ) → parts_cmp (folder ++ m ∷ []) (folder ++ n ∷ []) ≡ name_cmp m n
 in_folder_cmp folder m n = same_front folder (m ∷ []) (n ∷ []) ∙ then_equal (name_cmp m n)
 
 pub true_test : (o : Ordering) → true ≡ is_eq o → o ≡ Equal

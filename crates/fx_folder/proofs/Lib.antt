@@ -1,0 +1,4 @@
+pub mod HeldEntries
+pub mod Reading
+pub mod Below
+pub mod Walk

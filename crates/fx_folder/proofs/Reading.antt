@@ -1,0 +1,87 @@
+-- Reading a file piece by piece, and whether a folder is ready.
+use Rattle.std.proofs.Common.{◌≡◌, ℕ, zero, suc, ◌+◌, ◌-◌, ◌<◌, ◌≤◌, ◌==◌, min, nat_lt, Bool, true, false, cond, List, [], ◌∷◌, ◌++◌, length, take, drop, Option, None, Some, IfSome, IsSomeAnd, refl, sym, ◌∙◌, ap, subst, arith, length-append, length-take, length-drop}
+use Rattle.std.proofs.lemmas.Bool.Decides.{nat_tests}
+use Rattle.std.proofs.lemmas.List.{take_all}
+use Rattle.std.specs.Option.{option_map_or}
+use Rattle.std.specs.FinMap.{len}
+use Rattle.fx_outside.specs.declared.kind.HostKind.TheVariants.{Folder}
+use Rattle.fx_outside.specs.declared.kind.Standing.{Standing}
+use Rattle.fx_outside.specs.declared.kind.Standing.TheVariants.{Is}
+use Rattle.fx_outside.specs.Listing.{Names}
+use Rattle.fx_outside.specs.Path.{parts, is_fit}
+use Rattle.fx_outside.specs.Tree.{Tree, Entry, Lists, bytes_at, entry_at, standing_of, is_folder_kind, is_folder_at}
+use Rattle.fx_outside.specs.Host.{ReadsAt}
+use Rattle.fx_folder.specs.Held.{held}
+use Rattle.fx_folder.specs.Loads.{refused_size, place, most_in_file}
+use Rattle.fx_folder.specs.declared.fault.FolderCause.TheVariants.{TooLarge}
+use Rattle.fx_folder.specs.Ready.{readiness, is_empty_folder, free_or}
+use Rattle.fx_folder.proofs.HeldEntries.{listing_len}
+
+-- a call that suits the told tree does not fail for the tree's sake
+pub suited : (told : Option Tree) (suits : Tree → Bool) → IfSome told (λ t. suits t ≡ true) → IsSomeAnd told (λ t. suits t ≡ false) → ⊥
+suited None suits holds fails = fails
+suited (Some t) suits holds fails = cc
+
+take_more : (m n : ℕ) (xs : List ℕ) → take m xs ++ take n (drop m xs) ≡ take (m + n) xs
+take_more zero n xs = ap (λ k. take k xs) (omega arith)
+take_more (suc m) n [] = take_all {A = ℕ} n [] (omega arith) ∙ sym (take_all {A = ℕ} (suc m + n) [] (omega arith))
+take_more (suc m) n (x ∷ xs) =
+    let one : suc m + n ≡ suc (m + n) = omega arith in
+    ap (λ l. x ∷ l) (take_more m n xs) ∙ ap (λ k. take k (x ∷ xs)) (sym one)
+
+more_of : (old piece buffer contents : List ℕ) (n : ℕ) → old ≡ take (length old) contents → ReadsAt contents (length old) n buffer → old ++ take n buffer ≡ take (length (old ++ take n buffer)) contents
+more_of old piece buffer contents n front reads =
+    let whole : old ++ take n buffer ≡ take (length old + n) contents = ap (λ l. l ++ take n buffer) front ∙ ap (λ l. take (length old) contents ++ l) reads.bytes ∙ take_more (length old) n contents in
+    let size : length (old ++ take n buffer) ≡ length old + n = omega (arith, length-append old (take n buffer), ap length reads.bytes, length-take n (drop (length old) contents), length-drop (length old) contents, reads.within) in
+    whole ∙ ap (λ k. take k contents) (sym size)
+
+front_more : (told : Option Tree) (path old buffer new : List ℕ) (n : ℕ) → IfSome told (λ t. old ≡ take (length old) (bytes_at t path)) → IfSome told (λ t. ReadsAt (bytes_at t path) (length old) n buffer) → new ≡ old ++ take n buffer → IfSome told (λ t. new ≡ take (length new) (bytes_at t path))
+front_more None path old buffer new n front reads is = tt
+front_more (Some t) path old buffer new n front reads is = subst (λ (l : List ℕ). l ≡ take (length l) (bytes_at t path)) (sym is) (more_of old buffer buffer (bytes_at t path) n front reads)
+
+-- a piece more is a front of the file again
+pub front_told : (told told' : Option Tree) (path path' old buffer new : List ℕ) (from n : ℕ) → told' ≡ told → path' ≡ path → from ≡ length old → IfSome told (λ t. old ≡ take (length old) (bytes_at t path)) → IfSome told' (λ t. ReadsAt (bytes_at t path') from n buffer) → new ≡ old ++ take n buffer → IfSome told (λ t. new ≡ take (length new) (bytes_at t path))
+front_told told told' path path' old buffer new from n same there start front reads is =
+    front_more told path old buffer new n front
+    (subst (λ k. IfSome told (λ t. ReadsAt (bytes_at t path) k n buffer)) start
+    (subst (λ p. IfSome told (λ t. ReadsAt (bytes_at t p) from n buffer)) there
+    (subst (λ o. IfSome o (λ t. ReadsAt (bytes_at t path') from n buffer)) same reads)))
+    is
+
+not_larger : (left : ℕ) (name contents : List ℕ) → length contents ≤ min left most_in_file → refused_size left name contents ≡ None
+not_larger left name contents le = let small : nat_lt (min left most_in_file) (length contents) ≡ false = grind (arith, nat_tests) in ap (λ b. cond b (Some (TooLarge (place name))) None) small
+
+larger : (left : ℕ) (name contents : List ℕ) → min left most_in_file < length contents → refused_size left name contents ≡ Some (TooLarge (place name))
+larger left name contents lt = let large : nat_lt (min left most_in_file) (length contents) ≡ true = grind (arith, nat_tests) in ap (λ b. cond b (Some (TooLarge (place name))) None) large
+
+-- at the end all is read
+pub read_end : (contents old buffer : List ℕ) (left n limit : ℕ) (name : List ℕ) → limit ≡ min left most_in_file → length old ≤ limit → old ≡ take (length old) contents → ReadsAt contents (length old) n buffer → n ≡ 0 → record { fits : refused_size left name contents ≡ None; all : old ≡ contents }
+read_end contents old buffer left n limit name is within front reads none =
+    let ends = reads.ends none in
+    let whole : old ≡ contents = front ∙ take_all (length old) contents ends in
+    record { fits = not_larger left name contents (omega (arith, ap length whole)); all = whole }
+
+-- more bytes than are left are too many
+pub read_over : (contents old buffer : List ℕ) (left n limit : ℕ) (name : List ℕ) → limit ≡ min left most_in_file → length old ≤ limit → limit - length old < n → ReadsAt contents (length old) n buffer → refused_size left name contents ≡ Some (TooLarge (place name))
+read_over contents old buffer left n limit name is within over reads = larger left name contents (omega (arith, reads.within))
+
+kind_is : (entry : Entry) → Is Folder ≡ Is entry.kind → Folder ≡ entry.kind
+kind_is entry e = cc
+
+-- an empty folder is ready, and another is not
+ready_folder : (tree : Tree) (path : List ℕ) (entry : Entry) → entry_at tree path ≡ Some entry → Folder ≡ entry.kind → readiness tree path ≡ cond (length (held tree (parts path)) == 0) (Some true) None
+ready_folder tree path entry there kind =
+    let folder : is_folder_at tree path ≡ true = ap (λ o. option_map_or (λ e. is_folder_kind e.kind) o false) there ∙ ap is_folder_kind (sym kind) in
+    ap (λ o. free_or o (is_empty_folder tree path)) there ∙ ap (λ b. cond (cond b (length (held tree (parts path)) == 0) false) (Some true) None) folder
+
+pub ready_listed : (tree : Tree) (path : List ℕ) (names : Names) → Is Folder ≡ standing_of (entry_at tree path) → Lists tree (parts path) names → readiness tree path ≡ cond (len names == 0) (Some true) None
+ready_listed tree path names stands lists = go (entry_at tree path) refl stands
+  where
+    go : (o : Option Entry) → entry_at tree path ≡ o → Is Folder ≡ standing_of o → readiness tree path ≡ cond (len names == 0) (Some true) None
+    go None there e = cc
+    go (Some entry) there e = ready_folder tree path entry there (kind_is entry e) ∙ ap (λ n. cond (n == 0) (Some true) None) (sym (listing_len tree (parts path) names lists))
+
+pub ready_told : (told told' : Option Tree) (path : List ℕ) (names : Names) (standing : Standing) (n : ℕ) (ready : Option Bool) → IfSome told (λ t. standing ≡ standing_of (entry_at t path)) → standing ≡ Is Folder → told' ≡ told → IfSome told' (λ t. Lists t (parts path) names) → n ≡ len names → cond (n == 0) (Some true) None ≡ ready → IfSome told (λ t. is_fit path ≡ true → readiness t path ≡ ready)
+ready_told None told' path names standing n ready stands folder same lists is answer = tt
+ready_told (Some t) told' path names standing n ready stands folder same lists is answer = λ fit.
+    ready_listed t path names (sym folder ∙ stands) (subst (λ o. IfSome o (λ t. Lists t (parts path) names)) same lists) ∙ ap (λ k. cond (k == 0) (Some true) None) (sym is) ∙ answer

@@ -1,0 +1,16 @@
+use Rattle.std.proofs.Common.{◌≡◌, ◌++◌, length, take, arith, ◌∙◌}
+use Rattle.std.proofs.lemmas.Grind.{common_steps}
+use Rattle.fx_folder.specs.Reads.{path_below}
+use Rattle.fx_folder.proofs.Reading.{front_told}
+use Rattle.fx_folder.proofs.loading.read_file.Goals as goal
+
+pub loop-bytes-preserved : goal.loop-bytes-preserved
+loop-bytes-preserved g c =
+    let longer : c.extend_from_slice.new.self.items ≡ c.loop-bytes.bytes.items ++ take c.in_ok-count.count c.read.new.buf = grind (arith, common_steps) in
+    let start : c.len.result ≡ length c.loop-bytes.bytes.items = grind (arith, common_steps) in
+    record {
+      within = grind (arith, common_steps);
+      same = c.read.ensures.same ∙ c.loop-bytes.invariant.same;
+      later = omega (arith, c.read.ensures.cause.later);
+      front = front_told _ _ (path_below c.args.folder.now c.args.name.now) c.in_ok-path.path c.loop-bytes.bytes.items c.read.new.buf c.extend_from_slice.new.self.items c.len.result c.in_ok-count.count c.loop-bytes.invariant.same c.in_ok-path.ensures start c.loop-bytes.invariant.front c.in_ok-count.ensures.answer longer;
+    }
