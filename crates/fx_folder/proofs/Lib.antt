@@ -1,4 +1,9 @@
-pub mod HeldEntries
-pub mod Reading
 pub mod Below
+pub mod Filled
+pub mod FlatLoads
+pub mod HeldEntries
+pub mod Listings
+pub mod Reading
+pub mod Steps
+pub mod Texts
 pub mod Walk

@@ -1,4 +1,4 @@
--- Reading a file piece by piece, and whether a folder is ready.
+-- Reading a file piece by piece.
 use Rattle.std.proofs.Common.{◌≡◌, ℕ, zero, suc, ◌+◌, ◌-◌, ◌<◌, ◌≤◌, ◌==◌, min, nat_lt, Bool, true, false, cond, List, [], ◌∷◌, ◌++◌, length, take, drop, Option, None, Some, IfSome, IsSomeAnd, refl, sym, ◌∙◌, ap, subst, arith, length-append, length-take, length-drop}
 use Rattle.std.proofs.lemmas.Bool.Decides.{nat_tests}
 use Rattle.std.proofs.lemmas.List.{take_all}
@@ -14,7 +14,6 @@ use Rattle.fx_outside.specs.Host.{ReadsAt}
 use Rattle.fx_folder.specs.Held.{held}
 use Rattle.fx_folder.specs.Loads.{refused_size, place, most_in_file}
 use Rattle.fx_folder.specs.declared.fault.FolderCause.TheVariants.{TooLarge}
-use Rattle.fx_folder.specs.Ready.{readiness, is_empty_folder, free_or}
 use Rattle.fx_folder.proofs.HeldEntries.{listing_len}
 
 -- a call that suits the told tree does not fail for the tree's sake
@@ -67,21 +66,3 @@ read_over contents old buffer left n limit name is within over reads = larger le
 
 kind_is : (entry : Entry) → Is Folder ≡ Is entry.kind → Folder ≡ entry.kind
 kind_is entry e = cc
-
--- an empty folder is ready, and another is not
-ready_folder : (tree : Tree) (path : List ℕ) (entry : Entry) → entry_at tree path ≡ Some entry → Folder ≡ entry.kind → readiness tree path ≡ cond (length (held tree (parts path)) == 0) (Some true) None
-ready_folder tree path entry there kind =
-    let folder : is_folder_at tree path ≡ true = ap (λ o. option_map_or (λ e. is_folder_kind e.kind) o false) there ∙ ap is_folder_kind (sym kind) in
-    ap (λ o. free_or o (is_empty_folder tree path)) there ∙ ap (λ b. cond (cond b (length (held tree (parts path)) == 0) false) (Some true) None) folder
-
-pub ready_listed : (tree : Tree) (path : List ℕ) (names : Names) → Is Folder ≡ standing_of (entry_at tree path) → Lists tree (parts path) names → readiness tree path ≡ cond (len names == 0) (Some true) None
-ready_listed tree path names stands lists = go (entry_at tree path) refl stands
-  where
-    go : (o : Option Entry) → entry_at tree path ≡ o → Is Folder ≡ standing_of o → readiness tree path ≡ cond (len names == 0) (Some true) None
-    go None there e = cc
-    go (Some entry) there e = ready_folder tree path entry there (kind_is entry e) ∙ ap (λ n. cond (n == 0) (Some true) None) (sym (listing_len tree (parts path) names lists))
-
-pub ready_told : (told told' : Option Tree) (path : List ℕ) (names : Names) (standing : Standing) (n : ℕ) (ready : Option Bool) → IfSome told (λ t. standing ≡ standing_of (entry_at t path)) → standing ≡ Is Folder → told' ≡ told → IfSome told' (λ t. Lists t (parts path) names) → n ≡ len names → cond (n == 0) (Some true) None ≡ ready → IfSome told (λ t. is_fit path ≡ true → readiness t path ≡ ready)
-ready_told None told' path names standing n ready stands folder same lists is answer = tt
-ready_told (Some t) told' path names standing n ready stands folder same lists is answer = λ fit.
-    ready_listed t path names (sym folder ∙ stands) (subst (λ o. IfSome o (λ t. Lists t (parts path) names)) same lists) ∙ ap (λ k. cond (k == 0) (Some true) None) (sym is) ∙ answer

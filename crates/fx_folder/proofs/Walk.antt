@@ -23,7 +23,7 @@ use Rattle.fx_folder.specs.declared.fault.FolderCause.{FolderCause}
 use Rattle.fx_folder.specs.declared.fault.LoadFault.{LoadFault}
 use Rattle.fx_folder.specs.declared.fault.LoadFault.TheVariants.{Refused, ReadFault, NoMemory}
 use Rattle.fx_folder.specs.Held.{held}
-use Rattle.fx_folder.specs.Loads.{first_refusal, refused_unread, refused_size, most_bytes, files, loads, Loads, unless_refused}
+use Rattle.fx_folder.specs.Loads.{first_refusal, refused_unread, refused_size, most_bytes, files, loads, AnswersAs, unless_refused}
 use Rattle.fx_folder.specs.Reads.{HasEntry, entry_bytes, ReadsEntry, ReadsFiles}
 use Rattle.fx_folder.proofs.HeldEntries.{kinds, held_sorted, find_held, listing_is, listing_len}
 
@@ -183,7 +183,7 @@ pub loaded_told : (told : Option Tree) (folder : List ℕ) (read : List (List �
 loaded_told None folder read nodes has is = tt
 loaded_told (Some t) folder read nodes has is = λ there. ap (λ o. unless_refused o (flat (files (held t (parts folder))))) has.0 ∙ ap (λ l. Ok (flat l)) (sym has.1) ∙ ap (λ n. Ok n) (sym is)
 
-pub unloaded_told : (told : Option Tree) (folder : List ℕ) (fault : LoadFault) → IfSome told (λ t. ReadsFiles (held t (parts folder)) (Err fault)) → IfSome told (λ t. is_folder_at t folder ≡ true → Loads (loads t folder) (Err fault))
+pub unloaded_told : (told : Option Tree) (folder : List ℕ) (fault : LoadFault) → IfSome told (λ t. ReadsFiles (held t (parts folder)) (Err fault)) → IfSome told (λ t. is_folder_at t folder ≡ true → AnswersAs (loads t folder) (Err fault))
 unloaded_told None folder fault has = tt
 unloaded_told (Some t) folder (Refused cause) has = λ there. ap (λ o. unless_refused o (flat (files (held t (parts folder))))) has
 unloaded_told (Some t) folder ReadFault has = λ there. tt

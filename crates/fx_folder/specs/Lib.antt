@@ -1,5 +1,6 @@
 pub mod Faults
+pub mod Folder
 pub mod Held
 pub mod Loads
 pub mod Reads
-pub mod Ready
+pub mod Written

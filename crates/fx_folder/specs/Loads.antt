@@ -1,10 +1,10 @@
 -- What a folder that holds files alone is loaded as, or why it is refused.
-use Rattle.std.specs.Prelude.{◌≡◌, ◌+◌, ◌-◌, ℕ, nat_lt, min, cond, List, [], ◌∷◌, map, length, codes, bytes_eq, Option, Some, None, Result, Ok, Err, ⊤}
+use Rattle.std.specs.Prelude.{◌≡◌, ◌⊎◌, true, false, IfSome, IsSomeAnd, ◌+◌, ◌-◌, ℕ, nat_lt, min, cond, List, [], ◌∷◌, map, length, codes, bytes_eq, Option, Some, None, Result, Ok, Err, ⊤}
 use Rattle.std.specs.Option.{option_or}
 use Rattle.fx_outside.specs.declared.kind.HostKind.{HostKind}
 use Rattle.fx_outside.specs.declared.kind.HostKind.TheVariants.{File, Folder, Other}
 use Rattle.fx_outside.specs.Path.{parts}
-use Rattle.fx_outside.specs.Tree.{Tree, Entry}
+use Rattle.fx_outside.specs.Tree.{Tree, Entry, is_folder_at}
 use Rattle.fx_store.specs.declared.filestore.Filestore.{Filestore}
 use Rattle.fx_store.specs.Names.{is_name}
 use Rattle.fx_store.specs.Whole.{Nodes}
@@ -72,8 +72,21 @@ abbrev pub loads : Tree → List ℕ → Result Nodes FolderCause
 loads tree folder = unless_refused (first_refusal 1 most_bytes (held tree (parts folder))) (flat (files (held tree (parts folder))))
 
 -- the answer is what the folder loads as, unless the host failed or memory was refused
-abbrev pub Loads : Result Nodes FolderCause → Result Filestore LoadFault → Type 0
-Loads answer (Ok store) = answer ≡ Ok store.nodes
-Loads answer (Err (Refused cause)) = answer ≡ Err cause
-Loads answer (Err ReadFault) = ⊤
-Loads answer (Err NoMemory) = ⊤
+abbrev pub AnswersAs : Result Nodes FolderCause → Result Filestore LoadFault → Type 0
+AnswersAs answer (Ok store) = answer ≡ Ok store.nodes
+AnswersAs answer (Err (Refused cause)) = answer ≡ Err cause
+AnswersAs answer (Err ReadFault) = ⊤
+AnswersAs answer (Err NoMemory) = ⊤
+
+-- the folder at the path is loaded as this filestore; or it is refused, first for this cause
+abbrev pub Loads : Tree → List ℕ → Nodes → Type 0
+Loads tree path nodes = (is_folder_at tree path ≡ true) × (loads tree path ≡ Ok nodes)
+
+abbrev pub IsRefused : Tree → List ℕ → FolderCause → Type 0
+IsRefused tree path cause = (is_folder_at tree path ≡ true) × (loads tree path ≡ Err cause)
+
+-- when a folder is not loaded
+abbrev pub LoadCause : Option Tree → List ℕ → Type 0 → LoadFault → Type 0
+LoadCause told path rose (Refused cause) = IfSome told (λ tree. IsRefused tree path cause)
+LoadCause told path rose ReadFault = rose ⊎ IsSomeAnd told (λ tree. is_folder_at tree path ≡ false)
+LoadCause told path rose NoMemory = ⊤

@@ -4,7 +4,9 @@
 mod fault;
 mod loading;
 mod readying;
+mod saving;
 
 pub use fault::{FolderCause, LoadFault, SaveFault};
 pub use loading::load;
 pub use readying::ready;
+pub use saving::save;

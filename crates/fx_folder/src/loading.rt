@@ -1,15 +1,16 @@
 //! Folders as filestores.
-ghost use Rattle.std.specs.Prelude.{◌≡◌, ◌⊎◌, ◌+◌, ◌-◌, ◌<◌, ◌≤◌, ◌++◌, ◌∷◌, ℕ, List, length, true, false, min, map, take, drop, Ok, Err, IfOk, OnOk, IfSome, IsSomeAnd, None, Some};
+ghost use Rattle.std.specs.Prelude.{◌≡◌, ◌⊎◌, ◌+◌, ◌-◌, ◌<◌, ◌≤◌, ◌++◌, ◌∷◌, ℕ, List, length, true, false, min, map, take, drop, Ok, Err, IfOk, IfErr, OnOk, IfSome, IsSomeAnd, None, Some};
 ghost use Rattle.std.specs.Map.{keys_of};
-ghost use Rattle.std.specs.FinMap.{entries};
+ghost use Rattle.std.specs.FinMap.{entries, get};
 ghost use Rattle.std.specs.List.Sorted.{IsStrictlySortedBy};
 ghost use Rattle.fx_base.specs.Causes.{Rose};
 ghost use Rattle.fx_outside.specs.Listing.{name_cmp};
 ghost use Rattle.fx_outside.specs.Path.{parts, is_fit};
 ghost use Rattle.fx_outside.specs.Tree.{Lists, is_folder_at, is_file_at, bytes_at};
 ghost use Rattle.fx_folder.specs.declared.fault.LoadFault.TheVariants.{ReadFault, NoMemory};
+ghost use Rattle.fx_folder.specs.Folder.{IsFlat};
 ghost use Rattle.fx_folder.specs.Held.{held};
-ghost use Rattle.fx_folder.specs.Loads.{loads, Loads, place, most_bytes, refused_unread, first_refusal, files};
+ghost use Rattle.fx_folder.specs.Loads.{loads, Loads, LoadCause, AnswersAs, place, most_bytes, refused_unread, first_refusal, files};
 ghost use Rattle.fx_folder.specs.Reads.{path_below, entry_bytes, HasEntry, PassesUnread, ReadsFile, ReadsEntry, ReadsFiles};
 
 use crate::{FolderCause, LoadFault};
@@ -34,7 +35,22 @@ const TABLE: &str = ".forest-links";
 /// Loads a folder that holds files alone. An entry that can't be loaded is refused with its path; where there are
 /// several, it is the first in order of name.
 pub fn load<H: Host>(alloc: Global, host: &mut H, folder: &HostText) -> Result<Filestore, LoadFault>
-    ensures answer { IfSome (H.told host.old) (λ tree. is_folder_at tree folder.now ≡ true → Loads (loads tree folder.now) result) }
+    ensures loaded { IfOk result (λ s. IfSome (H.told host.old) (λ tree. Loads tree folder.now s.nodes)) }
+    ensures flat { IfOk result (λ s. IsFlat (get s.nodes)) }
+    ensures fault { IfErr result (LoadCause (H.told host.old) folder.now (Rose (H.faults host.old) (H.faults host.new))) }
+    ensures same { H.told host.new ≡ H.told host.old }
+    ensures later { H.faults host.old ≤ H.faults host.new }
+{
+    load_files(alloc, host, folder)
+}
+
+fn load_files<H: Host>(
+    alloc: Global,
+    host: &mut H,
+    folder: &HostText,
+) -> Result<Filestore, LoadFault>
+    ensures answer { IfSome (H.told host.old) (λ tree. is_folder_at tree folder.now ≡ true → AnswersAs (loads tree folder.now) result) }
+    ensures flat { IfOk result (λ s. IsFlat (get s.nodes)) }
     ensures fault { result ≡ Err ReadFault → Rose (H.faults host.old) (H.faults host.new) ⊎ IsSomeAnd (H.told host.old) (λ tree. is_folder_at tree folder.now ≡ false) }
     ensures missing { IfSome (H.told host.old) (λ tree. is_folder_at tree folder.now ≡ false → (result ≡ Err ReadFault) ⊎ (result ≡ Err NoMemory)) }
     ensures same { H.told host.new ≡ H.told host.old }

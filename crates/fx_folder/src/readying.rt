@@ -1,32 +1,48 @@
-//! Whether a filestore may be saved as a folder.
-ghost use Rattle.std.specs.Prelude.{◌≡◌, ◌⊎◌, ◌≤◌, false, true, IfSome, IsSomeAnd, Err};
+//! Whether a folder can be written at a path.
+ghost use Rattle.std.specs.Prelude.{◌≡◌, ◌⊎◌, ◌≤◌, true, false, IfOk, IfErr, IfSome};
 ghost use Rattle.fx_base.specs.Causes.{Rose};
-ghost use Rattle.fx_outside.specs.Path.{is_fit};
-ghost use Rattle.fx_folder.specs.declared.fault.SaveFault.TheVariants.{WriteFault, NoMemory};
-ghost use Rattle.fx_folder.specs.Ready.{readiness, IsReady};
+ghost use Rattle.fx_outside.specs.Tree.{is_folder_at};
+ghost use Rattle.fx_folder.specs.Folder.{IsReady, IsTaken, ReadyCause};
 
-use crate::SaveFault;
-use fx_outside::{Host, HostKind, HostText, Standing};
+use crate::fault::SaveFault;
+use fx_outside::{Host, HostFault, HostKind, HostText, Standing};
 use std::alloc::Global;
 
-/// Whether an empty folder stands at a path already: `false` where nothing stands there, `NotEmpty` where something
-/// else does. At a path that can name no folder it is `WriteFault`.
+/// Whether an empty folder stands at the path already. Where nothing stands there, a folder can be made if one stands
+/// above.
 pub fn ready<H: Host>(alloc: Global, host: &mut H, folder: &HostText) -> Result<bool, SaveFault>
-    ensures answer { IfSome (H.told host.old) (λ tree. is_fit folder.now ≡ true → IsReady (readiness tree folder.now) result) }
-    ensures fault { result ≡ Err WriteFault → Rose (H.faults host.old) (H.faults host.new) ⊎ IsSomeAnd (H.told host.old) (λ tree. is_fit folder.now ≡ false) }
-    ensures unfit { IfSome (H.told host.old) (λ tree. is_fit folder.now ≡ false → (result ≡ Err WriteFault) ⊎ (result ≡ Err NoMemory)) }
     ensures same { H.told host.new ≡ H.told host.old }
     ensures later { H.faults host.old ≤ H.faults host.new }
+    ensures ready { IfOk result (λ there. IfSome (H.told host.old) (λ tree. IsReady tree folder.now there)) }
+    ensures fault { IfErr result (ReadyCause (H.told host.old) folder.now (Rose (H.faults host.old) (H.faults host.new))) }
 {
-    match host.standing(alloc, folder)? {
-        Standing::Absent => Ok(false),
-        Standing::Is(HostKind::Folder) => {
-            if host.list(alloc, folder)?.len() == 0 {
-                Ok(true)
-            } else {
-                Err(SaveFault::NotEmpty)
+    match host.standing(alloc, folder) {
+        Ok(Standing::Absent) => Ok(false),
+        Ok(Standing::Is(HostKind::Folder)) => find_empty(alloc, host, folder),
+        Ok(Standing::Is(HostKind::File)) => Err(SaveFault::NotEmpty),
+        Ok(Standing::Is(HostKind::Other)) => Err(SaveFault::NotEmpty),
+        Err(HostFault::Failed) => Err(SaveFault::WriteFault),
+        Err(HostFault::NoMemory) => Err(SaveFault::NoMemory),
+    }
+}
+
+/// The folder that stands at the path is found to be empty.
+fn find_empty<H: Host>(alloc: Global, host: &mut H, folder: &HostText) -> Result<bool, SaveFault>
+    requires { IfSome (H.told host.old) (λ tree. is_folder_at tree folder.now ≡ true) }
+    ensures same { H.told host.new ≡ H.told host.old }
+    ensures later { H.faults host.old ≤ H.faults host.new }
+    ensures ready { IfOk result (λ there. IfSome (H.told host.old) (λ tree. IsReady tree folder.now there)) }
+    ensures taken { result ≡ Err SaveFault.NotEmpty → IfSome (H.told host.old) (λ tree. IsTaken tree folder.now) }
+    ensures fault { result ≡ Err SaveFault.WriteFault → Rose (H.faults host.old) (H.faults host.new) }
+{
+    match host.list(alloc, folder) {
+        Ok(listing) => {
+            if listing.len() == 0 {
+                return Ok(true);
             }
+            Err(SaveFault::NotEmpty)
         }
-        Standing::Is(_) => Err(SaveFault::NotEmpty),
+        Err(HostFault::Failed) => Err(SaveFault::WriteFault),
+        Err(HostFault::NoMemory) => Err(SaveFault::NoMemory),
     }
 }

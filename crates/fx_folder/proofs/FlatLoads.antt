@@ -1,0 +1,75 @@
+-- A loaded filestore has files alone, and a folder is loaded or refused as its entries say.
+use Rattle.std.proofs.Common.{◌≡◌, ◌⊎◌, inl, inr, ℕ, Bool, true, false, cond, List, [], ◌∷◌, map, Option, Some, None, IfSome, IfOk, IfErr, IsSomeAnd, Result, Ok, Err, refl, sym, ◌∙◌, ap, subst}
+use Rattle.std.specs.Ordering.{eq_by_cmp}
+use Rattle.std.specs.FinMap.{get, insert, get-insert, get-empty, empty}
+use Rattle.std.proofs.lemmas.Bool.{cases_Bool}
+use Rattle.fx_store.specs.declared.filestore.Filestore.{Filestore}
+use Rattle.fx_store.specs.declared.node.Node.{Node}
+use Rattle.fx_store.specs.declared.node.Node.TheVariants.{File, Dir}
+use Rattle.fx_store.specs.Names.{path_cmp}
+use Rattle.fx_store.specs.Orders.{path_total}
+use Rattle.fx_store.specs.Whole.{Nodes, over_nodes}
+use Rattle.fx_store.specs.Filestore.{root_only}
+use Rattle.fx_store.specs.Flat.{flat, file_change}
+use Rattle.fx_outside.specs.Tree.{Tree, is_folder_at}
+use Rattle.fx_folder.specs.declared.fault.FolderCause.{FolderCause}
+use Rattle.fx_folder.specs.declared.fault.LoadFault.{LoadFault}
+use Rattle.fx_folder.specs.declared.fault.LoadFault.TheVariants.{Refused, ReadFault, NoMemory}
+use Rattle.fx_folder.specs.Folder.{IsFlat, IsFileNode}
+use Rattle.fx_folder.specs.Loads.{loads, Loads, IsRefused, LoadCause, AnswersAs}
+
+file_or : (b : Bool) (bytes : List ℕ) (o : Option Node) → IfSome o IsFileNode → IfSome (cond b (Some (File bytes)) o) IsFileNode
+file_or true bytes o h = tt
+file_or false bytes o h = h
+
+flat_file : (m : Nodes) (f : List ℕ × List ℕ) → IsFlat (get m) → IsFlat (get (insert m (f.0 ∷ []) (File f.1)))
+flat_file m f h = λ name rest.
+    let P : Option Node → Type 0 = λ o. IfSome o IsFileNode in
+    subst P (sym (get-insert path_total m (f.0 ∷ []) (File f.1) (name ∷ rest))) (file_or (eq_by_cmp path_cmp (name ∷ rest) (f.0 ∷ [])) f.1 (get m (name ∷ rest)) (h name rest))
+
+flat_root : (m : Nodes) (names : List (List ℕ)) → IsFlat (get m) → IsFlat (get (insert m [] (Dir names)))
+flat_root m names h = λ name rest.
+    let P : Option Node → Type 0 = λ o. IfSome o IsFileNode in
+    subst P (sym (get-insert path_total m [] (Dir names) (name ∷ rest))) (h name rest)
+
+flat_files : (m : Nodes) (files : List (List ℕ × List ℕ)) → IsFlat (get m) → IsFlat (get (over_nodes m (map file_change files)))
+flat_files m [] h = h
+flat_files m (f ∷ files) h = flat_files (insert m (f.0 ∷ []) (File f.1)) files (flat_file m f h)
+
+flat_empty : IsFlat (get (empty {X = Node} {R = path_cmp}))
+flat_empty = λ name rest.
+    let P : Option Node → Type 0 = λ o. IfSome o IsFileNode in
+    subst P (sym (get-empty path_cmp (name ∷ rest))) tt
+
+pub loaded_flat : (nodes : Nodes) (files : List (List ℕ × List ℕ)) → nodes ≡ flat files → IsFlat (get nodes)
+loaded_flat nodes files is =
+    let P : Nodes → Type 0 = λ m. IsFlat (get m) in
+    subst P (sym is) (flat_files _ files (flat_root root_only _ (flat_root empty [] flat_empty)))
+
+no_fault : {A : Type 0} (s : A) → (◌≡◌ {A = Result A LoadFault} (Ok s) (Err ReadFault)) ⊎ (◌≡◌ {A = Result A LoadFault} (Ok s) (Err NoMemory)) → ⊥
+no_fault s (inl e) = cc
+no_fault s (inr e) = cc
+
+no_refusal : {A : Type 0} (cause : FolderCause) → (◌≡◌ {A = Result A LoadFault} (Err (Refused cause)) (Err ReadFault)) ⊎ (◌≡◌ {A = Result A LoadFault} (Err (Refused cause)) (Err NoMemory)) → ⊥
+no_refusal cause (inl e) = cc
+no_refusal cause (inr e) = cc
+
+loads_here : (tree : Tree) (path : List ℕ) (s : Filestore) (b : Bool) → is_folder_at tree path ≡ b → (is_folder_at tree path ≡ true → AnswersAs (loads tree path) (Ok s)) → (is_folder_at tree path ≡ false → (◌≡◌ {A = Result Filestore LoadFault} (Ok s) (Err ReadFault)) ⊎ (◌≡◌ {A = Result Filestore LoadFault} (Ok s) (Err NoMemory))) → Loads tree path s.nodes
+loads_here tree path s true is answer missing = (is, answer is)
+loads_here tree path s false is answer missing = absurd (no_fault s (missing is))
+
+refused_here : (tree : Tree) (path : List ℕ) (cause : FolderCause) (b : Bool) → is_folder_at tree path ≡ b → (is_folder_at tree path ≡ true → AnswersAs (loads tree path) (Err (Refused cause))) → (is_folder_at tree path ≡ false → (◌≡◌ {A = Result Filestore LoadFault} (Err (Refused cause)) (Err ReadFault)) ⊎ (◌≡◌ {A = Result Filestore LoadFault} (Err (Refused cause)) (Err NoMemory))) → IsRefused tree path cause
+refused_here tree path cause true is answer missing = (is, answer is)
+refused_here tree path cause false is answer missing = absurd (no_refusal {A = Filestore} cause (missing is))
+
+pub is_loaded : (told : Option Tree) (path : List ℕ) (result : Result Filestore LoadFault) → IfSome told (λ tree. is_folder_at tree path ≡ true → AnswersAs (loads tree path) result) → IfSome told (λ tree. is_folder_at tree path ≡ false → (result ≡ Err ReadFault) ⊎ (result ≡ Err NoMemory)) → IfOk result (λ s. IfSome told (λ tree. Loads tree path s.nodes))
+is_loaded None path (Ok s) answer missing = tt
+is_loaded (Some tree) path (Ok s) answer missing = loads_here tree path s (is_folder_at tree path) refl answer missing
+is_loaded told path (Err e) answer missing = tt
+
+pub is_not_loaded : (told : Option Tree) (path : List ℕ) (rose : Type 0) (result : Result Filestore LoadFault) → IfSome told (λ tree. is_folder_at tree path ≡ true → AnswersAs (loads tree path) result) → IfSome told (λ tree. is_folder_at tree path ≡ false → (result ≡ Err ReadFault) ⊎ (result ≡ Err NoMemory)) → (result ≡ Err ReadFault → rose ⊎ IsSomeAnd told (λ tree. is_folder_at tree path ≡ false)) → IfErr result (LoadCause told path rose)
+is_not_loaded told path rose (Ok s) answer missing fault = tt
+is_not_loaded None path rose (Err (Refused cause)) answer missing fault = tt
+is_not_loaded (Some tree) path rose (Err (Refused cause)) answer missing fault = refused_here tree path cause (is_folder_at tree path) refl answer missing
+is_not_loaded told path rose (Err ReadFault) answer missing fault = fault refl
+is_not_loaded told path rose (Err NoMemory) answer missing fault = tt

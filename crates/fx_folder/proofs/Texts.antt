@@ -1,0 +1,106 @@
+-- Paths of entries of a folder, as texts.
+use Rattle.std.proofs.Common.{◌≡◌, ◌≢◌, inl, inr, ℕ, ◌==◌, ◌<◌, Bool, true, false, not, cond, ◌&&◌, ◌||◌, List, [], ◌∷◌, ◌++◌, length, refl, sym, ◌∙◌, ap, subst, arith}
+use Rattle.std.specs.Prelude.{nat_lt, nat_le, bytes_eq, codes}
+use Rattle.std.specs.List.{list_all, list_any, slice_split, onto_first}
+use Rattle.std.specs.Str.{is_utf8, IsUtf8}
+use Rattle.std.proofs.lemmas.Bool.{cases_Bool}
+use Rattle.std.proofs.lemmas.Bool.Decides.{nat_tests}
+use Rattle.std.proofs.lemmas.List.Folds.{list_all-append}
+use Rattle.std.proofs.lemmas.List.Splits.{length-slice_split}
+use Rattle.std.proofs.lemmas.Str.{IsUtf8-from_is_utf8}
+use Rattle.fx_store.specs.Names.{IsName, is_name, is_slash, is_nul, is_reserved}
+use Rattle.fx_outside.specs.Path.{Parts, parts, is_fit, is_fit_part}
+use Rattle.fx_folder.specs.Reads.{path_below}
+
+left : (a b : Bool) → (a && b) ≡ true → a ≡ true
+left true b e = refl
+left false b e = cc
+
+right : (a b : Bool) → (a && b) ≡ true → b ≡ true
+right true b e = e
+right false b e = cc
+
+-- what a name is, one fact after another
+pub record NameParts (name : List ℕ) : Type 0 where
+  pub some : nat_lt 0 (length name) ≡ true
+  pub no_slash : not (list_any is_slash name) ≡ true
+  pub unreserved : not (is_reserved name) ≡ true
+  pub text : is_utf8 name ≡ true
+
+pub name_parts : (name : List ℕ) → IsName name → NameParts name
+unfolding is_name
+name_parts name is =
+    let a = nat_lt 0 (length name) in
+    let b = nat_le (length name) 255 in
+    let c = not (list_any is_slash name) in
+    let d = not (list_any is_nul name) in
+    let e = not (is_reserved name) in
+    let to_e = left ((((a && b) && c) && d) && e) (is_utf8 name) is in
+    let to_d = left (((a && b) && c) && d) e to_e in
+    let to_c = left ((a && b) && c) d to_d in
+    record {
+      some = left a b (left (a && b) c to_c);
+      no_slash = right (a && b) c to_c;
+      unreserved = right (((a && b) && c) && d) e to_e;
+      text = right ((((a && b) && c) && d) && e) (is_utf8 name) is;
+    }
+
+pub name_is_text : (name : List ℕ) → IsName name → IsUtf8 name
+name_is_text name is = IsUtf8-from_is_utf8 name (name_parts name is).text
+
+-- a text without a slash is one part
+
+onto_joined : (b : ℕ) (xs ys : Parts) → 0 < length xs → onto_first b (xs ++ ys) ≡ onto_first b xs ++ ys
+onto_joined b [] ys some = absurd (omega arith)
+onto_joined b (x ∷ xs) ys some = refl
+
+some_parts : (x : List ℕ) → 0 < length (slice_split (λ b. b == 47) x)
+some_parts x = omega (arith, length-slice_split (λ b. b == 47) x)
+
+parts_joined : (x y : List ℕ) → parts (x ++ 47 ∷ y) ≡ parts x ++ parts y
+parts_joined [] y = refl
+parts_joined (b ∷ x) y = elim (cases_Bool (b == 47)) [
+  | inl slash ↦
+      ap (λ t. cond t ([] ∷ parts (x ++ 47 ∷ y)) (onto_first b (parts (x ++ 47 ∷ y)))) slash ∙ ap (λ p. [] ∷ p) (parts_joined x y)
+      ∙ ap (λ t. cond t ([] ∷ parts x) (onto_first b (parts x)) ++ parts y) (sym slash)
+  | inr apart ↦
+      ap (λ t. cond t ([] ∷ parts (x ++ 47 ∷ y)) (onto_first b (parts (x ++ 47 ∷ y)))) apart ∙ ap (onto_first b) (parts_joined x y)
+      ∙ onto_joined b (parts x) (parts y) (some_parts x)
+      ∙ ap (λ t. cond t ([] ∷ parts x) (onto_first b (parts x)) ++ parts y) (sym apart)
+]
+
+neither : (a b : Bool) → not (a || b) ≡ true → (a ≡ false) × (not b ≡ true)
+neither true b e = cc
+neither false b e = (refl, e)
+
+one_part : (name : List ℕ) → not (list_any is_slash name) ≡ true → parts name ≡ name ∷ []
+one_part [] e = refl
+one_part (b ∷ name) e =
+    let apart = neither (b == 47) (list_any is_slash name) e in
+    ap (λ t. cond t ([] ∷ parts name) (onto_first b (parts name))) apart.0 ∙ ap (onto_first b) (one_part name apart.1)
+
+pub parts_below : (folder name : List ℕ) → IsName name → parts (path_below folder name) ≡ parts folder ++ name ∷ []
+parts_below folder name is = parts_joined folder name ∙ ap (λ p. parts folder ++ p) (one_part name (name_parts name is).no_slash)
+
+-- a name can name an entry of the host
+
+not_either : (a b c : Bool) → not ((a || b) || c) ≡ true → (not a && not b) ≡ true
+not_either true b c e = cc
+not_either false true c e = cc
+not_either false false c e = refl
+
+positive : (n : ℕ) → nat_lt 0 n ≡ true → not (n == 0) ≡ true
+positive n e = grind (arith, nat_tests)
+
+both : (a b : Bool) → a ≡ true → b ≡ true → (a && b) ≡ true
+both a b p q = ap (λ x. x && b) p ∙ q
+
+fit_name : (name : List ℕ) → IsName name → is_fit_part name ≡ true
+fit_name name is =
+    let p = name_parts name is in
+    both (not (length name == 0)) _ (positive (length name) p.some) (not_either (bytes_eq name (codes ".")) (bytes_eq name (codes "..")) (bytes_eq name (codes ".forest-links")) p.unreserved)
+
+pub fit_below : (folder name : List ℕ) → is_fit folder ≡ true → IsName name → is_fit (path_below folder name) ≡ true
+fit_below folder name fit is =
+    ap (list_all is_fit_part) (parts_below folder name is) ∙ list_all-append is_fit_part (parts folder) (name ∷ [])
+    ∙ both (list_all is_fit_part (parts folder)) _ fit (both (is_fit_part name) true (fit_name name is) refl)

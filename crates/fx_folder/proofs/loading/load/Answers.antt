@@ -1,0 +1,9 @@
+use Rattle.std.proofs.Common.{rules}
+use Rattle.fx_folder.proofs.FlatLoads.{is_loaded, is_not_loaded}
+use Rattle.fx_folder.proofs.loading.load.Goals as goal
+
+pub returns-clause-loaded : goal.returns-clause-loaded
+returns-clause-loaded g c = is_loaded _ c.args.folder.now _ c.load_files.ensures.answer c.load_files.ensures.missing
+
+pub returns-clause-fault : goal.returns-clause-fault
+returns-clause-fault g c = is_not_loaded _ c.args.folder.now _ _ c.load_files.ensures.answer c.load_files.ensures.missing c.load_files.ensures.fault

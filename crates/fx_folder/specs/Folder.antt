@@ -1,0 +1,89 @@
+-- The folder of a filestore: which entries stand for it in a host's tree.
+use Rattle.std.specs.Prelude.{◌≡◌, ◌≢◌, ◌⊎◌, ℕ, ◌≤◌, Bool, true, false, cond, List, [], ◌∷◌, ◌++◌, take, IfSome, IsSomeAnd, Option, Some, None}
+use Rattle.std.specs.FinMap.{get}
+use Rattle.std.specs.Ordering.{eq_by_cmp}
+use Rattle.fx_store.specs.declared.node.Node.{Node}
+use Rattle.fx_store.specs.declared.node.Node.TheVariants.{File, Dir, Link}
+use Rattle.fx_store.specs.Whole.{Store, Nodes}
+use Rattle.fx_outside.specs.declared.kind.HostKind.TheVariants as kind
+use Rattle.fx_folder.specs.declared.fault.SaveFault.{SaveFault}
+use Rattle.fx_folder.specs.declared.fault.SaveFault.TheVariants as fault
+use Rattle.fx_outside.specs.Listing.{name_cmp}
+use Rattle.fx_outside.specs.Path.{Parts, parts, is_fit, above}
+use Rattle.fx_outside.specs.Tree.{Tree, Entry, file, folder, entry_at, is_folder_at, has_folder}
+
+-- a file and a directory are entries of the host; links are not written yet
+abbrev pub host_entry : Option Node → Option Entry
+host_entry None = None
+host_entry (Some (File bytes)) = Some (file bytes)
+host_entry (Some (Dir names)) = Some folder
+host_entry (Some (Link text)) = None
+
+-- what is left of the parts behind a folder's, if they begin with these
+abbrev pub rest_of : Parts → Parts → Option Parts
+rest_of [] q = Some q
+rest_of (a ∷ at) [] = None
+rest_of (a ∷ at) (b ∷ q) = cond (eq_by_cmp name_cmp a b) (rest_of at q) None
+
+abbrev pub entry_or : Option Entry → Store → Option Parts → Option Entry
+entry_or outside S None = outside
+entry_or outside S (Some path) = host_entry (S path)
+
+-- the new tree has the folder of the filestore at these parts, and is the old one elsewhere
+abbrev pub IsSaved : Tree → Tree → Parts → Nodes → Type 0
+IsSaved tree tree' at nodes = (q : Parts) → get tree' q ≡ entry_or (get tree q) (get nodes) (rest_of at q)
+
+-- a file with a prefix of the bytes that the whole folder has there
+abbrev pub IsFrontOf : Entry → Entry → Type 0
+IsFrontOf e whole = (n : ℕ) × (e ≡ file (take n whole.bytes))
+
+-- the new tree has a part of that folder at these parts, and is the old one elsewhere; the file last begun may hold a prefix
+-- of its bytes
+pub record IsPartOf (tree tree' : Tree) (at : Parts) (nodes : Nodes) (last : Parts) : Type 0 where
+  pub outside : (q : Parts) → rest_of at q ≡ None → get tree' q ≡ get tree q
+  pub inside : (path : Parts) (e : Entry) → get tree' (at ++ path) ≡ Some e
+      → (whole : Entry) × (host_entry (get nodes path) ≡ Some whole) × ((e ≡ whole) ⊎ ((path ≡ last) × IsFrontOf e whole))
+
+abbrev pub IsPartlySaved : Tree → Tree → Parts → Nodes → Type 0
+IsPartlySaved tree tree' at nodes = (tree' ≡ tree) ⊎ ((last : Parts) × IsPartOf tree tree' at nodes last)
+
+-- every entry of the root is a file
+abbrev pub IsFileNode : Node → Type 0
+IsFileNode (File bytes) = Unit {0}
+IsFileNode (Dir names) = ⊥
+IsFileNode (Link text) = ⊥
+
+abbrev pub IsFlat : Store → Type 0
+IsFlat S = (name : List ℕ) (rest : List (List ℕ)) → IfSome (S (name ∷ rest)) IsFileNode
+
+-- the tree of a host that tells one, before and after a call
+abbrev pub IfTold : Option Tree → Option Tree → (Tree → Tree → Type 0) → Type 0
+IfTold None told' P = told' ≡ None
+IfTold (Some tree) None P = ⊥
+IfTold (Some tree) (Some tree') P = P tree tree'
+
+-- an empty folder stands at the path; or nothing does, and the path is fit
+abbrev pub IsReady : Tree → List ℕ → Bool → Type 0
+IsReady tree path true = (is_folder_at tree path ≡ true) × ((name : List ℕ) → get tree (parts path ++ name ∷ []) ≡ None)
+IsReady tree path false = (is_fit path ≡ true) × (entry_at tree path ≡ None)
+
+-- something stands at the path that is no empty folder
+abbrev pub IsTaken : Tree → List ℕ → Type 0
+IsTaken tree path =
+    (e : Entry) × (entry_at tree path ≡ Some e) × ((e.kind ≢ kind.Folder) ⊎ ((name : List ℕ) × (inside : Entry) × (get tree (parts path ++ name ∷ []) ≡ Some inside)))
+
+-- when no folder is ready to be written
+abbrev pub ReadyCause : Option Tree → List ℕ → Type 0 → SaveFault → Type 0
+ReadyCause told path rose fault.WriteFault = rose ⊎ IsSomeAnd told (λ tree. is_fit path ≡ false)
+ReadyCause told path rose fault.NotEmpty = IfSome told (λ tree. IsTaken tree path)
+ReadyCause told path rose fault.NoMemory = Unit {0}
+
+-- the folder is to be made, and none stands above it
+abbrev pub LacksFolder : Tree → List ℕ → Bool → Type 0
+LacksFolder tree path there = (there ≡ false) × (has_folder tree (above (parts path)) ≡ false)
+
+-- when a folder is not written whole
+abbrev pub SaveCause : Option Tree → List ℕ → Bool → Type 0 → SaveFault → Type 0
+SaveCause told path there rose fault.WriteFault = rose ⊎ IsSomeAnd told (λ tree. LacksFolder tree path there)
+SaveCause told path there rose fault.NotEmpty = ⊥
+SaveCause told path there rose fault.NoMemory = Unit {0}
