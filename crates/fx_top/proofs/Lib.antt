@@ -1,0 +1,16 @@
+pub mod Binds
+pub mod Bodies
+pub mod Completing
+pub mod Ending
+pub mod Five
+pub mod Lists
+pub mod Meaning
+pub mod Outcome
+pub mod Parsed
+pub mod Places
+pub mod QuietTasks
+pub mod Reading
+pub mod Scripts
+pub mod Stages
+pub mod Walk
+pub mod Writing

@@ -1,0 +1,12 @@
+use Rattle.std.proofs.Common.{◌≡◌, Option, Some, None, subst}
+use Rattle.fx_top.specs.Parsing.{IsLexed}
+use Rattle.fx_top.proofs.Parsed.{no_tokens_script, scripts}
+use Rattle.fx_top.proofs.top.parse_script.Goals as goal
+
+pub returns-in-None : goal.returns-in-None
+returns-in-None c = no_tokens_script c.args.text.now (subst (λ r. IsLexed c.args.text.now r) c.in-None.is c.in_ok-tokens.ensures)
+
+pub returns : goal.returns
+returns c =
+    let lexed = subst (λ r. IsLexed c.args.text.now r) c.in-Some.is c.in_ok-tokens.ensures in
+    scripts (λ v. v.items) c.args.text.now c.in-Some.tokens.spanned c.read_script.result lexed.0 lexed.1 lexed.2 lexed.3 c.read_script.ensures
