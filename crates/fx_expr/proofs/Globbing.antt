@@ -1,12 +1,8 @@
 -- Globs: what one attempt tells of the others.
-use Rattle.std.proofs.Common.{◌≡◌, ◌≢◌, ℕ, zero, suc, ◌+◌, ◌<◌, ◌≤◌, Bool, true, false, cond, ◌&&◌, ◌||◌, List, [], ◌∷◌, length, drop, get_or, slice_index, nat_eq, eqb, refl, ap, sym, ◌∙◌, arith}
+use Rattle.std.proofs.Common.{◌≡◌, ◌≢◌, ℕ, zero, suc, ◌+◌, ◌<◌, Bool, true, false, cond, ◌&&◌, ◌||◌, List, [], ◌∷◌, length, drop, get_or, slice_index, eqb, refl, ap, sym, ◌∙◌, arith}
 use Rattle.std.proofs.lemmas.Bool.{eq-eqb, ne_eqb}
 use Rattle.fx_expr.specs.Globs.{glob_matches, some_suffix, first_and_rest}
 use Rattle.fx_expr.specs.Attempts.{HasStar}
-
-drop-nil : (i : ℕ) → drop {A = ℕ} i [] ≡ []
-drop-nil zero = refl
-drop-nil (suc i) = refl
 
 same_test : (a b : Bool) → (a ≡ true → b ≡ true) → (b ≡ true → a ≡ true) → a ≡ b
 same_test true true f g = refl
@@ -86,27 +82,10 @@ star_suffix glob text n h =
     same_test _ _ (λ e. ap (λ g. some_suffix (glob_matches g) (drop n text)) (drop-one n glob) ∙ forced_suffix glob text n h.within h.star h.plain e)
     (λ e. whole_suffix (glob_matches glob) text (star_matches glob text n h ∙ e))
 
--- where the attempt fails, the text's first byte is passed over
-pub fails_suffix : (test : List ℕ → Bool) (text : List ℕ) → 0 < length text → test text ≡ false → some_suffix test text ≡ some_suffix test (drop 1 text)
-fails_suffix test [] lt e = absurd (omega arith)
-fails_suffix test (b ∷ text) lt e = ap (λ t. t || some_suffix test text) e
-
-pub fails_empty : (test : List ℕ → Bool) (text : List ℕ) → length text ≡ 0 → test text ≡ false → some_suffix test text ≡ false
-fails_empty test [] e f = f
-fails_empty test (b ∷ text) e f = absurd (omega arith)
-
 -- one more byte of the glob, which is no `*`
 byte_more : (g : ℕ) (glob text : List ℕ) → g ≢ 42 → 0 < length text → ((eqb g 63 || eqb g (get_or text 0 0)) ≡ true) → glob_matches (g ∷ glob) text ≡ glob_matches glob (drop 1 text)
 byte_more g glob [] other lt e = absurd (omega arith)
 byte_more g glob (b ∷ text) other lt e = plain_first g glob (b ∷ text) other ∙ ap (λ t. t && glob_matches glob text) e
-
-byte_fails : (g : ℕ) (glob text : List ℕ) → g ≢ 42 → 0 < length text → ((eqb g 63 || eqb g (get_or text 0 0)) ≡ false) → glob_matches (g ∷ glob) text ≡ false
-byte_fails g glob [] other lt e = absurd (omega arith)
-byte_fails g glob (b ∷ text) other lt e = plain_first g glob (b ∷ text) other ∙ ap (λ t. t && glob_matches glob text) e
-
-byte_past : (g : ℕ) (glob text : List ℕ) → g ≢ 42 → length text ≡ 0 → glob_matches (g ∷ glob) text ≡ false
-byte_past g glob [] other e = plain_first g glob [] other
-byte_past g glob (b ∷ text) other e = absurd (omega arith)
 
 -- one step of an attempt
 byte_matches : (glob text : List ℕ) (i : ℕ) → i < length glob → i < length text → slice_index glob i ≢ 42 → (eqb (slice_index glob i) 63 || eqb (slice_index glob i) (slice_index text i)) ≡ true

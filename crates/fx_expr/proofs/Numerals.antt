@@ -1,8 +1,8 @@
 -- What std's `parse` reads, in the words of numerals.
-use Rattle.std.proofs.Common.{◌≡◌, ◌≢◌, ℕ, zero, suc, ◌+◌, ◌^◌, ◌<◌, ◌≤◌, ℤ, pos, negsuc, neg_ℤ, Bool, true, false, cond, ◌&&◌, List, [], ◌∷◌, length, drop, get_or, slice_index, MatchOption, Option, Some, None, Result, Ok, Err, nat_eq, nat_lt, refl, ap, sym, subst, ◌∙◌, arith}
-use Rattle.std.specs.Result.{result_ok, OkIff}
+use Rattle.std.proofs.Common.{◌≡◌, ◌≢◌, ℕ, zero, suc, ◌^◌, ◌≤◌, ℤ, pos, negsuc, neg_ℤ, Bool, true, false, cond, ◌&&◌, List, [], ◌∷◌, length, drop, slice_index, MatchOption, Result, Ok, Err, refl, ap, sym, ◌∙◌, arith}
+use Rattle.std.specs.Result.{result_ok}
 use Rattle.std.specs.Str.{all_ascii_digits, IsAscii, IsUtf8}
-use Rattle.std.specs.Str.Parse.{AllDigits, IsNumeral, digits_value, starts_with_minus, without_leading_plus, without_leading_sign, signed_digits_value, ParsesSigned}
+use Rattle.std.specs.Str.Parse.{IsNumeral, digits_value, starts_with_minus, without_leading_sign, signed_digits_value, ParsesSigned}
 use Rattle.std.specs.Fmt.{signed_decimal}
 use Rattle.std.specs.Int.RustNames.{FitsSigned}
 use Rattle.std.proofs.lemmas.Bool.{ltb-true, lt-ltb, eqb-true}
@@ -10,8 +10,6 @@ use Rattle.std.proofs.lemmas.Str.Parse.{IsNumeralModel, numerals_by_value, tells
 use Rattle.std.proofs.lemmas.Fmt.{IsAscii-from_digits, length_signed_le}
 use Rattle.std.proofs.lemmas.Str.{IsUtf8-from_ascii}
 use mir.Syntax.{w64}
-use mir.Val.{SFits}
-use lib.Signed.{mag}
 use Rattle.fx_expr.specs.Eval.{fits_64, digits_in, is_numeral, numeral_value, spells_64}
 
 own : IsNumeralModel (λ ds. all_ascii_digits ds ≡ true) (digits_value 10)
@@ -79,6 +77,3 @@ numeral_utf8 bs other =
 
 pub decimal_short : (z : ℤ) → FitsSigned w64 z → length (signed_decimal z) ≤ 1048576
 decimal_short z h = omega (arith, length_signed_le 19 z (omega (arith, h.sfits)) h.sfits)
-
-pub too_large : (z : ℤ) → (FitsSigned w64 z → ⊥) → fits_64 z ≡ false
-too_large z other = not_true (fits_64 z) λ e. other (fits_back z e)

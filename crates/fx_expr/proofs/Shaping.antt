@@ -1,5 +1,5 @@
 -- A value has its expression's shape, so each operator meets the values that it takes.
-use Rattle.std.proofs.Common.{◌≡◌, ℕ, Bool, true, false, cond, List, [], ◌∷◌, Option, Some, None, Result, Ok, Err, IfOk, nat_eq, refl, ap, sym, subst, ◌∙◌}
+use Rattle.std.proofs.Common.{◌≡◌, ℕ, Bool, true, false, cond, List, [], ◌∷◌, Option, Some, None, Ok, Err, IfOk, nat_eq, refl, ap, sym, subst, ◌∙◌}
 use Rattle.std.specs.Option.{unwrap_or}
 use Rattle.std.specs.Cmp.Lexicographic.{pointwise}
 use Rattle.fx_expr.specs.declared.expr.BinOp.{BinOp}
@@ -7,7 +7,7 @@ use Rattle.fx_expr.specs.declared.expr.UnOp.{UnOp}
 use Rattle.fx_expr.specs.declared.fault.ExprFault.{ExprFault}
 use Rattle.fx_expr.specs.Bindings.{bound, newer_or}
 use Rattle.fx_expr.specs.Eval.{Outcome, eval_of, then_on, unless, two, one, decided, first_in, second_in, truth_in}
-use Rattle.fx_expr.specs.Shapes.{HasShape, ValueHas, BinShape, UnShape, IsComparable, IsOrdered, IsSized, BindingsHave, IsWellShaped}
+use Rattle.fx_expr.specs.Shapes.{HasShape, ValueHas, BinShape, UnShape, BindingsHave, IsWellShaped}
 use Rattle.fx_expr.specs.Takes.{TakesTwo, TakesOne, LooksAt}
 use Rattle.fx_expr.specs.Tree.{Tree}
 use Rattle.fx_expr.specs.ShapeTree.{ShapeTree}
@@ -173,27 +173,6 @@ given (Err f) v s e h = absurd (cc)
 -- ---- what the parts of a well-shaped expression meet
 
 module _ (env : List (List ℕ × Tree)) where
-  pub bin_first : (op : BinOp) (a c : ExprTree) → IsWellShaped env (ExprTree.bin op a c) → IsWellShaped env a
-  bin_first op a c w = record { shapes = w.shapes; shape = w.expression.0; bindings = w.bindings; expression = w.expression.3 }
-
-  pub bin_second : (op : BinOp) (a c : ExprTree) → IsWellShaped env (ExprTree.bin op a c) → IsWellShaped env c
-  bin_second op a c w = record { shapes = w.shapes; shape = w.expression.1; bindings = w.bindings; expression = w.expression.4 }
-
-  pub un_part : (op : UnOp) (a : ExprTree) → IsWellShaped env (ExprTree.un op a) → IsWellShaped env a
-  un_part op a w = record { shapes = w.shapes; shape = w.expression.0; bindings = w.bindings; expression = w.expression.2 }
-
-  pub choose_test : (c a d : ExprTree) → IsWellShaped env (ExprTree.choose c a d) → IsWellShaped env c
-  choose_test c a d w = record { shapes = w.shapes; shape = ShapeTree.bool; bindings = w.bindings; expression = w.expression.0 }
-
-  pub choose_first : (c a d : ExprTree) → IsWellShaped env (ExprTree.choose c a d) → IsWellShaped env a
-  choose_first c a d w = record { shapes = w.shapes; shape = w.shape; bindings = w.bindings; expression = w.expression.1 }
-
-  pub choose_second : (c a d : ExprTree) → IsWellShaped env (ExprTree.choose c a d) → IsWellShaped env d
-  choose_second c a d w = record { shapes = w.shapes; shape = w.shape; bindings = w.bindings; expression = w.expression.2 }
-
-  pub only_part : (a : ExprTree) (glob : List ℕ) → IsWellShaped env (ExprTree.only a glob) → IsWellShaped env a
-  only_part a glob w = record { shapes = w.shapes; shape = ShapeTree.names; bindings = w.bindings; expression = w.expression.1 }
-
   pub var_bound : (x : List ℕ) → IsWellShaped env (ExprTree.var x) → bound env x ≡ None → ⊥
   var_bound x w e = let f : Bound env x w.shape = bound_has env w.shapes x w.shape w.bindings w.expression in let g : None ≡ Some f.value = sym e ∙ f.is in cc
 

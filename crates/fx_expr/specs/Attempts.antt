@@ -1,5 +1,5 @@
 -- One attempt to match a glob at the start of a text, up to the glob's first `*`.
-use Rattle.std.specs.Prelude.{◌≡◌, ◌≢◌, ℕ, suc, ◌<◌, ◌≤◌, true, false, List, drop, length, slice_index}
+use Rattle.std.specs.Prelude.{◌≡◌, ◌≢◌, ℕ, ◌<◌, ◌≤◌, true, false, List, drop, length, slice_index}
 use Rattle.fx_expr.specs.declared.glob.Attempt.{Attempt}
 use Rattle.fx_expr.specs.declared.glob.Attempt.TheVariants.{Whole, Fails, Star}
 use Rattle.fx_expr.specs.Globs.{glob_matches}

@@ -1,7 +1,7 @@
 -- What an expression gives in an environment: a value, or the fault of the first part that has one. The parts of an
 -- operator are taken from left to right. Where a value has not the shape that its operator takes, which no well-shaped
 -- expression meets, a default stands in for it.
-use Rattle.std.specs.Prelude.{ℕ, ◌+◌, ◌-◌, ◌^◌, ℤ, pos, negsuc, ◌+ℤ◌, ◌-ℤ◌, neg_ℤ, int_lt, int_le, Bool, true, false, cond, not, ◌&&◌, List, [], ◌∷◌, ◌++◌, map, take, drop, length, slice_index, nat_eq, nat_lt, nat_le, Option, Some, None, Result, Ok, Err}
+use Rattle.std.specs.Prelude.{ℕ, ◌+◌, ◌-◌, ◌^◌, ℤ, pos, negsuc, ◌+ℤ◌, ◌-ℤ◌, neg_ℤ, int_lt, Bool, true, false, cond, not, ◌&&◌, List, [], ◌∷◌, ◌++◌, map, take, drop, length, slice_index, nat_eq, nat_lt, nat_le, Option, Some, None, Result, Ok, Err}
 use Rattle.std.specs.List.{filter, slice_split}
 use Rattle.std.specs.Option.{unwrap_or}
 use Rattle.std.specs.Cmp.Lexicographic.{pointwise, slice_cmp}

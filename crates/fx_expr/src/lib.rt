@@ -15,6 +15,8 @@ mod operators;
 mod parts;
 mod set;
 mod shape;
+#[cfg(test)]
+mod tests;
 mod text;
 mod value;
 mod word;

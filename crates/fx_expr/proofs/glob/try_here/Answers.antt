@@ -1,4 +1,4 @@
-use Rattle.std.proofs.Common.{◌≡◌, ◌∙◌, sym, ◌<◌, length, arith, below_more}
+use Rattle.std.proofs.Common.{◌∙◌, sym, arith, below_more}
 use Rattle.fx_expr.proofs.Globbing.{byte_matches_next}
 use Rattle.fx_expr.proofs.glob.try_here.Goals as goal
 

@@ -1,6 +1,6 @@
-use Rattle.std.proofs.Common.{◌≡◌, ap, sym, ◌∙◌, rules, nat_eq, nat_lt, length}
+use Rattle.std.proofs.Common.{ap, ◌∙◌, rules, nat_eq, nat_lt, length}
 use borrow.Author.Tests.{tests}
-use Rattle.std.specs.List.{slice_split, filter}
+use Rattle.std.specs.List.{filter}
 use Rattle.std.specs.Slice.Iter.{split_rest, split_done, split_callee}
 use Rattle.std.proofs.lemmas.Iterator.Consumers.{YieldsList-end}
 use Rattle.std.proofs.lemmas.Iterator.Splits.{YieldsList-from_slice_split}

@@ -1,4 +1,4 @@
-use Rattle.std.proofs.Common.{◌≡◌, sym}
+use Rattle.std.proofs.Common.{sym}
 use Rattle.std.proofs.lemmas.Bool.{eqb-false}
 use Rattle.fx_expr.proofs.Numerals.{parsed, numeral_utf8}
 use Rattle.fx_expr.proofs.number.read_numeral.Goals as goal

@@ -1,4 +1,4 @@
-use Rattle.std.proofs.Common.{◌≡◌, ◌∙◌, sym, ap, map}
+use Rattle.std.proofs.Common.{◌∙◌, sym, ap, map}
 use Rattle.fx_expr.specs.Eval.{entries_in}
 use Rattle.fx_expr.specs.Views.{tree_of}
 use Rattle.fx_expr.proofs.Trees.{table_keys}

@@ -1,10 +1,10 @@
-use Rattle.std.proofs.Common.{◌≡◌, ◌∙◌, sym, ap, subst, List, ℕ, not, rules}
+use Rattle.std.proofs.Common.{◌∙◌, ap, not, rules}
 use Rattle.std.specs.List.{filter}
 use Rattle.std.specs.Cmp.Lexicographic.{slice_cmp}
 use Rattle.std.specs.Ordering.{nat_cmp}
 use Rattle.std.proofs.lemmas.Fn.{filter_same}
 use Rattle.std.proofs.lemmas.List.Kept.{IsStrictlySortedBy-filter}
-use Rattle.fx_expr.specs.Sets.{IsAscending, has_text}
+use Rattle.fx_expr.specs.Sets.{has_text}
 use Rattle.fx_expr.proofs.set.TextSet.without.Goals as goal
 
 pub invariant_of-result : goal.invariant_of-result
