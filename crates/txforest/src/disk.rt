@@ -1,0 +1,177 @@
+//! The folders and files of the machine, as a host.
+ghost use Rattle.std.specs.Prelude.{◌≡◌, ◌≤◌, ℕ, Option, None, IfOk, length};
+ghost use Rattle.fx_base.specs.Causes.{Rose};
+ghost use Rattle.fx_outside.specs.declared.kind.HostFault.TheVariants.{Failed};
+
+use fx_base::NoMemory;
+use fx_outside::{Host, HostFault, HostKind, HostText, Listing, Standing};
+use std::alloc::Global;
+use std::fs::{self, DirEntry, File, FileType};
+use std::io::{self, ErrorKind, Read, Seek, SeekFrom, Write};
+use std::rt::Files;
+
+/// A folder of more entries is not listed.
+const MOST_ENTRIES: usize = 1_000_000;
+
+/// The machine's files. It tells nothing of what it holds, and counts each error of the system: a name that is not UTF-8
+/// and a folder of more than 1,000,000 entries too.
+#[derive(Drop)]
+pub struct Disk<R: Files + AllocGlobal + Clone + Drop> {
+    rt: R,
+    faults: u64,
+}
+
+fn kind_of(kind: FileType) -> HostKind {
+    if kind.is_file() {
+        HostKind::File
+    } else if kind.is_dir() {
+        HostKind::Folder
+    } else {
+        HostKind::Other
+    }
+}
+
+// The entry's name and kind.
+fn named<R: Files + AllocGlobal + Clone + Drop>(
+    alloc: Global,
+    entry: &DirEntry<R>,
+) -> io::Result<(HostText, HostKind)> {
+    let name = String::from_str(alloc, entry.file_name())?;
+    let kind = kind_of(entry.file_type()?);
+    Ok((HostText::from_string(name), kind))
+}
+
+// What a folder holds, in no order.
+fn entries<R: Files + AllocGlobal + Clone + Drop>(
+    rt: &R,
+    alloc: Global,
+    path: &str,
+) -> io::Result<Vec<(HostText, HostKind)>> {
+    let mut found = Vec::new(alloc);
+    for entry in fs::read_dir(rt, path)? {
+        if found.len() == MOST_ENTRIES {
+            return Err(io::Error::from(ErrorKind::FileTooLarge));
+        }
+        found.push(named(alloc, &entry?)?)?;
+    }
+    Ok(found)
+}
+
+// The entries in order of name; none where a name stands twice.
+fn sorted(
+    alloc: Global,
+    mut found: Vec<(HostText, HostKind)>,
+) -> Result<Option<Listing>, NoMemory> {
+    found.sort_unstable_by(|a, b| a.0.as_str().cmp(b.0.as_str()));
+    let mut listing = Listing::new(alloc);
+    for (name, kind) in found {
+        if !listing.can_add(&name) {
+            return Ok(None);
+        }
+        listing.add(alloc, name, kind)?;
+    }
+    Ok(Some(listing))
+}
+
+fn read_at<R: Files>(rt: &R, path: &str, from: u64, buf: &mut [u8]) -> io::Result<usize>
+    ensures { IfOk result (λ count. count ≤ length buf.new) }
+{
+    let mut file = fs::open(rt, path)?;
+    file.seek(SeekFrom::Start(from))?;
+    file.read(buf)
+}
+
+fn write_file<R: Files>(rt: &R, path: &str, bytes: &[u8]) -> io::Result<()> {
+    let mut file = File::create_new(rt, path)?;
+    file.write_all(bytes)
+}
+
+impl<R: Files + AllocGlobal + Clone + Drop> Disk<R> {
+    pub fn new(rt: R) -> Disk<R> {
+        Disk { rt, faults: 0 }
+    }
+
+    /// A counted fault.
+    fn failed(&mut self) -> HostFault
+        ensures fault { result ≡ Failed }
+        ensures rose { Rose self.old.faults self.new.faults }
+        ensures later { self.old.faults ≤ self.new.faults }
+    {
+        self.faults = self.faults.saturating_add(1);
+        HostFault::Failed
+    }
+
+    /// An error of the system, counted unless it is want of memory.
+    fn fault(&mut self, error: io::Error) -> HostFault
+        ensures rose { result ≡ Failed → Rose self.old.faults self.new.faults }
+        ensures later { self.old.faults ≤ self.new.faults }
+    {
+        if error.kind() == ErrorKind::OutOfMemory {
+            HostFault::NoMemory
+        } else {
+            self.failed()
+        }
+    }
+}
+
+impl<R: Files + AllocGlobal + Clone + Drop> Host for Disk<R> {
+    ghost told = { λ _. None };
+
+    ghost faults = { λ disk. disk.faults };
+
+    fn standing(&mut self, _alloc: Global, path: &HostText) -> Result<Standing, HostFault> {
+        match fs::symlink_metadata(&self.rt, path.as_str()) {
+            Ok(metadata) => Ok(Standing::Is(kind_of(metadata.file_type()))),
+            Err(error) => match error.kind() {
+                ErrorKind::NotFound | ErrorKind::NotADirectory => Ok(Standing::Absent),
+                _ => Err(self.fault(error)),
+            },
+        }
+    }
+
+    fn list(&mut self, alloc: Global, path: &HostText) -> Result<Listing, HostFault> {
+        let found = match entries(&self.rt, alloc, path.as_str()) {
+            Ok(found) => found,
+            Err(error) => return Err(self.fault(error)),
+        };
+        match sorted(alloc, found) {
+            Ok(Some(listing)) => Ok(listing),
+            Ok(None) => Err(self.failed()),
+            Err(NoMemory) => Err(HostFault::NoMemory),
+        }
+    }
+
+    fn read(
+        &mut self,
+        _alloc: Global,
+        path: &HostText,
+        from: u64,
+        buf: &mut [u8],
+    ) -> Result<usize, HostFault> {
+        match read_at(&self.rt, path.as_str(), from, buf) {
+            Ok(count) => Ok(count),
+            Err(error) => Err(self.fault(error)),
+        }
+    }
+
+    fn make_dir(&mut self, _alloc: Global, path: &HostText) -> Result<(), HostFault> {
+        match fs::create_dir(&self.rt, path.as_str()) {
+            Ok(()) => Ok(()),
+            Err(error) => Err(self.fault(error)),
+        }
+    }
+
+    fn write_new(
+        &mut self,
+        _alloc: Global,
+        path: &HostText,
+        bytes: &[u8],
+    ) -> Result<(), HostFault> {
+        match write_file(&self.rt, path.as_str(), bytes) {
+            Ok(()) => Ok(()),
+            Err(error) => Err(self.fault(error)),
+        }
+    }
+
+    ghost whole = { λ _. tt };
+}

@@ -1,0 +1,136 @@
+//! The line on standard error for a status other than 0.
+use fx_expr::{Shape, Word};
+use fx_folder::FolderCause;
+use fx_outside::{HostText, Words};
+use fx_top::status::{Status, TextFault};
+use std::alloc::{AllocError, Global};
+
+const HEX: [char; 16] = [
+    '0', '1', '2', '3', '4', '5', '6', '7', '8', '9', 'a', 'b', 'c', 'd', 'e', 'f',
+];
+
+/// The line, without its line feed; none for a run that is done.
+pub fn message(
+    alloc: Global,
+    words: &Words,
+    status: &Status,
+) -> Result<Option<String>, AllocError> {
+    let mut line = String::from_str(alloc, "txforest: ")?;
+    match status {
+        Status::Done => return Ok(None),
+        Status::Usage => line.push_str("usage")?,
+        Status::TextRefused { word, cause } => {
+            if let Some(file) = words.at(u64::from(*word)) {
+                line.push_str(file.as_str())?;
+            }
+            line.push_str(": ")?;
+            push_text_fault(&mut line, cause)?;
+        }
+        Status::FolderRefused(cause) => {
+            line.push_str("folder: ")?;
+            push_folder_cause(&mut line, cause)?;
+        }
+        Status::ReadFault => line.push_str("read fault")?,
+        Status::NotEmpty => line.push_str("output is not empty")?,
+        Status::WriteFault => line.push_str("write fault")?,
+        Status::NoMemory => line.push_str("out of memory")?,
+    }
+    Ok(Some(line))
+}
+
+fn push_text_fault(line: &mut String, cause: &TextFault) -> Result<(), AllocError> {
+    match cause {
+        TextFault::TooLarge => line.push_str("TooLarge"),
+        TextFault::BadToken(place) => push_place(line, "BadToken", *place),
+        TextFault::Unexpected(place) => push_place(line, "Unexpected", *place),
+        TextFault::TooNested(place) => push_place(line, "TooNested", *place),
+        TextFault::NotBuilt(place) => push_place(line, "NotBuilt", *place),
+        TextFault::Unknown(word) => push_word(line, "Unknown", word),
+        TextFault::TypeDiffers { expected, found } => {
+            line.push_str("TypeDiffers ")?;
+            push_shape(line, expected)?;
+            line.push(' ')?;
+            push_shape(line, found)
+        }
+        TextFault::Repeated(word) => push_word(line, "Repeated", word),
+        TextFault::TooMany => line.push_str("TooMany"),
+    }
+}
+
+fn push_place(line: &mut String, name: &str, place: u32) -> Result<(), AllocError> {
+    line.push_str(name)?;
+    write!(line, " {place}")
+}
+
+fn push_word(line: &mut String, name: &str, word: &Word) -> Result<(), AllocError> {
+    line.push_str(name)?;
+    line.push(' ')?;
+    for byte in word.as_slice() {
+        line.push(char::from(*byte))?;
+    }
+    Ok(())
+}
+
+/// A shape as scripts spell it.
+fn push_shape(line: &mut String, shape: &Shape) -> Result<(), AllocError> {
+    match shape {
+        Shape::Str => line.push_str("str"),
+        Shape::Int => line.push_str("int"),
+        Shape::Bool => line.push_str("bool"),
+        Shape::Names => line.push_str("names"),
+        Shape::Pair(first, second) => {
+            line.push_str("pair(")?;
+            push_shape(line, first)?;
+            line.push_str(", ")?;
+            push_shape(line, second)?;
+            line.push(')')
+        }
+        Shape::Opt(part) => {
+            line.push_str("opt(")?;
+            push_shape(line, part)?;
+            line.push(')')
+        }
+        Shape::Table(part) => {
+            line.push_str("table(")?;
+            push_shape(line, part)?;
+            line.push(')')
+        }
+    }
+}
+
+fn push_folder_cause(line: &mut String, cause: &FolderCause) -> Result<(), AllocError> {
+    match cause {
+        FolderCause::BadName(path) => push_path(line, "BadName", path),
+        FolderCause::Strange(path) => push_path(line, "Strange", path),
+        FolderCause::TooLarge(path) => push_path(line, "TooLarge", path),
+        FolderCause::BadTable(number) => {
+            line.push_str("BadTable")?;
+            write!(line, " {number}")
+        }
+        FolderCause::NotBuilt(path) => push_path(line, "NotBuilt", path),
+    }
+}
+
+/// A path between quotation marks, as the report prints one.
+fn push_path(line: &mut String, name: &str, path: &HostText) -> Result<(), AllocError> {
+    line.push_str(name)?;
+    line.push_str(" \"")?;
+    for byte in path.as_str().as_bytes() {
+        push_byte(line, *byte)?;
+    }
+    line.push('"')
+}
+
+fn push_byte(line: &mut String, byte: u8) -> Result<(), AllocError> {
+    match byte {
+        b'"' => line.push_str("\\\""),
+        b'\\' => line.push_str("\\\\"),
+        b'\n' => line.push_str("\\n"),
+        0x20..=0x7e => line.push(char::from(byte)),
+        _ => {
+            line.push_str("\\x")?;
+            line.push(HEX[usize::from(byte / 16)])?;
+            line.push(HEX[usize::from(byte % 16)])
+        }
+    }
+}
