@@ -1,0 +1,2 @@
+//! Where a run's output goes.
+pub use fx_outside::{MemorySink, Sink, SinkFailed};
