@@ -10,3 +10,6 @@ pub use fault::{FolderCause, LoadFault, SaveFault};
 pub use loading::load;
 pub use readying::ready;
 pub use saving::save;
+
+#[cfg(test)]
+mod tests;
