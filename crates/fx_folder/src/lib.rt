@@ -11,5 +11,3 @@ pub use loading::load;
 pub use readying::ready;
 pub use saving::save;
 
-#[cfg(test)]
-mod tests;
