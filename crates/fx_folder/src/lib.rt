@@ -10,4 +10,3 @@ pub use fault::{FolderCause, LoadFault, SaveFault};
 pub use loading::load;
 pub use readying::ready;
 pub use saving::save;
-
