@@ -1,11 +1,10 @@
 -- Names bound before they are printed, command by command.
-use Rattle.std.proofs.Common.{◌≡◌, ℕ, ◌+◌, ◌<◌, ◌≤◌, Bool, true, false, not, ◌&&◌, ◌||◌, List, [], ◌∷◌, ◌++◌, length, take, drop, Option, Some, None, refl, sym, ap, ◌∙◌, subst, arith, append_assoc}
+use Rattle.std.proofs.Common.{◌≡◌, ℕ, ◌+◌, true, false, not, ◌&&◌, ◌||◌, List, [], ◌∷◌, ◌++◌, take, drop, Some, refl, sym, ap, ◌∙◌}
 use Rattle.std.specs.Prelude.{slice_get, bytes_eq}
-use Rattle.std.specs.List.{list_any}
 use Rattle.fx_top.specs.declared.instruction.Instruction.{Instruction}
 use Rattle.fx_top.specs.declared.instruction.Instruction.TheVariants as instruction
 use Rattle.fx_top.specs.Built.{are_bound, is_one_of}
-use Rattle.fx_top.specs.Reader.{is_fetch_of, binds, is_bound_after}
+use Rattle.fx_top.specs.Reader.{binds, is_bound_after}
 use Rattle.fx_top.proofs.Lists.{drop_at}
 
 -- the names that commands bind

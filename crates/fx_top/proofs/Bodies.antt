@@ -1,16 +1,15 @@
 -- Commands one after another, as tokens: they are read in one way at most.
-use Rattle.std.proofs.Common.{◌≡◌, ℕ, ◌+◌, ◌≤◌, ◌<◌, Bool, true, false, ◌&&◌, List, [], ◌∷◌, ◌++◌, map, length, drop, Option, Some, None, refl, sym, ap, ◌∙◌, subst, arith, append_assoc, length-append}
-use Rattle.std.specs.Prelude.{codes}
+use Rattle.std.proofs.Common.{◌≡◌, ℕ, ◌+◌, ◌≤◌, ◌<◌, Bool, true, false, ◌&&◌, List, [], ◌∷◌, ◌++◌, map, length, drop, Some, refl, sym, ap, ◌∙◌, subst, arith, append_assoc, length-append}
 use Rattle.std.specs.List.{list_all, flat_map}
 use Rattle.std.proofs.lemmas.List.{length-drop, drop_all}
-use Rattle.fx_lex.specs.declared.token.Mark.TheVariants.{LeftParen, RightParen, RightBrace, Colon}
+use Rattle.fx_lex.specs.declared.token.Mark.TheVariants.{RightBrace}
 use Rattle.fx_lex.specs.declared.token.Token.{Token}
 use Rattle.fx_lex.specs.declared.token.Token.TheVariants as token
 use Rattle.fx_lex.specs.declared.token.Spanned.{Spanned}
 use Rattle.fx_top.specs.declared.instruction.Instruction.{Instruction}
 use Rattle.fx_top.specs.declared.instruction.Instruction.TheVariants as instruction
 use Rattle.fx_top.specs.Texts.{token_of}
-use Rattle.fx_top.specs.Reader.{token_at, mark_in, mark_at, StandsAt, width, instruction_tokens, is_free, IsBody, ReadsBody}
+use Rattle.fx_top.specs.Reader.{token_at, mark_in, mark_at, StandsAt, width, instruction_tokens, is_free, IsBody}
 use Rattle.fx_top.proofs.Places.{spelled_at, stands_where_spelled, next_is, mark_is, token_here}
 
 abbrev pub tokens_of : List Instruction → List Token

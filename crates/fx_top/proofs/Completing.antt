@@ -1,5 +1,5 @@
 -- With fit inputs and no fault of host or sink a run is done, or memory runs out.
-use Rattle.std.proofs.Common.{◌≡◌, ◌≢◌, ◌⊎◌, inl, inr, ℕ, Bool, true, false, cond, List, [], ◌∷◌, ◌++◌, Option, Some, None, Result, Ok, Err, IfSome, IsSomeAnd, refl, sym, ap, ◌∙◌, subst}
+use Rattle.std.proofs.Common.{◌≡◌, ◌⊎◌, inl, inr, ℕ, Bool, true, false, cond, List, [], ◌∷◌, ◌++◌, Option, Some, None, Ok, Err, IfSome, refl, sym, ap, ◌∙◌}
 use Rattle.std.specs.FinMap.{get}
 use Rattle.std.specs.Option.{option_map_or}
 use Rattle.fx_base.specs.Causes.{Rose}
@@ -13,7 +13,7 @@ use Rattle.fx_folder.specs.declared.fault.FolderCause.{FolderCause}
 use Rattle.fx_store.specs.Whole.{Nodes}
 use Rattle.fx_top.specs.declared.status.Status.{Status}
 use Rattle.fx_top.specs.declared.status.Status.TheVariants as status
-use Rattle.fx_top.specs.Rows.{Row, ends, HasTexts, HasInputs, HasSpec, HasScript, CannotRead, CannotSave, IsFirstRefused, IsProper, FitsOut}
+use Rattle.fx_top.specs.Rows.{Row, ends, HasTexts, HasInputs, CannotRead, CannotSave, IsFirstRefused, IsProper, FitsOut}
 use Rattle.fx_top.specs.Words.{Run}
 
 two : (b : Bool) → b ≡ true → b ≡ false → ⊥

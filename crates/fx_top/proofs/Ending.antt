@@ -1,16 +1,16 @@
 -- The rows of the table of statuses, from what the calls of a run ensure.
-use Rattle.std.proofs.Common.{◌≡◌, ◌⊎◌, inl, inr, ℕ, ◌+◌, ◌≤◌, Bool, true, false, List, [], ◌∷◌, ◌++◌, take, Option, Some, None, IfSome, IsSomeAnd, refl, sym, ap, ◌∙◌, subst, arith}
+use Rattle.std.proofs.Common.{◌≡◌, ◌⊎◌, inl, inr, ℕ, ◌≤◌, Bool, false, List, ◌++◌, take, Option, Some, None, IfSome, IsSomeAnd, refl, sym, subst, arith}
 use Rattle.fx_base.specs.Causes.{Rose}
 use Rattle.fx_store.specs.Whole.{Nodes}
 use Rattle.fx_outside.specs.Path.{parts, is_fit, above}
-use Rattle.fx_outside.specs.Tree.{Tree, is_file_at, is_folder_at, has_folder}
+use Rattle.fx_outside.specs.Tree.{Tree, has_folder}
 use Rattle.fx_folder.specs.Folder.{IfTold, IsReady, IsTaken, IsSaved, IsPartlySaved}
-use Rattle.fx_folder.specs.Loads.{Loads, IsRefused}
+use Rattle.fx_folder.specs.Loads.{IsRefused}
 use Rattle.fx_folder.specs.declared.fault.FolderCause.{FolderCause}
 use Rattle.fx_top.specs.declared.status.Status.{Status}
 use Rattle.fx_top.specs.declared.status.Status.TheVariants as status
 use Rattle.fx_top.specs.declared.status.TextFault.TheVariants as fault
-use Rattle.fx_top.specs.Rows.{Row, ends, IsSame, IsUntouched, IsDone, IsPartThere, IsCutShort, IsOutcome, HasTexts, HasInputs, CannotRead, CannotSave, IsFirstRefused}
+use Rattle.fx_top.specs.Rows.{Row, ends, IsUntouched, IsDone, IsPartThere, IsCutShort, IsOutcome, HasTexts, HasInputs, CannotRead, CannotSave, IsFirstRefused}
 use Rattle.fx_top.specs.Answers.{IsAnswered}
 use Rattle.fx_top.specs.Words.{Run}
 

@@ -1,13 +1,12 @@
 -- What the commands of the built forms do.
-use Rattle.std.proofs.Common.{◌≡◌, ℕ, ◌+◌, Bool, true, false, cond, not, List, [], ◌∷◌, ◌++◌, map, Option, Some, None, Result, Ok, Err, refl, sym, ap, subst, ◌∙◌, arith}
-use Rattle.std.specs.Option.{unwrap_or}
+use Rattle.std.proofs.Common.{◌≡◌, ℕ, true, List, [], ◌∷◌, ◌++◌, Option, Some, None, Ok, Err, refl, sym, ap, subst, ◌∙◌}
 use Rattle.fx_store.specs.declared.node.Node.{Node}
 use Rattle.fx_store.specs.declared.node.Node.TheVariants.{File, Dir, Link}
-use Rattle.fx_store.specs.Rule.{Ask, Answer, Look, answer, ◌>>=◌}
+use Rattle.fx_store.specs.Rule.{Ask, Answer, answer, ◌>>=◌}
 use Rattle.fx_store.specs.Resolve.{resolve, along, at_name}
 use Rattle.fx_store.specs.declared.node.Landing.TheVariants.{At}
 use Rattle.fx_store.specs.Faults.{extended}
-use Rattle.fx_store.specs.declared.name.PathFault.TheVariants.{BadName, TooDeep, NoMemory}
+use Rattle.fx_store.specs.declared.name.PathFault.TheVariants.{BadName}
 use Rattle.fx_store.specs.Whole.{Store}
 use Rattle.fx_expr.specs.Bindings.{bound}
 use Rattle.fx_expr.specs.ExprTree.{ExprTree}
@@ -15,15 +14,15 @@ use Rattle.fx_expr.specs.ShapeTree.{ShapeTree}
 use Rattle.fx_expr.specs.Tree.{Tree}
 use Rattle.fx_spec.specs.declared.refusal.Refusal.{Refusal}
 use Rattle.fx_spec.specs.declared.refusal.End.{End}
-use Rattle.fx_spec.specs.CommandTree.{ActTree, CommandTree, Block, block}
+use Rattle.fx_spec.specs.CommandTree.{ActTree, CommandTree}
 use Rattle.fx_spec.specs.Describe.{Bindings, content, file_value, landed_value}
-use Rattle.fx_spec.specs.Place.{Address, Down, place}
-use Rattle.fx_spec.specs.Task.{Task, Ends, Looks, Sets, result, written, asking, ◌>=>◌}
-use Rattle.fx_spec.specs.Transaction.{Standing, Flow, On, Over, run, run_block, go_on, or_stop, binding}
+use Rattle.fx_spec.specs.Place.{Down, place}
+use Rattle.fx_spec.specs.Task.{Task, Ends, asking}
+use Rattle.fx_spec.specs.Transaction.{Standing, Flow, On, Over, run, or_stop, binding}
 use Rattle.fx_spec.specs.Move.{Answered, needed}
 use Rattle.fx_top.specs.Built.{focus_of}
 use Rattle.fx_top.specs.Quiet.{EndsQuietly}
-use Rattle.fx_top.proofs.QuietTasks.{quiet_same, quiet_asking, quiet_then, answer_map}
+use Rattle.fx_top.proofs.QuietTasks.{quiet_same, quiet_asking, answer_map}
 
 abbrev pub Paths : Type 0
 Paths = List (List ℕ)

@@ -1,10 +1,9 @@
 -- A run of one transaction: its order, its report and its last filestore.
-use Rattle.std.proofs.Common.{◌≡◌, ◌⊎◌, ℕ, zero, suc, ◌+◌, ◌≤◌, ◌<◌, Bool, true, false, cond, List, [], ◌∷◌, ◌++◌, map, take, length, Option, Some, None, refl, sym, ap, ◌∙◌, subst, arith}
+use Rattle.std.proofs.Common.{◌≡◌, ℕ, zero, suc, ◌≤◌, ◌<◌, Bool, true, false, cond, List, [], ◌∷◌, length, Option, Some, None, refl, sym, ap, ◌∙◌, subst, arith}
 use Rattle.std.specs.Prelude.{Contains, IfSome}
 use Rattle.std.specs.FinMap.{get}
 use Rattle.std.proofs.lemmas.List.Elements.{All-nil}
-use Rattle.fx_store.specs.declared.node.Node.TheVariants.{Link}
-use Rattle.fx_store.specs.Whole.{Nodes, Store, IsWhole}
+use Rattle.fx_store.specs.Whole.{Nodes, Store}
 use Rattle.fx_folder.specs.Folder.{IsFlat, IsFileNode}
 use Rattle.fx_folder.specs.Loads.{Loads}
 use Rattle.fx_outside.specs.Tree as host
@@ -19,15 +18,15 @@ use Rattle.fx_report.specs.Report.{report_text}
 use Rattle.fx_spec.specs.SpecTree.{SpecTree}
 use Rattle.fx_spec.specs.CommandTree.{CommandTree}
 use Rattle.fx_spec.specs.Plans.{Turn, count_of}
-use Rattle.fx_spec.specs.Order.{BaseTree, IsLegalFor, IsLegal, IsComplete, RetriesOk, IsRetry, numbers_of, first_numbers, state}
+use Rattle.fx_spec.specs.Order.{BaseTree, IsLegal, IsComplete, RetriesOk, IsRetry, numbers_of, first_numbers, state}
 use Rattle.fx_spec.specs.Task.{written}
-use Rattle.fx_spec.specs.Transaction.{transaction, outputs, end, is_done, kept, left_nodes}
+use Rattle.fx_spec.specs.Transaction.{transaction, outputs, end, is_done, left_nodes}
 use Rattle.fx_top.specs.declared.instruction.Instruction.{Instruction}
 use Rattle.fx_top.specs.declared.run.Ran.{Ran}
 use Rattle.fx_top.specs.Built.{focus_of, commands_of}
 use Rattle.fx_top.specs.Parsing.{one_entry}
-use Rattle.fx_top.specs.Report.{report, entries_from, retry_tree}
-use Rattle.fx_top.specs.Rows.{HasSpec, HasScript, HasBase, IsOutcome}
+use Rattle.fx_top.specs.Report.{entries_from}
+use Rattle.fx_top.specs.Rows.{HasSpec, HasScript, IsOutcome}
 use Rattle.fx_top.specs.Running.{IsRun, HasNoLinks}
 use Rattle.fx_top.specs.Words.{Run}
 

@@ -1,27 +1,24 @@
 -- From tokens to what a text stands for.
-use Rattle.std.proofs.Common.{◌≡◌, ◌⊎◌, inl, inr, ℕ, ◌+◌, ◌≤◌, ◌<◌, Bool, true, false, not, ◌&&◌, max, List, [], ◌∷◌, ◌++◌, map, length, Option, Some, None, Result, Ok, Err, length-append, refl, sym, ap, ◌∙◌, subst, arith}
-use Rattle.std.specs.List.{All, list_all, flat_map}
+use Rattle.std.proofs.Common.{◌≡◌, ◌⊎◌, inl, inr, ℕ, ◌≤◌, ◌<◌, Bool, true, false, ◌&&◌, List, [], ◌∷◌, ◌++◌, map, length, Option, Some, None, Result, Ok, Err, length-append, refl, sym, ap, ◌∙◌, subst, arith}
+use Rattle.std.specs.List.{All, list_all}
 use Rattle.std.proofs.lemmas.List.Elements.{All-cons, All-nil, All-head}
 use Rattle.fx_base.specs.declared.NoMemory.{NoMemory}
 use Rattle.fx_lex.specs.declared.token.Spanned.{Spanned}
-use Rattle.fx_lex.specs.declared.token.Token.{Token}
 use Rattle.fx_lex.specs.declared.token.Token.TheVariants as token
 use Rattle.fx_lex.specs.declared.token.Mark.TheVariants.{LeftBrace, RightBrace}
 use Rattle.std.specs.Prelude.{codes, IfOk}
 use Rattle.std.specs.Option.{option_map}
 use Rattle.std.proofs.lemmas.List.{length-map}
 use Rattle.fx_lex.specs.Reading.{AreTokensOf}
-use Rattle.fx_lex.specs.declared.token.LexFault.{LexFault}
-use Rattle.fx_spec.specs.SpecTree.{SpecTree}
-use Rattle.fx_spec.specs.CommandTree.{CommandTree, block}
-use Rattle.fx_outside.specs.Tree.{Tree, is_file_at, bytes_at}
+use Rattle.fx_spec.specs.CommandTree.{block}
+use Rattle.fx_outside.specs.Tree.{Tree}
 use Rattle.fx_top.specs.declared.instruction.Instruction.{Instruction}
 use Rattle.fx_top.specs.declared.instruction.Instruction.TheVariants as instruction
-use Rattle.fx_top.specs.Built.{focus_of, has_slash, commands_of, are_bound}
-use Rattle.fx_top.specs.Texts.{token_of, IsReadAt, IsDescription, IsScript, IsTxn, IsBuiltSpec, IsBuiltScript}
-use Rattle.fx_top.specs.Tokens.{is_kept, spec_tokens, script_tokens, block_tokens, block_names, block_depth, command_depth}
+use Rattle.fx_top.specs.Built.{focus_of, commands_of, are_bound}
+use Rattle.fx_top.specs.Texts.{token_of, IsReadAt, IsDescription, IsScript, IsTxn}
+use Rattle.fx_top.specs.Tokens.{spec_tokens, script_tokens, block_tokens, block_names, block_depth}
 use Rattle.fx_top.specs.Parsing.{Describes, Scripts}
-use Rattle.fx_top.specs.Reader.{ReadsFocus, ReadsScript, IsOneTxn, is_free, instruction_tokens}
+use Rattle.fx_top.specs.Reader.{ReadsFocus, ReadsScript, IsOneTxn, is_free}
 use Rattle.fx_top.specs.Rows.{HasSpec, HasNoSpec, HasScript, HasNoScript}
 use Rattle.fx_top.specs.Words.{Run}
 

@@ -1,11 +1,10 @@
 -- The tokens of the built forms, by their places.
-use Rattle.std.proofs.Common.{◌≡◌, ℕ, ◌+◌, ◌≤◌, ◌<◌, Bool, true, false, cond, not, List, [], ◌∷◌, ◌++◌, map, length, drop, Option, Some, None, refl, sym, ap, ◌∙◌, subst, arith}
+use Rattle.std.proofs.Common.{◌≡◌, ℕ, ◌+◌, Bool, true, false, cond, not, List, ◌∷◌, ◌++◌, map, length, drop, Option, Some, None, refl, sym, ap, ◌∙◌, arith}
 use Rattle.std.specs.Prelude.{slice_get, codes}
-use Rattle.std.specs.Option.{option_map}
 use Rattle.std.proofs.lemmas.Option.{slice_get-map}
 use Rattle.std.proofs.lemmas.List.{length-map}
 use Rattle.fx_lex.specs.declared.token.Mark.{Mark}
-use Rattle.fx_lex.specs.declared.token.Mark.TheVariants.{LeftParen, RightParen, RightBrace, Colon, ColonColon}
+use Rattle.fx_lex.specs.declared.token.Mark.TheVariants.{LeftParen, RightParen, Colon, ColonColon}
 use Rattle.fx_lex.specs.declared.token.Token.{Token}
 use Rattle.fx_lex.specs.declared.token.Token.TheVariants as token
 use Rattle.fx_lex.specs.declared.token.Spanned.{Spanned}
@@ -14,7 +13,7 @@ use Rattle.fx_top.specs.declared.instruction.Instruction.TheVariants as instruct
 use Rattle.fx_top.specs.Texts.{token_of}
 use Rattle.fx_top.specs.Tokens.{is_kept, spec_tokens}
 use Rattle.fx_top.specs.Built.{focus_of, has_slash}
-use Rattle.fx_top.specs.Reader.{token_at, mark_in, word_in, text_in, name_of, name_in, mark_at, word_at, text_at, name_at, IsFocusFrame, ReadsFocus, StandsAt, width, instruction_tokens, is_free}
+use Rattle.fx_top.specs.Reader.{token_at, mark_in, word_in, text_in, name_in, word_at, text_at, IsFocusFrame, ReadsFocus, StandsAt, width, instruction_tokens, is_free}
 use Rattle.fx_top.proofs.Lists.{drop_at, at_drop, five_places}
 
 tokens_of : List Spanned → List Token

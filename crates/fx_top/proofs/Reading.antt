@@ -1,11 +1,10 @@
 -- Reading a file piece by piece: what is read is a front of it, until the end.
-use Rattle.std.proofs.Common.{◌≡◌, ◌⊎◌, ℕ, ◌+◌, ◌-◌, ◌≤◌, ◌<◌, Bool, true, false, List, [], ◌∷◌, ◌++◌, length, take, drop, refl, sym, ap, subst, ◌∙◌, inl, inr, arith, Option, Some, None, Result, Ok, Err, IfSome, IsSomeAnd, length-append}
+use Rattle.std.proofs.Common.{◌≡◌, ◌⊎◌, ℕ, ◌+◌, ◌≤◌, ◌<◌, Bool, true, false, List, [], ◌++◌, length, take, drop, refl, sym, ap, subst, ◌∙◌, inl, inr, arith, Option, Some, None, Result, Ok, Err, IfSome, IsSomeAnd, length-append}
 use Rattle.std.specs.Prelude.{IsOk, IsErr}
 use Rattle.std.proofs.Math.Seq.{take-add, take-length, take-append_seam}
-use Rattle.std.proofs.lemmas.List.{length-take, length-drop}
+use Rattle.std.proofs.lemmas.List.{length-take}
 use Rattle.fx_base.specs.Causes.{Rose}
 use Rattle.fx_outside.specs.declared.kind.HostFault.{HostFault}
-use Rattle.fx_outside.specs.declared.kind.HostFault.TheVariants.{Failed}
 use Rattle.fx_outside.specs.Host.{HasCause, ReadsAt}
 use Rattle.fx_outside.specs.Tree.{Tree, is_file_at, bytes_at}
 use Rattle.fx_top.specs.Texts.{IsFrontAt, IsReadAt}

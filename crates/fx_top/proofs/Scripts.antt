@@ -1,21 +1,18 @@
 -- A script of one transaction, by its tokens.
-use Rattle.std.proofs.Common.{◌≡◌, ℕ, ◌+◌, ◌≤◌, Bool, true, false, ◌&&◌, List, [], ◌∷◌, ◌++◌, map, length, drop, Option, Some, None, refl, sym, ap, ◌∙◌, subst, arith, append_assoc}
+use Rattle.std.proofs.Common.{◌≡◌, true, false, List, [], ◌∷◌, ◌++◌, map, drop, Some, None, refl, sym, ap, ◌∙◌}
 use Rattle.std.specs.Prelude.{codes, slice_get}
-use Rattle.std.specs.List.{list_all, flat_map}
 use Rattle.fx_spec.specs.CommandTree.{block}
-use Rattle.fx_lex.specs.declared.token.Mark.TheVariants.{LeftBrace, RightBrace}
+use Rattle.fx_lex.specs.declared.token.Mark.TheVariants.{LeftBrace}
 use Rattle.fx_lex.specs.declared.token.Token.{Token}
 use Rattle.fx_lex.specs.declared.token.Token.TheVariants as token
 use Rattle.fx_lex.specs.declared.token.Spanned.{Spanned}
 use Rattle.fx_top.specs.declared.instruction.Instruction.{Instruction}
-use Rattle.fx_top.specs.declared.instruction.Instruction.TheVariants as instruction
 use Rattle.fx_top.specs.Texts.{token_of}
-use Rattle.fx_top.specs.Tokens.{script_tokens, txn_tokens, block_tokens, braced}
-use Rattle.fx_top.specs.Built.{command_of, commands_of, are_bound}
-use Rattle.fx_top.specs.Reader.{token_at, mark_in, word_in, mark_at, word_at, instruction_tokens, is_free, IsBody, IsOneTxn, ReadsScript}
+use Rattle.fx_top.specs.Tokens.{script_tokens, txn_tokens, block_tokens}
+use Rattle.fx_top.specs.Built.{commands_of, are_bound}
+use Rattle.fx_top.specs.Reader.{token_at, mark_in, word_in, mark_at, word_at, instruction_tokens, IsBody, IsOneTxn, ReadsScript}
 use Rattle.fx_top.proofs.Bodies.{tokens_of, closing, same_body}
 use Rattle.fx_top.proofs.Places.{place_is, token_is, word_is, mark_is}
-use Rattle.fx_top.proofs.Lists.{drop_at}
 
 pub append_nil : {A : Type 0} (xs : List A) → xs ++ [] ≡ xs
 append_nil [] = refl

@@ -1,5 +1,5 @@
 -- From one stage of a run to the next.
-use Rattle.std.proofs.Common.{◌≡◌, ◌⊎◌, inl, inr, ℕ, Bool, true, false, List, [], ◌∷◌, Option, Some, None, Result, Ok, Err, IfSome, refl, sym, ap, ◌∙◌, subst}
+use Rattle.std.proofs.Common.{◌≡◌, inl, inr, ℕ, Bool, false, List, [], ◌∷◌, Option, Some, None, Result, Ok, Err, IfSome, refl, sym, subst}
 use Rattle.std.specs.Prelude.{IfOk}
 use Rattle.std.specs.FinMap.{get}
 use Rattle.fx_base.specs.declared.NoMemory.{NoMemory}
@@ -15,7 +15,7 @@ use Rattle.fx_top.specs.Built.{focus_of, commands_of}
 use Rattle.fx_top.specs.Parsing.{one_entry, Describes, Scripts}
 use Rattle.fx_top.specs.Texts.{IsReadAt}
 use Rattle.fx_top.specs.Answers.{AreTexts, IsLoaded, IsAnswer, IsAnswered}
-use Rattle.fx_top.specs.Rows.{HasSpec, HasNoSpec, HasScript, HasNoScript, HasTexts, HasInputs, IsFirstRefused, CannotRead}
+use Rattle.fx_top.specs.Rows.{HasSpec, HasTexts, HasInputs, IsFirstRefused, CannotRead}
 use Rattle.fx_top.specs.Running.{IsRun}
 use Rattle.fx_top.specs.Words.{Run}
 use Rattle.fx_top.proofs.Ending.{if_some_map, if_some_both}

@@ -1,5 +1,5 @@
 -- What each command of the built forms comes to from where a transaction stands, and the commands one after another.
-use Rattle.std.proofs.Common.{◌≡◌, ℕ, zero, suc, ◌+◌, ◌≤◌, ◌<◌, Bool, true, false, cond, not, ◌&&◌, ◌||◌, List, [], ◌∷◌, ◌++◌, map, length, drop, Option, Some, None, Result, Ok, Err, refl, sym, ap, subst, ◌∙◌, arith}
+use Rattle.std.proofs.Common.{◌≡◌, ℕ, ◌+◌, ◌≤◌, Bool, true, false, cond, ◌&&◌, ◌||◌, List, [], ◌∷◌, ◌++◌, length, drop, Option, Some, None, Result, Ok, Err, refl, sym, ap, subst, ◌∙◌}
 use Rattle.std.specs.Prelude.{slice_get}
 use Rattle.std.specs.Option.{unwrap_or}
 use Rattle.std.specs.List.{list_any, list_all, slice_split, onto_first}
@@ -16,11 +16,10 @@ use Rattle.fx_expr.specs.ShapeTree.{ShapeTree}
 use Rattle.fx_expr.specs.Tree.{Tree}
 use Rattle.fx_spec.specs.declared.refusal.Refusal.{Refusal}
 use Rattle.fx_spec.specs.declared.refusal.End.{End}
-use Rattle.fx_spec.specs.CommandTree.{ActTree, CommandTree, Block, block, count}
-use Rattle.fx_spec.specs.SpecTree.{SpecTree}
+use Rattle.fx_spec.specs.CommandTree.{ActTree, CommandTree, block, count}
 use Rattle.fx_spec.specs.Describe.{Bindings, content, file_value}
 use Rattle.fx_spec.specs.Place.{Down}
-use Rattle.fx_spec.specs.Task.{Task, Ends, result, written, ◌>=>◌}
+use Rattle.fx_spec.specs.Task.{Task, Ends, ◌>=>◌}
 use Rattle.fx_spec.specs.Transaction.{Standing, Flow, On, Over, run, run_block, go_on, transaction, flow_end, flow_outputs}
 use Rattle.fx_top.specs.declared.instruction.Instruction.{Instruction}
 use Rattle.fx_top.specs.declared.instruction.Instruction.TheVariants as instruction
@@ -33,7 +32,7 @@ use Rattle.fx_top.specs.Running.{LeadsTo, IsTarget, is_named, fetched, HasNoLink
 use Rattle.std.proofs.lemmas.List.{drop_all}
 use Rattle.fx_top.proofs.Lists.{drop_at}
 use Rattle.fx_top.proofs.QuietTasks.{quiet_then, quiet_result, quiet_written, quiet_same}
-use Rattle.fx_top.proofs.Meaning.{Paths, at_root, at_file, down_on, down_bad, down_again, fetch_root, fetch_file, fetched_flow, content_of}
+use Rattle.fx_top.proofs.Meaning.{Paths, at_root, at_file, down_on, down_bad, down_again, fetch_root, fetch_file, content_of}
 
 -- a text without a slash is one part
 one_byte : (b : ℕ) (bs : List ℕ) (p : Bool) → (list_any is_slash bs ≡ false → slice_split is_slash bs ≡ bs ∷ []) → (p || list_any is_slash bs) ≡ false → cond p ([] ∷ slice_split is_slash bs) (onto_first b (slice_split is_slash bs)) ≡ (b ∷ bs) ∷ []

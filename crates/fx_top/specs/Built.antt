@@ -1,6 +1,6 @@
 -- The forms that are built: a description is a focus on one file by a text without `/`, and a transaction goes down,
 -- fetches texts and prints them.
-use Rattle.std.specs.Prelude.{ℕ, Bool, true, false, not, ◌&&◌, List, [], ◌∷◌, ◌++◌, map, bytes_eq}
+use Rattle.std.specs.Prelude.{ℕ, Bool, true, not, ◌&&◌, List, [], ◌∷◌, ◌++◌, map, bytes_eq}
 use Rattle.std.specs.List.{list_any}
 use Rattle.fx_store.specs.Names.{is_slash}
 use Rattle.fx_expr.specs.ExprTree.{ExprTree}

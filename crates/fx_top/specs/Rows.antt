@@ -1,5 +1,5 @@
 -- What each status of `run` says: where it comes, and what is then left at the host and at the sink.
-use Rattle.std.specs.Prelude.{◌≡◌, ◌⊎◌, ℕ, Bool, true, false, List, [], ◌∷◌, ◌++◌, map, take, length, Option, Some, None, IfSome, IsSomeAnd}
+use Rattle.std.specs.Prelude.{◌≡◌, ◌⊎◌, ℕ, Bool, true, false, List, [], ◌∷◌, ◌++◌, map, take, length, Option, Some, IfSome, IsSomeAnd}
 use Rattle.fx_base.specs.Causes.{Rose}
 use Rattle.fx_store.specs.Whole.{Nodes}
 use Rattle.fx_outside.specs.Path.{parts, is_fit, above}
@@ -13,7 +13,6 @@ use Rattle.fx_spec.specs.Order.{BaseTree, IsComplete, RetriesOk, state}
 use Rattle.fx_report.specs.declared.printed.Retry.{Retry}
 use Rattle.fx_top.specs.declared.status.Status.{Status}
 use Rattle.fx_top.specs.declared.status.Status.TheVariants as status
-use Rattle.fx_top.specs.declared.status.TextFault.{TextFault}
 use Rattle.fx_top.specs.declared.status.TextFault.TheVariants as fault
 use Rattle.fx_top.specs.Words.{Run}
 use Rattle.fx_top.specs.Texts.{IsDescription, IsScript, IsBuiltSpec, IsBuiltScript}

@@ -1,6 +1,5 @@
 -- A transaction of the built forms, run whole: where it stands between two commands, and what each command comes to.
-use Rattle.std.specs.Prelude.{◌≡◌, ℕ, Bool, true, false, cond, List, [], ◌∷◌, ◌++◌, Option, Some, None, Ok, Err}
-use Rattle.std.specs.FinMap.{get}
+use Rattle.std.specs.Prelude.{◌≡◌, ℕ, Bool, true, false, cond, List, [], ◌∷◌, Option, Some, None, Ok, Err}
 use Rattle.fx_store.specs.declared.node.Node.TheVariants.{Link}
 use Rattle.fx_store.specs.declared.name.PathFault.TheVariants.{BadName}
 use Rattle.fx_store.specs.Faults.{extended}

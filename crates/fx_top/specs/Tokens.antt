@@ -9,7 +9,6 @@ use Rattle.fx_spec.specs.SpecTree.{SpecTree}
 use Rattle.fx_spec.specs.CommandTree.{ActTree, CommandTree, Block, block}
 use Rattle.fx_lex.specs.declared.token.Token.{Token}
 use Rattle.fx_lex.specs.declared.token.Token.TheVariants.{Word, Number, Str, Mark}
-use Rattle.fx_lex.specs.declared.token.Mark as marks
 use Rattle.fx_lex.specs.declared.token.Mark.TheVariants.{LeftParen, RightParen, LeftBrace, RightBrace, LeftAngle, RightAngle, Comma, Colon, ColonColon, Bar, Equal, EqualEqual, Plus, PlusPlus, Minus}
 
 abbrev pub Tokens : Type 0

@@ -1,4 +1,3 @@
-use Rattle.std.proofs.Common.{refl, arith}
 use Rattle.fx_top.proofs.Writing.{begins, goes_on}
 use Rattle.fx_top.proofs.print.print_all.Goals as goal
 

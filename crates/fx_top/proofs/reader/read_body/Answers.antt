@@ -1,9 +1,8 @@
-use Rattle.std.proofs.Common.{◌≡◌, false, true, ℕ, ◌+◌, ◌≤◌, ◌<◌, List, Some, None, length, map, drop, refl, sym, ap, ◌∙◌, subst, arith}
+use Rattle.std.proofs.Common.{◌≡◌, false, true, ◌+◌, ◌≤◌, ◌<◌, length, map, refl, sym, subst, arith}
 use Rattle.std.proofs.lemmas.List.{length-map}
-use Rattle.fx_lex.specs.declared.token.Mark.TheVariants.{RightBrace}
 use Rattle.fx_top.specs.Texts.{token_of}
-use Rattle.fx_top.specs.Reader.{ReadsAt, mark_at}
-use Rattle.fx_top.proofs.Bodies.{reads_on, none_there, no_end, is_body, closing, closing_at, closed_at, IsReading}
+use Rattle.fx_top.specs.Reader.{ReadsAt}
+use Rattle.fx_top.proofs.Bodies.{reads_on, none_there, no_end, is_body, closing_at, closed_at, IsReading}
 use Rattle.fx_top.proofs.reader.read_body.Goals as goal
 
 pub returns-in-None : goal.returns-in-None

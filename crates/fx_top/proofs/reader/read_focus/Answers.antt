@@ -1,6 +1,6 @@
-use Rattle.std.proofs.Common.{◌≡◌, true, false, Some, sym, ◌∙◌, ap, refl, rules}
+use Rattle.std.proofs.Common.{◌≡◌, true, false, Some, sym, ◌∙◌, ap, refl}
 use Rattle.fx_top.specs.Built.{has_slash}
-use Rattle.fx_top.specs.Reader.{IsFocusFrame, text_at}
+use Rattle.fx_top.specs.Reader.{text_at}
 use Rattle.fx_top.proofs.Places.{no_frame, no_text, slash, focus_whole}
 use Rattle.fx_top.proofs.reader.read_focus.Goals as goal
 

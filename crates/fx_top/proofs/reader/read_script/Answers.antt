@@ -1,4 +1,4 @@
-use Rattle.std.proofs.Common.{◌≡◌, true, false, Some, None, [], drop, map, refl, sym, ap, ◌∙◌, subst}
+use Rattle.std.proofs.Common.{[], drop, map, refl, sym, ap, ◌∙◌, subst}
 use Rattle.std.specs.Option.{option_map}
 use Rattle.fx_top.specs.Texts.{token_of}
 use Rattle.fx_top.specs.Built.{are_bound}

@@ -1,7 +1,6 @@
-use Rattle.std.proofs.Common.{◌≡◌, Some, None, Ok, Err, sym, ap, ◌∙◌, subst}
+use Rattle.std.proofs.Common.{Some, None, Err, subst}
 use Rattle.std.specs.FinMap.{get}
 use Rattle.fx_store.specs.Faults.{extended, Answers}
-use Rattle.fx_expr.specs.Tree.{Tree}
 use Rattle.fx_spec.specs.Describe.{file_value}
 use Rattle.fx_top.specs.Running.{LeadsTo}
 use Rattle.fx_top.proofs.Walk.{too_deep, leads, from_root}

@@ -1,9 +1,8 @@
-use Rattle.std.proofs.Common.{◌≡◌, ℕ, true, false, Some, None, length, get_or, refl, sym, ap, subst, ◌∙◌, arith, rules}
+use Rattle.std.proofs.Common.{◌≡◌, true, false, Some, refl, sym, subst, ◌∙◌, arith}
 use Rattle.std.specs.Prelude.{slice_get}
 use Rattle.std.specs.FinMap.{get}
 use Rattle.fx_spec.specs.declared.refusal.End.{End}
-use Rattle.fx_spec.specs.Transaction.{On, Over}
-use Rattle.fx_top.specs.Running.{Steps, standing_of, is_named}
+use Rattle.fx_top.specs.Running.{Steps, standing_of}
 use Rattle.fx_top.proofs.Lists.{at_index}
 use Rattle.fx_top.proofs.Walk.{starts, goes_on, stops, ends, is_run, at_start, past_end}
 use Rattle.fx_top.proofs.run.run.Goals as goal

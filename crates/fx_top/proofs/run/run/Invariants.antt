@@ -1,6 +1,5 @@
-use Rattle.std.proofs.Common.{◌≤◌, length}
 use Rattle.std.specs.FinMap.{get}
-use Rattle.fx_top.specs.Running.{Stands, IsTarget, standing_of}
+use Rattle.fx_top.specs.Running.{Stands, standing_of}
 use Rattle.fx_top.proofs.Walk.{Goes}
 use Rattle.fx_top.proofs.run.run.Given as goal
 

@@ -1,6 +1,5 @@
-use Rattle.std.proofs.Common.{◌≡◌, Err, refl, ap, arith, rules, sym, subst, List, ℕ, length, take, IfSome}
-use Rattle.fx_outside.specs.Tree.{is_file_at, bytes_at}
-use Rattle.fx_outside.specs.Host.{ReadsAt}
+use Rattle.std.proofs.Common.{◌≡◌, Err, refl, ap, arith, length}
+use Rattle.fx_outside.specs.Tree.{is_file_at}
 use Rattle.fx_top.proofs.Reading.{cut, cut_to, take_front, suited}
 use Rattle.fx_top.proofs.texts.read_piece.Goals as goal
 

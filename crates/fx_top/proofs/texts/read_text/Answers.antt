@@ -1,5 +1,4 @@
-use Rattle.std.proofs.Common.{arith, rules, refl}
-use Rattle.fx_top.proofs.Reading.{begins, goes_on, ends, is_full, fails}
+use Rattle.fx_top.proofs.Reading.{begins}
 use Rattle.fx_top.proofs.texts.read_text.Goals as goal
 
 pub reading-init : goal.reading-init

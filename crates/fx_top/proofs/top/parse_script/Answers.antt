@@ -1,4 +1,4 @@
-use Rattle.std.proofs.Common.{◌≡◌, Option, Some, None, subst}
+use Rattle.std.proofs.Common.{subst}
 use Rattle.fx_top.specs.Parsing.{IsLexed}
 use Rattle.fx_top.proofs.Parsed.{no_tokens_script, scripts}
 use Rattle.fx_top.proofs.top.parse_script.Goals as goal

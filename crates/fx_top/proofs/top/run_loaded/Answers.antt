@@ -2,7 +2,7 @@ use Rattle.std.proofs.Common.{subst}
 use Rattle.fx_base.specs.Causes.{Rose}
 use Rattle.fx_folder.specs.Folder.{ReadyCause}
 use Rattle.fx_top.specs.RunOf.{run_of}
-use Rattle.fx_top.proofs.Ending.{not_ready, not_empty, no_memory, row_back}
+use Rattle.fx_top.proofs.Ending.{not_ready, not_empty}
 use Rattle.fx_top.proofs.Stages.{inputs_loaded, taken, can_save}
 use Rattle.fx_top.proofs.top.run_loaded.Goals as goal
 

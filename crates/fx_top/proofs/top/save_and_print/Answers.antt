@@ -1,4 +1,4 @@
-use Rattle.std.proofs.Common.{ap, subst, sym, IfSome, ◌≡◌, ◌++◌, Some, take, ℕ}
+use Rattle.std.proofs.Common.{subst, IfSome, ◌≡◌, ◌++◌, Some, take, ℕ}
 use Rattle.fx_base.specs.Causes.{Rose}
 use Rattle.fx_folder.specs.Folder.{SaveCause}
 use Rattle.fx_top.specs.RunOf.{run_of}

@@ -1,5 +1,4 @@
-use Rattle.std.proofs.Common.{◌≡◌, Err, sym, subst, arith}
-use Rattle.fx_lex.specs.declared.token.LexFault.{LexFault}
+use Rattle.std.proofs.Common.{◌≡◌, arith}
 use Rattle.fx_lex.specs.declared.token.LexFault.TheVariants as fault
 use Rattle.fx_top.proofs.top.tokens_of.Goals as goal
 

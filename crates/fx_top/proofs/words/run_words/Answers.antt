@@ -1,6 +1,4 @@
-use Rattle.std.proofs.Common.{◌≡◌, List, ℕ, Bool, true, false, cond, sym, ap, ◌∙◌, rules, arith}
-use Rattle.fx_top.specs.Words.{Run, is_run, are_plain, run_words}
-use Rattle.fx_top.specs.RunOf.{run_of}
+use Rattle.std.proofs.Common.{arith}
 use Rattle.fx_top.proofs.Five.{refused_command, refused_arguments}
 use Rattle.fx_top.proofs.words.run_words.Goals as goal
 

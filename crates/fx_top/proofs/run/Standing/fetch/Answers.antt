@@ -1,5 +1,4 @@
-use Rattle.std.proofs.Common.{◌≡◌, List, ℕ, [], ◌∷◌, ◌++◌, Some, None, refl, sym, ap, subst, ◌∙◌, rules}
-use Rattle.fx_expr.specs.Tree.{Tree}
+use Rattle.std.proofs.Common.{sym, ◌∙◌}
 use Rattle.fx_top.proofs.Walk.{lacks, fetches, bound_to}
 use Rattle.fx_top.proofs.run.Standing.fetch.Goals as goal
 

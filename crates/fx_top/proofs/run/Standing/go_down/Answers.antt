@@ -1,5 +1,4 @@
-use Rattle.std.proofs.Common.{◌≡◌, Some, None, subst}
-use Rattle.fx_top.specs.declared.run.Target.TheVariants as target
+use Rattle.std.proofs.Common.{None, subst}
 use Rattle.fx_top.specs.Running.{IsTarget}
 use Rattle.fx_top.proofs.Walk.{again, unnamed, named}
 use Rattle.fx_top.proofs.run.Standing.go_down.Goals as goal

@@ -1,4 +1,4 @@
-use Rattle.std.proofs.Common.{◌≡◌, sym, subst}
+use Rattle.std.proofs.Common.{sym, subst}
 use Rattle.fx_top.specs.Running.{Steps}
 use Rattle.fx_top.proofs.run.Standing.step.Goals as goal
 
