@@ -1,0 +1,31 @@
+-- Reads: what was read at a path.
+use Rattle.std.specs.Prelude.{◌≡◌, ℕ, cond, List, [], ◌∷◌, Option, Some, None, IsSome}
+use Rattle.std.specs.List.{IsDistinct}
+use Rattle.std.specs.Map.{keys_of}
+use Rattle.std.specs.Option.{option_map}
+use Rattle.std.specs.Ordering.{eq_by_cmp}
+use Rattle.fx_store.specs.declared.node.Node.{Node}
+use Rattle.fx_store.specs.Names.{path_cmp}
+use Rattle.fx_store.specs.Rule.{Known, AgreesWith}
+use Rattle.fx_store.specs.Whole.{Store}
+use Rattle.fx_view.specs.ReadList.{ReadList}
+
+-- each path once
+abbrev pub IsReads : ReadList → Type 0
+IsReads reads = IsDistinct (eq_by_cmp path_cmp) (keys_of reads)
+
+-- what was read at the path, and the position of that look
+abbrev pub read_at : ReadList → List (List ℕ) → Option (Option Node × ℕ)
+read_at [] path = None
+read_at (e ∷ es) path = cond (eq_by_cmp path_cmp path e.0) (Some e.1) (read_at es path)
+
+-- what is known by the reads
+abbrev pub known_of : ReadList → Known
+known_of reads path = option_map (λ r. r.0) (read_at reads path)
+
+abbrev pub IsRead : ReadList → List (List ℕ) → Type 0
+IsRead reads path = IsSome (read_at reads path)
+
+-- the filestore has at each read path what was read there
+abbrev pub Agrees : ReadList → Store → Type 0
+Agrees reads S = AgreesWith (known_of reads) S

@@ -1,0 +1,52 @@
+//! A reader over what is known already.
+ghost use Rattle.std.specs.Prelude.{◌≡◌, Bool, false, refl};
+ghost use Rattle.fx_view.specs.ReadList.{ReadList};
+
+use crate::reader::{Reader, Stop};
+use crate::reads::Reads;
+use fx_store::{Node, Path};
+use std::alloc::Global;
+
+/// A reader that answers from its reads, asks for every other path, and adds none. It vouches for the reads that it has at
+/// the start, and for these alone.
+#[derive(Drop)]
+pub struct Known {
+    pub reads: Reads,
+}
+
+impl Known {
+    pub fn new(reads: Reads) -> Known
+        ensures { result.reads ≡ reads }
+    {
+        Known { reads }
+    }
+}
+
+impl Reader for Known {
+    ghost reads = { λ k. k.reads };
+
+    ghost complete = { λ _. false };
+
+    ghost vouches = { λ start now reads. reads ≡ start.reads };
+
+    fn read(&mut self, alloc: Global, path: &Path) -> Result<Option<Node>, Stop> {
+        match self.reads.get(path) {
+            Some((node, _)) => {
+                let node = node.clone()?;
+                Ok(node)
+            }
+            None => {
+                let path = path.copy(alloc)?;
+                Err(Stop::Needs(path))
+            }
+        }
+    }
+
+    fn take_reads(&mut self, alloc: Global) -> Reads {
+        let mut taken = Reads::new(alloc);
+        std::mem::swap(&mut self.reads, &mut taken);
+        taken
+    }
+
+    ghost begins = { λ reader. refl };
+}

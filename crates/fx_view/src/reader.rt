@@ -1,0 +1,68 @@
+//! Readers of a filestore.
+ghost use Rattle.std.specs.Prelude.{◌≡◌, Bool, [], IfOk, IfErr, OnErr};
+ghost use Rattle.fx_view.specs.ReadList.{ReadList};
+ghost use Rattle.fx_view.specs.Answers.{IsReadOf, NeedsIt};
+
+use crate::reads::Reads;
+use fx_base::NoMemory;
+use fx_store::{Node, Path};
+use std::alloc::{AllocError, AllocFailed, Global};
+
+/// Why an attempt goes no further for now.
+#[derive(Drop)]
+pub enum Stop {
+    /// Nothing is known of this path yet.
+    Needs(Path),
+    NoMemory,
+}
+
+impl From<NoMemory> for Stop {
+    fn from(_: NoMemory) -> Stop {
+        Stop::NoMemory
+    }
+}
+
+impl From<AllocError> for Stop {
+    fn from(_: AllocError) -> Stop {
+        Stop::NoMemory
+    }
+}
+
+impl<T: Drop> From<AllocFailed<T>> for Stop {
+    fn from(refused: AllocFailed<T>) -> Stop {
+        drop(refused);
+        Stop::NoMemory
+    }
+}
+
+/// What an attempt reads a filestore through. It keeps what was read: a path that was read once is answered the same for
+/// ever after.
+///
+/// `reads` is what was read, `complete` whether every path can be read, and `vouches(start, now, reads)` what the reader
+/// vouches for: how these reads stand to the reader as it was at some start and as it is now.
+pub trait Reader {
+    ghost reads: { Self → ReadList };
+
+    ghost complete: { Self → Bool };
+
+    ghost vouches: { Self → Self → ReadList → Type 0 };
+
+    /// What stands at a path, a node or none. The reads are then those from before, with this path added where it was
+    /// missing. `Needs` comes only from a reader that is not complete, names the path, and only where it was not read.
+    /// After a refusal the reads are as before.
+    fn read(&mut self, alloc: Global, path: &Path) -> Result<Option<Node>, Stop>
+        ensures read { IfOk result (IsReadOf (reads self.old) (reads self.new) path.now) }
+        ensures stop { OnErr result (reads self.new ≡ reads self.old) }
+        ensures needs { IfErr result (NeedsIt (complete self.old) (reads self.old) path.now) }
+        ensures complete { complete self.new ≡ complete self.old }
+        ensures vouched { (start : Self) → vouches start self.old (reads self.old) → vouches start self.new (reads self.new) };
+
+    /// The reads; the reader then has none.
+    fn take_reads(&mut self, alloc: Global) -> Reads
+        ensures taken { result ≡ reads self.old }
+        ensures none { reads self.new ≡ [] }
+        ensures complete { complete self.new ≡ complete self.old }
+        ensures vouched { (start : Self) → vouches start self.old (reads self.old) → vouches start self.new result };
+
+    ghost begins: { (reader : Self) → vouches reader reader (reads reader) };
+}

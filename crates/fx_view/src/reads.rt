@@ -1,0 +1,82 @@
+//! What was read of a filestore.
+ghost use Rattle.std.specs.Prelude.{◌≡◌, ◌++◌, ◌∷◌, [], None, length, slice_get, IfOk, OnOk, OnErr, option_copied, option_map};
+ghost use Rattle.std.specs.Map.Iter.{deref_pair};
+ghost use Rattle.fx_view.specs.Reads.{IsReads, read_at};
+
+use fx_base::NoMemory;
+use fx_store::{Node, Path};
+use indexmap::IndexMap;
+use std::alloc::Global;
+use std::marker::Model;
+
+/// What stood at some paths, a node or none, each with the position of the look: the number of entries in the log at that
+/// moment. Contracts see the paths in the order in which they were looked at.
+#[derive(Drop)]
+pub struct Reads {
+    table: IndexMap<Path, (Option<Node>, u64)>,
+}
+
+impl Model for Reads {
+    ghost use Rattle.fx_view.specs.ReadList.{ReadList};
+
+    ghost Value = { ReadList };
+
+    ghost use Rattle.fx_view.specs.Reads.{IsReads};
+
+    ghost view = { λ r. r.table.entries };
+
+    ghost invariant = { λ r. IsReads r.table.entries };
+}
+
+impl Reads {
+    /// Nothing read.
+    pub fn new(alloc: Global) -> Reads
+        ensures { result ≡ [] }
+    {
+        Reads {
+            table: IndexMap::new(alloc),
+        }
+    }
+
+    /// The number of paths.
+    pub fn len(&self) -> u64
+        ensures len { result ≡ length self.now }
+        ensures reads { IsReads self.now }
+    {
+        self.table.len() as u64
+    }
+
+    /// The read at `i`, in the order of the looks; None exactly from `len` on.
+    pub fn at(&self, i: u64) -> Option<(&Path, &(Option<Node>, u64))>
+        ensures read { option_map deref_pair result ≡ slice_get self.now i }
+        ensures reads { IsReads self.now }
+    {
+        self.table.get_index(i as usize)
+    }
+
+    /// What was read at a path, and the position of that look.
+    pub fn get(&self, path: &Path) -> Option<&(Option<Node>, u64)>
+        ensures read { option_copied result ≡ read_at self.now path.now }
+        ensures reads { IsReads self.now }
+    {
+        self.table.get(path)
+    }
+
+    /// Adds what was read at a path that is new. A refusal changes nothing.
+    pub fn add(
+        &mut self,
+        _alloc: Global,
+        path: Path,
+        node: Option<Node>,
+        position: u64,
+    ) -> Result<(), NoMemory>
+        requires { read_at self.old path ≡ None }
+        ensures ok { OnOk result (self.new ≡ self.old ++ (path, (node, position)) ∷ []) }
+        ensures err { OnErr result (self.new ≡ self.old) }
+    {
+        let_go(self.table.insert(path, (node, position))?);
+        Ok(())
+    }
+}
+
+fn let_go(_: Option<(Option<Node>, u64)>) {}
