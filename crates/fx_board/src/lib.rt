@@ -1,0 +1,7 @@
+//! The log: a base, the transactions that were settled, in commit order, and the filestore after all of them.
+#![tactic(auto)]
+
+mod board;
+
+pub use board::{Board, Settle};
+pub use fx_machine::{Attempt, Entry, Event, Events, Pair, Retries, Retry};

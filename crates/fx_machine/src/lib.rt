@@ -1,0 +1,13 @@
+//! Attempts, entries and events of a log, and the machine of looks and settles whose runs a log's history is.
+#![tactic(auto)]
+
+mod attempt;
+mod entry;
+mod event;
+pub mod laws;
+mod retry;
+
+pub use attempt::Attempt;
+pub use entry::{Entry, Pair};
+pub use event::{Event, Events};
+pub use retry::{Retries, Retry};

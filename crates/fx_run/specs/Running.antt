@@ -1,0 +1,55 @@
+-- What the engine needs of a reader and says of it.
+use Rattle.std.specs.Prelude.{◌≡◌, ℕ, Bool, false, List, [], ◌++◌, Option, Some, None, Contains, cond, is_some, ◌∷◌}
+use Rattle.std.specs.FinMap.{get}
+use Rattle.fx_store.specs.Rule.{first_unknown}
+use Rattle.fx_store.specs.Whole.{Nodes, IsWhole}
+use Rattle.fx_spec.specs.CommandTree.{CommandTree}
+use Rattle.fx_spec.specs.Plans.{Turn, txn_of}
+use Rattle.fx_spec.specs.Order.{BaseTree}
+use Rattle.fx_spec.specs.Transaction.{way}
+use Rattle.fx_view.specs.declared.reader.Stop.{Stop}
+use Rattle.fx_view.specs.declared.reader.Stop.TheVariants as stop
+use Rattle.fx_view.specs.ReadList.{ReadList}
+use Rattle.fx_view.specs.Reads.{read_at, known_of, IsRead, Agrees}
+use Rattle.fx_machine.specs.declared.attempt.Attempt.{Attempt}
+
+-- each read path is one that the transaction consults, on every whole filestore that agrees with the reads
+abbrev pub ReadsFit : BaseTree → Turn → ReadList → Type 0
+ReadsFit base turn reads =
+    (t : List CommandTree) → txn_of base.plan turn ≡ Some t → (nodes : Nodes) → IsWhole (get nodes) → Agrees reads (get nodes) → (path : List (List ℕ)) → IsRead reads path → Contains (way base.description t (get nodes)) path
+
+-- the path is the first that the transaction consults and that is not read, on every whole filestore that agrees with the
+-- reads
+abbrev pub IsNeeded : BaseTree → Turn → ReadList → List (List ℕ) → Type 0
+IsNeeded base turn reads path =
+    (t : List CommandTree) → txn_of base.plan turn ≡ Some t → (nodes : Nodes) → IsWhole (get nodes) → Agrees reads (get nodes) → first_unknown (known_of reads) (way base.description t (get nodes)) ≡ Some path
+
+-- the attempt is of the transaction asked for, and holds the reads that the reader had at the end: its earlier ones are among
+-- them, the reader has none any more, and it vouches for them
+pub record Attempted {R : Type 0} (reads : R → ReadList) (complete : R → Bool) (vouches : R → R → ReadList → Type 0) (old new : R) (shell txn : ℕ) (a : Attempt) : Type 0 where
+  pub shell : a.shell ≡ shell
+  pub txn : a.txn ≡ txn
+  pub more : ReadList
+  pub kept : a.reads ≡ reads old ++ more
+  pub none : reads new ≡ []
+  pub same : complete new ≡ complete old
+  pub vouched : (start : R) → vouches start old (reads old) → vouches start new a.reads
+
+-- the reader keeps its reads and vouches for those that it has then
+pub record KeepsOn {R : Type 0} (reads : R → ReadList) (complete : R → Bool) (vouches : R → R → ReadList → Type 0) (old new : R) : Type 0 where
+  pub more : ReadList
+  pub kept : reads new ≡ reads old ++ more
+  pub same : complete new ≡ complete old
+  pub vouched : (start : R) → vouches start old (reads old) → vouches start new (reads new)
+
+-- the reader is not complete, and lacks the path that comes next; with that path read, whatever stands there, the reads fit
+-- the transaction again
+pub record Lacks {R : Type 0} (reads : R → ReadList) (complete : R → Bool) (base : BaseTree) (turn : Turn) (old new : R) (path : List (List ℕ)) : Type 0 where
+  pub incomplete : complete old ≡ false
+  pub unread : read_at (reads new) path ≡ None
+  pub next : IsNeeded base turn (reads new) path
+  pub fit : (node : _) (position : ℕ) → ReadsFit base turn (reads new ++ (path, (node, position)) ∷ [])
+
+abbrev pub StoppedAt : {R : Type 0} → (R → ReadList) → (R → Bool) → (R → R → ReadList → Type 0) → BaseTree → Turn → R → R → Stop → Type 0
+StoppedAt reads complete vouches base turn old new (stop.Needs path) = KeepsOn reads complete vouches old new × Lacks reads complete base turn old new path
+StoppedAt reads complete vouches base turn old new stop.NoMemory = KeepsOn reads complete vouches old new
