@@ -2,6 +2,7 @@
 ghost use Rattle.std.specs.Prelude.{◌≡◌, Bool, [], IfOk, IfErr, OnErr};
 ghost use Rattle.fx_view.specs.ReadList.{ReadList};
 ghost use Rattle.fx_view.specs.Answers.{IsReadOf, NeedsIt};
+ghost use Rattle.fx_view.specs.declared.reader.Stop.TheVariants.{NoMemory as OutOfMemory};
 
 use crate::reads::Reads;
 use fx_base::NoMemory;
@@ -17,18 +18,24 @@ pub enum Stop {
 }
 
 impl From<NoMemory> for Stop {
+    ghost from_gives = { λ _ stop. stop ≡ OutOfMemory };
+
     fn from(_: NoMemory) -> Stop {
         Stop::NoMemory
     }
 }
 
 impl From<AllocError> for Stop {
+    ghost from_gives = { λ _ stop. stop ≡ OutOfMemory };
+
     fn from(_: AllocError) -> Stop {
         Stop::NoMemory
     }
 }
 
 impl<T: Drop> From<AllocFailed<T>> for Stop {
+    ghost from_gives = { λ _ stop. stop ≡ OutOfMemory };
+
     fn from(refused: AllocFailed<T>) -> Stop {
         drop(refused);
         Stop::NoMemory

@@ -19,6 +19,9 @@ pub fn resolve<R: Reader>(
 ) -> Result<Landing, Stop>
     ensures { Follows R.reads R.complete R.vouches (λ l. l) (own_at overlay.now) reader.old reader.new (rule.resolve path.now follow) result }
 {
-    let _ = (reader, overlay, path, follow, alloc);
+    let _ = overlay.len();
+    let _ = path.len();
+    let _ = (follow, alloc);
+    let _reader = &*reader;
     Err(Stop::NoMemory)
 }
