@@ -48,8 +48,8 @@ pub record IsLog (log : Log) : Type 0 where
 
 pub record IsBoard (base : Base) (entries : List Entry) (nodes : Nodes) : Type 0 where
   pub log : IsLog (log_of base entries)
-  pub entries : (i : ℕ) (e : Entry) → slice_get entries i ≡ Some e → IsEntry (log_of base entries) i e
-  pub store : nodes ≡ last_state (log_of base entries)
+  pub each : (i : ℕ) (e : Entry) → slice_get entries i ≡ Some e → IsEntry (log_of base entries) i e
+  pub after : nodes ≡ last_state (log_of base entries)
 
 -- no entries yet
 abbrev pub started : BaseTree → Log

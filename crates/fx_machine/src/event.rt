@@ -16,9 +16,16 @@ pub enum Event {
         position: u64,
     },
     /// The attempt is this entry of the log now.
-    Settled { shell: u32, entry: u64 },
+    Settled {
+        shell: u32,
+        entry: u64,
+    },
     /// This entry of the log changed the path after the attempt had looked at it, and the attempt starts again.
-    Conflict { shell: u32, entry: u64, path: Path },
+    Conflict {
+        shell: u32,
+        entry: u64,
+        path: Path,
+    },
 }
 
 /// Events, in their order. Contracts see them as a list.

@@ -4,7 +4,6 @@
 mod attempt;
 mod entry;
 mod event;
-pub mod laws;
 mod retry;
 
 pub use attempt::Attempt;

@@ -1,6 +1,6 @@
 //! The engine: it runs a transaction of the built forms over a reader, as an attempt.
 #![tactic(auto)]
 
-mod run;
+mod engine;
 
-pub use run::run;
+pub use engine::run;
