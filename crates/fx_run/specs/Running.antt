@@ -27,8 +27,8 @@ IsNeeded base turn reads path =
 -- the attempt is of the transaction asked for, and holds the reads that the reader had at the end: its earlier ones are among
 -- them, the reader has none any more, and it vouches for them
 pub record Attempted {R : Type 0} (reads : R → ReadList) (complete : R → Bool) (vouches : R → R → ReadList → Type 0) (old new : R) (shell txn : ℕ) (a : Attempt) : Type 0 where
-  pub shell : a.shell ≡ shell
-  pub txn : a.txn ≡ txn
+  pub whose : a.shell ≡ shell
+  pub number : a.txn ≡ txn
   pub more : ReadList
   pub kept : a.reads ≡ reads old ++ more
   pub none : reads new ≡ []

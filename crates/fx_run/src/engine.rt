@@ -29,7 +29,5 @@ pub fn run<R: Reader>(
     ensures attempted { IfOk result (Attempted R.reads R.complete R.vouches reader.old reader.new shell txn) }
     ensures stopped { IfErr result (StoppedAt R.reads R.complete R.vouches (base_tree base.now.value) (shell, txn) reader.old reader.new) }
 {
-    let _ = (alloc, base, shell, txn);
-    let _reader = &*reader;
     Err(Stop::NoMemory)
 }

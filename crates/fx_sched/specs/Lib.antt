@@ -1,0 +1,3 @@
+pub mod Running
+pub mod World
+pub mod Traced

