@@ -1,6 +1,6 @@
 -- What the program's own command stands for.
 use Rattle.std.specs.Prelude.{◌≡◌, ℕ, ◌≤◌, ◌<◌, List, [], drop, length, Option, Some, None, IsSome}
-use Rattle.std.specs.Option.{unwrap_or}
+use Rattle.std.specs.Option.{unwrap_or, option_map}
 use Rattle.fx_words.specs.declared.job.Job as code
 use Rattle.fx_words.specs.Job.{Job, Mode, Plain, Scheduled, schedule_of}
 
@@ -12,11 +12,7 @@ mode_of count None = Plain
 mode_of count (Some schedule) = Scheduled (unwrap_or (schedule_of count schedule) [])
 
 abbrev pub schedule_text : code.Job → Option (List ℕ)
-schedule_text j = seen j.schedule
-  where
-    seen : Option _ → Option (List ℕ)
-    seen None = None
-    seen (Some text) = Some text.now
+schedule_text j = option_map (λ (t : _). t.now) j.schedule
 
 abbrev pub asked : code.Job → Job
 asked j = record { spec = j.spec.now; folder = j.folder.now; out = j.out.now; scripts = scripts_in j; mode = mode_of (length (scripts_in j)) (schedule_text j) }
