@@ -1,2 +1,4 @@
 pub mod Shaped
 pub mod Stored
+pub mod Retried
+pub mod Scripted

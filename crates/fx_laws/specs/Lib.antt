@@ -1,2 +1,5 @@
 pub mod Shaped
 pub mod Stored
+pub mod Shorthands
+pub mod Retried
+pub mod Scripted
