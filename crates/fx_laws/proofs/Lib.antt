@@ -2,3 +2,4 @@ pub mod Shaped
 pub mod Stored
 pub mod Retried
 pub mod Scripted
+pub mod Limited

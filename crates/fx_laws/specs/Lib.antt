@@ -3,3 +3,4 @@ pub mod Stored
 pub mod Shorthands
 pub mod Retried
 pub mod Scripted
+pub mod Limited

@@ -2,6 +2,7 @@
 //! computes. Each law stands on a function that does nothing, so that it is proved with the crate.
 #![tactic(auto)]
 
+pub mod limits;
 pub mod retries;
 pub mod scripts;
 pub mod shapes;
