@@ -3,3 +3,4 @@ pub mod Stored
 pub mod Retried
 pub mod Scripted
 pub mod Limited
+pub mod Small

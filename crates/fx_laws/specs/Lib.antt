@@ -4,3 +4,4 @@ pub mod Shorthands
 pub mod Retried
 pub mod Scripted
 pub mod Limited
+pub mod Small

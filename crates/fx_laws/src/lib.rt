@@ -7,3 +7,4 @@ pub mod retries;
 pub mod scripts;
 pub mod shapes;
 pub mod stores;
+pub mod vectors;
