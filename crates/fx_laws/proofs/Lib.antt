@@ -1,5 +1,6 @@
 pub mod Shaped
 pub mod Stored
+pub mod Accepted
 pub mod Retried
 pub mod Scripted
 pub mod Limited

@@ -196,23 +196,23 @@ needed_some : (o : Option Tree) (v : Tree) → needed Refusal.Lacks o ≡ Ok v �
 needed_some None v e = absurd (cc)
 needed_some (Some w) v e = cc
 
-content_there : (S : Store) (held : Option Node → Option Tree) (follow : Bool) (p : List (List ℕ)) (v : Tree) → answer S (content held follow p >>= λ v. Answer (needed Refusal.Lacks v)) ≡ Ok v → (q : List (List ℕ)) × (lands S p follow ≡ At q) × (held (S q) ≡ Some v)
+pub content_there : (S : Store) (held : Option Node → Option Tree) (follow : Bool) (p : List (List ℕ)) (v : Tree) → answer S (content held follow p >>= λ v. Answer (needed Refusal.Lacks v)) ≡ Ok v → (q : List (List ℕ)) × (lands S p follow ≡ At q) × (held (S q) ≡ Some v)
 content_there S held follow p v e =
     landed_there S held (lands S p follow) v (sym (answer-bind S (resolve p follow) (landed_value held)) ∙ needed_some (answer S (content held follow p)) v (sym (answer-bind S (content held follow p) (λ v. Answer (needed Refusal.Lacks v))) ∙ e))
 
-file_there : (n : Option Node) (v : Tree) → file_value n ≡ Some v → (bytes : List ℕ) × (v ≡ Tree.str bytes) × (n ≡ Some (File bytes))
+pub file_there : (n : Option Node) (v : Tree) → file_value n ≡ Some v → (bytes : List ℕ) × (v ≡ Tree.str bytes) × (n ≡ Some (File bytes))
 file_there None v e = absurd (cc)
 file_there (Some (File bytes)) v e = (bytes, (let same : v ≡ Tree.str bytes = cc in same), refl)
 file_there (Some (Dir names)) v e = absurd (cc)
 file_there (Some (Link text)) v e = absurd (cc)
 
-dir_there : (n : Option Node) (v : Tree) → dir_value n ≡ Some v → (names : List (List ℕ)) × (v ≡ Tree.names names) × (n ≡ Some (Dir names))
+pub dir_there : (n : Option Node) (v : Tree) → dir_value n ≡ Some v → (names : List (List ℕ)) × (v ≡ Tree.names names) × (n ≡ Some (Dir names))
 dir_there None v e = absurd (cc)
 dir_there (Some (File bytes)) v e = absurd (cc)
 dir_there (Some (Dir names)) v e = (names, (let same : v ≡ Tree.names names = cc in same), refl)
 dir_there (Some (Link text)) v e = absurd (cc)
 
-link_there : (n : Option Node) (v : Tree) → link_value n ≡ Some v → (text : List ℕ) × (v ≡ Tree.str text) × (n ≡ Some (Link text))
+pub link_there : (n : Option Node) (v : Tree) → link_value n ≡ Some v → (text : List ℕ) × (v ≡ Tree.str text) × (n ≡ Some (Link text))
 link_there None v e = absurd (cc)
 link_there (Some (File bytes)) v e = absurd (cc)
 link_there (Some (Dir names)) v e = absurd (cc)

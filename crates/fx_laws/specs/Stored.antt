@@ -1,5 +1,5 @@
 -- A store of what is there changes nothing.
-use Rattle.std.specs.Prelude.{◌≡◌, ℕ, List, [], ◌∷◌, ◌++◌, Some, Ok}
+use Rattle.std.specs.Prelude.{◌≡◌, ℕ, Bool, true, false, List, [], ◌∷◌, ◌++◌, Some, Ok}
 use Rattle.fx_store.specs.declared.node.Node.{Node}
 use Rattle.fx_store.specs.declared.node.Landing.TheVariants.{At}
 use Rattle.fx_store.specs.declared.changes.Change.{Change}
@@ -14,6 +14,7 @@ use Rattle.fx_spec.specs.declared.refusal.End.{End}
 use Rattle.fx_spec.specs.SpecTree.{SpecTree}
 use Rattle.fx_spec.specs.CommandTree.{ActTree, CommandTree, block}
 use Rattle.fx_spec.specs.Edit.{set_to, stored_node, follows_last, store_at}
+use Rattle.fx_spec.specs.Move.{fetched}
 use Rattle.fx_spec.specs.Place.{PlaceTree, place}
 use Rattle.fx_spec.specs.Task.{result, after}
 use Rattle.fx_spec.specs.Transaction.{Standing, On, run_block, transaction, end, left}
@@ -34,6 +35,19 @@ SameContentIsAccepted = (S : Store) → IsWhole S → (at : PlaceTree) (v : Tree
 abbrev pub SameContentChangesNothing : Type 0
 SameContentChangesNothing =
     (S : Store) (at : PlaceTree) (v : Tree) (node : Node) (q : List (List ℕ)) → IsHeld S at v node q → (changes : List Change) → answer S (store_at v at) ≡ Ok changes → Same S (over S changes)
+
+-- a form whose content is fetched and stored: a file, a directory or a link
+abbrev pub has_content : SpecTree → Bool
+has_content SpecTree.file = true
+has_content SpecTree.dir = true
+has_content SpecTree.link = true
+has_content _ = false
+
+-- on a whole filestore the store of what is fetched at such a form is accepted, and sets a node to what it is
+abbrev pub FetchedIsAccepted : Type 0
+FetchedIsAccepted =
+    (S : Store) → IsWhole S → (at : PlaceTree) (v : Tree) → has_content at.spec ≡ true → answer S (fetched at.path at.env at.spec) ≡ Ok v
+    → (q : List (List ℕ)) × (node : Node) × (S q ≡ Some node) × (answer S (store_at v at) ≡ Ok (set_to q node ∷ []))
 
 -- from this standing the expression gives what is held at the place
 pub record StoresSame (root : SpecTree) (s : Standing) (e : ExprTree) (S : Store) : Type 0 where

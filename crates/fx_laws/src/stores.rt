@@ -1,5 +1,5 @@
 //! Laws of stores: storing what is there changes nothing.
-ghost use Rattle.fx_laws.specs.Stored.{SameContentIsAccepted, SameContentChangesNothing, SameStoreChangesNothing, SameStoreLeavesNothing, FetchedStoreChangesNothing, FetchedStoreLeavesNothing};
+ghost use Rattle.fx_laws.specs.Stored.{SameContentIsAccepted, SameContentChangesNothing, FetchedIsAccepted, SameStoreChangesNothing, SameStoreLeavesNothing, FetchedStoreChangesNothing, FetchedStoreLeavesNothing};
 
 /// On a whole filestore the store of what a file, a directory or a link holds already is accepted, and sets the node to
 /// what it is.
@@ -10,6 +10,12 @@ pub fn a_store_of_the_same_content_is_accepted()
 /// On every filestore where such a store is accepted, each path has afterwards what it had before.
 pub fn a_store_of_the_same_content_changes_nothing()
     ensures { SameContentChangesNothing }
+{}
+
+/// On a whole filestore the store of what is fetched at a file, a directory or a link is accepted, and sets the node to
+/// what it is.
+pub fn a_store_of_what_is_fetched_is_accepted()
+    ensures { FetchedIsAccepted }
 {}
 
 /// A transaction's command `store(e)` changes no path where `e` gives what is there.
