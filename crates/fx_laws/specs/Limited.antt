@@ -12,6 +12,7 @@ use Rattle.fx_spec.specs.SpecTree.{SpecTree}
 use Rattle.fx_spec.specs.CommandTree.{ActTree}
 use Rattle.fx_spec.specs.Edit.{set_to}
 use Rattle.fx_spec.specs.Examples.{Does, text}
+use Rattle.fx_laws.specs.Left.{Leaves}
 use Rattle.fx_laws.specs.Shorthands.{file_at, into, next, down, store, create, fetch_text, show, try_and_show, texts, numbers}
 
 -- ---- a chain of links
@@ -84,6 +85,9 @@ nested_file = map (λ p. set_to p (Dir (codes "a" ∷ []))) (deeper 0 64) ++ set
 -- the file and all directories above it are made; each of their paths is consulted
 abbrev pub MakesDeepFile : Type 0
 MakesDeepFile = Does deep_files (store_of (([], Dir []) ∷ [])) (into ∷ down ∷ create ∷ []) [] End.Done (deep 1 ∷ [] ∷ deeper 2 63) nested_file
+
+abbrev pub LeavesDeepFile : Type 0
+LeavesDeepFile = Leaves deep_files (store_of (([], Dir []) ∷ [])) (into ∷ down ∷ create ∷ []) (over (store_of (([], Dir []) ∷ [])) nested_file)
 
 -- no place has a path of 65 names
 abbrev pub GoesNoDeeper : Type 0

@@ -2,7 +2,6 @@
 use Rattle.std.specs.Prelude.{List, [], ◌∷◌, codes, pos}
 use Rattle.fx_store.specs.declared.node.Node.TheVariants.{File, Dir}
 use Rattle.fx_store.specs.Examples.{store_of}
-use Rattle.fx_store.specs.Whole.{Store}
 use Rattle.fx_expr.specs.declared.expr.BinOp.{BinOp}
 use Rattle.fx_expr.specs.declared.expr.UnOp.{UnOp}
 use Rattle.fx_expr.specs.declared.fault.ExprFault.TheVariants.{Overflow, NotNumber}
@@ -13,28 +12,39 @@ use Rattle.fx_spec.specs.SpecTree.{SpecTree}
 use Rattle.fx_spec.specs.CommandTree.{ActTree, CommandTree, block}
 use Rattle.fx_spec.specs.Edit.{set_to, removed}
 use Rattle.fx_spec.specs.Examples.{Does, text, a_file, with_a}
+use Rattle.fx_laws.specs.Left.{Entries, Commits}
 use Rattle.fx_laws.specs.Shorthands.{var, join, union, one, into, to, next, out, down, up, store, remove, fetch_text, fetch_names, show, try_and_show, texts, numbers}
-use Rattle.fx_laws.specs.Retried.{all_files, text_files}
+use Rattle.fx_laws.specs.Retried.{all_files, text_files, nothing_there}
 
-abbrev pub a_and_b : Store
-a_and_b = store_of (([], Dir (codes "a" ∷ codes "b" ∷ [])) ∷ (codes "a" ∷ [], File (codes "1")) ∷ (codes "b" ∷ [], File (codes "2")) ∷ [])
+abbrev pub a_and_b : Entries
+a_and_b = ([], Dir (codes "a" ∷ codes "b" ∷ [])) ∷ (codes "a" ∷ [], File (codes "1")) ∷ (codes "b" ∷ [], File (codes "2")) ∷ []
+
+abbrev pub b_alone : Entries
+b_alone = ([], Dir (codes "b" ∷ [])) ∷ (codes "b" ∷ [], File (codes "2")) ∷ []
 
 -- an address whose element has gone leads to no place: no move that needs the place goes on, and the others go back
 abbrev pub LeavesNoPlace : Type 0
 LeavesNoPlace =
-    Does all_files a_and_b
+    Commits all_files a_and_b
     (into ∷ next ∷ into ∷ down ∷ remove ∷
     try_and_show (codes "e") ActTree.down (try_and_show (codes "f") ActTree.up (try_and_show (codes "g") ActTree.next (try_and_show (codes "h") ActTree.out (try_and_show (codes "i") ActTree.top [])))))
-    (numbers (3 ∷ 0 ∷ 3 ∷ 0 ∷ 0 ∷ [])) End.Done ([] ∷ (codes "a" ∷ []) ∷ []) (set_to [] (Dir (codes "b" ∷ [])) ∷ removed (codes "a" ∷ []) ∷ [])
+    (numbers (3 ∷ 0 ∷ 3 ∷ 0 ∷ 0 ∷ [])) ([] ∷ (codes "a" ∷ []) ∷ []) (set_to [] (Dir (codes "b" ∷ [])) ∷ removed (codes "a" ∷ []) ∷ []) b_alone
+
+abbrev pub nested_and_g : Entries
+nested_and_g =
+    ([], Dir (codes "d" ∷ codes "g" ∷ [])) ∷ (codes "d" ∷ [], Dir (codes "e" ∷ [])) ∷ (codes "d" ∷ codes "e" ∷ [], Dir (codes "f" ∷ [])) ∷ (codes "d" ∷ codes "e" ∷ codes "f" ∷ [], File (codes "1")) ∷
+    (codes "g" ∷ [], File (codes "2")) ∷ []
+
+abbrev pub g_and_h : Entries
+g_and_h = ([], Dir (codes "g" ∷ codes "h" ∷ [])) ∷ (codes "g" ∷ [], File (codes "2")) ∷ (codes "h" ∷ [], File []) ∷ []
 
 -- a dropped name goes with all below it, a new one is an empty file, and one that stays is not touched
 abbrev pub DropsSubtree : Type 0
 DropsSubtree =
-    Does SpecTree.dir
-    (store_of (([], Dir (codes "d" ∷ codes "g" ∷ [])) ∷ (codes "d" ∷ [], Dir (codes "e" ∷ [])) ∷ (codes "d" ∷ codes "e" ∷ [], Dir (codes "f" ∷ [])) ∷ (codes "d" ∷ codes "e" ∷ codes "f" ∷ [], File (codes "1")) ∷ (codes "g" ∷ [], File (codes "2")) ∷ []))
-    (store (union (one (codes "g")) (one (codes "h"))) ∷ []) [] End.Done
+    Commits SpecTree.dir nested_and_g (store (union (one (codes "g")) (one (codes "h"))) ∷ []) []
     ([] ∷ (codes "d" ∷ []) ∷ (codes "d" ∷ codes "e" ∷ []) ∷ (codes "d" ∷ codes "e" ∷ codes "f" ∷ []) ∷ (codes "h" ∷ []) ∷ [])
     (set_to [] (Dir (codes "g" ∷ codes "h" ∷ [])) ∷ removed (codes "d" ∷ []) ∷ removed (codes "d" ∷ codes "e" ∷ []) ∷ removed (codes "d" ∷ codes "e" ∷ codes "f" ∷ []) ∷ set_to (codes "h" ∷ []) (File []) ∷ [])
+    g_and_h
 
 -- the chosen files of a directory, one after another in a loop
 abbrev pub JoinsChosenFiles : Type 0
@@ -61,6 +71,6 @@ pub record NumbersFault : Type 0 where
 -- at the root directory: a reserved name, a text for a set, something that stands already, and the root itself in the way
 abbrev pub RefusedAtRoot : Type 0
 RefusedAtRoot =
-    Does SpecTree.dir (store_of (([], Dir []) ∷ []))
+    Does SpecTree.dir (store_of nothing_there)
     (try_and_show (codes "e") (ActTree.store (one (codes ".forest-links"))) (try_and_show (codes "f") (ActTree.store (text (codes "x"))) (try_and_show (codes "g") ActTree.create (try_and_show (codes "h") ActTree.remove []))))
     (numbers (8 ∷ 5 ∷ 12 ∷ 6 ∷ [])) End.Done [] []

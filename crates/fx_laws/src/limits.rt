@@ -1,5 +1,5 @@
 //! Worked transactions at the limits of resolution and of paths.
-ghost use Rattle.fx_laws.specs.Limited.{FollowsForty, NotFortyOne, NotToItself, MakesDeepFile, GoesNoDeeper};
+ghost use Rattle.fx_laws.specs.Limited.{FollowsForty, NotFortyOne, NotToItself, MakesDeepFile, LeavesDeepFile, GoesNoDeeper};
 
 /// Forty links are followed.
 pub fn following_forty_links()
@@ -18,7 +18,8 @@ pub fn following_no_link_to_itself()
 
 /// An empty file at a path of 64 names is made, with all directories above it.
 pub fn making_a_file_at_64_names()
-    ensures { MakesDeepFile }
+    ensures does { MakesDeepFile }
+    ensures leaves { LeavesDeepFile }
 {}
 
 /// No move goes down to a path of 65 names.
