@@ -12,26 +12,16 @@ use Rattle.fx_spec.specs.Place.{place}
 use Rattle.fx_spec.specs.Edit.{clear}
 use Rattle.fx_spec.specs.Transaction.{transaction}
 use Rattle.fx_laws.specs.Shorthands.{into, down, create}
-use Rattle.fx_laws.specs.Limited.{deep_files, nested_file, LeavesDeepFile, FollowsForty, NotFortyOne, NotToItself, MakesDeepFile, GoesNoDeeper}
+use Rattle.fx_laws.specs.Limited.{deep_files, nested_file, StopsAfterForty, StopsAtLoop, MakesDeepFile, LeavesDeepFile, GoesNoDeeper}
 use Rattle.fx_laws.proofs.Left.{leaves_kept}
 
-pub follows_forty : FollowsForty
+pub stops_after_forty : StopsAfterForty
 unfolding is_utf8 chars encode is_name resolve value place clear transaction
-follows_forty = record { outputs = refl; end = refl; way = refl; kept = refl }
+stops_after_forty = record { landed = refl; lost = refl; link_itself = refl; read = record { outputs = refl; end = refl; way = refl; kept = refl }; fetched = record { outputs = refl; end = refl; way = refl; kept = refl }; stored = record { outputs = refl; end = refl; way = refl; kept = refl } }
 
-pub not_forty_one : NotFortyOne
+pub stops_at_loop : StopsAtLoop
 unfolding is_utf8 chars encode is_name resolve value place clear transaction
-not_forty_one = record {
-  fetched = record { outputs = refl; end = refl; way = refl; kept = refl };
-  stored = record { outputs = refl; end = refl; way = refl; kept = refl };
-}
-
-pub not_to_itself : NotToItself
-unfolding is_utf8 chars encode is_name resolve value place clear transaction
-not_to_itself = record {
-  fetched = record { outputs = refl; end = refl; way = refl; kept = refl };
-  stored = record { outputs = refl; end = refl; way = refl; kept = refl };
-}
+stops_at_loop = record { landed = refl; lost = refl; link_itself = refl; read = record { outputs = refl; end = refl; way = refl; kept = refl }; fetched = record { outputs = refl; end = refl; way = refl; kept = refl }; stored = record { outputs = refl; end = refl; way = refl; kept = refl } }
 
 pub makes_deep_file : MakesDeepFile
 unfolding is_utf8 chars encode is_name resolve value place clear transaction

@@ -1,10 +1,12 @@
 -- Worked transactions at the limits of resolution and of paths.
-use Rattle.std.specs.Prelude.{ℕ, zero, suc, List, [], ◌∷◌, ◌++◌, map, take, drop, reverse, codes}
+use Rattle.std.specs.Prelude.{◌≡◌, ℕ, zero, suc, true, false, List, [], ◌∷◌, ◌++◌, map, take, drop, reverse, codes}
 use Rattle.std.specs.List.{flat_map, join_with_byte}
 use Rattle.fx_store.specs.declared.node.Node.{Node}
 use Rattle.fx_store.specs.declared.node.Node.TheVariants.{File, Dir, Link}
+use Rattle.fx_store.specs.declared.node.Landing.TheVariants.{At, TooManyLinks}
 use Rattle.fx_store.specs.declared.changes.Change.{Change}
 use Rattle.fx_store.specs.Examples.{store_of}
+use Rattle.fx_store.specs.Resolve.{lands}
 use Rattle.fx_store.specs.Whole.{Store, over}
 use Rattle.fx_spec.specs.declared.refusal.Refusal.{Refusal}
 use Rattle.fx_spec.specs.declared.refusal.End.{End}
@@ -30,6 +32,7 @@ chain before (n ∷ names) = (n ∷ [], Link before) ∷ chain n names
 abbrev pub with_chain : List (List ℕ) → List (List (List ℕ) × Node) → Store
 with_chain names others = store_of (([], Dir (codes "f" ∷ names)) ∷ (codes "f" ∷ [], File (codes "x")) ∷ others)
 
+-- 41 links, one after another
 abbrev pub long_chain : Store
 long_chain = with_chain link_names (chain (codes "f") link_names)
 
@@ -45,28 +48,32 @@ chained other = SpecTree.pair (codes "a") (file_at (codes "l40")) (file_at other
 abbrev pub forty_links : List (List (List ℕ))
 forty_links = map (λ n. n ∷ []) (reverse (take 40 link_names)) ++ (codes "f" ∷ []) ∷ []
 
--- forty links are followed
-abbrev pub FollowsForty : Type 0
-FollowsForty = Does (chained (codes "l41")) long_chain (into ∷ down ∷ fetch_text (codes "v") ∷ show (codes "v") ∷ []) (texts (codes "x" ∷ [])) End.Done forty_links []
-
--- nothing is fetched or stored past more links, nor at a link to itself
-pub record FollowsNoMore (S : Store) (other : List ℕ) : Type 0 where
+-- a file is read past 40 links; another path, which more links or a link to itself lead on from, lands nowhere: nothing is
+-- fetched or stored there
+pub record FollowsForty (S : Store) (other : List ℕ) : Type 0 where
+  pub landed : lands S (codes "l40" ∷ []) true ≡ At (codes "f" ∷ [])
+  pub lost : lands S (other ∷ []) true ≡ TooManyLinks
+  pub link_itself : lands S (other ∷ []) false ≡ At (other ∷ [])
+  pub read : Does (chained other) S (into ∷ down ∷ fetch_text (codes "v") ∷ show (codes "v") ∷ []) (texts (codes "x" ∷ [])) End.Done forty_links []
   pub fetched : Does (chained other) S (into ∷ next ∷ down ∷ fetch_text (codes "v") ∷ []) [] (End.Stopped 3 Refusal.Lacks) (forty_links ++ (other ∷ []) ∷ []) []
   pub stored : Does (chained other) S (into ∷ next ∷ down ∷ store (text (codes "y")) ∷ []) [] (End.Stopped 3 (Refusal.Blocked (other ∷ []))) (forty_links ++ (other ∷ []) ∷ []) []
 
-abbrev pub NotFortyOne : Type 0
-NotFortyOne = FollowsNoMore long_chain (codes "l41")
+-- the 41st link is not followed
+abbrev pub StopsAfterForty : Type 0
+StopsAfterForty = FollowsForty long_chain (codes "l41")
 
-abbrev pub NotToItself : Type 0
-NotToItself = FollowsNoMore with_loop (codes "s")
+-- nor is a link to itself, for ever
+abbrev pub StopsAtLoop : Type 0
+StopsAtLoop = FollowsForty with_loop (codes "s")
 
 -- ---- a path of 64 names
 
--- the path of so many names `a`, and the paths of that many names, of one more and so on
+-- the path of so many names `a`
 abbrev pub deep : ℕ → List (List ℕ)
 deep zero = []
 deep (suc n) = codes "a" ∷ deep n
 
+-- the paths of n such names, of one more and so on
 abbrev pub deeper : ℕ → ℕ → List (List (List ℕ))
 deeper n zero = []
 deeper n (suc count) = deep n ∷ deeper (suc n) count
@@ -75,6 +82,7 @@ deeper n (suc count) = deep n ∷ deeper (suc n) count
 abbrev pub deep_text : ℕ → List ℕ
 deep_text n = join_with_byte 47 (deep n)
 
+-- an optional file at 64 names, and one at 65
 abbrev pub deep_files : SpecTree
 deep_files = SpecTree.pair (codes "x") (SpecTree.focus (text (deep_text 64)) (SpecTree.opt SpecTree.file)) (SpecTree.focus (text (deep_text 65)) (SpecTree.opt SpecTree.file))
 
@@ -86,6 +94,7 @@ nested_file = map (λ p. set_to p (Dir (codes "a" ∷ []))) (deeper 0 64) ++ set
 abbrev pub MakesDeepFile : Type 0
 MakesDeepFile = Does deep_files (store_of (([], Dir []) ∷ [])) (into ∷ down ∷ create ∷ []) [] End.Done (deep 1 ∷ [] ∷ deeper 2 63) nested_file
 
+-- they are all that is there then
 abbrev pub LeavesDeepFile : Type 0
 LeavesDeepFile = Leaves deep_files (store_of (([], Dir []) ∷ [])) (into ∷ down ∷ create ∷ []) (over (store_of (([], Dir []) ∷ [])) nested_file)
 

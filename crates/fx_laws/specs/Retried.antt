@@ -18,15 +18,19 @@ use Rattle.fx_laws.specs.Shorthands.{var, join, union, one, file_at, files_of, i
 
 -- ---- two files, of which each shell reads one and writes the other
 
+-- the file `x`, and the file `y`
 abbrev pub two_files : SpecTree
 two_files = SpecTree.pair (codes "x") (file_at (codes "x")) (file_at (codes "y"))
 
+-- with these bytes
 abbrev pub with_files : List ℕ → List ℕ → Entries
 with_files x y = ([], Dir (codes "x" ∷ codes "y" ∷ [])) ∷ (codes "x" ∷ [], File x) ∷ (codes "y" ∷ [], File y) ∷ []
 
+-- the bytes of the first file with a `0`, stored in the second one
 abbrev pub x_to_y : List CommandTree
 x_to_y = into ∷ down ∷ fetch_text (codes "a") ∷ up ∷ next ∷ down ∷ store (join (var (codes "a")) (text (codes "0"))) ∷ show (codes "a") ∷ []
 
+-- the same the other way
 abbrev pub y_to_x : List CommandTree
 y_to_x = into ∷ next ∷ down ∷ fetch_text (codes "b") ∷ up ∷ prev ∷ down ∷ store (join (var (codes "b")) (text (codes "0"))) ∷ show (codes "b") ∷ []
 
@@ -38,18 +42,23 @@ pub record EachReadsAndWrites : Type 0 where
 
 -- ---- a directory, whose names are counted and added to
 
+-- a directory, and each of its files with a name in `.txt`
 abbrev pub text_files : SpecTree
 text_files = SpecTree.pair (codes "d") SpecTree.dir (files_of (ExprTree.only (var (codes "d")) (codes "*.txt")))
 
+-- one such file
 abbrev pub one_text : Entries
 one_text = ([], Dir (codes "a.txt" ∷ [])) ∷ (codes "a.txt" ∷ [], File (codes "A")) ∷ []
 
+-- two of them
 abbrev pub two_texts : Entries
 two_texts = ([], Dir (codes "a.txt" ∷ codes "b.txt" ∷ [])) ∷ (codes "a.txt" ∷ [], File (codes "A")) ∷ (codes "b.txt" ∷ [], File []) ∷ []
 
+-- how many they are
 abbrev pub count_texts : List CommandTree
 count_texts = into ∷ next ∷ fetch_names (codes "s") ∷ CommandTree.print (ExprTree.un UnOp.Size (var (codes "s"))) ∷ []
 
+-- one more name in the directory
 abbrev pub add_text : List CommandTree
 add_text = into ∷ fetch_names (codes "d") ∷ store (union (var (codes "d")) (one (codes "b.txt"))) ∷ []
 
@@ -61,17 +70,21 @@ pub record NamesAreAdded : Type 0 where
 
 -- ---- a link, which is read through and turned to another directory
 
+-- the link `cur`, and the file `f` in the directory that it names
 abbrev pub through_link : SpecTree
 through_link = SpecTree.pair (codes "l") (SpecTree.focus (text (codes "cur")) SpecTree.link) (SpecTree.focus (text (codes "cur")) (file_at (codes "f")))
 
+-- the directories `p` and `q` with a file each, and the link with this text
 abbrev pub with_current : List ℕ → Entries
 with_current current =
     ([], Dir (codes "cur" ∷ codes "p" ∷ codes "q" ∷ [])) ∷ (codes "cur" ∷ [], Link current) ∷ (codes "p" ∷ [], Dir (codes "f" ∷ [])) ∷ (codes "p" ∷ codes "f" ∷ [], File (codes "P")) ∷
     (codes "q" ∷ [], Dir (codes "f" ∷ [])) ∷ (codes "q" ∷ codes "f" ∷ [], File (codes "Q")) ∷ []
 
+-- the file, read through the link
 abbrev pub read_through : List CommandTree
 read_through = into ∷ next ∷ down ∷ down ∷ fetch_text (codes "v") ∷ show (codes "v") ∷ []
 
+-- the link names `q` from now on
 abbrev pub turn : List CommandTree
 turn = into ∷ down ∷ store (text (codes "q")) ∷ []
 
@@ -83,15 +96,19 @@ pub record LinkIsTurned : Type 0 where
 
 -- ---- an option, whose entry is made
 
+-- the file `m`, if it is there
 abbrev pub maybe_file : SpecTree
 maybe_file = SpecTree.focus (text (codes "m")) (SpecTree.opt SpecTree.file)
 
+-- an empty directory
 abbrev pub nothing_there : Entries
 nothing_there = ([], Dir []) ∷ []
 
+-- an empty file `m`
 abbrev pub with_entry : Entries
 with_entry = ([], Dir (codes "m" ∷ [])) ∷ (codes "m" ∷ [], File []) ∷ []
 
+-- whether the file is there
 abbrev pub is_there : List CommandTree
 is_there = down ∷ CommandTree.fetch (codes "b") ShapeTree.bool ∷ show (codes "b") ∷ []
 
@@ -103,9 +120,11 @@ pub record EntryIsMade : Type 0 where
 
 -- ---- an element, which is read and removed
 
+-- a directory and all its files
 abbrev pub all_files : SpecTree
 all_files = SpecTree.pair (codes "d") SpecTree.dir (files_of (var (codes "d")))
 
+-- one file
 abbrev pub one_file : Entries
 one_file = ([], Dir (codes "a" ∷ [])) ∷ (codes "a" ∷ [], File (codes "1")) ∷ []
 
@@ -113,6 +132,7 @@ one_file = ([], Dir (codes "a" ∷ [])) ∷ (codes "a" ∷ [], File (codes "1"))
 abbrev pub half_removed : Entries
 half_removed = ([], Dir (codes "a" ∷ [])) ∷ []
 
+-- the first file
 abbrev pub read_first : List CommandTree
 read_first = into ∷ next ∷ into ∷ down ∷ fetch_text (codes "v") ∷ show (codes "v") ∷ []
 

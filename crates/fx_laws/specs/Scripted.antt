@@ -16,9 +16,11 @@ use Rattle.fx_laws.specs.Left.{Entries, Commits}
 use Rattle.fx_laws.specs.Shorthands.{var, join, union, one, into, to, next, out, down, up, store, remove, fetch_text, fetch_names, show, try_and_show, texts, numbers}
 use Rattle.fx_laws.specs.Retried.{all_files, text_files, nothing_there}
 
+-- two files
 abbrev pub a_and_b : Entries
 a_and_b = ([], Dir (codes "a" ∷ codes "b" ∷ [])) ∷ (codes "a" ∷ [], File (codes "1")) ∷ (codes "b" ∷ [], File (codes "2")) ∷ []
 
+-- the second one of them
 abbrev pub b_alone : Entries
 b_alone = ([], Dir (codes "b" ∷ [])) ∷ (codes "b" ∷ [], File (codes "2")) ∷ []
 
@@ -30,11 +32,13 @@ LeavesNoPlace =
     try_and_show (codes "e") ActTree.down (try_and_show (codes "f") ActTree.up (try_and_show (codes "g") ActTree.next (try_and_show (codes "h") ActTree.out (try_and_show (codes "i") ActTree.top [])))))
     (numbers (3 ∷ 0 ∷ 3 ∷ 0 ∷ 0 ∷ [])) ([] ∷ (codes "a" ∷ []) ∷ []) (set_to [] (Dir (codes "b" ∷ [])) ∷ removed (codes "a" ∷ []) ∷ []) b_alone
 
+-- a file in a directory in a directory, and the file `g`
 abbrev pub nested_and_g : Entries
 nested_and_g =
     ([], Dir (codes "d" ∷ codes "g" ∷ [])) ∷ (codes "d" ∷ [], Dir (codes "e" ∷ [])) ∷ (codes "d" ∷ codes "e" ∷ [], Dir (codes "f" ∷ [])) ∷ (codes "d" ∷ codes "e" ∷ codes "f" ∷ [], File (codes "1")) ∷
     (codes "g" ∷ [], File (codes "2")) ∷ []
 
+-- the file `g` as it was, and an empty file `h`
 abbrev pub g_and_h : Entries
 g_and_h = ([], Dir (codes "g" ∷ codes "h" ∷ [])) ∷ (codes "g" ∷ [], File (codes "2")) ∷ (codes "h" ∷ [], File []) ∷ []
 

@@ -33,12 +33,14 @@ FetchedHaveShapes =
 abbrev pub IsDescribedPlace : PlaceTree → Type 0
 IsDescribedPlace at = (scope : Scope) × IsDescribed scope at.env at.spec
 
+-- it is at each place of a well-shaped root description
 abbrev pub PlacesAreDescribed : Type 0
 PlacesAreDescribed = (root : SpecTree) → IsDescription [] root → (S : Store) (a : Address) → IfSome (answer S (place root a)) IsDescribedPlace
 
--- a transaction's `fetch` and `value` give values of the shapes that they name
+-- a transaction's `fetch` gives a value of the shape that it names
 abbrev pub FetchesHaveShapes : Type 0
 FetchesHaveShapes = (root : SpecTree) → IsDescription [] root → (S : Store) (a : Address) (shape : ShapeTree) → IfOk (answer S (at_place root a (fetch_at shape))) (λ v. ValueHas v shape)
 
+-- so with its `value`
 abbrev pub WholesHaveShapes : Type 0
 WholesHaveShapes = (root : SpecTree) → IsDescription [] root → (S : Store) (a : Address) (shape : ShapeTree) → IfOk (answer S (at_place root a (whole_at shape))) (λ v. ValueHas v shape)

@@ -24,10 +24,11 @@ minus a b = ExprTree.bin BinOp.Minus a b
 abbrev pub one : List ℕ → ExprTree
 one t = ExprTree.un UnOp.One (ExprTree.str t)
 
--- a file at an entry; the file of each element of a set
+-- a file at an entry
 abbrev pub file_at : List ℕ → SpecTree
 file_at t = SpecTree.focus (ExprTree.str t) SpecTree.file
 
+-- the file of each element of a set
 abbrev pub files_of : ExprTree → SpecTree
 files_of set = SpecTree.comp (SpecTree.focus (ExprTree.var (110 ∷ [])) SpecTree.file) (110 ∷ []) set
 

@@ -15,16 +15,19 @@ use Rattle.fx_laws.specs.Shorthands.{union, minus, one}
 abbrev pub int : List ℕ → ExprTree
 int spelled = ExprTree.un UnOp.Int (text spelled)
 
--- the difference of two numbers, and the least number of 64 bits
+-- a number below zero
 abbrev pub zero_less : ℕ → ExprTree
 zero_less n = minus (ExprTree.int (pos 0)) (ExprTree.int (pos n))
 
+-- the least number of 64 bits
 abbrev pub least_number : ExprTree
 least_number = minus (zero_less 9223372036854775807) (ExprTree.int (pos 1))
 
+-- a set of four texts
 abbrev pub four_texts : ExprTree
 four_texts = union (one (codes "ab")) (union (one (codes "abc")) (union (one (codes "axbz")) (one (codes "b"))))
 
+-- what some expressions give
 pub record ExpressionExamples : Type 0 where
   pub lines : eval_of [] (ExprTree.un UnOp.Lines (text (codes "b\n\na\n"))) ≡ Ok (Tree.names (codes "a" ∷ codes "b" ∷ []))
   pub negative : eval_of [] (int (codes "-7")) ≡ Ok (Tree.int (negsuc 6))
@@ -40,6 +43,7 @@ pub record ExpressionExamples : Type 0 where
 abbrev pub on_from_a : List ℕ → Result (List (List ℕ)) PathFault
 on_from_a more = extended (codes "a" ∷ []) more
 
+-- a path goes on by names with one `/` between each two
 pub record ExtendedExamples : Type 0 where
   pub two_names : on_from_a (codes "b/c") ≡ Ok (codes "a" ∷ codes "b" ∷ codes "c" ∷ [])
   pub empty : on_from_a [] ≡ Err BadName
@@ -47,6 +51,7 @@ pub record ExtendedExamples : Type 0 where
   pub parent : on_from_a (codes "../x") ≡ Err BadName
   pub leading_slash : on_from_a (codes "/b") ≡ Err BadName
 
+-- which texts are those of links
 pub record LinkTextExamples : Type 0 where
   pub root : read_link (codes "/") ≡ Ok (codes "/")
   pub parent : read_link (codes "..") ≡ Ok (codes "..")
@@ -54,6 +59,7 @@ pub record LinkTextExamples : Type 0 where
   pub trailing_slash : read_link (codes "a/") ≡ Err BadName
   pub empty : read_link [] ≡ Err BadName
 
+-- which texts spell paths
 pub record PathTextExamples : Type 0 where
   pub root : read_path (codes "/") ≡ Ok []
   pub one_name : read_path (codes "/a") ≡ Ok (codes "a" ∷ [])

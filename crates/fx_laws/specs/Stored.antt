@@ -29,9 +29,11 @@ pub record IsHeld (S : Store) (at : PlaceTree) (v : Tree) (node : Node) (q : Lis
 abbrev pub Same : Store → Store → Type 0
 Same S T = (p : List (List ℕ)) → T p ≡ S p
 
+-- on a whole filestore the store of what is held is accepted, and sets the node to what it is
 abbrev pub SameContentIsAccepted : Type 0
 SameContentIsAccepted = (S : Store) → IsWhole S → (at : PlaceTree) (v : Tree) (node : Node) (q : List (List ℕ)) → IsHeld S at v node q → answer S (store_at v at) ≡ Ok (set_to q node ∷ [])
 
+-- wherever such a store is accepted, each path keeps what it has
 abbrev pub SameContentChangesNothing : Type 0
 SameContentChangesNothing =
     (S : Store) (at : PlaceTree) (v : Tree) (node : Node) (q : List (List ℕ)) → IsHeld S at v node q → (changes : List Change) → answer S (store_at v at) ≡ Ok changes → Same S (over S changes)
@@ -59,6 +61,7 @@ pub record StoresSame (root : SpecTree) (s : Standing) (e : ExprTree) (S : Store
   pub expression : eval_of s.vars e ≡ Ok value
   pub held : IsHeld S at value node path
 
+-- the store of an expression
 abbrev pub storing : ExprTree → List CommandTree
 storing e = CommandTree.act (ActTree.store e) ∷ []
 
@@ -70,9 +73,11 @@ fetching_and_storing x shape = CommandTree.fetch x shape ∷ storing (ExprTree.v
 abbrev pub ChangesNothing : SpecTree → List CommandTree → Standing → Store → Type 0
 ChangesNothing root commands s S = (i : ℕ) → Same S (after S (run_block root i (block commands) s))
 
+-- a command that stores what is held changes no path
 abbrev pub SameStoreChangesNothing : Type 0
 SameStoreChangesNothing = (root : SpecTree) (e : ExprTree) (s : Standing) (S : Store) → StoresSame root s e S → ChangesNothing root (storing e) s S
 
+-- nor does the store of what was fetched, from any place and wherever
 abbrev pub FetchedStoreChangesNothing : Type 0
 FetchedStoreChangesNothing = (root : SpecTree) (x : List ℕ) (shape : ShapeTree) (s : Standing) (S : Store) → ChangesNothing root (fetching_and_storing x shape) s S
 
@@ -80,9 +85,11 @@ FetchedStoreChangesNothing = (root : SpecTree) (x : List ℕ) (shape : ShapeTree
 abbrev pub LastLeaveNothing : SpecTree → List CommandTree → List CommandTree → Store → Type 0
 LastLeaveNothing root commands last S = end root (commands ++ last) S ≡ End.Done → Same (left root commands S) (left root (commands ++ last) S)
 
+-- so for a store of what is held as a transaction's last command
 abbrev pub SameStoreLeavesNothing : Type 0
 SameStoreLeavesNothing =
     (root : SpecTree) (commands : List CommandTree) (e : ExprTree) (S : Store) → ((s : Standing) → result S (transaction root commands) ≡ On s → StoresSame root s e (after S (transaction root commands))) → LastLeaveNothing root commands (storing e) S
 
+-- and for a fetch and a store as its last ones
 abbrev pub FetchedStoreLeavesNothing : Type 0
 FetchedStoreLeavesNothing = (root : SpecTree) (commands : List CommandTree) (x : List ℕ) (shape : ShapeTree) (S : Store) → LastLeaveNothing root commands (fetching_and_storing x shape) S

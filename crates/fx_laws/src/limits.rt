@@ -1,19 +1,14 @@
 //! Worked transactions at the limits of resolution and of paths.
-ghost use Rattle.fx_laws.specs.Limited.{FollowsForty, NotFortyOne, NotToItself, MakesDeepFile, LeavesDeepFile, GoesNoDeeper};
+ghost use Rattle.fx_laws.specs.Limited.{StopsAfterForty, StopsAtLoop, MakesDeepFile, LeavesDeepFile, GoesNoDeeper};
 
-/// Forty links are followed.
+/// Forty links are followed to a file, and nothing is fetched or stored past 41.
 pub fn following_forty_links()
-    ensures { FollowsForty }
+    ensures { StopsAfterForty }
 {}
 
-/// Nothing is fetched or stored past 41 links.
-pub fn following_no_link_after_forty()
-    ensures { NotFortyOne }
-{}
-
-/// Nor at a link to itself.
+/// Nor past a link to itself.
 pub fn following_no_link_to_itself()
-    ensures { NotToItself }
+    ensures { StopsAtLoop }
 {}
 
 /// An empty file at a path of 64 names is made, with all directories above it.
