@@ -1,1 +1,3 @@
 pub mod Legal
+pub mod Reached
+pub mod Others
