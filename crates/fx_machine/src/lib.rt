@@ -4,6 +4,7 @@
 mod attempt;
 mod entry;
 mod event;
+pub mod laws;
 mod retry;
 
 pub use attempt::Attempt;

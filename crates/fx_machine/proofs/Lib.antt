@@ -1,0 +1,4 @@
+pub mod Legal
+pub mod Reached
+pub mod Others
+pub mod Complete

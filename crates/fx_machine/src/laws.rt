@@ -1,0 +1,23 @@
+//! Laws of the machine. Each stands on a function that does nothing, so that it is proved with the crate.
+ghost use Rattle.fx_machine.specs.Laws.{SettlingKeepsLegal, ConflictsAreOthers, LooksAreFew, EventsLower, CompleteRuns};
+
+/// A settled attempt keeps the order legal.
+pub fn settling_keeps_the_order_legal()
+    ensures { SettlingKeepsLegal }
+{}
+
+/// In a run from the start, a conflict names a later entry of another shell that changes a looked path.
+pub fn conflicts_name_entries_of_other_shells()
+    ensures { ConflictsAreOthers }
+{}
+
+/// Each event of a run from the start lowers the measure.
+pub fn each_event_lowers_the_measure()
+    ensures few { LooksAreFew }
+    ensures lower { EventsLower }
+{}
+
+/// A run from the start to a complete order has good retries: its conflicts, by shell.
+pub fn the_conflicts_of_a_run_are_its_retries()
+    ensures { CompleteRuns }
+{}
