@@ -1,13 +1,6 @@
 pub mod Answers
-pub mod Built
 pub mod Codes
-pub mod Parsing
-pub mod Quiet
-pub mod Reader
-pub mod Report
+pub mod Inputs
+pub mod Outcome
 pub mod Rows
-pub mod RunOf
-pub mod Running
 pub mod Texts
-pub mod Tokens
-pub mod Words

@@ -1,16 +1,14 @@
 //! The top call: the words of the command line, a host, a sink and a gate in, a status out.
 #![tactic(auto)]
 
+pub mod answer;
 pub mod gate;
 pub mod host;
-pub mod instruction;
+pub mod inputs;
 pub mod print;
-pub mod reader;
-pub mod run;
 pub mod sink;
 pub mod status;
 #[cfg(test)]
 mod tests;
 pub mod texts;
 pub mod top;
-pub mod words;

@@ -8,10 +8,8 @@ ghost use Rattle.fx_top.specs.Texts.{IsReadAt};
 
 use fx_base::NoMemory;
 use fx_outside::{Host, HostFault, HostText};
+use fx_texts::TEXT_LIMIT;
 use std::alloc::Global;
-
-/// The most bytes that a text may have.
-pub const TEXT_LIMIT: usize = 65_536;
 
 /// How many bytes are asked for at a time.
 const PIECE: usize = 8_192;
