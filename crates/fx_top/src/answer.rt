@@ -1,5 +1,5 @@
 //! Whole runs from a base on.
-ghost use Rattle.std.specs.Prelude.{◌≡◌, ◌<◌, true, All, IfOk, length};
+ghost use Rattle.std.specs.Prelude.{◌≡◌, ◌<◌, ◌++◌, true, All, IfOk, length};
 ghost use Rattle.std.specs.FinMap.{get};
 ghost use Rattle.fx_folder.specs.Folder.{IsFlat};
 ghost use Rattle.fx_forms.specs.Built.{is_built_spec, is_built_plan};
@@ -50,7 +50,7 @@ fn output_of(alloc: Global, job: &Job, traced: &Traced) -> Result<LongText, NoMe
 }
 
 /// Runs all scripts on the loaded filestore, by the job's schedule.
-pub fn answer(
+pub fn run_scripts(
     alloc: Global,
     job: &Job,
     description: Checked,

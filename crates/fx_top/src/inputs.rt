@@ -1,5 +1,5 @@
 //! The texts of a run, read from the host.
-ghost use Rattle.std.specs.Prelude.{◌≡◌, ◌⊎◌, ◌≤◌, true, IfOk, IfErr, IfSome, IsSomeAnd, length, false};
+ghost use Rattle.std.specs.Prelude.{◌≡◌, ◌⊎◌, ◌+◌, ◌≤◌, true, IfOk, IfErr, IfSome, IsSomeAnd, length, false};
 ghost use Rattle.fx_base.specs.Causes.{Rose};
 ghost use Rattle.fx_outside.specs.Tree.{is_file_at};
 ghost use Rattle.fx_forms.specs.Built.{is_built_spec, is_built_script, is_built_plan};

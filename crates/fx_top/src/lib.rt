@@ -8,7 +8,5 @@ pub mod inputs;
 pub mod print;
 pub mod sink;
 pub mod status;
-#[cfg(test)]
-mod tests;
 pub mod texts;
 pub mod top;

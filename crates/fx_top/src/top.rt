@@ -10,7 +10,7 @@ ghost use Rattle.fx_top.specs.Answers.{last_of, IsAnswered, IsLoaded, AreTexts};
 ghost use Rattle.fx_top.specs.Inputs.{HasSpec};
 ghost use Rattle.fx_top.specs.Rows.{Row, ends, IsProper, IsSame};
 
-use crate::answer::{Answer, answer};
+use crate::answer::{Answer, run_scripts};
 use crate::inputs::{Unread, read_plan, read_spec};
 use crate::print::print_all;
 use crate::status::{Status, TextFault};
@@ -74,7 +74,7 @@ fn run_loaded<H: Host, S: Sink>(
         Err(SaveFault::NotEmpty) => return Status::NotEmpty,
         Err(SaveFault::NoMemory) => return Status::NoMemory,
     };
-    match answer(alloc, job, spec, plan, store) {
+    match run_scripts(alloc, job, spec, plan, store) {
         Ok(answer) => save_and_print(alloc, job, there, &answer, host, out),
         Err(NoMemory) => Status::NoMemory,
     }
