@@ -6,3 +6,5 @@ pub mod Calls
 pub mod Components
 pub mod WalkRules
 pub mod Stepping
+pub mod Nets
+pub mod Sames

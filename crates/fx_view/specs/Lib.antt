@@ -7,3 +7,4 @@ pub mod Follows
 pub mod Ways
 pub mod Walks
 pub mod Steps
+pub mod Net

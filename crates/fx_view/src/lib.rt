@@ -8,6 +8,7 @@ mod overlay;
 mod reader;
 mod reads;
 mod resolving;
+mod same;
 mod walk;
 
 pub use fx_store::{Landing, NameList};
