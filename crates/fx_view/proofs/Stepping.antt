@@ -1,5 +1,5 @@
 -- Steps of a walk through a reader.
-use Rattle.std.proofs.Common.{◌≡◌, ℕ, Bool, List, Option, Some, None, Result, Ok, Err, sym, subst}
+use Rattle.std.proofs.Common.{◌≡◌, ℕ, Bool, List, Option, Some, None, Ok, Err, sym, subst}
 use Rattle.fx_store.specs.declared.node.Node.{Node}
 use Rattle.fx_store.specs.declared.node.Landing.{Landing}
 use Rattle.fx_store.specs.Rule.{Known, Ask, Look, look}

@@ -1,15 +1,14 @@
 -- What is left of the rule of resolution after each step of a walk.
-use Rattle.std.proofs.Common.{◌≡◌, ℕ, zero, suc, ◌+◌, ◌<◌, Bool, true, false, cond, List, [], ◌∷◌, ◌++◌, map, length, get_or, take, drop, Option, Some, None, Result, Ok, Err, refl, sym, ap, ◌∙◌, arith, length-append, nat_lt}
+use Rattle.std.proofs.Common.{◌≡◌, ℕ, suc, ◌+◌, ◌<◌, Bool, true, false, cond, List, [], ◌∷◌, ◌++◌, map, length, get_or, take, drop, Option, Some, None, Ok, Err, refl, sym, ap, ◌∙◌, arith, length-append, nat_lt}
 use Rattle.std.proofs.lemmas.Bool.Decides.{nat_tests}
 use Rattle.std.proofs.lemmas.List.{take_more}
 use Rattle.fx_store.specs.declared.node.Node.{Node}
 use Rattle.fx_store.specs.declared.node.Node.TheVariants.{File, Dir, Link}
 use Rattle.fx_store.specs.declared.node.Landing.{Landing}
 use Rattle.fx_store.specs.declared.node.Landing.TheVariants.{At, TooManyLinks}
-use Rattle.fx_store.specs.declared.name.PathFault.{PathFault}
 use Rattle.fx_store.specs.declared.name.PathFault.TheVariants.{TooDeep}
 use Rattle.fx_store.specs.Faults.{joined}
-use Rattle.fx_store.specs.Rule.{Ask, Answer, Look}
+use Rattle.fx_store.specs.Rule.{Answer, Look}
 use Rattle.fx_store.specs.Resolve as rule
 use Rattle.fx_store.specs.Resolve.{◌/ₚ◌, is_full, walk, along, at_name, at_link, goes_along, start, components_of, missing, resolve}
 use Rattle.fx_view.specs.declared.walk.Walk.{Walk}

@@ -1,4 +1,4 @@
-use Rattle.std.proofs.Common.{refl, sym, ◌∙◌, arith}
+use Rattle.std.proofs.Common.{refl, arith}
 use Rattle.fx_view.proofs.Sames.{same_names}
 use Rattle.fx_view.proofs.same.are_same_names.Goals as goal
 

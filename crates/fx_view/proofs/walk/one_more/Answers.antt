@@ -1,4 +1,4 @@
-use Rattle.std.proofs.Common.{sym, ◌∙◌}
+use Rattle.std.proofs.Common.{sym}
 use Rattle.std.proofs.lemmas.Option.{get_or_from_slice_get}
 use Rattle.fx_view.proofs.WalkRules.{joined_more}
 use Rattle.fx_view.proofs.walk.one_more.Goals as goal
