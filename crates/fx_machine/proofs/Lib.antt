@@ -7,3 +7,4 @@ pub mod Few
 pub mod Stale
 pub mod Sums
 pub mod Lowering
+pub mod Settling
