@@ -8,3 +8,4 @@ pub mod Stale
 pub mod Sums
 pub mod Lowering
 pub mod Settling
+pub mod Weight
