@@ -1,0 +1,2 @@
+use crate::{read_description, read_script};
+use std::test::Fail;
