@@ -1,5 +1,8 @@
+ghost use Rattle.std.specs.Prelude.{◌≡◌, not, ◌&&◌};
 ghost use Rattle.fx_expr.specs.Views.{expr_tree};
 ghost use Rattle.fx_spec.specs.Views.{command_tree};
+ghost use Rattle.fx_forms.specs.Built.{is_one_of};
+ghost use Rattle.fx_parse.specs.Grammars.{is_name};
 ghost use Rattle.fx_parse.specs.Reader.{kinds};
 ghost use Rattle.fx_texts.specs.Reads.{Gives};
 ghost use Rattle.fx_texts.specs.Reader.{new_name_at, expr_at, argument_at, fetch_at, store_at, print_at, command_at};
@@ -13,6 +16,20 @@ use fx_parse::{Keyword, keyword_of};
 use fx_spec::{Act, Command};
 use std::alloc::Global;
 
+/// Whether a word names something that is not bound yet.
+fn is_new(names: &Names, word: &[u8]) -> bool
+    ensures { result ≡ is_name word.now && not (is_one_of names.now word.now) }
+{
+    keyword_of(word).is_none() && !names.has(word)
+}
+
+/// Whether a word names something that is bound.
+fn is_bound(names: &Names, word: &[u8]) -> bool
+    ensures { result ≡ is_name word.now && is_one_of names.now word.now }
+{
+    keyword_of(word).is_none() && names.has(word)
+}
+
 /// A name that is not bound, and what follows.
 fn new_name_at<'a>(
     alloc: Global,
@@ -23,13 +40,10 @@ fn new_name_at<'a>(
 {
     match first_of(tokens) {
         Some((Token::Word(word), rest)) => {
-            if keyword_of(word.as_slice()).is_some() {
-                return Err(Stop::NotBuilt);
+            if is_new(names, word.as_slice()) {
+                return Ok((word.copy(alloc)?, rest));
             }
-            if names.has(word.as_slice()) {
-                return Err(Stop::NotBuilt);
-            }
-            Ok((word.copy(alloc)?, rest))
+            Err(Stop::NotBuilt)
         }
         Some((Token::Number(_), _)) => Err(Stop::NotBuilt),
         Some((Token::Str(_), _)) => Err(Stop::NotBuilt),
@@ -49,10 +63,7 @@ fn expr_at<'a>(
     match first_of(tokens) {
         Some((Token::Str(text), rest)) => Ok((Expr::Str(text.copy(alloc)?), rest)),
         Some((Token::Word(word), rest)) => {
-            if keyword_of(word.as_slice()).is_some() {
-                return Err(Stop::NotBuilt);
-            }
-            if names.has(word.as_slice()) {
+            if is_bound(names, word.as_slice()) {
                 return Ok((Expr::Var(word.copy(alloc)?), rest));
             }
             Err(Stop::NotBuilt)

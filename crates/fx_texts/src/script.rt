@@ -56,11 +56,11 @@ pub(crate) fn txns_of(alloc: Global, tokens: &[Spanned]) -> Result<Txns, Stop>
     ensures { Finds (AreTxns (kinds tokens.now)) (λ x. x) result }
 {
     let mut txns = Txns::new(alloc);
-    let mut rest = tokens;
-    'reading: while !rest.is_empty() {
-        let (txn, after) = txn_at(alloc, rest)?;
+    let mut left = tokens;
+    'reading: while !left.is_empty() {
+        let (txn, after) = txn_at(alloc, left)?;
         txns.add(alloc, txn)?;
-        rest = after;
+        left = after;
     }
     Ok(txns)
 }

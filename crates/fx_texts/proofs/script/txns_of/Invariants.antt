@@ -4,7 +4,7 @@ use Rattle.fx_texts.proofs.Scripts.{IsReading}
 use Rattle.fx_texts.proofs.script.txns_of.Given as goal
 
 abbrev pub invariant-reading : goal.invariant-reading
-invariant-reading l = IsReading (kinds l.tokens) l.txns (kinds l.rest)
+invariant-reading l = IsReading (kinds l.tokens) l.txns (kinds l.left)
 
 abbrev pub decreases-reading : goal.decreases-reading
-decreases-reading l = length l.rest
+decreases-reading l = length l.left
