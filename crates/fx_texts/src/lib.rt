@@ -1,0 +1,14 @@
+//! The texts of descriptions and scripts of the built forms, read as the trees that they stand for.
+#![tactic(auto)]
+
+mod command;
+mod cursor;
+mod description;
+mod names;
+mod script;
+mod stop;
+#[cfg(test)]
+mod tests;
+mod texts;
+
+pub use texts::{TEXT_LIMIT, read_description, read_script};
