@@ -5,5 +5,8 @@ pub mod HeldEntries
 pub mod Listings
 pub mod Reading
 pub mod Steps
+mod TableExamples
+mod TableLines
+mod TableSpelling
 pub mod Texts
 pub mod Walk
