@@ -7,6 +7,7 @@ pub mod Reading
 pub mod Steps
 mod TableExamples
 mod TableLines
+mod TableLinks
 mod TableSpelling
 pub mod Texts
 pub mod Walk

@@ -1,7 +1,10 @@
 -- The table file is read in one way: what a text stands for is spelled by it, and by no other text.
-use Rattle.std.specs.Prelude.{◌≡◌, ℕ, ◌+◌, List, [], ◌∷◌, ◌++◌, All, length, Ok, Err}
-use Rattle.fx_store.specs.Whole.{Store}
-use Rattle.fx_folder.specs.Table.{TableLink, IsLink, IsTable, line_of, table_text, read_table}
+use Rattle.std.specs.Prelude.{◌≡◌, ℕ, ◌+◌, List, [], ◌∷◌, ◌++◌, All, length, Ok, Err, Option, Some, None}
+use Rattle.std.specs.FinMap.{get}
+use Rattle.fx_store.specs.declared.node.Node.{Node}
+use Rattle.fx_store.specs.declared.node.Node.TheVariants.{File, Dir, Link}
+use Rattle.fx_store.specs.Whole.{Store, Nodes, IsWhole}
+use Rattle.fx_folder.specs.Table.{TableLink, IsLink, IsTable, line_of, table_text, links_of, read_table}
 
 -- the text of a table is read as its links
 abbrev pub TablesAreRead : Type 0
@@ -31,3 +34,17 @@ pub record IsFirstBadLine (S : Store) (text : List ℕ) (number : ℕ) : Type 0 
 
 abbrev pub BadLinesAreFirst : Type 0
 BadLinesAreFirst = (S : Store) (text : List ℕ) (number : ℕ) → read_table S text ≡ Err number → IsFirstBadLine S text number
+
+abbrev pub but_no_link : Option Node → Option Node
+but_no_link None = None
+but_no_link (Some (File bytes)) = Some (File bytes)
+but_no_link (Some (Dir names)) = Some (Dir names)
+but_no_link (Some (Link text)) = None
+
+-- the files and directories of a filestore, whose directories list the links still
+abbrev pub unlinked : Store → Store
+unlinked S path = but_no_link (S path)
+
+-- the links of a whole filestore are a table over the rest of it, so that they are read back from its text
+abbrev pub LinksAreTables : Type 0
+LinksAreTables = (nodes : Nodes) → IsWhole (get nodes) → IsTable (unlinked (get nodes)) (links_of nodes)

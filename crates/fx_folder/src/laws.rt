@@ -1,6 +1,6 @@
 //! Laws of the folder's definitions. Each stands on a function that does nothing, so that it is proved with the crate.
 ghost use Rattle.fx_folder.specs.TableExamples.{TableExamples};
-ghost use Rattle.fx_folder.specs.TableLaws.{TablesAreRead, ReadTextsAreTables, TablesAreReadable, BadLinesAreFirst};
+ghost use Rattle.fx_folder.specs.TableLaws.{TablesAreRead, ReadTextsAreTables, TablesAreReadable, BadLinesAreFirst, LinksAreTables};
 
 /// The text of a table is read as the links of the table.
 pub fn tables_are_read()
@@ -20,6 +20,11 @@ pub fn tables_are_readable()
 /// Where a text is refused, the lines before the bad one are those of a table, and no table has one line more of the text.
 pub fn bad_lines_are_first()
     ensures { BadLinesAreFirst }
+{}
+
+/// The links of a whole filestore are a table over its files and directories.
+pub fn links_are_tables()
+    ensures { LinksAreTables }
 {}
 
 /// Small tables: how they are spelled, how they are read, and which line of others is bad.
