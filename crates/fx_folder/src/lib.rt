@@ -6,6 +6,8 @@ pub mod laws;
 mod loading;
 mod readying;
 mod saving;
+#[cfg(test)]
+mod tests;
 
 pub use fault::{FolderCause, LoadFault, SaveFault};
 pub use loading::load;
