@@ -58,22 +58,19 @@ def check(run, count):
 
 
 def main():
-    rows = []
+    table = measure.Table(
+        "txforest trace, schedule none",
+        ["transactions", "scripts", "s", "peak MiB", "bytes printed", "longer", "per size"],
+        len("transactions"),
+    )
     before = None
     for count in measure.sizes(sys.argv[1:], COUNTS):
         run, scripts = traced(count)
         check(run, count)
-        grown = ["", ""]
-        if before is not None:
-            longer, per_size = measure.growth(run.seconds, before[1], count, before[0])
-            grown = [f"{longer:.1f}", f"{per_size:.2f}"]
-        rows.append([f"{count}", f"{scripts}", f"{run.seconds:.3f}", f"{run.peak_kib // 1024}", f"{len(run.out)}", *grown])
-        before = (count, run.seconds)
-    measure.table(
-        "txforest trace, schedule none",
-        ["transactions", "scripts", "s", "peak MiB", "bytes printed", "times longer", "per size"],
-        rows,
-    )
+        now = (count, run.seconds)
+        grown = measure.growth(now, before)
+        table.add([f"{count}", f"{scripts}", f"{run.seconds:.3f}", f"{run.peak_kib // 1024}", f"{len(run.out)}", *grown])
+        before = now
 
 
 main()
