@@ -1,5 +1,5 @@
--- The numbers of faults.
-use Rattle.std.specs.Prelude.{ℕ}
+-- The numbers of faults, and what they are printed as.
+use Rattle.std.specs.Prelude.{ℕ, List, codes}
 use Rattle.fx_expr.specs.declared.fault.ExprFault.{ExprFault}
 use Rattle.fx_expr.specs.declared.fault.ExprFault.TheVariants.{TooLong, Overflow, NotNumber}
 
@@ -7,3 +7,8 @@ abbrev pub fault_number : ExprFault → ℕ
 fault_number TooLong = 1
 fault_number Overflow = 2
 fault_number NotNumber = 3
+
+abbrev pub fault_text : ExprFault → List ℕ
+fault_text TooLong = codes "TooLong"
+fault_text Overflow = codes "Overflow"
+fault_text NotNumber = codes "NotNumber"

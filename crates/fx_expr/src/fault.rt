@@ -38,6 +38,11 @@ pub enum EvalFault {
 }
 
 impl fmt::Display for ExprFault {
+    ghost use Rattle.std.specs.Prelude.{Some};
+    ghost use Rattle.fx_expr.specs.Faults.{fault_text};
+
+    ghost output = { λ fault. Some (fault_text fault) };
+
     fn fmt<W: fmt::Write>(&self, f: &mut fmt::Formatter<W>) -> fmt::Result {
         f.write_str(match self {
             ExprFault::TooLong => "TooLong",

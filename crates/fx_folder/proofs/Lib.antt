@@ -5,5 +5,9 @@ pub mod HeldEntries
 pub mod Listings
 pub mod Reading
 pub mod Steps
+mod TableExamples
+mod TableLines
+mod TableLinks
+mod TableSpelling
 pub mod Texts
 pub mod Walk

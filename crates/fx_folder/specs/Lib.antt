@@ -3,4 +3,8 @@ pub mod Folder
 pub mod Held
 pub mod Loads
 pub mod Reads
+pub mod Table
+pub mod TableExamples
+pub mod TableLaws
+pub mod TableSpelling
 pub mod Written

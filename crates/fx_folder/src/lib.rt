@@ -2,9 +2,12 @@
 #![tactic(auto)]
 
 mod fault;
+pub mod laws;
 mod loading;
 mod readying;
 mod saving;
+#[cfg(test)]
+mod tests;
 
 pub use fault::{FolderCause, LoadFault, SaveFault};
 pub use loading::load;

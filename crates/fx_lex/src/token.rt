@@ -65,6 +65,11 @@ pub enum LexFault {
 }
 
 impl fmt::Display for LexFault {
+    ghost use Rattle.std.specs.Prelude.{Some};
+    ghost use Rattle.fx_lex.specs.Faults.{fault_text};
+
+    ghost output = { λ fault. Some (fault_text fault) };
+
     fn fmt<W: fmt::Write>(&self, f: &mut fmt::Formatter<W>) -> fmt::Result {
         match self {
             LexFault::BadToken(place) => write!(f, "no token begins at byte {place}"),

@@ -1,6 +1,6 @@
 -- The calls on an object in memory: the numbers of those that are to fail, counted from 0 over all calls, how many there
 -- were, and how many failed.
-use Rattle.std.specs.Prelude.{◌≡◌, ◌==◌, ◌+◌, ◌-◌, ◌^◌, ℕ, Bool, true, false, List, min, Result, Err, IsErr}
+use Rattle.std.specs.Prelude.{◌≡◌, ◌==◌, ◌+◌, ◌-◌, ◌^◌, ℕ, Bool, true, false, List, min, Result, Ok, Err, IsOk, IsErr}
 use Rattle.std.specs.List.{list_any}
 
 pub record Plan : Type 0 where
@@ -21,8 +21,17 @@ pub record IsCounted (old new : Plan) : Type 0 where
   pub made : new.made ≡ counted old.made
   pub failing : new.failing ≡ old.failing
 
--- A call was counted. Where it suits what it is made on, it fails if it is listed and does not if it is not.
+-- A call was counted. Where it suits what it is made on, it fails if it is listed and does not if it is not. Such a
+-- failure is counted once, and no other call counts one.
 pub record FollowsPlan {A E : Type 0} (old new : Plan) (suits : Bool) (failed : E) (result : Result A E) : Type 0 where
   pub counts : IsCounted old new
   pub fails : suits ≡ true → is_next_failing old ≡ true → IsErr result
   pub works : suits ≡ true → is_next_failing old ≡ false → result ≡ Err failed → ⊥
+  pub raised : suits ≡ true → result ≡ Err failed → new.faults ≡ counted old.faults
+  pub quiet : IsOk result → new.faults ≡ old.faults
+  pub still : is_next_failing old ≡ false → new.faults ≡ old.faults
+
+-- each failure is counted, and nothing else
+abbrev pub CountsFailure : {A E : Type 0} → Plan → Plan → Result A E → Type 0
+CountsFailure old new (Ok _) = new.faults ≡ old.faults
+CountsFailure old new (Err _) = new.faults ≡ counted old.faults

@@ -67,7 +67,7 @@ impl Sink for MemorySink {
     ghost use Rattle.std.specs.Prelude.{◌≡◌, ◌<◌, Some, length};
     ghost use Rattle.fx_outside.specs.MemorySink.{sink_bytes, sink_room, sink_calls, FillsRoom};
     ghost use Rattle.fx_outside.specs.Sink.{written_after, TakesSome, HasFault};
-    ghost use Rattle.fx_outside.specs.Calls.{IsCounted};
+    ghost use Rattle.fx_outside.specs.Calls.{IsCounted, CountsFailure};
 
     ghost written = { λ s. Some s.bytes.items };
 
@@ -81,6 +81,7 @@ impl Sink for MemorySink {
         ensures fills { FillsRoom self.old bytes.now result }
         ensures room { sink_room self.new ≡ sink_room self.old }
         ensures counts { IsCounted (sink_calls self.old) (sink_calls self.new) }
+        ensures failures { CountsFailure (sink_calls self.old) (sink_calls self.new) result }
     {
         let fails = self.calls.begin();
         let left = self.room as usize - self.bytes.len();

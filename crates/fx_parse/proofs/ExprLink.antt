@@ -11,7 +11,7 @@ use Rattle.fx_parse.specs.declared.keyword.Keyword.TheVariants as keyword
 use Rattle.fx_parse.specs.Stuck.{Stuck, Unexpected, TooNested, ◌>>=◌}
 use Rattle.fx_parse.specs.Grammars.{word, opening, closing, comma, binary_token, unary_word, bool_word, expr_tokens, expr_levels, has_names}
 use Rattle.fx_parse.specs.Reader.{expect, is_opening, is_closing, is_comma, Head, Leaf, Bracket, Before, Choice, Nothing, head_of, Middle, Binary, Glob, Neither, middle_of, middle_found, middle_at, glob_at, ReadExpr, second_at, bracket_at, before_at, choice_at, form_at, too_nested, is_nothing, read_expr}
-use Rattle.fx_parse.proofs.Machine.{shallow, scan, scan_from}
+use Rattle.fx_parse.proofs.Machine.{at_most, scan, scan_from}
 use Rattle.fx_parse.proofs.ExprMachine.{Sym, Expr, Operator, Text, Open, Close, Comma, table, head_stack, middle_stack, passed, head_word, head_unary, head_bool, head_name, middle_binary, middle_only}
 
 -- a chain of readings
@@ -117,16 +117,16 @@ expr_follows (suc n) d e stack (x ∷ ts) =
     ap (λ b. scan_from table (head_stack d (head_of x)) b (suc (length ts)) (λ more. go (more ++ stack) ts)) (le-ltb 64 d (omega (arith, e))) ∙ form_from d (read_expr n) stack ts (head_of x) (expr_follows n (suc d) (omega (arith, e)))
 
 -- the tokens of an expression are read as that expression
-level_fits : (d : ℕ) (t : ExprTree) → shallow (expr_levels d t) ≡ true → d ≤ 64
-level_fits d (ExprTree.str v) h = leb-true d 64 (and_parts _ _ h).0
-level_fits d (ExprTree.int n) h = leb-true d 64 (and_parts _ _ h).0
-level_fits d (ExprTree.bool b) h = leb-true d 64 (and_parts _ _ h).0
-level_fits d ExprTree.empty h = leb-true d 64 (and_parts _ _ h).0
-level_fits d (ExprTree.var w) h = leb-true d 64 (and_parts _ _ h).0
-level_fits d (ExprTree.bin op a b) h = leb-true d 64 (and_parts _ _ h).0
-level_fits d (ExprTree.un op a) h = leb-true d 64 (and_parts _ _ h).0
-level_fits d (ExprTree.choose c a b) h = leb-true d 64 (and_parts _ _ h).0
-level_fits d (ExprTree.only a glob) h = leb-true d 64 (and_parts _ _ h).0
+level_fits : (bound d : ℕ) (t : ExprTree) → at_most bound (expr_levels d t) ≡ true → d ≤ bound
+level_fits bound d (ExprTree.str v) h = leb-true d bound (and_parts _ _ h).0
+level_fits bound d (ExprTree.int n) h = leb-true d bound (and_parts _ _ h).0
+level_fits bound d (ExprTree.bool b) h = leb-true d bound (and_parts _ _ h).0
+level_fits bound d ExprTree.empty h = leb-true d bound (and_parts _ _ h).0
+level_fits bound d (ExprTree.var w) h = leb-true d bound (and_parts _ _ h).0
+level_fits bound d (ExprTree.bin op a b) h = leb-true d bound (and_parts _ _ h).0
+level_fits bound d (ExprTree.un op a) h = leb-true d bound (and_parts _ _ h).0
+level_fits bound d (ExprTree.choose c a b) h = leb-true d bound (and_parts _ _ h).0
+level_fits bound d (ExprTree.only a glob) h = leb-true d bound (and_parts _ _ h).0
 
 -- one level of the reader, at a token that begins a form
 opens : (n : ℕ) (x : Token) (ts : List Token) (h : Head) → head_of x ≡ h → is_nothing h ≡ false → read_expr (suc n) (x ∷ ts) ≡ form_at (read_expr n) h ts
@@ -135,14 +135,14 @@ opens n x ts h e some =
     ap (λ k. cond (is_nothing k) (Err (Unexpected (suc (length ts)))) (form_at (read_expr n) k ts)) e ∙ ap (λ b. cond b (Err (Unexpected (suc (length ts)))) (form_at (read_expr n) h ts)) some
 
 -- the levels of a front and of what follows
-pub front_low : (k l : List ℕ) → shallow (k ++ l) ≡ true → shallow k ≡ true
-front_low k l h = (and_parts _ _ (sym (list_all-append _ k l) ∙ h)).0
+pub front_low : (bound : ℕ) (k l : List ℕ) → at_most bound (k ++ l) ≡ true → at_most bound k ≡ true
+front_low bound k l h = (and_parts _ _ (sym (list_all-append _ k l) ∙ h)).0
 
-pub rest_low : (k l : List ℕ) → shallow (k ++ l) ≡ true → shallow l ≡ true
-rest_low k l h = (and_parts _ _ (sym (list_all-append _ k l) ∙ h)).1
+pub rest_low : (bound : ℕ) (k l : List ℕ) → at_most bound (k ++ l) ≡ true → at_most bound l ≡ true
+rest_low bound k l h = (and_parts _ _ (sym (list_all-append _ k l) ∙ h)).1
 
-pub tail_low : (d : ℕ) (l : List ℕ) → shallow (d ∷ l) ≡ true → shallow l ≡ true
-tail_low d l h = (and_parts _ _ h).1
+pub tail_low : (bound d : ℕ) (l : List ℕ) → at_most bound (d ∷ l) ≡ true → at_most bound l ≡ true
+tail_low bound d l h = (and_parts _ _ h).1
 
 again_bin : (n : ℕ) (op : BinOp) (a b : ExprTree) (rest : List Token) → ((r : List Token) → read_expr n (expr_tokens a ++ r) ≡ Ok (a, r)) → ((r : List Token) → read_expr n (expr_tokens b ++ r) ≡ Ok (b, r)) → bracket_at (read_expr n) ((expr_tokens a ++ (binary_token op ∷ (expr_tokens b ++ closing ∷ []))) ++ rest) ≡ Ok (ExprTree.bin op a b, rest)
 unfolding bracket_at second_at
@@ -182,39 +182,39 @@ again_choice n c a b rest one two three =
     let middle = expr_tokens a ++ (comma ∷ last) in
     ap (λ ts. read_expr n ts >>= f) (append_assoc (expr_tokens c) (comma ∷ middle) rest) ∙ ap (λ r. r >>= f) (one (comma ∷ (middle ++ rest))) ∙ ap (λ ts. read_expr n ts >>= g c) (append_assoc (expr_tokens a) (comma ∷ last) rest) ∙ ap (λ r. r >>= g c) (two (comma ∷ (last ++ rest))) ∙ ap (λ ts. read_expr n ts >>= h c a) (append_assoc (expr_tokens b) (closing ∷ []) rest) ∙ ap (λ r. r >>= h c a) (three (closing ∷ rest))
 
-pub expr_again : (t : ExprTree) (left d : ℕ) (rest : List Token) → d + left ≡ 65 → has_names t ≡ true → shallow (expr_levels d t) ≡ true → read_expr left (expr_tokens t ++ rest) ≡ Ok (t, rest)
+pub expr_again : (t : ExprTree) (bound left d : ℕ) (rest : List Token) → d + left ≡ suc bound → has_names t ≡ true → at_most bound (expr_levels d t) ≡ true → read_expr left (expr_tokens t ++ rest) ≡ Ok (t, rest)
 unfolding form_at
-expr_again t zero d rest e h low = let fits = level_fits d t low in absurd (omega (arith, e, fits))
-expr_again (ExprTree.str v) (suc n) d rest e h low = opens n (token.Str v) rest (Leaf (ExprTree.str v)) refl refl
-expr_again (ExprTree.int z) (suc n) d rest e h low = opens n (token.Number z) rest (Leaf (ExprTree.int z)) refl refl
-expr_again (ExprTree.bool b) (suc n) d rest e h low = opens n (word (bool_word b)) rest (Leaf (ExprTree.bool b)) (head_bool b) refl
-expr_again ExprTree.empty (suc n) d rest e h low = opens n (word keyword.Empty) rest (Leaf ExprTree.empty) (head_word keyword.Empty) refl
-expr_again (ExprTree.var w) (suc n) d rest e h low = opens n (token.Word w) rest (Leaf (ExprTree.var w)) (head_name w h) refl
-expr_again (ExprTree.bin op a b) (suc n) d rest e h low =
+expr_again t bound zero d rest e h low = let fits = level_fits bound d t low in absurd (omega (arith, e, fits))
+expr_again (ExprTree.str v) bound (suc n) d rest e h low = opens n (token.Str v) rest (Leaf (ExprTree.str v)) refl refl
+expr_again (ExprTree.int z) bound (suc n) d rest e h low = opens n (token.Number z) rest (Leaf (ExprTree.int z)) refl refl
+expr_again (ExprTree.bool b) bound (suc n) d rest e h low = opens n (word (bool_word b)) rest (Leaf (ExprTree.bool b)) (head_bool b) refl
+expr_again ExprTree.empty bound (suc n) d rest e h low = opens n (word keyword.Empty) rest (Leaf ExprTree.empty) (head_word keyword.Empty) refl
+expr_again (ExprTree.var w) bound (suc n) d rest e h low = opens n (token.Word w) rest (Leaf (ExprTree.var w)) (head_name w h) refl
+expr_again (ExprTree.bin op a b) bound (suc n) d rest e h low =
     let hs = and_parts (has_names a) (has_names b) h in
-    let inner = tail_low d (expr_levels (suc d) a ++ (0 ∷ (expr_levels (suc d) b ++ 0 ∷ []))) low in
-    let behind = tail_low 0 (expr_levels (suc d) b ++ 0 ∷ []) (rest_low (expr_levels (suc d) a) (0 ∷ (expr_levels (suc d) b ++ 0 ∷ [])) inner) in
-    let next : suc d + n ≡ 65 = omega (arith, e) in
-    opens n opening _ Bracket refl refl ∙ again_bin n op a b rest (λ r. expr_again a n (suc d) r next hs.0 (front_low (expr_levels (suc d) a) _ inner)) (λ r. expr_again b n (suc d) r next hs.1 (front_low (expr_levels (suc d) b) (0 ∷ []) behind))
-expr_again (ExprTree.un op a) (suc n) d rest e h low =
-    let inner = tail_low 0 (expr_levels (suc d) a ++ 0 ∷ []) (tail_low d (0 ∷ (expr_levels (suc d) a ++ 0 ∷ [])) low) in
-    let next : suc d + n ≡ 65 = omega (arith, e) in
-    opens n (word (unary_word op)) _ (Before op) (head_unary op) refl ∙ again_un n op a rest (λ r. expr_again a n (suc d) r next h (front_low (expr_levels (suc d) a) (0 ∷ []) inner))
-expr_again (ExprTree.choose c a b) (suc n) d rest e h low =
+    let inner = tail_low bound d (expr_levels (suc d) a ++ (0 ∷ (expr_levels (suc d) b ++ 0 ∷ []))) low in
+    let behind = tail_low bound 0 (expr_levels (suc d) b ++ 0 ∷ []) (rest_low bound (expr_levels (suc d) a) (0 ∷ (expr_levels (suc d) b ++ 0 ∷ [])) inner) in
+    let next : suc d + n ≡ suc bound = omega (arith, e) in
+    opens n opening _ Bracket refl refl ∙ again_bin n op a b rest (λ r. expr_again a bound n (suc d) r next hs.0 (front_low bound (expr_levels (suc d) a) _ inner)) (λ r. expr_again b bound n (suc d) r next hs.1 (front_low bound (expr_levels (suc d) b) (0 ∷ []) behind))
+expr_again (ExprTree.un op a) bound (suc n) d rest e h low =
+    let inner = tail_low bound 0 (expr_levels (suc d) a ++ 0 ∷ []) (tail_low bound d (0 ∷ (expr_levels (suc d) a ++ 0 ∷ [])) low) in
+    let next : suc d + n ≡ suc bound = omega (arith, e) in
+    opens n (word (unary_word op)) _ (Before op) (head_unary op) refl ∙ again_un n op a rest (λ r. expr_again a bound n (suc d) r next h (front_low bound (expr_levels (suc d) a) (0 ∷ []) inner))
+expr_again (ExprTree.choose c a b) bound (suc n) d rest e h low =
     let hs = and_parts (has_names c) _ h in
     let is = and_parts (has_names a) (has_names b) hs.1 in
     let lb = expr_levels (suc d) b ++ 0 ∷ [] in
     let la = expr_levels (suc d) a ++ (0 ∷ lb) in
     let lc = expr_levels (suc d) c ++ (0 ∷ la) in
-    let first = tail_low 0 lc (tail_low d (0 ∷ lc) low) in
-    let second = tail_low 0 la (rest_low (expr_levels (suc d) c) (0 ∷ la) first) in
-    let third = tail_low 0 lb (rest_low (expr_levels (suc d) a) (0 ∷ lb) second) in
-    let next : suc d + n ≡ 65 = omega (arith, e) in
-    opens n (word keyword.If) _ Choice (head_word keyword.If) refl ∙ again_choice n c a b rest (λ r. expr_again c n (suc d) r next hs.0 (front_low (expr_levels (suc d) c) (0 ∷ la) first)) (λ r. expr_again a n (suc d) r next is.0 (front_low (expr_levels (suc d) a) (0 ∷ lb) second)) (λ r. expr_again b n (suc d) r next is.1 (front_low (expr_levels (suc d) b) (0 ∷ []) third))
-expr_again (ExprTree.only a glob) (suc n) d rest e h low =
-    let inner = tail_low d (expr_levels (suc d) a ++ 0 ∷ 0 ∷ 0 ∷ []) low in
-    let next : suc d + n ≡ 65 = omega (arith, e) in
-    opens n opening _ Bracket refl refl ∙ again_only n a glob rest (λ r. expr_again a n (suc d) r next h (front_low (expr_levels (suc d) a) _ inner))
+    let first = tail_low bound 0 lc (tail_low bound d (0 ∷ lc) low) in
+    let second = tail_low bound 0 la (rest_low bound (expr_levels (suc d) c) (0 ∷ la) first) in
+    let third = tail_low bound 0 lb (rest_low bound (expr_levels (suc d) a) (0 ∷ lb) second) in
+    let next : suc d + n ≡ suc bound = omega (arith, e) in
+    opens n (word keyword.If) _ Choice (head_word keyword.If) refl ∙ again_choice n c a b rest (λ r. expr_again c bound n (suc d) r next hs.0 (front_low bound (expr_levels (suc d) c) (0 ∷ la) first)) (λ r. expr_again a bound n (suc d) r next is.0 (front_low bound (expr_levels (suc d) a) (0 ∷ lb) second)) (λ r. expr_again b bound n (suc d) r next is.1 (front_low bound (expr_levels (suc d) b) (0 ∷ []) third))
+expr_again (ExprTree.only a glob) bound (suc n) d rest e h low =
+    let inner = tail_low bound d (expr_levels (suc d) a ++ 0 ∷ 0 ∷ 0 ∷ []) low in
+    let next : suc d + n ≡ suc bound = omega (arith, e) in
+    opens n opening _ Bracket refl refl ∙ again_only n a glob rest (λ r. expr_again a bound n (suc d) r next h (front_low bound (expr_levels (suc d) a) _ inner))
 
 -- the reader at each kind of first token
 pub read_end : (left : ℕ) → read_expr left [] ≡ Err (Unexpected 0)

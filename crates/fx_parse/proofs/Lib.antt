@@ -7,3 +7,4 @@ pub mod ExprPlaces
 pub mod ReaderPlaces
 pub mod ShapeLink
 pub mod ShapeMachine
+pub mod OnePlace

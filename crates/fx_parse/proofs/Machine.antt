@@ -10,9 +10,13 @@ pub record Table (Sym : Type 0) : Type 0 where
   pub expand : Sym → Token → Option (List Sym)
   pub level : Sym → ℕ
 
+-- each level is at most a bound
+abbrev pub at_most : ℕ → List ℕ → Bool
+at_most bound levels = list_all (λ level. leb level bound) levels
+
 -- each level is at most 64
 abbrev pub shallow : List ℕ → Bool
-shallow levels = list_all (λ level. leb level 64) levels
+shallow levels = at_most 64 levels
 
 pub shallow_at : (levels : List ℕ) (i : ℕ) → shallow levels ≡ true → get_or levels i 0 ≤ 64
 shallow_at [] i h = omega arith

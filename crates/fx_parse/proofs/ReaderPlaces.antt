@@ -1,6 +1,7 @@
 -- What a reader says of trees, where it goes as a machine of its grammar does and reads the tokens of each tree.
 use Rattle.std.proofs.Common.{◌≡◌, ℕ, zero, suc, ◌+◌, ◌-◌, ◌≤◌, true, Result, Ok, Err, List, [], ◌∷◌, ◌++◌, length, drop, refl, sym, ap, ◌∙◌, subst, arith, length-append, length-drop}
 use Rattle.std.proofs.lemmas.List.{length-map, drop_at, drop-drop}
+use Rattle.std.proofs.lemmas.Bool.{and_from, le-leb}
 use Rattle.fx_lex.specs.declared.token.Token.{Token}
 use Rattle.fx_lex.specs.declared.token.Spanned.{Spanned}
 use Rattle.fx_lex.specs.TokenList.{TokenList}
@@ -11,8 +12,18 @@ use Rattle.fx_parse.specs.Stuck.{Stuck, Unexpected, TooNested, ◌>>=◌, Stops}
 use Rattle.fx_parse.specs.Readable.{Grammar, Stands, IsUnexpected, IsTooNested}
 use Rattle.fx_parse.specs.Reader.{kinds}
 use Rattle.fx_parse.specs.ReadAt.{IsReadAt, IsParseFault, fault_at}
-use Rattle.fx_parse.proofs.Machine.{Table, shallow, Outcome, scan, scan_says}
+use Rattle.fx_parse.specs.Laws.{OneReading, OneForm}
+use Rattle.fx_parse.proofs.Machine.{Table, at_most, Outcome, scan, scan_says}
 use Rattle.fx_parse.proofs.Places.{Fits, unexpected_is, too_nested_is, stands_is}
+
+-- all levels together, which none is above
+abbrev total : List ℕ → ℕ
+total [] = 0
+total (n ∷ levels) = n + total levels
+
+under_total : (bound : ℕ) (levels : List ℕ) → total levels ≤ bound → at_most bound levels ≡ true
+under_total bound [] h = refl
+under_total bound (n ∷ levels) h = and_from _ _ (le-leb n bound (omega arith)) (under_total bound levels (omega arith))
 
 module _ {Tree : Type 0} where
   -- readings that are equal
@@ -57,7 +68,7 @@ next_is spanned rest next within e =
 pub record Follows {Sym : Type 0} {Tree : Type 0} (m : Table Sym) (g : Grammar Tree) (start : ℕ → Sym) (read : ℕ → List Token → Result (Tree × List Token) Stuck) : Type 0 where
   pub fits : Fits m g start
   pub follows : (left d : ℕ) → d + left ≡ 65 → (stack : List Sym) (ts : List Token) → scan m (start d ∷ stack) ts ≡ (read left ts >>= (λ r. scan m stack r.1))
-  pub again : (t : Tree) (left d : ℕ) (rest : List Token) → d + left ≡ 65 → g.IsRight t ≡ true → shallow (g.levels d t) ≡ true → read left (g.tokens t ++ rest) ≡ Ok (t, rest)
+  pub again : (t : Tree) (bound left d : ℕ) (rest : List Token) → d + left ≡ suc bound → g.IsRight t ≡ true → at_most bound (g.levels d t) ≡ true → read left (g.tokens t ++ rest) ≡ Ok (t, rest)
 
 module _ {Sym : Type 0} {Tree : Type 0} (m : Table Sym) (g : Grammar Tree) (start : ℕ → Sym) (read : ℕ → List Token → Result (Tree × List Token) Stuck) (reader : Follows m g start read) where
   module _ (d left : ℕ) (levels : d + left ≡ 65) (ts : List Token) where
@@ -66,7 +77,7 @@ module _ {Sym : Type 0} {Tree : Type 0} (m : Table Sym) (g : Grammar Tree) (star
         subst (λ o. Outcome m (start d ∷ []) ts o) (reader.follows left d levels [] ts ∙ ap (λ o. o >>= (λ p. Ok p.1)) e) (scan_says m ts (start d ∷ []))
 
     pub stands_read : (t : Tree) (rest : List Token) → Stands g d ts t rest → read left ts ≡ Ok (t, rest)
-    stands_read t rest s = ap (read left) s.spelled ∙ reader.again t left d rest levels s.right s.nested
+    stands_read t rest s = ap (read left) s.spelled ∙ reader.again t 64 left d rest levels s.right s.nested
 
     pub read_stands : (t : Tree) (rest : List Token) → read left ts ≡ Ok (t, rest) → Stands g d ts t rest
     read_stands t rest e =
@@ -91,8 +102,14 @@ module _ {Sym : Type 0} {Tree : Type 0} (m : Table Sym) (g : Grammar Tree) (star
     stop_only (stop.TooNested k) p e f = absurd (ok_not_err p (TooNested k) (sym f ∙ e))
     stop_only stop.NoMemory p e f = refl
 
+  -- the tokens of one tree never begin those of another
+  pub one_reading : OneReading g
+  one_reading t u x y right other e =
+      let bound = total (g.levels 0 t) + total (g.levels 0 u) in
+      let first = reader.again t bound (suc bound) 0 x (omega arith) right (under_total bound (g.levels 0 t) (omega arith)) in
+      let second = reader.again u bound (suc bound) 0 y (omega arith) other (under_total bound (g.levels 0 u) (omega arith)) in
+      same_read t u x y (sym first ∙ ap (read (suc bound)) e ∙ second)
+
   -- at most one tree stands at the front of tokens
-  pub one_tree : (d : ℕ) (ts : List Token) (t u : Tree) (x y : List Token) → d ≤ 65 → Stands g d ts t x → Stands g d ts u y → (t ≡ u) × (x ≡ y)
-  one_tree d ts t u x y low s r =
-      let levels : d + (65 - d) ≡ 65 = omega (arith, low) in
-      same_read t u x y (sym (stands_read d (65 - d) levels ts t x s) ∙ stands_read d (65 - d) levels ts u y r)
+  pub one_form : OneForm g
+  one_form d ts t u x y s r = one_reading t u x y s.right r.right (sym s.spelled ∙ r.spelled)

@@ -10,9 +10,8 @@ use Rattle.fx_parse.specs.Stuck.{Stuck, Unexpected, TooNested, ◌>>=◌}
 use Rattle.fx_parse.specs.Grammars.{word, opening, closing, comma, shape_tokens, shape_levels, shapes}
 use Rattle.fx_parse.specs.Reader.{expect, is_opening, is_closing, is_comma}
 use Rattle.fx_parse.specs.ShapeReader.{shape_of, ReadShape, pair_at, opt_at, table_at, shape_form_at, is_no_shape, shape_too_nested, read_shape}
-use Rattle.fx_parse.specs.Laws.{OneShape}
-use Rattle.fx_parse.proofs.Machine.{shallow, scan, scan_from}
-use Rattle.fx_parse.proofs.ReaderPlaces.{Follows, one_tree}
+use Rattle.fx_parse.proofs.Machine.{at_most, scan, scan_from}
+use Rattle.fx_parse.proofs.ReaderPlaces.{Follows}
 use Rattle.fx_parse.proofs.ShapeMachine.{Sym, Shape, Open, Close, Comma, table, shape_stack, passed, shape_word, shape_fits}
 use Rattle.fx_parse.proofs.ExprLink.{same_then, then_then, front_low, rest_low, tail_low}
 
@@ -89,14 +88,14 @@ shape_follows (suc n) d e stack [] = refl
 shape_follows (suc n) d e stack (x ∷ ts) =
     ap (λ b. scan_from table (shape_stack d (shape_of x)) b (suc (length ts)) (λ more. go (more ++ stack) ts)) (le-ltb 64 d (omega (arith, e))) ∙ form_from d (read_shape n) stack ts (shape_of x) (shape_follows n (suc d) (omega (arith, e)))
 
-level_fits : (d : ℕ) (t : ShapeTree) → shallow (shape_levels d t) ≡ true → d ≤ 64
-level_fits d ShapeTree.str h = leb-true d 64 (and_parts _ _ h).0
-level_fits d ShapeTree.int h = leb-true d 64 (and_parts _ _ h).0
-level_fits d ShapeTree.bool h = leb-true d 64 (and_parts _ _ h).0
-level_fits d ShapeTree.names h = leb-true d 64 (and_parts _ _ h).0
-level_fits d (ShapeTree.pair a b) h = leb-true d 64 (and_parts _ _ h).0
-level_fits d (ShapeTree.opt a) h = leb-true d 64 (and_parts _ _ h).0
-level_fits d (ShapeTree.table a) h = leb-true d 64 (and_parts _ _ h).0
+level_fits : (bound d : ℕ) (t : ShapeTree) → at_most bound (shape_levels d t) ≡ true → d ≤ bound
+level_fits bound d ShapeTree.str h = leb-true d bound (and_parts _ _ h).0
+level_fits bound d ShapeTree.int h = leb-true d bound (and_parts _ _ h).0
+level_fits bound d ShapeTree.bool h = leb-true d bound (and_parts _ _ h).0
+level_fits bound d ShapeTree.names h = leb-true d bound (and_parts _ _ h).0
+level_fits bound d (ShapeTree.pair a b) h = leb-true d bound (and_parts _ _ h).0
+level_fits bound d (ShapeTree.opt a) h = leb-true d bound (and_parts _ _ h).0
+level_fits bound d (ShapeTree.table a) h = leb-true d bound (and_parts _ _ h).0
 
 -- one level of the reader, at a token that begins a form
 opens : (n : ℕ) (x : Token) (ts : List Token) (h : ShapeStart) → shape_of x ≡ h → is_no_shape h ≡ false → read_shape (suc n) (x ∷ ts) ≡ shape_form_at (read_shape n) h ts
@@ -116,34 +115,31 @@ again_pair n a b rest one two =
     let last = shape_tokens b ++ closing ∷ [] in
     ap (λ ts. read_shape n ts >>= g) (append_assoc (shape_tokens a) (comma ∷ last) rest) ∙ ap (λ r. r >>= g) (one (comma ∷ (last ++ rest))) ∙ ap (λ ts. read_shape n ts >>= h a) (append_assoc (shape_tokens b) (closing ∷ []) rest) ∙ ap (λ r. r >>= h a) (two (closing ∷ rest))
 
-shape_again : (t : ShapeTree) (left d : ℕ) (rest : List Token) → d + left ≡ 65 → shallow (shape_levels d t) ≡ true → read_shape left (shape_tokens t ++ rest) ≡ Ok (t, rest)
+shape_again : (t : ShapeTree) (bound left d : ℕ) (rest : List Token) → d + left ≡ suc bound → at_most bound (shape_levels d t) ≡ true → read_shape left (shape_tokens t ++ rest) ≡ Ok (t, rest)
 unfolding shape_form_at opt_at table_at
-shape_again t zero d rest e low = let fits = level_fits d t low in absurd (omega (arith, e, fits))
-shape_again ShapeTree.str (suc n) d rest e low = opens n (word keyword.Str) rest start.Str (shape_word keyword.Str) refl
-shape_again ShapeTree.int (suc n) d rest e low = opens n (word keyword.Int) rest start.Int (shape_word keyword.Int) refl
-shape_again ShapeTree.bool (suc n) d rest e low = opens n (word keyword.Bool) rest start.Bool (shape_word keyword.Bool) refl
-shape_again ShapeTree.names (suc n) d rest e low = opens n (word keyword.Names) rest start.Names (shape_word keyword.Names) refl
-shape_again (ShapeTree.pair a b) (suc n) d rest e low =
+shape_again t bound zero d rest e low = let fits = level_fits bound d t low in absurd (omega (arith, e, fits))
+shape_again ShapeTree.str bound (suc n) d rest e low = opens n (word keyword.Str) rest start.Str (shape_word keyword.Str) refl
+shape_again ShapeTree.int bound (suc n) d rest e low = opens n (word keyword.Int) rest start.Int (shape_word keyword.Int) refl
+shape_again ShapeTree.bool bound (suc n) d rest e low = opens n (word keyword.Bool) rest start.Bool (shape_word keyword.Bool) refl
+shape_again ShapeTree.names bound (suc n) d rest e low = opens n (word keyword.Names) rest start.Names (shape_word keyword.Names) refl
+shape_again (ShapeTree.pair a b) bound (suc n) d rest e low =
     let lb = shape_levels (suc d) b ++ 0 ∷ [] in
     let la = shape_levels (suc d) a ++ (0 ∷ lb) in
-    let first = tail_low 0 la (tail_low d (0 ∷ la) low) in
-    let second = tail_low 0 lb (rest_low (shape_levels (suc d) a) (0 ∷ lb) first) in
-    let next : suc d + n ≡ 65 = omega (arith, e) in
-    opens n (word keyword.Pair) _ start.Pair (shape_word keyword.Pair) refl ∙ again_pair n a b rest (λ r. shape_again a n (suc d) r next (front_low (shape_levels (suc d) a) (0 ∷ lb) first)) (λ r. shape_again b n (suc d) r next (front_low (shape_levels (suc d) b) (0 ∷ []) second))
-shape_again (ShapeTree.opt a) (suc n) d rest e low =
-    let inner = tail_low 0 (shape_levels (suc d) a ++ 0 ∷ []) (tail_low d (0 ∷ (shape_levels (suc d) a ++ 0 ∷ [])) low) in
-    let next : suc d + n ≡ 65 = omega (arith, e) in
-    opens n (word keyword.Opt) _ start.Opt (shape_word keyword.Opt) refl ∙ again_inside n ShapeTree.opt a rest (λ r. shape_again a n (suc d) r next (front_low (shape_levels (suc d) a) (0 ∷ []) inner))
-shape_again (ShapeTree.table a) (suc n) d rest e low =
-    let inner = tail_low 0 (shape_levels (suc d) a ++ 0 ∷ []) (tail_low d (0 ∷ (shape_levels (suc d) a ++ 0 ∷ [])) low) in
-    let next : suc d + n ≡ 65 = omega (arith, e) in
-    opens n (word keyword.Table) _ start.Table (shape_word keyword.Table) refl ∙ again_inside n ShapeTree.table a rest (λ r. shape_again a n (suc d) r next (front_low (shape_levels (suc d) a) (0 ∷ []) inner))
+    let first = tail_low bound 0 la (tail_low bound d (0 ∷ la) low) in
+    let second = tail_low bound 0 lb (rest_low bound (shape_levels (suc d) a) (0 ∷ lb) first) in
+    let next : suc d + n ≡ suc bound = omega (arith, e) in
+    opens n (word keyword.Pair) _ start.Pair (shape_word keyword.Pair) refl ∙ again_pair n a b rest (λ r. shape_again a bound n (suc d) r next (front_low bound (shape_levels (suc d) a) (0 ∷ lb) first)) (λ r. shape_again b bound n (suc d) r next (front_low bound (shape_levels (suc d) b) (0 ∷ []) second))
+shape_again (ShapeTree.opt a) bound (suc n) d rest e low =
+    let inner = tail_low bound 0 (shape_levels (suc d) a ++ 0 ∷ []) (tail_low bound d (0 ∷ (shape_levels (suc d) a ++ 0 ∷ [])) low) in
+    let next : suc d + n ≡ suc bound = omega (arith, e) in
+    opens n (word keyword.Opt) _ start.Opt (shape_word keyword.Opt) refl ∙ again_inside n ShapeTree.opt a rest (λ r. shape_again a bound n (suc d) r next (front_low bound (shape_levels (suc d) a) (0 ∷ []) inner))
+shape_again (ShapeTree.table a) bound (suc n) d rest e low =
+    let inner = tail_low bound 0 (shape_levels (suc d) a ++ 0 ∷ []) (tail_low bound d (0 ∷ (shape_levels (suc d) a ++ 0 ∷ [])) low) in
+    let next : suc d + n ≡ suc bound = omega (arith, e) in
+    opens n (word keyword.Table) _ start.Table (shape_word keyword.Table) refl ∙ again_inside n ShapeTree.table a rest (λ r. shape_again a bound n (suc d) r next (front_low bound (shape_levels (suc d) a) (0 ∷ []) inner))
 
 pub shape_reader : Follows table shapes Shape read_shape
-shape_reader = record { fits = shape_fits; follows = shape_follows; again = λ t left d rest e h low. shape_again t left d rest e low }
-
-pub one_shape : OneShape
-one_shape = one_tree table shapes Shape read_shape shape_reader
+shape_reader = record { fits = shape_fits; follows = shape_follows; again = λ t bound left d rest e h low. shape_again t bound left d rest e low }
 
 -- the reader at each kind of first token
 pub read_end : (left : ℕ) → read_shape left [] ≡ Err (Unexpected 0)

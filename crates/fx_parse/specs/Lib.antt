@@ -1,3 +1,4 @@
+pub mod Faults
 pub mod Grammars
 pub mod Heads
 pub mod Keywords

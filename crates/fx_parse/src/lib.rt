@@ -6,6 +6,7 @@ mod expr;
 mod fault;
 mod head;
 mod keyword;
+mod laws;
 mod parse;
 mod shape;
 mod shape_head;
@@ -13,4 +14,5 @@ mod stop;
 
 pub use fault::ParseFault;
 pub use keyword::{KEYWORDS, Keyword, keyword_of};
-pub use parse::{LEVEL_LIMIT, one_reading, parse_expr, parse_shape};
+pub use laws::{one_place, one_reading};
+pub use parse::{LEVEL_LIMIT, parse_expr, parse_shape};

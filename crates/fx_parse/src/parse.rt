@@ -3,7 +3,6 @@ ghost use Rattle.fx_expr.specs.ExprTree.{ExprTree};
 ghost use Rattle.fx_expr.specs.ShapeTree.{ShapeTree};
 ghost use Rattle.fx_expr.specs.Views.{expr_tree, shape_tree};
 ghost use Rattle.fx_parse.specs.Grammars.{exprs, shapes};
-ghost use Rattle.fx_parse.specs.Laws.{OneExpression, OneShape};
 ghost use Rattle.fx_parse.specs.ReadAt.{place_left, fault_at, IsReadAt, IsParseFault};
 
 use crate::expr::expr_at;
@@ -82,12 +81,6 @@ pub fn parse_shape(
         Err(stop) => Err(fault_at(tokens, stop)),
     }
 }
-
-/// At most one expression and one shape stand at the front of tokens, and each ends at one place.
-pub fn one_reading()
-    ensures expression { OneExpression }
-    ensures shape { OneShape }
-{}
 
 #[cfg(test)]
 mod tests {
