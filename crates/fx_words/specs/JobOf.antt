@@ -1,8 +1,8 @@
 -- What the program's own command stands for.
-use Rattle.std.specs.Prelude.{◌≡◌, ℕ, ◌≤◌, ◌<◌, List, [], drop, length, Option, Some, None, IsSome}
+use Rattle.std.specs.Prelude.{◌≡◌, ℕ, ◌+◌, ◌≤◌, true, List, [], drop, length, Option, Some, None, is_some}
 use Rattle.std.specs.Option.{unwrap_or, option_map}
 use Rattle.fx_words.specs.declared.job.Job as code
-use Rattle.fx_words.specs.Job.{Job, Mode, Plain, Scheduled, schedule_of}
+use Rattle.fx_words.specs.Job.{Job, Mode, Plain, Scheduled, schedule_of, first_place}
 
 abbrev pub scripts_in : code.Job → List (List ℕ)
 scripts_in j = drop j.first j.words.now
@@ -17,7 +17,14 @@ schedule_text j = option_map (λ (t : _). t.now) j.schedule
 abbrev pub asked : code.Job → Job
 asked j = record { spec = j.spec.now; folder = j.folder.now; out = j.out.now; scripts = scripts_in j; mode = mode_of (length (scripts_in j)) (schedule_text j) }
 
--- 1 to 64 scripts follow the other words, and the schedule can be read
+-- the schedule is one of so many shells
+abbrev pub IsScheduleOf : ℕ → Option (List ℕ) → Type 0
+IsScheduleOf count None = Unit {0}
+IsScheduleOf count (Some schedule) = is_some (schedule_of count schedule) ≡ true
+
+-- the scripts are 1 to 64, and are the words from their place on; the schedule can be read
 pub record IsJob (j : code.Job) : Type 0 where
+  pub first : j.first ≡ first_place (asked j).mode
   pub some : 1 ≤ length (scripts_in j)
   pub few : length (scripts_in j) ≤ 64
+  pub schedule : IsScheduleOf (length (scripts_in j)) (schedule_text j)

@@ -1,6 +1,8 @@
 //! The words of the command line: which command they ask for, with its arguments.
 #![tactic(auto)]
 
+mod decimal;
 mod job;
+mod schedule;
 
 pub use job::{Job, job_of};

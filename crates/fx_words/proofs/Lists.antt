@@ -1,0 +1,96 @@
+-- A list from a place on, and tests of all its elements.
+use Rattle.std.proofs.Common.{◌≡◌, ℕ, zero, suc, ◌+◌, ◌<◌, ◌≤◌, Bool, true, false, cond, ◌&&◌, List, [], ◌∷◌, ◌++◌, length, drop, map, get_or, Option, Some, None, refl, sym, ap, ◌∙◌, arith}
+use Rattle.std.specs.Prelude.{is_some, codes}
+use Rattle.std.specs.List.{slice_get, list_all, slice_split}
+use Rattle.std.specs.Option.{option_map, option_and_then}
+use Rattle.std.specs.Str.{bytes_eq}
+use Rattle.std.proofs.lemmas.List.{map-append}
+use Rattle.fx_words.specs.Job.{is_plain, shell_named, shells_named, schedule_of, is_comma}
+
+pub drop_there : {X : Type 0} (xs : List X) (i : ℕ) (x : X) → Some x ≡ slice_get xs i → drop i xs ≡ x ∷ drop (i + 1) xs
+drop_there [] i x e = cc
+drop_there (y ∷ ys) zero x e = let same : x ≡ y = cc in ap (λ z. z ∷ ys) (sym same)
+drop_there (y ∷ ys) (suc i) x e =
+    let rest = drop_there ys i x e in
+    let next : suc i + 1 ≡ suc (i + 1) = omega arith in
+    rest ∙ ap (λ n. x ∷ drop n (y ∷ ys)) (sym next)
+
+pub drop_past : {X : Type 0} (xs : List X) (i : ℕ) → length xs ≤ i → drop i xs ≡ []
+drop_past [] zero h = refl
+drop_past [] (suc i) h = refl
+drop_past (x ∷ xs) zero h = absurd (omega arith)
+drop_past (x ∷ xs) (suc i) h = drop_past xs i (omega arith)
+
+pub plain_from : (ws : List (List ℕ)) (i : ℕ) (w : List ℕ) → Some w ≡ slice_get ws i → list_all is_plain (drop i ws) ≡ is_plain w && list_all is_plain (drop (i + 1) ws)
+plain_from ws i w e = ap (list_all is_plain) (drop_there ws i w e)
+
+pub not_plain : (ws : List (List ℕ)) (i : ℕ) (w : List ℕ) → Some w ≡ slice_get ws i → is_plain w ≡ false → list_all is_plain (drop i ws) ≡ false
+not_plain ws i w e isnt = plain_from ws i w e ∙ ap (λ b. b && list_all is_plain (drop (i + 1) ws)) isnt
+
+pub plain_on : (ws : List (List ℕ)) (i : ℕ) (w : List ℕ) → Some w ≡ slice_get ws i → is_plain w ≡ true → list_all is_plain (drop i ws) ≡ list_all is_plain (drop (i + 1) ws)
+plain_on ws i w e is = plain_from ws i w e ∙ ap (λ b. b && list_all is_plain (drop (i + 1) ws)) is
+
+pub plain_past : (ws : List (List ℕ)) (i : ℕ) → length ws ≤ i → list_all is_plain (drop i ws) ≡ true
+plain_past ws i h = ap (list_all is_plain) (drop_past ws i h)
+
+-- the parts name shells exactly where each does
+pub all_named : (count : ℕ) (texts : List (List ℕ)) → list_all (λ part. is_some (shell_named count part)) texts ≡ is_some (shells_named count texts)
+all_named count [] = refl
+all_named count (text ∷ texts) = at (shell_named count text) (all_named count texts)
+  where
+    at : (o : Option ℕ) → list_all (λ part. is_some (shell_named count part)) texts ≡ is_some (shells_named count texts) → is_some o && list_all (λ part. is_some (shell_named count part)) texts ≡ is_some (option_and_then (λ k. option_map (λ ks. k ∷ ks) (shells_named count texts)) o)
+    at None rest = refl
+    at (Some k) rest = rest ∙ mapped k (shells_named count texts)
+      where
+        mapped : (k : ℕ) (o : Option (List ℕ)) → is_some o ≡ is_some (option_map (λ ks. k ∷ ks) o)
+        mapped k None = refl
+        mapped k (Some ks) = refl
+
+-- one more shell at the end
+pub named_push : (count : ℕ) (texts : List (List ℕ)) (ks : List ℕ) (text : List ℕ) (k : ℕ) → shells_named count texts ≡ Some ks → shell_named count text ≡ Some k → shells_named count (texts ++ text ∷ []) ≡ Some (ks ++ k ∷ [])
+named_push count [] ks text k e f =
+    let none : [] ≡ ks = cc in
+    ap (λ o. option_and_then (λ k. option_map (λ ks. k ∷ ks) (Some [])) o) f ∙ ap (λ rest. Some (rest ++ k ∷ [])) none
+named_push count (t ∷ texts) ks text k e f = at (shell_named count t) (shells_named count texts) e (λ rest g. named_push count texts rest text k g f)
+  where
+    at : (o : Option ℕ) (r : Option (List ℕ)) → option_and_then (λ k. option_map (λ ks. k ∷ ks) r) o ≡ Some ks → ((rest : List ℕ) → r ≡ Some rest → shells_named count (texts ++ text ∷ []) ≡ Some (rest ++ k ∷ [])) → option_and_then (λ k. option_map (λ ks. k ∷ ks) (shells_named count (texts ++ text ∷ []))) o ≡ Some (ks ++ k ∷ [])
+    at None r e on = cc
+    at (Some j) None e on = cc
+    at (Some j) (Some rest) e on =
+        let same : j ∷ rest ≡ ks = cc in
+        ap (option_map (λ ks. j ∷ ks)) (on rest refl) ∙ ap (λ xs. Some (xs ++ k ∷ [])) same
+
+pub is_there : {X : Type 0} (xs : List X) (i : ℕ) → suc i ≤ length xs → None ≡ slice_get xs i → ⊥
+is_there [] i h e = omega arith
+is_there (x ∷ xs) zero h e = cc
+is_there (x ∷ xs) (suc i) h e = is_there xs i (omega arith) e
+
+-- where each element passes, so does the one that was read
+first_passes : (a b : Bool) → a && b ≡ true → a ≡ true
+first_passes true b e = refl
+first_passes false b e = cc
+
+second_passes : (a b : Bool) → a && b ≡ true → b ≡ true
+second_passes true b e = e
+second_passes false b e = cc
+
+pub passes_at : {X : Type 0} (p : X → Bool) (xs : List X) (i : ℕ) (x : X) → list_all p xs ≡ true → (i < length xs) × (x ≡ get_or xs i x) → p x ≡ true
+passes_at p [] i x all at = absurd (omega (arith, at.0))
+passes_at p (y ∷ ys) zero x all at = rw at.1 (first_passes (p y) (list_all p ys) all)
+passes_at p (y ∷ ys) (suc i) x all at = passes_at p ys i x (second_passes (p y) (list_all p ys) all) (omega (arith, at.0), at.1)
+
+pub not_none : {X : Type 0} (o : Option X) → is_some o ≡ true → None ≡ o → ⊥
+not_none None e h = cc
+not_none (Some x) e h = cc
+
+-- one more part that was read
+pub named_more : {X : Type 0} (f : X → List ℕ) (count : ℕ) (xs : List X) (x : X) (ks : List ℕ) (k : ℕ) → shells_named count (map f xs) ≡ Some ks → Some k ≡ shell_named count (f x) → shells_named count (map f (xs ++ x ∷ [])) ≡ Some (ks ++ k ∷ [])
+named_more f count xs x ks k e h = rw (map-append f xs (x ∷ [])) (named_push count (map f xs) ks (f x) k e (sym h))
+
+-- a schedule that is no `none` is of shells
+pub are_shells : (count : ℕ) (text : List ℕ) → is_some (schedule_of count text) ≡ true → bytes_eq text (codes "none") ≡ false → list_all (λ part. is_some (shell_named count part)) (slice_split is_comma text) ≡ true
+are_shells count text e isnt =
+    all_named count (slice_split is_comma text) ∙ ap (λ b. is_some (cond b (Some []) (shells_named count (slice_split is_comma text)))) (sym isnt) ∙ e
+
+pub schedule_is : (count : ℕ) (text ks : List ℕ) → bytes_eq text (codes "none") ≡ false → shells_named count (slice_split is_comma text) ≡ Some ks → schedule_of count text ≡ Some ks
+schedule_is count text ks isnt e = ap (λ b. cond b (Some []) (shells_named count (slice_split is_comma text))) isnt ∙ e

@@ -1,0 +1,30 @@
+//! The decimal texts of small numbers.
+ghost use Rattle.std.specs.Prelude.{◌≡◌, ◌<◌, ◌≤◌, bytes_eq};
+ghost use Rattle.std.specs.Fmt.{decimal};
+ghost use Rattle.fx_words.specs.Job as job;
+
+/// Whether a text is the decimal text of a number below 100.
+fn is_decimal(number: u32, text: &[u8]) -> bool
+    requires { number < 100 }
+    ensures { result ≡ bytes_eq (decimal number) text.now }
+{
+    let tens = b'0' + (number / 10) as u8;
+    let ones = b'0' + (number % 10) as u8;
+    if number < 10 {
+        return [ones].as_slice() == text;
+    }
+    [tens, ones].as_slice() == text
+}
+
+/// The shell that a text names, of so many shells.
+pub(crate) fn shell_named(count: u32, text: &[u8]) -> Option<u32>
+    requires { count ≤ 64 }
+    ensures { result ≡ job.shell_named count text.now }
+{
+    for k in 0..count {
+        if is_decimal(k, text) {
+            return Some(k);
+        }
+    }
+    None
+}
