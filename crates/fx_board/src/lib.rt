@@ -2,6 +2,8 @@
 #![tactic(auto)]
 
 mod board;
+mod growing;
+mod stale;
 
 pub use board::{Board, Settle};
 pub use fx_machine::{Attempt, Entry, Event, Events, Pair, Retries, Retry};
