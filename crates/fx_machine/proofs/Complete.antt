@@ -1,21 +1,20 @@
 -- The conflicts of a run to a complete order are good retries.
-use Rattle.std.proofs.Common.{◌≡◌, ◌≢◌, ◌⊎◌, inl, inr, ⊎_elim, ℕ, zero, suc, ◌+◌, ◌<◌, ◌≤◌, Bool, true, false, cond, nat_eq, List, [], ◌∷◌, ◌++◌, map, length, get_or, set, slice_get, Some, None, refl, sym, ap, subst, ◌∙◌, arith, length-append}
+use Rattle.std.proofs.Common.{◌≡◌, inl, inr, ⊎_elim, ℕ, zero, suc, ◌<◌, ◌≤◌, Bool, true, false, cond, nat_eq, List, [], ◌∷◌, ◌++◌, map, length, get_or, set, slice_get, Some, None, refl, sym, ap, subst, ◌∙◌, arith, length-append}
 use Rattle.std.specs.List.{All, Contains, cons_option, flat_map}
 use Rattle.std.proofs.lemmas.Bool.{cases_lt, eqb-true, eqb-false}
 use Rattle.std.proofs.lemmas.List.{map-append, append-nil, append_assoc}
 use Rattle.std.proofs.lemmas.List.Concat.{flat_map-append}
 use Rattle.std.proofs.lemmas.List.Elements.{All-nil, All-cons, All-head, All-tail, All-push, All-append, All-weaker, filter_map-append}
-use Rattle.std.proofs.lemmas.Option.{slice_get_within, slice_get-get_or, same_Some, none-some}
+use Rattle.std.proofs.lemmas.Option.{slice_get-get_or, same_Some, none-some}
 use Rattle.std.specs.FinMap.{get}
-use Rattle.fx_spec.specs.CommandTree.{CommandTree}
-use Rattle.fx_spec.specs.Plans.{Turn, count_of}
-use Rattle.fx_spec.specs.Order.{BaseTree, state, Changes, number_in, numbers_of, first_numbers, IsComplete, RetryTree, IsRetry, Precedes, InOrder, RetriesOk}
+use Rattle.fx_spec.specs.Plans.{Turn}
+use Rattle.fx_spec.specs.Order.{BaseTree, Changes, number_in, numbers_of, first_numbers, IsComplete, RetryTree, IsRetry, Precedes, InOrder}
 use Rattle.fx_spec.proofs.Orders.{state-front}
 use Rattle.fx_machine.specs.declared.event.Event.{Event}
 use Rattle.fx_machine.specs.declared.event.Event.TheVariants as event
 use Rattle.fx_machine.specs.declared.retry.Retry.{Retry}
-use Rattle.fx_machine.specs.Machine.{Machine, Look, IsStaleAt, looks_of, next_number, Looks, Settles, Restarts, Step, Run, resting}
-use Rattle.fx_machine.specs.Tried.{retry_tree, conflicts_of, retries_of}
+use Rattle.fx_machine.specs.Machine.{Machine, Look, looks_of, next_number, Restarts, Step, Run, resting}
+use Rattle.fx_machine.specs.Tried.{retry_tree, conflicts_of}
 use Rattle.fx_machine.specs.Laws.{CompleteRuns}
 use Rattle.fx_machine.proofs.Legal.{fewer_settled}
 use Rattle.fx_machine.proofs.Reached.{IsSound, set_looks, position_in, sound_step, sound_start}
@@ -131,9 +130,12 @@ conflict_retries base m m' shell entry path o more sound r complete grown =
       before = ⊎_elim
           (λ (early : here.0 < length m.order). absurd (own here.0 (slice_get_before m.order more here.0 (shell, next_number m.order shell) early (subst (λ o. slice_get o here.0 ≡ Some (shell, next_number m.order shell)) grown stands))))
           (λ (late : length m.order ≤ here.0). let h : entry < here.0 = omega arith in h) (cases_lt here.0 (length m.order));
-      other = ((get_or m.order entry (0, 0)).0, (get_or m.order entry (0, 0)).1,
-          subst (λ o. slice_get o entry ≡ Some (get_or m.order entry (0, 0))) (sym grown) (slice_get_front m.order more entry (get_or m.order entry (0, 0)) at),
-          other_entry base m shell entry path sound r.stale (get_or m.order entry (0, 0)).0 (get_or m.order entry (0, 0)).1 at);
+      other = (
+        (get_or m.order entry (0, 0)).0,
+        (get_or m.order entry (0, 0)).1,
+        subst (λ o. slice_get o entry ≡ Some (get_or m.order entry (0, 0))) (sym grown) (slice_get_front m.order more entry (get_or m.order entry (0, 0)) at),
+        other_entry base m shell entry path sound r.stale (get_or m.order entry (0, 0)).0 (get_or m.order entry (0, 0)).1 at,
+      );
       changed = subst (λ o. Changes base o entry path) (sym grown) (λ same. r.stale.4 (ap (λ nodes. get nodes path) (sym (state-front base m.order more entry (omega arith))) ∙ same ∙ ap (λ nodes. get nodes path) (state-front base m.order more (suc entry) within)));
     }
   where
@@ -160,14 +162,14 @@ tried_conflict base o m m' shell k entry low path rs more sound r complete grown
         let same : k ≡ shell = eqb-true k shell is in
         let first : RetryTree = record { shell = k; txn = next_number m.order shell; entry = entry; path = path } in
         let retry : IsRetry base o (record { shell = k; txn = next_number m.order shell; entry = entry; path = path }) =
-            subst (λ n. IsRetry base o (record { shell = k; txn = n; entry = entry; path = path })) (ap (next_number m.order) same) (conflict_retries base m m' k entry path o more sound r complete grown) in
+        subst (λ n. IsRetry base o (record { shell = k; txn = n; entry = entry; path = path })) (ap (next_number m.order) same) (conflict_retries base m m' k entry path o more sound r complete grown) in
         let since : low ≤ r.stale.0 = position_in (λ (l : Look). low ≤ l.1) (looks_of m k) path r.stale.0 (subst (λ k. All (λ (l : Look). low ≤ l.1) (looks_of m k)) (sym same) all) r.stale.1 in
         let not_after : r.stale.0 ≤ entry = r.stale.2 in
         let within : entry < length m.order = r.stale.3 in
         let later : AreTried base o shell (next_number m.order shell) (suc entry) (map retry_tree rs) =
-            rest (suc entry) within (subst (λ k. All (λ (l : Look). suc entry ≤ l.1) (looks_of m' k)) same (set_own m m' k entry (ap (λ (m : Machine). m.looks) r.after))) in
+        rest (suc entry) within (subst (λ k. All (λ (l : Look). suc entry ≤ l.1) (looks_of m' k)) same (set_own m m' k entry (ap (λ (m : Machine). m.looks) r.after))) in
         subst (λ s. AreTried base o s (next_number m.order shell) low (first ∷ map retry_tree rs)) same
-            (tried_more base o low first (map retry_tree rs) retry (omega arith) (subst (λ s. AreTried base o s (next_number m.order shell) (suc entry) (map retry_tree rs)) (sym same) later))
+        (tried_more base o low first (map retry_tree rs) retry (omega arith) (subst (λ s. AreTried base o s (next_number m.order shell) (suc entry) (map retry_tree rs)) (sym same) later))
       where
         set_own : (m m' : Machine) (k entry : ℕ) → m'.looks ≡ set m.looks k [] → All (λ (l : Look). suc entry ≤ l.1) (looks_of m' k)
         set_own m m' k entry after = subst (λ ls. All (λ (l : Look). suc entry ≤ l.1) (get_or ls k [])) (sym after) (set_looks (All (λ (l : Look). suc entry ≤ l.1)) m.looks k k [] (All-nil (λ (l : Look). suc entry ≤ l.1)) (λ e. All-nil (λ (l : Look). suc entry ≤ l.1)) (λ n. absurd (n refl)))
@@ -181,24 +183,24 @@ tried_from base o complete shell txn low (event.Look k path position ∷ events)
     let order : run.0.order ≡ m.order = ap (λ (m : Machine). m.order) run.1.after in
     let now : position ≡ length m.order = run.1.now in
     tried_from base o complete shell txn low events run.0 (sound_step base m (event.Look k path position) run.0 sound run.1) run.2
-        (number ∙ ap (λ o. next_number o shell) (sym order))
-        (subst (λ o. low ≤ length o) (sym order) short)
-        (keeps_low m run.0 shell k low (looks_of m k ++ (path, position) ∷ []) (ap (λ (m : Machine). m.looks) run.1.after)
-            (λ e. All-push (λ (l : Look). low ≤ l.1) (looks_of m k) (path, position) (subst (λ k. All (λ (l : Look). low ≤ l.1) (looks_of m k)) e all) (omega arith)) all)
+    (number ∙ ap (λ o. next_number o shell) (sym order))
+    (subst (λ o. low ≤ length o) (sym order) short)
+    (keeps_low m run.0 shell k low (looks_of m k ++ (path, position) ∷ []) (ap (λ (m : Machine). m.looks) run.1.after)
+    (λ e. All-push (λ (l : Look). low ≤ l.1) (looks_of m k) (path, position) (subst (λ k. All (λ (l : Look). low ≤ l.1) (looks_of m k)) e all) (omega arith)) all)
 tried_from base o complete shell txn low (event.Settled k entry ∷ events) m sound run number short all =
     let order : run.0.order ≡ m.order ++ (k, next_number m.order k) ∷ [] = ap (λ (m : Machine). m.order) run.1.after in
     tried_since base o shell txn low (map retry_tree (conflicts_of shell (cond (nat_eq k shell) (suc txn) txn) events)) (nat_eq k shell)
-        (tried_from base o complete shell (cond (nat_eq k shell) (suc txn) txn) low events run.0 (sound_step base m (event.Settled k entry) run.0 sound run.1) run.2
-            (ap (λ n. cond (nat_eq k shell) (suc n) n) number ∙ sym (next_after m.order k (next_number m.order k) shell) ∙ ap (λ o. next_number o shell) (sym order))
-            (subst (λ o. low ≤ length o) (sym order) (omega (arith, length-append m.order ((k, next_number m.order k) ∷ []))))
-            (keeps_low m run.0 shell k low [] (ap (λ (m : Machine). m.looks) run.1.after) (λ e. All-nil (λ (l : Look). low ≤ l.1)) all))
+    (tried_from base o complete shell (cond (nat_eq k shell) (suc txn) txn) low events run.0 (sound_step base m (event.Settled k entry) run.0 sound run.1) run.2
+    (ap (λ n. cond (nat_eq k shell) (suc n) n) number ∙ sym (next_after m.order k (next_number m.order k) shell) ∙ ap (λ o. next_number o shell) (sym order))
+    (subst (λ o. low ≤ length o) (sym order) (omega (arith, length-append m.order ((k, next_number m.order k) ∷ []))))
+    (keeps_low m run.0 shell k low [] (ap (λ (m : Machine). m.looks) run.1.after) (λ e. All-nil (λ (l : Look). low ≤ l.1)) all))
 tried_from base o complete shell txn low (event.Conflict k entry path ∷ events) m sound run number short all =
     let order : run.0.order ≡ m.order = ap (λ (m : Machine). m.order) run.1.after in
     let grown = run_extends base m (event.Conflict k entry path ∷ events) (resting base o) run in
     subst (λ n. AreTried base o shell n low (map retry_tree (cond (nat_eq k shell) (record { shell = k; txn = n; entry = entry; path = path } ∷ conflicts_of shell n events) (conflicts_of shell n events)))) (sym number)
-        (tried_conflict base o m run.0 shell k entry low path (conflicts_of shell (next_number m.order shell) events) grown.0 sound run.1 complete grown.1 short all
-            (λ low short all. tried_from base o complete shell (next_number m.order shell) low events run.0 (sound_step base m (event.Conflict k entry path) run.0 sound run.1) run.2
-                (ap (λ o. next_number o shell) (sym order)) (subst (λ o. low ≤ length o) (sym order) short) all))
+    (tried_conflict base o m run.0 shell k entry low path (conflicts_of shell (next_number m.order shell) events) grown.0 sound run.1 complete grown.1 short all
+    (λ low short all. tried_from base o complete shell (next_number m.order shell) low events run.0 (sound_step base m (event.Conflict k entry path) run.0 sound run.1) run.2
+    (ap (λ o. next_number o shell) (sym order)) (subst (λ o. low ≤ length o) (sym order) short) all))
 
 -- ---- all shells
 
@@ -224,7 +226,7 @@ retries_below : (base : BaseTree) (o : List Turn) (f : ℕ → List Retry) → (
 retries_below base o f tried zero = record { each = All-nil (IsRetry base o); below = All-nil (λ (r : RetryTree). r.shell < 0); order = tt }
 retries_below base o f tried (suc n) =
     let parts : map retry_tree (flat_map f (first_numbers n ++ n ∷ [])) ≡ map retry_tree (flat_map f (first_numbers n)) ++ map retry_tree (f n) =
-        ap (map retry_tree) (flat_map-append f (first_numbers n) (n ∷ []) ∙ ap (λ last. flat_map f (first_numbers n) ++ last) (append-nil (f n))) ∙ map-append retry_tree (flat_map f (first_numbers n)) (f n) in
+    ap (map retry_tree) (flat_map-append f (first_numbers n) (n ∷ []) ∙ ap (λ last. flat_map f (first_numbers n) ++ last) (append-nil (f n))) ∙ map-append retry_tree (flat_map f (first_numbers n)) (f n) in
     subst (AreRetries base o (suc n)) (sym parts) (joined base o n (map retry_tree (flat_map f (first_numbers n))) (map retry_tree (f n)) 0 (retries_below base o f tried n) (tried n))
 
 pub complete_runs : CompleteRuns

@@ -1,7 +1,7 @@
 -- Laws of the machine.
-use Rattle.std.specs.Prelude.{◌≡◌, ◌≢◌, ℕ, ◌<◌, List, [], map, slice_get, Some}
+use Rattle.std.specs.Prelude.{◌≡◌, ◌≢◌, ℕ, List, [], map, slice_get, Some}
 use Rattle.fx_spec.specs.Plans.{Turn}
-use Rattle.fx_spec.specs.Order.{BaseTree, IsLegal, IsComplete, Changes, RetriesOk}
+use Rattle.fx_spec.specs.Order.{BaseTree, IsLegal, IsComplete, RetriesOk}
 use Rattle.fx_machine.specs.declared.event.Event.{Event}
 use Rattle.fx_machine.specs.Machine.{Machine, Run, Step, Settles, Restarts, IsStaleAt, looks_of, resting}
 use Rattle.fx_machine.specs.Measure.{measure, IsLower, HasRoom}
