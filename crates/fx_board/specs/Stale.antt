@@ -13,8 +13,11 @@ abbrev pub IsReadBy : ReadList → List (List ℕ) → ℕ → Type 0
 IsReadBy reads path entry = (node : Option Node) × (position : ℕ) × (read_at reads path ≡ Some (node, position)) × (position ≤ entry)
 
 -- the entry says that it changed the path, which was read at or before it
-abbrev pub IsMarked : List Entry → ReadList → ℕ → List (List ℕ) → Type 0
-IsMarked entries reads entry path = (e : Entry) × (slice_get entries entry ≡ Some e) × Contains e.changed path × IsReadBy reads path entry
+pub record IsMarked (entries : List Entry) (reads : ReadList) (entry : ℕ) (path : List (List ℕ)) : Type 0 where
+  pub settled : Entry
+  pub stands : slice_get entries entry ≡ Some settled
+  pub changed : Contains settled.changed path
+  pub read : IsReadBy reads path entry
 
 -- a conflict with the entry at the path, or want of memory, with the attempt
 abbrev pub IsConflict : ℕ → List (List ℕ) → Attempt → Settle → Type 0
