@@ -1,6 +1,6 @@
 //! What takes memory when an attempt becomes an entry.
 ghost use Rattle.std.specs.Prelude.{◌≡◌, ◌++◌, [], ◌∷◌, IfOk, IfErr, OnOk, OnErr};
-ghost use Rattle.fx_store.specs.Changes.{changed_paths};
+ghost use Rattle.fx_store.specs.Changes.{IsChanges, changed_paths};
 ghost use Rattle.fx_store.specs.Filestore.{HavePlaces};
 ghost use Rattle.fx_board.specs.Growing.{entry_of};
 
@@ -20,6 +20,7 @@ pub(crate) fn grow(
     ensures changes { IfOk result (λ changes. changes ≡ attempt.changes) }
     ensures entry { OnOk result (entries.new.items ≡ entries.old.items ++ entry_of attempt ∷ []) }
     ensures places { OnOk result (HavePlaces store.new.places attempt.changes) }
+    ensures ascending { IsChanges attempt.changes }
     ensures back { IfErr result (λ back. back ≡ attempt) }
     ensures same { OnErr result (entries.new.items ≡ entries.old.items) }
     ensures nodes { store.new.nodes ≡ store.old.nodes }
@@ -33,6 +34,7 @@ pub(crate) fn grow(
 /// The paths of the changes, with places for them in the filestore.
 fn prepare(alloc: Global, store: &mut Filestore, changes: &Changes) -> Result<Paths, NoMemory>
     ensures paths { IfOk result (λ paths. paths ≡ changed_paths changes.now) }
+    ensures ascending { IsChanges changes.now }
     ensures places { OnOk result (HavePlaces store.new.places changes.now) }
     ensures nodes { store.new.nodes ≡ store.old.nodes }
 {
@@ -42,7 +44,8 @@ fn prepare(alloc: Global, store: &mut Filestore, changes: &Changes) -> Result<Pa
 }
 
 fn paths_of(alloc: Global, changes: &Changes) -> Result<Paths, NoMemory>
-    ensures { IfOk result (λ paths. paths ≡ changed_paths changes.now) }
+    ensures ascending { IsChanges changes.now }
+    ensures paths { IfOk result (λ paths. paths ≡ changed_paths changes.now) }
 {
     let mut paths = Paths::new(alloc);
     for change in changes.as_slice() {
