@@ -1,5 +1,4 @@
 use Rattle.std.proofs.Common.{◌≡◌, ◌<◌, length, get_or, subst}
-use Rattle.fx_board.proofs.Settling.{settles}
 use Rattle.fx_board.proofs.Changing.{paths_ascend}
 use Rattle.fx_board.proofs.growing.paths_of.Goals as goal
 

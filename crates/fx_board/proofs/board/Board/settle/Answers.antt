@@ -11,7 +11,7 @@ returns-in-Some-clause-refused c =
     refused c.self.inside.base.value c.self.inside.entries.items c.self.inside.store.nodes c.self.invariant c.args.attempt c.args.self.now c.self.view_is c.in-Some.entry c.in-Some.path.now c.conflict.result
     (subst (λ (es : List Entry). IsMarked es c.args.attempt.reads c.in-Some.entry c.in-Some.path.now) c.deref.ensures.value c.in-Some.ensures.marked) c.conflict.ensures
 
-is_ready : (c : goal.After-grow) → IsReady c.self.inside.base.value c.self.inside.entries.items c.self.inside.store.nodes c.args.attempt
+is_ready : (c : goal.After-apply-arg-1) → IsReady c.self.inside.base.value c.self.inside.entries.items c.self.inside.store.nodes c.args.attempt
 is_ready c =
     ready c.self.inside.base.value c.self.inside.entries.items c.self.inside.store.nodes c.self.invariant c.args.attempt c.args.self.now c.self.view_is c.requires.explained c.requires.next c.requires.reads
     (subst (λ (es : List Entry). (entry : ℕ) (path : List (List ℕ)) → IsMarked es c.args.attempt.reads entry path → ⊥) c.deref.ensures.value (c.in_default.ensures.none refl)) c.grow.ensures.ascending
@@ -20,7 +20,7 @@ pub apply-requires-clause-whole : goal.apply-requires-clause-whole
 apply-requires-clause-whole c = rw (c.in-Ok.ensures.nodes, c.in-Ok.ensures.changes) (is_ready c).whole
 
 pub invariant_of-self : goal.invariant_of-self
-invariant_of-self c = rw (c.apply.ensures.nodes, c.in-Ok.ensures.nodes, c.in-Ok.ensures.entry, c.in-Ok.ensures.changes) (is_ready c).board
+invariant_of-self c = rw (c.apply.ensures.nodes, c.in-Ok.ensures.nodes, c.in-Ok.ensures.entry, c.in-Ok.ensures.changes) (is_ready c.before).board
 
 pub returns-clause-fresh : goal.returns-clause-fresh
-returns-clause-fresh c = subst (λ (log : Log). IsFreshReads log.base log.order c.args.attempt.reads) c.self.view_is (is_ready c).fresh
+returns-clause-fresh c = subst (λ (log : Log). IsFreshReads log.base log.order c.args.attempt.reads) c.self.view_is (is_ready c.before).fresh
