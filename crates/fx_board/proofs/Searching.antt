@@ -1,5 +1,5 @@
 -- The search for an entry in the way, step by step.
-use Rattle.std.proofs.Common.{◌≡◌, ℕ, suc, ◌+◌, ◌<◌, ◌≤◌, Bool, true, false, cond, List, [], ◌∷◌, length, get_or, take, Option, Some, None, slice_get, refl, sym, ap, subst, ◌∙◌, inl, inr, arith}
+use Rattle.std.proofs.Common.{◌≡◌, ℕ, suc, ◌+◌, ◌<◌, ◌≤◌, Bool, true, false, cond, List, [], ◌∷◌, length, take, Option, Some, slice_get, sym, ap, subst, ◌∙◌, inl, inr, arith}
 use Rattle.std.specs.List.{All, Contains}
 use Rattle.std.specs.Ordering.{eq_by_cmp}
 use Rattle.std.proofs.lemmas.Bool.{cases_lt}
@@ -52,8 +52,8 @@ pub none_read_more : (changed : List Path) (reads : ReadList) (entry i : ℕ) (p
 none_read_more changed reads entry i path at here before k lt p found read = elim (cases_lt k i) [
   | inl below ↦ before k below p found read
   | inr above ↦
-    let same : k ≡ i = omega arith in
-    here (subst (λ p. IsReadBy reads p entry) (same_Some p path (sym found ∙ ap (slice_get changed) same ∙ at)) read)
+      let same : k ≡ i = omega arith in
+      here (subst (λ p. IsReadBy reads p entry) (same_Some p path (sym found ∙ ap (slice_get changed) same ∙ at)) read)
 ]
 
 pub none_read : (changed : List Path) (reads : ReadList) (entry i : ℕ) → length changed ≤ i → NoneReadBelow changed reads entry i → (path : Path) → Contains changed path → IsReadBy reads path entry → ⊥
@@ -72,9 +72,9 @@ pub none_marked_more : (entries : List Entry) (reads : ReadList) (i : ℕ) (e : 
 none_marked_more entries reads i e at here before k lt path marked = elim (cases_lt k i) [
   | inl below ↦ before k below path marked
   | inr above ↦
-    let same : k ≡ i = omega arith in
-    let own : marked.settled ≡ e = same_Some marked.settled e (sym marked.stands ∙ ap (slice_get entries) same ∙ at) in
-    here path (subst (λ (e : Entry). Contains e.changed path) own marked.changed) (subst (IsReadBy reads path) same marked.read)
+      let same : k ≡ i = omega arith in
+      let own : marked.settled ≡ e = same_Some marked.settled e (sym marked.stands ∙ ap (slice_get entries) same ∙ at) in
+      here path (subst (λ (e : Entry). Contains e.changed path) own marked.changed) (subst (IsReadBy reads path) same marked.read)
 ]
 
 pub none_marked : (entries : List Entry) (reads : ReadList) (i : ℕ) → length entries ≤ i → NoneMarkedBelow entries reads i → (entry : ℕ) (path : Path) → IsMarked entries reads entry path → ⊥

@@ -1,14 +1,14 @@
 -- What an attempt that no entry stands in the way of becomes.
-use Rattle.std.proofs.Common.{◌≡◌, ◌≢◌, ℕ, zero, suc, ◌+◌, ◌-◌, ◌<◌, ◌≤◌, Bool, true, false, cond, List, [], ◌∷◌, ◌++◌, map, length, get_or, Option, Some, None, slice_get, IfSome, refl, sym, ap, subst, ◌∙◌, inl, inr, arith, length-append}
+use Rattle.std.proofs.Common.{◌≡◌, ◌≢◌, ℕ, zero, suc, ◌+◌, ◌-◌, ◌<◌, ◌≤◌, Bool, true, false, cond, List, [], ◌∷◌, ◌++◌, map, length, Option, Some, None, slice_get, refl, sym, ap, subst, ◌∙◌, inl, inr, arith, length-append}
 use Rattle.std.specs.Prelude.{◌↔◌, ◌⊎◌, bytes_eq, unwrap_or}
 use Rattle.std.specs.Cmp.Lexicographic.{pointwise}
 use Rattle.std.specs.FinMap.{get}
 use Rattle.std.specs.List.{Contains}
 use Rattle.std.specs.Option.{option_map}
 use Rattle.std.specs.Ordering.{eq_by_cmp}
-use Rattle.std.proofs.lemmas.Bool.{false≢true, true≢false, cases_lt}
+use Rattle.std.proofs.lemmas.Bool.{false≢true, true≢false}
 use Rattle.std.proofs.lemmas.List.{length-map, map-append}
-use Rattle.std.proofs.lemmas.Option.{same_Some, none-some, slice_get_within, slice_get-get_or, slice_get-map, get_or_from_slice_get}
+use Rattle.std.proofs.lemmas.Option.{same_Some, none-some, slice_get_within, slice_get-get_or, get_or_from_slice_get}
 use Rattle.std.proofs.lemmas.Slice.Eq.{bytes_eq-Decides, slice_eq-Decides}
 use Rattle.fx_store.specs.declared.node.Node.{Node}
 use Rattle.fx_store.specs.declared.node.Node.TheVariants.{File, Dir, Link}
@@ -21,13 +21,12 @@ use Rattle.fx_store.proofs.Overlays.{over-change_at}
 use Rattle.fx_store.proofs.Stores.{IsWhole-same, get-over_nodes}
 use Rattle.fx_store.proofs.Tables.{path_itself}
 use Rattle.fx_view.specs.ReadList.{ReadList}
-use Rattle.fx_view.specs.Reads.{read_at, known_of, Agrees}
+use Rattle.fx_view.specs.Reads.{read_at, Agrees}
 use Rattle.fx_spec.specs.declared.base.Base.{Base}
 use Rattle.fx_spec.specs.Bases.{base_tree}
-use Rattle.fx_spec.specs.CommandTree.{CommandTree}
 use Rattle.fx_spec.specs.Plans.{Turn, IsPlan, txn_of}
-use Rattle.fx_spec.specs.Order.{BaseTree, state, after_txn, Changes, IsLegal, numbers_of}
-use Rattle.fx_spec.specs.Transaction.{left_nodes, outputs, end}
+use Rattle.fx_spec.specs.Order.{BaseTree, state, after_txn, Changes, IsLegal}
+use Rattle.fx_spec.specs.Transaction.{outputs, end}
 use Rattle.fx_spec.proofs.Orders.{legal-next, state-front, state-next}
 use Rattle.fx_spec.proofs.Transactions.{states_are_whole}
 use Rattle.fx_machine.specs.declared.attempt.Attempt.{Attempt}
@@ -37,7 +36,7 @@ use Rattle.fx_machine.specs.Machine.{next_number}
 use Rattle.fx_machine.specs.Passes.{AreTrueReads}
 use Rattle.fx_machine.specs.Measure.{same_node}
 use Rattle.fx_machine.proofs.Legal.{fewer_settled}
-use Rattle.fx_board.specs.Board.{IsEntry, IsBoard, IsStaleRead, IsFreshReads, RefusedAs, log_of, turn_of, started, settled}
+use Rattle.fx_board.specs.Board.{IsEntry, IsBoard, IsStaleRead, IsFreshReads, RefusedAs, log_of, turn_of, settled}
 use Rattle.fx_board.specs.declared.board.Settle.{Settle}
 use Rattle.fx_board.specs.declared.board.Settle.TheVariants as settle
 use Rattle.fx_board.specs.Growing.{entry_of}
@@ -99,7 +98,7 @@ agrees_now base o reads true_ fresh path node known = at (read_at reads path) re
         let le : read.1 ≤ length o = stood.0 in
         let all : read.1 + (length o - read.1) ≡ length o = omega (arith, le) in
         let stays : get (state base o read.1) path ≡ get (state base o (read.1 + (length o - read.1))) path =
-          stays_through base o path read.1 (length o - read.1) (λ entry since lt changes. fresh entry path (read.0, read.1, e, since, omega (arith, lt, all), changes)) in
+        stays_through base o path read.1 (length o - read.1) (λ entry since lt changes. fresh entry path (read.0, read.1, e, since, omega (arith, lt, all), changes)) in
         sym (ap (λ n. get (state base o n) path) all) ∙ (sym stays ∙ (sym stood.1 ∙ same_Some _ _ known))
 
 -- ---- the changes of an attempt
@@ -114,11 +113,11 @@ change_stands (c ∷ cs) (suc k) path e = at (eq_by_cmp path_cmp path c.path) (c
     at true rest = (c.node, refl)
     at false rest = rest
 
-is_changed : (cs : List Change) (path : Path) (node : Option Node) → change_at cs path ≡ Some node → (k : ℕ) × (slice_get (changed_paths cs) k ≡ Some path)
-is_changed [] path node e = absurd (none-some _ e)
-is_changed (c ∷ cs) path node e = at (eq_by_cmp path_cmp path c.path) refl e (is_changed cs path node)
+is_changed : (cs : List Change) (path : Path) (now : Option Node) → change_at cs path ≡ Some now → (k : ℕ) × (slice_get (changed_paths cs) k ≡ Some path)
+is_changed [] path now e = absurd (none-some _ e)
+is_changed (c ∷ cs) path now e = at (eq_by_cmp path_cmp path c.path) refl e (is_changed cs path now)
   where
-    at : (t : Bool) → eq_by_cmp path_cmp path c.path ≡ t → cond t (Some c.node) (change_at cs path) ≡ Some node → (change_at cs path ≡ Some node → (k : ℕ) × (slice_get (changed_paths cs) k ≡ Some path)) → (k : ℕ) × (slice_get (changed_paths (c ∷ cs)) k ≡ Some path)
+    at : (t : Bool) → eq_by_cmp path_cmp path c.path ≡ t → cond t (Some c.node) (change_at cs path) ≡ Some now → (change_at cs path ≡ Some now → (k : ℕ) × (slice_get (changed_paths cs) k ≡ Some path)) → (k : ℕ) × (slice_get (changed_paths (c ∷ cs)) k ≡ Some path)
     at true f e rest = (0, ap Some (sym (path_eq_same path c.path f)))
     at false f e rest = let found = rest e in (suc found.0, found.1)
 
@@ -221,8 +220,8 @@ entry_stays log i e shell txn entry =
       outputs = subst (λ (n : Nodes). outputs log.base.description entry.txn (get n) ≡ e.outputs) here entry.outputs;
       end = subst (λ (n : Nodes). end log.base.description entry.txn (get n) ≡ e.end) here entry.end;
       changed = λ path.
-        subst (λ (n : Nodes). Contains e.changed path ↔ (get n path ≢ get (state log.base (log.order ++ (shell, txn) ∷ []) (suc i)) path)) here
-        (subst (λ (n : Nodes). Contains e.changed path ↔ (get (state log.base log.order i) path ≢ get n path)) there (entry.changed path));
+          subst (λ (n : Nodes). Contains e.changed path ↔ (get n path ≢ get (state log.base (log.order ++ (shell, txn) ∷ []) (suc i)) path)) here
+          (subst (λ (n : Nodes). Contains e.changed path ↔ (get (state log.base log.order i) path ≢ get n path)) there (entry.changed path));
     }
 
 -- what is said of the new one
@@ -238,9 +237,9 @@ entry_new base o a explained next whole agrees up =
       outputs = subst (λ (n : Nodes). outputs base.description explained.txn (get n) ≡ a.outputs) here ran.outputs;
       end = subst (λ (n : Nodes). end base.description explained.txn (get n) ≡ a.end) here ran.end;
       changed = λ path.
-        subst (λ (n : Nodes). Contains (changed_paths a.changes) path ↔ (get n path ≢ get (state base (o ++ (a.shell, a.txn) ∷ []) (suc (length o))) path)) here
-        (subst (λ (n : Nodes). Contains (changed_paths a.changes) path ↔ (get (state base o (length o)) path ≢ get n path)) there
-        (differs base o a explained next whole agrees up path, changed base o a explained next whole agrees up path));
+          subst (λ (n : Nodes). Contains (changed_paths a.changes) path ↔ (get n path ≢ get (state base (o ++ (a.shell, a.txn) ∷ []) (suc (length o))) path)) here
+          (subst (λ (n : Nodes). Contains (changed_paths a.changes) path ↔ (get (state base o (length o)) path ≢ get n path)) there
+          (differs base o a explained next whole agrees up path, changed base o a explained next whole agrees up path));
     }
 
 pub settles : (base : Base) (entries : List Entry) (nodes : Nodes) (a : Attempt) → IsBoard base entries nodes → IsExplained (base_tree base) a → a.txn ≡ next_number (order_of entries) a.shell → Agrees a.reads (get (state (base_tree base) (order_of entries) (length (order_of entries)))) → IsChanges a.changes → IsBoard base (entries ++ entry_of a ∷ []) (over_nodes nodes a.changes)
@@ -257,16 +256,16 @@ settles base entries nodes a board explained next agrees up =
       each = λ i e at. subst (λ (l : Log). IsEntry l i e) log (elim (at_or_last entries (entry_of a) e i at) [
         | inl old ↦ entry_stays (log_of base entries) i e a.shell a.txn (board.each i e old)
         | inr new ↦
-          let place : length (order_of entries) ≡ i = length-map entries turn_of ∙ sym new.0 in
-          subst (λ (e : Entry). IsEntry (settled (log_of base entries) a.shell a.txn) i e) new.1
-          (subst (λ i. IsEntry (settled (log_of base entries) a.shell a.txn) i (entry_of a)) place
-          (entry_new (base_tree base) (order_of entries) a explained next board.log.loaded agrees up))
+            let place : length (order_of entries) ≡ i = length-map entries turn_of ∙ sym new.0 in
+            subst (λ (e : Entry). IsEntry (settled (log_of base entries) a.shell a.txn) i e) new.1
+            (subst (λ i. IsEntry (settled (log_of base entries) a.shell a.txn) i (entry_of a)) place
+            (entry_new (base_tree base) (order_of entries) a explained next board.log.loaded agrees up))
       ]);
       after =
-        ap (λ n. over_nodes n a.changes) board.after
-        ∙ (sym (next_state (base_tree base) (order_of entries) a explained next board.log.loaded agrees up)
-        ∙ (ap (state (base_tree base) (order_of entries ++ (a.shell, a.txn) ∷ [])) count
-        ∙ ap (λ o. state (base_tree base) o (length o)) (sym more)));
+          ap (λ n. over_nodes n a.changes) board.after
+          ∙ (sym (next_state (base_tree base) (order_of entries) a explained next board.log.loaded agrees up)
+          ∙ (ap (state (base_tree base) (order_of entries ++ (a.shell, a.txn) ∷ [])) count
+          ∙ ap (λ o. state (base_tree base) o (length o)) (sym more)));
     }
 
 -- ---- what the calls say
@@ -297,9 +296,10 @@ module _ (base : Base) (entries : List Entry) (nodes : Nodes) (board : IsBoard b
         board = settles base entries nodes a board explained next agrees up;
       }
 
-  pub ready : (log : Log) → log_of base entries ≡ log → IsExplained log.base a → a.txn ≡ next_number log.order a.shell → AreTrueReads log.base log.order a.reads → ((entry : ℕ) (path : Path) → IsMarked entries a.reads entry path → ⊥) → IsChanges a.changes → IsReady base entries nodes a
-  ready log view explained next true_ =
+  pub ready : (log : Log) → log_of base entries ≡ log → IsExplained log.base a → a.txn ≡ next_number log.order a.shell → AreTrueReads log.base log.order a.reads → (read : List Entry) → read ≡ entries → ((entry : ℕ) (path : Path) → IsMarked read a.reads entry path → ⊥) → IsChanges a.changes → IsReady base entries nodes a
+  ready log view explained next true_ read same none =
       ready_at (subst (λ (l : Log). IsExplained l.base a) (sym view) explained) (subst (λ (l : Log). a.txn ≡ next_number l.order a.shell) (sym view) next) (subst (λ (l : Log). AreTrueReads l.base l.order a.reads) (sym view) true_)
+      (subst (λ (es : List Entry). (entry : ℕ) (path : Path) → IsMarked es a.reads entry path → ⊥) same none)
 
   -- a refusal for an entry in the way
   pub refused : (log : Log) → log_of base entries ≡ log → (entry : ℕ) (path : Path) (r : Settle) → IsMarked entries a.reads entry path → IsConflict entry path a r → RefusedAs log log a r

@@ -55,11 +55,7 @@ fn paths_of(alloc: Global, changes: &Changes) -> Result<Paths, NoMemory>
 }
 
 /// Adds the attempt's entry, with these paths, and hands out its changes; or hands the attempt back.
-fn add_entry(
-    entries: &mut Vec<Entry>,
-    changed: Paths,
-    attempt: Attempt,
-) -> Result<Changes, Attempt>
+fn add_entry(entries: &mut Vec<Entry>, changed: Paths, attempt: Attempt) -> Result<Changes, Attempt>
     requires { changed ≡ changed_paths attempt.changes }
     ensures changes { IfOk result (λ changes. changes ≡ attempt.changes) }
     ensures entry { OnOk result (entries.new.items ≡ entries.old.items ++ entry_of attempt ∷ []) }
