@@ -118,11 +118,9 @@ tried_more base o low r rs is from t = record {
 -- a conflict is a retry of a complete order that the run's order has grown to
 conflict_retries : (base : BaseTree) (m m' : Machine) (shell entry : ℕ) (path : List (List ℕ)) (o more : List Turn) → IsSound base m → Restarts base m shell entry path m' → IsComplete base o → o ≡ m.order ++ more → IsRetry base o (record { shell = shell; txn = next_number m.order shell; entry = entry; path = path })
 conflict_retries base m m' shell entry path o more sound r complete grown =
-    let txn : ℕ = next_number m.order shell in
     let here : Contains o (shell, next_number m.order shell) = complete.all shell (next_number m.order shell) (fewer_settled base m.order shell r.txn r.next) in
     let stands : slice_get o here.0 ≡ Some (shell, next_number m.order shell) = slice_get-get_or o here.0 (shell, next_number m.order shell) here.1 ∙ ap Some here.2 in
     let within : entry < length m.order = r.stale.3 in
-    let turn : Turn = get_or m.order entry (0, 0) in
     let at : slice_get m.order entry ≡ Some (get_or m.order entry (0, 0)) = slice_get-get_or m.order entry (0, 0) within in
     record {
       place = here.0;

@@ -44,7 +44,6 @@ numbers_below (p ∷ ps) all n e =
 
 pub looks_few : (o : List Turn) (shell : ℕ) (looks : List Look) → AreLooks o shell looks → length looks ≤ most_paths
 looks_few o shell looks a =
-    let ps : List Path = map (λ (l : Look). l.0) looks in
     let all : All IsPath (map (λ (l : Look). l.0) looks) = All-map IsPath (λ (l : Look). l.0) looks a.paths in
     subst (λ n. n ≤ most_paths) (length-map (map (λ (l : Look). l.0) looks) path_number ∙ length-map looks (λ (l : Look). l.0))
     (length-le_from_distinct_below (map path_number (map (λ (l : Look). l.0) looks)) most_paths (distinct_numbers (map (λ (l : Look). l.0) looks) all a.apart) (numbers_below (map (λ (l : Look). l.0) looks) all))

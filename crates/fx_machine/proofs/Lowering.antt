@@ -49,7 +49,6 @@ room_lower false most n n' e f h = absurd (false≢true e)
 look_lowers : (base : BaseTree) (m m' : Machine) (shell : ℕ) (path : List (List ℕ)) (position : ℕ) → IsSound base m → Looks base m shell path position m' → IsLower (measure base m') (measure base m)
 unfolding measure
 look_lowers base m m' shell path position s l =
-    let looks : List Look = looks_of m shell ++ (path, position) ∷ [] in
     let within : shell < length base.plan = txn_within base m.order shell l.txn l.next in
     let left : has_left base m shell ≡ true = ap is_some l.next in
     let own : get_or (set m.looks shell (looks_of m shell ++ (path, position) ∷ [])) shell [] ≡ looks_of m shell ++ (path, position) ∷ [] = own_looks base m shell (looks_of m shell ++ (path, position) ∷ []) s within in

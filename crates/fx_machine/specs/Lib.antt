@@ -5,4 +5,3 @@ pub mod Passes
 pub mod Turns
 pub mod Tried
 pub mod Laws
-pub mod Settling

@@ -8,3 +8,4 @@ pub mod WalkRules
 pub mod Stepping
 pub mod Nets
 pub mod Sames
+pub mod Owning

@@ -175,3 +175,76 @@ impl<R: Files + AllocGlobal + Clone + Drop> Host for Disk<R> {
 
     ghost whole = { λ _. tt };
 }
+
+#[cfg(test)]
+mod tests {
+    use super::*;
+    use std::os::unix::fs::symlink;
+    use std::test::Fail;
+
+    fn text(alloc: Global, bytes: &str) -> Result<HostText, NoMemory> {
+        Ok(HostText::from_string(String::from_str(alloc, bytes)?))
+    }
+
+    #[test]
+    fn the_machines_folders_are_a_host(rt: HostRuntime) -> Result<(), Fail> {
+        let alloc = rt.alloc();
+        let folder = text(alloc, "f")?;
+        fs::create_dir(&rt, "f")?;
+        fs::create_dir(&rt, "f/c")?;
+        File::create_new(&rt, "f/b")?.write_all(b"hello")?;
+        symlink(&rt, "b", "f/a")?;
+        let mut disk = Disk::new(rt.clone()?);
+        let names = disk.list(alloc, &folder)?;
+        assert_eq!(rt; names.len(), 3);
+        for (i, name, kind) in [
+            (0, "a", HostKind::Other),
+            (1, "b", HostKind::File),
+            (2, "c", HostKind::Folder),
+        ] {
+            assert_eq!(rt;
+                names.at(i).map(|e| (e.0.as_str(), *e.1)),
+                Some((name, kind))
+            );
+        }
+        let mut buf = [0u8; 4];
+        assert_eq!(rt; disk.read(alloc, &text(alloc, "f/b")?, 3, &mut buf)?, 2);
+        assert_eq!(rt; buf[0], b'l');
+        assert_eq!(rt;
+            disk.standing(alloc, &text(alloc, "f/d")?)?,
+            Standing::Absent
+        );
+        assert_eq!(rt;
+            disk.standing(alloc, &text(alloc, "f/b/d")?)?,
+            Standing::Absent
+        );
+        assert_eq!(rt;
+            disk.standing(alloc, &folder)?,
+            Standing::Is(HostKind::Folder)
+        );
+        assert_eq!(rt; disk.faults, 0);
+        Ok(())
+    }
+
+    #[test]
+    fn the_machine_writes_and_fails(rt: HostRuntime) -> Result<(), Fail> {
+        let alloc = rt.alloc();
+        let mut disk = Disk::new(rt.clone()?);
+        let missing = text(alloc, "none")?;
+        let below = text(alloc, "none/a")?;
+        let new = text(alloc, "new")?;
+        let mut buf = [0u8; 4];
+        assert!(rt; disk.list(alloc, &missing).is_err());
+        assert!(rt; disk.read(alloc, &missing, 0, &mut buf).is_err());
+        assert_eq!(rt; disk.write_new(alloc, &below, b"x"), Err(HostFault::Failed));
+        assert_eq!(rt; disk.make_dir(alloc, &below), Err(HostFault::Failed));
+        assert_eq!(rt; disk.faults, 4);
+        assert_eq!(rt; disk.write_new(alloc, &new, b"hi"), Ok(()));
+        assert_eq!(rt; disk.write_new(alloc, &new, b"no"), Err(HostFault::Failed));
+        assert_eq!(rt; disk.make_dir(alloc, &new), Err(HostFault::Failed));
+        assert_eq!(rt; disk.faults, 6);
+        assert_eq!(rt; disk.read(alloc, &new, 0, &mut buf)?, 2);
+        assert_eq!(rt; buf[0], b'h');
+        Ok(())
+    }
+}

@@ -32,3 +32,17 @@ impl<P: Print> Sink for Output<'_, P> {
         }
     }
 }
+
+#[cfg(test)]
+mod tests {
+    use super::*;
+    use std::test::Fail;
+
+    #[test]
+    fn a_write_is_taken(rt: HostRuntime) -> Result<(), Fail> {
+        let mut output = Output::new(&rt);
+        assert_eq!(rt; output.write(b"taken\n"), Ok(6));
+        assert_eq!(rt; output.faults, 0);
+        Ok(())
+    }
+}
