@@ -15,7 +15,7 @@ use Rattle.fx_board.specs.Board.{last_state}
 use Rattle.fx_top.specs.declared.answer.Answer.{Answer}
 use Rattle.fx_top.specs.declared.inputs.Unread.{Unread}
 use Rattle.fx_top.specs.declared.inputs.Unread.TheVariants as unread
-use Rattle.fx_top.specs.Inputs.{HasSpec, HasNoSpec, HasScript, HasNoScript, HasScripts, StopsAtScript, LacksFile, HasSomeSpec}
+use Rattle.fx_top.specs.Inputs.{HasSpec, HasNoSpec, GoesOn, HasNoScript, HasScripts, StopsAtScript, LacksFile, HasSomeSpec}
 use Rattle.fx_top.specs.Outcome.{IsPrintedAs, IsOutcome}
 
 -- what the file at SPEC, or at a script's path, is read as
@@ -24,7 +24,7 @@ SpecRead t j (Some spec) = HasSpec t j spec
 SpecRead t j None = HasNoSpec t j
 
 abbrev pub ScriptRead : Tree → List ℕ → ℕ → Option (List (List CommandTree)) → Type 0
-ScriptRead t path before (Some txns) = HasScript t path before txns
+ScriptRead t path before (Some txns) = GoesOn t path before txns
 ScriptRead t path before None = HasNoScript t path before
 
 -- why the scripts are not read

@@ -31,6 +31,10 @@ pub record HasNoScript (t : Tree) (path : List ℕ) (before : ℕ) : Type 0 wher
   pub file : is_file_at t path ≡ true
   pub none : (txns : List (List CommandTree)) → IsScript (bytes_at t path) txns → is_built_script txns ≡ true → before + length txns ≤ 100000 → ⊥
 
+-- the text at the path stands for these transactions of the built forms and for no others
+abbrev pub IsOnlyScript : Tree → List ℕ → List (List CommandTree) → Type 0
+IsOnlyScript t path txns = (others : List (List CommandTree)) → IsScript (bytes_at t path) others → is_built_script others ≡ true → others ≡ txns
+
 -- the files at the paths stand for the scripts of a plan, one after another
 abbrev pub HasScripts : Tree → ℕ → List (List ℕ) → List (List (List CommandTree)) → Type 0
 HasScripts t before [] [] = Unit {0}
@@ -38,11 +42,16 @@ HasScripts t before [] (txns ∷ plan) = ⊥
 HasScripts t before (path ∷ paths) [] = ⊥
 HasScripts t before (path ∷ paths) (txns ∷ plan) = HasScript t path before txns × HasScripts t (before + length txns) paths plan
 
+-- a script that is read, after which others follow
+pub record GoesOn (t : Tree) (path : List ℕ) (before : ℕ) (txns : List (List CommandTree)) : Type 0 where
+  pub script : HasScript t path before txns
+  pub only : IsOnlyScript t path txns
+
 -- the script of number `i` is the first whose file is not there, or whose text is outside the forms; those before it are read
 abbrev pub StopsAtScript : (Tree → List ℕ → ℕ → Type 0) → Tree → ℕ → List (List ℕ) → ℕ → Type 0
 StopsAtScript stops t before [] i = ⊥
 StopsAtScript stops t before (path ∷ paths) i =
-    ((i ≡ 0) × stops t path before) ⊎ ((k : ℕ) × (i ≡ k + 1) × (txns : List (List CommandTree)) × HasScript t path before txns × StopsAtScript stops t (before + length txns) paths k)
+    ((i ≡ 0) × stops t path before) ⊎ ((k : ℕ) × (i ≡ k + 1) × (txns : List (List CommandTree)) × GoesOn t path before txns × StopsAtScript stops t (before + length txns) paths k)
 
 abbrev pub LacksFile : Tree → List ℕ → ℕ → Type 0
 LacksFile t path before = is_file_at t path ≡ false

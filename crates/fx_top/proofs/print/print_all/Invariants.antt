@@ -1,0 +1,9 @@
+use Rattle.std.proofs.Common.{length}
+use Rattle.fx_top.proofs.Writing.{IsWriting}
+use Rattle.fx_top.proofs.print.print_all.Given as goal
+
+abbrev pub invariant-writing : goal.invariant-writing
+invariant-writing g l = IsWriting l.bytes l.rest (g.S.Sink.written l.initial.out) (g.S.Sink.written l.out) (g.S.Sink.faults l.initial.out) (g.S.Sink.faults l.out)
+
+abbrev pub decreases-writing : goal.decreases-writing
+decreases-writing g l = length l.rest
