@@ -1,3 +1,4 @@
 pub mod Running
 pub mod World
 pub mod Traced
+pub mod Moves

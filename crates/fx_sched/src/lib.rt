@@ -1,6 +1,7 @@
 //! Several shells on one thread: single steps of a shell, and whole runs by a schedule.
 #![tactic(auto)]
 
+mod moves;
 mod schedule;
 mod world;
 
