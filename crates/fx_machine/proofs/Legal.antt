@@ -1,11 +1,11 @@
 -- A settled attempt keeps the order legal.
-use Rattle.std.proofs.Common.{◌≡◌, ℕ, ◌<◌, List, [], ◌∷◌, ◌++◌, length, Some, sym, subst}
+use Rattle.std.proofs.Common.{◌≡◌, ℕ, ◌<◌, List, Some, sym, subst}
 use Rattle.std.proofs.lemmas.Option.{slice_get_within}
 use Rattle.fx_spec.specs.CommandTree.{CommandTree}
 use Rattle.fx_spec.specs.Plans.{Turn, count_of, script_of}
 use Rattle.fx_spec.specs.Order.{BaseTree, IsLegal}
 use Rattle.fx_spec.proofs.Orders.{legal-next}
-use Rattle.fx_machine.specs.Machine.{Machine, Settles, next_number, next_txn}
+use Rattle.fx_machine.specs.Machine.{next_number, next_txn}
 use Rattle.fx_machine.specs.Laws.{SettlingKeepsLegal}
 
 -- a shell that has a transaction left has settled fewer than its script has

@@ -1,3 +1,11 @@
 pub mod Legal
 pub mod Reached
 pub mod Others
+pub mod Complete
+pub mod PathNumbers
+pub mod Few
+pub mod Stale
+pub mod Sums
+pub mod Lowering
+pub mod Settling
+pub mod Weight

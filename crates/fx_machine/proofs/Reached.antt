@@ -1,16 +1,16 @@
 -- What holds of every state that a run from the start reaches.
-use Rattle.std.proofs.Common.{◌≡◌, ◌≢◌, ◌⊎◌, inl, inr, ⊎_elim, ℕ, zero, suc, ◌<◌, ◌≤◌, Bool, true, false, cond, ◌||◌, List, [], ◌∷◌, ◌++◌, map, length, get_or, set, replicate, slice_get, Some, None, refl, sym, ap, subst, arith}
+use Rattle.std.proofs.Common.{◌≡◌, ◌≢◌, ◌⊎◌, inl, inr, ⊎_elim, ℕ, zero, suc, ◌<◌, ◌≤◌, Bool, true, false, cond, ◌||◌, List, [], ◌∷◌, ◌++◌, map, length, get_or, set, replicate, slice_get, Some, None, refl, sym, ap, subst, ◌∙◌, arith}
 use Rattle.std.specs.List.{All, IsDistinct, list_any}
 use Rattle.std.specs.Ordering.{eq_by_cmp}
 use Rattle.std.proofs.lemmas.Bool.{cases_eq, cases_lt}
 use Rattle.std.proofs.lemmas.Cmp.{eq_by_cmp_equiv}
-use Rattle.std.proofs.lemmas.List.{map-append, get_or-set_same, get_or-set_other, get_or_past, length-set}
+use Rattle.std.proofs.lemmas.List.{map-append, get_or-set_same, get_or-set_other, get_or_past, length-set, length-replicate}
 use Rattle.std.proofs.lemmas.List.Elements.{All-nil, All-push, All-head, All-tail}
 use Rattle.std.proofs.lemmas.Map.Keys.{IsDistinct-push}
 use Rattle.std.proofs.lemmas.Option.{slice_get_within, same_Some, none-some}
 use Rattle.fx_store.specs.Names.{path_cmp, IsPath}
 use Rattle.fx_store.specs.Orders.{path_total, path_eq_same}
-use Rattle.fx_spec.specs.Plans.{Turn, script_of, count_of}
+use Rattle.fx_spec.specs.Plans.{Turn, count_of}
 use Rattle.fx_spec.specs.Order.{BaseTree, IsLegal}
 use Rattle.fx_spec.proofs.Orders.{legal_none, legal-next}
 use Rattle.fx_machine.specs.declared.event.Event.{Event}
@@ -28,6 +28,7 @@ pub record AreLooks (o : List Turn) (shell : ℕ) (looks : List Look) : Type 0 w
 pub record IsSound (base : BaseTree) (m : Machine) : Type 0 where
   pub legal : IsLegal base m.order
   pub shells : All (λ (t : Turn). t.0 < length base.plan) m.order
+  pub wide : length m.looks ≡ length base.plan
   pub looks : (shell : ℕ) → AreLooks m.order shell (looks_of m shell)
 
 -- ---- lists
@@ -99,6 +100,7 @@ pub sound_look : (base : BaseTree) (m m' : Machine) (shell : ℕ) (path : List (
 sound_look base m m' shell path position s l = subst (IsSound base) (sym l.after) (record {
   legal = s.legal;
   shells = s.shells;
+  wide = length-set m.looks shell (looks_of m shell ++ (path, position) ∷ []) ∙ s.wide;
   looks = λ k. set_looks (AreLooks m.order k) m.looks shell k (looks_of m shell ++ (path, position) ∷ []) (no_looks m.order k)
       (λ e. subst (λ k. AreLooks m.order k (looks_of m shell ++ (path, position) ∷ [])) (sym e) (one_more m.order shell (looks_of m shell) path position (s.looks shell) l.valid l.unseen l.now))
       (λ n. s.looks k);
@@ -113,6 +115,7 @@ sound_settle base m m' shell entry s t =
     subst (IsSound base) (sym t.after) (record {
       legal = legal-next base m.order shell s.legal room;
       shells = All-push (λ (t : Turn). t.0 < length base.plan) m.order (shell, next_number m.order shell) s.shells (shell_within base shell (next_number m.order shell) room);
+      wide = length-set m.looks shell [] ∙ s.wide;
       looks = λ k. set_looks (AreLooks (m.order ++ (shell, next_number m.order shell) ∷ []) k) m.looks shell k [] (no_looks (m.order ++ (shell, next_number m.order shell) ∷ []) k)
           (λ e. no_looks (m.order ++ (shell, next_number m.order shell) ∷ []) k)
           (λ n. grown m.order shell (next_number m.order shell) k (looks_of m k) n (s.looks k));
@@ -122,6 +125,7 @@ pub sound_restart : (base : BaseTree) (m m' : Machine) (shell entry : ℕ) (path
 sound_restart base m m' shell entry path s t = subst (IsSound base) (sym t.after) (record {
   legal = s.legal;
   shells = s.shells;
+  wide = length-set m.looks shell [] ∙ s.wide;
   looks = λ k. set_looks (AreLooks m.order k) m.looks shell k [] (no_looks m.order k) (λ e. no_looks m.order k) (λ n. s.looks k);
 })
 
@@ -138,6 +142,7 @@ pub sound_start : (base : BaseTree) → IsSound base (resting base [])
 sound_start base = record {
   legal = legal_none base;
   shells = All-nil (λ (t : Turn). t.0 < length base.plan);
+  wide = length-replicate (length base.plan) [];
   looks = λ shell. subst (AreLooks [] shell) (sym (none_looked (length base.plan) shell)) (no_looks [] shell);
 }
 

@@ -1,10 +1,11 @@
 -- Laws of the machine.
-use Rattle.std.specs.Prelude.{◌≡◌, ◌≢◌, ℕ, ◌<◌, List, [], map, slice_get, Some}
+use Rattle.std.specs.Prelude.{◌≡◌, ◌≢◌, ◌↔◌, ℕ, true, List, [], map, length, slice_get, Some}
 use Rattle.fx_spec.specs.Plans.{Turn}
-use Rattle.fx_spec.specs.Order.{BaseTree, IsLegal, IsComplete, Changes, RetriesOk}
+use Rattle.fx_spec.specs.Order.{BaseTree, state, IsLegal, IsComplete, RetriesOk}
+use Rattle.fx_spec.specs.Transaction.{left_nodes}
 use Rattle.fx_machine.specs.declared.event.Event.{Event}
 use Rattle.fx_machine.specs.Machine.{Machine, Run, Step, Settles, Restarts, IsStaleAt, looks_of, resting}
-use Rattle.fx_machine.specs.Measure.{measure, IsLower, HasRoom}
+use Rattle.fx_machine.specs.Measure.{is_stale, measure, IsLower, HasRoom}
 use Rattle.fx_machine.specs.Tried.{retries_of, retry_tree}
 
 abbrev pub SettlingKeepsLegal : Type 0
@@ -36,3 +37,13 @@ EventsLower =
 abbrev pub CompleteRuns : Type 0
 CompleteRuns =
     (base : BaseTree) (events : List Event) (o : List Turn) → Run base (resting base []) events (resting base o) → IsComplete base o → RetriesOk base o (map retry_tree (retries_of base events))
+
+-- a shell is found stale exactly where an entry has changed a path that it looked at before
+abbrev pub StaleIsExact : Type 0
+StaleIsExact =
+    (base : BaseTree) (m : Machine) → IsReached base m → (shell : ℕ) → (is_stale base m shell ≡ true) ↔ ((entry : ℕ) × (path : List (List ℕ)) × IsStaleAt base m.order (looks_of m shell) entry path)
+
+-- after a settle the state is that of the transaction, run whole on the state before it
+abbrev pub SettlesToNext : Type 0
+SettlesToNext =
+    (base : BaseTree) (m m' : Machine) (shell entry : ℕ) (s : Settles base m shell entry m') → state base m'.order (length m'.order) ≡ left_nodes base.description s.txn (state base m.order (length m.order))

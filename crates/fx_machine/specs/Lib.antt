@@ -5,3 +5,4 @@ pub mod Passes
 pub mod Turns
 pub mod Tried
 pub mod Laws
+pub mod Settling

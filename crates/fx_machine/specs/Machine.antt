@@ -1,7 +1,7 @@
 -- The machine of looks and settles. Each shell runs the first transaction of its script that is not in the order yet. It
 -- looks at the paths that the transaction consults, one by one; when all are looked at it settles: the transaction joins
 -- the order, or starts again where an entry has changed a path after it was looked at.
-use Rattle.std.specs.Prelude.{◌≡◌, ℕ, ◌≤◌, ◌<◌, cond, List, [], ◌∷◌, ◌++◌, length, replicate, slice_index_or, slice_set, Option, Some, None, IsSome, is_some, Contains}
+use Rattle.std.specs.Prelude.{◌≡◌, ℕ, ◌≤◌, ◌<◌, cond, List, [], ◌∷◌, ◌++◌, length, replicate, slice_index_or, slice_set, Option, Some, None, is_some}
 use Rattle.std.specs.FinMap.{get}
 use Rattle.std.specs.Ordering.{eq_by_cmp}
 use Rattle.fx_store.specs.Names.{path_cmp, IsPath}

@@ -1,6 +1,6 @@
 -- A measure that each event lowers: how many transactions are not in the order; then how many shells have looked at a path
 -- that an entry has changed since; then how many looks there could yet be.
-use Rattle.std.specs.Prelude.{◌≡◌, ◌⊎◌, ℕ, zero, suc, ◌+◌, ◌*◌, ◌-◌, ◌^◌, ◌<◌, ◌≤◌, ◌&&◌, ◌||◌, Bool, true, false, not, cond, nat_eq, nat_lt, nat_le, List, [], ◌∷◌, length, Option, Some, None, is_some, bytes_eq, count_by}
+use Rattle.std.specs.Prelude.{◌≡◌, ◌⊎◌, ℕ, suc, ◌-◌, ◌^◌, ◌<◌, ◌≤◌, ◌&&◌, Bool, true, false, not, cond, nat_eq, nat_le, List, length, Option, Some, None, is_some, bytes_eq, count_by}
 use Rattle.std.specs.Cmp.Lexicographic.{pointwise}
 use Rattle.std.specs.FinMap.{get}
 use Rattle.std.specs.List.{sum_by, list_any}

@@ -1,6 +1,6 @@
 -- Whose turn it is: the shells of a schedule in order, and then all shells in rounds from 0 on, where a shell is left out at
 -- a turn at which it has no transaction left.
-use Rattle.std.specs.Prelude.{◌≡◌, ℕ, ◌<◌, Bool, true, false, nat_eq, nat_lt, List, [], ◌∷◌, ◌++◌, length, count_by}
+use Rattle.std.specs.Prelude.{◌≡◌, ℕ, Bool, true, false, nat_eq, nat_lt, List, [], ◌∷◌, ◌++◌, length, count_by}
 use Rattle.fx_spec.specs.Plans.{count_of}
 use Rattle.fx_spec.specs.Order.{BaseTree, first_numbers}
 use Rattle.fx_machine.specs.declared.event.Event.{Event}

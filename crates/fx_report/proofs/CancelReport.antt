@@ -15,7 +15,7 @@ use Rattle.fx_report.specs.Print.{quote, value_text}
 use Rattle.fx_report.specs.Report.{end_text, entries_text, entry_line, entry_text, fault_name, field, print_line, refusal_text, report_text, retry_line}
 use Rattle.fx_report.specs.Readable.{AreBytes, AreEntries, AreEntryNames, AreRetries, AreTrees, IsEntryName, IsHeld, IsHeldEnd, IsHeldEntry, IsHeldRefusal, IsHeldReport, IsHeldRetry, LacksSlash}
 use Rattle.fx_report.specs.declared.printed.PrintedEntry.{PrintedEntry}
-use Rattle.fx_report.specs.declared.printed.Retry.{Retry}
+use Rattle.fx_machine.specs.declared.retry.Retry.{Retry}
 use Rattle.fx_report.proofs.Cancel.{Stops, apart, decimal_cancel, first, not_digit, quote_cancel, rest, value_cancel}
 
 -- what is left after the same front
@@ -220,7 +220,7 @@ pub record SameEntry (e f : PrintedEntry) (x y : List ℕ) : Type 0 where
   pub ended : e.end ≡ f.end
   pub left : x ≡ y
 
-entry_line_cancel : (i : ℕ) (e f : PrintedEntry) (x y : List ℕ) → IsHeldEntry e → IsHeldEntry f → entry_line i e ++ x ≡ entry_line i f ++ y → SameEntry e f x y
+entry_line_cancel : (i : ℕ) (e f : PrintedEntry) (x y : List ℕ) → IsHeldEntry e → IsHeldEntry f → entry_line i e.shell e.txn e.end ++ x ≡ entry_line i f.shell f.txn f.end ++ y → SameEntry e f x y
 unfolding entry_line field
 entry_line_cancel i e f x y p q same =
     let number = field (codes "entry ") i in
@@ -257,7 +257,7 @@ entries_cancel (d ∷ es) (f ∷ fs) i x y p q e =
     let b = flat_map print_line f.outputs in
     let u = entries_text (i + 1) es ++ 114 ∷ x in
     let v = entries_text (i + 1) fs ++ 114 ∷ y in
-    let parts = sym (entries_form (entry_line i d) a (entries_text (i + 1) es) (114 ∷ x)) ∙ (e ∙ entries_form (entry_line i f) b (entries_text (i + 1) fs) (114 ∷ y)) in
+    let parts = sym (entries_form (entry_line i d.shell d.txn d.end) a (entries_text (i + 1) es) (114 ∷ x)) ∙ (e ∙ entries_form (entry_line i f.shell f.txn f.end) b (entries_text (i + 1) fs) (114 ∷ y)) in
     let here = entry_line_cancel i d f (a ++ u) (b ++ v) p.0 q.0 parts in
     let outputs = prints_cancel d.outputs f.outputs u v p.0.outputs q.0.outputs (entries_first (i + 1) es x) (entries_first (i + 1) fs y) here.left in
     let later = entries_cancel es fs (i + 1) x y p.1 q.1 outputs.1 in

@@ -1,3 +1,5 @@
 pub mod Print
 pub mod Readable
 pub mod Report
+pub mod Entries
+pub mod Events

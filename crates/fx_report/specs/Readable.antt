@@ -8,7 +8,7 @@ use Rattle.fx_spec.specs.declared.refusal.End.TheVariants.{Done, Stopped, Aborte
 use Rattle.fx_report.specs.Print.{quote, value_text}
 use Rattle.fx_report.specs.Report.{report_text}
 use Rattle.fx_report.specs.declared.printed.PrintedEntry.{PrintedEntry}
-use Rattle.fx_report.specs.declared.printed.Retry.{Retry}
+use Rattle.fx_machine.specs.declared.retry.Retry.{Retry}
 
 -- every number is a byte
 abbrev pub AreBytes : List ℕ → Type 0

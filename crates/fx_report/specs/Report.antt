@@ -13,7 +13,7 @@ use Rattle.fx_spec.specs.declared.refusal.End.TheVariants.{Done, Stopped, Aborte
 use Rattle.fx_store.specs.Names.{path_text}
 use Rattle.fx_report.specs.Print.{quote, value_text}
 use Rattle.fx_report.specs.declared.printed.PrintedEntry.{PrintedEntry}
-use Rattle.fx_report.specs.declared.printed.Retry.{Retry}
+use Rattle.fx_machine.specs.declared.retry.Retry.{Retry}
 
 -- a line ends by one line feed
 abbrev pub line : List ℕ → List ℕ
@@ -51,10 +51,10 @@ end_text (Stopped command refusal) =
 end_text Aborted = codes "aborted"
 
 -- the line of an entry, which is numbered
-unfoldable pub entry_line : ℕ → PrintedEntry → List ℕ
-entry_line i e =
+unfoldable pub entry_line : ℕ → ℕ → ℕ → End → List ℕ
+entry_line i shell txn end =
     line
-    (field (codes "entry ") i ++ field (codes " shell ") e.shell ++ field (codes " txn ") e.txn ++ codes " " ++ end_text e.end)
+    (field (codes "entry ") i ++ field (codes " shell ") shell ++ field (codes " txn ") txn ++ codes " " ++ end_text end)
 
 -- the line of one output
 unfoldable pub print_line : Tree → List ℕ
@@ -62,7 +62,7 @@ print_line value = line (codes "print " ++ value_text value)
 
 -- the lines of an entry: its own, then one for each output in order
 unfoldable pub entry_text : ℕ → PrintedEntry → List ℕ
-entry_text i e = entry_line i e ++ flat_map print_line e.outputs
+entry_text i e = entry_line i e.shell e.txn e.end ++ flat_map print_line e.outputs
 
 -- the lines of entries that are numbered from i
 abbrev pub entries_text : ℕ → List PrintedEntry → List ℕ

@@ -1,4 +1,4 @@
-//! The printed forms: values, the lines of a value, and the report of a run.
+//! The printed forms: values, events, and the report of a run.
 #![tactic(auto)]
 
 pub mod laws;
@@ -9,5 +9,6 @@ mod quotes;
 mod tests;
 mod values;
 
-pub use lines::{report, value_line};
-pub use printed::{PrintedEntries, PrintedEntry, Retries, Retry};
+pub use fx_board::{Retries, Retry};
+pub use lines::{event_lines, printed_report, report, value_line};
+pub use printed::{PrintedEntries, PrintedEntry};

@@ -1,15 +1,18 @@
-ghost use Rattle.std.specs.Prelude.{◌≡◌, ◌++◌, OnOk, IfOk};
+ghost use Rattle.std.specs.Prelude.{◌≡◌, ◌++◌, OnOk, IfOk, codes, length};
 ghost use Rattle.std.specs.List.{flat_map};
 ghost use Rattle.fx_expr.specs.Views.{tree_of};
+ghost use Rattle.fx_report.specs.Entries as whole;
+ghost use Rattle.fx_report.specs.Events as told;
 ghost use Rattle.fx_report.specs.Report as report;
 
-use crate::printed::{PrintedEntries, PrintedEntry, Retries, Retry};
+use crate::printed::{PrintedEntries, PrintedEntry};
 use crate::quotes::{add_bytes, add_number, add_quoted_path};
 use crate::values::add_value;
 use fx_base::NoMemory;
+use fx_board::{Board, Entry, Event, Events, Retries, Retry};
 use fx_expr::{ExprFault, Value, Values};
 use fx_spec::{End, Refusal};
-use fx_store::LongText;
+use fx_store::{LongText, Path};
 use std::alloc::Global;
 
 /// Adds the words and the number after them.
@@ -83,14 +86,20 @@ fn add_end(out: &mut Vec<u8>, end: &End) -> Result<(), NoMemory>
     }
 }
 
-fn add_entry_line(out: &mut Vec<u8>, number: u64, entry: &PrintedEntry) -> Result<(), NoMemory>
-    ensures { OnOk result (out.new.items ≡ out.old.items ++ report.entry_line number entry.now) }
+fn add_entry_line(
+    out: &mut Vec<u8>,
+    number: u64,
+    shell: u32,
+    txn: u32,
+    end: &End,
+) -> Result<(), NoMemory>
+    ensures { OnOk result (out.new.items ≡ out.old.items ++ report.entry_line number shell txn end.now) }
 {
     add_field(out, b"entry ", number)?;
-    add_field(out, b" shell ", u64::from(entry.shell))?;
-    add_field(out, b" txn ", u64::from(entry.txn))?;
+    add_field(out, b" shell ", u64::from(shell))?;
+    add_field(out, b" txn ", u64::from(txn))?;
     add_bytes(out, b" ")?;
-    add_end(out, &entry.end)?;
+    add_end(out, end)?;
     add_bytes(out, b"\n")?;
     Ok(())
 }
@@ -119,8 +128,27 @@ fn add_print_lines(out: &mut Vec<u8>, outputs: &Values) -> Result<(), NoMemory>
 fn add_entry(out: &mut Vec<u8>, number: u64, entry: &PrintedEntry) -> Result<(), NoMemory>
     ensures { OnOk result (out.new.items ≡ out.old.items ++ report.entry_text number entry.now) }
 {
-    add_entry_line(out, number, entry)?;
+    add_entry_line(out, number, entry.shell, entry.txn, &entry.end)?;
     add_print_lines(out, &entry.outputs)
+}
+
+#[tactic(auto, unfolding(crate::specs::Report::entry_text))]
+fn add_settled(out: &mut Vec<u8>, number: u64, entry: &Entry) -> Result<(), NoMemory>
+    ensures { OnOk result (out.new.items ≡ out.old.items ++ report.entry_text number (whole.printed entry.now)) }
+{
+    add_entry_line(out, number, entry.shell, entry.txn, &entry.end)?;
+    add_print_lines(out, &entry.outputs)
+}
+
+fn add_log(out: &mut Vec<u8>, board: &Board) -> Result<(), NoMemory>
+    ensures { OnOk result (out.new.items ≡ out.old.items ++ report.entries_text 0 (whole.entries_of board.now.base board.now.order)) }
+{
+    for i in 0..board.len() {
+        if let Some(entry) = board.entry(i) {
+            add_settled(out, i, entry)?;
+        }
+    }
+    Ok(())
 }
 
 fn add_entries(out: &mut Vec<u8>, entries: &PrintedEntries) -> Result<(), NoMemory>
@@ -157,9 +185,27 @@ fn add_retries(out: &mut Vec<u8>, retries: &Retries) -> Result<(), NoMemory>
     Ok(())
 }
 
-/// The report of a run: a head, each entry with its outputs, each retry, and a last line.
+/// Adds what a report begins with.
+fn add_head(out: &mut Vec<u8>, entries: u64) -> Result<(), NoMemory>
+    ensures { OnOk result (out.new.items ≡ out.old.items ++ report.line (codes "forest report 1") ++ report.line (report.field (codes "entries ") entries)) }
+{
+    add_bytes(out, b"forest report 1\n")?;
+    add_count_line(out, b"entries ", entries)
+}
+
+/// Adds what a report has after its entries.
+fn add_tail(out: &mut Vec<u8>, retries: &Retries) -> Result<(), NoMemory>
+    ensures { OnOk result (out.new.items ≡ out.old.items ++ report.line (report.field (codes "retries ") (length retries.now))
+        ++ flat_map report.retry_line retries.now ++ report.line (codes "end")) }
+{
+    add_count_line(out, b"retries ", retries.len())?;
+    add_retries(out, retries)?;
+    add_bytes(out, b"end\n")
+}
+
+/// The report of entries and retries: a head, each entry with its outputs, each retry, and a last line.
 #[tactic(auto, unfolding(crate::specs::Report::report_text))]
-pub fn report(
+pub fn printed_report(
     alloc: Global,
     entries: &PrintedEntries,
     retries: &Retries,
@@ -167,12 +213,79 @@ pub fn report(
     ensures { IfOk result (λ text. text ≡ report.report_text entries.now retries.now) }
 {
     let mut out = Vec::new(alloc);
-    add_bytes(&mut out, b"forest report 1\n")?;
-    add_count_line(&mut out, b"entries ", entries.len())?;
+    add_head(&mut out, entries.len())?;
     add_entries(&mut out, entries)?;
-    add_count_line(&mut out, b"retries ", retries.len())?;
-    add_retries(&mut out, retries)?;
-    add_bytes(&mut out, b"end\n")?;
+    add_tail(&mut out, retries)?;
+    Ok(LongText::from_vec(out))
+}
+
+/// The report of a log and its retries, whose entries are its transactions, run whole, one after another.
+#[tactic(auto, unfolding(crate::specs::Report::report_text))]
+pub fn report(alloc: Global, board: &Board, retries: &Retries) -> Result<LongText, NoMemory>
+    ensures { IfOk result (λ text. text ≡ whole.report board.now.base board.now.order retries.now) }
+{
+    let mut out = Vec::new(alloc);
+    add_head(&mut out, board.len())?;
+    add_log(&mut out, board)?;
+    add_tail(&mut out, retries)?;
+    Ok(LongText::from_vec(out))
+}
+
+fn add_look(out: &mut Vec<u8>, shell: u32, path: &Path, position: u64) -> Result<(), NoMemory>
+    ensures { OnOk result (out.new.items ≡ out.old.items ++ told.look_line shell path.now position) }
+{
+    add_field(out, b"look ", u64::from(shell))?;
+    add_bytes(out, b" ")?;
+    add_quoted_path(out, path)?;
+    add_field(out, b" ", position)?;
+    add_bytes(out, b"\n")?;
+    Ok(())
+}
+
+fn add_settling(out: &mut Vec<u8>, shell: u32, entry: u64) -> Result<(), NoMemory>
+    ensures { OnOk result (out.new.items ≡ out.old.items ++ told.settled_line shell entry) }
+{
+    add_field(out, b"settled ", u64::from(shell))?;
+    add_field(out, b" ", entry)?;
+    add_bytes(out, b"\n")?;
+    Ok(())
+}
+
+fn add_conflict(out: &mut Vec<u8>, shell: u32, entry: u64, path: &Path) -> Result<(), NoMemory>
+    ensures { OnOk result (out.new.items ≡ out.old.items ++ told.conflict_line shell entry path.now) }
+{
+    add_field(out, b"conflict ", u64::from(shell))?;
+    add_field(out, b" ", entry)?;
+    add_bytes(out, b" ")?;
+    add_quoted_path(out, path)?;
+    add_bytes(out, b"\n")?;
+    Ok(())
+}
+
+fn add_event(out: &mut Vec<u8>, event: &Event) -> Result<(), NoMemory>
+    ensures { OnOk result (out.new.items ≡ out.old.items ++ told.event_line event.now) }
+{
+    match event {
+        Event::Look {
+            shell,
+            path,
+            position,
+        } => add_look(out, *shell, path, *position),
+        Event::Settled { shell, entry } => add_settling(out, *shell, *entry),
+        Event::Conflict { shell, entry, path } => add_conflict(out, *shell, *entry, path),
+    }
+}
+
+/// The lines of events, one for each.
+pub fn event_lines(alloc: Global, events: &Events) -> Result<LongText, NoMemory>
+    ensures { IfOk result (λ text. text ≡ told.lines events.now) }
+{
+    let mut out = Vec::new(alloc);
+    for i in 0..events.len() {
+        if let Some(event) = events.at(i) {
+            add_event(&mut out, event)?;
+        }
+    }
     Ok(LongText::from_vec(out))
 }
 

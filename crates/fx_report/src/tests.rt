@@ -4,7 +4,7 @@ ghost use Rattle.std.specs.declared.cmp.Ordering.{Ordering};
 ghost use Rattle.std.specs.Ordering.{nat_cmp};
 ghost use Rattle.std.specs.Cmp.Lexicographic.{slice_cmp};
 
-use crate::{PrintedEntries, PrintedEntry, Retries, Retry, report, value_line};
+use crate::{PrintedEntries, PrintedEntry, Retries, Retry, printed_report, value_line};
 use fx_base::NoMemory;
 use fx_expr::{ExprFault, Keyed, Text, TextSet, Value, Values};
 use fx_spec::{End, Refusal};
@@ -126,17 +126,20 @@ fn two_shells_that_change_what_the_other_reads(rt: HostRuntime) -> Result<(), Fa
     entries.add(done(alloc, 0, 0, b"1")?)?;
     entries.add(done(alloc, 1, 0, b"10")?)?;
     let mut retries = Retries::new(alloc);
-    retries.add(Retry {
-        shell: 1,
-        txn: 0,
-        entry: 0,
-        path: path(alloc, b"/y")?,
-    })?;
+    retries.add(
+        alloc,
+        Retry {
+            shell: 1,
+            txn: 0,
+            entry: 0,
+            path: path(alloc, b"/y")?,
+        },
+    )?;
     assert_eq!(rt; (entries.len(), retries.len()), (2, 1));
     assert_eq!(rt; entries.at(1).map(|e| e.shell), Some(1));
     assert_eq!(rt; retries.at(0).map(|r| r.shell), Some(1));
     assert!(rt; entries.at(2).is_none() && retries.at(1).is_none());
-    let printed = report(alloc, &entries, &retries)?;
+    let printed = printed_report(alloc, &entries, &retries)?;
     assert_eq!(rt;
         printed.as_slice(),
         b"forest report 1\nentries 2\nentry 0 shell 0 txn 0 done\nprint \"1\"\nentry 1 shell 1 txn 0 done\nprint \"10\"\nretries 1\nretry shell 1 txn 0 entry 0 path \"/y\"\nend\n".as_slice()
@@ -156,13 +159,16 @@ fn a_shell_that_finds_its_element_gone(rt: HostRuntime) -> Result<(), Fail> {
     })?;
     entries.add(stopped(alloc, 2, Refusal::NoElement))?;
     let mut retries = Retries::new(alloc);
-    retries.add(Retry {
-        shell: 0,
-        txn: 0,
-        entry: 0,
-        path: path(alloc, b"/")?,
-    })?;
-    let printed = report(alloc, &entries, &retries)?;
+    retries.add(
+        alloc,
+        Retry {
+            shell: 0,
+            txn: 0,
+            entry: 0,
+            path: path(alloc, b"/")?,
+        },
+    )?;
+    let printed = printed_report(alloc, &entries, &retries)?;
     assert_eq!(rt;
         printed.as_slice(),
         b"forest report 1\nentries 2\nentry 0 shell 1 txn 0 done\nentry 1 shell 0 txn 0 stopped 2 2 NoElement\nretries 1\nretry shell 0 txn 0 entry 0 path \"/\"\nend\n".as_slice()
@@ -193,7 +199,7 @@ fn every_end_once(rt: HostRuntime) -> Result<(), Fail> {
     entries.add(stopped(alloc, 10, Refusal::Expr(ExprFault::NotNumber)))?;
     entries.add(stopped(alloc, 11, Refusal::Absent))?;
     entries.add(stopped(alloc, u32::MAX, Refusal::Exists))?;
-    let printed = report(alloc, &entries, &Retries::new(alloc))?;
+    let printed = printed_report(alloc, &entries, &Retries::new(alloc))?;
     assert_eq!(rt;
         printed.as_slice(),
         b"forest report 1\nentries 14\nentry 0 shell 63 txn 99999 aborted\nentry 1 shell 0 txn 0 stopped 0 1 NoStep\nentry 2 shell 0 txn 0 stopped 1 3 NoPlace\nentry 3 shell 0 txn 0 stopped 2 4 Lacks\nentry 4 shell 0 txn 0 stopped 3 5 WrongForm\nentry 5 shell 0 txn 0 stopped 4 6 Blocked \"/l41/a b\"\nentry 6 shell 0 txn 0 stopped 5 7 TooDeep\nentry 7 shell 0 txn 0 stopped 6 8 BadName\nentry 8 shell 0 txn 0 stopped 7 9 NoDefault\nentry 9 shell 0 txn 0 stopped 8 10 Expr TooLong\nentry 10 shell 0 txn 0 stopped 9 10 Expr Overflow\nentry 11 shell 0 txn 0 stopped 10 10 Expr NotNumber\nentry 12 shell 0 txn 0 stopped 11 11 Absent\nentry 13 shell 0 txn 0 stopped 4294967295 12 Exists\nretries 0\nend\n".as_slice()

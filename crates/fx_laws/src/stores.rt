@@ -1,0 +1,39 @@
+//! Laws of stores: storing what is there changes nothing.
+ghost use Rattle.fx_laws.specs.Stored.{SameContentIsAccepted, SameContentChangesNothing, FetchedIsAccepted, SameStoreChangesNothing, SameStoreLeavesNothing, FetchedStoreChangesNothing, FetchedStoreLeavesNothing};
+
+/// On a whole filestore the store of what a file, a directory or a link holds already is accepted, and sets the node to
+/// what it is.
+pub fn a_store_of_the_same_content_is_accepted()
+    ensures { SameContentIsAccepted }
+{}
+
+/// On every filestore where such a store is accepted, each path has afterwards what it had before.
+pub fn a_store_of_the_same_content_changes_nothing()
+    ensures { SameContentChangesNothing }
+{}
+
+/// On a whole filestore the store of what is fetched at a file, a directory or a link is accepted, and sets the node to
+/// what it is.
+pub fn a_store_of_what_is_fetched_is_accepted()
+    ensures { FetchedIsAccepted }
+{}
+
+/// A transaction's command `store(e)` changes no path where `e` gives what is there.
+pub fn a_command_that_stores_the_same_content_changes_nothing()
+    ensures { SameStoreChangesNothing }
+{}
+
+/// A transaction that is done and ends with such a command leaves what it leaves without it.
+pub fn a_transaction_that_stores_the_same_content_leaves_the_same()
+    ensures { SameStoreLeavesNothing }
+{}
+
+/// `fetch x : shape store(x)` changes no path, from every place and on every filestore.
+pub fn a_fetch_and_a_store_change_nothing()
+    ensures { FetchedStoreChangesNothing }
+{}
+
+/// A transaction that is done and ends with them leaves what it leaves without them.
+pub fn a_transaction_that_fetches_and_stores_leaves_the_same()
+    ensures { FetchedStoreLeavesNothing }
+{}

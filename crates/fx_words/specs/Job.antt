@@ -1,0 +1,85 @@
+-- The words of the command line, without the program's name, and what they ask for.
+use Rattle.std.specs.Prelude.{ℕ, zero, suc, ◌+◌, Bool, true, false, cond, not, ◌&&◌, ◌==◌, List, [], ◌∷◌, length, Option, Some, None, codes, nat_le, nat_lt}
+use Rattle.std.specs.Fmt.{decimal}
+use Rattle.std.specs.List.{list_all, slice_split}
+use Rattle.std.specs.Option.{option_map, option_and_then}
+use Rattle.std.specs.Str.{bytes_eq}
+
+-- one run after another, or by a schedule of shells
+pub data Mode : Type 0 where
+  Plain : Mode
+  Scheduled : List ℕ → Mode
+
+pub record Job : Type 0 where
+  pub spec : List ℕ
+  pub folder : List ℕ
+  pub out : List ℕ
+  pub scripts : List (List ℕ)
+  pub mode : Mode
+
+-- a word may be an argument: it is not empty and does not begin with `-`
+abbrev pub is_plain : List ℕ → Bool
+is_plain [] = false
+is_plain (b ∷ rest) = not (b == 45)
+
+-- the least number from `k` on, of so many, whose decimal text this is
+abbrev pub numbered : ℕ → ℕ → List ℕ → Option ℕ
+numbered k zero text = None
+numbered k (suc more) text = cond (bytes_eq (decimal k) text) (Some k) (numbered (k + 1) more text)
+
+-- the shell that a text names, of so many shells
+abbrev pub shell_named : ℕ → List ℕ → Option ℕ
+shell_named count text = numbered 0 count text
+
+abbrev pub shells_named : ℕ → List (List ℕ) → Option (List ℕ)
+shells_named count [] = Some []
+shells_named count (text ∷ texts) = option_and_then (λ k. option_map (λ ks. k ∷ ks) (shells_named count texts)) (shell_named count text)
+
+abbrev pub is_comma : ℕ → Bool
+is_comma b = b == 44
+
+-- a schedule of so many shells: `none`, or their numbers with `,` between them
+abbrev pub schedule_of : ℕ → List ℕ → Option (List ℕ)
+schedule_of count text = cond (bytes_eq text (codes "none")) (Some []) (shells_named count (slice_split is_comma text))
+
+abbrev pub are_plain : List (List ℕ) → Bool
+are_plain words = list_all is_plain words
+
+-- 1 to 64 scripts
+abbrev pub is_count : ℕ → Bool
+is_count n = nat_le 1 n && nat_le n 64
+
+abbrev pub run_job : List (List ℕ) → Option Job
+run_job (spec ∷ folder ∷ out ∷ script ∷ []) = Some (record { spec = spec; folder = folder; out = out; scripts = script ∷ []; mode = Plain })
+run_job _ = None
+
+abbrev pub trace_job : List (List ℕ) → Option Job
+trace_job (spec ∷ folder ∷ out ∷ schedule ∷ scripts) =
+    let job : List ℕ → Job = λ shells. record { spec = spec; folder = folder; out = out; scripts = scripts; mode = Scheduled shells } in
+    cond (is_count (length scripts)) (option_map job (schedule_of (length scripts) schedule)) None
+trace_job _ = None
+
+-- the command that a word names, with its arguments
+abbrev pub named_job : List ℕ → List (List ℕ) → Option Job
+named_job command arguments =
+    cond (bytes_eq command (codes "run")) (run_job arguments) (cond (bytes_eq command (codes "trace")) (trace_job arguments) None)
+
+-- the command that the words ask for, if they have a command's form
+abbrev pub job_of : List (List ℕ) → Option Job
+job_of [] = None
+job_of (command ∷ arguments) = cond (are_plain arguments) (named_job command arguments) None
+
+-- the place of a script's word among the words, the command being 0
+abbrev pub first_place : Mode → ℕ
+first_place Plain = 4
+first_place (Scheduled shells) = 5
+
+abbrev pub place_of : Job → ℕ → ℕ
+place_of job i = first_place job.mode + i
+
+abbrev pub shells_in : Mode → List ℕ
+shells_in Plain = []
+shells_in (Scheduled shells) = shells
+
+abbrev pub shells_of : Job → List ℕ
+shells_of job = shells_in job.mode
