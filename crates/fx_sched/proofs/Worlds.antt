@@ -27,7 +27,7 @@ use Rattle.fx_sched.specs.World.{looks_in, machine_of, running_of, IsShell, IsWo
 use Rattle.fx_sched.specs.Moves.{read_more, HasLooked, HasSettled, HasRestarted, Moved}
 use Rattle.fx_sched.specs.Running.{Running}
 use Rattle.fx_machine.specs.Measure.{measure, IsLower}
-use Rattle.fx_sched.proofs.Pending.{events_lower}
+use Rattle.fx_machine.proofs.Lowering.{events_lower}
 use Rattle.fx_sched.proofs.Looks.{unlooked, has_seen_all, comes_next, stale_at, fresh_at, once_more, true_more, true_longer, fits_as}
 
 abbrev Path : Type 0

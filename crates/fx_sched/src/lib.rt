@@ -2,6 +2,7 @@
 #![tactic(auto)]
 
 mod moves;
+mod recording;
 mod schedule;
 mod world;
 

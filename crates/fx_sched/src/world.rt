@@ -1,7 +1,9 @@
-ghost use Rattle.std.specs.Prelude.{◌≡◌, ◌<◌, true, IfOk, IfSome, OnErr, length, replicate};
+ghost use Rattle.std.specs.Prelude.{◌≡◌, ℕ, ◌<◌, true, false, IfOk, IfSome, OnErr, length, replicate};
 ghost use Rattle.fx_spec.specs.Bases.{base_tree};
 ghost use Rattle.fx_forms.specs.Built.{is_built_spec, is_built_plan};
-ghost use Rattle.fx_machine.specs.Measure.{measure, IsLower};
+ghost use Rattle.fx_machine.specs.Machine.{next_number};
+ghost use Rattle.fx_machine.specs.Measure.{measure, IsLower, has_left};
+ghost use Rattle.fx_sched.specs.Left.{SomeLeft};
 ghost use Rattle.fx_sched.specs.World.{began, Stepped, IsWorldOver, new_shell, machine_of, running_of};
 
 use crate::moves::advance;
@@ -65,6 +67,56 @@ impl World {
         ensures { (result.now.base ≡ self.now.base) × (result.now.order ≡ self.now.machine.order) }
     {
         &self.board
+    }
+
+    /// The log alone.
+    pub(crate) fn into_board(self) -> Board
+        ensures { (result.base ≡ self.base) × (result.order ≡ self.machine.order) }
+    {
+        let World {
+            base,
+            board,
+            shells,
+        } = self;
+        drop(base);
+        drop(shells);
+        board
+    }
+
+    /// The number of shells.
+    pub(crate) fn count(&self) -> u32
+        ensures { result ≡ length self.now.base.plan }
+    {
+        self.base.plan.len()
+    }
+
+    /// The number of the next transaction of a shell of the plan.
+    pub(crate) fn next(&self, shell: u32) -> u32
+        requires { shell < length self.now.base.plan }
+        ensures { result ≡ next_number self.now.machine.order shell }
+    {
+        self.shells[shell as usize].next
+    }
+
+    /// Whether a shell of the plan has a transaction left.
+    pub(crate) fn is_left(&self, shell: u32) -> bool
+        requires { shell < length self.now.base.plan }
+        ensures { result ≡ has_left self.now.base self.now.machine shell }
+    {
+        self.next(shell) < self.base.plan.count(shell)
+    }
+
+    /// Whether some shell has a transaction left.
+    pub(crate) fn has_left(&self) -> bool
+        ensures some { result ≡ true → SomeLeft self.now }
+        ensures none { result ≡ false → (k : ℕ) → has_left self.now.base self.now.machine k ≡ false }
+    {
+        for shell in 0..self.count() {
+            if self.is_left(shell) {
+                return true;
+            }
+        }
+        false
     }
 
     /// One look or one settle of a shell of the plan; None exactly where it has no transaction left. A refusal changes
