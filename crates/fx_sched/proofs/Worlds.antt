@@ -34,7 +34,7 @@ abbrev Path : Type 0
 Path = List (List ℕ)
 
 
-abbrev shell_looks : Shell → List Look
+abbrev pub shell_looks : Shell → List Look
 shell_looks s = looks_in s.reads
 
 -- ---- lists
@@ -59,17 +59,17 @@ set_machine o shells number t looks e =
     let with_looks : List (List Look) → Machine = λ ls. record { order = o; looks = ls } in
     ap with_looks (map-set shell_looks shells number t ∙ ap (set (map shell_looks shells) number) e)
 
-run_more : (base : BaseTree) (m : Machine) (events : List Event) (m' : Machine) (e : Event) (m'' : Machine) → Run base m events m' → Step base m' e m'' → Run base m (events ++ e ∷ []) m''
+pub run_more : (base : BaseTree) (m : Machine) (events : List Event) (m' : Machine) (e : Event) (m'' : Machine) → Run base m events m' → Step base m' e m'' → Run base m (events ++ e ∷ []) m''
 run_more base m [] m' e m'' run step = (m'', subst (λ m. Step base m e m'') (sym run) step, refl)
 run_more base m (x ∷ events) m' e m'' run step = (run.0, run.1, run_more base run.0 events m' e m'' run.2 step)
 
 -- ---- numbers
 
-numbers_own : (o : List Turn) (shell txn : ℕ) → numbers_of shell (o ++ (shell, txn) ∷ []) ≡ numbers_of shell o ++ txn ∷ []
+pub numbers_own : (o : List Turn) (shell txn : ℕ) → numbers_of shell (o ++ (shell, txn) ∷ []) ≡ numbers_of shell o ++ txn ∷ []
 numbers_own o shell txn =
     filter_map-append (number_in shell) o ((shell, txn) ∷ []) ∙ ap (λ b. numbers_of shell o ++ cons_option (cond b (Some txn) None) []) (eq-eqb shell shell refl)
 
-numbers_other : (o : List Turn) (k shell txn : ℕ) → nat_eq shell k ≡ false → numbers_of k (o ++ (shell, txn) ∷ []) ≡ numbers_of k o
+pub numbers_other : (o : List Turn) (k shell txn : ℕ) → nat_eq shell k ≡ false → numbers_of k (o ++ (shell, txn) ∷ []) ≡ numbers_of k o
 numbers_other o k shell txn e =
     filter_map-append (number_in k) o ((shell, txn) ∷ []) ∙ ap (λ b. numbers_of k o ++ cons_option (cond b (Some txn) None) []) e ∙ append-nil (numbers_of k o)
 

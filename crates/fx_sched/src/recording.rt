@@ -97,12 +97,15 @@ fn take_turn(alloc: Global, recording: &mut Recording, shell: u32) -> Result<(),
     requires shell { shell < length recording.old.world.base.plan }
     ensures { IfOk result (λ _. HadTurns recording.old (shell ∷ []) recording.new) }
 {
-    if let Some(event) = recording.world.step(alloc, shell)? {
-        let txn = recording.world.next(shell);
-        note(alloc, &mut recording.retried, txn, &event)?;
-        recording.events.add(alloc, event)?;
+    match recording.world.step(alloc, shell)? {
+        None => Ok(()),
+        Some(event) => {
+            let txn = recording.world.next(shell);
+            note(alloc, &mut recording.retried, txn, &event)?;
+            recording.events.add(alloc, event)?;
+            Ok(())
+        }
     }
-    Ok(())
 }
 
 /// Adds the retry of a conflict to those of its shell, which has settled so many transactions.
