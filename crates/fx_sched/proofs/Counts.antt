@@ -19,7 +19,6 @@ use Rattle.fx_machine.specs.Turns.{is_settled_by, has_more}
 use Rattle.fx_sched.specs.Recorded.{noted}
 use Rattle.fx_sched.proofs.Worlds.{numbers_own, numbers_other}
 
-
 abbrev pub settled_by : ℕ → List Event → ℕ
 settled_by k events = count_by (is_settled_by k) events
 
@@ -47,7 +46,7 @@ next_counts base m (event.Look shell path position ∷ events) m' k run =
 next_counts base m (event.Settled shell entry ∷ events) m' k run =
     let rest : next_number m'.order k ≡ next_number run.0.order k + settled_by k events = next_counts base run.0 events m' k run.2 in
     let here : next_number run.0.order k ≡ next_number m.order k + cond (nat_eq shell k) 1 0 =
-        ap (λ (m : Machine). next_number m.order k) run.1.after ∙ next_more m.order k shell (next_number m.order shell) in
+    ap (λ (m : Machine). next_number m.order k) run.1.after ∙ next_more m.order k shell (next_number m.order shell) in
     omega (arith, rest, here, settled_cons k (event.Settled shell entry) events)
 next_counts base m (event.Conflict shell entry path ∷ events) m' k run =
     let rest : next_number m'.order k ≡ next_number run.0.order k + settled_by k events = next_counts base run.0 events m' k run.2 in
@@ -88,9 +87,10 @@ conflicts_more k n (event.Conflict shell entry path ∷ events) e = by (nat_eq s
   where
     same : n + settled_by k events ≡ n + settled_by k (event.Conflict shell entry path ∷ events)
     same = omega (arith, settled_cons k (event.Conflict shell entry path) events)
+
     by : (b : Bool) → conflicts_of k n (events ++ e ∷ []) ≡ conflicts_of k n events ++ conflicts_of k (n + settled_by k events) (e ∷ [])
         → cond b ((let retry : Retry = record { shell = shell; txn = n; entry = entry; path = path } in retry) ∷ conflicts_of k n (events ++ e ∷ [])) (conflicts_of k n (events ++ e ∷ []))
-          ≡ cond b ((let retry : Retry = record { shell = shell; txn = n; entry = entry; path = path } in retry) ∷ conflicts_of k n events) (conflicts_of k n events) ++ conflicts_of k (n + settled_by k (event.Conflict shell entry path ∷ events)) (e ∷ [])
+        ≡ cond b ((let retry : Retry = record { shell = shell; txn = n; entry = entry; path = path } in retry) ∷ conflicts_of k n events) (conflicts_of k n events) ++ conflicts_of k (n + settled_by k (event.Conflict shell entry path ∷ events)) (e ∷ [])
     by true rest = ap (λ rs. (let retry : Retry = record { shell = shell; txn = n; entry = entry; path = path } in retry) ∷ rs) (rest ∙ ap (λ n'. conflicts_of k n events ++ conflicts_of k n' (e ∷ [])) same)
     by false rest = rest ∙ ap (λ n'. conflicts_of k n events ++ conflicts_of k n' (e ∷ [])) same
 
@@ -110,9 +110,9 @@ noted_conflicts lists events (event.Conflict shell entry path) txn k within coun
     by true e =
         let same : shell ≡ k = eqb-true shell k e in
         let settled : txn ≡ 0 + settled_by k events =
-            (let both : settled_by k (events ++ event.Conflict shell entry path ∷ []) ≡ settled_by k events + settled_by k (event.Conflict shell entry path ∷ []) = sum_by-append (λ e. cond (is_settled_by k e) 1 0) events (event.Conflict shell entry path ∷ []) in
-             let own : txn ≡ settled_by k (events ++ event.Conflict shell entry path ∷ []) = subst (λ j. txn ≡ settled_by j (events ++ event.Conflict shell entry path ∷ [])) same count in
-             omega (arith, both, own, settled_cons k (event.Conflict shell entry path) [])) in
+        (let both : settled_by k (events ++ event.Conflict shell entry path ∷ []) ≡ settled_by k events + settled_by k (event.Conflict shell entry path ∷ []) = sum_by-append (λ e. cond (is_settled_by k e) 1 0) events (event.Conflict shell entry path ∷ []) in
+        let own : txn ≡ settled_by k (events ++ event.Conflict shell entry path ∷ []) = subst (λ j. txn ≡ settled_by j (events ++ event.Conflict shell entry path ∷ [])) same count in
+        omega (arith, both, own, settled_cons k (event.Conflict shell entry path) [])) in
         ap (λ j. get_or (set lists j (get_or lists j [] ++ a_retry shell entry path txn ∷ [])) k []) same ∙ get_or-set_same lists k (get_or lists k [] ++ a_retry shell entry path txn ∷ []) [] within ∙ ap (λ l. l ++ a_retry shell entry path txn ∷ []) before
         ∙ ap (λ n. conflicts_of k 0 events ++ a_retry shell entry path n ∷ []) settled ∙ ap (λ b. conflicts_of k 0 events ++ cond b (a_retry shell entry path (0 + settled_by k events) ∷ []) []) (sym e)
     by false e =

@@ -78,7 +78,7 @@ at_rest : (base : BaseTree) (m : Machine) → IsReached base m → ((k : ℕ) �
 at_rest base m reached none =
     let t : Tidy base m = tidy_run base (resting base []) reached.events m (tidy_start base) reached.run in
     let empty : m.looks ≡ replicate (length base.plan) [] =
-        ext_get_or [] m.looks (replicate (length base.plan) []) (t.count ∙ sym (length-replicate (length base.plan) [])) (λ k h. t.idle k (none k) ∙ sym (no_looks_at (length base.plan) k)) in
+    ext_get_or [] m.looks (replicate (length base.plan) []) (t.count ∙ sym (length-replicate (length base.plan) [])) (λ k h. t.idle k (none k) ∙ sym (no_looks_at (length base.plan) k)) in
     let with_looks : List (List Look) → Machine = λ looks. record { order = m.order; looks = looks } in
     ap with_looks empty
 
@@ -102,9 +102,9 @@ completed : (base : BaseTree) (m : Machine) → IsReached base m → ((k : ℕ) 
 completed base m reached none = record {
   legal = (reached_sound base m reached).legal;
   all = λ shell txn within.
-    let past : count_of base.plan shell ≤ next_number m.order shell = ltb-false (next_number m.order shell) (count_of base.plan shell) (sym (some_within (script_of base.plan shell) (next_number m.order shell)) ∙ none shell) in
-    let early : txn < length (numbers_of shell m.order) = omega (arith, past, within) in
-    has_turn m.order shell txn (subst (λ ns. Contains ns txn) (sym ((reached_sound base m reached).legal shell).in_turn) (first_contains (length (numbers_of shell m.order)) txn early));
+      let past : count_of base.plan shell ≤ next_number m.order shell = ltb-false (next_number m.order shell) (count_of base.plan shell) (sym (some_within (script_of base.plan shell) (next_number m.order shell)) ∙ none shell) in
+      let early : txn < length (numbers_of shell m.order) = omega (arith, past, within) in
+      has_turn m.order shell txn (subst (λ ns. Contains ns txn) (sym ((reached_sound base m reached).legal shell).in_turn) (first_contains (length (numbers_of shell m.order)) txn early));
 }
 
 -- ---- the retries by shell
@@ -120,7 +120,7 @@ at_first f (suc n) k h =
     ap (λ l. get_or l k []) (map-append f (first_numbers n) (n ∷ [])) ∙ ⊎_elim
     (λ (l : k < n). get_or_append_left (map f (first_numbers n)) (f n ∷ []) [] k (omega (arith, count, l)) ∙ at_first f n k l)
     (λ (g : n ≤ k). let same : length (map f (first_numbers n)) ≡ k = omega (arith, count, g, h) in
-        subst (λ i. get_or (map f (first_numbers n) ++ f n ∷ []) i [] ≡ f k) same (get_or-append_seam (map f (first_numbers n)) (f n) [] [] ∙ ap f (sym count ∙ same))) (cases_lt k n)
+    subst (λ i. get_or (map f (first_numbers n) ++ f n ∷ []) i [] ≡ f k) same (get_or-append_seam (map f (first_numbers n)) (f n) [] [] ∙ ap f (sym count ∙ same))) (cases_lt k n)
 
 listed : (lists : List (List Retry)) (f : ℕ → List Retry) (n : ℕ) → length lists ≡ n → ((k : ℕ) → k < n → get_or lists k [] ≡ f k) → lists ≡ map f (first_numbers n)
 listed lists f n count each =
@@ -136,20 +136,20 @@ traced base schedule a b c t on none had rounds board order events retries =
     let reached : IsReached base c.world.machine = record { events = c.events; run = run } in
     let over : (k : ℕ) → has_left base c.world.machine k ≡ false = subst (λ b. (k : ℕ) → has_left b c.world.machine k ≡ false) base_is rounds.over in
     let whole : Run base (resting base []) t.events (resting base t.board.order) =
-        subst (λ o. Run base (resting base []) t.events (resting base o)) (sym order) (subst (λ es. Run base (resting base []) es (resting base c.world.machine.order)) (sym events) (subst (Run base (resting base []) c.events) (at_rest base c.world.machine reached over) run)) in
+    subst (λ o. Run base (resting base []) t.events (resting base o)) (sym order) (subst (λ es. Run base (resting base []) es (resting base c.world.machine.order)) (sym events) (subst (Run base (resting base []) c.events) (at_rest base c.world.machine reached over) run)) in
     let complete : IsComplete base t.board.order = subst (IsComplete base) (sym order) (completed base c.world.machine reached over) in
     let all : t.events ≡ had.more ++ rounds.more = events ∙ rounds.events ∙ ap (λ es. es ++ rounds.more) (had.events ∙ ap (λ es. es ++ had.more) none) in
     let round_turns : TakesTurns a.world.base b.events [] rounds.more = subst (λ base. TakesTurns base b.events [] rounds.more) had.base rounds.takes in
     let turns : TakesTurns base [] schedule (had.more ++ rounds.more) =
-        subst (λ ts. TakesTurns base [] ts (had.more ++ rounds.more)) (append-nil schedule)
-        (subst (λ before. TakesTurns base before (schedule ++ []) (had.more ++ rounds.more)) none
-         (subst (λ base. TakesTurns base a.events (schedule ++ []) (had.more ++ rounds.more)) on (had.takes [] rounds.more round_turns))) in
+    subst (λ ts. TakesTurns base [] ts (had.more ++ rounds.more)) (append-nil schedule)
+    (subst (λ before. TakesTurns base before (schedule ++ []) (had.more ++ rounds.more)) none
+    (subst (λ base. TakesTurns base a.events (schedule ++ []) (had.more ++ rounds.more)) on (had.takes [] rounds.more round_turns))) in
     let plan : length c.world.base.plan ≡ length base.plan = ap (λ (b : BaseTree). length b.plan) base_is in
     let lists : lists_of c.retried.items ≡ map (λ k. conflicts_of k 0 c.events) (first_numbers (length base.plan)) =
-        listed (lists_of c.retried.items) (λ k. conflicts_of k 0 c.events) (length base.plan) (length-map c.retried.items retries_in ∙ rounds.recording.count ∙ plan)
-        (λ k h. rounds.recording.conflicts k (omega (arith, plan, h))) in
+    listed (lists_of c.retried.items) (λ k. conflicts_of k 0 c.events) (length base.plan) (length-map c.retried.items retries_in ∙ rounds.recording.count ∙ plan)
+    (λ k h. rounds.recording.conflicts k (omega (arith, plan, h))) in
     let conflicts : t.retries ≡ retries_of base t.events =
-        retries ∙ ap joined lists ∙ flat_map-map (λ (list : List Retry). list) (λ k. conflicts_of k 0 c.events) (first_numbers (length base.plan)) ∙ ap (retries_of base) (sym events) in
+    retries ∙ ap joined lists ∙ flat_map-map (λ (list : List Retry). list) (λ k. conflicts_of k 0 c.events) (first_numbers (length base.plan)) ∙ ap (retries_of base) (sym events) in
     record {
       begun = board ∙ base_is;
       run = whole;

@@ -96,17 +96,17 @@ pub stepped : (old new : Recording) (shell txn : ℕ) (e : Event) → IsRecordin
 stepped old new shell txn e is leads events next lists =
     let run : Run old.world.base (resting old.world.base []) (old.events ++ e ∷ []) new.world.machine = run_more old.world.base (resting old.world.base []) old.events old.world.machine e new.world.machine is.run leads.step in
     let count : length new.retried.items ≡ length old.retried.items =
-        sym (length-map new.retried.items retries_in) ∙ ap length lists ∙ noted_length txn (lists_of old.retried.items) e ∙ length-map old.retried.items retries_in in
+    sym (length-map new.retried.items retries_in) ∙ ap length lists ∙ noted_length txn (lists_of old.retried.items) e ∙ length-map old.retried.items retries_in in
     let settled : txn ≡ settled_by (shell_of e) (old.events ++ e ∷ []) =
-        (let h = next_counts old.world.base (resting old.world.base []) (old.events ++ e ∷ []) new.world.machine (shell_of e) run in omega (arith, h, next)) in
+    (let h = next_counts old.world.base (resting old.world.base []) (old.events ++ e ∷ []) new.world.machine (shell_of e) run in omega (arith, h, next)) in
     record {
       recording = record {
         run = subst (λ b. Run b (resting b []) new.events new.world.machine) (sym leads.base) (subst (λ es. Run old.world.base (resting old.world.base []) es new.world.machine) (sym events) run);
         count = count ∙ is.count ∙ ap (λ (b : BaseTree). length b.plan) (sym leads.base);
         conflicts = λ k within.
-          let inside : k < length old.world.base.plan = subst (λ (b : BaseTree). k < length b.plan) leads.base within in
-          let listed : k < length (lists_of old.retried.items) = (let a : length (lists_of old.retried.items) ≡ length old.retried.items = length-map old.retried.items retries_in in let b = is.count in omega (arith, a, b, inside)) in
-          ap (λ ls. get_or ls k []) lists ∙ noted_conflicts (lists_of old.retried.items) old.events e txn k listed settled (is.conflicts k inside) ∙ ap (conflicts_of k 0) (sym events);
+            let inside : k < length old.world.base.plan = subst (λ (b : BaseTree). k < length b.plan) leads.base within in
+            let listed : k < length (lists_of old.retried.items) = (let a : length (lists_of old.retried.items) ≡ length old.retried.items = length-map old.retried.items retries_in in let b = is.count in omega (arith, a, b, inside)) in
+            ap (λ ls. get_or ls k []) lists ∙ noted_conflicts (lists_of old.retried.items) old.events e txn k listed settled (is.conflicts k inside) ∙ ap (conflicts_of k 0) (sym events);
       };
       base = leads.base;
       more = e ∷ [];
@@ -114,9 +114,9 @@ stepped old new shell txn e is leads events next lists =
       run = (new.world.machine, leads.step, refl);
       idle = λ none. absurd (cc);
       takes = λ later es t.
-        let has : has_more old.world.base old.events (shell_of e) ≡ true = recorded_more old is (shell_of e) ∙ ap (has_left old.world.base old.world.machine) leads.whose ∙ leads.left in
-        let after : TakesTurns old.world.base (old.events ++ e ∷ []) later es = subst (λ before. TakesTurns old.world.base before later es) events t in
-        subst (λ k. TakesTurns old.world.base old.events (k ∷ later) (e ∷ es)) leads.whose (steps has after);
+          let has : has_more old.world.base old.events (shell_of e) ≡ true = recorded_more old is (shell_of e) ∙ ap (has_left old.world.base old.world.machine) leads.whose ∙ leads.left in
+          let after : TakesTurns old.world.base (old.events ++ e ∷ []) later es = subst (λ before. TakesTurns old.world.base before later es) events t in
+          subst (λ k. TakesTurns old.world.base old.events (k ∷ later) (e ∷ es)) leads.whose (steps has after);
     }
 
 -- a turn of a shell that has no transaction left
@@ -160,15 +160,15 @@ had_then a b c ts us s t =
       events = t.events ∙ ap (λ es. es ++ t.more) s.events ∙ append_assoc a.events s.more t.more;
       run = runs_on a.world.base a.world.machine s.more b.world.machine t.more c.world.machine s.run run;
       idle = λ none k inside.
-        let parts : (s.more ≡ []) × (t.more ≡ []) = both_none s.more t.more none in
-        let same : a.world.machine ≡ b.world.machine = subst (λ es. Run a.world.base a.world.machine es b.world.machine) parts.0 s.run in
-        ⊎_elim (λ h. s.idle parts.0 k h)
-        (λ h. ap (λ m. has_left a.world.base m k) same ∙ ap (λ base. has_left base b.world.machine k) (sym s.base) ∙ t.idle parts.1 k h) (Contains-append_cases ts us k inside);
+          let parts : (s.more ≡ []) × (t.more ≡ []) = both_none s.more t.more none in
+          let same : a.world.machine ≡ b.world.machine = subst (λ es. Run a.world.base a.world.machine es b.world.machine) parts.0 s.run in
+          ⊎_elim (λ h. s.idle parts.0 k h)
+          (λ h. ap (λ m. has_left a.world.base m k) same ∙ ap (λ base. has_left base b.world.machine k) (sym s.base) ∙ t.idle parts.1 k h) (Contains-append_cases ts us k inside);
       takes = λ later es h.
-        let on : TakesTurns a.world.base b.events (us ++ later) (t.more ++ es) = subst (λ base. TakesTurns base b.events (us ++ later) (t.more ++ es)) s.base
-            (t.takes later es (subst (λ base. TakesTurns base c.events later es) (sym s.base) h)) in
-        subst (λ turns. TakesTurns a.world.base a.events turns ((s.more ++ t.more) ++ es)) (sym (append_assoc ts us later))
-        (subst (TakesTurns a.world.base a.events (ts ++ (us ++ later))) (sym (append_assoc s.more t.more es)) (s.takes (us ++ later) (t.more ++ es) on));
+          let on : TakesTurns a.world.base b.events (us ++ later) (t.more ++ es) = subst (λ base. TakesTurns base b.events (us ++ later) (t.more ++ es)) s.base
+          (t.takes later es (subst (λ base. TakesTurns base c.events later es) (sym s.base) h)) in
+          subst (λ turns. TakesTurns a.world.base a.events turns ((s.more ++ t.more) ++ es)) (sym (append_assoc ts us later))
+          (subst (TakesTurns a.world.base a.events (ts ++ (us ++ later))) (sym (append_assoc s.more t.more es)) (s.takes (us ++ later) (t.more ++ es) on));
     }
 
 -- ---- rounds
@@ -203,7 +203,7 @@ pub round_falls : (old new : Recording) → IsRecording old → SomeLeft old.wor
 round_falls old new is left had =
     subst (λ b. weight b new.world.machine < weight old.world.base old.world.machine) (sym had.base)
     (run_falls old.world.base old.world.machine had.more new.world.machine (record { events = old.events; run = is.run })
-     (λ none. true_false (has_left old.world.base old.world.machine left.shell) left.left (had.idle none left.shell (first_contains (length old.world.base.plan) left.shell left.within))) had.run)
+    (λ none. true_false (has_left old.world.base old.world.machine left.shell) left.left (had.idle none left.shell (first_contains (length old.world.base.plan) left.shell left.within))) had.run)
 
 -- some rounds so far
 pub record Rounds (old new : Recording) : Type 0 where
@@ -223,11 +223,11 @@ rounds_more a b c r left had = record {
   more = r.more ++ had.more;
   events = had.events ∙ ap (λ es. es ++ had.more) r.events ∙ append_assoc a.events r.more had.more;
   takes = λ es t.
-    let here : TakesTurns b.world.base c.events [] es = subst (λ base. TakesTurns base c.events [] es) (sym r.base) t in
-    let turns : TakesTurns b.world.base b.events (first_numbers (length b.world.base.plan)) (had.more ++ es) =
-        subst (λ turns. TakesTurns b.world.base b.events turns (had.more ++ es)) (append-nil (first_numbers (length b.world.base.plan))) (had.takes [] es here) in
-    let round : TakesTurns b.world.base b.events [] (had.more ++ es) = a_round left.shell (recorded_more b r.recording left.shell ∙ left.left) turns in
-    subst (TakesTurns a.world.base a.events []) (sym (append_assoc r.more had.more es)) (r.takes (had.more ++ es) (subst (λ base. TakesTurns base b.events [] (had.more ++ es)) r.base round));
+      let here : TakesTurns b.world.base c.events [] es = subst (λ base. TakesTurns base c.events [] es) (sym r.base) t in
+      let turns : TakesTurns b.world.base b.events (first_numbers (length b.world.base.plan)) (had.more ++ es) =
+      subst (λ turns. TakesTurns b.world.base b.events turns (had.more ++ es)) (append-nil (first_numbers (length b.world.base.plan))) (had.takes [] es here) in
+      let round : TakesTurns b.world.base b.events [] (had.more ++ es) = a_round left.shell (recorded_more b r.recording left.shell ∙ left.left) turns in
+      subst (TakesTurns a.world.base a.events []) (sym (append_assoc r.more had.more es)) (r.takes (had.more ++ es) (subst (λ base. TakesTurns base b.events [] (had.more ++ es)) r.base round));
 }
 
 pub rounds_over : (a b : Recording) → Rounds a b → ((k : ℕ) → has_left b.world.base b.world.machine k ≡ false) → HadRounds a b

@@ -33,7 +33,6 @@ use Rattle.fx_sched.proofs.Looks.{unlooked, has_seen_all, comes_next, stale_at, 
 abbrev Path : Type 0
 Path = List (List ℕ)
 
-
 abbrev pub shell_looks : Shell → List Look
 shell_looks s = looks_in s.reads
 
@@ -91,7 +90,7 @@ looked_shell : (old new : Log) (number : ℕ) (s : Shell) (path : Path) (positio
 looked_shell old new number s path position t is h =
     let more : ReadList = s.reads ++ (path, (get (last_state old) path, length old.order)) ∷ [] in
     let grown : t ≡ record { reads = s.reads ++ (path, (get (last_state old) path, length old.order)) ∷ []; next = s.next } =
-        h.shell ∙ ap (read_more s path (get (last_state old) path)) h.now in
+    h.shell ∙ ap (read_more s path (get (last_state old) path)) h.now in
     subst (IsShell old number) (sym grown) (record {
       next = is.next;
       once = once_more s.reads path (get (last_state old) path, length old.order) is.once h.unread;
@@ -145,7 +144,7 @@ steps old new shells number s txn (event.Look k path position) t w at planned m 
     let h = m.1 in
     let looked : looks_of (machine_of old.order shells) number ≡ looks_in s.reads = looks_at old.order shells number s at in
     let more : looks_in t.reads ≡ looks_of (machine_of old.order shells) number ++ (path, position) ∷ [] =
-        ap shell_looks h.shell ∙ map-append (λ r. (r.0, r.1.1)) s.reads ((path, (get (last_state old) path, position)) ∷ []) ∙ ap (λ ls. ls ++ (path, position) ∷ []) (sym looked) in
+    ap shell_looks h.shell ∙ map-append (λ r. (r.0, r.1.1)) s.reads ((path, (get (last_state old) path, position)) ∷ []) ∙ ap (λ ls. ls ++ (path, position) ∷ []) (sym looked) in
     let m' : Machine = machine_of new.order (set shells number t) in
     let made : Looks old.base (machine_of old.order shells) number path position (machine_of new.order (set shells number t)) = record {
       txn = txn;
@@ -280,9 +279,10 @@ started_over base clone read log shells count spec plan l c s n r =
     let log_is : log ≡ started (base_tree base) = l ∙ ap (λ (b : Base). started (base_tree b)) c in
     let count_of : count ≡ length base.plan = n ∙ ap (λ (b : Base). length b.plan) r in
     let shells_are : shells ≡ replicate (length base.plan) new_shell = s ∙ ap (λ n. replicate n new_shell) count_of in
-    let with_machine : Machine → Running = λ m. record { base = base_tree base; machine = m } in
-    (record {
-       same = sym (ap (λ (l : Log). l.base) log_is);
-       world = subst (λ log. IsWorld log shells) (sym log_is) (subst (IsWorld (started (base_tree base))) (sym shells_are) (started_world (base_tree base) spec plan));
-     },
-     ap (λ log. running_of log shells) log_is ∙ ap (running_of (started (base_tree base))) shells_are ∙ ap with_machine (started_machine (base_tree base)))
+    let with_machine : Machine → Running = λ m. record { base = base_tree base; machine = m } in (
+      record {
+        same = sym (ap (λ (l : Log). l.base) log_is);
+        world = subst (λ log. IsWorld log shells) (sym log_is) (subst (IsWorld (started (base_tree base))) (sym shells_are) (started_world (base_tree base) spec plan));
+      },
+      ap (λ log. running_of log shells) log_is ∙ ap (running_of (started (base_tree base))) shells_are ∙ ap with_machine (started_machine (base_tree base)),
+    )

@@ -42,7 +42,16 @@ pub(crate) fn advance(
     let mut known = Known::new(reads);
     match fx_run::run(alloc, base, number, next, &mut known) {
         Ok(attempt) => settle(alloc, board, attempt),
-        Err(Stop::Needs(path)) => look(alloc, board, number, Shell { reads: known.reads, next }, path),
+        Err(Stop::Needs(path)) => look(
+            alloc,
+            board,
+            number,
+            Shell {
+                reads: known.reads,
+                next,
+            },
+            path,
+        ),
         Err(Stop::NoMemory) => Err(Shell {
             reads: known.reads,
             next,
@@ -68,11 +77,13 @@ fn settle(alloc: Global, board: &mut Board, attempt: Attempt) -> Result<(Shell, 
             },
             Event::Settled { shell, entry },
         )),
-        Err(Settle::Conflict {
-            entry,
-            path,
-            attempt,
-        }) => {
+        Err(
+            Settle::Conflict {
+                entry,
+                path,
+                attempt,
+            },
+        ) => {
             drop(attempt);
             Ok((
                 Shell {

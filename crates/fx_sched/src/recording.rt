@@ -58,7 +58,11 @@ fn no_retries(alloc: Global, count: u32) -> Result<Vec<Retried>, NoMemory>
 }
 
 /// The shells of a schedule have their turns, in order.
-pub(crate) fn take_turns(alloc: Global, recording: &mut Recording, schedule: &[u32]) -> Result<(), NoMemory>
+pub(crate) fn take_turns(
+    alloc: Global,
+    recording: &mut Recording,
+    schedule: &[u32],
+) -> Result<(), NoMemory>
     requires recording { IsRecording recording.old }
     requires shells { All (λ k. k < length recording.old.world.base.plan) schedule.now }
     ensures { IfOk result (λ _. HadTurns recording.old schedule.now recording.new) }

@@ -10,9 +10,10 @@ use Rattle.fx_sched.proofs.world.step_shell.Goals as goal
 pub returns-then-count-next-clause-event : goal.returns-then-count-next-clause-event
 returns-then-count-next-clause-event c =
     let at : slice_get c.args.shells.now c.args.shell ≡ Some (get_or c.args.shells.now c.args.shell c.index-shells-shell.result) = shell_at c.args.base.now.value c.args.board.now c.args.shells.now c.args.shell c.index-shells-shell.result c.requires.world c.requires.shell in
-    let count : c.count-count.result ≡ count_of c.args.board.now.base.plan c.args.shell = count_is c.args.base.now.value c.args.board.now c.args.shells.now c.deref.result.now c.args.shell c.count-count.result c.requires.world c.deref.ensures c.count-count.ensures in
-    (no_txn c.args.base.now.value c.args.board.now c.args.shells.now c.args.shell c.count-count.result (get_or c.args.shells.now c.args.shell c.index-shells-shell.result) c.requires.world at count c.if-count-next.true,
-     ap (running_of c.args.board.now) (set-get_or c.args.shells.now c.args.shell c.index-shells-shell.result))
+    let count : c.count-count.result ≡ count_of c.args.board.now.base.plan c.args.shell = count_is c.args.base.now.value c.args.board.now c.args.shells.now c.deref.result.now c.args.shell c.count-count.result c.requires.world c.deref.ensures c.count-count.ensures in (
+      no_txn c.args.base.now.value c.args.board.now c.args.shells.now c.args.shell c.count-count.result (get_or c.args.shells.now c.args.shell c.index-shells-shell.result) c.requires.world at count c.if-count-next.true,
+      ap (running_of c.args.board.now) (set-get_or c.args.shells.now c.args.shell c.index-shells-shell.result),
+    )
 
 pub advance-requires-clause-shell : goal.advance-requires-clause-shell
 advance-requires-clause-shell c =
