@@ -1,6 +1,6 @@
 -- What a log keeps: its order is legal, each entry is what its transaction comes to when it is run whole on the state before
 -- it, and the filestore is the state after all.
-use Rattle.std.specs.Prelude.{◌≡◌, ℕ, ◌≤◌, ◌<◌, ◌↔◌, List, [], ◌∷◌, ◌++◌, map, length, slice_get, Option, Some, Contains, Result}
+use Rattle.std.specs.Prelude.{◌≡◌, ℕ, ◌≤◌, ◌<◌, ◌↔◌, List, [], ◌∷◌, ◌++◌, map, length, slice_get, Option, Some, Contains}
 use Rattle.std.specs.FinMap.{get}
 use Rattle.fx_store.specs.declared.node.Node.{Node}
 use Rattle.fx_store.specs.Whole.{Nodes, IsWhole}

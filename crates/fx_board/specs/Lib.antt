@@ -1,2 +1,4 @@
 pub mod Log
 pub mod Board
+pub mod Growing
+pub mod Stale

@@ -5,8 +5,11 @@ ghost use Rattle.fx_spec.specs.Bases.{base_tree};
 ghost use Rattle.fx_machine.specs.Explained.{IsExplained};
 ghost use Rattle.fx_machine.specs.Machine.{next_number};
 ghost use Rattle.fx_machine.specs.Passes.{AreTrueReads};
+ghost use Rattle.fx_board.specs.Stale.{IsConflict};
 ghost use Rattle.fx_board.specs.Board.{IsLog, IsEntry, last_state, IsFreshReads, started, settled, RefusedAs};
 
+use crate::growing::grow;
+use crate::stale::first_stale;
 use fx_base::NoMemory;
 use fx_machine::{Attempt, Entry};
 use fx_spec::Base;
@@ -55,9 +58,13 @@ impl Board {
     pub fn new(alloc: Global, base: Arc<Base>) -> Result<Board, NoMemory>
         ensures { IfOk result (λ b. b ≡ started (base_tree base.value)) }
     {
-        let _ = alloc;
-        drop(base);
-        Err(NoMemory)
+        prove!(base.plan.len() <= 64);
+        let store = base.loaded.copy(alloc)?;
+        Ok(Board {
+            base,
+            entries: Vec::new(alloc),
+            store,
+        })
     }
 
     pub fn base(&self) -> &Base
@@ -96,8 +103,11 @@ impl Board {
         ensures node { IfOk result (λ r. r.0 ≡ get (last_state self.now) path.now) }
         ensures position { IfOk result (λ r. r.1 ≡ length self.now.order) }
     {
-        let _ = (alloc, path.len());
-        Err(NoMemory)
+        let node = match self.store.get(path) {
+            Some(node) => Some(node.copy(alloc)?),
+            None => None,
+        };
+        Ok((node, self.entries.len() as u64))
     }
 
     /// Settles an attempt of the shell's next transaction: it becomes the next entry, whose number is answered; or an entry
@@ -113,7 +123,28 @@ impl Board {
         ensures fresh { IfOk result (λ i. IsFreshReads self.old.base self.old.order attempt.reads) }
         ensures refused { IfErr result (RefusedAs self.old self.new attempt) }
     {
-        let _ = alloc;
-        Err(Settle::NoMemory(attempt))
+        if let Some((entry, path)) = first_stale(&self.entries, &attempt.reads) {
+            return Err(conflict(alloc, entry, path, attempt));
+        }
+        let entry = self.entries.len() as u64;
+        match grow(alloc, &mut self.entries, &mut self.store, attempt) {
+            Ok(changes) => self.store.apply(changes),
+            Err(attempt) => return Err(Settle::NoMemory(attempt)),
+        }
+        Ok(entry)
+    }
+}
+
+/// The refusal of an attempt that the entry stands in the way of.
+fn conflict(alloc: Global, entry: u64, path: &Path, attempt: Attempt) -> Settle
+    ensures { IsConflict entry path.now attempt result }
+{
+    match path.copy(alloc) {
+        Ok(path) => Settle::Conflict {
+            entry,
+            path,
+            attempt,
+        },
+        Err(NoMemory) => Settle::NoMemory(attempt),
     }
 }

@@ -1,14 +1,18 @@
 //! What an attempt has read and what it has changed, the readers that it reads through, and resolution over them.
 #![tactic(auto)]
 
+mod component;
 mod known;
+mod looking;
 mod overlay;
 mod reader;
 mod reads;
 mod resolving;
+mod walk;
 
 pub use fx_store::{Landing, NameList};
 pub use known::Known;
+pub use looking::look;
 pub use overlay::Overlay;
 pub use reader::{Reader, Stop};
 pub use reads::Reads;

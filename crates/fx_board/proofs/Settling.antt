@@ -1,0 +1,308 @@
+-- What an attempt that no entry stands in the way of becomes.
+use Rattle.std.proofs.Common.{◌≡◌, ◌≢◌, ℕ, zero, suc, ◌+◌, ◌-◌, ◌<◌, ◌≤◌, Bool, true, false, cond, List, [], ◌∷◌, ◌++◌, map, length, Option, Some, None, slice_get, refl, sym, ap, subst, ◌∙◌, inl, inr, arith, length-append}
+use Rattle.std.specs.Prelude.{◌↔◌, ◌⊎◌, bytes_eq, unwrap_or}
+use Rattle.std.specs.Cmp.Lexicographic.{pointwise}
+use Rattle.std.specs.FinMap.{get}
+use Rattle.std.specs.List.{Contains}
+use Rattle.std.specs.Option.{option_map}
+use Rattle.std.specs.Ordering.{eq_by_cmp}
+use Rattle.std.proofs.lemmas.Bool.{false≢true, true≢false}
+use Rattle.std.proofs.lemmas.List.{length-map, map-append}
+use Rattle.std.proofs.lemmas.Option.{same_Some, none-some, slice_get_within, slice_get-get_or, get_or_from_slice_get}
+use Rattle.std.proofs.lemmas.Slice.Eq.{bytes_eq-Decides, slice_eq-Decides}
+use Rattle.fx_store.specs.declared.node.Node.{Node}
+use Rattle.fx_store.specs.declared.node.Node.TheVariants.{File, Dir, Link}
+use Rattle.fx_store.specs.declared.changes.Change.{Change}
+use Rattle.fx_store.specs.Changes.{IsChanges, changed_paths, change_at}
+use Rattle.fx_store.specs.Names.{path_cmp}
+use Rattle.fx_store.specs.Orders.{path_eq_same}
+use Rattle.fx_store.specs.Whole.{Nodes, IsWhole, over, over_nodes}
+use Rattle.fx_store.proofs.Overlays.{over-change_at}
+use Rattle.fx_store.proofs.Stores.{IsWhole-same, get-over_nodes}
+use Rattle.fx_store.proofs.Tables.{path_itself}
+use Rattle.fx_view.specs.ReadList.{ReadList}
+use Rattle.fx_view.specs.Reads.{read_at, Agrees}
+use Rattle.fx_spec.specs.declared.base.Base.{Base}
+use Rattle.fx_spec.specs.Bases.{base_tree}
+use Rattle.fx_spec.specs.Plans.{Turn, IsPlan, txn_of}
+use Rattle.fx_spec.specs.Order.{BaseTree, state, after_txn, Changes, IsLegal}
+use Rattle.fx_spec.specs.Transaction.{outputs, end}
+use Rattle.fx_spec.proofs.Orders.{legal-next, state-front, state-next}
+use Rattle.fx_spec.proofs.Transactions.{states_are_whole}
+use Rattle.fx_machine.specs.declared.attempt.Attempt.{Attempt}
+use Rattle.fx_machine.specs.declared.entry.Entry.{Entry}
+use Rattle.fx_machine.specs.Explained.{IsExplained, RunsAs, IsNew}
+use Rattle.fx_machine.specs.Machine.{next_number}
+use Rattle.fx_machine.specs.Passes.{AreTrueReads}
+use Rattle.fx_machine.specs.Measure.{same_node}
+use Rattle.fx_machine.proofs.Legal.{fewer_settled}
+use Rattle.fx_board.specs.Board.{IsEntry, IsBoard, IsStaleRead, IsFreshReads, RefusedAs, log_of, turn_of, settled}
+use Rattle.fx_board.specs.declared.board.Settle.{Settle}
+use Rattle.fx_board.specs.declared.board.Settle.TheVariants as settle
+use Rattle.fx_board.specs.Growing.{entry_of}
+use Rattle.fx_board.specs.Log.{Log}
+use Rattle.fx_board.specs.Stale.{IsMarked, IsConflict}
+
+abbrev Path : Type 0
+Path = List (List ℕ)
+
+-- ---- nodes that do not differ are the same
+
+same_is : (a b : Option Node) → same_node a b ≡ true → a ≡ b
+same_is None None e = refl
+same_is None (Some b) e = absurd (false≢true e)
+same_is (Some (File a)) None e = absurd (false≢true e)
+same_is (Some (Dir a)) None e = absurd (false≢true e)
+same_is (Some (Link a)) None e = absurd (false≢true e)
+same_is (Some (File a)) (Some (File b)) e = ap (λ bytes. Some (File bytes)) ((bytes_eq-Decides a b).0 e)
+same_is (Some (File a)) (Some (Dir b)) e = absurd (false≢true e)
+same_is (Some (File a)) (Some (Link b)) e = absurd (false≢true e)
+same_is (Some (Dir a)) (Some (File b)) e = absurd (false≢true e)
+same_is (Some (Dir a)) (Some (Dir b)) e = ap (λ names. Some (Dir names)) ((slice_eq-Decides bytes_eq-Decides a b (pointwise bytes_eq a b) refl).0 e)
+same_is (Some (Dir a)) (Some (Link b)) e = absurd (false≢true e)
+same_is (Some (Link a)) (Some (File b)) e = absurd (false≢true e)
+same_is (Some (Link a)) (Some (Dir b)) e = absurd (false≢true e)
+same_is (Some (Link a)) (Some (Link b)) e = ap (λ text. Some (Link text)) ((bytes_eq-Decides a b).0 e)
+
+same_itself : (a : Option Node) → same_node a a ≡ true
+same_itself None = refl
+same_itself (Some (File a)) = (bytes_eq-Decides a a).1 refl
+same_itself (Some (Dir a)) = (slice_eq-Decides bytes_eq-Decides a a (pointwise bytes_eq a a) refl).1 refl
+same_itself (Some (Link a)) = (bytes_eq-Decides a a).1 refl
+
+pub same_unless : (a b : Option Node) → (a ≢ b → ⊥) → a ≡ b
+same_unless a b unless = at (same_node a b) refl
+  where
+    at : (t : Bool) → same_node a b ≡ t → a ≡ b
+    at true e = same_is a b e
+    at false e = absurd (unless (λ same. true≢false (sym (same_itself a) ∙ (ap (same_node a) same ∙ e))))
+
+-- ---- what stays where no entry changes it
+
+stays_through : (base : BaseTree) (o : List Turn) (path : Path) (position more : ℕ) → ((entry : ℕ) → position ≤ entry → entry < position + more → Changes base o entry path → ⊥) → get (state base o position) path ≡ get (state base o (position + more)) path
+stays_through base o path position zero none = ap (λ n. get (state base o n) path) (omega arith)
+stays_through base o path position (suc more) none =
+    stays_through base o path position more (λ entry le lt. none entry le (omega (arith, lt)))
+    ∙ (same_unless (get (state base o (position + more)) path) (get (state base o (suc (position + more))) path) (none (position + more) (omega arith) (omega arith))
+    ∙ ap (λ n. get (state base o n) path) (omega arith))
+
+-- true reads that are not stale agree with the last state
+pub agrees_now : (base : BaseTree) (o : List Turn) (reads : ReadList) → AreTrueReads base o reads → IsFreshReads base o reads → Agrees reads (get (state base o (length o)))
+agrees_now base o reads true_ fresh path node known = at (read_at reads path) refl known
+  where
+    at : (r : Option (Option Node × ℕ)) → read_at reads path ≡ r → option_map (λ (r : Option Node × ℕ). r.0) r ≡ Some node → get (state base o (length o)) path ≡ node
+    at None e known = absurd (none-some _ known)
+    at (Some read) e known =
+        let position : ℕ = read.1 in
+        let stood = true_ path read.0 read.1 e in
+        let le : read.1 ≤ length o = stood.0 in
+        let all : read.1 + (length o - read.1) ≡ length o = omega (arith, le) in
+        let stays : get (state base o read.1) path ≡ get (state base o (read.1 + (length o - read.1))) path =
+        stays_through base o path read.1 (length o - read.1) (λ entry since lt changes. fresh entry path (read.0, read.1, e, since, omega (arith, lt, all), changes)) in
+        sym (ap (λ n. get (state base o n) path) all) ∙ (sym stays ∙ (sym stood.1 ∙ same_Some _ _ known))
+
+-- ---- the changes of an attempt
+
+-- a changed path has a change, and a path with a change is changed
+change_stands : (cs : List Change) (k : ℕ) (path : Path) → slice_get (changed_paths cs) k ≡ Some path → (node : Option Node) × (change_at cs path ≡ Some node)
+change_stands [] k path e = absurd (none-some _ e)
+change_stands (c ∷ cs) zero path e = (c.node, ap (λ t. cond t (Some c.node) (change_at cs path)) (ap (eq_by_cmp path_cmp path) (same_Some _ _ e) ∙ path_itself path))
+change_stands (c ∷ cs) (suc k) path e = at (eq_by_cmp path_cmp path c.path) (change_stands cs k path e)
+  where
+    at : (t : Bool) → (node : Option Node) × (change_at cs path ≡ Some node) → (node : Option Node) × (cond t (Some c.node) (change_at cs path) ≡ Some node)
+    at true rest = (c.node, refl)
+    at false rest = rest
+
+is_changed : (cs : List Change) (path : Path) (now : Option Node) → change_at cs path ≡ Some now → (k : ℕ) × (slice_get (changed_paths cs) k ≡ Some path)
+is_changed [] path now e = absurd (none-some _ e)
+is_changed (c ∷ cs) path now e = at (eq_by_cmp path_cmp path c.path) refl e (is_changed cs path now)
+  where
+    at : (t : Bool) → eq_by_cmp path_cmp path c.path ≡ t → cond t (Some c.node) (change_at cs path) ≡ Some now → (change_at cs path ≡ Some now → (k : ℕ) × (slice_get (changed_paths cs) k ≡ Some path)) → (k : ℕ) × (slice_get (changed_paths (c ∷ cs)) k ≡ Some path)
+    at true f e rest = (0, ap Some (sym (path_eq_same path c.path f)))
+    at false f e rest = let found = rest e in (suc found.0, found.1)
+
+contains_at : {X : Type 0} (xs : List X) (k : ℕ) (x : X) → slice_get xs k ≡ Some x → Contains xs x
+contains_at xs k x e = (k, slice_get_within xs k x e, get_or_from_slice_get xs k x x e)
+
+-- what the changes leave at a path
+left_at : (nodes : Nodes) (cs : List Change) → IsChanges cs → (path : Path) → get (over_nodes nodes cs) path ≡ unwrap_or (change_at cs path) (get nodes path)
+left_at nodes cs up path = get-over_nodes nodes cs path ∙ over-change_at (get nodes) cs up path
+
+module _ (base : BaseTree) (o : List Turn) (a : Attempt) (explained : IsExplained base a) (next : a.txn ≡ next_number o a.shell) (whole : IsWhole (get base.loaded)) (agrees : Agrees a.reads (get (state base o (length o)))) (up : IsChanges a.changes) where
+  runs : RunsAs base.description explained.txn a (state base o (length o))
+  runs = explained.runs (state base o (length o)) (states_are_whole base whole o (length o)) agrees
+
+  -- the next state is the last one with the attempt's changes
+  pub next_state : state base (o ++ (a.shell, a.txn) ∷ []) (suc (length o)) ≡ over_nodes (state base o (length o)) a.changes
+  next_state = state-next base o (a.shell, a.txn) ∙ (ap (after_txn base.description (state base o (length o))) explained.planned ∙ runs.left)
+
+  pub next_whole : IsWhole (over (get (state base o (length o))) a.changes)
+  next_whole =
+      IsWhole-same (get (over_nodes (state base o (length o)) a.changes)) (over (get (state base o (length o))) a.changes) (get-over_nodes (state base o (length o)) a.changes) (subst (λ (n : Nodes). IsWhole (get n)) next_state (states_are_whole base whole (o ++ (a.shell, a.txn) ∷ []) (suc (length o))))
+
+  -- it differs from the last one exactly at the changed paths
+  differs : (path : Path) → Contains (changed_paths a.changes) path → get (state base o (length o)) path ≢ get (over_nodes (state base o (length o)) a.changes) path
+  differs path has same =
+      let found = change_stands a.changes has.0 path (slice_get-get_or (changed_paths a.changes) has.0 path has.1 ∙ ap Some has.2) in
+      let new : IsNew a.reads path found.0 = explained.changed path found.0 found.1 in
+      let stood : get (state base o (length o)) path ≡ new.0 = agrees path new.0 new.1 in
+      let left : get (over_nodes (state base o (length o)) a.changes) path ≡ found.0 = left_at (state base o (length o)) a.changes up path ∙ ap (λ c. unwrap_or c (get (state base o (length o)) path)) found.1 in
+      new.2 (sym left ∙ (sym same ∙ stood))
+
+  changed : (path : Path) → get (state base o (length o)) path ≢ get (over_nodes (state base o (length o)) a.changes) path → Contains (changed_paths a.changes) path
+  changed path other = at (change_at a.changes path) refl
+    where
+      at : (c : Option (Option Node)) → change_at a.changes path ≡ c → Contains (changed_paths a.changes) path
+      at None e = absurd (other (sym (left_at (state base o (length o)) a.changes up path ∙ ap (λ c. unwrap_or c (get (state base o (length o)) path)) e)))
+      at (Some node) e = let found = is_changed a.changes path node e in contains_at (changed_paths a.changes) found.0 path found.1
+
+  pub next_legal : IsLegal base o → IsLegal base (o ++ (a.shell, a.txn) ∷ [])
+  next_legal legal =
+      subst (λ txn. IsLegal base (o ++ (a.shell, txn) ∷ [])) (sym next)
+      (legal-next base o a.shell legal (fewer_settled base o a.shell explained.txn (ap (λ txn. txn_of base.plan (a.shell, txn)) (sym next) ∙ explained.planned)))
+
+-- ---- the log with one entry more
+
+abbrev order_of : List Entry → List Turn
+order_of entries = map turn_of entries
+
+pub order_more : (entries : List Entry) (e : Entry) → order_of (entries ++ e ∷ []) ≡ order_of entries ++ turn_of e ∷ []
+order_more entries e = map-append turn_of entries (e ∷ [])
+
+-- an entry stands at its turn
+pub entry_at : (entries : List Entry) (i : ℕ) → i < length (order_of entries) → (e : Entry) × (slice_get entries i ≡ Some e)
+entry_at [] i lt = absurd (omega (arith, lt))
+entry_at (e ∷ entries) zero lt = (e, refl)
+entry_at (e ∷ entries) (suc i) lt = let less : i < length (order_of entries) = omega (arith, lt) in entry_at entries i less
+
+-- an entry in the way is so by the definition, and the other way round
+pub stale_of : (base : Base) (entries : List Entry) (nodes : Nodes) → IsBoard base entries nodes → (reads : ReadList) (entry : ℕ) (path : Path) → IsMarked entries reads entry path → IsStaleRead (base_tree base) (order_of entries) reads entry path
+stale_of base entries nodes board reads entry path m =
+    let lt : entry < length entries = slice_get_within entries entry m.settled m.stands in
+    let less : entry < length (order_of entries) = rw (length-map entries turn_of) lt in
+    (m.read.0, m.read.1, m.read.2, m.read.3, less, ((board.each entry m.settled m.stands).changed path).0 m.changed)
+
+pub fresh_of : (base : Base) (entries : List Entry) (nodes : Nodes) → IsBoard base entries nodes → (reads : ReadList) → ((entry : ℕ) (path : Path) → IsMarked entries reads entry path → ⊥) → IsFreshReads (base_tree base) (order_of entries) reads
+fresh_of base entries nodes board reads none entry path stale =
+    let found = entry_at entries entry stale.4 in
+    none entry path (record {
+      settled = found.0;
+      stands = found.1;
+      changed = ((board.each entry found.0 found.1).changed path).1 stale.5;
+      read = (stale.0, stale.1, stale.2, stale.3);
+    })
+
+front_at : {X : Type 0} (xs ys : List X) (i : ℕ) (x : X) → slice_get xs i ≡ Some x → slice_get (xs ++ ys) i ≡ Some x
+front_at [] ys i x e = absurd (none-some _ e)
+front_at (y ∷ xs) ys zero x e = e
+front_at (y ∷ xs) ys (suc i) x e = front_at xs ys i x e
+
+last_at : {X : Type 0} (xs : List X) (x : X) → slice_get (xs ++ x ∷ []) (length xs) ≡ Some x
+last_at [] x = refl
+last_at (y ∷ xs) x = last_at xs x
+
+at_or_last : {X : Type 0} (xs : List X) (x y : X) (i : ℕ) → slice_get (xs ++ x ∷ []) i ≡ Some y → (slice_get xs i ≡ Some y) ⊎ ((i ≡ length xs) × (x ≡ y))
+at_or_last [] x y zero e = inr (refl, same_Some x y e)
+at_or_last [] x y (suc i) e = absurd (none-some _ e)
+at_or_last (z ∷ xs) x y zero e = inl e
+at_or_last (z ∷ xs) x y (suc i) e = elim (at_or_last xs x y i e) [ inl f ↦ inl f | inr f ↦ inr (ap suc f.0, f.1) ]
+
+-- what was said of an entry goes on to hold
+entry_stays : (log : Log) (i : ℕ) (e : Entry) (shell txn : ℕ) → IsEntry log i e → IsEntry (settled log shell txn) i e
+entry_stays log i e shell txn entry =
+    let lt : i < length log.order = slice_get_within log.order i (turn_of e) entry.turn in
+    let here : state log.base log.order i ≡ state log.base (log.order ++ (shell, txn) ∷ []) i = sym (state-front log.base log.order ((shell, txn) ∷ []) i (omega (arith, lt))) in
+    let there : state log.base log.order (suc i) ≡ state log.base (log.order ++ (shell, txn) ∷ []) (suc i) = sym (state-front log.base log.order ((shell, txn) ∷ []) (suc i) (omega (arith, lt))) in
+    record {
+      turn = front_at log.order ((shell, txn) ∷ []) i (turn_of e) entry.turn;
+      txn = entry.txn;
+      planned = entry.planned;
+      outputs = subst (λ (n : Nodes). outputs log.base.description entry.txn (get n) ≡ e.outputs) here entry.outputs;
+      end = subst (λ (n : Nodes). end log.base.description entry.txn (get n) ≡ e.end) here entry.end;
+      changed = λ path.
+          subst (λ (n : Nodes). Contains e.changed path ↔ (get n path ≢ get (state log.base (log.order ++ (shell, txn) ∷ []) (suc i)) path)) here
+          (subst (λ (n : Nodes). Contains e.changed path ↔ (get (state log.base log.order i) path ≢ get n path)) there (entry.changed path));
+    }
+
+-- what is said of the new one
+entry_new : (base : BaseTree) (o : List Turn) (a : Attempt) (explained : IsExplained base a) → a.txn ≡ next_number o a.shell → IsWhole (get base.loaded) → Agrees a.reads (get (state base o (length o))) → IsChanges a.changes → IsEntry (settled (record { base = base; order = o }) a.shell a.txn) (length o) (entry_of a)
+entry_new base o a explained next whole agrees up =
+    let here : state base o (length o) ≡ state base (o ++ (a.shell, a.txn) ∷ []) (length o) = sym (state-front base o ((a.shell, a.txn) ∷ []) (length o) (omega arith)) in
+    let there : over_nodes (state base o (length o)) a.changes ≡ state base (o ++ (a.shell, a.txn) ∷ []) (suc (length o)) = sym (next_state base o a explained next whole agrees up) in
+    let ran : RunsAs base.description explained.txn a (state base o (length o)) = runs base o a explained next whole agrees up in
+    record {
+      turn = last_at o (a.shell, a.txn);
+      txn = explained.txn;
+      planned = explained.planned;
+      outputs = subst (λ (n : Nodes). outputs base.description explained.txn (get n) ≡ a.outputs) here ran.outputs;
+      end = subst (λ (n : Nodes). end base.description explained.txn (get n) ≡ a.end) here ran.end;
+      changed = λ path.
+          subst (λ (n : Nodes). Contains (changed_paths a.changes) path ↔ (get n path ≢ get (state base (o ++ (a.shell, a.txn) ∷ []) (suc (length o))) path)) here
+          (subst (λ (n : Nodes). Contains (changed_paths a.changes) path ↔ (get (state base o (length o)) path ≢ get n path)) there
+          (differs base o a explained next whole agrees up path, changed base o a explained next whole agrees up path));
+    }
+
+pub settles : (base : Base) (entries : List Entry) (nodes : Nodes) (a : Attempt) → IsBoard base entries nodes → IsExplained (base_tree base) a → a.txn ≡ next_number (order_of entries) a.shell → Agrees a.reads (get (state (base_tree base) (order_of entries) (length (order_of entries)))) → IsChanges a.changes → IsBoard base (entries ++ entry_of a ∷ []) (over_nodes nodes a.changes)
+settles base entries nodes a board explained next agrees up =
+    let more : order_of (entries ++ entry_of a ∷ []) ≡ order_of entries ++ (a.shell, a.txn) ∷ [] = order_more entries (entry_of a) in
+    let log : settled (log_of base entries) a.shell a.txn ≡ log_of base (entries ++ entry_of a ∷ []) = ap (λ (o : List Turn). record { base = base_tree base; order = o }) (sym more) in
+    let count : suc (length (order_of entries)) ≡ length (order_of entries ++ (a.shell, a.txn) ∷ []) = omega (arith, length-append (order_of entries) ((a.shell, a.txn) ∷ [])) in
+    record {
+      log = record {
+        loaded = board.log.loaded;
+        plan = board.log.plan;
+        legal = subst (IsLegal (base_tree base)) (sym more) (next_legal (base_tree base) (order_of entries) a explained next board.log.loaded agrees up board.log.legal);
+      };
+      each = λ i e at. subst (λ (l : Log). IsEntry l i e) log (elim (at_or_last entries (entry_of a) e i at) [
+        | inl old ↦ entry_stays (log_of base entries) i e a.shell a.txn (board.each i e old)
+        | inr new ↦
+            let place : length (order_of entries) ≡ i = length-map entries turn_of ∙ sym new.0 in
+            subst (λ (e : Entry). IsEntry (settled (log_of base entries) a.shell a.txn) i e) new.1
+            (subst (λ i. IsEntry (settled (log_of base entries) a.shell a.txn) i (entry_of a)) place
+            (entry_new (base_tree base) (order_of entries) a explained next board.log.loaded agrees up))
+      ]);
+      after =
+          ap (λ n. over_nodes n a.changes) board.after
+          ∙ (sym (next_state (base_tree base) (order_of entries) a explained next board.log.loaded agrees up)
+          ∙ (ap (state (base_tree base) (order_of entries ++ (a.shell, a.txn) ∷ [])) count
+          ∙ ap (λ o. state (base_tree base) o (length o)) (sym more)));
+    }
+
+-- ---- what the calls say
+
+-- no entries yet
+pub starts : (base : Base) (nodes : Nodes) → IsWhole (get base.loaded.nodes) → IsPlan base.plan → nodes ≡ base.loaded.nodes → IsBoard base [] nodes
+unfolding state
+starts base nodes whole plan same = record {
+  log = record { loaded = whole; plan = plan; legal = λ shell. record { in_turn = refl; planned = omega arith } };
+  each = λ i e at. absurd (none-some _ at);
+  after = same;
+}
+
+-- an attempt that no entry stands in the way of: its reads are fresh, and with it the log is one again
+pub record IsReady (base : Base) (entries : List Entry) (nodes : Nodes) (a : Attempt) : Type 0 where
+  pub fresh : IsFreshReads (base_tree base) (order_of entries) a.reads
+  pub whole : IsWhole (over (get nodes) a.changes)
+  pub board : IsBoard base (entries ++ entry_of a ∷ []) (over_nodes nodes a.changes)
+
+module _ (base : Base) (entries : List Entry) (nodes : Nodes) (board : IsBoard base entries nodes) (a : Attempt) where
+  ready_at : IsExplained (base_tree base) a → a.txn ≡ next_number (order_of entries) a.shell → AreTrueReads (base_tree base) (order_of entries) a.reads → ((entry : ℕ) (path : Path) → IsMarked entries a.reads entry path → ⊥) → IsChanges a.changes → IsReady base entries nodes a
+  ready_at explained next true_ none up =
+      let fresh : IsFreshReads (base_tree base) (order_of entries) a.reads = fresh_of base entries nodes board a.reads none in
+      let agrees : Agrees a.reads (get (state (base_tree base) (order_of entries) (length (order_of entries)))) = agrees_now (base_tree base) (order_of entries) a.reads true_ fresh in
+      record {
+        fresh = fresh;
+        whole = subst (λ (n : Nodes). IsWhole (over (get n) a.changes)) (sym board.after) (next_whole (base_tree base) (order_of entries) a explained next board.log.loaded agrees up);
+        board = settles base entries nodes a board explained next agrees up;
+      }
+
+  pub ready : (log : Log) → log_of base entries ≡ log → IsExplained log.base a → a.txn ≡ next_number log.order a.shell → AreTrueReads log.base log.order a.reads → (read : List Entry) → read ≡ entries → ((entry : ℕ) (path : Path) → IsMarked read a.reads entry path → ⊥) → IsChanges a.changes → IsReady base entries nodes a
+  ready log view explained next true_ read same none =
+      ready_at (subst (λ (l : Log). IsExplained l.base a) (sym view) explained) (subst (λ (l : Log). a.txn ≡ next_number l.order a.shell) (sym view) next) (subst (λ (l : Log). AreTrueReads l.base l.order a.reads) (sym view) true_)
+      (subst (λ (es : List Entry). (entry : ℕ) (path : Path) → IsMarked es a.reads entry path → ⊥) same none)
+
+  -- a refusal for an entry in the way
+  pub refused : (log : Log) → log_of base entries ≡ log → (entry : ℕ) (path : Path) (r : Settle) → IsMarked entries a.reads entry path → IsConflict entry path a r → RefusedAs log log a r
+  refused log view entry path (settle.NoMemory back) marked c = (c, refl)
+  refused log view entry path (settle.Conflict e p back) marked c =
+      (c.2, refl, subst (λ (l : Log). IsStaleRead l.base l.order a.reads e p) view (stale_of base entries nodes board a.reads e p (subst (λ e. IsMarked entries a.reads e p) (sym c.0) (subst (IsMarked entries a.reads entry) (sym c.1) marked))))

@@ -1,0 +1,13 @@
+use Rattle.std.proofs.Common.{ap, subst, ◌∙◌}
+use Rattle.std.specs.FinMap.{get}
+use Rattle.fx_store.specs.Filestore.{Table}
+use Rattle.fx_store.specs.Whole.{IsWhole}
+use Rattle.fx_spec.specs.declared.base.Base.{Base}
+use Rattle.fx_spec.specs.Plans.{IsPlan}
+use Rattle.fx_board.proofs.Settling.{starts}
+use Rattle.fx_board.proofs.board.Board.new.Goals as goal
+
+pub invariant_of-result : goal.invariant_of-result
+invariant_of-result c =
+    rw c.new.ensures.items
+    (starts c.args.base.value c.in_ok-store.store.nodes (subst (λ (b : Base). IsWhole (get b.loaded.nodes)) c.deref-2.ensures c.in_ok-store.ensures.table.whole) (subst (λ (b : Base). IsPlan b.plan) c.deref.ensures c.len.ensures.plan) (ap (λ (t : Table). t.nodes) c.in_ok-store.ensures.copied ∙ ap (λ (b : Base). b.loaded.nodes) c.deref-2.ensures))
