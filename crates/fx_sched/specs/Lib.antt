@@ -1,3 +1,6 @@
 pub mod Running
 pub mod World
 pub mod Traced
+pub mod Moves
+pub mod Recorded
+pub mod Left

@@ -2,6 +2,8 @@
 use Rattle.std.specs.Prelude.{◌≡◌, ℕ, true, List, [], map, length, slice_get, slice_index_or, Option, Some, None, IsSome}
 use Rattle.std.specs.List.{IsDistinct}
 use Rattle.fx_spec.specs.Plans.{Turn}
+use Rattle.fx_spec.specs.declared.base.Base.{Base}
+use Rattle.fx_spec.specs.Bases.{base_tree}
 use Rattle.fx_spec.specs.Order.{BaseTree}
 use Rattle.fx_view.specs.ReadList.{ReadList}
 use Rattle.fx_view.specs.Reads.{IsReads}
@@ -38,6 +40,15 @@ pub record IsWorld (log : Log) (shells : List Shell) : Type 0 where
   pub count : length shells ≡ length log.base.plan
   pub each : (number : ℕ) (s : Shell) → slice_get shells number ≡ Some s → IsShell log number s
   pub reached : IsReached log.base (machine_of log.order shells)
+
+-- the base that the world keeps beside the log is the log's
+pub record IsWorldOver (base : Base) (log : Log) (shells : List Shell) : Type 0 where
+  pub same : base_tree base ≡ log.base
+  pub world : IsWorld log shells
+
+-- a shell that has read nothing, before its first transaction
+abbrev pub new_shell : Shell
+new_shell = record { reads = []; next = 0 }
 
 -- no entries and no looks
 abbrev pub began : BaseTree → Running

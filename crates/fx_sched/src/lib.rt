@@ -1,6 +1,8 @@
 //! Several shells on one thread: single steps of a shell, and whole runs by a schedule.
 #![tactic(auto)]
 
+mod moves;
+mod recording;
 mod schedule;
 mod world;
 

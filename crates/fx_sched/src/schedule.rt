@@ -3,6 +3,7 @@ ghost use Rattle.fx_spec.specs.Bases.{base_tree};
 ghost use Rattle.fx_forms.specs.Built.{is_built_spec, is_built_plan};
 ghost use Rattle.fx_sched.specs.Traced.{IsTraced};
 
+use crate::recording::{Recording, begin, join, take_rounds, take_turns};
 use fx_base::NoMemory;
 use fx_board::{Board, Events, Retries};
 use fx_spec::Base;
@@ -25,6 +26,18 @@ pub fn run_schedule(alloc: Global, base: Arc<Base>, schedule: &[u32]) -> Result<
     requires shells { All (λ k. k < length base.value.plan) schedule.now }
     ensures { IfOk result (IsTraced (base_tree base.value) schedule.now) }
 {
-    drop(base);
-    Err(NoMemory)
+    let mut recording = begin(alloc, base)?;
+    take_turns(alloc, &mut recording, schedule)?;
+    take_rounds(alloc, &mut recording)?;
+    let Recording {
+        world,
+        events,
+        retried,
+    } = recording;
+    let retries = join(alloc, retried)?;
+    Ok(Traced {
+        board: world.into_board(),
+        retries,
+        events,
+    })
 }

@@ -1,15 +1,19 @@
-ghost use Rattle.std.specs.Prelude.{◌≡◌, ◌<◌, true, IfOk, IfSome, OnErr, length};
+ghost use Rattle.std.specs.Prelude.{◌≡◌, ℕ, ◌<◌, true, false, IfOk, IfSome, OnErr, length, replicate};
 ghost use Rattle.fx_spec.specs.Bases.{base_tree};
 ghost use Rattle.fx_forms.specs.Built.{is_built_spec, is_built_plan};
-ghost use Rattle.fx_machine.specs.Measure.{measure, IsLower};
-ghost use Rattle.fx_sched.specs.World.{began, Stepped};
+ghost use Rattle.fx_machine.specs.Machine.{next_number};
+ghost use Rattle.fx_machine.specs.Measure.{measure, IsLower, has_left};
+ghost use Rattle.fx_sched.specs.Left.{SomeLeft};
+ghost use Rattle.fx_sched.specs.World.{began, Stepped, IsWorldOver, new_shell, machine_of, running_of};
 
+use crate::moves::advance;
 use fx_base::NoMemory;
 use fx_board::{Board, Event};
 use fx_spec::Base;
 use fx_view::Reads;
 use std::alloc::Global;
 use std::marker::Model;
+use std::mem;
 use std::sync::Arc;
 
 /// What a shell has read for its next transaction, and the number of that transaction.
@@ -23,6 +27,7 @@ pub struct Shell {
 /// machine's state.
 #[derive(Drop)]
 pub struct World {
+    base: Arc<Base>,
     board: Board,
     shells: Vec<Shell>,
 }
@@ -34,11 +39,11 @@ impl Model for World {
 
     ghost coded = { running_code };
 
-    ghost use Rattle.fx_sched.specs.World.{running_of, IsWorld};
+    ghost use Rattle.fx_sched.specs.World.{running_of, IsWorldOver};
 
     ghost view = { λ w. running_of w.board w.shells.items };
 
-    ghost invariant = { λ w. IsWorld w.board w.shells.items };
+    ghost invariant = { λ w. IsWorldOver w.base.value w.board w.shells.items };
 }
 
 impl World {
@@ -48,8 +53,13 @@ impl World {
         requires plan { is_built_plan base.value.plan ≡ true }
         ensures { IfOk result (λ w. w ≡ began (base_tree base.value)) }
     {
-        drop(base);
-        Err(NoMemory)
+        let shells = new_shells(alloc, base.plan.len())?;
+        let board = Board::new(alloc, Arc::try_clone(&base)?)?;
+        Ok(World {
+            base,
+            board,
+            shells,
+        })
     }
 
     /// The log.
@@ -57,6 +67,56 @@ impl World {
         ensures { (result.now.base ≡ self.now.base) × (result.now.order ≡ self.now.machine.order) }
     {
         &self.board
+    }
+
+    /// The log alone.
+    pub(crate) fn into_board(self) -> Board
+        ensures { (result.base ≡ self.base) × (result.order ≡ self.machine.order) }
+    {
+        let World {
+            base,
+            board,
+            shells,
+        } = self;
+        drop(base);
+        drop(shells);
+        board
+    }
+
+    /// The number of shells.
+    pub(crate) fn count(&self) -> u32
+        ensures { result ≡ length self.now.base.plan }
+    {
+        self.base.plan.len()
+    }
+
+    /// The number of the next transaction of a shell of the plan.
+    pub(crate) fn next(&self, shell: u32) -> u32
+        requires { shell < length self.now.base.plan }
+        ensures { result ≡ next_number self.now.machine.order shell }
+    {
+        self.shells[shell as usize].next
+    }
+
+    /// Whether a shell of the plan has a transaction left.
+    pub(crate) fn is_left(&self, shell: u32) -> bool
+        requires { shell < length self.now.base.plan }
+        ensures { result ≡ has_left self.now.base self.now.machine shell }
+    {
+        self.next(shell) < self.base.plan.count(shell)
+    }
+
+    /// Whether some shell has a transaction left.
+    pub(crate) fn has_left(&self) -> bool
+        ensures some { result ≡ true → SomeLeft self.now }
+        ensures none { result ≡ false → (k : ℕ) → has_left self.now.base self.now.machine k ≡ false }
+    {
+        for shell in 0..self.count() {
+            if self.is_left(shell) {
+                return true;
+            }
+        }
+        false
     }
 
     /// One look or one settle of a shell of the plan; None exactly where it has no transaction left. A refusal changes
@@ -68,6 +128,58 @@ impl World {
             (λ _. IsLower (measure self.new.base self.new.machine) (measure self.old.base self.old.machine))) }
         ensures err { OnErr result (self.new ≡ self.old) }
     {
-        Err(NoMemory)
+        step_shell(alloc, &self.base, &mut self.board, &mut self.shells, shell)
+    }
+}
+
+fn new_shells(alloc: Global, count: u32) -> Result<Vec<Shell>, NoMemory>
+    ensures { IfOk result (λ shells. shells.items ≡ replicate count new_shell) }
+{
+    let mut shells = Vec::new(alloc);
+    for _shell in 0..count {
+        shells.push(Shell {
+            reads: Reads::new(alloc),
+            next: 0,
+        })?;
+    }
+    Ok(shells)
+}
+
+/// A step of one shell, over the parts of a world.
+fn step_shell(
+    alloc: Global,
+    base: &Arc<Base>,
+    board: &mut Board,
+    shells: &mut [Shell],
+    shell: u32,
+) -> Result<Option<Event>, NoMemory>
+    requires world { IsWorldOver base.now.value board.old shells.old }
+    requires shell { shell < length board.old.base.plan }
+    ensures world { IsWorldOver base.now.value board.new shells.new }
+    ensures event { IfOk result (Stepped (running_of board.old shells.old) shell (running_of board.new shells.new)) }
+    ensures lower { IfOk result (λ event. IfSome event
+        (λ _. IsLower (measure board.new.base (machine_of board.new.order shells.new)) (measure board.old.base (machine_of board.old.order shells.old)))) }
+    ensures err { OnErr result (running_of board.new shells.new ≡ running_of board.old shells.old) }
+{
+    let count = base.plan.count(shell);
+    let slot = &mut shells[shell as usize];
+    let next = slot.next;
+    if count <= next {
+        return Ok(None);
+    }
+    let begun = Shell {
+        reads: Reads::new(alloc),
+        next,
+    };
+    let old = mem::replace(slot, begun);
+    match advance(alloc, base, board, shell, old) {
+        Ok((new, event)) => {
+            *slot = new;
+            Ok(Some(event))
+        }
+        Err(old) => {
+            *slot = old;
+            Err(NoMemory)
+        }
     }
 }
