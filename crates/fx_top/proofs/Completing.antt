@@ -27,13 +27,13 @@ not_stopped stops t before [] plan apart has i stopped = stopped
 not_stopped stops t before (path ∷ paths) [] apart has i stopped = has
 not_stopped stops t before (path ∷ paths) (txns ∷ plan) apart has i (inl here) = apart path before txns has.0 here.1
 not_stopped stops t before (path ∷ paths) (txns ∷ plan) apart has i (inr later) =
-    let read = later.1.1.1.0 in
-    let same : txns ≡ later.1.1.0 = read.only txns has.0.script has.0.built in
-    not_stopped stops t (before + length txns) paths plan apart has.1 later.0 (subst (λ us. StopsAtScript stops t (before + length us) paths later.0) (sym same) later.1.1.1.1)
+    let read = later.3 in
+    let same : txns ≡ later.2 = read.only txns has.0.script has.0.built in
+    not_stopped stops t (before + length txns) paths plan apart has.1 later.0 (subst (λ us. StopsAtScript stops t (before + length us) paths later.0) (sym same) later.4)
 
 not_first : (t : Tree) (j : Job) (word : ℕ) → HasTexts t j → IsFirstRefused t j word → ⊥
 not_first t j word has (inl first) = first.1.none has.0.0 has.0.1.description has.0.1.built
-not_first t j word has (inr second) = not_stopped HasNoScript t 0 j.scripts has.1.0 (λ path before txns read none. none.none txns read.script read.built read.few) has.1.1 second.1.0 second.1.1.1
+not_first t j word has (inr second) = not_stopped HasNoScript t 0 j.scripts has.1.0 (λ path before txns read none. none.none txns read.script read.built read.few) has.1.1 second.1.0 second.1.2
 
 not_both : (t : Tree) (path : List ℕ) (nodes : Nodes) (cause : FolderCause) → Loads t path nodes → IsRefused t path cause → ⊥
 not_both t path nodes cause loads refused = let both : Ok nodes ≡ Err cause = sym loads.1 ∙ refused.1 in cc

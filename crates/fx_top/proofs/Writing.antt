@@ -1,10 +1,9 @@
 -- Writing bytes piece by piece: what is written is a front of them, until the end.
-use Rattle.std.proofs.Common.{◌≡◌, ℕ, ◌+◌, ◌≤◌, List, ◌++◌, length, take, drop, Option, Some, None, IfSome, refl, sym, ap, ◌∙◌, arith, append_assoc}
+use Rattle.std.proofs.Common.{◌≡◌, ℕ, ◌+◌, ◌≤◌, List, ◌++◌, length, take, drop, Option, Some, None, IfSome, refl, sym, ap, ◌∙◌, arith, append_assoc, append-nil}
 use Rattle.std.specs.Option.{option_map}
 use Rattle.std.proofs.Math.Seq.{take-add}
 use Rattle.std.proofs.lemmas.List.{length-drop, drop-drop, take_all}
 use Rattle.fx_base.specs.Causes.{Rose}
-use Rattle.fx_top.proofs.Scripts.{append_nil}
 
 -- between two writes
 pub record IsWriting (bytes rest : List ℕ) (before now : Option (List ℕ)) (faults faults' : ℕ) : Type 0 where
@@ -15,7 +14,7 @@ pub record IsWriting (bytes rest : List ℕ) (before now : Option (List ℕ)) (f
 
 nothing_yet : (bytes : List ℕ) (before : Option (List ℕ)) → before ≡ option_map (λ w. w ++ take 0 bytes) before
 nothing_yet bytes None = refl
-nothing_yet bytes (Some w) = ap (λ x. Some x) (sym (append_nil w))
+nothing_yet bytes (Some w) = ap (λ x. Some x) (sym (append-nil w))
 
 pub begins : (bytes : List ℕ) (before : Option (List ℕ)) (faults : ℕ) → IsWriting bytes bytes before before faults faults
 begins bytes before faults = record { count = 0; left = refl; so_far = nothing_yet bytes before; later = omega arith }

@@ -75,6 +75,7 @@ pub fn run_scripts(
         },
     )?;
     let traced = run_schedule(alloc, base, &schedule)?;
+    let _ = traced.board.len();
     let output = output_of(alloc, job, &traced)?;
     Ok(Answer { traced, output })
 }

@@ -1,3 +1,4 @@
 pub mod Decimals
 pub mod Numbered
 pub mod Lists
+pub mod Below
