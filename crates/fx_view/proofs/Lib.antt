@@ -1,1 +1,5 @@
 pub mod Lookups
+pub mod Growing
+pub mod Rules
+pub mod Going
+pub mod Calls

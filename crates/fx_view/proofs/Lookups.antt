@@ -22,9 +22,9 @@ lookup-own_at [] path = refl
 lookup-own_at (e ∷ es) path = ap (cond (eq_by_cmp path_cmp path e.0) (Some e.1)) (lookup-own_at es path)
 
 -- an own change that is set, as the table sets it
-pub insert-put_own : (own : OwnList) (path : Path) (node : Option Node) → insert_entry (eq_by_cmp path_cmp) own path node ≡ put_own own path node
-insert-put_own [] path node = refl
-insert-put_own (e ∷ es) path node = ap (λ rest. cond (eq_by_cmp path_cmp path e.0) ((e.0, node) ∷ es) (e ∷ rest)) (insert-put_own es path node)
+pub insert-put_own : (own : OwnList) (path : Path) (now : Option Node) → insert_entry (eq_by_cmp path_cmp) own path now ≡ put_own own path now
+insert-put_own [] path now = refl
+insert-put_own (e ∷ es) path now = ap (λ rest. cond (eq_by_cmp path_cmp path e.0) ((e.0, now) ∷ es) (e ∷ rest)) (insert-put_own es path now)
 
 -- a read of a new path, as the table adds it
 pub insert-new : (reads : ReadList) (path : Path) (read : Option Node × ℕ) → read_at reads path ≡ None → insert_entry (eq_by_cmp path_cmp) reads path read ≡ reads ++ (path, read) ∷ []

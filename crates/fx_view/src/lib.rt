@@ -2,6 +2,7 @@
 #![tactic(auto)]
 
 mod known;
+mod looking;
 mod overlay;
 mod reader;
 mod reads;
@@ -9,6 +10,7 @@ mod resolving;
 
 pub use fx_store::{Landing, NameList};
 pub use known::Known;
+pub use looking::look;
 pub use overlay::Overlay;
 pub use reader::{Reader, Stop};
 pub use reads::Reads;

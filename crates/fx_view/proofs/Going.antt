@@ -1,0 +1,58 @@
+-- A reader that has gone on: by nothing, on from there, and over more paths.
+use Rattle.std.proofs.Common.{◌≡◌, ℕ, Bool, List, [], ◌∷◌, ◌++◌, Contains, All, Option, Some, None, refl, ap, ◌∙◌, sym, subst, append_assoc}
+use Rattle.std.specs.Map.{keys_of}
+use Rattle.std.proofs.lemmas.List.{append-nil}
+use Rattle.std.proofs.lemmas.List.Elements.{All-nil, All-append, All-weaker, All-contains_itself, Contains-append_left, Contains-append_right}
+use Rattle.fx_store.specs.declared.node.Node.{Node}
+use Rattle.fx_store.specs.Rule.{Known}
+use Rattle.fx_view.specs.ReadList.{ReadList}
+use Rattle.fx_view.specs.Reads.{known_of}
+use Rattle.fx_view.specs.Follows.{Went}
+use Rattle.fx_view.proofs.Growing.{Grows, Grows-reads}
+
+abbrev Path : Type 0
+Path = List (List ℕ)
+
+pub keys_of-append : {K X : Type 0} (xs ys : List (K × X)) → keys_of (xs ++ ys) ≡ keys_of xs ++ keys_of ys
+keys_of-append [] ys = refl
+keys_of-append (x ∷ xs) ys = ap (λ ks. x.0 ∷ ks) (keys_of-append xs ys)
+
+module _ {R : Type 0} (reads : R → ReadList) (complete : R → Bool) (vouches : R → R → ReadList → Type 0) where
+  -- the reader keeps what it has
+  pub Went-kept : (old new : R) (paths : List Path) → reads new ≡ reads old → complete new ≡ complete old → ((start : R) → vouches start old (reads old) → vouches start new (reads new)) → Went reads complete vouches old new paths
+  Went-kept old new paths kept same vouched =
+      record { more = []; kept = kept ∙ sym (append-nil (reads old)); only = All-nil (Contains paths); same = same; vouched = vouched }
+
+  pub Went-none : (old : R) (paths : List Path) → Went reads complete vouches old old paths
+  Went-none old paths = Went-kept old old paths refl refl (λ start v. v)
+
+  pub Went-wider : (old new : R) (ps qs : List Path) → ((p : Path) → Contains ps p → Contains qs p) → Went reads complete vouches old new ps → Went reads complete vouches old new qs
+  Went-wider old new ps qs within went =
+      record { more = went.more; kept = went.kept; only = All-weaker (Contains ps) (Contains qs) within (keys_of went.more) went.only; same = went.same; vouched = went.vouched }
+
+  -- over a front of the paths
+  pub Went-front : (old new : R) (ps rest qs : List Path) → qs ≡ ps ++ rest → Went reads complete vouches old new ps → Went reads complete vouches old new qs
+  Went-front old new ps rest qs e went =
+      subst (Went reads complete vouches old new) (sym e) (Went-wider old new ps (ps ++ rest) (λ p h. Contains-append_left ps rest p h) went)
+
+  pub Went-then : (old mid new : R) (ps qs : List Path) → Went reads complete vouches old mid ps → Went reads complete vouches mid new qs → Went reads complete vouches old new (ps ++ qs)
+  Went-then old mid new ps qs first next = record {
+    more = first.more ++ next.more;
+    kept = next.kept ∙ (ap (λ rs. rs ++ next.more) first.kept ∙ append_assoc (reads old) first.more next.more);
+    only =
+        subst (All (Contains (ps ++ qs))) (sym (keys_of-append first.more next.more))
+        (All-append (Contains (ps ++ qs)) (keys_of first.more) (keys_of next.more)
+        (All-weaker (Contains ps) (Contains (ps ++ qs)) (λ p h. Contains-append_left ps qs p h) (keys_of first.more) first.only)
+        (All-weaker (Contains qs) (Contains (ps ++ qs)) (λ p h. Contains-append_right ps qs p h) (keys_of next.more) next.only));
+    same = next.same ∙ first.same;
+    vouched = λ start v. next.vouched start (first.vouched start v);
+  }
+
+  -- what was known stays known
+  pub Went-grows : (old new : R) (paths : List Path) → Went reads complete vouches old new paths → Grows (known_of (reads old)) (known_of (reads new))
+  Went-grows old new paths went = subst (λ rs. Grows (known_of (reads old)) (known_of rs)) (sym went.kept) (Grows-reads (reads old) went.more)
+
+  -- a reader that had read nothing has read these paths alone
+  pub Went-from_none : (old new : R) (paths : List Path) → reads old ≡ [] → Went reads complete vouches old new paths → All (Contains paths) (keys_of (reads new))
+  Went-from_none old new paths none went =
+      subst (λ rs. All (Contains paths) (keys_of rs)) (sym (went.kept ∙ ap (λ rs. rs ++ went.more) none)) went.only
