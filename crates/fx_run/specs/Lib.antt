@@ -1,1 +1,3 @@
+pub mod Pursuing
+pub mod Keeping
 pub mod Running

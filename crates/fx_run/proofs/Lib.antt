@@ -1,0 +1,4 @@
+pub mod Pursuits
+pub mod Ways
+pub mod Stable
+pub mod Explaining
