@@ -1,6 +1,11 @@
 //! The engine: it runs a transaction of the built forms over a reader, as an attempt.
 #![tactic(auto)]
 
+mod edits;
 mod engine;
+mod fetching;
+mod making;
+mod standing;
+mod storing;
 
 pub use engine::run;
