@@ -6,3 +6,4 @@ pub mod Explaining
 pub mod Courses
 pub mod Makings
 pub mod Places
+pub mod Steps

@@ -1,6 +1,9 @@
 -- Where the engine stands between two commands, as the definitions have it.
-use Rattle.std.specs.Prelude.{◌≡◌, ℕ, true, List, [], ◌∷◌, ◌++◌, Option, Some, None}
+use Rattle.std.specs.Prelude.{◌≡◌, ℕ, true, List, [], ◌∷◌, ◌++◌, Option, Some, None, Ok}
 use Rattle.fx_store.specs.Rule.{Answer}
+use Rattle.fx_expr.specs.Eval.{eval_of}
+use Rattle.fx_expr.specs.ExprTree.{ExprTree}
+use Rattle.fx_expr.specs.Shapes.{IsWellShaped}
 use Rattle.fx_expr.specs.Tree.{Tree}
 use Rattle.fx_spec.specs.declared.refusal.Refusal.{Refusal}
 use Rattle.fx_spec.specs.declared.refusal.End.{End}
@@ -71,3 +74,13 @@ pub record AwaitsBuilt (vars : Bindings) (commands : List CommandTree) : Type 0 
 abbrev pub IfOn : Option Refusal → Type 0 → Type 0
 IfOn None P = P
 IfOn (Some refusal) P = Unit {0}
+
+-- where the transaction goes on, the word is bound to some text besides
+abbrev pub Binds : List ℕ → Bindings → Bindings → Option Refusal → Type 0
+Binds word old new refusal = IfOn refusal ((text : List ℕ) × (new ≡ old ++ (word, Tree.str text) ∷ []))
+
+-- the expression gives a text
+pub record GivesText (vars : Bindings) (e : ExprTree) : Type 0 where
+  pub shaped : IsWellShaped vars e
+  pub text : List ℕ
+  pub gives : eval_of vars e ≡ Ok (Tree.str text)

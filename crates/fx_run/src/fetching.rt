@@ -1,10 +1,10 @@
 //! `fetch` of a text at a place.
-ghost use Rattle.std.specs.Prelude.{◌≡◌, [], true, IfOk};
+ghost use Rattle.std.specs.Prelude.{◌≡◌, [], true};
 ghost use Rattle.std.specs.Option.{option_map};
 ghost use Rattle.fx_expr.specs.ExprTree.{ExprTree};
 ghost use Rattle.fx_expr.specs.ShapeTree.{ShapeTree};
 ghost use Rattle.fx_expr.specs.Tree.{Tree};
-ghost use Rattle.fx_expr.specs.Views.{expr_tree, tree_of};
+ghost use Rattle.fx_expr.specs.Views.{expr_tree};
 ghost use Rattle.fx_spec.specs.declared.refusal.Refusal.TheVariants as refusal;
 ghost use Rattle.fx_spec.specs.Describe as describe;
 ghost use Rattle.fx_spec.specs.Move as move;
@@ -17,9 +17,9 @@ ghost use Rattle.fx_run.specs.Answering.{answered};
 ghost use Rattle.fx_run.specs.Rules as rules;
 
 use fx_base::NoMemory;
-use fx_expr::{Expr, Text, Value};
+use fx_expr::{Expr, Text};
 use fx_spec::{Refusal, Spec};
-use fx_store::{Bytes, Landing, Node, Path};
+use fx_store::{Landing, Node, Path};
 use fx_view::{Overlay, Reader, Stop, look, resolve};
 use std::alloc::Global;
 
@@ -41,18 +41,12 @@ pub(crate) fn focus_text(expr: &Expr) -> &Text
     }
 }
 
-fn content_value(bytes: Bytes) -> Value
-    ensures { tree_of result ≡ Tree.str bytes }
-{
-    Value::Str(Text::from_vec(bytes.into_vec()))
-}
-
 /// What a file holds.
-fn held(found: Option<Node>) -> Option<Value>
-    ensures { option_map tree_of result ≡ describe.file_value found }
+fn held(found: Option<Node>) -> Option<Text>
+    ensures { option_map (λ t. Tree.str t) result ≡ describe.file_value found }
 {
     match found {
-        Some(Node::File(bytes)) => Some(content_value(bytes)),
+        Some(Node::File(bytes)) => Some(Text::from_vec(bytes.into_vec())),
         Some(Node::Dir(_)) => None,
         Some(Node::Link(_)) => None,
         None => None,
@@ -65,8 +59,8 @@ fn landed_text<R: Reader>(
     reader: &mut R,
     overlay: &Overlay,
     landing: &Landing,
-) -> Result<Option<Value>, Stop>
-    ensures { Follows R.reads R.complete R.vouches (option_map tree_of) (own_at overlay.now) reader.old reader.new (describe.landed_value describe.file_value landing.now) result }
+) -> Result<Option<Text>, Stop>
+    ensures { Follows R.reads R.complete R.vouches (option_map (λ t. Tree.str t)) (own_at overlay.now) reader.old reader.new (describe.landed_value describe.file_value landing.now) result }
 {
     match landing {
         Landing::At(q) => match look(alloc, reader, overlay, q) {
@@ -85,8 +79,8 @@ fn file_text<R: Reader>(
     reader: &mut R,
     overlay: &Overlay,
     path: &Path,
-) -> Result<Option<Value>, Stop>
-    ensures { Follows R.reads R.complete R.vouches (option_map tree_of) (own_at overlay.now) reader.old reader.new (describe.content describe.file_value true path.now) result }
+) -> Result<Option<Text>, Stop>
+    ensures { Follows R.reads R.complete R.vouches (option_map (λ t. Tree.str t)) (own_at overlay.now) reader.old reader.new (describe.content describe.file_value true path.now) result }
 {
     let landing = match resolve(alloc, reader, overlay, path, true) {
         Ok(landing) => landing,
@@ -95,11 +89,11 @@ fn file_text<R: Reader>(
     landed_text(alloc, reader, overlay, &landing)
 }
 
-fn or_lacks(found: Option<Value>) -> Result<Value, Refusal>
-    ensures { answered tree_of result ≡ move.needed refusal.Lacks (option_map tree_of found) }
+fn or_lacks(found: Option<Text>) -> Result<Text, Refusal>
+    ensures { answered (λ t. Tree.str t) result ≡ move.needed refusal.Lacks (option_map (λ t. Tree.str t) found) }
 {
     match found {
-        Some(value) => Ok(value),
+        Some(text) => Ok(text),
         None => Err(Refusal::Lacks),
     }
 }
@@ -110,19 +104,13 @@ fn fetch_file<R: Reader>(
     reader: &mut R,
     overlay: &Overlay,
     path: &Path,
-) -> Result<Result<Value, Refusal>, Stop>
-    ensures { Follows R.reads R.complete R.vouches (answered tree_of) (own_at overlay.now) reader.old reader.new (rules.file_text path.now) result }
+) -> Result<Result<Text, Refusal>, Stop>
+    ensures { Follows R.reads R.complete R.vouches (answered (λ t. Tree.str t)) (own_at overlay.now) reader.old reader.new (rules.file_text path.now) result }
 {
     match file_text(alloc, reader, overlay, path) {
         Ok(found) => Ok(or_lacks(found)),
         Err(stop) => Err(stop),
     }
-}
-
-fn text_value(alloc: Global, text: &Text) -> Result<Value, NoMemory>
-    ensures { IfOk result (λ value. tree_of value ≡ Tree.str text.now) }
-{
-    Ok(Value::Str(text.copy(alloc)?))
 }
 
 /// What a fetch of a text gives at a place of the built forms, or why it is refused.
@@ -132,16 +120,16 @@ pub(crate) fn fetched<R: Reader>(
     overlay: &Overlay,
     path: &Path,
     part: &Spec,
-) -> Result<Result<Value, Refusal>, Stop>
+) -> Result<Result<Text, Refusal>, Stop>
     requires { is_built_spec (spec_tree part.now) ≡ true }
-    ensures { Follows R.reads R.complete R.vouches (answered tree_of) (own_at overlay.now) reader.old reader.new (move.fetch_at ShapeTree.str (placed path.now [] (spec_tree part.now))) result }
+    ensures { Follows R.reads R.complete R.vouches (answered (λ t. Tree.str t)) (own_at overlay.now) reader.old reader.new (move.fetch_at ShapeTree.str (placed path.now [] (spec_tree part.now))) result }
 {
     match part {
         Spec::File => fetch_file(alloc, reader, overlay, path),
         Spec::Dir => Ok(Err(Refusal::WrongForm)),
         Spec::Link => unreachable!(),
-        Spec::Focus(expr, _) => match text_value(alloc, focus_text(expr)) {
-            Ok(value) => Ok(Ok(value)),
+        Spec::Focus(expr, _) => match focus_text(expr).copy(alloc) {
+            Ok(text) => Ok(Ok(text)),
             Err(NoMemory) => Err(Stop::NoMemory),
         },
         Spec::Pair(_, _, _) => unreachable!(),

@@ -14,7 +14,7 @@ ghost use Rattle.fx_view.specs.Follows.{Follows};
 ghost use Rattle.fx_view.specs.Own.{AreRead};
 ghost use Rattle.fx_run.specs.Answering.{answered};
 ghost use Rattle.fx_run.specs.Pursuing.{no_own, pursuit, put_all};
-ghost use Rattle.fx_run.specs.Standing.{Stands, path_at, part_at, standing_of, came_by, IsQuiet, AwaitsBuilt, IfOn};
+ghost use Rattle.fx_run.specs.Standing.{Stands, path_at, part_at, standing_of, came_by, IsQuiet, Binds, GivesText, AwaitsBuilt, IfOn};
 
 use crate::edits::Edits;
 use crate::fetching::{fetched, focus_text};
@@ -61,6 +61,18 @@ fn into_text(value: Value) -> Text
         Value::Nothing => unreachable!(),
         Value::Some(_) => unreachable!(),
         Value::Table(_) => unreachable!(),
+    }
+}
+
+/// The text that an expression gives.
+fn text_of(alloc: Global, expr: &Expr, variables: &Env) -> Result<Text, NoMemory>
+    requires { GivesText variables.now (expr_tree expr.now) }
+    ensures { IfOk result (λ text. eval_of variables.now (expr_tree expr.now) ≡ Ok (Tree.str text)) }
+{
+    match eval(alloc, expr, variables) {
+        Ok(value) => Ok(into_text(value)),
+        Err(EvalFault::Fault(_)) => unreachable!(),
+        Err(EvalFault::NoMemory) => Err(NoMemory),
     }
 }
 
@@ -156,6 +168,93 @@ impl Standing {
         }
         self.below = None;
         None
+    }
+
+    /// Binds the text to the word.
+    fn bind(&mut self, alloc: Global, word: &Word, text: Text) -> Result<(), NoMemory>
+        ensures variables { OnOk result (self.new.variables ≡ self.old.variables ++ (word.now, Tree.str text) ∷ []) }
+        ensures below { self.new.below ≡ self.old.below }
+        ensures outputs { self.new.outputs ≡ self.old.outputs }
+        ensures overlay { self.new.overlay ≡ self.old.overlay }
+    {
+        let name = word.copy(alloc)?;
+        self.variables.add((name, Value::Str(text)))?;
+        Ok(())
+    }
+
+    /// `fetch x : str`: binds what is fetched at the place.
+    fn fetch<R: Reader>(
+        &mut self,
+        alloc: Global,
+        reader: &mut R,
+        root: &Spec,
+        number: u32,
+        word: &Word,
+    ) -> Result<Option<Refusal>, Stop>
+        requires built { is_built_spec (spec_tree root.now) ≡ true }
+        requires stands { Stands (spec_tree root.now) self.old.below }
+        ensures follows { Follows R.reads R.complete R.vouches (came_by number self.new) no_own reader.old reader.new (pursuit self.old.overlay (run (spec_tree root.now) number (CommandTree.fetch word.now ShapeTree.str) (standing_of self.old))) result }
+        ensures below { self.new.below ≡ self.old.below }
+        ensures overlay { self.new.overlay ≡ self.old.overlay }
+        ensures variables { IfOk result (Binds word.now self.old.variables self.new.variables) }
+    {
+        let path = match path_of(alloc, &self.below) {
+            Ok(path) => path,
+            Err(NoMemory) => return Err(Stop::NoMemory),
+        };
+        let part = part_of(root, &self.below);
+        let found = match fetched(alloc, reader, &self.overlay, &path, part) {
+            Ok(found) => found,
+            Err(stop) => return Err(stop),
+        };
+        let text = match found {
+            Ok(text) => text,
+            Err(refusal) => return Ok(Some(refusal)),
+        };
+        match self.bind(alloc, word, text) {
+            Ok(()) => Ok(None),
+            Err(NoMemory) => Err(Stop::NoMemory),
+        }
+    }
+
+    /// `store(e)`: the text becomes the content of the file at the place.
+    fn store<R: Reader>(
+        &mut self,
+        alloc: Global,
+        reader: &mut R,
+        root: &Spec,
+        number: u32,
+        expr: &Expr,
+    ) -> Result<Option<Refusal>, Stop>
+        requires built { is_built_spec (spec_tree root.now) ≡ true }
+        requires stands { Stands (spec_tree root.now) self.old.below }
+        requires text { GivesText self.old.variables (expr_tree expr.now) }
+        ensures follows { Follows R.reads R.complete R.vouches (came_by number self.new) no_own reader.old reader.new (pursuit self.old.overlay (run (spec_tree root.now) number (CommandTree.act (ActTree.store (expr_tree expr.now))) (standing_of self.old))) result }
+        ensures below { self.new.below ≡ self.old.below }
+        ensures variables { self.new.variables ≡ self.old.variables }
+        ensures read { AreRead self.old.overlay (R.reads reader.old) → IfOk result (λ _. AreRead self.new.overlay (R.reads reader.new)) }
+    {
+        let text = match text_of(alloc, expr, &self.variables) {
+            Ok(text) => text,
+            Err(NoMemory) => return Err(Stop::NoMemory),
+        };
+        let path = match path_of(alloc, &self.below) {
+            Ok(path) => path,
+            Err(NoMemory) => return Err(Stop::NoMemory),
+        };
+        let part = part_of(root, &self.below);
+        let answer = match stored(alloc, reader, &self.overlay, &path, part, text) {
+            Ok(answer) => answer,
+            Err(stop) => return Err(stop),
+        };
+        let edits = match answer {
+            Ok(edits) => edits,
+            Err(refusal) => return Ok(Some(refusal)),
+        };
+        match edits.put_all(alloc, &mut self.overlay) {
+            Ok(()) => Ok(None),
+            Err(NoMemory) => Err(Stop::NoMemory),
+        }
     }
 
     /// `print(e)`: the value is one output more.
