@@ -7,3 +7,5 @@ pub mod Courses
 pub mod Makings
 pub mod Places
 pub mod Steps
+pub mod Awaiting
+pub mod Stepping

@@ -1,5 +1,5 @@
 -- Where the engine stands between two commands, as the definitions have it.
-use Rattle.std.specs.Prelude.{◌≡◌, ℕ, true, List, [], ◌∷◌, ◌++◌, Option, Some, None, Ok}
+use Rattle.std.specs.Prelude.{◌≡◌, ℕ, Bool, true, List, [], ◌∷◌, ◌++◌, Option, Some, None, Result, Ok, IfOk}
 use Rattle.fx_store.specs.Rule.{Answer}
 use Rattle.fx_expr.specs.Eval.{eval_of}
 use Rattle.fx_expr.specs.ExprTree.{ExprTree}
@@ -16,7 +16,11 @@ use Rattle.fx_spec.specs.Transaction as txn
 use Rattle.fx_spec.specs.Transaction.{Flow, On, Over, run}
 use Rattle.fx_forms.specs.Built.{are_built}
 use Rattle.fx_run.specs.declared.standing.Standing.{Standing}
-use Rattle.fx_run.specs.Pursuing.{Came, came}
+use Rattle.fx_view.specs.declared.reader.Stop.{Stop}
+use Rattle.fx_view.specs.Follows.{Follows}
+use Rattle.fx_view.specs.Own.{AreRead}
+use Rattle.fx_view.specs.ReadList.{ReadList}
+use Rattle.fx_run.specs.Pursuing.{Came, came, no_own, pursuit}
 
 -- the address: the root description, or the part of its focus
 abbrev pub address_of : Option (List (List ℕ)) → Address
@@ -70,6 +74,10 @@ pub record AwaitsBuilt (vars : Bindings) (commands : List CommandTree) : Type 0 
   pub built : are_built (words_of vars) commands ≡ true
   pub texts : AreTexts vars
 
+-- the command comes next, before some others
+abbrev pub Awaits : Bindings → CommandTree → Type 0
+Awaits vars c = (rest : List CommandTree) × AwaitsBuilt vars (c ∷ rest)
+
 -- this holds where the transaction goes on
 abbrev pub IfOn : Option Refusal → Type 0 → Type 0
 IfOn None P = P
@@ -84,3 +92,10 @@ pub record GivesText (vars : Bindings) (e : ExprTree) : Type 0 where
   pub shaped : IsWellShaped vars e
   pub text : List ℕ
   pub gives : eval_of vars e ≡ Ok (Tree.str text)
+
+-- what a call says that has taken one command
+pub record Steps {R : Type 0} (reads : R → ReadList) (complete : R → Bool) (vouches : R → R → ReadList → Type 0) (root : SpecTree) (i : ℕ) (c : CommandTree) (old new : Standing) (was now : R) (result : Result (Option Refusal) Stop) : Type 0 where
+  pub follows : Follows reads complete vouches (came_by i new) no_own was now (pursuit old.overlay (run root i c (standing_of old))) result
+  pub stands : Stands root new.below
+  pub awaits : (rest : List CommandTree) → AwaitsBuilt old.variables (c ∷ rest) → IfOk result (λ refusal. IfOn refusal (AwaitsBuilt new.variables rest))
+  pub read : AreRead old.overlay (reads was) → IfOk result (λ refusal. AreRead new.overlay (reads now))

@@ -14,7 +14,7 @@ ghost use Rattle.fx_view.specs.Follows.{Follows};
 ghost use Rattle.fx_view.specs.Own.{AreRead};
 ghost use Rattle.fx_run.specs.Answering.{answered};
 ghost use Rattle.fx_run.specs.Pursuing.{no_own, pursuit, put_all};
-ghost use Rattle.fx_run.specs.Standing.{Stands, path_at, part_at, standing_of, came_by, IsQuiet, Binds, GivesText, AwaitsBuilt, IfOn};
+ghost use Rattle.fx_run.specs.Standing.{Stands, path_at, part_at, standing_of, came_by, IsQuiet, Binds, GivesText, Awaits, Steps};
 
 use crate::edits::Edits;
 use crate::fetching::{fetched, focus_text};
@@ -271,6 +271,70 @@ impl Standing {
                 Ok(None)
             }
             Err(refusal) => Ok(Some(refusal)),
+        }
+    }
+
+    /// A move or a store.
+    fn act<R: Reader>(
+        &mut self,
+        alloc: Global,
+        reader: &mut R,
+        root: &Spec,
+        number: u32,
+        act: &Act,
+    ) -> Result<Option<Refusal>, Stop>
+        requires built { is_built_spec (spec_tree root.now) ≡ true }
+        requires stands { Stands (spec_tree root.now) self.old.below }
+        requires awaits { Awaits self.old.variables (CommandTree.act (act_tree act.now)) }
+        ensures { Steps R.reads R.complete R.vouches (spec_tree root.now) number (CommandTree.act (act_tree act.now)) self.old self.new reader.old reader.new result }
+    {
+        match act {
+            Act::Down => match self.go_down(alloc, root) {
+                Ok(refusal) => Ok(refusal),
+                Err(NoMemory) => Err(Stop::NoMemory),
+            },
+            Act::Up => Ok(self.go_up(root)),
+            Act::Store(expr) => self.store(alloc, reader, root, number, expr),
+            Act::Into => unreachable!(),
+            Act::To(_) => unreachable!(),
+            Act::Next => unreachable!(),
+            Act::Prev => unreachable!(),
+            Act::Out => unreachable!(),
+            Act::Top => unreachable!(),
+            Act::Create => unreachable!(),
+            Act::Remove => unreachable!(),
+        }
+    }
+
+    /// One command of the built forms, by its number: it goes on, or is refused.
+    pub(crate) fn step<R: Reader>(
+        &mut self,
+        alloc: Global,
+        reader: &mut R,
+        root: &Spec,
+        number: u32,
+        command: &Command,
+    ) -> Result<Option<Refusal>, Stop>
+        requires built { is_built_spec (spec_tree root.now) ≡ true }
+        requires stands { Stands (spec_tree root.now) self.old.below }
+        requires awaits { Awaits self.old.variables (command_tree command.now) }
+        ensures { Steps R.reads R.complete R.vouches (spec_tree root.now) number (command_tree command.now) self.old self.new reader.old reader.new result }
+    {
+        match command {
+            Command::Do(act) => self.act(alloc, reader, root, number, act),
+            Command::Fetch(word, _) => self.fetch(alloc, reader, root, number, word),
+            Command::Print(expr) => match self.print(alloc, root, expr) {
+                Ok(refusal) => Ok(refusal),
+                Err(NoMemory) => Err(Stop::NoMemory),
+            },
+            Command::Attempt(_, _) => unreachable!(),
+            Command::Bind(_, _) => unreachable!(),
+            Command::Assign(_, _) => unreachable!(),
+            Command::Whole(_, _) => unreachable!(),
+            Command::Validate(_) => unreachable!(),
+            Command::Branch(_, _, _) => unreachable!(),
+            Command::Each(_, _, _) => unreachable!(),
+            Command::Abort => unreachable!(),
         }
     }
 }
