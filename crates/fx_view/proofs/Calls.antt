@@ -1,11 +1,9 @@
 -- Calls that follow rules: an answer, one look, one call and then the next, and a call that stops.
-use Rattle.std.proofs.Common.{◌≡◌, ℕ, Bool, false, List, [], ◌∷◌, ◌++◌, Contains, All, Option, Some, None, Result, Ok, Err, refl, ap, ◌∙◌, sym, subst, inl, inr}
-use Rattle.std.specs.Map.{keys_of}
+use Rattle.std.proofs.Common.{◌≡◌, ℕ, Bool, List, [], ◌∷◌, ◌++◌, Option, Some, None, Result, Ok, Err, refl, ap, ◌∙◌, sym, subst, inl, inr}
 use Rattle.std.specs.Prelude.{IfOk, IfErr}
-use Rattle.std.proofs.lemmas.List.{append-nil}
 use Rattle.std.proofs.lemmas.List.Elements.{All-contains_itself}
 use Rattle.fx_store.specs.declared.node.Node.{Node}
-use Rattle.fx_store.specs.Rule.{Known, Ask, Answer, Look, look, ◌>>=◌, Outcome, Found, Needs, seen, if_known, follow}
+use Rattle.fx_store.specs.Rule.{Known, Ask, Answer, look, ◌>>=◌, Found, Needs, seen, if_known, follow}
 use Rattle.fx_view.specs.declared.reader.Stop.{Stop}
 use Rattle.fx_view.specs.declared.reader.Stop.TheVariants as stop
 use Rattle.fx_view.specs.ReadList.{ReadList}

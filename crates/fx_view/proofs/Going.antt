@@ -1,10 +1,8 @@
 -- A reader that has gone on: by nothing, on from there, and over more paths.
-use Rattle.std.proofs.Common.{◌≡◌, ℕ, Bool, List, [], ◌∷◌, ◌++◌, Contains, All, Option, Some, None, refl, ap, ◌∙◌, sym, subst, append_assoc}
+use Rattle.std.proofs.Common.{◌≡◌, ℕ, Bool, List, [], ◌∷◌, ◌++◌, Contains, All, refl, ap, ◌∙◌, sym, subst, append_assoc}
 use Rattle.std.specs.Map.{keys_of}
 use Rattle.std.proofs.lemmas.List.{append-nil}
-use Rattle.std.proofs.lemmas.List.Elements.{All-nil, All-append, All-weaker, All-contains_itself, Contains-append_left, Contains-append_right}
-use Rattle.fx_store.specs.declared.node.Node.{Node}
-use Rattle.fx_store.specs.Rule.{Known}
+use Rattle.std.proofs.lemmas.List.Elements.{All-nil, All-append, All-weaker, Contains-append_left, Contains-append_right}
 use Rattle.fx_view.specs.ReadList.{ReadList}
 use Rattle.fx_view.specs.Reads.{known_of}
 use Rattle.fx_view.specs.Follows.{Went}

@@ -3,3 +3,10 @@ pub mod Growing
 pub mod Rules
 pub mod Going
 pub mod Calls
+pub mod Components
+pub mod WalkRules
+pub mod Stepping
+pub mod Nets
+pub mod Sames
+pub mod Owning
+pub mod NetLaws

@@ -1,8 +1,8 @@
 -- Rules followed over what is known: one after another, over more reads, and against a filestore that agrees.
-use Rattle.std.proofs.Common.{◌≡◌, ℕ, Bool, true, false, cond, List, [], ◌∷◌, ◌++◌, Option, Some, None, is_some, IsSome, refl, ap, ◌∙◌, sym, subst}
+use Rattle.std.proofs.Common.{◌≡◌, ℕ, List, [], ◌∷◌, ◌++◌, Option, Some, None, is_some, refl, ap, ◌∙◌, sym, subst}
 use Rattle.fx_store.specs.declared.node.Node.{Node}
 use Rattle.fx_store.specs.Whole.{Store}
-use Rattle.fx_store.specs.Rule.{Known, Ask, Answer, Look, answer, asked, ◌>>=◌, Outcome, Found, Needs, seen, if_known, follow, AgreesWith, FollowedAt, AllKnown, changed, first_unknown}
+use Rattle.fx_store.specs.Rule.{Known, Ask, Answer, Look, answer, asked, ◌>>=◌, Found, Needs, seen, if_known, follow, AgreesWith, FollowedAt, AllKnown, changed, first_unknown}
 use Rattle.fx_store.proofs.Asks.{followed}
 use Rattle.fx_view.specs.Follows.{walked, walked_on}
 use Rattle.fx_view.proofs.Growing.{Grows}

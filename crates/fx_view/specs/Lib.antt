@@ -4,3 +4,7 @@ pub mod Reads
 pub mod Own
 pub mod Answers
 pub mod Follows
+pub mod Ways
+pub mod Walks
+pub mod Steps
+pub mod Net

@@ -1,12 +1,17 @@
 //! What an attempt has read and what it has changed, the readers that it reads through, and resolution over them.
 #![tactic(auto)]
 
+mod component;
 mod known;
 mod looking;
 mod overlay;
 mod reader;
 mod reads;
 mod resolving;
+mod same;
+#[cfg(test)]
+mod tests;
+mod walk;
 
 pub use fx_store::{Landing, NameList};
 pub use known::Known;

@@ -1,12 +1,14 @@
 //! The changes that an attempt has made for itself.
-ghost use Rattle.std.specs.Prelude.{◌≡◌, [], length, slice_get, IfOk, OnOk, OnErr, option_copied, option_map};
+ghost use Rattle.std.specs.Prelude.{◌≡◌, ◌↔◌, [], length, IsTrue, slice_get, IfOk, OnOk, OnErr, option_copied, option_map};
 ghost use Rattle.std.specs.Map.Iter.{deref_pair};
 ghost use Rattle.fx_view.specs.Own.{IsOwn, own_at, put_own, AreRead, IsNet};
+ghost use Rattle.fx_view.specs.Net.{Differs, IsNetOf, Adds};
 ghost use Rattle.fx_store.specs.Changes.{IsChanges};
 
 use crate::reads::Reads;
+use crate::same::is_same;
 use fx_base::NoMemory;
-use fx_store::{Changes, Node, Path};
+use fx_store::{Change, Changes, Node, Path};
 use indexmap::IndexMap;
 use std::alloc::Global;
 use std::marker::Model;
@@ -80,11 +82,51 @@ impl Overlay {
         ensures net { IfOk result (IsNet self reads.now) }
         ensures ascending { IfOk result IsChanges }
     {
-        let _ = reads.len();
-        let _ = alloc;
         let Overlay { table } = self;
-        drop(table);
-        Err(NoMemory)
+        let mut table = table;
+        table.sort_keys()?;
+        Ok(Changes::from_vec(net(alloc, table, reads)?))
+    }
+}
+
+/// The changes of the entries whose node differs from the one read, in their order.
+fn net(
+    alloc: Global,
+    table: IndexMap<Path, Option<Node>>,
+    reads: &Reads,
+) -> Result<Vec<Change>, NoMemory>
+    ensures { IfOk result (λ changes. IsNetOf reads.now table.entries changes.items) }
+{
+    let mut changes = Vec::new(alloc);
+    for (path, node) in table {
+        add_net(&mut changes, reads, path, node)?;
+    }
+    Ok(changes)
+}
+
+/// Adds the change of an entry at the end, if its node differs from the one read.
+fn add_net(
+    changes: &mut Vec<Change>,
+    reads: &Reads,
+    path: Path,
+    node: Option<Node>,
+) -> Result<(), NoMemory>
+    ensures { OnOk result (Adds reads.now (path, node) changes.old.items changes.new.items) }
+{
+    if !differs(reads, &path, &node) {
+        let_go(Some(node));
+        return Ok(());
+    }
+    changes.push(Change { path, node })?;
+    Ok(())
+}
+
+fn differs(reads: &Reads, path: &Path, node: &Option<Node>) -> bool
+    ensures { IsTrue result ↔ Differs reads.now (path.now, node.now) }
+{
+    match reads.get(path) {
+        Some((was, _)) => !is_same(node, was),
+        None => false,
     }
 }
 

@@ -1,5 +1,4 @@
-use Rattle.std.proofs.Common.{◌≡◌, None, ◌∙◌, ap, subst}
-use Rattle.fx_view.specs.Reads.{read_at}
+use Rattle.std.proofs.Common.{◌∙◌}
 use Rattle.fx_view.proofs.Lookups.{insert-new}
 use Rattle.fx_view.proofs.reads.Reads.add.Goals as goal
 

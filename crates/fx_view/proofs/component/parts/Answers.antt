@@ -1,0 +1,21 @@
+use Rattle.std.proofs.Common.{ap, ◌∙◌, rules}
+use borrow.Author.Tests.{tests}
+use Rattle.std.specs.List.{slice_split}
+use Rattle.std.specs.Slice.Iter.{split_rest, split_done, split_callee}
+use Rattle.std.proofs.lemmas.Iterator.Consumers.{YieldsList-turn, YieldsList-end}
+use Rattle.std.proofs.lemmas.Iterator.Splits.{YieldsList-from_slice_split}
+use Rattle.fx_store.specs.Names.{is_component, is_slash}
+use Rattle.fx_store.specs.Resolve.{component_of}
+use Rattle.std.proofs.Common.{map}
+use Rattle.fx_view.proofs.Components.{passes_at}
+use Rattle.fx_view.proofs.component.parts.Goals as goal
+
+pub read_component-requires : goal.read_component-requires
+read_component-requires c =
+    let turn = YieldsList-turn (YieldsList-from_slice_split _ is_slash c.args.steps.now (ap split_rest c.into_iter-part-iterator.ensures.into_iter_gives ∙ c.split-part-items.ensures.rest) (ap split_done c.into_iter-part-iterator.ensures.into_iter_gives ∙ c.split-part-items.ensures.done) (ap split_callee c.into_iter-part-iterator.ensures.into_iter_gives ∙ c.split-part-items.ensures.closure) (λ x b q k. search (rules, tests))) c.loop-part.yielded _ c.loop-part.yielded_by _ _ c.in-Some.part c.in-Some.is c.next.ensures.steps in
+    passes_at is_component (slice_split is_slash c.args.steps.now) _ c.in-Some.part.now c.requires turn
+
+pub returns : goal.returns
+returns c =
+    let end = YieldsList-end (YieldsList-from_slice_split _ is_slash c.args.steps.now (ap split_rest c.into_iter-part-iterator.ensures.into_iter_gives ∙ c.split-part-items.ensures.rest) (ap split_done c.into_iter-part-iterator.ensures.into_iter_gives ∙ c.split-part-items.ensures.done) (ap split_callee c.into_iter-part-iterator.ensures.into_iter_gives ∙ c.split-part-items.ensures.closure) (λ x b q k. search (rules, tests))) c.loop-part.yielded _ c.loop-part.yielded_by _ _ c.in-None.is c.next.ensures.steps in
+    c.loop-part.invariant.2 ∙ ap (map component_of) end.0

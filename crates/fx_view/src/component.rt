@@ -1,0 +1,136 @@
+//! Components of ways: of paths, and of link texts.
+ghost use Rattle.std.specs.Prelude.{◌≡◌, ◌<◌, ◌≤◌, true, [], ◌∷◌, length, map, slice_index_or, IfOk};
+ghost use Rattle.std.specs.List.{list_all, slice_split};
+ghost use Rattle.fx_store.specs.Names.{is_name, is_component, is_absolute, after_slash, is_slash};
+ghost use Rattle.fx_store.specs.Resolve.{components_of, component_of, names_only};
+ghost use Rattle.fx_store.specs.Resolve as rule;
+ghost use Rattle.fx_view.specs.Ways.{meant, way};
+
+use fx_base::NoMemory;
+use fx_store::{LinkText, Name, NameList, Path, PathFault};
+use std::alloc::Global;
+use std::collections::VecDeque;
+
+/// A component of a way: the directory itself, the one above, or an entry.
+#[derive(Drop)]
+pub(crate) enum Component {
+    CurDir,
+    ParentDir,
+    Normal(Name),
+}
+
+/// The names of a path, one after another.
+pub(crate) fn names_of(alloc: Global, path: &Path) -> Result<VecDeque<Component>, NoMemory>
+    ensures { IfOk result (λ q. way q.items ≡ map rule.Normal path.now) }
+{
+    let mut names = VecDeque::new(alloc);
+    for i in 0..path.len() {
+        names.push_back(name_of(alloc, path, i)?)?;
+    }
+    Ok(names)
+}
+
+fn name_of(alloc: Global, path: &Path, i: u32) -> Result<Component, NoMemory>
+    requires { i < length path.now }
+    ensures { IfOk result (λ c. meant c ≡ rule.Normal (slice_index_or path.now i [])) }
+{
+    match path.name(i) {
+        Some(name) => Ok(Component::Normal(name.copy(alloc)?)),
+        None => unreachable!(),
+    }
+}
+
+/// The components of a link text, at most 64.
+pub(crate) fn components(alloc: Global, text: &LinkText) -> Result<VecDeque<Component>, NoMemory>
+    ensures way { IfOk result (λ q. way q.items ≡ components_of text.now) }
+    ensures few { IfOk result (λ q. length q.items ≤ 64) }
+{
+    let steps = after_slash(text.as_slice());
+    if steps.is_empty() {
+        return Ok(VecDeque::new(alloc));
+    }
+    parts(alloc, steps)
+}
+
+/// The components of a text that has one `/` between each two.
+fn parts(alloc: Global, steps: &[u8]) -> Result<VecDeque<Component>, NoMemory>
+    requires { list_all is_component (slice_split is_slash steps.now) ≡ true }
+    ensures { IfOk result (λ q. way q.items ≡ map component_of (slice_split is_slash steps.now)) }
+{
+    let mut found = VecDeque::new(alloc);
+    for part in steps.split(|b| is_slash(b)) {
+        found.push_back(read_component(alloc, part)?)?;
+    }
+    Ok(found)
+}
+
+fn read_component(alloc: Global, part: &[u8]) -> Result<Component, NoMemory>
+    requires { is_component part.now ≡ true }
+    ensures { IfOk result (λ c. meant c ≡ component_of part.now) }
+{
+    if part == b".".as_slice() {
+        return Ok(Component::CurDir);
+    }
+    if part == b"..".as_slice() {
+        return Ok(Component::ParentDir);
+    }
+    Ok(Component::Normal(read_name(alloc, part)?))
+}
+
+fn read_name(alloc: Global, part: &[u8]) -> Result<Name, NoMemory>
+    requires { is_name part.now ≡ true }
+    ensures { IfOk result (λ n. n ≡ part.now) }
+{
+    match Name::read(alloc, part) {
+        Ok(name) => Ok(name),
+        Err(PathFault::NoMemory) => Err(NoMemory),
+        Err(PathFault::BadName) => unreachable!(),
+        Err(PathFault::TooDeep) => unreachable!(),
+    }
+}
+
+fn is_slash(byte: &u8) -> bool
+    ensures { result ≡ is_slash byte.now }
+{
+    *byte == b'/'
+}
+
+/// The text without its leading `/`, if it has one.
+fn after_slash(text: &[u8]) -> &[u8]
+    ensures { result.now ≡ after_slash text.now }
+{
+    match text.split_first() {
+        Some((b'/', rest)) => rest,
+        _ => text,
+    }
+}
+
+/// Whether a link text starts at the root.
+pub(crate) fn is_absolute(text: &LinkText) -> bool
+    ensures { result ≡ is_absolute text.now }
+{
+    match text.as_slice().first() {
+        Some(byte) => is_slash(byte),
+        None => false,
+    }
+}
+
+/// The names of a way that has names alone, from a first one on.
+pub(crate) fn names_only(
+    alloc: Global,
+    first: Name,
+    rest: &VecDeque<Component>,
+) -> Result<Option<NameList>, NoMemory>
+    ensures { IfOk result (λ names. names ≡ names_only (rule.Normal first ∷ way rest.now.items)) }
+{
+    let mut names = NameList::new(alloc);
+    names.add(alloc, first)?;
+    for component in rest.iter() {
+        match component {
+            Component::Normal(name) => names.add(alloc, name.copy(alloc)?)?,
+            Component::CurDir => return Ok(None),
+            Component::ParentDir => return Ok(None),
+        }
+    }
+    Ok(Some(names))
+}

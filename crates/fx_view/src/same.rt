@@ -1,0 +1,86 @@
+//! Whether two nodes are the same.
+ghost use Rattle.std.specs.Prelude.{◌≡◌, ◌↔◌, ◌<◌, [], length, slice_index_or, IsTrue};
+ghost use Rattle.fx_store.specs.declared.node.Node.TheVariants.{File, Dir, Link};
+
+use fx_store::{Bytes, LinkText, Names, Node};
+
+/// Whether the same stands at two places, a node or none.
+pub(crate) fn is_same(a: &Option<Node>, b: &Option<Node>) -> bool
+    ensures { IsTrue result ↔ (a.now ≡ b.now) }
+{
+    match a {
+        None => b.is_none(),
+        Some(a) => match b {
+            None => false,
+            Some(b) => is_same_node(a, b),
+        },
+    }
+}
+
+fn is_same_node(a: &Node, b: &Node) -> bool
+    ensures { IsTrue result ↔ (a.now ≡ b.now) }
+{
+    match a {
+        Node::File(bytes) => is_file(b, bytes),
+        Node::Dir(names) => is_dir(b, names),
+        Node::Link(text) => is_link(b, text),
+    }
+}
+
+fn is_file(node: &Node, bytes: &Bytes) -> bool
+    ensures { IsTrue result ↔ (File bytes.now ≡ node.now) }
+{
+    match node {
+        Node::File(other) => bytes.as_slice() == other.as_slice(),
+        Node::Dir(_) => false,
+        Node::Link(_) => false,
+    }
+}
+
+fn is_dir(node: &Node, names: &Names) -> bool
+    ensures { IsTrue result ↔ (Dir names.now ≡ node.now) }
+{
+    match node {
+        Node::File(_) => false,
+        Node::Dir(other) => are_same_names(names, other),
+        Node::Link(_) => false,
+    }
+}
+
+fn is_link(node: &Node, text: &LinkText) -> bool
+    ensures { IsTrue result ↔ (Link text.now ≡ node.now) }
+{
+    match node {
+        Node::File(_) => false,
+        Node::Dir(_) => false,
+        Node::Link(other) => text.as_slice() == other.as_slice(),
+    }
+}
+
+fn are_same_names(a: &Names, b: &Names) -> bool
+    ensures { IsTrue result ↔ (a.now ≡ b.now) }
+{
+    if a.len() != b.len() {
+        return false;
+    }
+    for i in 0..a.len() {
+        if !is_same_at(a, b, i) {
+            return false;
+        }
+    }
+    true
+}
+
+fn is_same_at(a: &Names, b: &Names, i: u64) -> bool
+    requires a { i < length a.now }
+    requires b { i < length b.now }
+    ensures { IsTrue result ↔ (slice_index_or a.now i [] ≡ slice_index_or b.now i []) }
+{
+    match a.at(i) {
+        Some(name) => match b.at(i) {
+            Some(other) => name == other,
+            None => false,
+        },
+        None => false,
+    }
+}

@@ -1,0 +1,180 @@
+//! A walk of resolution: the directory where it is, the components that are left, and the links that it may yet follow.
+ghost use Rattle.std.specs.Prelude.{◌≡◌, ◌<◌, ◌≤◌, ◌+◌, length, take, IfOk, IfNone};
+ghost use Rattle.fx_store.specs.Resolve as rule;
+ghost use Rattle.fx_store.specs.Resolve.{◌/ₚ◌};
+ghost use Rattle.fx_view.specs.Ways.{way};
+ghost use Rattle.fx_view.specs.Walks.{rule_of, rule_named, rule_at, rule_linked, rule_then, rule_after, left, GoesOn, LooksAt};
+
+use crate::component::{Component, components, is_absolute, names_of, names_only};
+use fx_base::NoMemory;
+use fx_store::{Landing, LinkText, Name, Node, Path, PathFault};
+use std::alloc::Global;
+use std::collections::VecDeque;
+
+/// The most links that are followed.
+const MAX_LINKS: u32 = 40;
+
+#[derive(Drop)]
+pub(crate) struct Walk {
+    here: Path,
+    rest: VecDeque<Component>,
+    links: u32,
+    follow: bool,
+}
+
+/// How a walk goes on before it looks again.
+#[derive(Drop)]
+pub(crate) enum Next {
+    Lands(Landing),
+    Goes,
+    /// It looks at an entry of the directory where it is: its name and its path.
+    Looks(Name, Path),
+}
+
+/// The walk of a path from the root.
+pub(crate) fn start(alloc: Global, path: &Path, follow: bool) -> Result<Walk, NoMemory>
+    ensures { IfOk result (λ walk. rule_of walk ≡ rule.resolve path.now follow) }
+{
+    Ok(Walk {
+        here: Path::root(alloc),
+        rest: names_of(alloc, path)?,
+        links: MAX_LINKS,
+        follow,
+    })
+}
+
+/// Takes the next component.
+pub(crate) fn advance(alloc: Global, walk: &mut Walk) -> Result<Next, NoMemory>
+    ensures rule { IfOk result (λ next. rule_of walk.old ≡ rule_then walk.new next) }
+    ensures goes_on { IfOk result (GoesOn walk.old walk.new) }
+{
+    match walk.rest.pop_front() {
+        None => Ok(Next::Lands(Landing::At(walk.here.copy(alloc)?))),
+        Some(Component::CurDir) => Ok(Next::Goes),
+        Some(Component::ParentDir) => {
+            walk.here = parent(alloc, &walk.here)?;
+            Ok(Next::Goes)
+        }
+        Some(Component::Normal(name)) => enter(alloc, walk, name),
+    }
+}
+
+/// How a walk goes on at a name: it looks at that entry, unless its path would have more than 64 names.
+fn enter(alloc: Global, walk: &Walk, name: Name) -> Result<Next, NoMemory>
+    ensures rule { IfOk result (λ next. rule_named walk.now name ≡ rule_then walk.now next) }
+    ensures looks { IfOk result (LooksAt walk.now name) }
+{
+    match walk.here.join(alloc, &name) {
+        Ok(path) => Ok(Next::Looks(name, path)),
+        Err(PathFault::TooDeep) => Ok(Next::Lands(missing(alloc, walk, name)?)),
+        Err(PathFault::BadName) => unreachable!(),
+        Err(PathFault::NoMemory) => Err(NoMemory),
+    }
+}
+
+/// The landing where the directory has no entry of a name.
+fn missing(alloc: Global, walk: &Walk, name: Name) -> Result<Landing, NoMemory>
+    ensures { IfOk result (λ l. l ≡ rule.missing walk.now.here name (way walk.now.rest.items)) }
+{
+    let here = walk.here.copy(alloc)?;
+    match names_only(alloc, name, &walk.rest)? {
+        Some(names) => Ok(Landing::Absent(here, names)),
+        None => Ok(Landing::Blocked(here)),
+    }
+}
+
+/// Goes on by what is at the entry that was looked at, or lands.
+pub(crate) fn arrive(
+    alloc: Global,
+    walk: &mut Walk,
+    name: Name,
+    path: Path,
+    node: Option<Node>,
+) -> Result<Option<Landing>, NoMemory>
+    requires { path ≡ walk.old.here /ₚ name }
+    ensures rule { IfOk result (λ landing. rule_at walk.old name node ≡ rule_after walk.new landing) }
+    ensures left { IfOk result (λ landing. IfNone landing (left walk.new ≤ left walk.old)) }
+{
+    match node {
+        None => Ok(Some(missing(alloc, walk, name)?)),
+        Some(Node::File(bytes)) => {
+            drop(bytes);
+            Ok(Some(at_file(walk, path)))
+        }
+        Some(Node::Dir(names)) => {
+            drop(names);
+            walk.here = path;
+            Ok(None)
+        }
+        Some(Node::Link(text)) => at_link(alloc, walk, path, text),
+    }
+}
+
+fn at_file(walk: &Walk, path: Path) -> Landing
+    ensures { result ≡ rule.at_file path (way walk.now.rest.items) }
+{
+    if walk.rest.is_empty() {
+        Landing::At(path)
+    } else {
+        Landing::Blocked(path)
+    }
+}
+
+fn at_link(
+    alloc: Global,
+    walk: &mut Walk,
+    path: Path,
+    text: LinkText,
+) -> Result<Option<Landing>, NoMemory>
+    ensures rule { IfOk result (λ landing. rule_linked walk.old path text ≡ rule_after walk.new landing) }
+    ensures left { IfOk result (λ landing. IfNone landing (left walk.new ≤ left walk.old)) }
+{
+    if !goes_along(walk) {
+        return Ok(Some(Landing::At(path)));
+    }
+    if walk.links == 0 {
+        return Ok(Some(Landing::TooManyLinks));
+    }
+    walk.links -= 1;
+    let mut rest = components(alloc, &text)?;
+    rest.append(&mut walk.rest)?;
+    walk.rest = rest;
+    if is_absolute(&text) {
+        walk.here = Path::root(alloc);
+    }
+    Ok(None)
+}
+
+fn goes_along(walk: &Walk) -> bool
+    ensures { result ≡ rule.goes_along walk.now.follow (way walk.now.rest.items) }
+{
+    walk.follow || !walk.rest.is_empty()
+}
+
+/// The directory above; the root stays the root.
+fn parent(alloc: Global, path: &Path) -> Result<Path, NoMemory>
+    ensures { IfOk result (λ above. above ≡ rule.parent path.now) }
+{
+    let mut above = Path::root(alloc);
+    for i in 0..path.len().saturating_sub(1) {
+        above = one_more(alloc, &above, path, i)?;
+    }
+    Ok(above)
+}
+
+/// The first names of a path, with one name more.
+fn one_more(alloc: Global, above: &Path, path: &Path, i: u32) -> Result<Path, NoMemory>
+    requires above { above.now ≡ take i path.now }
+    requires i { i < length path.now }
+    ensures { IfOk result (λ more. more ≡ take (i + 1) path.now) }
+{
+    let Some(name) = path.name(i) else {
+        unreachable!();
+    };
+    match above.join(alloc, name) {
+        Ok(more) => Ok(more),
+        Err(PathFault::NoMemory) => Err(NoMemory),
+        Err(PathFault::BadName) => unreachable!(),
+        Err(PathFault::TooDeep) => unreachable!(),
+    }
+}
