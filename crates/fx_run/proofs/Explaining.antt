@@ -29,7 +29,8 @@ use Rattle.fx_view.proofs.Growing.{Grows, Grows-reads}
 use Rattle.fx_view.proofs.Rules.{walked_known, found_answer, found_asked, needs_asked, needs_first, needs_unknown}
 use Rattle.fx_machine.specs.declared.attempt.Attempt.{Attempt}
 use Rattle.fx_machine.specs.Explained.{RunsAs, IsNew, IsExplained}
-use Rattle.fx_run.specs.Pursuing.{Came, no_own, pursuit}
+use Rattle.fx_run.specs.Course.{pursued}
+use Rattle.fx_run.specs.Pursuing.{Came, no_own}
 use Rattle.fx_run.specs.Keeping.{AreKept}
 use Rattle.fx_run.specs.Running.{ReadsFit, IsNeeded}
 use Rattle.fx_run.proofs.Pursuits.{pursued_end, pursued_after, pursued_asked}
@@ -39,9 +40,6 @@ use Rattle.fx_run.proofs.Stable.{stable_node}
 abbrev Path : Type 0
 Path = List (List ℕ)
 
--- the whole transaction, as the rule that is pursued
-abbrev pub pursued : SpecTree → List CommandTree → Ask (Came Flow)
-pursued root t = pursuit [] (transaction root t)
 
 -- a filestore that agrees with reads agrees with the earlier ones
 pub agrees_before : (reads more : ReadList) (S : Store) → Agrees (reads ++ more) S → Agrees reads S

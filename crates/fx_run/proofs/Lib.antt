@@ -9,3 +9,4 @@ pub mod Places
 pub mod Steps
 pub mod Awaiting
 pub mod Stepping
+pub mod Loops

@@ -21,7 +21,7 @@ some_within (x ∷ xs) (suc i) d h = some_within xs i d (omega arith)
 pub at_index : {A : Type 0} (xs : List A) (i : ℕ) (x : A) → i < length xs → x ≡ get_or xs i x → slice_get xs i ≡ Some x
 at_index xs i x within is = some_within xs i x within ∙ ap (λ y. Some y) (sym is)
 
-none_past : {A : Type 0} (xs : List A) (i : ℕ) → slice_get xs i ≡ None → length xs ≤ i
+pub none_past : {A : Type 0} (xs : List A) (i : ℕ) → slice_get xs i ≡ None → length xs ≤ i
 none_past [] i is = omega arith
 none_past (x ∷ xs) zero is = cc
 none_past (x ∷ xs) (suc i) is = omega (arith, none_past xs i is)

@@ -4,4 +4,6 @@ pub mod Answering
 pub mod Making
 pub mod Standing
 pub mod Rules
+pub mod Course
+pub mod Finishing
 pub mod Running

@@ -4,7 +4,9 @@
 mod edits;
 mod engine;
 mod fetching;
+mod finishing;
 mod making;
+mod pursuing;
 mod standing;
 mod storing;
 
