@@ -10,3 +10,6 @@ pub mod Steps
 pub mod Awaiting
 pub mod Stepping
 pub mod Loops
+pub mod Copies
+pub mod Planned
+pub mod Attempts
