@@ -1,3 +1,4 @@
 pub mod Changing
 pub mod Searching
 pub mod Settling
+pub mod Empty

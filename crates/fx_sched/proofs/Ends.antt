@@ -1,13 +1,12 @@
 -- The end of a recorded run: nothing is looked at any more, and its order is complete.
-use Rattle.std.proofs.Common.{◌≡◌, ◌≢◌, ◌⊎◌, inl, inr, ⊎_elim, ℕ, zero, suc, ◌+◌, ◌<◌, ◌≤◌, Bool, true, false, cond, nat_eq, nat_lt, List, [], ◌∷◌, ◌++◌, map, length, get_or, set, replicate, slice_get, Option, Some, None, is_some, refl, sym, ap, subst, ◌∙◌, arith, length-append, append_assoc}
-use Rattle.std.specs.List.{Contains, cons_option, flat_map}
+use Rattle.std.proofs.Common.{◌≡◌, ⊎_elim, ℕ, zero, suc, ◌+◌, ◌<◌, ◌≤◌, Bool, true, false, cond, nat_eq, List, [], ◌∷◌, ◌++◌, map, length, get_or, replicate, slice_get, Some, None, is_some, refl, sym, ap, subst, ◌∙◌, arith, length-append}
+use Rattle.std.specs.List.{Contains, cons_option}
 use Rattle.std.proofs.lemmas.Bool.{cases_lt, ne_eqb, eqb-true, ltb-false}
-use Rattle.std.proofs.lemmas.List.{append-nil, map-append, length-map, length-set, length-replicate, get_or-replicate, ext_get_or, get_or_append_left}
+use Rattle.std.proofs.lemmas.List.{append-nil, map-append, length-map, length-set, length-replicate, ext_get_or, get_or_append_left}
 use Rattle.std.proofs.lemmas.List.Folds.{flat_map-map}
 use Rattle.std.proofs.Math.Seq.{get_or-append_seam}
-use Rattle.fx_spec.specs.CommandTree.{CommandTree}
 use Rattle.fx_spec.specs.Plans.{Turn, script_of, count_of}
-use Rattle.fx_spec.specs.Order.{BaseTree, IsComplete, RetriesOk, numbers_of, number_in, first_numbers}
+use Rattle.fx_spec.specs.Order.{BaseTree, IsComplete, RetriesOk, numbers_of, first_numbers}
 use Rattle.fx_machine.specs.declared.event.Event.{Event}
 use Rattle.fx_machine.specs.declared.event.Event.TheVariants as event
 use Rattle.fx_machine.specs.declared.retry.Retry.{Retry}
@@ -15,13 +14,12 @@ use Rattle.fx_machine.specs.Laws.{IsReached}
 use Rattle.fx_machine.specs.Machine.{Machine, Look, Looks, Settles, Restarts, Run, Step, looks_of, next_number, resting}
 use Rattle.fx_machine.specs.Measure.{has_left}
 use Rattle.fx_machine.specs.Tried.{conflicts_of, retries_of, retry_tree}
-use Rattle.fx_machine.specs.Turns.{TakesTurns, FollowsSchedule}
+use Rattle.fx_machine.specs.Turns.{TakesTurns}
 use Rattle.fx_machine.proofs.Complete.{complete_runs}
 use Rattle.fx_machine.proofs.Reached.{set_looks, reached_sound}
-use Rattle.fx_sched.specs.declared.recording.Retried.{Retried}
 use Rattle.fx_sched.specs.declared.recording.Recording.{Recording}
 use Rattle.fx_sched.specs.declared.schedule.Traced.{Traced}
-use Rattle.fx_sched.specs.Recorded.{lists_of, joined, IsRecording, HadTurns, HadRounds}
+use Rattle.fx_sched.specs.Recorded.{lists_of, joined, HadTurns, HadRounds}
 use Rattle.fx_sched.specs.Traced.{IsTraced}
 use Rattle.fx_sched.proofs.Counts.{some_within}
 use Rattle.fx_sched.proofs.Records.{first_contains, true_false, retries_in}

@@ -1,5 +1,5 @@
 -- Looks and the reads that they are of.
-use Rattle.std.proofs.Common.{◌≡◌, ℕ, zero, suc, ◌+◌, ◌<◌, ◌≤◌, Bool, true, false, cond, ◌||◌, List, [], ◌∷◌, ◌++◌, map, length, get_or, Option, Some, None, is_some, refl, sym, ap, subst, ◌∙◌, ◌⊎◌, inl, inr, Result, Ok, Err, IfOk, IfErr, arith, length-append}
+use Rattle.std.proofs.Common.{◌≡◌, ℕ, suc, ◌≤◌, Bool, true, false, cond, ◌||◌, List, [], ◌∷◌, ◌++◌, length, Option, Some, None, is_some, refl, sym, ap, subst, ◌∙◌, ◌⊎◌, inl, inr, Result, Ok, Err, IfOk, IfErr, arith, length-append}
 use Rattle.std.specs.List.{Contains, IsDistinct, list_any}
 use Rattle.std.specs.Map.{keys_of}
 use Rattle.std.specs.Option.{option_map, IsSome}
@@ -13,17 +13,17 @@ use Rattle.fx_store.specs.declared.node.Node.{Node}
 use Rattle.fx_store.specs.Names.{path_cmp}
 use Rattle.fx_store.specs.Orders.{path_total, path_eq_same}
 use Rattle.fx_store.specs.Rule.{Known, first_unknown}
-use Rattle.fx_store.specs.Whole.{Store, Nodes, IsWhole}
+use Rattle.fx_store.specs.Whole.{Store, Nodes}
 use Rattle.fx_spec.specs.CommandTree.{CommandTree}
 use Rattle.fx_spec.specs.Plans.{Turn, txn_of}
-use Rattle.fx_spec.specs.Order.{BaseTree, state, Changes}
+use Rattle.fx_spec.specs.Order.{BaseTree, state}
 use Rattle.fx_spec.specs.Transaction.{way}
 use Rattle.fx_spec.proofs.Orders.{state-front}
 use Rattle.fx_view.specs.ReadList.{ReadList}
-use Rattle.fx_view.specs.Reads.{read_at, known_of, IsRead, IsReads, Agrees}
+use Rattle.fx_view.specs.Reads.{read_at, known_of, IsReads, Agrees}
 use Rattle.fx_machine.specs.declared.attempt.Attempt.{Attempt}
 use Rattle.fx_machine.specs.Explained.{IsExplained, RunsAs}
-use Rattle.fx_machine.specs.Machine.{Look, position_at, first_unseen, AgreesAt, HasSeenAll, ComesNext, IsStaleAt, IsFresh}
+use Rattle.fx_machine.specs.Machine.{position_at, first_unseen, AgreesAt, HasSeenAll, ComesNext, IsStaleAt, IsFresh}
 use Rattle.fx_machine.specs.Passes.{AreTrueReads}
 use Rattle.fx_run.specs.Running.{IsNeeded, ReadsFit}
 use Rattle.fx_board.specs.Board.{IsFreshReads, IsStaleRead}

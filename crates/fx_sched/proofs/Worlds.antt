@@ -1,11 +1,11 @@
 -- A step of one shell is a step of its world.
-use Rattle.std.proofs.Common.{◌≡◌, ◌≢◌, ℕ, zero, suc, ◌+◌, ◌<◌, ◌≤◌, Bool, true, false, List, [], ◌∷◌, ◌++◌, map, length, get_or, set, replicate, slice_get, Option, Some, None, IsSome, is_some, refl, sym, ap, subst, ◌∙◌, ◌⊎◌, inl, inr, ⊎_elim, arith, add-one, length-append, nat_eq, eq-eqb, cond}
+use Rattle.std.proofs.Common.{◌≡◌, ◌≢◌, ℕ, zero, suc, ◌<◌, ◌≤◌, true, false, List, [], ◌∷◌, ◌++◌, map, length, get_or, set, replicate, slice_get, Option, Some, None, IsSome, is_some, refl, sym, ap, subst, ◌∙◌, arith, length-append, nat_eq, eq-eqb, cond}
 use Rattle.std.specs.FinMap.{get}
 use Rattle.std.specs.List.{IsDistinct, cons_option}
-use Rattle.std.proofs.lemmas.Bool.{cases_eq, ne_eqb}
+use Rattle.std.proofs.lemmas.Bool.{ne_eqb}
 use Rattle.std.proofs.lemmas.List.Elements.{filter_map-append}
 use Rattle.std.proofs.lemmas.List.{append-nil, map-append, map-set, set-get_or, length-set, length-replicate}
-use Rattle.std.proofs.lemmas.Option.{none-some, same_Some, slice_get_within, slice_get-get_or, slice_get_past}
+use Rattle.std.proofs.lemmas.Option.{none-some, same_Some, slice_get-get_or, slice_get_past}
 use Rattle.fx_spec.specs.declared.base.Base.{Base}
 use Rattle.fx_spec.specs.Bases.{base_tree}
 use Rattle.fx_spec.specs.CommandTree.{CommandTree}
@@ -13,22 +13,20 @@ use Rattle.fx_spec.specs.Plans.{Turn, txn_of, script_of, count_of}
 use Rattle.fx_spec.specs.Order.{BaseTree, numbers_of, number_in}
 use Rattle.fx_forms.specs.Built.{is_built_spec, is_built_plan}
 use Rattle.fx_view.specs.ReadList.{ReadList}
-use Rattle.fx_view.specs.Reads.{IsReads}
 use Rattle.fx_machine.specs.declared.event.Event.{Event}
 use Rattle.fx_machine.specs.declared.event.Event.TheVariants as event
 use Rattle.fx_machine.specs.Laws.{IsReached}
 use Rattle.fx_machine.specs.Machine.{Machine, Look, Looks, Settles, Restarts, Step, Run, looks_of, position_at, next_number, next_txn, ComesNext, HasSeenAll, IsFresh, IsStaleAt, resting, shell_of}
-use Rattle.fx_machine.specs.Passes.{AreTrueReads}
 use Rattle.fx_run.specs.Running.{ReadsFit}
 use Rattle.fx_board.specs.Board.{last_state, settled, started}
 use Rattle.fx_board.specs.Log.{Log}
 use Rattle.fx_sched.specs.declared.world.Shell.{Shell}
-use Rattle.fx_sched.specs.World.{looks_in, machine_of, running_of, IsShell, IsWorld, IsWorldOver, new_shell, began, Leads, Stepped}
-use Rattle.fx_sched.specs.Moves.{read_more, HasLooked, HasSettled, HasRestarted, Moved}
+use Rattle.fx_sched.specs.World.{looks_in, machine_of, running_of, IsShell, IsWorld, IsWorldOver, new_shell, began, Leads}
+use Rattle.fx_sched.specs.Moves.{read_more, HasLooked, Moved}
 use Rattle.fx_sched.specs.Running.{Running}
 use Rattle.fx_machine.specs.Measure.{measure, IsLower}
 use Rattle.fx_machine.proofs.Lowering.{events_lower}
-use Rattle.fx_sched.proofs.Looks.{unlooked, has_seen_all, comes_next, stale_at, fresh_at, once_more, true_more, true_longer, fits_as}
+use Rattle.fx_sched.proofs.Looks.{unlooked, has_seen_all, comes_next, stale_at, fresh_at, once_more, true_more, true_longer}
 
 abbrev Path : Type 0
 Path = List (List ℕ)

@@ -56,6 +56,7 @@ pub record HasRestarted (old new : Log) (number : ℕ) (s : Shell) (entry : ℕ)
   pub log : new ≡ old
   pub shell : t ≡ record s { reads = [] }
 
+-- an event of the shell, with the log and the shell before and after it
 abbrev pub Moved : Log → Log → ℕ → Shell → Event → Shell → Type 0
 Moved old new number s (event.Look k path position) t = (k ≡ number) × HasLooked old new number s path position t
 Moved old new number s (event.Settled k entry) t = (k ≡ number) × HasSettled old new number s entry t

@@ -1,7 +1,6 @@
 -- What is recorded of a run.
 use Rattle.std.specs.Prelude.{◌≡◌, ℕ, ◌<◌, false, List, [], ◌∷◌, ◌++◌, map, length, slice_index_or, slice_set, Contains}
 use Rattle.std.specs.List.{flat_map}
-use Rattle.fx_spec.specs.Order.{BaseTree}
 use Rattle.fx_machine.specs.declared.event.Event.{Event}
 use Rattle.fx_machine.specs.declared.event.Event.TheVariants as event
 use Rattle.fx_machine.specs.declared.retry.Retry.{Retry}
@@ -50,5 +49,6 @@ pub record HadRounds (old new : Recording) : Type 0 where
   pub over : (k : ℕ) → has_left new.world.base new.world.machine k ≡ false
   pub takes : TakesTurns old.world.base old.events [] more
 
+-- the retries of all shells, by shell
 abbrev pub joined : List (List Retry) → List Retry
 joined lists = flat_map (λ list. list) lists

@@ -1,6 +1,5 @@
 -- What a world keeps, and what one step of it says.
-use Rattle.std.specs.Prelude.{◌≡◌, ℕ, true, List, [], map, length, slice_get, slice_index_or, Option, Some, None, IsSome}
-use Rattle.std.specs.List.{IsDistinct}
+use Rattle.std.specs.Prelude.{◌≡◌, ℕ, true, List, [], map, length, slice_get, Option, Some, None, IsSome}
 use Rattle.fx_spec.specs.Plans.{Turn}
 use Rattle.fx_spec.specs.declared.base.Base.{Base}
 use Rattle.fx_spec.specs.Bases.{base_tree}
@@ -21,6 +20,7 @@ use Rattle.fx_sched.specs.Running.{Running}
 abbrev pub looks_in : ReadList → List Look
 looks_in reads = map (λ r. (r.0, r.1.1)) reads
 
+-- the machine's state, and with its base
 abbrev pub machine_of : List Turn → List Shell → Machine
 machine_of order shells = record { order = order; looks = map (λ (s : Shell). looks_in s.reads) shells }
 
@@ -61,6 +61,7 @@ pub record Leads (old : Running) (shell : ℕ) (new : Running) (e : Event) : Typ
   pub base : new.base ≡ old.base
   pub step : Step old.base old.machine e new.machine
 
+-- what a step of a shell answers, and what it leaves
 abbrev pub Stepped : Running → ℕ → Running → Option Event → Type 0
 Stepped old shell new None = (next_txn old.base old.machine.order shell ≡ None) × (new ≡ old)
 Stepped old shell new (Some e) = Leads old shell new e

@@ -9,3 +9,4 @@ pub mod Stepping
 pub mod Nets
 pub mod Sames
 pub mod Owning
+pub mod NetLaws

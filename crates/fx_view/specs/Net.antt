@@ -10,6 +10,7 @@ use Rattle.fx_view.specs.Reads.{known_of}
 abbrev pub Differs : ReadList → List (List ℕ) × Option Node → Type 0
 Differs reads e = (was : Option Node) × (known_of reads e.0 ≡ Some was) × (e.1 ≢ was)
 
+-- the change that the entry stands for
 abbrev pub change_of : List (List ℕ) × Option Node → Change
 change_of e = record { path = e.0; node = e.1 }
 

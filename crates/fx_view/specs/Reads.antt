@@ -23,6 +23,7 @@ read_at (e ∷ es) path = cond (eq_by_cmp path_cmp path e.0) (Some e.1) (read_at
 abbrev pub known_of : ReadList → Known
 known_of reads path = option_map (λ r. r.0) (read_at reads path)
 
+-- something was read at the path
 abbrev pub IsRead : ReadList → List (List ℕ) → Type 0
 IsRead reads path = IsSome (read_at reads path)
 

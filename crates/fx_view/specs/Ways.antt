@@ -10,5 +10,6 @@ meant kept.CurDir = rule.CurDir
 meant kept.ParentDir = rule.ParentDir
 meant (kept.Normal name) = rule.Normal name
 
+-- a way of components, as the rule has it
 abbrev pub way : List Component → List rule.Component
 way components = map meant components

@@ -1,8 +1,7 @@
-use Rattle.std.proofs.Common.{◌≡◌, ◌++◌, ◌∷◌, [], refl, ◌∙◌, sym, ap, subst}
+use Rattle.std.proofs.Common.{◌≡◌, refl, ◌∙◌, sym, subst}
 use Rattle.fx_spec.specs.Bases.{base_tree}
 use Rattle.fx_spec.specs.Order.{BaseTree}
 use Rattle.fx_machine.specs.Passes.{AreTrueReads}
-use Rattle.fx_run.specs.Running.{ReadsFit}
 use Rattle.fx_sched.specs.Moves.{FitsWith}
 use Rattle.fx_sched.proofs.Looks.{fits_as, shell_with, shell_is, moved_as, refused_as, refused_alone}
 use Rattle.fx_sched.proofs.moves.advance.Goals as goal

@@ -1,4 +1,4 @@
-use Rattle.std.proofs.Common.{refl, ◌∙◌, sym, ap, subst, add-one}
+use Rattle.std.proofs.Common.{refl, add-one}
 use Rattle.fx_sched.proofs.Looks.{all_read}
 use Rattle.fx_sched.proofs.moves.settle.Goals as goal
 

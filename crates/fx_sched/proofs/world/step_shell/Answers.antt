@@ -1,8 +1,7 @@
-use Rattle.std.proofs.Common.{◌≡◌, ◌<◌, ◌≤◌, refl, ◌∙◌, sym, ap, subst, arith, slice_get, Some, IsSome, set, get_or}
+use Rattle.std.proofs.Common.{◌≡◌, sym, ap, subst, arith, slice_get, Some, IsSome, set, get_or}
 use Rattle.std.proofs.lemmas.List.{set-get_or}
 use Rattle.fx_spec.specs.Plans.{count_of, txn_of}
-use Rattle.fx_sched.specs.World.{running_of, IsShell, IsWorldOver}
-use Rattle.fx_sched.specs.Moves.{Moved}
+use Rattle.fx_sched.specs.World.{running_of, IsShell}
 use Rattle.fx_sched.specs.declared.world.Shell.{Shell}
 use Rattle.fx_sched.proofs.Worlds.{leads, moved_world, shell_at, count_is, has_txn, no_txn, same_world, lowers}
 use Rattle.fx_sched.proofs.world.step_shell.Goals as goal

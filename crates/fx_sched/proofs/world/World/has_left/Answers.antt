@@ -1,4 +1,4 @@
-use Rattle.std.proofs.Common.{◌≤◌, length, arith}
+use Rattle.std.proofs.Common.{arith}
 use Rattle.fx_sched.proofs.Records.{all_none}
 use Rattle.fx_sched.proofs.world.World.has_left.Goals as goal
 

@@ -1,0 +1,93 @@
+-- A course that was pursued, and its attempt.
+use Rattle.std.proofs.Common.{◌≡◌, ℕ, Bool, List, [], ◌∷◌, ◌++◌, All, Contains, Option, Some, None, Result, Ok, Err, refl, ap, ◌∙◌, sym, subst}
+use Rattle.std.specs.Prelude.{IfOk, IfErr}
+use Rattle.std.specs.Map.{keys_of}
+use Rattle.fx_store.specs.Rule.{follow, Found}
+use Rattle.fx_spec.specs.SpecTree.{SpecTree}
+use Rattle.fx_spec.specs.CommandTree.{CommandTree}
+use Rattle.fx_spec.specs.Plans.{Turn, txn_of}
+use Rattle.fx_spec.specs.Order.{BaseTree}
+use Rattle.fx_spec.specs.Transaction.{Flow, On, Over, flow_end, flow_outputs}
+use Rattle.fx_spec.specs.declared.refusal.Refusal.{Refusal}
+use Rattle.fx_view.specs.declared.reader.Stop.{Stop}
+use Rattle.fx_view.specs.declared.reader.Stop.TheVariants as stop
+use Rattle.fx_view.specs.ReadList.{ReadList}
+use Rattle.fx_view.specs.Own.{AreRead}
+use Rattle.fx_view.specs.Reads.{known_of}
+use Rattle.fx_view.specs.Follows.{Went, Follows, walked}
+use Rattle.fx_machine.specs.declared.attempt.Attempt.{Attempt}
+use Rattle.fx_machine.specs.Explained.{IsExplained}
+use Rattle.fx_run.specs.declared.finishing.Finished.{Finished}
+use Rattle.fx_run.specs.declared.pursuing.Course.{Course}
+use Rattle.fx_run.specs.declared.standing.Standing.{Standing}
+use Rattle.fx_run.specs.Course.{pursued, came_of, end_of}
+use Rattle.fx_run.specs.Finishing.{KeepsAll, IsFinished, IsAttempt, Finishes}
+use Rattle.fx_run.specs.Pursuing.{Came, no_own}
+use Rattle.fx_run.specs.Running.{ReadsFit, Attempted, KeepsOn, Lacks, StoppedAt}
+use Rattle.fx_run.specs.Standing.{flow_by}
+use Rattle.fx_run.proofs.Explaining.{explained, next_needed, unread_needed, fit_again}
+
+outputs_by : (i : ℕ) (s : Standing) (o : Option Refusal) → flow_outputs (flow_by i s o) ≡ s.outputs
+outputs_by i s None = refl
+outputs_by i s (Some refusal) = refl
+
+module _ {R : Type 0} (reads : R → ReadList) (complete : R → Bool) (vouches : R → R → ReadList → Type 0) (root : SpecTree) (t : List CommandTree) (shell txn : ℕ) (old mid : R) where
+  -- the reader keeps its reads while the course is finished, and gives them to the attempt
+  pub attempted : (kept new : R) (course : Course) (f : Finished) (a : Attempt) → a ≡ record { shell = shell; txn = txn; reads = reads mid; changes = f.changes; outputs = f.outputs; end = f.end }
+      → Follows reads complete vouches came_of no_own old mid (pursued root t) (Ok course) → AreRead course.standing.overlay (reads mid) → KeepsAll reads complete vouches mid kept → IsFinished course (reads mid) f
+      → reads new ≡ [] → complete new ≡ complete kept → ((start : R) → vouches start kept (reads kept) → vouches start new (reads kept)) → IsAttempt reads complete vouches root t shell txn old new a
+  attempted kept new course f a is follows read keeps finished none same vouched =
+      subst (IsAttempt reads complete vouches root t shell txn old new) (sym is) (record {
+        whose = refl;
+        number = refl;
+        came = came_of course;
+        found = follows.0;
+        more = follows.1.more;
+        kept = follows.1.kept;
+        walked = follows.1.only;
+        read = read;
+        changes = finished.kept;
+        outputs = finished.outputs ∙ sym (outputs_by course.number course.standing course.refusal);
+        end = finished.end;
+        none = none;
+        same = same ∙ (keeps.same ∙ follows.1.same);
+        vouched = λ start v. subst (λ rs. vouches start new rs) keeps.kept (vouched start (keeps.vouched start (follows.1.vouched start v)));
+      })
+
+  -- memory is refused while the course is finished
+  pub attempt_refused : (kept : R) (course : Course) → Follows reads complete vouches came_of no_own old mid (pursued root t) (Ok course) → KeepsAll reads complete vouches mid kept → Follows {A = Came Flow} {X = Course} reads complete vouches came_of no_own old kept (pursued root t) (Err stop.NoMemory)
+  attempt_refused kept course follows keeps = record {
+    more = follows.1.more;
+    kept = keeps.kept ∙ follows.1.kept;
+    only = subst (λ rs. All (Contains (walked (known_of rs) no_own (pursued root t))) (keys_of follows.1.more)) (sym keeps.kept) follows.1.only;
+    same = keeps.same ∙ follows.1.same;
+    vouched = λ start v. keeps.vouched start (follows.1.vouched start v);
+  }
+
+module _ {R : Type 0} (reads : R → ReadList) (complete : R → Bool) (vouches : R → R → ReadList → Type 0) (base : BaseTree) (shell txn : ℕ) (t : List CommandTree) (planned : txn_of base.plan (shell, txn) ≡ Some t) (old new : R) (fit : ReadsFit base (shell, txn) (reads old)) where
+  attempt_explained : (a : Attempt) → IsAttempt reads complete vouches base.description t shell txn old new a → IsExplained base a
+  attempt_explained a is = explained base (shell, txn) t planned (reads old) is.more a.reads fit is.kept is.came is.found is.walked is.read a (λ k. (sym is.whose k, sym is.number k)) refl is.changes is.outputs is.end
+
+  pub run_explained : (r : Result Attempt Stop) → Finishes reads complete vouches base.description t shell txn old new r → IfOk r (IsExplained base)
+  run_explained (Ok a) is = attempt_explained a is
+  run_explained (Err why) is = tt
+
+  pub run_attempted : (r : Result Attempt Stop) → Finishes reads complete vouches base.description t shell txn old new r → IfOk r (Attempted reads complete vouches old new shell txn)
+  run_attempted (Ok a) is = record { whose = is.whose; number = is.number; more = is.more; kept = is.kept; none = is.none; same = is.same; vouched = is.vouched }
+  run_attempted (Err why) is = tt
+
+  keeps_on : (paths : List (List (List ℕ))) → Went reads complete vouches old new paths → KeepsOn reads complete vouches old new
+  keeps_on paths went = record { more = went.more; kept = went.kept; same = went.same; vouched = went.vouched }
+
+  pub run_stopped : (r : Result Attempt Stop) → Finishes reads complete vouches base.description t shell txn old new r → IfErr r (StoppedAt reads complete vouches base (shell, txn) old new)
+  run_stopped (Ok a) is = tt
+  run_stopped (Err stop.NoMemory) is = keeps_on (walked (known_of (reads new)) no_own (pursued base.description t)) is
+  run_stopped (Err (stop.Needs q)) is = (
+    keeps_on (walked (known_of (reads new)) no_own (pursued base.description t)) is.2,
+    record {
+      incomplete = is.1;
+      unread = unread_needed base (shell, txn) t planned (reads old) is.2.more (reads new) fit is.2.kept q is.0;
+      next = next_needed base (shell, txn) t planned (reads old) is.2.more (reads new) fit is.2.kept q is.0;
+      fit = λ node position. fit_again base (shell, txn) t planned (reads old) is.2.more (reads new) fit is.2.kept q is.0 is.2.only node position;
+    },
+  )

@@ -1,0 +1,116 @@
+//! What a course comes to: its changes, outputs and end.
+ghost use Rattle.std.specs.Prelude.{◌≡◌, IfOk};
+ghost use Rattle.fx_store.specs.Changes.{IsChanges};
+ghost use Rattle.fx_view.specs.Own.{AreRead, IsNet};
+ghost use Rattle.fx_view.specs.Reads.{known_of, IsRead};
+ghost use Rattle.fx_run.specs.Finishing.{IsCopy, IsFinished, Keeps, KeepsAll};
+
+use crate::pursuing::Course;
+use crate::standing::Standing;
+use fx_base::NoMemory;
+use fx_expr::Values;
+use fx_spec::End;
+use fx_store::{Changes, Node, Path};
+use fx_view::{Overlay, Reader, Reads, Stop};
+use std::alloc::Global;
+
+/// What a transaction has come to: its changes, what it printed, and how it ended.
+#[derive(Drop)]
+pub(crate) struct Finished {
+    pub(crate) changes: Changes,
+    pub(crate) outputs: Values,
+    pub(crate) end: End,
+}
+
+/// Keeps what was read at a path, if it is not kept yet.
+fn keep(alloc: Global, kept: &mut Reads, path: &Path, node: Option<Node>) -> Result<(), NoMemory>
+    ensures { IfOk result (λ _. Keeps kept.old kept.new path.now node) }
+{
+    if kept.get(path).is_some() {
+        return Ok(());
+    }
+    let path = path.copy(alloc)?;
+    kept.add(alloc, path, node, 0)
+}
+
+/// What was read at a path that was read before.
+fn read_again<R: Reader>(alloc: Global, reader: &mut R, path: &Path) -> Result<Option<Node>, NoMemory>
+    requires { IsRead (R.reads reader.old) path.now }
+    ensures node { IfOk result (λ node. known_of (R.reads reader.old) path.now ≡ Some node) }
+    ensures kept { KeepsAll R.reads R.complete R.vouches reader.old reader.new }
+{
+    match reader.read(alloc, path) {
+        Ok(node) => Ok(node),
+        Err(Stop::Needs(_)) => unreachable!(),
+        Err(Stop::NoMemory) => Err(NoMemory),
+    }
+}
+
+/// What was read at the paths of the own changes.
+fn copied<R: Reader>(alloc: Global, reader: &mut R, overlay: &Overlay) -> Result<Reads, NoMemory>
+    requires { AreRead overlay.now (R.reads reader.old) }
+    ensures copy { IfOk result (IsCopy overlay.now (R.reads reader.old)) }
+    ensures kept { KeepsAll R.reads R.complete R.vouches reader.old reader.new }
+{
+    let mut kept = Reads::new(alloc);
+    'copying: for i in 0..overlay.len() {
+        let path = match overlay.at(i) {
+            Some((path, _)) => path,
+            None => unreachable!(),
+        };
+        let node = match read_again(alloc, reader, path) {
+            Ok(node) => node,
+            Err(NoMemory) => return Err(NoMemory),
+        };
+        keep(alloc, &mut kept, path, node)?;
+    }
+    Ok(kept)
+}
+
+/// Finishes a course that was not refused.
+fn done<R: Reader>(alloc: Global, reader: &mut R, overlay: Overlay) -> Result<Changes, NoMemory>
+    requires { AreRead overlay (R.reads reader.old) }
+    ensures kept { KeepsAll R.reads R.complete R.vouches reader.old reader.new }
+    ensures net { IfOk result (λ changes. IsNet overlay (R.reads reader.old) changes × IsChanges changes) }
+{
+    let reads = match copied(alloc, reader, &overlay) {
+        Ok(reads) => reads,
+        Err(NoMemory) => return Err(NoMemory),
+    };
+    let changes = overlay.changes(alloc, &reads)?;
+    Ok(changes)
+}
+
+/// Finishes a course: the reader keeps its reads.
+pub(crate) fn finish<R: Reader>(alloc: Global, reader: &mut R, course: Course) -> Result<Finished, NoMemory>
+    requires { AreRead course.standing.overlay (R.reads reader.old) }
+    ensures kept { KeepsAll R.reads R.complete R.vouches reader.old reader.new }
+    ensures finished { IfOk result (IsFinished course (R.reads reader.old)) }
+{
+    let Course {
+        standing,
+        number,
+        refusal,
+    } = course;
+    let Standing {
+        overlay, outputs, ..
+    } = standing;
+    match refusal {
+        None => match done(alloc, reader, overlay) {
+            Ok(changes) => Ok(Finished {
+                changes,
+                outputs,
+                end: End::Done,
+            }),
+            Err(NoMemory) => Err(NoMemory),
+        },
+        Some(refusal) => Ok(Finished {
+            changes: Changes::new(alloc),
+            outputs,
+            end: End::Stopped {
+                command: number,
+                refusal,
+            },
+        }),
+    }
+}
