@@ -1,4 +1,5 @@
 ghost use Rattle.std.specs.Prelude.{◌≤◌, IfOk, IfSome};
+ghost use Rattle.fx_spec.specs.WellShaped.{IsScript};
 ghost use Rattle.fx_texts.specs.Lexed.{IsLexed};
 ghost use Rattle.fx_texts.specs.Texts.{Describes, Scripts, IsOnly};
 
@@ -54,6 +55,7 @@ pub fn read_script(alloc: Global, text: &[u8], before: u32) -> Result<Option<Scr
     requires { before ≤ 100000 }
     ensures stands { IfOk result (Scripts text.now before) }
     ensures only { IfOk result (λ found. IfSome found (IsOnly text.now)) }
+    ensures shaped { IfOk result (λ found. IfSome found IsScript) }
 {
     let tokens = match tokens_of(alloc, text)? {
         Some(tokens) => tokens,

@@ -1,5 +1,7 @@
 use Rattle.std.proofs.Common.{◌≡◌, List, subst, sym, arith}
+use Rattle.std.specs.Prelude.{All}
 use Rattle.fx_spec.specs.CommandTree.{CommandTree}
+use Rattle.fx_spec.specs.WellShaped.{IsTransaction}
 use Rattle.fx_parse.specs.Reader.{kinds}
 use Rattle.fx_texts.specs.Lexed.{IsLexed}
 use Rattle.fx_texts.specs.Reads.{HoldsOfNone}
@@ -27,6 +29,12 @@ pub of-requires : goal.of-requires
 of-requires c =
     let lexed = subst (λ r. IsLexed c.args.text.now r) c.in-Some.is c.in_ok-tokens.ensures in
     well_shaped c.args.text.now c.in-Some.tokens c.in-Ok.txns lexed (subst (λ s. AreTxns (kinds s) c.in-Ok.txns) c.as_slice.ensures.value c.in-Ok.ensures.0)
+
+pub returns-clause-shaped : goal.returns-clause-shaped
+returns-clause-shaped c =
+    let lexed = subst (λ r. IsLexed c.args.text.now r) c.in-Some.is c.in_ok-tokens.ensures in
+    let shaped = well_shaped c.args.text.now c.in-Some.tokens c.in-Ok.txns lexed (subst (λ s. AreTxns (kinds s) c.in-Ok.txns) c.as_slice.ensures.value c.in-Ok.ensures.0) in
+    subst (λ found. All IsTransaction found) (sym c.of.ensures) shaped
 
 pub returns-clause-only : goal.returns-clause-only
 returns-clause-only c =
