@@ -1,7 +1,7 @@
 -- The scripts of a run, read one after another.
-use Rattle.std.proofs.Common.{◌≡◌, ◌⊎◌, inl, inr, ℕ, zero, suc, ◌+◌, ◌≤◌, ◌<◌, Bool, true, false, ◌&&◌, List, [], ◌∷◌, ◌++◌, length, drop, Option, Some, None, IfSome, IsSomeAnd, refl, sym, ap, ◌∙◌, subst, append_assoc, arith, length-append}
-use Rattle.std.specs.Prelude.{All, slice_get}
-use Rattle.std.specs.List.{list_all, sum_by}
+use Rattle.std.proofs.Common.{◌≡◌, ◌⊎◌, inl, inr, ℕ, zero, suc, ◌+◌, ◌≤◌, ◌<◌, true, false, ◌&&◌, List, [], ◌∷◌, ◌++◌, length, drop, Option, Some, None, IfSome, IsSomeAnd, refl, sym, ap, ◌∙◌, subst, append_assoc, arith, length-append}
+use Rattle.std.specs.Prelude.{slice_get}
+use Rattle.std.specs.List.{sum_by}
 use Rattle.std.proofs.Math.ListN.{get_or}
 use Rattle.std.proofs.Math.Seq.{get_or-append_seam}
 use Rattle.std.proofs.lemmas.List.{append-nil}
