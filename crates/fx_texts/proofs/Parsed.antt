@@ -18,7 +18,7 @@ use Rattle.fx_forms.specs.Built.{is_one_of, is_built_expr, is_built_txn, is_buil
 use Rattle.fx_forms.proofs.Shaping.{left_of, right_of, shallow, built_is_checked, built_is_transaction}
 use Rattle.fx_texts.specs.Tokens.{spec_tokens, script_tokens, txn_tokens, block_tokens, bracketed}
 use Rattle.fx_texts.specs.Lexed.{IsLexed}
-use Rattle.fx_texts.specs.Texts.{IsTxn, IsScript, Describes, Scripts}
+use Rattle.fx_texts.specs.Texts.{IsTxn, IsScript, Describes, Scripts, IsOnly}
 use Rattle.fx_texts.specs.Body.{AreTxns, is_free}
 use Rattle.fx_texts.specs.Reader.{read_spec}
 use Rattle.fx_texts.proofs.Descriptions.{read_is, read_again, fits}
@@ -85,6 +85,9 @@ unscripted text tokens before lexed none txns is built few = none txns (are_txns
 pub too_many : (text : List ℕ) (tokens : TokenList) (before : ℕ) (found : List (List CommandTree)) → IsLexed text (Some tokens) → ((txns : List (List CommandTree)) → AreTxns (kinds tokens.spanned) txns → txns ≡ found) → 100000 < before + length found → Scripts text before None
 too_many text tokens before found lexed one many txns is built few =
     absurd (omega (arith, many, few, ap (λ all. length all) (one txns (are_txns text tokens txns lexed is built))))
+
+pub only : (text : List ℕ) (tokens : TokenList) (found : List (List CommandTree)) → IsLexed text (Some tokens) → ((txns : List (List CommandTree)) → AreTxns (kinds tokens.spanned) txns → txns ≡ found) → IsOnly text found
+only text tokens found lexed one = λ others is built. one others (are_txns text tokens others lexed is built)
 
 -- the transactions of tokens are well shaped
 txn_checked : (n : ℕ) (txn : List CommandTree) (more : List (List CommandTree)) → length (script_tokens (txn ∷ more)) ≤ n → n < 2 ^ 32 → is_built_txn txn ≡ true → IsTransaction txn

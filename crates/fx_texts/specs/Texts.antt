@@ -42,3 +42,7 @@ Describes text None = (spec : SpecTree) → IsDescription text spec → is_built
 abbrev pub Scripts : List ℕ → ℕ → Option (List (List CommandTree)) → Type 0
 Scripts text before (Some txns) = IsScript text txns × (is_built_script txns ≡ true) × (before + length txns ≤ 100000)
 Scripts text before None = (txns : List (List CommandTree)) → IsScript text txns → is_built_script txns ≡ true → before + length txns ≤ 100000 → ⊥
+
+-- the text stands for no other transactions of the built forms
+abbrev pub IsOnly : List ℕ → List (List CommandTree) → Type 0
+IsOnly text txns = (others : List (List CommandTree)) → IsScript text others → is_built_script others ≡ true → others ≡ txns

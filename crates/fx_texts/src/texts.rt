@@ -1,6 +1,7 @@
-ghost use Rattle.std.specs.Prelude.{◌≤◌, IfOk};
+ghost use Rattle.std.specs.Prelude.{◌≤◌, IfOk, IfSome};
+ghost use Rattle.fx_spec.specs.WellShaped.{IsScript};
 ghost use Rattle.fx_texts.specs.Lexed.{IsLexed};
-ghost use Rattle.fx_texts.specs.Texts.{Describes, Scripts};
+ghost use Rattle.fx_texts.specs.Texts.{Describes, Scripts, IsOnly};
 
 use crate::description::spec_of;
 use crate::script::txns_of;
@@ -52,7 +53,9 @@ pub fn read_description(alloc: Global, text: &[u8]) -> Result<Option<Checked>, N
 /// them with the `before` that the scripts before it have, or where the text is longer than [`TEXT_LIMIT`].
 pub fn read_script(alloc: Global, text: &[u8], before: u32) -> Result<Option<Script>, NoMemory>
     requires { before ≤ 100000 }
-    ensures { IfOk result (Scripts text.now before) }
+    ensures stands { IfOk result (Scripts text.now before) }
+    ensures only { IfOk result (λ found. IfSome found (IsOnly text.now)) }
+    ensures shaped { IfOk result (λ found. IfSome found IsScript) }
 {
     let tokens = match tokens_of(alloc, text)? {
         Some(tokens) => tokens,

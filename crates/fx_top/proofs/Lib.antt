@@ -1,5 +1,6 @@
 pub mod Completing
 pub mod Ending
 pub mod Flat
+pub mod Plans
 pub mod Reading
 pub mod Writing

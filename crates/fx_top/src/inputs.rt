@@ -3,6 +3,7 @@ ghost use Rattle.std.specs.Prelude.{◌≡◌, ◌⊎◌, ◌+◌, ◌≤◌, tr
 ghost use Rattle.fx_base.specs.Causes.{Rose};
 ghost use Rattle.fx_outside.specs.Tree.{is_file_at};
 ghost use Rattle.fx_forms.specs.Built.{is_built_spec, is_built_script, is_built_plan};
+ghost use Rattle.fx_spec.specs.WellShaped.{IsScript};
 ghost use Rattle.fx_words.specs.JobOf.{asked, IsJob};
 ghost use Rattle.fx_top.specs.Inputs.{HasScripts};
 ghost use Rattle.fx_top.specs.Answers.{SpecRead, ScriptRead, UnreadCause};
@@ -58,6 +59,7 @@ fn read_script_at<H: Host>(
     ensures read { IfOk result (λ script. IfSome (H.told host.old) (λ t. ScriptRead t path.now before script)) }
     ensures built { IfOk result (λ script. IfSome script (λ s. is_built_script s ≡ true)) }
     ensures few { IfOk result (λ script. IfSome script (λ s. before + length s ≤ 100000)) }
+    ensures shaped { IfOk result (λ script. IfSome script IsScript) }
     ensures same { H.told host.new ≡ H.told host.old }
     ensures later { H.faults host.old ≤ H.faults host.new }
     ensures failed { IfErr result (λ fault. fault ≡ HostFault.Failed → Rose (H.faults host.old) (H.faults host.new)

@@ -1,0 +1,156 @@
+-- The scripts of a run, read one after another.
+use Rattle.std.proofs.Common.{◌≡◌, ◌⊎◌, inl, inr, ℕ, zero, suc, ◌+◌, ◌≤◌, ◌<◌, true, false, ◌&&◌, List, [], ◌∷◌, ◌++◌, length, drop, Option, Some, None, IfSome, IsSomeAnd, refl, sym, ap, ◌∙◌, subst, append_assoc, arith, length-append}
+use Rattle.std.specs.Prelude.{slice_get}
+use Rattle.std.specs.List.{sum_by}
+use Rattle.std.proofs.Math.ListN.{get_or}
+use Rattle.std.proofs.Math.Seq.{get_or-append_seam}
+use Rattle.std.proofs.lemmas.List.{append-nil}
+use Rattle.std.proofs.lemmas.List.Elements.{All-append, All-cons, All-nil}
+use Rattle.std.proofs.lemmas.List.Folds.{list_all-append}
+use Rattle.std.proofs.lemmas.List.Sums.{sum_by_push}
+use Rattle.fx_base.specs.Causes.{Rose}
+use Rattle.fx_outside.specs.Tree.{Tree, is_file_at}
+use Rattle.fx_spec.specs.CommandTree.{CommandTree}
+use Rattle.fx_spec.specs.WellShaped.{IsScript}
+use Rattle.fx_spec.specs.Plans.{IsPlan, count_of}
+use Rattle.fx_forms.specs.Built.{is_built_script, is_built_plan}
+use Rattle.fx_top.specs.Inputs.{HasScripts, StopsAtScript, GoesOn, HasNoScript, LacksFile}
+
+abbrev Plan : Type 0
+Plan = List (List (List CommandTree))
+
+abbrev Paths : Type 0
+Paths = List (List ℕ)
+
+drop_there : {X : Type 0} (xs : List X) (i : ℕ) (x : X) → slice_get xs i ≡ Some x → drop i xs ≡ x ∷ drop (i + 1) xs
+drop_there [] i x e = cc
+drop_there (y ∷ ys) zero x e = let same : x ≡ y = cc in ap (λ z. z ∷ ys) (sym same)
+drop_there (y ∷ ys) (suc i) x e =
+    let rest = drop_there ys i x e in
+    let next : suc i + 1 ≡ suc (i + 1) = omega arith in
+    rest ∙ ap (λ n. x ∷ drop n (y ∷ ys)) (sym next)
+
+drop_all : {X : Type 0} (xs : List X) → drop (length xs) xs ≡ []
+drop_all [] = refl
+drop_all (x ∷ xs) = drop_all xs
+
+-- the first scripts are read: whatever the others are, or wherever they stop, is so of all
+pub record IsFront (t : Tree) (paths : Paths) (plan : Plan) (i before : ℕ) : Type 0 where
+  pub on : (more : Plan) → HasScripts t before (drop i paths) more → HasScripts t 0 paths (plan ++ more)
+  pub refused : (k : ℕ) → StopsAtScript HasNoScript t before (drop i paths) k → StopsAtScript HasNoScript t 0 paths (i + k)
+  pub lacking : (k : ℕ) → StopsAtScript LacksFile t before (drop i paths) k → StopsAtScript LacksFile t 0 paths (i + k)
+
+front_empty : (t : Tree) (paths : Paths) → IsFront t paths [] 0 0
+front_empty t paths = record {
+  on = λ more has. has;
+  refused = λ k stops. subst (λ n. StopsAtScript HasNoScript t 0 paths n) (omega arith) stops;
+  lacking = λ k stops. subst (λ n. StopsAtScript LacksFile t 0 paths n) (omega arith) stops;
+}
+
+-- a stop behind one more script that is read
+stop_later : (S : Tree → List ℕ → ℕ → Type 0) (t : Tree) (path : List ℕ) (before k : ℕ) (txns : List (List CommandTree)) (left paths : Paths) → left ≡ path ∷ paths → GoesOn t path before txns → StopsAtScript S t (before + length txns) paths k → StopsAtScript S t before left (k + 1)
+stop_later S t path before k txns left paths is goes stops = subst (λ ps. StopsAtScript S t before ps (k + 1)) (sym is) (inr (k, refl, txns, goes, stops))
+
+front_more : (t : Tree) (paths : Paths) (plan : Plan) (i before : ℕ) (path : List ℕ) (txns : List (List CommandTree)) → slice_get paths i ≡ Some path → GoesOn t path before txns → IsFront t paths plan i before → IsFront t paths (plan ++ txns ∷ []) (i + 1) (before + length txns)
+front_more t paths plan i before path txns at goes was =
+    let left = drop_there paths i path at in
+    record {
+      on = λ more has. subst (λ all. HasScripts t 0 paths all) (sym (append_assoc plan (txns ∷ []) more)) (was.on (txns ∷ more) (subst (λ ps. HasScripts t before ps (txns ∷ more)) (sym left) (goes.script, has)));
+      refused = λ k stops. subst (λ n. StopsAtScript HasNoScript t 0 paths n) (omega arith) (was.refused (k + 1) (stop_later HasNoScript t path before k txns (drop i paths) (drop (i + 1) paths) left goes stops));
+      lacking = λ k stops. subst (λ n. StopsAtScript LacksFile t 0 paths n) (omega arith) (was.lacking (k + 1) (stop_later LacksFile t path before k txns (drop i paths) (drop (i + 1) paths) left goes stops));
+    }
+
+-- between two scripts
+pub record IsReading (told told' : Option Tree) (faults faults' : ℕ) (paths : Paths) (plan : Plan) (i before : ℕ) : Type 0 where
+  pub same : told' ≡ told
+  pub later : faults ≤ faults'
+  pub front : IfSome told (λ t. IsFront t paths plan i before)
+  pub count : length plan ≡ i
+  pub sum : sum_by length plan ≡ before
+  pub built : is_built_plan plan ≡ true
+  pub fit : IsPlan plan
+
+front_begins : (told : Option Tree) (paths : Paths) → IfSome told (λ t. IsFront t paths [] 0 0)
+front_begins None paths = tt
+front_begins (Some t) paths = front_empty t paths
+
+pub begins : (told : Option Tree) (faults : ℕ) (paths : Paths) (plan : Plan) → plan ≡ [] → IsReading told told faults faults paths plan 0 0
+begins told faults paths plan none = subst (λ plan. IsReading told told faults faults paths plan 0 0) (sym none) (record {
+  same = refl;
+  later = omega arith;
+  front = front_begins told paths;
+  count = refl;
+  sum = refl;
+  built = refl;
+  fit = record { scripts = All-nil IsScript; shells = omega arith; few = omega arith };
+})
+
+-- one more script is no more than a plan may have
+pub fits : (plan : Plan) (script : List (List CommandTree)) (before : ℕ) → IsPlan plan → sum_by length plan ≡ before → IsScript script → length plan < 64 → before + length script ≤ 100000 → IsPlan (plan ++ script ∷ [])
+fits plan script before was sum is room few = record {
+  scripts = All-append IsScript plan (script ∷ []) was.scripts (All-cons IsScript script [] is (All-nil IsScript));
+  shells = omega (arith, room, length-append plan (script ∷ []));
+  few = omega (arith, few, sum, sum_by_push length plan script);
+}
+
+front_goes_on : (told told' : Option Tree) (paths : Paths) (plan : Plan) (i before : ℕ) (path : List ℕ) (script : List (List CommandTree)) → told' ≡ told → slice_get paths i ≡ Some path → IfSome told (λ t. IsFront t paths plan i before) → IfSome told' (λ t. GoesOn t path before script) → IfSome told (λ t. IsFront t paths (plan ++ script ∷ []) (i + 1) (before + length script))
+front_goes_on None told' paths plan i before path script same at was goes = tt
+front_goes_on (Some t) told' paths plan i before path script same at was goes = front_more t paths plan i before path script at (subst (λ o. IfSome o (λ t. GoesOn t path before script)) same goes) was
+
+built_more : (plan : Plan) (script : List (List CommandTree)) → is_built_plan plan ≡ true → is_built_script script ≡ true → is_built_plan (plan ++ script ∷ []) ≡ true
+built_more plan script was is = list_all-append is_built_script plan (script ∷ []) ∙ ap (λ b. b && (is_built_script script && true)) was ∙ ap (λ b. b && true) is
+
+reads_one : (told now then : Option Tree) (faults faults' faults'' : ℕ) (paths : Paths) (plan : Plan) (i before : ℕ) (path : List ℕ) (script : List (List CommandTree)) → IsReading told now faults faults' paths plan i before → slice_get paths i ≡ Some path → then ≡ now → faults' ≤ faults'' → IfSome now (λ t. GoesOn t path before script) → is_built_script script ≡ true → IsPlan (plan ++ script ∷ []) → IsReading told then faults faults'' paths (plan ++ script ∷ []) (i + 1) (before + length script)
+reads_one told now then faults faults' faults'' paths plan i before path script was at same later goes built fit = record {
+  same = same ∙ was.same;
+  later = omega (arith, later, was.later);
+  front = front_goes_on told now paths plan i before path script was.same at was.front goes;
+  count = length-append plan (script ∷ []) ∙ ap (λ n. n + 1) was.count;
+  sum = sum_by_push length plan script ∙ ap (λ n. n + length script) was.sum;
+  built = built_more plan script was.built built;
+  fit = fit;
+}
+
+-- the last script of a longer plan
+count_pushed : (plan : Plan) (i : ℕ) (script : List (List CommandTree)) → length plan ≡ i → count_of (plan ++ script ∷ []) i ≡ length script
+count_pushed plan i script is =
+    ap (λ n. length (get_or (plan ++ script ∷ []) n [])) (sym is) ∙ ap (λ s. length s) (get_or-append_seam plan script [] [])
+
+pub reads_on : (told now then : Option Tree) (faults faults' faults'' : ℕ) (paths : Paths) (plan plan' : Plan) (i before count : ℕ) (path : List ℕ) (script : List (List CommandTree)) → IsReading told now faults faults' paths plan i before → slice_get paths i ≡ Some path → plan' ≡ plan ++ script ∷ [] → count ≡ count_of plan' i → IsScript script → then ≡ now → faults' ≤ faults'' → IfSome now (λ t. GoesOn t path before script) → is_built_script script ≡ true → before + length script ≤ 100000 → length plan < 64 → IsReading told then faults faults'' paths plan' (i + 1) (before + count)
+reads_on told now then faults faults' faults'' paths plan plan' i before count path script was at pushed counted is same later goes built few room =
+    let one = reads_one told now then faults faults' faults'' paths plan i before path script was at same later goes built (fits plan script before was.fit was.sum is room few) in
+    let adds : length script ≡ count = sym (count_pushed plan i script was.count) ∙ ap (λ p. count_of p i) (sym pushed) ∙ sym counted in
+    subst (λ p. IsReading told then faults faults'' paths p (i + 1) (before + count)) (sym pushed) (subst (λ n. IsReading told then faults faults'' paths (plan ++ script ∷ []) (i + 1) (before + n)) adds one)
+
+-- at the end the plan is that of all the scripts
+whole : (t : Tree) (paths : Paths) (plan : Plan) (i before : ℕ) → i ≡ length paths → IsFront t paths plan i before → HasScripts t 0 paths plan
+whole t paths plan i before all front =
+    let none : drop i paths ≡ [] = ap (λ n. drop n paths) all ∙ drop_all paths in
+    subst (λ p. HasScripts t 0 paths p) (append-nil plan) (front.on [] (subst (λ ps. HasScripts t before ps []) (sym none) tt))
+
+pub ends : (told : Option Tree) (paths : Paths) (plan : Plan) (i before : ℕ) → i ≡ length paths → IfSome told (λ t. IsFront t paths plan i before) → IfSome told (λ t. HasScripts t 0 paths plan)
+ends None paths plan i before all front = tt
+ends (Some t) paths plan i before all front = whole t paths plan i before all front
+
+-- a script that stops the reading
+stop_here : (S : Tree → List ℕ → ℕ → Type 0) (t : Tree) (path : List ℕ) (before : ℕ) (left paths : Paths) → left ≡ path ∷ paths → S t path before → StopsAtScript S t before left 0
+stop_here S t path before left paths is stops = subst (λ ps. StopsAtScript S t before ps 0) (sym is) (inl (refl, stops))
+
+refused_at : (t : Tree) (paths : Paths) (plan : Plan) (i before : ℕ) (path : List ℕ) → slice_get paths i ≡ Some path → IsFront t paths plan i before → HasNoScript t path before → StopsAtScript HasNoScript t 0 paths i
+refused_at t paths plan i before path at front none =
+    subst (λ n. StopsAtScript HasNoScript t 0 paths n) (omega arith) (front.refused 0 (stop_here HasNoScript t path before (drop i paths) (drop (i + 1) paths) (drop_there paths i path at) none))
+
+lacking_at : (t : Tree) (paths : Paths) (plan : Plan) (i before : ℕ) (path : List ℕ) → slice_get paths i ≡ Some path → IsFront t paths plan i before → is_file_at t path ≡ false → StopsAtScript LacksFile t 0 paths i
+lacking_at t paths plan i before path at front none =
+    subst (λ n. StopsAtScript LacksFile t 0 paths n) (omega arith) (front.lacking 0 (stop_here LacksFile t path before (drop i paths) (drop (i + 1) paths) (drop_there paths i path at) none))
+
+pub refuses : (told now : Option Tree) (paths : Paths) (plan : Plan) (i before : ℕ) (path : List ℕ) (word : ℕ) (place : ℕ → ℕ) → now ≡ told → word ≡ place i → slice_get paths i ≡ Some path → IfSome told (λ t. IsFront t paths plan i before) → IfSome now (λ t. HasNoScript t path before) → IfSome told (λ t. (i : ℕ) × (word ≡ place i) × StopsAtScript HasNoScript t 0 paths i)
+refuses None now paths plan i before path word place same is at front none = tt
+refuses (Some t) now paths plan i before path word place same is at front none =
+    (i, is, refused_at t paths plan i before path at front (subst (λ o. IfSome o (λ t. HasNoScript t path before)) same none))
+
+pub fails : (told now : Option Tree) (faults before_faults faults' : ℕ) (paths : Paths) (plan : Plan) (i before : ℕ) (path : List ℕ) → IsReading told now faults before_faults paths plan i before → slice_get paths i ≡ Some path → Rose before_faults faults' ⊎ IsSomeAnd now (λ t. is_file_at t path ≡ false) → Rose faults faults' ⊎ IsSomeAnd told (λ t. (i : ℕ) × StopsAtScript LacksFile t 0 paths i)
+fails told now faults before_faults faults' paths plan i before path was at (inl rose) = inl (omega (arith, rose, was.later))
+fails None now faults before_faults faults' paths plan i before path was at (inr lacks) = let none = subst (λ o. IsSomeAnd o (λ t. is_file_at t path ≡ false)) was.same lacks in absurd none
+fails (Some t) now faults before_faults faults' paths plan i before path was at (inr lacks) =
+    inr (i, lacking_at t paths plan i before path at was.front (subst (λ o. IsSomeAnd o (λ t. is_file_at t path ≡ false)) was.same lacks))
