@@ -116,6 +116,7 @@ module _ {R : Type 0} (reads : R → ReadList) (complete : R → Bool) (vouches 
       at : (p : Path) → IsSome (own_at (take i own) p) ⊎ (p ≡ e.0) → IsRead kept' p
       at p (inl h) = more.before p (was.copy.all p h)
       at p (inr same) = subst (IsRead kept') (sym same) more.there
+
       now_known : (p : Path) (n : Option Node) → (known_of kept p ≡ Some n) ⊎ ((p ≡ e.0) × (n ≡ node)) → known_of (reads start) p ≡ Some n
       now_known p n (inl h) = was.copy.same p n h
       now_known p n (inr h) = ap (known_of (reads start)) h.0 ∙ (ap (λ rs. known_of rs e.0) (sym was.keeps.kept) ∙ (known ∙ ap (λ n. Some n) (sym h.1)))
@@ -137,5 +138,6 @@ net_of_copy own reads copied changes copy net = record {
         let here : known_of copied path ≡ Some x.0 = ap (option_map (λ (r : Option Node × ℕ). r.0)) e in
         let there : known_of reads path ≡ Some x.0 = copy.same path x.0 here in
         here ∙ (sym there ∙ known)
+
     known_again : (path : Path) (node was : Option Node) → own_at own path ≡ Some node → known_of reads path ≡ Some was → known_of copied path ≡ Some was
     known_again path node was own_is known = at path was (read_at copied path) refl (copy.all path (subst (λ o. IsSome o) (sym own_is) refl)) known

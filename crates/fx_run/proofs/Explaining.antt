@@ -40,7 +40,6 @@ use Rattle.fx_run.proofs.Stable.{stable_node}
 abbrev Path : Type 0
 Path = List (List ℕ)
 
-
 -- a filestore that agrees with reads agrees with the earlier ones
 pub agrees_before : (reads more : ReadList) (S : Store) → Agrees (reads ++ more) S → Agrees reads S
 agrees_before reads more S agrees p n e = agrees p n ((Grows-reads reads more).keeps p n e)
@@ -84,6 +83,7 @@ module _ (root : SpecTree) (t : List CommandTree) (reads : ReadList) (S : Store)
             known : (r : Option (Option Node × ℕ)) → IsSome r → (w : Option Node) × (option_map (λ (r : Option Node × ℕ). r.0) r ≡ Some w)
             known None h = cc
             known (Some r) h = (r.0, refl)
+
         at : (o : Option (Option Node)) → own_at c.own p ≡ o → (d : Option (Option Node)) → change_at changes p ≡ d → seen o (S p) ≡ unwrap_or d (S p)
         at None is None e = refl
         at None is (Some m) e = let set : own_at c.own p ≡ Some m = (net.sets p m e).0 in let wrong : None ≡ Some m = sym is ∙ set in cc
@@ -127,9 +127,9 @@ module _ (root : SpecTree) (t : List CommandTree) (reads : ReadList) (c : Came F
   done : (nodes : Nodes) (changes : List Change) → Agrees reads (get nodes) → end root t (get nodes) ≡ End.Done → IsNet c.own reads changes → IsChanges changes → left_nodes root t nodes ≡ over_nodes nodes changes
   done nodes changes agrees is net up =
       same_nodes (left_nodes root t nodes) (over_nodes nodes changes) (λ q.
-        leaves_as_data root t nodes q
-        ∙ (ap (λ b. cond b (after (get nodes) (transaction root t)) (get nodes) q) (ap is_done is)
-        ∙ (net_left root t reads (get nodes) agrees c found changes net up read q ∙ sym (get-over_nodes nodes changes q))))
+      leaves_as_data root t nodes q
+      ∙ (ap (λ b. cond b (after (get nodes) (transaction root t)) (get nodes) q) (ap is_done is)
+      ∙ (net_left root t reads (get nodes) agrees c found changes net up read q ∙ sym (get-over_nodes nodes changes q))))
 
   leaves : (nodes : Nodes) (changes : List Change) → Agrees reads (get nodes) → (e : End) → end root t (get nodes) ≡ e → AreKept e c.own reads changes → left_nodes root t nodes ≡ over_nodes nodes changes
   leaves nodes changes agrees End.Done is are = done nodes changes agrees is are.0 are.1

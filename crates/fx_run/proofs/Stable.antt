@@ -20,7 +20,6 @@ stable_path p q h = at (eq_by_cmp path_cmp p q) refl
 stable_text : (a b : List ℕ) → Stable a b
 stable_text a b h = let same : a ∷ [] ≡ b ∷ [] = stable_path (a ∷ []) (b ∷ []) (λ f. h (λ e. f (ap (λ x. x ∷ []) e))) in cc
 
-
 pub stable_node : (m n : Option Node) → Stable m n
 stable_node None None h = refl
 stable_node None (Some n) h = absurd (h (λ e. cc))
