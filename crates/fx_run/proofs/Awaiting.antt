@@ -1,14 +1,13 @@
 -- The commands that come are of the built forms: their expressions give texts, and so do those after them.
-use Rattle.std.proofs.Common.{◌≡◌, ℕ, Bool, true, false, cond, not, ◌&&◌, ◌||◌, List, [], ◌∷◌, ◌++◌, map, Option, Some, None, unwrap_or, Result, Ok, Err, refl, ap, ◌∙◌, sym, subst}
+use Rattle.std.proofs.Common.{◌≡◌, ℕ, Bool, true, false, cond, not, ◌&&◌, ◌||◌, List, [], ◌∷◌, ◌++◌, Option, Some, None, unwrap_or, Result, Ok, Err, refl, ap, ◌∙◌, sym, subst}
 use Rattle.std.specs.Prelude.{bytes_eq, nat_eq, IfOk}
 use Rattle.std.specs.Cmp.Lexicographic.{pointwise}
 use Rattle.std.proofs.lemmas.Cmp.{nat_list_eq_equiv}
 use Rattle.std.proofs.lemmas.List.Folds.{list_any-append}
 use Rattle.fx_expr.specs.Bindings.{bound, newer_or}
-use Rattle.fx_expr.specs.Eval.{eval_of}
 use Rattle.fx_expr.specs.ExprTree.{ExprTree}
 use Rattle.fx_expr.specs.ShapeTree.{ShapeTree}
-use Rattle.fx_expr.specs.Shapes.{ValueHas, BindingsHave, HasShape}
+use Rattle.fx_expr.specs.Shapes.{ValueHas, BindingsHave}
 use Rattle.fx_expr.specs.Tree.{Tree}
 use Rattle.fx_expr.proofs.Shaping.{Bound, bound_has}
 use Rattle.fx_spec.specs.declared.refusal.Refusal.{Refusal}

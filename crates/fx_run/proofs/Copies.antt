@@ -1,5 +1,5 @@
 -- Reads that are kept once more: at each own path what was read there.
-use Rattle.std.proofs.Common.{◌≡◌, ◌≢◌, ◌⊎◌, inl, inr, ℕ, zero, suc, ◌+◌, ◌<◌, ◌≤◌, Bool, true, false, cond, List, [], ◌∷◌, ◌++◌, length, take, get_or, Option, Some, None, IsSome, Result, Ok, Err, refl, ap, ◌∙◌, sym, subst, arith}
+use Rattle.std.proofs.Common.{◌≡◌, ◌⊎◌, inl, inr, ℕ, zero, suc, ◌+◌, ◌≤◌, Bool, true, false, cond, List, [], ◌∷◌, ◌++◌, length, take, get_or, Option, Some, None, IsSome, Result, Ok, Err, refl, ap, ◌∙◌, sym, subst}
 use Rattle.std.specs.Prelude.{slice_get, IfOk}
 use Rattle.std.specs.Option.{option_map}
 use Rattle.std.specs.Ordering.{eq_by_cmp}
@@ -9,7 +9,6 @@ use Rattle.std.specs.Option.{unwrap_or}
 use Rattle.fx_base.specs.declared.NoMemory.{NoMemory}
 use Rattle.fx_store.specs.declared.node.Node.{Node}
 use Rattle.fx_store.specs.declared.changes.Change.{Change}
-use Rattle.fx_store.specs.Changes.{change_at}
 use Rattle.fx_store.specs.Names.{path_cmp}
 use Rattle.fx_store.proofs.Tables.{path_itself}
 use Rattle.fx_spec.proofs.Tasks.{eq_paths}

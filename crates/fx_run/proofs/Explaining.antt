@@ -1,6 +1,5 @@
 -- A transaction that was pursued over some reads: what it comes to on each filestore that agrees with them.
-use Rattle.std.proofs.Common.{◌≡◌, ◌≢◌, ℕ, Bool, true, false, cond, List, [], ◌∷◌, ◌++◌, Contains, All, Option, Some, None, IsSome, unwrap_or, Result, Ok, Err, refl, ap, ◌∙◌, sym, subst, ◌⊎◌, inl, inr}
-use Rattle.std.specs.Prelude.{◌↔◌}
+use Rattle.std.proofs.Common.{◌≡◌, ℕ, false, cond, List, [], ◌∷◌, ◌++◌, Contains, All, Option, Some, None, IsSome, unwrap_or, refl, ap, ◌∙◌, sym, subst, ◌⊎◌, inl, inr}
 use Rattle.std.specs.FinMap.{get}
 use Rattle.std.specs.Map.{keys_of}
 use Rattle.std.specs.Option.{option_map}
@@ -8,7 +7,7 @@ use Rattle.std.proofs.lemmas.List.Elements.{All-contains, Contains-append_left, 
 use Rattle.fx_store.specs.declared.node.Node.{Node}
 use Rattle.fx_store.specs.declared.changes.Change.{Change}
 use Rattle.fx_store.specs.Changes.{IsChanges, change_at}
-use Rattle.fx_store.specs.Rule.{Ask, answer, asked, Known, seen, changed, follow, Outcome, Found, Needs, AgreesWith, first_unknown}
+use Rattle.fx_store.specs.Rule.{answer, seen, changed, follow, Found, Needs, first_unknown}
 use Rattle.fx_store.specs.Whole.{Store, Nodes, IsWhole, over, over_nodes}
 use Rattle.fx_store.proofs.Overlays.{over-change_at}
 use Rattle.fx_store.proofs.Stores.{same_nodes, get-over_nodes}
@@ -17,18 +16,18 @@ use Rattle.fx_spec.specs.SpecTree.{SpecTree}
 use Rattle.fx_spec.specs.CommandTree.{CommandTree}
 use Rattle.fx_spec.specs.Plans.{Turn, txn_of}
 use Rattle.fx_spec.specs.Order.{BaseTree}
-use Rattle.fx_spec.specs.Task.{result, after, consulted, written, once}
-use Rattle.fx_spec.specs.Transaction.{Flow, flow_end, flow_outputs, is_done, outputs, end, way, kept, left, left_nodes, transaction}
+use Rattle.fx_spec.specs.Task.{result, after, consulted, written}
+use Rattle.fx_spec.specs.Transaction.{Flow, flow_end, flow_outputs, is_done, end, way, left_nodes, transaction}
 use Rattle.fx_spec.proofs.Tasks.{leaves_as_data}
 use Rattle.fx_view.specs.OwnList.{OwnList}
 use Rattle.fx_view.specs.ReadList.{ReadList}
 use Rattle.fx_view.specs.Own.{own_at, AreRead, IsNet}
 use Rattle.fx_view.specs.Reads.{read_at, known_of, IsRead, Agrees}
 use Rattle.fx_view.specs.Follows.{walked}
-use Rattle.fx_view.proofs.Growing.{Grows, Grows-reads}
+use Rattle.fx_view.proofs.Growing.{Grows-reads}
 use Rattle.fx_view.proofs.Rules.{walked_known, found_answer, found_asked, needs_asked, needs_first, needs_unknown}
 use Rattle.fx_machine.specs.declared.attempt.Attempt.{Attempt}
-use Rattle.fx_machine.specs.Explained.{RunsAs, IsNew, IsExplained}
+use Rattle.fx_machine.specs.Explained.{IsNew, IsExplained}
 use Rattle.fx_run.specs.Course.{pursued}
 use Rattle.fx_run.specs.Pursuing.{Came, no_own}
 use Rattle.fx_run.specs.Keeping.{AreKept}

@@ -1,11 +1,11 @@
 -- Pursuing a task: one part and then the next, and what it comes to at a filestore that agrees with what is known.
-use Rattle.std.proofs.Common.{◌≡◌, Bool, true, false, cond, List, [], ◌∷◌, ◌++◌, Option, Some, None, Result, Ok, Err, refl, ap, ◌∙◌, sym, subst, ℕ}
+use Rattle.std.proofs.Common.{◌≡◌, Bool, true, false, cond, List, [], ◌∷◌, Option, Some, None, Result, Ok, Err, refl, ap, ◌∙◌, sym, subst, ℕ}
 use mathlib.Core.Path.{fun_ext}
 use Rattle.std.specs.Ordering.{eq_by_cmp}
 use Rattle.fx_store.specs.declared.node.Node.{Node}
 use Rattle.fx_store.specs.declared.changes.Change.{Change}
 use Rattle.fx_store.specs.Names.{path_cmp}
-use Rattle.fx_store.specs.Rule.{Ask, Answer, Look, ◌>>=◌, answer, asked, Known, seen, if_known, follow, changed, Outcome, Found, Needs}
+use Rattle.fx_store.specs.Rule.{Ask, Answer, Look, ◌>>=◌, answer, asked, Known, seen, if_known, follow, changed}
 use Rattle.fx_store.specs.Whole.{Store, update, over}
 use Rattle.fx_spec.specs.Task.{Task, Ends, Looks, Sets, result, after, consulted, asking, ◌>=>◌}
 use Rattle.fx_spec.proofs.Tasks.{eq_paths}
@@ -16,7 +16,7 @@ use Rattle.fx_view.specs.Reads.{known_of}
 use Rattle.fx_view.specs.declared.reader.Stop.{Stop}
 use Rattle.fx_view.specs.declared.reader.Stop.TheVariants as stop
 use Rattle.fx_view.specs.Follows.{walked, walked_on, Went, Follows}
-use Rattle.fx_run.specs.Pursuing.{Came, came, put_all, no_own, topped, pursuit}
+use Rattle.fx_run.specs.Pursuing.{Came, put_all, no_own, topped, pursuit}
 
 abbrev Path : Type 0
 Path = List (List ℕ)

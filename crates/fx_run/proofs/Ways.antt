@@ -8,7 +8,6 @@ use Rattle.std.proofs.lemmas.List.Elements.{All-nil, All-cons, All-head, All-tai
 use Rattle.fx_store.specs.declared.node.Node.{Node}
 use Rattle.fx_store.specs.Names.{path_cmp}
 use Rattle.fx_store.specs.Rule.{Known, AllKnown, first_unknown}
-use Rattle.fx_store.proofs.Tables.{path_itself}
 use Rattle.fx_spec.specs.Task.{once}
 use Rattle.fx_spec.proofs.Tasks.{eq_paths}
 use Rattle.fx_view.specs.ReadList.{ReadList}

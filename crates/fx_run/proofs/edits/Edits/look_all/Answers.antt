@@ -1,4 +1,4 @@
-use Rattle.std.proofs.Common.{◌≡◌, ◌+◌, ◌∷◌, Option, List, ap, sym, subst, drop, get_or, length, arith}
+use Rattle.std.proofs.Common.{◌≡◌, ◌+◌, Option, List, ap, subst, drop, get_or, length, arith}
 use Rattle.std.proofs.lemmas.List.{drop_all}
 use Rattle.fx_store.specs.declared.changes.Change.{Change}
 use Rattle.fx_store.specs.declared.node.Node.{Node}

@@ -1,20 +1,17 @@
-use Rattle.std.proofs.Common.{ℕ, List, [], Option, Some, None, Result, Ok, Err, ap, sym, refl, ◌∙◌}
-use Rattle.fx_store.specs.declared.changes.Change.{Change}
+use Rattle.std.proofs.Common.{ℕ, List, [], Some, None, Result, ap, ◌∙◌}
 use Rattle.fx_expr.specs.ShapeTree.{ShapeTree}
 use Rattle.fx_expr.specs.Tree.{Tree}
-use Rattle.fx_expr.specs.Views.{expr_tree}
 use Rattle.fx_spec.specs.declared.refusal.Refusal.{Refusal}
-use Rattle.fx_spec.specs.CommandTree.{ActTree, CommandTree}
-use Rattle.fx_spec.specs.Move.{Answered, fetch_at}
-use Rattle.fx_spec.specs.Edit.{store_at}
+use Rattle.fx_spec.specs.CommandTree.{CommandTree}
+use Rattle.fx_spec.specs.Move.{fetch_at}
 use Rattle.fx_spec.specs.Place.{placed}
 use Rattle.fx_spec.specs.Task.{Ends}
-use Rattle.fx_spec.specs.Transaction.{On, run, or_stop, binding, taking, edits}
+use Rattle.fx_spec.specs.Transaction.{On, run, or_stop, binding}
 use Rattle.fx_spec.specs.Views.{spec_tree}
 use Rattle.fx_run.specs.Answering.{answered}
-use Rattle.fx_run.specs.Pursuing.{pursuit, put_all, came}
+use Rattle.fx_run.specs.Pursuing.{pursuit}
 use Rattle.fx_run.specs.Standing.{standing_of, came_by}
-use Rattle.fx_run.proofs.Steps.{step_answer, step_refused, step_stop, fetch_asks, store_asks, bound_came, store_read, read_on}
+use Rattle.fx_run.proofs.Steps.{step_answer, step_refused, step_stop, fetch_asks, bound_came}
 use Rattle.fx_store.specs.Rule.{Answer}
 use Rattle.fx_run.proofs.standing.Standing.fetch.Goals as goal
 
