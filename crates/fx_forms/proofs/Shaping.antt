@@ -105,7 +105,7 @@ shallow names (CommandTree.print e ∷ cs) built =
     omega (arith, shallow_expr names e (left_of (is_built_expr names e) (are_built names cs) built), shallow names cs (right_of (is_built_expr names e) (are_built names cs) built))
 shallow names (c ∷ cs) built = cc
 
-counted : (names : List (List ℕ)) (cs : List CommandTree) → are_built names cs ≡ true → count_block (block cs) ≡ length cs
+pub counted : (names : List (List ℕ)) (cs : List CommandTree) → are_built names cs ≡ true → count_block (block cs) ≡ length cs
 counted names [] built = refl
 counted names (CommandTree.act ActTree.down ∷ cs) built = omega (arith, counted names cs built)
 counted names (CommandTree.act ActTree.up ∷ cs) built = omega (arith, counted names cs built)

@@ -1,13 +1,12 @@
 -- A course that was pursued, and its attempt.
-use Rattle.std.proofs.Common.{◌≡◌, ℕ, Bool, List, [], ◌∷◌, ◌++◌, All, Contains, Option, Some, None, Result, Ok, Err, refl, ap, ◌∙◌, sym, subst}
+use Rattle.std.proofs.Common.{◌≡◌, ℕ, Bool, List, [], All, Contains, Option, Some, None, Result, Ok, Err, refl, ◌∙◌, sym, subst}
 use Rattle.std.specs.Prelude.{IfOk, IfErr}
 use Rattle.std.specs.Map.{keys_of}
-use Rattle.fx_store.specs.Rule.{follow, Found}
 use Rattle.fx_spec.specs.SpecTree.{SpecTree}
 use Rattle.fx_spec.specs.CommandTree.{CommandTree}
-use Rattle.fx_spec.specs.Plans.{Turn, txn_of}
+use Rattle.fx_spec.specs.Plans.{txn_of}
 use Rattle.fx_spec.specs.Order.{BaseTree}
-use Rattle.fx_spec.specs.Transaction.{Flow, On, Over, flow_end, flow_outputs}
+use Rattle.fx_spec.specs.Transaction.{Flow, flow_outputs}
 use Rattle.fx_spec.specs.declared.refusal.Refusal.{Refusal}
 use Rattle.fx_view.specs.declared.reader.Stop.{Stop}
 use Rattle.fx_view.specs.declared.reader.Stop.TheVariants as stop
@@ -20,10 +19,10 @@ use Rattle.fx_machine.specs.Explained.{IsExplained}
 use Rattle.fx_run.specs.declared.finishing.Finished.{Finished}
 use Rattle.fx_run.specs.declared.pursuing.Course.{Course}
 use Rattle.fx_run.specs.declared.standing.Standing.{Standing}
-use Rattle.fx_run.specs.Course.{pursued, came_of, end_of}
+use Rattle.fx_run.specs.Course.{pursued, came_of}
 use Rattle.fx_run.specs.Finishing.{KeepsAll, IsFinished, IsAttempt, Finishes}
 use Rattle.fx_run.specs.Pursuing.{Came, no_own}
-use Rattle.fx_run.specs.Running.{ReadsFit, Attempted, KeepsOn, Lacks, StoppedAt}
+use Rattle.fx_run.specs.Running.{ReadsFit, Attempted, KeepsOn, StoppedAt}
 use Rattle.fx_run.specs.Standing.{flow_by}
 use Rattle.fx_run.proofs.Explaining.{explained, next_needed, unread_needed, fit_again}
 

@@ -1,14 +1,13 @@
 -- The commands that come are of the built forms: their expressions give texts, and so do those after them.
-use Rattle.std.proofs.Common.{◌≡◌, ℕ, Bool, true, false, cond, not, ◌&&◌, ◌||◌, List, [], ◌∷◌, ◌++◌, map, Option, Some, None, unwrap_or, Result, Ok, Err, refl, ap, ◌∙◌, sym, subst}
+use Rattle.std.proofs.Common.{◌≡◌, ℕ, Bool, true, false, cond, not, ◌&&◌, ◌||◌, List, [], ◌∷◌, ◌++◌, Option, Some, None, unwrap_or, Result, Ok, Err, refl, ap, ◌∙◌, sym, subst}
 use Rattle.std.specs.Prelude.{bytes_eq, nat_eq, IfOk}
 use Rattle.std.specs.Cmp.Lexicographic.{pointwise}
 use Rattle.std.proofs.lemmas.Cmp.{nat_list_eq_equiv}
 use Rattle.std.proofs.lemmas.List.Folds.{list_any-append}
 use Rattle.fx_expr.specs.Bindings.{bound, newer_or}
-use Rattle.fx_expr.specs.Eval.{eval_of}
 use Rattle.fx_expr.specs.ExprTree.{ExprTree}
 use Rattle.fx_expr.specs.ShapeTree.{ShapeTree}
-use Rattle.fx_expr.specs.Shapes.{ValueHas, BindingsHave, HasShape}
+use Rattle.fx_expr.specs.Shapes.{ValueHas, BindingsHave}
 use Rattle.fx_expr.specs.Tree.{Tree}
 use Rattle.fx_expr.proofs.Shaping.{Bound, bound_has}
 use Rattle.fx_spec.specs.declared.refusal.Refusal.{Refusal}
@@ -36,6 +35,7 @@ all_str (b ∷ newer) x s e = at (bound (shapes_of newer) x) e (λ h. all_str ne
     last : (t : Bool) → cond t (Some ShapeTree.str) None ≡ Some s → s ≡ ShapeTree.str
     last true e = cc
     last false e = cc
+
     at : (o : Option ShapeTree) → newer_or o (cond (pointwise nat_eq b.0 x) (Some ShapeTree.str) None) ≡ Some s → (o ≡ Some s → s ≡ ShapeTree.str) → s ≡ ShapeTree.str
     at None e rest = last (pointwise nat_eq b.0 x) e
     at (Some t) e rest = rest e
@@ -46,9 +46,11 @@ named_str (b ∷ newer) x is = at (bound (shapes_of newer) x) refl (is_one_of (w
   where
     either : is_one_of (words_of newer) x || (bytes_eq x b.0 || false) ≡ true
     either = sym (list_any-append (bytes_eq x) (words_of newer) (b.0 ∷ [])) ∙ is
+
     this : (t : Bool) → t || false ≡ true → t ≡ true
     this true e = refl
     this false e = e
+
     at : (o : Option ShapeTree) → bound (shapes_of newer) x ≡ o → (t : Bool) → is_one_of (words_of newer) x ≡ t → (is_one_of (words_of newer) x ≡ true → bound (shapes_of newer) x ≡ Some ShapeTree.str) → newer_or o (cond (pointwise nat_eq b.0 x) (Some ShapeTree.str) None) ≡ Some ShapeTree.str
     at (Some s) e t f rest = ap (λ s. Some s) (all_str newer x s e)
     at None e true f rest = let wrong : None ≡ Some ShapeTree.str = sym e ∙ rest f in cc

@@ -1,5 +1,5 @@
 -- Reads that are kept once more: at each own path what was read there.
-use Rattle.std.proofs.Common.{◌≡◌, ◌≢◌, ◌⊎◌, inl, inr, ℕ, zero, suc, ◌+◌, ◌<◌, ◌≤◌, Bool, true, false, cond, List, [], ◌∷◌, ◌++◌, length, take, get_or, Option, Some, None, IsSome, Result, Ok, Err, refl, ap, ◌∙◌, sym, subst, arith}
+use Rattle.std.proofs.Common.{◌≡◌, ◌⊎◌, inl, inr, ℕ, zero, suc, ◌+◌, ◌≤◌, Bool, true, false, cond, List, [], ◌∷◌, ◌++◌, length, take, get_or, Option, Some, None, IsSome, Result, Ok, Err, refl, ap, ◌∙◌, sym, subst}
 use Rattle.std.specs.Prelude.{slice_get, IfOk}
 use Rattle.std.specs.Option.{option_map}
 use Rattle.std.specs.Ordering.{eq_by_cmp}
@@ -9,7 +9,6 @@ use Rattle.std.specs.Option.{unwrap_or}
 use Rattle.fx_base.specs.declared.NoMemory.{NoMemory}
 use Rattle.fx_store.specs.declared.node.Node.{Node}
 use Rattle.fx_store.specs.declared.changes.Change.{Change}
-use Rattle.fx_store.specs.Changes.{change_at}
 use Rattle.fx_store.specs.Names.{path_cmp}
 use Rattle.fx_store.proofs.Tables.{path_itself}
 use Rattle.fx_spec.proofs.Tasks.{eq_paths}
@@ -116,6 +115,7 @@ module _ {R : Type 0} (reads : R → ReadList) (complete : R → Bool) (vouches 
       at : (p : Path) → IsSome (own_at (take i own) p) ⊎ (p ≡ e.0) → IsRead kept' p
       at p (inl h) = more.before p (was.copy.all p h)
       at p (inr same) = subst (IsRead kept') (sym same) more.there
+
       now_known : (p : Path) (n : Option Node) → (known_of kept p ≡ Some n) ⊎ ((p ≡ e.0) × (n ≡ node)) → known_of (reads start) p ≡ Some n
       now_known p n (inl h) = was.copy.same p n h
       now_known p n (inr h) = ap (known_of (reads start)) h.0 ∙ (ap (λ rs. known_of rs e.0) (sym was.keeps.kept) ∙ (known ∙ ap (λ n. Some n) (sym h.1)))
@@ -137,5 +137,6 @@ net_of_copy own reads copied changes copy net = record {
         let here : known_of copied path ≡ Some x.0 = ap (option_map (λ (r : Option Node × ℕ). r.0)) e in
         let there : known_of reads path ≡ Some x.0 = copy.same path x.0 here in
         here ∙ (sym there ∙ known)
+
     known_again : (path : Path) (node was : Option Node) → own_at own path ≡ Some node → known_of reads path ≡ Some was → known_of copied path ≡ Some was
     known_again path node was own_is known = at path was (read_at copied path) refl (copy.all path (subst (λ o. IsSome o) (sym own_is) refl)) known

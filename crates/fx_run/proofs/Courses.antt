@@ -1,5 +1,5 @@
 -- Calls in a row that follow one rule: what is left of the rule decides what the whole comes to.
-use Rattle.std.proofs.Common.{◌≡◌, ℕ, Bool, List, [], ◌∷◌, Result, Ok, Err, refl, ap, ◌∙◌, sym, subst}
+use Rattle.std.proofs.Common.{◌≡◌, Bool, Result, Ok, Err, refl, sym}
 use Rattle.fx_store.specs.Rule.{Known, Ask, Answer, ◌>>=◌}
 use Rattle.fx_view.specs.declared.reader.Stop.{Stop}
 use Rattle.fx_view.specs.ReadList.{ReadList}

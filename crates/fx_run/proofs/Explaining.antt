@@ -1,6 +1,5 @@
 -- A transaction that was pursued over some reads: what it comes to on each filestore that agrees with them.
-use Rattle.std.proofs.Common.{◌≡◌, ◌≢◌, ℕ, Bool, true, false, cond, List, [], ◌∷◌, ◌++◌, Contains, All, Option, Some, None, IsSome, unwrap_or, Result, Ok, Err, refl, ap, ◌∙◌, sym, subst, ◌⊎◌, inl, inr}
-use Rattle.std.specs.Prelude.{◌↔◌}
+use Rattle.std.proofs.Common.{◌≡◌, ℕ, false, cond, List, [], ◌∷◌, ◌++◌, Contains, All, Option, Some, None, IsSome, unwrap_or, refl, ap, ◌∙◌, sym, subst, ◌⊎◌, inl, inr}
 use Rattle.std.specs.FinMap.{get}
 use Rattle.std.specs.Map.{keys_of}
 use Rattle.std.specs.Option.{option_map}
@@ -8,7 +7,7 @@ use Rattle.std.proofs.lemmas.List.Elements.{All-contains, Contains-append_left, 
 use Rattle.fx_store.specs.declared.node.Node.{Node}
 use Rattle.fx_store.specs.declared.changes.Change.{Change}
 use Rattle.fx_store.specs.Changes.{IsChanges, change_at}
-use Rattle.fx_store.specs.Rule.{Ask, answer, asked, Known, seen, changed, follow, Outcome, Found, Needs, AgreesWith, first_unknown}
+use Rattle.fx_store.specs.Rule.{answer, seen, changed, follow, Found, Needs, first_unknown}
 use Rattle.fx_store.specs.Whole.{Store, Nodes, IsWhole, over, over_nodes}
 use Rattle.fx_store.proofs.Overlays.{over-change_at}
 use Rattle.fx_store.proofs.Stores.{same_nodes, get-over_nodes}
@@ -17,18 +16,18 @@ use Rattle.fx_spec.specs.SpecTree.{SpecTree}
 use Rattle.fx_spec.specs.CommandTree.{CommandTree}
 use Rattle.fx_spec.specs.Plans.{Turn, txn_of}
 use Rattle.fx_spec.specs.Order.{BaseTree}
-use Rattle.fx_spec.specs.Task.{result, after, consulted, written, once}
-use Rattle.fx_spec.specs.Transaction.{Flow, flow_end, flow_outputs, is_done, outputs, end, way, kept, left, left_nodes, transaction}
+use Rattle.fx_spec.specs.Task.{result, after, consulted, written}
+use Rattle.fx_spec.specs.Transaction.{Flow, flow_end, flow_outputs, is_done, end, way, left_nodes, transaction}
 use Rattle.fx_spec.proofs.Tasks.{leaves_as_data}
 use Rattle.fx_view.specs.OwnList.{OwnList}
 use Rattle.fx_view.specs.ReadList.{ReadList}
 use Rattle.fx_view.specs.Own.{own_at, AreRead, IsNet}
 use Rattle.fx_view.specs.Reads.{read_at, known_of, IsRead, Agrees}
 use Rattle.fx_view.specs.Follows.{walked}
-use Rattle.fx_view.proofs.Growing.{Grows, Grows-reads}
+use Rattle.fx_view.proofs.Growing.{Grows-reads}
 use Rattle.fx_view.proofs.Rules.{walked_known, found_answer, found_asked, needs_asked, needs_first, needs_unknown}
 use Rattle.fx_machine.specs.declared.attempt.Attempt.{Attempt}
-use Rattle.fx_machine.specs.Explained.{RunsAs, IsNew, IsExplained}
+use Rattle.fx_machine.specs.Explained.{IsNew, IsExplained}
 use Rattle.fx_run.specs.Course.{pursued}
 use Rattle.fx_run.specs.Pursuing.{Came, no_own}
 use Rattle.fx_run.specs.Keeping.{AreKept}
@@ -39,7 +38,6 @@ use Rattle.fx_run.proofs.Stable.{stable_node}
 
 abbrev Path : Type 0
 Path = List (List ℕ)
-
 
 -- a filestore that agrees with reads agrees with the earlier ones
 pub agrees_before : (reads more : ReadList) (S : Store) → Agrees (reads ++ more) S → Agrees reads S
@@ -84,6 +82,7 @@ module _ (root : SpecTree) (t : List CommandTree) (reads : ReadList) (S : Store)
             known : (r : Option (Option Node × ℕ)) → IsSome r → (w : Option Node) × (option_map (λ (r : Option Node × ℕ). r.0) r ≡ Some w)
             known None h = cc
             known (Some r) h = (r.0, refl)
+
         at : (o : Option (Option Node)) → own_at c.own p ≡ o → (d : Option (Option Node)) → change_at changes p ≡ d → seen o (S p) ≡ unwrap_or d (S p)
         at None is None e = refl
         at None is (Some m) e = let set : own_at c.own p ≡ Some m = (net.sets p m e).0 in let wrong : None ≡ Some m = sym is ∙ set in cc
@@ -127,9 +126,9 @@ module _ (root : SpecTree) (t : List CommandTree) (reads : ReadList) (c : Came F
   done : (nodes : Nodes) (changes : List Change) → Agrees reads (get nodes) → end root t (get nodes) ≡ End.Done → IsNet c.own reads changes → IsChanges changes → left_nodes root t nodes ≡ over_nodes nodes changes
   done nodes changes agrees is net up =
       same_nodes (left_nodes root t nodes) (over_nodes nodes changes) (λ q.
-        leaves_as_data root t nodes q
-        ∙ (ap (λ b. cond b (after (get nodes) (transaction root t)) (get nodes) q) (ap is_done is)
-        ∙ (net_left root t reads (get nodes) agrees c found changes net up read q ∙ sym (get-over_nodes nodes changes q))))
+      leaves_as_data root t nodes q
+      ∙ (ap (λ b. cond b (after (get nodes) (transaction root t)) (get nodes) q) (ap is_done is)
+      ∙ (net_left root t reads (get nodes) agrees c found changes net up read q ∙ sym (get-over_nodes nodes changes q))))
 
   leaves : (nodes : Nodes) (changes : List Change) → Agrees reads (get nodes) → (e : End) → end root t (get nodes) ≡ e → AreKept e c.own reads changes → left_nodes root t nodes ≡ over_nodes nodes changes
   leaves nodes changes agrees End.Done is are = done nodes changes agrees is are.0 are.1

@@ -1,15 +1,13 @@
 -- The commands of a transaction, one after another: what is left of it from a command on.
-use Rattle.std.proofs.Common.{◌≡◌, ℕ, ◌+◌, Bool, true, false, ◌&&◌, List, [], ◌∷◌, length, drop, Option, Some, None, Result, Ok, Err, refl, ap, ◌∙◌, sym, subst}
-use Rattle.std.specs.Prelude.{slice_get, IfOk}
-use Rattle.fx_store.specs.Rule.{Ask, Answer, ◌>>=◌}
+use Rattle.std.proofs.Common.{◌≡◌, ℕ, ◌+◌, Bool, true, List, [], ◌∷◌, drop, Some, None, Ok, Err, refl, ap, ◌∙◌, sym, subst}
+use Rattle.std.specs.Prelude.{slice_get}
+use Rattle.fx_store.specs.Rule.{Ask, ◌>>=◌}
 use Rattle.fx_spec.specs.declared.refusal.Refusal.{Refusal}
 use Rattle.fx_spec.specs.SpecTree.{SpecTree}
-use Rattle.fx_spec.specs.CommandTree.{ActTree, CommandTree, block, count}
-use Rattle.fx_expr.specs.ShapeTree.{ShapeTree}
+use Rattle.fx_spec.specs.CommandTree.{CommandTree, block, count}
 use Rattle.fx_spec.specs.Task.{◌>=>◌}
-use Rattle.fx_spec.specs.Transaction.{Flow, On, Over, go_on, run, run_block, transaction}
+use Rattle.fx_spec.specs.Transaction.{Flow, go_on, run, run_block, transaction}
 use Rattle.fx_view.specs.declared.reader.Stop.{Stop}
-use Rattle.fx_view.specs.OwnList.{OwnList}
 use Rattle.fx_view.specs.ReadList.{ReadList}
 use Rattle.fx_view.specs.Own.{AreRead}
 use Rattle.fx_view.specs.Follows.{Follows}
@@ -18,10 +16,10 @@ use Rattle.fx_forms.specs.Built.{is_built_txn, are_built}
 use Rattle.fx_run.specs.declared.standing.Standing.{Standing}
 use Rattle.fx_run.specs.declared.pursuing.Course.{Course}
 use Rattle.fx_run.specs.Course.{pursued, came_of}
-use Rattle.fx_run.specs.Pursuing.{Came, came, no_own, pursuit}
-use Rattle.fx_run.specs.Standing.{Stands, address_of, standing_of, came_by, words_of, AwaitsBuilt, Awaits, IfOn, Steps}
+use Rattle.fx_run.specs.Pursuing.{Came, no_own, pursuit}
+use Rattle.fx_run.specs.Standing.{Stands, address_of, standing_of, came_by, words_of, AwaitsBuilt, Awaits, Steps}
 use Rattle.fx_run.proofs.Courses.{Goes, goes_on, goes_stop, goes_end}
-use Rattle.fx_run.proofs.Lists.{drop_at, drop_past}
+use Rattle.fx_run.proofs.Lists.{drop_at}
 use Rattle.fx_run.proofs.Places.{stands_at_root}
 use Rattle.fx_run.proofs.Pursuits.{pursuit-then}
 

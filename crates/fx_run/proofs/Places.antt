@@ -1,11 +1,11 @@
 -- Where the engine stands.
-use Rattle.std.proofs.Common.{◌≡◌, ℕ, List, [], ◌∷◌, Some, None, Ok, refl, sym, ap, ◌∙◌, subst}
+use Rattle.std.proofs.Common.{◌≡◌, ℕ, List, [], Some, None, Ok, refl, sym, ap, ◌∙◌, subst}
 use Rattle.fx_store.specs.Faults.{extended}
 use Rattle.fx_store.specs.Rule.{Answer}
 use Rattle.fx_expr.specs.ExprTree.{ExprTree}
 use Rattle.fx_spec.specs.SpecTree.{SpecTree}
 use Rattle.fx_spec.specs.Describe.{extension}
-use Rattle.fx_spec.specs.Place.{PlaceTree, Down, place, placed, at_path}
+use Rattle.fx_spec.specs.Place.{place, at_path}
 use Rattle.fx_run.specs.Standing.{Stands}
 
 pub stands_at_root : (root : SpecTree) → Stands root None

@@ -1,9 +1,9 @@
 -- A transaction of a plan is one of the plan's: it is of the built forms where the plan is, and has not too many commands.
-use Rattle.std.proofs.Common.{◌≡◌, ℕ, zero, suc, ◌+◌, ◌≤◌, ◌<◌, Bool, true, false, ◌&&◌, List, [], ◌∷◌, length, All, Option, Some, None, refl, sym, ap, ◌∙◌, subst, arith}
+use Rattle.std.proofs.Common.{◌≡◌, ℕ, zero, suc, ◌<◌, Bool, true, List, [], ◌∷◌, length, All, Some, refl, subst}
 use Rattle.std.specs.Prelude.{slice_get, slice_index_or, ◌^◌}
 use Rattle.std.specs.List.{list_all}
 use Rattle.std.proofs.lemmas.List.Elements.{All-nil, All-cons, All-head, All-tail}
-use Rattle.fx_spec.specs.CommandTree.{CommandTree, block, count_block}
+use Rattle.fx_spec.specs.CommandTree.{CommandTree}
 use Rattle.fx_spec.specs.Plans.{Turn, IsPlan, script_of, txn_of}
 use Rattle.fx_spec.specs.WellShaped.{IsTransaction, IsScript}
 use Rattle.fx_forms.specs.Built.{is_built_txn, is_built_script, is_built_plan}

@@ -1,11 +1,11 @@
 -- Pursuing a task: one part and then the next, and what it comes to at a filestore that agrees with what is known.
-use Rattle.std.proofs.Common.{◌≡◌, Bool, true, false, cond, List, [], ◌∷◌, ◌++◌, Option, Some, None, Result, Ok, Err, refl, ap, ◌∙◌, sym, subst, ℕ}
+use Rattle.std.proofs.Common.{◌≡◌, Bool, true, false, cond, List, [], ◌∷◌, Option, Some, None, Result, Ok, Err, refl, ap, ◌∙◌, sym, subst, ℕ}
 use mathlib.Core.Path.{fun_ext}
 use Rattle.std.specs.Ordering.{eq_by_cmp}
 use Rattle.fx_store.specs.declared.node.Node.{Node}
 use Rattle.fx_store.specs.declared.changes.Change.{Change}
 use Rattle.fx_store.specs.Names.{path_cmp}
-use Rattle.fx_store.specs.Rule.{Ask, Answer, Look, ◌>>=◌, answer, asked, Known, seen, if_known, follow, changed, Outcome, Found, Needs}
+use Rattle.fx_store.specs.Rule.{Ask, Answer, Look, ◌>>=◌, answer, asked, Known, seen, if_known, follow, changed}
 use Rattle.fx_store.specs.Whole.{Store, update, over}
 use Rattle.fx_spec.specs.Task.{Task, Ends, Looks, Sets, result, after, consulted, asking, ◌>=>◌}
 use Rattle.fx_spec.proofs.Tasks.{eq_paths}
@@ -16,7 +16,7 @@ use Rattle.fx_view.specs.Reads.{known_of}
 use Rattle.fx_view.specs.declared.reader.Stop.{Stop}
 use Rattle.fx_view.specs.declared.reader.Stop.TheVariants as stop
 use Rattle.fx_view.specs.Follows.{walked, walked_on, Went, Follows}
-use Rattle.fx_run.specs.Pursuing.{Came, came, put_all, no_own, topped, pursuit}
+use Rattle.fx_run.specs.Pursuing.{Came, put_all, no_own, topped, pursuit}
 
 abbrev Path : Type 0
 Path = List (List ℕ)
@@ -64,7 +64,6 @@ pursuit-then own (Sets changes t) next = pursuit-then (put_all own changes) t ne
 
 -- ---- own changes that are set
 
-
 apart : (p q r : Path) → eq_by_cmp path_cmp p q ≡ true → eq_by_cmp path_cmp p r ≡ true → eq_by_cmp path_cmp q r ≡ true
 apart p q r e f = subst (λ x. eq_by_cmp path_cmp x r ≡ true) (eq_paths p q e) f
 
@@ -77,11 +76,13 @@ own_at-put (e ∷ es) q n p = at (eq_by_cmp path_cmp q e.0) refl (own_at-put es 
     other true false x y never = refl
     other false true x y never = refl
     other false false x y never = refl
+
     both : (a b : Bool) (x y : Option (Option Node)) → a ≡ b → cond b (Some n) y ≡ cond a (Some n) (cond b x y)
     both true true x y is = refl
     both true false x y is = cc
     both false true x y is = cc
     both false false x y is = refl
+
     at : (c : Bool) → eq_by_cmp path_cmp q e.0 ≡ c → own_at (put_own es q n) p ≡ cond (eq_by_cmp path_cmp p q) (Some n) (own_at es p)
         → own_at (cond c ((e.0, n) ∷ es) (e ∷ put_own es q n)) p ≡ cond (eq_by_cmp path_cmp p q) (Some n) (cond (eq_by_cmp path_cmp p e.0) (Some e.1) (own_at es p))
     at true is rest = both (eq_by_cmp path_cmp p q) (eq_by_cmp path_cmp p e.0) (Some e.1) (own_at es p) (ap (eq_by_cmp path_cmp p) (eq_paths q e.0 is))

@@ -1,5 +1,5 @@
 -- Nodes that are not different are equal.
-use Rattle.std.proofs.Common.{◌≡◌, ◌≢◌, ℕ, Bool, true, false, List, [], ◌∷◌, Option, Some, None, refl, ap, ◌∙◌, sym, subst}
+use Rattle.std.proofs.Common.{◌≡◌, ◌≢◌, ℕ, Bool, true, false, List, [], ◌∷◌, Option, Some, None, refl, ap, ◌∙◌, sym}
 use Rattle.std.specs.Ordering.{eq_by_cmp}
 use Rattle.fx_store.specs.declared.node.Node.{Node}
 use Rattle.fx_store.specs.declared.node.Node.TheVariants.{File, Dir, Link}
@@ -19,7 +19,6 @@ stable_path p q h = at (eq_by_cmp path_cmp p q) refl
 
 stable_text : (a b : List ℕ) → Stable a b
 stable_text a b h = let same : a ∷ [] ≡ b ∷ [] = stable_path (a ∷ []) (b ∷ []) (λ f. h (λ e. f (ap (λ x. x ∷ []) e))) in cc
-
 
 pub stable_node : (m n : Option Node) → Stable m n
 stable_node None None h = refl

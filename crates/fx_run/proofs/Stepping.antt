@@ -1,12 +1,11 @@
 -- What each call of a command says, as one record.
-use Rattle.std.proofs.Common.{◌≡◌, ℕ, Bool, List, [], ◌∷◌, Option, Some, None, Result, Ok, Err, refl, ap, ◌∙◌, sym, subst}
+use Rattle.std.proofs.Common.{◌≡◌, ℕ, Bool, List, Option, Result, Ok, Err, ap, ◌∙◌, sym, subst}
 use Rattle.std.specs.Prelude.{IfOk}
 use Rattle.fx_store.specs.Rule.{Ask}
-use Rattle.fx_expr.specs.ExprTree.{ExprTree}
 use Rattle.fx_expr.specs.ShapeTree.{ShapeTree}
 use Rattle.fx_spec.specs.declared.refusal.Refusal.{Refusal}
 use Rattle.fx_spec.specs.SpecTree.{SpecTree}
-use Rattle.fx_spec.specs.CommandTree.{ActTree, CommandTree}
+use Rattle.fx_spec.specs.CommandTree.{CommandTree}
 use Rattle.fx_spec.specs.Transaction.{Flow, run}
 use Rattle.fx_view.specs.declared.reader.Stop.{Stop}
 use Rattle.fx_view.specs.declared.reader.Stop.TheVariants as stop
@@ -16,8 +15,8 @@ use Rattle.fx_view.specs.Own.{AreRead}
 use Rattle.fx_view.specs.Follows.{Follows}
 use Rattle.fx_run.specs.declared.standing.Standing.{Standing}
 use Rattle.fx_run.specs.Pursuing.{Came, came, no_own, pursuit}
-use Rattle.fx_run.specs.Standing.{Stands, standing_of, flow_by, came_by, IsQuiet, Binds, AwaitsBuilt, Steps}
-use Rattle.fx_run.proofs.Awaiting.{Passes, passes_store, awaits_passed, awaits_fetched}
+use Rattle.fx_run.specs.Standing.{Stands, standing_of, flow_by, came_by, IsQuiet, Binds, Steps}
+use Rattle.fx_run.proofs.Awaiting.{Passes, awaits_passed, awaits_fetched}
 use Rattle.fx_run.proofs.Steps.{step_quiet, step_none, read_on}
 
 module _ {R : Type 0} (reads : R → ReadList) (complete : R → Bool) (vouches : R → R → ReadList → Type 0) (root : SpecTree) (i : ℕ) (given c : CommandTree) (old new : Standing) (is : given ≡ c) where

@@ -10,21 +10,20 @@ use Rattle.fx_store.specs.declared.changes.Change.{Change}
 use Rattle.fx_store.specs.Changes.{changed_paths}
 use Rattle.fx_store.specs.Names.{path_cmp}
 use Rattle.fx_store.specs.Resolve.{resolve}
-use Rattle.fx_store.specs.Rule.{Known, Ask, Answer, Look, ◌>>=◌, look_all, follow, Found, Needs, seen, if_known, AllKnown}
+use Rattle.fx_store.specs.Rule.{Known, Ask, Answer, Look, ◌>>=◌, look_all, follow, Found, seen, if_known, AllKnown}
 use Rattle.fx_expr.specs.Eval.{eval_of}
 use Rattle.fx_expr.specs.ExprTree.{ExprTree}
 use Rattle.fx_expr.specs.Sets.{with_text}
 use Rattle.fx_expr.specs.ShapeTree.{ShapeTree}
 use Rattle.fx_expr.specs.Tree.{Tree}
 use Rattle.fx_spec.specs.declared.refusal.Refusal.{Refusal}
-use Rattle.fx_spec.specs.declared.refusal.End.{End}
 use Rattle.fx_spec.specs.SpecTree.{SpecTree}
 use Rattle.fx_spec.specs.CommandTree.{ActTree, CommandTree}
 use Rattle.fx_spec.specs.Describe.{Bindings}
-use Rattle.fx_spec.specs.Edit.{store_at, store_landed, replaced, make, made, unless_deep, is_too_deep, set_to, names_of, stored_node, follows_last, is_content}
+use Rattle.fx_spec.specs.Edit.{store_at, store_landed, replaced, make, made, unless_deep, is_too_deep, set_to, names_of, follows_last, is_content}
 use Rattle.fx_spec.specs.Move.{Answered, unrefused, evaluated, needed, at_place, fetch_at}
-use Rattle.fx_spec.specs.Place.{PlaceTree, Address, place, placed}
-use Rattle.fx_spec.specs.Task.{Task, Ends, Looks, Sets, asking}
+use Rattle.fx_spec.specs.Place.{PlaceTree, placed}
+use Rattle.fx_spec.specs.Task.{Task, Ends, Looks, asking}
 use Rattle.fx_spec.specs.Transaction as txn
 use Rattle.fx_spec.specs.Transaction.{Flow, On, Over, edits, editing, or_stop, taking, run}
 use Rattle.fx_spec.proofs.Tasks.{eq_paths}
@@ -35,7 +34,7 @@ use Rattle.fx_view.specs.OwnList.{OwnList}
 use Rattle.fx_view.specs.ReadList.{ReadList}
 use Rattle.fx_view.specs.Own.{own_at, put_own, AreRead}
 use Rattle.fx_view.specs.Reads.{read_at, known_of, IsRead}
-use Rattle.fx_view.specs.Follows.{Went, Follows}
+use Rattle.fx_view.specs.Follows.{Follows}
 use Rattle.fx_view.proofs.Calls.{follows_answer, follows_refused, follows_same, follows_stop, follows_then_answer, follows_then_refused}
 use Rattle.fx_view.proofs.Growing.{read_at-more}
 use Rattle.fx_run.specs.Answering.{answered}

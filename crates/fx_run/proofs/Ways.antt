@@ -8,7 +8,6 @@ use Rattle.std.proofs.lemmas.List.Elements.{All-nil, All-cons, All-head, All-tai
 use Rattle.fx_store.specs.declared.node.Node.{Node}
 use Rattle.fx_store.specs.Names.{path_cmp}
 use Rattle.fx_store.specs.Rule.{Known, AllKnown, first_unknown}
-use Rattle.fx_store.proofs.Tables.{path_itself}
 use Rattle.fx_spec.specs.Task.{once}
 use Rattle.fx_spec.proofs.Tasks.{eq_paths}
 use Rattle.fx_view.specs.ReadList.{ReadList}
@@ -104,9 +103,11 @@ read_among [] (e ∷ es) p h = inr (at (eq_by_cmp path_cmp p e.0) refl h (λ k. 
   where
     none : IsRead [] p → ⊥
     none nil = cc
+
     later : IsRead [] p ⊎ Contains (keys_of es) p → Contains (keys_of es) p
     later (inl nil) = absurd (none nil)
     later (inr k) = k
+
     at : (b : Bool) → eq_by_cmp path_cmp p e.0 ≡ b → IsSome (cond b (Some e.1) (read_at es p)) → (IsRead es p → Contains (keys_of es) p) → Contains (e.0 ∷ keys_of es) p
     at true is k rest = subst (Contains (e.0 ∷ keys_of es)) (sym (eq_paths p e.0 is)) (Contains-first e.0 (keys_of es))
     at false is k rest = Contains-later e.0 (keys_of es) p (rest k)

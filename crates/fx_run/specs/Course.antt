@@ -1,7 +1,6 @@
 -- Where the commands of a transaction have come to.
-use Rattle.std.specs.Prelude.{◌≡◌, List, []}
+use Rattle.std.specs.Prelude.{List, []}
 use Rattle.fx_spec.specs.declared.refusal.End.{End}
-use Rattle.fx_spec.specs.Order.{BaseTree}
 use Rattle.fx_spec.specs.SpecTree.{SpecTree}
 use Rattle.fx_spec.specs.CommandTree.{CommandTree}
 use Rattle.fx_spec.specs.Transaction.{Flow, flow_end, transaction}

@@ -49,7 +49,12 @@ impl Edits {
     }
 
     /// The changes after this one.
-    pub(crate) fn after(alloc: Global, path: Path, node: Node, rest: Edits) -> Result<Edits, NoMemory>
+    pub(crate) fn after(
+        alloc: Global,
+        path: Path,
+        node: Node,
+        rest: Edits,
+    ) -> Result<Edits, NoMemory>
         ensures { IfOk result (λ edits. edits ≡ change_to path node ∷ rest) }
     {
         let mut edits = Edits::new(alloc);

@@ -34,7 +34,11 @@ fn keep(alloc: Global, kept: &mut Reads, path: &Path, node: Option<Node>) -> Res
 }
 
 /// What was read at a path that was read before.
-fn read_again<R: Reader>(alloc: Global, reader: &mut R, path: &Path) -> Result<Option<Node>, NoMemory>
+fn read_again<R: Reader>(
+    alloc: Global,
+    reader: &mut R,
+    path: &Path,
+) -> Result<Option<Node>, NoMemory>
     requires { IsRead (R.reads reader.old) path.now }
     ensures node { IfOk result (λ node. known_of (R.reads reader.old) path.now ≡ Some node) }
     ensures kept { KeepsAll R.reads R.complete R.vouches reader.old reader.new }
@@ -82,7 +86,11 @@ fn done<R: Reader>(alloc: Global, reader: &mut R, overlay: Overlay) -> Result<Ch
 }
 
 /// Finishes a course: the reader keeps its reads.
-pub(crate) fn finish<R: Reader>(alloc: Global, reader: &mut R, course: Course) -> Result<Finished, NoMemory>
+pub(crate) fn finish<R: Reader>(
+    alloc: Global,
+    reader: &mut R,
+    course: Course,
+) -> Result<Finished, NoMemory>
     requires { AreRead course.standing.overlay (R.reads reader.old) }
     ensures kept { KeepsAll R.reads R.complete R.vouches reader.old reader.new }
     ensures finished { IfOk result (IsFinished course (R.reads reader.old)) }
@@ -93,7 +101,9 @@ pub(crate) fn finish<R: Reader>(alloc: Global, reader: &mut R, course: Course) -
         refusal,
     } = course;
     let Standing {
-        overlay, outputs, ..
+        overlay,
+        outputs,
+        ..
     } = standing;
     match refusal {
         None => match done(alloc, reader, overlay) {

@@ -71,7 +71,12 @@ pub(crate) fn made(
 }
 
 /// The names from an index on, after these.
-fn copy_rest(alloc: Global, first: Vec<Name>, names: &Names, from: u64) -> Result<Vec<Name>, NoMemory>
+fn copy_rest(
+    alloc: Global,
+    first: Vec<Name>,
+    names: &Names,
+    from: u64,
+) -> Result<Vec<Name>, NoMemory>
     requires { from ≤ length names.now }
     ensures { IfOk result (λ all. all.items ≡ first.items ++ drop from names.now) }
 {

@@ -37,7 +37,11 @@ pub(crate) struct Standing {
 }
 
 /// The value of a command's own expression.
-fn evaluated(alloc: Global, expr: &Expr, variables: &Env) -> Result<Result<Value, Refusal>, NoMemory>
+fn evaluated(
+    alloc: Global,
+    expr: &Expr,
+    variables: &Env,
+) -> Result<Result<Value, Refusal>, NoMemory>
     requires { IsWellShaped variables.now (expr_tree expr.now) }
     ensures { IfOk result (λ r. move.evaluated (eval_of variables.now (expr_tree expr.now)) ≡ answered tree_of r) }
 {
@@ -258,7 +262,12 @@ impl Standing {
     }
 
     /// `print(e)`: the value is one output more.
-    fn print(&mut self, alloc: Global, root: &Spec, expr: &Expr) -> Result<Option<Refusal>, NoMemory>
+    fn print(
+        &mut self,
+        alloc: Global,
+        root: &Spec,
+        expr: &Expr,
+    ) -> Result<Option<Refusal>, NoMemory>
         requires { IsWellShaped self.old.variables (expr_tree expr.now) }
         ensures quiet { IfOk result (IsQuiet (spec_tree root.now) (CommandTree.print (expr_tree expr.now)) self.old self.new) }
         ensures below { self.new.below ≡ self.old.below }

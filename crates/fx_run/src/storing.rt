@@ -44,7 +44,12 @@ fn rewritten(alloc: Global, path: Path, bytes: Bytes) -> Result<Edits, NoMemory>
 }
 
 /// The change at a path where this stands: a file alone has its content replaced.
-fn replaced(alloc: Global, path: Path, bytes: Bytes, found: Option<Node>) -> Result<Result<Edits, Refusal>, NoMemory>
+fn replaced(
+    alloc: Global,
+    path: Path,
+    bytes: Bytes,
+    found: Option<Node>,
+) -> Result<Result<Edits, Refusal>, NoMemory>
     ensures { IfOk result (λ r. rule.Answer (answered (λ e. e) r) ≡ edit.replaced path (File bytes) found) }
 {
     match found {

@@ -24,20 +24,20 @@ pub returns-in-Err-clause-follows : goal.returns-in-Err-clause-follows
 returns-in-Err-clause-follows g c =
     let r = g.R.Reader in
     pursuing_stops r.reads r.complete r.vouches (spec_tree c.args.root.now) c.args.commands.now c.args.reader.now c.pursuing.i (command_tree c.in-Some.command.now) c.pursuing.standing c.step.new.self c.pursuing.reader c.step.new.reader (sym c.in-Some.ensures) c.pursuing.invariant c.in-Err.stop
-        (subst (λ k. Steps r.reads r.complete r.vouches (spec_tree c.args.root.now) c.pursuing.i (command_tree c.in-Some.command.now) c.pursuing.standing c.step.new.self c.pursuing.reader c.step.new.reader k) c.in-Err.is c.step.ensures)
+    (subst (λ k. Steps r.reads r.complete r.vouches (spec_tree c.args.root.now) c.pursuing.i (command_tree c.in-Some.command.now) c.pursuing.standing c.step.new.self c.pursuing.reader c.step.new.reader k) c.in-Err.is c.step.ensures)
 
 pub returns-in-Some-step-clause-follows : goal.returns-in-Some-step-clause-follows
 returns-in-Some-step-clause-follows g c =
     let r = g.R.Reader in
     (pursuing_refused r.reads r.complete r.vouches (spec_tree c.args.root.now) c.args.commands.now c.args.reader.now c.pursuing.i (command_tree c.in-Some.command.now) c.pursuing.standing c.step.new.self c.pursuing.reader c.step.new.reader (sym c.in-Some.ensures) c.pursuing.invariant c.in-Some-step.refusal
-        (record { standing = c.step.new.self; number = c.pursuing.i; refusal = Some c.in-Some-step.refusal }) refl
-        (subst (λ k. Steps r.reads r.complete r.vouches (spec_tree c.args.root.now) c.pursuing.i (command_tree c.in-Some.command.now) c.pursuing.standing c.step.new.self c.pursuing.reader c.step.new.reader k) (c.in-Ok.is ∙ ap (λ s. Ok s) c.in-Some-step.is) c.step.ensures)).0
+    (record { standing = c.step.new.self; number = c.pursuing.i; refusal = Some c.in-Some-step.refusal }) refl
+    (subst (λ k. Steps r.reads r.complete r.vouches (spec_tree c.args.root.now) c.pursuing.i (command_tree c.in-Some.command.now) c.pursuing.standing c.step.new.self c.pursuing.reader c.step.new.reader k) (c.in-Ok.is ∙ ap (λ s. Ok s) c.in-Some-step.is) c.step.ensures)).0
 
 pub pursuing-preserved : goal.pursuing-preserved
 pursuing-preserved g c =
     let r = g.R.Reader in
     pursuing_on r.reads r.complete r.vouches (spec_tree c.args.root.now) c.args.commands.now c.args.reader.now c.pursuing.i (command_tree c.in-Some.command.now) c.pursuing.standing c.step.new.self c.pursuing.reader c.step.new.reader (sym c.in-Some.ensures) c.pursuing.invariant
-        (subst (λ k. Steps r.reads r.complete r.vouches (spec_tree c.args.root.now) c.pursuing.i (command_tree c.in-Some.command.now) c.pursuing.standing c.step.new.self c.pursuing.reader c.step.new.reader k) (c.in-Ok.is ∙ ap (λ s. Ok s) c.in-None-step.is) c.step.ensures)
+    (subst (λ k. Steps r.reads r.complete r.vouches (spec_tree c.args.root.now) c.pursuing.i (command_tree c.in-Some.command.now) c.pursuing.standing c.step.new.self c.pursuing.reader c.step.new.reader k) (c.in-Ok.is ∙ ap (λ s. Ok s) c.in-None-step.is) c.step.ensures)
 
 pub returns-clause-follows : goal.returns-clause-follows
 returns-clause-follows g c =

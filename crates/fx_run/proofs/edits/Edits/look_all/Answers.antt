@@ -1,4 +1,4 @@
-use Rattle.std.proofs.Common.{◌≡◌, ◌+◌, ◌∷◌, Option, List, ap, sym, subst, drop, get_or, length, arith}
+use Rattle.std.proofs.Common.{◌≡◌, ◌+◌, Option, List, ap, subst, drop, get_or, length, arith}
 use Rattle.std.proofs.lemmas.List.{drop_all}
 use Rattle.fx_store.specs.declared.changes.Change.{Change}
 use Rattle.fx_store.specs.declared.node.Node.{Node}
@@ -16,7 +16,7 @@ returns-in-Err g c =
     let cs = c.args.self.now in
     let here = drop_at cs c.loop-i.i c.index.result.now (at_index cs c.loop-i.i c.index.result.now (omega (arith, c.loop-i-test.true, c.len-i-end.ensures, ap (λ (cs : List Change). length cs) c.self.view_is)) (subst (λ cs. c.index.result.now ≡ get_or cs c.loop-i.i c.index.result.now) c.self.view_is c.index.ensures)) in
     goes_stop r.reads r.complete r.vouches (λ (u : Unit {0}). u) (own_at c.args.overlay.now) c.args.reader.now c.loop-i.reader (looking (changed_paths c.args.self.now)) (looking (changed_paths (drop c.loop-i.i c.args.self.now))) c.loop-i.invariant
-        (λ (n : Option Node). n) c.look.new.reader (look c.index.result.now.path) (λ (n : Option Node). looking (changed_paths (drop (c.loop-i.i + 1) c.args.self.now))) c.in-Err.stop (ap (λ (cs : List Change). looking (changed_paths cs)) here) c.in-Err.ensures
+    (λ (n : Option Node). n) c.look.new.reader (look c.index.result.now.path) (λ (n : Option Node). looking (changed_paths (drop (c.loop-i.i + 1) c.args.self.now))) c.in-Err.stop (ap (λ (cs : List Change). looking (changed_paths cs)) here) c.in-Err.ensures
 
 pub loop-i-preserved : goal.loop-i-preserved
 loop-i-preserved g c =
@@ -24,10 +24,10 @@ loop-i-preserved g c =
     let cs = c.args.self.now in
     let here = drop_at cs c.loop-i.i c.index.result.now (at_index cs c.loop-i.i c.index.result.now (omega (arith, c.loop-i-test.true, c.len-i-end.ensures, ap (λ (cs : List Change). length cs) c.self.view_is)) (subst (λ cs. c.index.result.now ≡ get_or cs c.loop-i.i c.index.result.now) c.self.view_is c.index.ensures)) in
     goes_on r.reads r.complete r.vouches (λ (u : Unit {0}). u) (own_at c.args.overlay.now) c.args.reader.now c.loop-i.reader (looking (changed_paths c.args.self.now)) (looking (changed_paths (drop c.loop-i.i c.args.self.now))) c.loop-i.invariant
-        (λ (n : Option Node). n) c.look.new.reader (look c.index.result.now.path) (λ (n : Option Node). looking (changed_paths (drop (c.loop-i.i + 1) c.args.self.now))) c.in-Ok.node (ap (λ (cs : List Change). looking (changed_paths cs)) here) c.in-Ok.ensures
+    (λ (n : Option Node). n) c.look.new.reader (look c.index.result.now.path) (λ (n : Option Node). looking (changed_paths (drop (c.loop-i.i + 1) c.args.self.now))) c.in-Ok.node (ap (λ (cs : List Change). looking (changed_paths cs)) here) c.in-Ok.ensures
 
 pub returns : goal.returns
 returns g c =
     let r = g.R.Reader in
     goes_end r.reads r.complete r.vouches (λ (u : Unit {0}). u) (own_at c.args.overlay.now) c.args.reader.now c.loop-i.reader (looking (changed_paths c.args.self.now)) (looking (changed_paths (drop c.loop-i.i c.args.self.now))) c.loop-i.invariant
-        tt (ap (λ (cs : List Change). looking (changed_paths cs)) (drop_all c.loop-i.i c.args.self.now (omega (arith, c.loop-i-test.false, c.len-i-end.ensures, ap (λ (cs : List Change). length cs) c.self.view_is))))
+    tt (ap (λ (cs : List Change). looking (changed_paths cs)) (drop_all c.loop-i.i c.args.self.now (omega (arith, c.loop-i-test.false, c.len-i-end.ensures, ap (λ (cs : List Change). length cs) c.self.view_is))))

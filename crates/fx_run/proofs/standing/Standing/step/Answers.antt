@@ -1,7 +1,7 @@
 use Rattle.std.proofs.Common.{ap, subst, sym}
 use Rattle.fx_expr.specs.Views.{expr_tree, shape_tree}
-use Rattle.fx_spec.specs.CommandTree.{ActTree, CommandTree}
-use Rattle.fx_spec.specs.Views.{act_tree, command_tree, spec_tree}
+use Rattle.fx_spec.specs.CommandTree.{CommandTree}
+use Rattle.fx_spec.specs.Views.{command_tree, spec_tree}
 use Rattle.fx_run.specs.Standing.{Awaits, Stands, Steps}
 use Rattle.fx_run.proofs.Awaiting.{passes_print, print_gives, fetch_shape_is}
 use Rattle.fx_run.proofs.Stepping.{quiet_steps, none_steps, fetch_steps}
