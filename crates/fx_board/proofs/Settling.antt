@@ -279,30 +279,33 @@ starts base nodes whole plan same = record {
   after = same;
 }
 
--- an attempt that no entry stands in the way of: its reads are fresh, and with it the log is one again
+-- with an attempt whose reads are fresh the log is one again
 pub record IsReady (base : Base) (entries : List Entry) (nodes : Nodes) (a : Attempt) : Type 0 where
-  pub fresh : IsFreshReads (base_tree base) (order_of entries) a.reads
   pub whole : IsWhole (over (get nodes) a.changes)
   pub board : IsBoard base (entries ++ entry_of a ∷ []) (over_nodes nodes a.changes)
 
 module _ (base : Base) (entries : List Entry) (nodes : Nodes) (board : IsBoard base entries nodes) (a : Attempt) where
-  ready_at : IsExplained (base_tree base) a → a.txn ≡ next_number (order_of entries) a.shell → AreTrueReads (base_tree base) (order_of entries) a.reads → ((entry : ℕ) (path : Path) → IsMarked entries a.reads entry path → ⊥) → IsChanges a.changes → IsReady base entries nodes a
-  ready_at explained next true_ none up =
-      let fresh : IsFreshReads (base_tree base) (order_of entries) a.reads = fresh_of base entries nodes board a.reads none in
+  ready_at : IsExplained (base_tree base) a → a.txn ≡ next_number (order_of entries) a.shell → AreTrueReads (base_tree base) (order_of entries) a.reads → IsFreshReads (base_tree base) (order_of entries) a.reads → IsChanges a.changes → IsReady base entries nodes a
+  ready_at explained next true_ fresh up =
       let agrees : Agrees a.reads (get (state (base_tree base) (order_of entries) (length (order_of entries)))) = agrees_now (base_tree base) (order_of entries) a.reads true_ fresh in
       record {
-        fresh = fresh;
         whole = subst (λ (n : Nodes). IsWhole (over (get n) a.changes)) (sym board.after) (next_whole (base_tree base) (order_of entries) a explained next board.log.loaded agrees up);
         board = settles base entries nodes a board explained next agrees up;
       }
 
-  pub ready : (log : Log) → log_of base entries ≡ log → IsExplained log.base a → a.txn ≡ next_number log.order a.shell → AreTrueReads log.base log.order a.reads → (read : List Entry) → read ≡ entries → ((entry : ℕ) (path : Path) → IsMarked read a.reads entry path → ⊥) → IsChanges a.changes → IsReady base entries nodes a
-  ready log view explained next true_ read same none =
+  pub ready : (log : Log) → log_of base entries ≡ log → IsExplained log.base a → a.txn ≡ next_number log.order a.shell → AreTrueReads log.base log.order a.reads → IsFreshReads log.base log.order a.reads → IsChanges a.changes → IsReady base entries nodes a
+  ready log view explained next true_ fresh =
       ready_at (subst (λ (l : Log). IsExplained l.base a) (sym view) explained) (subst (λ (l : Log). a.txn ≡ next_number l.order a.shell) (sym view) next) (subst (λ (l : Log). AreTrueReads l.base l.order a.reads) (sym view) true_)
-      (subst (λ (es : List Entry). (entry : ℕ) (path : Path) → IsMarked es a.reads entry path → ⊥) same none)
+      (subst (λ (l : Log). IsFreshReads l.base l.order a.reads) (sym view) fresh)
+
+  -- no entry in the way: the reads are fresh
+  pub is_fresh : (log : Log) → log_of base entries ≡ log → (read : List Entry) → read ≡ entries → ((entry : ℕ) (path : Path) → IsMarked read a.reads entry path → ⊥) → IsFreshReads log.base log.order a.reads
+  is_fresh log view read same none =
+      subst (λ (l : Log). IsFreshReads l.base l.order a.reads) view (fresh_of base entries nodes board a.reads (subst (λ (es : List Entry). (entry : ℕ) (path : Path) → IsMarked es a.reads entry path → ⊥) same none))
 
   -- a refusal for an entry in the way
-  pub refused : (log : Log) → log_of base entries ≡ log → (entry : ℕ) (path : Path) (r : Settle) → IsMarked entries a.reads entry path → IsConflict entry path a r → RefusedAs log log a r
-  refused log view entry path (settle.NoMemory back) marked c = (c, refl)
-  refused log view entry path (settle.Conflict e p back) marked c =
-      (c.2, refl, subst (λ (l : Log). IsStaleRead l.base l.order a.reads e p) view (stale_of base entries nodes board a.reads e p (subst (λ e. IsMarked entries a.reads e p) (sym c.0) (subst (IsMarked entries a.reads entry) (sym c.1) marked))))
+  pub refused : (log : Log) → log_of base entries ≡ log → (read : List Entry) → read ≡ entries → (entry : ℕ) (path : Path) (r : Settle) → IsMarked read a.reads entry path → IsConflict entry path a r → RefusedAs log log a r
+  refused log view read same entry path (settle.NoMemory back) marked c = (c, refl)
+  refused log view read same entry path (settle.Conflict e p back) marked c =
+      let own : IsMarked entries a.reads entry path = subst (λ (es : List Entry). IsMarked es a.reads entry path) same marked in
+      (c.2, refl, subst (λ (l : Log). IsStaleRead l.base l.order a.reads e p) view (stale_of base entries nodes board a.reads e p (subst (λ e. IsMarked entries a.reads e p) (sym c.0) (subst (IsMarked entries a.reads entry) (sym c.1) own))))

@@ -123,9 +123,23 @@ impl Board {
         ensures fresh { IfOk result (λ i. IsFreshReads self.old.base self.old.order attempt.reads) }
         ensures refused { IfErr result (RefusedAs self.old self.new attempt) }
     {
-        if let Some((entry, path)) = first_stale(&self.entries, &attempt.reads) {
-            return Err(conflict(alloc, entry, path, attempt));
+        match first_stale(&self.entries, &attempt.reads) {
+            Some((entry, path)) => Err(conflict(alloc, entry, path, attempt)),
+            None => self.add(alloc, attempt),
         }
+    }
+
+    /// Adds an attempt that no entry stands in the way of.
+    fn add(&mut self, alloc: Global, attempt: Attempt) -> Result<u64, Settle>
+        requires explained { IsExplained self.old.base attempt }
+        requires next { attempt.txn ≡ next_number self.old.order attempt.shell }
+        requires reads { AreTrueReads self.old.base self.old.order attempt.reads }
+        requires fresh { IsFreshReads self.old.base self.old.order attempt.reads }
+        ensures entry { IfOk result (λ i. i ≡ length self.old.order) }
+        ensures settled { IfOk result (λ i. self.new ≡ settled self.old attempt.shell attempt.txn) }
+        ensures fresh { IfOk result (λ i. IsFreshReads self.old.base self.old.order attempt.reads) }
+        ensures refused { IfErr result (RefusedAs self.old self.new attempt) }
+    {
         let entry = self.entries.len() as u64;
         match grow(alloc, &mut self.entries, &mut self.store, attempt) {
             Ok(changes) => self.store.apply(changes),
