@@ -170,23 +170,6 @@ fn a_run_prints_its_answers_and_writes_the_folder(rt: HostRuntime) -> Result<(),
 }
 
 #[test]
-fn later_transactions_see_what_earlier_ones_stored(rt: HostRuntime) -> Result<(), Fail> {
-    let alloc = rt.alloc();
-    let script =
-        "txn { down store(\"2\") fetch u : str print(u) } txn { down fetch v : str print(v) store(\"3\") down } txn { down fetch w : str print(w) }";
-    let mut host = host_with(alloc, FOCUS, Some("1"), script, "")?;
-    let mut sink = MemorySink::new(alloc, 1000)?;
-    let status = run(alloc, &mut host, &mut sink)?;
-    assert_eq!(rt; status.code(), 0);
-    let output =
-        "forest report 1\nentries 3\nentry 0 shell 0 txn 0 done\nprint \"2\"\nentry 1 shell 0 txn 1 stopped 4 1 NoStep\nprint \"2\"\nentry 2 shell 0 txn 2 done\nprint \"2\"\nretries 0\nend\n";
-    assert!(rt; sink.written() == output.as_bytes());
-    expect_out(&rt, alloc, &mut host, Some("2"))?;
-    expect_file(&rt, alloc, &mut host, "in/a", "1")?;
-    Ok(())
-}
-
-#[test]
 fn a_trace_prints_its_events_and_then_its_report(rt: HostRuntime) -> Result<(), Fail> {
     let alloc = rt.alloc();
     for (schedule, second, output, out) in [
