@@ -221,16 +221,16 @@ fn a_trace_tells_a_conflict_with_a_change_that_was_undone(rt: HostRuntime) -> Re
     ];
     let status = command(alloc, &mut host, &mut sink, &line)?;
     assert_eq!(rt; status.code(), 0);
-    let mut told = 0;
+    let mut told = false;
     for entry in 0u32..2 {
         let output = format!(in alloc;
             "look 0 \"/a\" 0\nlook 1 \"/a\" 0\nsettled 1 0\nlook 1 \"/a\" 1\nsettled 1 1\nconflict 0 {entry} \"/a\"\nlook 0 \"/a\" 2\nsettled 0 2\nforest report 1\nentries 3\nentry 0 shell 1 txn 0 done\nentry 1 shell 1 txn 1 done\nentry 2 shell 0 txn 0 done\nprint \"1\"\nretries 1\nretry shell 0 txn 0 entry {entry} path \"/a\"\nend\n"
         )?;
         if sink.written() == output.as_bytes() {
-            told += 1u32;
+            told = true;
         }
     }
-    assert_eq!(rt; told, 1);
+    assert!(rt; told);
     expect_out(&rt, alloc, &mut host, Some("1"))?;
     Ok(())
 }
