@@ -8,5 +8,7 @@ pub mod inputs;
 pub mod print;
 pub mod sink;
 pub mod status;
+#[cfg(test)]
+mod tests;
 pub mod texts;
 pub mod top;
