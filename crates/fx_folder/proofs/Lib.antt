@@ -1,4 +1,6 @@
 pub mod Below
+mod DeepExamples
+mod DeepLaws
 pub mod Filled
 pub mod FlatLoads
 pub mod HeldEntries

@@ -26,7 +26,7 @@ Paths = List (List ℕ)
 
 -- ---- each entry is found by its path
 
-abbrev AreFound : List (Paths × Node) → List (Paths × Node) → Type 0
+abbrev pub AreFound : List (Paths × Node) → List (Paths × Node) → Type 0
 AreFound [] es = Unit {0}
 AreFound (f ∷ fs) es = (find path_cmp f.0 es ≡ Some f.1) × AreFound fs es
 
@@ -38,7 +38,7 @@ found_behind e [] es less found = tt
 found_behind e (f ∷ fs) es less found =
     (ap (λ b. cond b (Some e.1) (find path_cmp f.0 es)) (not_tied e.0 f.0 less.0) ∙ found.0, found_behind e fs es less.1 found.1)
 
-all_found : (es : List (Paths × Node)) → IsStrictlySortedBy path_cmp (keys_of es) → AreFound es es
+pub all_found : (es : List (Paths × Node)) → IsStrictlySortedBy path_cmp (keys_of es) → AreFound es es
 unfolding IsStrictlySortedBy
 all_found [] up = tt
 all_found (e ∷ es) up = (ap (λ b. cond b (Some e.1) (find path_cmp e.0 es)) ((eq_by_cmp_equiv path_total).refl e.0), found_behind e es es up.0 (all_found es up.1))
@@ -62,7 +62,7 @@ module _ (S : Store) (whole : IsWhole S) where
       let name = get_or p (length p - 1) [] in
       dir_lists (S (parent p)) name (sym (whole.listed (parent p) name) ∙ (ap (λ q. is_some (S q)) (sym (last_off p some)) ∙ here))
 
-  below_root : (p : Paths) (text : List ℕ) → S p ≡ Some (Link text) → 0 < length p
+  pub below_root : (p : Paths) (text : List ℕ) → S p ≡ Some (Link text) → 0 < length p
   below_root [] text e = let root = whole.root in let wrong : Some (Link text) ≡ Some (Dir root.0) = sym e ∙ root.1 in absurd cc
   below_root (n ∷ p) text e = omega arith
 

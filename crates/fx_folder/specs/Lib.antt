@@ -1,3 +1,6 @@
+pub mod Deep
+pub mod DeepExamples
+pub mod DeepLaws
 pub mod Faults
 pub mod Folder
 pub mod Held

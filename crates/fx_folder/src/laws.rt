@@ -1,4 +1,6 @@
 //! Laws of the folder's definitions. Each stands on a function that does nothing, so that it is proved with the crate.
+ghost use Rattle.fx_folder.specs.DeepExamples.{DeepExamples};
+ghost use Rattle.fx_folder.specs.DeepLaws.{FlatFoldersAreTheSame};
 ghost use Rattle.fx_folder.specs.TableExamples.{TableExamples};
 ghost use Rattle.fx_folder.specs.TableLaws.{TablesAreRead, ReadTextsAreTables, TablesAreReadable, BadLinesAreFirst, LinksAreTables};
 
@@ -30,4 +32,14 @@ pub fn links_are_tables()
 /// Small tables: how they are spelled, how they are read, and which line of others is bad.
 pub fn table_examples()
     ensures { TableExamples }
+{}
+
+/// Small folders of some depth: what they are loaded as, with their links, and which refusal of others comes first.
+pub fn deep_examples()
+    ensures { DeepExamples }
+{}
+
+/// The folder of a whole filestore of files alone has no table, and an entry for each of its nodes.
+pub fn flat_folders_are_the_same()
+    ensures { FlatFoldersAreTheSame }
 {}

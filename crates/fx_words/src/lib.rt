@@ -4,5 +4,7 @@
 mod decimal;
 mod job;
 mod schedule;
+#[cfg(test)]
+mod tests;
 
 pub use job::{Job, job_of};

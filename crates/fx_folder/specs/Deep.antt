@@ -1,0 +1,199 @@
+-- What a folder of any depth is loaded as, links included, or why it is refused; and the folder of a filestore. The loader
+-- that is built takes flat folders alone.
+use Rattle.std.specs.Prelude.{◌≡◌, ℕ, ◌+◌, ◌-◌, Bool, false, nat_le, nat_lt, cond, not, ◌||◌, ◌&&◌, List, [], ◌∷◌, ◌++◌, map, length, take, codes, bytes_eq, Option, Some, None, Result, Ok, Err}
+use Rattle.std.specs.Option.{option_or, option_map_or, option_and_then}
+use Rattle.std.specs.List.{flat_map, filter_map, filter, slice_split, slice_get, sum_by}
+use Rattle.std.specs.FinMap.{entries, get, find, put, from_entries}
+use Rattle.fx_outside.specs.declared.kind.HostKind.{HostKind}
+use Rattle.fx_outside.specs.declared.kind.HostKind.TheVariants as kind
+use Rattle.std.specs.Cmp.Lexicographic.{slice_cmp}
+use Rattle.fx_outside.specs.Listing.{name_cmp}
+use Rattle.fx_outside.specs.Path.{Parts, name_in}
+use Rattle.fx_outside.specs.Tree.{Tree, Entry, file, entry_at}
+use Rattle.fx_store.specs.declared.node.Node.{Node}
+use Rattle.fx_store.specs.declared.node.Node.TheVariants.{File, Dir, Link}
+use Rattle.fx_store.specs.Names.{is_name, path_cmp}
+use Rattle.fx_store.specs.Whole.{Store, Nodes}
+use Rattle.fx_folder.specs.declared.fault.FolderCause.{FolderCause}
+use Rattle.fx_folder.specs.declared.fault.FolderCause.TheVariants.{BadName, Strange, TooLarge, BadTable}
+use Rattle.fx_folder.specs.Folder.{host_entry, rest_of}
+use Rattle.fx_folder.specs.Loads.{most_nodes, most_in_file, most_bytes, table_name}
+use Rattle.fx_folder.specs.Table.{TableLink, is_feed, read_table, table_text, links_of}
+
+-- an entry, with the names that lead to it from a folder
+abbrev pub Held : Type 0
+Held = Parts × Entry
+
+-- the names lead to something in the folder: there is at least one
+abbrev pub inside : Parts → Option Parts
+inside [] = None
+inside (name ∷ names) = Some (name ∷ names)
+
+abbrev pub held_below : Parts → Parts × Entry → Option Held
+held_below folder e = option_map_or (λ names. Some (names, e.1)) (option_and_then inside (rest_of folder e.0)) None
+
+-- all that stands below a folder: each folder comes before what stands in it, and that before the next name
+abbrev pub all_below : Tree → Parts → List Held
+all_below tree folder = filter_map (held_below folder) (entries tree)
+
+-- the table of links, and what stands below it if it is no file
+abbrev pub is_table : Held → Bool
+is_table ([], e) = false
+is_table (name ∷ names, e) = bytes_eq name table_name
+
+-- the entries that are walked: all but the table
+abbrev pub walked : List Held → List Held
+walked hs = filter (λ h. not (is_table h)) hs
+
+-- the table itself
+abbrev pub table_in : List Held → Option Entry
+table_in hs = find (slice_cmp name_cmp) (table_name ∷ []) hs
+
+-- where an entry stands, as refusals tell it
+abbrev pub place_of : Parts → List ℕ
+place_of names = flat_map (λ name. 47 ∷ name) names
+
+abbrev pub last_name : Parts → List ℕ
+last_name names = option_map_or (λ name. name) (slice_get names (length names - 1)) []
+
+abbrev pub refused_kind : Parts → HostKind → Option FolderCause
+refused_kind names kind.File = None
+refused_kind names kind.Folder = None
+refused_kind names kind.Other = Some (Strange (place_of names))
+
+-- one file too large, or too many bytes in all, where so many may still be loaded
+abbrev pub refused_bytes : ℕ → Parts → List ℕ → Option FolderCause
+refused_bytes left names bytes = cond (nat_lt most_in_file (length bytes) || nat_lt left (length bytes)) (Some (TooLarge (place_of names))) None
+
+-- The first cause against an entry, where so many nodes come before it: the name is none of a filestore; the path has more
+-- than 64 names, or it is one node too many; it is neither file nor folder; its bytes are too many.
+abbrev pub refused_entry : ℕ → ℕ → Held → Option FolderCause
+refused_entry nodes left (names, e) =
+    cond (is_name (last_name names))
+    (cond (nat_le (length names) 64 && nat_lt nodes most_nodes)
+    (option_or (refused_kind names e.kind) (refused_bytes left names e.bytes))
+    (Some (TooLarge (place_of names))))
+    (Some (BadName (place_of names)))
+
+-- the first refusal among entries, in the order in which they are walked
+abbrev pub first_refused : ℕ → ℕ → List Held → Option FolderCause
+first_refused nodes left [] = None
+first_refused nodes left (h ∷ hs) = option_or (refused_entry nodes left h) (first_refused (nodes + 1) (left - length h.1.bytes) hs)
+
+-- a file, or a directory whose names are still to be listed
+abbrev pub node_of_kind : HostKind → List ℕ → Node
+node_of_kind kind.File bytes = File bytes
+node_of_kind kind.Folder bytes = Dir []
+node_of_kind kind.Other bytes = File bytes
+
+-- a path with its node
+abbrev pub Mapped : Type 0
+Mapped = List (List ℕ) × Node
+
+-- the root, and files and directories with no names listed yet
+abbrev pub unlisted : List Held → List Mapped
+unlisted hs = ([], Dir []) ∷ map (λ (h : Held). (h.0, node_of_kind h.1.kind h.1.bytes)) hs
+
+-- each link in its place
+abbrev pub with_links : List Mapped → List TableLink → List Mapped
+with_links es [] = es
+with_links es (link ∷ links) = with_links (put path_cmp link.path (Link link.text) es) links
+
+-- the names that stand directly in a directory
+abbrev pub names_below : List Mapped → List (List ℕ) → List (List ℕ)
+names_below es path = filter_map (λ (e : Mapped). name_in path e.0) es
+
+abbrev pub with_names : List Mapped → Mapped → Mapped
+with_names es (path, File bytes) = (path, File bytes)
+with_names es (path, Dir names) = (path, Dir (names_below es path))
+with_names es (path, Link text) = (path, Link text)
+
+-- each directory lists the names that stand directly in it
+abbrev pub listed : List Mapped → List Mapped
+listed es = map (with_names es) es
+
+abbrev pub links_or_none : Result (List TableLink) ℕ → List TableLink
+links_or_none (Ok links) = links
+links_or_none (Err number) = []
+
+-- the links of the lines before a bad one
+abbrev pub links_before : Store → List ℕ → ℕ → List TableLink
+links_before S text number = links_or_none (read_table S (flat_map (λ line. line ++ 10 ∷ []) (take (number - 1) (slice_split is_feed text))))
+
+abbrev pub most_in_table : ℕ
+most_in_table = 33554432
+
+-- more links than nodes may still be loaded, or more bytes in their texts
+abbrev pub are_too_many : ℕ → ℕ → List TableLink → Bool
+are_too_many nodes left links = nat_lt most_nodes (nodes + length links) || nat_lt left (sum_by (λ (l : TableLink). length l.text) links)
+
+abbrev pub unless_bad : List TableLink → Option FolderCause → Result (List TableLink) FolderCause
+unless_bad links None = Ok links
+unless_bad links (Some cause) = Err cause
+
+-- the links of the table, or the first refusal: a good line may be one too many before a bad one comes
+abbrev pub limited : ℕ → ℕ → List TableLink → Option FolderCause → Result (List TableLink) FolderCause
+limited nodes left links bad = cond (are_too_many nodes left links) (Err (TooLarge (place_of (table_name ∷ [])))) (unless_bad links bad)
+
+abbrev pub read_links : ℕ → ℕ → Store → List ℕ → Result (List TableLink) ℕ → Result (List TableLink) FolderCause
+read_links nodes left S text (Ok links) = limited nodes left links None
+read_links nodes left S text (Err number) = limited nodes left (links_before S text number) (Some (BadTable number))
+
+-- a table that is a file and not too large is read line by line
+abbrev pub table_file_links : ℕ → ℕ → Store → HostKind → List ℕ → Result (List TableLink) FolderCause
+table_file_links nodes left S kind.File text =
+    cond (nat_lt most_in_table (length text)) (Err (TooLarge (place_of (table_name ∷ [])))) (read_links nodes left S text (read_table S text))
+table_file_links nodes left S kind.Folder text = Err (Strange (place_of (table_name ∷ [])))
+table_file_links nodes left S kind.Other text = Err (Strange (place_of (table_name ∷ [])))
+
+-- no table stands for no links
+abbrev pub table_links : ℕ → ℕ → Store → Option Entry → Result (List TableLink) FolderCause
+table_links nodes left S None = Ok []
+table_links nodes left S (Some e) = table_file_links nodes left S e.kind e.bytes
+
+-- files, directories and links together
+abbrev pub linked : List Mapped → Result (List TableLink) FolderCause → Result (List Mapped) FolderCause
+linked es (Ok links) = Ok (listed (with_links es links))
+linked es (Err cause) = Err cause
+
+abbrev pub all_bytes : List Held → ℕ
+all_bytes hs = sum_by (λ (h : Held). length h.1.bytes) hs
+
+-- what the table adds to the entries that were walked
+abbrev pub with_table : List Held → Option Entry → Result (List Mapped) FolderCause
+with_table hs table =
+    linked (unlisted hs) (table_links (length hs + 1) (most_bytes - all_bytes hs) (λ path. find path_cmp path (unlisted hs)) table)
+
+abbrev pub unless_refused : Option FolderCause → Result (List Mapped) FolderCause → Result (List Mapped) FolderCause
+unless_refused None loaded = loaded
+unless_refused (Some cause) loaded = Err cause
+
+-- what entries stand for, or the first refusal: first the entries in the order of their paths, then the table of links
+abbrev pub loaded : List Held → Result (List Mapped) FolderCause
+loaded hs = unless_refused (first_refused 1 most_bytes (walked hs)) (with_table (walked hs) (table_in hs))
+
+abbrev pub as_nodes : Result (List Mapped) FolderCause → Result Nodes FolderCause
+as_nodes (Ok es) = Ok (from_entries es)
+as_nodes (Err cause) = Err cause
+
+-- the filestore that the folder at these parts of a host's tree stands for, or the first refusal
+abbrev pub deep_loads : Tree → Parts → Result Nodes FolderCause
+deep_loads tree folder = as_nodes (loaded (all_below tree folder))
+
+-- the table of a filestore's links, if it has any
+abbrev pub table_entry : List TableLink → Option Entry
+table_entry [] = None
+table_entry (link ∷ links) = Some (file (table_text (link ∷ links)))
+
+abbrev pub is_table_place : Parts → Bool
+is_table_place [] = false
+is_table_place (name ∷ []) = bytes_eq name table_name
+is_table_place (name ∷ next ∷ names) = false
+
+-- what stands in the folder of a filestore: its directories as folders, its files, and a table where it has links
+abbrev pub folder_entry : Nodes → Parts → Option Entry
+folder_entry nodes names = cond (is_table_place names) (table_entry (links_of nodes)) (host_entry (get nodes names))
+
+-- the tree has the folder of the filestore at these parts
+abbrev pub HasFolderOf : Tree → Parts → Nodes → Type 0
+HasFolderOf tree folder nodes = (names : Parts) → get tree (folder ++ names) ≡ folder_entry nodes names
