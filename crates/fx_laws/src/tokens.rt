@@ -1,0 +1,15 @@
+//! Laws of tokens: different trees have different tokens.
+ghost use Rattle.fx_spec.specs.SpecTree.{SpecTree};
+ghost use Rattle.fx_spec.specs.CommandTree.{ActTree, CommandTree};
+ghost use Rattle.fx_texts.specs.Tokens.{spec_tokens, act_tokens, command_tokens, txn_tokens, spec_names, act_names, command_names};
+ghost use Rattle.fx_laws.specs.TokenLaws.{HasOneReading, BlocksHaveOneReading, ScriptsDiffer, txn_names};
+
+/// Tokens are read in one way: those of one tree never begin those of another, however deep they are nested.
+pub fn one_reading()
+    ensures description { HasOneReading spec_tokens spec_names }
+    ensures act { HasOneReading act_tokens act_names }
+    ensures command { HasOneReading command_tokens command_names }
+    ensures block { BlocksHaveOneReading }
+    ensures transaction { HasOneReading txn_tokens txn_names }
+    ensures script { ScriptsDiffer }
+{}
