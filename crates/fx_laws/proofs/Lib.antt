@@ -10,3 +10,4 @@ pub mod Parts
 pub mod Tokened
 pub mod Described
 pub mod Commanded
+pub mod Texted

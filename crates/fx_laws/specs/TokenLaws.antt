@@ -1,10 +1,12 @@
--- Different trees have different tokens.
-use Rattle.std.specs.Prelude.{◌≡◌, Bool, true, List, ◌∷◌, ◌++◌}
+-- Different trees have different tokens, and so different texts.
+use Rattle.std.specs.Prelude.{◌≡◌, ℕ, Bool, true, List, ◌∷◌, ◌++◌}
 use Rattle.std.specs.List.{list_all}
 use Rattle.fx_lex.specs.declared.token.Token.TheVariants as token
 use Rattle.fx_lex.specs.declared.token.Mark.TheVariants as mark
+use Rattle.fx_spec.specs.SpecTree.{SpecTree}
 use Rattle.fx_spec.specs.CommandTree.{CommandTree, Block, block}
 use Rattle.fx_texts.specs.Tokens.{Tokens, block_tokens, script_tokens, block_names}
+use Rattle.fx_texts.specs.Texts.{IsDescription, IsScript}
 
 module _ {Tree : Type 0} (tokens : Tree → Tokens) (is_right : Tree → Bool) where
   -- the tokens of one tree never begin those of another, however deep the trees are nested
@@ -25,3 +27,11 @@ txn_names commands = block_names (block commands)
 abbrev pub ScriptsDiffer : Type 0
 ScriptsDiffer =
     (a b : List (List CommandTree)) → list_all txn_names a ≡ true → list_all txn_names b ≡ true → script_tokens a ≡ script_tokens b → a ≡ b
+
+-- a text stands for one description at most
+abbrev pub TextsHaveOneDescription : Type 0
+TextsHaveOneDescription = (text : List ℕ) (s t : SpecTree) → IsDescription text s → IsDescription text t → s ≡ t
+
+-- and for the transactions of one script at most
+abbrev pub TextsHaveOneScript : Type 0
+TextsHaveOneScript = (text : List ℕ) (a b : List (List CommandTree)) → IsScript text a → IsScript text b → a ≡ b

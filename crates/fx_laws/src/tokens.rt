@@ -1,8 +1,8 @@
-//! Laws of tokens: different trees have different tokens.
+//! Laws of tokens: different trees have different tokens, and so different texts.
 ghost use Rattle.fx_spec.specs.SpecTree.{SpecTree};
 ghost use Rattle.fx_spec.specs.CommandTree.{ActTree, CommandTree};
 ghost use Rattle.fx_texts.specs.Tokens.{spec_tokens, act_tokens, command_tokens, txn_tokens, spec_names, act_names, command_names};
-ghost use Rattle.fx_laws.specs.TokenLaws.{HasOneReading, BlocksHaveOneReading, ScriptsDiffer, txn_names};
+ghost use Rattle.fx_laws.specs.TokenLaws.{HasOneReading, BlocksHaveOneReading, ScriptsDiffer, TextsHaveOneDescription, TextsHaveOneScript, txn_names};
 
 /// Tokens are read in one way: those of one tree never begin those of another, however deep they are nested.
 pub fn one_reading()
@@ -12,4 +12,10 @@ pub fn one_reading()
     ensures block { BlocksHaveOneReading }
     ensures transaction { HasOneReading txn_tokens txn_names }
     ensures script { ScriptsDiffer }
+{}
+
+/// A text stands for one description at most, and for one script at most, be they of the built forms or not.
+pub fn one_tree()
+    ensures description { TextsHaveOneDescription }
+    ensures script { TextsHaveOneScript }
 {}
