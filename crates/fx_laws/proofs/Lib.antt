@@ -6,3 +6,8 @@ pub mod Retried
 pub mod Scripted
 pub mod Limited
 pub mod Small
+pub mod Parts
+pub mod Tokened
+pub mod Described
+pub mod Commanded
+pub mod Texted

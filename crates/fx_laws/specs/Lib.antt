@@ -6,3 +6,4 @@ pub mod Retried
 pub mod Scripted
 pub mod Limited
 pub mod Small
+pub mod TokenLaws

@@ -1,5 +1,5 @@
-//! Laws of the definitions: of the shapes of values, of stores that change nothing, and worked examples that the checker
-//! computes. Each law stands on a function that does nothing, so that it is proved with the crate.
+//! Laws of the definitions: of the shapes of values, of stores that change nothing, of the tokens of trees, and worked
+//! examples that the checker computes. Each law stands on a function that does nothing, so that it is proved with the crate.
 #![tactic(auto)]
 
 pub mod limits;
@@ -7,4 +7,5 @@ pub mod retries;
 pub mod scripts;
 pub mod shapes;
 pub mod stores;
+pub mod tokens;
 pub mod vectors;
