@@ -1,18 +1,15 @@
 -- A folder of files alone is loaded as their filestore, also where folders have any depth.
-use Rattle.std.proofs.Common.{◌≡◌, ◌≢◌, inl, inr, ℕ, Bool, true, false, cond, not, List, [], ◌∷◌, map, Option, Some, None, Result, Ok, Err, refl, sym, ◌∙◌, ap, subst}
+use Rattle.std.proofs.Common.{◌≡◌, ◌≢◌, inl, inr, ℕ, Bool, true, false, cond, not, List, [], ◌∷◌, map, Option, Some, None, Ok, Err, refl, sym, ◌∙◌, ap, subst}
 use Rattle.std.specs.Prelude.{unwrap_or, bytes_eq}
-use Rattle.std.specs.Ordering.{is_eq, eq_by_cmp}
+use Rattle.std.specs.Ordering.{eq_by_cmp}
 use Rattle.std.specs.Option.{option_map}
 use Rattle.std.specs.Map.{keys_of}
 use Rattle.std.specs.List.Sorted.{IsStrictlySortedBy}
-use Rattle.std.specs.FinMap.{get, insert, find, empty, from_entries, same_map, get-insert, get-empty, get-from_entries}
+use Rattle.std.specs.FinMap.{get, find, empty, from_entries, same_map, get-insert, get-empty, get-from_entries}
 use Rattle.std.proofs.lemmas.Bool.{cases_Bool, false≢true}
 use Rattle.std.proofs.lemmas.Slice.Eq.{bytes_eq-Decides}
-use Rattle.fx_outside.specs.declared.kind.HostKind.{HostKind}
-use Rattle.fx_outside.specs.declared.kind.HostKind.TheVariants as kind
-use Rattle.fx_outside.specs.Path.{Parts, parts}
-use Rattle.fx_outside.specs.Tree as host
-use Rattle.fx_outside.specs.Tree.{Tree, Entry}
+use Rattle.fx_outside.specs.Path.{parts}
+use Rattle.fx_outside.specs.Tree.{Entry}
 use Rattle.fx_outside.proofs.Sorted.{strictly_sorted}
 use Rattle.fx_store.specs.declared.node.Node.{Node}
 use Rattle.fx_store.specs.declared.node.Node.TheVariants.{File, Dir}
@@ -28,7 +25,7 @@ use Rattle.fx_store.proofs.FlatStores.{IsChanges-flat}
 use Rattle.fx_folder.specs.declared.fault.FolderCause.{FolderCause}
 use Rattle.fx_folder.specs.declared.fault.FolderCause.TheVariants.{BadName, Strange, TooLarge, BadTable, NotBuilt}
 use Rattle.fx_folder.specs.Held.{held}
-use Rattle.fx_folder.specs.Loads.{loads, files, table_name, most_bytes, first_refusal, unless_refused}
+use Rattle.fx_folder.specs.Loads.{files, table_name, most_bytes, first_refusal, unless_refused}
 use Rattle.fx_folder.specs.Deep as deep
 use Rattle.fx_folder.specs.Deep.{Held, Mapped, all_below, walked, table_in, first_refused, unlisted, names_below, with_names, listed, with_table, node_of_kind, loaded, as_nodes, deep_loads}
 use Rattle.fx_folder.specs.DeepLaws.{FlatLoadsAreDeep, FlatRefusalsAreDeep}
