@@ -49,8 +49,8 @@ pub fn flat_loads_are_deep()
     ensures { FlatLoadsAreDeep }
 {}
 
-/// What is refused there is refused for the same cause where folders have any depth, unless that is a folder inside or a
-/// table, which are not loaded yet.
+/// What is refused as a folder of files alone is refused for the same cause where folders have any depth, unless that is a
+/// folder inside or a table, which are not loaded yet.
 pub fn flat_refusals_are_deep()
     ensures { FlatRefusalsAreDeep }
 {}
