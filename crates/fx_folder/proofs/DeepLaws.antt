@@ -1,6 +1,6 @@
 -- A flat filestore has no links, and nothing at the table's place.
 use Rattle.std.proofs.Common.{◌≡◌, ℕ, Bool, true, false, cond, List, [], ◌∷◌, refl, sym, ap, subst, ◌∙◌, Option, Some, None, is_some}
-use Rattle.std.specs.Prelude.{IfSome, bytes_eq, All, IsTrue}
+use Rattle.std.specs.Prelude.{IfSome, bytes_eq}
 use Rattle.std.specs.List.{filter_map}
 use Rattle.std.specs.FinMap.{get, entries, get-entries, entries_sorted}
 use Rattle.std.proofs.lemmas.Bool.{false≢true}

@@ -3,6 +3,8 @@ mod DeepExamples
 mod DeepLaws
 pub mod Filled
 pub mod FlatLoads
+mod FlatNodes
+pub mod FlatWalks
 pub mod HeldEntries
 pub mod Listings
 pub mod Reading

@@ -1,6 +1,6 @@
 //! Laws of the folder's definitions. Each stands on a function that does nothing, so that it is proved with the crate.
 ghost use Rattle.fx_folder.specs.DeepExamples.{DeepExamples};
-ghost use Rattle.fx_folder.specs.DeepLaws.{FlatFoldersAreTheSame};
+ghost use Rattle.fx_folder.specs.DeepLaws.{FlatFoldersAreTheSame, FlatLoadsAreDeep, FlatRefusalsAreDeep};
 ghost use Rattle.fx_folder.specs.TableExamples.{TableExamples};
 ghost use Rattle.fx_folder.specs.TableLaws.{TablesAreRead, ReadTextsAreTables, TablesAreReadable, BadLinesAreFirst, LinksAreTables};
 
@@ -42,4 +42,15 @@ pub fn deep_examples()
 /// The folder of a whole filestore of files alone has no table, and an entry for each of its nodes.
 pub fn flat_folders_are_the_same()
     ensures { FlatFoldersAreTheSame }
+{}
+
+/// What loads as a folder of files alone loads as the same filestore where folders have any depth.
+pub fn flat_loads_are_deep()
+    ensures { FlatLoadsAreDeep }
+{}
+
+/// What is refused as a folder of files alone is refused for the same cause where folders have any depth, unless that is a
+/// folder inside or a table, which are not loaded yet.
+pub fn flat_refusals_are_deep()
+    ensures { FlatRefusalsAreDeep }
 {}
