@@ -1,12 +1,12 @@
 -- What the tree of a host has once files are written into a folder one after another.
-use Rattle.std.proofs.Common.{◌≡◌, ◌≢◌, ◌⊎◌, inl, inr, ℕ, zero, suc, ◌+◌, ◌-◌, ◌<◌, ◌≤◌, Bool, true, false, not, ◌==◌, cond, ◌&&◌, ◌||◌, List, [], ◌∷◌, ◌++◌, map, length, take, IfSome, is_some, Option, Some, None, option_map, refl, sym, ◌∙◌, ap, subst, arith, append_assoc, append-nil, length-append}
+use Rattle.std.proofs.Common.{◌≡◌, ◌≢◌, ◌⊎◌, inl, inr, ℕ, ◌-◌, Bool, true, false, not, ◌==◌, cond, ◌&&◌, ◌||◌, List, [], ◌∷◌, ◌++◌, length, take, IfSome, is_some, Option, Some, None, refl, sym, ◌∙◌, ap, subst, arith, append_assoc, append-nil, length-append}
 use Rattle.std.specs.declared.cmp.Ordering.{Ordering}
 use Rattle.std.specs.declared.cmp.Ordering.TheVariants.{Less, Equal, Greater}
 use Rattle.std.specs.Ordering.{is_eq, eq_by_cmp, ordering_then}
-use Rattle.std.specs.Cmp.{tied_itself, eq_by_cmp_equiv}
-use Rattle.std.specs.List.{filter_map, cons_option, list_all}
+use Rattle.std.specs.Cmp.{tied_itself}
+use Rattle.std.specs.List.{list_all}
 use Rattle.std.specs.Option.{option_map_or}
-use Rattle.std.specs.FinMap.{get, insert, entries, find, get-insert, get-entries}
+use Rattle.std.specs.FinMap.{get, insert, get-insert}
 use Rattle.std.proofs.lemmas.Bool.{cases_Bool}
 use Rattle.std.proofs.lemmas.Bool.Decides.{nat_tests}
 use Rattle.std.proofs.lemmas.List.Splits.{length-slice_split}
@@ -19,10 +19,10 @@ use Rattle.fx_store.specs.Whole.{Store, Nodes, IsWhole, lists}
 use Rattle.fx_outside.specs.Listing.{name_cmp}
 use Rattle.fx_outside.specs.declared.kind.HostKind.{HostKind}
 use Rattle.fx_outside.specs.declared.kind.HostKind.TheVariants as kinds
-use Rattle.fx_outside.specs.Path.{Parts, parts, parts_cmp, above, name_in, is_fit, is_fit_part, has_no_slash}
+use Rattle.fx_outside.specs.Path.{Parts, parts, parts_cmp, above, is_fit, is_fit_part, has_no_slash}
 use Rattle.fx_outside.specs.Tree as tree
 use Rattle.fx_outside.specs.Tree.{Tree, Entry, file, folder, has_folder, entry_at, is_folder_at, is_folder_kind, is_file_kind, is_placed}
-use Rattle.fx_outside.proofs.Trees.{name_total, name_same, parts_total, parts_same, true_test, name_in_pushed}
+use Rattle.fx_outside.proofs.Trees.{name_total, name_same, parts_total, parts_same, true_test}
 use Rattle.fx_folder.specs.Folder.{host_entry, rest_of, entry_or, IsSaved, IsPartOf, IsFrontOf, IsReady, IsFileNode, IsFlat}
 use Rattle.fx_folder.specs.Written.{bytes_in, files_of, with_files, with_folder, with_front}
 

@@ -1,8 +1,7 @@
 -- A loaded filestore has files alone, and a folder is loaded or refused as its entries say.
-use Rattle.std.proofs.Common.{◌≡◌, ◌⊎◌, inl, inr, ℕ, Bool, true, false, cond, List, [], ◌∷◌, map, Option, Some, None, IfSome, IfOk, IfErr, IsSomeAnd, Result, Ok, Err, refl, sym, ◌∙◌, ap, subst}
+use Rattle.std.proofs.Common.{◌≡◌, ◌⊎◌, inl, inr, ℕ, Bool, true, false, cond, List, [], ◌∷◌, map, Option, Some, None, IfSome, IfOk, IfErr, IsSomeAnd, Result, Ok, Err, refl, sym, subst}
 use Rattle.std.specs.Ordering.{eq_by_cmp}
 use Rattle.std.specs.FinMap.{get, insert, get-insert, get-empty, empty}
-use Rattle.std.proofs.lemmas.Bool.{cases_Bool}
 use Rattle.fx_store.specs.declared.filestore.Filestore.{Filestore}
 use Rattle.fx_store.specs.declared.node.Node.{Node}
 use Rattle.fx_store.specs.declared.node.Node.TheVariants.{File, Dir}

@@ -1,20 +1,13 @@
 -- Reading a file piece by piece.
-use Rattle.std.proofs.Common.{◌≡◌, ℕ, zero, suc, ◌+◌, ◌-◌, ◌<◌, ◌≤◌, ◌==◌, min, nat_lt, Bool, true, false, cond, List, [], ◌∷◌, ◌++◌, length, take, drop, Option, None, Some, IfSome, IsSomeAnd, refl, sym, ◌∙◌, ap, subst, arith, length-append, length-take, length-drop}
+use Rattle.std.proofs.Common.{◌≡◌, ℕ, zero, suc, ◌+◌, ◌-◌, ◌<◌, ◌≤◌, min, nat_lt, Bool, true, false, cond, List, [], ◌∷◌, ◌++◌, length, take, drop, Option, None, Some, IfSome, IsSomeAnd, sym, ◌∙◌, ap, subst, arith, length-append, length-take, length-drop}
 use Rattle.std.proofs.lemmas.Bool.Decides.{nat_tests}
 use Rattle.std.proofs.lemmas.List.{take_all}
-use Rattle.std.specs.Option.{option_map_or}
-use Rattle.std.specs.FinMap.{len}
 use Rattle.fx_outside.specs.declared.kind.HostKind.TheVariants.{Folder}
-use Rattle.fx_outside.specs.declared.kind.Standing.{Standing}
 use Rattle.fx_outside.specs.declared.kind.Standing.TheVariants.{Is}
-use Rattle.fx_outside.specs.Listing.{Names}
-use Rattle.fx_outside.specs.Path.{parts, is_fit}
-use Rattle.fx_outside.specs.Tree.{Tree, Entry, Lists, bytes_at, entry_at, standing_of, is_folder_kind, is_folder_at}
+use Rattle.fx_outside.specs.Tree.{Tree, Entry, bytes_at}
 use Rattle.fx_outside.specs.Host.{ReadsAt}
-use Rattle.fx_folder.specs.Held.{held}
 use Rattle.fx_folder.specs.Loads.{refused_size, place, most_in_file}
 use Rattle.fx_folder.specs.declared.fault.FolderCause.TheVariants.{TooLarge}
-use Rattle.fx_folder.proofs.HeldEntries.{listing_len}
 
 -- a call that suits the told tree does not fail for the tree's sake
 pub suited : (told : Option Tree) (suits : Tree → Bool) → IfSome told (λ t. suits t ≡ true) → IsSomeAnd told (λ t. suits t ≡ false) → ⊥

@@ -1,7 +1,6 @@
 -- The steps of writing a folder: what each leaves, and that the next may be made.
-use Rattle.std.proofs.Common.{◌≡◌, ◌≢◌, ◌⊎◌, inl, inr, ℕ, zero, suc, ◌+◌, ◌<◌, ◌≤◌, Bool, true, false, not, cond, ◌&&◌, ◌||◌, List, [], ◌∷◌, ◌++◌, map, length, take, get_or, Option, Some, None, option_map, is_some, is_none, IfSome, IsSomeAnd, IsSome, OnOk, OnErr, IfErr, Result, Ok, Err, refl, sym, ◌∙◌, ap, subst, arith, length-append}
-use Rattle.std.specs.declared.cmp.Ordering.{Ordering}
-use Rattle.std.specs.declared.cmp.Ordering.TheVariants.{Less, Equal, Greater}
+use Rattle.std.proofs.Common.{◌≡◌, ◌⊎◌, inl, inr, ℕ, zero, suc, ◌+◌, ◌<◌, ◌≤◌, Bool, true, false, cond, ◌&&◌, ◌||◌, List, [], ◌∷◌, ◌++◌, length, take, get_or, Option, Some, None, option_map, is_some, is_none, IfSome, IsSome, OnOk, OnErr, IfErr, Result, Ok, Err, refl, sym, ◌∙◌, ap, subst, arith, length-append}
+use Rattle.std.specs.declared.cmp.Ordering.TheVariants.{Less, Equal}
 use Rattle.std.specs.Ordering.{is_eq, eq_by_cmp}
 use Rattle.std.specs.Cmp.{tied_itself}
 use Rattle.std.specs.List.{AllByRecursion, slice_get}
@@ -15,7 +14,7 @@ use Rattle.std.proofs.lemmas.List.Elements.{All-get_or}
 use Rattle.std.proofs.Math.Seq.{take-length}
 use Rattle.fx_base.specs.Causes.{Rose}
 use Rattle.fx_store.specs.declared.node.Node.{Node}
-use Rattle.fx_store.specs.declared.node.Node.TheVariants.{File, Dir, Link}
+use Rattle.fx_store.specs.declared.node.Node.TheVariants.{File, Dir}
 use Rattle.fx_store.specs.Names.{IsName, IsNameSet, name_cmp, has}
 use Rattle.fx_store.specs.Whole.{Store, Nodes, IsWhole, lists}
 use Rattle.fx_outside.specs.Path.{Parts, parts, parts_cmp, above, is_fit}
@@ -26,7 +25,7 @@ use Rattle.fx_outside.proofs.Trees.{name_total, name_same, parts_same, true_test
 use Rattle.fx_folder.specs.Reads.{path_below}
 use Rattle.fx_folder.specs.declared.fault.SaveFault.{SaveFault}
 use Rattle.fx_folder.specs.declared.fault.SaveFault.TheVariants as faults
-use Rattle.fx_folder.specs.Folder.{IsFlat, IsFileNode, IfTold, IsSaved, IsPartOf, IsPartlySaved, IsReady, SaveCause}
+use Rattle.fx_folder.specs.Folder.{IsFlat, IfTold, IsSaved, IsPartOf, IsPartlySaved, IsReady, SaveCause}
 use Rattle.fx_folder.specs.Written.{IsOpen, WroteFile, WroteFilePart, WroteAll, WrotePart, bytes_in, files_of, with_files, with_folder, with_front}
 use Rattle.fx_folder.proofs.Filled.{CanFill, IsFlatWith, can_fill, fit_of, saved, some_saved, front_saved, written, kept, pushed, above_pushed, beside_folder, longer}
 use Rattle.fx_folder.proofs.Texts.{parts_below, fit_below}

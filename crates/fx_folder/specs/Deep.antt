@@ -1,6 +1,6 @@
 -- What a folder of any depth is loaded as, links included, or why it is refused; and the folder of a filestore. The loader
 -- that is built takes flat folders alone.
-use Rattle.std.specs.Prelude.{◌≡◌, ℕ, ◌+◌, ◌-◌, Bool, false, nat_le, nat_lt, cond, not, ◌||◌, ◌&&◌, List, [], ◌∷◌, ◌++◌, map, length, take, codes, bytes_eq, Option, Some, None, Result, Ok, Err}
+use Rattle.std.specs.Prelude.{◌≡◌, ℕ, ◌+◌, ◌-◌, Bool, false, nat_le, nat_lt, cond, not, ◌||◌, ◌&&◌, List, [], ◌∷◌, ◌++◌, map, length, take, bytes_eq, Option, Some, None, Result, Ok, Err}
 use Rattle.std.specs.Option.{option_or, option_map_or, option_and_then}
 use Rattle.std.specs.List.{flat_map, filter_map, filter, slice_split, slice_get, sum_by}
 use Rattle.std.specs.FinMap.{entries, get, find, put, from_entries}
@@ -9,7 +9,7 @@ use Rattle.fx_outside.specs.declared.kind.HostKind.TheVariants as kind
 use Rattle.std.specs.Cmp.Lexicographic.{slice_cmp}
 use Rattle.fx_outside.specs.Listing.{name_cmp}
 use Rattle.fx_outside.specs.Path.{Parts, name_in}
-use Rattle.fx_outside.specs.Tree.{Tree, Entry, file, entry_at}
+use Rattle.fx_outside.specs.Tree.{Tree, Entry, file}
 use Rattle.fx_store.specs.declared.node.Node.{Node}
 use Rattle.fx_store.specs.declared.node.Node.TheVariants.{File, Dir, Link}
 use Rattle.fx_store.specs.Names.{is_name, path_cmp}

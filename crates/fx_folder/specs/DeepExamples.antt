@@ -1,7 +1,6 @@
 -- Small folders of some depth, and what they are loaded as.
-use Rattle.std.specs.Prelude.{◌≡◌, ℕ, List, [], ◌∷◌, ◌++◌, codes, Result, Ok, Err}
+use Rattle.std.specs.Prelude.{◌≡◌, ℕ, List, [], ◌∷◌, ◌++◌, codes, Ok, Err}
 use Rattle.fx_outside.specs.declared.kind.HostKind.TheVariants.{Other}
-use Rattle.fx_outside.specs.Path.{Parts}
 use Rattle.fx_outside.specs.Tree.{Entry, file, folder}
 use Rattle.fx_store.specs.declared.node.Node.TheVariants.{File, Dir, Link}
 use Rattle.fx_folder.specs.declared.fault.FolderCause.TheVariants.{BadName, Strange, BadTable}

@@ -1,4 +1,3 @@
-use Rattle.std.proofs.Common.{rules}
 use Rattle.fx_folder.proofs.FlatLoads.{is_loaded, is_not_loaded}
 use Rattle.fx_folder.proofs.loading.load.Goals as goal
 

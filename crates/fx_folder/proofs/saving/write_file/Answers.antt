@@ -1,4 +1,4 @@
-use Rattle.std.proofs.Common.{rules, ap, sym, ◌∙◌, ◌≡◌, Some, ◌∷◌, [], subst}
+use Rattle.std.proofs.Common.{rules, ◌≡◌, Some, ◌∷◌, []}
 use Rattle.std.specs.FinMap.{get}
 use Rattle.fx_store.specs.declared.node.Node.TheVariants.{File}
 use Rattle.fx_folder.proofs.Steps.{wrote_file, wrote_part}

@@ -1,4 +1,4 @@
-use Rattle.std.proofs.Common.{rules, ◌≡◌, Some, length}
+use Rattle.std.proofs.Common.{rules, ◌≡◌, Some}
 use Rattle.std.specs.FinMap.{get}
 use Rattle.std.specs.List.{slice_get}
 use Rattle.fx_folder.proofs.Steps.{goes_on, is_free, there, name_at, stopped}
