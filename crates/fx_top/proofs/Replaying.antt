@@ -15,12 +15,11 @@ use Rattle.fx_view.specs.ReadList.{ReadList}
 use Rattle.fx_view.specs.Reads.{read_at, known_of, Agrees}
 use Rattle.fx_spec.specs.Plans.{Turn, txn_of}
 use Rattle.fx_spec.specs.Order.{BaseTree, state, after_txn, after_all}
-use Rattle.fx_spec.specs.Transaction.{outputs, end}
 use Rattle.fx_spec.proofs.Transactions.{states_are_whole}
 use Rattle.fx_machine.specs.declared.attempt.Attempt.{Attempt}
 use Rattle.fx_machine.specs.Explained.{IsExplained}
 use Rattle.fx_report.specs.declared.printed.PrintedEntry.{PrintedEntry}
-use Rattle.fx_report.specs.Entries.{entry, entries_from, entries_of, commands_or_none}
+use Rattle.fx_report.specs.Entries.{entry, entries_from, entries_of}
 use Rattle.fx_top.specs.Replay.{IsReplayed, entry_on}
 
 abbrev Path : Type 0

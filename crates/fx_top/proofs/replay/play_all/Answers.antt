@@ -1,6 +1,6 @@
-use Rattle.std.proofs.Common.{◌≡◌, ◌<◌, ◌∷◌, ◌++◌, List, [], ℕ, length, get_or, rules, ◌∙◌, ap}
+use Rattle.std.proofs.Common.{◌≡◌, ◌<◌, ◌∷◌, ◌++◌, List, [], length, get_or, rules, ◌∙◌, ap}
 use Rattle.fx_spec.specs.Bases.{base_tree}
-use Rattle.fx_spec.specs.Order.{state, after_txn}
+use Rattle.fx_spec.specs.Order.{after_txn}
 use Rattle.fx_spec.specs.Plans.{Turn, txn_of}
 use Rattle.fx_store.specs.Filestore.{Table}
 use Rattle.fx_store.specs.Whole.{Nodes}

@@ -1,9 +1,8 @@
-use Rattle.std.proofs.Common.{◌≡◌, refl, subst, sym}
+use Rattle.std.proofs.Common.{refl, subst, sym}
 use Rattle.std.specs.FinMap.{get}
 use Rattle.fx_store.specs.Whole.{Nodes}
 use Rattle.fx_view.specs.ReadList.{ReadList}
 use Rattle.fx_view.specs.Reads.{Agrees}
-use Rattle.fx_top.specs.Replay.{IsReplayed}
 use Rattle.fx_top.proofs.Replaying.{replayed, agrees_none}
 use Rattle.fx_top.proofs.replay.replay.Goals as goal
 

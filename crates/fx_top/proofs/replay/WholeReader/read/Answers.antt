@@ -1,4 +1,4 @@
-use Rattle.std.proofs.Common.{◌≡◌, List, [], ◌∷◌, ◌++◌, Option, Some, None, rules, sym, subst}
+use Rattle.std.proofs.Common.{◌≡◌, rules, sym, subst}
 use Rattle.std.specs.FinMap.{get}
 use Rattle.fx_view.specs.Reads.{Agrees}
 use Rattle.fx_top.proofs.Replaying.{agrees_more}
