@@ -2,5 +2,6 @@ pub mod Answers
 pub mod Codes
 pub mod Inputs
 pub mod Outcome
+pub mod Replay
 pub mod Rows
 pub mod Texts

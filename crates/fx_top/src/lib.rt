@@ -6,6 +6,8 @@ pub mod gate;
 pub mod host;
 pub mod inputs;
 pub mod print;
+#[cfg(test)]
+mod replay;
 pub mod sink;
 pub mod status;
 #[cfg(test)]

@@ -1,10 +1,19 @@
-//! Whole runs over a host and a sink in memory, against reports that were written by hand.
+//! Whole runs over a host and a sink in memory, against reports that were written by hand, and against transactions that are
+//! run whole, one after another.
+ghost use Rattle.std.specs.Prelude.{◌≡◌, true};
+ghost use Rattle.fx_forms.specs.Built.{is_built_spec, is_built_plan};
+
+use crate::replay::{play_all, read_base};
 use crate::status::{Status, TextFault};
 use crate::top::top;
 use fx_folder::FolderCause;
 use fx_outside::{Host, HostKind, HostText, MemoryHost, MemorySink, OpenGate, Standing, Words};
+use fx_report::{PrintedEntries, Retries, printed_report};
+use fx_spec::Base;
+use fx_store::{Filestore, Node, Path};
 use std::alloc::Global;
 use std::process::Abort;
+use std::sync::Arc;
 use std::test::Fail;
 
 const FOCUS: &str = "(\"a\" :: file)";
@@ -326,6 +335,262 @@ fn words_and_folders_are_refused(rt: HostRuntime) -> Result<(), Fail> {
         assert_eq!(rt; is_not_built(&status, "/d"), code == 4);
         assert!(rt; sink.written().is_empty());
         expect_no_out(&rt, alloc, &mut host)?;
+    }
+    Ok(())
+}
+
+fn words_of(alloc: Global, line: &[&str]) -> Result<Words, Fail> {
+    let mut words = Words::new(alloc);
+    for word in line {
+        words.add(alloc, text(alloc, word)?)?;
+    }
+    Ok(words)
+}
+
+/// The same host with a file `b` beside `a`.
+fn host_of_two(alloc: Global, first: &str, second: &str) -> Result<MemoryHost, Fail> {
+    let mut host = host_with(alloc, FOCUS, Some("1"), first, second)?;
+    put_file(alloc, &mut host, "in/b", b"bee")?;
+    Ok(host)
+}
+
+/// A commit order as a run tells it: the lines of its settles, what its report has after the first line and up to the
+/// number of retries, and what it leaves in `a`.
+#[derive(Drop)]
+struct Told {
+    settled: String,
+    entries: String,
+    a: String,
+}
+
+/// The lines that tell the settles of an order.
+fn settles_of(alloc: Global, turns: &[(u32, u32)]) -> Result<String, Fail> {
+    let mut settled = String::new(alloc);
+    for (i, (shell, _)) in turns.iter().enumerate() {
+        let line = format!(in alloc; "settled {shell} {i}\n")?;
+        settled.push_str(line.as_str())?;
+    }
+    Ok(settled)
+}
+
+/// The report of entries, after its first line and up to the number of retries.
+fn entries_of(alloc: Global, entries: &PrintedEntries) -> Result<String, Fail> {
+    let report = printed_report(alloc, entries, &Retries::new(alloc))?;
+    let report = std::str::from_utf8(report.as_slice())?;
+    let entries = report
+        .strip_prefix("forest report 1\n")
+        .and_then(|rest| rest.strip_suffix("0\nend\n"));
+    match entries {
+        Some(entries) => Ok(String::from_str(alloc, entries)?),
+        None => Err(Fail::new("a report of another form")),
+    }
+}
+
+/// What a filestore holds at `a`.
+fn a_of(alloc: Global, store: &Filestore) -> Result<String, Fail> {
+    let Ok(path) = Path::read(alloc, b"/a") else {
+        return Err(Fail::new("no path"));
+    };
+    match store.get(&path) {
+        Some(Node::File(bytes)) => {
+            let text = std::str::from_utf8(bytes.as_slice())?;
+            Ok(String::from_str(alloc, text)?)
+        }
+        _ => Err(Fail::new("no file at a")),
+    }
+}
+
+/// The shells of so many steps, by the binary digits of a number. None where it has more digits.
+fn shells_of(alloc: Global, number: u32, count: u32) -> Result<Option<Vec<u32>>, Fail> {
+    let mut shells = Vec::new(alloc);
+    let mut rest = number;
+    for _step in 0..count {
+        shells.push(rest % 2)?;
+        rest /= 2;
+    }
+    if rest > 0 {
+        return Ok(None);
+    }
+    Ok(Some(shells))
+}
+
+/// The transactions that come where these shells have their turns, each its own from the first on.
+fn turns_of(alloc: Global, shells: &[u32]) -> Result<Vec<(u32, u32)>, Fail> {
+    let mut turns = Vec::new(alloc);
+    let mut first = 0u32;
+    let mut second = 0u32;
+    for shell in shells {
+        if *shell == 0 {
+            turns.push((0, first))?;
+            first = first.saturating_add(1);
+        } else {
+            turns.push((1, second))?;
+            second = second.saturating_add(1);
+        }
+    }
+    Ok(turns)
+}
+
+/// Every order of the transactions of two scripts that keeps the order of each, with what it gives where they are run
+/// whole, one after another.
+fn orders_of(alloc: Global, base: &Arc<Base>) -> Result<Vec<Told>, Fail>
+    requires spec { is_built_spec base.now.value.description ≡ true }
+    requires plan { is_built_plan base.now.value.plan ≡ true }
+{
+    let count = base.plan.count(0).saturating_add(base.plan.count(1));
+    let mut orders = Vec::new(alloc);
+    for number in 0u32..16 {
+        if let Some(shells) = shells_of(alloc, number, count)? {
+            let turns = turns_of(alloc, &shells)?;
+            if let Some(played) = play_all(alloc, base, &turns)? {
+                orders.push(Told {
+                    settled: settles_of(alloc, &turns)?,
+                    entries: entries_of(alloc, &played.entries)?,
+                    a: a_of(alloc, &played.store)?,
+                })?;
+            }
+        }
+    }
+    Ok(orders)
+}
+
+/// The schedule of six steps by the binary digits of a number.
+fn schedule_of(alloc: Global, number: u32) -> Result<String, Fail> {
+    let mut schedule = String::new(alloc);
+    let mut rest = number;
+    for step in 0u32..6 {
+        if step > 0 {
+            schedule.push_str(",")?;
+        }
+        schedule.push_str(if rest % 2 == 0 { "0" } else { "1" })?;
+        rest /= 2;
+    }
+    Ok(schedule)
+}
+
+/// Those of the lines that tell a settle.
+fn settled_lines(alloc: Global, events: &str) -> Result<String, Fail> {
+    let mut settled = String::new(alloc);
+    for line in events.lines() {
+        if line.starts_with("settled ") {
+            settled.push_str(line)?;
+            settled.push_str("\n")?;
+        }
+    }
+    Ok(settled)
+}
+
+/// The order with these settles.
+fn order_with<'a>(orders: &'a [Told], settled: &str) -> Option<&'a Told> {
+    for order in orders {
+        if order.settled.as_str() == settled {
+            return Some(order);
+        }
+    }
+    None
+}
+
+/// The output tells one of the orders, which is answered.
+fn expect_order<'a, R: Abort>(
+    rt: &R,
+    alloc: Global,
+    output: &[u8],
+    orders: &'a [Told],
+) -> Result<&'a Told, Fail> {
+    let output = std::str::from_utf8(output)?;
+    let Some((events, report)) = output.split_once("forest report 1\n") else {
+        return Err(Fail::new("no report"));
+    };
+    let settled = settled_lines(alloc, events)?;
+    let Some(order) = order_with(orders, settled.as_str()) else {
+        return Err(Fail::new("another order"));
+    };
+    assert!(rt; report.starts_with(order.entries.as_str()), "{output}");
+    Ok(order)
+}
+
+/// The folder at OUT holds `a` with these bytes, and `b` as it was.
+fn expect_two<R: Abort>(rt: &R, alloc: Global, host: &mut MemoryHost, a: &str) -> Result<(), Fail> {
+    let count = host.list(alloc, &text(alloc, "out")?)?.len();
+    assert_eq!(rt; count, 2);
+    expect_file(rt, alloc, host, "out/a", a)?;
+    expect_file(rt, alloc, host, "out/b", "bee")
+}
+
+/// Each schedule of six steps tells one of the orders and leaves its filestore, and each order is told by some schedule.
+fn expect_serial<R: Abort>(
+    rt: &R,
+    alloc: Global,
+    first: &str,
+    second: &str,
+    count: usize,
+) -> Result<(), Fail> {
+    let words = words_of(
+        alloc,
+        &["trace", "spec", "in", "out", "none", "first", "second"],
+    )?;
+    let mut host = host_of_two(alloc, first, second)?;
+    let Some(base) = read_base(alloc, &words, &mut host) else {
+        return Err(Fail::new("not read"));
+    };
+    let orders = orders_of(alloc, &base)?;
+    assert_eq!(rt; orders.len(), count, "{first} {second}");
+    let mut settled = Vec::new(alloc);
+    for number in 0u32..64 {
+        let schedule = schedule_of(alloc, number)?;
+        let mut host = host_of_two(alloc, first, second)?;
+        let mut sink = MemorySink::new(alloc, 2000)?;
+        let line = [
+            "trace",
+            "spec",
+            "in",
+            "out",
+            schedule.as_str(),
+            "first",
+            "second",
+        ];
+        let status = command(alloc, &mut host, &mut sink, &line)?;
+        assert_eq!(rt; status.code(), 0, "{schedule} {first} {second}");
+        let order = expect_order(rt, alloc, sink.written(), &orders)?;
+        expect_two(rt, alloc, &mut host, order.a.as_str())?;
+        settled.push(order.settled.as_str())?;
+    }
+    for order in &orders {
+        let told = settled.iter().any(|s| *s == order.settled.as_str());
+        assert!(rt; told, "{first} {second}");
+    }
+    Ok(())
+}
+
+#[test]
+fn every_interleaving_is_a_serial_order(rt: HostRuntime) -> Result<(), Fail> {
+    let alloc = rt.alloc();
+    for (first, second, count) in [
+        (READ, "txn { down store(\"2\") }", 2),
+        ("txn { down store(\"2\") }", "txn { down store(\"3\") }", 2),
+        (
+            "txn { down fetch x : str store(\"2\") fetch y : str print(x) print(y) }",
+            "txn { down fetch x : str store(\"3\") print(x) }",
+            2,
+        ),
+        ("txn { down store(\"2\") print(\"no\") up up }", READ, 2),
+        (
+            "txn { down fetch x : str store(\"2\") print(x) } txn { down fetch x : str print(x) }",
+            "txn { down fetch x : str store(\"3\") print(x) }",
+            3,
+        ),
+        (
+            "txn { down store(\"2\") } txn { down store(\"1\") up up }",
+            "txn { fetch x : str down fetch y : str store(x) print(y) }",
+            3,
+        ),
+        (
+            "txn { down fetch x : str store(\"2\") print(x) } txn { down fetch x : str store(\"1\") print(x) }",
+            "txn { down fetch x : str print(x) } txn { down fetch x : str store(\"3\") print(x) }",
+            6,
+        ),
+    ] {
+        expect_serial(&rt, alloc, first, second, count)?;
     }
     Ok(())
 }
