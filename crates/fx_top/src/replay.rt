@@ -1,5 +1,5 @@
 //! Transactions of the plan, each run whole on a filestore.
-ghost use Rattle.std.specs.Prelude.{◌≡◌, Bool, true, length, IfOk, OnOk, IfSome, IsSome, refl};
+ghost use Rattle.std.specs.Prelude.{◌≡◌, Bool, true, None, length, Any, IfOk, OnOk, IfSome, IfNone, IsSome, refl};
 ghost use Rattle.std.specs.FinMap.{get};
 ghost use Rattle.fx_spec.specs.Bases.{base_tree};
 ghost use Rattle.fx_spec.specs.Order.{after_txn, state};
@@ -141,6 +141,7 @@ pub fn play_all(
     requires plan { is_built_plan base.now.value.plan ≡ true }
     ensures entries { IfOk result (λ s. IfSome s (λ s. s.entries ≡ entries_of (base_tree base.now.value) order.now)) }
     ensures store { IfOk result (λ s. IfSome s (λ s. s.store.nodes ≡ state (base_tree base.now.value) order.now (length order.now))) }
+    ensures unplanned { IfOk result (λ s. IfNone s (Any (λ turn. txn_of base.now.value.plan turn ≡ None) order.now)) }
 {
     let mut entries = PrintedEntries::new(alloc);
     let mut store = base.loaded.copy(alloc)?;
