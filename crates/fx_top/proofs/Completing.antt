@@ -15,7 +15,7 @@ use Rattle.fx_spec.specs.CommandTree.{CommandTree}
 use Rattle.fx_top.specs.declared.status.Status.{Status}
 use Rattle.fx_top.specs.declared.status.Status.TheVariants as status
 use Rattle.fx_top.specs.Rows.{Row, ends, CannotSave, IsProper, FitsOut}
-use Rattle.fx_top.specs.Inputs.{HasTexts, HasInputs, CannotRead, IsFirstRefused, HasScript, HasNoScript, HasScripts, StopsAtScript, LacksFile, GoesOn}
+use Rattle.fx_top.specs.Inputs.{HasTexts, HasInputs, CannotRead, IsFirstRefused, HasScript, HasNoScript, HasScripts, StopsAtScript, LacksFile}
 use Rattle.fx_words.specs.Job.{Job}
 
 two : (b : Bool) → b ≡ true → b ≡ false → ⊥

@@ -1,14 +1,12 @@
 -- From one stage of a run to the next.
-use Rattle.std.proofs.Common.{◌≡◌, inl, inr, ℕ, Bool, List, Option, Some, None, IfSome, sym, subst}
+use Rattle.std.proofs.Common.{◌≡◌, ℕ, Bool, List, Option, IfSome, sym, subst}
 use Rattle.fx_store.specs.Whole.{Nodes}
-use Rattle.fx_outside.specs.Tree.{Tree, is_folder_at}
+use Rattle.fx_outside.specs.Tree.{Tree}
 use Rattle.fx_folder.specs.Folder.{IsReady, IsTaken}
-use Rattle.fx_folder.specs.Loads.{Loads, IsRefused}
-use Rattle.fx_folder.specs.declared.fault.FolderCause.{FolderCause}
 use Rattle.fx_spec.specs.SpecTree.{SpecTree}
 use Rattle.fx_spec.specs.CommandTree.{CommandTree}
 use Rattle.fx_words.specs.Job.{Job}
-use Rattle.fx_top.specs.Inputs.{HasTexts, HasInputs, CannotRead}
+use Rattle.fx_top.specs.Inputs.{HasTexts, HasInputs}
 use Rattle.fx_top.specs.Answers.{AreTexts, IsLoaded, IsRunFrom, IsAnswered, base_of}
 use Rattle.fx_top.proofs.Ending.{if_some_map, if_some_both}
 

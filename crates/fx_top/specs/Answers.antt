@@ -15,7 +15,7 @@ use Rattle.fx_board.specs.Board.{last_state}
 use Rattle.fx_top.specs.declared.answer.Answer.{Answer}
 use Rattle.fx_top.specs.declared.inputs.Unread.{Unread}
 use Rattle.fx_top.specs.declared.inputs.Unread.TheVariants as unread
-use Rattle.fx_top.specs.Inputs.{HasSpec, HasNoSpec, GoesOn, HasNoScript, HasScripts, StopsAtScript, LacksFile, HasSomeSpec}
+use Rattle.fx_top.specs.Inputs.{HasSpec, HasNoSpec, GoesOn, HasNoScript, HasScripts, StopsAtScript, LacksFile}
 use Rattle.fx_top.specs.Outcome.{IsPrintedAs, IsOutcome}
 
 -- what the file at SPEC, or at a script's path, is read as
