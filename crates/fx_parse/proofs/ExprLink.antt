@@ -1,5 +1,5 @@
 -- Reading an expression goes as its machine does, and reads the tokens of each expression.
-use Rattle.std.proofs.Common.{◌≡◌, ℕ, zero, suc, ◌+◌, ◌≤◌, Bool, true, false, cond, Some, Result, Ok, Err, List, [], ◌∷◌, ◌++◌, length, refl, sym, ap, ◌∙◌, arith, append_assoc}
+use Rattle.std.proofs.Common.{◌≡◌, ℕ, zero, suc, ◌-◌, ◌≤◌, Bool, true, false, cond, Some, Result, Ok, Err, List, [], ◌∷◌, ◌++◌, length, refl, sym, ap, ◌∙◌, arith, append_assoc}
 use Rattle.std.proofs.lemmas.List.Folds.{list_all-append}
 use Rattle.std.proofs.lemmas.Bool.{and_parts, leb-true, lt-ltb, le-ltb}
 use Rattle.fx_expr.specs.ExprTree.{ExprTree}
@@ -106,8 +106,8 @@ deep_from d stack x ts (Before op) = refl
 deep_from d stack x ts Choice = refl
 deep_from d stack x ts Nothing = refl
 
--- with as many levels left as there are from d up to 64
-pub expr_follows : (left d : ℕ) → d + left ≡ 65 → Follows d (read_expr left)
+-- with as many levels left as there are from d up to 64, none where d is above
+pub expr_follows : (left d : ℕ) → left ≡ 65 - d → Follows d (read_expr left)
 unfolding read_expr
 expr_follows zero d e stack [] = refl
 expr_follows zero d e stack (x ∷ ts) =
@@ -182,7 +182,7 @@ again_choice n c a b rest one two three =
     let middle = expr_tokens a ++ (comma ∷ last) in
     ap (λ ts. read_expr n ts >>= f) (append_assoc (expr_tokens c) (comma ∷ middle) rest) ∙ ap (λ r. r >>= f) (one (comma ∷ (middle ++ rest))) ∙ ap (λ ts. read_expr n ts >>= g c) (append_assoc (expr_tokens a) (comma ∷ last) rest) ∙ ap (λ r. r >>= g c) (two (comma ∷ (last ++ rest))) ∙ ap (λ ts. read_expr n ts >>= h c a) (append_assoc (expr_tokens b) (closing ∷ []) rest) ∙ ap (λ r. r >>= h c a) (three (closing ∷ rest))
 
-pub expr_again : (t : ExprTree) (bound left d : ℕ) (rest : List Token) → d + left ≡ suc bound → has_names t ≡ true → at_most bound (expr_levels d t) ≡ true → read_expr left (expr_tokens t ++ rest) ≡ Ok (t, rest)
+pub expr_again : (t : ExprTree) (bound left d : ℕ) (rest : List Token) → left ≡ suc bound - d → has_names t ≡ true → at_most bound (expr_levels d t) ≡ true → read_expr left (expr_tokens t ++ rest) ≡ Ok (t, rest)
 unfolding form_at
 expr_again t bound zero d rest e h low = let fits = level_fits bound d t low in absurd (omega (arith, e, fits))
 expr_again (ExprTree.str v) bound (suc n) d rest e h low = opens n (token.Str v) rest (Leaf (ExprTree.str v)) refl refl
@@ -194,11 +194,11 @@ expr_again (ExprTree.bin op a b) bound (suc n) d rest e h low =
     let hs = and_parts (has_names a) (has_names b) h in
     let inner = tail_low bound d (expr_levels (suc d) a ++ (0 ∷ (expr_levels (suc d) b ++ 0 ∷ []))) low in
     let behind = tail_low bound 0 (expr_levels (suc d) b ++ 0 ∷ []) (rest_low bound (expr_levels (suc d) a) (0 ∷ (expr_levels (suc d) b ++ 0 ∷ [])) inner) in
-    let next : suc d + n ≡ suc bound = omega (arith, e) in
+    let next : n ≡ suc bound - suc d = omega (arith, e) in
     opens n opening _ Bracket refl refl ∙ again_bin n op a b rest (λ r. expr_again a bound n (suc d) r next hs.0 (front_low bound (expr_levels (suc d) a) _ inner)) (λ r. expr_again b bound n (suc d) r next hs.1 (front_low bound (expr_levels (suc d) b) (0 ∷ []) behind))
 expr_again (ExprTree.un op a) bound (suc n) d rest e h low =
     let inner = tail_low bound 0 (expr_levels (suc d) a ++ 0 ∷ []) (tail_low bound d (0 ∷ (expr_levels (suc d) a ++ 0 ∷ [])) low) in
-    let next : suc d + n ≡ suc bound = omega (arith, e) in
+    let next : n ≡ suc bound - suc d = omega (arith, e) in
     opens n (word (unary_word op)) _ (Before op) (head_unary op) refl ∙ again_un n op a rest (λ r. expr_again a bound n (suc d) r next h (front_low bound (expr_levels (suc d) a) (0 ∷ []) inner))
 expr_again (ExprTree.choose c a b) bound (suc n) d rest e h low =
     let hs = and_parts (has_names c) _ h in
@@ -209,11 +209,11 @@ expr_again (ExprTree.choose c a b) bound (suc n) d rest e h low =
     let first = tail_low bound 0 lc (tail_low bound d (0 ∷ lc) low) in
     let second = tail_low bound 0 la (rest_low bound (expr_levels (suc d) c) (0 ∷ la) first) in
     let third = tail_low bound 0 lb (rest_low bound (expr_levels (suc d) a) (0 ∷ lb) second) in
-    let next : suc d + n ≡ suc bound = omega (arith, e) in
+    let next : n ≡ suc bound - suc d = omega (arith, e) in
     opens n (word keyword.If) _ Choice (head_word keyword.If) refl ∙ again_choice n c a b rest (λ r. expr_again c bound n (suc d) r next hs.0 (front_low bound (expr_levels (suc d) c) (0 ∷ la) first)) (λ r. expr_again a bound n (suc d) r next is.0 (front_low bound (expr_levels (suc d) a) (0 ∷ lb) second)) (λ r. expr_again b bound n (suc d) r next is.1 (front_low bound (expr_levels (suc d) b) (0 ∷ []) third))
 expr_again (ExprTree.only a glob) bound (suc n) d rest e h low =
     let inner = tail_low bound d (expr_levels (suc d) a ++ 0 ∷ 0 ∷ 0 ∷ []) low in
-    let next : suc d + n ≡ suc bound = omega (arith, e) in
+    let next : n ≡ suc bound - suc d = omega (arith, e) in
     opens n opening _ Bracket refl refl ∙ again_only n a glob rest (λ r. expr_again a bound n (suc d) r next h (front_low bound (expr_levels (suc d) a) _ inner))
 
 -- the reader at each kind of first token

@@ -1,7 +1,7 @@
 -- What a reader says of trees, where it goes as a machine of its grammar does and reads the tokens of each tree.
-use Rattle.std.proofs.Common.{◌≡◌, ℕ, zero, suc, ◌+◌, ◌-◌, ◌≤◌, true, Result, Ok, Err, List, [], ◌∷◌, ◌++◌, length, drop, refl, sym, ap, ◌∙◌, subst, arith, length-append, length-drop}
-use Rattle.std.proofs.lemmas.List.{length-map, drop_at, drop-drop}
-use Rattle.std.proofs.lemmas.Bool.{and_from, le-leb}
+use Rattle.std.proofs.Common.{◌≡◌, ℕ, zero, suc, ◌+◌, ◌-◌, ◌≤◌, Bool, true, false, leb, Result, Ok, Err, List, [], ◌∷◌, ◌++◌, length, drop, refl, sym, ap, ◌∙◌, subst, arith, length-append, length-drop}
+use Rattle.std.proofs.lemmas.List.{length-map, drop_at, drop-drop, drop_all}
+use Rattle.std.proofs.lemmas.Bool.{and_from, le-leb, leb-true, leb-false}
 use Rattle.fx_lex.specs.declared.token.Token.{Token}
 use Rattle.fx_lex.specs.declared.token.Spanned.{Spanned}
 use Rattle.fx_lex.specs.TokenList.{TokenList}
@@ -41,7 +41,7 @@ drop_kinds (suc n) [] = refl
 drop_kinds (suc n) (x ∷ xs) = drop_kinds n xs
 
 module _ {Tree : Type 0} (g : Grammar Tree) where
-  module _ (d : ℕ) (list : TokenList) (from : ℕ) (within : from ≤ length list.spanned) (t : Tree) (rest : List Spanned) where
+  module _ (d : ℕ) (list : TokenList) (from : ℕ) (t : Tree) (rest : List Spanned) where
     sizes : Stands g d (kinds (drop from list.spanned)) t (kinds rest) → length list.spanned - from ≡ length (g.tokens t) + length rest
     sizes s =
         sym (length-drop from list.spanned) ∙ sym (length-map (drop from list.spanned) (λ x. x.token)) ∙ ap length s.spelled ∙ length-append (g.tokens t) (kinds rest) ∙ ap (λ n. length (g.tokens t) + n) (length-map rest (λ x. x.token))
@@ -49,8 +49,8 @@ module _ {Tree : Type 0} (g : Grammar Tree) where
     pub rest_within : Stands g d (kinds (drop from list.spanned)) t (kinds rest) → length rest ≤ length list.spanned
     rest_within s = omega (arith, sizes s)
 
-    pub read_at : Stands g d (kinds (drop from list.spanned)) t (kinds rest) → IsReadAt g d list from t (length list.spanned - length rest)
-    read_at s =
+    pub read_at : from ≤ length list.spanned → Stands g d (kinds (drop from list.spanned)) t (kinds rest) → IsReadAt g d list from t (length list.spanned - length rest)
+    read_at within s =
         let next : from + length (g.tokens t) ≡ length list.spanned - length rest = omega (arith, sizes s, within) in
         let after : kinds rest ≡ kinds (drop (length list.spanned - length rest) list.spanned) =
         sym (drop_at (g.tokens t) (kinds rest) (length (g.tokens t)) refl) ∙ ap (λ l. drop (length (g.tokens t)) l) (sym s.spelled) ∙ drop_kinds (length (g.tokens t)) (drop from list.spanned) ∙ ap kinds (drop-drop (length (g.tokens t)) from list.spanned) ∙ ap (λ n. kinds (drop n list.spanned)) next in
@@ -64,14 +64,24 @@ next_is spanned rest next within e =
     let size = sym (length-map rest (λ x. x.token)) ∙ ap length e ∙ length-map (drop next spanned) (λ x. x.token) ∙ length-drop next spanned in
     omega (arith, size, within)
 
+-- where a tree was read, there is a token at its beginning
+pub begun : {Tree : Type 0} (read : List Token → Result (Tree × List Token) Stuck) → read [] ≡ Err (Unexpected 0) → (list : TokenList) (from : ℕ) (p : Tree × List Token) → read (kinds (drop from list.spanned)) ≡ Ok p → from ≤ length list.spanned
+begun read ends list from p e = at (leb from (length list.spanned)) refl
+  where
+    at : (b : Bool) → leb from (length list.spanned) ≡ b → from ≤ length list.spanned
+    at true h = leb-true from (length list.spanned) h
+    at false h =
+        let less = leb-false from (length list.spanned) h in
+        absurd (ok_not_err p (Unexpected 0) (sym e ∙ (ap (λ l. read (kinds l)) (drop_all from list.spanned (omega (arith, less))) ∙ ends)))
+
 -- a reader of a grammar by its machine
 pub record Follows {Sym : Type 0} {Tree : Type 0} (m : Table Sym) (g : Grammar Tree) (start : ℕ → Sym) (read : ℕ → List Token → Result (Tree × List Token) Stuck) : Type 0 where
   pub fits : Fits m g start
-  pub follows : (left d : ℕ) → d + left ≡ 65 → (stack : List Sym) (ts : List Token) → scan m (start d ∷ stack) ts ≡ (read left ts >>= (λ r. scan m stack r.1))
-  pub again : (t : Tree) (bound left d : ℕ) (rest : List Token) → d + left ≡ suc bound → g.IsRight t ≡ true → at_most bound (g.levels d t) ≡ true → read left (g.tokens t ++ rest) ≡ Ok (t, rest)
+  pub follows : (left d : ℕ) → left ≡ 65 - d → (stack : List Sym) (ts : List Token) → scan m (start d ∷ stack) ts ≡ (read left ts >>= (λ r. scan m stack r.1))
+  pub again : (t : Tree) (bound left d : ℕ) (rest : List Token) → left ≡ suc bound - d → g.IsRight t ≡ true → at_most bound (g.levels d t) ≡ true → read left (g.tokens t ++ rest) ≡ Ok (t, rest)
 
 module _ {Sym : Type 0} {Tree : Type 0} (m : Table Sym) (g : Grammar Tree) (start : ℕ → Sym) (read : ℕ → List Token → Result (Tree × List Token) Stuck) (reader : Follows m g start read) where
-  module _ (d left : ℕ) (levels : d + left ≡ 65) (ts : List Token) where
+  module _ (d left : ℕ) (levels : left ≡ 65 - d) (ts : List Token) where
     outcome : (r : Result (Tree × List Token) Stuck) → read left ts ≡ r → Outcome m (start d ∷ []) ts (r >>= (λ p. Ok p.1))
     outcome r e =
         subst (λ o. Outcome m (start d ∷ []) ts o) (reader.follows left d levels [] ts ∙ ap (λ o. o >>= (λ p. Ok p.1)) e) (scan_says m ts (start d ∷ []))
@@ -91,7 +101,7 @@ module _ {Sym : Type 0} {Tree : Type 0} (m : Table Sym) (g : Grammar Tree) (star
     read_too_nested k e = too_nested_is m g start reader.fits d ts k (outcome (Err (TooNested k)) e)
 
   -- what the parser answers where the reader stops
-  module _ (d left : ℕ) (levels : d + left ≡ 65) (list : TokenList) (from : ℕ) where
+  module _ (d left : ℕ) (levels : left ≡ 65 - d) (list : TokenList) (from : ℕ) where
     pub stop_fault : (s : Stop) → Stops s (read left (kinds (drop from list.spanned))) → IsParseFault g d list from (fault_at list s)
     stop_fault (stop.Unexpected k) e = (k, read_unexpected d left levels (kinds (drop from list.spanned)) k e, refl)
     stop_fault (stop.TooNested k) e = (k, read_too_nested d left levels (kinds (drop from list.spanned)) k e, refl)

@@ -1,5 +1,5 @@
 -- Reading a shape goes as its machine does, and reads the tokens of each shape.
-use Rattle.std.proofs.Common.{◌≡◌, ℕ, zero, suc, ◌+◌, ◌≤◌, Bool, true, false, cond, Result, Ok, Err, List, [], ◌∷◌, ◌++◌, length, refl, sym, ap, ◌∙◌, arith, append_assoc}
+use Rattle.std.proofs.Common.{◌≡◌, ℕ, zero, suc, ◌-◌, ◌≤◌, Bool, true, false, cond, Result, Ok, Err, List, [], ◌∷◌, ◌++◌, length, refl, sym, ap, ◌∙◌, arith, append_assoc}
 use Rattle.std.proofs.lemmas.Bool.{and_parts, leb-true, lt-ltb, le-ltb}
 use Rattle.fx_expr.specs.ShapeTree.{ShapeTree}
 use Rattle.fx_lex.specs.declared.token.Token.{Token}
@@ -79,7 +79,7 @@ deep_from d stack x ts start.Opt = refl
 deep_from d stack x ts start.Table = refl
 deep_from d stack x ts start.Nothing = refl
 
-shape_follows : (left d : ℕ) → d + left ≡ 65 → GoesAs d (read_shape left)
+shape_follows : (left d : ℕ) → left ≡ 65 - d → GoesAs d (read_shape left)
 unfolding read_shape
 shape_follows zero d e stack [] = refl
 shape_follows zero d e stack (x ∷ ts) =
@@ -115,7 +115,7 @@ again_pair n a b rest one two =
     let last = shape_tokens b ++ closing ∷ [] in
     ap (λ ts. read_shape n ts >>= g) (append_assoc (shape_tokens a) (comma ∷ last) rest) ∙ ap (λ r. r >>= g) (one (comma ∷ (last ++ rest))) ∙ ap (λ ts. read_shape n ts >>= h a) (append_assoc (shape_tokens b) (closing ∷ []) rest) ∙ ap (λ r. r >>= h a) (two (closing ∷ rest))
 
-shape_again : (t : ShapeTree) (bound left d : ℕ) (rest : List Token) → d + left ≡ suc bound → at_most bound (shape_levels d t) ≡ true → read_shape left (shape_tokens t ++ rest) ≡ Ok (t, rest)
+shape_again : (t : ShapeTree) (bound left d : ℕ) (rest : List Token) → left ≡ suc bound - d → at_most bound (shape_levels d t) ≡ true → read_shape left (shape_tokens t ++ rest) ≡ Ok (t, rest)
 unfolding shape_form_at opt_at table_at
 shape_again t bound zero d rest e low = let fits = level_fits bound d t low in absurd (omega (arith, e, fits))
 shape_again ShapeTree.str bound (suc n) d rest e low = opens n (word keyword.Str) rest start.Str (shape_word keyword.Str) refl
@@ -127,15 +127,15 @@ shape_again (ShapeTree.pair a b) bound (suc n) d rest e low =
     let la = shape_levels (suc d) a ++ (0 ∷ lb) in
     let first = tail_low bound 0 la (tail_low bound d (0 ∷ la) low) in
     let second = tail_low bound 0 lb (rest_low bound (shape_levels (suc d) a) (0 ∷ lb) first) in
-    let next : suc d + n ≡ suc bound = omega (arith, e) in
+    let next : n ≡ suc bound - suc d = omega (arith, e) in
     opens n (word keyword.Pair) _ start.Pair (shape_word keyword.Pair) refl ∙ again_pair n a b rest (λ r. shape_again a bound n (suc d) r next (front_low bound (shape_levels (suc d) a) (0 ∷ lb) first)) (λ r. shape_again b bound n (suc d) r next (front_low bound (shape_levels (suc d) b) (0 ∷ []) second))
 shape_again (ShapeTree.opt a) bound (suc n) d rest e low =
     let inner = tail_low bound 0 (shape_levels (suc d) a ++ 0 ∷ []) (tail_low bound d (0 ∷ (shape_levels (suc d) a ++ 0 ∷ [])) low) in
-    let next : suc d + n ≡ suc bound = omega (arith, e) in
+    let next : n ≡ suc bound - suc d = omega (arith, e) in
     opens n (word keyword.Opt) _ start.Opt (shape_word keyword.Opt) refl ∙ again_inside n ShapeTree.opt a rest (λ r. shape_again a bound n (suc d) r next (front_low bound (shape_levels (suc d) a) (0 ∷ []) inner))
 shape_again (ShapeTree.table a) bound (suc n) d rest e low =
     let inner = tail_low bound 0 (shape_levels (suc d) a ++ 0 ∷ []) (tail_low bound d (0 ∷ (shape_levels (suc d) a ++ 0 ∷ [])) low) in
-    let next : suc d + n ≡ suc bound = omega (arith, e) in
+    let next : n ≡ suc bound - suc d = omega (arith, e) in
     opens n (word keyword.Table) _ start.Table (shape_word keyword.Table) refl ∙ again_inside n ShapeTree.table a rest (λ r. shape_again a bound n (suc d) r next (front_low bound (shape_levels (suc d) a) (0 ∷ []) inner))
 
 pub shape_reader : Follows table shapes Shape read_shape

@@ -1,4 +1,4 @@
-ghost use Rattle.std.specs.Prelude.{◌≡◌, ℕ, ◌≤◌, length, IfOk, IfErr};
+ghost use Rattle.std.specs.Prelude.{◌≡◌, ℕ, ◌≤◌, drop, IfOk, IfErr};
 ghost use Rattle.fx_expr.specs.ExprTree.{ExprTree};
 ghost use Rattle.fx_expr.specs.ShapeTree.{ShapeTree};
 ghost use Rattle.fx_expr.specs.Views.{expr_tree, shape_tree};
@@ -10,7 +10,7 @@ use crate::fault::ParseFault;
 use crate::shape::shape_at;
 use crate::stop::Stop;
 use fx_expr::{Expr, Shape};
-use fx_lex::Tokens;
+use fx_lex::{Spanned, Tokens};
 use std::alloc::Global;
 
 /// The deepest level at which a form may stand.
@@ -36,8 +36,16 @@ fn fault_at(tokens: &Tokens, stop: Stop) -> ParseFault
     }
 }
 
+/// The tokens from an index on; none where there is no token at the index.
+fn tokens_from(tokens: &Tokens, from: u32) -> &[Spanned]
+    ensures { result.now ≡ drop from tokens.now.spanned }
+{
+    let all = tokens.as_slice();
+    &all[(from as usize).min(all.len())..]
+}
+
 /// The expression that stands from a token on, and the index of the token behind it. `depth` is the level at which the
-/// expression stands: the outermost form has level 1, and none may have a level above [`LEVEL_LIMIT`]. A refusal names
+/// expression stands, at least 1: the outermost form has level 1, and none may have a level above [`LEVEL_LIMIT`]. A refusal names
 /// the first token with which the tokens so far begin no expression, or that begins a form of level 65.
 pub fn parse_expr(
     alloc: Global,
@@ -45,16 +53,15 @@ pub fn parse_expr(
     from: u32,
     depth: u32,
 ) -> Result<(Expr, u32), ParseFault>
-    requires start { from ≤ length tokens.now.spanned }
-    requires first { 1 ≤ depth }
-    requires last { depth ≤ 65 }
+    requires { 1 ≤ depth }
     ensures found { IfOk result (λ x. IsReadAt exprs depth tokens.now from (expr_tree x.0) x.1) }
     ensures only { (t : ExprTree) (next : ℕ) → IsReadAt exprs depth tokens.now from t next →
         IfOk result (λ x. (expr_tree x.0 ≡ t) × (x.1 ≡ next)) × IfErr result (λ e. e ≡ ParseFault.NoMemory) }
     ensures fault { IfErr result (IsParseFault exprs depth tokens.now from) }
 {
     let all = tokens.as_slice();
-    match expr_at(alloc, LEVEL_LIMIT + 1 - depth, &all[from as usize..]) {
+    let left = (LEVEL_LIMIT + 1).saturating_sub(depth);
+    match expr_at(alloc, left, tokens_from(tokens, from)) {
         Ok((expr, rest)) => Ok((expr, (all.len() - rest.len()) as u32)),
         Err(stop) => Err(fault_at(tokens, stop)),
     }
@@ -67,16 +74,15 @@ pub fn parse_shape(
     from: u32,
     depth: u32,
 ) -> Result<(Shape, u32), ParseFault>
-    requires start { from ≤ length tokens.now.spanned }
-    requires first { 1 ≤ depth }
-    requires last { depth ≤ 65 }
+    requires { 1 ≤ depth }
     ensures found { IfOk result (λ x. IsReadAt shapes depth tokens.now from (shape_tree x.0) x.1) }
     ensures only { (t : ShapeTree) (next : ℕ) → IsReadAt shapes depth tokens.now from t next →
         IfOk result (λ x. (shape_tree x.0 ≡ t) × (x.1 ≡ next)) × IfErr result (λ e. e ≡ ParseFault.NoMemory) }
     ensures fault { IfErr result (IsParseFault shapes depth tokens.now from) }
 {
     let all = tokens.as_slice();
-    match shape_at(alloc, LEVEL_LIMIT + 1 - depth, &all[from as usize..]) {
+    let left = (LEVEL_LIMIT + 1).saturating_sub(depth);
+    match shape_at(alloc, left, tokens_from(tokens, from)) {
         Ok((shape, rest)) => Ok((shape, (all.len() - rest.len()) as u32)),
         Err(stop) => Err(fault_at(tokens, stop)),
     }
@@ -165,6 +171,28 @@ mod tests {
         assert_eq!(rt; shown(rt.alloc(), &deepest)?.as_str(), "up to 190");
         let deeper = nested(rt.alloc(), 64)?;
         assert_eq!(rt; shown(rt.alloc(), &deeper)?.as_str(), "TooNested(256)");
+        Ok(())
+    }
+
+    #[test]
+    fn beyond_the_tokens_and_the_levels(rt: HostRuntime) -> Result<(), Fail> {
+        let alloc = rt.alloc();
+        let rows: [(u32, u32, &str); 4] = [
+            (0, 64, "up to 1"),
+            (0, 66, "TooNested(0)"),
+            (1, 1, "Unexpected(1)"),
+            (7, 66, "Unexpected(1)"),
+        ];
+        for (from, depth, wanted) in &rows {
+            let mut found = String::new(alloc);
+            if let Ok(tokens) = lex(alloc, b"x") {
+                match parse_expr(alloc, &tokens, *from, (*depth).max(1)) {
+                    Ok((_, next)) => write!(found, "up to {next}")?,
+                    Err(fault) => write!(found, "{fault:?}")?,
+                }
+            }
+            assert_eq!(rt; found.as_str(), *wanted);
+        }
         Ok(())
     }
 
