@@ -1,6 +1,5 @@
-ghost use Rattle.std.specs.Prelude.{◌≡◌, ◌++◌, [], ◌∷◌, IfOk, IfErr, IfSome, None, length, slice_get, ◌↔◌, ◌≤◌};
+ghost use Rattle.std.specs.Prelude.{◌≡◌, [], IfOk, IfErr, IfSome, None, length, ◌↔◌, ◌≤◌};
 ghost use Rattle.std.specs.FinMap.{get};
-ghost use Rattle.fx_store.specs.Whole.{IsWhole};
 ghost use Rattle.fx_spec.specs.Bases.{base_tree};
 ghost use Rattle.fx_machine.specs.Explained.{IsExplained};
 ghost use Rattle.fx_machine.specs.Machine.{next_number};

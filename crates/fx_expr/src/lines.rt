@@ -1,4 +1,4 @@
-ghost use Rattle.std.specs.Prelude.{◌≡◌, ◌++◌, [], ◌∷◌, ◌≤◌, IfOk, OnOk, cond, length, nat_lt};
+ghost use Rattle.std.specs.Prelude.{◌≡◌, ◌++◌, [], ◌∷◌, IfOk, OnOk, cond, length, nat_lt};
 ghost use Rattle.fx_expr.specs.Bytes.{IsText};
 ghost use Rattle.fx_expr.specs.Eval.{pieces};
 ghost use Rattle.fx_expr.specs.Sets.{set_of};

@@ -246,8 +246,8 @@ module _ (t : Tree) (whole : IsWhole t) (P : Parts) where
       named_as : (o : Option Parts) → rest_of P e.0 ≡ o → named_in P e ≡ option_map (λ n. (n, e.1)) (only_name o)
       named_as o is = ap (option_map (λ n. (n, e.1))) (named_rest P e.0 ∙ ap only_name is)
 
-      below_as : (o : Option Parts) → rest_of P e.0 ≡ o → held_below P e ≡ option_map_or (λ names. Some (names, e.1)) (option_and_then deep.inside o) None
-      below_as o is = ap (λ r. option_map_or (λ names. Some (names, e.1)) (option_and_then deep.inside r) None) is
+      below_as : (o : Option Parts) → rest_of P e.0 ≡ o → held_below P e ≡ option_map (λ names. (names, e.1)) (option_and_then deep.inside o)
+      below_as o is = ap (λ r. option_map (λ names. (names, e.1)) (option_and_then deep.inside r)) is
 
       passed : ((a : List ℕ) → rest_of P e.0 ≡ Some (a ∷ []) → ⊥) → FoldersAhead es
       passed never a x is folder = ap (λ b. cond b (Some e.1) (find parts_cmp (P ++ a ∷ []) es)) (sym (apart_from P e.0 a (never a))) ∙ ahead a x is folder

@@ -1,8 +1,8 @@
 -- What a folder of any depth is loaded as, links included, or why it is refused; and the folder of a filestore. The loader
 -- that is built takes flat folders alone.
-use Rattle.std.specs.Prelude.{◌≡◌, ℕ, ◌+◌, ◌-◌, Bool, false, nat_le, nat_lt, cond, not, ◌||◌, ◌&&◌, List, [], ◌∷◌, ◌++◌, map, length, take, bytes_eq, Option, Some, None, Result, Ok, Err}
-use Rattle.std.specs.Option.{option_or, option_map_or, option_and_then}
-use Rattle.std.specs.List.{flat_map, filter_map, filter, slice_split, slice_get, sum_by}
+use Rattle.std.specs.Prelude.{◌≡◌, ℕ, ◌+◌, ◌-◌, Bool, false, nat_le, nat_lt, cond, not, ◌||◌, ◌&&◌, List, [], ◌∷◌, ◌++◌, map, length, take, slice_index_or, bytes_eq, Option, Some, None, Result, Ok, Err}
+use Rattle.std.specs.Option.{option_or, option_map, option_and_then}
+use Rattle.std.specs.List.{flat_map, filter_map, filter, slice_split, sum_by}
 use Rattle.std.specs.FinMap.{entries, get, find, put, from_entries}
 use Rattle.fx_outside.specs.declared.kind.HostKind.{HostKind}
 use Rattle.fx_outside.specs.declared.kind.HostKind.TheVariants as kind
@@ -30,7 +30,7 @@ inside [] = None
 inside (name ∷ names) = Some (name ∷ names)
 
 abbrev pub held_below : Parts → Parts × Entry → Option Held
-held_below folder e = option_map_or (λ names. Some (names, e.1)) (option_and_then inside (rest_of folder e.0)) None
+held_below folder e = option_map (λ names. (names, e.1)) (option_and_then inside (rest_of folder e.0))
 
 -- all that stands below a folder: each folder comes before what stands in it, and that before the next name
 abbrev pub all_below : Tree → Parts → List Held
@@ -54,7 +54,7 @@ abbrev pub place_of : Parts → List ℕ
 place_of names = flat_map (λ name. 47 ∷ name) names
 
 abbrev pub last_name : Parts → List ℕ
-last_name names = option_map_or (λ name. name) (slice_get names (length names - 1)) []
+last_name names = slice_index_or names (length names - 1) []
 
 abbrev pub refused_kind : Parts → HostKind → Option FolderCause
 refused_kind names kind.File = None

@@ -1,16 +1,13 @@
 //! Folders as filestores.
-ghost use Rattle.std.specs.Prelude.{◌≡◌, ◌⊎◌, ◌+◌, ◌-◌, ◌<◌, ◌≤◌, ◌++◌, ◌∷◌, ℕ, List, length, true, false, min, map, take, drop, Ok, Err, IfOk, IfErr, OnOk, IfSome, IsSomeAnd, None, Some};
-ghost use Rattle.std.specs.Map.{keys_of};
-ghost use Rattle.std.specs.FinMap.{entries, get};
-ghost use Rattle.std.specs.List.Sorted.{IsStrictlySortedBy};
+ghost use Rattle.std.specs.Prelude.{◌≡◌, ◌⊎◌, ◌+◌, ◌-◌, ◌<◌, ◌≤◌, length, true, false, min, Ok, Err, IfOk, IfErr, IfSome, IsSomeAnd, Some};
+ghost use Rattle.std.specs.FinMap.{get};
 ghost use Rattle.fx_base.specs.Causes.{Rose};
-ghost use Rattle.fx_outside.specs.Listing.{name_cmp};
-ghost use Rattle.fx_outside.specs.Path.{parts, is_fit};
+ghost use Rattle.fx_outside.specs.Path.{parts};
 ghost use Rattle.fx_outside.specs.Tree.{Lists, is_folder_at, is_file_at, bytes_at};
 ghost use Rattle.fx_folder.specs.declared.fault.LoadFault.TheVariants.{ReadFault, NoMemory};
 ghost use Rattle.fx_folder.specs.Folder.{IsFlat};
 ghost use Rattle.fx_folder.specs.Held.{held};
-ghost use Rattle.fx_folder.specs.Loads.{loads, Loads, LoadCause, AnswersAs, place, most_bytes, refused_unread, first_refusal, files};
+ghost use Rattle.fx_folder.specs.Loads.{loads, Loads, LoadCause, AnswersAs, place, refused_unread, files};
 ghost use Rattle.fx_folder.specs.Reads.{path_below, entry_bytes, HasEntry, PassesUnread, ReadsFile, ReadsEntry, ReadsFiles};
 
 use crate::{FolderCause, LoadFault};

@@ -1,5 +1,5 @@
 //! Whether a folder can be written at a path.
-ghost use Rattle.std.specs.Prelude.{◌≡◌, ◌⊎◌, ◌≤◌, true, false, IfOk, IfErr, IfSome};
+ghost use Rattle.std.specs.Prelude.{◌≡◌, ◌≤◌, true, false, IfOk, IfErr, IfSome};
 ghost use Rattle.fx_base.specs.Causes.{Rose};
 ghost use Rattle.fx_outside.specs.Tree.{is_folder_at};
 ghost use Rattle.fx_folder.specs.Folder.{IsReady, IsTaken, ReadyCause};

@@ -1,5 +1,5 @@
 //! Filestores as folders.
-ghost use Rattle.std.specs.Prelude.{◌≡◌, ◌⊎◌, ◌≤◌, ◌++◌, ◌∷◌, [], true, Ok, Err, IfOk, IfErr, OnOk, OnErr, IfSome, IsSome};
+ghost use Rattle.std.specs.Prelude.{◌≡◌, ◌≤◌, ◌∷◌, [], true, Ok, Err, IfOk, IfErr, OnOk, OnErr, IfSome, IsSome};
 ghost use Rattle.std.specs.FinMap.{get};
 ghost use Rattle.fx_base.specs.Causes.{Rose};
 ghost use Rattle.fx_store.specs.Names.{IsName};

@@ -1,4 +1,4 @@
-ghost use Rattle.std.specs.Prelude.{◌≡◌, ℕ, ◌+◌, ◌-◌, ◌*◌, ◌^◌, ◌<◌, ◌≤◌, ◌⊎◌, pos, length, IfSome, IfNone, SomeIff, All};
+ghost use Rattle.std.specs.Prelude.{◌≡◌, ◌+◌, ◌-◌, ◌*◌, ◌^◌, ◌<◌, ◌≤◌, pos, IfSome, IfNone, SomeIff};
 ghost use Rattle.fx_lex.specs.Spelling.{IsDigitRun, HasNoLeadingZero, digits_value, number_limit};
 
 /// Ten times the value, and the digit.

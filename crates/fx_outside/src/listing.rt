@@ -1,5 +1,5 @@
 //! What a folder holds directly.
-ghost use Rattle.std.specs.Prelude.{◌≡◌, ◌++◌, [], ◌∷◌, ◌↔◌, IsTrue, slice_get, option_copied, option_map, OnOk, OnErr, List, ℕ};
+ghost use Rattle.std.specs.Prelude.{◌≡◌, [], ◌↔◌, IsTrue, slice_get, option_copied, option_map, OnOk, OnErr};
 ghost use Rattle.std.specs.FinMap.{entries};
 ghost use Rattle.std.specs.FinMap as map;
 ghost use Rattle.fx_outside.specs.Listing.{name_cmp, StandsAfter};

@@ -1,5 +1,5 @@
 //! The tree of a host in memory.
-ghost use Rattle.std.specs.Prelude.{◌≡◌, ◌∷◌, ◌<◌, ◌≤◌, length, option_map, IfOk, OnOk, OnErr, IfSome, IsSome, ◌↔◌, IsTrue};
+ghost use Rattle.std.specs.Prelude.{◌≡◌, ◌<◌, ◌≤◌, length, option_map, IfOk, OnOk, OnErr, IfSome, IsSome};
 ghost use Rattle.std.specs.FinMap.{get, insert};
 ghost use Rattle.fx_outside.specs.Tree.{has_folder, is_free, Lists};
 ghost use Rattle.fx_outside.specs.Host.{ReadsAt};

@@ -1,7 +1,7 @@
 //! Host paths as lists of parts.
-ghost use Rattle.std.specs.Prelude.{◌≡◌, ◌==◌, map, IfOk, length, take, option_copied};
+ghost use Rattle.std.specs.Prelude.{◌≡◌, ◌==◌, map, IfOk, length, option_copied};
 ghost use Rattle.std.specs.List.{list_all};
-ghost use Rattle.fx_outside.specs.Path.{parts, parts_cmp, is_fit_part, is_fit, fit_parts, above, name_in};
+ghost use Rattle.fx_outside.specs.Path.{parts, parts_cmp, is_fit_part, fit_parts, above, name_in};
 
 use crate::HostText;
 use fx_base::NoMemory;

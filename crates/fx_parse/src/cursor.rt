@@ -1,4 +1,4 @@
-ghost use Rattle.std.specs.Prelude.{◌≡◌, ◌∷◌, [], MatchOption, map, IfOk};
+ghost use Rattle.std.specs.Prelude.{◌≡◌, ◌∷◌, [], MatchOption};
 ghost use Rattle.fx_parse.specs.Reader.{kinds, expect, is_opening, is_closing, is_comma, glob_at, middle_at};
 ghost use Rattle.fx_parse.specs.Heads.{operator_middle};
 ghost use Rattle.fx_parse.specs.Stuck.{Gives};

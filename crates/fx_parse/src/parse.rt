@@ -45,8 +45,8 @@ fn tokens_from(tokens: &Tokens, from: u32) -> &[Spanned]
 }
 
 /// The expression that stands from a token on, and the index of the token behind it. `depth` is the level at which the
-/// expression stands, at least 1: the outermost form has level 1, and none may have a level above [`LEVEL_LIMIT`]. A refusal names
-/// the first token with which the tokens so far begin no expression, or that begins a form of level 65.
+/// expression stands, at least 1: the outermost form has level 1, and none may have a level above [`LEVEL_LIMIT`]. A
+/// refusal names the first token with which the tokens so far begin no expression, or that begins a form of level 65.
 pub fn parse_expr(
     alloc: Global,
     tokens: &Tokens,

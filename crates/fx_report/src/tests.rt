@@ -4,13 +4,17 @@ ghost use Rattle.std.specs.declared.cmp.Ordering.{Ordering};
 ghost use Rattle.std.specs.Ordering.{nat_cmp};
 ghost use Rattle.std.specs.Cmp.Lexicographic.{slice_cmp};
 
-use crate::{PrintedEntries, PrintedEntry, Retries, Retry, printed_report, value_line};
+use crate::{
+    PrintedEntries, PrintedEntry, Retries, Retry, event_lines, printed_report, report, value_line,
+};
 use fx_base::NoMemory;
+use fx_board::{Board, Event, Events};
 use fx_expr::{ExprFault, Keyed, Text, TextSet, Value, Values};
-use fx_spec::{End, Refusal};
-use fx_store::Path;
+use fx_spec::{Base, Checked, End, Plan, Refusal, Spec};
+use fx_store::{Filestore, Path};
 use std::alloc::Global;
 use std::process::Abort;
+use std::sync::Arc;
 use std::test::Fail;
 
 fn text(alloc: Global, bytes: &[u8]) -> Result<Text, NoMemory>
@@ -203,6 +207,55 @@ fn every_end_once(rt: HostRuntime) -> Result<(), Fail> {
     assert_eq!(rt;
         printed.as_slice(),
         b"forest report 1\nentries 14\nentry 0 shell 63 txn 99999 aborted\nentry 1 shell 0 txn 0 stopped 0 1 NoStep\nentry 2 shell 0 txn 0 stopped 1 3 NoPlace\nentry 3 shell 0 txn 0 stopped 2 4 Lacks\nentry 4 shell 0 txn 0 stopped 3 5 WrongForm\nentry 5 shell 0 txn 0 stopped 4 6 Blocked \"/l41/a b\"\nentry 6 shell 0 txn 0 stopped 5 7 TooDeep\nentry 7 shell 0 txn 0 stopped 6 8 BadName\nentry 8 shell 0 txn 0 stopped 7 9 NoDefault\nentry 9 shell 0 txn 0 stopped 8 10 Expr TooLong\nentry 10 shell 0 txn 0 stopped 9 10 Expr Overflow\nentry 11 shell 0 txn 0 stopped 10 10 Expr NotNumber\nentry 12 shell 0 txn 0 stopped 11 11 Absent\nentry 13 shell 0 txn 0 stopped 4294967295 12 Exists\nretries 0\nend\n".as_slice()
+    );
+    Ok(())
+}
+
+fn empty_board(alloc: Global) -> Result<Board, NoMemory> {
+    let base = Base {
+        description: Checked::of(Spec::File),
+        plan: Plan::new(alloc),
+        loaded: Filestore::new(alloc)?,
+    };
+    Board::new(alloc, Arc::new(alloc, base)?)
+}
+
+#[test]
+fn a_log_without_entries(rt: HostRuntime) -> Result<(), Fail> {
+    let alloc = rt.alloc();
+    let printed = report(alloc, &empty_board(alloc)?, &Retries::new(alloc))?;
+    assert_eq!(rt;
+        printed.as_slice(),
+        b"forest report 1\nentries 0\nretries 0\nend\n".as_slice()
+    );
+    Ok(())
+}
+
+#[test]
+fn every_form_of_event(rt: HostRuntime) -> Result<(), Fail> {
+    let alloc = rt.alloc();
+    let mut events = Events::new(alloc);
+    events.add(
+        alloc,
+        Event::Look {
+            shell: 1,
+            path: path(alloc, b"/a b")?,
+            position: 7,
+        },
+    )?;
+    events.add(
+        alloc,
+        Event::Conflict {
+            shell: 63,
+            entry: 6,
+            path: path(alloc, b"/")?,
+        },
+    )?;
+    events.add(alloc, Event::Settled { shell: 0, entry: 8 })?;
+    let printed = event_lines(alloc, &events)?;
+    assert_eq!(rt;
+        printed.as_slice(),
+        b"look 1 \"/a b\" 7\nconflict 63 6 \"/\"\nsettled 0 8\n".as_slice()
     );
     Ok(())
 }

@@ -1,14 +1,10 @@
 ghost use Rattle.std.specs.Prelude.{◌≡◌, ◌^◌, ◌<◌, true, length, IsSome, IfOk, IfErr};
 ghost use Rattle.fx_spec.specs.Bases.{base_tree};
-ghost use Rattle.fx_spec.specs.Plans.{txn_of, IsPlan};
+ghost use Rattle.fx_spec.specs.Plans.{txn_of};
 ghost use Rattle.fx_spec.specs.Views.{spec_tree};
 ghost use Rattle.fx_forms.specs.Built.{is_built_spec, is_built_plan, is_built_txn};
 ghost use Rattle.fx_machine.specs.Explained.{IsExplained};
-ghost use Rattle.fx_view.specs.Follows.{Follows};
-ghost use Rattle.fx_view.specs.Own.{AreRead};
-ghost use Rattle.fx_run.specs.Course.{pursued, came_of};
 ghost use Rattle.fx_run.specs.Finishing.{Finishes};
-ghost use Rattle.fx_run.specs.Pursuing.{no_own};
 ghost use Rattle.fx_run.specs.Running.{ReadsFit, Attempted, StoppedAt};
 
 use crate::finishing::finish;

@@ -9,5 +9,7 @@ mod making;
 mod pursuing;
 mod standing;
 mod storing;
+#[cfg(test)]
+mod tests;
 
 pub use engine::run;

@@ -2,7 +2,6 @@
 ghost use Rattle.std.specs.Prelude.{◌≡◌, ◌++◌, ◌∷◌, ◌+◌, ◌≤◌, ◌<◌, [], length, drop, IfOk};
 ghost use Rattle.fx_store.specs.declared.node.Node.{Node};
 ghost use Rattle.fx_store.specs.declared.node.Node.TheVariants.{File, Dir};
-ghost use Rattle.fx_store.specs.Names.{IsName};
 ghost use Rattle.fx_store.specs.Resolve.{◌/ₚ◌};
 ghost use Rattle.fx_expr.specs.Sets.{with_text};
 ghost use Rattle.fx_spec.specs.Edit.{names_of};

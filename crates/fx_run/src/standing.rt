@@ -1,5 +1,5 @@
 //! Where a transaction stands between two commands, and what each command comes to.
-ghost use Rattle.std.specs.Prelude.{◌≡◌, ◌++◌, ◌∷◌, [], List, true, IfOk, OnOk};
+ghost use Rattle.std.specs.Prelude.{◌≡◌, ◌++◌, ◌∷◌, [], true, IfOk, OnOk};
 ghost use Rattle.fx_expr.specs.Eval.{eval_of};
 ghost use Rattle.fx_expr.specs.ShapeTree.{ShapeTree};
 ghost use Rattle.fx_expr.specs.Shapes.{IsWellShaped, ValueHas};

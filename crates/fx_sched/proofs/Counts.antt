@@ -8,6 +8,7 @@ use Rattle.std.proofs.lemmas.List.Sums.{sum_by-cons, sum_by-append}
 use Rattle.std.proofs.lemmas.Option.{slice_get_cases}
 use Rattle.fx_spec.specs.Plans.{Turn, script_of, count_of}
 use Rattle.fx_spec.specs.Order.{BaseTree, numbers_of}
+use Rattle.fx_spec.proofs.Orders.{numbers_own, numbers_other}
 use Rattle.fx_machine.specs.declared.event.Event.{Event}
 use Rattle.fx_machine.specs.declared.event.Event.TheVariants as event
 use Rattle.fx_machine.specs.declared.retry.Retry.{Retry}
@@ -16,7 +17,6 @@ use Rattle.fx_machine.specs.Measure.{has_left}
 use Rattle.fx_machine.specs.Tried.{conflicts_of}
 use Rattle.fx_machine.specs.Turns.{is_settled_by, has_more}
 use Rattle.fx_sched.specs.Recorded.{noted}
-use Rattle.fx_sched.proofs.Worlds.{numbers_own, numbers_other}
 
 abbrev pub settled_by : ℕ → List Event → ℕ
 settled_by k events = count_by (is_settled_by k) events

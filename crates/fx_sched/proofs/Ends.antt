@@ -7,6 +7,7 @@ use Rattle.std.proofs.lemmas.List.Folds.{flat_map-map}
 use Rattle.std.proofs.Math.Seq.{get_or-append_seam}
 use Rattle.fx_spec.specs.Plans.{Turn, script_of, count_of}
 use Rattle.fx_spec.specs.Order.{BaseTree, IsComplete, RetriesOk, numbers_of, first_numbers}
+use Rattle.fx_spec.proofs.Orders.{numbers_other}
 use Rattle.fx_machine.specs.declared.event.Event.{Event}
 use Rattle.fx_machine.specs.declared.event.Event.TheVariants as event
 use Rattle.fx_machine.specs.declared.retry.Retry.{Retry}
@@ -23,7 +24,6 @@ use Rattle.fx_sched.specs.Recorded.{lists_of, joined, HadTurns, HadRounds}
 use Rattle.fx_sched.specs.Traced.{IsTraced}
 use Rattle.fx_sched.proofs.Counts.{some_within}
 use Rattle.fx_sched.proofs.Records.{first_contains, true_false, retries_in}
-use Rattle.fx_sched.proofs.Worlds.{numbers_other}
 
 -- ---- a shell with no transaction left looks at nothing
 

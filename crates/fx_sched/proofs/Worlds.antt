@@ -1,16 +1,16 @@
 -- A step of one shell is a step of its world.
-use Rattle.std.proofs.Common.{◌≡◌, ◌≢◌, ℕ, zero, suc, ◌<◌, ◌≤◌, true, false, List, [], ◌∷◌, ◌++◌, map, length, get_or, set, replicate, slice_get, Option, Some, None, IsSome, is_some, refl, sym, ap, subst, ◌∙◌, arith, length-append, nat_eq, eq-eqb, cond}
+use Rattle.std.proofs.Common.{◌≡◌, ◌≢◌, ℕ, zero, suc, ◌<◌, ◌≤◌, true, false, List, [], ◌∷◌, ◌++◌, map, length, get_or, set, replicate, slice_get, Option, Some, None, IsSome, is_some, refl, sym, ap, subst, ◌∙◌, arith, length-append}
 use Rattle.std.specs.FinMap.{get}
-use Rattle.std.specs.List.{IsDistinct, cons_option}
+use Rattle.std.specs.List.{IsDistinct}
 use Rattle.std.proofs.lemmas.Bool.{ne_eqb}
-use Rattle.std.proofs.lemmas.List.Elements.{filter_map-append}
-use Rattle.std.proofs.lemmas.List.{append-nil, map-append, map-set, set-get_or, length-set, length-replicate}
+use Rattle.std.proofs.lemmas.List.{map-append, map-set, set-get_or, length-set, length-replicate}
 use Rattle.std.proofs.lemmas.Option.{none-some, same_Some, slice_get-get_or, slice_get_past}
 use Rattle.fx_spec.specs.declared.base.Base.{Base}
 use Rattle.fx_spec.specs.Bases.{base_tree}
 use Rattle.fx_spec.specs.CommandTree.{CommandTree}
 use Rattle.fx_spec.specs.Plans.{Turn, txn_of, script_of, count_of}
-use Rattle.fx_spec.specs.Order.{BaseTree, numbers_of, number_in}
+use Rattle.fx_spec.specs.Order.{BaseTree, numbers_of}
+use Rattle.fx_spec.proofs.Orders.{numbers_own, numbers_other}
 use Rattle.fx_forms.specs.Built.{is_built_spec, is_built_plan}
 use Rattle.fx_view.specs.ReadList.{ReadList}
 use Rattle.fx_machine.specs.declared.event.Event.{Event}
@@ -59,16 +59,6 @@ set_machine o shells number t looks e =
 pub run_more : (base : BaseTree) (m : Machine) (events : List Event) (m' : Machine) (e : Event) (m'' : Machine) → Run base m events m' → Step base m' e m'' → Run base m (events ++ e ∷ []) m''
 run_more base m [] m' e m'' run step = (m'', subst (λ m. Step base m e m'') (sym run) step, refl)
 run_more base m (x ∷ events) m' e m'' run step = (run.0, run.1, run_more base run.0 events m' e m'' run.2 step)
-
--- ---- numbers
-
-pub numbers_own : (o : List Turn) (shell txn : ℕ) → numbers_of shell (o ++ (shell, txn) ∷ []) ≡ numbers_of shell o ++ txn ∷ []
-numbers_own o shell txn =
-    filter_map-append (number_in shell) o ((shell, txn) ∷ []) ∙ ap (λ b. numbers_of shell o ++ cons_option (cond b (Some txn) None) []) (eq-eqb shell shell refl)
-
-pub numbers_other : (o : List Turn) (k shell txn : ℕ) → nat_eq shell k ≡ false → numbers_of k (o ++ (shell, txn) ∷ []) ≡ numbers_of k o
-numbers_other o k shell txn e =
-    filter_map-append (number_in k) o ((shell, txn) ∷ []) ∙ ap (λ b. numbers_of k o ++ cons_option (cond b (Some txn) None) []) e ∙ append-nil (numbers_of k o)
 
 -- ---- one shell
 

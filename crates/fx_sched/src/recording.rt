@@ -1,9 +1,9 @@
 //! A run as it is recorded: the world, its events, and its retries by shell.
-ghost use Rattle.std.specs.Prelude.{◌≡◌, ◌<◌, ◌++◌, ◌∷◌, true, All, IfOk, OnOk, [], map, length, slice_index_or};
+ghost use Rattle.std.specs.Prelude.{◌≡◌, ◌<◌, ◌++◌, ◌∷◌, true, All, IfOk, [], length};
 ghost use Rattle.fx_spec.specs.Bases.{base_tree};
 ghost use Rattle.fx_spec.specs.Order.{first_numbers};
 ghost use Rattle.fx_forms.specs.Built.{is_built_spec, is_built_plan};
-ghost use Rattle.fx_machine.specs.Machine.{shell_of, next_number};
+ghost use Rattle.fx_machine.specs.Machine.{shell_of};
 ghost use Rattle.fx_sched.specs.Recorded.{lists_of, noted, joined, IsRecording, HadTurns, HadRounds};
 
 use crate::world::World;

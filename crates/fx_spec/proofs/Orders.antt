@@ -16,12 +16,12 @@ use Rattle.fx_spec.specs.Laws.{is_turn, CompleteHasEachOnce}
 pub legal_none : (base : BaseTree) → IsLegal base []
 legal_none base shell = record { in_turn = refl; planned = omega arith }
 
--- the numbers of a shell with one more transaction
-numbers_own : (o : List Turn) (shell txn : ℕ) → numbers_of shell (o ++ (shell, txn) ∷ []) ≡ numbers_of shell o ++ txn ∷ []
+-- the numbers of a shell with one more transaction, its own or another shell's
+pub numbers_own : (o : List Turn) (shell txn : ℕ) → numbers_of shell (o ++ (shell, txn) ∷ []) ≡ numbers_of shell o ++ txn ∷ []
 numbers_own o shell txn =
     filter_map-append (number_in shell) o ((shell, txn) ∷ []) ∙ ap (λ b. numbers_of shell o ++ cons_option (cond b (Some txn) None) []) (eq-eqb shell shell refl)
 
-numbers_other : (o : List Turn) (k shell txn : ℕ) → nat_eq shell k ≡ false → numbers_of k (o ++ (shell, txn) ∷ []) ≡ numbers_of k o
+pub numbers_other : (o : List Turn) (k shell txn : ℕ) → nat_eq shell k ≡ false → numbers_of k (o ++ (shell, txn) ∷ []) ≡ numbers_of k o
 numbers_other o k shell txn e =
     filter_map-append (number_in k) o ((shell, txn) ∷ []) ∙ ap (λ b. numbers_of k o ++ cons_option (cond b (Some txn) None) []) e ∙ append-nil (numbers_of k o)
 

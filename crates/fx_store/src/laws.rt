@@ -1,6 +1,5 @@
 //! Laws of the definitions that the contracts of this crate and of those above it cite. Each stands on a function that does
 //! nothing, so that it is proved with the crate.
-ghost use Rattle.std.specs.Prelude.{◌≡◌};
 ghost use Rattle.fx_store.specs.Whole.{Store};
 ghost use Rattle.fx_store.specs.Rule.{Ask, Known, AgreesWith, FollowedAt, follow, DependsOnAsked};
 ghost use Rattle.fx_store.specs.Landings.{LandsByTheRules, LandingsAreTrue, LandingDependsOnLooks};

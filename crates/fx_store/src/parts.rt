@@ -1,5 +1,5 @@
 //! Texts as parts with one `/` between each two.
-ghost use Rattle.std.specs.Prelude.{◌≡◌, ◌++◌, ◌+◌, ◌-◌, ◌<◌, ◌≤◌, true, length, nat_lt, count_by, OnOk};
+ghost use Rattle.std.specs.Prelude.{◌≡◌, ◌++◌, ◌+◌, ◌-◌, ◌<◌, true, length, nat_lt, count_by, OnOk};
 ghost use Rattle.std.specs.List.{list_all, slice_split};
 ghost use Rattle.fx_store.specs.Names.{is_name, is_component, is_slash, after_slash};
 

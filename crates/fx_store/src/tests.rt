@@ -241,3 +241,55 @@ fn a_filestore_is_made_and_copied(rt: HostRuntime) -> Result<(), Fail> {
     assert!(rt; store.at(2).is_none());
     Ok(())
 }
+
+fn with_a_place(alloc: Global, path: Path) -> Result<Filestore, NoMemory> {
+    let mut store = Filestore::new(alloc)?;
+    let mut changes = Changes::new(alloc);
+    let node = Some(Node::Dir(Names::new(alloc)));
+    if changes.is_next(&path) {
+        changes.add(alloc, Change { path, node })?;
+    }
+    store.reserve(alloc, &changes)?;
+    Ok(store)
+}
+
+#[test]
+fn places_are_reserved(rt: HostRuntime) -> Result<(), Fail> {
+    let path = Path::read(rt.alloc(), b"/a").ok().ok_or("a path")?;
+    let store = with_a_place(rt.alloc(), path.copy(rt.alloc())?)?;
+    assert_eq!(rt; store.places(), 2);
+    assert!(rt; store.get(&path).is_none());
+    Ok(())
+}
+
+fn copied_change(alloc: Global, text: &LinkText) -> Result<Change, NoMemory> {
+    let node = Node::Link(text.copy(alloc)?);
+    let change = Change {
+        path: Path::root(alloc),
+        node: Some(node.copy(alloc)?),
+    };
+    change.copy(alloc)
+}
+
+#[test]
+fn links_and_changes_are_copied(rt: HostRuntime) -> Result<(), Fail> {
+    let text = LinkText::read(rt.alloc(), b"b").ok().ok_or("a link text")?;
+    let change = copied_change(rt.alloc(), &text)?;
+    assert_eq!(rt; change.path.len(), 0);
+    assert!(rt; matches!(change.node, Some(Node::Link(_))));
+    Ok(())
+}
+
+#[test]
+fn copies_are_clones(rt: HostRuntime) -> Result<(), Fail> {
+    let name = Name::read(rt.alloc(), b"a").ok().ok_or("a name")?;
+    let text = LinkText::read(rt.alloc(), b"b").ok().ok_or("a link text")?;
+    assert_eq!(rt; name.clone()?.as_slice(), b"a".as_slice());
+    assert_eq!(rt; some_bytes(rt.alloc())?.clone()?.len(), 1);
+    assert_eq!(rt; some_names(rt.alloc(), &name)?.clone()?.len(), 1);
+    assert_eq!(rt; Path::root(rt.alloc()).clone()?.len(), 0);
+    assert_eq!(rt; text.clone()?.as_slice(), b"b".as_slice());
+    let change = copied_change(rt.alloc(), &text)?.clone()?;
+    assert_eq!(rt; size_of(change.node.clone()?.as_ref()), 0);
+    Ok(())
+}

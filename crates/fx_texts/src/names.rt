@@ -1,5 +1,4 @@
 ghost use Rattle.std.specs.Prelude.{◌≡◌, [], ◌∷◌, OnOk};
-ghost use Rattle.std.specs.List.{list_any};
 ghost use Rattle.fx_forms.specs.Built.{is_one_of};
 
 use fx_base::NoMemory;

@@ -1,5 +1,5 @@
 //! Whole runs from a base on.
-ghost use Rattle.std.specs.Prelude.{◌≡◌, ◌<◌, ◌++◌, true, All, IfOk, length};
+ghost use Rattle.std.specs.Prelude.{◌≡◌, ◌<◌, ◌++◌, true, IfOk, length};
 ghost use Rattle.std.specs.FinMap.{get};
 ghost use Rattle.fx_folder.specs.Folder.{IsFlat};
 ghost use Rattle.fx_forms.specs.Built.{is_built_spec, is_built_plan};

@@ -1,11 +1,10 @@
 //! Transactions of the plan, each run whole on a filestore.
-ghost use Rattle.std.specs.Prelude.{◌≡◌, Bool, true, None, length, Any, IfOk, OnOk, IfSome, IfNone, IsSome, refl};
+ghost use Rattle.std.specs.Prelude.{◌≡◌, true, None, length, Any, IfOk, OnOk, IfSome, IfNone, IsSome, refl};
 ghost use Rattle.std.specs.FinMap.{get};
 ghost use Rattle.fx_spec.specs.Bases.{base_tree};
 ghost use Rattle.fx_spec.specs.Order.{after_txn, state};
 ghost use Rattle.fx_spec.specs.Plans.{txn_of};
 ghost use Rattle.fx_forms.specs.Built.{is_built_spec, is_built_plan};
-ghost use Rattle.fx_view.specs.ReadList.{ReadList};
 ghost use Rattle.fx_view.specs.Reads.{Agrees};
 ghost use Rattle.fx_report.specs.Entries.{entries_of};
 ghost use Rattle.fx_top.specs.Replay.{entry_on, IsReplayed};

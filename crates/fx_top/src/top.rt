@@ -1,5 +1,5 @@
 //! The top call.
-ghost use Rattle.std.specs.Prelude.{◌≡◌, ◌⊎◌, ◌↔◌, ◌≤◌, None, IfOk, IfSome, length, true};
+ghost use Rattle.std.specs.Prelude.{◌≡◌, ◌⊎◌, ◌↔◌, None, IfSome, length, true};
 ghost use Rattle.std.specs.FinMap.{get};
 ghost use Rattle.fx_base.specs.Causes.{Rose};
 ghost use Rattle.fx_folder.specs.Folder.{IsFlat};

@@ -1,5 +1,5 @@
 //! A seat of a turn.
-ghost use Rattle.std.specs.Prelude.{◌≡◌, true, None, Some};
+ghost use Rattle.std.specs.Prelude.{◌≡◌, true};
 ghost use Rattle.fx_turn.specs.Histories.{own};
 ghost use Rattle.fx_turn.specs.Places.{slots_out};
 

@@ -1,5 +1,5 @@
 //! The calls of a turn as steps on the table.
-ghost use Rattle.std.specs.Prelude.{◌≡◌, ◌+◌, ◌<◌, [], ◌∷◌, true, false, None, Some, IfOk, IfErr, MatchOption, All};
+ghost use Rattle.std.specs.Prelude.{◌≡◌, ◌<◌, [], ◌∷◌, true, None, Some, IfOk, IfErr, MatchOption, All};
 ghost use Rattle.std.specs.Slots.{IsFull, slots_items, slots_len};
 ghost use Rattle.atomic_table.specs.Table.{Final, Seen};
 ghost use Rattle.fx_turn.specs.Histories.{Begins, own, count};

@@ -1,5 +1,5 @@
 //! Seats of one turn in threads.
-ghost use Rattle.std.specs.Prelude.{◌≡◌, ◌+◌, ◌<◌, ◌≤◌, ℕ, false, length, None, IfOk, slice_index_or, vec_len};
+ghost use Rattle.std.specs.Prelude.{◌≡◌, ◌+◌, ◌<◌, ◌≤◌, ℕ, length, None, IfOk, slice_index_or, vec_len};
 ghost use Rattle.std.specs.List.{All};
 ghost use Rattle.fx_turn.specs.Views.{joins};
 ghost use Rattle.fx_turn.specs.Seats.{view, IsSeatOf, IsReady};

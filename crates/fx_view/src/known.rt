@@ -1,6 +1,5 @@
 //! A reader over what is known already.
-ghost use Rattle.std.specs.Prelude.{◌≡◌, Bool, false, refl};
-ghost use Rattle.fx_view.specs.ReadList.{ReadList};
+ghost use Rattle.std.specs.Prelude.{◌≡◌, false, refl};
 
 use crate::reader::{Reader, Stop};
 use crate::reads::Reads;

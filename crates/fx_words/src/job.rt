@@ -1,4 +1,4 @@
-ghost use Rattle.std.specs.Prelude.{◌≡◌, ◌+◌, ◌≤◌, ◌<◌, IfOk, IfSome, Some, IsTrue, slice_get, option_copied, option_map, length, drop, bytes_eq, codes, List, ℕ, ◌∷◌};
+ghost use Rattle.std.specs.Prelude.{◌≡◌, ◌+◌, ◌≤◌, ◌<◌, IfOk, IfSome, Some, slice_get, option_copied, option_map, length, drop, bytes_eq};
 ghost use Rattle.fx_words.specs.Job as job;
 ghost use Rattle.fx_words.specs.JobOf.{asked, IsJob};
 

@@ -1,5 +1,5 @@
 //! Schedules of shells.
-ghost use Rattle.std.specs.Prelude.{◌≡◌, ◌++◌, ◌≤◌, true, Some, IfOk, is_some};
+ghost use Rattle.std.specs.Prelude.{◌≡◌, ◌≤◌, true, Some, IfOk, is_some};
 ghost use Rattle.std.specs.List.{list_all, slice_split};
 ghost use Rattle.fx_words.specs.Job as job;
 ghost use Rattle.fx_words.specs.Job.{is_comma};

@@ -1,5 +1,5 @@
 //! The folders and files of the machine, as a host.
-ghost use Rattle.std.specs.Prelude.{◌≡◌, ◌≤◌, ℕ, Option, None, IfOk, length};
+ghost use Rattle.std.specs.Prelude.{◌≡◌, ◌≤◌, Option, None, IfOk, length};
 ghost use Rattle.fx_base.specs.Causes.{Rose};
 ghost use Rattle.fx_outside.specs.declared.kind.HostFault.TheVariants.{Failed};
 
@@ -179,6 +179,8 @@ impl<R: Files + AllocGlobal + Clone + Drop> Host for Disk<R> {
 #[cfg(test)]
 mod tests {
     use super::*;
+    use std::alloc::Allocator;
+    use std::fs::{Metadata, OpenOptions};
     use std::os::unix::fs::symlink;
     use std::test::Fail;
 
@@ -245,6 +247,92 @@ mod tests {
         assert_eq!(rt; disk.faults, 6);
         assert_eq!(rt; disk.read(alloc, &new, 0, &mut buf)?, 2);
         assert_eq!(rt; buf[0], b'h');
+        Ok(())
+    }
+
+    /// The machine's files, where each folder tells these names, with a 0 behind each.
+    #[derive(Clone, Drop)]
+    struct Renamed {
+        rt: HostRuntime,
+        names: &'static [u8],
+    }
+
+    impl Alloc for Renamed {
+        type A = Global;
+
+        fn alloc(&self) -> Global {
+            self.rt.alloc()
+        }
+    }
+
+    impl Files for Renamed {
+        type File = File;
+
+        type Dir = &'static [u8];
+
+        fn open_file(&self, how: &OpenOptions, path: &str) -> io::Result<File> {
+            self.rt.open_file(how, path)
+        }
+
+        fn open_dir(&self, _path: &str) -> io::Result<&'static [u8]> {
+            Ok(self.names)
+        }
+
+        fn metadata(&self, path: &str) -> io::Result<Metadata> {
+            self.rt.metadata(path)
+        }
+
+        fn symlink_metadata(&self, path: &str) -> io::Result<Metadata> {
+            self.rt.symlink_metadata(path)
+        }
+
+        fn copy(&self, from: &str, to: &str) -> io::Result<u64> {
+            self.rt.copy(from, to)
+        }
+
+        fn rename(&self, from: &str, to: &str) -> io::Result<()> {
+            self.rt.rename(from, to)
+        }
+
+        fn remove_file(&self, path: &str) -> io::Result<()> {
+            self.rt.remove_file(path)
+        }
+
+        fn create_dir(&self, path: &str) -> io::Result<()> {
+            self.rt.create_dir(path)
+        }
+
+        fn remove_dir(&self, path: &str) -> io::Result<()> {
+            self.rt.remove_dir(path)
+        }
+
+        fn remove_dir_all<B: Allocator>(&self, alloc: B, path: &str) -> io::Result<()> {
+            self.rt.remove_dir_all(alloc, path)
+        }
+    }
+
+    #[test]
+    fn names_that_are_no_utf8_or_stand_twice_are_faults(rt: HostRuntime) -> Result<(), Fail> {
+        let alloc = rt.alloc();
+        fs::create_dir(&rt, "g")?;
+        File::create_new(&rt, "g/a")?;
+        for (names, fails) in [
+            (b"a\0".as_slice(), false),
+            (b"\xff\0".as_slice(), true),
+            (b"a\0a\0".as_slice(), true),
+        ] {
+            let mut disk = Disk::new(Renamed {
+                rt: rt.clone()?,
+                names,
+            });
+            let listed = disk.list(alloc, &text(alloc, "g")?);
+            assert_eq!(rt;
+                matches!(listed, Err(HostFault::Failed)),
+                fails,
+                "{names:?}"
+            );
+            assert_eq!(rt; disk.faults, u64::from(fails), "{names:?}");
+        }
         Ok(())
     }
 }

@@ -134,3 +134,66 @@ fn push_byte(line: &mut String, byte: u8) -> Result<(), AllocError> {
         }
     }
 }
+
+#[cfg(test)]
+mod tests {
+    use super::*;
+    use fx_base::NoMemory;
+    use std::test::Fail;
+
+    fn words(alloc: Global) -> Result<Words, NoMemory> {
+        let mut words = Words::new(alloc);
+        for word in ["run", "description"] {
+            words.add(alloc, HostText::from_string(String::from_str(alloc, word)?))?;
+        }
+        Ok(words)
+    }
+
+    fn refused(cause: TextFault) -> Status {
+        Status::TextRefused { word: 1, cause }
+    }
+
+    fn pair_of_names_and_options(alloc: Global) -> Result<Shape, AllocError> {
+        let option = Shape::Opt(Box::new(alloc, Shape::Int)?);
+        let first = Box::new(alloc, Shape::Names)?;
+        Ok(Shape::Pair(first, Box::new(alloc, option)?))
+    }
+
+    #[test]
+    fn every_status_but_done_has_a_line(rt: HostRuntime) -> Result<(), Fail> {
+        let alloc = rt.alloc();
+        let words = words(alloc)?;
+        let path = HostText::from_string(String::from_str(alloc, "/a\"b\n\u{e9}")?);
+        let differs = TextFault::TypeDiffers {
+            expected: Shape::Table(Box::new(alloc, Shape::Bool)?),
+            found: pair_of_names_and_options(alloc)?,
+        };
+        let lines = [
+            (Status::Usage, "usage"),
+            (refused(TextFault::TooLarge), "description: TooLarge"),
+            (refused(TextFault::BadToken(7)), "description: BadToken 7"),
+            (
+                refused(differs),
+                "description: TypeDiffers table(bool) pair(names, opt(int))",
+            ),
+            (
+                Status::FolderRefused(FolderCause::NotBuilt(path)),
+                "folder: NotBuilt \"/a\\\"b\\n\\xc3\\xa9\"",
+            ),
+            (
+                Status::FolderRefused(FolderCause::BadTable(3)),
+                "folder: BadTable 3",
+            ),
+            (Status::ReadFault, "read fault"),
+            (Status::NotEmpty, "output is not empty"),
+            (Status::WriteFault, "write fault"),
+            (Status::NoMemory, "out of memory"),
+        ];
+        assert!(rt; message(alloc, &words, &Status::Done)?.is_none());
+        for (status, line) in &lines {
+            let told = message(alloc, &words, status)?.ok_or("no line")?;
+            assert_eq!(rt; told.strip_prefix("txforest: "), Some(*line));
+        }
+        Ok(())
+    }
+}
