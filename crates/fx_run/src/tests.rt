@@ -67,15 +67,20 @@ fn no_commands_come_to_nothing(rt: HostRuntime) -> Result<(), Fail> {
     Ok(())
 }
 
+/// The number of names of the path that a stop needs.
+fn needed(stop: Stop) -> Option<u32> {
+    match stop {
+        Stop::Needs(path) => Some(path.len()),
+        Stop::NoMemory => None,
+    }
+}
+
 #[test]
 fn a_fetch_needs_the_root(rt: HostRuntime) -> Result<(), Fail> {
     let alloc = rt.alloc();
     let base = base(alloc, fetching(alloc)?)?;
     let mut reader = Known::new(Reads::new(alloc));
-    let needed = match run(alloc, &base, 0, 0, &mut reader) {
-        Err(Stop::Needs(path)) => Some(path.len()),
-        _ => None,
-    };
-    assert_eq!(rt; needed, Some(0));
+    let stop = run(alloc, &base, 0, 0, &mut reader).err().ok_or("a stop")?;
+    assert_eq!(rt; needed(stop), Some(0));
     Ok(())
 }
