@@ -11,3 +11,7 @@ pub mod Tokened
 pub mod Described
 pub mod Commanded
 pub mod Texted
+pub mod Lines
+pub mod Cuts
+pub mod EntryNames
+pub mod Spelled

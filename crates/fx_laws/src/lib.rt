@@ -1,8 +1,10 @@
-//! Laws of the definitions: of the shapes of values, of stores that change nothing, of the tokens of trees, and worked
-//! examples that the checker computes. Each law stands on a function that does nothing, so that it is proved with the crate.
+//! Laws of the definitions: of the shapes of values, of stores that change nothing, of the tokens of trees, of what a
+//! printed report spells, and worked examples that the checker computes. Each law stands on a function that does nothing,
+//! so that it is proved with the crate.
 #![tactic(auto)]
 
 pub mod limits;
+pub mod reports;
 pub mod retries;
 pub mod scripts;
 pub mod shapes;
