@@ -26,7 +26,10 @@ cp -r "$example/folder" "$fresh/strange"
 touch "$fresh/strange/$(printf '\377')"
 run "$fresh/strange" "$fresh/none" >"$fresh/printed"
 expect "a name that is not UTF-8" 5 "read fault"
-[ ! -s "$fresh/printed" ] && [ ! -e "$fresh/none" ]
+if [ -s "$fresh/printed" ] || [ -e "$fresh/none" ]; then
+    echo "a name that is not UTF-8: something was printed or written"
+    exit 1
+fi
 
 run "$example/folder" "$fresh/out" >/dev/full
 expect "a standard output that fails" 7 "write fault"

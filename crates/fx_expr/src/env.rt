@@ -55,7 +55,7 @@ impl Env {
     }
 
     /// Binds a word to a value. A refusal changes nothing.
-    pub fn add(&mut self, item: (Word, Value)) -> Result<(), NoMemory>
+    pub fn add(&mut self, _alloc: Global, item: (Word, Value)) -> Result<(), NoMemory>
         ensures ok { OnOk result (self.new ≡ self.old ++ entry_tree item ∷ []) }
         ensures err { OnErr result (self.new ≡ self.old) }
     {

@@ -36,7 +36,7 @@ pub fn eval(alloc: Global, expr: &Expr, env: &Env) -> Result<Value, EvalFault>
                 Some(decided) => Ok(Value::Bool(decided)),
                 None => match eval(alloc, b, env) {
                     Err(fault) => Err(fault),
-                    Ok(second) => apply_two(*op, first, second),
+                    Ok(second) => apply_two(alloc, *op, first, second),
                 },
             },
         },

@@ -104,13 +104,13 @@ impl<V> Keyed<V> {
 
 impl<V: Drop> Keyed<V> {
     /// Adds a pair whose text is above all others. A refusal changes nothing.
-    pub fn add(&mut self, key: Text, value: V) -> Result<(), NoMemory>
+    pub fn add(&mut self, alloc: Global, key: Text, value: V) -> Result<(), NoMemory>
         requires { IsRows (self.old ++ (key, value) ∷ []) }
         ensures ok { OnOk result (self.new ≡ self.old ++ (key, value) ∷ []) }
         ensures err { OnErr result (self.new ≡ self.old) }
     {
         self.values.push(value)?;
-        match self.keys.add(key) {
+        match self.keys.add(alloc, key) {
             Ok(()) => Ok(()),
             Err(NoMemory) => {
                 self.values.pop();

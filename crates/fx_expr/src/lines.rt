@@ -13,7 +13,7 @@ pub(crate) fn lines(alloc: Global, text: &Text) -> Result<TextSet, NoMemory>
     ensures { IfOk result (λ set. set ≡ set_of (pieces text.now)) }
 {
     let found = split_lines(alloc, text.as_slice())?;
-    TextSet::from_texts(found)
+    TextSet::from_texts(alloc, found)
 }
 
 fn split_lines(alloc: Global, text: &[u8]) -> Result<Vec<Text>, NoMemory>

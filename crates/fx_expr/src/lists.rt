@@ -54,7 +54,7 @@ impl Values {
     }
 
     /// Adds a value at the end. A refusal changes nothing.
-    pub fn add(&mut self, item: Value) -> Result<(), NoMemory>
+    pub fn add(&mut self, _alloc: Global, item: Value) -> Result<(), NoMemory>
         ensures ok { OnOk result (self.new ≡ self.old ++ tree_of item ∷ []) }
         ensures err { OnErr result (self.new ≡ self.old) }
     {
@@ -110,7 +110,7 @@ impl Texts {
     }
 
     /// Adds a text at the end. A refusal changes nothing.
-    pub fn add(&mut self, item: Text) -> Result<(), NoMemory>
+    pub fn add(&mut self, _alloc: Global, item: Text) -> Result<(), NoMemory>
         ensures ok { OnOk result (self.new ≡ self.old ++ item ∷ []) }
         ensures err { OnErr result (self.new ≡ self.old) }
     {

@@ -36,7 +36,12 @@ pub(crate) fn decides(op: BinOp, first: &Value) -> Option<bool>
     }
 }
 
-pub(crate) fn apply_two(op: BinOp, first: Value, second: Value) -> Result<Value, EvalFault>
+pub(crate) fn apply_two(
+    alloc: Global,
+    op: BinOp,
+    first: Value,
+    second: Value,
+) -> Result<Value, EvalFault>
     requires { TakesTwo op (tree_of first) (tree_of second) }
     ensures { Gives tree_of result (two op (tree_of first) (tree_of second)) }
 {
@@ -49,7 +54,7 @@ pub(crate) fn apply_two(op: BinOp, first: Value, second: Value) -> Result<Value,
         BinOp::And => Ok(Value::Bool(truth(&second))),
         BinOp::Or => Ok(Value::Bool(truth(&second))),
         BinOp::Member => Ok(Value::Bool(names(&second).has(text(&first)))),
-        BinOp::Union => unite(into_names(first), into_names(second)),
+        BinOp::Union => unite(alloc, into_names(first), into_names(second)),
         BinOp::Without => Ok(Value::Names(into_names(first).without(names(&second)))),
     }
 }
@@ -128,10 +133,10 @@ fn is_less(first: &Value, second: &Value) -> bool
     }
 }
 
-fn unite(first: TextSet, second: TextSet) -> Result<Value, EvalFault>
+fn unite(alloc: Global, first: TextSet, second: TextSet) -> Result<Value, EvalFault>
     ensures { Gives tree_of result (united first second) }
 {
-    let both = first.union(second)?;
+    let both = first.union(alloc, second)?;
     if both.weighs_at_most(UNION_LIMIT) {
         Ok(Value::Names(both))
     } else {

@@ -58,7 +58,7 @@ impl TextSet {
     }
 
     /// Adds a text above all elements. A refusal changes nothing.
-    pub fn add(&mut self, item: Text) -> Result<(), NoMemory>
+    pub fn add(&mut self, _alloc: Global, item: Text) -> Result<(), NoMemory>
         requires { IsAscending (self.old ++ item ∷ []) }
         ensures ok { OnOk result (self.new ≡ self.old ++ item ∷ []) }
         ensures err { OnErr result (self.new ≡ self.old) }
@@ -103,7 +103,7 @@ impl TextSet {
     }
 
     /// The set of these texts, which may stand in any order and repeat. It is one sort.
-    pub fn from_texts(items: Vec<Text>) -> Result<TextSet, NoMemory>
+    pub fn from_texts(_alloc: Global, items: Vec<Text>) -> Result<TextSet, NoMemory>
         ensures { IfOk result (λ set. set ≡ set_of items.items) }
     {
         let mut items = items;
@@ -113,13 +113,13 @@ impl TextSet {
     }
 
     /// The elements of both.
-    pub fn union(self, other: TextSet) -> Result<TextSet, NoMemory>
+    pub fn union(self, alloc: Global, other: TextSet) -> Result<TextSet, NoMemory>
         ensures { IfOk result (λ set. set ≡ set_of (self ++ other)) }
     {
         let TextSet { mut items } = self;
         let TextSet { items: mut more } = other;
         items.append(&mut more)?;
-        TextSet::from_texts(items)
+        TextSet::from_texts(alloc, items)
     }
 
     /// The elements that are not in the other set.

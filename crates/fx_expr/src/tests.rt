@@ -31,7 +31,7 @@ fn set(alloc: Global, texts: &[&str]) -> Result<TextSet, NoMemory> {
     for bytes in texts {
         items.push(text(alloc, bytes.as_bytes())?)?;
     }
-    TextSet::from_texts(items)
+    TextSet::from_texts(alloc, items)
 }
 
 // The elements of a set, each with a comma after it.
@@ -179,7 +179,7 @@ fn globs_choose_texts(rt: HostRuntime) -> Result<(), Fail> {
 
 // The union of two sets without a third.
 fn combined(alloc: Global) -> Result<TextSet, NoMemory> {
-    let both = set(alloc, &["b", "a"])?.union(set(alloc, &["c", "b"])?)?;
+    let both = set(alloc, &["b", "a"])?.union(alloc, set(alloc, &["c", "b"])?)?;
     let less = TextSet::of(alloc, text(alloc, b"b")?)?;
     both.without(&less).copy(alloc)
 }
@@ -211,35 +211,35 @@ fn globs_match_whole_texts(rt: HostRuntime) {
 
 fn copied_text(alloc: Global) -> Result<u64, NoMemory> {
     let mut letters = Text::new(alloc);
-    letters.add(b'a')?;
+    letters.add(alloc, b'a')?;
     let copy = letters.copy(alloc)?;
     Ok(copy.len())
 }
 
 fn copied_table(alloc: Global) -> Result<Value, NoMemory> {
     let mut rows: Rows = Keyed::new(alloc);
-    rows.add(Text::new(alloc), Value::Int(5))?;
+    rows.add(alloc, Text::new(alloc), Value::Int(5))?;
     let table = Value::Table(rows);
     table.copy(alloc)
 }
 
 fn copied_values(alloc: Global) -> Result<u64, NoMemory> {
     let mut values = Values::new(alloc);
-    values.add(copied_table(alloc)?)?;
+    values.add(alloc, copied_table(alloc)?)?;
     let copy = values.copy(alloc)?;
     Ok(copy.len())
 }
 
 fn copied_texts(alloc: Global) -> Result<u64, NoMemory> {
     let mut texts = Texts::new(alloc);
-    texts.add(Text::new(alloc))?;
+    texts.add(alloc, Text::new(alloc))?;
     let copy = texts.copy(alloc)?;
     Ok(copy.len())
 }
 
 fn copied_names(alloc: Global) -> Result<u64, NoMemory> {
     let mut names = TextSet::new(alloc);
-    names.add(Text::new(alloc))?;
+    names.add(alloc, Text::new(alloc))?;
     let copy = names.copy(alloc)?;
     Ok(copy.len())
 }
@@ -273,8 +273,8 @@ fn copies_are_made_with_ample_memory(rt: HostRuntime) {
 fn newest_value(alloc: Global) -> Result<i64, NoMemory> {
     let word = Word::from_vec(Vec::from_slice(alloc, b"x1")?);
     let mut env = Env::new(alloc);
-    env.add((word.copy(alloc)?, Value::Int(1)))?;
-    env.add((word.copy(alloc)?, Value::Int(2)))?;
+    env.add(alloc, (word.copy(alloc)?, Value::Int(1)))?;
+    env.add(alloc, (word.copy(alloc)?, Value::Int(2)))?;
     match env.get(&word) {
         Some(Value::Int(n)) => Ok(*n),
         _ => Err(NoMemory),

@@ -87,7 +87,7 @@ impl Text {
     }
 
     /// Adds a byte at the end; the caller keeps the limit. A refusal changes nothing.
-    pub fn add(&mut self, item: u8) -> Result<(), NoMemory>
+    pub fn add(&mut self, _alloc: Global, item: u8) -> Result<(), NoMemory>
         requires { IsText (self.old ++ item ∷ []) }
         ensures ok { OnOk result (self.new ≡ self.old ++ item ∷ []) }
         ensures err { OnErr result (self.new ≡ self.old) }

@@ -15,8 +15,7 @@ use Rattle.fx_lex.specs.declared.token.Mark.{Mark}
 use Rattle.fx_lex.specs.declared.token.Mark.TheVariants as mark
 use Rattle.fx_parse.specs.declared.keyword.Keyword.{Keyword}
 use Rattle.fx_parse.specs.declared.keyword.Keyword.TheVariants as keyword
-use Rattle.fx_parse.specs.declared.keyword.TheConstants.{KEYWORDS}
-use Rattle.fx_parse.specs.Keywords.{keyword_bytes, keyword_of}
+use Rattle.fx_parse.specs.Keywords.{keyword_bytes, keyword_of, keywords}
 use Rattle.fx_parse.specs.Grammars.{word, opening, closing, comma, binary_token, unary_word, bool_word, expr_tokens, expr_levels, is_name, has_names, exprs}
 use Rattle.fx_parse.specs.Reader.{is_opening, is_closing, is_comma, Head, Leaf, Bracket, Before, Choice, Nothing, keyword_head, word_head, head_of, Middle, Binary, Glob, Neither, keyword_middle, mark_middle, word_middle, middle_of}
 use Rattle.fx_parse.proofs.KeywordLaws.{keyword_again}
@@ -174,7 +173,7 @@ same_bytes (x ∷ a) (y ∷ b) e =
     ap (λ z. z ∷ a) (eqb-true x y both.0) ∙ ap (λ l. y ∷ l) (same_bytes a b both.1)
 
 pub keyword_spelled : (w : List ℕ) (k : Keyword) → keyword_of w ≡ Some k → token.Word w ≡ word k
-keyword_spelled w k e = ap token.Word (sym (same_bytes (keyword_bytes k) w (found_passes (λ k. pointwise nat_eq (keyword_bytes k) w) KEYWORDS k e)))
+keyword_spelled w k e = ap token.Word (sym (same_bytes (keyword_bytes k) w (found_passes (λ k. pointwise nat_eq (keyword_bytes k) w) keywords k e)))
 
 -- the tokens that begin so
 abbrev HeadSpells : Head → Token → Type 0

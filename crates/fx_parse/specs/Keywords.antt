@@ -1,9 +1,8 @@
 -- The words that the language keeps for itself.
-use Rattle.std.specs.Prelude.{ℕ, Option, List, codes, find, nat_eq}
+use Rattle.std.specs.Prelude.{ℕ, Option, List, [], ◌∷◌, codes, find, nat_eq}
 use Rattle.std.specs.Cmp.Lexicographic.{pointwise}
 use Rattle.fx_parse.specs.declared.keyword.Keyword.{Keyword}
 use Rattle.fx_parse.specs.declared.keyword.Keyword.TheVariants.{File, Dir, Link, Opt, Pred, In, Only, If, Else, And, Or, Not, Union, Minus, One, Lines, Size, Int, Text, First, Second, Keys, Present, True, False, Empty, Txn, Into, To, Next, Prev, Out, Down, Up, Top, Let, Set, Fetch, Value, Validate, Print, Store, Create, Remove, Try, Each, Abort, Str, Bool, Names, Pair, Table}
-use Rattle.fx_parse.specs.declared.keyword.TheConstants.{KEYWORDS}
 
 -- a kept word in bytes
 abbrev pub keyword_bytes : Keyword → List ℕ
@@ -60,6 +59,14 @@ keyword_bytes Names = codes "names"
 keyword_bytes Pair = codes "pair"
 keyword_bytes Table = codes "table"
 
+-- every kept word
+abbrev pub keywords : List Keyword
+keywords =
+    File ∷ Dir ∷ Link ∷ Opt ∷ Pred ∷ In ∷ Only ∷ If ∷ Else ∷ And ∷ Or ∷ Not ∷ Union ∷
+    Minus ∷ One ∷ Lines ∷ Size ∷ Int ∷ Text ∷ First ∷ Second ∷ Keys ∷ Present ∷ True ∷ False ∷ Empty ∷
+    Txn ∷ Into ∷ To ∷ Next ∷ Prev ∷ Out ∷ Down ∷ Up ∷ Top ∷ Let ∷ Set ∷ Fetch ∷ Value ∷
+    Validate ∷ Print ∷ Store ∷ Create ∷ Remove ∷ Try ∷ Each ∷ Abort ∷ Str ∷ Bool ∷ Names ∷ Pair ∷ Table ∷ []
+
 -- the kept word that bytes are
 abbrev pub keyword_of : List ℕ → Option Keyword
-keyword_of word = find (λ keyword. pointwise nat_eq (keyword_bytes keyword) word) KEYWORDS
+keyword_of word = find (λ keyword. pointwise nat_eq (keyword_bytes keyword) word) keywords

@@ -60,7 +60,7 @@ impl PrintedEntries {
     }
 
     /// Adds an entry at the end. A refusal changes nothing.
-    pub fn add(&mut self, item: PrintedEntry) -> Result<(), NoMemory>
+    pub fn add(&mut self, _alloc: Global, item: PrintedEntry) -> Result<(), NoMemory>
         ensures ok { OnOk result (self.new ≡ self.old ++ item ∷ []) }
         ensures err { OnErr result (self.new ≡ self.old) }
     {

@@ -32,8 +32,8 @@ fn set_of(alloc: Global, first: &[u8], second: &[u8]) -> Result<TextSet, NoMemor
     ensures { IfOk result (λ set. length set ≡ 2) }
 {
     let mut set = TextSet::new(alloc);
-    set.add(text(alloc, first)?)?;
-    set.add(text(alloc, second)?)?;
+    set.add(alloc, text(alloc, first)?)?;
+    set.add(alloc, text(alloc, second)?)?;
     Ok(set)
 }
 
@@ -105,7 +105,7 @@ fn done(alloc: Global, shell: u32, txn: u32, output: &[u8]) -> Result<PrintedEnt
     requires { length output.now ≤ 1000 }
 {
     let mut outputs = Values::new(alloc);
-    outputs.add(Value::Str(text(alloc, output)?))?;
+    outputs.add(alloc, Value::Str(text(alloc, output)?))?;
     Ok(PrintedEntry {
         shell,
         txn,
@@ -127,8 +127,8 @@ fn stopped(alloc: Global, command: u32, refusal: Refusal) -> PrintedEntry {
 fn two_shells_that_change_what_the_other_reads(rt: HostRuntime) -> Result<(), Fail> {
     let alloc = rt.alloc();
     let mut entries = PrintedEntries::new(alloc);
-    entries.add(done(alloc, 0, 0, b"1")?)?;
-    entries.add(done(alloc, 1, 0, b"10")?)?;
+    entries.add(alloc, done(alloc, 0, 0, b"1")?)?;
+    entries.add(alloc, done(alloc, 1, 0, b"10")?)?;
     let mut retries = Retries::new(alloc);
     retries.add(
         alloc,
@@ -155,13 +155,16 @@ fn two_shells_that_change_what_the_other_reads(rt: HostRuntime) -> Result<(), Fa
 fn a_shell_that_finds_its_element_gone(rt: HostRuntime) -> Result<(), Fail> {
     let alloc = rt.alloc();
     let mut entries = PrintedEntries::new(alloc);
-    entries.add(PrintedEntry {
-        shell: 1,
-        txn: 0,
-        outputs: Values::new(alloc),
-        end: End::Done,
-    })?;
-    entries.add(stopped(alloc, 2, Refusal::NoElement))?;
+    entries.add(
+        alloc,
+        PrintedEntry {
+            shell: 1,
+            txn: 0,
+            outputs: Values::new(alloc),
+            end: End::Done,
+        },
+    )?;
+    entries.add(alloc, stopped(alloc, 2, Refusal::NoElement))?;
     let mut retries = Retries::new(alloc);
     retries.add(
         alloc,
@@ -184,25 +187,34 @@ fn a_shell_that_finds_its_element_gone(rt: HostRuntime) -> Result<(), Fail> {
 fn every_end_once(rt: HostRuntime) -> Result<(), Fail> {
     let alloc = rt.alloc();
     let mut entries = PrintedEntries::new(alloc);
-    entries.add(PrintedEntry {
-        shell: 63,
-        txn: 99_999,
-        outputs: Values::new(alloc),
-        end: End::Aborted,
-    })?;
-    entries.add(stopped(alloc, 0, Refusal::NoStep))?;
-    entries.add(stopped(alloc, 1, Refusal::NoPlace))?;
-    entries.add(stopped(alloc, 2, Refusal::Lacks))?;
-    entries.add(stopped(alloc, 3, Refusal::WrongForm))?;
-    entries.add(stopped(alloc, 4, Refusal::Blocked(path(alloc, b"/l41/a b")?)))?;
-    entries.add(stopped(alloc, 5, Refusal::TooDeep))?;
-    entries.add(stopped(alloc, 6, Refusal::BadName))?;
-    entries.add(stopped(alloc, 7, Refusal::NoDefault))?;
-    entries.add(stopped(alloc, 8, Refusal::Expr(ExprFault::TooLong)))?;
-    entries.add(stopped(alloc, 9, Refusal::Expr(ExprFault::Overflow)))?;
-    entries.add(stopped(alloc, 10, Refusal::Expr(ExprFault::NotNumber)))?;
-    entries.add(stopped(alloc, 11, Refusal::Absent))?;
-    entries.add(stopped(alloc, u32::MAX, Refusal::Exists))?;
+    entries.add(
+        alloc,
+        PrintedEntry {
+            shell: 63,
+            txn: 99_999,
+            outputs: Values::new(alloc),
+            end: End::Aborted,
+        },
+    )?;
+    entries.add(alloc, stopped(alloc, 0, Refusal::NoStep))?;
+    entries.add(alloc, stopped(alloc, 1, Refusal::NoPlace))?;
+    entries.add(alloc, stopped(alloc, 2, Refusal::Lacks))?;
+    entries.add(alloc, stopped(alloc, 3, Refusal::WrongForm))?;
+    entries.add(
+        alloc,
+        stopped(alloc, 4, Refusal::Blocked(path(alloc, b"/l41/a b")?)),
+    )?;
+    entries.add(alloc, stopped(alloc, 5, Refusal::TooDeep))?;
+    entries.add(alloc, stopped(alloc, 6, Refusal::BadName))?;
+    entries.add(alloc, stopped(alloc, 7, Refusal::NoDefault))?;
+    entries.add(alloc, stopped(alloc, 8, Refusal::Expr(ExprFault::TooLong)))?;
+    entries.add(alloc, stopped(alloc, 9, Refusal::Expr(ExprFault::Overflow)))?;
+    entries.add(
+        alloc,
+        stopped(alloc, 10, Refusal::Expr(ExprFault::NotNumber)),
+    )?;
+    entries.add(alloc, stopped(alloc, 11, Refusal::Absent))?;
+    entries.add(alloc, stopped(alloc, u32::MAX, Refusal::Exists))?;
     let printed = printed_report(alloc, &entries, &Retries::new(alloc))?;
     assert_eq!(rt;
         printed.as_slice(),

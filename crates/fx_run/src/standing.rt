@@ -182,7 +182,7 @@ impl Standing {
         ensures overlay { self.new.overlay ≡ self.old.overlay }
     {
         let name = word.copy(alloc)?;
-        self.variables.add((name, Value::Str(text)))?;
+        self.variables.add(alloc, (name, Value::Str(text)))?;
         Ok(())
     }
 
@@ -276,7 +276,7 @@ impl Standing {
     {
         match evaluated(alloc, expr, &self.variables)? {
             Ok(value) => {
-                self.outputs.add(value)?;
+                self.outputs.add(alloc, value)?;
                 Ok(None)
             }
             Err(refusal) => Ok(Some(refusal)),

@@ -51,18 +51,18 @@ no_memory j told told' f f' w s s' same =
     if_told_same (λ t t'. IsUntouched t t' w w ⊎ IsPartThere t t' j w w) told told' same
     (if_some_map (λ _. Unit {0}) (λ t. IsUntouched t t w w ⊎ IsPartThere t t j w w) told (λ t _. inl (refl, refl)) (some_unit told))
 
-pub read_fault : (j : Job) (P Q : Tree → Type 0) (told told' : Option Tree) (f f' : ℕ) (w : Bytes) (s s' : ℕ) → told' ≡ told → ((t : Tree) → P t → Q t → CannotRead t j) → IfSome told P → Rose f f' ⊎ IsSomeAnd told Q → Row j (ends told told' f f' w w s s') status.ReadFault
-read_fault j P Q told told' f f' w s s' same why before (inl rose) = (record { host = same; sink = refl }, inl rose)
-read_fault j P Q told told' f f' w s s' same why before (inr cannot) = (record { host = same; sink = refl }, inr (some_and P Q (λ t. CannotRead t j) told why before cannot))
+pub read_fault : (j : Job) (P Q : Tree → Type 0) (told told' : Option Tree) (f f' : ℕ) (w : Bytes) (s : ℕ) → told' ≡ told → ((t : Tree) → P t → Q t → CannotRead t j) → IfSome told P → Rose f f' ⊎ IsSomeAnd told Q → Row j (ends told told' f f' w w s s) status.ReadFault
+read_fault j P Q told told' f f' w s same why before (inl rose) = (record { host = same; sink = refl; failures = refl }, inl rose)
+read_fault j P Q told told' f f' w s same why before (inr cannot) = (record { host = same; sink = refl; failures = refl }, inr (some_and P Q (λ t. CannotRead t j) told why before cannot))
 
-pub text_refused : (j : Job) (told told' : Option Tree) (f f' : ℕ) (w : Bytes) (s s' word : ℕ) → told' ≡ told → IfSome told (λ t. IsFirstRefused t j word) → Row j (ends told told' f f' w w s s') (status.TextRefused word (fault.NotBuilt 0))
-text_refused j told told' f f' w s s' word same first = (record { host = same; sink = refl }, refl, first)
+pub text_refused : (j : Job) (told told' : Option Tree) (f f' : ℕ) (w : Bytes) (s word : ℕ) → told' ≡ told → IfSome told (λ t. IsFirstRefused t j word) → Row j (ends told told' f f' w w s s) (status.TextRefused word (fault.NotBuilt 0))
+text_refused j told told' f f' w s word same first = (record { host = same; sink = refl; failures = refl }, refl, first)
 
-pub folder_refused : (j : Job) (told told' : Option Tree) (f f' : ℕ) (w : Bytes) (s s' : ℕ) (cause : FolderCause) → told' ≡ told → IfSome told (λ t. HasTexts t j × IsRefused t j.folder cause) → Row j (ends told told' f f' w w s s') (status.FolderRefused cause)
-folder_refused j told told' f f' w s s' cause same first = (record { host = same; sink = refl }, first)
+pub folder_refused : (j : Job) (told told' : Option Tree) (f f' : ℕ) (w : Bytes) (s : ℕ) (cause : FolderCause) → told' ≡ told → IfSome told (λ t. HasTexts t j × IsRefused t j.folder cause) → Row j (ends told told' f f' w w s s) (status.FolderRefused cause)
+folder_refused j told told' f f' w s cause same first = (record { host = same; sink = refl; failures = refl }, first)
 
-pub not_empty : (j : Job) (told told' : Option Tree) (f f' : ℕ) (w : Bytes) (s s' : ℕ) → told' ≡ told → IfSome told (λ t. HasInputs t j × IsTaken t j.out) → Row j (ends told told' f f' w w s s') status.NotEmpty
-not_empty j told told' f f' w s s' same taken = (record { host = same; sink = refl }, taken)
+pub not_empty : (j : Job) (told told' : Option Tree) (f f' : ℕ) (w : Bytes) (s : ℕ) → told' ≡ told → IfSome told (λ t. HasInputs t j × IsTaken t j.out) → Row j (ends told told' f f' w w s s) status.NotEmpty
+not_empty j told told' f f' w s same taken = (record { host = same; sink = refl; failures = refl }, taken)
 
 pub not_ready : (j : Job) (told told' : Option Tree) (f f' : ℕ) (w : Bytes) (s s' : ℕ) → told' ≡ told → IfSome told (λ t. HasInputs t j) → Rose f f' ⊎ IsSomeAnd told (λ t. is_fit j.out ≡ false) → Row j (ends told told' f f' w w s s') status.WriteFault
 not_ready j told told' f f' w s s' same inputs (inl rose) =
@@ -119,10 +119,10 @@ either_back f₀ f₁ f₂ later (inr other) = inr other
 row_count : (j : Job) (told told' : Option Tree) (f₀ f₁ f₂ : ℕ) (w w' : Bytes) (s s' : ℕ) (st : Status) → f₀ ≤ f₁ → Row j (ends told told' f₁ f₂ w w' s s') st → Row j (ends told told' f₀ f₂ w w' s s') st
 row_count j told told' f₀ f₁ f₂ w w' s s' status.Done later row = row
 row_count j told told' f₀ f₁ f₂ w w' s s' status.Usage later row = row
-row_count j told told' f₀ f₁ f₂ w w' s s' (status.TextRefused word cause) later row = (record { host = row.0.host; sink = row.0.sink }, row.1, row.2)
-row_count j told told' f₀ f₁ f₂ w w' s s' (status.FolderRefused cause) later row = (record { host = row.0.host; sink = row.0.sink }, row.1)
-row_count j told told' f₀ f₁ f₂ w w' s s' status.ReadFault later row = (record { host = row.0.host; sink = row.0.sink }, either_back f₀ f₁ f₂ later row.1)
-row_count j told told' f₀ f₁ f₂ w w' s s' status.NotEmpty later row = (record { host = row.0.host; sink = row.0.sink }, row.1)
+row_count j told told' f₀ f₁ f₂ w w' s s' (status.TextRefused word cause) later row = (record { host = row.0.host; sink = row.0.sink; failures = row.0.failures }, row.1, row.2)
+row_count j told told' f₀ f₁ f₂ w w' s s' (status.FolderRefused cause) later row = (record { host = row.0.host; sink = row.0.sink; failures = row.0.failures }, row.1)
+row_count j told told' f₀ f₁ f₂ w w' s s' status.ReadFault later row = (record { host = row.0.host; sink = row.0.sink; failures = row.0.failures }, either_back f₀ f₁ f₂ later row.1)
+row_count j told told' f₀ f₁ f₂ w w' s s' status.NotEmpty later row = (record { host = row.0.host; sink = row.0.sink; failures = row.0.failures }, row.1)
 row_count j told told' f₀ f₁ f₂ w w' s s' status.WriteFault later row = (either_back f₀ f₁ f₂ later row.0, row.1)
 row_count j told told' f₀ f₁ f₂ w w' s s' status.NoMemory later row = row
 

@@ -36,10 +36,16 @@ ends told told' faults faults' written written' failures failures' = record {
   failures' = failures';
 }
 
--- host and sink are as before
+-- host and sink are as before, and the sink has not failed
 pub record IsSame (e : Ends) : Type 0 where
   pub host : e.told' ≡ e.told
   pub sink : e.written' ≡ e.written
+  pub failures : e.failures' ≡ e.failures
+
+-- host and sink are as before, and so are their counts
+pub record IsIdle (e : Ends) : Type 0 where
+  pub same : IsSame e
+  pub faults : e.faults' ≡ e.faults
 
 -- all is done: the report is written after what was written before, and the last filestore's folder stands at OUT; all else
 -- of the host is as before

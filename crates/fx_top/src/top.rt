@@ -8,7 +8,7 @@ ghost use Rattle.fx_words.specs.Job.{job_of};
 ghost use Rattle.fx_words.specs.JobOf.{asked, IsJob};
 ghost use Rattle.fx_top.specs.Answers.{last_of, IsAnswered, IsLoaded, AreTexts};
 ghost use Rattle.fx_top.specs.Inputs.{HasSpec};
-ghost use Rattle.fx_top.specs.Rows.{Row, ends, IsProper, IsSame};
+ghost use Rattle.fx_top.specs.Rows.{Row, ends, IsIdle, IsProper};
 
 use crate::answer::{Answer, run_scripts};
 use crate::inputs::{Unread, read_plan, read_spec};
@@ -150,7 +150,7 @@ fn run_job<H: Host, S: Sink>(alloc: Global, job: &Job, host: &mut H, out: &mut S
 
 /// Does what the words of the command line ask for, and answers how it ended. What is read stands in the host, and the
 /// output goes to the sink.
-pub fn top<R, H: Host, S: Sink, G: Gate>(
+pub fn top<R, H: Host, S: Sink, G: Gate + Sync>(
     _rt: &R,
     alloc: Global,
     words: &Words,
@@ -160,7 +160,7 @@ pub fn top<R, H: Host, S: Sink, G: Gate>(
 ) -> Status
     // The words have no command's form.
     ensures usage { (result ≡ Status.Usage) ↔ (job_of words.now ≡ None) }
-    ensures idle { job_of words.now ≡ None → IsSame (ends (H.told host.old) (H.told host.new) (H.faults host.old) (H.faults host.new) (S.written out.old) (S.written out.new) (S.faults out.old) (S.faults out.new)) }
+    ensures idle { job_of words.now ≡ None → IsIdle (ends (H.told host.old) (H.told host.new) (H.faults host.old) (H.faults host.new) (S.written out.old) (S.written out.new) (S.faults out.old) (S.faults out.new)) }
 
     // Every other status has its cause, and says what is left at the host and the sink.
     ensures rows { IfSome (job_of words.now) (λ j. Row j (ends (H.told host.old) (H.told host.new) (H.faults host.old) (H.faults host.new) (S.written out.old) (S.written out.new) (S.faults out.old) (S.faults out.new)) result) }

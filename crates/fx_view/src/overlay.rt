@@ -1,7 +1,7 @@
 //! The changes that an attempt has made for itself.
 ghost use Rattle.std.specs.Prelude.{◌≡◌, ◌↔◌, [], length, IsTrue, slice_get, IfOk, OnOk, OnErr, option_copied, option_map};
 ghost use Rattle.std.specs.Map.Iter.{deref_pair};
-ghost use Rattle.fx_view.specs.Own.{IsOwn, own_at, put_own, AreRead, IsNet};
+ghost use Rattle.fx_view.specs.Own.{IsOwn, own_at, put_own, IsNet};
 ghost use Rattle.fx_view.specs.Net.{Differs, IsNetOf, Adds};
 ghost use Rattle.fx_store.specs.Changes.{IsChanges};
 
@@ -75,10 +75,9 @@ impl Overlay {
         Ok(())
     }
 
-    /// The changes whose node differs from the one read, in ascending order of path. Each changed path needs to have been
-    /// read.
+    /// The changes whose node differs from the one read, in ascending order of path; one at a path that was not read is left
+    /// out.
     pub fn changes(self, alloc: Global, reads: &Reads) -> Result<Changes, NoMemory>
-        requires { AreRead self reads.now }
         ensures net { IfOk result (IsNet self reads.now) }
         ensures ascending { IfOk result IsChanges }
     {

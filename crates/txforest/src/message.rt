@@ -21,7 +21,7 @@ pub fn message(
         Status::Usage => line.push_str("usage")?,
         Status::TextRefused { word, cause } => {
             if let Some(file) = words.at(u64::from(*word)) {
-                line.push_str(file.as_str())?;
+                push_file(&mut line, file)?;
             }
             line.push_str(": ")?;
             push_text_fault(&mut line, cause)?;
@@ -36,6 +36,18 @@ pub fn message(
         Status::NoMemory => line.push_str("out of memory")?,
     }
     Ok(Some(line))
+}
+
+/// The file as its word names it, control characters of ASCII as the report spells them.
+fn push_file(line: &mut String, file: &HostText) -> Result<(), AllocError> {
+    for c in file.as_str().chars() {
+        if c.is_ascii_control() {
+            push_byte(line, c as u8)?;
+        } else {
+            line.push(c)?;
+        }
+    }
+    Ok(())
 }
 
 fn push_text_fault(line: &mut String, cause: &TextFault) -> Result<(), AllocError> {
@@ -143,7 +155,7 @@ mod tests {
 
     fn words(alloc: Global) -> Result<Words, NoMemory> {
         let mut words = Words::new(alloc);
-        for word in ["run", "description"] {
+        for word in ["run", "spec \u{e9}\n"] {
             words.add(alloc, HostText::from_string(String::from_str(alloc, word)?))?;
         }
         Ok(words)
@@ -170,11 +182,14 @@ mod tests {
         };
         let lines = [
             (Status::Usage, "usage"),
-            (refused(TextFault::TooLarge), "description: TooLarge"),
-            (refused(TextFault::BadToken(7)), "description: BadToken 7"),
+            (refused(TextFault::TooLarge), "spec \u{e9}\\n: TooLarge"),
+            (
+                refused(TextFault::BadToken(7)),
+                "spec \u{e9}\\n: BadToken 7",
+            ),
             (
                 refused(differs),
-                "description: TypeDiffers table(bool) pair(names, opt(int))",
+                "spec \u{e9}\\n: TypeDiffers table(bool) pair(names, opt(int))",
             ),
             (
                 Status::FolderRefused(FolderCause::NotBuilt(path)),

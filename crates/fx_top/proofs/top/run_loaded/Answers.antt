@@ -15,7 +15,7 @@ returns-in-Err-WriteFault g c =
 pub returns-in-Err-NotEmpty : goal.returns-in-Err-NotEmpty
 returns-in-Err-NotEmpty g c =
     let cause = subst (λ e. ReadyCause (g.H.Host.told c.args.host.now) c.args.job.now.out.now (Rose (g.H.Host.faults c.args.host.now) (g.H.Host.faults c.ready.new.host)) e) c.in-Err-NotEmpty.field-0-is c.in-Err-NotEmpty.ensures.fault in
-    not_empty (asked c.args.job.now) (g.H.Host.told c.args.host.now) (g.H.Host.told c.ready.new.host) (g.H.Host.faults c.args.host.now) (g.H.Host.faults c.ready.new.host) (g.S.Sink.written c.args.out.now) (g.S.Sink.faults c.args.out.now) (g.S.Sink.faults c.args.out.now) c.in-Err-NotEmpty.ensures.same (taken (asked c.args.job.now) c.args.spec c.args.plan c.args.store.nodes (g.H.Host.told c.args.host.now) c.requires.loaded cause)
+    not_empty (asked c.args.job.now) (g.H.Host.told c.args.host.now) (g.H.Host.told c.ready.new.host) (g.H.Host.faults c.args.host.now) (g.H.Host.faults c.ready.new.host) (g.S.Sink.written c.args.out.now) (g.S.Sink.faults c.args.out.now) c.in-Err-NotEmpty.ensures.same (taken (asked c.args.job.now) c.args.spec c.args.plan c.args.store.nodes (g.H.Host.told c.args.host.now) c.requires.loaded cause)
 
 pub save_and_print-requires-clause-answered : goal.save_and_print-requires-clause-answered
 save_and_print-requires-clause-answered g c =
