@@ -1,5 +1,5 @@
-//! A value that threads take turns with. Whoever takes a turn gets a value whose history begins with all that it had seen
-//! and holds just its own entries.
+//! A value that threads take turns with. Whoever takes a turn gets a value whose history begins with all that its seat had
+//! seen, and holds as many of the seat's entries as its view says.
 #![tactic(auto)]
 
 mod kept;
