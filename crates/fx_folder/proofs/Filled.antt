@@ -322,7 +322,7 @@ beside_last t at there whole can nodes names is ms among name k listed path e he
     let is_new : Some new ≡ Some e = ap (λ b. cond b (Some new) (get before (at ++ path))) (sym same) ∙ sym (get-insert parts_total before (at ++ name ∷ []) new (at ++ path)) ∙ here in
     let it : path ≡ name ∷ [] = same_Some path (name ∷ []) (sym (sym (rest_append at (name ∷ [])) ∙ ap (rest_of at) (sym (parts_is _ _ same)) ∙ rest_append at path)) in
     let there_file : host_entry (get nodes (name ∷ [])) ≡ Some (file bytes) = sym (file_or_none (get nodes (name ∷ [])) true (named (get nodes) names is name ∙ listed) (is.flat name [])) in
-    (file bytes, ap (λ p. host_entry (get nodes p)) it ∙ there_file, inr (it, (k, sym (same_Some new e is_new))))
+    (file bytes, ap (λ p. host_entry (get nodes p)) it ∙ there_file, inr (it, (bytes, k, refl, sym (same_Some new e is_new))))
 
 pub front_saved : (t : Tree) (at : Parts) (there : Bool) → tree.IsWhole t → CanFill t at there → (nodes : Nodes) (names : List (List ℕ)) → IsFlatWith (get nodes) names → (ms : List (List ℕ)) → ((n : List ℕ) → has ms n ≡ true → has names n ≡ true) → (name : List ℕ) (k : ℕ) → has names name ≡ true → IsPartOf t (with_front (with_files (with_folder t at there) at (files_of (get nodes) ms)) at name (get nodes) k) at nodes (name ∷ [])
 front_saved t at there whole can nodes names is ms among name k listed = record {

@@ -33,9 +33,9 @@ entry_or outside S (Some path) = host_entry (S path)
 abbrev pub IsSaved : Tree → Tree → Parts → Nodes → Type 0
 IsSaved tree tree' at nodes = (q : Parts) → get tree' q ≡ entry_or (get tree q) (get nodes) (rest_of at q)
 
--- a file with a prefix of the bytes that the whole folder has there
+-- a file with a prefix of the bytes of the file that the whole folder has there
 abbrev pub IsFrontOf : Entry → Entry → Type 0
-IsFrontOf e whole = (n : ℕ) × (e ≡ file (take n whole.bytes))
+IsFrontOf e whole = (bytes : List ℕ) × (n : ℕ) × (whole ≡ file bytes) × (e ≡ file (take n bytes))
 
 -- the new tree has a part of that folder at these parts, and is the old one elsewhere; the file last begun may hold a prefix
 -- of its bytes

@@ -5,13 +5,14 @@ use Rattle.fx_store.specs.declared.node.Node.{Node}
 use Rattle.fx_view.specs.ReadList.{ReadList}
 use Rattle.fx_view.specs.Reads.{read_at}
 use Rattle.fx_spec.specs.Plans.{Turn}
-use Rattle.fx_spec.specs.Order.{BaseTree, state}
+use Rattle.fx_spec.specs.Order.{BaseTree, numbers_of, state}
 
 pub record PassView : Type 0 where
   pub number : ℕ
   pub base : BaseTree
   pub seen : List Turn
   pub mine : ℕ
+  pub counted : mine ≡ length (numbers_of number seen)
 
 -- each read is what the state at its position has, and its position is one of the order
 abbrev pub AreTrueReads : BaseTree → List Turn → ReadList → Type 0
