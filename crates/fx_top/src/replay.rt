@@ -148,7 +148,7 @@ pub fn play_all(
         if base.plan.txn(*shell, *txn).is_none() {
             return Ok(None);
         }
-        entries.add(play(alloc, base, *shell, *txn, &mut store)?)?;
+        entries.add(alloc, play(alloc, base, *shell, *txn, &mut store)?)?;
     }
     Ok(Some(Played { entries, store }))
 }
