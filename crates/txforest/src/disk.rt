@@ -181,6 +181,7 @@ mod tests {
     use super::*;
     use std::alloc::Allocator;
     use std::fs::{Metadata, OpenOptions};
+    use std::io::Cursor;
     use std::os::unix::fs::symlink;
     use std::test::Fail;
 
@@ -254,7 +255,7 @@ mod tests {
     #[derive(Clone, Drop)]
     struct Renamed {
         rt: HostRuntime,
-        names: &'static [u8],
+        names: [u8; 4],
     }
 
     impl Alloc for Renamed {
@@ -268,14 +269,14 @@ mod tests {
     impl Files for Renamed {
         type File = File;
 
-        type Dir = &'static [u8];
+        type Dir = Cursor<[u8; 4]>;
 
         fn open_file(&self, how: &OpenOptions, path: &str) -> io::Result<File> {
             self.rt.open_file(how, path)
         }
 
-        fn open_dir(&self, _path: &str) -> io::Result<&'static [u8]> {
-            Ok(self.names)
+        fn open_dir(&self, _path: &str) -> io::Result<Cursor<[u8; 4]>> {
+            Ok(Cursor::new(self.names))
         }
 
         fn metadata(&self, path: &str) -> io::Result<Metadata> {
@@ -314,24 +315,21 @@ mod tests {
     #[test]
     fn names_that_are_no_utf8_or_stand_twice_are_faults(rt: HostRuntime) -> Result<(), Fail> {
         let alloc = rt.alloc();
+        let folder = text(alloc, "g")?;
         fs::create_dir(&rt, "g")?;
         File::create_new(&rt, "g/a")?;
-        for (names, fails) in [
-            (b"a\0".as_slice(), false),
-            (b"\xff\0".as_slice(), true),
-            (b"a\0a\0".as_slice(), true),
+        File::create_new(&rt, "g/b")?;
+        for (names, fault) in [
+            (*b"a\0b\0", None),
+            (*b"a\0\xff\0", Some(HostFault::Failed)),
+            (*b"a\0a\0", Some(HostFault::Failed)),
         ] {
             let mut disk = Disk::new(Renamed {
                 rt: rt.clone()?,
                 names,
             });
-            let listed = disk.list(alloc, &text(alloc, "g")?);
-            assert_eq!(rt;
-                matches!(listed, Err(HostFault::Failed)),
-                fails,
-                "{names:?}"
-            );
-            assert_eq!(rt; disk.faults, u64::from(fails), "{names:?}");
+            assert_eq!(rt; disk.list(alloc, &folder).err(), fault, "{names:?}");
+            assert_eq!(rt; disk.faults, u64::from(fault.is_some()), "{names:?}");
         }
         Ok(())
     }
