@@ -165,6 +165,14 @@ mod tests {
         Status::TextRefused { word: 1, cause }
     }
 
+    fn word(alloc: Global) -> Result<Word, NoMemory> {
+        Ok(Word::from_vec(Vec::from_slice(alloc, b"x1")?))
+    }
+
+    fn path(alloc: Global) -> Result<HostText, NoMemory> {
+        Ok(HostText::from_string(String::from_str(alloc, "/a\"b\n\u{e9}")?))
+    }
+
     fn pair_of_names_and_options(alloc: Global) -> Result<Shape, AllocError> {
         let option = Shape::Opt(Box::new(alloc, Shape::Int)?);
         let first = Box::new(alloc, Shape::Names)?;
@@ -175,7 +183,6 @@ mod tests {
     fn every_status_but_done_has_a_line(rt: HostRuntime) -> Result<(), Fail> {
         let alloc = rt.alloc();
         let words = words(alloc)?;
-        let path = HostText::from_string(String::from_str(alloc, "/a\"b\n\u{e9}")?);
         let differs = TextFault::TypeDiffers {
             expected: Shape::Table(Box::new(alloc, Shape::Bool)?),
             found: pair_of_names_and_options(alloc)?,
@@ -188,16 +195,49 @@ mod tests {
                 "spec \u{e9}\\n: BadToken 7",
             ),
             (
+                refused(TextFault::Unexpected(8)),
+                "spec \u{e9}\\n: Unexpected 8",
+            ),
+            (
+                refused(TextFault::TooNested(9)),
+                "spec \u{e9}\\n: TooNested 9",
+            ),
+            (
+                refused(TextFault::NotBuilt(0)),
+                "spec \u{e9}\\n: NotBuilt 0",
+            ),
+            (
+                refused(TextFault::Unknown(word(alloc)?)),
+                "spec \u{e9}\\n: Unknown x1",
+            ),
+            (
                 refused(differs),
                 "spec \u{e9}\\n: TypeDiffers table(bool) pair(names, opt(int))",
             ),
             (
-                Status::FolderRefused(FolderCause::NotBuilt(path)),
-                "folder: NotBuilt \"/a\\\"b\\n\\xc3\\xa9\"",
+                refused(TextFault::Repeated(word(alloc)?)),
+                "spec \u{e9}\\n: Repeated x1",
+            ),
+            (refused(TextFault::TooMany), "spec \u{e9}\\n: TooMany"),
+            (
+                Status::FolderRefused(FolderCause::BadName(path(alloc)?)),
+                "folder: BadName \"/a\\\"b\\n\\xc3\\xa9\"",
+            ),
+            (
+                Status::FolderRefused(FolderCause::Strange(path(alloc)?)),
+                "folder: Strange \"/a\\\"b\\n\\xc3\\xa9\"",
+            ),
+            (
+                Status::FolderRefused(FolderCause::TooLarge(path(alloc)?)),
+                "folder: TooLarge \"/a\\\"b\\n\\xc3\\xa9\"",
             ),
             (
                 Status::FolderRefused(FolderCause::BadTable(3)),
                 "folder: BadTable 3",
+            ),
+            (
+                Status::FolderRefused(FolderCause::NotBuilt(path(alloc)?)),
+                "folder: NotBuilt \"/a\\\"b\\n\\xc3\\xa9\"",
             ),
             (Status::ReadFault, "read fault"),
             (Status::NotEmpty, "output is not empty"),
