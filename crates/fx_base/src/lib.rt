@@ -2,9 +2,14 @@
 //! one crate cites.
 #![tactic(auto)]
 
+mod list;
+mod steps;
+
+pub use list::Listed;
 use std::alloc::{AllocError, AllocFailed};
 use std::error::Error;
 use std::fmt;
+pub use steps::Steps;
 
 /// Memory for the work was refused. It is the one answer that no contract ties to a cause.
 #[derive(Clone, Copy, Debug, PartialEq, Eq, Hash)]

@@ -12,6 +12,7 @@ use Rattle.std.proofs.lemmas.Option.{same_Some, none-some, slice_get_within, sli
 use Rattle.std.proofs.lemmas.List.Folds.{list_any_none, list_any_at}
 use Rattle.std.proofs.lemmas.List.Sorted.{searchable_from_sorted}
 use Rattle.std.proofs.lemmas.Map.Keys.{Less-from_sorted}
+use Rattle.fx_base.proofs.Placing.{rises}
 use Rattle.fx_store.specs.Names.{is_in, is_above}
 
 all_push : {X : Type 0} (P : X → Type 0) (xs : List X) (x : X) → AllByRecursion P xs → P x → AllByRecursion P (xs ++ x ∷ [])
@@ -49,13 +50,6 @@ module _ {K : Type 0} {R : K → K → Ordering} (o : IsTotalOrder R) where
       let least = o.trans a b k up.0.0 (all_last (λ y. R b y ≡ Less) ks k rest.0) in
       ((up.0.0, all_push (λ y. R a y ≡ Less) ks k up.0.1 least), rest)
 
-  turned : (x y : K) → R x y ≡ Less → is_lt (R y x) ≡ false
-  turned x y e = ap is_lt (o.antisymm y x ∙ ap ordering_reverse e)
-
-  -- how the keys compare with x rises along an ascending list
-  rises : (ks : List K) (x : K) → IsStrictlySortedBy R ks → IsNonDecreasingBy (λ y. ordering_index (R y x)) ks
-  rises ks x up = searchable_from_sorted o (λ (y : K). y) ks x (λ k d low high. turned _ _ (Less-from_sorted R ks k (k + 1) d up (omega arith) (omega arith)))
-
   apart : (r : Ordering) (x y : K) → R y x ≡ r → is_eq r ≡ false → eq_by_cmp R x y ≡ false
   apart Less x y e f = ap is_eq (o.antisymm x y ∙ ap ordering_reverse e)
   apart Equal x y e f = absurd (false≢true (sym f))
@@ -65,7 +59,7 @@ module _ {K : Type 0} {R : K → K → Ordering} (o : IsTotalOrder R) where
   pub searched : (ks : List K) (x : K) (r : Result ℕ ℕ) → IsStrictlySortedBy R ks → IsSearchInRange r (length ks) → IsBinarySearchResult (λ y. R y x) ks r → is_ok r ≡ is_in R ks x
   searched ks x (Ok i) up within at = sym (list_any_at (eq_by_cmp R x) ks i x within (ap is_eq (tied_back o _ x (at x))))
   searched ks x (Err i) up within parted =
-      let sides = parted (rises ks x up) in
+      let sides = parted (rises o ks x up) in
       sym (list_any_none (eq_by_cmp R x) ks (λ k d lt. elim (cases_lt k i) [
         | inl below ↦ apart Less x _ (sides.0 k d (omega arith) below) refl
         | inr above ↦ apart Greater x _ (sides.1 k d above lt) refl

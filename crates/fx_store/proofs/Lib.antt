@@ -3,6 +3,7 @@ pub mod Landings
 pub mod Examples
 mod NameTests
 pub mod Ascending
+mod Placing
 mod Sets
 pub mod Stores
 pub mod Tables

@@ -95,7 +95,7 @@ fn names_of(alloc: Global, files: &[(Name, Bytes)]) -> Result<Names, NoMemory>
     for (name, _) in files {
         names.push(name.copy(alloc)?)?;
     }
-    Ok(Names::from_vec(names))
+    Names::from_vec(alloc, names)
 }
 
 fn add_files(

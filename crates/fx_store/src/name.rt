@@ -15,6 +15,7 @@ use std::alloc::{AllocError, AllocFailed, Global};
 use std::cmp::Ordering;
 use std::hash::{Hash, Hasher};
 use std::marker::Model;
+use std::sync::ArcSlice;
 
 /// Why a name, a path or a link text was not read or made.
 #[derive(Clone, Copy, Debug, PartialEq, Eq)]
@@ -58,21 +59,22 @@ impl From<NoMemory> for PathFault {
 }
 
 /// The name of an entry of a directory: UTF-8 of 1 to 255 bytes without `/` and NUL, and not `.`, `..` or
-/// `.forest-links`. Names are ordered by bytes.
+/// `.forest-links`. Names are ordered by bytes. A copy shares the bytes, and takes no memory for them.
 #[derive(Drop)]
 pub struct Name {
-    bytes: Vec<u8>,
+    bytes: ArcSlice<u8>,
 }
 
 impl Model for Name {
     ghost use Rattle.std.specs.Prelude.{List, ℕ};
+    ghost use Rattle.std.specs.Arc.{arc_slice_items};
     ghost use Rattle.fx_store.specs.Names.{IsName};
 
     ghost Value = { List ℕ };
 
-    ghost view = { λ n. n.bytes.items };
+    ghost view = { λ n. arc_slice_items n.bytes };
 
-    ghost invariant = { λ n. IsName n.bytes.items };
+    ghost invariant = { λ n. IsName (arc_slice_items n.bytes) };
 }
 
 impl Name {
@@ -94,7 +96,7 @@ impl Name {
         ensures { IfOk result (λ n. n ≡ bytes.now) }
     {
         Ok(Name {
-            bytes: Vec::from_slice(alloc, bytes)?,
+            bytes: ArcSlice::from_slice(alloc, bytes)?,
         })
     }
 
@@ -105,12 +107,12 @@ impl Name {
         self.bytes.as_slice()
     }
 
-    pub fn copy(&self, alloc: Global) -> Result<Name, NoMemory>
+    pub fn copy(&self, _alloc: Global) -> Result<Name, NoMemory>
         ensures copied { IfOk result (λ n. n ≡ self.now) }
         ensures name { IsName self.now }
     {
         Ok(Name {
-            bytes: Vec::from_slice(alloc, &self.bytes)?,
+            bytes: self.bytes.clone()?,
         })
     }
 }

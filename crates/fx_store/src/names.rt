@@ -1,6 +1,8 @@
 //! Sets of names, which directories list, and lists of names.
 ghost use Rattle.std.specs.Prelude.{◌≡◌, ◌↔◌, ◌++◌, ◌∷◌, [], length, All, IsTrue, IfOk, OnOk, OnErr, slice_get, option_copied};
 ghost use Rattle.std.specs.List.Sorted.{IsStrictlySortedBy};
+ghost use Rattle.fx_base.specs.Sets.{with_text, without_name};
+ghost use Rattle.fx_base.specs.Shared.{listed};
 ghost use Rattle.fx_store.specs.Names.{IsName, IsNameSet, has, name_cmp};
 
 use crate::name::{Name, is_name};
@@ -8,46 +10,58 @@ use crate::order::is_above;
 use fx_base::NoMemory;
 use std::alloc::{AllocError, Global};
 use std::marker::Model;
+use std::sync::Arc;
 
-/// The names of a directory, each once, in ascending order.
+/// The names of a directory, each once, in ascending order. A copy shares them, and takes no memory for them.
 #[derive(Drop)]
 pub struct Names {
-    names: Vec<Name>,
+    shared: Option<Arc<Vec<Name>>>,
 }
 
 impl Model for Names {
     ghost use Rattle.std.specs.Prelude.{List, ℕ};
+    ghost use Rattle.fx_base.specs.Shared.{listed};
     ghost use Rattle.fx_store.specs.Names.{IsNameSet};
 
     ghost Value = { List (List ℕ) };
 
-    ghost view = { λ s. s.names.items };
+    ghost view = { λ s. listed s.shared };
 
-    ghost invariant = { λ s. IsNameSet s.names.items };
+    ghost invariant = { λ s. IsNameSet (listed s.shared) };
 }
 
 impl Names {
-    pub fn new(alloc: Global) -> Names
+    pub fn new(_alloc: Global) -> Names
         ensures { result ≡ [] }
     {
-        Names {
-            names: Vec::new(alloc),
-        }
+        Names { shared: None }
     }
 
     /// The names of a list, which needs each once and in ascending order.
-    pub fn from_vec(names: Vec<Name>) -> Names
+    pub fn from_vec(alloc: Global, names: Vec<Name>) -> Result<Names, NoMemory>
         requires { IsNameSet names.items }
-        ensures { result ≡ names.items }
+        ensures { IfOk result (λ s. s ≡ names.items) }
     {
-        Names { names }
+        Ok(Names {
+            shared: Some(Arc::new(alloc, names)?),
+        })
+    }
+
+    fn as_slice(&self) -> &[Name]
+        ensures names { result.now ≡ self.now }
+        ensures set { IsNameSet self.now }
+    {
+        match &self.shared {
+            Some(names) => names.as_slice(),
+            None => &[],
+        }
     }
 
     pub fn len(&self) -> u64
         ensures len { result ≡ length self.now }
         ensures set { IsNameSet self.now }
     {
-        self.names.len() as u64
+        self.as_slice().len() as u64
     }
 
     /// The name at an index, counted from 0 in ascending order.
@@ -55,7 +69,7 @@ impl Names {
         ensures name { option_copied result ≡ slice_get self.now i }
         ensures set { IsNameSet self.now }
     {
-        self.names.get(i as usize)
+        self.as_slice().get(i as usize)
     }
 
     /// Whether a name is one of these, by binary search.
@@ -63,35 +77,84 @@ impl Names {
         ensures found { result ≡ has self.now name.now }
         ensures set { IsNameSet self.now }
     {
-        self.names.binary_search(name).is_ok()
+        self.as_slice().binary_search(name).is_ok()
     }
 
     /// Whether a name is greater than each of these, so that it may be added.
     pub fn is_next(&self, name: &Name) -> bool
         ensures { IsTrue result ↔ IsStrictlySortedBy name_cmp (self.now ++ name.now ∷ []) }
     {
-        is_above(&self.names, name)
+        is_above(self.as_slice(), name)
     }
 
     /// Adds a name at the end, which needs one that is greater than each of these.
-    pub fn add(&mut self, _alloc: Global, item: Name) -> Result<(), NoMemory>
+    pub fn add(&mut self, alloc: Global, item: Name) -> Result<(), NoMemory>
         requires { IsStrictlySortedBy name_cmp (self.old ++ item ∷ []) }
         ensures ok { OnOk result (self.new ≡ self.old ++ item ∷ []) }
         ensures err { OnErr result (self.new ≡ self.old) }
     {
         prove!(is_name(item.as_slice()));
-        self.names.push(item)?;
-        Ok(())
+        push(alloc, &mut self.shared, item)
     }
 
-    pub fn copy(&self, alloc: Global) -> Result<Names, NoMemory>
+    /// The set with one name more. Where it has the name it is the same set.
+    pub fn with(&self, alloc: Global, name: &Name) -> Result<Names, NoMemory>
+        ensures { IfOk result (λ s. s ≡ with_text name.now self.now) }
+    {
+        let names = self.as_slice();
+        match names.binary_search(name) {
+            Ok(_) => self.copy(alloc),
+            Err(i) => {
+                let mut more = Vec::from_clones(alloc, names)?;
+                more.insert(i, name.copy(alloc)?)?;
+                Names::from_vec(alloc, more)
+            }
+        }
+    }
+
+    /// The set without a name. Where it lacks the name it is the same set.
+    pub fn without(&self, alloc: Global, name: &Name) -> Result<Names, NoMemory>
+        ensures { IfOk result (λ s. s ≡ without_name name.now self.now) }
+    {
+        let names = self.as_slice();
+        match names.binary_search(name) {
+            Ok(i) => {
+                let mut fewer = Vec::from_clones(alloc, names)?;
+                let_go(fewer.remove(i));
+                Names::from_vec(alloc, fewer)
+            }
+            Err(_) => self.copy(alloc),
+        }
+    }
+
+    pub fn copy(&self, _alloc: Global) -> Result<Names, NoMemory>
         ensures copied { IfOk result (λ s. s ≡ self.now) }
         ensures set { IsNameSet self.now }
     {
         Ok(Names {
-            names: Vec::from_clones(alloc, &self.names)?,
+            shared: self.shared.clone()?,
         })
     }
+}
+
+fn let_go(_name: Name) {}
+
+/// Adds a name at the end of a list, which is copied where others share it.
+fn push(alloc: Global, shared: &mut Option<Arc<Vec<Name>>>, item: Name) -> Result<(), NoMemory>
+    ensures ok { OnOk result (listed shared.new ≡ listed shared.old ++ item ∷ []) }
+    ensures err { OnErr result (listed shared.new ≡ listed shared.old) }
+{
+    match shared {
+        Some(items) => {
+            Arc::make_mut(items)?.push(item)?;
+        }
+        None => {
+            let mut items = Vec::new(alloc);
+            items.push(item)?;
+            *shared = Some(Arc::new(alloc, items)?);
+        }
+    }
+    Ok(())
 }
 
 impl Clone for Names {
@@ -99,7 +162,7 @@ impl Clone for Names {
 
     fn clone(&self) -> Result<Names, AllocError> {
         Ok(Names {
-            names: self.names.clone()?,
+            shared: self.shared.clone()?,
         })
     }
 }
