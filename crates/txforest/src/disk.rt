@@ -1,6 +1,7 @@
 //! The folders and files of the machine, as a host.
-ghost use Rattle.std.specs.Prelude.{◌≡◌, ◌≤◌, Option, None, IfOk, length};
+ghost use Rattle.std.specs.Prelude.{◌≡◌, ◌≤◌, None, true, false, IfOk, length};
 ghost use Rattle.fx_base.specs.Causes.{Rose};
+ghost use Rattle.fx_outside.specs.Path.{is_fit};
 ghost use Rattle.fx_outside.specs.declared.kind.HostFault.TheVariants.{Failed};
 
 use fx_base::NoMemory;
@@ -14,11 +15,12 @@ use std::rt::Files;
 const MOST_ENTRIES: usize = 1_000_000;
 
 /// The machine's files. It tells nothing of what it holds, and counts each error of the system: a name that is not UTF-8
-/// and a folder of more than 1,000,000 entries too.
+/// and a folder of more than 1,000,000 entries too. It counts the calls at unfit paths besides.
 #[derive(Drop)]
 pub struct Disk<R: Files + AllocGlobal + Clone + Drop> {
     rt: R,
     faults: u64,
+    unfit: u64,
 }
 
 fn kind_of(kind: FileType) -> HostKind {
@@ -88,7 +90,22 @@ fn write_file<R: Files>(rt: &R, path: &str, bytes: &[u8]) -> io::Result<()> {
 
 impl<R: Files + AllocGlobal + Clone + Drop> Disk<R> {
     pub fn new(rt: R) -> Disk<R> {
-        Disk { rt, faults: 0 }
+        Disk {
+            rt,
+            faults: 0,
+            unfit: 0,
+        }
+    }
+
+    /// Counts a call at an unfit path.
+    fn count_unfit(&mut self, path: &HostText)
+        ensures fit { is_fit path.now ≡ true → self.new.unfit ≡ self.old.unfit }
+        ensures unfit { is_fit path.now ≡ false → Rose self.old.unfit self.new.unfit }
+        ensures faults { self.new.faults ≡ self.old.faults }
+    {
+        if !path.is_fit() {
+            self.unfit = self.unfit.saturating_add(1);
+        }
     }
 
     /// A counted fault.
@@ -96,6 +113,7 @@ impl<R: Files + AllocGlobal + Clone + Drop> Disk<R> {
         ensures fault { result ≡ Failed }
         ensures rose { Rose self.old.faults self.new.faults }
         ensures later { self.old.faults ≤ self.new.faults }
+        ensures unfit { self.new.unfit ≡ self.old.unfit }
     {
         self.faults = self.faults.saturating_add(1);
         HostFault::Failed
@@ -105,6 +123,7 @@ impl<R: Files + AllocGlobal + Clone + Drop> Disk<R> {
     fn fault(&mut self, error: io::Error) -> HostFault
         ensures rose { result ≡ Failed → Rose self.old.faults self.new.faults }
         ensures later { self.old.faults ≤ self.new.faults }
+        ensures unfit { self.new.unfit ≡ self.old.unfit }
     {
         if error.kind() == ErrorKind::OutOfMemory {
             HostFault::NoMemory
@@ -115,11 +134,10 @@ impl<R: Files + AllocGlobal + Clone + Drop> Disk<R> {
 }
 
 impl<R: Files + AllocGlobal + Clone + Drop> Host for Disk<R> {
-    ghost told = { λ _. None };
-
-    ghost faults = { λ disk. disk.faults };
+    ghost view = { λ disk. record { told = None; faults = disk.faults; unfit = disk.unfit } };
 
     fn standing(&mut self, _alloc: Global, path: &HostText) -> Result<Standing, HostFault> {
+        self.count_unfit(path);
         match fs::symlink_metadata(&self.rt, path.as_str()) {
             Ok(metadata) => Ok(Standing::Is(kind_of(metadata.file_type()))),
             Err(error) => match error.kind() {
@@ -130,6 +148,7 @@ impl<R: Files + AllocGlobal + Clone + Drop> Host for Disk<R> {
     }
 
     fn list(&mut self, alloc: Global, path: &HostText) -> Result<Listing, HostFault> {
+        self.count_unfit(path);
         let found = match entries(&self.rt, alloc, path.as_str()) {
             Ok(found) => found,
             Err(error) => return Err(self.fault(error)),
@@ -148,6 +167,7 @@ impl<R: Files + AllocGlobal + Clone + Drop> Host for Disk<R> {
         from: u64,
         buf: &mut [u8],
     ) -> Result<usize, HostFault> {
+        self.count_unfit(path);
         match read_at(&self.rt, path.as_str(), from, buf) {
             Ok(count) => Ok(count),
             Err(error) => Err(self.fault(error)),
@@ -155,6 +175,7 @@ impl<R: Files + AllocGlobal + Clone + Drop> Host for Disk<R> {
     }
 
     fn make_dir(&mut self, _alloc: Global, path: &HostText) -> Result<(), HostFault> {
+        self.count_unfit(path);
         match fs::create_dir(&self.rt, path.as_str()) {
             Ok(()) => Ok(()),
             Err(error) => Err(self.fault(error)),
@@ -167,6 +188,7 @@ impl<R: Files + AllocGlobal + Clone + Drop> Host for Disk<R> {
         path: &HostText,
         bytes: &[u8],
     ) -> Result<(), HostFault> {
+        self.count_unfit(path);
         match write_file(&self.rt, path.as_str(), bytes) {
             Ok(()) => Ok(()),
             Err(error) => Err(self.fault(error)),
