@@ -1,7 +1,8 @@
 //! The folders and files of the machine, as a host.
-ghost use Rattle.std.specs.Prelude.{◌≡◌, ◌≤◌, ◌+◌, None, OnOk, IfOk, IfSome, length, vec_len};
+ghost use Rattle.std.specs.Prelude.{◌≡◌, ◌≤◌, ◌+◌, None, true, false, OnOk, IfOk, IfSome, length, vec_len};
 ghost use Rattle.std.specs.FinMap.{len};
 ghost use Rattle.fx_base.specs.Causes.{Rose};
+ghost use Rattle.fx_outside.specs.Path.{is_fit};
 ghost use Rattle.fx_outside.specs.declared.kind.HostFault.TheVariants.{Failed};
 
 use crate::reading::{Reading, read_on};
@@ -16,11 +17,13 @@ use std::rt::Files;
 pub const MOST_ENTRIES: usize = 1_000_000;
 
 /// The machine's files. It tells nothing of what it holds, and counts each error of the system: a name that is not UTF-8
-/// and a folder of more than [`MOST_ENTRIES`] entries too.
+/// and a folder of more than [`MOST_ENTRIES`] entries too. It counts the calls at unfit paths besides. A file that is read
+/// on stays open, so that a pipe is read too.
 #[derive(Drop)]
 pub struct Disk<R: Files + AllocGlobal + Clone + Drop> {
     rt: R,
     faults: u64,
+    unfit: u64,
     reading: Option<Reading<R::File>>,
 }
 
@@ -111,11 +114,13 @@ fn write_file<R: Files>(rt: &R, path: &str, bytes: &[u8]) -> io::Result<()> {
 
 impl<R: Files + AllocGlobal + Clone + Drop> Disk<R> {
     pub fn new(rt: R) -> Disk<R>
-        ensures { result.faults ≡ 0 }
+        ensures faults { result.faults ≡ 0 }
+        ensures unfit { result.unfit ≡ 0 }
     {
         Disk {
             rt,
             faults: 0,
+            unfit: 0,
             reading: None,
         }
     }
@@ -127,11 +132,23 @@ impl<R: Files + AllocGlobal + Clone + Drop> Disk<R> {
         self.faults
     }
 
+    /// Counts a call at an unfit path.
+    fn count_unfit(&mut self, path: &HostText)
+        ensures fit { is_fit path.now ≡ true → self.new.unfit ≡ self.old.unfit }
+        ensures unfit { is_fit path.now ≡ false → Rose self.old.unfit self.new.unfit }
+        ensures faults { self.new.faults ≡ self.old.faults }
+    {
+        if !path.is_fit() {
+            self.unfit = self.unfit.saturating_add(1);
+        }
+    }
+
     /// A counted fault.
     fn failed(&mut self) -> HostFault
         ensures fault { result ≡ Failed }
         ensures rose { Rose self.old.faults self.new.faults }
         ensures later { self.old.faults ≤ self.new.faults }
+        ensures unfit { self.new.unfit ≡ self.old.unfit }
     {
         self.faults = self.faults.saturating_add(1);
         HostFault::Failed
@@ -141,6 +158,7 @@ impl<R: Files + AllocGlobal + Clone + Drop> Disk<R> {
     fn fault(&mut self, error: io::Error) -> HostFault
         ensures rose { result ≡ Failed → Rose self.old.faults self.new.faults }
         ensures later { self.old.faults ≤ self.new.faults }
+        ensures unfit { self.new.unfit ≡ self.old.unfit }
     {
         if error.kind() == ErrorKind::OutOfMemory {
             HostFault::NoMemory
@@ -151,16 +169,16 @@ impl<R: Files + AllocGlobal + Clone + Drop> Disk<R> {
 }
 
 impl<R: Files + AllocGlobal + Clone + Drop> Host for Disk<R> {
-    ghost use Rattle.std.specs.Prelude.{◌≤◌, None, IfOk};
+    ghost use Rattle.std.specs.Prelude.{◌≤◌, IfOk};
     ghost use Rattle.std.specs.FinMap.{len};
     ghost use Rattle.fx_outside.specs.Tree.{is_folder_at};
-    ghost use Rattle.fx_outside.specs.Host.{HasCause};
+    ghost use Rattle.fx_outside.specs.Host.{ReadsOnly, HasCause, CountsUnfit};
+    ghost use Rattle.fx_disk.specs.Silent.{silent};
 
-    ghost told = { λ _. None };
-
-    ghost faults = { λ disk. disk.faults };
+    ghost view = { λ disk. silent disk.faults disk.unfit };
 
     fn standing(&mut self, _alloc: Global, path: &HostText) -> Result<Standing, HostFault> {
+        self.count_unfit(path);
         match fs::symlink_metadata(&self.rt, path.as_str()) {
             Ok(metadata) => Ok(Standing::Is(kind_of(metadata.file_type()))),
             Err(error) => match error.kind() {
@@ -172,9 +190,14 @@ impl<R: Files + AllocGlobal + Clone + Drop> Host for Disk<R> {
 
     fn list(&mut self, alloc: Global, path: &HostText) -> Result<Listing, HostFault>
         ensures few { IfOk result (λ names. len names ≤ MOST_ENTRIES) }
-        ensures cause { HasCause (λ tree. is_folder_at tree path.now) None None
-            self.old.faults self.new.faults result }
+        ensures same { ReadsOnly (silent self.old.faults self.old.unfit)
+            (silent self.new.faults self.new.unfit) }
+        ensures cause { HasCause (λ t. is_folder_at t path.now) (silent self.old.faults self.old.unfit)
+            (silent self.new.faults self.new.unfit) result }
+        ensures unfit { CountsUnfit path.now (silent self.old.faults self.old.unfit)
+            (silent self.new.faults self.new.unfit) }
     {
+        self.count_unfit(path);
         let found = match entries(&self.rt, alloc, path.as_str()) {
             Ok(found) => found,
             Err(error) => return Err(self.fault(error)),
@@ -193,6 +216,7 @@ impl<R: Files + AllocGlobal + Clone + Drop> Host for Disk<R> {
         from: u64,
         buf: &mut [u8],
     ) -> Result<usize, HostFault> {
+        self.count_unfit(path);
         match read_on(&self.rt, alloc, &mut self.reading, path, from, buf) {
             Ok(count) => Ok(count),
             Err(error) => Err(self.fault(error)),
@@ -200,6 +224,7 @@ impl<R: Files + AllocGlobal + Clone + Drop> Host for Disk<R> {
     }
 
     fn make_dir(&mut self, _alloc: Global, path: &HostText) -> Result<(), HostFault> {
+        self.count_unfit(path);
         match fs::create_dir(&self.rt, path.as_str()) {
             Ok(()) => Ok(()),
             Err(error) => Err(self.fault(error)),
@@ -212,6 +237,7 @@ impl<R: Files + AllocGlobal + Clone + Drop> Host for Disk<R> {
         path: &HostText,
         bytes: &[u8],
     ) -> Result<(), HostFault> {
+        self.count_unfit(path);
         match write_file(&self.rt, path.as_str(), bytes) {
             Ok(()) => Ok(()),
             Err(error) => Err(self.fault(error)),

@@ -44,9 +44,7 @@ impl<'a, P: Print> Output<'a, P> {
 }
 
 impl<P: Print> Sink for Output<'_, P> {
-    ghost written = { λ _. None };
-
-    ghost faults = { λ output. output.faults };
+    ghost view = { λ output. record { written = None; faults = output.faults } };
 
     fn write(&mut self, bytes: &[u8]) -> Result<usize, SinkFailed> {
         match write_some(self.to, bytes) {

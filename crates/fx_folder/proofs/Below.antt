@@ -114,13 +114,18 @@ all_append : (xs ys : Parts) → list_all is_fit_part xs ≡ true → list_all i
 all_append [] ys a b = b
 all_append (x ∷ xs) ys a b = ap (λ t. t && list_all is_fit_part (xs ++ ys)) (and_left (is_fit_part x) _ a) ∙ all_append xs ys (and_right (is_fit_part x) _ a) b
 
+-- the path below a fit folder is fit
+fit_part_below : (folder name : List ℕ) → is_fit folder ≡ true → IsPart name → is_fit (path_below folder name) ≡ true
+fit_part_below folder name fit part =
+    let place : parts (path_below folder name) ≡ parts folder ++ name ∷ [] = parts_join folder name ∙ ap (λ l. parts folder ++ l) (parts_one name part.slash) in
+    let one : list_all is_fit_part (name ∷ []) ≡ true = ap (λ b. b && true) part.fit in
+    ap (list_all is_fit_part) place ∙ all_append (parts folder) (name ∷ []) fit one
+
 -- the entry at the path below a fit folder
 pub entry_below : (tree : Tree) (folder name : List ℕ) → is_fit folder ≡ true → IsPart name → entry_at tree (path_below folder name) ≡ get tree (parts folder ++ name ∷ [])
 entry_below tree folder name fit part =
     let place : parts (path_below folder name) ≡ parts folder ++ name ∷ [] = parts_join folder name ∙ ap (λ l. parts folder ++ l) (parts_one name part.slash) in
-    let one : list_all is_fit_part (name ∷ []) ≡ true = ap (λ b. b && true) part.fit in
-    let all : is_fit (path_below folder name) ≡ true = ap (list_all is_fit_part) place ∙ all_append (parts folder) (name ∷ []) fit one in
-    ap (λ b. cond b (get tree (parts (path_below folder name))) None) all ∙ ap (get tree) place
+    ap (λ b. cond b (get tree (parts (path_below folder name))) None) (fit_part_below folder name fit part) ∙ ap (get tree) place
 
 -- a path at which a folder stands is fit
 pub folder_fit : (tree : Tree) (path : List ℕ) → is_folder_at tree path ≡ true → is_fit path ≡ true
@@ -143,6 +148,9 @@ unread name false true true Other c1 c2 c3 e = cc
 -- an entry that passes unread has a name, and is a file
 pub passes_name : (nodes : ℕ) (name : List ℕ) (kind : HostKind) → refused_unread nodes name kind ≡ None → record { named : is_name name ≡ true; file : kind ≡ File }
 passes_name nodes name kind e = unread name (bytes_eq name table_name) (is_name name) (nat_lt nodes most_nodes) kind _ _ _ e
+
+pub fit_entry : (folder name : List ℕ) (kind : HostKind) (nodes : ℕ) → refused_unread nodes name kind ≡ None → is_fit folder ≡ true → is_fit (path_below folder name) ≡ true
+fit_entry folder name kind nodes passed fit = fit_part_below folder name fit (name_part name (passes_name nodes name kind passed).named)
 
 kind_file : (o : Option Entry) → option_map (λ e. e.kind) o ≡ Some File → option_map_or (λ e. is_file_kind e.kind) o false ≡ true
 kind_file None e = cc

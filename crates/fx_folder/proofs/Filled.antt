@@ -4,7 +4,8 @@ use Rattle.std.specs.declared.cmp.Ordering.{Ordering}
 use Rattle.std.specs.declared.cmp.Ordering.TheVariants.{Less, Equal, Greater}
 use Rattle.std.specs.Ordering.{is_eq, eq_by_cmp, ordering_then}
 use Rattle.std.specs.Cmp.{tied_itself}
-use Rattle.std.specs.List.{list_all}
+use Rattle.std.specs.List.{list_all, slice_get}
+use Rattle.std.specs.List.Sorted.{IsStrictlySortedBy}
 use Rattle.std.specs.Option.{option_map_or}
 use Rattle.std.specs.FinMap.{get, insert, get-insert}
 use Rattle.std.proofs.lemmas.Bool.{cases_Bool}
@@ -15,7 +16,7 @@ use Rattle.std.proofs.Math.Seq.{take-append_seam}
 use Rattle.fx_store.specs.declared.node.Node.{Node}
 use Rattle.fx_store.specs.declared.node.Node.TheVariants.{File, Dir, Link}
 use Rattle.fx_store.specs.Names.{has}
-use Rattle.fx_store.specs.Whole.{Store, Nodes, IsWhole, lists}
+use Rattle.fx_store.specs.Whole.{Store, Nodes, IsWhole, IsNode, lists}
 use Rattle.fx_outside.specs.Listing.{name_cmp}
 use Rattle.fx_outside.specs.declared.kind.HostKind.{HostKind}
 use Rattle.fx_outside.specs.declared.kind.HostKind.TheVariants as kinds
@@ -24,6 +25,7 @@ use Rattle.fx_outside.specs.Tree as tree
 use Rattle.fx_outside.specs.Tree.{Tree, Entry, file, folder, has_folder, entry_at, is_folder_at, is_folder_kind, is_file_kind, is_placed}
 use Rattle.fx_outside.proofs.Trees.{name_total, name_same, parts_total, parts_same, true_test}
 use Rattle.fx_folder.specs.Folder.{host_entry, rest_of, entry_or, IsSaved, IsPartOf, IsFrontOf, IsReady, IsFileNode, IsFlat}
+use Rattle.fx_folder.proofs.Ordered.{fresh_from, has_at, among_front, has_before, has_before_next}
 use Rattle.fx_folder.specs.Written.{bytes_in, files_of, with_files, with_folder, with_front}
 
 -- orders of parts behind the same folder
@@ -297,11 +299,61 @@ front_entry t at there whole can S names is ms among (n ∷ []) e here = elim (c
 ]
 front_entry t at there whole can S names is ms among (a ∷ b ∷ r) e here = cc
 
-pub some_saved : (t : Tree) (at : Parts) (there : Bool) → tree.IsWhole t → CanFill t at there → (nodes : Nodes) (names : List (List ℕ)) → IsFlatWith (get nodes) names → (ms : List (List ℕ)) → ((n : List ℕ) → has ms n ≡ true → has names n ≡ true) → IsPartOf t (with_files (with_folder t at there) at (files_of (get nodes) ms)) at nodes []
-some_saved t at there whole can nodes names is ms among = record {
-  outside = λ q none. outside_is t at there (get nodes) ms q none;
+then_less : (o : Ordering) → ordering_then o Equal ≡ Less → o ≡ Less
+then_less Less e = refl
+then_less Equal e = cc
+then_less Greater e = cc
+
+sorted_of : (S : Store) (names : List (List ℕ)) → IsFlatWith S names → IsStrictlySortedBy name_cmp names
+sorted_of S names is = (subst (λ o. IfSome o (IsNode [])) is.root (is.whole.nodes [])).0.ascending
+
+nothing_deeper : (S : Store) (names : List (List ℕ)) → IsFlatWith S names → (a b : List ℕ) (r : Parts) (w : Entry) → host_entry (S (a ∷ b ∷ r)) ≡ Some w → ⊥
+nothing_deeper S names is a b r w e = let none : None ≡ Some w = sym (ap host_entry (none_deeper S is.whole is.flat a b r)) ∙ e in cc
+
+is_listed : (o : Option Node) (w : Entry) → host_entry o ≡ Some w → is_some o ≡ true
+is_listed None w e = cc
+is_listed (Some n) w e = refl
+
+-- a file of one of these names stands whole
+whole_file : (S : Store) (names : List (List ℕ)) → IsFlatWith S names → (i : ℕ) (m : List ℕ) (w : Entry) → host_entry (S (m ∷ [])) ≡ Some w → has (take i names) m ≡ true → cond (has (take i names) m) (Some (file (bytes_in (S (m ∷ []))))) None ≡ Some w
+whole_file S names is i m w e first =
+    ap (λ b. cond b (Some (file (bytes_in (S (m ∷ []))))) None) first
+    ∙ file_or_none (S (m ∷ [])) true (is_listed (S (m ∷ [])) w e) (is.flat m []) ∙ e
+
+has_name : (S : Store) (names : List (List ℕ)) → IsFlatWith S names → (m : List ℕ) (w : Entry) → host_entry (S (m ∷ [])) ≡ Some w → has names m ≡ true
+has_name S names is m w e = sym (named S names is m) ∙ is_listed (S (m ∷ [])) w e
+
+-- what comes before the next file, in path order, stands whole
+before_next : (t : Tree) (at : Parts) (there : Bool) (whole : tree.IsWhole t) (can : CanFill t at there) (S : Store) (names : List (List ℕ)) → IsFlatWith S names → (i : ℕ) (name : List ℕ) → slice_get names i ≡ Some name → (before : Parts) (w : Entry) → parts_cmp before (name ∷ []) ≡ Less → host_entry (S before) ≡ Some w → written_at t at there whole can S (take i names) before ≡ Some w
+unfolding written_at
+before_next t at there whole can S names is i name here [] w less e = sym (ap host_entry is.root) ∙ e
+before_next t at there whole can S names is i name here (m ∷ []) w less e =
+    whole_file S names is i m w e (has_before_next names i m name (sorted_of S names is) here (has_name S names is m w e) (then_less (name_cmp m name) less))
+before_next t at there whole can S names is i name here (a ∷ b ∷ r) w less e = absurd (nothing_deeper S names is a b r w e)
+
+-- so does what comes before a file that is there
+before_one : (t : Tree) (at : Parts) (there : Bool) (whole : tree.IsWhole t) (can : CanFill t at there) (S : Store) (names : List (List ℕ)) → IsFlatWith S names → (i : ℕ) (path before : Parts) (e w : Entry) → written_at t at there whole can S (take i names) path ≡ Some e → parts_cmp before path ≡ Less → host_entry (S before) ≡ Some w → written_at t at there whole can S (take i names) before ≡ Some w
+unfolding written_at
+before_one t at there whole can S names is i [] [] e w stands less has_w = cc
+before_one t at there whole can S names is i [] (a ∷ r) e w stands less has_w = cc
+before_one t at there whole can S names is i (n ∷ []) [] e w stands less has_w = sym (ap host_entry is.root) ∙ has_w
+before_one t at there whole can S names is i (n ∷ []) (m ∷ []) e w stands less has_w =
+    whole_file S names is i m w has_w (has_before names i m n (sorted_of S names is) (is_first (has (take i names) n) stands) (has_name S names is m w has_w) (then_less (name_cmp m n) less))
+  where
+    is_first : (b : Bool) → cond b (Some (file (bytes_in (S (n ∷ []))))) None ≡ Some e → b ≡ true
+    is_first true h = refl
+    is_first false h = cc
+before_one t at there whole can S names is i (n ∷ []) (a ∷ b ∷ r) e w stands less has_w = absurd (nothing_deeper S names is a b r w has_w)
+before_one t at there whole can S names is i (a ∷ b ∷ r) before e w stands less has_w = cc
+
+pub some_saved : (t : Tree) (at : Parts) (there : Bool) → tree.IsWhole t → CanFill t at there → (nodes : Nodes) (names : List (List ℕ)) → IsFlatWith (get nodes) names → (i : ℕ) → IsPartOf t (with_files (with_folder t at there) at (files_of (get nodes) (take i names))) at nodes []
+some_saved t at there whole can nodes names is i = record {
+  outside = λ q none. outside_is t at there (get nodes) (take i names) q none;
   inside = λ path e here.
-      (e, front_entry t at there whole can (get nodes) names is ms among path e (sym (inside_is t at there whole can (get nodes) ms path) ∙ here), inl refl);
+      (e, front_entry t at there whole can (get nodes) names is (take i names) (among_front names i) path e (sym (inside_is t at there whole can (get nodes) (take i names) path) ∙ here), inl refl);
+  ordered = λ path before e w here less has_w.
+      inside_is t at there whole can (get nodes) (take i names) before
+      ∙ before_one t at there whole can (get nodes) names is i path before e w (sym (inside_is t at there whole can (get nodes) (take i names) path) ∙ here) less has_w;
 }
 
 -- with a front of one file more
@@ -324,13 +376,53 @@ beside_last t at there whole can nodes names is ms among name k listed path e he
     let there_file : host_entry (get nodes (name ∷ [])) ≡ Some (file bytes) = sym (file_or_none (get nodes (name ∷ [])) true (named (get nodes) names is name ∙ listed) (is.flat name [])) in
     (file bytes, ap (λ p. host_entry (get nodes p)) it ∙ there_file, inr (it, (bytes, k, refl, sym (same_Some new e is_new))))
 
-pub front_saved : (t : Tree) (at : Parts) (there : Bool) → tree.IsWhole t → CanFill t at there → (nodes : Nodes) (names : List (List ℕ)) → IsFlatWith (get nodes) names → (ms : List (List ℕ)) → ((n : List ℕ) → has ms n ≡ true → has names n ≡ true) → (name : List ℕ) (k : ℕ) → has names name ≡ true → IsPartOf t (with_front (with_files (with_folder t at there) at (files_of (get nodes) ms)) at name (get nodes) k) at nodes (name ∷ [])
-front_saved t at there whole can nodes names is ms among name k listed = record {
+-- what stands whole still does where the front of the next file is there
+still_whole : (t : Tree) (at : Parts) (there : Bool) (whole : tree.IsWhole t) (can : CanFill t at there) (nodes : Nodes) (ms : List (List ℕ)) (name : List ℕ) (k : ℕ) → has ms name ≡ false → (before : Parts) (w : Entry) → written_at t at there whole can (get nodes) ms before ≡ Some w → get (with_front (with_files (with_folder t at there) at (files_of (get nodes) ms)) at name (get nodes) k) (at ++ before) ≡ Some w
+unfolding written_at
+still_whole t at there whole can nodes ms name k fresh before w stands =
+    let was = with_files (with_folder t at there) at (files_of (get nodes) ms) in
+    let new = file (take k (bytes_in (get nodes (name ∷ [])))) in
+    get-insert parts_total was (at ++ name ∷ []) new (at ++ before)
+    ∙ ap (λ b. cond b (Some new) (get was (at ++ before))) (apart before stands)
+    ∙ inside_is t at there whole can (get nodes) ms before ∙ stands
+  where
+    other : (m : List ℕ) (b : Bool) → has ms m ≡ b → cond b (Some (file (bytes_in (get nodes (m ∷ []))))) None ≡ Some w → eq_by_cmp name_cmp m name ≡ false
+    other m false listed h = cc
+    other m true listed h = elim (cases_Bool (eq_by_cmp name_cmp m name)) [
+      | inl same ↦ let both : true ≡ false = sym listed ∙ ap (has ms) (name_is m name same) ∙ fresh in cc
+      | inr apart ↦ apart
+    ]
+
+    apart : (before : Parts) → written_at t at there whole can (get nodes) ms before ≡ Some w → eq_by_cmp parts_cmp (at ++ before) (at ++ name ∷ []) ≡ false
+    apart [] h = at_itself at name
+    apart (m ∷ []) h = at_entry at m name ∙ other m (has ms m) refl h
+    apart (a ∷ b ∷ r) h = at_deeper at a b r name
+
+front_ordered : (t : Tree) (at : Parts) (there : Bool) (whole : tree.IsWhole t) (can : CanFill t at there) (nodes : Nodes) (names : List (List ℕ)) → IsFlatWith (get nodes) names → (i : ℕ) (name : List ℕ) (k : ℕ) → slice_get names i ≡ Some name → (path before : Parts) (e w : Entry)
+    → get (with_front (with_files (with_folder t at there) at (files_of (get nodes) (take i names))) at name (get nodes) k) (at ++ path) ≡ Some e
+    → parts_cmp before path ≡ Less
+    → host_entry (get nodes before) ≡ Some w
+    → (b : Bool) → eq_by_cmp parts_cmp (at ++ path) (at ++ name ∷ []) ≡ b
+    → written_at t at there whole can (get nodes) (take i names) before ≡ Some w
+front_ordered t at there whole can nodes names is i name k next path before e w here less has_w true same =
+    let it : path ≡ name ∷ [] = same_Some path (name ∷ []) (sym (sym (rest_append at (name ∷ [])) ∙ ap (rest_of at) (sym (parts_is _ _ same)) ∙ rest_append at path)) in
+    before_next t at there whole can (get nodes) names is i name next before w (subst (λ p. parts_cmp before p ≡ Less) it less) has_w
+front_ordered t at there whole can nodes names is i name k next path before e w here less has_w false apart =
+    let was = with_files (with_folder t at there) at (files_of (get nodes) (take i names)) in
+    let new = file (take k (bytes_in (get nodes (name ∷ [])))) in
+    let kept_here : get was (at ++ path) ≡ Some e = ap (λ b. cond b (Some new) (get was (at ++ path))) (sym apart) ∙ sym (get-insert parts_total was (at ++ name ∷ []) new (at ++ path)) ∙ here in
+    before_one t at there whole can (get nodes) names is i path before e w (sym (inside_is t at there whole can (get nodes) (take i names) path) ∙ kept_here) less has_w
+
+pub front_saved : (t : Tree) (at : Parts) (there : Bool) → tree.IsWhole t → CanFill t at there → (nodes : Nodes) (names : List (List ℕ)) → IsFlatWith (get nodes) names → (i : ℕ) (name : List ℕ) (k : ℕ) → slice_get names i ≡ Some name → IsPartOf t (with_front (with_files (with_folder t at there) at (files_of (get nodes) (take i names))) at name (get nodes) k) at nodes (name ∷ [])
+front_saved t at there whole can nodes names is i name k next = record {
   outside = λ q none.
-      let before = with_files (with_folder t at there) at (files_of (get nodes) ms) in
+      let before = with_files (with_folder t at there) at (files_of (get nodes) (take i names)) in
       let new = file (take k (bytes_in (get nodes (name ∷ [])))) in
-      get-insert parts_total before (at ++ name ∷ []) new q ∙ ap (λ b. cond b (Some new) (get before q)) (no_rest at q name none) ∙ outside_is t at there (get nodes) ms q none;
-  inside = λ path e here. beside_last t at there whole can nodes names is ms among name k listed path e here (eq_by_cmp parts_cmp (at ++ path) (at ++ name ∷ [])) refl;
+      get-insert parts_total before (at ++ name ∷ []) new q ∙ ap (λ b. cond b (Some new) (get before q)) (no_rest at q name none) ∙ outside_is t at there (get nodes) (take i names) q none;
+  inside = λ path e here. beside_last t at there whole can nodes names is (take i names) (among_front names i) name k (has_at names i name next) path e here (eq_by_cmp parts_cmp (at ++ path) (at ++ name ∷ [])) refl;
+  ordered = λ path before e w here less has_w.
+      still_whole t at there whole can nodes (take i names) name k (fresh_from names i name (sorted_of (get nodes) names is) next) before w
+      (front_ordered t at there whole can nodes names is i name k next path before e w here less has_w (eq_by_cmp parts_cmp (at ++ path) (at ++ name ∷ [])) refl);
 }
 
 no_bytes : (n : ℕ) (bytes : List ℕ) → (length bytes == 0) ≡ true → bytes ≡ []

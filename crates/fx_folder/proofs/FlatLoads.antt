@@ -1,5 +1,5 @@
 -- A loaded filestore has files alone, and a folder is loaded or refused as its entries say.
-use Rattle.std.proofs.Common.{◌≡◌, ◌⊎◌, inl, inr, ℕ, Bool, true, false, cond, List, [], ◌∷◌, map, Option, Some, None, IfSome, IfOk, IfErr, IsSomeAnd, Result, Ok, Err, refl, sym, subst}
+use Rattle.std.proofs.Common.{◌≡◌, ◌⊎◌, inl, inr, ℕ, Bool, true, false, cond, List, [], ◌∷◌, map, Option, Some, None, IfSome, IfOk, IfErr, Result, Ok, Err, refl, sym, subst}
 use Rattle.std.specs.Ordering.{eq_by_cmp}
 use Rattle.std.specs.FinMap.{get, insert, get-insert, get-empty, empty}
 use Rattle.fx_store.specs.declared.filestore.Filestore.{Filestore}
@@ -10,6 +10,7 @@ use Rattle.fx_store.specs.Orders.{path_total}
 use Rattle.fx_store.specs.Whole.{Nodes, over_nodes}
 use Rattle.fx_store.specs.Filestore.{root_only}
 use Rattle.fx_store.specs.Flat.{flat, file_change}
+use Rattle.fx_outside.specs.Host.{HostView, HasFailed}
 use Rattle.fx_outside.specs.Tree.{Tree, is_folder_at}
 use Rattle.fx_folder.specs.declared.fault.FolderCause.{FolderCause}
 use Rattle.fx_folder.specs.declared.fault.LoadFault.{LoadFault}
@@ -66,9 +67,12 @@ is_loaded None path (Ok s) answer missing = tt
 is_loaded (Some tree) path (Ok s) answer missing = loads_here tree path s (is_folder_at tree path) refl answer missing
 is_loaded told path (Err e) answer missing = tt
 
-pub is_not_loaded : (told : Option Tree) (path : List ℕ) (rose : Type 0) (result : Result Filestore LoadFault) → IfSome told (λ tree. is_folder_at tree path ≡ true → AnswersAs (loads tree path) result) → IfSome told (λ tree. is_folder_at tree path ≡ false → (result ≡ Err ReadFault) ⊎ (result ≡ Err NoMemory)) → (result ≡ Err ReadFault → rose ⊎ IsSomeAnd told (λ tree. is_folder_at tree path ≡ false)) → IfErr result (LoadCause told path rose)
-is_not_loaded told path rose (Ok s) answer missing fault = tt
-is_not_loaded None path rose (Err (Refused cause)) answer missing fault = tt
-is_not_loaded (Some tree) path rose (Err (Refused cause)) answer missing fault = refused_here tree path cause (is_folder_at tree path) refl answer missing
-is_not_loaded told path rose (Err ReadFault) answer missing fault = fault refl
-is_not_loaded told path rose (Err NoMemory) answer missing fault = tt
+if_refused : (told : Option Tree) (path : List ℕ) (cause : FolderCause) → IfSome told (λ tree. is_folder_at tree path ≡ true → AnswersAs (loads tree path) (Err (Refused cause))) → IfSome told (λ tree. is_folder_at tree path ≡ false → (◌≡◌ {A = Result Filestore LoadFault} (Err (Refused cause)) (Err ReadFault)) ⊎ (◌≡◌ {A = Result Filestore LoadFault} (Err (Refused cause)) (Err NoMemory))) → IfSome told (λ tree. IsRefused tree path cause)
+if_refused None path cause answer missing = tt
+if_refused (Some tree) path cause answer missing = refused_here tree path cause (is_folder_at tree path) refl answer missing
+
+pub is_not_loaded : (old new : HostView) (path : List ℕ) (result : Result Filestore LoadFault) → IfSome old.told (λ tree. is_folder_at tree path ≡ true → AnswersAs (loads tree path) result) → IfSome old.told (λ tree. is_folder_at tree path ≡ false → (result ≡ Err ReadFault) ⊎ (result ≡ Err NoMemory)) → (result ≡ Err ReadFault → HasFailed (λ tree. is_folder_at tree path) old new) → IfErr result (LoadCause path old new)
+is_not_loaded old new path (Ok s) answer missing fault = tt
+is_not_loaded old new path (Err (Refused cause)) answer missing fault = if_refused old.told path cause answer missing
+is_not_loaded old new path (Err ReadFault) answer missing fault = fault refl
+is_not_loaded old new path (Err NoMemory) answer missing fault = tt

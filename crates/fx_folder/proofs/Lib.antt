@@ -7,6 +7,7 @@ mod FlatNodes
 pub mod FlatWalks
 pub mod HeldEntries
 pub mod Listings
+pub mod Ordered
 pub mod Reading
 pub mod Steps
 mod TableExamples

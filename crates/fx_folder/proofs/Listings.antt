@@ -1,5 +1,5 @@
 -- What a folder's listing says of it.
-use Rattle.std.proofs.Common.{◌≡◌, inr, ℕ, Bool, true, false, cond, List, [], ◌∷◌, ◌++◌, length, Option, Some, None, option_map, IfSome, IfErr, Result, Ok, Err, inl, refl, sym, ◌∙◌, ap}
+use Rattle.std.proofs.Common.{◌≡◌, inr, ℕ, Bool, true, false, cond, List, [], ◌∷◌, ◌++◌, length, Option, Some, None, option_map, IfSome, refl, sym, ◌∙◌, ap}
 use Rattle.std.specs.Option.{option_map_or}
 use Rattle.std.specs.Ordering.{is_eq}
 use Rattle.std.specs.Cmp.{tied_itself}
@@ -9,9 +9,7 @@ use Rattle.fx_outside.specs.declared.kind.HostKind.{HostKind}
 use Rattle.fx_outside.specs.Listing.{Names, name_cmp}
 use Rattle.fx_outside.specs.Path.{parts}
 use Rattle.fx_outside.specs.Tree.{Tree, Entry, Lists, entry_at, is_folder_at, is_folder_kind}
-use Rattle.fx_folder.specs.declared.fault.SaveFault.{SaveFault}
-use Rattle.fx_folder.specs.declared.fault.SaveFault.TheVariants as faults
-use Rattle.fx_folder.specs.Folder.{IsReady, IsTaken, ReadyCause}
+use Rattle.fx_folder.specs.Folder.{IsReady, IsTaken}
 
 nothing_listed : (names : Names) → len names ≡ 0 → (q : List ℕ) → get names q ≡ None
 nothing_listed names e q = ap (λ m. get m q) (empty_of_len names e) ∙ get-empty name_cmp q
@@ -48,9 +46,3 @@ is_taken (Some tree) path names folder lists some =
     let one = first_listed names some in
     let inside = some_mapped (get tree (parts path ++ one.0 ∷ [])) one.1 (sym one.2 ∙ lists one.0) in
     (here.0, here.1, inr (one.0, inside.0, inside.1))
-
-pub ready_cause : (told : Option Tree) (path : List ℕ) (rose : Type 0) (r : Result Bool SaveFault) → (r ≡ Err faults.WriteFault → rose) → (r ≡ Err faults.NotEmpty → IfSome told (λ tree. IsTaken tree path)) → IfErr r (ReadyCause told path rose)
-ready_cause told path rose (Ok there) fault taken = tt
-ready_cause told path rose (Err faults.WriteFault) fault taken = inl (fault refl)
-ready_cause told path rose (Err faults.NotEmpty) fault taken = taken refl
-ready_cause told path rose (Err faults.NoMemory) fault taken = tt

@@ -18,7 +18,8 @@ use Rattle.fx_store.specs.declared.node.Node.TheVariants.{File, Dir}
 use Rattle.fx_store.specs.Names.{IsName, IsNameSet, name_cmp, has}
 use Rattle.fx_store.specs.Whole.{Store, Nodes, IsWhole, lists}
 use Rattle.fx_outside.specs.Path.{Parts, parts, parts_cmp, above, is_fit}
-use Rattle.fx_outside.specs.Host.{MayHoldPrefix}
+use Rattle.fx_outside.specs.Host.{HostView, AsksFit}
+use Rattle.fx_outside.proofs.Views.{fit_then}
 use Rattle.fx_outside.specs.Tree as tree
 use Rattle.fx_outside.specs.Tree.{Tree, Entry, file, folder, has_folder, is_folder_kind, is_free_at, told_with, entry_at}
 use Rattle.fx_outside.proofs.Trees.{name_total, name_same, parts_same, true_test}
@@ -27,6 +28,7 @@ use Rattle.fx_folder.specs.declared.fault.SaveFault.{SaveFault}
 use Rattle.fx_folder.specs.declared.fault.SaveFault.TheVariants as faults
 use Rattle.fx_folder.specs.Folder.{IsFlat, IfTold, IsSaved, IsPartOf, IsPartlySaved, IsReady, SaveCause}
 use Rattle.fx_folder.specs.Written.{IsOpen, WroteFile, WroteFilePart, WroteAll, WrotePart, bytes_in, files_of, with_files, with_folder, with_front}
+use Rattle.fx_folder.proofs.Ordered.{fresh_from, has_at, take_next}
 use Rattle.fx_folder.proofs.Filled.{CanFill, IsFlatWith, can_fill, fit_of, saved, some_saved, front_saved, written, kept, pushed, above_pushed, beside_folder, longer}
 use Rattle.fx_folder.proofs.Texts.{parts_below, fit_below}
 
@@ -74,81 +76,39 @@ pub wrote_file : (told told' : Option Tree) (path folder name bytes : List ℕ) 
 wrote_file told told' path folder name bytes S is at there e =
     told_made told told' (λ t. insert t (parts path) (file bytes)) (λ t t'. WroteFile t t' folder name S) e (λ t. whole_file t path folder name bytes S is at there)
 
-pub wrote_part : (told told' : Option Tree) (path folder name bytes : List ℕ) (S : Store) → IsName name → path ≡ path_below folder name → S (name ∷ []) ≡ Some (File bytes) → MayHoldPrefix told told' path bytes → IfTold told told' (λ t t'. WroteFilePart t t' folder name S)
+pub wrote_part : (told told' : Option Tree) (path folder name bytes : List ℕ) (S : Store) → IsName name → path ≡ path_below folder name → S (name ∷ []) ≡ Some (File bytes) → (told' ≡ told) ⊎ ((n : ℕ) × (told' ≡ told_with told path (file (take n bytes)))) → IfTold told told' (λ t t'. WroteFilePart t t' folder name S)
 wrote_part told told' path folder name bytes S is at there (inl same) = told_same told told' (λ t t'. WroteFilePart t t' folder name S) same (λ t. inl refl)
 wrote_part told told' path folder name bytes S is at there (inr some) =
     told_made told told' (λ t. insert t (parts path) (file (take some.0 bytes))) (λ t t'. WroteFilePart t t' folder name S) some.1 (λ t. inr (some.0, new_file t path folder name bytes S is at there some.0))
 
--- names in order
-
-all_at : (P : List ℕ → Type 0) (xs : List (List ℕ)) (i : ℕ) (x : List ℕ) → AllByRecursion P xs → slice_get xs i ≡ Some x → P x
-all_at P [] i x all at = cc
-all_at P (y ∷ ys) zero x all at = subst P (same_Some y x at) all.0
-all_at P (y ∷ ys) (suc i) x all at = all_at P ys i x all.1 at
-
-less_apart : (m name : List ℕ) → name_cmp m name ≡ Less → eq_by_cmp name_cmp name m ≡ false
-less_apart m name less = elim (cases_Bool (eq_by_cmp name_cmp name m)) [
-  | inl same ↦
-      let it : name ≡ m = name_same name m (true_test _ (sym same)) in
-      let tied : name_cmp m m ≡ Equal = tied_itself name_total m in
-      let less_itself : name_cmp m m ≡ Less = subst (λ x. name_cmp m x ≡ Less) it less in
-      cc
-  | inr apart ↦ apart
-]
-
-either : (a b : Bool) → a ≡ false → b ≡ false → (a || b) ≡ false
-either a b p q = ap (λ x. x || b) p ∙ q
-
-fresh_from : (names : List (List ℕ)) (i : ℕ) (name : List ℕ) → IsStrictlySortedBy name_cmp names → slice_get names i ≡ Some name → has (take i names) name ≡ false
-unfolding IsStrictlySortedBy
-fresh_from [] i name sorted at = cc
-fresh_from (m ∷ ms) zero name sorted at = refl
-fresh_from (m ∷ ms) (suc i) name sorted at =
-    either (eq_by_cmp name_cmp name m) (has (take i ms) name) (less_apart m name (all_at (λ y. name_cmp m y ≡ Less) ms i name sorted.0 at)) (fresh_from ms i name sorted.1 at)
-
-some_or : (a b : Bool) → b ≡ true → (a || b) ≡ true
-some_or true b e = refl
-some_or false b e = e
-
-pub has_at : (names : List (List ℕ)) (i : ℕ) (name : List ℕ) → slice_get names i ≡ Some name → has names name ≡ true
-has_at [] i name at = cc
-has_at (m ∷ ms) zero name at = ap (λ b. b || has ms name) (ap (λ x. eq_by_cmp name_cmp name x) (same_Some m name at) ∙ ap is_eq (tied_itself name_total name))
-has_at (m ∷ ms) (suc i) name at = some_or (eq_by_cmp name_cmp name m) (has ms name) (has_at ms i name at)
-
-keep_or : (a b c : Bool) → (b ≡ true → c ≡ true) → (a || b) ≡ true → (a || c) ≡ true
-keep_or true b c h e = refl
-keep_or false b c h e = h e
-
-among_front : (names : List (List ℕ)) (i : ℕ) (n : List ℕ) → has (take i names) n ≡ true → has names n ≡ true
-among_front [] zero n e = e
-among_front [] (suc i) n e = e
-among_front (m ∷ ms) zero n e = cc
-among_front (m ∷ ms) (suc i) n e = keep_or (eq_by_cmp name_cmp n m) (has (take i ms) n) (has ms n) (among_front ms i n) e
-
-take_next : (names : List (List ℕ)) (i : ℕ) (name : List ℕ) → slice_get names i ≡ Some name → take (suc i) names ≡ take i names ++ name ∷ []
-take_next [] i name at = cc
-take_next (m ∷ ms) zero name at = ap (λ x. x ∷ []) (same_Some m name at)
-take_next (m ∷ ms) (suc i) name at = ap (λ l. m ∷ l) (take_next ms i name at)
-
 -- while files are written
 
-pub record IsWriting (told0 told : Option Tree) (before now : ℕ) (at : Parts) (S : Store) (names : List (List ℕ)) : Type 0 where
-  pub later : before ≤ now
-  pub files : IfTold told0 told (λ t t'. t' ≡ with_files t at (files_of S names))
+pub record IsWriting (old now : HostView) (path : List ℕ) (S : Store) (names : List (List ℕ)) : Type 0 where
+  pub later : old.faults ≤ now.faults
+  pub fit : AsksFit path old now
+  pub files : IfTold old.told now.told (λ t t'. t' ≡ with_files t (parts path) (files_of S names))
 
-pub begins : (told : Option Tree) (now : ℕ) (at : Parts) (S : Store) (names : List (List ℕ)) → IsWriting told told now now at S (take 0 names)
-begins told now at S [] = record { later = omega arith; files = told_same told told (λ t t'. t' ≡ with_files t at []) refl (λ t. refl) }
-begins told now at S (n ∷ names) = record { later = omega arith; files = told_same told told (λ t t'. t' ≡ with_files t at []) refl (λ t. refl) }
+take_none : (names : List (List ℕ)) → take 0 names ≡ []
+take_none [] = refl
+take_none (n ∷ names) = refl
 
-pub goes_on : (told0 told told' : Option Tree) (before now now' : ℕ) (path : List ℕ) (S : Store) (names : List (List ℕ)) (i : ℕ) (name : List ℕ) → IsWriting told0 told before now (parts path) S (take i names) → now ≤ now' → slice_get names i ≡ Some name → IfTold told told' (λ t t'. WroteFile t t' path name S) → IsWriting told0 told' before now' (parts path) S (take (i + 1) names)
-goes_on told0 told told' before now now' path S names i name was later here wrote =
+pub begins : (host : HostView) (path : List ℕ) (S : Store) (names : List (List ℕ)) → IsWriting host host path S (take 0 names)
+begins host path S names = record {
+  later = omega arith;
+  fit = λ _. refl;
+  files = told_same host.told host.told (λ t t'. t' ≡ with_files t (parts path) (files_of S (take 0 names))) refl (λ t. ap (λ ns. with_files t (parts path) (files_of S ns)) (sym (take_none names)));
+}
+
+pub goes_on : (old host host' : HostView) (path : List ℕ) (S : Store) (names : List (List ℕ)) (i : ℕ) (name : List ℕ) → IsWriting old host path S (take i names) → host.faults ≤ host'.faults → AsksFit path host host' → slice_get names i ≡ Some name → IfTold host.told host'.told (λ t t'. WroteFile t t' path name S) → IsWriting old host' path S (take (i + 1) names)
+goes_on old host host' path S names i name was later fit here wrote =
     let one : i + 1 ≡ suc i = omega arith in
     let f : List ℕ × List ℕ = (name, bytes_in (S (name ∷ []))) in
     let more : files_of S (take (i + 1) names) ≡ files_of S (take i names) ++ f ∷ [] =
     ap (λ n. files_of S (take n names)) one ∙ ap (files_of S) (take_next names i name here) ∙ map-append (λ n. (n, bytes_in (S (n ∷ [])))) (take i names) (name ∷ []) in
     record {
       later = omega (arith, later, was.later);
-      files = told_then told0 told told' (λ t t'. t' ≡ with_files t (parts path) (files_of S (take i names))) (λ t t'. WroteFile t t' path name S) (λ t t'. t' ≡ with_files t (parts path) (files_of S (take (i + 1) names))) was.files wrote
+      fit = fit_then path old host host' was.fit fit;
+      files = told_then old.told host.told host'.told (λ t t'. t' ≡ with_files t (parts path) (files_of S (take i names))) (λ t t'. WroteFile t t' path name S) (λ t t'. t' ≡ with_files t (parts path) (files_of S (take (i + 1) names))) was.files wrote
           (λ t u v is first then.
           then ∙ ap (λ x. insert x (parts path ++ name ∷ []) (file f.1)) first
           ∙ sym (pushed t (parts path) (files_of S (take i names)) f)
@@ -174,9 +134,9 @@ free_now t path p fit is none around =
     ∙ ap (λ q. is_none (get t q) && has_folder t (above q)) is ∙ ap (λ o. is_none o && has_folder t (above p)) none ∙ around
 
 -- the next file may be written
-pub is_free : (told0 told : Option Tree) (before now : ℕ) (path : List ℕ) (S : Store) (names : List (List ℕ)) (i : ℕ) (name : List ℕ) → IfSome told0 (λ t. IsOpen t path) → IsWriting told0 told before now (parts path) S (take i names) → IsNameSet names → IsName name → slice_get names i ≡ Some name → IfSome told (λ t. is_free_at t (path_below path name) ≡ true)
-is_free told0 told before now path S names i name ready_before was set is here =
-    told_next told0 told (λ t. IsOpen t path) (λ t t'. t' ≡ with_files t (parts path) (files_of S (take i names))) (λ t. is_free_at t (path_below path name) ≡ true) ready_before was.files
+pub is_free : (old host : HostView) (path : List ℕ) (S : Store) (names : List (List ℕ)) (i : ℕ) (name : List ℕ) → IfSome old.told (λ t. IsOpen t path) → IsWriting old host path S (take i names) → IsNameSet names → IsName name → slice_get names i ≡ Some name → IfSome host.told (λ t. is_free_at t (path_below path name) ≡ true)
+is_free old host path S names i name ready_before was set is here =
+    told_next old.told host.told (λ t. IsOpen t path) (λ t t'. t' ≡ with_files t (parts path) (files_of S (take i names))) (λ t. is_free_at t (path_below path name) ≡ true) ready_before was.files
     (λ t u ready wrote.
     let at = parts path in
     let fs = files_of S (take i names) in
@@ -195,25 +155,23 @@ is_there (Some x) e = refl
 pub there : (S : Store) (names : List (List ℕ)) (i : ℕ) (name : List ℕ) → IsWhole S → S [] ≡ Some (Dir names) → slice_get names i ≡ Some name → IsSome (S (name ∷ []))
 there S names i name whole root here = is_there _ (whole.listed [] name ∙ ap (λ o. lists o name) root ∙ has_at names i name here)
 
-pub wrote_all : (told0 told : Option Tree) (before now : ℕ) (at : Parts) (S : Store) (names : List (List ℕ)) (i : ℕ) → IsWriting told0 told before now at S (take i names) → i ≡ length names → S [] ≡ Some (Dir names) → IfTold told0 told (λ t t'. WroteAll t t' at S)
-wrote_all told0 told before now at S names i was all root =
-    told_map told0 told (λ t t'. t' ≡ with_files t at (files_of S (take i names))) (λ t t'. WroteAll t t' at S) was.files
-    (λ t u is wrote. record { names = names; root = root; files = wrote ∙ ap (λ ns. with_files t at (files_of S ns)) (ap (λ n. take n names) all ∙ take-length names) })
+pub wrote_all : (old host : HostView) (path : List ℕ) (S : Store) (names : List (List ℕ)) (i : ℕ) → IsWriting old host path S (take i names) → i ≡ length names → S [] ≡ Some (Dir names) → IfTold old.told host.told (λ t t'. WroteAll t t' (parts path) S)
+wrote_all old host path S names i was all root =
+    told_map old.told host.told (λ t t'. t' ≡ with_files t (parts path) (files_of S (take i names))) (λ t t'. WroteAll t t' (parts path) S) was.files
+    (λ t u is wrote. record { names = names; root = root; files = wrote ∙ ap (λ ns. with_files t (parts path) (files_of S ns)) (ap (λ n. take n names) all ∙ take-length names) })
 
-stop_at : (t u v : Tree) (at : Parts) (path : List ℕ) (S : Store) (names : List (List ℕ)) (i : ℕ) (name : List ℕ) → at ≡ parts path → slice_get names i ≡ Some name → u ≡ with_files t at (files_of S (take i names)) → WroteFilePart u v path name S → (v ≡ with_files t at (files_of S (take i names))) ⊎ ((m : List ℕ) × (n : ℕ) × (has names m ≡ true) × (v ≡ with_front (with_files t at (files_of S (take i names))) at m S n))
-stop_at t u v at path S names i name is here first (inl same) = inl (same ∙ first)
-stop_at t u v at path S names i name is here first (inr some) =
-    inr (name, some.0, has_at names i name here, some.1 ∙ ap (λ p. with_front u p name S some.0) (sym is) ∙ ap (λ x. with_front x at name S some.0) first)
+stop_at : (t u v : Tree) (path : List ℕ) (S : Store) (names : List (List ℕ)) (i : ℕ) (name : List ℕ) → slice_get names i ≡ Some name → u ≡ with_files t (parts path) (files_of S (take i names)) → WroteFilePart u v path name S → (v ≡ with_files t (parts path) (files_of S (take i names))) ⊎ ((m : List ℕ) × (n : ℕ) × (slice_get names i ≡ Some m) × (v ≡ with_front (with_files t (parts path) (files_of S (take i names))) (parts path) m S n))
+stop_at t u v path S names i name here first (inl same) = inl (same ∙ first)
+stop_at t u v path S names i name here first (inr some) = inr (name, some.0, here, some.1 ∙ ap (λ x. with_front x (parts path) name S some.0) first)
 
-pub stopped : (told0 told told' : Option Tree) (before now : ℕ) (path : List ℕ) (S : Store) (names : List (List ℕ)) (i : ℕ) (name : List ℕ) → IsWriting told0 told before now (parts path) S (take i names) → slice_get names i ≡ Some name → S [] ≡ Some (Dir names) → IfTold told told' (λ t t'. WroteFilePart t t' path name S) → IfTold told0 told' (λ t t'. WrotePart t t' (parts path) S)
-stopped told0 told told' before now path S names i name was here root wrote =
-    told_then told0 told told' (λ t t'. t' ≡ with_files t (parts path) (files_of S (take i names))) (λ t t'. WroteFilePart t t' path name S) (λ t t'. WrotePart t t' (parts path) S) was.files wrote
+pub stopped : (old host host' : HostView) (path : List ℕ) (S : Store) (names : List (List ℕ)) (i : ℕ) (name : List ℕ) → IsWriting old host path S (take i names) → slice_get names i ≡ Some name → S [] ≡ Some (Dir names) → IfTold host.told host'.told (λ t t'. WroteFilePart t t' path name S) → IfTold old.told host'.told (λ t t'. WrotePart t t' (parts path) S)
+stopped old host host' path S names i name was here root wrote =
+    told_then old.told host.told host'.told (λ t t'. t' ≡ with_files t (parts path) (files_of S (take i names))) (λ t t'. WroteFilePart t t' path name S) (λ t t'. WrotePart t t' (parts path) S) was.files wrote
     (λ t u v is first then. record {
       names = names;
       root = root;
-      some = take i names;
-      among = among_front names i;
-      files = stop_at t u v (parts path) path S names i name refl here first then;
+      count = i;
+      files = stop_at t u v path S names i name here first then;
     })
 
 -- the whole folder
@@ -236,12 +194,9 @@ saved_part t u path there nodes whole can stored flat wrote =
     let is = flat_with (get nodes) stored flat wrote.names wrote.root in
     let P : Parts → Tree → Type 0 = λ last x. IsPartOf t x (parts path) nodes last in
     inr (elim wrote.files [
-      | inl same ↦ ([], subst (P []) (sym same) (some_saved t (parts path) there whole fill nodes wrote.names is wrote.some wrote.among))
-      | inr front ↦ (front.0 ∷ [], subst (P (front.0 ∷ [])) (sym front.3) (front_saved t (parts path) there whole fill nodes wrote.names is wrote.some wrote.among front.0 front.1 front.2))
+      | inl same ↦ ([], subst (P []) (sym same) (some_saved t (parts path) there whole fill nodes wrote.names is wrote.count))
+      | inr front ↦ (front.0 ∷ [], subst (P (front.0 ∷ [])) (sym front.3) (front_saved t (parts path) there whole fill nodes wrote.names is wrote.count front.0 front.1 front.2))
     ])
-
-never_has : (n : List ℕ) → has [] n ≡ true → ⊥
-never_has n e = cc
 
 pub on_ok : {A E : Type 0} (r : Result A E) (P Q : Type 0) → OnOk r P → (P → Q) → OnOk r Q
 on_ok (Ok a) P Q p h = h p
@@ -295,7 +250,7 @@ first_part told told' path there nodes names whole can stored flat root new (inl
 first_part told told' path there nodes names whole can stored flat root new (inr made) =
     all_part told told' told' path there nodes whole can stored flat (was_made told told' path there new made)
     (told_same told' told' (λ t t'. WrotePart t t' (parts path) (get nodes)) refl
-    (λ t. record { names = names; root = root; some = []; among = λ n e. absurd (never_has n e); files = inl refl }))
+    (λ t. record { names = names; root = root; count = 0; files = inl (ap (λ ns. with_files t (parts path) (files_of (get nodes) ns)) (sym (take_none names))) }))
 
 slice_get_or : (xs : List (List ℕ)) (i : ℕ) (x : List ℕ) → slice_get xs i ≡ Some x → (i < length xs) × (get_or xs i [] ≡ x)
 slice_get_or [] i x e = cc
@@ -309,11 +264,11 @@ name_at names i name set here =
 
 -- the causes of a refusal
 
-pub save_cause : (told : Option Tree) (path : List ℕ) (there : Bool) (rose : Type 0) (r : Result (Unit {0}) SaveFault) → (r ≡ Err faults.WriteFault → rose) → (r ≡ Err faults.NotEmpty → ⊥) → IfErr r (SaveCause told path there rose)
-save_cause told path there rose (Ok done) fault free = tt
-save_cause told path there rose (Err faults.WriteFault) fault free = inl (fault refl)
-save_cause told path there rose (Err faults.NotEmpty) fault free = free refl
-save_cause told path there rose (Err faults.NoMemory) fault free = tt
+pub save_cause : (old new : HostView) (path : List ℕ) (there : Bool) (r : Result (Unit {0}) SaveFault) → (r ≡ Err faults.WriteFault → Rose old.faults new.faults) → (r ≡ Err faults.NotEmpty → ⊥) → IfErr r (SaveCause path there old new)
+save_cause old new path there (Ok done) fault free = tt
+save_cause old new path there (Err faults.WriteFault) fault free = inl (fault refl)
+save_cause old new path there (Err faults.NotEmpty) fault free = free refl
+save_cause old new path there (Err faults.NoMemory) fault free = tt
 
 pub earlier : (before middle now : ℕ) → before ≤ middle → Rose middle now → Rose before now
 earlier before middle now later rose = omega (arith, later, rose)

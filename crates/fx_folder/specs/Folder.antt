@@ -1,6 +1,7 @@
 -- The folder of a filestore: which entries stand for it in a host's tree.
 use Rattle.std.specs.Prelude.{◌≡◌, ◌≢◌, ◌⊎◌, ℕ, Bool, true, false, cond, List, [], ◌∷◌, ◌++◌, take, IfSome, IsSomeAnd, Option, Some, None}
 use Rattle.std.specs.FinMap.{get}
+use Rattle.std.specs.declared.cmp.Ordering.TheVariants.{Less}
 use Rattle.std.specs.Ordering.{eq_by_cmp}
 use Rattle.fx_store.specs.declared.node.Node.{Node}
 use Rattle.fx_store.specs.declared.node.Node.TheVariants.{File, Dir, Link}
@@ -8,8 +9,10 @@ use Rattle.fx_store.specs.Whole.{Store, Nodes}
 use Rattle.fx_outside.specs.declared.kind.HostKind.TheVariants as kind
 use Rattle.fx_folder.specs.declared.fault.SaveFault.{SaveFault}
 use Rattle.fx_folder.specs.declared.fault.SaveFault.TheVariants as fault
+use Rattle.fx_base.specs.Causes.{Rose}
+use Rattle.fx_outside.specs.Host.{HostView, HasFailed}
 use Rattle.fx_outside.specs.Listing.{name_cmp}
-use Rattle.fx_outside.specs.Path.{Parts, parts, is_fit, above}
+use Rattle.fx_outside.specs.Path.{Parts, parts, parts_cmp, is_fit, above}
 use Rattle.fx_outside.specs.Tree.{Tree, Entry, file, folder, entry_at, is_folder_at, has_folder}
 
 -- a file and a directory are entries of the host; links are not written yet
@@ -38,11 +41,13 @@ abbrev pub IsFrontOf : Entry → Entry → Type 0
 IsFrontOf e whole = (bytes : List ℕ) × (n : ℕ) × (whole ≡ file bytes) × (e ≡ file (take n bytes))
 
 -- the new tree has a part of that folder at these parts, and is the old one elsewhere; the file last begun may hold a prefix
--- of its bytes
+-- of its bytes, and what stands before an entry that is there, in path order, is there whole
 pub record IsPartOf (tree tree' : Tree) (at : Parts) (nodes : Nodes) (last : Parts) : Type 0 where
   pub outside : (q : Parts) → rest_of at q ≡ None → get tree' q ≡ get tree q
   pub inside : (path : Parts) (e : Entry) → get tree' (at ++ path) ≡ Some e
       → (whole : Entry) × (host_entry (get nodes path) ≡ Some whole) × ((e ≡ whole) ⊎ ((path ≡ last) × IsFrontOf e whole))
+  pub ordered : (path before : Parts) (e whole : Entry) → get tree' (at ++ path) ≡ Some e → parts_cmp before path ≡ Less → host_entry (get nodes before) ≡ Some whole
+      → get tree' (at ++ before) ≡ Some whole
 
 abbrev pub IsPartlySaved : Tree → Tree → Parts → Nodes → Type 0
 IsPartlySaved tree tree' at nodes = (tree' ≡ tree) ⊎ ((last : Parts) × IsPartOf tree tree' at nodes last)
@@ -62,6 +67,13 @@ IfTold None told' P = told' ≡ None
 IfTold (Some tree) None P = ⊥
 IfTold (Some tree) (Some tree') P = P tree tree'
 
+-- the filestore's folder, or a part of it, was written at the path
+abbrev pub Saves : List ℕ → Nodes → HostView → HostView → Type 0
+Saves path nodes old new = IfTold old.told new.told (λ tree tree'. IsSaved tree tree' (parts path) nodes)
+
+abbrev pub SavesPart : List ℕ → Nodes → HostView → HostView → Type 0
+SavesPart path nodes old new = IfTold old.told new.told (λ tree tree'. IsPartlySaved tree tree' (parts path) nodes)
+
 -- an empty folder stands at the path; or nothing does, and the path is fit
 abbrev pub IsReady : Tree → List ℕ → Bool → Type 0
 IsReady tree path true = (is_folder_at tree path ≡ true) × ((name : List ℕ) → get tree (parts path ++ name ∷ []) ≡ None)
@@ -73,17 +85,17 @@ IsTaken tree path =
     (e : Entry) × (entry_at tree path ≡ Some e) × ((e.kind ≢ kind.Folder) ⊎ ((name : List ℕ) × (inside : Entry) × (get tree (parts path ++ name ∷ []) ≡ Some inside)))
 
 -- when no folder is ready to be written
-abbrev pub ReadyCause : Option Tree → List ℕ → Type 0 → SaveFault → Type 0
-ReadyCause told path rose fault.WriteFault = rose ⊎ IsSomeAnd told (λ tree. is_fit path ≡ false)
-ReadyCause told path rose fault.NotEmpty = IfSome told (λ tree. IsTaken tree path)
-ReadyCause told path rose fault.NoMemory = Unit {0}
+abbrev pub ReadyCause : List ℕ → HostView → HostView → SaveFault → Type 0
+ReadyCause path old new fault.WriteFault = HasFailed (λ _. is_fit path) old new
+ReadyCause path old new fault.NotEmpty = IfSome old.told (λ tree. IsTaken tree path)
+ReadyCause path old new fault.NoMemory = Unit {0}
 
 -- the folder is to be made, and none stands above it
 abbrev pub LacksFolder : Tree → List ℕ → Bool → Type 0
 LacksFolder tree path there = (there ≡ false) × (has_folder tree (above (parts path)) ≡ false)
 
 -- when a folder is not written whole
-abbrev pub SaveCause : Option Tree → List ℕ → Bool → Type 0 → SaveFault → Type 0
-SaveCause told path there rose fault.WriteFault = rose ⊎ IsSomeAnd told (λ tree. LacksFolder tree path there)
-SaveCause told path there rose fault.NotEmpty = ⊥
-SaveCause told path there rose fault.NoMemory = Unit {0}
+abbrev pub SaveCause : List ℕ → Bool → HostView → HostView → SaveFault → Type 0
+SaveCause path there old new fault.WriteFault = Rose old.faults new.faults ⊎ IsSomeAnd old.told (λ tree. LacksFolder tree path there)
+SaveCause path there old new fault.NotEmpty = ⊥
+SaveCause path there old new fault.NoMemory = Unit {0}

@@ -1,8 +1,9 @@
 -- What a folder that holds files alone is loaded as, or why it is refused.
-use Rattle.std.specs.Prelude.{◌≡◌, ◌⊎◌, true, false, IfSome, IsSomeAnd, ◌+◌, ◌-◌, ℕ, nat_lt, min, cond, List, [], ◌∷◌, map, length, codes, bytes_eq, Option, Some, None, Result, Ok, Err, ⊤}
+use Rattle.std.specs.Prelude.{◌≡◌, true, IfSome, ◌+◌, ◌-◌, ℕ, nat_lt, min, cond, List, [], ◌∷◌, map, length, codes, bytes_eq, Option, Some, None, Result, Ok, Err, ⊤}
 use Rattle.std.specs.Option.{option_or}
 use Rattle.fx_outside.specs.declared.kind.HostKind.{HostKind}
 use Rattle.fx_outside.specs.declared.kind.HostKind.TheVariants.{File, Folder, Other}
+use Rattle.fx_outside.specs.Host.{HostView, HasFailed}
 use Rattle.fx_outside.specs.Path.{parts}
 use Rattle.fx_outside.specs.Tree.{Tree, Entry, is_folder_at}
 use Rattle.fx_store.specs.declared.filestore.Filestore.{Filestore}
@@ -86,7 +87,7 @@ abbrev pub IsRefused : Tree → List ℕ → FolderCause → Type 0
 IsRefused tree path cause = (is_folder_at tree path ≡ true) × (loads tree path ≡ Err cause)
 
 -- when a folder is not loaded
-abbrev pub LoadCause : Option Tree → List ℕ → Type 0 → LoadFault → Type 0
-LoadCause told path rose (Refused cause) = IfSome told (λ tree. IsRefused tree path cause)
-LoadCause told path rose ReadFault = rose ⊎ IsSomeAnd told (λ tree. is_folder_at tree path ≡ false)
-LoadCause told path rose NoMemory = ⊤
+abbrev pub LoadCause : List ℕ → HostView → HostView → LoadFault → Type 0
+LoadCause path old new (Refused cause) = IfSome old.told (λ tree. IsRefused tree path cause)
+LoadCause path old new ReadFault = HasFailed (λ tree. is_folder_at tree path) old new
+LoadCause path old new NoMemory = ⊤

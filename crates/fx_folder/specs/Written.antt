@@ -1,9 +1,9 @@
 -- What the steps of writing a folder leave.
 use Rattle.std.specs.Prelude.{◌≡◌, ◌⊎◌, ℕ, Bool, true, cond, List, [], ◌∷◌, ◌++◌, map, take, Option, Some, None}
 use Rattle.std.specs.FinMap.{get, insert}
+use Rattle.std.specs.List.{slice_get}
 use Rattle.fx_store.specs.declared.node.Node.{Node}
 use Rattle.fx_store.specs.declared.node.Node.TheVariants.{File, Dir, Link}
-use Rattle.fx_store.specs.Names.{has}
 use Rattle.fx_store.specs.Whole.{Store}
 use Rattle.fx_outside.specs.Path.{Parts, parts, is_fit}
 use Rattle.fx_outside.specs.Tree.{Tree, file, folder, has_folder}
@@ -50,11 +50,10 @@ pub record WroteAll (tree tree' : Tree) (at : Parts) (S : Store) : Type 0 where
   pub root : S [] ≡ Some (Dir names)
   pub files : tree' ≡ with_files tree at (files_of S names)
 
--- the files of some of these names are there, and perhaps a front of one more
+-- the files of the first of these names are there, and perhaps a front of the next one
 pub record WrotePart (tree tree' : Tree) (at : Parts) (S : Store) : Type 0 where
   pub names : List (List ℕ)
   pub root : S [] ≡ Some (Dir names)
-  pub some : List (List ℕ)
-  pub among : (n : List ℕ) → has some n ≡ true → has names n ≡ true
-  pub files : (tree' ≡ with_files tree at (files_of S some))
-      ⊎ ((name : List ℕ) × (n : ℕ) × (has names name ≡ true) × (tree' ≡ with_front (with_files tree at (files_of S some)) at name S n))
+  pub count : ℕ
+  pub files : (tree' ≡ with_files tree at (files_of S (take count names)))
+      ⊎ ((name : List ℕ) × (n : ℕ) × (slice_get names count ≡ Some name) × (tree' ≡ with_front (with_files tree at (files_of S (take count names))) at name S n))

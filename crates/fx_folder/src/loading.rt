@@ -1,9 +1,10 @@
 //! Folders as filestores.
-ghost use Rattle.std.specs.Prelude.{◌≡◌, ◌⊎◌, ◌+◌, ◌-◌, ◌<◌, ◌≤◌, length, true, false, min, Ok, Err, IfOk, IfErr, IfSome, IsSomeAnd, Some};
+ghost use Rattle.std.specs.Prelude.{◌≡◌, ◌⊎◌, ◌+◌, ◌-◌, ◌<◌, ◌≤◌, length, true, false, min, Ok, Err, IfOk, IfErr, IfSome};
 ghost use Rattle.std.specs.FinMap.{get};
 ghost use Rattle.fx_base.specs.Causes.{Rose};
 ghost use Rattle.fx_outside.specs.Path.{parts};
 ghost use Rattle.fx_outside.specs.Tree.{Lists, is_folder_at, is_file_at, bytes_at};
+ghost use Rattle.fx_outside.specs.Host.{ReadsOnly, AsksFit, HasFailed};
 ghost use Rattle.fx_folder.specs.declared.fault.LoadFault.TheVariants.{ReadFault, NoMemory};
 ghost use Rattle.fx_folder.specs.Folder.{IsFlat};
 ghost use Rattle.fx_folder.specs.Held.{held};
@@ -32,11 +33,12 @@ const TABLE: &str = ".forest-links";
 /// Loads a folder that holds files alone. An entry that can't be loaded is refused with its path; where there are
 /// several, it is the first in order of name.
 pub fn load<H: Host>(alloc: Global, host: &mut H, folder: &HostText) -> Result<Filestore, LoadFault>
-    ensures loaded { IfOk result (λ s. IfSome (H.told host.old) (λ tree. Loads tree folder.now s.nodes)) }
+    ensures loaded { IfOk result (λ s.
+        IfSome (H.view host.old).told (λ tree. Loads tree folder.now s.nodes)) }
     ensures flat { IfOk result (λ s. IsFlat (get s.nodes)) }
-    ensures fault { IfErr result (LoadCause (H.told host.old) folder.now (Rose (H.faults host.old) (H.faults host.new))) }
-    ensures same { H.told host.new ≡ H.told host.old }
-    ensures later { H.faults host.old ≤ H.faults host.new }
+    ensures fault { IfErr result (LoadCause folder.now (H.view host.old) (H.view host.new)) }
+    ensures same { ReadsOnly (H.view host.old) (H.view host.new) }
+    ensures fit { AsksFit folder.now (H.view host.old) (H.view host.new) }
 {
     load_files(alloc, host, folder)
 }
@@ -46,12 +48,15 @@ fn load_files<H: Host>(
     host: &mut H,
     folder: &HostText,
 ) -> Result<Filestore, LoadFault>
-    ensures answer { IfSome (H.told host.old) (λ tree. is_folder_at tree folder.now ≡ true → AnswersAs (loads tree folder.now) result) }
+    ensures answer { IfSome (H.view host.old).told (λ tree.
+        is_folder_at tree folder.now ≡ true → AnswersAs (loads tree folder.now) result) }
     ensures flat { IfOk result (λ s. IsFlat (get s.nodes)) }
-    ensures fault { result ≡ Err ReadFault → Rose (H.faults host.old) (H.faults host.new) ⊎ IsSomeAnd (H.told host.old) (λ tree. is_folder_at tree folder.now ≡ false) }
-    ensures missing { IfSome (H.told host.old) (λ tree. is_folder_at tree folder.now ≡ false → (result ≡ Err ReadFault) ⊎ (result ≡ Err NoMemory)) }
-    ensures same { H.told host.new ≡ H.told host.old }
-    ensures later { H.faults host.old ≤ H.faults host.new }
+    ensures fault { result ≡ Err ReadFault
+        → HasFailed (λ tree. is_folder_at tree folder.now) (H.view host.old) (H.view host.new) }
+    ensures missing { IfSome (H.view host.old).told (λ tree.
+        is_folder_at tree folder.now ≡ false → (result ≡ Err ReadFault) ⊎ (result ≡ Err NoMemory)) }
+    ensures same { ReadsOnly (H.view host.old) (H.view host.new) }
+    ensures fit { AsksFit folder.now (H.view host.old) (H.view host.new) }
 {
     let names = host.list(alloc, folder)?;
     let mut buf = buffer(alloc, CHUNK)?;
@@ -69,11 +74,14 @@ fn read_files<H: Host>(
     buf: &mut [u8],
 ) -> Result<Files, LoadFault>
     requires room { 0 < length buf.old }
-    requires told { IfSome (H.told host.old) (λ tree. (is_folder_at tree folder.now ≡ true) × Lists tree (parts folder.now) names.now) }
-    ensures answer { IfSome (H.told host.old) (λ tree. ReadsFiles (held tree (parts folder.now)) result) }
-    ensures fault { result ≡ Err ReadFault → Rose (H.faults host.old) (H.faults host.new) }
-    ensures same { H.told host.new ≡ H.told host.old }
-    ensures later { H.faults host.old ≤ H.faults host.new }
+    requires told { IfSome (H.view host.old).told (λ tree.
+        (is_folder_at tree folder.now ≡ true) × Lists tree (parts folder.now) names.now) }
+    ensures answer { IfSome (H.view host.old).told (λ tree.
+        ReadsFiles (held tree (parts folder.now)) result) }
+    ensures fault { result ≡ Err ReadFault
+        → Rose (H.view host.old).faults (H.view host.new).faults }
+    ensures same { ReadsOnly (H.view host.old) (H.view host.new) }
+    ensures fit { AsksFit folder.now (H.view host.old) (H.view host.new) }
 {
     let mut files = Files::new(alloc);
     let mut left = MAX_BYTES;
@@ -109,13 +117,15 @@ fn read_entry<H: Host>(
     buf: &mut [u8],
 ) -> Result<(Name, Bytes), LoadFault>
     requires room { 0 < length buf.old }
-    requires entry { IfSome (H.told host.old) (λ tree. HasEntry tree folder.now name.now kind) }
-    ensures answer { IfSome (H.told host.old) (λ tree. ReadsEntry nodes left name.now kind (entry_bytes tree folder.now name.now) result) }
+    requires entry { IfSome (H.view host.old).told (λ tree. HasEntry tree folder.now name.now kind) }
+    ensures answer { IfSome (H.view host.old).told (λ tree.
+        ReadsEntry nodes left name.now kind (entry_bytes tree folder.now name.now) result) }
     ensures named { IfOk result (λ read. read.0 ≡ name.now) }
     ensures short { IfOk result (λ read. length read.1 ≤ left) }
-    ensures fault { result ≡ Err ReadFault → Rose (H.faults host.old) (H.faults host.new) }
-    ensures same { H.told host.new ≡ H.told host.old }
-    ensures later { H.faults host.old ≤ H.faults host.new }
+    ensures fault { result ≡ Err ReadFault
+        → Rose (H.view host.old).faults (H.view host.new).faults }
+    ensures same { ReadsOnly (H.view host.old) (H.view host.new) }
+    ensures fit { AsksFit folder.now (H.view host.old) (H.view host.new) }
 {
     let known = file_name(alloc, name, kind, nodes)?;
     match read_file(alloc, host, folder, name, left, buf) {
@@ -163,12 +173,15 @@ fn read_file<H: Host>(
     buf: &mut [u8],
 ) -> Result<Bytes, LoadFault>
     requires room { 0 < length buf.old }
-    requires file { IfSome (H.told host.old) (λ tree. is_file_at tree (path_below folder.now name.now) ≡ true) }
-    ensures answer { IfSome (H.told host.old) (λ tree. ReadsFile left name.now (bytes_at tree (path_below folder.now name.now)) result) }
+    requires file { IfSome (H.view host.old).told (λ tree.
+        is_file_at tree (path_below folder.now name.now) ≡ true) }
+    ensures answer { IfSome (H.view host.old).told (λ tree.
+        ReadsFile left name.now (bytes_at tree (path_below folder.now name.now)) result) }
     ensures short { IfOk result (λ bytes. length bytes ≤ left) }
-    ensures fault { result ≡ Err ReadFault → Rose (H.faults host.old) (H.faults host.new) }
-    ensures same { H.told host.new ≡ H.told host.old }
-    ensures later { H.faults host.old ≤ H.faults host.new }
+    ensures fault { result ≡ Err ReadFault
+        → Rose (H.view host.old).faults (H.view host.new).faults }
+    ensures same { ReadsOnly (H.view host.old) (H.view host.new) }
+    ensures fit { AsksFit (path_below folder.now name.now) (H.view host.old) (H.view host.new) }
 {
     let path = path_below(alloc, folder, name)?;
     let limit = left.min(MAX_FILE) as usize;

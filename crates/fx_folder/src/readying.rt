@@ -1,7 +1,8 @@
 //! Whether a folder can be written at a path.
-ghost use Rattle.std.specs.Prelude.{◌≡◌, ◌≤◌, true, false, IfOk, IfErr, IfSome};
+ghost use Rattle.std.specs.Prelude.{◌≡◌, true, IfOk, IfErr, IfSome};
 ghost use Rattle.fx_base.specs.Causes.{Rose};
 ghost use Rattle.fx_outside.specs.Tree.{is_folder_at};
+ghost use Rattle.fx_outside.specs.Host.{ReadsOnly, AsksFit};
 ghost use Rattle.fx_folder.specs.Folder.{IsReady, IsTaken, ReadyCause};
 
 use crate::fault::SaveFault;
@@ -11,10 +12,11 @@ use std::alloc::Global;
 /// Whether an empty folder stands at the path already. Where nothing stands there, a folder can be made if one stands
 /// above.
 pub fn ready<H: Host>(alloc: Global, host: &mut H, folder: &HostText) -> Result<bool, SaveFault>
-    ensures same { H.told host.new ≡ H.told host.old }
-    ensures later { H.faults host.old ≤ H.faults host.new }
-    ensures ready { IfOk result (λ there. IfSome (H.told host.old) (λ tree. IsReady tree folder.now there)) }
-    ensures fault { IfErr result (ReadyCause (H.told host.old) folder.now (Rose (H.faults host.old) (H.faults host.new))) }
+    ensures same { ReadsOnly (H.view host.old) (H.view host.new) }
+    ensures fit { AsksFit folder.now (H.view host.old) (H.view host.new) }
+    ensures ready { IfOk result (λ there.
+        IfSome (H.view host.old).told (λ tree. IsReady tree folder.now there)) }
+    ensures fault { IfErr result (ReadyCause folder.now (H.view host.old) (H.view host.new)) }
 {
     match host.standing(alloc, folder) {
         Ok(Standing::Absent) => Ok(false),
@@ -28,12 +30,15 @@ pub fn ready<H: Host>(alloc: Global, host: &mut H, folder: &HostText) -> Result<
 
 /// The folder that stands at the path is found to be empty.
 fn find_empty<H: Host>(alloc: Global, host: &mut H, folder: &HostText) -> Result<bool, SaveFault>
-    requires { IfSome (H.told host.old) (λ tree. is_folder_at tree folder.now ≡ true) }
-    ensures same { H.told host.new ≡ H.told host.old }
-    ensures later { H.faults host.old ≤ H.faults host.new }
-    ensures ready { IfOk result (λ there. IfSome (H.told host.old) (λ tree. IsReady tree folder.now there)) }
-    ensures taken { result ≡ Err SaveFault.NotEmpty → IfSome (H.told host.old) (λ tree. IsTaken tree folder.now) }
-    ensures fault { result ≡ Err SaveFault.WriteFault → Rose (H.faults host.old) (H.faults host.new) }
+    requires { IfSome (H.view host.old).told (λ tree. is_folder_at tree folder.now ≡ true) }
+    ensures same { ReadsOnly (H.view host.old) (H.view host.new) }
+    ensures fit { AsksFit folder.now (H.view host.old) (H.view host.new) }
+    ensures ready { IfOk result (λ there.
+        IfSome (H.view host.old).told (λ tree. IsReady tree folder.now there)) }
+    ensures taken { result ≡ Err SaveFault.NotEmpty
+        → IfSome (H.view host.old).told (λ tree. IsTaken tree folder.now) }
+    ensures fault { result ≡ Err SaveFault.WriteFault
+        → Rose (H.view host.old).faults (H.view host.new).faults }
 {
     match host.list(alloc, folder) {
         Ok(listing) => {

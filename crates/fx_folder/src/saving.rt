@@ -5,10 +5,11 @@ ghost use Rattle.fx_base.specs.Causes.{Rose};
 ghost use Rattle.fx_store.specs.Names.{IsName};
 ghost use Rattle.fx_store.specs.Whole.{IsWhole};
 ghost use Rattle.fx_outside.specs.Path.{parts};
+ghost use Rattle.fx_outside.specs.Host.{AsksFit};
 ghost use Rattle.fx_outside.specs.Tree.{is_free_at};
 ghost use Rattle.fx_folder.specs.declared.fault.SaveFault.TheVariants.{WriteFault, NotEmpty};
 ghost use Rattle.fx_folder.specs.Reads.{path_below};
-ghost use Rattle.fx_folder.specs.Folder.{IsReady, IsFlat, IfTold, IsSaved, IsPartlySaved, IsFileNode, SaveCause};
+ghost use Rattle.fx_folder.specs.Folder.{IsReady, IsFlat, IfTold, Saves, SavesPart, IsFileNode, SaveCause};
 ghost use Rattle.fx_folder.specs.Written.{IsOpen, WroteFile, WroteFilePart, WroteAll, WrotePart};
 
 use crate::SaveFault;
@@ -26,12 +27,14 @@ pub fn save<H: Host>(
     there: bool,
     store: &Filestore,
 ) -> Result<(), SaveFault>
-    requires ready { IfSome (H.told host.old) (λ tree. IsReady tree folder.now there) }
+    requires ready { IfSome (H.view host.old).told (λ tree. IsReady tree folder.now there) }
     requires flat { IsFlat (get store.now.nodes) }
-    ensures saved { OnOk result (IfTold (H.told host.old) (H.told host.new) (λ tree tree'. IsSaved tree tree' (parts folder.now) store.now.nodes)) }
-    ensures part { OnErr result (IfTold (H.told host.old) (H.told host.new) (λ tree tree'. IsPartlySaved tree tree' (parts folder.now) store.now.nodes)) }
-    ensures fault { IfErr result (SaveCause (H.told host.old) folder.now there (Rose (H.faults host.old) (H.faults host.new))) }
-    ensures later { H.faults host.old ≤ H.faults host.new }
+    ensures saved { OnOk result (Saves folder.now store.now.nodes (H.view host.old) (H.view host.new)) }
+    ensures part { OnErr result
+        (SavesPart folder.now store.now.nodes (H.view host.old) (H.view host.new)) }
+    ensures fault { IfErr result (SaveCause folder.now there (H.view host.old) (H.view host.new)) }
+    ensures later { (H.view host.old).faults ≤ (H.view host.new).faults }
+    ensures fit { AsksFit folder.now (H.view host.old) (H.view host.new) }
 {
     let names = root_names(alloc, store);
     if there {
@@ -52,15 +55,19 @@ fn write_files<H: Host>(
     names: &Names,
     store: &Filestore,
 ) -> Result<(), SaveFault>
-    requires open { IfSome (H.told host.old) (λ tree. IsOpen tree folder.now) }
+    requires open { IfSome (H.view host.old).told (λ tree. IsOpen tree folder.now) }
     requires root { get store.now.nodes [] ≡ Some (Node.Dir names.now) }
     requires whole { IsWhole (get store.now.nodes) }
     requires flat { IsFlat (get store.now.nodes) }
-    ensures written { OnOk result (IfTold (H.told host.old) (H.told host.new) (λ tree tree'. WroteAll tree tree' (parts folder.now) (get store.now.nodes))) }
-    ensures partly { OnErr result (IfTold (H.told host.old) (H.told host.new) (λ tree tree'. WrotePart tree tree' (parts folder.now) (get store.now.nodes))) }
-    ensures fault { result ≡ Err WriteFault → Rose (H.faults host.old) (H.faults host.new) }
+    ensures written { OnOk result (IfTold (H.view host.old).told (H.view host.new).told
+        (λ tree tree'. WroteAll tree tree' (parts folder.now) (get store.now.nodes))) }
+    ensures partly { OnErr result (IfTold (H.view host.old).told (H.view host.new).told
+        (λ tree tree'. WrotePart tree tree' (parts folder.now) (get store.now.nodes))) }
+    ensures fault { result ≡ Err WriteFault
+        → Rose (H.view host.old).faults (H.view host.new).faults }
     ensures free { result ≡ Err NotEmpty → ⊥ }
-    ensures later { H.faults host.old ≤ H.faults host.new }
+    ensures later { (H.view host.old).faults ≤ (H.view host.new).faults }
+    ensures fit { AsksFit folder.now (H.view host.old) (H.view host.new) }
 {
     'writing: for i in 0..names.len() {
         let Some(name) = names.at(i) else {
@@ -95,14 +102,19 @@ fn write_file<H: Host>(
     name: &Name,
     store: &Filestore,
 ) -> Result<(), SaveFault>
-    requires free { IfSome (H.told host.old) (λ tree. is_free_at tree (path_below folder.now name.now) ≡ true) }
+    requires free { IfSome (H.view host.old).told (λ tree.
+        is_free_at tree (path_below folder.now name.now) ≡ true) }
     requires there { IsSome (get store.now.nodes (name.now ∷ [])) }
     requires flat { IsFlat (get store.now.nodes) }
-    ensures written { OnOk result (IfTold (H.told host.old) (H.told host.new) (λ tree tree'. WroteFile tree tree' folder.now name.now (get store.now.nodes))) }
-    ensures partly { OnErr result (IfTold (H.told host.old) (H.told host.new) (λ tree tree'. WroteFilePart tree tree' folder.now name.now (get store.now.nodes))) }
-    ensures fault { result ≡ Err WriteFault → Rose (H.faults host.old) (H.faults host.new) }
+    ensures written { OnOk result (IfTold (H.view host.old).told (H.view host.new).told
+        (λ tree tree'. WroteFile tree tree' folder.now name.now (get store.now.nodes))) }
+    ensures partly { OnErr result (IfTold (H.view host.old).told (H.view host.new).told
+        (λ tree tree'. WroteFilePart tree tree' folder.now name.now (get store.now.nodes))) }
+    ensures fault { result ≡ Err WriteFault
+        → Rose (H.view host.old).faults (H.view host.new).faults }
     ensures free { result ≡ Err NotEmpty → ⊥ }
-    ensures later { H.faults host.old ≤ H.faults host.new }
+    ensures later { (H.view host.old).faults ≤ (H.view host.new).faults }
+    ensures fit { AsksFit folder.now (H.view host.old) (H.view host.new) }
 {
     let path = match entry_path(alloc, folder, name) {
         Ok(path) => path,

@@ -2,3 +2,4 @@ pub mod Sorted
 pub mod Lists
 pub mod Trees
 pub mod Whole
+pub mod Views

@@ -1,17 +1,44 @@
--- When a call on a host fails, and what it leaves.
-use Rattle.std.specs.Prelude.{◌≡◌, ◌⊎◌, ◌≤◌, ℕ, ◌-◌, Bool, false, List, length, take, drop, Option, Result, Err, IsErr, IfSome, IsSomeAnd}
+-- What clauses see of a host, when a call on it fails, and what it leaves.
+use Rattle.std.specs.Prelude.{◌≡◌, ◌⊎◌, ◌≤◌, ℕ, ◌-◌, Bool, true, false, List, length, take, drop, Option, Result, Err, IsErr, IfSome, IsSomeAnd}
 use Rattle.fx_base.specs.Causes.{Rose}
 use Rattle.fx_outside.specs.declared.kind.HostFault.{HostFault}
 use Rattle.fx_outside.specs.declared.kind.HostFault.TheVariants.{Failed}
-use Rattle.fx_outside.specs.Tree.{Tree, file, told_with}
+use Rattle.fx_outside.specs.declared.kind.Standing.{Standing}
+use Rattle.fx_outside.specs.Listing.{Names}
+use Rattle.fx_outside.specs.Path.{parts, is_fit}
+use Rattle.fx_outside.specs.Tree.{Tree, Entry, Lists, standing_of, entry_at, bytes_at, file, told_with}
+
+-- the tree that a host holds, if it tells one; how often it has failed; and how many calls were made at unfit paths
+pub record HostView : Type 0 where
+  pub told : Option Tree
+  pub faults : ℕ
+  pub unfit : ℕ
+
+-- the told tree stays, and the count of faults does not fall
+pub record ReadsOnly (old new : HostView) : Type 0 where
+  pub same : new.told ≡ old.told
+  pub later : old.faults ≤ new.faults
+
+-- a call at an unfit path is counted, and no other call is
+pub record CountsUnfit (path : List ℕ) (old new : HostView) : Type 0 where
+  pub fit : is_fit path ≡ true → new.unfit ≡ old.unfit
+  pub unfit : is_fit path ≡ false → Rose old.unfit new.unfit
+
+-- where the path is fit, calls are made at fit paths alone
+abbrev pub AsksFit : List ℕ → HostView → HostView → Type 0
+AsksFit path old new = is_fit path ≡ true → new.unfit ≡ old.unfit
+
+-- the count of faults rose, or the host tells a tree that a call does not suit
+abbrev pub HasFailed : (Tree → Bool) → HostView → HostView → Type 0
+HasFailed suits old new = Rose old.faults new.faults ⊎ IsSomeAnd old.told (λ tree. suits tree ≡ false)
 
 -- The count of faults does not fall. A call is answered Failed only where the count rose, or where the host tells a
 -- tree that the call does not suit. A call that does not suit the told tree is refused, changes nothing and leaves the
 -- count.
-pub record HasCause {A : Type 0} (suits : Tree → Bool) (told told' : Option Tree) (faults faults' : ℕ) (result : Result A HostFault) : Type 0 where
-  pub later : faults ≤ faults'
-  pub failed : result ≡ Err Failed → Rose faults faults' ⊎ IsSomeAnd told (λ tree. suits tree ≡ false)
-  pub unsuited : IfSome told (λ tree. suits tree ≡ false → IsErr result × (told' ≡ told) × (faults' ≡ faults))
+pub record HasCause {A : Type 0} (suits : Tree → Bool) (old new : HostView) (result : Result A HostFault) : Type 0 where
+  pub later : old.faults ≤ new.faults
+  pub failed : result ≡ Err Failed → HasFailed suits old new
+  pub unsuited : IfSome old.told (λ tree. suits tree ≡ false → IsErr result × (new.told ≡ old.told) × (new.faults ≡ old.faults))
 
 -- the first n bytes of the buffer are those of the file from a place on; none are read at the end alone
 pub record ReadsAt (contents : List ℕ) (from n : ℕ) (buffer : List ℕ) : Type 0 where
@@ -19,6 +46,26 @@ pub record ReadsAt (contents : List ℕ) (from n : ℕ) (buffer : List ℕ) : Ty
   pub within : n ≤ length contents - from
   pub ends : n ≡ 0 → length contents ≤ from
 
+-- the answers of a host that tells a tree are those of the tree
+abbrev pub TellsStanding : HostView → List ℕ → Standing → Type 0
+TellsStanding host path found = IfSome host.told (λ tree. found ≡ standing_of (entry_at tree path))
+
+abbrev pub TellsNames : HostView → List ℕ → Names → Type 0
+TellsNames host path names = IfSome host.told (λ tree. Lists tree (parts path) names)
+
+abbrev pub TellsBytes : HostView → List ℕ → ℕ → List ℕ → ℕ → Type 0
+TellsBytes host path from buffer n = IfSome host.told (λ tree. ReadsAt (bytes_at tree path) from n buffer)
+
+-- nothing of a told tree is changed; or one entry is added
+abbrev pub IsAsTold : HostView → HostView → Type 0
+IsAsTold old new = new.told ≡ old.told
+
+abbrev pub Adds : List ℕ → Entry → HostView → HostView → Type 0
+Adds path entry old new = new.told ≡ told_with old.told path entry
+
+abbrev pub MayAdd : List ℕ → Entry → HostView → HostView → Type 0
+MayAdd path entry old new = IsAsTold old new ⊎ Adds path entry old new
+
 -- a new file that was not written to its end: it is missing, or holds a prefix
-abbrev pub MayHoldPrefix : Option Tree → Option Tree → List ℕ → List ℕ → Type 0
-MayHoldPrefix told told' path bytes = (told' ≡ told) ⊎ ((n : ℕ) × (told' ≡ told_with told path (file (take n bytes))))
+abbrev pub MayHoldPrefix : List ℕ → List ℕ → HostView → HostView → Type 0
+MayHoldPrefix path bytes old new = IsAsTold old new ⊎ ((n : ℕ) × Adds path (file (take n bytes)) old new)

@@ -1,5 +1,7 @@
 -- What a host in memory shows.
+use Rattle.std.specs.Prelude.{ℕ, Some}
 use Rattle.fx_outside.specs.Calls.{Plan}
+use Rattle.fx_outside.specs.Host.{HostView}
 use Rattle.fx_outside.specs.Tree.{Tree}
 use Rattle.fx_outside.specs.Memory.{tree_of}
 use Rattle.fx_outside.specs.declared.memory_host.MemoryHost.{MemoryHost}
@@ -10,3 +12,10 @@ host_tree host = tree_of host.tree.entries
 
 abbrev pub host_calls : MemoryHost → Plan
 host_calls host = host.calls
+
+-- how many calls were made at unfit paths
+abbrev pub host_unfit : MemoryHost → ℕ
+host_unfit host = host.unfit
+
+abbrev pub host_view : MemoryHost → HostView
+host_view host = record { told = Some (host_tree host); faults = (host_calls host).faults; unfit = host_unfit host }

@@ -1,6 +1,7 @@
 -- What a sink in memory holds.
-use Rattle.std.specs.Prelude.{◌≡◌, ◌==◌, ◌||◌, ◌-◌, ℕ, true, false, List, length, min, Result, Ok, Err}
+use Rattle.std.specs.Prelude.{◌≡◌, ◌==◌, ◌||◌, ◌-◌, ℕ, true, false, List, length, min, Some, Result, Ok, Err}
 use Rattle.fx_outside.specs.Calls.{Plan, is_next_failing}
+use Rattle.fx_outside.specs.Sink.{SinkView}
 use Rattle.fx_outside.specs.declared.memory_sink.MemorySink.{MemorySink}
 use Rattle.fx_outside.specs.declared.sink.SinkFailed.{SinkFailed}
 
@@ -14,6 +15,9 @@ sink_room sink = sink.room
 
 abbrev pub sink_calls : MemorySink → Plan
 sink_calls sink = sink.calls
+
+abbrev pub sink_view : MemorySink → SinkView
+sink_view sink = record { written = Some (sink_bytes sink); faults = (sink_calls sink).faults }
 
 -- how many bytes of a piece it takes
 abbrev pub taken : MemorySink → List ℕ → ℕ

@@ -1,12 +1,9 @@
 //! A host in memory, for tests.
-ghost use Rattle.std.specs.Prelude.{◌≡◌, ◌⊎◌, ◌<◌, ◌≤◌, ◌++◌, [], ◌∷◌, length, IfOk, OnOk, OnErr, IfSome, Some, true, false};
+ghost use Rattle.std.specs.Prelude.{◌≡◌, ◌≤◌, [], IfOk, OnOk, OnErr, true, false};
 ghost use Rattle.std.specs.FinMap.{empty, insert};
 ghost use Rattle.fx_outside.specs.Path.{is_fit, parts};
-ghost use Rattle.fx_outside.specs.Tree.{IsWhole, Lists, standing_of, entry_at, bytes_at, is_folder_at, is_file_at, is_free_at, told_with, file, folder};
-ghost use Rattle.fx_outside.specs.Host.{HasCause, ReadsAt, MayHoldPrefix};
-ghost use Rattle.fx_outside.specs.Calls.{FollowsPlan};
+ghost use Rattle.fx_outside.specs.Tree.{IsWhole, is_free_at};
 ghost use Rattle.fx_outside.specs.Memory.{tree_of};
-ghost use Rattle.fx_outside.specs.declared.kind.HostFault.TheVariants.{Failed, NoMemory};
 
 use crate::calls::Calls;
 use crate::memory_tree::{Entries, add, has_folder, is_free, kind_at, names_in, read_at};
@@ -20,22 +17,26 @@ use std::collections::BTreeMap;
 pub struct MemoryHost {
     tree: Entries,
     calls: Calls,
+    unfit: u64,
     ghost whole: { IsWhole (tree_of tree.entries) },
 }
 
 impl MemoryHost {
-    ghost use Rattle.std.specs.Prelude.{length};
+    ghost use Rattle.fx_outside.specs.Calls.{no_calls, with_call, with_failing, is_next_failing};
     ghost use Rattle.fx_outside.specs.Tree.{is_file_kind};
-    ghost use Rattle.fx_outside.specs.MemoryHost.{host_tree, host_calls};
+    ghost use Rattle.fx_outside.specs.Host.{CountsUnfit};
+    ghost use Rattle.fx_outside.specs.MemoryHost.{host_tree, host_calls, host_unfit, host_view};
 
     /// The tree's root alone.
     pub fn new(alloc: Global) -> MemoryHost
         ensures tree { host_tree result ≡ empty }
-        ensures calls { host_calls result ≡ record { failing = []; made = 0; faults = 0 } }
+        ensures calls { host_calls result ≡ no_calls }
+        ensures unfit { host_unfit result ≡ 0 }
     {
         MemoryHost {
             tree: BTreeMap::new(alloc),
             calls: Calls::new(alloc),
+            unfit: 0,
         }
     }
 
@@ -59,9 +60,11 @@ impl MemoryHost {
     ) -> Result<(), fx_base::NoMemory>
         requires free { is_free_at (host_tree self.old) path.now ≡ true }
         requires bytes { is_file_kind kind ≡ false → bytes.now ≡ [] }
-        ensures added { OnOk result (host_tree self.new ≡ insert (host_tree self.old) (parts path.now) (record { kind = kind; bytes = bytes.now })) }
+        ensures added { OnOk result (host_tree self.new
+            ≡ insert (host_tree self.old) (parts path.now) (record { kind = kind; bytes = bytes.now })) }
         ensures same { OnErr result (host_tree self.new ≡ host_tree self.old) }
         ensures calls { host_calls self.new ≡ host_calls self.old }
+        ensures unfit { host_unfit self.new ≡ host_unfit self.old }
     {
         match Parts::read(alloc, path)? {
             None => unreachable!(),
@@ -74,37 +77,57 @@ impl MemoryHost {
 
     /// Has the call of a number, counted from 0 over all calls of `Host`, fail.
     pub fn fail(&mut self, _alloc: Global, call: u64) -> Result<(), fx_base::NoMemory>
-        ensures added { OnOk result (host_calls self.new ≡ record (host_calls self.old) { failing = (host_calls self.old).failing ++ call ∷ [] }) }
+        ensures added { OnOk result (host_calls self.new ≡ with_failing (host_calls self.old) call) }
         ensures same { OnErr result (host_calls self.new ≡ host_calls self.old) }
         ensures tree { host_tree self.new ≡ host_tree self.old }
+        ensures unfit { host_unfit self.new ≡ host_unfit self.old }
     {
         self.calls.fail(call)
+    }
+
+    /// How often it has failed.
+    pub fn faults(&self) -> u64
+        ensures { result ≡ (host_view self.now).faults }
+    {
+        self.calls.faults()
+    }
+
+    /// Counts a call at this path, and says whether it is to fail.
+    fn begin(&mut self, path: &HostText) -> bool
+        ensures fails { result ≡ is_next_failing (host_calls self.old) }
+        ensures counts { host_calls self.new ≡ with_call (host_calls self.old) }
+        ensures tree { host_tree self.new ≡ host_tree self.old }
+        ensures unfit { CountsUnfit path.now (host_view self.old) (host_view self.new) }
+    {
+        if !path.is_fit() {
+            self.unfit = self.unfit.saturating_add(1);
+        }
+        self.calls.begin()
     }
 }
 
 impl Host for MemoryHost {
-    ghost use Rattle.std.specs.Prelude.{◌≡◌, ◌⊎◌, ◌<◌, ◌≤◌, length, IfOk, OnOk, IfSome, Some, true, false};
-    ghost use Rattle.fx_outside.specs.Path.{is_fit, parts};
-    ghost use Rattle.fx_outside.specs.Tree.{Lists, standing_of, entry_at, bytes_at, is_folder_at, is_file_at, is_free_at, told_with, file, folder};
-    ghost use Rattle.fx_outside.specs.Host.{HasCause, ReadsAt, MayHoldPrefix};
+    ghost use Rattle.std.specs.Prelude.{◌≡◌, ◌<◌, ◌≤◌, length, IfOk, OnOk, IfSome, Some, true, false};
+    ghost use Rattle.fx_outside.specs.Path.{is_fit};
+    ghost use Rattle.fx_outside.specs.Tree.{is_folder_at, is_file_at, is_free_at, file, folder};
+    ghost use Rattle.fx_outside.specs.Host.{ReadsOnly, HasCause, CountsUnfit, TellsStanding, TellsNames, TellsBytes, IsAsTold, Adds, MayAdd, MayHoldPrefix};
     ghost use Rattle.fx_outside.specs.Calls.{FollowsPlan};
-    ghost use Rattle.fx_outside.specs.Memory.{tree_of};
-    ghost use Rattle.fx_outside.specs.MemoryHost.{host_tree, host_calls};
+    ghost use Rattle.fx_outside.specs.MemoryHost.{host_tree, host_calls, host_view};
     ghost use Rattle.fx_outside.specs.declared.kind.HostFault.TheVariants.{Failed, NoMemory};
 
-    ghost told = { λ h. Some (tree_of h.tree.entries) };
-
-    ghost faults = { λ h. h.calls.faults };
+    ghost view = { host_view };
 
     ghost whole = { λ h. h.whole };
 
     fn standing(&mut self, alloc: Global, path: &HostText) -> Result<Standing, HostFault>
-        ensures answer { IfOk result (λ s. s ≡ standing_of (entry_at (host_tree self.old) path.now)) }
-        ensures same { host_tree self.new ≡ host_tree self.old }
-        ensures cause { HasCause (λ tree. is_fit path.now) (Some (host_tree self.old)) (Some (host_tree self.new)) (host_calls self.old).faults (host_calls self.new).faults result }
-        ensures plan { FollowsPlan (host_calls self.old) (host_calls self.new) (is_fit path.now) Failed result }
+        ensures answer { IfOk result (TellsStanding (host_view self.old) path.now) }
+        ensures same { ReadsOnly (host_view self.old) (host_view self.new) }
+        ensures cause { HasCause (λ _. is_fit path.now) (host_view self.old) (host_view self.new) result }
+        ensures unfit { CountsUnfit path.now (host_view self.old) (host_view self.new) }
+        ensures plan { FollowsPlan (host_calls self.old) (host_calls self.new)
+            (is_fit path.now) Failed result }
     {
-        let fails = self.calls.begin();
+        let fails = self.begin(path);
         let Some(names) = Parts::read(alloc, path)? else {
             return Err(HostFault::Failed);
         };
@@ -119,12 +142,14 @@ impl Host for MemoryHost {
     }
 
     fn list(&mut self, alloc: Global, path: &HostText) -> Result<Listing, HostFault>
-        ensures answer { IfOk result (λ names. Lists (host_tree self.old) (parts path.now) names) }
-        ensures same { host_tree self.new ≡ host_tree self.old }
-        ensures cause { HasCause (λ tree. is_folder_at tree path.now) (Some (host_tree self.old)) (Some (host_tree self.new)) (host_calls self.old).faults (host_calls self.new).faults result }
-        ensures plan { FollowsPlan (host_calls self.old) (host_calls self.new) (is_folder_at (host_tree self.old) path.now) Failed result }
+        ensures answer { IfOk result (TellsNames (host_view self.old) path.now) }
+        ensures same { ReadsOnly (host_view self.old) (host_view self.new) }
+        ensures cause { HasCause (λ t. is_folder_at t path.now) (host_view self.old) (host_view self.new) result }
+        ensures unfit { CountsUnfit path.now (host_view self.old) (host_view self.new) }
+        ensures plan { FollowsPlan (host_calls self.old) (host_calls self.new)
+            (is_folder_at (host_tree self.old) path.now) Failed result }
     {
-        let fails = self.calls.begin();
+        let fails = self.begin(path);
         let Some(names) = Parts::read(alloc, path)? else {
             return Err(HostFault::Failed);
         };
@@ -147,12 +172,14 @@ impl Host for MemoryHost {
     ) -> Result<usize, HostFault>
         requires { 0 < length buf.old }
         ensures bound { IfOk result (λ n. n ≤ length buf.new) }
-        ensures answer { IfOk result (λ n. ReadsAt (bytes_at (host_tree self.old) path.now) from n buf.new) }
-        ensures same { host_tree self.new ≡ host_tree self.old }
-        ensures cause { HasCause (λ tree. is_file_at tree path.now) (Some (host_tree self.old)) (Some (host_tree self.new)) (host_calls self.old).faults (host_calls self.new).faults result }
-        ensures plan { FollowsPlan (host_calls self.old) (host_calls self.new) (is_file_at (host_tree self.old) path.now) Failed result }
+        ensures answer { IfOk result (TellsBytes (host_view self.old) path.now from buf.new) }
+        ensures same { ReadsOnly (host_view self.old) (host_view self.new) }
+        ensures cause { HasCause (λ t. is_file_at t path.now) (host_view self.old) (host_view self.new) result }
+        ensures unfit { CountsUnfit path.now (host_view self.old) (host_view self.new) }
+        ensures plan { FollowsPlan (host_calls self.old) (host_calls self.new)
+            (is_file_at (host_tree self.old) path.now) Failed result }
     {
-        let fails = self.calls.begin();
+        let fails = self.begin(path);
         let Some(names) = Parts::read(alloc, path)? else {
             return Err(HostFault::Failed);
         };
@@ -167,13 +194,16 @@ impl Host for MemoryHost {
     }
 
     fn make_dir(&mut self, alloc: Global, path: &HostText) -> Result<(), HostFault>
-        ensures made { OnOk result (Some (host_tree self.new) ≡ told_with (Some (host_tree self.old)) path.now folder) }
-        ensures failed { result ≡ Err Failed → (Some (host_tree self.new) ≡ Some (host_tree self.old)) ⊎ (Some (host_tree self.new) ≡ told_with (Some (host_tree self.old)) path.now folder) }
-        ensures memory { result ≡ Err NoMemory → Some (host_tree self.new) ≡ Some (host_tree self.old) }
-        ensures cause { HasCause (λ tree. is_free_at tree path.now) (Some (host_tree self.old)) (Some (host_tree self.new)) (host_calls self.old).faults (host_calls self.new).faults result }
-        ensures plan { FollowsPlan (host_calls self.old) (host_calls self.new) (is_free_at (host_tree self.old) path.now) Failed result }
+        ensures made { OnOk result (Adds path.now folder (host_view self.old) (host_view self.new)) }
+        ensures failed { result ≡ Err Failed
+            → MayAdd path.now folder (host_view self.old) (host_view self.new) }
+        ensures memory { result ≡ Err NoMemory → IsAsTold (host_view self.old) (host_view self.new) }
+        ensures cause { HasCause (λ t. is_free_at t path.now) (host_view self.old) (host_view self.new) result }
+        ensures unfit { CountsUnfit path.now (host_view self.old) (host_view self.new) }
+        ensures plan { FollowsPlan (host_calls self.old) (host_calls self.new)
+            (is_free_at (host_tree self.old) path.now) Failed result }
     {
-        let fails = self.calls.begin();
+        let fails = self.begin(path);
         let Some(names) = Parts::read(alloc, path)? else {
             return Err(HostFault::Failed);
         };
@@ -189,13 +219,17 @@ impl Host for MemoryHost {
     }
 
     fn write_new(&mut self, alloc: Global, path: &HostText, bytes: &[u8]) -> Result<(), HostFault>
-        ensures written { OnOk result (Some (host_tree self.new) ≡ told_with (Some (host_tree self.old)) path.now (file bytes.now)) }
-        ensures failed { result ≡ Err Failed → MayHoldPrefix (Some (host_tree self.old)) (Some (host_tree self.new)) path.now bytes.now }
-        ensures memory { result ≡ Err NoMemory → Some (host_tree self.new) ≡ Some (host_tree self.old) }
-        ensures cause { HasCause (λ tree. is_free_at tree path.now) (Some (host_tree self.old)) (Some (host_tree self.new)) (host_calls self.old).faults (host_calls self.new).faults result }
-        ensures plan { FollowsPlan (host_calls self.old) (host_calls self.new) (is_free_at (host_tree self.old) path.now) Failed result }
+        ensures written { OnOk result
+            (Adds path.now (file bytes.now) (host_view self.old) (host_view self.new)) }
+        ensures failed { result ≡ Err Failed
+            → MayHoldPrefix path.now bytes.now (host_view self.old) (host_view self.new) }
+        ensures memory { result ≡ Err NoMemory → IsAsTold (host_view self.old) (host_view self.new) }
+        ensures cause { HasCause (λ t. is_free_at t path.now) (host_view self.old) (host_view self.new) result }
+        ensures unfit { CountsUnfit path.now (host_view self.old) (host_view self.new) }
+        ensures plan { FollowsPlan (host_calls self.old) (host_calls self.new)
+            (is_free_at (host_tree self.old) path.now) Failed result }
     {
-        let fails = self.calls.begin();
+        let fails = self.begin(path);
         let Some(names) = Parts::read(alloc, path)? else {
             return Err(HostFault::Failed);
         };

@@ -18,13 +18,14 @@ pub struct MemorySink {
 }
 
 impl MemorySink {
-    ghost use Rattle.fx_outside.specs.MemorySink.{sink_bytes, sink_room, sink_calls};
+    ghost use Rattle.fx_outside.specs.Calls.{no_calls, with_failing};
+    ghost use Rattle.fx_outside.specs.MemorySink.{sink_bytes, sink_room, sink_calls, sink_view};
 
     /// An empty sink for a number of bytes.
     pub fn new(alloc: Global, room: u64) -> Result<MemorySink, NoMemory>
         ensures empty { IfOk result (λ sink. sink_bytes sink ≡ []) }
         ensures room { IfOk result (λ sink. sink_room sink ≡ room) }
-        ensures calls { IfOk result (λ sink. sink_calls sink ≡ record { failing = []; made = 0; faults = 0 }) }
+        ensures calls { IfOk result (λ sink. sink_calls sink ≡ no_calls) }
     {
         let bytes = Vec::with_capacity(alloc, room as usize)?;
         Ok(MemorySink {
@@ -41,9 +42,16 @@ impl MemorySink {
         &self.bytes
     }
 
+    /// How often it has failed.
+    pub fn faults(&self) -> u64
+        ensures { result ≡ (sink_view self.now).faults }
+    {
+        self.calls.faults()
+    }
+
     /// Has the call of a number, counted from 0 over all calls of `write`, fail.
     pub fn fail(&mut self, _alloc: Global, call: u64) -> Result<(), NoMemory>
-        ensures added { OnOk result (sink_calls self.new ≡ record (sink_calls self.old) { failing = (sink_calls self.old).failing ++ call ∷ [] }) }
+        ensures added { OnOk result (sink_calls self.new ≡ with_failing (sink_calls self.old) call) }
         ensures same { OnErr result (sink_calls self.new ≡ sink_calls self.old) }
         ensures bytes { sink_bytes self.new ≡ sink_bytes self.old }
         ensures room { sink_room self.new ≡ sink_room self.old }
@@ -64,20 +72,18 @@ fn append(bytes: &mut Vec<u8>, piece: &[u8])
 }
 
 impl Sink for MemorySink {
-    ghost use Rattle.std.specs.Prelude.{◌≡◌, ◌<◌, Some, length};
-    ghost use Rattle.fx_outside.specs.MemorySink.{sink_bytes, sink_room, sink_calls, FillsRoom};
-    ghost use Rattle.fx_outside.specs.Sink.{written_after, TakesSome, HasFault};
+    ghost use Rattle.std.specs.Prelude.{◌≡◌, ◌<◌, length};
+    ghost use Rattle.fx_outside.specs.MemorySink.{sink_room, sink_calls, sink_view, FillsRoom};
+    ghost use Rattle.fx_outside.specs.Sink.{Writes, TakesSome, HasFault};
     ghost use Rattle.fx_outside.specs.Calls.{IsCounted, CountsFailure};
 
-    ghost written = { λ s. Some s.bytes.items };
-
-    ghost faults = { λ s. s.calls.faults };
+    ghost view = { sink_view };
 
     fn write(&mut self, bytes: &[u8]) -> Result<usize, SinkFailed>
         requires { 0 < length bytes.now }
         ensures taken { TakesSome bytes.now result }
-        ensures written { Some (sink_bytes self.new) ≡ written_after (Some (sink_bytes self.old)) bytes.now result }
-        ensures cause { HasFault (sink_calls self.old).faults (sink_calls self.new).faults result }
+        ensures written { Writes bytes.now (sink_view self.old) (sink_view self.new) result }
+        ensures cause { HasFault (sink_view self.old) (sink_view self.new) result }
         ensures fills { FillsRoom self.old bytes.now result }
         ensures room { sink_room self.new ≡ sink_room self.old }
         ensures counts { IsCounted (sink_calls self.old) (sink_calls self.new) }

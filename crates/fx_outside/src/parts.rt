@@ -1,7 +1,7 @@
 //! Host paths as lists of parts.
 ghost use Rattle.std.specs.Prelude.{◌≡◌, ◌==◌, map, IfOk, length, option_copied};
 ghost use Rattle.std.specs.List.{list_all};
-ghost use Rattle.fx_outside.specs.Path.{parts, parts_cmp, is_fit_part, fit_parts, above, name_in};
+ghost use Rattle.fx_outside.specs.Path.{parts, parts_cmp, is_fit, is_fit_part, fit_parts, above, name_in};
 
 use crate::HostText;
 use fx_base::NoMemory;
@@ -82,6 +82,13 @@ fn is_fit_part(part: &str) -> bool
         return false;
     }
     part != ".."
+}
+
+/// Whether each part of a path can name an entry.
+pub(crate) fn is_fit(path: &str) -> bool
+    ensures { result ≡ is_fit path.now }
+{
+    path.split('/').all(|part| is_fit_part(part))
 }
 
 fn all_fit(pieces: &[&str]) -> bool

@@ -1,6 +1,6 @@
 //! A sink for output.
-ghost use Rattle.std.specs.Prelude.{◌≡◌, ◌<◌, ℕ, List, Option, length};
-ghost use Rattle.fx_outside.specs.Sink.{written_after, TakesSome, HasFault};
+ghost use Rattle.std.specs.Prelude.{◌<◌, length};
+ghost use Rattle.fx_outside.specs.Sink.{SinkView, Writes, TakesSome, HasFault};
 
 use thiserror::Error;
 
@@ -11,16 +11,13 @@ pub struct SinkFailed;
 
 /// Takes bytes in pieces. A sink may tell what was written to it.
 pub trait Sink {
-    /// The bytes written so far, if it tells them.
-    ghost written: { Self → Option (List ℕ) };
-
-    /// How often it has failed.
-    ghost faults: { Self → ℕ };
+    /// The bytes written so far, if it tells them, and how often it has failed.
+    ghost view: { Self → SinkView };
 
     /// Takes a front of the piece, of at least one byte, and answers its length.
     fn write(&mut self, bytes: &[u8]) -> Result<usize, SinkFailed>
         requires { 0 < length bytes.now }
         ensures taken { TakesSome bytes.now result }
-        ensures written { written self.new ≡ written_after (written self.old) bytes.now result }
-        ensures cause { HasFault (faults self.old) (faults self.new) result };
+        ensures written { Writes bytes.now (view self.old) (view self.new) result }
+        ensures cause { HasFault (view self.old) (view self.new) result };
 }

@@ -1,6 +1,8 @@
 //! Texts of the command line and of host paths.
 ghost use Rattle.std.specs.Prelude.{◌≡◌, ◌++◌, [], ◌∷◌, length, slice_get, option_copied, string_bytes, IfOk, OnOk, OnErr};
+ghost use Rattle.fx_outside.specs.Path.{is_fit};
 
+use crate::parts::is_fit;
 use fx_base::NoMemory;
 use std::alloc::Global;
 use std::cmp::Ordering;
@@ -32,6 +34,13 @@ impl HostText {
         ensures { result.now ≡ self.now }
     {
         self.text.as_str()
+    }
+
+    /// Whether each part of a host path between its slashes can name an entry: none is empty, `.` or `..`.
+    pub fn is_fit(&self) -> bool
+        ensures { result ≡ is_fit self.now }
+    {
+        is_fit(self.text.as_str())
     }
 
     /// An equal text.

@@ -1,4 +1,5 @@
 use Rattle.std.proofs.Common.{◌≡◌, ◌-◌, ◌≤◌, length, take, IfSome}
+use Rattle.fx_outside.specs.Host.{ReadsOnly, AsksFit}
 use Rattle.fx_outside.specs.Tree.{bytes_at}
 use Rattle.fx_folder.specs.Reads.{path_below}
 use Rattle.fx_folder.proofs.loading.read_file.Given as goal
@@ -6,9 +7,9 @@ use Rattle.fx_folder.proofs.loading.read_file.Given as goal
 abbrev pub invariant-loop-bytes : goal.invariant-loop-bytes
 invariant-loop-bytes g l = record {
   within : length l.bytes.items ≤ l.limit;
-  same : g.H.Host.told l.host ≡ g.H.Host.told l.fn.host;
-  later : g.H.Host.faults l.fn.host ≤ g.H.Host.faults l.host;
-  front : IfSome (g.H.Host.told l.fn.host) (λ tree. l.bytes.items ≡ take (length l.bytes.items) (bytes_at tree (path_below l.folder l.name)));
+  reads : ReadsOnly (g.H.Host.view l.fn.host) (g.H.Host.view l.host);
+  fit : AsksFit (path_below l.folder l.name) (g.H.Host.view l.fn.host) (g.H.Host.view l.host);
+  front : IfSome (g.H.Host.view l.fn.host).told (λ tree. l.bytes.items ≡ take (length l.bytes.items) (bytes_at tree (path_below l.folder l.name)));
 }
 
 abbrev pub decreases-loop-bytes : goal.decreases-loop-bytes
