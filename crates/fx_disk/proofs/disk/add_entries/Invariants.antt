@@ -1,0 +1,9 @@
+use Rattle.std.proofs.Common.{◌≤◌, vec_len}
+use Rattle.fx_disk.specs.declared.disk.TheConstants.{MOST_ENTRIES}
+use Rattle.fx_disk.proofs.disk.add_entries.Given as goal
+
+abbrev pub invariant-loop-entry : goal.invariant-loop-entry
+invariant-loop-entry g l =
+    (goal.iterator-loop-entry g).can_next l.entry-iterator ×
+    (goal.iterator-loop-entry g).is_finite l.entry-iterator ×
+    (vec_len l.found ≤ MOST_ENTRIES)

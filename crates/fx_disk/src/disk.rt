@@ -1,0 +1,248 @@
+//! The folders and files of the machine, as a host.
+ghost use Rattle.std.specs.Prelude.{◌≡◌, ◌≤◌, ◌+◌, None, true, false, OnOk, IfOk, IfSome, length, vec_len};
+ghost use Rattle.std.specs.FinMap.{len};
+ghost use Rattle.fx_base.specs.Causes.{Rose};
+ghost use Rattle.fx_outside.specs.Path.{is_fit};
+ghost use Rattle.fx_outside.specs.declared.kind.HostFault.TheVariants.{Failed};
+
+use crate::reading::{Reading, read_on};
+use fx_base::NoMemory;
+use fx_outside::{Host, HostFault, HostKind, HostText, Listing, Standing};
+use std::alloc::Global;
+use std::fs::{self, DirEntry, File, FileType, ReadDir};
+use std::io::{self, ErrorKind, Write};
+use std::rt::Files;
+
+/// A folder of more entries is not listed.
+pub const MOST_ENTRIES: usize = 1_000_000;
+
+/// The machine's files. It tells nothing of what it holds, and counts each error of the system: a name that is not UTF-8
+/// and a folder of more than [`MOST_ENTRIES`] entries too. It counts the calls at unfit paths besides. A file that is read
+/// on stays open, so that a pipe is read too.
+#[derive(Drop)]
+pub struct Disk<R: Files + AllocGlobal + Clone + Drop> {
+    rt: R,
+    faults: u64,
+    unfit: u64,
+    reading: Option<Reading<R::File>>,
+}
+
+fn kind_of(kind: FileType) -> HostKind {
+    if kind.is_file() {
+        HostKind::File
+    } else if kind.is_dir() {
+        HostKind::Folder
+    } else {
+        HostKind::Other
+    }
+}
+
+/// The entry's name and kind.
+fn named<R: Files + AllocGlobal + Clone + Drop>(
+    alloc: Global,
+    entry: &DirEntry<R>,
+) -> io::Result<(HostText, HostKind)> {
+    let kind = kind_of(entry.file_type()?);
+    let name = String::from_str(alloc, entry.file_name())?;
+    Ok((HostText::from_string(name), kind))
+}
+
+/// Adds an entry, unless there are [`MOST_ENTRIES`].
+fn add_entry<R: Files + AllocGlobal + Clone + Drop>(
+    alloc: Global,
+    entry: &DirEntry<R>,
+    found: &mut Vec<(HostText, HostKind)>,
+) -> io::Result<()>
+    requires { vec_len found.old ≤ MOST_ENTRIES }
+    ensures { OnOk result (vec_len found.new ≤ MOST_ENTRIES) }
+{
+    if found.len() == MOST_ENTRIES {
+        return Err(io::Error::from(ErrorKind::FileTooLarge));
+    }
+    found.push(named(alloc, entry)?)?;
+    Ok(())
+}
+
+/// Adds what a folder holds, in no order.
+fn add_entries<R: Files + AllocGlobal + Clone + Drop>(
+    alloc: Global,
+    folder: &mut ReadDir<R>,
+    found: &mut Vec<(HostText, HostKind)>,
+) -> io::Result<()>
+    requires { vec_len found.old ≤ MOST_ENTRIES }
+    ensures { OnOk result (vec_len found.new ≤ MOST_ENTRIES) }
+{
+    for entry in folder {
+        add_entry(alloc, &entry?, found)?;
+    }
+    Ok(())
+}
+
+/// What a folder holds, in no order.
+fn entries<R: Files + AllocGlobal + Clone + Drop>(
+    rt: &R,
+    alloc: Global,
+    path: &str,
+) -> io::Result<Vec<(HostText, HostKind)>>
+    ensures { IfOk result (λ found. vec_len found ≤ MOST_ENTRIES) }
+{
+    let mut folder = fs::read_dir(rt, path)?;
+    let mut found = Vec::new(alloc);
+    add_entries(alloc, &mut folder, &mut found)?;
+    Ok(found)
+}
+
+/// The entries in order of name; none where a name stands twice.
+fn sorted(alloc: Global, mut found: Vec<(HostText, HostKind)>) -> Result<Option<Listing>, NoMemory>
+    ensures { IfOk result (λ listing. IfSome listing (λ names. len names ≤ vec_len found)) }
+{
+    found.sort_unstable_by(|a, b| a.0.as_str().cmp(b.0.as_str()));
+    let mut listing = Listing::new(alloc);
+    for (name, kind) in found {
+        if !listing.can_add(&name) {
+            return Ok(None);
+        }
+        listing.add(alloc, name, kind)?;
+    }
+    Ok(Some(listing))
+}
+
+fn write_file<R: Files>(rt: &R, path: &str, bytes: &[u8]) -> io::Result<()> {
+    let mut file = File::create_new(rt, path)?;
+    file.write_all(bytes)
+}
+
+impl<R: Files + AllocGlobal + Clone + Drop> Disk<R> {
+    pub fn new(rt: R) -> Disk<R>
+        ensures faults { result.faults ≡ 0 }
+        ensures unfit { result.unfit ≡ 0 }
+    {
+        Disk {
+            rt,
+            faults: 0,
+            unfit: 0,
+            reading: None,
+        }
+    }
+
+    /// How often it has failed.
+    pub fn faults(&self) -> u64
+        ensures { result ≡ self.now.faults }
+    {
+        self.faults
+    }
+
+    /// Counts a call at an unfit path.
+    fn count_unfit(&mut self, path: &HostText)
+        ensures fit { is_fit path.now ≡ true → self.new.unfit ≡ self.old.unfit }
+        ensures unfit { is_fit path.now ≡ false → Rose self.old.unfit self.new.unfit }
+        ensures faults { self.new.faults ≡ self.old.faults }
+    {
+        if !path.is_fit() {
+            self.unfit = self.unfit.saturating_add(1);
+        }
+    }
+
+    /// A counted fault.
+    fn failed(&mut self) -> HostFault
+        ensures fault { result ≡ Failed }
+        ensures rose { Rose self.old.faults self.new.faults }
+        ensures later { self.old.faults ≤ self.new.faults }
+        ensures unfit { self.new.unfit ≡ self.old.unfit }
+    {
+        self.faults = self.faults.saturating_add(1);
+        HostFault::Failed
+    }
+
+    /// An error of the system, counted unless it is want of memory.
+    fn fault(&mut self, error: io::Error) -> HostFault
+        ensures rose { result ≡ Failed → Rose self.old.faults self.new.faults }
+        ensures later { self.old.faults ≤ self.new.faults }
+        ensures unfit { self.new.unfit ≡ self.old.unfit }
+    {
+        if error.kind() == ErrorKind::OutOfMemory {
+            HostFault::NoMemory
+        } else {
+            self.failed()
+        }
+    }
+}
+
+impl<R: Files + AllocGlobal + Clone + Drop> Host for Disk<R> {
+    ghost use Rattle.std.specs.Prelude.{◌≤◌, IfOk};
+    ghost use Rattle.std.specs.FinMap.{len};
+    ghost use Rattle.fx_outside.specs.Tree.{is_folder_at};
+    ghost use Rattle.fx_outside.specs.Host.{ReadsOnly, HasCause, CountsUnfit};
+    ghost use Rattle.fx_disk.specs.Silent.{silent};
+
+    ghost view = { λ disk. silent disk.faults disk.unfit };
+
+    fn standing(&mut self, _alloc: Global, path: &HostText) -> Result<Standing, HostFault> {
+        self.count_unfit(path);
+        match fs::symlink_metadata(&self.rt, path.as_str()) {
+            Ok(metadata) => Ok(Standing::Is(kind_of(metadata.file_type()))),
+            Err(error) => match error.kind() {
+                ErrorKind::NotFound | ErrorKind::NotADirectory => Ok(Standing::Absent),
+                _ => Err(self.fault(error)),
+            },
+        }
+    }
+
+    fn list(&mut self, alloc: Global, path: &HostText) -> Result<Listing, HostFault>
+        ensures few { IfOk result (λ names. len names ≤ MOST_ENTRIES) }
+        ensures same { ReadsOnly (silent self.old.faults self.old.unfit)
+            (silent self.new.faults self.new.unfit) }
+        ensures cause { HasCause (λ t. is_folder_at t path.now) (silent self.old.faults self.old.unfit)
+            (silent self.new.faults self.new.unfit) result }
+        ensures unfit { CountsUnfit path.now (silent self.old.faults self.old.unfit)
+            (silent self.new.faults self.new.unfit) }
+    {
+        self.count_unfit(path);
+        let found = match entries(&self.rt, alloc, path.as_str()) {
+            Ok(found) => found,
+            Err(error) => return Err(self.fault(error)),
+        };
+        match sorted(alloc, found) {
+            Ok(Some(listing)) => Ok(listing),
+            Ok(None) => Err(self.failed()),
+            Err(NoMemory) => Err(HostFault::NoMemory),
+        }
+    }
+
+    fn read(
+        &mut self,
+        alloc: Global,
+        path: &HostText,
+        from: u64,
+        buf: &mut [u8],
+    ) -> Result<usize, HostFault> {
+        self.count_unfit(path);
+        match read_on(&self.rt, alloc, &mut self.reading, path, from, buf) {
+            Ok(count) => Ok(count),
+            Err(error) => Err(self.fault(error)),
+        }
+    }
+
+    fn make_dir(&mut self, _alloc: Global, path: &HostText) -> Result<(), HostFault> {
+        self.count_unfit(path);
+        match fs::create_dir(&self.rt, path.as_str()) {
+            Ok(()) => Ok(()),
+            Err(error) => Err(self.fault(error)),
+        }
+    }
+
+    fn write_new(
+        &mut self,
+        _alloc: Global,
+        path: &HostText,
+        bytes: &[u8],
+    ) -> Result<(), HostFault> {
+        self.count_unfit(path);
+        match write_file(&self.rt, path.as_str(), bytes) {
+            Ok(()) => Ok(()),
+            Err(error) => Err(self.fault(error)),
+        }
+    }
+
+    ghost whole = { λ _. tt };
+}

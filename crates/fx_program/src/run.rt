@@ -1,0 +1,71 @@
+//! The program.
+ghost use Rattle.std.specs.Prelude.{◌≡◌};
+ghost use Rattle.std.specs.Process.{exit_status};
+ghost use Rattle.fx_top.specs.Codes.{status_code};
+
+use crate::Message;
+use fx_base::NoMemory;
+use fx_disk::{Disk, Output};
+use fx_outside::{HostText, OpenGate, Words};
+use fx_top::status::Status;
+use fx_top::top::top;
+use std::env::{self, Args};
+use std::io::ErrorKind;
+use std::process::ExitCode;
+use std::rt::{Env, Files};
+
+/// The words of the command line, without the program's name. Words that are not UTF-8 have no command's form.
+fn read_words<R: Env + AllocGlobal>(rt: &R) -> Result<Words, Status> {
+    match env::args(rt) {
+        Ok(args) => match words_of(rt, args) {
+            Ok(words) => Ok(words),
+            Err(NoMemory) => Err(Status::NoMemory),
+        },
+        Err(error) => match error.kind() {
+            ErrorKind::OutOfMemory => Err(Status::NoMemory),
+            _ => Err(Status::Usage),
+        },
+    }
+}
+
+fn words_of<R: AllocGlobal>(rt: &R, args: Args) -> Result<Words, NoMemory> {
+    let alloc = rt.alloc();
+    let mut words = Words::new(alloc);
+    for word in args.skip(1) {
+        words.add(alloc, HostText::from_string(word))?;
+    }
+    Ok(words)
+}
+
+/// Runs the words over the machine's files and the standard output.
+fn run<R: Files + Print + AllocGlobal + Clone + Drop>(rt: &R, words: &Words) -> Status {
+    match rt.clone() {
+        Ok(files) => {
+            let mut host = Disk::new(files);
+            let mut out = Output::new(rt);
+            top(rt, rt.alloc(), words, &mut host, &mut out, &OpenGate)
+        }
+        Err(_) => Status::NoMemory,
+    }
+}
+
+/// Prints the line of a run that is not done to the standard error, and gives the run's code.
+fn ended<R: Eprint>(rt: &R, words: &Words, status: &Status) -> ExitCode
+    ensures { exit_status result ≡ status_code status.now }
+{
+    if let Some(line) = Message::of(words, status) {
+        let _ = rt.eprintln(line);
+    }
+    ExitCode::from(status.code())
+}
+
+/// Runs the words of the command line and says the end: its code, and its line where the run is not done.
+pub fn program<R: Env + Files + Print + Eprint + AllocGlobal + Clone + Drop>(rt: &R) -> ExitCode {
+    match read_words(rt) {
+        Ok(words) => {
+            let status = run(rt, &words);
+            ended(rt, &words, &status)
+        }
+        Err(status) => ended(rt, &Words::new(rt.alloc()), &status),
+    }
+}
