@@ -1,0 +1,12 @@
+//! Laws of the checks. Each stands on a function that does nothing, so that it is proved with the crate.
+ghost use Rattle.fx_check.specs.Laws.{ShapedHasShape, CheckedIsDescription};
+
+/// An expression is found to have a shape exactly where it has it.
+pub fn a_shaped_expression_has_its_shape()
+    ensures { ShapedHasShape }
+{}
+
+/// A description is found without a fault exactly where it is well shaped, with the shape of its value.
+pub fn a_checked_description_is_well_shaped()
+    ensures { CheckedIsDescription }
+{}
