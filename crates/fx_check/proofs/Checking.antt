@@ -1,5 +1,8 @@
 -- The checks against what is well shaped.
-use Rattle.std.proofs.Common.{◌≡◌, ℕ, Bool, true, false, cond, ◌&&◌, List, [], ◌∷◌, ◌++◌, Option, Some, None, Result, Ok, Err, refl, sym, ap, subst, ◌∙◌}
+use Rattle.std.proofs.Common.{◌≡◌, ℕ, zero, suc, ◌≤◌, take, length, slice_get, arith, append_assoc, Bool, true, false, cond, ◌&&◌, All, List, [], ◌∷◌, ◌++◌, Option, Some, None, Result, Ok, Err, IsErrAnd, refl, sym, ap, subst, ◌∙◌}
+use Rattle.std.proofs.lemmas.List.{append-nil}
+use Rattle.std.proofs.Math.Seq.{take-append_seam}
+use Rattle.std.proofs.lemmas.List.Elements.{All-nil, All-cons, All-head, All-tail}
 use Rattle.fx_expr.specs.declared.expr.BinOp.{BinOp}
 use Rattle.fx_expr.specs.declared.expr.UnOp.{UnOp}
 use Rattle.fx_expr.specs.Bindings.{bind, bound}
@@ -8,13 +11,14 @@ use Rattle.fx_expr.specs.ShapeTree.{ShapeTree}
 use Rattle.fx_expr.specs.Shapes.{HasShape, BinShape, UnShape, IsComparable, IsOrdered, IsSized}
 use Rattle.fx_spec.specs.SpecTree.{SpecTree}
 use Rattle.fx_spec.specs.Move.{same_shape, value_shape}
-use Rattle.fx_spec.specs.WellShaped.{Scope, IsDescription}
+use Rattle.fx_spec.specs.CommandTree.{ActTree, CommandTree, Block, block, count, commands_size}
+use Rattle.fx_spec.specs.WellShaped.{Scope, IsDescription, IsAct, IsCommand, IsBlock}
 use Rattle.fx_check.specs.declared.fault.CheckFault.{CheckFault}
 use Rattle.fx_check.specs.declared.fault.CheckFault.TheVariants as check
-use Rattle.fx_check.specs.Gives.{IsFault}
+use Rattle.fx_check.specs.Gives.{Gives, IsFault}
 use Rattle.fx_check.specs.Faults.{Fault, OrFault, ◌>>=◌}
 use Rattle.fx_check.specs.Shaped.{needed, allowed, is_comparable, is_ordered, is_sized, is_pair, is_table, is_option, first_part, second_needed, result_shape, two_shape, one_shape, followed_by, first_of, second_of, keys_of, present_of, named, shaped}
-use Rattle.fx_check.specs.Checked.{unless_bound, with_name, shaped_as, checked}
+use Rattle.fx_check.specs.Checked.{unless_bound, with_name, shaped_as, checked, checked_act, assigned, checked_command, checked_block, checked_inner, checked_txns}
 
 -- ---- one check after another
 
@@ -423,6 +427,181 @@ is_checked g (SpecTree.comp d x e) (he, free, hd) =
 is_checked g (SpecTree.opt d) h = given (checked g d) (λ part. Ok (ShapeTree.opt part)) (value_shape d) (is_checked g d h)
 is_checked g (SpecTree.pred e) h = is_shaped_as g e ShapeTree.bool h
 
+-- ---- commands
+
+-- the scope that is left, in which the rest is well shaped
+record Left (o : OrFault Scope) (rest : Block) : Type 0 where
+  scope : Scope
+  is : o ≡ Ok scope
+  has : IsBlock scope rest
+
+act_is : (g : Scope) (a : ActTree) (s : Scope) → checked_act g a ≡ Ok s → IsAct g a × (s ≡ g)
+act_is g (ActTree.to e) s h =
+    let x = both (shaped_as g ShapeTree.str e) (λ _. Ok g) s h in
+    ((shaped_as_is g e ShapeTree.str x.first x.is).0, let then = x.then in cc)
+act_is g (ActTree.store e) s h =
+    let x = both (shaped g e) (λ _. Ok g) s h in
+    ((x.first, has_shape g e x.first x.is), let then = x.then in cc)
+act_is g ActTree.into s h = (tt, cc)
+act_is g ActTree.next s h = (tt, cc)
+act_is g ActTree.prev s h = (tt, cc)
+act_is g ActTree.out s h = (tt, cc)
+act_is g ActTree.down s h = (tt, cc)
+act_is g ActTree.up s h = (tt, cc)
+act_is g ActTree.top s h = (tt, cc)
+act_is g ActTree.create s h = (tt, cc)
+act_is g ActTree.remove s h = (tt, cc)
+
+is_act : (g : Scope) (a : ActTree) → IsAct g a → checked_act g a ≡ Ok g
+is_act g (ActTree.to e) h = given (shaped_as g ShapeTree.str e) (λ _. Ok g) ShapeTree.str (is_shaped_as g e ShapeTree.str h)
+is_act g (ActTree.store e) (s, h) = given (shaped g e) (λ _. Ok g) s (is_shaped g e s h)
+is_act g ActTree.into h = refl
+is_act g ActTree.next h = refl
+is_act g ActTree.prev h = refl
+is_act g ActTree.out h = refl
+is_act g ActTree.down h = refl
+is_act g ActTree.up h = refl
+is_act g ActTree.top h = refl
+is_act g ActTree.create h = refl
+is_act g ActTree.remove h = refl
+
+on_scope : (P : Scope → Type 0) (a b : Scope) → a ≡ b → P a → P b
+on_scope P a b e h = subst (λ (t : Scope). P t) e h
+
+named_is : (word : List ℕ) (o : Option ShapeTree) (t : ShapeTree) → named word o ≡ Ok t → o ≡ Some t
+named_is word None t e = absurd (cc)
+named_is word (Some s) t e = cc
+
+mutual
+  command_is : (g : Scope) (c : CommandTree) (s : Scope) (rest : Block) → checked_command g c ≡ Ok s → IsBlock s rest → IsCommand g c (λ t. IsBlock t rest)
+  command_is g (CommandTree.act a) s rest h p = let x : IsAct g a × (s ≡ g) = act_is g a s h in (x.0, on_scope (λ t. IsBlock t rest) s g x.1 p)
+  command_is g (CommandTree.attempt x a) s rest h p =
+      let y = both (checked_act g a) (λ _. with_name g x ShapeTree.int) s h in
+      let name : Named g x ShapeTree.int s = name_is_free g x ShapeTree.int s y.then in
+      ((act_is g a y.first y.is).0, name.free, on_scope (λ t. IsBlock t rest) s (bind g x ShapeTree.int) name.is p)
+  command_is g (CommandTree.bind x e) s rest h p =
+      let y = both (shaped g e) (λ found. with_name g x found) s h in
+      let name : Named g x y.first s = name_is_free g x y.first s y.then in
+      (y.first, has_shape g e y.first y.is, name.free, on_scope (λ t. IsBlock t rest) s (bind g x y.first) name.is p)
+  command_is g (CommandTree.assign x e) s rest h p =
+      let y = both (shaped g e) (λ found. assigned g x found) s h in
+      let z = both (named x (bound g x)) (λ expected. needed expected y.first >>= λ _. Ok g) s y.then in
+      let w = both (needed z.first y.first) (λ _. Ok g) s z.then in
+      let fits : Fits z.first y.first w.first = needed_fits z.first y.first w.first w.is in
+      let same : s ≡ g = let then = w.then in cc in (
+        y.first,
+        has_shape g e y.first y.is,
+        named_is x (bound g x) z.first z.is ∙ ap (λ t. Some t) (sym fits.fits),
+        on_scope (λ t. IsBlock t rest) s g same p,
+      )
+  command_is g (CommandTree.fetch x shape) s rest h p =
+      let name : Named g x shape s = name_is_free g x shape s h in (name.free, on_scope (λ t. IsBlock t rest) s (bind g x shape) name.is p)
+  command_is g (CommandTree.whole x shape) s rest h p =
+      let name : Named g x shape s = name_is_free g x shape s h in (name.free, on_scope (λ t. IsBlock t rest) s (bind g x shape) name.is p)
+  command_is g (CommandTree.validate x) s rest h p =
+      let name : Named g x ShapeTree.bool s = name_is_free g x ShapeTree.bool s h in (name.free, on_scope (λ t. IsBlock t rest) s (bind g x ShapeTree.bool) name.is p)
+  command_is g (CommandTree.print e) s rest h p =
+      let y = both (shaped g e) (λ _. Ok g) s h in
+      let same : s ≡ g = let then = y.then in cc in
+      ((y.first, has_shape g e y.first y.is), on_scope (λ t. IsBlock t rest) s g same p)
+  command_is g (CommandTree.branch e a b) s rest h p =
+      let x = both (shaped_as g ShapeTree.bool e) (λ _. checked_block g a >>= λ _. checked_block g b >>= λ _. Ok g) s h in
+      let y = both (checked_block g a) (λ _. checked_block g b >>= λ _. Ok g) s x.then in
+      let z = both (checked_block g b) (λ _. Ok g) s y.then in
+      let same : s ≡ g = let then = z.then in cc in
+      ((shaped_as_is g e ShapeTree.bool x.first x.is).0, block_is g a y.first y.is, block_is g b z.first z.is, on_scope (λ t. IsBlock t rest) s g same p)
+  command_is g (CommandTree.each x e a) s rest h p =
+      let y = both (shaped_as g ShapeTree.names e) (λ _. with_name g x ShapeTree.str >>= λ inner. checked_block inner a >>= λ _. Ok g) s h in
+      let z = both (with_name g x ShapeTree.str) (λ inner. checked_block inner a >>= λ _. Ok g) s y.then in
+      let w = both (checked_block z.first a) (λ _. Ok g) s z.then in
+      let name : Named g x ShapeTree.str z.first = name_is_free g x ShapeTree.str z.first z.is in
+      let same : s ≡ g = let then = w.then in cc in (
+        (shaped_as_is g e ShapeTree.names y.first y.is).0,
+        name.free,
+        on_scope (λ t. IsBlock t a) z.first (bind g x ShapeTree.str) name.is (block_is z.first a w.first w.is),
+        on_scope (λ t. IsBlock t rest) s g same p,
+      )
+  command_is g CommandTree.abort s rest h p = let same : s ≡ g = cc in on_scope (λ t. IsBlock t rest) s g same p
+
+  pub block_is : (g : Scope) (b : Block) (s : Scope) → checked_block g b ≡ Ok s → IsBlock g b
+  block_is g Block.none s h = tt
+  block_is g (Block.then c cs) s h =
+      let x = both (checked_command g c) (λ inner. checked_block inner cs) s h in
+      command_is g c x.first cs x.is (block_is x.first cs s x.then)
+
+of_name : (g : Scope) (x : List ℕ) (shape : ShapeTree) (rest : Block) → bound g x ≡ None → IsBlock (bind g x shape) rest → Left (with_name g x shape) rest
+of_name g x shape rest free p = record { scope = bind g x shape; is = free_is_named g x shape free; has = p }
+
+mutual
+  is_command : (g : Scope) (c : CommandTree) (rest : Block) → IsCommand g c (λ t. IsBlock t rest) → Left (checked_command g c) rest
+  is_command g (CommandTree.act a) rest (ha, p) = record { scope = g; is = is_act g a ha; has = p }
+  is_command g (CommandTree.attempt x a) rest (ha, free, p) = record {
+    scope = bind g x ShapeTree.int;
+    is = given (checked_act g a) (λ _. with_name g x ShapeTree.int) g (is_act g a ha) ∙ free_is_named g x ShapeTree.int free;
+    has = p;
+  }
+  is_command g (CommandTree.bind x e) rest (s, he, free, p) = record {
+    scope = bind g x s;
+    is = given (shaped g e) (λ found. with_name g x found) s (is_shaped g e s he) ∙ free_is_named g x s free;
+    has = p;
+  }
+  is_command g (CommandTree.assign x e) rest (s, he, is, p) = record {
+    scope = g;
+    is = given (shaped g e) (λ found. assigned g x found) s (is_shaped g e s he)
+        ∙ given (named x (bound g x)) (λ expected. needed expected s >>= λ _. Ok g) s (ap (λ o. named x o) is)
+        ∙ given (needed s s) (λ _. Ok g) s (needed_self s);
+    has = p;
+  }
+  is_command g (CommandTree.fetch x shape) rest (free, p) = of_name g x shape rest free p
+  is_command g (CommandTree.whole x shape) rest (free, p) = of_name g x shape rest free p
+  is_command g (CommandTree.validate x) rest (free, p) = of_name g x ShapeTree.bool rest free p
+  is_command g (CommandTree.print e) rest ((s, he), p) = record { scope = g; is = given (shaped g e) (λ _. Ok g) s (is_shaped g e s he); has = p }
+  is_command g (CommandTree.branch e a b) rest (he, ha, hb, p) =
+      let x : (inner : Scope) × (checked_block g a ≡ Ok inner) = is_block g a ha in
+      let y : (inner : Scope) × (checked_block g b ≡ Ok inner) = is_block g b hb in
+      record {
+        scope = g;
+        is = given (shaped_as g ShapeTree.bool e) (λ _. checked_block g a >>= λ _. checked_block g b >>= λ _. Ok g) ShapeTree.bool (is_shaped_as g e ShapeTree.bool he)
+            ∙ given (checked_block g a) (λ _. checked_block g b >>= λ _. Ok g) x.0 x.1
+            ∙ given (checked_block g b) (λ _. Ok g) y.0 y.1;
+        has = p;
+      }
+  is_command g (CommandTree.each x e a) rest (he, free, ha, p) =
+      let y : (inner : Scope) × (checked_block (bind g x ShapeTree.str) a ≡ Ok inner) = is_block (bind g x ShapeTree.str) a ha in
+      record {
+        scope = g;
+        is = given (shaped_as g ShapeTree.names e) (λ _. with_name g x ShapeTree.str >>= λ inner. checked_block inner a >>= λ _. Ok g) ShapeTree.names (is_shaped_as g e ShapeTree.names he)
+            ∙ given (with_name g x ShapeTree.str) (λ inner. checked_block inner a >>= λ _. Ok g) (bind g x ShapeTree.str) (free_is_named g x ShapeTree.str free)
+            ∙ given (checked_block (bind g x ShapeTree.str) a) (λ _. Ok g) y.0 y.1;
+        has = p;
+      }
+  is_command g CommandTree.abort rest p = record { scope = g; is = refl; has = p }
+
+  pub is_block : (g : Scope) (b : Block) → IsBlock g b → (inner : Scope) × (checked_block g b ≡ Ok inner)
+  is_block g Block.none h = (g, refl)
+  is_block g (Block.then c cs) h =
+      let x : Left (checked_command g c) cs = is_command g c cs h in
+      let y : (inner : Scope) × (checked_block x.scope cs ≡ Ok inner) = is_block x.scope cs x.has in
+      (y.0, given (checked_command g c) (λ inner. checked_block inner cs) x.scope x.is ∙ y.1)
+
+-- ---- transactions
+
+pub txns_are : (txns found : List (List CommandTree)) → checked_txns txns ≡ Ok found → (found ≡ txns) × All (λ t. IsBlock [] (block t)) txns
+txns_are [] found h = (cc, All-nil (λ t. IsBlock [] (block t)))
+txns_are (t ∷ ts) found h =
+    let x = both (checked_block [] (block t)) (λ _. checked_txns ts >>= λ rest. Ok (t ∷ rest)) found h in
+    let y = both (checked_txns ts) (λ rest. Ok (t ∷ rest)) found x.then in
+    let rest : (y.first ≡ ts) × All (λ t. IsBlock [] (block t)) ts = txns_are ts y.first y.is in
+    let same : t ∷ y.first ≡ found = let then = y.then in cc in
+    (sym same ∙ ap (λ r. t ∷ r) rest.0, All-cons (λ t. IsBlock [] (block t)) t ts (block_is [] (block t) x.first x.is) rest.1)
+
+pub are_txns : (txns : List (List CommandTree)) → All (λ t. IsBlock [] (block t)) txns → checked_txns txns ≡ Ok txns
+are_txns [] h = refl
+are_txns (t ∷ ts) h =
+    let there : All (λ t. IsBlock [] (block t)) ts = All-tail (λ t. IsBlock [] (block t)) t ts h in
+    let x : (inner : Scope) × (checked_block [] (block t) ≡ Ok inner) = is_block [] (block t) (All-head (λ t. IsBlock [] (block t)) t ts h) in
+    given (checked_block [] (block t)) (λ _. checked_txns ts >>= λ rest. Ok (t ∷ rest)) x.0 x.1 ∙ given (checked_txns ts) (λ rest. Ok (t ∷ rest)) ts (are_txns ts there)
+
 -- ---- what calls give
 
 pub fault_then : {X Y : Type 0} (fault : CheckFault) (o : OrFault X) (f : X → OrFault Y) → IsFault fault o → IsFault fault (o >>= f)
@@ -455,3 +634,116 @@ pair_checked g inner x a b s t first name second =
     given (checked g a) (λ first. with_name g x first >>= λ inner. checked inner b >>= λ second. Ok (ShapeTree.pair first second)) s first
     ∙ given (with_name g x s) (λ inner. checked inner b >>= λ second. Ok (ShapeTree.pair s second)) inner name
     ∙ given (checked inner b) (λ second. Ok (ShapeTree.pair s second)) t second
+
+-- ---- commands one after another
+
+mutual
+  command_grows : (g : Scope) (c : CommandTree) (s : Scope) → checked_command g c ≡ Ok s → (more : Scope) × (s ≡ g ++ more)
+  command_grows g (CommandTree.act a) s h = ([], (act_is g a s h).1 ∙ sym (append-nil g))
+  command_grows g (CommandTree.attempt x a) s h =
+      let y = both (checked_act g a) (λ _. with_name g x ShapeTree.int) s h in
+      ((x, ShapeTree.int) ∷ [], (name_is_free g x ShapeTree.int s y.then).is)
+  command_grows g (CommandTree.bind x e) s h =
+      let y = both (shaped g e) (λ found. with_name g x found) s h in
+      ((x, y.first) ∷ [], (name_is_free g x y.first s y.then).is)
+  command_grows g (CommandTree.assign x e) s h =
+      let y = both (shaped g e) (λ found. assigned g x found) s h in
+      let z = both (named x (bound g x)) (λ expected. needed expected y.first >>= λ _. Ok g) s y.then in
+      let w = both (needed z.first y.first) (λ _. Ok g) s z.then in
+      let same : s ≡ g = let then = w.then in cc in
+      ([], same ∙ sym (append-nil g))
+  command_grows g (CommandTree.fetch x shape) s h = ((x, shape) ∷ [], (name_is_free g x shape s h).is)
+  command_grows g (CommandTree.whole x shape) s h = ((x, shape) ∷ [], (name_is_free g x shape s h).is)
+  command_grows g (CommandTree.validate x) s h = ((x, ShapeTree.bool) ∷ [], (name_is_free g x ShapeTree.bool s h).is)
+  command_grows g (CommandTree.print e) s h =
+      let y = both (shaped g e) (λ _. Ok g) s h in
+      let same : s ≡ g = let then = y.then in cc in
+      ([], same ∙ sym (append-nil g))
+  command_grows g (CommandTree.branch e a b) s h =
+      let x = both (shaped_as g ShapeTree.bool e) (λ _. checked_block g a >>= λ _. checked_block g b >>= λ _. Ok g) s h in
+      let y = both (checked_block g a) (λ _. checked_block g b >>= λ _. Ok g) s x.then in
+      let z = both (checked_block g b) (λ _. Ok g) s y.then in
+      let same : s ≡ g = let then = z.then in cc in
+      ([], same ∙ sym (append-nil g))
+  command_grows g (CommandTree.each x e a) s h =
+      let y = both (shaped_as g ShapeTree.names e) (λ _. with_name g x ShapeTree.str >>= λ inner. checked_block inner a >>= λ _. Ok g) s h in
+      let z = both (with_name g x ShapeTree.str) (λ inner. checked_block inner a >>= λ _. Ok g) s y.then in
+      let w = both (checked_block z.first a) (λ _. Ok g) s z.then in
+      let same : s ≡ g = let then = w.then in cc in
+      ([], same ∙ sym (append-nil g))
+  command_grows g CommandTree.abort s h = let same : s ≡ g = cc in ([], same ∙ sym (append-nil g))
+
+  pub block_grows : (g : Scope) (b : Block) (s : Scope) → checked_block g b ≡ Ok s → (more : Scope) × (s ≡ g ++ more)
+  block_grows g Block.none s h = let same : s ≡ g = cc in ([], same ∙ sym (append-nil g))
+  block_grows g (Block.then c cs) s h =
+      let x = both (checked_command g c) (λ inner. checked_block inner cs) s h in
+      let y : (more : Scope) × (x.first ≡ g ++ more) = command_grows g c x.first x.is in
+      let z : (more : Scope) × (s ≡ x.first ++ more) = block_grows x.first cs s x.then in
+      (y.0 ++ z.0, z.1 ∙ ap (λ l. l ++ z.0) y.1 ∙ append_assoc g y.0 z.0)
+
+-- the names of a block are cut off
+pub cut_back : (g : Scope) (b : Block) (s : Scope) → checked_block g b ≡ Ok s → checked_inner g b ≡ Ok (take (length g) s)
+cut_back g b s h =
+    let more : (more : Scope) × (s ≡ g ++ more) = block_grows g b s h in
+    given (checked_block g b) (λ _. Ok g) s h ∙ ap (λ l. Ok l) (sym (ap (λ l. take (length g) l) more.1 ∙ take-append_seam g more.0))
+
+pub block_next : (cs : List CommandTree) (i : ℕ) (c : CommandTree) (g s t : Scope) → slice_get cs i ≡ Some c → checked_block g (block (take i cs)) ≡ Ok s → checked_command s c ≡ Ok t
+    → checked_block g (block (take (suc i) cs)) ≡ Ok t
+block_next [] i c g s t at h e = absurd (cc)
+block_next (x ∷ cs) zero c g s t at h e =
+    let same : x ≡ c = cc in
+    let here : g ≡ s = cc in
+    given (checked_command g x) (λ inner. Ok inner) t (ap (λ y. checked_command g y) same ∙ ap (λ y. checked_command y c) here ∙ e)
+block_next (x ∷ cs) (suc i) c g s t at h e =
+    let y = both (checked_command g x) (λ inner. checked_block inner (block (take i cs))) s h in
+    given (checked_command g x) (λ inner. checked_block inner (block (take (suc i) cs))) y.first y.is ∙ block_next cs i c y.first s t at y.then e
+
+same_fault : (fault : CheckFault) (o p : OrFault Scope) → p ≡ o → IsFault fault o → IsFault fault p
+same_fault fault o p e h = subst (λ (x : OrFault Scope). IsFault fault x) (sym e) h
+
+pub block_fails : (cs : List CommandTree) (i : ℕ) (c : CommandTree) (g s : Scope) (fault : CheckFault) → slice_get cs i ≡ Some c → checked_block g (block (take i cs)) ≡ Ok s
+    → IsFault fault (checked_command s c) → IsFault fault (checked_block g (block cs))
+block_fails [] i c g s fault at h e = absurd (cc)
+block_fails (x ∷ cs) zero c g s fault at h e =
+    let same : x ≡ c = cc in
+    let here : g ≡ s = cc in
+    fault_then fault (checked_command g x) (λ inner. checked_block inner (block cs))
+    (same_fault fault (checked_command s c) (checked_command g x) (ap (λ y. checked_command g y) same ∙ ap (λ y. checked_command y c) here) e)
+block_fails (x ∷ cs) (suc i) c g s fault at h e =
+    let y = both (checked_command g x) (λ inner. checked_block inner (block (take i cs))) s h in
+    same_fault fault (checked_block y.first (block cs)) (checked_block g (block (x ∷ cs))) (given (checked_command g x) (λ inner. checked_block inner (block cs)) y.first y.is)
+    (block_fails cs i c y.first s fault at y.then e)
+
+-- a command has no more commands in it than its list
+pub count_at : (cs : List CommandTree) (i : ℕ) (c : CommandTree) → slice_get cs i ≡ Some c → count c ≤ commands_size cs
+count_at [] i c at = absurd (cc)
+count_at (x ∷ cs) zero c at = let same : count x ≡ count c = let e : x ≡ c = cc in ap count e in omega arith
+count_at (x ∷ cs) (suc i) c at = let rest : count c ≤ commands_size cs = count_at cs i c at in omega arith
+
+-- the fault of a call is handed on
+pub handed : {X Y : Type 0} (view : X → Y) (result : Result X CheckFault) (fault : CheckFault) (o : OrFault Y) → IsErrAnd result (λ found. found ≡ fault) → IsFault fault o → Gives view result o
+handed view (Ok x) fault o is h = absurd is
+handed view (Err found) fault o is h = subst (λ (f : CheckFault). IsFault f o) (sym is) h
+
+abbrev pub IsFine : List CommandTree → Type 0
+IsFine t = IsBlock [] (block t)
+
+pub fine_next : (ts : List (List CommandTree)) (i : ℕ) (t : List CommandTree) → slice_get ts i ≡ Some t → All IsFine (take i ts) → IsFine t → All IsFine (take (suc i) ts)
+fine_next [] i t at h e = absurd (cc)
+fine_next (x ∷ ts) zero t at h e = let same : t ≡ x = cc in All-cons IsFine x [] (subst (λ (y : List CommandTree). IsFine y) same e) (All-nil IsFine)
+fine_next (x ∷ ts) (suc i) t at h e =
+    All-cons IsFine x (take (suc i) ts) (All-head IsFine x (take i ts) h) (fine_next ts i t at (All-tail IsFine x (take i ts) h) e)
+
+pub txns_fail : (ts : List (List CommandTree)) (i : ℕ) (t : List CommandTree) (fault : CheckFault) → slice_get ts i ≡ Some t → All IsFine (take i ts)
+    → IsFault fault (checked_block [] (block t)) → IsFault fault (checked_txns ts)
+txns_fail [] i t fault at h e = absurd (cc)
+txns_fail (x ∷ ts) zero t fault at h e =
+    let same : x ≡ t = cc in
+    fault_then fault (checked_block [] (block x)) (λ _. checked_txns ts >>= λ rest. Ok (x ∷ rest))
+    (same_fault fault (checked_block [] (block t)) (checked_block [] (block x)) (ap (λ y. checked_block [] (block y)) same) e)
+txns_fail (x ∷ ts) (suc i) t fault at h e =
+    let fine : (inner : Scope) × (checked_block [] (block x) ≡ Ok inner) = is_block [] (block x) (All-head IsFine x (take i ts) h) in
+    let rest : IsFault fault (checked_txns ts) = txns_fail ts i t fault at (All-tail IsFine x (take i ts) h) e in
+    let next : OrFault (List (List CommandTree)) = checked_txns ts >>= λ rest. Ok (x ∷ rest) in
+    subst (λ (o : OrFault (List (List CommandTree))). IsFault fault o) (sym (given (checked_block [] (block x)) (λ _. next) fine.0 fine.1))
+    (fault_then fault (checked_txns ts) (λ rest. Ok (x ∷ rest)) rest)

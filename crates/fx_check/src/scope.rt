@@ -1,5 +1,5 @@
 //! The names that are bound around a part, with their shapes.
-ghost use Rattle.std.specs.Prelude.{◌≡◌, ◌++◌, [], ◌∷◌, OnOk, MatchOption, None, Some, map};
+ghost use Rattle.std.specs.Prelude.{◌≡◌, [], length, map, take};
 ghost use Rattle.std.specs.Option.{option_map};
 ghost use Rattle.fx_expr.specs.Bindings.{bound};
 ghost use Rattle.fx_expr.specs.Views.{shape_tree};
@@ -74,6 +74,19 @@ impl Scope {
         }
         self.bindings.push((word.copy(alloc)?, shape))?;
         Ok(())
+    }
+
+    pub(crate) fn len(&self) -> usize
+        ensures { result ≡ length self.now }
+    {
+        self.bindings.len()
+    }
+
+    /// Forgets all names but the oldest.
+    pub(crate) fn cut(&mut self, len: usize)
+        ensures { self.new ≡ take len self.old }
+    {
+        self.bindings.truncate(len);
     }
 
     /// Takes off the newest name.

@@ -18,7 +18,7 @@ use fx_spec::{Checked, Spec};
 use std::alloc::Global;
 
 /// The shape of an expression, where it is the one that is expected.
-fn check_shape(
+pub(crate) fn check_shape(
     alloc: Global,
     scope: &Scope,
     expected: Shape,

@@ -1,4 +1,4 @@
-use Rattle.std.proofs.Common.{◌≡◌, true, sym, ◌∙◌}
+use Rattle.std.proofs.Common.{◌≡◌, true}
 use Rattle.fx_expr.specs.Views.{shape_tree}
 use Rattle.fx_check.proofs.Checking.{needed_same, needed_other}
 use Rattle.fx_check.proofs.expr.needed.Goals as goal

@@ -1,5 +1,4 @@
 use Rattle.std.proofs.Common.{◌≡◌, ◌∙◌, sym, ap, subst, Ok, rules}
-use Rattle.fx_expr.specs.Bindings.{bind}
 use Rattle.fx_expr.specs.ShapeTree.{ShapeTree}
 use Rattle.fx_expr.specs.Views.{shape_tree}
 use Rattle.fx_spec.specs.declared.spec.Spec.{the_lemmas}
