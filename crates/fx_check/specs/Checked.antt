@@ -1,0 +1,80 @@
+-- The shape of a description's value, or its first fault, and the first fault of transactions: of a focus the text comes first, of a comprehension the set, then
+-- the name, then the part; of a pair the first part, then the name, then the second.
+use Rattle.std.specs.Prelude.{ℕ, ◌+◌, nat_le, cond, List, [], ◌∷◌, length, Option, Some, None, Ok, Err}
+use Rattle.fx_expr.specs.Bindings.{bind, bound}
+use Rattle.fx_expr.specs.ExprTree.{ExprTree}
+use Rattle.fx_expr.specs.ShapeTree.{ShapeTree}
+use Rattle.fx_spec.specs.CommandTree.{ActTree, CommandTree, Block, block}
+use Rattle.fx_spec.specs.SpecTree.{SpecTree}
+use Rattle.fx_spec.specs.WellShaped.{Scope}
+use Rattle.fx_check.specs.Faults.{Fault, OrFault, ◌>>=◌}
+use Rattle.fx_check.specs.Shaped.{named, needed, shaped}
+
+abbrev pub unless_bound : {X : Type 0} → List ℕ → Option ShapeTree → X → OrFault X
+unless_bound word None x = Ok x
+unless_bound word (Some shape) x = Err (Fault.repeated word)
+
+-- the scope with one more name, which is not bound around it
+abbrev pub with_name : Scope → List ℕ → ShapeTree → OrFault Scope
+with_name scope word shape = unless_bound word (bound scope word) (bind scope word shape)
+
+-- the expression has the shape that is expected
+abbrev pub shaped_as : Scope → ShapeTree → ExprTree → OrFault ShapeTree
+shaped_as scope expected e = shaped scope e >>= λ found. needed expected found
+
+abbrev pub checked : Scope → SpecTree → OrFault ShapeTree
+checked scope SpecTree.file = Ok ShapeTree.str
+checked scope SpecTree.dir = Ok ShapeTree.names
+checked scope SpecTree.link = Ok ShapeTree.str
+checked scope (SpecTree.focus e s) = shaped_as scope ShapeTree.str e >>= λ _. checked scope s
+checked scope (SpecTree.pair x a b) =
+    checked scope a >>= λ first. with_name scope x first >>= λ inner. checked inner b >>= λ second. Ok (ShapeTree.pair first second)
+checked scope (SpecTree.comp s x e) =
+    shaped_as scope ShapeTree.names e >>= λ _. with_name scope x ShapeTree.str >>= λ inner. checked inner s >>= λ part. Ok (ShapeTree.table part)
+checked scope (SpecTree.opt s) = checked scope s >>= λ part. Ok (ShapeTree.opt part)
+checked scope (SpecTree.pred e) = shaped_as scope ShapeTree.bool e
+
+-- an act's own expression; an act binds no name
+abbrev pub checked_act : Scope → ActTree → OrFault Scope
+checked_act scope (ActTree.to e) = shaped_as scope ShapeTree.str e >>= λ _. Ok scope
+checked_act scope (ActTree.store e) = shaped scope e >>= λ _. Ok scope
+checked_act scope _ = Ok scope
+
+-- what `set` gives a name: its binding's shape is expected
+abbrev pub assigned : Scope → List ℕ → ShapeTree → OrFault Scope
+assigned scope x found = named x (bound scope x) >>= λ expected. needed expected found >>= λ _. Ok scope
+
+-- the scope that a command and a block leave, or the first fault: of a command its expression comes first, then its name,
+-- then its blocks, whose names end with them
+abbrev mutual
+  pub checked_command : Scope → CommandTree → OrFault Scope
+  checked_command scope (CommandTree.act a) = checked_act scope a
+  checked_command scope (CommandTree.attempt x a) = checked_act scope a >>= λ _. with_name scope x ShapeTree.int
+  checked_command scope (CommandTree.bind x e) = shaped scope e >>= λ found. with_name scope x found
+  checked_command scope (CommandTree.assign x e) = shaped scope e >>= λ found. assigned scope x found
+  checked_command scope (CommandTree.fetch x shape) = with_name scope x shape
+  checked_command scope (CommandTree.whole x shape) = with_name scope x shape
+  checked_command scope (CommandTree.validate x) = with_name scope x ShapeTree.bool
+  checked_command scope (CommandTree.print e) = shaped scope e >>= λ _. Ok scope
+  checked_command scope (CommandTree.branch e a b) =
+      shaped_as scope ShapeTree.bool e >>= λ _. checked_block scope a >>= λ _. checked_block scope b >>= λ _. Ok scope
+  checked_command scope (CommandTree.each x e a) =
+      shaped_as scope ShapeTree.names e >>= λ _. with_name scope x ShapeTree.str >>= λ inner. checked_block inner a >>= λ _. Ok scope
+  checked_command scope CommandTree.abort = Ok scope
+
+  pub checked_block : Scope → Block → OrFault Scope
+  checked_block scope Block.none = Ok scope
+  checked_block scope (Block.then c cs) = checked_command scope c >>= λ inner. checked_block inner cs
+
+-- a block, whose names end with it
+abbrev pub checked_inner : Scope → Block → OrFault Scope
+checked_inner scope b = checked_block scope b >>= λ _. Ok scope
+
+-- transactions, each by itself
+abbrev pub checked_txns : List (List CommandTree) → OrFault (List (List CommandTree))
+checked_txns [] = Ok []
+checked_txns (t ∷ ts) = checked_block [] (block t) >>= λ _. checked_txns ts >>= λ rest. Ok (t ∷ rest)
+
+-- a script after so many transactions: there may be 100,000 together, which is looked at first of all
+abbrev pub checked_script : ℕ → List (List CommandTree) → OrFault (List (List CommandTree))
+checked_script before txns = cond (nat_le (before + length txns) 100000) (checked_txns txns) (Err Fault.too_many)

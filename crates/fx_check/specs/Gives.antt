@@ -1,0 +1,39 @@
+-- What a call of the program says of a check of the definitions.
+use Rattle.std.specs.Prelude.{◌≡◌, ℕ, ◌+◌, ◌<◌, ◌≤◌, ◌^◌, List, [], length, All, Result, Ok, Err}
+use Rattle.fx_expr.specs.Views.{shape_tree}
+use Rattle.fx_check.specs.declared.fault.CheckFault.{CheckFault}
+use Rattle.fx_check.specs.declared.fault.CheckFault.TheVariants as check
+use Rattle.fx_spec.specs.SpecTree.{SpecTree}
+use Rattle.fx_spec.specs.CommandTree.{CommandTree, block, count_block}
+use Rattle.fx_spec.specs.Levels.{txn_levels}
+use Rattle.fx_spec.specs.WellShaped.{IsDescription, IsBlock}
+use Rattle.fx_check.specs.Faults.{Fault, OrFault}
+use Rattle.fx_check.specs.Checked.{checked, checked_script}
+
+-- the fault is this one exactly; want of memory is free
+abbrev pub IsFault : {Y : Type 0} → CheckFault → OrFault Y → Type 0
+IsFault (check.Unknown word) o = o ≡ Err (Fault.unknown word)
+IsFault (check.TypeDiffers expected found) o = o ≡ Err (Fault.differs (shape_tree expected) (shape_tree found))
+IsFault (check.Repeated word) o = o ≡ Err (Fault.repeated word)
+IsFault check.TooMany o = o ≡ Err Fault.too_many
+IsFault check.NoMemory o = Unit {0}
+
+-- the check's answer, or its fault, exactly
+abbrev pub Gives : {X Y : Type 0} → (X → Y) → Result X CheckFault → OrFault Y → Type 0
+Gives view (Ok x) o = o ≡ Ok (view x)
+Gives view (Err fault) o = IsFault fault o
+
+-- the description itself where it is well shaped, or its first fault
+abbrev pub IsAnswer : SpecTree → Result SpecTree CheckFault → Type 0
+IsAnswer d (Ok found) = (found ≡ d) × IsDescription [] d
+IsAnswer d (Err fault) = IsFault fault (checked [] d)
+
+-- transactions that a parsed script can have: nested at most 64 deep, with fewer than 2^32 commands, nested ones included
+pub record IsSmall (commands : List CommandTree) : Type 0 where
+  pub nested : txn_levels commands ≤ 64
+  pub few : count_block (block commands) < 2 ^ 32
+
+-- the transactions themselves where they are well shaped and not too many, or their first fault
+abbrev pub IsScriptAnswer : ℕ → List (List CommandTree) → Result (List (List CommandTree)) CheckFault → Type 0
+IsScriptAnswer before txns (Ok found) = (found ≡ txns) × All (λ t. IsBlock [] (block t)) txns × (before + length txns ≤ 100000)
+IsScriptAnswer before txns (Err fault) = IsFault fault (checked_script before txns)

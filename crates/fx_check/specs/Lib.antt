@@ -1,0 +1,6 @@
+pub mod Faults
+pub mod Shaped
+pub mod Checked
+pub mod Scopes
+pub mod Gives
+pub mod Laws

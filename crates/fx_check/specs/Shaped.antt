@@ -1,0 +1,142 @@
+-- The shape of an expression, or its first fault: parts are checked in the order of evaluation, the own faults of a part
+-- before its shape, and that before the next part.
+use Rattle.std.specs.Prelude.{ℕ, Bool, true, false, cond, List, Option, Some, None, Ok, Err}
+use Rattle.fx_expr.specs.declared.expr.BinOp.{BinOp}
+use Rattle.fx_expr.specs.declared.expr.UnOp.{UnOp}
+use Rattle.fx_expr.specs.Bindings.{bound}
+use Rattle.fx_expr.specs.ExprTree.{ExprTree}
+use Rattle.fx_expr.specs.ShapeTree.{ShapeTree}
+use Rattle.fx_spec.specs.Move.{same_shape}
+use Rattle.fx_spec.specs.WellShaped.{Scope}
+use Rattle.fx_check.specs.Faults.{Fault, OrFault, ◌>>=◌}
+
+-- the shape that was found, where it is the one that is expected
+abbrev pub needed : ShapeTree → ShapeTree → OrFault ShapeTree
+needed expected found = cond (same_shape expected found) (Ok found) (Err (Fault.differs expected found))
+
+-- the shapes that `==` compares, that `<` compares, and that have a size
+abbrev pub is_comparable : ShapeTree → Bool
+is_comparable ShapeTree.str = true
+is_comparable ShapeTree.int = true
+is_comparable ShapeTree.bool = true
+is_comparable ShapeTree.names = true
+is_comparable _ = false
+
+abbrev pub is_ordered : ShapeTree → Bool
+is_ordered ShapeTree.str = true
+is_ordered ShapeTree.int = true
+is_ordered _ = false
+
+abbrev pub is_sized : ShapeTree → Bool
+is_sized ShapeTree.str = true
+is_sized ShapeTree.names = true
+is_sized _ = false
+
+-- the shape that was found, where it is one of several that are allowed; of these Str is told as the expected one
+abbrev pub allowed : Bool → ShapeTree → OrFault ShapeTree
+allowed fits found = cond fits (Ok found) (Err (Fault.differs ShapeTree.str found))
+
+-- this shape, where a part has the shape that is needed
+abbrev pub followed_by : ShapeTree → OrFault ShapeTree → OrFault ShapeTree
+followed_by shape part = part >>= λ _. Ok shape
+
+-- what the first part of an operator may be
+abbrev pub first_part : BinOp → ShapeTree → OrFault ShapeTree
+first_part BinOp.Join found = needed ShapeTree.str found
+first_part BinOp.Plus found = needed ShapeTree.int found
+first_part BinOp.Minus found = needed ShapeTree.int found
+first_part BinOp.Equal found = allowed (is_comparable found) found
+first_part BinOp.Less found = allowed (is_ordered found) found
+first_part BinOp.And found = needed ShapeTree.bool found
+first_part BinOp.Or found = needed ShapeTree.bool found
+first_part BinOp.Member found = needed ShapeTree.str found
+first_part BinOp.Union found = needed ShapeTree.names found
+first_part BinOp.Without found = needed ShapeTree.names found
+
+-- what its second part has to be, by the shape of the first
+abbrev pub second_needed : BinOp → ShapeTree → ShapeTree
+second_needed BinOp.Join first = ShapeTree.str
+second_needed BinOp.Plus first = ShapeTree.int
+second_needed BinOp.Minus first = ShapeTree.int
+second_needed BinOp.Equal first = first
+second_needed BinOp.Less first = first
+second_needed BinOp.And first = ShapeTree.bool
+second_needed BinOp.Or first = ShapeTree.bool
+second_needed BinOp.Member first = ShapeTree.names
+second_needed BinOp.Union first = ShapeTree.names
+second_needed BinOp.Without first = ShapeTree.names
+
+abbrev pub result_shape : BinOp → ShapeTree
+result_shape BinOp.Join = ShapeTree.str
+result_shape BinOp.Plus = ShapeTree.int
+result_shape BinOp.Minus = ShapeTree.int
+result_shape BinOp.Equal = ShapeTree.bool
+result_shape BinOp.Less = ShapeTree.bool
+result_shape BinOp.And = ShapeTree.bool
+result_shape BinOp.Or = ShapeTree.bool
+result_shape BinOp.Member = ShapeTree.bool
+result_shape BinOp.Union = ShapeTree.names
+result_shape BinOp.Without = ShapeTree.names
+
+abbrev pub is_pair : ShapeTree → Bool
+is_pair (ShapeTree.pair s t) = true
+is_pair _ = false
+
+abbrev pub is_table : ShapeTree → Bool
+is_table (ShapeTree.table s) = true
+is_table _ = false
+
+abbrev pub is_option : ShapeTree → Bool
+is_option (ShapeTree.opt s) = true
+is_option _ = false
+
+-- the shapes of a pair's parts, of a table's texts, and of whether an optional value is there
+abbrev pub first_of : ShapeTree → OrFault ShapeTree
+first_of (ShapeTree.pair s t) = Ok s
+first_of found = Err (Fault.differs (ShapeTree.pair ShapeTree.str ShapeTree.str) found)
+
+abbrev pub second_of : ShapeTree → OrFault ShapeTree
+second_of (ShapeTree.pair s t) = Ok t
+second_of found = Err (Fault.differs (ShapeTree.pair ShapeTree.str ShapeTree.str) found)
+
+abbrev pub keys_of : ShapeTree → OrFault ShapeTree
+keys_of (ShapeTree.table s) = Ok ShapeTree.names
+keys_of found = Err (Fault.differs (ShapeTree.table ShapeTree.str) found)
+
+abbrev pub present_of : ShapeTree → OrFault ShapeTree
+present_of (ShapeTree.opt s) = Ok ShapeTree.bool
+present_of found = Err (Fault.differs (ShapeTree.opt ShapeTree.str) found)
+
+-- the shape that an operator gives for a part of this shape
+abbrev pub one_shape : UnOp → ShapeTree → OrFault ShapeTree
+one_shape UnOp.Not found = needed ShapeTree.bool found >>= λ _. Ok ShapeTree.bool
+one_shape UnOp.One found = needed ShapeTree.str found >>= λ _. Ok ShapeTree.names
+one_shape UnOp.Lines found = needed ShapeTree.str found >>= λ _. Ok ShapeTree.names
+one_shape UnOp.Size found = allowed (is_sized found) found >>= λ _. Ok ShapeTree.int
+one_shape UnOp.Int found = needed ShapeTree.str found >>= λ _. Ok ShapeTree.int
+one_shape UnOp.Text found = needed ShapeTree.int found >>= λ _. Ok ShapeTree.str
+one_shape UnOp.First found = first_of found
+one_shape UnOp.Second found = second_of found
+one_shape UnOp.Keys found = keys_of found
+one_shape UnOp.Present found = present_of found
+
+-- the shape of two parts' operator, the first of which may stand there
+abbrev pub two_shape : BinOp → ShapeTree → ShapeTree → OrFault ShapeTree
+two_shape op first second = needed (second_needed op first) second >>= λ _. Ok (result_shape op)
+
+-- what a name is bound to
+abbrev pub named : List ℕ → Option ShapeTree → OrFault ShapeTree
+named word None = Err (Fault.unknown word)
+named word (Some shape) = Ok shape
+
+abbrev pub shaped : Scope → ExprTree → OrFault ShapeTree
+shaped scope (ExprTree.str text) = Ok ShapeTree.str
+shaped scope (ExprTree.int n) = Ok ShapeTree.int
+shaped scope (ExprTree.bool b) = Ok ShapeTree.bool
+shaped scope ExprTree.empty = Ok ShapeTree.names
+shaped scope (ExprTree.var word) = named word (bound scope word)
+shaped scope (ExprTree.bin op a b) = shaped scope a >>= λ u. first_part op u >>= λ first. shaped scope b >>= λ second. two_shape op first second
+shaped scope (ExprTree.un op a) = shaped scope a >>= λ found. one_shape op found
+shaped scope (ExprTree.choose c a b) =
+    shaped scope c >>= λ test. needed ShapeTree.bool test >>= λ _. shaped scope a >>= λ first. shaped scope b >>= λ second. needed first second
+shaped scope (ExprTree.only a glob) = shaped scope a >>= λ found. needed ShapeTree.names found

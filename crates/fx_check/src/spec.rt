@@ -1,0 +1,104 @@
+//! The check of a description.
+ghost use Rattle.std.specs.Prelude.{◌≡◌, ◌<◌, ◌≤◌, ℕ, List, [], length, Ok, OnOk};
+ghost use Rattle.fx_expr.specs.Bindings.{bind};
+ghost use Rattle.fx_expr.specs.ShapeTree.{ShapeTree};
+ghost use Rattle.fx_expr.specs.Views.{expr_tree, shape_tree};
+ghost use Rattle.fx_spec.specs.Levels.{spec_levels};
+ghost use Rattle.fx_spec.specs.Views.{spec_tree};
+ghost use Rattle.fx_check.specs.Checked.{checked, shaped_as};
+ghost use Rattle.fx_check.specs.Gives.{Gives, IsAnswer};
+ghost use Rattle.fx_spec.specs.WellShaped.{Scope};
+
+use crate::expr::{boxed, needed, shape_of};
+use crate::fault::CheckFault;
+use crate::scope::{Scope, let_go};
+use fx_base::NoMemory;
+use fx_expr::{Expr, Shape, Word};
+use fx_spec::{Checked, Spec};
+use std::alloc::Global;
+
+/// The shape of an expression, where it is the one that is expected.
+pub(crate) fn check_shape(
+    alloc: Global,
+    scope: &Scope,
+    expected: Shape,
+    expr: &Expr,
+) -> Result<Shape, CheckFault>
+    ensures { Gives shape_tree result (shaped_as scope.now (shape_tree expected) (expr_tree expr.now)) }
+{
+    match shape_of(alloc, expr, scope) {
+        Ok(found) => needed(expected, found),
+        Err(fault) => {
+            let_go(Some(expected));
+            Err(fault)
+        }
+    }
+}
+
+/// The shape of a pair, whose first part's shape is that of the newest name, which is taken off.
+fn pair_shape(alloc: Global, scope: &mut Scope, second: Shape) -> Result<Shape, CheckFault>
+    requires { 0 < length scope.old }
+    ensures shape { (around : Scope) (word : List ℕ) (first : ShapeTree) → scope.old ≡ bind around word first
+        → Gives shape_tree result (Ok (ShapeTree.pair first (shape_tree second))) }
+    ensures around { (around : Scope) (word : List ℕ) (first : ShapeTree) → scope.old ≡ bind around word first → OnOk result (scope.new ≡ around) }
+{
+    let Some(first) = scope.unbind() else {
+        unreachable!()
+    };
+    let first = boxed(alloc, first)?;
+    let second = boxed(alloc, second)?;
+    Ok(Shape::Pair(first, second))
+}
+
+/// The shape of a description's value, or its first fault.
+fn value_shape(alloc: Global, scope: &mut Scope, spec: &Spec) -> Result<Shape, CheckFault>
+    ensures shape { Gives shape_tree result (checked scope.old (spec_tree spec.now)) }
+    ensures same { OnOk result (scope.new ≡ scope.old) }
+{
+    match spec {
+        Spec::File | Spec::Link => Ok(Shape::Str),
+        Spec::Dir => Ok(Shape::Names),
+        Spec::Focus(text, part) => {
+            let_go(Some(check_shape(alloc, scope, Shape::Str, text)?));
+            value_shape(alloc, scope, part)
+        }
+        Spec::Pair(word, first, second) => {
+            let shape = value_shape(alloc, scope, first)?;
+            scope.bind(alloc, word, shape)?;
+            let shape = value_shape(alloc, scope, second)?;
+            pair_shape(alloc, scope, shape)
+        }
+        Spec::Comp(part, word, set) => {
+            let_go(Some(check_shape(alloc, scope, Shape::Names, set)?));
+            scope.bind(alloc, word, Shape::Str)?;
+            let shape = value_shape(alloc, scope, part)?;
+            let_go(scope.unbind());
+            Ok(Shape::Table(boxed(alloc, shape)?))
+        }
+        Spec::Opt(part) => {
+            let shape = value_shape(alloc, scope, part)?;
+            Ok(Shape::Opt(boxed(alloc, shape)?))
+        }
+        Spec::Pred(test) => check_shape(alloc, scope, Shape::Bool, test),
+    }
+}
+
+/// A description that is well shaped, or its first fault: the parts are checked in the order of evaluation.
+pub fn check(alloc: Global, spec: Spec) -> Result<Checked, CheckFault>
+    requires { spec_levels (spec_tree spec) ≤ 64 }
+    ensures { IsAnswer (spec_tree spec) result }
+{
+    let mut scope = Scope::new(alloc);
+    match value_shape(alloc, &mut scope, &spec) {
+        Ok(shape) => {
+            let_go(Some(shape));
+            Ok(Checked::of(spec))
+        }
+        Err(fault) => {
+            let_go_spec(spec);
+            Err(fault)
+        }
+    }
+}
+
+fn let_go_spec(_: Spec) {}
