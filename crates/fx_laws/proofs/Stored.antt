@@ -16,7 +16,7 @@ use Rattle.fx_store.specs.Faults.{read_link}
 use Rattle.fx_store.specs.Names.{name_cmp, path_cmp, is_name, has, components, has_link_form, IsPath}
 use Rattle.fx_store.specs.Orders.{path_eq_same}
 use Rattle.fx_store.specs.Resolve.{resolve, lands, ◌/ₚ◌}
-use Rattle.fx_store.specs.Rule.{Ask, Answer, Look, answer, ◌>>=◌}
+use Rattle.fx_store.specs.Rule.{Ask, Answer, Look, Tick, answer, ◌>>=◌}
 use Rattle.fx_store.specs.Whole.{Store, IsNode, over}
 use Rattle.fx_store.proofs.Asks.{answer-bind}
 use Rattle.fx_store.proofs.Relisted.{same_name}
@@ -130,10 +130,12 @@ same_content_is_accepted S whole at v node q held =
 after-asking : {A B : Type 0} (S : Store) (rule : Ask A) (next : A → Task B) → after S (asking rule next) ≡ after S (next (answer S rule))
 after-asking S (Answer a) next = refl
 after-asking S (Look p rule) next = after-asking S (rule (S p)) next
+after-asking S (Tick rule) next = after-asking S rule next
 
 result-asking : {A B : Type 0} (S : Store) (rule : Ask A) (next : A → Task B) → result S (asking rule next) ≡ result S (next (answer S rule))
 result-asking S (Answer a) next = refl
 result-asking S (Look p rule) next = result-asking S (rule (S p)) next
+result-asking S (Tick rule) next = result-asking S rule next
 
 after-then : {A B : Type 0} (S : Store) (t : Task A) (next : A → Task B) → after S (t >=> next) ≡ after (after S t) (next (result S t))
 after-then S (Ends a) next = refl

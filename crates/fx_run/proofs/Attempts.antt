@@ -10,10 +10,11 @@ use Rattle.fx_spec.specs.Transaction.{Flow, flow_outputs}
 use Rattle.fx_spec.specs.declared.refusal.Refusal.{Refusal}
 use Rattle.fx_view.specs.declared.reader.Stop.{Stop}
 use Rattle.fx_view.specs.declared.reader.Stop.TheVariants as stop
+use Rattle.fx_view.specs.Meaning.{Meaning}
 use Rattle.fx_view.specs.ReadList.{ReadList}
-use Rattle.fx_view.specs.Own.{AreRead}
+use Rattle.fx_view.specs.Own.{AreRead, no_own}
 use Rattle.fx_view.specs.Reads.{known_of}
-use Rattle.fx_view.specs.Follows.{Went, Follows, walked}
+use Rattle.fx_view.specs.Follows.{Went, GoesBy, walked}
 use Rattle.fx_machine.specs.declared.attempt.Attempt.{Attempt}
 use Rattle.fx_machine.specs.Explained.{IsExplained}
 use Rattle.fx_run.specs.declared.finishing.Finished.{Finished}
@@ -21,7 +22,7 @@ use Rattle.fx_run.specs.declared.pursuing.Course.{Course}
 use Rattle.fx_run.specs.declared.standing.Standing.{Standing}
 use Rattle.fx_run.specs.Course.{pursued, came_of}
 use Rattle.fx_run.specs.Finishing.{KeepsAll, IsFinished, IsAttempt, Finishes}
-use Rattle.fx_run.specs.Pursuing.{Came, no_own}
+use Rattle.fx_run.specs.Pursuing.{Came}
 use Rattle.fx_run.specs.Running.{ReadsFit, Attempted, KeepsOn, StoppedAt}
 use Rattle.fx_run.specs.Standing.{flow_by}
 use Rattle.fx_run.proofs.Explaining.{explained, next_needed, unread_needed, fit_again}
@@ -30,13 +31,13 @@ outputs_by : (i : ℕ) (s : Standing) (o : Option Refusal) → flow_outputs (flo
 outputs_by i s None = refl
 outputs_by i s (Some refusal) = refl
 
-module _ {R : Type 0} (reads : R → ReadList) (complete : R → Bool) (vouches : R → R → ReadList → Type 0) (root : SpecTree) (t : List CommandTree) (shell txn : ℕ) (old mid : R) where
+module _ {R : Type 0} (m : Meaning R) (root : SpecTree) (t : List CommandTree) (shell txn : ℕ) (old mid : R) where
   -- the reader keeps its reads while the course is finished, and gives them to the attempt
-  pub attempted : (kept new : R) (course : Course) (f : Finished) (a : Attempt) → a ≡ record { shell = shell; txn = txn; reads = reads mid; changes = f.changes; outputs = f.outputs; end = f.end }
-      → Follows reads complete vouches came_of no_own old mid (pursued root t) (Ok course) → AreRead course.standing.overlay (reads mid) → KeepsAll reads complete vouches mid kept → IsFinished course (reads mid) f
-      → reads new ≡ [] → complete new ≡ complete kept → ((start : R) → vouches start kept (reads kept) → vouches start new (reads kept)) → IsAttempt reads complete vouches root t shell txn old new a
+  pub attempted : (kept new : R) (course : Course) (f : Finished) (a : Attempt) → a ≡ record { shell = shell; txn = txn; reads = m.reads mid; changes = f.changes; outputs = f.outputs; end = f.end }
+      → GoesBy m came_of no_own old mid (pursued root t) (Ok course) → AreRead course.standing.overlay (m.reads mid) → KeepsAll m mid kept → IsFinished course (m.reads mid) f
+      → m.reads new ≡ [] → m.complete new ≡ m.complete kept → ((start : R) → m.vouches start kept (m.reads kept) → m.vouches start new (m.reads kept)) → IsAttempt m root t shell txn old new a
   attempted kept new course f a is follows read keeps finished none same vouched =
-      subst (IsAttempt reads complete vouches root t shell txn old new) (sym is) (record {
+      subst (IsAttempt m root t shell txn old new) (sym is) (record {
         whose = refl;
         number = refl;
         came = came_of course;
@@ -50,11 +51,11 @@ module _ {R : Type 0} (reads : R → ReadList) (complete : R → Bool) (vouches 
         end = finished.end;
         none = none;
         same = same ∙ (keeps.same ∙ follows.1.same);
-        vouched = λ start v. subst (λ rs. vouches start new rs) keeps.kept (vouched start (keeps.vouched start (follows.1.vouched start v)));
+        vouched = λ start v. subst (λ rs. m.vouches start new rs) keeps.kept (vouched start (keeps.vouched start (follows.1.vouched start v)));
       })
 
   -- memory is refused while the course is finished
-  pub attempt_refused : (kept : R) (course : Course) → Follows reads complete vouches came_of no_own old mid (pursued root t) (Ok course) → KeepsAll reads complete vouches mid kept → Follows {A = Came Flow} {X = Course} reads complete vouches came_of no_own old kept (pursued root t) (Err stop.NoMemory)
+  pub attempt_refused : (kept : R) (course : Course) → GoesBy m came_of no_own old mid (pursued root t) (Ok course) → KeepsAll m mid kept → GoesBy {A = Came Flow} {X = Course} m came_of no_own old kept (pursued root t) (Err stop.NoMemory)
   attempt_refused kept course follows keeps = record {
     more = follows.1.more;
     kept = keeps.kept ∙ follows.1.kept;
@@ -63,30 +64,30 @@ module _ {R : Type 0} (reads : R → ReadList) (complete : R → Bool) (vouches 
     vouched = λ start v. keeps.vouched start (follows.1.vouched start v);
   }
 
-module _ {R : Type 0} (reads : R → ReadList) (complete : R → Bool) (vouches : R → R → ReadList → Type 0) (base : BaseTree) (shell txn : ℕ) (t : List CommandTree) (planned : txn_of base.plan (shell, txn) ≡ Some t) (old new : R) (fit : ReadsFit base (shell, txn) (reads old)) where
-  attempt_explained : (a : Attempt) → IsAttempt reads complete vouches base.description t shell txn old new a → IsExplained base a
-  attempt_explained a is = explained base (shell, txn) t planned (reads old) is.more a.reads fit is.kept is.came is.found is.walked is.read a (λ k. (sym is.whose k, sym is.number k)) refl is.changes is.outputs is.end
+module _ {R : Type 0} (m : Meaning R) (base : BaseTree) (shell txn : ℕ) (t : List CommandTree) (planned : txn_of base.plan (shell, txn) ≡ Some t) (old new : R) (fit : ReadsFit base (shell, txn) (m.reads old)) where
+  attempt_explained : (a : Attempt) → IsAttempt m base.description t shell txn old new a → IsExplained base a
+  attempt_explained a is = explained base (shell, txn) t planned (m.reads old) is.more a.reads fit is.kept is.came is.found is.walked is.read a (λ k. (sym is.whose k, sym is.number k)) refl is.changes is.outputs is.end
 
-  pub run_explained : (r : Result Attempt Stop) → Finishes reads complete vouches base.description t shell txn old new r → IfOk r (IsExplained base)
+  pub run_explained : (r : Result Attempt Stop) → Finishes m base.description t shell txn old new r → IfOk r (IsExplained base)
   run_explained (Ok a) is = attempt_explained a is
   run_explained (Err why) is = tt
 
-  pub run_attempted : (r : Result Attempt Stop) → Finishes reads complete vouches base.description t shell txn old new r → IfOk r (Attempted reads complete vouches old new shell txn)
+  pub run_attempted : (r : Result Attempt Stop) → Finishes m base.description t shell txn old new r → IfOk r (Attempted m old new shell txn)
   run_attempted (Ok a) is = record { whose = is.whose; number = is.number; more = is.more; kept = is.kept; none = is.none; same = is.same; vouched = is.vouched }
   run_attempted (Err why) is = tt
 
-  keeps_on : (paths : List (List (List ℕ))) → Went reads complete vouches old new paths → KeepsOn reads complete vouches old new
+  keeps_on : (paths : List (List (List ℕ))) → Went m old new paths → KeepsOn m old new
   keeps_on paths went = record { more = went.more; kept = went.kept; same = went.same; vouched = went.vouched }
 
-  pub run_stopped : (r : Result Attempt Stop) → Finishes reads complete vouches base.description t shell txn old new r → IfErr r (StoppedAt reads complete vouches base (shell, txn) old new)
+  pub run_stopped : (r : Result Attempt Stop) → Finishes m base.description t shell txn old new r → IfErr r (StoppedAt m base (shell, txn) old new)
   run_stopped (Ok a) is = tt
-  run_stopped (Err stop.NoMemory) is = keeps_on (walked (known_of (reads new)) no_own (pursued base.description t)) is
+  run_stopped (Err stop.NoMemory) is = keeps_on (walked (known_of (m.reads new)) no_own (pursued base.description t)) is
   run_stopped (Err (stop.Needs q)) is = (
-    keeps_on (walked (known_of (reads new)) no_own (pursued base.description t)) is.2,
+    keeps_on (walked (known_of (m.reads new)) no_own (pursued base.description t)) is.2,
     record {
       incomplete = is.1;
-      unread = unread_needed base (shell, txn) t planned (reads old) is.2.more (reads new) fit is.2.kept q is.0;
-      next = next_needed base (shell, txn) t planned (reads old) is.2.more (reads new) fit is.2.kept q is.0;
-      fit = λ node position. fit_again base (shell, txn) t planned (reads old) is.2.more (reads new) fit is.2.kept q is.0 is.2.only node position;
+      unread = unread_needed base (shell, txn) t planned (m.reads old) is.2.more (m.reads new) fit is.2.kept q is.0;
+      next = next_needed base (shell, txn) t planned (m.reads old) is.2.more (m.reads new) fit is.2.kept q is.0;
+      fit = λ node position. fit_again base (shell, txn) t planned (m.reads old) is.2.more (m.reads new) fit is.2.kept q is.0 is.2.only node position;
     },
   )

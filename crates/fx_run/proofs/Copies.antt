@@ -13,6 +13,7 @@ use Rattle.fx_store.specs.Names.{path_cmp}
 use Rattle.fx_store.proofs.Tables.{path_itself}
 use Rattle.fx_spec.proofs.Tasks.{eq_paths}
 use Rattle.fx_view.specs.OwnList.{OwnList}
+use Rattle.fx_view.specs.Meaning.{Meaning}
 use Rattle.fx_view.specs.ReadList.{ReadList}
 use Rattle.fx_view.specs.Own.{own_at, AreRead, IsNet}
 use Rattle.fx_view.specs.Reads.{read_at, known_of, IsRead}
@@ -85,27 +86,27 @@ taken_at own i e is =
     let here : get_or own i e ≡ e = sym (unwrap_or-slice_get own i e) ∙ ap (λ o. unwrap_or o e) is in
     take_more own i e (slice_get_within own i e is) ∙ ap (λ x. take i own ++ x ∷ []) here
 
-module _ {R : Type 0} (reads : R → ReadList) (complete : R → Bool) (vouches : R → R → ReadList → Type 0) (own : OwnList) (start : R) where
+module _ {R : Type 0} (m : Meaning R) (own : OwnList) (start : R) where
   -- the first `i` own paths are kept
   pub record IsCopying (i : ℕ) (kept : ReadList) (now : R) : Type 0 where
-    pub copy : IsCopy (take i own) (reads start) kept
-    pub keeps : KeepsAll reads complete vouches start now
+    pub copy : IsCopy (take i own) (m.reads start) kept
+    pub keeps : KeepsAll m start now
 
   pub copying_starts : (kept : ReadList) → kept ≡ [] → IsCopying 0 kept start
   copying_starts kept none = record {
-    copy = subst (λ rs. IsCopy [] (reads start) rs) (sym none) (record { all = AreRead-none []; same = λ p n e. cc });
+    copy = subst (λ rs. IsCopy [] (m.reads start) rs) (sym none) (record { all = AreRead-none []; same = λ p n e. cc });
     keeps = record { kept = refl; same = refl; vouched = λ s v. v };
   }
 
-  pub again : (i : ℕ) (e : Path × Option Node) (kept : ReadList) (now : R) → slice_get own i ≡ Some e → AreRead own (reads start) → IsCopying i kept now → IsRead (reads now) e.0
+  pub again : (i : ℕ) (e : Path × Option Node) (kept : ReadList) (now : R) → slice_get own i ≡ Some e → AreRead own (m.reads start) → IsCopying i kept now → IsRead (m.reads now) e.0
   again i e kept now here read was = subst (λ rs. IsRead rs e.0) (sym was.keeps.kept) (read e.0 (own_here own i e here))
 
-  pub keeps_then : (now mid : R) → KeepsAll reads complete vouches start now → KeepsAll reads complete vouches now mid → KeepsAll reads complete vouches start mid
+  pub keeps_then : (now mid : R) → KeepsAll m start now → KeepsAll m now mid → KeepsAll m start mid
   keeps_then now mid a b = record { kept = b.kept ∙ a.kept; same = b.same ∙ a.same; vouched = λ s v. b.vouched s (a.vouched s v) }
 
-  pub copying_on : (i : ℕ) (e : Path × Option Node) (kept kept' : ReadList) (node : Option Node) (now mid : R) → slice_get own i ≡ Some e → known_of (reads now) e.0 ≡ Some node → KeepsAll reads complete vouches now mid → Keeps kept kept' e.0 node → IsCopying i kept now → IsCopying (i + 1) kept' mid
+  pub copying_on : (i : ℕ) (e : Path × Option Node) (kept kept' : ReadList) (node : Option Node) (now mid : R) → slice_get own i ≡ Some e → known_of (m.reads now) e.0 ≡ Some node → KeepsAll m now mid → Keeps kept kept' e.0 node → IsCopying i kept now → IsCopying (i + 1) kept' mid
   copying_on i e kept kept' node now mid here known keeps more was = record {
-    copy = subst (λ own. IsCopy own (reads start) kept') (sym (taken_at own i e here)) (record {
+    copy = subst (λ own. IsCopy own (m.reads start) kept') (sym (taken_at own i e here)) (record {
       all = λ p is. at p (own_last (take i own) e p is);
       same = λ p n is. now_known p n (more.only p n is);
     });
@@ -116,12 +117,12 @@ module _ {R : Type 0} (reads : R → ReadList) (complete : R → Bool) (vouches 
       at p (inl h) = more.before p (was.copy.all p h)
       at p (inr same) = subst (IsRead kept') (sym same) more.there
 
-      now_known : (p : Path) (n : Option Node) → (known_of kept p ≡ Some n) ⊎ ((p ≡ e.0) × (n ≡ node)) → known_of (reads start) p ≡ Some n
+      now_known : (p : Path) (n : Option Node) → (known_of kept p ≡ Some n) ⊎ ((p ≡ e.0) × (n ≡ node)) → known_of (m.reads start) p ≡ Some n
       now_known p n (inl h) = was.copy.same p n h
-      now_known p n (inr h) = ap (known_of (reads start)) h.0 ∙ (ap (λ rs. known_of rs e.0) (sym was.keeps.kept) ∙ (known ∙ ap (λ n. Some n) (sym h.1)))
+      now_known p n (inr h) = ap (known_of (m.reads start)) h.0 ∙ (ap (λ rs. known_of rs e.0) (sym was.keeps.kept) ∙ (known ∙ ap (λ n. Some n) (sym h.1)))
 
-  pub copying_ends : (i : ℕ) (kept : ReadList) (now : R) → length own ≤ i → IsCopying i kept now → IsCopy own (reads start) kept
-  copying_ends i kept now past was = subst (λ own. IsCopy own (reads start) kept) (take_all i own past) was.copy
+  pub copying_ends : (i : ℕ) (kept : ReadList) (now : R) → length own ≤ i → IsCopying i kept now → IsCopy own (m.reads start) kept
+  copying_ends i kept now past was = subst (λ own. IsCopy own (m.reads start) kept) (take_all i own past) was.copy
 
 -- ---- what is left of own changes against a copy is what is left against the reads
 

@@ -21,27 +21,23 @@ use Rattle.fx_spec.specs.Transaction.{Flow, flow_end, flow_outputs, is_done, end
 use Rattle.fx_spec.proofs.Tasks.{leaves_as_data}
 use Rattle.fx_view.specs.OwnList.{OwnList}
 use Rattle.fx_view.specs.ReadList.{ReadList}
-use Rattle.fx_view.specs.Own.{own_at, AreRead, IsNet}
+use Rattle.fx_view.specs.Own.{own_at, AreRead, IsNet, no_own}
 use Rattle.fx_view.specs.Reads.{read_at, known_of, IsRead, Agrees}
 use Rattle.fx_view.specs.Follows.{walked}
-use Rattle.fx_view.proofs.Growing.{Grows-reads}
+use Rattle.fx_view.proofs.Growing.{agrees_before, read_known}
 use Rattle.fx_view.proofs.Rules.{walked_known, found_answer, found_asked, needs_asked, needs_first, needs_unknown}
 use Rattle.fx_machine.specs.declared.attempt.Attempt.{Attempt}
 use Rattle.fx_machine.specs.Explained.{IsNew, IsExplained}
 use Rattle.fx_run.specs.Course.{pursued}
-use Rattle.fx_run.specs.Pursuing.{Came, no_own}
+use Rattle.fx_run.specs.Pursuing.{Came}
 use Rattle.fx_run.specs.Keeping.{AreKept}
 use Rattle.fx_run.specs.Running.{ReadsFit, IsNeeded}
 use Rattle.fx_run.proofs.Pursuits.{pursued_end, pursued_after, pursued_asked}
-use Rattle.fx_run.proofs.Ways.{once-within, within-once, first-once, all_known, read_known, read_among}
+use Rattle.fx_run.proofs.Ways.{once-within, within-once, first-once, all_known, read_among}
 use Rattle.fx_run.proofs.Stable.{stable_node}
 
 abbrev Path : Type 0
 Path = List (List ℕ)
-
--- a filestore that agrees with reads agrees with the earlier ones
-pub agrees_before : (reads more : ReadList) (S : Store) → Agrees (reads ++ more) S → Agrees reads S
-agrees_before reads more S agrees p n e = agrees p n ((Grows-reads reads more).keeps p n e)
 
 module _ (root : SpecTree) (t : List CommandTree) (reads : ReadList) (S : Store) (agrees : Agrees reads S) where
   -- ---- a transaction that has come to its end

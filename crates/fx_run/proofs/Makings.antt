@@ -23,11 +23,10 @@ use Rattle.fx_spec.specs.Move.{Answered, unrefused}
 use Rattle.fx_spec.specs.Place.{placed}
 use Rattle.fx_spec.specs.SpecTree.{SpecTree}
 use Rattle.fx_run.specs.Making.{change_to, looking, made_all, made_node, made_in}
-use Rattle.fx_run.specs.Pursuing.{put_all}
 use Rattle.fx_run.specs.Rules.{file_store}
-use Rattle.fx_run.proofs.Lists.{drop_at, drop_past}
+use Rattle.fx_view.proofs.Lists.{drop_at, drop_past}
 use Rattle.fx_view.specs.OwnList.{OwnList}
-use Rattle.fx_view.specs.Own.{put_own}
+use Rattle.fx_view.specs.Own.{put_own, put_all}
 
 abbrev Path : Type 0
 Path = List (List ℕ)

@@ -5,18 +5,19 @@ use Rattle.std.specs.Ordering.{eq_by_cmp}
 use Rattle.fx_store.specs.declared.node.Node.{Node}
 use Rattle.fx_store.specs.declared.changes.Change.{Change}
 use Rattle.fx_store.specs.Names.{path_cmp}
-use Rattle.fx_store.specs.Rule.{Ask, Answer, Look, ◌>>=◌, answer, asked, Known, seen, if_known, follow, changed}
+use Rattle.fx_store.specs.Rule.{Ask, Answer, Look, Tick, ◌>>=◌, answer, asked, Known, seen, if_known, follow, changed}
 use Rattle.fx_store.specs.Whole.{Store, update, over}
 use Rattle.fx_spec.specs.Task.{Task, Ends, Looks, Sets, result, after, consulted, asking, ◌>=>◌}
 use Rattle.fx_spec.proofs.Tasks.{eq_paths}
 use Rattle.fx_view.specs.OwnList.{OwnList}
-use Rattle.fx_view.specs.Own.{own_at, put_own}
+use Rattle.fx_view.specs.Own.{own_at, put_own, put_all, no_own}
+use Rattle.fx_view.specs.Meaning.{Meaning}
 use Rattle.fx_view.specs.ReadList.{ReadList}
 use Rattle.fx_view.specs.Reads.{known_of}
 use Rattle.fx_view.specs.declared.reader.Stop.{Stop}
 use Rattle.fx_view.specs.declared.reader.Stop.TheVariants as stop
-use Rattle.fx_view.specs.Follows.{walked, walked_on, Went, Follows}
-use Rattle.fx_run.specs.Pursuing.{Came, put_all, no_own, topped, pursuit}
+use Rattle.fx_view.specs.Follows.{walked, walked_on, Went, GoesBy}
+use Rattle.fx_run.specs.Pursuing.{Came, topped, pursuit}
 
 abbrev Path : Type 0
 Path = List (List ℕ)
@@ -25,6 +26,7 @@ Path = List (List ℕ)
 
 pub follow-topped : {A : Type 0} (known : Known) (own : OwnList) (rule : Ask A) → follow known no_own (topped own rule) ≡ follow known (own_at own) rule
 follow-topped known own (Answer a) = refl
+follow-topped known own (Tick rule) = follow-topped known own rule
 follow-topped {A} known own (Look p next) = step (known p) (λ n. follow-topped known own (next (seen (own_at own p) n)))
   where
     step : (k : Option (Option Node)) → ((n : Option Node) → follow known no_own (topped own (next (seen (own_at own p) n))) ≡ follow known (own_at own) (next (seen (own_at own p) n)))
@@ -34,6 +36,7 @@ follow-topped {A} known own (Look p next) = step (known p) (λ n. follow-topped 
 
 pub walked-topped : {A : Type 0} (known : Known) (own : OwnList) (rule : Ask A) → walked known no_own (topped own rule) ≡ walked known (own_at own) rule
 walked-topped known own (Answer a) = refl
+walked-topped known own (Tick rule) = walked-topped known own rule
 walked-topped {A} known own (Look p next) = step (known p) (λ n. walked-topped known own (next (seen (own_at own p) n)))
   where
     step : (k : Option (Option Node)) → ((n : Option Node) → walked known no_own (topped own (next (seen (own_at own p) n))) ≡ walked known (own_at own) (next (seen (own_at own p) n)))
@@ -42,18 +45,19 @@ walked-topped {A} known own (Look p next) = step (known p) (λ n. walked-topped 
     step (Some n) rest = ap (λ ps. p ∷ ps) (rest n)
 
 -- a call that follows a rule with own changes on top
-pub follows_topped : {R A X : Type 0} (reads : R → ReadList) (complete : R → Bool) (vouches : R → R → ReadList → Type 0) (view : X → A) (own : OwnList) (old new : R) (rule : Ask A) (result : Result X Stop)
-    → Follows reads complete vouches view (own_at own) old new rule result → Follows reads complete vouches view no_own old new (topped own rule) result
-follows_topped reads complete vouches view own old new rule (Ok x) h =
-    (follow-topped (known_of (reads new)) own rule ∙ h.0, subst (Went reads complete vouches old new) (sym (walked-topped (known_of (reads new)) own rule)) h.1)
-follows_topped reads complete vouches view own old new rule (Err (stop.Needs p)) h =
-    (follow-topped (known_of (reads new)) own rule ∙ h.0, h.1, subst (Went reads complete vouches old new) (sym (walked-topped (known_of (reads new)) own rule)) h.2)
-follows_topped reads complete vouches view own old new rule (Err stop.NoMemory) h = subst (Went reads complete vouches old new) (sym (walked-topped (known_of (reads new)) own rule)) h
+pub by_topped : {R A X : Type 0} (m : Meaning R) (view : X → A) (own : OwnList) (old new : R) (rule : Ask A) (result : Result X Stop)
+    → GoesBy m view (own_at own) old new rule result → GoesBy m view no_own old new (topped own rule) result
+by_topped m view own old new rule (Ok x) h =
+    (follow-topped (known_of (m.reads new)) own rule ∙ h.0, subst (Went m old new) (sym (walked-topped (known_of (m.reads new)) own rule)) h.1)
+by_topped m view own old new rule (Err (stop.Needs p)) h =
+    (follow-topped (known_of (m.reads new)) own rule ∙ h.0, h.1, subst (Went m old new) (sym (walked-topped (known_of (m.reads new)) own rule)) h.2)
+by_topped m view own old new rule (Err stop.NoMemory) h = subst (Went m old new) (sym (walked-topped (known_of (m.reads new)) own rule)) h
 
 -- ---- one part and then the next
 
 pub pursuit-asking : {A B : Type 0} (own : OwnList) (rule : Ask A) (next : A → Task B) → pursuit own (asking rule next) ≡ (topped own rule >>= λ a. pursuit own (next a))
 pursuit-asking own (Answer a) next = refl
+pursuit-asking own (Tick rule) next = pursuit-asking own rule next
 pursuit-asking {A} {B} own (Look p rule) next =
     ap (λ (f : Option Node → Ask (Came B)). Look p f) (fun_ext (λ n. pursuit-asking own (rule (seen (own_at own p) n)) next))
 

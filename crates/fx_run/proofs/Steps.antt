@@ -10,7 +10,7 @@ use Rattle.fx_store.specs.declared.changes.Change.{Change}
 use Rattle.fx_store.specs.Changes.{changed_paths}
 use Rattle.fx_store.specs.Names.{path_cmp}
 use Rattle.fx_store.specs.Resolve.{resolve}
-use Rattle.fx_store.specs.Rule.{Known, Ask, Answer, Look, ◌>>=◌, look_all, follow, Found, seen, if_known, AllKnown}
+use Rattle.fx_store.specs.Rule.{Known, Ask, Answer, Look, Tick, ◌>>=◌, look_all, follow, Found, seen, if_known, AllKnown}
 use Rattle.fx_expr.specs.Eval.{eval_of}
 use Rattle.fx_expr.specs.ExprTree.{ExprTree}
 use Rattle.fx_expr.specs.Sets.{with_text}
@@ -31,50 +31,51 @@ use Rattle.fx_forms.specs.Built.{is_built_spec}
 use Rattle.fx_view.specs.declared.reader.Stop.{Stop}
 use Rattle.fx_view.specs.declared.reader.Stop.TheVariants as stop
 use Rattle.fx_view.specs.OwnList.{OwnList}
+use Rattle.fx_view.specs.Meaning.{Meaning}
 use Rattle.fx_view.specs.ReadList.{ReadList}
-use Rattle.fx_view.specs.Own.{own_at, put_own, AreRead}
+use Rattle.fx_view.specs.Own.{own_at, put_own, AreRead, put_all, no_own}
 use Rattle.fx_view.specs.Reads.{read_at, known_of, IsRead}
-use Rattle.fx_view.specs.Follows.{Follows}
-use Rattle.fx_view.proofs.Calls.{follows_answer, follows_refused, follows_same, follows_stop, follows_then_answer, follows_then_refused}
-use Rattle.fx_view.proofs.Growing.{read_at-more}
+use Rattle.fx_view.specs.Follows.{GoesBy}
+use Rattle.fx_view.proofs.Rulings.{by_answer, by_refused, by_same, by_stop, by_then_answer, by_then_refused}
+use Rattle.fx_view.proofs.Owning.{read_more, read_put}
+use Rattle.fx_view.proofs.Rules.{looked, found_then}
 use Rattle.fx_run.specs.Answering.{answered}
-use Rattle.fx_run.specs.Pursuing.{Came, came, put_all, no_own, topped, pursuit}
+use Rattle.fx_run.specs.Pursuing.{Came, came, topped, pursuit}
 use Rattle.fx_run.specs.declared.standing.Standing.{Standing}
 use Rattle.fx_run.specs.Standing.{address_of, path_at, part_at, Stands, standing_of, came_by}
-use Rattle.fx_run.proofs.Pursuits.{follows_topped, pursuit-asking, own_at-put}
-use Rattle.fx_run.proofs.Ways.{read_known}
+use Rattle.fx_run.proofs.Pursuits.{by_topped, pursuit-asking}
 
 abbrev Path : Type 0
 Path = List (List ℕ)
 
 -- ---- a task that asks one rule, and then ends
 
-module _ {R : Type 0} (reads : R → ReadList) (complete : R → Bool) (vouches : R → R → ReadList → Type 0) where
-  pub step_quiet : {Y : Type 0} (view : Y → Came Flow) (own : OwnList) (now : R) (task : Task Flow) (flow : Flow) (y : Y) → task ≡ Ends flow → came flow own ≡ view y → Follows reads complete vouches view no_own now now (pursuit own task) (Ok y)
+module _ {R : Type 0} (m : Meaning R) where
+  pub step_quiet : {Y : Type 0} (view : Y → Came Flow) (own : OwnList) (now : R) (task : Task Flow) (flow : Flow) (y : Y) → task ≡ Ends flow → came flow own ≡ view y → GoesBy m view no_own now now (pursuit own task) (Ok y)
   step_quiet view own now task flow y is e =
-      follows_same reads complete vouches view no_own now now (Answer (came flow own)) (pursuit own task) (Ok y) (sym (ap (pursuit own) is)) (follows_answer reads complete vouches view no_own now (came flow own) y e)
+      by_same m view no_own now now (Answer (came flow own)) (pursuit own task) (Ok y) (sym (ap (pursuit own) is)) (by_answer m view no_own now (came flow own) y e)
 
-  pub step_none : {Y : Type 0} (view : Y → Came Flow) (own : OwnList) (now : R) (task : Task Flow) → Follows {A = Came Flow} {X = Y} reads complete vouches view no_own now now (pursuit own task) (Err stop.NoMemory)
-  step_none view own now task = follows_refused reads complete vouches view no_own now (pursuit own task)
+  pub step_none : {Y : Type 0} (view : Y → Came Flow) (own : OwnList) (now : R) (task : Task Flow) → GoesBy {A = Came Flow} {X = Y} m view no_own now now (pursuit own task) (Err stop.NoMemory)
+  step_none view own now task = by_refused m view no_own now (pursuit own task)
 
   module _ {A X Y : Type 0} (view : X → A) (then_view : Y → Came Flow) (own : OwnList) (old new : R) (rule : Ask A) (task : Task Flow) (next : A → Task Flow) (is : task ≡ asking rule next) where
     whole : (pursuit own task) ≡ (topped own rule >>= λ a. pursuit own (next a))
     whole = ap (pursuit own) is ∙ pursuit-asking own rule next
 
-    pub step_answer : (x : X) (y : Y) → Follows reads complete vouches view (own_at own) old new rule (Ok x) → pursuit own (next (view x)) ≡ Answer (then_view y) → Follows reads complete vouches then_view no_own old new (pursuit own task) (Ok y)
+    pub step_answer : (x : X) (y : Y) → GoesBy m view (own_at own) old new rule (Ok x) → pursuit own (next (view x)) ≡ Answer (then_view y) → GoesBy m then_view no_own old new (pursuit own task) (Ok y)
     step_answer x y h e =
-        follows_same reads complete vouches then_view no_own old new (topped own rule >>= λ a. pursuit own (next a)) (pursuit own task) (Ok y) (sym whole)
-        (follows_then_answer reads complete vouches view then_view no_own old new (topped own rule) (λ a. pursuit own (next a)) x y (follows_topped reads complete vouches view own old new rule (Ok x) h) e)
+        by_same m then_view no_own old new (topped own rule >>= λ a. pursuit own (next a)) (pursuit own task) (Ok y) (sym whole)
+        (by_then_answer m view then_view no_own old new (topped own rule) (λ a. pursuit own (next a)) x y (by_topped m view own old new rule (Ok x) h) e)
 
-    pub step_refused : (x : X) → Follows reads complete vouches view (own_at own) old new rule (Ok x) → Follows {A = Came Flow} {X = Y} reads complete vouches then_view no_own old new (pursuit own task) (Err stop.NoMemory)
+    pub step_refused : (x : X) → GoesBy m view (own_at own) old new rule (Ok x) → GoesBy {A = Came Flow} {X = Y} m then_view no_own old new (pursuit own task) (Err stop.NoMemory)
     step_refused x h =
-        follows_same reads complete vouches then_view no_own old new (topped own rule >>= λ a. pursuit own (next a)) (pursuit own task) (Err stop.NoMemory) (sym whole)
-        (follows_then_refused reads complete vouches view then_view no_own old new (topped own rule) (λ a. pursuit own (next a)) x (follows_topped reads complete vouches view own old new rule (Ok x) h))
+        by_same m then_view no_own old new (topped own rule >>= λ a. pursuit own (next a)) (pursuit own task) (Err stop.NoMemory) (sym whole)
+        (by_then_refused m view then_view no_own old new (topped own rule) (λ a. pursuit own (next a)) x (by_topped m view own old new rule (Ok x) h))
 
-    pub step_stop : (why : Stop) → Follows {A = A} {X = X} reads complete vouches view (own_at own) old new rule (Err why) → Follows {A = Came Flow} {X = Y} reads complete vouches then_view no_own old new (pursuit own task) (Err why)
+    pub step_stop : (why : Stop) → GoesBy {A = A} {X = X} m view (own_at own) old new rule (Err why) → GoesBy {A = Came Flow} {X = Y} m then_view no_own old new (pursuit own task) (Err why)
     step_stop why h =
-        follows_same reads complete vouches then_view no_own old new (topped own rule >>= λ a. pursuit own (next a)) (pursuit own task) (Err why) (sym whole)
-        (follows_stop reads complete vouches view then_view no_own old new (topped own rule) (λ a. pursuit own (next a)) why (follows_topped reads complete vouches view own old new rule (Err why) h))
+        by_same m then_view no_own old new (topped own rule >>= λ a. pursuit own (next a)) (pursuit own task) (Err why) (sym whole)
+        (by_stop m view then_view no_own old new (topped own rule) (λ a. pursuit own (next a)) why (by_topped m view own old new rule (Err why) h))
 
 -- ---- at the place
 
@@ -91,6 +92,7 @@ fetch_asks root below path part vars outputs i x stands way form =
 
 asking-edits : {B : Type 0} (rule : Ask (Answered (List Change))) (next : Answered txn.Effect → Task B) → asking (editing rule) next ≡ asking rule (λ a. next (edits a))
 asking-edits (Answer a) next = refl
+asking-edits (Tick rule) next = asking-edits rule next
 asking-edits {B} (Look p rule) next = ap (λ (f : Option Node → Task B). Looks p f) (fun_ext (λ n. asking-edits (rule n) next))
 
 pub store_asks : (root : SpecTree) (below : Option Path) (path : Path) (part : SpecTree) (vars : Bindings) (outputs : List Tree) (i : ℕ) (e : ExprTree) (text : List ℕ) → Stands root below → path ≡ path_at below → part ≡ part_at root below → eval_of vars e ≡ Ok (Tree.str text)
@@ -102,37 +104,6 @@ store_asks root below path part vars outputs i e text stands way form gives =
     ∙ asking-edits (store_at (Tree.str text) (placed path [] part)) (or_stop i s (taking s)))
 
 -- ---- own changes are of paths that were read
-
-pub read_more : (own : OwnList) (old new more : ReadList) → new ≡ old ++ more → AreRead own old → AreRead own new
-read_more own old new more kept read p is = at (read_at old p) refl (read p is)
-  where
-    at : (r : Option (Option Node × ℕ)) → read_at old p ≡ r → IsSome r → IsSome (read_at new p)
-    at None e h = cc
-    at (Some x) e h = subst (λ o. IsSome o) (sym (ap (λ rs. read_at rs p) kept ∙ read_at-more old more p x e)) refl
-
-pub read_put : (own : OwnList) (reads : ReadList) (cs : List Change) → AllKnown (known_of reads) (changed_paths cs) → AreRead own reads → AreRead (put_all own cs) reads
-read_put own reads [] known read = read
-read_put own reads (c ∷ cs) known read = read_put (put_own own c.path c.node) reads cs known.1 (λ p is. at p (eq_by_cmp path_cmp p c.path) refl (subst (λ o. IsSome o) (own_at-put own c.path c.node p) is))
-  where
-    at : (p : Path) (b : Bool) → eq_by_cmp path_cmp p c.path ≡ b → IsSome (cond b (Some c.node) (own_at own p)) → IsRead reads p
-    at p true same is = subst (IsRead reads) (sym (eq_paths p c.path same)) (read_known reads c.path known.0)
-    at p false same is = read p is
-
-looked : {A : Type 0} (known own : Known) (ps : List Path) (x y : A) → follow known own (look_all ps (Answer x)) ≡ Found y → AllKnown known ps × (x ≡ y)
-looked known own [] x y e = (tt, cc)
-looked {A} known own (p ∷ ps) x y e = step (known p) refl e (λ h. looked known own ps x y h)
-  where
-    step : (k : Option (Option Node)) → known p ≡ k → if_known p k (λ n. follow known own (look_all ps (Answer x))) ≡ Found y → (follow known own (look_all ps (Answer x)) ≡ Found y → AllKnown known ps × (x ≡ y)) → (IsSome (known p) × AllKnown known ps) × (x ≡ y)
-    step None at e rest = cc
-    step (Some n) at e rest = let h = rest e in ((subst (λ o. IsSome o) (sym at) refl, h.0), h.1)
-
-found_then : {A B : Type 0} (known own : Known) (rule : Ask A) (f : A → Ask B) (y : B) → follow known own (rule >>= f) ≡ Found y → (x : A) × (follow known own (f x) ≡ Found y)
-found_then known own (Answer x) f y e = (x, e)
-found_then {A} {B} known own (Look p rule) f y e = step (known p) e (λ n h. found_then known own (rule (seen (own p) n)) f y h)
-  where
-    step : (k : Option (Option Node)) → if_known p k (λ n. follow known own (rule (seen (own p) n) >>= f)) ≡ Found y → ((n : Option Node) → follow known own (rule (seen (own p) n) >>= f) ≡ Found y → (x : A) × (follow known own (f x) ≡ Found y)) → (x : A) × (follow known own (f x) ≡ Found y)
-    step None e rest = cc
-    step (Some n) e rest = rest n e
 
 replaced_known : (known own : Known) (q : Path) (bytes : List ℕ) (m : Option Node) (cs : List Change) → IsSome (known q) → follow known own (replaced q (File bytes) m) ≡ Found (Ok cs) → AllKnown known (changed_paths cs)
 replaced_known known own q bytes (Some (File old)) cs is e = let same : set_to q (File bytes) ∷ [] ≡ cs = cc in subst (λ cs. AllKnown known (changed_paths cs)) same (is, tt)
@@ -197,12 +168,12 @@ bound_came i s s' x v vars below outputs overlay =
     (λ k. came (On (record { vars = a k; address = address_of (b k); outputs = o k })) (w k))
 
 -- the paths that a store changes were read
-pub store_read : {R : Type 0} (reads : R → ReadList) (complete : R → Bool) (vouches : R → R → ReadList → Type 0) (own own' : OwnList) (old new : R) (path : Path) (part : SpecTree) (text : List ℕ) (cs : List Change) (r : Result (List Change) Refusal) → is_built_spec part ≡ true → r ≡ Ok cs → own' ≡ put_all own cs
-    → Follows reads complete vouches (answered (λ (e : List Change). e)) (own_at own) old new (store_at (Tree.str text) (placed path [] part)) (Ok r) → AreRead own (reads old) → AreRead own' (reads new)
-store_read reads complete vouches own own' old new path part text cs r built is put h read =
-    subst (λ o. AreRead o (reads new)) (sym put)
-    (read_put own (reads new) cs (stored_known (known_of (reads new)) (own_at own) path part text cs built (h.0 ∙ ap (λ r. Found (answered (λ (e : List Change). e) r)) is)) (read_more own (reads old) (reads new) h.1.more h.1.kept read))
+pub store_read : {R : Type 0} (m : Meaning R) (own own' : OwnList) (old new : R) (path : Path) (part : SpecTree) (text : List ℕ) (cs : List Change) (r : Result (List Change) Refusal) → is_built_spec part ≡ true → r ≡ Ok cs → own' ≡ put_all own cs
+    → GoesBy m (answered (λ (e : List Change). e)) (own_at own) old new (store_at (Tree.str text) (placed path [] part)) (Ok r) → AreRead own (m.reads old) → AreRead own' (m.reads new)
+store_read m own own' old new path part text cs r built is put h read =
+    subst (λ o. AreRead o (m.reads new)) (sym put)
+    (read_put own (m.reads new) cs (stored_known (known_of (m.reads new)) (own_at own) path part text cs built (h.0 ∙ ap (λ r. Found (answered (λ (e : List Change). e) r)) is)) (read_more own (m.reads old) (m.reads new) h.1.more h.1.kept read))
 
 -- the own changes stay read while the reader goes on
-pub read_on : {R A X : Type 0} (reads : R → ReadList) (complete : R → Bool) (vouches : R → R → ReadList → Type 0) (view : X → A) (own : Known) (old new : R) (rule : Ask A) (x : X) (kept : OwnList) → Follows reads complete vouches view own old new rule (Ok x) → AreRead kept (reads old) → AreRead kept (reads new)
-read_on reads complete vouches view own old new rule x kept h read = read_more kept (reads old) (reads new) h.1.more h.1.kept read
+pub read_on : {R A X : Type 0} (m : Meaning R) (view : X → A) (own : Known) (old new : R) (rule : Ask A) (x : X) (kept : OwnList) → GoesBy m view own old new rule (Ok x) → AreRead kept (m.reads old) → AreRead kept (m.reads new)
+read_on m view own old new rule x kept h read = read_more kept (m.reads old) (m.reads new) h.1.more h.1.kept read

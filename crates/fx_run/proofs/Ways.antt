@@ -84,13 +84,6 @@ pub all_known : (known : Known) (ps : List Path) → AllKnown known ps → All (
 all_known known [] h = All-nil (λ p. IsSome (known p))
 all_known known (p ∷ ps) h = All-cons (λ p. IsSome (known p)) p ps h.0 (all_known known ps h.1)
 
-read_by : (o : Option (Option Node × ℕ)) → IsSome (option_map (λ (r : Option Node × ℕ). r.0) o) → IsSome o
-read_by None h = h
-read_by (Some r) h = refl
-
-pub read_known : (reads : ReadList) (p : Path) → IsSome (known_of reads p) → IsRead reads p
-read_known reads p h = read_by (read_at reads p) h
-
 -- a path that is read is one of those before, or of the later ones
 pub read_among : (reads more : ReadList) (p : Path) → IsRead (reads ++ more) p → IsRead reads p ⊎ Contains (keys_of more) p
 read_among (e ∷ es) more p h = at (eq_by_cmp path_cmp p e.0) h (λ k. read_among es more p k)

@@ -6,18 +6,19 @@ use Rattle.fx_spec.specs.SpecTree.{SpecTree}
 use Rattle.fx_spec.specs.CommandTree.{CommandTree}
 use Rattle.fx_spec.specs.Transaction.{Flow, flow_end, flow_outputs}
 use Rattle.fx_view.specs.declared.reader.Stop.{Stop}
-use Rattle.fx_view.specs.Follows.{Follows, walked}
+use Rattle.fx_view.specs.Follows.{GoesBy, walked}
 use Rattle.fx_store.specs.declared.node.Node.{Node}
 use Rattle.fx_view.specs.OwnList.{OwnList}
+use Rattle.fx_view.specs.Meaning.{Meaning}
 use Rattle.fx_view.specs.ReadList.{ReadList}
-use Rattle.fx_view.specs.Own.{AreRead}
+use Rattle.fx_view.specs.Own.{AreRead, no_own}
 use Rattle.fx_view.specs.Reads.{known_of, IsRead}
 use Rattle.fx_machine.specs.declared.attempt.Attempt.{Attempt}
 use Rattle.fx_run.specs.declared.finishing.Finished.{Finished}
 use Rattle.fx_run.specs.declared.pursuing.Course.{Course}
 use Rattle.fx_run.specs.Course.{KeptOf, end_of, pursued, came_of}
 use Rattle.fx_run.specs.Keeping.{AreKept}
-use Rattle.fx_run.specs.Pursuing.{Came, no_own}
+use Rattle.fx_run.specs.Pursuing.{Came}
 
 -- at each own path the copied reads are what was read there
 pub record IsCopy (own : OwnList) (reads copied : ReadList) : Type 0 where
@@ -31,10 +32,10 @@ pub record Keeps (old new : ReadList) (path : List (List ℕ)) (node : Option No
   pub only : (p : List (List ℕ)) (n : Option Node) → known_of new p ≡ Some n → (known_of old p ≡ Some n) ⊎ ((p ≡ path) × (n ≡ node))
 
 -- the reader keeps just the reads that it has, and vouches for them
-pub record KeepsAll {R : Type 0} (reads : R → ReadList) (complete : R → Bool) (vouches : R → R → ReadList → Type 0) (old new : R) : Type 0 where
-  pub kept : reads new ≡ reads old
-  pub same : complete new ≡ complete old
-  pub vouched : (start : R) → vouches start old (reads old) → vouches start new (reads new)
+pub record KeepsAll {R : Type 0} (m : Meaning R) (old new : R) : Type 0 where
+  pub kept : m.reads new ≡ m.reads old
+  pub same : m.complete new ≡ m.complete old
+  pub vouched : (start : R) → m.vouches start old (m.reads old) → m.vouches start new (m.reads new)
 
 -- the changes that the course keeps, its outputs and its end
 pub record IsFinished (c : Course) (reads : ReadList) (f : Finished) : Type 0 where
@@ -43,23 +44,23 @@ pub record IsFinished (c : Course) (reads : ReadList) (f : Finished) : Type 0 wh
   pub end : f.end ≡ end_of c
 
 -- the attempt holds the reads at the end, which are those of before and some that were walked; its own changes were read
-pub record IsAttempt {R : Type 0} (reads : R → ReadList) (complete : R → Bool) (vouches : R → R → ReadList → Type 0) (root : SpecTree) (t : List CommandTree) (shell txn : ℕ) (old new : R) (a : Attempt) : Type 0 where
+pub record IsAttempt {R : Type 0} (m : Meaning R) (root : SpecTree) (t : List CommandTree) (shell txn : ℕ) (old new : R) (a : Attempt) : Type 0 where
   pub whose : a.shell ≡ shell
   pub number : a.txn ≡ txn
   pub came : Came Flow
   pub found : follow (known_of a.reads) no_own (pursued root t) ≡ Found came
   pub more : ReadList
-  pub kept : a.reads ≡ reads old ++ more
+  pub kept : a.reads ≡ m.reads old ++ more
   pub walked : All (Contains (walked (known_of a.reads) no_own (pursued root t))) (keys_of more)
   pub read : AreRead came.own a.reads
   pub changes : AreKept (flow_end came.end) came.own a.reads a.changes
   pub outputs : a.outputs ≡ flow_outputs came.end
   pub end : a.end ≡ flow_end came.end
-  pub none : reads new ≡ []
-  pub same : complete new ≡ complete old
-  pub vouched : (start : R) → vouches start old (reads old) → vouches start new a.reads
+  pub none : m.reads new ≡ []
+  pub same : m.complete new ≡ m.complete old
+  pub vouched : (start : R) → m.vouches start old (m.reads old) → m.vouches start new a.reads
 
 -- the transaction was pursued to an attempt, or up to a stop
-abbrev pub Finishes : {R : Type 0} → (R → ReadList) → (R → Bool) → (R → R → ReadList → Type 0) → SpecTree → List CommandTree → ℕ → ℕ → R → R → Result Attempt Stop → Type 0
-Finishes reads complete vouches root t shell txn old new (Ok a) = IsAttempt reads complete vouches root t shell txn old new a
-Finishes reads complete vouches root t shell txn old new (Err why) = Follows {A = Came Flow} {X = Course} reads complete vouches came_of no_own old new (pursued root t) (Err why)
+abbrev pub Finishes : {R : Type 0} → Meaning R → SpecTree → List CommandTree → ℕ → ℕ → R → R → Result Attempt Stop → Type 0
+Finishes m root t shell txn old new (Ok a) = IsAttempt m root t shell txn old new a
+Finishes m root t shell txn old new (Err why) = GoesBy {A = Came Flow} {X = Course} m came_of no_own old new (pursued root t) (Err why)

@@ -17,10 +17,11 @@ use Rattle.fx_spec.specs.Transaction.{Flow, On, Over, run}
 use Rattle.fx_forms.specs.Built.{are_built}
 use Rattle.fx_run.specs.declared.standing.Standing.{Standing}
 use Rattle.fx_view.specs.declared.reader.Stop.{Stop}
-use Rattle.fx_view.specs.Follows.{Follows}
-use Rattle.fx_view.specs.Own.{AreRead}
+use Rattle.fx_view.specs.Follows.{GoesBy}
+use Rattle.fx_view.specs.Own.{AreRead, no_own}
+use Rattle.fx_view.specs.Meaning.{Meaning}
 use Rattle.fx_view.specs.ReadList.{ReadList}
-use Rattle.fx_run.specs.Pursuing.{Came, came, no_own, pursuit}
+use Rattle.fx_run.specs.Pursuing.{Came, came, pursuit}
 
 -- the address: the root description, or the part of its focus
 abbrev pub address_of : Option (List (List ℕ)) → Address
@@ -94,8 +95,8 @@ pub record GivesText (vars : Bindings) (e : ExprTree) : Type 0 where
   pub gives : eval_of vars e ≡ Ok (Tree.str text)
 
 -- what a call says that has taken one command
-pub record Steps {R : Type 0} (reads : R → ReadList) (complete : R → Bool) (vouches : R → R → ReadList → Type 0) (root : SpecTree) (i : ℕ) (c : CommandTree) (old new : Standing) (was now : R) (result : Result (Option Refusal) Stop) : Type 0 where
-  pub follows : Follows reads complete vouches (came_by i new) no_own was now (pursuit old.overlay (run root i c (standing_of old))) result
+pub record Steps {R : Type 0} (m : Meaning R) (root : SpecTree) (i : ℕ) (c : CommandTree) (old new : Standing) (was now : R) (result : Result (Option Refusal) Stop) : Type 0 where
+  pub follows : GoesBy m (came_by i new) no_own was now (pursuit old.overlay (run root i c (standing_of old))) result
   pub stands : Stands root new.below
   pub awaits : (rest : List CommandTree) → AwaitsBuilt old.variables (c ∷ rest) → IfOk result (λ refusal. IfOn refusal (AwaitsBuilt new.variables rest))
-  pub read : AreRead old.overlay (reads was) → IfOk result (λ refusal. AreRead new.overlay (reads now))
+  pub read : AreRead old.overlay (m.reads was) → IfOk result (λ refusal. AreRead new.overlay (m.reads now))

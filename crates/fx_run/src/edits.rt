@@ -1,10 +1,9 @@
 //! The changes of one edit.
 ghost use Rattle.std.specs.Prelude.{◌≡◌, ◌++◌, ◌∷◌, [], IfOk, OnOk};
 ghost use Rattle.fx_store.specs.Changes.{changed_paths};
-ghost use Rattle.fx_view.specs.Follows.{Follows};
-ghost use Rattle.fx_view.specs.Own.{own_at};
+ghost use Rattle.fx_view.specs.Follows.{GoesBy};
+ghost use Rattle.fx_view.specs.Own.{own_at, put_all};
 ghost use Rattle.fx_run.specs.Making.{change_to, looking};
-ghost use Rattle.fx_run.specs.Pursuing.{put_all};
 
 use fx_base::NoMemory;
 use fx_store::{Change, Node, Path};
@@ -71,7 +70,7 @@ impl Edits {
         reader: &mut R,
         overlay: &Overlay,
     ) -> Result<(), Stop>
-        ensures { Follows R.reads R.complete R.vouches (λ u. u) (own_at overlay.now) reader.old reader.new (looking (changed_paths self.now)) result }
+        ensures { GoesBy R.meaning (λ u. u) (own_at overlay.now) reader.old reader.new (looking (changed_paths self.now)) result }
     {
         for i in 0..self.changes.len() {
             match look(alloc, reader, overlay, &self.changes[i].path) {

@@ -43,7 +43,7 @@ fn attempt<R: Reader>(
     requires spec { is_built_spec (spec_tree root.now) ≡ true }
     requires commands { is_built_txn commands.now ≡ true }
     requires few { length commands.now < 2 ^ 32 }
-    ensures { Finishes R.reads R.complete R.vouches (spec_tree root.now) commands.now shell txn reader.old reader.new result }
+    ensures { Finishes R.meaning (spec_tree root.now) commands.now shell txn reader.old reader.new result }
 {
     let course = match pursue(alloc, reader, root, commands) {
         Ok(course) => course,
@@ -76,10 +76,10 @@ pub fn run<R: Reader>(
     requires spec { is_built_spec base.now.value.description ≡ true }
     requires plan { is_built_plan base.now.value.plan ≡ true }
     requires planned { IsSome (txn_of base.now.value.plan (shell, txn)) }
-    requires fit { ReadsFit (base_tree base.now.value) (shell, txn) (R.reads reader.old) }
+    requires fit { ReadsFit (base_tree base.now.value) (shell, txn) (R.meaning.reads reader.old) }
     ensures explained { IfOk result (IsExplained (base_tree base.now.value)) }
-    ensures attempted { IfOk result (Attempted R.reads R.complete R.vouches reader.old reader.new shell txn) }
-    ensures stopped { IfErr result (StoppedAt R.reads R.complete R.vouches (base_tree base.now.value) (shell, txn) reader.old reader.new) }
+    ensures attempted { IfOk result (Attempted R.meaning reader.old reader.new shell txn) }
+    ensures stopped { IfErr result (StoppedAt R.meaning (base_tree base.now.value) (shell, txn) reader.old reader.new) }
 {
     let commands = commands_of(&base.plan, shell, txn);
     attempt(alloc, base.description.spec(), commands, shell, txn, reader)

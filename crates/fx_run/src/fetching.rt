@@ -11,7 +11,7 @@ ghost use Rattle.fx_spec.specs.Move as move;
 ghost use Rattle.fx_spec.specs.Place.{placed};
 ghost use Rattle.fx_spec.specs.Views.{spec_tree};
 ghost use Rattle.fx_forms.specs.Built.{is_built_spec, is_built_focus};
-ghost use Rattle.fx_view.specs.Follows.{Follows};
+ghost use Rattle.fx_view.specs.Follows.{GoesBy};
 ghost use Rattle.fx_view.specs.Own.{own_at};
 ghost use Rattle.fx_run.specs.Answering.{answered};
 ghost use Rattle.fx_run.specs.Rules as rules;
@@ -60,7 +60,7 @@ fn landed_text<R: Reader>(
     overlay: &Overlay,
     landing: &Landing,
 ) -> Result<Option<Text>, Stop>
-    ensures { Follows R.reads R.complete R.vouches (option_map (λ t. Tree.str t)) (own_at overlay.now) reader.old reader.new (describe.landed_value describe.file_value landing.now) result }
+    ensures { GoesBy R.meaning (option_map (λ t. Tree.str t)) (own_at overlay.now) reader.old reader.new (describe.landed_value describe.file_value landing.now) result }
 {
     match landing {
         Landing::At(q) => match look(alloc, reader, overlay, q) {
@@ -80,7 +80,7 @@ fn file_text<R: Reader>(
     overlay: &Overlay,
     path: &Path,
 ) -> Result<Option<Text>, Stop>
-    ensures { Follows R.reads R.complete R.vouches (option_map (λ t. Tree.str t)) (own_at overlay.now) reader.old reader.new (describe.content describe.file_value true path.now) result }
+    ensures { GoesBy R.meaning (option_map (λ t. Tree.str t)) (own_at overlay.now) reader.old reader.new (describe.content describe.file_value true path.now) result }
 {
     let landing = match resolve(alloc, reader, overlay, path, true) {
         Ok(landing) => landing,
@@ -105,7 +105,7 @@ fn fetch_file<R: Reader>(
     overlay: &Overlay,
     path: &Path,
 ) -> Result<Result<Text, Refusal>, Stop>
-    ensures { Follows R.reads R.complete R.vouches (answered (λ t. Tree.str t)) (own_at overlay.now) reader.old reader.new (rules.file_text path.now) result }
+    ensures { GoesBy R.meaning (answered (λ t. Tree.str t)) (own_at overlay.now) reader.old reader.new (rules.file_text path.now) result }
 {
     match file_text(alloc, reader, overlay, path) {
         Ok(found) => Ok(or_lacks(found)),
@@ -122,7 +122,7 @@ pub(crate) fn fetched<R: Reader>(
     part: &Spec,
 ) -> Result<Result<Text, Refusal>, Stop>
     requires { is_built_spec (spec_tree part.now) ≡ true }
-    ensures { Follows R.reads R.complete R.vouches (answered (λ t. Tree.str t)) (own_at overlay.now) reader.old reader.new (move.fetch_at ShapeTree.str (placed path.now [] (spec_tree part.now))) result }
+    ensures { GoesBy R.meaning (answered (λ t. Tree.str t)) (own_at overlay.now) reader.old reader.new (move.fetch_at ShapeTree.str (placed path.now [] (spec_tree part.now))) result }
 {
     match part {
         Spec::File => fetch_file(alloc, reader, overlay, path),

@@ -39,9 +39,9 @@ fn read_again<R: Reader>(
     reader: &mut R,
     path: &Path,
 ) -> Result<Option<Node>, NoMemory>
-    requires { IsRead (R.reads reader.old) path.now }
-    ensures node { IfOk result (λ node. known_of (R.reads reader.old) path.now ≡ Some node) }
-    ensures kept { KeepsAll R.reads R.complete R.vouches reader.old reader.new }
+    requires { IsRead (R.meaning.reads reader.old) path.now }
+    ensures node { IfOk result (λ node. known_of (R.meaning.reads reader.old) path.now ≡ Some node) }
+    ensures kept { KeepsAll R.meaning reader.old reader.new }
 {
     match reader.read(alloc, path) {
         Ok(node) => Ok(node),
@@ -52,9 +52,9 @@ fn read_again<R: Reader>(
 
 /// What was read at the paths of the own changes.
 fn copied<R: Reader>(alloc: Global, reader: &mut R, overlay: &Overlay) -> Result<Reads, NoMemory>
-    requires { AreRead overlay.now (R.reads reader.old) }
-    ensures copy { IfOk result (IsCopy overlay.now (R.reads reader.old)) }
-    ensures kept { KeepsAll R.reads R.complete R.vouches reader.old reader.new }
+    requires { AreRead overlay.now (R.meaning.reads reader.old) }
+    ensures copy { IfOk result (IsCopy overlay.now (R.meaning.reads reader.old)) }
+    ensures kept { KeepsAll R.meaning reader.old reader.new }
 {
     let mut kept = Reads::new(alloc);
     'copying: for i in 0..overlay.len() {
@@ -73,9 +73,9 @@ fn copied<R: Reader>(alloc: Global, reader: &mut R, overlay: &Overlay) -> Result
 
 /// Finishes a course that was not refused.
 fn done<R: Reader>(alloc: Global, reader: &mut R, overlay: Overlay) -> Result<Changes, NoMemory>
-    requires { AreRead overlay (R.reads reader.old) }
-    ensures kept { KeepsAll R.reads R.complete R.vouches reader.old reader.new }
-    ensures net { IfOk result (λ changes. IsNet overlay (R.reads reader.old) changes × IsChanges changes) }
+    requires { AreRead overlay (R.meaning.reads reader.old) }
+    ensures kept { KeepsAll R.meaning reader.old reader.new }
+    ensures net { IfOk result (λ changes. IsNet overlay (R.meaning.reads reader.old) changes × IsChanges changes) }
 {
     let reads = match copied(alloc, reader, &overlay) {
         Ok(reads) => reads,
@@ -91,9 +91,9 @@ pub(crate) fn finish<R: Reader>(
     reader: &mut R,
     course: Course,
 ) -> Result<Finished, NoMemory>
-    requires { AreRead course.standing.overlay (R.reads reader.old) }
-    ensures kept { KeepsAll R.reads R.complete R.vouches reader.old reader.new }
-    ensures finished { IfOk result (IsFinished course (R.reads reader.old)) }
+    requires { AreRead course.standing.overlay (R.meaning.reads reader.old) }
+    ensures kept { KeepsAll R.meaning reader.old reader.new }
+    ensures finished { IfOk result (IsFinished course (R.meaning.reads reader.old)) }
 {
     let Course {
         standing,

@@ -2,10 +2,9 @@
 ghost use Rattle.std.specs.Prelude.{◌≡◌, ◌^◌, ◌<◌, true, length, IfOk};
 ghost use Rattle.fx_spec.specs.Views.{spec_tree};
 ghost use Rattle.fx_forms.specs.Built.{is_built_spec, is_built_txn};
-ghost use Rattle.fx_view.specs.Follows.{Follows};
-ghost use Rattle.fx_view.specs.Own.{AreRead};
+ghost use Rattle.fx_view.specs.Follows.{GoesBy};
+ghost use Rattle.fx_view.specs.Own.{AreRead, no_own};
 ghost use Rattle.fx_run.specs.Course.{pursued, came_of};
-ghost use Rattle.fx_run.specs.Pursuing.{no_own};
 
 use crate::standing::Standing;
 use fx_spec::{Commands, Refusal, Spec};
@@ -30,8 +29,8 @@ pub(crate) fn pursue<R: Reader>(
     requires spec { is_built_spec (spec_tree root.now) ≡ true }
     requires commands { is_built_txn commands.now ≡ true }
     requires few { length commands.now < 2 ^ 32 }
-    ensures follows { Follows R.reads R.complete R.vouches came_of no_own reader.old reader.new (pursued (spec_tree root.now) commands.now) result }
-    ensures read { IfOk result (λ c. AreRead c.standing.overlay (R.reads reader.new)) }
+    ensures follows { GoesBy R.meaning came_of no_own reader.old reader.new (pursued (spec_tree root.now) commands.now) result }
+    ensures read { IfOk result (λ c. AreRead c.standing.overlay (R.meaning.reads reader.new)) }
 {
     let mut standing = Standing::new(alloc);
     'pursuing: for i in 0..commands.len() {

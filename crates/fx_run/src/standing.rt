@@ -10,10 +10,10 @@ ghost use Rattle.fx_spec.specs.Move as move;
 ghost use Rattle.fx_spec.specs.Transaction.{run};
 ghost use Rattle.fx_spec.specs.Views.{act_tree, command_tree, spec_tree};
 ghost use Rattle.fx_forms.specs.Built.{is_built_spec};
-ghost use Rattle.fx_view.specs.Follows.{Follows};
-ghost use Rattle.fx_view.specs.Own.{AreRead};
+ghost use Rattle.fx_view.specs.Follows.{GoesBy};
+ghost use Rattle.fx_view.specs.Own.{AreRead, no_own, put_all};
 ghost use Rattle.fx_run.specs.Answering.{answered};
-ghost use Rattle.fx_run.specs.Pursuing.{no_own, pursuit, put_all};
+ghost use Rattle.fx_run.specs.Pursuing.{pursuit};
 ghost use Rattle.fx_run.specs.Standing.{Stands, path_at, part_at, standing_of, came_by, IsQuiet, Binds, GivesText, Awaits, Steps};
 
 use crate::edits::Edits;
@@ -197,7 +197,7 @@ impl Standing {
     ) -> Result<Option<Refusal>, Stop>
         requires built { is_built_spec (spec_tree root.now) ≡ true }
         requires stands { Stands (spec_tree root.now) self.old.below }
-        ensures follows { Follows R.reads R.complete R.vouches (came_by number self.new) no_own reader.old reader.new (pursuit self.old.overlay (run (spec_tree root.now) number (CommandTree.fetch word.now ShapeTree.str) (standing_of self.old))) result }
+        ensures follows { GoesBy R.meaning (came_by number self.new) no_own reader.old reader.new (pursuit self.old.overlay (run (spec_tree root.now) number (CommandTree.fetch word.now ShapeTree.str) (standing_of self.old))) result }
         ensures below { self.new.below ≡ self.old.below }
         ensures overlay { self.new.overlay ≡ self.old.overlay }
         ensures variables { IfOk result (Binds word.now self.old.variables self.new.variables) }
@@ -233,10 +233,10 @@ impl Standing {
         requires built { is_built_spec (spec_tree root.now) ≡ true }
         requires stands { Stands (spec_tree root.now) self.old.below }
         requires text { GivesText self.old.variables (expr_tree expr.now) }
-        ensures follows { Follows R.reads R.complete R.vouches (came_by number self.new) no_own reader.old reader.new (pursuit self.old.overlay (run (spec_tree root.now) number (CommandTree.act (ActTree.store (expr_tree expr.now))) (standing_of self.old))) result }
+        ensures follows { GoesBy R.meaning (came_by number self.new) no_own reader.old reader.new (pursuit self.old.overlay (run (spec_tree root.now) number (CommandTree.act (ActTree.store (expr_tree expr.now))) (standing_of self.old))) result }
         ensures below { self.new.below ≡ self.old.below }
         ensures variables { self.new.variables ≡ self.old.variables }
-        ensures read { AreRead self.old.overlay (R.reads reader.old) → IfOk result (λ _. AreRead self.new.overlay (R.reads reader.new)) }
+        ensures read { AreRead self.old.overlay (R.meaning.reads reader.old) → IfOk result (λ _. AreRead self.new.overlay (R.meaning.reads reader.new)) }
     {
         let text = match text_of(alloc, expr, &self.variables) {
             Ok(text) => text,
@@ -295,7 +295,7 @@ impl Standing {
         requires built { is_built_spec (spec_tree root.now) ≡ true }
         requires stands { Stands (spec_tree root.now) self.old.below }
         requires awaits { Awaits self.old.variables (CommandTree.act (act_tree act.now)) }
-        ensures { Steps R.reads R.complete R.vouches (spec_tree root.now) number (CommandTree.act (act_tree act.now)) self.old self.new reader.old reader.new result }
+        ensures { Steps R.meaning (spec_tree root.now) number (CommandTree.act (act_tree act.now)) self.old self.new reader.old reader.new result }
     {
         match act {
             Act::Down => match self.go_down(alloc, root) {
@@ -327,7 +327,7 @@ impl Standing {
         requires built { is_built_spec (spec_tree root.now) ≡ true }
         requires stands { Stands (spec_tree root.now) self.old.below }
         requires awaits { Awaits self.old.variables (command_tree command.now) }
-        ensures { Steps R.reads R.complete R.vouches (spec_tree root.now) number (command_tree command.now) self.old self.new reader.old reader.new result }
+        ensures { Steps R.meaning (spec_tree root.now) number (command_tree command.now) self.old self.new reader.old reader.new result }
     {
         match command {
             Command::Do(act) => self.act(alloc, reader, root, number, act),

@@ -8,7 +8,7 @@ ghost use Rattle.fx_spec.specs.Views.{spec_tree};
 ghost use Rattle.fx_spec.specs.Place.{placed};
 ghost use Rattle.fx_spec.specs.Edit as edit;
 ghost use Rattle.fx_forms.specs.Built.{is_built_spec};
-ghost use Rattle.fx_view.specs.Follows.{Follows};
+ghost use Rattle.fx_view.specs.Follows.{GoesBy};
 ghost use Rattle.fx_view.specs.Own.{own_at};
 ghost use Rattle.fx_expr.specs.Sets.{with_text};
 ghost use Rattle.fx_run.specs.Answering.{answered};
@@ -68,7 +68,7 @@ fn replace<R: Reader>(
     path: Path,
     bytes: Bytes,
 ) -> Result<Result<Edits, Refusal>, Stop>
-    ensures { Follows R.reads R.complete R.vouches (answered (λ e. e)) (own_at overlay.now) reader.old reader.new (rule.Look path (edit.replaced path (File bytes))) result }
+    ensures { GoesBy R.meaning (answered (λ e. e)) (own_at overlay.now) reader.old reader.new (rule.Look path (edit.replaced path (File bytes))) result }
 {
     let found = match look(alloc, reader, overlay, &path) {
         Ok(found) => found,
@@ -103,7 +103,7 @@ fn make_in<R: Reader>(
     name: &Name,
     made: Edits,
 ) -> Result<Edits, Stop>
-    ensures { Follows R.reads R.complete R.vouches (λ e. e) (own_at overlay.now) reader.old reader.new (made_in here name.now made) result }
+    ensures { GoesBy R.meaning (λ e. e) (own_at overlay.now) reader.old reader.new (made_in here name.now made) result }
 {
     let found = match look(alloc, reader, overlay, &here) {
         Ok(found) => found,
@@ -129,7 +129,7 @@ fn make<R: Reader>(
     bytes: &Bytes,
 ) -> Result<Result<Edits, Refusal>, Stop>
     requires { length here + length names.now ≤ 64 }
-    ensures { Follows R.reads R.complete R.vouches (answered (λ e. e)) (own_at overlay.now) reader.old reader.new (edit.make here names.now (File bytes.now)) result }
+    ensures { GoesBy R.meaning (answered (λ e. e)) (own_at overlay.now) reader.old reader.new (edit.make here names.now (File bytes.now)) result }
 {
     let name = match names.at(0) {
         Some(name) => name,
@@ -154,7 +154,7 @@ fn store_landed<R: Reader>(
     landing: Landing,
     bytes: Bytes,
 ) -> Result<Result<Edits, Refusal>, Stop>
-    ensures { Follows R.reads R.complete R.vouches (answered (λ e. e)) (own_at overlay.now) reader.old reader.new (edit.store_landed path.now (File bytes) landing) result }
+    ensures { GoesBy R.meaning (answered (λ e. e)) (own_at overlay.now) reader.old reader.new (edit.store_landed path.now (File bytes) landing) result }
 {
     match landing {
         Landing::At(q) => replace(alloc, reader, overlay, q, bytes),
@@ -180,7 +180,7 @@ fn store_file<R: Reader>(
     path: &Path,
     bytes: Bytes,
 ) -> Result<Result<Edits, Refusal>, Stop>
-    ensures { Follows R.reads R.complete R.vouches (answered (λ e. e)) (own_at overlay.now) reader.old reader.new (file_store path.now bytes) result }
+    ensures { GoesBy R.meaning (answered (λ e. e)) (own_at overlay.now) reader.old reader.new (file_store path.now bytes) result }
 {
     let landing = match resolve(alloc, reader, overlay, path, true) {
         Ok(landing) => landing,
@@ -199,7 +199,7 @@ pub(crate) fn stored<R: Reader>(
     text: Text,
 ) -> Result<Result<Edits, Refusal>, Stop>
     requires { is_built_spec (spec_tree part.now) ≡ true }
-    ensures { Follows R.reads R.complete R.vouches (answered (λ e. e)) (own_at overlay.now) reader.old reader.new (edit.store_at (Tree.str text) (placed path.now [] (spec_tree part.now))) result }
+    ensures { GoesBy R.meaning (answered (λ e. e)) (own_at overlay.now) reader.old reader.new (edit.store_at (Tree.str text) (placed path.now [] (spec_tree part.now))) result }
 {
     match part {
         Spec::File => store_file(alloc, reader, overlay, path, content(text)),

@@ -3,7 +3,7 @@ use Rattle.std.proofs.Common.{◌≡◌, ℕ, ◌+◌, Bool, true, false, cond, 
 use mathlib.Core.Path.{fun_ext}
 use Rattle.std.specs.FinMap.{get}
 use Rattle.fx_store.specs.declared.changes.Change.{Change}
-use Rattle.fx_store.specs.Rule.{Ask, Answer, Look, answer}
+use Rattle.fx_store.specs.Rule.{Ask, Answer, Look, Tick, answer}
 use Rattle.fx_store.specs.Whole.{Store, Nodes, IsWhole, over}
 use Rattle.fx_store.proofs.Asks.{answer-bind}
 use Rattle.fx_expr.specs.Eval.{eval_of, text_in, names_in, truth_in}
@@ -37,6 +37,7 @@ whole_after (Sets cs next) S whole safe = whole_after next (over S cs) safe.0 sa
 safe-asking : {A B : Type 0} (rule : Ask A) (next : A → Task B) (S : Store) → IsSafe S (next (answer S rule)) → IsSafe S (asking rule next)
 safe-asking (Answer a) next S safe = safe
 safe-asking (Look p rule) next S safe = safe-asking (rule (S p)) next S safe
+safe-asking (Tick rule) next S safe = safe-asking rule next S safe
 
 -- a task, and then one that is safe wherever the filestore is whole
 safe-then : {A B : Type 0} (t : Task A) (next : A → Task B) (S : Store) → IsWhole S → IsSafe S t → ((a : A) (T : Store) → IsWhole T → IsSafe T (next a)) → IsSafe S (t >=> next)

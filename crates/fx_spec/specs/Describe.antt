@@ -9,7 +9,7 @@ use Rattle.fx_store.specs.declared.node.Landing.TheVariants.{At}
 use Rattle.fx_store.specs.declared.name.PathFault.{PathFault}
 use Rattle.fx_store.specs.declared.name.PathFault.TheVariants.{BadName, TooDeep, NoMemory}
 use Rattle.fx_store.specs.Faults.{extended}
-use Rattle.fx_store.specs.Rule.{Ask, Answer, Look, ◌>>=◌}
+use Rattle.fx_store.specs.Rule.{Ask, Answer, Look, Tick, ◌>>=◌}
 use Rattle.fx_store.specs.Resolve.{resolve}
 use Rattle.fx_expr.specs.Bindings.{bind}
 use Rattle.fx_expr.specs.Eval.{Outcome, eval_of, text_in, names_in, truth_in}
@@ -89,14 +89,15 @@ abbrev pub truth : Outcome → Option Tree
 truth (Ok v) = cond (truth_in v) (Some (Tree.bool true)) None
 truth (Err f) = None
 
--- the value of a description at a path, where these names are bound
+-- the value of a description at a path, where these names are bound; a focus, a comprehension and a predicate evaluate their
+-- expression
 unfoldable pub value : List (List ℕ) → Bindings → SpecTree → Ask (Option Tree)
 value p env SpecTree.file = content file_value true p
 value p env SpecTree.dir = content dir_value true p
 value p env SpecTree.link = content link_value false p
-value p env (SpecTree.focus e s) = at_focus (λ q. value q env s) (focus_path p (eval_of env e))
+value p env (SpecTree.focus e s) = Tick (at_focus (λ q. value q env s) (focus_path p (eval_of env e)))
 value p env (SpecTree.pair x a b) =
     value p env a >>= with_some λ v. value p (bind env x v) b >>= λ w. Answer (option_map (Tree.pair v) w)
-value p env (SpecTree.comp s x e) = table (λ t. value p (bind env x (Tree.str t)) s) (eval_of env e)
+value p env (SpecTree.comp s x e) = Tick (table (λ t. value p (bind env x (Tree.str t)) s) (eval_of env e))
 value p env (SpecTree.opt s) = exists p >>= option (value p env s)
-value p env (SpecTree.pred e) = Answer (truth (eval_of env e))
+value p env (SpecTree.pred e) = Tick (Answer (truth (eval_of env e)))

@@ -6,7 +6,7 @@ use Rattle.std.specs.Ordering.{eq_by_cmp}
 use Rattle.fx_store.specs.declared.node.Node.{Node}
 use Rattle.fx_store.specs.declared.changes.Change.{Change}
 use Rattle.fx_store.specs.Names.{path_cmp}
-use Rattle.fx_store.specs.Rule.{Ask, Answer, Look}
+use Rattle.fx_store.specs.Rule.{Ask, Answer, Look, Tick}
 use Rattle.fx_store.specs.Whole.{Store, over}
 
 pub data Task (A : Type 0) : Type 0 where
@@ -39,6 +39,7 @@ written S (Sets changes next) = changes ++ written (over S changes) next
 abbrev pub asking : {A B : Type 0} → Ask A → (A → Task B) → Task B
 asking (Answer a) next = next a
 asking (Look p rule) next = Looks p (λ n. asking (rule n) next)
+asking (Tick rule) next = asking rule next
 
 -- one task, and then the one that goes on with its end
 infixl 40 ◌>=>◌

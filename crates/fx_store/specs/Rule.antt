@@ -1,28 +1,39 @@
--- Rules that consult a filestore. A rule is a tree of looks: it ends in an answer, or names a path and goes on with the node
--- that is there, or with none. What a rule answers and which paths it consults are both read off this one tree.
-use Rattle.std.specs.Prelude.{◌≡◌, ℕ, cond, List, [], ◌∷◌, Option, Some, None, IsSome, is_some}
+-- Rules that consult a filestore. A rule is a tree of looks: it ends in an answer, names a path and goes on with the node that
+-- is there, or with none, or evaluates an expression. What a rule answers, which paths it consults and how often it evaluates
+-- are all read off this one tree.
+use Rattle.std.specs.Prelude.{◌≡◌, ℕ, ◌+◌, cond, List, [], ◌∷◌, Option, Some, None, IsSome, is_some}
 use Rattle.fx_store.specs.declared.node.Node.{Node}
 use Rattle.fx_store.specs.Whole.{Store}
 
 pub data Ask (A : Type 0) : Type 0 where
   Answer : A → Ask A
   Look : List (List ℕ) → (Option Node → Ask A) → Ask A
+  Tick : Ask A → Ask A
 
 -- what the rule answers at a filestore
 abbrev pub answer : {A : Type 0} → Store → Ask A → A
 answer S (Answer a) = a
 answer S (Look p next) = answer S (next (S p))
+answer S (Tick rule) = answer S rule
 
 -- the paths that the rule consults at a filestore, in order
 abbrev pub asked : {A : Type 0} → Store → Ask A → List (List (List ℕ))
 asked S (Answer a) = []
 asked S (Look p next) = p ∷ asked S (next (S p))
+asked S (Tick rule) = asked S rule
+
+-- how often the rule evaluates an expression at a filestore
+abbrev pub ticks : {A : Type 0} → Store → Ask A → ℕ
+ticks S (Answer a) = 0
+ticks S (Look p next) = ticks S (next (S p))
+ticks S (Tick rule) = 1 + ticks S rule
 
 -- the one rule, and then the one that goes on with its answer
 infixl 40 ◌>>=◌
 abbrev pub ◌>>=◌ : {A B : Type 0} → Ask A → (A → Ask B) → Ask B
 Answer a >>= f = f a
 Look p next >>= f = Look p (λ n. next n >>= f)
+Tick rule >>= f = Tick (rule >>= f)
 
 -- the look at one path
 abbrev pub look : List (List ℕ) → Ask (Option Node)
@@ -56,6 +67,7 @@ if_known p (Some n) on = on n
 abbrev pub follow : {A : Type 0} → Known → Known → Ask A → Outcome A
 follow known own (Answer a) = Found a
 follow known own (Look p next) = if_known p (known p) λ n. follow known own (next (seen (own p) n))
+follow known own (Tick rule) = follow known own rule
 
 -- two filestores have the same at each of the paths
 abbrev pub SameOn : List (List (List ℕ)) → Store → Store → Type 0

@@ -17,7 +17,7 @@ use Rattle.fx_store.specs.Faults.{extended, path_of}
 use Rattle.fx_store.specs.Names.{path_cmp, is_slash, is_name}
 use Rattle.fx_store.specs.Orders.{path_eq_same}
 use Rattle.fx_store.specs.Resolve.{resolve, walk, along, at_name}
-use Rattle.fx_store.specs.Rule.{Ask, Answer, Look, answer, ◌>>=◌}
+use Rattle.fx_store.specs.Rule.{Ask, Answer, Look, Tick, answer, ◌>>=◌}
 use Rattle.fx_store.specs.Whole.{Store, Nodes, IsWhole, update, over}
 use Rattle.fx_store.proofs.Asks.{answer-bind}
 use Rattle.fx_expr.specs.Bindings.{bind, bound, newer_or}
@@ -323,6 +323,7 @@ flat_after P (Sets cs next) S flat safe = flat_after P next (over S cs) safe.0 s
 safe-asking : {A B : Type 0} (P : B → Type 0) (rule : Ask A) (next : A → Task B) (S : Store) → IsSafe P S (next (answer S rule)) → IsSafe P S (asking rule next)
 safe-asking P (Answer a) next S safe = safe
 safe-asking P (Look p rule) next S safe = safe-asking P (rule (S p)) next S safe
+safe-asking P (Tick rule) next S safe = safe-asking P rule next S safe
 
 safe-then : {A B : Type 0} (P : A → Type 0) (Q : B → Type 0) (t : Task A) (next : A → Task B) (S : Store) → IsFlat S → IsSafe P S t → ((a : A) (T : Store) → IsFlat T → P a → IsSafe Q T (next a)) → IsSafe Q S (t >=> next)
 safe-then P Q (Ends a) next S flat safe on = on a S flat safe

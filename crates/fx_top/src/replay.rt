@@ -30,11 +30,7 @@ struct Whole<'a> {
 }
 
 impl Reader for Whole<'_> {
-    ghost reads = { λ w. w.reads };
-
-    ghost complete = { λ _. true };
-
-    ghost vouches = { λ start now reads. Agrees start.reads (get start.store.now.nodes) → (now.store.now.nodes ≡ start.store.now.nodes) × Agrees reads (get now.store.now.nodes) };
+    ghost meaning = { record { reads = λ w. w.reads; complete = λ _. true; vouches = λ start now reads. Agrees start.reads (get start.store.now.nodes) → (now.store.now.nodes ≡ start.store.now.nodes) × Agrees reads (get now.store.now.nodes) } };
 
     fn read(&mut self, alloc: Global, path: &Path) -> Result<Option<Node>, Stop> {
         if let Some((node, _)) = self.reads.get(path) {

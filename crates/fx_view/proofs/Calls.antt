@@ -1,129 +1,117 @@
--- Calls that follow rules: an answer, one look, one call and then the next, and a call that stops.
-use Rattle.std.proofs.Common.{◌≡◌, ℕ, Bool, List, [], ◌∷◌, ◌++◌, Option, Some, None, Result, Ok, Err, refl, ap, ◌∙◌, sym, subst, inl, inr}
+-- Calls that follow rules: an answer, one look, one call and then the next, an evaluation, and a call that stops.
+use Rattle.std.proofs.Common.{◌≡◌, ℕ, ◌+◌, ◌≤◌, List, Option, Some, Result, Ok, Err, refl, ap, sym, subst, arith}
 use Rattle.std.specs.Prelude.{IfOk, IfErr}
-use Rattle.std.proofs.lemmas.List.Elements.{All-contains_itself}
+use mathlib.Core.Path.{fun_ext}
 use Rattle.fx_store.specs.declared.node.Node.{Node}
-use Rattle.fx_store.specs.Rule.{Known, Ask, Answer, look, ◌>>=◌, Found, Needs, seen, if_known, follow}
+use Rattle.fx_store.specs.Rule.{Known, Ask, Answer, Tick, look, ◌>>=◌, seen, answer, ticks, changed}
+use Rattle.fx_store.specs.Whole.{Store}
+use Rattle.fx_store.proofs.Asks.{ticks-bind}
 use Rattle.fx_view.specs.declared.reader.Stop.{Stop}
 use Rattle.fx_view.specs.declared.reader.Stop.TheVariants as stop
-use Rattle.fx_view.specs.ReadList.{ReadList}
-use Rattle.fx_view.specs.Reads.{known_of, read_at}
+use Rattle.fx_view.specs.Meaning.{Meaning}
+use Rattle.fx_view.specs.Reads.{known_of, Agrees}
 use Rattle.fx_view.specs.Answers.{IsReadOf, NeedsIt}
-use Rattle.fx_view.specs.Follows.{walked, walked_on, Went, Follows}
-use Rattle.fx_view.proofs.Growing.{known_by_read, unknown_by_read, read_at-last}
-use Rattle.fx_view.proofs.Rules.{follow-bind, follow-bind_needs, walked-bind, walked-bind_needs, walked-bind_front, found_more, walked_more, follow_own, walked_own}
-use Rattle.fx_view.proofs.Going.{Went-kept, Went-none, Went-front, Went-then, Went-grows}
+use Rattle.fx_view.specs.Follows.{walked, Went, GoesBy, Follows, Consults}
+use Rattle.fx_view.proofs.Rules.{found_answer}
+use Rattle.fx_view.proofs.Going.{Went-grows}
+use Rattle.fx_view.proofs.Rulings.{by_answer, by_refused, by_then, by_stop, by_same, by_own, by_tick, by_look, by_look_refused, by_look_stop, by_look_own}
 
 abbrev Path : Type 0
 Path = List (List ℕ)
 
-module _ {R : Type 0} (reads : R → ReadList) (complete : R → Bool) (vouches : R → R → ReadList → Type 0) where
+module _ {R : Type 0} (m : Meaning R) where
+  -- however a call ends, the reader has gone on
+  pub went_by : {A X : Type 0} (view : X → A) (own : Known) (old new : R) (rule : Ask A) (result : Result X Stop) → GoesBy m view own old new rule result → Went m old new (walked (known_of (m.reads new)) own rule)
+  went_by view own old new rule (Ok x) h = h.1
+  went_by view own old new rule (Err (stop.Needs p)) h = h.2
+  went_by view own old new rule (Err stop.NoMemory) h = h
+
+  -- and a filestore that agrees with its reads agrees with those from before
+  pub agrees_by : {A X : Type 0} (view : X → A) (own : Known) (old new : R) (rule : Ask A) (result : Result X Stop) → GoesBy m view own old new rule result → (S : Store) → Agrees (m.reads new) S → Agrees (m.reads old) S
+  agrees_by view own old new rule result h S agrees p n e =
+      agrees p n ((Went-grows m old new (walked (known_of (m.reads new)) own rule) (went_by view own old new rule result h)).keeps p n e)
+
+  -- ---- a call that counts no evaluation
+
+  pub consults_by : {A X : Type 0} (view : X → A) (own : Known) (old new : R) (rule : Ask A) (result : Result X Stop) → GoesBy m view own old new rule result → Consults m view own old new rule result
+  consults_by view own old new rule result h n = record { goes = h; most = λ S agrees. omega arith }
+
   -- ---- an answer, and a stop before anything was read
 
-  pub follows_answer : {A X : Type 0} (view : X → A) (own : Known) (old : R) (a : A) (x : X) → a ≡ view x → Follows reads complete vouches view own old old (Answer a) (Ok x)
-  follows_answer view own old a x e = (ap (λ a. Found a) e, Went-none reads complete vouches old [])
+  pub follows_answer : {A X : Type 0} (view : X → A) (own : Known) (old : R × ℕ) (a : A) (x : X) → a ≡ view x → Follows m view own old old (Answer a) (Ok x)
+  follows_answer view own old a x e = record { goes = by_answer m view own old.0 a x e; most = λ S agrees. omega arith }
 
-  pub follows_refused : {A X : Type 0} (view : X → A) (own : Known) (old : R) (rule : Ask A) → Follows {A = A} {X = X} reads complete vouches view own old old rule (Err stop.NoMemory)
-  follows_refused view own old rule = Went-none reads complete vouches old (walked (known_of (reads old)) own rule)
+  pub follows_refused : {A X : Type 0} (view : X → A) (own : Known) (old : R × ℕ) (rule : Ask A) → Follows {A = A} {X = X} m view own old old rule (Err stop.NoMemory)
+  follows_refused view own old rule = record { goes = by_refused m view own old.0 rule; most = λ S agrees. omega arith }
+
+  -- ---- an evaluation, and then the rule
+
+  pub follows_tick : {A X : Type 0} (view : X → A) (own : Known) (old : R) (n : ℕ) (new : R × ℕ) (rule : Ask A) (result : Result X Stop) → Follows m view own (old, n + 1) new rule result → Follows m view own (old, n) new (Tick rule) result
+  follows_tick view own old n new rule result h = record { goes = by_tick m view own old new.0 rule result h.goes; most = λ S agrees. let most = h.most S agrees in omega arith }
+
+  -- an evaluation that is refused for want of memory
+  pub follows_tick_refused : {A X : Type 0} (view : X → A) (own : Known) (old : R) (n : ℕ) (rule : Ask A) → Follows {A = A} {X = X} m view own (old, n) (old, n + 1) (Tick rule) (Err stop.NoMemory)
+  follows_tick_refused view own old n rule = follows_tick view own old n (old, n + 1) rule (Err stop.NoMemory) (follows_refused view own (old, n + 1) rule)
 
   -- ---- one rule, and then the next
 
-  module _ {A B X Y : Type 0} (view : X → A) (then_view : Y → B) (own : Known) (old mid : R) (rule : Ask A) (f : A → Ask B) where
-    went_on : (new : R) (x : X) → Follows reads complete vouches view own old mid rule (Ok x) → Went reads complete vouches mid new (walked (known_of (reads new)) own (f (view x)))
-        → (follow (known_of (reads new)) own rule ≡ Found (view x)) × Went reads complete vouches old new (walked (known_of (reads new)) own (rule >>= f))
-    went_on new x first went =
-        let grows = Went-grows reads complete vouches mid new (walked (known_of (reads new)) own (f (view x))) went in
-        let found = found_more (known_of (reads mid)) (known_of (reads new)) own grows rule (view x) first.0 in
-        let same = walked_more (known_of (reads mid)) (known_of (reads new)) own grows rule (view x) first.0 in (
-          found,
-          subst (Went reads complete vouches old new) (ap (λ ps. ps ++ walked (known_of (reads new)) own (f (view x))) (sym same) ∙ sym (walked-bind (known_of (reads new)) own rule f (view x) found))
-              (Went-then reads complete vouches old mid new (walked (known_of (reads mid)) own rule) (walked (known_of (reads new)) own (f (view x))) first.1 went),
-        )
-
+  module _ {A B X Y : Type 0} (view : X → A) (then_view : Y → B) (own : Known) (old mid : R × ℕ) (rule : Ask A) (f : A → Ask B) where
     -- a call that follows the one rule, and then one that follows the next
-    pub follows_then : (new : R) (x : X) (result : Result Y Stop) → Follows reads complete vouches view own old mid rule (Ok x) → Follows reads complete vouches then_view own mid new (f (view x)) result
-        → Follows reads complete vouches then_view own old new (rule >>= f) result
-    follows_then new x (Ok y) first next =
-        let on = went_on new x first next.1 in
-        (follow-bind (known_of (reads new)) own rule f (view x) on.0 ∙ next.0, on.1)
-    follows_then new x (Err (stop.Needs q)) first next =
-        let on = went_on new x first next.2 in
-        (follow-bind (known_of (reads new)) own rule f (view x) on.0 ∙ next.0, sym first.1.same ∙ next.1, on.1)
-    follows_then new x (Err stop.NoMemory) first next = (went_on new x first next).1
+    pub follows_then : (new : R × ℕ) (x : X) (result : Result Y Stop) → Follows m view own old mid rule (Ok x) → Follows m then_view own mid new (f (view x)) result → Follows m then_view own old new (rule >>= f) result
+    follows_then new x result first next = record {
+      goes = by_then m view then_view own old.0 mid.0 rule f new.0 x result first.goes next.goes;
+      most = λ S agrees.
+          let before = agrees_by then_view own mid.0 new.0 (f (view x)) result next.goes S agrees in
+          let is : answer (changed own S) rule ≡ view x = found_answer (known_of (m.reads mid.0)) own S before rule (view x) first.goes.0 in
+          let same = ap (λ a. ticks (changed own S) (f a)) is in
+          omega (arith, first.most S before, next.most S agrees, ticks-bind (changed own S) rule f, same);
+    }
 
     -- where the one call stops, the whole stops
-    pub follows_stop : (why : Stop) → Follows {A = A} {X = X} reads complete vouches view own old mid rule (Err why) → Follows {A = B} {X = Y} reads complete vouches then_view own old mid (rule >>= f) (Err why)
-    follows_stop (stop.Needs q) first = (
-      follow-bind_needs (known_of (reads mid)) own rule f q first.0,
-      first.1,
-      subst (Went reads complete vouches old mid) (sym (walked-bind_needs (known_of (reads mid)) own rule f q first.0)) first.2,
-    )
-    follows_stop stop.NoMemory first =
-        let front = walked-bind_front (known_of (reads mid)) own rule f in
-        Went-front reads complete vouches old mid (walked (known_of (reads mid)) own rule) front.0 (walked (known_of (reads mid)) own (rule >>= f)) front.1 first
+    pub follows_stop : (why : Stop) → Follows {A = A} {X = X} m view own old mid rule (Err why) → Follows {A = B} {X = Y} m then_view own old mid (rule >>= f) (Err why)
+    follows_stop why first = record {
+      goes = by_stop m view then_view own old.0 mid.0 rule f why first.goes;
+      most = λ S agrees. omega (arith, first.most S agrees, ticks-bind (changed own S) rule f);
+    }
 
     -- a call that follows the one rule, and then an answer
-    pub follows_then_answer : (x : X) (y : Y) → Follows reads complete vouches view own old mid rule (Ok x) → f (view x) ≡ Answer (then_view y) → Follows reads complete vouches then_view own old mid (rule >>= f) (Ok y)
+    pub follows_then_answer : (x : X) (y : Y) → Follows m view own old mid rule (Ok x) → f (view x) ≡ Answer (then_view y) → Follows m then_view own old mid (rule >>= f) (Ok y)
     follows_then_answer x y first e =
-        follows_then mid x (Ok y) first (subst (λ (r : Ask B). Follows reads complete vouches then_view own mid mid r (Ok y)) (sym e) (follows_answer then_view own mid (then_view y) y refl))
+        follows_then mid x (Ok y) first (subst (λ (r : Ask B). Follows m then_view own mid mid r (Ok y)) (sym e) (follows_answer then_view own mid (then_view y) y refl))
 
     -- a call that follows the one rule, and then memory is refused
-    pub follows_then_refused : (x : X) → Follows reads complete vouches view own old mid rule (Ok x) → Follows {A = B} {X = Y} reads complete vouches then_view own old mid (rule >>= f) (Err stop.NoMemory)
+    pub follows_then_refused : (x : X) → Follows m view own old mid rule (Ok x) → Follows {A = B} {X = Y} m then_view own old mid (rule >>= f) (Err stop.NoMemory)
     follows_then_refused x first = follows_then mid x (Err stop.NoMemory) first (follows_refused then_view own mid (f (view x)))
 
   -- ---- the same rule, spelled in another way
 
-  pub follows_same : {A X : Type 0} (view : X → A) (own : Known) (old new : R) (rule other : Ask A) (result : Result X Stop) → rule ≡ other → Follows reads complete vouches view own old new rule result → Follows reads complete vouches view own old new other result
-  follows_same {A} {X} view own old new rule other result e h = subst (λ (r : Ask A). Follows reads complete vouches view own old new r result) e h
+  pub follows_same : {A X : Type 0} (view : X → A) (own : Known) (old new : R × ℕ) (rule other : Ask A) (result : Result X Stop) → rule ≡ other → Follows m view own old new rule result → Follows m view own old new other result
+  follows_same {A} {X} view own old new rule other result e h = subst (λ (r : Ask A). Follows m view own old new r result) e h
 
   -- the same own changes, kept in another way
-  pub follows_own : {A X : Type 0} (view : X → A) (own other : Known) (old new : R) (rule : Ask A) (result : Result X Stop) → ((p : Path) → own p ≡ other p) → Follows reads complete vouches view own old new rule result → Follows reads complete vouches view other old new rule result
-  follows_own view own other old new rule (Ok x) same h =
-      (sym (follow_own (known_of (reads new)) own other same rule) ∙ h.0, subst (Went reads complete vouches old new) (walked_own (known_of (reads new)) own other same rule) h.1)
-  follows_own view own other old new rule (Err (stop.Needs q)) same h =
-      (sym (follow_own (known_of (reads new)) own other same rule) ∙ h.0, h.1, subst (Went reads complete vouches old new) (walked_own (known_of (reads new)) own other same rule) h.2)
-  follows_own view own other old new rule (Err stop.NoMemory) same h = subst (Went reads complete vouches old new) (walked_own (known_of (reads new)) own other same rule) h
+  pub follows_own : {A X : Type 0} (view : X → A) (own other : Known) (old new : R × ℕ) (rule : Ask A) (result : Result X Stop) → ((p : Path) → own p ≡ other p) → Follows m view own old new rule result → Follows m view other old new rule result
+  follows_own view own other old new rule result same h = record {
+    goes = by_own m view own other old.0 new.0 rule result same h.goes;
+    most = λ S agrees.
+        let is = ap (λ (T : Store). ticks T rule) (fun_ext (λ p. ap (λ o. seen o (S p)) (same p))) in
+        omega (arith, h.most S agrees, is);
+  }
 
   -- ---- one look
 
-  module _ (own : Known) (old new : R) (path : Path) (same : complete new ≡ complete old) (vouched : (start : R) → vouches start old (reads old) → vouches start new (reads new)) where
-    -- the path is known after the call, and is all that the call has read
-    read_known : (under : Option Node) → IsReadOf (reads old) (reads new) path under → (known_of (reads new) path ≡ Some under) × Went reads complete vouches old new (path ∷ [])
-    read_known under (inl before) =
-        (known_by_read (reads new) path under before.0 (ap (λ rs. read_at rs path) before.2 ∙ before.1), Went-kept reads complete vouches old new (path ∷ []) before.2 same vouched)
-    read_known under (inr added) = (
-      known_by_read (reads new) path under added.0 (ap (λ rs. read_at rs path) added.2 ∙ read_at-last (reads old) path (under, added.0) added.1),
-      record { more = (path, (under, added.0)) ∷ []; kept = added.2; only = All-contains_itself (path ∷ []); same = same; vouched = vouched },
-    )
-
-    went_look : (under : Option Node) → IsReadOf (reads old) (reads new) path under → Went reads complete vouches old new (walked (known_of (reads new)) own (look path))
-    went_look under read =
-        let known = read_known under read in
-        subst (Went reads complete vouches old new) (ap (λ k. walked_on path k (λ n. walked (known_of (reads new)) own (Answer (seen (own path) n)))) (sym known.0)) known.1
-
+  module _ (own : Known) (old new : R) (path : Path) (same : m.complete new ≡ m.complete old) (vouched : (start : R) → m.vouches start old (m.reads old) → m.vouches start new (m.reads new)) where
     -- a read, with the own changes on top
-    pub follows_look : (under top : Option Node) → IsReadOf (reads old) (reads new) path under → top ≡ seen (own path) under → Follows reads complete vouches (λ n. n) own old new (look path) (Ok top)
-    follows_look under top read e =
-        let known = read_known under read in
-        (ap (λ k. if_known path k (λ n. follow (known_of (reads new)) own (Answer (seen (own path) n)))) known.0 ∙ ap (λ n. Found n) (sym e), went_look under read)
+    pub consults_look : (under top : Option Node) → IsReadOf (m.reads old) (m.reads new) path under → top ≡ seen (own path) under → Consults m (λ n. n) own old new (look path) (Ok top)
+    consults_look under top read e = consults_by (λ n. n) own old new (look path) (Ok top) (by_look m own old new path same vouched under top read e)
 
     -- a read, and then memory is refused
-    pub follows_look_refused : (under : Option Node) → IsReadOf (reads old) (reads new) path under → Follows {A = Option Node} {X = Option Node} reads complete vouches (λ n. n) own old new (look path) (Err stop.NoMemory)
-    follows_look_refused under read = went_look under read
+    pub consults_look_refused : (under : Option Node) → IsReadOf (m.reads old) (m.reads new) path under → Consults {A = Option Node} {X = Option Node} m (λ n. n) own old new (look path) (Err stop.NoMemory)
+    consults_look_refused under read = consults_by (λ n. n) own old new (look path) (Err stop.NoMemory) (by_look_refused m own old new path same vouched under read)
 
     -- a read that stops
-    pub follows_look_stop : (why : Stop) → reads new ≡ reads old → NeedsIt (complete old) (reads old) path why → Follows {A = Option Node} {X = Option Node} reads complete vouches (λ n. n) own old new (look path) (Err why)
-    follows_look_stop (stop.Needs q) kept needs =
-        let unknown : known_of (reads new) path ≡ None = unknown_by_read (reads new) path (ap (λ rs. read_at rs path) kept ∙ needs.2) in (
-          ap (λ k. if_known path k (λ n. follow (known_of (reads new)) own (Answer (seen (own path) n)))) unknown ∙ ap (λ p. Needs p) (sym needs.0),
-          needs.1,
-          Went-kept reads complete vouches old new (walked (known_of (reads new)) own (look path)) kept same vouched,
-        )
-    follows_look_stop stop.NoMemory kept needs = Went-kept reads complete vouches old new (walked (known_of (reads new)) own (look path)) kept same vouched
+    pub consults_look_stop : (why : Stop) → m.reads new ≡ m.reads old → NeedsIt (m.complete old) (m.reads old) path why → Consults {A = Option Node} {X = Option Node} m (λ n. n) own old new (look path) (Err why)
+    consults_look_stop why kept needs = consults_by (λ n. n) own old new (look path) (Err why) (by_look_stop m own old new path same vouched why kept needs)
 
     -- a read at a path with an own change, which is copied unless memory is refused
-    pub follows_look_own : (under change : Option Node) (result : Result (Option Node) Stop) → IsReadOf (reads old) (reads new) path under → Some change ≡ own path → IfOk result (λ n. n ≡ change) → IfErr result (λ why. why ≡ stop.NoMemory)
-        → Follows reads complete vouches (λ n. n) own old new (look path) result
-    follows_look_own under change (Ok top) read is copied refused = follows_look under top read (copied ∙ ap (λ o. seen o under) is)
-    follows_look_own under change (Err why) read is copied refused =
-        subst (λ why. Follows {A = Option Node} {X = Option Node} reads complete vouches (λ n. n) own old new (look path) (Err why)) (sym refused) (follows_look_refused under read)
+    pub consults_look_own : (under change : Option Node) (result : Result (Option Node) Stop) → IsReadOf (m.reads old) (m.reads new) path under → Some change ≡ own path → IfOk result (λ n. n ≡ change) → IfErr result (λ why. why ≡ stop.NoMemory) → Consults m (λ n. n) own old new (look path) result
+    consults_look_own under change result read is copied refused = consults_by (λ n. n) own old new (look path) result (by_look_own m own old new path same vouched under change result read is copied refused)

@@ -3,7 +3,7 @@ use Rattle.std.proofs.Common.{◌≡◌, ℕ, Bool, List, [], ◌∷◌, ◌++�
 use Rattle.std.specs.Map.{keys_of}
 use Rattle.std.proofs.lemmas.List.{append-nil}
 use Rattle.std.proofs.lemmas.List.Elements.{All-nil, All-append, All-weaker, Contains-append_left, Contains-append_right}
-use Rattle.fx_view.specs.ReadList.{ReadList}
+use Rattle.fx_view.specs.Meaning.{Meaning}
 use Rattle.fx_view.specs.Reads.{known_of}
 use Rattle.fx_view.specs.Follows.{Went}
 use Rattle.fx_view.proofs.Growing.{Grows, Grows-reads}
@@ -15,28 +15,28 @@ pub keys_of-append : {K X : Type 0} (xs ys : List (K × X)) → keys_of (xs ++ y
 keys_of-append [] ys = refl
 keys_of-append (x ∷ xs) ys = ap (λ ks. x.0 ∷ ks) (keys_of-append xs ys)
 
-module _ {R : Type 0} (reads : R → ReadList) (complete : R → Bool) (vouches : R → R → ReadList → Type 0) where
+module _ {R : Type 0} (m : Meaning R) where
   -- the reader keeps what it has
-  pub Went-kept : (old new : R) (paths : List Path) → reads new ≡ reads old → complete new ≡ complete old → ((start : R) → vouches start old (reads old) → vouches start new (reads new)) → Went reads complete vouches old new paths
+  pub Went-kept : (old new : R) (paths : List Path) → m.reads new ≡ m.reads old → m.complete new ≡ m.complete old → ((start : R) → m.vouches start old (m.reads old) → m.vouches start new (m.reads new)) → Went m old new paths
   Went-kept old new paths kept same vouched =
-      record { more = []; kept = kept ∙ sym (append-nil (reads old)); only = All-nil (Contains paths); same = same; vouched = vouched }
+      record { more = []; kept = kept ∙ sym (append-nil (m.reads old)); only = All-nil (Contains paths); same = same; vouched = vouched }
 
-  pub Went-none : (old : R) (paths : List Path) → Went reads complete vouches old old paths
+  pub Went-none : (old : R) (paths : List Path) → Went m old old paths
   Went-none old paths = Went-kept old old paths refl refl (λ start v. v)
 
-  pub Went-wider : (old new : R) (ps qs : List Path) → ((p : Path) → Contains ps p → Contains qs p) → Went reads complete vouches old new ps → Went reads complete vouches old new qs
+  pub Went-wider : (old new : R) (ps qs : List Path) → ((p : Path) → Contains ps p → Contains qs p) → Went m old new ps → Went m old new qs
   Went-wider old new ps qs within went =
       record { more = went.more; kept = went.kept; only = All-weaker (Contains ps) (Contains qs) within (keys_of went.more) went.only; same = went.same; vouched = went.vouched }
 
   -- over a front of the paths
-  pub Went-front : (old new : R) (ps rest qs : List Path) → qs ≡ ps ++ rest → Went reads complete vouches old new ps → Went reads complete vouches old new qs
+  pub Went-front : (old new : R) (ps rest qs : List Path) → qs ≡ ps ++ rest → Went m old new ps → Went m old new qs
   Went-front old new ps rest qs e went =
-      subst (Went reads complete vouches old new) (sym e) (Went-wider old new ps (ps ++ rest) (λ p h. Contains-append_left ps rest p h) went)
+      subst (Went m old new) (sym e) (Went-wider old new ps (ps ++ rest) (λ p h. Contains-append_left ps rest p h) went)
 
-  pub Went-then : (old mid new : R) (ps qs : List Path) → Went reads complete vouches old mid ps → Went reads complete vouches mid new qs → Went reads complete vouches old new (ps ++ qs)
+  pub Went-then : (old mid new : R) (ps qs : List Path) → Went m old mid ps → Went m mid new qs → Went m old new (ps ++ qs)
   Went-then old mid new ps qs first next = record {
     more = first.more ++ next.more;
-    kept = next.kept ∙ (ap (λ rs. rs ++ next.more) first.kept ∙ append_assoc (reads old) first.more next.more);
+    kept = next.kept ∙ (ap (λ rs. rs ++ next.more) first.kept ∙ append_assoc (m.reads old) first.more next.more);
     only =
         subst (All (Contains (ps ++ qs))) (sym (keys_of-append first.more next.more))
         (All-append (Contains (ps ++ qs)) (keys_of first.more) (keys_of next.more)
@@ -47,10 +47,10 @@ module _ {R : Type 0} (reads : R → ReadList) (complete : R → Bool) (vouches 
   }
 
   -- what was known stays known
-  pub Went-grows : (old new : R) (paths : List Path) → Went reads complete vouches old new paths → Grows (known_of (reads old)) (known_of (reads new))
-  Went-grows old new paths went = subst (λ rs. Grows (known_of (reads old)) (known_of rs)) (sym went.kept) (Grows-reads (reads old) went.more)
+  pub Went-grows : (old new : R) (paths : List Path) → Went m old new paths → Grows (known_of (m.reads old)) (known_of (m.reads new))
+  Went-grows old new paths went = subst (λ rs. Grows (known_of (m.reads old)) (known_of rs)) (sym went.kept) (Grows-reads (m.reads old) went.more)
 
   -- a reader that had read nothing has read these paths alone
-  pub Went-from_none : (old new : R) (paths : List Path) → reads old ≡ [] → Went reads complete vouches old new paths → All (Contains paths) (keys_of (reads new))
+  pub Went-from_none : (old new : R) (paths : List Path) → m.reads old ≡ [] → Went m old new paths → All (Contains paths) (keys_of (m.reads new))
   Went-from_none old new paths none went =
       subst (λ rs. All (Contains paths) (keys_of rs)) (sym (went.kept ∙ ap (λ rs. rs ++ went.more) none)) went.only

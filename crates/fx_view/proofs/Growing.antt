@@ -1,12 +1,13 @@
 -- What is known grows with the reads: what was read at a path stays.
-use Rattle.std.proofs.Common.{◌≡◌, ℕ, Bool, true, false, cond, List, [], ◌∷◌, ◌++◌, Option, Some, None, refl, ap, ◌∙◌, option_map}
+use Rattle.std.proofs.Common.{◌≡◌, ℕ, Bool, true, false, cond, List, [], ◌∷◌, ◌++◌, Option, Some, None, IsSome, refl, ap, ◌∙◌, option_map}
 use Rattle.std.specs.Ordering.{eq_by_cmp}
 use Rattle.fx_store.specs.declared.node.Node.{Node}
 use Rattle.fx_store.specs.Names.{path_cmp}
 use Rattle.fx_store.specs.Rule.{Known}
+use Rattle.fx_store.specs.Whole.{Store}
 use Rattle.fx_store.proofs.Tables.{path_itself}
 use Rattle.fx_view.specs.ReadList.{ReadList}
-use Rattle.fx_view.specs.Reads.{read_at, known_of}
+use Rattle.fx_view.specs.Reads.{read_at, known_of, IsRead, Agrees}
 
 -- what is known of a path stays known
 pub record Grows (known more : Known) : Type 0 where
@@ -48,3 +49,15 @@ known_after (Some x) s n keeps e = ap (option_map (λ (r : Option Node × ℕ). 
 
 pub Grows-reads : (reads more : ReadList) → Grows (known_of reads) (known_of (reads ++ more))
 Grows-reads reads more = record { keeps = λ p n e. known_after (read_at reads p) (read_at (reads ++ more) p) n (read_at-more reads more p) e }
+
+-- a filestore that agrees with reads agrees with the earlier ones
+pub agrees_before : (reads more : ReadList) (S : Store) → Agrees (reads ++ more) S → Agrees reads S
+agrees_before reads more S agrees p n e = agrees p n ((Grows-reads reads more).keeps p n e)
+
+read_by : (o : Option (Option Node × ℕ)) → IsSome (option_map (λ (r : Option Node × ℕ). r.0) o) → IsSome o
+read_by None h = h
+read_by (Some r) h = refl
+
+-- a path that is known was read
+pub read_known : (reads : ReadList) (p : List (List ℕ)) → IsSome (known_of reads p) → IsRead reads p
+read_known reads p h = read_by (read_at reads p) h

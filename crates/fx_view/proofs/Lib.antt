@@ -1,8 +1,12 @@
+pub mod Errors
 pub mod Lookups
 pub mod Growing
 pub mod Rules
 pub mod Going
+pub mod Rulings
 pub mod Calls
+pub mod Courses
+pub mod Lists
 pub mod Components
 pub mod WalkRules
 pub mod Stepping

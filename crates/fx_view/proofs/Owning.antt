@@ -3,14 +3,17 @@ use Rattle.std.proofs.Common.{◌≡◌, ℕ, Bool, true, false, cond, List, [],
 use Rattle.std.specs.Ordering.{eq_by_cmp}
 use Rattle.std.proofs.lemmas.Bool.{true≢false, false≢true}
 use Rattle.fx_store.specs.declared.node.Node.{Node}
+use Rattle.fx_store.specs.declared.changes.Change.{Change}
+use Rattle.fx_store.specs.Changes.{changed_paths}
 use Rattle.fx_store.specs.Names.{path_cmp}
+use Rattle.fx_store.specs.Rule.{AllKnown}
 use Rattle.fx_store.specs.Orders.{path_eq_same}
 use Rattle.fx_store.proofs.Tables.{path_itself}
 use Rattle.fx_view.specs.OwnList.{OwnList}
 use Rattle.fx_view.specs.ReadList.{ReadList}
-use Rattle.fx_view.specs.Reads.{read_at, IsRead}
-use Rattle.fx_view.specs.Own.{own_at, put_own, AreRead}
-use Rattle.fx_view.proofs.Growing.{read_at-more}
+use Rattle.fx_view.specs.Reads.{read_at, known_of, IsRead}
+use Rattle.fx_view.specs.Own.{own_at, put_own, put_all, AreRead}
+use Rattle.fx_view.proofs.Growing.{read_at-more, read_known}
 
 abbrev Path : Type 0
 Path = List (List ℕ)
@@ -58,3 +61,12 @@ IsRead-more reads more path some = at (read_at reads path) refl some
 
 pub AreRead-more : (own : OwnList) (reads more : ReadList) → AreRead own reads → AreRead own (reads ++ more)
 AreRead-more own reads more before q some = IsRead-more reads more q (before q some)
+
+-- over later reads
+pub read_more : (own : OwnList) (old new more : ReadList) → new ≡ old ++ more → AreRead own old → AreRead own new
+read_more own old new more kept read = subst (AreRead own) (sym kept) (AreRead-more own old more read)
+
+-- and with changes at known paths
+pub read_put : (own : OwnList) (reads : ReadList) (cs : List Change) → AllKnown (known_of reads) (changed_paths cs) → AreRead own reads → AreRead (put_all own cs) reads
+read_put own reads [] known read = read
+read_put own reads (c ∷ cs) known read = read_put (put_own own c.path c.node) reads cs known.1 (AreRead-put own reads c.path c.node read (read_known reads c.path known.0))

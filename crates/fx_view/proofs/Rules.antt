@@ -1,8 +1,8 @@
 -- Rules followed over what is known: one after another, over more reads, and against a filestore that agrees.
-use Rattle.std.proofs.Common.{◌≡◌, ℕ, List, [], ◌∷◌, ◌++◌, Option, Some, None, is_some, refl, ap, ◌∙◌, sym, subst}
+use Rattle.std.proofs.Common.{◌≡◌, ℕ, List, [], ◌∷◌, ◌++◌, Option, Some, None, is_some, IsSome, refl, ap, ◌∙◌, sym, subst}
 use Rattle.fx_store.specs.declared.node.Node.{Node}
 use Rattle.fx_store.specs.Whole.{Store}
-use Rattle.fx_store.specs.Rule.{Known, Ask, Answer, Look, answer, asked, ◌>>=◌, Found, Needs, seen, if_known, follow, AgreesWith, FollowedAt, AllKnown, changed, first_unknown}
+use Rattle.fx_store.specs.Rule.{Known, Ask, Answer, Look, Tick, answer, asked, ticks, ◌>>=◌, look_all, Found, Needs, seen, if_known, follow, AgreesWith, FollowedAt, AllKnown, changed, first_unknown}
 use Rattle.fx_store.proofs.Asks.{followed}
 use Rattle.fx_view.specs.Follows.{walked, walked_on}
 use Rattle.fx_view.proofs.Growing.{Grows}
@@ -15,6 +15,7 @@ Path = List (List ℕ)
 -- where the one rule finds its answer, the whole goes on with the next
 pub follow-bind : {A B : Type 0} (known own : Known) (rule : Ask A) (f : A → Ask B) (x : A) → follow known own rule ≡ Found x → follow known own (rule >>= f) ≡ follow known own (f x)
 follow-bind known own (Answer y) f x e = let same : y ≡ x = cc in ap (λ y. follow known own (f y)) same
+follow-bind known own (Tick rule) f x e = follow-bind known own rule f x e
 follow-bind {A} {B} known own (Look p next) f x e = step (known p) e (λ n. follow-bind known own (next (seen (own p) n)) f x)
   where
     step : (k : Option (Option Node)) → if_known p k (λ n. follow known own (next (seen (own p) n))) ≡ Found x
@@ -26,6 +27,7 @@ follow-bind {A} {B} known own (Look p next) f x e = step (known p) e (λ n. foll
 -- what the one rule needs, the whole needs
 pub follow-bind_needs : {A B : Type 0} (known own : Known) (rule : Ask A) (f : A → Ask B) (q : Path) → follow known own rule ≡ Needs q → follow known own (rule >>= f) ≡ Needs q
 follow-bind_needs known own (Answer y) f q e = cc
+follow-bind_needs known own (Tick rule) f q e = follow-bind_needs known own rule f q e
 follow-bind_needs {A} {B} known own (Look p next) f q e = step (known p) e (λ n. follow-bind_needs known own (next (seen (own p) n)) f q)
   where
     step : (k : Option (Option Node)) → if_known p k (λ n. follow known own (next (seen (own p) n))) ≡ Needs q
@@ -37,6 +39,7 @@ follow-bind_needs {A} {B} known own (Look p next) f q e = step (known p) e (λ n
 -- what the whole consults: what the one rule does, and then what the next does
 pub walked-bind : {A B : Type 0} (known own : Known) (rule : Ask A) (f : A → Ask B) (x : A) → follow known own rule ≡ Found x → walked known own (rule >>= f) ≡ walked known own rule ++ walked known own (f x)
 walked-bind known own (Answer y) f x e = let same : y ≡ x = cc in ap (λ y. walked known own (f y)) same
+walked-bind known own (Tick rule) f x e = walked-bind known own rule f x e
 walked-bind {A} {B} known own (Look p next) f x e = step (known p) e (λ n. walked-bind known own (next (seen (own p) n)) f x)
   where
     step : (k : Option (Option Node)) → if_known p k (λ n. follow known own (next (seen (own p) n))) ≡ Found x
@@ -48,6 +51,7 @@ walked-bind {A} {B} known own (Look p next) f x e = step (known p) e (λ n. walk
 -- where the one rule needs a path, the whole consults no more
 pub walked-bind_needs : {A B : Type 0} (known own : Known) (rule : Ask A) (f : A → Ask B) (q : Path) → follow known own rule ≡ Needs q → walked known own (rule >>= f) ≡ walked known own rule
 walked-bind_needs known own (Answer y) f q e = cc
+walked-bind_needs known own (Tick rule) f q e = walked-bind_needs known own rule f q e
 walked-bind_needs {A} {B} known own (Look p next) f q e = step (known p) e (λ n. walked-bind_needs known own (next (seen (own p) n)) f q)
   where
     step : (k : Option (Option Node)) → if_known p k (λ n. follow known own (next (seen (own p) n))) ≡ Needs q
@@ -59,6 +63,7 @@ walked-bind_needs {A} {B} known own (Look p next) f q e = step (known p) e (λ n
 -- the one rule consults a front of what the whole does
 pub walked-bind_front : {A B : Type 0} (known own : Known) (rule : Ask A) (f : A → Ask B) → (rest : List Path) × (walked known own (rule >>= f) ≡ walked known own rule ++ rest)
 walked-bind_front known own (Answer y) f = (walked known own (f y), refl)
+walked-bind_front known own (Tick rule) f = walked-bind_front known own rule f
 walked-bind_front {A} {B} known own (Look p next) f = step (known p) (λ n. walked-bind_front known own (next (seen (own p) n)) f)
   where
     step : (k : Option (Option Node)) → ((n : Option Node) → (rest : List Path) × (walked known own (next (seen (own p) n) >>= f) ≡ walked known own (next (seen (own p) n)) ++ rest))
@@ -72,6 +77,7 @@ module _ {A : Type 0} (known more own : Known) (grows : Grows known more) where
   -- an answer that was found stays found
   pub found_more : (rule : Ask A) (a : A) → follow known own rule ≡ Found a → follow more own rule ≡ Found a
   found_more (Answer b) a e = e
+  found_more (Tick rule) a e = found_more rule a e
   found_more (Look p next) a e = step (known p) refl e (λ n. found_more (next (seen (own p) n)) a)
     where
       step : (k : Option (Option Node)) → known p ≡ k → if_known p k (λ n. follow known own (next (seen (own p) n))) ≡ Found a
@@ -83,6 +89,7 @@ module _ {A : Type 0} (known more own : Known) (grows : Grows known more) where
   -- and the rule consults the same paths
   pub walked_more : (rule : Ask A) (a : A) → follow known own rule ≡ Found a → walked more own rule ≡ walked known own rule
   walked_more (Answer b) a e = refl
+  walked_more (Tick rule) a e = walked_more rule a e
   walked_more (Look p next) a e = step (known p) refl e (λ n. walked_more (next (seen (own p) n)) a)
     where
       step : (k : Option (Option Node)) → known p ≡ k → if_known p k (λ n. follow known own (next (seen (own p) n))) ≡ Found a
@@ -94,6 +101,7 @@ module _ {A : Type 0} (known more own : Known) (grows : Grows known more) where
 -- what a rule consults over what is known is known
 pub walked_known : {A : Type 0} (known own : Known) (rule : Ask A) → AllKnown known (walked known own rule)
 walked_known known own (Answer a) = tt
+walked_known known own (Tick rule) = walked_known known own rule
 walked_known {A} known own (Look p next) = step (known p) refl (λ n. walked_known known own (next (seen (own p) n)))
   where
     step : (k : Option (Option Node)) → known p ≡ k → ((n : Option Node) → AllKnown known (walked known own (next (seen (own p) n)))) → AllKnown known (walked_on p k (λ n. walked known own (next (seen (own p) n))))
@@ -105,6 +113,7 @@ walked_known {A} known own (Look p next) = step (known p) refl (λ n. walked_kno
 module _ {A : Type 0} (known own other : Known) (same : (p : Path) → own p ≡ other p) where
   pub follow_own : (rule : Ask A) → follow known own rule ≡ follow known other rule
   follow_own (Answer a) = refl
+  follow_own (Tick rule) = follow_own rule
   follow_own (Look p next) = step (known p) (λ n. follow_own (next (seen (own p) n)))
     where
       step : (k : Option (Option Node)) → ((n : Option Node) → follow known own (next (seen (own p) n)) ≡ follow known other (next (seen (own p) n)))
@@ -114,6 +123,7 @@ module _ {A : Type 0} (known own other : Known) (same : (p : Path) → own p ≡
 
   pub walked_own : (rule : Ask A) → walked known own rule ≡ walked known other rule
   walked_own (Answer a) = refl
+  walked_own (Tick rule) = walked_own rule
   walked_own (Look p next) = step (known p) (λ n. walked_own (next (seen (own p) n)))
     where
       step : (k : Option (Option Node)) → ((n : Option Node) → walked known own (next (seen (own p) n)) ≡ walked known other (next (seen (own p) n)))
@@ -131,6 +141,7 @@ module _ {A : Type 0} (known own : Known) (S : Store) (agrees : AgreesWith known
   -- and the rule consults just what it consults there
   pub found_asked : (rule : Ask A) (a : A) → follow known own rule ≡ Found a → walked known own rule ≡ asked (changed own S) rule
   found_asked (Answer b) a e = refl
+  found_asked (Tick rule) a e = found_asked rule a e
   found_asked (Look p next) a e = step (known p) refl e (λ n. found_asked (next (seen (own p) n)) a)
     where
       step : (k : Option (Option Node)) → known p ≡ k → if_known p k (λ n. follow known own (next (seen (own p) n))) ≡ Found a
@@ -142,6 +153,7 @@ module _ {A : Type 0} (known own : Known) (S : Store) (agrees : AgreesWith known
   -- where a path is needed, the rule has consulted a front of what it consults there, and that path comes next
   pub needs_asked : (rule : Ask A) (q : Path) → follow known own rule ≡ Needs q → (rest : List Path) × (asked (changed own S) rule ≡ walked known own rule ++ q ∷ rest)
   needs_asked (Answer b) q e = cc
+  needs_asked (Tick rule) q e = needs_asked rule q e
   needs_asked (Look p next) q e = step (known p) refl e (λ n. needs_asked (next (seen (own p) n)) q)
     where
       step : (k : Option (Option Node)) → known p ≡ k → if_known p k (λ n. follow known own (next (seen (own p) n))) ≡ Needs q
@@ -159,6 +171,7 @@ module _ {A : Type 0} (known own : Known) (S : Store) (agrees : AgreesWith known
   -- in each case it has consulted a front of what it consults there
   pub walked_asked : (rule : Ask A) → (rest : List Path) × (asked (changed own S) rule ≡ walked known own rule ++ rest)
   walked_asked (Answer b) = ([], refl)
+  walked_asked (Tick rule) = walked_asked rule
   walked_asked (Look p next) = step (known p) refl (λ n. walked_asked (next (seen (own p) n)))
     where
       step : (k : Option (Option Node)) → known p ≡ k
@@ -172,9 +185,31 @@ module _ {A : Type 0} (known own : Known) (S : Store) (agrees : AgreesWith known
 -- a path that is needed is not known
 pub needs_unknown : {A : Type 0} (known own : Known) (rule : Ask A) (q : Path) → follow known own rule ≡ Needs q → known q ≡ None
 needs_unknown known own (Answer b) q e = cc
+needs_unknown known own (Tick rule) q e = needs_unknown known own rule q e
 needs_unknown {A} known own (Look p next) q e = step (known p) refl e (λ n. needs_unknown known own (next (seen (own p) n)) q)
   where
     step : (k : Option (Option Node)) → known p ≡ k → if_known p k (λ n. follow known own (next (seen (own p) n))) ≡ Needs q
         → ((n : Option Node) → follow known own (next (seen (own p) n)) ≡ Needs q → known q ≡ None) → known q ≡ None
     step None at e rest = let same : p ≡ q = cc in ap known (sym same) ∙ at
     step (Some n) at e rest = rest n e
+
+-- ---- answers that were found
+
+-- where looks at some paths are answered, each is known, and the answer is the one after them
+pub looked : {A : Type 0} (known own : Known) (ps : List Path) (x y : A) → follow known own (look_all ps (Answer x)) ≡ Found y → AllKnown known ps × (x ≡ y)
+looked known own [] x y e = (tt, cc)
+looked {A} known own (p ∷ ps) x y e = step (known p) refl e (λ h. looked known own ps x y h)
+  where
+    step : (k : Option (Option Node)) → known p ≡ k → if_known p k (λ n. follow known own (look_all ps (Answer x))) ≡ Found y → (follow known own (look_all ps (Answer x)) ≡ Found y → AllKnown known ps × (x ≡ y)) → (IsSome (known p) × AllKnown known ps) × (x ≡ y)
+    step None at e rest = cc
+    step (Some n) at e rest = let h = rest e in ((subst (λ o. IsSome o) (sym at) refl, h.0), h.1)
+
+-- where the whole finds an answer, the first rule finds one, and the next finds the whole's from it
+pub found_then : {A B : Type 0} (known own : Known) (rule : Ask A) (f : A → Ask B) (y : B) → follow known own (rule >>= f) ≡ Found y → (x : A) × (follow known own (f x) ≡ Found y)
+found_then known own (Answer x) f y e = (x, e)
+found_then known own (Tick rule) f y e = found_then known own rule f y e
+found_then {A} {B} known own (Look p rule) f y e = step (known p) e (λ n h. found_then known own (rule (seen (own p) n)) f y h)
+  where
+    step : (k : Option (Option Node)) → if_known p k (λ n. follow known own (rule (seen (own p) n) >>= f)) ≡ Found y → ((n : Option Node) → follow known own (rule (seen (own p) n) >>= f) ≡ Found y → (x : A) × (follow known own (f x) ≡ Found y)) → (x : A) × (follow known own (f x) ≡ Found y)
+    step None e rest = cc
+    step (Some n) e rest = rest n e

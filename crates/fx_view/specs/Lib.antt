@@ -3,6 +3,7 @@ pub mod OwnList
 pub mod Reads
 pub mod Own
 pub mod Answers
+pub mod Meaning
 pub mod Follows
 pub mod Ways
 pub mod Walks

@@ -26,6 +26,15 @@ abbrev pub put_own : OwnList → List (List ℕ) → Option Node → OwnList
 put_own [] path node = (path, node) ∷ []
 put_own (e ∷ es) path node = cond (eq_by_cmp path_cmp path e.0) ((e.0, node) ∷ es) (e ∷ put_own es path node)
 
+-- no own changes at all
+abbrev pub no_own : Known
+no_own = own_at []
+
+-- the changes set in order
+abbrev pub put_all : OwnList → List Change → OwnList
+put_all own [] = own
+put_all own (c ∷ cs) = put_all (put_own own c.path c.node) cs
+
 -- each changed path was read
 abbrev pub AreRead : OwnList → ReadList → Type 0
 AreRead own reads = (path : List (List ℕ)) → IsSome (own_at own path) → IsRead reads path

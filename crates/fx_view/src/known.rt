@@ -22,11 +22,7 @@ impl Known {
 }
 
 impl Reader for Known {
-    ghost reads = { λ k. k.reads };
-
-    ghost complete = { λ _. false };
-
-    ghost vouches = { λ start now reads. reads ≡ start.reads };
+    ghost meaning = { record { reads = λ k. k.reads; complete = λ _. false; vouches = λ start now reads. reads ≡ start.reads } };
 
     fn read(&mut self, alloc: Global, path: &Path) -> Result<Option<Node>, Stop> {
         match self.reads.get(path) {

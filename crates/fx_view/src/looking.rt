@@ -1,7 +1,7 @@
 //! One look at a path, with own changes on top.
 ghost use Rattle.std.specs.Prelude.{◌≡◌, IfOk, IfErr};
 ghost use Rattle.fx_store.specs.Rule as rule;
-ghost use Rattle.fx_view.specs.Follows.{Follows};
+ghost use Rattle.fx_view.specs.Follows.{Consults};
 ghost use Rattle.fx_view.specs.Own.{own_at};
 ghost use Rattle.fx_view.specs.declared.reader.Stop.TheVariants.{NoMemory as OutOfMemory};
 
@@ -17,12 +17,9 @@ pub fn look<R: Reader>(
     overlay: &Overlay,
     path: &Path,
 ) -> Result<Option<Node>, Stop>
-    ensures { Follows R.reads R.complete R.vouches (λ n. n) (own_at overlay.now) reader.old reader.new (rule.look path.now) result }
+    ensures follows { Consults R.meaning (λ n. n) (own_at overlay.now) reader.old reader.new (rule.look path.now) result }
 {
-    let node = match reader.read(alloc, path) {
-        Ok(node) => node,
-        Err(stop) => return Err(stop),
-    };
+    let node = reader.read(alloc, path)?;
     match overlay.get(path) {
         None => Ok(node),
         Some(own) => {

@@ -5,9 +5,9 @@ use Rattle.fx_run.proofs.finishing.copied.Goals as goal
 pub read_again-requires : goal.read_again-requires
 read_again-requires g c =
     let r = g.R.Reader in
-    again r.reads r.complete r.vouches c.args.overlay.now c.args.reader.now c.copying.i (c.in-Some.path.now, c.in-Some.field-0-1.now) c.copying.kept c.copying.reader (sym c.in-Some.ensures.change) c.requires c.copying.invariant
+    again r.meaning c.args.overlay.now c.args.reader.now c.copying.i (c.in-Some.path.now, c.in-Some.field-0-1.now) c.copying.kept c.copying.reader (sym c.in-Some.ensures.change) c.requires c.copying.invariant
 
 pub copying-preserved : goal.copying-preserved
 copying-preserved g c =
     let r = g.R.Reader in
-    copying_on r.reads r.complete r.vouches c.args.overlay.now c.args.reader.now c.copying.i (c.in-Some.path.now, c.in-Some.field-0-1.now) c.copying.kept c.keep.new.kept c.in-Ok.node c.copying.reader c.read_again.new.reader (sym c.in-Some.ensures.change) c.in-Ok.ensures.node c.read_again.ensures.kept c.in_ok-keep.ensures c.copying.invariant
+    copying_on r.meaning c.args.overlay.now c.args.reader.now c.copying.i (c.in-Some.path.now, c.in-Some.field-0-1.now) c.copying.kept c.keep.new.kept c.in-Ok.node c.copying.reader c.read_again.new.reader (sym c.in-Some.ensures.change) c.in-Ok.ensures.node c.read_again.ensures.kept c.in_ok-keep.ensures c.copying.invariant

@@ -3,4 +3,4 @@ use Rattle.fx_run.proofs.Loops.{IsPursuing}
 use Rattle.fx_run.proofs.pursuing.pursue.Given as goal
 
 abbrev pub invariant-pursuing : goal.invariant-pursuing
-invariant-pursuing g l = IsPursuing g.R.Reader.reads g.R.Reader.complete g.R.Reader.vouches (spec_tree l.root) l.commands l.initial.reader l.i l.standing l.reader
+invariant-pursuing g l = IsPursuing g.R.Reader.meaning (spec_tree l.root) l.commands l.initial.reader l.i l.standing l.reader

@@ -1,5 +1,5 @@
 use Rattle.std.proofs.Common.{◌≡◌}
-use Rattle.fx_run.specs.Pursuing.{put_all}
+use Rattle.fx_view.specs.Own.{put_all}
 use Rattle.fx_run.proofs.edits.Edits.put_all.Given as goal
 
 abbrev pub invariant-loop-change : goal.invariant-loop-change

@@ -20,7 +20,7 @@ use Rattle.fx_run.proofs.standing.Standing.store.Goals as goal
 pub returns-in-Err-stored-clause-follows : goal.returns-in-Err-stored-clause-follows
 returns-in-Err-stored-clause-follows g c =
     let r = g.R.Reader in
-    step_stop r.reads r.complete r.vouches (answered (λ (e : List Change). e)) (came_by c.args.number c.args.self.now) c.args.self.now.overlay c.args.reader.now c.stored.new.reader (store_at (Tree.str c.in-Ok.text) (placed c.in-Ok-path_of.path [] (spec_tree c.part_of-part.result.now)))
+    step_stop r.meaning (answered (λ (e : List Change). e)) (came_by c.args.number c.args.self.now) c.args.self.now.overlay c.args.reader.now c.stored.new.reader (store_at (Tree.str c.in-Ok.text) (placed c.in-Ok-path_of.path [] (spec_tree c.part_of-part.result.now)))
     (run (spec_tree c.args.root.now) c.args.number (CommandTree.act (ActTree.store (expr_tree c.args.expr.now))) (standing_of c.args.self.now)) (λ (a : Answered (List Change)). or_stop c.args.number (standing_of c.args.self.now) (taking (standing_of c.args.self.now)) (edits a))
     (store_asks (spec_tree c.args.root.now) c.args.self.now.below c.in-Ok-path_of.path (spec_tree c.part_of-part.result.now) c.args.self.now.variables c.args.self.now.outputs c.args.number (expr_tree c.args.expr.now) c.in-Ok.text c.requires.stands c.in-Ok-path_of.ensures c.part_of-part.ensures.part c.in-Ok.ensures)
     c.in-Err-stored.stop c.in-Err-stored.ensures
@@ -28,7 +28,7 @@ returns-in-Err-stored-clause-follows g c =
 pub returns-in-Err-answer-clause-follows : goal.returns-in-Err-answer-clause-follows
 returns-in-Err-answer-clause-follows g c =
     let r = g.R.Reader in
-    step_answer r.reads r.complete r.vouches (answered (λ (e : List Change). e)) (came_by c.args.number c.args.self.now) c.args.self.now.overlay c.args.reader.now c.stored.new.reader (store_at (Tree.str c.in-Ok.text) (placed c.in-Ok-path_of.path [] (spec_tree c.part_of-part.result.now)))
+    step_answer r.meaning (answered (λ (e : List Change). e)) (came_by c.args.number c.args.self.now) c.args.self.now.overlay c.args.reader.now c.stored.new.reader (store_at (Tree.str c.in-Ok.text) (placed c.in-Ok-path_of.path [] (spec_tree c.part_of-part.result.now)))
     (run (spec_tree c.args.root.now) c.args.number (CommandTree.act (ActTree.store (expr_tree c.args.expr.now))) (standing_of c.args.self.now)) (λ (a : Answered (List Change)). or_stop c.args.number (standing_of c.args.self.now) (taking (standing_of c.args.self.now)) (edits a))
     (store_asks (spec_tree c.args.root.now) c.args.self.now.below c.in-Ok-path_of.path (spec_tree c.part_of-part.result.now) c.args.self.now.variables c.args.self.now.outputs c.args.number (expr_tree c.args.expr.now) c.in-Ok.text c.requires.stands c.in-Ok-path_of.ensures c.part_of-part.ensures.part c.in-Ok.ensures)
     c.in-Ok-stored.answer (Some c.in-Err-answer.refusal) c.in-Ok-stored.ensures (ap (λ (r : Result (List Change) Refusal). pursuit c.args.self.now.overlay (or_stop c.args.number (standing_of c.args.self.now) (taking (standing_of c.args.self.now)) (edits (answered (λ (e : List Change). e) r)))) c.in-Err-answer.is)
@@ -36,7 +36,7 @@ returns-in-Err-answer-clause-follows g c =
 pub returns-in-Ok-put_all-clause-follows : goal.returns-in-Ok-put_all-clause-follows
 returns-in-Ok-put_all-clause-follows g c =
     let r = g.R.Reader in
-    step_answer r.reads r.complete r.vouches (answered (λ (e : List Change). e)) (came_by c.args.number (record c.args.self.now { overlay = c.put_all.new.overlay })) c.args.self.now.overlay c.args.reader.now c.stored.new.reader (store_at (Tree.str c.in-Ok.text) (placed c.in-Ok-path_of.path [] (spec_tree c.part_of-part.result.now)))
+    step_answer r.meaning (answered (λ (e : List Change). e)) (came_by c.args.number (record c.args.self.now { overlay = c.put_all.new.overlay })) c.args.self.now.overlay c.args.reader.now c.stored.new.reader (store_at (Tree.str c.in-Ok.text) (placed c.in-Ok-path_of.path [] (spec_tree c.part_of-part.result.now)))
     (run (spec_tree c.args.root.now) c.args.number (CommandTree.act (ActTree.store (expr_tree c.args.expr.now))) (standing_of c.args.self.now)) (λ (a : Answered (List Change)). or_stop c.args.number (standing_of c.args.self.now) (taking (standing_of c.args.self.now)) (edits a))
     (store_asks (spec_tree c.args.root.now) c.args.self.now.below c.in-Ok-path_of.path (spec_tree c.part_of-part.result.now) c.args.self.now.variables c.args.self.now.outputs c.args.number (expr_tree c.args.expr.now) c.in-Ok.text c.requires.stands c.in-Ok-path_of.ensures c.part_of-part.ensures.part c.in-Ok.ensures)
     c.in-Ok-stored.answer None c.in-Ok-stored.ensures (ap (λ (r : Result (List Change) Refusal). pursuit c.args.self.now.overlay (or_stop c.args.number (standing_of c.args.self.now) (taking (standing_of c.args.self.now)) (edits (answered (λ (e : List Change). e) r)))) c.in-Ok-answer.is ∙ ap (λ own. Answer (came (On (standing_of c.args.self.now)) own)) (sym c.in-Ok-put_all.ensures))
@@ -44,7 +44,7 @@ returns-in-Ok-put_all-clause-follows g c =
 pub returns-clause-follows : goal.returns-clause-follows
 returns-clause-follows g c =
     let r = g.R.Reader in
-    step_refused r.reads r.complete r.vouches (answered (λ (e : List Change). e)) (came_by c.args.number (record c.args.self.now { overlay = c.put_all.new.overlay })) c.args.self.now.overlay c.args.reader.now c.stored.new.reader (store_at (Tree.str c.in-Ok.text) (placed c.in-Ok-path_of.path [] (spec_tree c.part_of-part.result.now)))
+    step_refused r.meaning (answered (λ (e : List Change). e)) (came_by c.args.number (record c.args.self.now { overlay = c.put_all.new.overlay })) c.args.self.now.overlay c.args.reader.now c.stored.new.reader (store_at (Tree.str c.in-Ok.text) (placed c.in-Ok-path_of.path [] (spec_tree c.part_of-part.result.now)))
     (run (spec_tree c.args.root.now) c.args.number (CommandTree.act (ActTree.store (expr_tree c.args.expr.now))) (standing_of c.args.self.now)) (λ (a : Answered (List Change)). or_stop c.args.number (standing_of c.args.self.now) (taking (standing_of c.args.self.now)) (edits a))
     (store_asks (spec_tree c.args.root.now) c.args.self.now.below c.in-Ok-path_of.path (spec_tree c.part_of-part.result.now) c.args.self.now.variables c.args.self.now.outputs c.args.number (expr_tree c.args.expr.now) c.in-Ok.text c.requires.stands c.in-Ok-path_of.ensures c.part_of-part.ensures.part c.in-Ok.ensures)
     c.in-Ok-stored.answer c.in-Ok-stored.ensures
@@ -52,9 +52,9 @@ returns-clause-follows g c =
 pub returns-in-Err-answer-clause-read : goal.returns-in-Err-answer-clause-read
 returns-in-Err-answer-clause-read g c =
     let r = g.R.Reader in
-    λ read. read_on r.reads r.complete r.vouches (answered (λ (e : List Change). e)) (own_at c.args.self.now.overlay) c.args.reader.now c.stored.new.reader (store_at (Tree.str c.in-Ok.text) (placed c.in-Ok-path_of.path [] (spec_tree c.part_of-part.result.now))) c.in-Ok-stored.answer c.args.self.now.overlay c.in-Ok-stored.ensures read
+    λ read. read_on r.meaning (answered (λ (e : List Change). e)) (own_at c.args.self.now.overlay) c.args.reader.now c.stored.new.reader (store_at (Tree.str c.in-Ok.text) (placed c.in-Ok-path_of.path [] (spec_tree c.part_of-part.result.now))) c.in-Ok-stored.answer c.args.self.now.overlay c.in-Ok-stored.ensures read
 
 pub returns-in-Ok-put_all-clause-read : goal.returns-in-Ok-put_all-clause-read
 returns-in-Ok-put_all-clause-read g c =
     let r = g.R.Reader in
-    λ read. store_read r.reads r.complete r.vouches c.args.self.now.overlay c.put_all.new.overlay c.args.reader.now c.stored.new.reader c.in-Ok-path_of.path (spec_tree c.part_of-part.result.now) c.in-Ok.text c.in-Ok-answer.edits c.in-Ok-stored.answer c.part_of-part.ensures.built c.in-Ok-answer.is c.in-Ok-put_all.ensures c.in-Ok-stored.ensures read
+    λ read. store_read r.meaning c.args.self.now.overlay c.put_all.new.overlay c.args.reader.now c.stored.new.reader c.in-Ok-path_of.path (spec_tree c.part_of-part.result.now) c.in-Ok.text c.in-Ok-answer.edits c.in-Ok-stored.answer c.part_of-part.ensures.built c.in-Ok-answer.is c.in-Ok-put_all.ensures c.in-Ok-stored.ensures read
