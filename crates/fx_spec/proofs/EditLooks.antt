@@ -1,5 +1,5 @@
 -- An edit looks at each path that it changes.
-use Rattle.std.proofs.Common.{◌≡◌, ℕ, zero, suc, Bool, true, false, cond, refl, sym, subst, List, [], ◌∷◌, ◌++◌, map, Option, Some, None, is_some, Result, Ok, Err}
+use Rattle.std.proofs.Common.{◌≡◌, ℕ, zero, suc, Bool, true, false, cond, refl, sym, subst, List, [], ◌∷◌, ◌++◌, Option, Some, None, Ok, Err}
 use Rattle.std.specs.Prelude.{IsSome}
 use Rattle.fx_store.specs.declared.node.Node.{Node}
 use Rattle.fx_store.specs.declared.node.Node.TheVariants.{File, Dir, Link}
@@ -9,7 +9,7 @@ use Rattle.fx_store.specs.declared.changes.Change.{Change}
 use Rattle.fx_store.specs.Changes.{changed_paths}
 use Rattle.fx_store.specs.Names.{has}
 use Rattle.fx_store.specs.Resolve.{resolve, ◌/ₚ◌, parent}
-use Rattle.fx_store.specs.Rule.{Ask, Answer, Look, Known, Outcome, Found, Needs, seen, if_known, follow, look_all, AllKnown, ◌>>=◌}
+use Rattle.fx_store.specs.Rule.{Ask, Answer, Look, Tick, Known, Found, seen, if_known, follow, look_all, AllKnown, ◌>>=◌}
 use Rattle.fx_expr.specs.Sets.{set_of, with_text}
 use Rattle.fx_expr.specs.Tree.{Tree}
 use Rattle.fx_spec.specs.declared.refusal.Refusal.{Refusal}
@@ -28,6 +28,7 @@ module _ (known own : Known) where
 
   gives_then : {A B : Type 0} (rule : Ask A) (f : A → Ask B) (P : A → Type 0) (Q : B → Type 0) → Gives rule P → ((x : A) → P x → Gives (f x) Q) → Gives (rule >>= f) Q
   gives_then (Answer a) f P Q first next y e = next a (first a refl) y e
+  gives_then (Tick rule) f P Q first next y e = gives_then rule f P Q first next y e
   gives_then {A} {B} (Look p rule) f P Q first next y e = by (known p) (λ n. gives_then (rule (seen (own p) n)) f P Q) first e
     where
       by : (k : Option (Option Node)) → ((n : Option Node) → Gives (rule (seen (own p) n)) P → ((x : A) → P x → Gives (f x) Q) → Gives (rule (seen (own p) n) >>= f) Q)
