@@ -1,4 +1,4 @@
 pub mod Changing
-pub mod Searching
+pub mod Indexes
 pub mod Settling
 pub mod Empty

@@ -21,7 +21,7 @@ use Rattle.fx_store.proofs.Overlays.{over-change_at}
 use Rattle.fx_store.proofs.Stores.{IsWhole-same, get-over_nodes}
 use Rattle.fx_store.proofs.Tables.{path_itself}
 use Rattle.fx_view.specs.ReadList.{ReadList}
-use Rattle.fx_view.specs.Reads.{read_at, Agrees}
+use Rattle.fx_view.specs.Reads.{IsReads, read_at, Agrees}
 use Rattle.fx_spec.specs.declared.base.Base.{Base}
 use Rattle.fx_spec.specs.Bases.{base_tree}
 use Rattle.fx_spec.specs.Plans.{Turn, IsPlan, txn_of}
@@ -36,12 +36,11 @@ use Rattle.fx_machine.specs.Machine.{next_number}
 use Rattle.fx_machine.specs.Passes.{AreTrueReads}
 use Rattle.fx_machine.specs.Measure.{same_node}
 use Rattle.fx_machine.proofs.Legal.{fewer_settled}
-use Rattle.fx_board.specs.Board.{IsEntry, IsBoard, IsStaleRead, IsFreshReads, RefusedAs, log_of, turn_of, settled}
-use Rattle.fx_board.specs.declared.board.Settle.{Settle}
-use Rattle.fx_board.specs.declared.board.Settle.TheVariants as settle
+use Rattle.fx_board.specs.Board.{IsEntry, IsBoard, IsIndex, IsFreshReads, IsNamed, log_of, turn_of, settled}
 use Rattle.fx_board.specs.Growing.{entry_of}
 use Rattle.fx_board.specs.Log.{Log}
-use Rattle.fx_board.specs.Stale.{IsMarked, IsConflict}
+use Rattle.fx_board.specs.Index.{Index, IsNoted, least_stale}
+use Rattle.fx_board.proofs.Indexes.{changes_within, index_more, named, none_stale}
 
 abbrev Path : Type 0
 Path = List (List ℕ)
@@ -169,29 +168,6 @@ order_of entries = map turn_of entries
 pub order_more : (entries : List Entry) (e : Entry) → order_of (entries ++ e ∷ []) ≡ order_of entries ++ turn_of e ∷ []
 order_more entries e = map-append turn_of entries (e ∷ [])
 
--- an entry stands at its turn
-pub entry_at : (entries : List Entry) (i : ℕ) → i < length (order_of entries) → (e : Entry) × (slice_get entries i ≡ Some e)
-entry_at [] i lt = absurd (omega (arith, lt))
-entry_at (e ∷ entries) zero lt = (e, refl)
-entry_at (e ∷ entries) (suc i) lt = let less : i < length (order_of entries) = omega (arith, lt) in entry_at entries i less
-
--- an entry in the way is so by the definition, and the other way round
-pub stale_of : (base : Base) (entries : List Entry) (nodes : Nodes) → IsBoard base entries nodes → (reads : ReadList) (entry : ℕ) (path : Path) → IsMarked entries reads entry path → IsStaleRead (base_tree base) (order_of entries) reads entry path
-stale_of base entries nodes board reads entry path m =
-    let lt : entry < length entries = slice_get_within entries entry m.settled m.stands in
-    let less : entry < length (order_of entries) = rw (length-map entries turn_of) lt in
-    (m.read.0, m.read.1, m.read.2, m.read.3, less, ((board.each entry m.settled m.stands).changed path).0 m.changed)
-
-pub fresh_of : (base : Base) (entries : List Entry) (nodes : Nodes) → IsBoard base entries nodes → (reads : ReadList) → ((entry : ℕ) (path : Path) → IsMarked entries reads entry path → ⊥) → IsFreshReads (base_tree base) (order_of entries) reads
-fresh_of base entries nodes board reads none entry path stale =
-    let found = entry_at entries entry stale.4 in
-    none entry path (record {
-      settled = found.0;
-      stands = found.1;
-      changed = ((board.each entry found.0 found.1).changed path).1 stale.5;
-      read = (stale.0, stale.1, stale.2, stale.3);
-    })
-
 front_at : {X : Type 0} (xs ys : List X) (i : ℕ) (x : X) → slice_get xs i ≡ Some x → slice_get (xs ++ ys) i ≡ Some x
 front_at [] ys i x e = absurd (none-some _ e)
 front_at (y ∷ xs) ys zero x e = e
@@ -242,8 +218,8 @@ entry_new base o a explained next whole agrees up =
           (differs base o a explained next whole agrees up path, changed base o a explained next whole agrees up path));
     }
 
-pub settles : (base : Base) (entries : List Entry) (nodes : Nodes) (a : Attempt) → IsBoard base entries nodes → IsExplained (base_tree base) a → a.txn ≡ next_number (order_of entries) a.shell → Agrees a.reads (get (state (base_tree base) (order_of entries) (length (order_of entries)))) → IsChanges a.changes → IsBoard base (entries ++ entry_of a ∷ []) (over_nodes nodes a.changes)
-settles base entries nodes a board explained next agrees up =
+pub settles : (base : Base) (entries : List Entry) (nodes : Nodes) (index noted : Index) (a : Attempt) → IsBoard base entries nodes index → IsNoted index noted (changed_paths a.changes) (length (order_of entries)) → IsExplained (base_tree base) a → a.txn ≡ next_number (order_of entries) a.shell → Agrees a.reads (get (state (base_tree base) (order_of entries) (length (order_of entries)))) → IsChanges a.changes → IsBoard base (entries ++ entry_of a ∷ []) (over_nodes nodes a.changes) noted
+settles base entries nodes index noted a board notes explained next agrees up =
     let more : order_of (entries ++ entry_of a ∷ []) ≡ order_of entries ++ (a.shell, a.txn) ∷ [] = order_more entries (entry_of a) in
     let log : settled (log_of base entries) a.shell a.txn ≡ log_of base (entries ++ entry_of a ∷ []) = ap (λ (o : List Turn). record { base = base_tree base; order = o }) (sym more) in
     let count : suc (length (order_of entries)) ≡ length (order_of entries ++ (a.shell, a.txn) ∷ []) = omega (arith, length-append (order_of entries) ((a.shell, a.txn) ∷ [])) in
@@ -266,46 +242,42 @@ settles base entries nodes a board explained next agrees up =
           ∙ (sym (next_state (base_tree base) (order_of entries) a explained next board.log.loaded agrees up)
           ∙ (ap (state (base_tree base) (order_of entries ++ (a.shell, a.txn) ∷ [])) count
           ∙ ap (λ o. state (base_tree base) o (length o)) (sym more)));
+      last = subst (λ (l : Log). IsIndex l noted) log (index_more (base_tree base) (order_of entries) (a.shell, a.txn) (changed_paths a.changes) (entry_new (base_tree base) (order_of entries) a explained next board.log.loaded agrees up).changed index noted board.last notes);
     }
 
 -- ---- what the calls say
 
 -- no entries yet
-pub starts : (base : Base) (nodes : Nodes) → IsWhole (get base.loaded.nodes) → IsPlan base.plan → nodes ≡ base.loaded.nodes → IsBoard base [] nodes
+pub starts : (base : Base) (nodes : Nodes) → IsWhole (get base.loaded.nodes) → IsPlan base.plan → nodes ≡ base.loaded.nodes → IsBoard base [] nodes []
 unfolding state
 starts base nodes whole plan same = record {
   log = record { loaded = whole; plan = plan; legal = λ shell. record { in_turn = refl; planned = omega arith } };
   each = λ i e at. absurd (none-some _ at);
   after = same;
+  last = λ path i changes. absurd (omega (arith, changes_within (base_tree base) [] i path changes));
 }
 
 -- with an attempt whose reads are fresh the log is one again
-pub record IsReady (base : Base) (entries : List Entry) (nodes : Nodes) (a : Attempt) : Type 0 where
+pub record IsReady (base : Base) (entries : List Entry) (nodes : Nodes) (index : Index) (a : Attempt) : Type 0 where
   pub whole : IsWhole (over (get nodes) a.changes)
-  pub board : IsBoard base (entries ++ entry_of a ∷ []) (over_nodes nodes a.changes)
+  pub board : (noted : Index) → IsNoted index noted (changed_paths a.changes) (length entries) → IsBoard base (entries ++ entry_of a ∷ []) (over_nodes nodes a.changes) noted
 
-module _ (base : Base) (entries : List Entry) (nodes : Nodes) (board : IsBoard base entries nodes) (a : Attempt) where
-  ready_at : IsExplained (base_tree base) a → a.txn ≡ next_number (order_of entries) a.shell → AreTrueReads (base_tree base) (order_of entries) a.reads → IsFreshReads (base_tree base) (order_of entries) a.reads → IsChanges a.changes → IsReady base entries nodes a
-  ready_at explained next true_ fresh up =
-      let agrees : Agrees a.reads (get (state (base_tree base) (order_of entries) (length (order_of entries)))) = agrees_now (base_tree base) (order_of entries) a.reads true_ fresh in
-      record {
-        whole = subst (λ (n : Nodes). IsWhole (over (get n) a.changes)) (sym board.after) (next_whole (base_tree base) (order_of entries) a explained next board.log.loaded agrees up);
-        board = settles base entries nodes a board explained next agrees up;
-      }
-
-  pub ready : (log : Log) → log_of base entries ≡ log → IsExplained log.base a → a.txn ≡ next_number log.order a.shell → AreTrueReads log.base log.order a.reads → IsFreshReads log.base log.order a.reads → IsChanges a.changes → IsReady base entries nodes a
-  ready log view explained next true_ fresh =
-      ready_at (subst (λ (l : Log). IsExplained l.base a) (sym view) explained) (subst (λ (l : Log). a.txn ≡ next_number l.order a.shell) (sym view) next) (subst (λ (l : Log). AreTrueReads l.base l.order a.reads) (sym view) true_)
+module _ (base : Base) (entries : List Entry) (nodes : Nodes) (index : Index) (board : IsBoard base entries nodes index) (a : Attempt) (log : Log) (view : log_of base entries ≡ log) where
+  pub ready : IsExplained log.base a → a.txn ≡ next_number log.order a.shell → AreTrueReads log.base log.order a.reads → IsFreshReads log.base log.order a.reads → IsChanges a.changes → IsReady base entries nodes index a
+  ready explained next true_ fresh =
+      at (subst (λ (l : Log). IsExplained l.base a) (sym view) explained) (subst (λ (l : Log). a.txn ≡ next_number l.order a.shell) (sym view) next) (subst (λ (l : Log). AreTrueReads l.base l.order a.reads) (sym view) true_)
       (subst (λ (l : Log). IsFreshReads l.base l.order a.reads) (sym view) fresh)
+    where
+      at : IsExplained (base_tree base) a → a.txn ≡ next_number (order_of entries) a.shell → AreTrueReads (base_tree base) (order_of entries) a.reads → IsFreshReads (base_tree base) (order_of entries) a.reads → IsChanges a.changes → IsReady base entries nodes index a
+      at explained next true_ fresh up =
+          let agrees : Agrees a.reads (get (state (base_tree base) (order_of entries) (length (order_of entries)))) = agrees_now (base_tree base) (order_of entries) a.reads true_ fresh in
+          record {
+            whole = subst (λ (n : Nodes). IsWhole (over (get n) a.changes)) (sym board.after) (next_whole (base_tree base) (order_of entries) a explained next board.log.loaded agrees up);
+            board = λ noted notes. settles base entries nodes index noted a board (subst (IsNoted index noted (changed_paths a.changes)) (sym (length-map entries turn_of)) notes) explained next agrees up;
+          }
 
-  -- no entry in the way: the reads are fresh
-  pub is_fresh : (log : Log) → log_of base entries ≡ log → (read : List Entry) → read ≡ entries → ((entry : ℕ) (path : Path) → IsMarked read a.reads entry path → ⊥) → IsFreshReads log.base log.order a.reads
-  is_fresh log view read same none =
-      subst (λ (l : Log). IsFreshReads l.base l.order a.reads) view (fresh_of base entries nodes board a.reads (subst (λ (es : List Entry). (entry : ℕ) (path : Path) → IsMarked es a.reads entry path → ⊥) same none))
+  pub fresh_now : least_stale index a.reads ≡ None → IsFreshReads log.base log.order a.reads
+  fresh_now none = none_stale log index (subst (λ (l : Log). IsIndex l index) view board.last) a.reads none
 
-  -- a refusal for an entry in the way
-  pub refused : (log : Log) → log_of base entries ≡ log → (read : List Entry) → read ≡ entries → (entry : ℕ) (path : Path) (r : Settle) → IsMarked read a.reads entry path → IsConflict entry path a r → RefusedAs log log a r
-  refused log view read same entry path (settle.NoMemory back) marked c = (c, refl)
-  refused log view read same entry path (settle.Conflict e p back) marked c =
-      let own : IsMarked entries a.reads entry path = subst (λ (es : List Entry). IsMarked es a.reads entry path) same marked in
-      (c.2, refl, subst (λ (l : Log). IsStaleRead l.base l.order a.reads e p) view (stale_of base entries nodes board a.reads e p (subst (λ e. IsMarked entries a.reads e p) (sym c.0) (subst (IsMarked entries a.reads entry) (sym c.1) own))))
+  pub named_now : (path : Path) (entry : ℕ) → IsReads a.reads → least_stale index a.reads ≡ Some (path, entry) → IsNamed log a.reads entry path
+  named_now path entry = named log index (subst (λ (l : Log). IsIndex l index) view board.last) a.reads (path, entry)

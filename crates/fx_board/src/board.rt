@@ -1,18 +1,18 @@
-ghost use Rattle.std.specs.Prelude.{◌≡◌, [], IfOk, IfErr, IfSome, None, length, ◌↔◌, ◌≤◌};
+ghost use Rattle.std.specs.Prelude.{◌≡◌, [], IfOk, IfErr, IfSome, None, MatchOption, length, ◌↔◌, ◌≤◌};
 ghost use Rattle.std.specs.FinMap.{get};
 ghost use Rattle.fx_spec.specs.Bases.{base_tree};
 ghost use Rattle.fx_machine.specs.Explained.{IsExplained};
 ghost use Rattle.fx_machine.specs.Machine.{next_number};
 ghost use Rattle.fx_machine.specs.Passes.{AreTrueReads};
-ghost use Rattle.fx_board.specs.Stale.{IsConflict};
-ghost use Rattle.fx_board.specs.Board.{IsLog, IsEntry, last_state, IsFreshReads, started, settled, RefusedAs};
+ghost use Rattle.fx_board.specs.Board.{IsLog, IsEntry, NeverChanged, IsLastChange, last_state, IsFreshReads, started, settled, RefusedAs};
 
 use crate::growing::grow;
-use crate::stale::first_stale;
+use crate::index::{last, note, stale};
 use fx_base::NoMemory;
 use fx_machine::{Attempt, Entry};
 use fx_spec::Base;
 use fx_store::{Filestore, Node, Path};
+use indexmap::IndexMap;
 use std::alloc::Global;
 use std::marker::Model;
 use std::sync::Arc;
@@ -24,6 +24,7 @@ pub struct Board {
     base: Arc<Base>,
     entries: Vec<Entry>,
     store: Filestore,
+    index: IndexMap<Path, u64>,
 }
 
 impl Model for Board {
@@ -37,13 +38,13 @@ impl Model for Board {
 
     ghost view = { λ b. log_of b.base.value b.entries.items };
 
-    ghost invariant = { λ b. IsBoard b.base.value b.entries.items b.store.nodes };
+    ghost invariant = { λ b. IsBoard b.base.value b.entries.items b.store.nodes b.index.entries };
 }
 
 /// Why an attempt is not settled. Both refusals leave the log as it is, and hand the attempt back.
 #[derive(Drop)]
 pub enum Settle {
-    /// This entry changed this path, which the attempt had looked at before.
+    /// The least path that was changed at or after the attempt's look at it, with the last entry that changed it.
     Conflict {
         entry: u64,
         path: Path,
@@ -63,6 +64,7 @@ impl Board {
             base,
             entries: Vec::new(alloc),
             store,
+            index: IndexMap::new(alloc),
         })
     }
 
@@ -109,10 +111,17 @@ impl Board {
         Ok((node, self.entries.len() as u64))
     }
 
-    /// Settles an attempt of the shell's next transaction: it becomes the next entry, whose number is answered; or an entry
-    /// stands in its way, which is answered exactly where some entry has changed a path at or after its look. The attempt
-    /// needs to be explained, and each of its reads to be what stood there at its position. Whatever memory is needed is
-    /// taken before anything is changed.
+    /// The last entry that changed a path; None exactly where none did.
+    pub fn last_change(&self, path: &Path) -> Option<u64>
+        ensures { MatchOption result (NeverChanged self.now path.now) (IsLastChange self.now path.now) }
+    {
+        last(&self.index, path)
+    }
+
+    /// Settles an attempt of the shell's next transaction: it becomes the next entry, whose number is answered; or a
+    /// conflict is answered, exactly where some entry has changed a read path at or after its look. The attempt needs to
+    /// be explained, and each of its reads to be what stood there at its position. Whatever memory is needed is taken
+    /// before anything is changed.
     pub fn settle(&mut self, alloc: Global, attempt: Attempt) -> Result<u64, Settle>
         requires explained { IsExplained self.old.base attempt }
         requires next { attempt.txn ≡ next_number self.old.order attempt.shell }
@@ -122,9 +131,17 @@ impl Board {
         ensures fresh { IfOk result (λ i. IsFreshReads self.old.base self.old.order attempt.reads) }
         ensures refused { IfErr result (RefusedAs self.old self.new attempt) }
     {
-        match first_stale(&self.entries, &attempt.reads) {
-            Some((entry, path)) => Err(conflict(alloc, entry, path, attempt)),
-            None => self.add(alloc, attempt),
+        let (path, entry) = match stale(&self.index, &attempt.reads) {
+            None => return self.add(alloc, attempt),
+            Some(named) => named,
+        };
+        match path.copy(alloc) {
+            Ok(path) => Err(Settle::Conflict {
+                entry,
+                path,
+                attempt,
+            }),
+            Err(NoMemory) => Err(Settle::NoMemory(attempt)),
         }
     }
 
@@ -140,24 +157,19 @@ impl Board {
         ensures refused { IfErr result (RefusedAs self.old self.new attempt) }
     {
         let entry = self.entries.len() as u64;
-        match grow(alloc, &mut self.entries, &mut self.store, attempt) {
-            Ok(changes) => self.store.apply(changes),
-            Err(attempt) => return Err(Settle::NoMemory(attempt)),
-        }
-        Ok(entry)
-    }
-}
-
-/// The refusal of an attempt that the entry stands in the way of.
-fn conflict(alloc: Global, entry: u64, path: &Path, attempt: Attempt) -> Settle
-    ensures { IsConflict entry path.now attempt result }
-{
-    match path.copy(alloc) {
-        Ok(path) => Settle::Conflict {
-            entry,
-            path,
+        match grow(
+            alloc,
+            &mut self.entries,
+            &mut self.store,
+            &mut self.index,
             attempt,
-        },
-        Err(NoMemory) => Settle::NoMemory(attempt),
+        ) {
+            Ok(grown) => {
+                self.store.apply(grown.changes);
+                note(&mut self.index, grown.keys, entry);
+                Ok(entry)
+            }
+            Err(attempt) => Err(Settle::NoMemory(attempt)),
+        }
     }
 }

@@ -3,7 +3,7 @@
 
 mod board;
 mod growing;
-mod stale;
+mod index;
 #[cfg(test)]
 mod tests;
 

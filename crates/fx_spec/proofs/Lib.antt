@@ -6,4 +6,5 @@ pub mod EditsClear
 pub mod EditsKeep
 pub mod EditsMake
 pub mod EditLaws
+pub mod EditLooks
 pub mod Transactions

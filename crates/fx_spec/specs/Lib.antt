@@ -17,3 +17,4 @@ pub mod WellShaped
 pub mod Examples
 pub mod Bases
 pub mod Laws
+pub mod EditLooks

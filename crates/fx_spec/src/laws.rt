@@ -1,5 +1,6 @@
 //! Laws of what descriptions and transactions mean. Each stands on a function that does nothing, so that it is proved with
 //! the crate.
+ghost use Rattle.fx_spec.specs.EditLooks.{EditsLookAtChanges};
 ghost use Rattle.fx_spec.specs.Examples.{FetchesFile, StopsAfterStore, StoreAtRoot, StoresNames, CreatesEntry, JoinsFiles};
 ghost use Rattle.fx_spec.specs.Laws.{UndoneLeavesAll, DependsOnWay, LeavesAsData, CompleteHasEachOnce, PlacesHavePaths, EditsKeepWhole, TransactionsKeepWhole, StatesAreWhole};
 
@@ -41,6 +42,11 @@ pub fn places_have_paths()
 /// An edit that is not refused leaves a whole filestore whole.
 pub fn edits_keep_a_filestore_whole()
     ensures { EditsKeepWhole }
+{}
+
+/// An edit looks at each path that it changes.
+pub fn edits_look_at_what_they_change()
+    ensures { EditsLookAtChanges }
 {}
 
 /// A transaction leaves a whole filestore whole, whatever it does.

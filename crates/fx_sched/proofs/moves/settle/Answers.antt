@@ -20,7 +20,7 @@ returns-in-Err-Conflict-clause-ok c =
       refl,
       record {
         ready = all_read c.args.board.now.base c.args.attempt c.requires.explained;
-        stale = refused.2;
+        stale = refused.2.stale;
         log = refused.1;
         shell = cc (c.new-in-Err-Conflict.ensures);
       },

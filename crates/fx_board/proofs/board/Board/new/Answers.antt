@@ -9,5 +9,5 @@ use Rattle.fx_board.proofs.board.Board.new.Goals as goal
 
 pub invariant_of-result : goal.invariant_of-result
 invariant_of-result c =
-    rw c.new.ensures.items
+    rw (c.new.ensures.items, c.new-2.ensures.empty)
     (starts c.args.base.value c.in_ok-store.store.nodes (subst (λ (b : Base). IsWhole (get b.loaded.nodes)) c.deref-2.ensures c.in_ok-store.ensures.table.whole) (subst (λ (b : Base). IsPlan b.plan) c.deref.ensures c.len.ensures.plan) (ap (λ (t : Table). t.nodes) c.in_ok-store.ensures.copied ∙ ap (λ (b : Base). b.loaded.nodes) c.deref-2.ensures))

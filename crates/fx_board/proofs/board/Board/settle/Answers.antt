@@ -1,10 +1,10 @@
-use Rattle.std.proofs.Common.{refl}
-use Rattle.fx_board.proofs.Settling.{is_fresh, refused}
+use Rattle.std.proofs.Common.{refl, sym}
+use Rattle.fx_board.proofs.Settling.{fresh_now, named_now}
 use Rattle.fx_board.proofs.board.Board.settle.Goals as goal
 
 pub add-requires-clause-fresh : goal.add-requires-clause-fresh
-add-requires-clause-fresh c = is_fresh _ _ _ c.self.invariant c.args.attempt c.args.self.now c.self.view_is _ c.deref.ensures.value (c.in-None.ensures.none refl)
+add-requires-clause-fresh c = fresh_now _ _ _ _ c.self.invariant c.args.attempt c.args.self.now c.self.view_is (sym c.in-None.ensures.least)
 
-pub returns-in-Some-clause-refused : goal.returns-in-Some-clause-refused
-returns-in-Some-clause-refused c =
-    refused _ _ _ c.self.invariant c.args.attempt c.args.self.now c.self.view_is _ c.deref.ensures.value c.in-Some.entry c.in-Some.path.now c.conflict.result c.in-Some.ensures.marked c.conflict.ensures
+pub returns-in-Ok-clause-refused : goal.returns-in-Ok-clause-refused
+returns-in-Ok-clause-refused c =
+    (refl, refl, rw c.in-Ok.ensures.copied (named_now _ _ _ _ c.self.invariant c.args.attempt c.args.self.now c.self.view_is c.in-Some.named.0.now c.in-Some.named.1 c.in-Some.ensures.reads (sym c.in-Some.ensures.least)))
