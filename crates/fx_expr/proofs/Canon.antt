@@ -2,7 +2,7 @@
 use Rattle.std.proofs.Common.{◌≡◌, ℕ, suc, Bool, true, false, ◌||◌, List, [], ◌∷◌, Some, nat_eq, refl, ap, sym, subst, ◌∙◌, arith}
 use Rattle.std.specs.declared.cmp.Ordering.{Ordering}
 use Rattle.std.specs.declared.cmp.Ordering.TheVariants.{Less, Equal, Greater}
-use Rattle.std.specs.Ordering.{nat_cmp, is_eq, ordering_reverse, match_ordering}
+use Rattle.std.specs.Ordering.{nat_cmp, is_eq, match_ordering}
 use Rattle.std.specs.Cmp.Lexicographic.{pointwise, slice_cmp, texts_ties, nat_list_cmp_total, nat_list_eq_equiv}
 use Rattle.std.specs.List.{AllByRecursion, Contains, dedup}
 use Rattle.std.specs.List.Sorted.{IsStrictlySortedBy, IsPermutation, IsSorted}
@@ -11,39 +11,9 @@ use Rattle.std.proofs.lemmas.List.Sorted.{Contains-permutation, IsPermutation-sy
 use Rattle.std.proofs.lemmas.Map.Keys.{any_passes_from_place}
 use Rattle.std.proofs.lemmas.Map.Lookups.{exact_bytes}
 use Rattle.std.proofs.lemmas.Option.{slice_get-get_or}
+use Rattle.fx_base.proofs.Placing.{flipped, flipped_less, all_below, ascending_with}
 use Rattle.fx_expr.specs.Sets.{IsAscending, has_text, with_text, set_of}
 use Rattle.fx_expr.proofs.Order.{same_text, other_greater}
-
-flipped : (x y : List ℕ) → slice_cmp nat_cmp x y ≡ Greater → slice_cmp nat_cmp y x ≡ Less
-flipped x y e = nat_list_cmp_total.antisymm y x ∙ ap ordering_reverse e
-
-flipped_less : (x y : List ℕ) → slice_cmp nat_cmp x y ≡ Less → slice_cmp nat_cmp y x ≡ Greater
-flipped_less x y e = nat_list_cmp_total.antisymm y x ∙ ap ordering_reverse e
-
--- what is below a text is below all that it is below
-all_below : (x y : List ℕ) (xs : List (List ℕ)) → slice_cmp nat_cmp x y ≡ Less → AllByRecursion (λ z. slice_cmp nat_cmp y z ≡ Less) xs → AllByRecursion (λ z. slice_cmp nat_cmp x z ≡ Less) xs
-all_below x y [] e a = tt
-all_below x y (z ∷ xs) e a = (nat_list_cmp_total.trans x y z e a.0, all_below x y xs e a.1)
-
-all_with : (P : List ℕ → Type 0) (x : List ℕ) (xs : List (List ℕ)) → P x → AllByRecursion P xs → AllByRecursion P (with_text x xs)
-all_with P x [] p a = (p, tt)
-all_with P x (y ∷ ys) p a =
-    elim (slice_cmp nat_cmp x y) as (λ o. AllByRecursion P (match_ordering o (x ∷ y ∷ ys) (y ∷ ys) (y ∷ with_text x ys))) [
-      | Less ↦ (p, a)
-      | Equal ↦ a
-      | Greater ↦ (a.0, all_with P x ys p a.1)
-    ]
-
-placed_at : (x y : List ℕ) (ys : List (List ℕ)) → IsAscending (y ∷ ys) → IsAscending (with_text x ys) → (o : Ordering) → slice_cmp nat_cmp x y ≡ o → IsAscending (match_ordering o (x ∷ y ∷ ys) (y ∷ ys) (y ∷ with_text x ys))
-unfolding IsStrictlySortedBy
-placed_at x y ys up more Less e = ((e, all_below x y ys e up.0), up)
-placed_at x y ys up more Equal e = up
-placed_at x y ys up more Greater e = (all_with (λ z. slice_cmp nat_cmp y z ≡ Less) x ys (flipped x y e) up.0, more)
-
-ascending_with : (x : List ℕ) (xs : List (List ℕ)) → IsAscending xs → IsAscending (with_text x xs)
-unfolding IsStrictlySortedBy
-ascending_with x [] up = (tt, tt)
-ascending_with x (y ∷ ys) up = placed_at x y ys up (ascending_with x ys up.1) (slice_cmp nat_cmp x y) refl
 
 pub ascending_set : (xs : List (List ℕ)) → IsAscending (set_of xs)
 unfolding IsStrictlySortedBy
@@ -92,7 +62,7 @@ tied x z e Less f = absurd (let g : true ≡ false = sym e ∙ texts_ties x z �
 tied x z e Equal f = exact_bytes x z f
 tied x z e Greater f = absurd (let g : true ≡ false = sym e ∙ texts_ties x z ∙ ap is_eq f in cc)
 
-nat_list_exact : (x z : List ℕ) → pointwise nat_eq x z ≡ true → x ≡ z
+pub nat_list_exact : (x z : List ℕ) → pointwise nat_eq x z ≡ true → x ≡ z
 nat_list_exact x z e = tied x z e (slice_cmp nat_cmp x z) refl
 
 rest_same : (x : List ℕ) (xs ys : List (List ℕ)) → IsAscending (x ∷ xs) → IsAscending (x ∷ ys) → ((z : List ℕ) → has_text z (x ∷ xs) ≡ has_text z (x ∷ ys)) → (z : List ℕ) → (b : Bool) → pointwise nat_eq x z ≡ b → has_text z xs ≡ has_text z ys

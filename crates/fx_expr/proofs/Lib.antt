@@ -1,6 +1,8 @@
 pub mod Bound
 pub mod Canon
 pub mod Globbing
+pub mod Merging
+pub mod Nearest
 pub mod Numerals
 pub mod Order
 pub mod Shaping

@@ -4,7 +4,7 @@ use Rattle.std.specs.declared.cmp.Ordering.TheVariants.{Less, Greater}
 use Rattle.std.specs.Ordering.{nat_cmp, is_eq, is_lt, ordering_reverse}
 use Rattle.std.specs.Cmp.Lexicographic.{pointwise, slice_cmp, texts_ties, nat_list_cmp_total, nat_list_eq_equiv}
 use Rattle.std.specs.Result.{result_ok}
-use Rattle.std.specs.List.Sorted.{IsStrictlySortedBy, IsSortedBy, IsBinarySearchResult, IsSearchInRange}
+use Rattle.std.specs.List.Sorted.{IsStrictlySortedBy, IsSortedBy, IsBinarySearchResult, IsPartitionPoint, IsSearchInRange}
 use Rattle.std.proofs.lemmas.List.Sorted.{searchable_from_sorted}
 use Rattle.std.proofs.lemmas.List.Folds.{list_any_none}
 use Rattle.std.proofs.lemmas.Map.Keys.{Less-from_sorted, sorted_tail, any_passes_from_place}
@@ -40,12 +40,17 @@ apart xs x i below above =
       | inr h ↦ other_greater (get_or xs k d) x (above k d h lt)
     ]
 
+-- where a binary search ends that doesn't find the text
+pub gap_at : (xs : List (List ℕ)) (x : List ℕ) (i : ℕ) → IsAscending xs → IsBinarySearchResult (λ y. slice_cmp nat_cmp y x) xs (Err i)
+    → IsPartitionPoint (λ y. slice_cmp nat_cmp y x ≡ Less) (λ y. slice_cmp nat_cmp y x ≡ Greater) xs i
+gap_at xs x i up gap = gap (searchable_from_sorted nat_list_cmp_total (λ y. y) xs x (sorted xs up))
+
 -- a binary search finds the text's place, or that it is not there
 pub searched : (xs : List (List ℕ)) (x : List ℕ) (r : Result ℕ ℕ) → IsAscending xs → IsBinarySearchResult (λ y. slice_cmp nat_cmp y x) xs r → IsSearchInRange r (length xs)
     → MatchOption (result_ok r) (has_text x xs ≡ false) (λ i. slice_get xs i ≡ Some x)
 searched xs x (Ok i) up at within = slice_get-get_or xs i x within ∙ ap Some (exact_bytes (get_or xs i x) x (at x))
 searched xs x (Err i) up gap within =
-    let parts = gap (searchable_from_sorted nat_list_cmp_total (λ y. y) xs x (sorted xs up)) in
+    let parts = gap_at xs x i up gap in
     apart xs x i parts.0 parts.1
 
 pub ascending_rest : (x : List ℕ) (xs : List (List ℕ)) → IsAscending (x ∷ xs) → IsAscending xs

@@ -1,9 +1,10 @@
 -- Sets of texts, as strictly ascending lists.
-use Rattle.std.specs.Prelude.{ℕ, ◌+◌, Bool, List, [], ◌∷◌, length, nat_eq}
+use Rattle.std.specs.Prelude.{ℕ, zero, suc, ◌+◌, Bool, cond, List, [], ◌∷◌, Option, Some, None, length, slice_get, nat_eq}
 use Rattle.std.specs.List.{list_any, sum_by}
 use Rattle.std.specs.List.Sorted.{IsStrictlySortedBy}
 use Rattle.std.specs.Cmp.Lexicographic.{pointwise, slice_cmp}
-use Rattle.std.specs.Ordering.{match_ordering, nat_cmp}
+use Rattle.std.specs.Ordering.{is_lt, nat_cmp}
+use Rattle.fx_base.specs.Sets as base
 
 -- each text is below all later ones, in the order of their bytes
 abbrev pub IsAscending : List (List ℕ) → Type 0
@@ -15,8 +16,7 @@ has_text x xs = list_any (λ y. pointwise nat_eq y x) xs
 
 -- the set with one more text, in its place
 abbrev pub with_text : List ℕ → List (List ℕ) → List (List ℕ)
-with_text x [] = x ∷ []
-with_text x (y ∷ ys) = match_ordering (slice_cmp nat_cmp x y) (x ∷ y ∷ ys) (y ∷ ys) (y ∷ with_text x ys)
+with_text = base.with_text
 
 -- the set of these texts, in any order and with repeats
 abbrev pub set_of : List (List ℕ) → List (List ℕ)
@@ -26,3 +26,25 @@ set_of (x ∷ xs) = with_text x (set_of xs)
 -- the bytes of all elements, and one more for each
 abbrev pub weight : List (List ℕ) → ℕ
 weight xs = sum_by (λ x. length x + 1) xs
+
+-- the least text of a set, the least above a text, and the greatest below it
+abbrev pub least : List (List ℕ) → Option (List ℕ)
+least [] = None
+least (t ∷ ts) = Some t
+
+abbrev pub least_above : List ℕ → List (List ℕ) → Option (List ℕ)
+least_above t [] = None
+least_above t (u ∷ us) = cond (is_lt (slice_cmp nat_cmp t u)) (Some u) (least_above t us)
+
+-- the text just before a place
+abbrev pub item_before : ℕ → List (List ℕ) → Option (List ℕ)
+item_before zero ts = None
+item_before (suc i) ts = slice_get ts i
+
+abbrev pub later_or : Option (List ℕ) → Option (List ℕ) → Option (List ℕ)
+later_or (Some t) u = Some t
+later_or None u = u
+
+abbrev pub greatest_below : List ℕ → List (List ℕ) → Option (List ℕ)
+greatest_below t [] = None
+greatest_below t (u ∷ us) = later_or (greatest_below t us) (cond (is_lt (slice_cmp nat_cmp u t)) (Some u) None)

@@ -1,8 +1,9 @@
-ghost use Rattle.std.specs.Prelude.{◌≡◌, ◌++◌, [], ◌∷◌, OnOk, OnErr, length, slice_get, map, take};
+ghost use Rattle.std.specs.Prelude.{◌≡◌, ◌<◌, ◌++◌, [], ◌∷◌, List, ℕ, Some, IfOk, IfSome, OnOk, OnErr, MatchOption, None, length, slice_get, slice_set, map, take};
 ghost use Rattle.std.specs.Option.{option_map};
-ghost use Rattle.fx_expr.specs.Bindings.{bound};
+ghost use Rattle.fx_expr.specs.Bindings.{bound, assigned, or_same, IsNewest};
 ghost use Rattle.fx_expr.specs.Views.{entry_tree, tree_of};
 
+use crate::parts::let_go;
 use crate::value::Value;
 use crate::word::Word;
 use fx_base::NoMemory;
@@ -67,27 +68,82 @@ impl Env {
     pub fn get(&self, word: &Word) -> Option<&Value>
         ensures { option_map (λ value. tree_of value.now) result ≡ bound self.now word.now }
     {
-        newest(self.bindings.as_slice(), word)
+        let bindings = self.bindings.as_slice();
+        match newest(bindings, word) {
+            Some(i) => Some(&bindings[i].1),
+            None => None,
+        }
+    }
+
+    /// Gives a new value to a word's newest binding; changes nothing where the word has none.
+    pub fn set(&mut self, word: &Word, value: Value)
+        ensures { self.new ≡ or_same self.old (assigned word.now (tree_of value) self.old) }
+    {
+        match newest(self.bindings.as_slice(), word) {
+            Some(i) => put(&mut self.bindings, i, value),
+            None => let_go(value),
+        }
+    }
+
+    /// Takes off the newest binding, and gives it; None exactly where there is none.
+    pub fn take_last(&mut self) -> Option<(Word, Value)>
+        ensures { MatchOption result ((self.old ≡ []) × (self.new ≡ [])) (λ binding. self.old ≡ self.new ++ entry_tree binding ∷ []) }
+    {
+        self.bindings.pop()
     }
 
     /// Forgets all bindings but the oldest `len`.
-    pub fn truncate(&mut self, len: u64)
+    pub fn cut(&mut self, len: u64)
         ensures { self.new ≡ take len self.old }
     {
         self.bindings.truncate(len as usize);
     }
+
+    /// An equal environment of its own.
+    pub fn copy(&self, alloc: Global) -> Result<Env, NoMemory>
+        ensures { IfOk result (λ env. env ≡ self.now) }
+    {
+        Ok(Env {
+            bindings: copy_bindings(alloc, self.bindings.as_slice())?,
+        })
+    }
 }
 
-fn newest<'a>(bindings: &'a [(Word, Value)], word: &Word) -> Option<&'a Value>
-    ensures { option_map (λ value. tree_of value.now) result ≡ bound (map entry_tree bindings.now) word.now }
+// The place of a word's newest binding.
+fn newest(bindings: &[(Word, Value)], word: &Word) -> Option<usize>
+    ensures place { MatchOption result (bound (map entry_tree bindings.now) word.now ≡ None) (λ i. IsNewest (map entry_tree bindings.now) word.now i) }
+    ensures within { IfSome result (λ i. i < length bindings.now) }
 {
     let mut i = bindings.len();
     while i > 0 {
         i -= 1;
-        let binding = &bindings[i];
-        if binding.0 == *word {
-            return Some(&binding.1);
+        if bindings[i].0 == *word {
+            return Some(i);
         }
     }
     None
+}
+
+fn put(bindings: &mut Vec<(Word, Value)>, i: usize, value: Value)
+    requires { i < length bindings.old.items }
+    ensures { (word : List ℕ) (before : Value) → slice_get bindings.old.items i ≡ Some (word, before) → bindings.new.items ≡ slice_set bindings.old.items i (word, value) }
+{
+    bindings[i].1 = value;
+}
+
+fn copy_bindings(alloc: Global, bindings: &[(Word, Value)]) -> Result<Vec<(Word, Value)>, NoMemory>
+    ensures { IfOk result (λ copies. map entry_tree copies.items ≡ map entry_tree bindings.now) }
+{
+    let mut copies = Vec::with_capacity(alloc, bindings.len())?;
+    for binding in bindings {
+        copies.push(copy_binding(alloc, binding)?)?;
+    }
+    Ok(copies)
+}
+
+fn copy_binding(alloc: Global, binding: &(Word, Value)) -> Result<(Word, Value), NoMemory>
+    ensures { IfOk result (λ copy. entry_tree copy ≡ entry_tree binding.now) }
+{
+    let word = binding.0.copy(alloc)?;
+    Ok((word, binding.1.copy(alloc)?))
 }

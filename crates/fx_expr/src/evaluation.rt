@@ -1,4 +1,4 @@
-ghost use Rattle.std.specs.Prelude.{IfOk, List, ℕ};
+ghost use Rattle.std.specs.Prelude.{◌≡◌, ◌+◌, IfOk, List, ℕ};
 ghost use Rattle.fx_expr.specs.Eval.{eval_of};
 ghost use Rattle.fx_expr.specs.Gives.{Gives};
 ghost use Rattle.fx_expr.specs.Shapes.{IsWellShaped, BindingsHave, HasShape, ValueHas};
@@ -15,7 +15,9 @@ use crate::parts::{into_names, truth};
 use crate::set::TextSet;
 use crate::value::Value;
 use crate::word::Word;
+use fx_base::Steps;
 use std::alloc::Global;
+use std::sync::ledger::Ledger;
 
 /// The value of an expression, or its fault. The parts of an operator are taken from left to right and the first fault
 /// is the answer; `and`, `or` and a choice leave out what they need not know. The expression is well shaped where the
@@ -36,7 +38,7 @@ pub fn eval(alloc: Global, expr: &Expr, env: &Env) -> Result<Value, EvalFault>
                 Some(decided) => Ok(Value::Bool(decided)),
                 None => match eval(alloc, b, env) {
                     Err(fault) => Err(fault),
-                    Ok(second) => apply_two(alloc, *op, first, second),
+                    Ok(second) => apply_two(alloc, *op, &first, &second),
                 },
             },
         },
@@ -56,9 +58,24 @@ pub fn eval(alloc: Global, expr: &Expr, env: &Env) -> Result<Value, EvalFault>
         },
         Expr::Only(a, glob) => match eval(alloc, a, env) {
             Err(fault) => Err(fault),
-            Ok(value) => Ok(Value::Names(into_names(value).only(glob.as_slice()))),
+            Ok(value) => Ok(Value::Names(into_names(value).only(alloc, glob.as_slice())?)),
         },
     }
+}
+
+/// `eval` that counts itself as one step, however large the expression is.
+pub fn eval_counted<L: Ledger>(
+    alloc: Global,
+    expr: &Expr,
+    env: &Env,
+    steps: &mut Steps<L>,
+) -> Result<Value, EvalFault>
+    requires { IsWellShaped env.now (expr_tree expr.now) }
+    ensures value { Gives tree_of result (eval_of env.now (expr_tree expr.now)) }
+    ensures tick { steps.new ≡ steps.old + 1 }
+{
+    steps.tick();
+    eval(alloc, expr, env)
 }
 
 fn bound_value(alloc: Global, word: &Word, env: &Env) -> Result<Value, EvalFault>

@@ -2,7 +2,6 @@ ghost use Rattle.std.specs.Prelude.{◌≡◌, ◌++◌, [], ◌∷◌, IfOk, On
 ghost use Rattle.std.specs.Option.{option_map, option_copied};
 ghost use Rattle.fx_expr.specs.Views.{tree_of};
 
-use crate::set::copy_texts;
 use crate::text::Text;
 use crate::value::{Value, copy_values};
 use fx_base::NoMemory;
@@ -122,7 +121,8 @@ impl Texts {
     pub fn copy(&self, alloc: Global) -> Result<Texts, NoMemory>
         ensures { IfOk result (λ texts. texts ≡ self.now) }
     {
-        let items = copy_texts(alloc, self.items.as_slice())?;
-        Ok(Texts { items })
+        Ok(Texts {
+            items: Vec::from_clones(alloc, self.items.as_slice())?,
+        })
     }
 }

@@ -1,9 +1,9 @@
 // What the operators give of values that they take.
-ghost use Rattle.std.specs.Prelude.{◌≡◌, ◌+ℤ◌, ◌-ℤ◌, pos};
+ghost use Rattle.std.specs.Prelude.{◌≡◌, ◌+ℤ◌, ◌-ℤ◌};
 ghost use Rattle.std.specs.Option.{option_map};
-ghost use Rattle.fx_expr.specs.Eval.{joined, in_range, united, same_value, is_less, size_in, read_integer, two, one, decided};
+ghost use Rattle.fx_expr.specs.Eval.{joined, in_range, united, same_value, is_less, read_integer, two, one, decided};
 ghost use Rattle.fx_expr.specs.Gives.{Gives};
-ghost use Rattle.fx_expr.specs.Takes.{Comparable, Ordered, Sized, TakesTwo, TakesOne, LooksAt};
+ghost use Rattle.fx_expr.specs.Takes.{Comparable, Ordered, TakesTwo, TakesOne, LooksAt};
 ghost use Rattle.fx_expr.specs.Tree.{Tree};
 ghost use Rattle.fx_expr.specs.Views.{tree_of};
 
@@ -12,8 +12,8 @@ use crate::fault::{EvalFault, ExprFault};
 use crate::lines::lines;
 use crate::number::{decimal, read_integer};
 use crate::parts::{
-    integer, into_first, into_keys, into_names, into_second, into_text, is_present, names, text,
-    truth,
+    integer, into_first, into_integer, into_keys, into_presence, into_second, into_size, into_text,
+    into_truth, names, text, truth,
 };
 use crate::set::TextSet;
 use crate::text::{TEXT_LIMIT, Text};
@@ -39,56 +39,52 @@ pub(crate) fn decides(op: BinOp, first: &Value) -> Option<bool>
 pub(crate) fn apply_two(
     alloc: Global,
     op: BinOp,
-    first: Value,
-    second: Value,
+    first: &Value,
+    second: &Value,
 ) -> Result<Value, EvalFault>
-    requires { TakesTwo op (tree_of first) (tree_of second) }
-    ensures { Gives tree_of result (two op (tree_of first) (tree_of second)) }
+    requires { TakesTwo op (tree_of first.now) (tree_of second.now) }
+    ensures { Gives tree_of result (two op (tree_of first.now) (tree_of second.now)) }
 {
     match op {
-        BinOp::Join => join(into_text(first), &into_text(second)),
-        BinOp::Plus => plus(integer(&first), integer(&second)),
-        BinOp::Minus => minus(integer(&first), integer(&second)),
-        BinOp::Equal => Ok(Value::Bool(is_equal(&first, &second))),
-        BinOp::Less => Ok(Value::Bool(is_less(&first, &second))),
-        BinOp::And => Ok(Value::Bool(truth(&second))),
-        BinOp::Or => Ok(Value::Bool(truth(&second))),
-        BinOp::Member => Ok(Value::Bool(names(&second).has(text(&first)))),
-        BinOp::Union => unite(alloc, into_names(first), into_names(second)),
-        BinOp::Without => Ok(Value::Names(into_names(first).without(names(&second)))),
+        BinOp::Join => join(alloc, text(first), text(second)),
+        BinOp::Plus => plus(integer(first), integer(second)),
+        BinOp::Minus => minus(integer(first), integer(second)),
+        BinOp::Equal => Ok(Value::Bool(is_equal(first, second))),
+        BinOp::Less => Ok(Value::Bool(is_less(first, second))),
+        BinOp::And => Ok(Value::Bool(truth(second))),
+        BinOp::Or => Ok(Value::Bool(truth(second))),
+        BinOp::Member => Ok(Value::Bool(names(second).has(text(first)))),
+        BinOp::Union => unite(alloc, names(first), names(second)),
+        BinOp::Without => lessen(alloc, names(first), names(second)),
     }
 }
 
+// Each arm hands the value on, so that none of them drops it.
 pub(crate) fn apply_one(alloc: Global, op: UnOp, value: Value) -> Result<Value, EvalFault>
     requires { TakesOne op (tree_of value) }
     ensures { Gives tree_of result (one op (tree_of value)) }
 {
     match op {
-        UnOp::Not => Ok(Value::Bool(!truth(&value))),
+        UnOp::Not => Ok(Value::Bool(!into_truth(value))),
         UnOp::One => singleton(alloc, into_text(value)),
-        UnOp::Lines => line_set(alloc, text(&value)),
-        UnOp::Size => Ok(Value::Int(size(&value))),
-        UnOp::Int => spelled(text(&value).as_slice()),
-        UnOp::Text => spelling(alloc, integer(&value)),
+        UnOp::Lines => line_set(alloc, into_text(value)),
+        UnOp::Size => Ok(Value::Int(into_size(value))),
+        UnOp::Int => spelled(into_text(value)),
+        UnOp::Text => spelling(alloc, into_integer(value)),
         UnOp::First => Ok(into_first(value)),
         UnOp::Second => Ok(into_second(value)),
         UnOp::Keys => Ok(Value::Names(into_keys(value))),
-        UnOp::Present => Ok(Value::Bool(is_present(&value))),
+        UnOp::Present => Ok(Value::Bool(into_presence(value))),
     }
 }
 
-fn join(first: Text, second: &Text) -> Result<Value, EvalFault>
-    ensures { Gives tree_of result (joined first second.now) }
+fn join(alloc: Global, first: &Text, second: &Text) -> Result<Value, EvalFault>
+    ensures { Gives tree_of result (joined first.now second.now) }
 {
-    let mut bytes = first.into_vec();
-    let more = second.as_slice();
-    if bytes.len() + more.len() > TEXT_LIMIT {
+    if first.len() + second.len() > TEXT_LIMIT as u64 {
         return Err(EvalFault::Fault(ExprFault::TooLong));
     }
-    match bytes.extend_from_slice(more) {
-        Ok(()) => Ok(Value::Str(Text::from_vec(bytes))),
-        Err(_) => Err(EvalFault::NoMemory),
-    }
+    Ok(Value::Str(first.followed_by(alloc, second)?))
 }
 
 fn plus(a: i64, b: i64) -> Result<Value, EvalFault>
@@ -133,15 +129,19 @@ fn is_less(first: &Value, second: &Value) -> bool
     }
 }
 
-fn unite(alloc: Global, first: TextSet, second: TextSet) -> Result<Value, EvalFault>
-    ensures { Gives tree_of result (united first second) }
+fn unite(alloc: Global, first: &TextSet, second: &TextSet) -> Result<Value, EvalFault>
+    ensures { Gives tree_of result (united first.now second.now) }
 {
-    let both = first.union(alloc, second)?;
-    if both.weighs_at_most(UNION_LIMIT) {
-        Ok(Value::Names(both))
-    } else {
-        Err(EvalFault::Fault(ExprFault::TooLong))
+    if !first.union_weighs_at_most(second, UNION_LIMIT) {
+        return Err(EvalFault::Fault(ExprFault::TooLong));
     }
+    Ok(Value::Names(first.union(alloc, second)?))
+}
+
+fn lessen(alloc: Global, first: &TextSet, second: &TextSet) -> Result<Value, EvalFault>
+    ensures { Gives tree_of result (two BinOp.Without (Tree.names first.now) (Tree.names second.now)) }
+{
+    Ok(Value::Names(first.without(alloc, second)?))
 }
 
 fn singleton(alloc: Global, text: Text) -> Result<Value, EvalFault>
@@ -150,27 +150,16 @@ fn singleton(alloc: Global, text: Text) -> Result<Value, EvalFault>
     Ok(Value::Names(TextSet::of(alloc, text)?))
 }
 
-fn line_set(alloc: Global, text: &Text) -> Result<Value, EvalFault>
-    ensures { Gives tree_of result (one UnOp.Lines (Tree.str text.now)) }
+fn line_set(alloc: Global, text: Text) -> Result<Value, EvalFault>
+    ensures { Gives tree_of result (one UnOp.Lines (Tree.str text)) }
 {
-    Ok(Value::Names(lines(alloc, text)?))
+    Ok(Value::Names(lines(alloc, &text)?))
 }
 
-fn size(value: &Value) -> i64
-    requires { Sized (tree_of value.now) }
-    ensures { result ≡ pos (size_in (tree_of value.now)) }
+fn spelled(text: Text) -> Result<Value, EvalFault>
+    ensures { Gives tree_of result (read_integer text) }
 {
-    match value {
-        Value::Str(text) => text.len() as i64,
-        Value::Names(names) => names.len() as i64,
-        _ => unreachable!(),
-    }
-}
-
-fn spelled(text: &[u8]) -> Result<Value, EvalFault>
-    ensures { Gives tree_of result (read_integer text.now) }
-{
-    match read_integer(text) {
+    match read_integer(text.as_slice()) {
         Ok(n) => Ok(Value::Int(n)),
         Err(fault) => Err(EvalFault::Fault(fault)),
     }

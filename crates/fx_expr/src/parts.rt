@@ -1,9 +1,9 @@
 // The parts of a value whose shape is known.
-ghost use Rattle.std.specs.Prelude.{◌≡◌, map};
-ghost use Rattle.fx_expr.specs.Eval.{text_in, integer_in, truth_in, names_in, first_in, second_in, entries_in, is_some_in};
+ghost use Rattle.std.specs.Prelude.{◌≡◌, pos, map};
+ghost use Rattle.fx_expr.specs.Eval.{text_in, integer_in, truth_in, names_in, first_in, second_in, entries_in, is_some_in, size_in};
 ghost use Rattle.fx_expr.specs.Shapes.{ValueHas};
 ghost use Rattle.fx_expr.specs.ShapeTree.{ShapeTree};
-ghost use Rattle.fx_expr.specs.Takes.{IsPair, IsTable, IsOptional};
+ghost use Rattle.fx_expr.specs.Takes.{IsPair, IsTable, IsOptional, Sized};
 ghost use Rattle.fx_expr.specs.Views.{tree_of};
 
 use crate::set::TextSet;
@@ -48,6 +48,24 @@ pub(crate) fn names(value: &Value) -> &TextSet
         Value::Names(names) => names,
         _ => unreachable!(),
     }
+}
+
+pub(crate) fn into_integer(value: Value) -> i64
+    requires { ValueHas (tree_of value) ShapeTree.int }
+    ensures { result ≡ integer_in (tree_of value) }
+{
+    let n = integer(&value);
+    let_go(value);
+    n
+}
+
+pub(crate) fn into_truth(value: Value) -> bool
+    requires { ValueHas (tree_of value) ShapeTree.bool }
+    ensures { result ≡ truth_in (tree_of value) }
+{
+    let b = truth(&value);
+    let_go(value);
+    b
 }
 
 pub(crate) fn integer(value: &Value) -> i64
@@ -100,7 +118,39 @@ pub(crate) fn into_keys(value: Value) -> TextSet
     }
 }
 
-pub(crate) fn is_present(value: &Value) -> bool
+pub(crate) fn into_size(value: Value) -> i64
+    requires { Sized (tree_of value) }
+    ensures { result ≡ pos (size_in (tree_of value)) }
+{
+    let n = size(&value);
+    let_go(value);
+    n
+}
+
+fn size(value: &Value) -> i64
+    requires { Sized (tree_of value.now) }
+    ensures { result ≡ pos (size_in (tree_of value.now)) }
+{
+    match value {
+        Value::Str(text) => text.len() as i64,
+        Value::Names(names) => names.len() as i64,
+        _ => unreachable!(),
+    }
+}
+
+pub(crate) fn into_presence(value: Value) -> bool
+    requires { IsOptional (tree_of value) }
+    ensures { result ≡ is_some_in (tree_of value) }
+{
+    let there = is_present(&value);
+    let_go(value);
+    there
+}
+
+// One drop of a value in place of one at each way out.
+pub(crate) fn let_go(_value: Value) {}
+
+fn is_present(value: &Value) -> bool
     requires { IsOptional (tree_of value.now) }
     ensures { result ≡ is_some_in (tree_of value.now) }
 {

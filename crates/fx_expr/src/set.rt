@@ -3,42 +3,45 @@ ghost use Rattle.std.specs.Option.{option_copied};
 ghost use Rattle.std.specs.Cmp.{partial_equiv_from_equiv};
 ghost use Rattle.std.specs.Cmp.Lexicographic.{pointwise, nat_list_eq_equiv, lists_equiv};
 ghost use Rattle.std.specs.List.{filter};
-ghost use Rattle.fx_expr.specs.Sets.{IsAscending, has_text, set_of, weight};
+ghost use Rattle.fx_base.specs.Shared.{listed};
+ghost use Rattle.fx_expr.specs.Sets.{IsAscending, has_text, set_of, weight, least, least_above, greatest_below, item_before};
 ghost use Rattle.fx_expr.specs.Eval.{without};
 ghost use Rattle.fx_expr.specs.Globs.{glob_matches};
+ghost use Rattle.fx_expr.specs.Merges.{IsLeastOf};
 
 use crate::glob::matches;
 use crate::text::Text;
 use fx_base::NoMemory;
-use std::alloc::Global;
+use std::alloc::{AllocError, Global};
+use std::cmp::Ordering;
 use std::marker::Model;
+use std::sync::Arc;
 
-/// A set of texts. Contracts see its elements in strictly ascending order of bytes.
+/// A set of texts, of which a copy takes no time. Contracts see its elements in strictly ascending order of bytes.
 #[derive(Debug, Drop)]
 pub struct TextSet {
-    items: Vec<Text>,
+    shared: Option<Arc<Vec<Text>>>,
 }
 
 impl Model for TextSet {
     ghost use Rattle.std.specs.Prelude.{List, ℕ};
+    ghost use Rattle.fx_base.specs.Shared.{listed};
     ghost use Rattle.fx_expr.specs.Sets.{IsAscending};
 
     ghost Value = { List (List ℕ) };
 
-    ghost view = { λ s. s.items.items };
+    ghost view = { λ s. listed s.shared };
 
-    ghost invariant = { λ s. IsAscending s.items.items };
+    ghost invariant = { λ s. IsAscending (listed s.shared) };
 }
 
 impl TextSet {
     /// The empty set.
     #[tactic(auto, using(crate::proofs::Order::ascending_none))]
-    pub fn new(alloc: Global) -> TextSet
+    pub fn new(_alloc: Global) -> TextSet
         ensures { result ≡ [] }
     {
-        TextSet {
-            items: Vec::new(alloc),
-        }
+        TextSet { shared: None }
     }
 
     /// The number of elements.
@@ -47,24 +50,23 @@ impl TextSet {
         ensures small { result < 2 ^ 63 }
         ensures order { IsAscending self.now }
     {
-        self.items.len() as u64
+        self.as_slice().len() as u64
     }
 
     /// The element at `i` in ascending order; None exactly from `len` on.
     pub fn at(&self, i: u64) -> Option<&Text>
         ensures { option_copied result ≡ slice_get self.now i }
     {
-        self.items.get(i as usize)
+        self.as_slice().get(i as usize)
     }
 
     /// Adds a text above all elements. A refusal changes nothing.
-    pub fn add(&mut self, _alloc: Global, item: Text) -> Result<(), NoMemory>
+    pub fn add(&mut self, alloc: Global, item: Text) -> Result<(), NoMemory>
         requires { IsAscending (self.old ++ item ∷ []) }
         ensures ok { OnOk result (self.new ≡ self.old ++ item ∷ []) }
         ensures err { OnErr result (self.new ≡ self.old) }
     {
-        self.items.push(item)?;
-        Ok(())
+        push(alloc, &mut self.shared, item)
     }
 
     /// Whether the text is an element, by binary search.
@@ -79,15 +81,55 @@ impl TextSet {
         ensures value { MatchOption result (has_text item.now self.now ≡ false) (λ i. slice_get self.now i ≡ Some item.now) }
         ensures order { IsAscending self.now }
     {
-        self.items.as_slice().binary_search(item).ok()
+        self.as_slice().binary_search(item).ok()
     }
 
-    /// An equal set of its own.
-    pub fn copy(&self, alloc: Global) -> Result<TextSet, NoMemory>
+    /// The least element.
+    pub fn first(&self) -> Option<&Text>
+        ensures { option_copied result ≡ least self.now }
+    {
+        self.as_slice().first()
+    }
+
+    /// The least element above a text, by binary search.
+    pub fn above(&self, text: &Text) -> Option<&Text>
+        ensures { option_copied result ≡ least_above text.now self.now }
+    {
+        let texts = self.as_slice();
+        match texts.binary_search(text) {
+            Ok(i) => item_at(texts, i + 1),
+            Err(i) => item_at(texts, i),
+        }
+    }
+
+    /// The greatest element below a text, by binary search.
+    pub fn below(&self, text: &Text) -> Option<&Text>
+        ensures { option_copied result ≡ greatest_below text.now self.now }
+    {
+        let texts = self.as_slice();
+        match texts.binary_search(text) {
+            Ok(i) => item_before(texts, i),
+            Err(i) => item_before(texts, i),
+        }
+    }
+
+    /// An equal set, which shares its elements with this one.
+    pub fn copy(&self, _alloc: Global) -> Result<TextSet, NoMemory>
         ensures { IfOk result (λ set. set ≡ self.now) }
     {
-        let items = copy_texts(alloc, self.items.as_slice())?;
-        Ok(TextSet { items })
+        Ok(TextSet {
+            shared: self.shared.clone()?,
+        })
+    }
+
+    fn as_slice(&self) -> &[Text]
+        ensures texts { result.now ≡ self.now }
+        ensures order { IsAscending self.now }
+    {
+        match &self.shared {
+            Some(texts) => texts.as_slice(),
+            None => &[],
+        }
     }
 }
 
@@ -99,77 +141,170 @@ impl TextSet {
     {
         let mut items = Vec::new(alloc);
         items.push(item)?;
-        Ok(TextSet { items })
+        TextSet::from_ascending(alloc, items)
+    }
+
+    /// The set of these texts, which ascend strictly.
+    pub fn from_ascending(alloc: Global, items: Vec<Text>) -> Result<TextSet, NoMemory>
+        requires { IsAscending items.items }
+        ensures { IfOk result (λ set. set ≡ items.items) }
+    {
+        Ok(TextSet {
+            shared: Some(Arc::new(alloc, items)?),
+        })
     }
 
     /// The set of these texts, which may stand in any order and repeat. It is one sort.
-    pub fn from_texts(_alloc: Global, items: Vec<Text>) -> Result<TextSet, NoMemory>
+    pub fn from_texts(alloc: Global, items: Vec<Text>) -> Result<TextSet, NoMemory>
         ensures { IfOk result (λ set. set ≡ set_of items.items) }
     {
         let mut items = items;
         items.sort()?;
         items.dedup();
-        Ok(TextSet { items })
+        TextSet::from_ascending(alloc, items)
     }
 
     /// The elements of both.
-    pub fn union(self, alloc: Global, other: TextSet) -> Result<TextSet, NoMemory>
-        ensures { IfOk result (λ set. set ≡ set_of (self ++ other)) }
+    pub fn union(&self, alloc: Global, other: &TextSet) -> Result<TextSet, NoMemory>
+        ensures { IfOk result (λ set. set ≡ set_of (self.now ++ other.now)) }
     {
-        let TextSet { mut items } = self;
-        let TextSet { items: mut more } = other;
-        items.append(&mut more)?;
-        TextSet::from_texts(alloc, items)
+        let both = merge(alloc, self.as_slice(), other.as_slice())?;
+        TextSet::from_ascending(alloc, both)
+    }
+
+    // Whether the bytes of all elements of both, and one more for each, are at most this many. It takes no memory.
+    pub(crate) fn union_weighs_at_most(&self, other: &TextSet, limit: u64) -> bool
+        ensures { result ≡ nat_le (weight (set_of (self.now ++ other.now))) limit }
+    {
+        merge_weighs_at_most(self.as_slice(), other.as_slice(), limit)
     }
 
     /// The elements that are not in the other set.
-    pub fn without(self, other: &TextSet) -> TextSet
-        ensures { result ≡ without self other.now }
+    pub fn without(&self, alloc: Global, other: &TextSet) -> Result<TextSet, NoMemory>
+        ensures { IfOk result (λ set. set ≡ without self.now other.now) }
     {
-        let TextSet { mut items } = self;
-        items.retain(|text| !other.has(text));
-        TextSet { items }
+        let texts = self.as_slice();
+        let mut kept = Vec::new(alloc);
+        for text in texts {
+            if !other.has(text) {
+                kept.push(text.copy(alloc)?)?;
+            }
+        }
+        TextSet::from_ascending(alloc, kept)
     }
 
     /// The elements that match the glob.
-    pub fn only(self, glob: &[u8]) -> TextSet
-        ensures { result ≡ filter (λ text. glob_matches glob.now text) self }
+    pub fn only(&self, alloc: Global, glob: &[u8]) -> Result<TextSet, NoMemory>
+        ensures { IfOk result (λ set. set ≡ filter (λ text. glob_matches glob.now text) self.now) }
     {
-        let TextSet { mut items } = self;
-        items.retain(|text| matches(glob, text.as_slice()));
-        TextSet { items }
-    }
-
-    // Whether the bytes of all elements, and one more for each, are at most this many.
-    pub(crate) fn weighs_at_most(&self, limit: u64) -> bool
-        ensures { result ≡ nat_le (weight self.now) limit }
-    {
-        weigh_at_most(self.items.as_slice(), limit)
+        let texts = self.as_slice();
+        let mut kept = Vec::new(alloc);
+        for text in texts {
+            if matches(glob, text.as_slice()) {
+                kept.push(text.copy(alloc)?)?;
+            }
+        }
+        TextSet::from_ascending(alloc, kept)
     }
 }
 
-fn weigh_at_most(texts: &[Text], limit: u64) -> bool
-    ensures { result ≡ nat_le (weight texts.now) limit }
+fn push(alloc: Global, shared: &mut Option<Arc<Vec<Text>>>, item: Text) -> Result<(), NoMemory>
+    ensures ok { OnOk result (listed shared.new ≡ listed shared.old ++ item ∷ []) }
+    ensures err { OnErr result (listed shared.new ≡ listed shared.old) }
+{
+    match shared {
+        Some(items) => {
+            Arc::make_mut(items)?.push(item)?;
+        }
+        None => {
+            let mut items = Vec::new(alloc);
+            items.push(item)?;
+            *shared = Some(Arc::new(alloc, items)?);
+        }
+    }
+    Ok(())
+}
+
+// `get`, with its answer as one equation.
+fn item_at(texts: &[Text], i: usize) -> Option<&Text>
+    ensures { option_copied result ≡ slice_get texts.now i }
+{
+    texts.get(i)
+}
+
+// The text before a place.
+fn item_before(texts: &[Text], i: usize) -> Option<&Text>
+    ensures { option_copied result ≡ item_before i texts.now }
+{
+    if i == 0 { None } else { item_at(texts, i - 1) }
+}
+
+fn merge(alloc: Global, first: &[Text], second: &[Text]) -> Result<Vec<Text>, NoMemory>
+    requires first { IsAscending first.now }
+    requires second { IsAscending second.now }
+    ensures { IfOk result (λ both. both.items ≡ set_of (first.now ++ second.now)) }
+{
+    let mut both = Vec::new(alloc);
+    let mut a = first;
+    let mut b = second;
+    while let Some((text, c, d)) = split_least(a, b) {
+        both.push(text.copy(alloc)?)?;
+        a = c;
+        b = d;
+    }
+    Ok(both)
+}
+
+fn merge_weighs_at_most(first: &[Text], second: &[Text], limit: u64) -> bool
+    requires first { IsAscending first.now }
+    requires second { IsAscending second.now }
+    ensures { result ≡ nat_le (weight (set_of (first.now ++ second.now))) limit }
 {
     let mut room = limit;
-    for text in texts {
+    let mut a = first;
+    let mut b = second;
+    while let Some((text, c, d)) = split_least(a, b) {
         let size = text.len() + 1;
         if size > room {
             return false;
         }
         room -= size;
+        a = c;
+        b = d;
     }
     true
 }
 
-pub(crate) fn copy_texts(alloc: Global, texts: &[Text]) -> Result<Vec<Text>, NoMemory>
-    ensures { IfOk result (λ copies. copies.items ≡ texts.now) }
+// The least text of two sets, and what is left of them without it.
+fn split_least<'a>(a: &'a [Text], b: &'a [Text]) -> Option<(&'a Text, &'a [Text], &'a [Text])>
+    requires first { IsAscending a.now }
+    requires second { IsAscending b.now }
+    ensures { MatchOption result (set_of (a.now ++ b.now) ≡ []) (λ r. IsLeastOf a.now b.now r.0.now r.1.now r.2.now) }
 {
-    let mut copies = Vec::with_capacity(alloc, texts.len())?;
-    for text in texts {
-        copies.push(text.copy(alloc)?)?;
+    match a.split_first() {
+        None => match b.split_first() {
+            None => None,
+            Some((t, d)) => Some((t, a, d)),
+        },
+        Some((s, c)) => match b.split_first() {
+            None => Some((s, c, b)),
+            Some((t, d)) => match s.cmp(t) {
+                Ordering::Less => Some((s, c, b)),
+                Ordering::Equal => Some((s, c, d)),
+                Ordering::Greater => Some((t, a, d)),
+            },
+        },
     }
-    Ok(copies)
+}
+
+impl Clone for TextSet {
+    ghost is_clone = { λ x y. y ≡ x };
+
+    fn clone(&self) -> Result<TextSet, AllocError> {
+        Ok(TextSet {
+            shared: self.shared.clone()?,
+        })
+    }
 }
 
 impl PartialEq for TextSet {
@@ -178,7 +313,7 @@ impl PartialEq for TextSet {
     ghost laws = { partial_equiv_from_equiv (lists_equiv nat_list_eq_equiv) };
 
     fn eq(&self, other: &TextSet) -> bool {
-        self.items.as_slice() == other.items.as_slice()
+        self.as_slice() == other.as_slice()
     }
 }
 

@@ -172,16 +172,16 @@ fn lines_are_a_set(rt: HostRuntime) -> Result<(), Fail> {
 #[test]
 fn globs_choose_texts(rt: HostRuntime) -> Result<(), Fail> {
     let alloc = rt.alloc();
-    let chosen = set(alloc, &["ab", "abc", "axbz", "b"])?.only(b"a*b?");
+    let chosen = set(alloc, &["ab", "abc", "axbz", "b"])?.only(alloc, b"a*b?")?;
     assert_eq!(rt; listed(alloc, &chosen)?.as_slice(), b"abc,axbz,".as_slice());
     Ok(())
 }
 
 // The union of two sets without a third.
 fn combined(alloc: Global) -> Result<TextSet, NoMemory> {
-    let both = set(alloc, &["b", "a"])?.union(alloc, set(alloc, &["c", "b"])?)?;
+    let both = set(alloc, &["b", "a"])?.union(alloc, &set(alloc, &["c", "b"])?)?;
     let less = TextSet::of(alloc, text(alloc, b"b")?)?;
-    both.without(&less).copy(alloc)
+    both.without(alloc, &less)
 }
 
 #[test]

@@ -6,7 +6,7 @@ ghost use Rattle.std.specs.Cmp.Lexicographic.{pointwise, slice_cmp, nat_list_eq_
 ghost use Rattle.fx_expr.specs.Bytes.{IsText};
 
 use fx_base::NoMemory;
-use std::alloc::Global;
+use std::alloc::{AllocError, Global};
 use std::cmp::Ordering;
 use std::marker::Model;
 
@@ -71,6 +71,17 @@ impl Text {
         Ok(Text { bytes })
     }
 
+    // This text and another after it; the caller keeps the limit.
+    pub(crate) fn followed_by(&self, alloc: Global, other: &Text) -> Result<Text, NoMemory>
+        requires { IsText (self.now ++ other.now) }
+        ensures { IfOk result (λ text. text ≡ self.now ++ other.now) }
+    {
+        let mut bytes = Vec::with_capacity(alloc, self.bytes.len() + other.bytes.len())?;
+        bytes.extend_from_slice(self.bytes.as_slice())?;
+        bytes.extend_from_slice(other.bytes.as_slice())?;
+        Ok(Text { bytes })
+    }
+
     /// The number of bytes.
     pub fn len(&self) -> u64
         ensures value { result ≡ length self.now }
@@ -94,6 +105,16 @@ impl Text {
     {
         self.bytes.push(item)?;
         Ok(())
+    }
+}
+
+impl Clone for Text {
+    ghost is_clone = { λ x y. y ≡ x };
+
+    fn clone(&self) -> Result<Text, AllocError> {
+        Ok(Text {
+            bytes: self.bytes.clone()?,
+        })
     }
 }
 

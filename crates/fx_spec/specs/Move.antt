@@ -1,11 +1,9 @@
 -- What moves and fetches answer, as rules that consult a filestore. A refusal is the first that applies, in the order in
 -- which each rule asks.
 use Rattle.std.specs.Prelude.{ℕ, Bool, true, false, cond, ◌&&◌, List, [], ◌∷◌, Option, Some, None, is_some, Result, Ok, Err}
-use Rattle.std.specs.Ordering.{is_lt}
-use Rattle.fx_store.specs.Names.{name_cmp}
 use Rattle.fx_store.specs.Rule.{Ask, Answer, ◌>>=◌}
 use Rattle.fx_expr.specs.Eval.{Outcome, eval_of, names_in}
-use Rattle.fx_expr.specs.Sets.{has_text}
+use Rattle.fx_expr.specs.Sets.{has_text, least, least_above, greatest_below}
 use Rattle.fx_expr.specs.ShapeTree.{ShapeTree}
 use Rattle.fx_expr.specs.Tree.{Tree}
 use Rattle.fx_spec.specs.declared.refusal.Refusal.{Refusal}
@@ -46,23 +44,7 @@ abbrev pub element : Address → Option (List ℕ) → Answered Address
 element a None = Err Refusal.NoElement
 element a (Some t) = Ok (Elem t ∷ a)
 
--- the least text of a set, the least above a text, and the greatest below it
-abbrev pub least : List (List ℕ) → Option (List ℕ)
-least [] = None
-least (t ∷ ts) = Some t
-
-abbrev pub least_above : List ℕ → List (List ℕ) → Option (List ℕ)
-least_above t [] = None
-least_above t (u ∷ us) = cond (is_lt (name_cmp t u)) (Some u) (least_above t us)
-
-abbrev pub later_or : Option (List ℕ) → Option (List ℕ) → Option (List ℕ)
-later_or (Some t) u = Some t
-later_or None u = u
-
-abbrev pub greatest_below : List ℕ → List (List ℕ) → Option (List ℕ)
-greatest_below t [] = None
-greatest_below t (u ∷ us) = later_or (greatest_below t us) (cond (is_lt (name_cmp u t)) (Some u) None)
-
+-- the text, where the test is true
 abbrev pub this_if : List ℕ → Bool → Option (List ℕ)
 this_if t false = None
 this_if t true = Some t

@@ -1,12 +1,11 @@
 -- What a transaction does when it runs whole: its commands one after another, each over the filestore that the ones before
 -- have left, with a position in the description and with its own variables.
-use Rattle.std.specs.Prelude.{ℕ, ◌+◌, pos, Bool, true, false, cond, List, [], ◌∷◌, ◌++◌, take, length, nat_eq, Option, Some, None, Ok, Err}
-use Rattle.std.specs.Cmp.Lexicographic.{pointwise}
+use Rattle.std.specs.Prelude.{ℕ, ◌+◌, pos, Bool, true, false, cond, List, [], ◌∷◌, ◌++◌, take, length, Ok, Err}
 use Rattle.std.specs.FinMap.{get}
 use Rattle.fx_store.specs.declared.changes.Change.{Change}
 use Rattle.fx_store.specs.Rule.{Ask, Answer, ◌>>=◌}
 use Rattle.fx_store.specs.Whole.{Store, Nodes, over_nodes}
-use Rattle.fx_expr.specs.Bindings.{bind}
+use Rattle.fx_expr.specs.Bindings.{bind, assigned, or_same}
 use Rattle.fx_expr.specs.Eval.{eval_of, text_in, names_in, truth_in}
 use Rattle.fx_expr.specs.Tree.{Tree}
 use Rattle.fx_spec.specs.declared.refusal.End.{End}
@@ -74,27 +73,6 @@ go_on next (Over end outputs) = Ends (Over end outputs)
 -- the standing with one more variable, and with a new value of the newest one of that name
 abbrev pub binding : Standing → List ℕ → Tree → Standing
 binding s x v = record s { vars = bind s.vars x v }
-
-abbrev pub assign_or : List ℕ × Tree → Bindings → Option Bindings → Option Bindings
-assign_or b newer (Some others) = Some (b ∷ others)
-assign_or b newer None = None
-
-abbrev pub own_assigned : Bool → List ℕ → Tree → Bindings → Option Bindings
-own_assigned true x v newer = Some ((x, v) ∷ newer)
-own_assigned false x v newer = None
-
-abbrev pub first_some : Option Bindings → Option Bindings → Option Bindings
-first_some (Some b) other = Some b
-first_some None other = other
-
-abbrev pub assigned : List ℕ → Tree → Bindings → Option Bindings
-assigned x v [] = None
-assigned x v (b ∷ newer) =
-    first_some (assign_or b newer (assigned x v newer)) (own_assigned (pointwise nat_eq b.0 x) x v newer)
-
-abbrev pub or_same : Bindings → Option Bindings → Bindings
-or_same vars None = vars
-or_same vars (Some others) = others
 
 abbrev pub assigning : Standing → List ℕ → Tree → Standing
 assigning s x v = record s { vars = or_same s.vars (assigned x v s.vars) }

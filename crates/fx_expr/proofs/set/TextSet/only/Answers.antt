@@ -1,18 +1,17 @@
-use Rattle.std.proofs.Common.{◌∙◌, ap, rules}
-use Rattle.std.specs.List.{filter}
+use Rattle.std.proofs.Common.{◌≡◌, ◌∙◌, ap, arith}
 use Rattle.std.specs.Cmp.Lexicographic.{slice_cmp}
+use Rattle.std.specs.List.{filter}
 use Rattle.std.specs.Ordering.{nat_cmp}
-use Rattle.std.proofs.lemmas.Fn.{filter_same}
+use Rattle.std.proofs.lemmas.List.{take_all}
 use Rattle.std.proofs.lemmas.List.Kept.{IsStrictlySortedBy-filter}
 use Rattle.fx_expr.specs.Globs.{glob_matches}
+use Rattle.fx_expr.specs.Sets.{IsAscending}
 use Rattle.fx_expr.proofs.set.TextSet.only.Goals as goal
 
-pub invariant_of-result : goal.invariant_of-result
-invariant_of-result c =
-    let kept = filter_same _ (λ text. glob_matches c.args.glob.now text) _ (λ x b f' k. search rules) _ _ c.retain.ensures.filtered in
-    rw kept (IsStrictlySortedBy-filter (slice_cmp nat_cmp) _ _ c.self.invariant)
-
-pub returns : goal.returns
-returns c =
-    let kept = filter_same _ (λ text. glob_matches c.args.glob.now text) _ (λ x b f' k. search rules) _ _ c.retain.ensures.filtered in
-    kept ∙ ap (λ l. filter (λ text. glob_matches c.args.glob.now text) l) c.self.view_is
+pub from_ascending-requires : goal.from_ascending-requires
+from_ascending-requires c =
+    let texts = c.as_slice-texts.result.now in
+    let kept : c.loop-text.kept.items ≡ filter (λ text. glob_matches c.args.glob.now text) texts =
+    c.loop-text.invariant ∙ ap (filter (λ text. glob_matches c.args.glob.now text)) (take_all c.loop-text.text-index texts (omega arith)) in
+    let up : IsAscending texts = rw c.as_slice-texts.ensures.texts c.as_slice-texts.ensures.order in
+    rw kept (IsStrictlySortedBy-filter (slice_cmp nat_cmp) (λ text. glob_matches c.args.glob.now text) texts up)

@@ -3,6 +3,6 @@ use Rattle.fx_expr.proofs.set.TextSet.place.Goals as goal
 
 pub returns-clause-value : goal.returns-clause-value
 returns-clause-value c =
-    let xs = c.self.inside.items.items in
-    let found = searched xs c.args.item.now c.binary_search.result c.self.invariant (rw c.as_slice.ensures.value at c.binary_search.ensures.position) (rw c.as_slice.ensures.value at c.binary_search.ensures.bound) in
-    rw (c.ok.ensures.value, ← c.self.view_is) found
+    let xs = c.args.self.now in
+    let found = searched xs c.args.item.now c.binary_search.result c.as_slice.ensures.order (rw c.as_slice.ensures.texts at c.binary_search.ensures.position) (rw c.as_slice.ensures.texts at c.binary_search.ensures.bound) in
+    rw c.ok.ensures.value found
