@@ -1,10 +1,12 @@
 -- Texts and words, as lists of bytes.
 use Rattle.std.specs.Prelude.{◌≡◌, ℕ, ◌≤◌, Bool, true, false, ◌||◌, ◌&&◌, List, [], ◌∷◌, length, nat_eq, nat_le}
 use Rattle.std.specs.List.{list_all}
+use Rattle.fx_expr.specs.declared.text.TheConstants.{TEXT_LIMIT}
+use Rattle.fx_expr.specs.declared.word.TheConstants.{WORD_LIMIT}
 
--- a text has at most 1,048,576 bytes
+-- a text has at most so many bytes
 abbrev pub IsText : List ℕ → Type 0
-IsText bytes = length bytes ≤ 1048576
+IsText bytes = length bytes ≤ TEXT_LIMIT
 
 -- a letter of ASCII or `_`
 abbrev pub begins_word : ℕ → Bool
@@ -19,8 +21,8 @@ abbrev pub has_word_start : List ℕ → Bool
 has_word_start [] = false
 has_word_start (b ∷ bytes) = begins_word b
 
--- a word: a letter or `_`, then letters, digits or `_`, at most 64 bytes in all
+-- a word: a letter or `_`, then letters, digits or `_`, at most so many bytes in all
 pub record IsWord (bytes : List ℕ) : Type 0 where
   pub start : has_word_start bytes ≡ true
   pub each : list_all is_word_byte bytes ≡ true
-  pub short : length bytes ≤ 64
+  pub short : length bytes ≤ WORD_LIMIT

@@ -13,6 +13,8 @@ use Rattle.fx_expr.specs.declared.expr.BinOp.{BinOp}
 use Rattle.fx_expr.specs.declared.expr.UnOp.{UnOp}
 use Rattle.fx_expr.specs.declared.fault.ExprFault.{ExprFault}
 use Rattle.fx_expr.specs.declared.fault.ExprFault.TheVariants.{TooLong, Overflow, NotNumber}
+use Rattle.fx_expr.specs.declared.set.TheConstants.{UNION_LIMIT}
+use Rattle.fx_expr.specs.declared.text.TheConstants.{TEXT_LIMIT}
 use Rattle.fx_expr.specs.Bindings.{bound}
 use Rattle.fx_expr.specs.Globs.{glob_matches}
 use Rattle.fx_expr.specs.Sets.{has_text, set_of, weight}
@@ -62,7 +64,7 @@ size_in _ = 0
 
 -- one text after another; TooLong above the limit of a text
 abbrev pub joined : List ℕ → List ℕ → Outcome
-joined a b = cond (nat_le (length a + length b) 1048576) (Ok (Tree.str (a ++ b))) (Err TooLong)
+joined a b = cond (nat_le (length a + length b) TEXT_LIMIT) (Ok (Tree.str (a ++ b))) (Err TooLong)
 
 -- whether the integer is one of 64 bits, from -2^63 to 2^63 - 1
 abbrev pub fits_64 : ℤ → Bool
@@ -89,7 +91,7 @@ is_less _ v = false
 
 -- the union of two sets; TooLong above the limit of its weight
 abbrev pub united : List (List ℕ) → List (List ℕ) → Outcome
-united a b = let both = set_of (a ++ b) in cond (nat_le (weight both) 33554432) (Ok (Tree.names both)) (Err TooLong)
+united a b = let both = set_of (a ++ b) in cond (nat_le (weight both) UNION_LIMIT) (Ok (Tree.names both)) (Err TooLong)
 
 abbrev pub without : List (List ℕ) → List (List ℕ) → List (List ℕ)
 without a b = filter (λ x. not (has_text x b)) a

@@ -87,7 +87,8 @@ impl Env {
 
     /// Takes off the newest binding, and gives it; None exactly where there is none.
     pub fn take_last(&mut self) -> Option<(Word, Value)>
-        ensures { MatchOption result ((self.old ≡ []) × (self.new ≡ [])) (λ binding. self.old ≡ self.new ++ entry_tree binding ∷ []) }
+        ensures { MatchOption result ((self.old ≡ []) × (self.new ≡ []))
+            (λ binding. self.old ≡ self.new ++ entry_tree binding ∷ []) }
     {
         self.bindings.pop()
     }
@@ -111,7 +112,8 @@ impl Env {
 
 // The place of a word's newest binding.
 fn newest(bindings: &[(Word, Value)], word: &Word) -> Option<usize>
-    ensures place { MatchOption result (bound (map entry_tree bindings.now) word.now ≡ None) (λ i. IsNewest (map entry_tree bindings.now) word.now i) }
+    ensures place { let trees = map entry_tree bindings.now in
+        MatchOption result (bound trees word.now ≡ None) (IsNewest trees word.now) }
     ensures within { IfSome result (λ i. i < length bindings.now) }
 {
     let mut i = bindings.len();
@@ -126,7 +128,8 @@ fn newest(bindings: &[(Word, Value)], word: &Word) -> Option<usize>
 
 fn put(bindings: &mut Vec<(Word, Value)>, i: usize, value: Value)
     requires { i < length bindings.old.items }
-    ensures { (word : List ℕ) (before : Value) → slice_get bindings.old.items i ≡ Some (word, before) → bindings.new.items ≡ slice_set bindings.old.items i (word, value) }
+    ensures { (word : List ℕ) (before : Value) → slice_get bindings.old.items i ≡ Some (word, before)
+        → bindings.new.items ≡ slice_set bindings.old.items i (word, value) }
 {
     bindings[i].1 = value;
 }

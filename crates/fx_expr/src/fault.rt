@@ -9,7 +9,8 @@ use std::fmt;
 /// Why an expression has no value.
 #[derive(Clone, Copy, Debug, PartialEq, Eq, Drop)]
 pub enum ExprFault {
-    /// A text of more than 1,048,576 bytes, or a union of a weight above 33,554,432.
+    /// A text of more than [`TEXT_LIMIT`](crate::TEXT_LIMIT) bytes, or a union that weighs more than
+    /// [`UNION_LIMIT`](crate::UNION_LIMIT).
     TooLong,
     /// An integer outside `i64`.
     Overflow,

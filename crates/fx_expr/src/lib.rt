@@ -28,7 +28,7 @@ pub use fault::{EvalFault, ExprFault};
 pub use glob::matches;
 pub use keyed::Keyed;
 pub use lists::{Texts, Values};
-pub use set::TextSet;
+pub use set::{TextSet, UNION_LIMIT};
 pub use shape::Shape;
 pub use text::{TEXT_LIMIT, Text};
 pub use value::{Rows, Value};

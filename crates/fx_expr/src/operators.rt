@@ -15,14 +15,11 @@ use crate::parts::{
     integer, into_first, into_integer, into_keys, into_presence, into_second, into_size, into_text,
     into_truth, names, text, truth,
 };
-use crate::set::TextSet;
+use crate::set::{TextSet, UNION_LIMIT};
 use crate::text::{TEXT_LIMIT, Text};
 use crate::value::Value;
 use fx_base::NoMemory;
 use std::alloc::Global;
-
-// The most that a union may weigh: the bytes of its elements, and one more for each.
-const UNION_LIMIT: u64 = 33_554_432;
 
 // What an operator's first part decides alone.
 pub(crate) fn decides(op: BinOp, first: &Value) -> Option<bool>

@@ -17,6 +17,9 @@ use std::cmp::Ordering;
 use std::marker::Model;
 use std::sync::Arc;
 
+/// The most that a union may weigh: the bytes of its elements, and one more for each.
+pub const UNION_LIMIT: u64 = 33_554_432;
+
 /// A set of texts, of which a copy takes no time. Contracts see its elements in strictly ascending order of bytes.
 #[derive(Debug, Drop)]
 pub struct TextSet {
@@ -78,7 +81,8 @@ impl TextSet {
 
     // The element's place.
     pub(crate) fn place(&self, item: &Text) -> Option<usize>
-        ensures value { MatchOption result (has_text item.now self.now ≡ false) (λ i. slice_get self.now i ≡ Some item.now) }
+        ensures value { MatchOption result (has_text item.now self.now ≡ false)
+            (λ i. slice_get self.now i ≡ Some item.now) }
         ensures order { IsAscending self.now }
     {
         self.as_slice().binary_search(item).ok()
@@ -279,7 +283,8 @@ fn merge_weighs_at_most(first: &[Text], second: &[Text], limit: u64) -> bool
 fn split_least<'a>(a: &'a [Text], b: &'a [Text]) -> Option<(&'a Text, &'a [Text], &'a [Text])>
     requires first { IsAscending a.now }
     requires second { IsAscending b.now }
-    ensures { MatchOption result (set_of (a.now ++ b.now) ≡ []) (λ r. IsLeastOf a.now b.now r.0.now r.1.now r.2.now) }
+    ensures { MatchOption result (set_of (a.now ++ b.now) ≡ [])
+        (λ r. IsLeastOf a.now b.now r.0.now r.1.now r.2.now) }
 {
     match a.split_first() {
         None => match b.split_first() {
