@@ -4,8 +4,6 @@
 mod board;
 mod growing;
 mod index;
-#[cfg(test)]
-mod tests;
 
 pub use board::{Board, Settle};
 pub use fx_machine::{Attempt, Entry, Event, Events, Pair, Retries, Retry};

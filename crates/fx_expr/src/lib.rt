@@ -15,8 +15,6 @@ mod operators;
 mod parts;
 mod set;
 mod shape;
-#[cfg(test)]
-mod tests;
 mod text;
 mod value;
 mod word;

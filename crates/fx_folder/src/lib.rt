@@ -6,8 +6,6 @@ pub mod laws;
 mod loading;
 mod readying;
 mod saving;
-#[cfg(test)]
-mod tests;
 
 pub use fault::{FolderCause, LoadFault, SaveFault};
 pub use loading::load;

@@ -6,8 +6,6 @@ mod entry;
 mod event;
 pub mod laws;
 mod retry;
-#[cfg(test)]
-mod tests;
 
 pub use attempt::Attempt;
 pub use entry::{Entry, Pair};

@@ -23,6 +23,3 @@ pub use memory_host::MemoryHost;
 pub use memory_sink::MemorySink;
 pub use sink::{Sink, SinkFailed};
 pub use text::{HostText, Words};
-
-#[cfg(test)]
-mod tests;

@@ -5,8 +5,6 @@ pub mod laws;
 mod lines;
 mod printed;
 mod quotes;
-#[cfg(test)]
-mod tests;
 mod values;
 
 pub use fx_board::{Retries, Retry};

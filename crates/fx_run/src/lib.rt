@@ -9,7 +9,5 @@ mod making;
 mod pursuing;
 mod standing;
 mod storing;
-#[cfg(test)]
-mod tests;
 
 pub use engine::run;

@@ -4,8 +4,6 @@
 mod moves;
 mod recording;
 mod schedule;
-#[cfg(test)]
-mod tests;
 mod world;
 
 pub use schedule::{Traced, run_schedule};

@@ -15,8 +15,6 @@ mod parts;
 mod path;
 mod paths;
 pub mod spelling;
-#[cfg(test)]
-mod tests;
 
 pub use bytes::{Bytes, LongText};
 pub use changes::{Change, Changes};

@@ -7,8 +7,6 @@ mod description;
 mod names;
 mod script;
 mod stop;
-#[cfg(test)]
-mod tests;
 mod texts;
 
 pub use texts::{TEXT_LIMIT, read_description, read_script};

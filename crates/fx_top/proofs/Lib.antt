@@ -3,6 +3,5 @@ pub mod Ending
 pub mod Flat
 pub mod Plans
 pub mod Reading
-pub mod Replaying
 pub mod Stages
 pub mod Writing

@@ -2,6 +2,5 @@ pub mod Answers
 pub mod Codes
 pub mod Inputs
 pub mod Outcome
-pub mod Replay
 pub mod Rows
 pub mod Texts

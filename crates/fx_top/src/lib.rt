@@ -6,11 +6,7 @@ pub mod gate;
 pub mod host;
 pub mod inputs;
 pub mod print;
-#[cfg(test)]
-mod replay;
 pub mod sink;
 pub mod status;
-#[cfg(test)]
-mod tests;
 pub mod texts;
 pub mod top;

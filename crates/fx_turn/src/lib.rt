@@ -14,6 +14,3 @@ pub use kept::Kept;
 pub use seat::Seat;
 pub use turn::Turn;
 pub use view::View;
-
-#[cfg(test)]
-mod tests;

@@ -9,8 +9,6 @@ mod reader;
 mod reads;
 mod resolving;
 mod same;
-#[cfg(test)]
-mod tests;
 mod walk;
 
 pub use fx_store::{Landing, NameList};

@@ -4,7 +4,5 @@
 mod decimal;
 mod job;
 mod schedule;
-#[cfg(test)]
-mod tests;
 
 pub use job::{Job, job_of};

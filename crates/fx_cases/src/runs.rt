@@ -1,0 +1,48 @@
+//! Runs of the top call over a host and a sink in memory.
+
+use crate::stage::host_text;
+use crate::telling::{tell_bytes, tell_status, tell_tree};
+use fx_base::NoMemory;
+use fx_outside::{MemoryHost, MemorySink, OpenGate, Words};
+use fx_top::status::Status;
+use fx_top::top::top;
+use std::alloc::Global;
+
+/// The path at which a run writes its folder.
+pub const OUT: &str = "out";
+
+/// How a command ends.
+pub fn status_of(
+    alloc: Global,
+    words: &Words,
+    host: &mut MemoryHost,
+    sink: &mut MemorySink,
+) -> Status {
+    top(&(), alloc, words, host, sink, &OpenGate)
+}
+
+/// The words of a line between its spaces; none in an empty line.
+pub fn words_of(alloc: Global, line: &str) -> Result<Words, NoMemory> {
+    let mut words = Words::new(alloc);
+    if line.is_empty() {
+        return Ok(words);
+    }
+    for word in line.split(' ') {
+        words.add(alloc, host_text(alloc, word)?)?;
+    }
+    Ok(words)
+}
+
+/// Runs a command, and tells its status, what it printed, and what stands at OUT.
+pub fn tell_run(
+    alloc: Global,
+    words: &Words,
+    host: &mut MemoryHost,
+    sink: &mut MemorySink,
+    out: &mut String,
+) -> Result<(), NoMemory> {
+    let status = status_of(alloc, words, host, sink);
+    tell_status(out, &status)?;
+    tell_bytes(out, sink.written())?;
+    tell_tree(alloc, host, OUT, out)
+}

@@ -1,0 +1,120 @@
+//! What a case sets up: a host, the calls on it that are to fail, and the sink that a run prints to.
+
+use crate::escapes::unescaped;
+use fx_base::NoMemory;
+use fx_outside::{HostKind, HostText, MemoryHost, MemorySink};
+use std::alloc::Global;
+
+/// The room of a sink where a case says nothing of it.
+const ROOM: u64 = 100_000;
+
+/// The most room of a sink.
+const ROOM_LIMIT: u64 = 1_000_000;
+
+/// An entry as a case placed it.
+#[derive(Drop)]
+struct Placed {
+    path: String,
+    kind: HostKind,
+    bytes: Vec<u8>,
+}
+
+/// The stage of a case. The host is kept from one line to the next, and a sink is made anew for each run.
+#[derive(Drop)]
+pub struct Stage {
+    pub host: MemoryHost,
+    placed: Vec<Placed>,
+    room: u64,
+    failing_writes: Vec<u64>,
+}
+
+pub fn host_text(alloc: Global, text: &str) -> Result<HostText, NoMemory> {
+    Ok(HostText::from_string(String::from_str(alloc, text)?))
+}
+
+/// Puts an entry where nothing stands and a folder stands above, and says whether it did.
+fn put(
+    alloc: Global,
+    host: &mut MemoryHost,
+    path: &str,
+    kind: HostKind,
+    bytes: &[u8],
+) -> Result<bool, NoMemory> {
+    let path = host_text(alloc, path)?;
+    if !host.is_free(alloc, &path)? {
+        return Ok(false);
+    }
+    match kind {
+        HostKind::File => host.put(alloc, &path, HostKind::File, bytes)?,
+        HostKind::Folder => host.put(alloc, &path, HostKind::Folder, b"")?,
+        HostKind::Other => host.put(alloc, &path, HostKind::Other, b"")?,
+    }
+    Ok(true)
+}
+
+impl Stage {
+    /// An empty tree, and nothing that fails.
+    pub fn new(alloc: Global) -> Stage {
+        Stage {
+            host: MemoryHost::new(alloc),
+            placed: Vec::new(alloc),
+            room: ROOM,
+            failing_writes: Vec::new(alloc),
+        }
+    }
+
+    /// Puts an entry, and says whether it did.
+    pub fn put(
+        &mut self,
+        alloc: Global,
+        path: &str,
+        kind: HostKind,
+        text: &str,
+    ) -> Result<bool, NoMemory> {
+        let bytes = unescaped(alloc, text)?;
+        let done = put(alloc, &mut self.host, path, kind, &bytes)?;
+        let path = String::from_str(alloc, path)?;
+        self.placed.push(Placed { path, kind, bytes })?;
+        Ok(done)
+    }
+
+    /// Puts a file whose text ends its last line.
+    pub fn put_line(&mut self, alloc: Global, path: &str, text: &str) -> Result<bool, NoMemory> {
+        let line = format!(in alloc; "{text}\\n")?;
+        self.put(alloc, path, HostKind::File, line.as_str())
+    }
+
+    pub fn set_room(&mut self, room: u64) {
+        self.room = room.min(ROOM_LIMIT);
+    }
+
+    /// Has a write of each further sink fail.
+    pub fn fail_write(&mut self, call: u64) -> Result<(), NoMemory> {
+        self.failing_writes.push(call)?;
+        Ok(())
+    }
+
+    /// A host with all that was put, at which nothing fails and nothing was called yet.
+    pub fn fresh_host(&self, alloc: Global) -> Result<MemoryHost, NoMemory> {
+        let mut host = MemoryHost::new(alloc);
+        for entry in &self.placed {
+            put(
+                alloc,
+                &mut host,
+                entry.path.as_str(),
+                entry.kind,
+                &entry.bytes,
+            )?;
+        }
+        Ok(host)
+    }
+
+    /// An empty sink.
+    pub fn fresh_sink(&self, alloc: Global) -> Result<MemorySink, NoMemory> {
+        let mut sink = MemorySink::new(alloc, self.room)?;
+        for call in &self.failing_writes {
+            sink.fail(alloc, *call)?;
+        }
+        Ok(sink)
+    }
+}

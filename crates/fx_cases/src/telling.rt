@@ -1,0 +1,222 @@
+//! What is told of bytes, statuses and trees. Each line of it begins with `> `.
+
+use crate::stage::host_text;
+use fx_base::NoMemory;
+use fx_folder::FolderCause;
+use fx_outside::{Host, HostFault, HostKind, HostText, Listing, MemoryHost, Standing};
+use fx_top::status::Status;
+use std::alloc::{AllocError, Global};
+use std::fmt::Write;
+
+/// The most entries that are told of a tree.
+const ENTRY_LIMIT: usize = 10_000;
+
+/// The most bytes that are told of a file.
+const FILE_LIMIT: usize = 1_048_576;
+
+/// Tells a line.
+pub fn tell(out: &mut String, line: &str) -> Result<(), NoMemory> {
+    writeln!(out, "> {line}")?;
+    Ok(())
+}
+
+/// Adds a byte, in hexadecimal where it is none that is printed.
+fn add_byte(out: &mut String, byte: u8) -> Result<(), AllocError> {
+    match byte {
+        b' '..=b'~' => out.push(char::from(byte)),
+        _ => write!(out, "\\x{byte:02x}"),
+    }
+}
+
+/// Adds bytes within a line.
+pub fn add_bytes(out: &mut String, bytes: &[u8]) -> Result<(), NoMemory> {
+    for byte in bytes {
+        add_byte(out, *byte)?;
+    }
+    Ok(())
+}
+
+/// Adds a byte of a text with lines.
+fn add_line_byte(out: &mut String, byte: u8) -> Result<(), AllocError> {
+    match byte {
+        b'\n' => out.push('\n'),
+        _ => add_byte(out, byte),
+    }
+}
+
+/// Tells the lines of a text, with a backslash where it does not end its last line.
+pub fn tell_bytes(out: &mut String, bytes: &[u8]) -> Result<(), NoMemory> {
+    let mut begins = true;
+    for byte in bytes {
+        if begins {
+            out.push_str("> ")?;
+        }
+        begins = *byte == b'\n';
+        add_line_byte(out, *byte)?;
+    }
+    if !begins {
+        out.push_str("\\\n")?;
+    }
+    Ok(())
+}
+
+fn tell_cause(out: &mut String, name: &str, path: &HostText) -> Result<(), NoMemory> {
+    let path = path.as_str();
+    writeln!(out, "> status 4 {name} {path}")?;
+    Ok(())
+}
+
+fn tell_folder(out: &mut String, cause: &FolderCause) -> Result<(), NoMemory> {
+    match cause {
+        FolderCause::BadName(path) => tell_cause(out, "BadName", path),
+        FolderCause::Strange(path) => tell_cause(out, "Strange", path),
+        FolderCause::TooLarge(path) => tell_cause(out, "TooLarge", path),
+        FolderCause::NotBuilt(path) => tell_cause(out, "NotBuilt", path),
+        FolderCause::BadTable(line) => {
+            writeln!(out, "> status 4 BadTable {line}")?;
+            Ok(())
+        }
+    }
+}
+
+/// Tells how a command ended, with its cause.
+pub fn tell_status(out: &mut String, status: &Status) -> Result<(), NoMemory> {
+    match status {
+        Status::TextRefused { word, cause } => {
+            writeln!(out, "> status 3 word {word} {cause:?}")?;
+            Ok(())
+        }
+        Status::FolderRefused(cause) => tell_folder(out, cause),
+        _ => {
+            let code = status.code();
+            writeln!(out, "> status {code}")?;
+            Ok(())
+        }
+    }
+}
+
+/// What stands at a path. A call that fails is made once more.
+fn standing(alloc: Global, host: &mut MemoryHost, path: &HostText) -> Result<Standing, HostFault> {
+    match host.standing(alloc, path) {
+        Ok(standing) => Ok(standing),
+        Err(_) => host.standing(alloc, path),
+    }
+}
+
+/// What a folder holds. A call that fails is made once more.
+fn listing(alloc: Global, host: &mut MemoryHost, path: &HostText) -> Result<Listing, HostFault> {
+    match host.list(alloc, path) {
+        Ok(names) => Ok(names),
+        Err(_) => host.list(alloc, path),
+    }
+}
+
+/// Adds the next bytes of a file, and answers how many there were.
+fn add_piece(
+    alloc: Global,
+    host: &mut MemoryHost,
+    path: &HostText,
+    bytes: &mut Vec<u8>,
+) -> Result<usize, HostFault> {
+    let mut buffer = [0u8; 64];
+    let from = bytes.len() as u64;
+    let count = match host.read(alloc, path, from, &mut buffer) {
+        Ok(count) => count,
+        Err(_) => host.read(alloc, path, from, &mut buffer)?,
+    };
+    bytes.extend_from_slice(&buffer[..count])?;
+    Ok(count)
+}
+
+/// The bytes of a file, read to its end.
+fn bytes_at(alloc: Global, host: &mut MemoryHost, path: &HostText) -> Result<Vec<u8>, HostFault> {
+    let mut bytes = Vec::new(alloc);
+    for _ in 0..FILE_LIMIT {
+        if add_piece(alloc, host, path, &mut bytes)? == 0 {
+            break;
+        }
+    }
+    Ok(bytes)
+}
+
+fn tell_file(
+    alloc: Global,
+    host: &mut MemoryHost,
+    path: &HostText,
+    out: &mut String,
+) -> Result<(), NoMemory> {
+    tell(out, path.as_str())?;
+    match bytes_at(alloc, host, path) {
+        Ok(bytes) => tell_bytes(out, &bytes),
+        Err(_) => tell(out, "Failed"),
+    }
+}
+
+/// Adds the paths of what a folder holds, the last first.
+fn add_paths(
+    alloc: Global,
+    folder: &HostText,
+    names: &Listing,
+    left: &mut Vec<HostText>,
+) -> Result<(), NoMemory> {
+    for i in (0..names.len()).rev() {
+        if let Some((name, _)) = names.at(i) {
+            let path = format!(in alloc; "{}/{}", folder.as_str(), name.as_str())?;
+            left.push(HostText::from_string(path))?;
+        }
+    }
+    Ok(())
+}
+
+fn tell_folder_at(
+    alloc: Global,
+    host: &mut MemoryHost,
+    path: &HostText,
+    left: &mut Vec<HostText>,
+    out: &mut String,
+) -> Result<(), NoMemory> {
+    writeln!(out, "> {}/", path.as_str())?;
+    match listing(alloc, host, path) {
+        Ok(names) => add_paths(alloc, path, &names, left),
+        Err(_) => tell(out, "Failed"),
+    }
+}
+
+/// Tells an entry, and adds the paths of what it holds.
+fn tell_entry(
+    alloc: Global,
+    host: &mut MemoryHost,
+    path: &HostText,
+    left: &mut Vec<HostText>,
+    out: &mut String,
+) -> Result<(), NoMemory> {
+    match standing(alloc, host, path) {
+        Ok(Standing::Is(HostKind::File)) => tell_file(alloc, host, path, out),
+        Ok(Standing::Is(HostKind::Folder)) => tell_folder_at(alloc, host, path, left, out),
+        Ok(Standing::Is(HostKind::Other)) => {
+            writeln!(out, "> other {}", path.as_str())?;
+            Ok(())
+        }
+        Ok(Standing::Absent) => {
+            writeln!(out, "> no {}", path.as_str())?;
+            Ok(())
+        }
+        Err(_) => tell(out, "Failed"),
+    }
+}
+
+/// Tells the entry at a path and all below it.
+pub fn tell_tree(
+    alloc: Global,
+    host: &mut MemoryHost,
+    path: &str,
+    out: &mut String,
+) -> Result<(), NoMemory> {
+    let mut left = Vec::new(alloc);
+    left.push(host_text(alloc, path)?)?;
+    for _ in 0..ENTRY_LIMIT {
+        let Some(path) = left.pop() else { break };
+        tell_entry(alloc, host, &path, &mut left, out)?;
+    }
+    Ok(())
+}

@@ -1,0 +1,80 @@
+use fx_base::NoMemory;
+use fx_expr::{Env, Expr, Keyed, Rows, Shape, Text, TextSet, Texts, Value, Values, Word};
+use std::alloc::Global;
+
+fn copied_text(alloc: Global) -> Result<u64, NoMemory> {
+    let mut letters = Text::new(alloc);
+    letters.add(alloc, b'a')?;
+    let copy = letters.copy(alloc)?;
+    Ok(copy.len())
+}
+
+fn copied_table(alloc: Global) -> Result<Value, NoMemory> {
+    let mut rows: Rows = Keyed::new(alloc);
+    rows.add(alloc, Text::new(alloc), Value::Int(5))?;
+    let table = Value::Table(rows);
+    table.copy(alloc)
+}
+
+fn copied_values(alloc: Global) -> Result<u64, NoMemory> {
+    let mut values = Values::new(alloc);
+    values.add(alloc, copied_table(alloc)?)?;
+    let copy = values.copy(alloc)?;
+    Ok(copy.len())
+}
+
+fn copied_texts(alloc: Global) -> Result<u64, NoMemory> {
+    let mut texts = Texts::new(alloc);
+    texts.add(alloc, Text::new(alloc))?;
+    let copy = texts.copy(alloc)?;
+    Ok(copy.len())
+}
+
+fn copied_names(alloc: Global) -> Result<u64, NoMemory> {
+    let mut names = TextSet::new(alloc);
+    names.add(alloc, Text::new(alloc))?;
+    let copy = names.copy(alloc)?;
+    Ok(copy.len())
+}
+
+fn copied_shape(alloc: Global) -> Result<bool, NoMemory> {
+    let shape = Shape::Opt(Box::new(alloc, Shape::Str)?);
+    let copy = shape.copy(alloc)?;
+    Ok(copy.same(&shape))
+}
+
+fn copied_expression(alloc: Global) -> Result<i64, NoMemory> {
+    let expr = Box::new(alloc, Expr::Int(9))?;
+    match expr.copy(alloc)? {
+        Expr::Int(n) => Ok(n),
+        _ => Err(NoMemory),
+    }
+}
+
+#[test]
+fn copies_are_made_with_ample_memory(rt: HostRuntime) {
+    let alloc = rt.alloc();
+    assert_eq!(rt; copied_text(alloc), Ok(1));
+    assert_eq!(rt; copied_values(alloc), Ok(1));
+    assert_eq!(rt; copied_texts(alloc), Ok(1));
+    assert_eq!(rt; copied_names(alloc), Ok(1));
+    assert_eq!(rt; copied_shape(alloc), Ok(true));
+    assert_eq!(rt; copied_expression(alloc), Ok(9));
+}
+
+// What `x1` is bound to in an environment that binds it to 1 and then to 2.
+fn newest_value(alloc: Global) -> Result<i64, NoMemory> {
+    let word = Word::from_vec(Vec::from_slice(alloc, b"x1")?);
+    let mut env = Env::new(alloc);
+    env.add(alloc, (word.copy(alloc)?, Value::Int(1)))?;
+    env.add(alloc, (word.copy(alloc)?, Value::Int(2)))?;
+    match env.get(&word) {
+        Some(Value::Int(n)) => Ok(*n),
+        _ => Err(NoMemory),
+    }
+}
+
+#[test]
+fn the_newest_binding_counts(rt: HostRuntime) {
+    assert_eq!(rt; newest_value(rt.alloc()), Ok(2));
+}
