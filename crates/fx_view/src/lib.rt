@@ -12,6 +12,7 @@ mod same;
 #[cfg(test)]
 mod tests;
 mod walk;
+mod whole;
 
 pub use fx_store::{Landing, NameList};
 pub use known::Known;
@@ -20,3 +21,4 @@ pub use overlay::Overlay;
 pub use reader::{Reader, Stop};
 pub use reads::Reads;
 pub use resolving::resolve;
+pub use whole::Whole;
