@@ -7,3 +7,6 @@ pub mod EditsKeep
 pub mod EditsMake
 pub mod EditLaws
 pub mod Transactions
+pub mod Shaped
+pub mod Counted
+pub mod Asking

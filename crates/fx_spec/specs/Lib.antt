@@ -17,3 +17,5 @@ pub mod WellShaped
 pub mod Examples
 pub mod Bases
 pub mod Laws
+pub mod Shaped
+pub mod Evals
