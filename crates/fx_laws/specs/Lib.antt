@@ -1,4 +1,3 @@
-pub mod Shaped
 pub mod Stored
 pub mod Shorthands
 pub mod Left

@@ -1,4 +1,4 @@
-//! Laws of the definitions: of the shapes of values, of stores that change nothing, of the tokens of trees, of what a
+//! Laws of the definitions: of stores that change nothing, of the tokens of trees, of what a
 //! printed report spells, and worked examples that the checker computes. Each law stands on a function that does nothing,
 //! so that it is proved with the crate.
 #![tactic(auto)]
@@ -7,7 +7,6 @@ pub mod limits;
 pub mod reports;
 pub mod retries;
 pub mod scripts;
-pub mod shapes;
 pub mod stores;
 pub mod tokens;
 pub mod vectors;

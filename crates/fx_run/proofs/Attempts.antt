@@ -15,6 +15,7 @@ use Rattle.fx_view.specs.ReadList.{ReadList}
 use Rattle.fx_view.specs.Own.{AreRead, no_own}
 use Rattle.fx_view.specs.Reads.{known_of}
 use Rattle.fx_view.specs.Follows.{Went, GoesBy, walked}
+use Rattle.fx_view.proofs.Going.{Went-kept_on}
 use Rattle.fx_machine.specs.declared.attempt.Attempt.{Attempt}
 use Rattle.fx_machine.specs.Explained.{IsExplained}
 use Rattle.fx_run.specs.declared.finishing.Finished.{Finished}
@@ -56,13 +57,9 @@ module _ {R : Type 0} (m : Meaning R) (root : SpecTree) (t : List CommandTree) (
 
   -- memory is refused while the course is finished
   pub attempt_refused : (kept : R) (course : Course) → GoesBy m came_of no_own old mid (pursued root t) (Ok course) → KeepsAll m mid kept → GoesBy {A = Came Flow} {X = Course} m came_of no_own old kept (pursued root t) (Err stop.NoMemory)
-  attempt_refused kept course follows keeps = record {
-    more = follows.1.more;
-    kept = keeps.kept ∙ follows.1.kept;
-    only = subst (λ rs. All (Contains (walked (known_of rs) no_own (pursued root t))) (keys_of follows.1.more)) (sym keeps.kept) follows.1.only;
-    same = keeps.same ∙ follows.1.same;
-    vouched = λ start v. keeps.vouched start (follows.1.vouched start v);
-  }
+  attempt_refused kept course follows keeps =
+      subst (λ rs. Went m old kept (walked (known_of rs) no_own (pursued root t))) (sym keeps.kept)
+      (Went-kept_on m old mid kept (walked (known_of (m.reads mid)) no_own (pursued root t)) keeps.kept keeps.same keeps.vouched follows.1)
 
 module _ {R : Type 0} (m : Meaning R) (base : BaseTree) (shell txn : ℕ) (t : List CommandTree) (planned : txn_of base.plan (shell, txn) ≡ Some t) (old new : R) (fit : ReadsFit base (shell, txn) (m.reads old)) where
   attempt_explained : (a : Attempt) → IsAttempt m base.description t shell txn old new a → IsExplained base a

@@ -26,7 +26,7 @@ use Rattle.fx_spec.specs.Place.{PlaceTree, placed}
 use Rattle.fx_spec.specs.Task.{Task, Ends, Looks, asking}
 use Rattle.fx_spec.specs.Transaction as txn
 use Rattle.fx_spec.specs.Transaction.{Flow, On, Over, edits, editing, or_stop, taking, run}
-use Rattle.fx_spec.proofs.Tasks.{eq_paths}
+use Rattle.fx_spec.proofs.Asking.{asking-edits}
 use Rattle.fx_forms.specs.Built.{is_built_spec}
 use Rattle.fx_view.specs.declared.reader.Stop.{Stop}
 use Rattle.fx_view.specs.declared.reader.Stop.TheVariants as stop
@@ -42,7 +42,7 @@ use Rattle.fx_view.proofs.Rules.{looked, found_then}
 use Rattle.fx_run.specs.Answering.{answered}
 use Rattle.fx_run.specs.Pursuing.{Came, came, topped, pursuit}
 use Rattle.fx_run.specs.declared.standing.Standing.{Standing}
-use Rattle.fx_run.specs.Standing.{address_of, path_at, part_at, Stands, standing_of, came_by}
+use Rattle.fx_run.specs.Standing.{address_of, reached, path_at, part_at, Stands, standing_of, came_by}
 use Rattle.fx_run.proofs.Pursuits.{by_topped, pursuit-asking}
 
 abbrev Path : Type 0
@@ -79,21 +79,29 @@ module _ {R : Type 0} (m : Meaning R) where
 
 -- ---- at the place
 
-placed_at : {B : Type 0} (root : SpecTree) (below : Option Path) (path : Path) (part : SpecTree) (next : PlaceTree → Ask (Answered B)) → Stands root below → path ≡ path_at below → part ≡ part_at root below → at_place root (address_of below) next ≡ next (placed path [] part)
+reached-then : {B : Type 0} (below : Option Path) (at : PlaceTree) (next : PlaceTree → Ask (Answered B)) → (reached below (Answer (Some at)) >>= λ at. unrefused next (needed Refusal.NoPlace at)) ≡ reached below (next at)
+reached-then None at next = refl
+reached-then (Some path) at next = refl
+
+placed_at : {B : Type 0} (root : SpecTree) (below : Option Path) (path : Path) (part : SpecTree) (next : PlaceTree → Ask (Answered B)) → Stands root below → path ≡ path_at below → part ≡ part_at root below → at_place root (address_of below) next ≡ reached below (next (placed path [] part))
 placed_at root below path part next stands way form =
     ap (λ (rule : Ask (Option PlaceTree)). rule >>= λ at. unrefused next (needed Refusal.NoPlace at)) stands
-    ∙ (λ k. next (placed (sym way k) [] (sym form k)))
+    ∙ (reached-then below (placed (path_at below) [] (part_at root below)) next ∙ (λ k. reached below (next (placed (sym way k) [] (sym form k)))))
+
+asking-reached : {A B : Type 0} (below : Option Path) (rule : Ask A) (next : A → Task B) → asking (reached below rule) next ≡ asking rule next
+asking-reached None rule next = refl
+asking-reached (Some path) rule next = refl
+
+editing-reached : {B : Type 0} (below : Option Path) (rule : Ask (Answered (List Change))) (next : Answered txn.Effect → Task B) → asking (editing (reached below rule)) next ≡ asking (editing rule) next
+editing-reached None rule next = refl
+editing-reached (Some path) rule next = refl
 
 pub fetch_asks : (root : SpecTree) (below : Option Path) (path : Path) (part : SpecTree) (vars : Bindings) (outputs : List Tree) (i : ℕ) (x : List ℕ) → Stands root below → path ≡ path_at below → part ≡ part_at root below
     → let s : txn.Standing = record { vars = vars; address = address_of below; outputs = outputs } in run root i (CommandTree.fetch x ShapeTree.str) s ≡ asking (fetch_at ShapeTree.str (placed path [] part)) (or_stop i s (λ v. Ends (On (txn.binding s x v))))
 fetch_asks root below path part vars outputs i x stands way form =
     let s : txn.Standing = record { vars = vars; address = address_of below; outputs = outputs } in
     ap (λ (rule : Ask (Answered Tree)). asking rule (or_stop i s (λ v. Ends (On (txn.binding s x v))))) (placed_at root below path part (fetch_at ShapeTree.str) stands way form)
-
-asking-edits : {B : Type 0} (rule : Ask (Answered (List Change))) (next : Answered txn.Effect → Task B) → asking (editing rule) next ≡ asking rule (λ a. next (edits a))
-asking-edits (Answer a) next = refl
-asking-edits (Tick rule) next = asking-edits rule next
-asking-edits {B} (Look p rule) next = ap (λ (f : Option Node → Task B). Looks p f) (fun_ext (λ n. asking-edits (rule n) next))
+    ∙ asking-reached below (fetch_at ShapeTree.str (placed path [] part)) (or_stop i s (λ v. Ends (On (txn.binding s x v))))
 
 pub store_asks : (root : SpecTree) (below : Option Path) (path : Path) (part : SpecTree) (vars : Bindings) (outputs : List Tree) (i : ℕ) (e : ExprTree) (text : List ℕ) → Stands root below → path ≡ path_at below → part ≡ part_at root below → eval_of vars e ≡ Ok (Tree.str text)
     → let s : txn.Standing = record { vars = vars; address = address_of below; outputs = outputs } in run root i (CommandTree.act (ActTree.store e)) s ≡ asking (store_at (Tree.str text) (placed path [] part)) (λ a. or_stop i s (taking s) (edits a))
@@ -101,7 +109,8 @@ store_asks root below path part vars outputs i e text stands way form gives =
     let s : txn.Standing = record { vars = vars; address = address_of below; outputs = outputs } in
     ap (λ o. asking (editing (unrefused (λ v. at_place root (address_of below) (store_at v)) (evaluated o))) (or_stop i s (taking s))) gives
     ∙ (ap (λ (rule : Ask (Answered (List Change))). asking (editing rule) (or_stop i s (taking s))) (placed_at root below path part (store_at (Tree.str text)) stands way form)
-    ∙ asking-edits (store_at (Tree.str text) (placed path [] part)) (or_stop i s (taking s)))
+    ∙ (editing-reached below (store_at (Tree.str text) (placed path [] part)) (or_stop i s (taking s))
+    ∙ asking-edits (store_at (Tree.str text) (placed path [] part)) (or_stop i s (taking s))))
 
 -- ---- own changes are of paths that were read
 

@@ -1,6 +1,6 @@
 -- Where the engine stands between two commands, as the definitions have it.
 use Rattle.std.specs.Prelude.{◌≡◌, ℕ, Bool, true, List, [], ◌∷◌, ◌++◌, Option, Some, None, Result, Ok, IfOk}
-use Rattle.fx_store.specs.Rule.{Answer}
+use Rattle.fx_store.specs.Rule.{Ask, Answer, Tick}
 use Rattle.fx_expr.specs.Eval.{eval_of}
 use Rattle.fx_expr.specs.ExprTree.{ExprTree}
 use Rattle.fx_expr.specs.Shapes.{IsWellShaped}
@@ -41,9 +41,14 @@ abbrev pub part_at : SpecTree → Option (List (List ℕ)) → SpecTree
 part_at root None = root
 part_at root (Some path) = part_in root
 
+-- the way to the part of the focus evaluates its expression
+abbrev pub reached : {A : Type 0} → Option (List (List ℕ)) → Ask A → Ask A
+reached None rule = rule
+reached (Some path) rule = Tick rule
+
 -- the address leads to the path
 abbrev pub Stands : SpecTree → Option (List (List ℕ)) → Type 0
-Stands root below = place root (address_of below) ≡ Answer (Some (placed (path_at below) [] (part_at root below)))
+Stands root below = place root (address_of below) ≡ reached below (Answer (Some (placed (path_at below) [] (part_at root below))))
 
 abbrev pub standing_of : Standing → txn.Standing
 standing_of s = record { vars = s.variables; address = address_of s.below; outputs = s.outputs }

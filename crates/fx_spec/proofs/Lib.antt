@@ -8,3 +8,6 @@ pub mod EditsMake
 pub mod EditLaws
 pub mod EditLooks
 pub mod Transactions
+pub mod Shaped
+pub mod Counted
+pub mod Asking

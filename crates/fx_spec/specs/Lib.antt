@@ -18,3 +18,5 @@ pub mod Examples
 pub mod Bases
 pub mod Laws
 pub mod EditLooks
+pub mod Shaped
+pub mod Evals

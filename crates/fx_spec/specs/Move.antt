@@ -1,7 +1,7 @@
--- What moves and fetches answer, as rules that consult a filestore. A refusal is the first that applies, in the order in
--- which each rule asks.
+-- What moves and fetches answer, as rules that consult a filestore and evaluate expressions. A refusal is the first that
+-- applies, in the order in which each rule asks.
 use Rattle.std.specs.Prelude.{ℕ, Bool, true, false, cond, ◌&&◌, List, [], ◌∷◌, Option, Some, None, is_some, Result, Ok, Err}
-use Rattle.fx_store.specs.Rule.{Ask, Answer, ◌>>=◌}
+use Rattle.fx_store.specs.Rule.{Ask, Answer, Tick, ◌>>=◌}
 use Rattle.fx_expr.specs.Eval.{Outcome, eval_of, names_in}
 use Rattle.fx_expr.specs.Sets.{has_text, least, least_above, greatest_below}
 use Rattle.fx_expr.specs.ShapeTree.{ShapeTree}
@@ -57,23 +57,23 @@ chosen a choice (Err f) = Err (Refusal.Expr f)
 -- `into`: to the first part, to the least element, or inside an entry
 abbrev pub go_into : Address → List (List ℕ) → Bindings → SpecTree → Ask (Answered Address)
 go_into a p env (SpecTree.pair x s₁ s₂) = Answer (Ok (First ∷ a))
-go_into a p env (SpecTree.comp s x e) = Answer (chosen a least (eval_of env e))
+go_into a p env (SpecTree.comp s x e) = Tick (Answer (chosen a least (eval_of env e)))
 go_into a p env (SpecTree.opt s) = exists p >>= λ there. Answer (cond there (Ok (Inside ∷ a)) (Err Refusal.Lacks))
 go_into a p env _ = Answer (Err Refusal.NoStep)
 
 -- `to`: to the element that is this text
 abbrev pub go_to : List ℕ → Address → List (List ℕ) → Bindings → SpecTree → Ask (Answered Address)
-go_to t a p env (SpecTree.comp s x e) = Answer (chosen a (λ set. this_if t (has_text t set)) (eval_of env e))
+go_to t a p env (SpecTree.comp s x e) = Tick (Answer (chosen a (λ set. this_if t (has_text t set)) (eval_of env e)))
 go_to t a p env _ = Answer (Err Refusal.NoStep)
 
 -- `down`: to the part at the focus's path, which need not be there
 abbrev pub go_down : Address → List (List ℕ) → Bindings → SpecTree → Ask (Answered Address)
-go_down a p env (SpecTree.focus e s) = Answer (then_step Down a (focus_path p (eval_of env e)))
+go_down a p env (SpecTree.focus e s) = Tick (Answer (then_step Down a (focus_path p (eval_of env e))))
 go_down a p env _ = Answer (Err Refusal.NoStep)
 
 -- to another element of the comprehension around the place, by its set as it is now
 abbrev pub another : Address → (List (List ℕ) → Option (List ℕ)) → List (List ℕ) → Bindings → SpecTree → Ask (Answered Address)
-another a choice p env (SpecTree.comp s x e) = Answer (chosen a choice (eval_of env e))
+another a choice p env (SpecTree.comp s x e) = Tick (Answer (chosen a choice (eval_of env e)))
 another a choice p env _ = Answer (Err Refusal.NoStep)
 
 -- `next`: from the first part, which needs a value, to the second; or to the next greater element
@@ -143,11 +143,11 @@ abbrev pub fetched : List (List ℕ) → Bindings → SpecTree → Ask (Answered
 fetched p env SpecTree.file = content file_value true p >>= λ v. Answer (needed Refusal.Lacks v)
 fetched p env SpecTree.dir = content dir_value true p >>= λ v. Answer (needed Refusal.Lacks v)
 fetched p env SpecTree.link = content link_value false p >>= λ v. Answer (needed Refusal.Lacks v)
-fetched p env (SpecTree.focus e s) = Answer (evaluated (eval_of env e))
+fetched p env (SpecTree.focus e s) = Tick (Answer (evaluated (eval_of env e)))
 fetched p env (SpecTree.pair x a b) = Answer (Err Refusal.WrongForm)
-fetched p env (SpecTree.comp s x e) = Answer (evaluated (eval_of env e))
+fetched p env (SpecTree.comp s x e) = Tick (Answer (evaluated (eval_of env e)))
 fetched p env (SpecTree.opt s) = exists p >>= λ there. Answer (Ok (Tree.bool there))
-fetched p env (SpecTree.pred e) = Answer (evaluated (eval_of env e))
+fetched p env (SpecTree.pred e) = Tick (Answer (evaluated (eval_of env e)))
 
 -- the rule, where the form has the wanted shape
 abbrev pub of_shape : Bool → Ask (Answered Tree) → Ask (Answered Tree)

@@ -1,7 +1,7 @@
 -- The place of an address: a path, the names bound on the way there, and the description that is meant there.
 use Rattle.std.specs.Prelude.{ℕ, Bool, true, false, List, [], ◌∷◌, Option, Some, None, Result, Ok, Err}
 use Rattle.std.specs.Option.{option_map}
-use Rattle.fx_store.specs.Rule.{Ask, Answer, ◌>>=◌}
+use Rattle.fx_store.specs.Rule.{Ask, Answer, Tick, ◌>>=◌}
 use Rattle.fx_expr.specs.Bindings.{bind}
 use Rattle.fx_expr.specs.Eval.{Outcome, eval_of, names_in}
 use Rattle.fx_expr.specs.Sets.{has_text}
@@ -45,9 +45,9 @@ abbrev pub lead : Step → List (List ℕ) → Bindings → SpecTree → Ask (Op
 lead First p env (SpecTree.pair x a b) = Answer (Some (placed p env a))
 lead Second p env (SpecTree.pair x a b) = value p env a >>= λ v. Answer (option_map (λ v. placed p (bind env x v) b) v)
 lead (Elem t) p env (SpecTree.comp s x e) =
-    Answer (where_true (has_element t (eval_of env e)) (placed p (bind env x (Tree.str t)) s))
+    Tick (Answer (where_true (has_element t (eval_of env e)) (placed p (bind env x (Tree.str t)) s)))
 lead Inside p env (SpecTree.opt s) = exists p >>= λ there. Answer (where_true there (placed p env s))
-lead Down p env (SpecTree.focus e s) = Answer (at_path env s (focus_path p (eval_of env e)))
+lead Down p env (SpecTree.focus e s) = Tick (Answer (at_path env s (focus_path p (eval_of env e))))
 lead _ p env _ = Answer None
 
 -- the place of an address, if it has one

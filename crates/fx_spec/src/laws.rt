@@ -2,6 +2,7 @@
 //! the crate.
 ghost use Rattle.fx_spec.specs.EditLooks.{EditsLookAtChanges};
 ghost use Rattle.fx_spec.specs.Examples.{FetchesFile, StopsAfterStore, StoreAtRoot, StoresNames, CreatesEntry, JoinsFiles};
+ghost use Rattle.fx_spec.specs.Evals.{ValuesEvaluate, PlacesEvaluate, MovesEvaluateOnce};
 ghost use Rattle.fx_spec.specs.Laws.{UndoneLeavesAll, DependsOnWay, LeavesAsData, CompleteHasEachOnce, PlacesHavePaths, EditsKeepWhole, TransactionsKeepWhole, StatesAreWhole};
 
 /// What some transactions do on small filestores: their outputs, ends, consulted paths and changes.
@@ -57,4 +58,19 @@ pub fn transactions_keep_a_filestore_whole()
 /// The state after any number of transactions of an order is whole, if the loaded filestore is.
 pub fn states_of_an_order_are_whole()
     ensures { StatesAreWhole }
+{}
+
+/// The rule of a description's value evaluates just as often as the count of its forms says.
+pub fn a_value_evaluates_as_counted()
+    ensures { ValuesEvaluate }
+{}
+
+/// So does the rule of an address's place.
+pub fn a_place_evaluates_as_counted()
+    ensures { PlacesEvaluate }
+{}
+
+/// A move and a fetch evaluate once at most, besides the way to the place.
+pub fn a_move_evaluates_once_at_most()
+    ensures { MovesEvaluateOnce }
 {}

@@ -8,6 +8,7 @@ pub mod laws;
 mod place;
 mod plan;
 mod refusal;
+pub mod shapes;
 mod spec;
 mod txn;
 

@@ -1,5 +1,6 @@
 -- What a rule answers and consults depends on what it consulted alone; following it over what is known finds just that.
 use Rattle.std.proofs.Common.{◌≡◌, ℕ, ◌+◌, refl, sym, ap, zero-add, arith, List, ◌∷◌, Option, Some, None}
+use mathlib.Core.Path.{fun_ext}
 use Rattle.fx_store.specs.declared.node.Node.{Node}
 use Rattle.fx_store.specs.Whole.{Store}
 use Rattle.fx_store.specs.Rule.{Known, Ask, Answer, Look, Tick, answer, ticks, ◌>>=◌, Outcome, Found, Needs, seen, if_known, follow, DependsOnAsked, AgreesWith, FollowedAt}
@@ -38,3 +39,9 @@ followed {A} known own (Look p next) S h = at (known p) refl (λ n. followed kno
     at : (k : Option (Option Node)) → known p ≡ k → ((n : Option Node) → FollowedAt known own (next (seen (own p) n)) S (follow known own (next (seen (own p) n)))) → FollowedAt known own (Look p next) S (if_known p k (λ n. follow known own (next (seen (own p) n))))
     at None e rest = rw e refl
     at (Some n) e rest = followed_on known own p next S n e (h p n e) _ (rest n)
+
+-- the one rule, the next and a third, grouped in either way
+pub ask-bind-assoc : {A B C : Type 0} (rule : Ask A) (f : A → Ask B) (g : B → Ask C) → ((rule >>= f) >>= g) ≡ (rule >>= λ a. f a >>= g)
+ask-bind-assoc (Answer a) f g = refl
+ask-bind-assoc (Tick rule) f g = ap Tick (ask-bind-assoc rule f g)
+ask-bind-assoc {A} {B} {C} (Look p next) f g = ap (λ (h : Option Node → Ask C). Look p h) (fun_ext (λ n. ask-bind-assoc (next n) f g))

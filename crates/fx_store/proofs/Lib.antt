@@ -1,4 +1,5 @@
 pub mod Asks
+pub mod Quiet
 pub mod Landings
 pub mod Examples
 mod NameTests

@@ -24,6 +24,11 @@ module _ {R : Type 0} (m : Meaning R) where
   pub Went-none : (old : R) (paths : List Path) → Went m old old paths
   Went-none old paths = Went-kept old old paths refl refl (λ start v. v)
 
+  -- and goes on with what it has
+  pub Went-kept_on : (old mid new : R) (paths : List Path) → m.reads new ≡ m.reads mid → m.complete new ≡ m.complete mid → ((start : R) → m.vouches start mid (m.reads mid) → m.vouches start new (m.reads new)) → Went m old mid paths → Went m old new paths
+  Went-kept_on old mid new paths kept same vouched went =
+      record { more = went.more; kept = kept ∙ went.kept; only = went.only; same = same ∙ went.same; vouched = λ start v. vouched start (went.vouched start v) }
+
   pub Went-wider : (old new : R) (ps qs : List Path) → ((p : Path) → Contains ps p → Contains qs p) → Went m old new ps → Went m old new qs
   Went-wider old new ps qs within went =
       record { more = went.more; kept = went.kept; only = All-weaker (Contains ps) (Contains qs) within (keys_of went.more) went.only; same = went.same; vouched = went.vouched }

@@ -14,3 +14,4 @@ pub mod Nets
 pub mod Sames
 pub mod Owning
 pub mod NetLaws
+pub mod Wholes

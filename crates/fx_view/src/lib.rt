@@ -10,6 +10,7 @@ mod reads;
 mod resolving;
 mod same;
 mod walk;
+mod whole;
 
 pub use fx_store::{Landing, NameList};
 pub use known::Known;
@@ -18,3 +19,4 @@ pub use overlay::Overlay;
 pub use reader::{Reader, Stop};
 pub use reads::Reads;
 pub use resolving::resolve;
+pub use whole::Whole;

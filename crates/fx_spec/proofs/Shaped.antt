@@ -22,7 +22,7 @@ use Rattle.fx_spec.specs.Describe.{Bindings, with_some, file_value, dir_value, l
 use Rattle.fx_spec.specs.Move.{Answered, evaluated, needed, unrefused, value_shape, fetch_shape, same_shape, has_fetch_shape, fetched, of_shape, at_place, fetch_at, whole_at}
 use Rattle.fx_spec.specs.Place.{Step, First, Second, Inside, Down, Elem, Address, PlaceTree, placed, where_true, has_element, at_path, lead, place}
 use Rattle.fx_spec.specs.WellShaped.{Scope, IsDescription}
-use Rattle.fx_laws.specs.Shaped.{IsDescribed, DescribedHaveShapes, RootsHaveShapes, FetchedHaveShapes, IsDescribedPlace, PlacesAreDescribed, FetchesHaveShapes, WholesHaveShapes}
+use Rattle.fx_spec.specs.Shaped.{IsDescribed, DescribedHaveShapes, RootsHaveShapes, FetchedHaveShapes, IsDescribedPlace, PlacesAreDescribed, FetchesHaveShapes, WholesHaveShapes}
 
 -- ------------------------------------------------------------------------------------------------------------ bindings
 

@@ -1,5 +1,5 @@
 //! Laws of the shapes of values.
-ghost use Rattle.fx_laws.specs.Shaped.{DescribedHaveShapes, RootsHaveShapes, FetchedHaveShapes, PlacesAreDescribed, FetchesHaveShapes, WholesHaveShapes};
+ghost use Rattle.fx_spec.specs.Shaped.{DescribedHaveShapes, RootsHaveShapes, FetchedHaveShapes, PlacesAreDescribed, FetchesHaveShapes, WholesHaveShapes};
 
 /// The value of a well-shaped description has the description's shape, at every path and every filestore, wherever the
 /// bound names have theirs.

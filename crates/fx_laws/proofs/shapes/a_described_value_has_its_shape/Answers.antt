@@ -1,5 +1,0 @@
-use Rattle.fx_laws.proofs.Shaped.{described_have_shapes}
-use Rattle.fx_laws.proofs.shapes.a_described_value_has_its_shape.Goals as goal
-
-pub returns : goal.returns
-returns c = described_have_shapes

@@ -1,5 +1,0 @@
-use Rattle.fx_laws.proofs.Shaped.{wholes_have_shapes}
-use Rattle.fx_laws.proofs.shapes.a_whole_value_has_its_shape.Goals as goal
-
-pub returns : goal.returns
-returns c = wholes_have_shapes

@@ -1,5 +1,0 @@
-use Rattle.fx_laws.proofs.Shaped.{places_are_described}
-use Rattle.fx_laws.proofs.shapes.places_are_well_shaped.Goals as goal
-
-pub returns : goal.returns
-returns c = places_are_described
