@@ -9,6 +9,7 @@ use Rattle.fx_expr.specs.Bindings.{bind, bound}
 use Rattle.fx_expr.specs.ExprTree.{ExprTree}
 use Rattle.fx_expr.specs.ShapeTree.{ShapeTree}
 use Rattle.fx_expr.specs.Shapes.{HasShape, BinShape, UnShape, IsComparable, IsOrdered, IsSized}
+use Rattle.fx_spec.proofs.Shaped.{same_shapes}
 use Rattle.fx_spec.specs.SpecTree.{SpecTree}
 use Rattle.fx_spec.specs.Move.{same_shape, value_shape}
 use Rattle.fx_spec.specs.CommandTree.{ActTree, CommandTree, Block, block, count, commands_size}
@@ -36,22 +37,6 @@ pub given : {X Y : Type 0} (o : OrFault X) (f : X → OrFault Y) (x : X) → o �
 given o f x e = ap (λ o. o >>= f) e
 
 -- ---- equal shapes
-
-both_true : (a b : Bool) → (a && b) ≡ true → (a ≡ true) × (b ≡ true)
-both_true true b e = (refl, e)
-both_true false b e = absurd (cc)
-
-pub same_shapes : (s t : ShapeTree) → same_shape s t ≡ true → s ≡ t
-same_shapes ShapeTree.str ShapeTree.str e = refl
-same_shapes ShapeTree.int ShapeTree.int e = refl
-same_shapes ShapeTree.bool ShapeTree.bool e = refl
-same_shapes ShapeTree.names ShapeTree.names e = refl
-same_shapes (ShapeTree.pair a b) (ShapeTree.pair c d) e =
-    let parts : (same_shape a c ≡ true) × (same_shape b d ≡ true) = both_true (same_shape a c) (same_shape b d) e in
-    λ i. ShapeTree.pair (same_shapes a c parts.0 i) (same_shapes b d parts.1 i)
-same_shapes (ShapeTree.opt a) (ShapeTree.opt b) e = ap ShapeTree.opt (same_shapes a b e)
-same_shapes (ShapeTree.table a) (ShapeTree.table b) e = ap ShapeTree.table (same_shapes a b e)
-same_shapes _ _ e = absurd (cc)
 
 pub same_as_itself : (s : ShapeTree) → same_shape s s ≡ true
 same_as_itself ShapeTree.str = refl

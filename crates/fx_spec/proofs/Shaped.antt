@@ -198,7 +198,7 @@ both_true : (a b : Bool) → (a && b) ≡ true → (a ≡ true) × (b ≡ true)
 both_true true b e = (refl, e)
 both_true false b e = absurd (true≢false (sym e))
 
-same_shapes : (s t : ShapeTree) → same_shape s t ≡ true → s ≡ t
+pub same_shapes : (s t : ShapeTree) → same_shape s t ≡ true → s ≡ t
 same_shapes ShapeTree.str ShapeTree.str e = refl
 same_shapes ShapeTree.int ShapeTree.int e = refl
 same_shapes ShapeTree.bool ShapeTree.bool e = refl
