@@ -5,14 +5,11 @@ use Rattle.std.specs.Prelude.{slice_get, nat_le, nat_lt}
 use Rattle.std.specs.List.{list_all}
 use Rattle.std.proofs.lemmas.Bool.{le-leb}
 use Rattle.std.proofs.lemmas.List.Elements.{All-head, All-tail}
-use Rattle.std.specs.Ordering.{match_ordering}
-use Rattle.std.specs.declared.cmp.Ordering.{Ordering}
-use Rattle.std.specs.declared.cmp.Ordering.TheVariants.{Less, Equal, Greater}
 use Rattle.fx_store.specs.declared.node.Node.{Node}
 use Rattle.fx_store.specs.declared.node.Node.TheVariants.{File, Dir}
 use Rattle.fx_store.specs.declared.changes.Change.{Change}
 use Rattle.fx_store.specs.Changes.{changed_paths}
-use Rattle.fx_store.specs.Names.{IsContent, name_cmp}
+use Rattle.fx_store.specs.Names.{IsContent}
 use Rattle.fx_store.specs.Resolve.{◌/ₚ◌, resolve}
 use Rattle.fx_store.specs.Rule.{Ask, Answer, Look, ◌>>=◌, look_all}
 use Rattle.fx_expr.specs.Sets.{with_text}
@@ -58,34 +55,6 @@ node_dir names i m bytes one here is = ap (λ ns. Dir ns) is ∙ ap (λ ns. made
 
 pub node_file : (names : List (List ℕ)) (i : ℕ) (bytes copied : List ℕ) → None ≡ slice_get names i → copied ≡ bytes → File copied ≡ made_node (drop i names) (File bytes)
 node_file names i bytes copied past is = ap (λ bs. File bs) is ∙ ap (λ ns. made_node ns (File bytes)) (sym (drop_past names i (sym past)))
-
-pub copying_on : (all all' names : List (List ℕ)) (i : ℕ) (n copied : List ℕ) (whole : List (List ℕ)) → Some n ≡ slice_get names i → copied ≡ n → all' ≡ all ++ copied ∷ [] → all ++ drop i names ≡ whole → all' ++ drop (i + 1) names ≡ whole
-copying_on all all' names i n copied whole here same more before =
-    ap (λ ns. ns ++ drop (i + 1) names) more
-    ∙ (append_assoc all (copied ∷ []) (drop (i + 1) names)
-    ∙ (ap (λ m. all ++ m ∷ drop (i + 1) names) same ∙ (ap (λ ns. all ++ ns) (sym (drop_at names i n (sym here))) ∙ before)))
-
-with_at : (name y : List ℕ) (names : List (List ℕ)) (i : ℕ) (r : Ordering) → Some y ≡ slice_get names i → name_cmp name y ≡ r → with_text name (drop i names) ≡ match_ordering r (name ∷ y ∷ drop (i + 1) names) (y ∷ drop (i + 1) names) (y ∷ with_text name (drop (i + 1) names))
-with_at name y names i r here is =
-    ap (with_text name) (drop_at names i y (sym here))
-    ∙ ap (λ r. match_ordering r (name ∷ y ∷ drop (i + 1) names) (y ∷ drop (i + 1) names) (y ∷ with_text name (drop (i + 1) names))) is
-
-pub placing_on : (lesser lesser' names : List (List ℕ)) (i : ℕ) (name y copied : List ℕ) (whole : List (List ℕ)) → Some y ≡ slice_get names i → name_cmp name y ≡ Greater → copied ≡ y → lesser' ≡ lesser ++ copied ∷ [] → lesser ++ with_text name (drop i names) ≡ whole → lesser' ++ with_text name (drop (i + 1) names) ≡ whole
-placing_on lesser lesser' names i name y copied whole here is same more before =
-    ap (λ ns. ns ++ with_text name (drop (i + 1) names)) more
-    ∙ (append_assoc lesser (copied ∷ []) (with_text name (drop (i + 1) names))
-    ∙ (ap (λ m. lesser ++ m ∷ with_text name (drop (i + 1) names)) same ∙ (ap (λ ns. lesser ++ ns) (sym (with_at name y names i Greater here is)) ∙ before)))
-
-pub placed_less : (lesser lesser' names all : List (List ℕ)) (i : ℕ) (name y copied : List ℕ) (whole : List (List ℕ)) → Some y ≡ slice_get names i → name_cmp name y ≡ Less → copied ≡ name → lesser' ≡ lesser ++ copied ∷ [] → all ≡ lesser' ++ drop i names → lesser ++ with_text name (drop i names) ≡ whole → all ≡ whole
-placed_less lesser lesser' names all i name y copied whole here is same more end before =
-    end ∙ (ap (λ ns. ns ++ drop i names) more
-    ∙ (append_assoc lesser (copied ∷ []) (drop i names)
-    ∙ (ap (λ m. lesser ++ m ∷ drop i names) same
-    ∙ (ap (λ ns. lesser ++ name ∷ ns) (drop_at names i y (sym here)) ∙ (ap (λ ns. lesser ++ ns) (sym (with_at name y names i Less here is)) ∙ before)))))
-
-pub placed_equal : (lesser names all : List (List ℕ)) (i : ℕ) (name y : List ℕ) (whole : List (List ℕ)) → Some y ≡ slice_get names i → name_cmp name y ≡ Equal → all ≡ lesser ++ drop i names → lesser ++ with_text name (drop i names) ≡ whole → all ≡ whole
-placed_equal lesser names all i name y whole here is end before =
-    end ∙ (ap (λ ns. lesser ++ ns) (drop_at names i y (sym here)) ∙ (ap (λ ns. lesser ++ ns) (sym (with_at name y names i Equal here is)) ∙ before))
 
 -- ---- the rules
 

@@ -11,7 +11,6 @@ use crate::edits::Edits;
 use fx_base::NoMemory;
 use fx_store::{Bytes, Name, NameList, Names, Node, Path, PathFault};
 use std::alloc::Global;
-use std::cmp::Ordering;
 
 /// The path of an entry, where there is room for one.
 fn below(alloc: Global, path: &Path, name: &Name) -> Result<Path, NoMemory>
@@ -69,70 +68,12 @@ pub(crate) fn made(
     Ok(edits)
 }
 
-/// The names from an index on, after these.
-fn copy_rest(
-    alloc: Global,
-    first: Vec<Name>,
-    names: &Names,
-    from: u64,
-) -> Result<Vec<Name>, NoMemory>
-    requires { from ≤ length names.now }
-    ensures { IfOk result (λ all. all.items ≡ first.items ++ drop from names.now) }
-{
-    let mut all = first;
-    'copying: for i in from..names.len() {
-        let name = match names.at(i) {
-            Some(name) => name,
-            None => unreachable!(),
-        };
-        all.push(name.copy(alloc)?)?;
-    }
-    Ok(all)
-}
-
-/// The names of a set with one more, in its place.
-fn placed(alloc: Global, name: &Name, names: &Names) -> Result<Vec<Name>, NoMemory>
-    ensures { IfOk result (λ all. all.items ≡ with_text name.now names.now) }
-{
-    let mut lesser = Vec::new(alloc);
-    'placing: for i in 0..names.len() {
-        let other = match names.at(i) {
-            Some(other) => other,
-            None => unreachable!(),
-        };
-        match name.cmp(other) {
-            Ordering::Less => {
-                lesser.push(name.copy(alloc)?)?;
-                let all = copy_rest(alloc, lesser, names, i)?;
-                return Ok(all);
-            }
-            Ordering::Equal => {
-                let all = copy_rest(alloc, lesser, names, i)?;
-                return Ok(all);
-            }
-            Ordering::Greater => lesser.push(other.copy(alloc)?)?,
-        }
-    }
-    lesser.push(name.copy(alloc)?)?;
-    Ok(lesser)
-}
-
-/// The set with one name more.
-fn with_name(alloc: Global, name: &Name, names: &Names) -> Result<Names, NoMemory>
-    ensures { IfOk result (λ all. all ≡ with_text name.now names.now) }
-{
-    let all = placed(alloc, name, names)?;
-    let _name = name.as_slice();
-    let _names = names.len();
-    Ok(Names::from_vec(all))
-}
-
 /// The names that a directory lists with one name more; another node lists none.
 pub(crate) fn listed(alloc: Global, name: &Name, found: &Option<Node>) -> Result<Names, NoMemory>
     ensures { IfOk result (λ all. all ≡ with_text name.now (names_of found.now)) }
 {
     match found {
-        Some(Node::Dir(names)) => with_name(alloc, name, names),
+        Some(Node::Dir(names)) => names.with(alloc, name),
         Some(Node::File(_)) => one(alloc, name),
         Some(Node::Link(_)) => one(alloc, name),
         None => one(alloc, name),
