@@ -18,7 +18,6 @@ returns-in-Err g c =
     (goes_stop r.meaning (λ (u : Unit {0}). u) (own_at c.args.overlay.now) (c.args.reader.now, 0) (c.loop-i.reader, 0) (looking (changed_paths c.args.self.now)) (looking (changed_paths (drop c.loop-i.i c.args.self.now))) c.loop-i.invariant
     (λ (n : Option Node). n) (c.look.new.reader, 0) (look c.index.result.now.path) (λ (n : Option Node). looking (changed_paths (drop (c.loop-i.i + 1) c.args.self.now))) c.in-Err.stop (ap (λ (cs : List Change). looking (changed_paths cs)) here) (c.in-Err.ensures.follows 0)).goes
 
-
 pub loop-i-preserved : goal.loop-i-preserved
 loop-i-preserved g c =
     let r = g.R.Reader in
