@@ -99,11 +99,7 @@ fn put_word<W: fmt::Write>(f: &mut Formatter<W>, name: &str, word: &Word) -> fmt
     Ok(())
 }
 
-fn put_shapes<W: fmt::Write>(
-    f: &mut Formatter<W>,
-    expected: &Shape,
-    found: &Shape,
-) -> fmt::Result {
+fn put_shapes<W: fmt::Write>(f: &mut Formatter<W>, expected: &Shape, found: &Shape) -> fmt::Result {
     f.write_str("TypeDiffers ")?;
     put_shape(f, expected)?;
     f.write_str(" ")?;

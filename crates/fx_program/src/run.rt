@@ -9,27 +9,22 @@ use fx_disk::{Disk, Output};
 use fx_outside::{HostText, OpenGate, Words};
 use fx_top::status::Status;
 use fx_top::top::top;
+use std::alloc::Global;
 use std::env::{self, Args};
-use std::io::ErrorKind;
+use std::io::{self, ErrorKind};
 use std::process::ExitCode;
 use std::rt::{Env, Files};
 
-/// The words of the command line, without the program's name. Words that are not UTF-8 have no command's form.
-fn read_words<R: Env + AllocGlobal>(rt: &R) -> Result<Words, Status> {
-    match env::args(rt) {
-        Ok(args) => match words_of(rt, args) {
-            Ok(words) => Ok(words),
-            Err(NoMemory) => Err(Status::NoMemory),
-        },
-        Err(error) => match error.kind() {
-            ErrorKind::OutOfMemory => Err(Status::NoMemory),
-            _ => Err(Status::Usage),
-        },
+/// The words of the command line, without the program's name.
+fn read_words<R: Env + AllocGlobal>(rt: &R) -> io::Result<Words> {
+    let args = env::args(rt)?;
+    match words_of(rt.alloc(), args) {
+        Ok(words) => Ok(words),
+        Err(NoMemory) => Err(io::Error::from(ErrorKind::OutOfMemory)),
     }
 }
 
-fn words_of<R: AllocGlobal>(rt: &R, args: Args) -> Result<Words, NoMemory> {
-    let alloc = rt.alloc();
+fn words_of(alloc: Global, args: Args) -> Result<Words, NoMemory> {
     let mut words = Words::new(alloc);
     for word in args.skip(1) {
         words.add(alloc, HostText::from_string(word))?;
@@ -59,13 +54,27 @@ fn ended<R: Eprint>(rt: &R, words: &Words, status: &Status) -> ExitCode
     ExitCode::from(status.code())
 }
 
+fn run_to_end<R: Files + Print + Eprint + AllocGlobal + Clone + Drop>(
+    rt: &R,
+    words: &Words,
+) -> ExitCode {
+    let status = run(rt, words);
+    ended(rt, words, &status)
+}
+
+/// The end where the words are not read. Words that are not UTF-8 have no command's form.
+fn end_unread<R: Eprint + AllocGlobal>(rt: &R, error: io::Error) -> ExitCode {
+    let status = match error.kind() {
+        ErrorKind::OutOfMemory => Status::NoMemory,
+        _ => Status::Usage,
+    };
+    ended(rt, &Words::new(rt.alloc()), &status)
+}
+
 /// Runs the words of the command line and says the end: its code, and its line where the run is not done.
 pub fn program<R: Env + Files + Print + Eprint + AllocGlobal + Clone + Drop>(rt: &R) -> ExitCode {
     match read_words(rt) {
-        Ok(words) => {
-            let status = run(rt, &words);
-            ended(rt, &words, &status)
-        }
-        Err(status) => ended(rt, &Words::new(rt.alloc()), &status),
+        Ok(words) => run_to_end(rt, &words),
+        Err(error) => end_unread(rt, error),
     }
 }
