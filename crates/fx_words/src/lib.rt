@@ -7,4 +7,4 @@ mod schedule;
 #[cfg(test)]
 mod tests;
 
-pub use job::{Job, job_of};
+pub use job::{Job, RunJob, job_of};

@@ -45,7 +45,7 @@ fn a_trace_has_its_scripts_and_its_schedule(rt: HostRuntime) -> Result<(), Fail>
     let words = words_of(alloc, "trace d f o 1,0,1 s t")?;
     let job: Option<Job<'_>> = job_of(&words);
     match job {
-        Some(job) => {
+        Some(Job::Run(job)) => {
             assert_eq!(rt; job.scripts(), 2);
             assert_eq!(rt; job.place(1), 6);
             assert!(rt; job.script(1).is_some());
