@@ -6,7 +6,7 @@ use Rattle.std.specs.List.{slice_split}
 use Rattle.std.specs.Option.{option_map, option_and_then, unwrap_or}
 use Rattle.std.specs.Str.{bytes_eq}
 use Rattle.std.proofs.lemmas.List.Elements.{All-cons, All-nil}
-use Rattle.fx_words.specs.declared.job.Job as code
+use Rattle.fx_words.specs.declared.job.RunJob as code
 use Rattle.fx_words.specs.Job.{numbered, shell_named, shells_named, schedule_of, is_comma, shells_of, shells_in}
 use Rattle.fx_words.specs.JobOf.{asked, IsJob, IsScheduleOf, scripts_in, schedule_text, mode_of}
 
@@ -52,5 +52,5 @@ mode_below count None is = All-nil (λ k. k < count)
 mode_below count (Some text) is = read_below count text (schedule_of count text) refl is
 
 -- the shells that a job asks for are below its number of scripts
-pub job_below : (j : code.Job) → IsJob j → All (λ k. k < length (scripts_in j)) (shells_of (asked j))
+pub job_below : (j : code.RunJob) → IsJob j → All (λ k. k < length (scripts_in j)) (shells_of (asked j))
 job_below j is = mode_below (length (scripts_in j)) (schedule_text j) is.schedule

@@ -10,12 +10,17 @@ pub data Mode : Type 0 where
   Plain : Mode
   Scheduled : List ℕ → Mode
 
-pub record Job : Type 0 where
+-- scripts on the folder, by the description, and the folder that they leave into `out`
+pub record RunJob : Type 0 where
   pub spec : List ℕ
   pub folder : List ℕ
   pub out : List ℕ
   pub scripts : List (List ℕ)
   pub mode : Mode
+
+-- what the words ask for
+pub data Job : Type 0 where
+  Run : RunJob → Job
 
 -- a word may be an argument: it is not empty and does not begin with `-`
 abbrev pub is_plain : List ℕ → Bool
@@ -49,20 +54,21 @@ are_plain words = list_all is_plain words
 abbrev pub is_count : ℕ → Bool
 is_count n = nat_le 1 n && nat_le n 64
 
-abbrev pub run_job : List (List ℕ) → Option Job
+abbrev pub run_job : List (List ℕ) → Option RunJob
 run_job (spec ∷ folder ∷ out ∷ script ∷ []) = Some (record { spec = spec; folder = folder; out = out; scripts = script ∷ []; mode = Plain })
 run_job _ = None
 
-abbrev pub trace_job : List (List ℕ) → Option Job
+abbrev pub trace_job : List (List ℕ) → Option RunJob
 trace_job (spec ∷ folder ∷ out ∷ schedule ∷ scripts) =
-    let job : List ℕ → Job = λ shells. record { spec = spec; folder = folder; out = out; scripts = scripts; mode = Scheduled shells } in
+    let job : List ℕ → RunJob = λ shells. record { spec = spec; folder = folder; out = out; scripts = scripts; mode = Scheduled shells } in
     cond (is_count (length scripts)) (option_map job (schedule_of (length scripts) schedule)) None
 trace_job _ = None
 
 -- the command that a word names, with its arguments
 abbrev pub named_job : List ℕ → List (List ℕ) → Option Job
 named_job command arguments =
-    cond (bytes_eq command (codes "run")) (run_job arguments) (cond (bytes_eq command (codes "trace")) (trace_job arguments) None)
+    cond (bytes_eq command (codes "run")) (option_map Run (run_job arguments))
+    (cond (bytes_eq command (codes "trace")) (option_map Run (trace_job arguments)) None)
 
 -- the command that the words ask for, if they have a command's form
 abbrev pub job_of : List (List ℕ) → Option Job
@@ -74,12 +80,12 @@ abbrev pub first_place : Mode → ℕ
 first_place Plain = 4
 first_place (Scheduled shells) = 5
 
-abbrev pub place_of : Job → ℕ → ℕ
+abbrev pub place_of : RunJob → ℕ → ℕ
 place_of job i = first_place job.mode + i
 
 abbrev pub shells_in : Mode → List ℕ
 shells_in Plain = []
 shells_in (Scheduled shells) = shells
 
-abbrev pub shells_of : Job → List ℕ
+abbrev pub shells_of : RunJob → List ℕ
 shells_of job = shells_in job.mode

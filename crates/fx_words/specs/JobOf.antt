@@ -1,20 +1,22 @@
--- What the program's own command stands for.
+-- What the program's own commands stand for.
 use Rattle.std.specs.Prelude.{◌≡◌, ℕ, ◌+◌, ◌≤◌, true, List, [], drop, length, Option, Some, None, is_some}
 use Rattle.std.specs.Option.{unwrap_or, option_map}
-use Rattle.fx_words.specs.declared.job.Job as code
-use Rattle.fx_words.specs.Job.{Job, Mode, Plain, Scheduled, schedule_of, first_place}
+use Rattle.fx_words.specs.declared.job.Job as every
+use Rattle.fx_words.specs.declared.job.Job.TheVariants as any
+use Rattle.fx_words.specs.declared.job.RunJob as code
+use Rattle.fx_words.specs.Job.{Job, Run, RunJob, Mode, Plain, Scheduled, schedule_of, first_place}
 
-abbrev pub scripts_in : code.Job → List (List ℕ)
+abbrev pub scripts_in : code.RunJob → List (List ℕ)
 scripts_in j = drop j.first j.words.now
 
 abbrev pub mode_of : ℕ → Option (List ℕ) → Mode
 mode_of count None = Plain
 mode_of count (Some schedule) = Scheduled (unwrap_or (schedule_of count schedule) [])
 
-abbrev pub schedule_text : code.Job → Option (List ℕ)
+abbrev pub schedule_text : code.RunJob → Option (List ℕ)
 schedule_text j = option_map (λ (t : _). t.now) j.schedule
 
-abbrev pub asked : code.Job → Job
+abbrev pub asked : code.RunJob → RunJob
 asked j = record { spec = j.spec.now; folder = j.folder.now; out = j.out.now; scripts = scripts_in j; mode = mode_of (length (scripts_in j)) (schedule_text j) }
 
 -- the schedule is one of so many shells
@@ -23,8 +25,14 @@ IsScheduleOf count None = Unit {0}
 IsScheduleOf count (Some schedule) = is_some (schedule_of count schedule) ≡ true
 
 -- the scripts are 1 to 64, and are the words from their place on; the schedule can be read
-pub record IsJob (j : code.Job) : Type 0 where
+pub record IsJob (j : code.RunJob) : Type 0 where
   pub first : j.first ≡ first_place (asked j).mode
   pub some : 1 ≤ length (scripts_in j)
   pub few : length (scripts_in j) ≤ 64
   pub schedule : IsScheduleOf (length (scripts_in j)) (schedule_text j)
+
+abbrev pub asked_job : every.Job → Job
+asked_job (any.Run j) = Run (asked j)
+
+abbrev pub IsAnyJob : every.Job → Type 0
+IsAnyJob (any.Run j) = IsJob j

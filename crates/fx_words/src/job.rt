@@ -1,16 +1,22 @@
 ghost use Rattle.std.specs.Prelude.{◌≡◌, ◌+◌, ◌≤◌, ◌<◌, IfOk, IfSome, Some, slice_get, option_copied, option_map, length, drop, bytes_eq};
 ghost use Rattle.fx_words.specs.Job as job;
-ghost use Rattle.fx_words.specs.JobOf.{asked, IsJob};
+ghost use Rattle.fx_words.specs.JobOf.{asked, asked_job, IsJob, IsAnyJob};
 
 use crate::schedule::{is_schedule, read_schedule};
 use fx_base::NoMemory;
 use fx_outside::{HostText, Words};
 use std::alloc::Global;
 
-/// A command with its arguments: `run SPEC FOLDER OUT SCRIPT`, or `trace SPEC FOLDER OUT SCHEDULE SCRIPT...`, which alone has
-/// a schedule.
+/// What the words ask for.
 #[derive(Clone, Copy)]
-pub struct Job<'a> {
+pub enum Job<'a> {
+    Run(RunJob<'a>),
+}
+
+/// The arguments of `run SPEC FOLDER OUT SCRIPT`, or of `trace SPEC FOLDER OUT SCHEDULE SCRIPT...`, which alone has a
+/// schedule.
+#[derive(Clone, Copy)]
+pub struct RunJob<'a> {
     pub spec: &'a HostText,
     pub folder: &'a HostText,
     pub out: &'a HostText,
@@ -53,7 +59,7 @@ fn names(command: &HostText, name: &str) -> bool
 }
 
 /// The arguments of `run`, if there are as many as it takes.
-fn run_job(words: &Words) -> Option<Job<'_>>
+fn run_job(words: &Words) -> Option<RunJob<'_>>
     ensures asked { option_map asked result ≡ job.run_job (drop 1 words.now) }
     ensures job { IfSome result IsJob }
 {
@@ -63,7 +69,7 @@ fn run_job(words: &Words) -> Option<Job<'_>>
     let spec = words.at(1)?;
     let folder = words.at(2)?;
     let out = words.at(3)?;
-    Some(Job {
+    Some(RunJob {
         spec,
         folder,
         out,
@@ -74,7 +80,7 @@ fn run_job(words: &Words) -> Option<Job<'_>>
 }
 
 /// The arguments of `trace`, if there are as many as it takes and the schedule can be read.
-fn trace_job(words: &Words) -> Option<Job<'_>>
+fn trace_job(words: &Words) -> Option<RunJob<'_>>
     ensures asked { option_map asked result ≡ job.trace_job (drop 1 words.now) }
     ensures job { IfSome result IsJob }
 {
@@ -89,7 +95,7 @@ fn trace_job(words: &Words) -> Option<Job<'_>>
     if !is_schedule(count, schedule.as_str().as_bytes()) {
         return None;
     }
-    Some(Job {
+    Some(RunJob {
         spec,
         folder,
         out,
@@ -102,23 +108,23 @@ fn trace_job(words: &Words) -> Option<Job<'_>>
 /// The command that the words ask for; none exactly where they have no command's form, or a number of the schedule is not
 /// below the number of scripts.
 pub fn job_of(words: &Words) -> Option<Job<'_>>
-    ensures asked { option_map asked result ≡ job.job_of words.now }
-    ensures job { IfSome result IsJob }
+    ensures asked { option_map asked_job result ≡ job.job_of words.now }
+    ensures job { IfSome result IsAnyJob }
 {
     let command = words.at(0)?;
     if !are_plain(words) {
         return None;
     }
     if names(command, "run") {
-        return run_job(words);
+        return Some(Job::Run(run_job(words)?));
     }
     if names(command, "trace") {
-        return trace_job(words);
+        return Some(Job::Run(trace_job(words)?));
     }
     None
 }
 
-impl<'a> Job<'a> {
+impl<'a> RunJob<'a> {
     /// The number of scripts: 1 to 64.
     pub fn scripts(&self) -> u32
         requires { IsJob self.now }
