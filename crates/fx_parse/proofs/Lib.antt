@@ -8,3 +8,6 @@ pub mod ReaderPlaces
 pub mod ShapeLink
 pub mod ShapeMachine
 pub mod OnePlace
+pub mod Signs
+pub mod Steps
+pub mod Within

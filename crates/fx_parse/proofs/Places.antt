@@ -27,7 +27,7 @@ module _ {Sym : Type 0} {Tree : Type 0} (m : Table Sym) (g : Grammar Tree) (star
       let tree = fits.means d (front ++ rest.0) (levels ++ rest.1) (run_on m front (start d ∷ []) end [] rest.0 levels rest.1 p rest.2) in
       record { tree = tree.0; rest = rest.0; right = tree.1; spelled = sym tree.2 }
 
-  is_shallow : (d : ℕ) (front : List Token) (levels : List ℕ) (end : List Sym) → Runs m (start d ∷ []) front levels end → shallow levels ≡ true → IsShallow g d front
+  pub is_shallow : (d : ℕ) (front : List Token) (levels : List ℕ) (end : List Sym) → Runs m (start d ∷ []) front levels end → shallow levels ≡ true → IsShallow g d front
   is_shallow d front levels end p low = λ f more x e deep.
       let mine : Runs m (start d ∷ []) (f ++ x ∷ more) levels end = subst (λ l. Runs m (start d ∷ []) l levels end) e p in
       let tree : Runs m (start d ∷ []) (f ++ x ∷ deep.rest) (g.levels d deep.tree) [] = subst (λ l. Runs m (start d ∷ []) l (g.levels d deep.tree) []) deep.spelled (fits.runs d deep.tree deep.right) in

@@ -7,4 +7,5 @@ pub mod ReadAt
 pub mod Readable
 pub mod Reader
 pub mod ShapeReader
+pub mod Signs
 pub mod Stuck

@@ -10,7 +10,7 @@ use fx_lex::{Mark, Spanned, Token};
 use std::alloc::Global;
 
 /// The first token and those behind it; None exactly where there is none.
-pub(crate) fn first_of<'a>(tokens: &'a [Spanned]) -> Option<(&'a Token, &'a [Spanned])>
+pub fn first_of<'a>(tokens: &'a [Spanned]) -> Option<(&'a Token, &'a [Spanned])>
     ensures { MatchOption result (kinds tokens.now ≡ []) (λ x. kinds tokens.now ≡ x.0.now ∷ kinds x.1.now) }
 {
     match tokens {

@@ -135,7 +135,7 @@ fn form_at(
 
 /// The expression at the front, with so many levels left, and what follows it.
 #[cycle(expr)]
-pub(crate) fn expr_at(
+pub fn expr_at(
     alloc: Global,
     left: u32,
     tokens: &[Spanned],

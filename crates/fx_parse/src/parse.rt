@@ -13,6 +13,9 @@ use fx_expr::{Expr, Shape};
 use fx_lex::{Spanned, Tokens};
 use std::alloc::Global;
 
+/// The most bytes that a text may have.
+pub const TEXT_LIMIT: usize = 65_536;
+
 /// The deepest level at which a form may stand.
 pub const LEVEL_LIMIT: u32 = 64;
 
@@ -26,7 +29,8 @@ fn place_left(tokens: &Tokens, left: usize) -> u32
     }
 }
 
-fn fault_at(tokens: &Tokens, stop: Stop) -> ParseFault
+/// The fault that is told where reading stopped.
+pub fn fault_at(tokens: &Tokens, stop: Stop) -> ParseFault
     ensures { result ≡ fault_at tokens.now stop }
 {
     match stop {

@@ -84,7 +84,7 @@ fn shape_form_at(
 
 /// The shape at the front, with so many levels left, and what follows it.
 #[cycle(shape)]
-pub(crate) fn shape_at(
+pub fn shape_at(
     alloc: Global,
     left: u32,
     tokens: &[Spanned],

@@ -3,7 +3,7 @@ use std::alloc::AllocFailed;
 
 /// Why reading stopped, with the number of tokens that were left.
 #[derive(Clone, Copy, Debug)]
-pub(crate) enum Stop {
+pub enum Stop {
     Unexpected(usize),
     TooNested(usize),
     NoMemory,

@@ -1,37 +1,9 @@
--- What the text of a description and of a script stands for.
-use Rattle.std.specs.Prelude.{◌≡◌, ℕ, ◌+◌, ◌≤◌, true, List, length, All, Option, Some, None}
-use Rattle.fx_lex.specs.declared.token.Token.{Token}
-use Rattle.fx_lex.specs.declared.token.Spanned.{Spanned}
-use Rattle.fx_lex.specs.Reading.{AreTokensOf}
-use Rattle.fx_parse.specs.Reader.{kinds}
+-- What the text of a description and of a script of the built forms stands for.
+use Rattle.std.specs.Prelude.{◌≡◌, ℕ, ◌+◌, ◌≤◌, true, List, length, Option, Some, None}
 use Rattle.fx_spec.specs.SpecTree.{SpecTree}
-use Rattle.fx_spec.specs.CommandTree.{CommandTree, block}
-use Rattle.fx_spec.specs.Levels.{spec_levels, txn_levels}
+use Rattle.fx_spec.specs.CommandTree.{CommandTree}
 use Rattle.fx_forms.specs.Built.{is_built_spec, is_built_script}
-use Rattle.fx_texts.specs.Tokens.{spec_tokens, script_tokens, spec_names, block_names}
-
--- the text has these tokens, one after another
-abbrev pub HasTokens : List ℕ → List Token → Type 0
-HasTokens text tokens = (spanned : List Spanned) × AreTokensOf text spanned × (kinds spanned ≡ tokens)
-
--- a text of at most 65,536 bytes stands for a description: its tokens are those of the description, which is nested at
--- most 64 deep and has no kept word for a name
-pub record IsDescription (text : List ℕ) (spec : SpecTree) : Type 0 where
-  pub short : length text ≤ 65536
-  pub tokens : HasTokens text (spec_tokens spec)
-  pub names : spec_names spec ≡ true
-  pub nested : spec_levels spec ≤ 64
-
--- a transaction that a text can stand for: nested at most 64 deep, with no kept word for a name
-pub record IsTxn (commands : List CommandTree) : Type 0 where
-  pub names : block_names (block commands) ≡ true
-  pub nested : txn_levels commands ≤ 64
-
--- a text of at most 65,536 bytes stands for a script: its tokens are those of the transactions
-pub record IsScript (text : List ℕ) (txns : List (List CommandTree)) : Type 0 where
-  pub short : length text ≤ 65536
-  pub tokens : HasTokens text (script_tokens txns)
-  pub each : All IsTxn txns
+pub use Rattle.fx_grammar.specs.Texts.{HasTokens, IsDescription, IsTxn, IsScript}
 
 -- the text stands for this description of the built forms, or for none of them
 abbrev pub Describes : List ℕ → Option SpecTree → Type 0

@@ -1,0 +1,12 @@
+use Rattle.std.proofs.Common.{arith}
+use Rattle.fx_grammar.proofs.Deep.{expr_deep, expr_low, shape_deep, shape_low, spec_deep, spec_low}
+use Rattle.fx_grammar.proofs.laws.levels_agree.Goals as goal
+
+pub returns-clause-expression : goal.returns-clause-expression
+returns-clause-expression c = λ limit e. (λ low. let deep = expr_deep limit 1 e (record { low = low }) in omega (arith, deep), λ deep. (expr_low limit 1 e (omega (arith, deep))).low)
+
+pub returns-clause-shape : goal.returns-clause-shape
+returns-clause-shape c = λ limit s. (λ low. let deep = shape_deep limit 1 s (record { low = low }) in omega (arith, deep), λ deep. (shape_low limit 1 s (omega (arith, deep))).low)
+
+pub returns-clause-description : goal.returns-clause-description
+returns-clause-description c = λ limit s. (λ low. let deep = spec_deep limit 1 s (record { low = low }) in omega (arith, deep), λ deep. (spec_low limit 1 s (omega (arith, deep))).low)

@@ -1,0 +1,42 @@
+-- Why a text is not one whole tree, and where.
+use Rattle.std.specs.Prelude.{◌≡◌, ◌<◌, ◌≤◌, ℕ, true, List, [], ◌∷◌, ◌++◌, length}
+use Rattle.fx_lex.specs.declared.token.Token.{Token}
+use Rattle.fx_lex.specs.declared.token.Spanned.{Spanned}
+use Rattle.fx_lex.specs.Reading.{AreTokensOf, IsBadAt}
+use Rattle.fx_parse.specs.declared.fault.ParseFault.{ParseFault}
+use Rattle.fx_parse.specs.declared.fault.ParseFault.TheVariants as fault
+use Rattle.fx_parse.specs.Readable.{Grammar, Begins, IsShallow, IsTooNested}
+use Rattle.fx_parse.specs.Reader.{kinds}
+use Rattle.fx_parse.specs.ReadAt.{place_left}
+
+module _ {Tree : Type 0} (g : Grammar Tree) where
+  -- With k tokens left, the first of them is the first with which the tokens so far begin no tree, or the tokens end too
+  -- early: they are those of no tree.
+  pub record IsMisplaced (ts : List Token) (k : ℕ) : Type 0 where
+    pub front : List Token
+    pub rest : List Token
+    pub parts : ts ≡ front ++ rest
+    pub place : k ≡ length rest
+    pub begins : Begins g front
+    pub ends : (x : Token) (more : List Token) → rest ≡ x ∷ more → Begins g (front ++ x ∷ []) → ⊥
+    pub none : (t : Tree) → g.IsRight t ≡ true → ts ≡ g.tokens t → ⊥
+    pub shallow : IsShallow g 1 front
+
+  -- the tokens of the text go wrong in this way with so many left, the first of which stands at the place
+  pub record GoesWrong (Wrong : List Token → ℕ → Type 0) (text : List ℕ) (place : ℕ) : Type 0 where
+    pub short : length text ≤ 65536
+    pub spanned : List Spanned
+    pub tokens : AreTokensOf text spanned
+    pub left : ℕ
+    pub wrong : Wrong (kinds spanned) left
+    pub stands : place ≡ place_left (record { spanned = spanned; text_len = length text }) left
+
+  -- A refusal of a text that is to be one tree and nothing else: it is longer than 65,536 bytes; or it has no tokens, and
+  -- this is the first place where none begins; or this is the place where its tokens go wrong first. Or memory ran out.
+  abbrev pub IsRefused : List ℕ → ParseFault → Type 0
+  IsRefused text fault.TooLarge = 65536 < length text
+  IsRefused text (fault.BadToken place) = (length text ≤ 65536) × IsBadAt text place
+  IsRefused text (fault.Unexpected place) = GoesWrong IsMisplaced text place
+  IsRefused text (fault.TooNested place) = GoesWrong (IsTooNested g 1) text place
+  IsRefused text (fault.NotBuilt place) = ⊥
+  IsRefused text fault.NoMemory = Unit {0}

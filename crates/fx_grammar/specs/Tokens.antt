@@ -1,0 +1,108 @@
+-- The tokens of descriptions and scripts, form by form; those of expressions and shapes are the parser's.
+use Rattle.std.specs.Prelude.{Bool, true, ◌&&◌, List, [], ◌∷◌, ◌++◌}
+use Rattle.std.specs.List.{flat_map}
+use Rattle.fx_lex.specs.declared.token.Token.{Token}
+use Rattle.fx_lex.specs.declared.token.Token.TheVariants as token
+use Rattle.fx_lex.specs.declared.token.Mark.TheVariants as mark
+use Rattle.fx_parse.specs.declared.keyword.Keyword.TheVariants as keyword
+use Rattle.fx_parse.specs.Grammars.{word, opening, closing, comma, expr_tokens, shape_tokens, is_name, has_names}
+use Rattle.fx_spec.specs.SpecTree.{SpecTree}
+use Rattle.fx_spec.specs.CommandTree.{ActTree, CommandTree, Block, block}
+
+abbrev pub Tokens : Type 0
+Tokens = List Token
+
+-- a form in round brackets
+abbrev pub bracketed : Tokens → Tokens
+bracketed inside = opening ∷ inside ++ closing ∷ []
+
+-- a form in braces
+abbrev pub braced : Tokens → Tokens
+braced inside = token.Mark mark.LeftBrace ∷ inside ++ token.Mark mark.RightBrace ∷ []
+
+abbrev pub spec_tokens : SpecTree → Tokens
+spec_tokens SpecTree.file = word keyword.File ∷ []
+spec_tokens SpecTree.dir = word keyword.Dir ∷ []
+spec_tokens SpecTree.link = word keyword.Link ∷ []
+spec_tokens (SpecTree.focus e s) = bracketed (expr_tokens e ++ token.Mark mark.ColonColon ∷ spec_tokens s)
+spec_tokens (SpecTree.pair x a b) =
+    token.Mark mark.LeftAngle ∷ token.Word x ∷ token.Mark mark.Colon ∷ spec_tokens a ++ comma ∷ spec_tokens b ++ token.Mark mark.RightAngle ∷ []
+spec_tokens (SpecTree.comp s x e) = braced (spec_tokens s ++ token.Mark mark.Bar ∷ token.Word x ∷ word keyword.In ∷ expr_tokens e)
+spec_tokens (SpecTree.opt s) = word keyword.Opt ∷ bracketed (spec_tokens s)
+spec_tokens (SpecTree.pred e) = word keyword.Pred ∷ bracketed (expr_tokens e)
+
+abbrev pub act_tokens : ActTree → Tokens
+act_tokens ActTree.into = word keyword.Into ∷ []
+act_tokens (ActTree.to e) = word keyword.To ∷ bracketed (expr_tokens e)
+act_tokens ActTree.next = word keyword.Next ∷ []
+act_tokens ActTree.prev = word keyword.Prev ∷ []
+act_tokens ActTree.out = word keyword.Out ∷ []
+act_tokens ActTree.down = word keyword.Down ∷ []
+act_tokens ActTree.up = word keyword.Up ∷ []
+act_tokens ActTree.top = word keyword.Top ∷ []
+act_tokens (ActTree.store e) = word keyword.Store ∷ bracketed (expr_tokens e)
+act_tokens ActTree.create = word keyword.Create ∷ []
+act_tokens ActTree.remove = word keyword.Remove ∷ []
+
+abbrev mutual
+  pub command_tokens : CommandTree → Tokens
+  command_tokens (CommandTree.act a) = act_tokens a
+  command_tokens (CommandTree.attempt x a) = word keyword.Try ∷ token.Word x ∷ act_tokens a
+  command_tokens (CommandTree.bind x e) = word keyword.Let ∷ token.Word x ∷ token.Mark mark.Equal ∷ expr_tokens e
+  command_tokens (CommandTree.assign x e) = word keyword.Set ∷ token.Word x ∷ token.Mark mark.Equal ∷ expr_tokens e
+  command_tokens (CommandTree.fetch x s) = word keyword.Fetch ∷ token.Word x ∷ token.Mark mark.Colon ∷ shape_tokens s
+  command_tokens (CommandTree.whole x s) = word keyword.Value ∷ token.Word x ∷ token.Mark mark.Colon ∷ shape_tokens s
+  command_tokens (CommandTree.validate x) = word keyword.Validate ∷ token.Word x ∷ []
+  command_tokens (CommandTree.print e) = word keyword.Print ∷ bracketed (expr_tokens e)
+  command_tokens (CommandTree.branch e a b) =
+      word keyword.If ∷ bracketed (expr_tokens e) ++ braced (block_tokens a) ++ word keyword.Else ∷ braced (block_tokens b)
+  command_tokens (CommandTree.each x e a) =
+      word keyword.Each ∷ token.Word x ∷ word keyword.In ∷ bracketed (expr_tokens e) ++ braced (block_tokens a)
+  command_tokens CommandTree.abort = word keyword.Abort ∷ []
+
+  -- commands one after another
+  pub block_tokens : Block → Tokens
+  block_tokens Block.none = []
+  block_tokens (Block.then c cs) = command_tokens c ++ block_tokens cs
+
+-- `txn { .. }`
+abbrev pub txn_tokens : List CommandTree → Tokens
+txn_tokens commands = word keyword.Txn ∷ braced (block_tokens (block commands))
+
+abbrev pub script_tokens : List (List CommandTree) → Tokens
+script_tokens txns = flat_map txn_tokens txns
+
+-- no name of the description is a kept word
+abbrev pub spec_names : SpecTree → Bool
+spec_names SpecTree.file = true
+spec_names SpecTree.dir = true
+spec_names SpecTree.link = true
+spec_names (SpecTree.focus e s) = has_names e && spec_names s
+spec_names (SpecTree.pair x a b) = is_name x && (spec_names a && spec_names b)
+spec_names (SpecTree.comp s x e) = spec_names s && (is_name x && has_names e)
+spec_names (SpecTree.opt s) = spec_names s
+spec_names (SpecTree.pred e) = has_names e
+
+abbrev pub act_names : ActTree → Bool
+act_names (ActTree.to e) = has_names e
+act_names (ActTree.store e) = has_names e
+act_names _ = true
+
+-- the same of a command, and of a block
+abbrev mutual
+  pub command_names : CommandTree → Bool
+  command_names (CommandTree.act a) = act_names a
+  command_names (CommandTree.attempt x a) = is_name x && act_names a
+  command_names (CommandTree.bind x e) = is_name x && has_names e
+  command_names (CommandTree.assign x e) = is_name x && has_names e
+  command_names (CommandTree.fetch x s) = is_name x
+  command_names (CommandTree.whole x s) = is_name x
+  command_names (CommandTree.validate x) = is_name x
+  command_names (CommandTree.print e) = has_names e
+  command_names (CommandTree.branch e a b) = has_names e && (block_names a && block_names b)
+  command_names (CommandTree.each x e a) = is_name x && (has_names e && block_names a)
+  command_names CommandTree.abort = true
+
+  pub block_names : Block → Bool
+  block_names Block.none = true
+  block_names (Block.then c cs) = command_names c && block_names cs

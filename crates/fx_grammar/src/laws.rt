@@ -1,0 +1,11 @@
+ghost use Rattle.fx_spec.specs.Levels.{expr_levels, shape_levels, spec_levels};
+ghost use Rattle.fx_parse.specs.Grammars.{exprs, shapes};
+ghost use Rattle.fx_grammar.specs.Agree.{LevelsAgree};
+ghost use Rattle.fx_grammar.specs.Grammars.{descriptions};
+
+/// How deep a tree is nested is the greatest of its tokens' levels.
+pub fn levels_agree()
+    ensures expression { LevelsAgree exprs expr_levels }
+    ensures shape { LevelsAgree shapes shape_levels }
+    ensures description { LevelsAgree descriptions spec_levels }
+{}
