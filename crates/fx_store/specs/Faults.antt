@@ -3,6 +3,7 @@ use Rattle.std.specs.Prelude.{◌≡◌, ℕ, cond, List, [], ◌∷◌, ◌++�
 use Rattle.std.specs.List.{list_all, slice_split}
 use Rattle.fx_store.specs.declared.name.PathFault.{PathFault}
 use Rattle.fx_store.specs.declared.name.PathFault.TheVariants.{BadName, TooDeep, NoMemory}
+use Rattle.fx_store.specs.declared.limits.TheConstants.{MAX_PATH_NAMES, MAX_LINK_COMPONENTS}
 use Rattle.fx_store.specs.Names.{is_slash, is_name, is_absolute, components, has_link_form}
 
 -- the result is this answer, unless memory was refused
@@ -18,7 +19,7 @@ read_name bytes = cond (is_name bytes) (Ok bytes) (Err BadName)
 
 -- a path of these names, if there are not too many
 abbrev pub path_of : List (List ℕ) → Result (List (List ℕ)) PathFault
-path_of names = cond (nat_lt 64 (length names)) (Err TooDeep) (Ok names)
+path_of names = cond (nat_lt MAX_PATH_NAMES (length names)) (Err TooDeep) (Ok names)
 
 -- the path with one name more
 abbrev pub joined : List (List ℕ) → List ℕ → Result (List (List ℕ)) PathFault
@@ -34,4 +35,4 @@ read_path text = cond (is_absolute text) (cond (list_all is_name (components tex
 
 -- the link text that the bytes are
 abbrev pub read_link : List ℕ → Result (List ℕ) PathFault
-read_link text = cond (has_link_form text) (cond (nat_lt 64 (length (components text))) (Err TooDeep) (Ok text)) (Err BadName)
+read_link text = cond (has_link_form text) (cond (nat_lt MAX_LINK_COMPONENTS (length (components text))) (Err TooDeep) (Ok text)) (Err BadName)

@@ -6,6 +6,7 @@ use Rattle.std.specs.Cmp.Lexicographic.{slice_cmp}
 use Rattle.std.specs.List.{list_any, list_all, slice_split, flat_map}
 use Rattle.std.specs.List.Sorted.{IsStrictlySortedBy}
 use Rattle.std.specs.Str.{is_utf8}
+use Rattle.fx_store.specs.declared.limits.TheConstants.{MAX_NAME_BYTES, MAX_PATH_NAMES, MAX_FILE_BYTES, MAX_LINK_BYTES, MAX_LINK_COMPONENTS}
 
 -- by bytes
 abbrev pub name_cmp : List ℕ → List ℕ → Ordering
@@ -28,20 +29,20 @@ is_reserved name = bytes_eq name (codes ".") || bytes_eq name (codes "..") || by
 
 -- a name is UTF-8 of 1 to 255 bytes with no `/` and no NUL, and is not reserved
 unfoldable pub is_name : List ℕ → Bool
-is_name name = nat_lt 0 (length name) && nat_le (length name) 255 && not (list_any is_slash name) && not (list_any is_nul name) && not (is_reserved name) && is_utf8 name
+is_name name = nat_lt 0 (length name) && nat_le (length name) MAX_NAME_BYTES && not (list_any is_slash name) && not (list_any is_nul name) && not (is_reserved name) && is_utf8 name
 
 abbrev pub IsName : List ℕ → Type 0
 IsName name = IsTrue (is_name name)
 
 -- the bytes of a file
 pub record IsContent (content : List ℕ) : Type 0 where
-  pub short : length content ≤ 1048576
+  pub short : length content ≤ MAX_FILE_BYTES
   pub bytes : All (λ b. b < 256) content
 
 -- a path has at most 64 names
 pub record IsPath (path : List (List ℕ)) : Type 0 where
   pub names : All IsName path
-  pub short : length path ≤ 64
+  pub short : length path ≤ MAX_PATH_NAMES
 
 -- the names of a directory, each once and in order
 pub record IsNameSet (set : List (List ℕ)) : Type 0 where
@@ -100,9 +101,9 @@ is_component c = is_name c || bytes_eq c (codes ".") || bytes_eq c (codes "..")
 
 -- the form of a link text, with any number of components
 abbrev pub has_link_form : List ℕ → Bool
-has_link_form text = nat_lt 0 (length text) && nat_le (length text) 4096 && list_all is_component (components text)
+has_link_form text = nat_lt 0 (length text) && nat_le (length text) MAX_LINK_BYTES && list_all is_component (components text)
 
 pub record IsLinkText (text : List ℕ) : Type 0 where
   pub form : IsTrue (has_link_form text)
-  pub short : length (components text) ≤ 64
+  pub short : length (components text) ≤ MAX_LINK_COMPONENTS
   pub bytes : All (λ b. b < 256) text

@@ -3,6 +3,7 @@ use Rattle.std.specs.Prelude.{◌≡◌, ℕ, true, false, cond, List, [], ◌�
 use Rattle.std.specs.Ordering.{eq_by_cmp}
 use Rattle.fx_store.specs.declared.node.Node.{Node}
 use Rattle.fx_store.specs.declared.node.Node.TheVariants.{Dir}
+use Rattle.fx_store.specs.declared.limits.TheConstants.{MAX_PATH_NAMES}
 use Rattle.fx_store.specs.Names.{name_cmp, IsNameSet, has}
 use Rattle.fx_store.specs.Whole.{Store, IsWhole, IsNode, lists}
 use Rattle.fx_store.specs.Resolve.{◌/ₚ◌}
@@ -37,7 +38,7 @@ pub record CanRelist (S : Store) (q old new : List (List ℕ)) (fresh : List ℕ
   pub whole : IsWhole S
   pub dir : S q ≡ Some (Dir old)
   pub names : IsNameSet new
-  pub room : length q ≡ 64 → new ≡ []
+  pub room : length q ≡ MAX_PATH_NAMES → new ≡ []
   pub leaves : (n : List ℕ) → has new n ≡ true → IsLeaf (q /ₚ n) (fresh n)
 
 abbrev pub RelistingKeepsWhole : Type 0

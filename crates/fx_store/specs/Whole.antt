@@ -5,6 +5,7 @@ use Rattle.std.specs.FinMap.{FinMap, insert, remove}
 use Rattle.fx_store.specs.declared.node.Node.{Node}
 use Rattle.fx_store.specs.declared.node.Node.TheVariants.{File, Dir, Link}
 use Rattle.fx_store.specs.declared.changes.Change.{Change}
+use Rattle.fx_store.specs.declared.limits.TheConstants.{MAX_PATH_NAMES}
 use Rattle.fx_store.specs.Names.{path_cmp, IsPath, IsContent, IsNameSet, IsLinkText, has}
 
 -- what stands at each path, as rules read it
@@ -25,7 +26,7 @@ lists (Some (Link text)) name = false
 -- the node is within its limits at the path; a directory at a path of 64 names lists none
 abbrev pub IsNode : List (List ℕ) → Node → Type 0
 IsNode path (File bytes) = IsContent bytes
-IsNode path (Dir names) = IsNameSet names × (length path ≡ 64 → names ≡ [])
+IsNode path (Dir names) = IsNameSet names × (length path ≡ MAX_PATH_NAMES → names ≡ [])
 IsNode path (Link text) = IsLinkText text
 
 -- the root is a directory, and a longer path is mapped exactly where its parent lists its last name

@@ -1,13 +1,14 @@
 //! Lists of bytes, with the limit of a file's content and without a limit.
 ghost use Rattle.std.specs.Prelude.{◌≡◌, ℕ, ◌≤◌, ◌<◌, List, [], ◌∷◌, ◌++◌, length, IfOk, OnOk, OnErr, slice_get, option_copied};
 ghost use Rattle.fx_store.specs.Names.{IsContent};
+ghost use Rattle.fx_store.specs.declared.limits.TheConstants.{MAX_FILE_BYTES};
 
 use fx_base::NoMemory;
 use std::alloc::{AllocError, Global};
 use std::marker::Model;
 
 /// What a file holds: at most 1,048,576 bytes.
-#[derive(Drop)]
+#[derive(Debug, Drop)]
 pub struct Bytes {
     bytes: Vec<u8>,
 }
@@ -30,7 +31,7 @@ impl Bytes {
     }
 
     pub fn from_vec(v: Vec<u8>) -> Bytes
-        requires { length v.items ≤ 1048576 }
+        requires { length v.items ≤ MAX_FILE_BYTES }
         ensures { result ≡ v.items }
     {
         Bytes { bytes: v }
@@ -51,7 +52,7 @@ impl Bytes {
 
     /// Adds a byte at the end, which needs room below the limit.
     pub fn add(&mut self, _alloc: Global, item: u8) -> Result<(), NoMemory>
-        requires { length self.old < 1048576 }
+        requires { length self.old < MAX_FILE_BYTES }
         ensures ok { OnOk result (self.new ≡ self.old ++ item ∷ []) }
         ensures err { OnErr result (self.new ≡ self.old) }
     {
@@ -94,7 +95,7 @@ impl Clone for Bytes {
 }
 
 /// Bytes of any number, as a whole printed report.
-#[derive(Drop)]
+#[derive(Debug, Drop)]
 pub struct LongText {
     bytes: Vec<u8>,
 }

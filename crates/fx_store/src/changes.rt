@@ -8,7 +8,7 @@ use std::alloc::{AllocError, Global};
 use std::marker::Model;
 
 /// What stands at a path from now on: a node, or nothing.
-#[derive(Drop)]
+#[derive(Debug, Drop)]
 pub struct Change {
     pub path: Path,
     pub node: Option<Node>,
@@ -37,7 +37,7 @@ impl Clone for Change {
 }
 
 /// Changes in ascending order of path, at most one of each path.
-#[derive(Drop)]
+#[derive(Debug, Drop)]
 pub struct Changes {
     changes: Vec<Change>,
 }

@@ -7,6 +7,7 @@ ghost use Rattle.fx_store.specs.Flat.{IsFiles, file_change, flat_changes};
 
 use crate::bytes::Bytes;
 use crate::changes::{Change, Changes};
+use crate::limits::MAX_FILE_BYTES;
 use crate::name::{Name, is_name};
 use crate::names::Names;
 use crate::node::Node;
@@ -65,7 +66,7 @@ impl Files {
         ensures err { OnErr result (self.new ≡ self.old) }
     {
         prove!(is_name(name.as_slice()));
-        prove!(bytes.as_slice().len() <= 1048576);
+        prove!(bytes.as_slice().len() <= MAX_FILE_BYTES);
         self.files.push((name, bytes))?;
         Ok(())
     }

@@ -6,6 +6,7 @@ mod changes;
 mod files;
 mod filestore;
 pub mod laws;
+pub mod limits;
 mod link;
 mod name;
 mod names;

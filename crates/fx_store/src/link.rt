@@ -2,20 +2,16 @@
 ghost use Rattle.std.specs.Prelude.{◌≡◌, length, nat_lt, IfOk};
 ghost use Rattle.fx_store.specs.Names.{IsLinkText, has_link_form, components};
 
+use crate::limits::{MAX_LINK_BYTES, MAX_LINK_COMPONENTS};
 use crate::name::PathFault;
 use crate::parts::{after_slash, are_components, has_more_parts};
 use fx_base::NoMemory;
 use std::alloc::{AllocError, Global};
 use std::marker::Model;
 
-/// The most bytes, and the most components, that a link text has.
-const MAX_BYTES: usize = 4096;
-
-const MAX_COMPONENTS: usize = 64;
-
 /// Where a link leads: `/`, or components with one `/` between each two and an optional leading `/`, in 1 to 4,096
 /// bytes. A component is a name, `.` or `..`, and there are at most 64.
-#[derive(Drop)]
+#[derive(Debug, Drop)]
 pub struct LinkText {
     bytes: Vec<u8>,
 }
@@ -73,7 +69,7 @@ fn has_link_form(text: &[u8]) -> bool
     if text.is_empty() {
         return false;
     }
-    if text.len() > MAX_BYTES {
+    if text.len() > MAX_LINK_BYTES {
         return false;
     }
     let steps = after_slash(text);
@@ -84,13 +80,13 @@ fn has_link_form(text: &[u8]) -> bool
 }
 
 fn has_many_components(text: &[u8]) -> bool
-    ensures { result ≡ nat_lt 64 (length (components text.now)) }
+    ensures { result ≡ nat_lt MAX_LINK_COMPONENTS (length (components text.now)) }
 {
     let steps = after_slash(text);
     if steps.is_empty() {
         return false;
     }
-    has_more_parts(steps, MAX_COMPONENTS)
+    has_more_parts(steps, MAX_LINK_COMPONENTS)
 }
 
 impl Clone for LinkText {

@@ -10,6 +10,7 @@ ghost use Rattle.std.specs.Str.{is_utf8};
 ghost use Rattle.fx_store.specs.Names.{is_name, is_reserved, IsName, name_cmp};
 ghost use Rattle.fx_store.specs.Orders.{name_total};
 
+use crate::limits::MAX_NAME_BYTES;
 use fx_base::NoMemory;
 use std::alloc::{AllocError, AllocFailed, Global};
 use std::cmp::Ordering;
@@ -60,7 +61,7 @@ impl From<NoMemory> for PathFault {
 
 /// The name of an entry of a directory: UTF-8 of 1 to 255 bytes without `/` and NUL, and not `.`, `..` or
 /// `.forest-links`. Names are ordered by bytes. A copy shares the bytes, and takes no memory for them.
-#[derive(Drop)]
+#[derive(Debug, Drop)]
 pub struct Name {
     bytes: ArcSlice<u8>,
 }
@@ -125,7 +126,7 @@ pub fn is_name(bytes: &[u8]) -> bool
     if bytes.is_empty() {
         return false;
     }
-    if bytes.len() > 255 {
+    if bytes.len() > MAX_NAME_BYTES {
         return false;
     }
     if bytes.contains(&b'/') {

@@ -13,7 +13,7 @@ use std::marker::Model;
 use std::sync::Arc;
 
 /// The names of a directory, each once, in ascending order. A copy shares them, and takes no memory for them.
-#[derive(Drop)]
+#[derive(Debug, Drop)]
 pub struct Names {
     shared: Option<Arc<Vec<Name>>>,
 }
@@ -168,7 +168,7 @@ impl Clone for Names {
 }
 
 /// Names in any order.
-#[derive(Drop)]
+#[derive(Debug, Drop)]
 pub struct NameList {
     names: Vec<Name>,
 }

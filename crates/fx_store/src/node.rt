@@ -9,7 +9,7 @@ use fx_base::NoMemory;
 use std::alloc::{AllocError, Global};
 
 /// What stands at a path: a file with its bytes, a directory with its names, or a link with its text.
-#[derive(Drop)]
+#[derive(Debug, Drop)]
 pub enum Node {
     File(Bytes),
     Dir(Names),
@@ -41,7 +41,7 @@ impl Clone for Node {
 }
 
 /// Where a path leads once its links are followed.
-#[derive(Drop)]
+#[derive(Debug, Drop)]
 pub enum Landing {
     /// A node stands at this path.
     At(Path),

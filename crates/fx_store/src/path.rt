@@ -7,6 +7,7 @@ ghost use Rattle.std.proofs.Common.{ap};
 ghost use Rattle.fx_store.specs.Names.{IsPath, path_cmp};
 ghost use Rattle.fx_store.specs.Orders.{path_total, path_eq_same};
 
+use crate::limits::MAX_PATH_NAMES;
 use crate::name::{Name, PathFault, is_name};
 use crate::parts::{add_names, are_names, has_more_parts};
 use fx_base::NoMemory;
@@ -15,12 +16,9 @@ use std::cmp::Ordering;
 use std::hash::{Hash, Hasher};
 use std::marker::Model;
 
-/// The most names that a path has.
-const MAX_NAMES: usize = 64;
-
 /// A path of at most 64 names, the first below the root. The root has none. Paths are ordered name by name, so a
 /// directory comes just before all that is below it.
-#[derive(Drop)]
+#[derive(Debug, Drop)]
 pub struct Path {
     names: Vec<Name>,
 }
@@ -73,7 +71,7 @@ impl Path {
     pub fn join(&self, alloc: Global, name: &Name) -> Result<Path, PathFault>
         ensures { Answers result (joined self.now name.now) }
     {
-        if self.names.len() >= MAX_NAMES {
+        if self.names.len() >= MAX_PATH_NAMES {
             return Err(PathFault::TooDeep);
         }
         let mut names = Vec::from_clones(alloc, &self.names)?;
@@ -89,7 +87,7 @@ impl Path {
         if !are_names(text) {
             return Err(PathFault::BadName);
         }
-        if has_more_parts(text, MAX_NAMES - self.names.len()) {
+        if has_more_parts(text, MAX_PATH_NAMES - self.names.len()) {
             return Err(PathFault::TooDeep);
         }
         let mut names = Vec::from_clones(alloc, &self.names)?;

@@ -3,6 +3,7 @@ ghost use Rattle.std.specs.Prelude.{◌≡◌, ◌↔◌, ◌++◌, ◌∷◌, [
 ghost use Rattle.std.specs.List.Sorted.{IsStrictlySortedBy};
 ghost use Rattle.fx_store.specs.Names.{IsPathSet, has_path, path_cmp};
 
+use crate::limits::MAX_PATH_NAMES;
 use crate::order::is_above;
 use crate::path::Path;
 use fx_base::NoMemory;
@@ -10,7 +11,7 @@ use std::alloc::Global;
 use std::marker::Model;
 
 /// Paths, each once, in ascending order.
-#[derive(Drop)]
+#[derive(Debug, Drop)]
 pub struct Paths {
     paths: Vec<Path>,
 }
@@ -71,7 +72,7 @@ impl Paths {
         ensures ok { OnOk result (self.new ≡ self.old ++ item ∷ []) }
         ensures err { OnErr result (self.new ≡ self.old) }
     {
-        prove!(item.len() <= 64);
+        prove!(item.len() as usize <= MAX_PATH_NAMES);
         self.paths.push(item)?;
         Ok(())
     }
