@@ -1,11 +1,11 @@
 -- Why a text is not one whole tree, and where.
-use Rattle.std.specs.Prelude.{◌≡◌, ◌<◌, ◌≤◌, ℕ, true, List, [], ◌∷◌, ◌++◌, length}
+use Rattle.std.specs.Prelude.{◌≡◌, ◌<◌, ◌≤◌, ◌⊎◌, ℕ, true, List, [], ◌∷◌, ◌++◌, length}
 use Rattle.fx_lex.specs.declared.token.Token.{Token}
 use Rattle.fx_lex.specs.declared.token.Spanned.{Spanned}
 use Rattle.fx_lex.specs.Reading.{AreTokensOf, IsBadAt}
 use Rattle.fx_parse.specs.declared.fault.ParseFault.{ParseFault}
 use Rattle.fx_parse.specs.declared.fault.ParseFault.TheVariants as fault
-use Rattle.fx_parse.specs.Readable.{Grammar, Begins, IsShallow, IsTooNested}
+use Rattle.fx_parse.specs.Readable.{Grammar, Stands, Begins, IsShallow, IsTooNested}
 use Rattle.fx_parse.specs.Reader.{kinds}
 use Rattle.fx_parse.specs.ReadAt.{place_left}
 
@@ -21,6 +21,16 @@ module _ {Tree : Type 0} (g : Grammar Tree) where
     pub ends : (x : Token) (more : List Token) → rest ≡ x ∷ more → Begins g (front ++ x ∷ []) → ⊥
     pub none : (t : Tree) → g.IsRight t ≡ true → ts ≡ g.tokens t → ⊥
     pub shallow : IsShallow g 1 front
+
+  -- Tokens are those of a tree that is nested at most 64 deep, or have a place with which they are none, or one at which
+  -- they nest too deep: one of the three alone, and at one place.
+  pub record HasOnePlace (ts : List Token) : Type 0 where
+    pub some : ((t : Tree) × Stands g 1 ts t []) ⊎ (((k : ℕ) × IsMisplaced ts k) ⊎ ((k : ℕ) × IsTooNested g 1 ts k))
+    pub misplaced : (j k : ℕ) → IsMisplaced ts j → IsMisplaced ts k → j ≡ k
+    pub too_nested : (j k : ℕ) → IsTooNested g 1 ts j → IsTooNested g 1 ts k → j ≡ k
+    pub one_kind : (j k : ℕ) → IsMisplaced ts j → IsTooNested g 1 ts k → ⊥
+    pub not_misplaced : (t : Tree) (k : ℕ) → Stands g 1 ts t [] → IsMisplaced ts k → ⊥
+    pub not_too_nested : (t : Tree) (k : ℕ) → Stands g 1 ts t [] → IsTooNested g 1 ts k → ⊥
 
   -- the tokens of the text go wrong in this way with so many left, the first of which stands at the place
   pub record GoesWrong (Wrong : List Token → ℕ → Type 0) (text : List ℕ) (place : ℕ) : Type 0 where

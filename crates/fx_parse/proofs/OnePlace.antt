@@ -9,7 +9,7 @@ use Rattle.fx_parse.proofs.Machine.{Table, Runs, Outcome, scan, scan_says, level
 use Rattle.fx_parse.proofs.Places.{Fits, unexpected_is, too_nested_is, stands_is}
 
 -- where one list is cut in two, after a and after b
-data Cut (a x b y : List Token) : Type 0 where
+pub data Cut (a x b y : List Token) : Type 0 where
   Before : (t : Token) (m : List Token) → x ≡ t ∷ (m ++ y) → b ≡ a ++ t ∷ m → Cut a x b y
   Same : a ≡ b → x ≡ y → Cut a x b y
   Behind : (t : Token) (m : List Token) → y ≡ t ∷ (m ++ x) → a ≡ b ++ t ∷ m → Cut a x b y
@@ -19,7 +19,7 @@ one_more s t a x b y same (Before u m p q) = Before u m p (ap (λ l. t ∷ l) q 
 one_more s t a x b y same (Same p q) = Same (ap (λ z. z ∷ a) same ∙ ap (λ l. t ∷ l) p) q
 one_more s t a x b y same (Behind u m p q) = Behind u m p (ap (λ l. s ∷ l) q ∙ ap (λ z. z ∷ (b ++ u ∷ m)) same)
 
-cut : (a x b y : List Token) → a ++ x ≡ b ++ y → Cut a x b y
+pub cut : (a x b y : List Token) → a ++ x ≡ b ++ y → Cut a x b y
 cut [] x [] y e = Same refl e
 cut [] x (t ∷ b) y e = Before t b e refl
 cut (s ∷ a) x [] y e = Behind s a (sym e) refl
@@ -34,7 +34,7 @@ regroup a m r t = append_assoc a (t ∷ m) r ∙ sym (append_assoc a (t ∷ []) 
 
 module _ {Tree : Type 0} (g : Grammar Tree) (d : ℕ) (ts : List Token) where
   -- a tree that begins with more begins with the next token
-  begins_next : (a m : List Token) (t : Token) (tree : Tree) (rest : List Token) → g.IsRight tree ≡ true → g.tokens tree ≡ (a ++ t ∷ m) ++ rest → Begins g (a ++ t ∷ [])
+  pub begins_next : (a m : List Token) (t : Token) (tree : Tree) (rest : List Token) → g.IsRight tree ≡ true → g.tokens tree ≡ (a ++ t ∷ m) ++ rest → Begins g (a ++ t ∷ [])
   begins_next a m t tree rest right e = record { tree = tree; rest = m ++ rest; right = right; spelled = e ∙ regroup a m rest t }
 
   unexpected_cut : (j k : ℕ) (p : IsUnexpected g d ts j) (q : IsUnexpected g d ts k) → Cut p.front p.rest q.front q.rest → j ≡ k

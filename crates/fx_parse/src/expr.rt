@@ -135,11 +135,7 @@ fn form_at(
 
 /// The expression at the front, with so many levels left, and what follows it.
 #[cycle(expr)]
-pub fn expr_at(
-    alloc: Global,
-    left: u32,
-    tokens: &[Spanned],
-) -> Result<(Expr, &[Spanned]), Stop>
+pub fn expr_at(alloc: Global, left: u32, tokens: &[Spanned]) -> Result<(Expr, &[Spanned]), Stop>
     ensures { Gives (λ x. (expr_tree x.0, kinds x.1.now)) result (read_expr left (kinds tokens.now)) }
 {
     let Some((first, rest)) = first_of(tokens) else {

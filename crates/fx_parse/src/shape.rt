@@ -84,11 +84,7 @@ fn shape_form_at(
 
 /// The shape at the front, with so many levels left, and what follows it.
 #[cycle(shape)]
-pub fn shape_at(
-    alloc: Global,
-    left: u32,
-    tokens: &[Spanned],
-) -> Result<(Shape, &[Spanned]), Stop>
+pub fn shape_at(alloc: Global, left: u32, tokens: &[Spanned]) -> Result<(Shape, &[Spanned]), Stop>
     ensures { Gives (λ x. (shape_tree x.0, kinds x.1.now)) result (read_shape left (kinds tokens.now)) }
 {
     let Some((first, rest)) = first_of(tokens) else {
