@@ -20,7 +20,8 @@ fn boxed(alloc: Global, spec: Spec) -> Result<Box<Spec>, NoMemory>
 /// The description at the front, in a box, and what follows it.
 #[cycle(spec)]
 fn part_at(alloc: Global, left: u32, tokens: &[Spanned]) -> Result<(Box<Spec>, &[Spanned]), Stop>
-    ensures { Gives (λ x. (spec_tree x.0.value, kinds x.1.now)) result (read_spec left (kinds tokens.now)) }
+    ensures { Gives (λ x. (spec_tree x.0.value, kinds x.1.now)) result
+        (read_spec left (kinds tokens.now)) }
 {
     let (spec, rest) = spec_at(alloc, left, tokens)?;
     Ok((boxed(alloc, spec)?, rest))
@@ -30,7 +31,8 @@ fn part_at(alloc: Global, left: u32, tokens: &[Spanned]) -> Result<(Box<Spec>, &
 #[cycle(spec)]
 #[tactic(auto, unfolding(crate::specs::Reader::focus_at))]
 fn focus_at(alloc: Global, left: u32, tokens: &[Spanned]) -> Result<(Spec, &[Spanned]), Stop>
-    ensures { Gives (λ x. (spec_tree x.0, kinds x.1.now)) result (focus_at (read_expr left) (read_spec left) (kinds tokens.now)) }
+    ensures { Gives (λ x. (spec_tree x.0, kinds x.1.now)) result
+        (focus_at (read_expr left) (read_spec left) (kinds tokens.now)) }
 {
     let (expr, rest) = expr_at(alloc, left, tokens)?;
     let rest = behind(rest, Sign::ColonColon)?;
@@ -43,7 +45,8 @@ fn focus_at(alloc: Global, left: u32, tokens: &[Spanned]) -> Result<(Spec, &[Spa
 #[cycle(spec)]
 #[tactic(auto, unfolding(crate::specs::Reader::pair_at))]
 fn pair_at(alloc: Global, left: u32, tokens: &[Spanned]) -> Result<(Spec, &[Spanned]), Stop>
-    ensures { Gives (λ x. (spec_tree x.0, kinds x.1.now)) result (pair_at (read_spec left) (kinds tokens.now)) }
+    ensures { Gives (λ x. (spec_tree x.0, kinds x.1.now)) result
+        (pair_at (read_spec left) (kinds tokens.now)) }
 {
     let (name, rest) = name_at(alloc, tokens)?;
     let rest = behind(rest, Sign::Colon)?;
@@ -58,7 +61,8 @@ fn pair_at(alloc: Global, left: u32, tokens: &[Spanned]) -> Result<(Spec, &[Span
 #[cycle(spec)]
 #[tactic(auto, unfolding(crate::specs::Reader::comp_at))]
 fn comp_at(alloc: Global, left: u32, tokens: &[Spanned]) -> Result<(Spec, &[Spanned]), Stop>
-    ensures { Gives (λ x. (spec_tree x.0, kinds x.1.now)) result (comp_at (read_expr left) (read_spec left) (kinds tokens.now)) }
+    ensures { Gives (λ x. (spec_tree x.0, kinds x.1.now)) result
+        (comp_at (read_expr left) (read_spec left) (kinds tokens.now)) }
 {
     let (part, rest) = part_at(alloc, left, tokens)?;
     let rest = behind(rest, Sign::Bar)?;
@@ -73,7 +77,8 @@ fn comp_at(alloc: Global, left: u32, tokens: &[Spanned]) -> Result<(Spec, &[Span
 #[cycle(spec)]
 #[tactic(auto, unfolding(crate::specs::Reader::opt_at))]
 fn opt_at(alloc: Global, left: u32, tokens: &[Spanned]) -> Result<(Spec, &[Spanned]), Stop>
-    ensures { Gives (λ x. (spec_tree x.0, kinds x.1.now)) result (opt_at (read_spec left) (kinds tokens.now)) }
+    ensures { Gives (λ x. (spec_tree x.0, kinds x.1.now)) result
+        (opt_at (read_spec left) (kinds tokens.now)) }
 {
     let rest = behind(tokens, Sign::LeftParen)?;
     let (part, rest) = part_at(alloc, left, rest)?;
@@ -84,7 +89,8 @@ fn opt_at(alloc: Global, left: u32, tokens: &[Spanned]) -> Result<(Spec, &[Spann
 /// What follows `pred`: `( expr )`.
 #[tactic(auto, unfolding(crate::specs::Reader::pred_at))]
 fn pred_at(alloc: Global, left: u32, tokens: &[Spanned]) -> Result<(Spec, &[Spanned]), Stop>
-    ensures { Gives (λ x. (spec_tree x.0, kinds x.1.now)) result (pred_at (read_expr left) (kinds tokens.now)) }
+    ensures { Gives (λ x. (spec_tree x.0, kinds x.1.now)) result
+        (pred_at (read_expr left) (kinds tokens.now)) }
 {
     let rest = behind(tokens, Sign::LeftParen)?;
     let (test, rest) = expr_at(alloc, left, rest)?;
@@ -101,7 +107,8 @@ fn form_at(
     start: Start,
     tokens: &[Spanned],
 ) -> Result<(Spec, &[Spanned]), Stop>
-    ensures { Gives (λ x. (spec_tree x.0, kinds x.1.now)) result (form_at (read_expr left) (read_spec left) start (kinds tokens.now)) }
+    ensures { Gives (λ x. (spec_tree x.0, kinds x.1.now)) result
+        (form_at (read_expr left) (read_spec left) start (kinds tokens.now)) }
 {
     match start {
         Start::File => Ok((Spec::File, tokens)),
@@ -123,7 +130,8 @@ pub(crate) fn spec_at(
     left: u32,
     tokens: &[Spanned],
 ) -> Result<(Spec, &[Spanned]), Stop>
-    ensures { Gives (λ x. (spec_tree x.0, kinds x.1.now)) result (read_spec left (kinds tokens.now)) }
+    ensures { Gives (λ x. (spec_tree x.0, kinds x.1.now)) result
+        (read_spec left (kinds tokens.now)) }
 {
     let Some((first, rest)) = first_of(tokens) else {
         return Err(Stop::Unexpected(0));
