@@ -5,7 +5,7 @@ use crate::telling::{tell_bytes, tell_said};
 use fx_program::program;
 use std::fs::{self, File};
 use std::io;
-use std::process::ExitCode;
+use std::process::{ExitCode, Termination};
 
 /// Where the output of a run goes.
 #[derive(Clone, Copy)]
@@ -39,12 +39,12 @@ pub fn tell_run(
     out: &mut String,
 ) -> io::Result<()> {
     clear(rt)?;
-    let code = program(&Stage {
+    let stage = Stage {
         rt,
         words,
         room: printer.room,
-    });
-    let number = number_of(code);
+    };
+    let number = number_of(program(&stage).report(&stage));
     writeln!(out, "> status {number}")?;
     tell_bytes(out, &fs::read(rt, PRINTED)?)?;
     tell_said(out, fs::read_to_string(rt, SAID)?.as_str())
