@@ -5,4 +5,4 @@ mod message;
 mod run;
 
 pub use message::Message;
-pub use run::program;
+pub use run::{Ended, program};

@@ -12,7 +12,7 @@ use fx_top::top::top;
 use std::alloc::Global;
 use std::env::{self, Args};
 use std::io::{self, ErrorKind};
-use std::process::ExitCode;
+use std::process::{ExitCode, Termination};
 use std::rt::{Env, Files};
 
 /// The words of the command line, without the program's name.
@@ -45,7 +45,7 @@ fn run<R: Files + Print + AllocGlobal + Clone + Drop>(rt: &R, words: &Words) -> 
 }
 
 /// Prints the line of a run that is not done to the standard error, and gives the run's code.
-fn ended<R: Eprint>(rt: &R, words: &Words, status: &Status) -> ExitCode
+fn code_of<R: Eprint>(rt: &R, words: &Words, status: &Status) -> ExitCode
     ensures { exit_status result ≡ status_code status.now }
 {
     if let Some(line) = Message::of(words, status) {
@@ -59,7 +59,7 @@ fn run_to_end<R: Files + Print + Eprint + AllocGlobal + Clone + Drop>(
     words: &Words,
 ) -> ExitCode {
     let status = run(rt, words);
-    ended(rt, words, &status)
+    code_of(rt, words, &status)
 }
 
 /// The end where the words are not read. Words that are not UTF-8 have no command's form.
@@ -68,13 +68,28 @@ fn end_unread<R: Eprint + AllocGlobal>(rt: &R, error: io::Error) -> ExitCode {
         ErrorKind::OutOfMemory => Status::NoMemory,
         _ => Status::Usage,
     };
-    ended(rt, &Words::new(rt.alloc()), &status)
+    code_of(rt, &Words::new(rt.alloc()), &status)
+}
+
+/// How a run ended. [`program`] alone makes one, and it can't be dropped: a `main` that runs the program gives its code.
+pub struct Ended {
+    code: ExitCode,
+}
+
+impl Termination for Ended {
+    fn report<R: Eprint>(self, _rt: &R) -> ExitCode
+        ensures { result ≡ self.code }
+    {
+        let Ended { code } = self;
+        code
+    }
 }
 
 /// Runs the words of the command line and says the end: its code, and its line where the run is not done.
-pub fn program<R: Env + Files + Print + Eprint + AllocGlobal + Clone + Drop>(rt: &R) -> ExitCode {
-    match read_words(rt) {
+pub fn program<R: Env + Files + Print + Eprint + AllocGlobal + Clone + Drop>(rt: &R) -> Ended {
+    let code = match read_words(rt) {
         Ok(words) => run_to_end(rt, &words),
         Err(error) => end_unread(rt, error),
-    }
+    };
+    Ended { code }
 }
