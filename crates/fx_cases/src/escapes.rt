@@ -1,6 +1,7 @@
 //! The bytes that a text of a case stands for. A backslash stands before `n`, `r` or `t` for a line feed, a carriage return
 //! or a tab, before `s` for a space, before `e` for nothing, before `x` and two digits for a byte, and before `[N:PIECE]`
 //! for a piece so many times. Before another byte it stands for that byte.
+ghost use Rattle.std.specs.Prelude.{◌<◌};
 
 use fx_base::NoMemory;
 use std::alloc::Global;

@@ -1,5 +1,5 @@
 //! The values of expressions over texts, integers and sets.
-ghost use Rattle.std.specs.Prelude.{[], ◌≤◌, IfOk, length};
+ghost use Rattle.std.specs.Prelude.{[], IfOk};
 ghost use Rattle.fx_expr.specs.ShapeTree.{ShapeTree};
 ghost use Rattle.fx_expr.specs.Shapes.{HasShape};
 ghost use Rattle.fx_expr.specs.Views.{expr_tree};
