@@ -1,8 +1,8 @@
 pub mod Completing
 pub mod Ending
 pub mod Flat
+pub mod Pieces
 pub mod Plans
-pub mod Reading
 pub mod Replaying
 pub mod Stages
 pub mod Writing

@@ -4,4 +4,5 @@ pub mod Inputs
 pub mod Outcome
 pub mod Replay
 pub mod Rows
+pub mod StatusOf
 pub mod Texts

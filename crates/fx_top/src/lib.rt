@@ -6,8 +6,10 @@ pub mod gate;
 pub mod host;
 pub mod inputs;
 pub mod print;
+pub mod reading;
 #[cfg(test)]
 mod replay;
+mod run;
 pub mod sink;
 pub mod status;
 #[cfg(test)]
