@@ -1,23 +1,42 @@
--- The rows of the table of statuses, from what the calls of a run ensure.
-use Rattle.std.proofs.Common.{◌≡◌, ◌⊎◌, inl, inr, ℕ, ◌≤◌, Bool, false, List, ◌++◌, take, Option, Some, None, IfSome, IsSomeAnd, refl, sym, subst, arith}
+-- The rows of the table of statuses, from what the stages of a run ensure.
+use Rattle.std.proofs.Common.{◌≡◌, ◌⊎◌, inl, inr, ℕ, ◌≤◌, Bool, true, false, ◌&&◌, List, ◌++◌, take, Option, Some, None, Result, Ok, Err, IfSome, IfErr, IsSomeAnd, refl, sym, ◌∙◌, subst, arith}
+use Rattle.std.specs.Result.{IsErrAnd}
+use Rattle.std.specs.List.{list_all}
+use Rattle.std.proofs.lemmas.Result.{err_from_is_err_and}
 use Rattle.fx_base.specs.Causes.{Rose}
 use Rattle.fx_store.specs.Whole.{Nodes}
+use Rattle.fx_outside.specs.declared.kind.HostFault.{HostFault}
+use Rattle.fx_outside.specs.declared.kind.HostFault.TheVariants as fails
+use Rattle.fx_outside.specs.Host.{HostView, ReadsOnly, AsksFit, HasFailed}
 use Rattle.fx_outside.specs.Path.{parts, is_fit, above}
-use Rattle.fx_outside.specs.Tree.{Tree, has_folder}
-use Rattle.fx_folder.specs.Folder.{IfTold, IsReady, IsTaken, IsSaved, IsPartlySaved}
-use Rattle.fx_folder.specs.Loads.{IsRefused}
-use Rattle.fx_folder.specs.declared.fault.FolderCause.{FolderCause}
+use Rattle.fx_outside.specs.Sink.{SinkView}
+use Rattle.fx_outside.specs.Tree.{Tree, has_folder, is_file_at, is_folder_at}
+use Rattle.fx_outside.proofs.Views.{reads_then, rose_back}
+use Rattle.fx_folder.specs.Folder.{IfTold, IsReady, IsTaken, IsSaved, ReadyCause, Saves, SavesPart, SaveCause, LacksFolder}
+use Rattle.fx_folder.specs.Loads.{LoadCause}
+use Rattle.fx_folder.specs.declared.fault.LoadFault.{LoadFault}
+use Rattle.fx_folder.specs.declared.fault.LoadFault.TheVariants as load
+use Rattle.fx_folder.specs.declared.fault.SaveFault.{SaveFault}
+use Rattle.fx_folder.specs.declared.fault.SaveFault.TheVariants as save
+use Rattle.fx_top.specs.declared.inputs.Unread.{Unread}
+use Rattle.fx_top.specs.declared.inputs.Unread.TheVariants as unread
 use Rattle.fx_top.specs.declared.status.Status.{Status}
 use Rattle.fx_top.specs.declared.status.Status.TheVariants as status
-use Rattle.fx_top.specs.declared.status.TextFault.TheVariants as fault
-use Rattle.fx_top.specs.Rows.{Row, ends, IsUntouched, IsDone, IsPartThere, IsCutShort, CannotSave}
-use Rattle.fx_top.specs.Inputs.{HasTexts, HasInputs, CannotRead, IsFirstRefused}
+use Rattle.fx_top.specs.Answers.{IsAnswered, UnreadCause}
+use Rattle.fx_top.specs.Inputs.{HasNoSpec, HasSomeSpec, HasTexts, HasInputs, CannotRead}
 use Rattle.fx_top.specs.Outcome.{IsOutcome}
-use Rattle.fx_top.specs.Answers.{IsAnswered}
-use Rattle.fx_words.specs.Job.{Job}
+use Rattle.fx_top.specs.Rows.{RunRow, EndsAs, IsSame, Grows, MayHoldPart, IsPartThere, IsDone, IsCutShort, CannotSave, has_fit_paths}
+use Rattle.fx_top.specs.StatusOf.{status_of, read_status, refused_status, unread_status, load_status, save_status}
+use Rattle.fx_words.specs.Job.{RunJob}
 
-abbrev Bytes : Type 0
-Bytes = Option (List ℕ)
+-- an error that a `?` hands on
+pub err_of : {X E : Type 0} (r : Result X E) (e : E) → IsErrAnd r (λ d. d ≡ e) → r ≡ Err e
+err_of {X = X} {E = E} r e is =
+    let err = err_from_is_err_and r is in
+    err.1 ∙ subst (λ d. ◌≡◌ {A = Result X E} (Err err.0) (Err d)) err.2 refl
+
+pub if_err_of : {X E : Type 0} (P : E → Type 0) (r : Result X E) (e : E) → IsErrAnd r (λ d. d ≡ e) → P e → IfErr r P
+if_err_of P r e is holds = subst (λ r. IfErr r P) (sym (err_of r e is)) holds
 
 -- words on a told tree
 pub if_some_map : {A : Type 0} (P Q : A → Type 0) (o : Option A) → ((x : A) → P x → Q x) → IfSome o P → IfSome o Q
@@ -28,15 +47,15 @@ pub if_some_both : {A : Type 0} (P Q R : A → Type 0) (o : Option A) → ((x : 
 if_some_both P Q R None f p q = tt
 if_some_both P Q R (Some x) f p q = f x p q
 
-pub some_and : {A : Type 0} (P Q R : A → Type 0) (o : Option A) → ((x : A) → P x → Q x → R x) → IfSome o P → IsSomeAnd o Q → IsSomeAnd o R
+some_and : {A : Type 0} (P Q R : A → Type 0) (o : Option A) → ((x : A) → P x → Q x → R x) → IfSome o P → IsSomeAnd o Q → IsSomeAnd o R
 some_and P Q R None f p q = q
 some_and P Q R (Some x) f p q = f x p q
 
-pub if_told_same : (P : Tree → Tree → Type 0) (told told' : Option Tree) → told' ≡ told → IfSome told (λ t. P t t) → IfTold told told' P
+if_told_same : (P : Tree → Tree → Type 0) (told told' : Option Tree) → told' ≡ told → IfSome told (λ t. P t t) → IfTold told told' P
 if_told_same P None told' same p = same
 if_told_same P (Some t) told' same p = subst (λ o. IfTold (Some t) o P) (sym same) p
 
-pub if_told_map : (P Q : Tree → Tree → Type 0) (R : Tree → Type 0) (told told' : Option Tree) → ((t t' : Tree) → R t → P t t' → Q t t') → IfSome told R → IfTold told told' P → IfTold told told' Q
+if_told_map : (P Q : Tree → Tree → Type 0) (R : Tree → Type 0) (told told' : Option Tree) → ((t t' : Tree) → R t → P t t' → Q t t') → IfSome told R → IfTold told told' P → IfTold told told' Q
 if_told_map P Q R None told' f j p = p
 if_told_map P Q R (Some t) None f j p = p
 if_told_map P Q R (Some t) (Some t') f j p = f t t' j p
@@ -45,86 +64,168 @@ some_unit : {A : Type 0} (o : Option A) → IfSome o (λ _. Unit {0})
 some_unit None = tt
 some_unit (Some x) = tt
 
--- nothing was changed, and memory ran out
-pub no_memory : (j : Job) (told told' : Option Tree) (f f' : ℕ) (w : Bytes) (s s' : ℕ) → told' ≡ told → Row j (ends told told' f f' w w s s') status.NoMemory
-no_memory j told told' f f' w s s' same =
-    if_told_same (λ t t'. IsUntouched t t' w w ⊎ IsPartThere t t' j w w) told told' same
-    (if_some_map (λ _. Unit {0}) (λ t. IsUntouched t t w w ⊎ IsPartThere t t j w w) told (λ t _. inl (refl, refl)) (some_unit told))
+-- ---- stages that only read
 
-pub read_fault : (j : Job) (P Q : Tree → Type 0) (told told' : Option Tree) (f f' : ℕ) (w : Bytes) (s : ℕ) → told' ≡ told → ((t : Tree) → P t → Q t → CannotRead t j) → IfSome told P → Rose f f' ⊎ IsSomeAnd told Q → Row j (ends told told' f f' w w s s) status.ReadFault
-read_fault j P Q told told' f f' w s same why before (inl rose) = (record { host = same; sink = refl; failures = refl }, inl rose)
-read_fault j P Q told told' f f' w s same why before (inr cannot) = (record { host = same; sink = refl; failures = refl }, inr (some_and P Q (λ t. CannotRead t j) told why before cannot))
+same : (host host' : HostView) (sink : SinkView) → ReadsOnly host host' → IsSame host host' sink sink
+same host host' sink reads = record { reads = reads; unprinted = refl }
 
-pub text_refused : (j : Job) (told told' : Option Tree) (f f' : ℕ) (w : Bytes) (s word : ℕ) → told' ≡ told → IfSome told (λ t. IsFirstRefused t j word) → Row j (ends told told' f f' w w s s) (status.TextRefused word (fault.NotBuilt 0))
-text_refused j told told' f f' w s word same first = (record { host = same; sink = refl; failures = refl }, refl, first)
+pub no_memory : (j : RunJob) (host host' : HostView) → ReadsOnly host host' → EndsAs j host host' status.NoMemory
+no_memory j host host' reads sink =
+    (refl, if_told_same (MayHoldPart j) host.told host'.told reads.same (if_some_map (λ _. Unit {0}) (λ t. MayHoldPart j t t) host.told (λ t _. inl refl) (some_unit host.told)))
 
-pub folder_refused : (j : Job) (told told' : Option Tree) (f f' : ℕ) (w : Bytes) (s : ℕ) (cause : FolderCause) → told' ≡ told → IfSome told (λ t. HasTexts t j × IsRefused t j.folder cause) → Row j (ends told told' f f' w w s s) (status.FolderRefused cause)
-folder_refused j told told' f f' w s cause same first = (record { host = same; sink = refl; failures = refl }, first)
+-- a read that failed, after what came before
+read_failed : (j : RunJob) (suits : Tree → Bool) (P : Tree → Type 0) (host host' : HostView) → ReadsOnly host host' → ((t : Tree) → P t → suits t ≡ false → CannotRead t j) → IfSome host.told P → HasFailed suits host host' → EndsAs j host host' status.ReadFault
+read_failed j suits P host host' reads why before (inl rose) sink = (same host host' sink reads, inl rose)
+read_failed j suits P host host' reads why before (inr none) sink =
+    (same host host' sink reads, inr (some_and P (λ t. suits t ≡ false) (λ t. CannotRead t j) host.told why before none))
 
-pub not_empty : (j : Job) (told told' : Option Tree) (f f' : ℕ) (w : Bytes) (s : ℕ) → told' ≡ told → IfSome told (λ t. HasInputs t j × IsTaken t j.out) → Row j (ends told told' f f' w w s s) status.NotEmpty
-not_empty j told told' f f' w s same taken = (record { host = same; sink = refl; failures = refl }, taken)
+-- the description is not read, or refused
+pub spec_unread : (j : RunJob) (host host' : HostView) (fault : HostFault) → ReadsOnly host host' → (fault ≡ fails.Failed → HasFailed (λ t. is_file_at t j.spec) host host') → EndsAs j host host' (read_status fault)
+spec_unread j host host' fails.Failed reads failed =
+    read_failed j (λ t. is_file_at t j.spec) (λ _. Unit {0}) host host' reads (λ t _ none. inl none) (some_unit host.told) (failed refl)
+spec_unread j host host' fails.NoMemory reads failed = no_memory j host host' reads
 
-pub not_ready : (j : Job) (told told' : Option Tree) (f f' : ℕ) (w : Bytes) (s s' : ℕ) → told' ≡ told → IfSome told (λ t. HasInputs t j) → Rose f f' ⊎ IsSomeAnd told (λ t. is_fit j.out ≡ false) → Row j (ends told told' f f' w w s s') status.WriteFault
-not_ready j told told' f f' w s s' same inputs (inl rose) =
-    (inl rose, if_told_same (λ t t'. HasInputs t j × (IsUntouched t t' w w ⊎ (IsPartThere t t' j w w ⊎ IsCutShort t t' j w w))) told told' same (if_some_map (λ t. HasInputs t j) (λ t. HasInputs t j × (IsUntouched t t w w ⊎ (IsPartThere t t j w w ⊎ IsCutShort t t j w w))) told (λ t has. (has, inl (refl, refl))) inputs))
-not_ready j told told' f f' w s s' same inputs (inr unfit) = (
-  inr (inr (some_and (λ t. HasInputs t j) (λ t. is_fit j.out ≡ false) (λ t. CannotSave t j) told (λ t has unfit. (has, inl unfit)) inputs unfit)),
-  if_told_same (λ t t'. HasInputs t j × (IsUntouched t t' w w ⊎ (IsPartThere t t' j w w ⊎ IsCutShort t t' j w w))) told told' same (if_some_map (λ t. HasInputs t j) (λ t. HasInputs t j × (IsUntouched t t w w ⊎ (IsPartThere t t j w w ⊎ IsCutShort t t j w w))) told (λ t has. (has, inl (refl, refl))) inputs),
-)
+pub spec_refused : (j : RunJob) (host host' : HostView) → ReadsOnly host host' → IfSome host.told (λ t. HasNoSpec t j) → EndsAs j host host' (refused_status 1)
+spec_refused j host host' reads none sink =
+    (same host host' sink reads, refl, if_some_map (λ t. HasNoSpec t j) _ host.told (λ t none. inl (refl, none)) none)
 
-pub inputs_of : (t : Tree) (j : Job) (nodes : Nodes) (output : List ℕ) → IsOutcome t j nodes output → HasInputs t j
+-- the scripts are not read, or refused
+pub scripts_unread : (j : RunJob) (host host' : HostView) (fault : Unread) → ReadsOnly host host' → IfSome host.told (λ t. HasSomeSpec t j) → UnreadCause j host host' fault → EndsAs j host host' (unread_status fault)
+scripts_unread j host host' (unread.Refused word) reads spec cause sink =
+    (same host host' sink reads, refl, if_some_both (λ t. HasSomeSpec t j) _ _ host.told (λ t spec stops. inr (spec, stops)) spec cause)
+scripts_unread j host host' unread.ReadFault reads spec (inl rose) sink = (same host host' sink reads, inl rose)
+scripts_unread j host host' unread.ReadFault reads spec (inr none) sink =
+    (same host host' sink reads, inr (some_and (λ t. HasSomeSpec t j) _ (λ t. CannotRead t j) host.told (λ t spec stops. inr (inl (spec, stops))) spec none))
+scripts_unread j host host' unread.NoMemory reads spec cause sink = no_memory j host host' reads sink
+
+-- the folder is not loaded
+pub not_loaded : (j : RunJob) (host host' : HostView) (fault : LoadFault) → ReadsOnly host host' → IfSome host.told (λ t. HasTexts t j) → LoadCause j.folder host host' fault → EndsAs j host host' (load_status fault)
+not_loaded j host host' (load.Refused cause) reads texts refused sink =
+    (same host host' sink reads, if_some_both (λ t. HasTexts t j) _ _ host.told (λ t texts refused. (texts, refused)) texts refused)
+not_loaded j host host' load.ReadFault reads texts failed sink =
+    read_failed j (λ t. is_folder_at t j.folder) (λ t. HasTexts t j) host host' reads (λ t texts none. inr (inr (texts, none))) texts failed sink
+not_loaded j host host' load.NoMemory reads texts failed sink = no_memory j host host' reads sink
+
+-- OUT cannot be written
+untouched : (j : RunJob) (host host' : HostView) → ReadsOnly host host' → IfSome host.told (λ t. HasInputs t j) → IfTold host.told host'.told (λ t t'. HasInputs t j × MayHoldPart j t t')
+untouched j host host' reads inputs =
+    if_told_same (λ t t'. HasInputs t j × MayHoldPart j t t') host.told host'.told reads.same (if_some_map (λ t. HasInputs t j) (λ t. HasInputs t j × MayHoldPart j t t) host.told (λ t has. (has, inl refl)) inputs)
+
+unready_cause : (j : RunJob) (host host' : HostView) → IfSome host.told (λ t. HasInputs t j) → HasFailed (λ _. is_fit j.out) host host' → Rose host.faults host'.faults ⊎ IsSomeAnd host.told (λ t. CannotSave t j)
+unready_cause j host host' inputs (inl rose) = inl rose
+unready_cause j host host' inputs (inr unfit) = inr (some_and (λ t. HasInputs t j) (λ t. is_fit j.out ≡ false) (λ t. CannotSave t j) host.told (λ t has unfit. (has, inl unfit)) inputs unfit)
+
+pub not_ready : (j : RunJob) (host host' : HostView) (fault : SaveFault) → ReadsOnly host host' → IfSome host.told (λ t. HasInputs t j) → ReadyCause j.out host host' fault → EndsAs j host host' (save_status fault)
+not_ready j host host' save.WriteFault reads inputs failed sink =
+    inl (record { cause = unready_cause j host host' inputs failed; unprinted = refl; left = untouched j host host' reads inputs })
+not_ready j host host' save.NotEmpty reads inputs taken sink =
+    (same host host' sink reads, if_some_both (λ t. HasInputs t j) (λ t. IsTaken t j.out) (λ t. HasInputs t j × IsTaken t j.out) host.told (λ t inputs taken. (inputs, taken)) inputs taken)
+not_ready j host host' save.NoMemory reads inputs cause sink = no_memory j host host' reads sink
+
+-- ---- the last stage
+
+pub inputs_of : (t : Tree) (j : RunJob) (nodes : Nodes) (output : List ℕ) → IsOutcome t j nodes output → HasInputs t j
 inputs_of t j nodes output is = (((is.base.description, is.begins.spec), (is.base.plan, is.begins.scripts)), (is.base.loaded, is.begins.folder))
 
-part_there : (j : Job) (nodes : Nodes) (output : List ℕ) (there : Bool) (w : Bytes) (t t' : Tree) → IsAnswered t j nodes output there → IsPartlySaved t t' (parts j.out) nodes → IsPartThere t t' j w w
-part_there j nodes output there w t t' is part = record { nodes = nodes; output = output; there = there; outcome = is.outcome; free = is.free; part = part; sink = refl }
+part_there : (j : RunJob) (nodes : Nodes) (output : List ℕ) (there : Bool) (host host' : HostView) → IfSome host.told (λ t. IsAnswered t j nodes output there) → SavesPart j.out nodes host host' → IfTold host.told host'.told (λ t t'. HasInputs t j × MayHoldPart j t t')
+part_there j nodes output there host host' is part =
+    if_told_map _ (λ t t'. HasInputs t j × MayHoldPart j t t') (λ t. IsAnswered t j nodes output there) host.told host'.told
+    (λ t t' is part. (inputs_of t j nodes output is.outcome, inr (record { nodes = nodes; output = output; there = there; outcome = is.outcome; free = is.free; part = part }))) is part
 
-pub save_memory : (j : Job) (nodes : Nodes) (output : List ℕ) (there : Bool) (told told' : Option Tree) (f f' : ℕ) (w : Bytes) (s s' : ℕ) → IfSome told (λ t. IsAnswered t j nodes output there) → IfTold told told' (λ t t'. IsPartlySaved t t' (parts j.out) nodes) → Row j (ends told told' f f' w w s s') status.NoMemory
-save_memory j nodes output there told told' f f' w s s' is part =
-    if_told_map (λ t t'. IsPartlySaved t t' (parts j.out) nodes) (λ t t'. IsUntouched t t' w w ⊎ IsPartThere t t' j w w) (λ t. IsAnswered t j nodes output there) told told' (λ t t' is part. inr (part_there j nodes output there w t t' is part)) is part
-
-left_over : (j : Job) (nodes : Nodes) (output : List ℕ) (there : Bool) (told told' : Option Tree) (w : Bytes) → IfSome told (λ t. IsAnswered t j nodes output there) → IfTold told told' (λ t t'. IsPartlySaved t t' (parts j.out) nodes) → IfTold told told' (λ t t'. HasInputs t j × (IsUntouched t t' w w ⊎ (IsPartThere t t' j w w ⊎ IsCutShort t t' j w w)))
-left_over j nodes output there told told' w is part =
-    if_told_map (λ t t'. IsPartlySaved t t' (parts j.out) nodes) (λ t t'. HasInputs t j × (IsUntouched t t' w w ⊎ (IsPartThere t t' j w w ⊎ IsCutShort t t' j w w))) (λ t. IsAnswered t j nodes output there) told told' (λ t t' is part. (inputs_of t j nodes output is.outcome, inr (inl (part_there j nodes output there w t t' is part)))) is part
-
-no_folder : (j : Job) (nodes : Nodes) (output : List ℕ) (there : Bool) (t : Tree) → IsAnswered t j nodes output there → (there ≡ false) × (has_folder t (above (parts j.out)) ≡ false) → CannotSave t j
+no_folder : (j : RunJob) (nodes : Nodes) (output : List ℕ) (there : Bool) (t : Tree) → IsAnswered t j nodes output there → LacksFolder t j.out there → CannotSave t j
 no_folder j nodes output there t is lacks = (inputs_of t j nodes output is.outcome, inr (subst (λ b. IsReady t j.out b) lacks.0 is.free, lacks.1))
 
-pub save_fault : (j : Job) (nodes : Nodes) (output : List ℕ) (there : Bool) (told told' : Option Tree) (f f' : ℕ) (w : Bytes) (s s' : ℕ) → IfSome told (λ t. IsAnswered t j nodes output there) → IfTold told told' (λ t t'. IsPartlySaved t t' (parts j.out) nodes) → Rose f f' ⊎ IsSomeAnd told (λ t. (there ≡ false) × (has_folder t (above (parts j.out)) ≡ false)) → Row j (ends told told' f f' w w s s') status.WriteFault
-save_fault j nodes output there told told' f f' w s s' is part (inl rose) = (inl rose, left_over j nodes output there told told' w is part)
-save_fault j nodes output there told told' f f' w s s' is part (inr lacks) = (
-  inr (inr (some_and (λ t. IsAnswered t j nodes output there) (λ t. (there ≡ false) × (has_folder t (above (parts j.out)) ≡ false)) (λ t. CannotSave t j) told (λ t is lacks. no_folder j nodes output there t is lacks) is lacks)),
-  left_over j nodes output there told told' w is part,
+unsaved_cause : (j : RunJob) (nodes : Nodes) (output : List ℕ) (there : Bool) (host host' : HostView) → IfSome host.told (λ t. IsAnswered t j nodes output there) → Rose host.faults host'.faults ⊎ IsSomeAnd host.told (λ t. LacksFolder t j.out there) → Rose host.faults host'.faults ⊎ IsSomeAnd host.told (λ t. CannotSave t j)
+unsaved_cause j nodes output there host host' is (inl rose) = inl rose
+unsaved_cause j nodes output there host host' is (inr lacks) =
+    inr (some_and (λ t. IsAnswered t j nodes output there) (λ t. LacksFolder t j.out there) (λ t. CannotSave t j) host.told (λ t is lacks. no_folder j nodes output there t is lacks) is lacks)
+
+only_part : (j : RunJob) (told told' : Option Tree) → IfTold told told' (λ t t'. HasInputs t j × MayHoldPart j t t') → IfTold told told' (MayHoldPart j)
+only_part j None told' p = p
+only_part j (Some t) None p = p
+only_part j (Some t) (Some t') p = p.1
+
+pub not_saved : (j : RunJob) (nodes : Nodes) (output : List ℕ) (there : Bool) (host host' : HostView) (fault : SaveFault) → IfSome host.told (λ t. IsAnswered t j nodes output there) → SavesPart j.out nodes host host' → SaveCause j.out there host host' fault → EndsAs j host host' (save_status fault)
+not_saved j nodes output there host host' save.WriteFault is part cause sink =
+    inl (record { cause = unsaved_cause j nodes output there host host' is cause; unprinted = refl; left = part_there j nodes output there host host' is part })
+not_saved j nodes output there host host' save.NotEmpty is part cause sink = absurd cause
+not_saved j nodes output there host host' save.NoMemory is part cause sink = (refl, only_part j host.told host'.told (part_there j nodes output there host host' is part))
+
+grows_front : (sink sink' : SinkView) (output : List ℕ) → IfSome sink.written (λ w. (n : ℕ) × (sink'.written ≡ Some (w ++ take n output))) → Grows sink sink'
+grows_front sink sink' output front = if_some_map _ _ sink.written (λ w front. (take front.0 output, front.1)) front
+
+grows_all : (sink sink' : SinkView) (output : List ℕ) → IfSome sink.written (λ w. sink'.written ≡ Some (w ++ output)) → Grows sink sink'
+grows_all sink sink' output all = if_some_map _ _ sink.written (λ w all. (output, all)) all
+
+pub not_printed : (j : RunJob) (nodes : Nodes) (output : List ℕ) (there : Bool) (host host' : HostView) (sink sink' : SinkView) → IfSome host.told (λ t. IsAnswered t j nodes output there) → Saves j.out nodes host host' → IfSome sink.written (λ w. (n : ℕ) × (sink'.written ≡ Some (w ++ take n output))) → Rose sink.faults sink'.faults → RunRow j host host' sink sink' status.WriteFault
+not_printed j nodes output there host host' sink sink' is saved front rose = inr (record {
+  cause = rose;
+  grows = grows_front sink sink' output front;
+  left = if_told_map (λ t t'. IsSaved t t' (parts j.out) nodes) (λ t t'. IsCutShort t t' j sink.written sink'.written) (λ t. IsAnswered t j nodes output there) host.told host'.told
+      (λ t t' is saved. record { nodes = nodes; output = output; there = there; outcome = is.outcome; free = is.free; saved = saved; written = front }) is saved;
+})
+
+pub all_done : (j : RunJob) (nodes : Nodes) (output : List ℕ) (there : Bool) (host host' : HostView) (sink sink' : SinkView) → IfSome host.told (λ t. IsAnswered t j nodes output there) → Saves j.out nodes host host' → IfSome sink.written (λ w. sink'.written ≡ Some (w ++ output)) → RunRow j host host' sink sink' status.Done
+all_done j nodes output there host host' sink sink' is saved whole = (
+  grows_all sink sink' output whole,
+  if_told_map (λ t t'. IsSaved t t' (parts j.out) nodes) (λ t t'. IsDone t t' j sink.written sink'.written) (λ t. IsAnswered t j nodes output there) host.told host'.told
+      (λ t t' is saved. record { nodes = nodes; output = output; there = there; outcome = is.outcome; free = is.free; saved = saved; written = whole }) is saved,
 )
 
-pub print_fault : (j : Job) (nodes : Nodes) (output : List ℕ) (there : Bool) (told told' : Option Tree) (f f' : ℕ) (w w' : Bytes) (s s' : ℕ) → IfSome told (λ t. IsAnswered t j nodes output there) → IfTold told told' (λ t t'. IsSaved t t' (parts j.out) nodes) → IfSome w (λ x. (n : ℕ) × (w' ≡ Some (x ++ take n output))) → Rose s s' → Row j (ends told told' f f' w w' s s') status.WriteFault
-print_fault j nodes output there told told' f f' w w' s s' is saved front rose = (
-  inr (inl rose),
-  if_told_map (λ t t'. IsSaved t t' (parts j.out) nodes) (λ t t'. HasInputs t j × (IsUntouched t t' w w' ⊎ (IsPartThere t t' j w w' ⊎ IsCutShort t t' j w w'))) (λ t. IsAnswered t j nodes output there) told told'
-      (λ t t' is saved. (inputs_of t j nodes output is.outcome, inr (inr (record { nodes = nodes; output = output; there = there; outcome = is.outcome; free = is.free; saved = saved; written = front })))) is saved,
-)
+-- ---- a row from a later moment on is one from an earlier moment on, where only reads lie between
 
-pub all_done : (j : Job) (nodes : Nodes) (output : List ℕ) (there : Bool) (told told' : Option Tree) (f f' : ℕ) (w w' : Bytes) (s s' : ℕ) → IfSome told (λ t. IsAnswered t j nodes output there) → IfTold told told' (λ t t'. IsSaved t t' (parts j.out) nodes) → IfSome w (λ x. w' ≡ Some (x ++ output)) → Row j (ends told told' f f' w w' s s') status.Done
-all_done j nodes output there told told' f f' w w' s s' is saved whole =
-    if_told_map (λ t t'. IsSaved t t' (parts j.out) nodes) (λ t t'. IsDone t t' j w w') (λ t. IsAnswered t j nodes output there) told told'
-    (λ t t' is saved. record { nodes = nodes; output = output; there = there; outcome = is.outcome; free = is.free; saved = saved; written = whole }) is saved
+cause_back : (P : Tree → Type 0) (a b c : HostView) → ReadsOnly a b → Rose b.faults c.faults ⊎ IsSomeAnd b.told P → Rose a.faults c.faults ⊎ IsSomeAnd a.told P
+cause_back P a b c reads (inl rose) = inl (rose_back a b c reads.later rose)
+cause_back P a b c reads (inr is) = inr (subst (λ o. IsSomeAnd o P) reads.same is)
 
--- a row from a later moment on is one from an earlier moment on, where the tree is the same and the count has not fallen
-rose_back : (f₀ f₁ f₂ : ℕ) → f₀ ≤ f₁ → Rose f₁ f₂ → Rose f₀ f₂
-rose_back f₀ f₁ f₂ later rose = omega (arith, rose)
+told_back : (P : Tree → Tree → Type 0) (a b c : HostView) → ReadsOnly a b → IfTold b.told c.told P → IfTold a.told c.told P
+told_back P a b c reads is = subst (λ o. IfTold o c.told P) reads.same is
 
-either_back : {A : Type 0} (f₀ f₁ f₂ : ℕ) → f₀ ≤ f₁ → Rose f₁ f₂ ⊎ A → Rose f₀ f₂ ⊎ A
-either_back f₀ f₁ f₂ later (inl rose) = inl (rose_back f₀ f₁ f₂ later rose)
-either_back f₀ f₁ f₂ later (inr other) = inr other
+some_back : (P : Tree → Type 0) (a b : HostView) → ReadsOnly a b → IfSome b.told P → IfSome a.told P
+some_back P a b reads is = subst (λ o. IfSome o P) reads.same is
 
-row_count : (j : Job) (told told' : Option Tree) (f₀ f₁ f₂ : ℕ) (w w' : Bytes) (s s' : ℕ) (st : Status) → f₀ ≤ f₁ → Row j (ends told told' f₁ f₂ w w' s s') st → Row j (ends told told' f₀ f₂ w w' s s') st
-row_count j told told' f₀ f₁ f₂ w w' s s' status.Done later row = row
-row_count j told told' f₀ f₁ f₂ w w' s s' status.Usage later row = row
-row_count j told told' f₀ f₁ f₂ w w' s s' (status.TextRefused word cause) later row = (record { host = row.0.host; sink = row.0.sink; failures = row.0.failures }, row.1, row.2)
-row_count j told told' f₀ f₁ f₂ w w' s s' (status.FolderRefused cause) later row = (record { host = row.0.host; sink = row.0.sink; failures = row.0.failures }, row.1)
-row_count j told told' f₀ f₁ f₂ w w' s s' status.ReadFault later row = (record { host = row.0.host; sink = row.0.sink; failures = row.0.failures }, either_back f₀ f₁ f₂ later row.1)
-row_count j told told' f₀ f₁ f₂ w w' s s' status.NotEmpty later row = (record { host = row.0.host; sink = row.0.sink; failures = row.0.failures }, row.1)
-row_count j told told' f₀ f₁ f₂ w w' s s' status.WriteFault later row = (either_back f₀ f₁ f₂ later row.0, row.1)
-row_count j told told' f₀ f₁ f₂ w w' s s' status.NoMemory later row = row
+same_back : (a b c : HostView) (sink sink' : SinkView) → ReadsOnly a b → IsSame b c sink sink' → IsSame a c sink sink'
+same_back a b c sink sink' reads is = record { reads = reads_then a b c reads is.reads; unprinted = is.unprinted }
 
-pub row_back : (j : Job) (told told₁ told' : Option Tree) (f₀ f₁ f₂ : ℕ) (w w' : Bytes) (s s' : ℕ) (st : Status) → told₁ ≡ told → f₀ ≤ f₁ → Row j (ends told₁ told' f₁ f₂ w w' s s') st → Row j (ends told told' f₀ f₂ w w' s s') st
-row_back j told told₁ told' f₀ f₁ f₂ w w' s s' st same later row = row_count j told told' f₀ f₁ f₂ w w' s s' st later (subst (λ o. Row j (ends o told' f₁ f₂ w w' s s') st) same row)
+pub row_back : (j : RunJob) (a b c : HostView) (sink sink' : SinkView) (st : Status) → ReadsOnly a b → RunRow j b c sink sink' st → RunRow j a c sink sink' st
+row_back j a b c sink sink' status.Done reads row = (row.0, told_back _ a b c reads row.1)
+row_back j a b c sink sink' status.Usage reads row = row
+row_back j a b c sink sink' (status.TextRefused word cause) reads row = (same_back a b c sink sink' reads row.0, row.1, some_back _ a b reads row.2)
+row_back j a b c sink sink' (status.FolderRefused cause) reads row = (same_back a b c sink sink' reads row.0, some_back _ a b reads row.1)
+row_back j a b c sink sink' status.ReadFault reads row = (same_back a b c sink sink' reads row.0, cause_back _ a b c reads row.1)
+row_back j a b c sink sink' status.NotEmpty reads row = (same_back a b c sink sink' reads row.0, some_back _ a b reads row.1)
+row_back j a b c sink sink' status.WriteFault reads (inl row) = inl (record { cause = cause_back _ a b c reads row.cause; unprinted = row.unprinted; left = told_back _ a b c reads row.left })
+row_back j a b c sink sink' status.WriteFault reads (inr row) = inr (record { cause = row.cause; grows = row.grows; left = told_back _ a b c reads row.left })
+row_back j a b c sink sink' status.NoMemory reads row = (row.0, told_back _ a b c reads row.1)
+
+pub ends_back : (j : RunJob) (a b c : HostView) (st : Status) → ReadsOnly a b → EndsAs j b c st → EndsAs j a c st
+ends_back j a b c st reads ends sink = row_back j a b c sink sink st reads (ends sink)
+
+-- ---- fit paths
+
+module _ (j : RunJob) (fit : has_fit_paths j ≡ true) where
+  left_true : (a b : Bool) → (a && b) ≡ true → a ≡ true
+  left_true true b e = refl
+  left_true false b e = cc
+
+  right_true : (a b : Bool) → (a && b) ≡ true → b ≡ true
+  right_true true b e = e
+  right_true false b e = cc
+
+  pub fit_spec : is_fit j.spec ≡ true
+  fit_spec = left_true (is_fit j.spec) _ fit
+
+  after_spec : (is_fit j.folder && (is_fit j.out && list_all is_fit j.scripts)) ≡ true
+  after_spec = right_true (is_fit j.spec) _ fit
+
+  pub fit_folder : is_fit j.folder ≡ true
+  fit_folder = left_true (is_fit j.folder) _ after_spec
+
+  after_folder : (is_fit j.out && list_all is_fit j.scripts) ≡ true
+  after_folder = right_true (is_fit j.folder) _ after_spec
+
+  pub fit_out : is_fit j.out ≡ true
+  fit_out = left_true (is_fit j.out) _ after_folder
+
+  pub fit_scripts : list_all is_fit j.scripts ≡ true
+  fit_scripts = right_true (is_fit j.out) _ after_folder

@@ -1,7 +1,7 @@
 pub mod Completing
 pub mod Ending
 pub mod Flat
+pub mod Pieces
 pub mod Plans
-pub mod Reading
 pub mod Stages
 pub mod Writing

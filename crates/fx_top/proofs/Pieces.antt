@@ -3,21 +3,28 @@ use Rattle.std.proofs.Common.{◌≡◌, ◌⊎◌, ℕ, ◌+◌, ◌≤◌, ◌
 use Rattle.std.specs.Prelude.{IsOk, IsErr}
 use Rattle.std.proofs.Math.Seq.{take-add, take-length, take-append_seam}
 use Rattle.std.proofs.lemmas.List.{length-take}
-use Rattle.fx_base.specs.Causes.{Rose}
 use Rattle.fx_outside.specs.declared.kind.HostFault.{HostFault}
-use Rattle.fx_outside.specs.Host.{HasCause, ReadsAt}
+use Rattle.fx_outside.specs.Host.{HostView, HasCause, ReadsAt, ReadsOnly, AsksFit}
+use Rattle.fx_outside.proofs.Views.{reads_none, reads_then, fit_then}
 use Rattle.fx_outside.specs.Tree.{Tree, is_file_at, bytes_at}
 use Rattle.fx_top.specs.Texts.{IsFrontAt, IsReadAt}
 
 -- a call that answers suits the tree
-suits_true : {A : Type 0} (result : Result A HostFault) (suits : Bool) (told' told : Option Tree) (faults' faults : ℕ) → IsOk result → (suits ≡ false → IsErr result × (told' ≡ told) × (faults' ≡ faults)) → suits ≡ true
-suits_true (Ok value) true told' told faults' faults ok h = refl
-suits_true (Ok value) false told' told faults' faults ok h = let no : false ≡ true = (h refl).0 in cc
-suits_true (Err e) suits told' told faults' faults ok h = let no : false ≡ true = ok in cc
+suits_true : {A : Type 0} (result : Result A HostFault) (suits : Bool) (X : Type 0) → IsOk result → (suits ≡ false → IsErr result × X) → suits ≡ true
+suits_true (Ok value) true X ok h = refl
+suits_true (Ok value) false X ok h = let no : false ≡ true = (h refl).0 in cc
+suits_true (Err e) suits X ok h = let no : false ≡ true = ok in cc
 
-pub suited : {A : Type 0} (result : Result A HostFault) (suits : Tree → Bool) (told told' : Option Tree) (faults faults' : ℕ) → IsOk result → HasCause suits told told' faults faults' result → IfSome told (λ tree. suits tree ≡ true)
-suited result suits None told' faults faults' ok cause = tt
-suited result suits (Some tree) told' faults faults' ok cause = suits_true result (suits tree) told' (Some tree) faults' faults ok cause.unsuited
+suits_told : {A : Type 0} (result : Result A HostFault) (suits : Tree → Bool) (told : Option Tree) (X : Type 0) → IsOk result → IfSome told (λ tree. suits tree ≡ false → IsErr result × X) → IfSome told (λ tree. suits tree ≡ true)
+suits_told result suits None X ok h = tt
+suits_told result suits (Some tree) X ok h = suits_true result (suits tree) X ok h
+
+pub suited : {A : Type 0} (result : Result A HostFault) (suits : Tree → Bool) (old new : HostView) → IsOk result → HasCause suits old new result → IfSome old.told (λ tree. suits tree ≡ true)
+suited result suits old new ok cause = suits_told result suits old.told ((new.told ≡ old.told) × (new.faults ≡ old.faults)) ok (if_pairs old.told cause.unsuited)
+  where
+    if_pairs : (told : Option Tree) → IfSome told (λ tree. suits tree ≡ false → IsErr result × (new.told ≡ old.told) × (new.faults ≡ old.faults)) → IfSome told (λ tree. suits tree ≡ false → IsErr result × ((new.told ≡ old.told) × (new.faults ≡ old.faults)))
+    if_pairs None h = tt
+    if_pairs (Some tree) h = λ e. ((h e).0, ((h e).1, (h e).2))
 
 -- the front of the buffer that was read, cut out
 cut_piece : (bytes buffer : List ℕ) (from n : ℕ) → n ≤ length buffer → ReadsAt bytes from n buffer → ReadsAt bytes from (length (take n buffer)) (take n buffer)
@@ -34,10 +41,10 @@ cut None path buffer from n bound reads = tt
 cut (Some tree) path buffer from n bound reads = cut_piece (bytes_at tree path) buffer from n bound reads
 
 -- between two reads
-pub record IsReading (told told' : Option Tree) (faults faults' : ℕ) (path text : List ℕ) : Type 0 where
-  pub same : told' ≡ told
-  pub later : faults ≤ faults'
-  pub front : IfSome told (λ tree. IsFrontAt tree path text)
+pub record IsReading (old now : HostView) (path text : List ℕ) : Type 0 where
+  pub reads : ReadsOnly old now
+  pub fit : AsksFit path old now
+  pub front : IfSome old.told (λ tree. IsFrontAt tree path text)
 
 front_more : (tree : Tree) (path text piece : List ℕ) → IsFrontAt tree path text → ReadsAt (bytes_at tree path) (length text) (length piece) piece → is_file_at tree path ≡ true → IsFrontAt tree path (text ++ piece)
 front_more tree path text piece front reads is_file =
@@ -69,57 +76,68 @@ front_full tree path text front full = record {
   whole = λ short. absurd (omega arith);
 }
 
-pub begins : (told : Option Tree) (faults : ℕ) (path text : List ℕ) → text ≡ [] → IsReading told told faults faults path text
-begins None faults path text none = record { same = refl; later = omega arith; front = tt }
-begins (Some tree) faults path text none =
+front_begins : (told : Option Tree) (path text : List ℕ) → text ≡ [] → IfSome told (λ tree. IsFrontAt tree path text)
+front_begins None path text none = tt
+front_begins (Some tree) path text none =
     let P : List ℕ → Type 0 = λ text. IsFrontAt tree path text in
-    record {
-      same = refl;
-      later = omega arith;
-      front = subst P (sym none) (record { file = λ h. absurd (omega arith); front = refl; within = omega arith });
-    }
+    subst P (sym none) (record { file = λ h. absurd (omega arith); front = refl; within = omega arith })
 
-pub goes_on : (told now told' : Option Tree) (faults before faults' : ℕ) (path text piece text' : List ℕ)
-    → IsReading told now faults before path text
+pub begins : (host : HostView) (path text : List ℕ) → text ≡ [] → IsReading host host path text
+begins host path text none = record { reads = reads_none host; fit = λ _. refl; front = front_begins host.told path text none }
+
+front_goes_on : (told now : Option Tree) (path text piece : List ℕ)
+    → now ≡ told
+    → IfSome told (λ tree. IsFrontAt tree path text)
     → IfSome now (λ tree. ReadsAt (bytes_at tree path) (length text) (length piece) piece)
     → IfSome now (λ tree. is_file_at tree path ≡ true)
-    → told' ≡ now
-    → before ≤ faults'
-    → text' ≡ text ++ piece
-    → IsReading told told' faults faults' path text'
-goes_on None now told' faults before faults' path text piece text' was reads file same later more = record { same = same ∙ was.same; later = omega (arith, was.later); front = tt }
-goes_on (Some tree) now told' faults before faults' path text piece text' was reads file same later more =
-    let answered = subst (λ o. IfSome o (λ tree. ReadsAt (bytes_at tree path) (length text) (length piece) piece)) was.same reads in
-    let is_file = subst (λ o. IfSome o (λ tree. is_file_at tree path ≡ true)) was.same file in
-    record {
-      same = same ∙ was.same;
-      later = omega (arith, was.later);
-      front = subst (λ text. IsFrontAt tree path text) (sym more) (front_more tree path text piece was.front answered is_file);
-    }
+    → IfSome told (λ tree. IsFrontAt tree path (text ++ piece))
+front_goes_on None now path text piece same front reads file = tt
+front_goes_on (Some tree) now path text piece same front reads file =
+    let answered = subst (λ o. IfSome o (λ tree. ReadsAt (bytes_at tree path) (length text) (length piece) piece)) same reads in
+    let is_file = subst (λ o. IfSome o (λ tree. is_file_at tree path ≡ true)) same file in
+    front_more tree path text piece front answered is_file
 
-pub ends : (told now : Option Tree) (faults before : ℕ) (path text piece : List ℕ)
+pub goes_on : (old host host' : HostView) (path text piece text' : List ℕ)
+    → IsReading old host path text
+    → IfSome host.told (λ tree. ReadsAt (bytes_at tree path) (length text) (length piece) piece)
+    → IfSome host.told (λ tree. is_file_at tree path ≡ true)
+    → ReadsOnly host host'
+    → AsksFit path host host'
+    → text' ≡ text ++ piece
+    → IsReading old host' path text'
+goes_on old host host' path text piece text' was reads file then fit more = record {
+  reads = reads_then old host host' was.reads then;
+  fit = fit_then path old host host' was.fit fit;
+  front = subst (λ text. IfSome old.told (λ tree. IsFrontAt tree path text)) (sym more) (front_goes_on old.told host.told path text piece was.reads.same was.front reads file);
+}
+
+front_ends : (told now : Option Tree) (path text piece : List ℕ)
     → length piece ≡ 0
-    → IsReading told now faults before path text
+    → now ≡ told
+    → IfSome told (λ tree. IsFrontAt tree path text)
     → IfSome now (λ tree. ReadsAt (bytes_at tree path) (length text) (length piece) piece)
     → IfSome now (λ tree. is_file_at tree path ≡ true)
     → IfSome told (λ tree. IsReadAt tree path text)
-ends None now faults before path text piece none was reads file = tt
-ends (Some tree) now faults before path text piece none was reads file =
-    let answered = subst (λ o. IfSome o (λ tree. ReadsAt (bytes_at tree path) (length text) (length piece) piece)) was.same reads in
-    let is_file = subst (λ o. IfSome o (λ tree. is_file_at tree path ≡ true)) was.same file in
-    front_end tree path text piece none was.front answered is_file
+front_ends None now path text piece none same front reads file = tt
+front_ends (Some tree) now path text piece none same front reads file =
+    let answered = subst (λ o. IfSome o (λ tree. ReadsAt (bytes_at tree path) (length text) (length piece) piece)) same reads in
+    let is_file = subst (λ o. IfSome o (λ tree. is_file_at tree path ≡ true)) same file in
+    front_end tree path text piece none front answered is_file
 
-pub is_full : (told now : Option Tree) (faults before : ℕ) (path text : List ℕ) → IsReading told now faults before path text → 65536 < length text → IfSome told (λ tree. IsReadAt tree path text)
-is_full None now faults before path text was full = tt
-is_full (Some tree) now faults before path text was full = front_full tree path text was.front full
+pub ends : (old host : HostView) (path text piece : List ℕ)
+    → length piece ≡ 0
+    → IsReading old host path text
+    → IfSome host.told (λ tree. ReadsAt (bytes_at tree path) (length text) (length piece) piece)
+    → IfSome host.told (λ tree. is_file_at tree path ≡ true)
+    → IfSome old.told (λ tree. IsReadAt tree path text)
+ends old host path text piece none was reads file = front_ends old.told host.told path text piece none was.reads.same was.front reads file
 
--- a rise of the count, or a tree that a call does not suit, is one from further back too
-pub fails : (told now : Option Tree) (faults before faults' : ℕ) (path text : List ℕ)
-    → IsReading told now faults before path text
-    → Rose before faults' ⊎ IsSomeAnd now (λ tree. is_file_at tree path ≡ false)
-    → Rose faults faults' ⊎ IsSomeAnd told (λ tree. is_file_at tree path ≡ false)
-fails told now faults before faults' path text was (inl rose) = inl (omega (arith, rose, was.later))
-fails told now faults before faults' path text was (inr unsuited) = inr (subst (λ o. IsSomeAnd o (λ tree. is_file_at tree path ≡ false)) was.same unsuited)
+told_full : (told : Option Tree) (path text : List ℕ) → IfSome told (λ tree. IsFrontAt tree path text) → 65536 < length text → IfSome told (λ tree. IsReadAt tree path text)
+told_full None path text front full = tt
+told_full (Some tree) path text front full = front_full tree path text front full
+
+pub is_full : (old host : HostView) (path text : List ℕ) → IsReading old host path text → 65536 < length text → IfSome old.told (λ tree. IsReadAt tree path text)
+is_full old host path text was full = told_full old.told path text was.front full
 
 pub take_front : (buffer rest cut : List ℕ) (len n : ℕ) → cut ≡ take n (take len (buffer ++ rest)) → len ≡ length buffer → cut ≡ take n buffer
 take_front buffer rest cut len n is all = is ∙ ap (λ m. take n (take m (buffer ++ rest))) all ∙ ap (λ x. take n x) (take-append_seam buffer rest)

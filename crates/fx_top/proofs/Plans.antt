@@ -1,7 +1,7 @@
 -- The scripts of a run, read one after another.
-use Rattle.std.proofs.Common.{◌≡◌, ◌⊎◌, inl, inr, ℕ, zero, suc, ◌+◌, ◌≤◌, ◌<◌, true, false, ◌&&◌, List, [], ◌∷◌, ◌++◌, length, drop, Option, Some, None, IfSome, IsSomeAnd, refl, sym, ap, ◌∙◌, subst, append_assoc, arith, length-append}
+use Rattle.std.proofs.Common.{◌≡◌, ◌⊎◌, inl, inr, ℕ, zero, suc, ◌+◌, ◌≤◌, ◌<◌, Bool, true, false, ◌&&◌, List, [], ◌∷◌, ◌++◌, length, drop, Option, Some, None, IfSome, IsSomeAnd, refl, sym, ap, ◌∙◌, subst, append_assoc, arith, length-append}
 use Rattle.std.specs.Prelude.{slice_get}
-use Rattle.std.specs.List.{sum_by}
+use Rattle.std.specs.List.{list_all, sum_by}
 use Rattle.std.proofs.Math.ListN.{get_or}
 use Rattle.std.proofs.Math.Seq.{get_or-append_seam}
 use Rattle.std.proofs.lemmas.List.{append-nil}
@@ -9,7 +9,10 @@ use Rattle.std.proofs.lemmas.List.Elements.{All-append, All-cons, All-nil}
 use Rattle.std.proofs.lemmas.List.Folds.{list_all-append}
 use Rattle.std.proofs.lemmas.List.Sums.{sum_by_push}
 use Rattle.fx_base.specs.Causes.{Rose}
+use Rattle.fx_outside.specs.Host.{HostView, ReadsOnly, AsksFit, HasFailed}
+use Rattle.fx_outside.specs.Path.{is_fit}
 use Rattle.fx_outside.specs.Tree.{Tree, is_file_at}
+use Rattle.fx_outside.proofs.Views.{reads_none, reads_then, rose_back}
 use Rattle.fx_spec.specs.CommandTree.{CommandTree}
 use Rattle.fx_spec.specs.WellShaped.{IsScript}
 use Rattle.fx_spec.specs.Plans.{IsPlan, count_of}
@@ -61,28 +64,28 @@ front_more t paths plan i before path txns at goes was =
     }
 
 -- between two scripts
-pub record IsReading (told told' : Option Tree) (faults faults' : ℕ) (paths : Paths) (plan : Plan) (i before : ℕ) : Type 0 where
-  pub same : told' ≡ told
-  pub later : faults ≤ faults'
-  pub front : IfSome told (λ t. IsFront t paths plan i before)
+pub record IsReading (old now : HostView) (paths : Paths) (plan : Plan) (i before : ℕ) : Type 0 where
+  pub reads : ReadsOnly old now
+  pub fit : list_all is_fit paths ≡ true → now.unfit ≡ old.unfit
+  pub front : IfSome old.told (λ t. IsFront t paths plan i before)
   pub count : length plan ≡ i
   pub sum : sum_by length plan ≡ before
   pub built : is_built_plan plan ≡ true
-  pub fit : IsPlan plan
+  pub planned : IsPlan plan
 
 front_begins : (told : Option Tree) (paths : Paths) → IfSome told (λ t. IsFront t paths [] 0 0)
 front_begins None paths = tt
 front_begins (Some t) paths = front_empty t paths
 
-pub begins : (told : Option Tree) (faults : ℕ) (paths : Paths) (plan : Plan) → plan ≡ [] → IsReading told told faults faults paths plan 0 0
-begins told faults paths plan none = subst (λ plan. IsReading told told faults faults paths plan 0 0) (sym none) (record {
-  same = refl;
-  later = omega arith;
-  front = front_begins told paths;
+pub begins : (host : HostView) (paths : Paths) (plan : Plan) → plan ≡ [] → IsReading host host paths plan 0 0
+begins host paths plan none = subst (λ plan. IsReading host host paths plan 0 0) (sym none) (record {
+  reads = reads_none host;
+  fit = λ _. refl;
+  front = front_begins host.told paths;
   count = refl;
   sum = refl;
   built = refl;
-  fit = record { scripts = All-nil IsScript; shells = omega arith; few = omega arith };
+  planned = record { scripts = All-nil IsScript; shells = omega arith; few = omega arith };
 })
 
 -- one more script is no more than a plan may have
@@ -100,15 +103,29 @@ front_goes_on (Some t) told' paths plan i before path script same at was goes = 
 built_more : (plan : Plan) (script : List (List CommandTree)) → is_built_plan plan ≡ true → is_built_script script ≡ true → is_built_plan (plan ++ script ∷ []) ≡ true
 built_more plan script was is = list_all-append is_built_script plan (script ∷ []) ∙ ap (λ b. b && (is_built_script script && true)) was ∙ ap (λ b. b && true) is
 
-reads_one : (told now then : Option Tree) (faults faults' faults'' : ℕ) (paths : Paths) (plan : Plan) (i before : ℕ) (path : List ℕ) (script : List (List CommandTree)) → IsReading told now faults faults' paths plan i before → slice_get paths i ≡ Some path → then ≡ now → faults' ≤ faults'' → IfSome now (λ t. GoesOn t path before script) → is_built_script script ≡ true → IsPlan (plan ++ script ∷ []) → IsReading told then faults faults'' paths (plan ++ script ∷ []) (i + 1) (before + length script)
-reads_one told now then faults faults' faults'' paths plan i before path script was at same later goes built fit = record {
-  same = same ∙ was.same;
-  later = omega (arith, later, was.later);
-  front = front_goes_on told now paths plan i before path script was.same at was.front goes;
+and_left : (a b : Bool) → (a && b) ≡ true → a ≡ true
+and_left true b e = refl
+and_left false b e = cc
+
+and_right : (a b : Bool) → (a && b) ≡ true → b ≡ true
+and_right true b e = e
+and_right false b e = cc
+
+-- each of fit paths is fit
+fit_at : (paths : Paths) (i : ℕ) (path : List ℕ) → slice_get paths i ≡ Some path → list_all is_fit paths ≡ true → is_fit path ≡ true
+fit_at [] i path at fit = cc
+fit_at (p ∷ paths) zero path at fit = let same : p ≡ path = cc in subst (λ x. is_fit x ≡ true) same (and_left (is_fit p) (list_all is_fit paths) fit)
+fit_at (p ∷ paths) (suc i) path at fit = fit_at paths i path at (and_right (is_fit p) (list_all is_fit paths) fit)
+
+reads_one : (old now then : HostView) (paths : Paths) (plan : Plan) (i before : ℕ) (path : List ℕ) (script : List (List CommandTree)) → IsReading old now paths plan i before → slice_get paths i ≡ Some path → ReadsOnly now then → AsksFit path now then → IfSome now.told (λ t. GoesOn t path before script) → is_built_script script ≡ true → IsPlan (plan ++ script ∷ []) → IsReading old then paths (plan ++ script ∷ []) (i + 1) (before + length script)
+reads_one old now then paths plan i before path script was at reads fit goes built planned = record {
+  reads = reads_then old now then was.reads reads;
+  fit = λ all. fit (fit_at paths i path at all) ∙ was.fit all;
+  front = front_goes_on old.told now.told paths plan i before path script was.reads.same at was.front goes;
   count = length-append plan (script ∷ []) ∙ ap (λ n. n + 1) was.count;
   sum = sum_by_push length plan script ∙ ap (λ n. n + length script) was.sum;
   built = built_more plan script was.built built;
-  fit = fit;
+  planned = planned;
 }
 
 -- the last script of a longer plan
@@ -116,11 +133,15 @@ count_pushed : (plan : Plan) (i : ℕ) (script : List (List CommandTree)) → le
 count_pushed plan i script is =
     ap (λ n. length (get_or (plan ++ script ∷ []) n [])) (sym is) ∙ ap (λ s. length s) (get_or-append_seam plan script [] [])
 
-pub reads_on : (told now then : Option Tree) (faults faults' faults'' : ℕ) (paths : Paths) (plan plan' : Plan) (i before count : ℕ) (path : List ℕ) (script : List (List CommandTree)) → IsReading told now faults faults' paths plan i before → slice_get paths i ≡ Some path → plan' ≡ plan ++ script ∷ [] → count ≡ count_of plan' i → IsScript script → then ≡ now → faults' ≤ faults'' → IfSome now (λ t. GoesOn t path before script) → is_built_script script ≡ true → before + length script ≤ 100000 → length plan < 64 → IsReading told then faults faults'' paths plan' (i + 1) (before + count)
-reads_on told now then faults faults' faults'' paths plan plan' i before count path script was at pushed counted is same later goes built few room =
-    let one = reads_one told now then faults faults' faults'' paths plan i before path script was at same later goes built (fits plan script before was.fit was.sum is room few) in
+pub reads_on : (old now then : HostView) (paths : Paths) (plan plan' : Plan) (i before count : ℕ) (path : List ℕ) (script : List (List CommandTree)) → IsReading old now paths plan i before → slice_get paths i ≡ Some path → plan' ≡ plan ++ script ∷ [] → count ≡ count_of plan' i → IsScript script → ReadsOnly now then → AsksFit path now then → IfSome now.told (λ t. GoesOn t path before script) → is_built_script script ≡ true → before + length script ≤ 100000 → length plan < 64 → IsReading old then paths plan' (i + 1) (before + count)
+reads_on old now then paths plan plan' i before count path script was at pushed counted is reads fit goes built few room =
+    let one = reads_one old now then paths plan i before path script was at reads fit goes built (fits plan script before was.planned was.sum is room few) in
     let adds : length script ≡ count = sym (count_pushed plan i script was.count) ∙ ap (λ p. count_of p i) (sym pushed) ∙ sym counted in
-    subst (λ p. IsReading told then faults faults'' paths p (i + 1) (before + count)) (sym pushed) (subst (λ n. IsReading told then faults faults'' paths (plan ++ script ∷ []) (i + 1) (before + n)) adds one)
+    subst (λ p. IsReading old then paths p (i + 1) (before + count)) (sym pushed) (subst (λ n. IsReading old then paths (plan ++ script ∷ []) (i + 1) (before + n)) adds one)
+
+-- where reading stops, no call was made at an unfit path either
+pub fit_stop : (old now then : HostView) (paths : Paths) (plan : Plan) (i before : ℕ) (path : List ℕ) → IsReading old now paths plan i before → slice_get paths i ≡ Some path → AsksFit path now then → list_all is_fit paths ≡ true → then.unfit ≡ old.unfit
+fit_stop old now then paths plan i before path was at fit all = fit (fit_at paths i path at all) ∙ was.fit all
 
 -- at the end the plan is that of all the scripts
 whole : (t : Tree) (paths : Paths) (plan : Plan) (i before : ℕ) → i ≡ length paths → IsFront t paths plan i before → HasScripts t 0 paths plan
@@ -149,8 +170,10 @@ refuses None now paths plan i before path word place same is at front none = tt
 refuses (Some t) now paths plan i before path word place same is at front none =
     (i, is, refused_at t paths plan i before path at front (subst (λ o. IfSome o (λ t. HasNoScript t path before)) same none))
 
-pub fails : (told now : Option Tree) (faults before_faults faults' : ℕ) (paths : Paths) (plan : Plan) (i before : ℕ) (path : List ℕ) → IsReading told now faults before_faults paths plan i before → slice_get paths i ≡ Some path → Rose before_faults faults' ⊎ IsSomeAnd now (λ t. is_file_at t path ≡ false) → Rose faults faults' ⊎ IsSomeAnd told (λ t. (i : ℕ) × StopsAtScript LacksFile t 0 paths i)
-fails told now faults before_faults faults' paths plan i before path was at (inl rose) = inl (omega (arith, rose, was.later))
-fails None now faults before_faults faults' paths plan i before path was at (inr lacks) = let none = subst (λ o. IsSomeAnd o (λ t. is_file_at t path ≡ false)) was.same lacks in absurd none
-fails (Some t) now faults before_faults faults' paths plan i before path was at (inr lacks) =
-    inr (i, lacking_at t paths plan i before path at was.front (subst (λ o. IsSomeAnd o (λ t. is_file_at t path ≡ false)) was.same lacks))
+lacks : (told now : Option Tree) (paths : Paths) (plan : Plan) (i before : ℕ) (path : List ℕ) → now ≡ told → slice_get paths i ≡ Some path → IfSome told (λ t. IsFront t paths plan i before) → IsSomeAnd now (λ t. is_file_at t path ≡ false) → IsSomeAnd told (λ t. (i : ℕ) × StopsAtScript LacksFile t 0 paths i)
+lacks None now paths plan i before path same at front none = let no = subst (λ o. IsSomeAnd o (λ t. is_file_at t path ≡ false)) same none in absurd no
+lacks (Some t) now paths plan i before path same at front none = (i, lacking_at t paths plan i before path at front (subst (λ o. IsSomeAnd o (λ t. is_file_at t path ≡ false)) same none))
+
+pub fails : (old now then : HostView) (paths : Paths) (plan : Plan) (i before : ℕ) (path : List ℕ) → IsReading old now paths plan i before → slice_get paths i ≡ Some path → HasFailed (λ t. is_file_at t path) now then → Rose old.faults then.faults ⊎ IsSomeAnd old.told (λ t. (i : ℕ) × StopsAtScript LacksFile t 0 paths i)
+fails old now then paths plan i before path was at (inl rose) = inl (rose_back old now then was.reads.later rose)
+fails old now then paths plan i before path was at (inr none) = inr (lacks old.told now.told paths plan i before path was.reads.same at was.front none)

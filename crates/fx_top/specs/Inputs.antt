@@ -8,15 +8,15 @@ use Rattle.fx_spec.specs.CommandTree.{CommandTree}
 use Rattle.fx_spec.specs.Order.{BaseTree}
 use Rattle.fx_forms.specs.Built.{is_built_spec, is_built_script}
 use Rattle.fx_texts.specs.Texts.{IsDescription, IsScript}
-use Rattle.fx_words.specs.Job.{Job, place_of}
+use Rattle.fx_words.specs.Job.{RunJob, place_of}
 
 -- the file at SPEC stands for a description of the built forms; or its text is outside them
-pub record HasSpec (t : Tree) (j : Job) (spec : SpecTree) : Type 0 where
+pub record HasSpec (t : Tree) (j : RunJob) (spec : SpecTree) : Type 0 where
   pub file : is_file_at t j.spec ≡ true
   pub description : IsDescription (bytes_at t j.spec) spec
   pub built : is_built_spec spec ≡ true
 
-pub record HasNoSpec (t : Tree) (j : Job) : Type 0 where
+pub record HasNoSpec (t : Tree) (j : RunJob) : Type 0 where
   pub file : is_file_at t j.spec ≡ true
   pub none : (spec : SpecTree) → IsDescription (bytes_at t j.spec) spec → is_built_spec spec ≡ true → ⊥
 
@@ -57,26 +57,26 @@ abbrev pub LacksFile : Tree → List ℕ → ℕ → Type 0
 LacksFile t path before = is_file_at t path ≡ false
 
 -- what a run begins with is what the host's texts and folder stand for
-pub record HasBase (t : Tree) (j : Job) (base : BaseTree) : Type 0 where
+pub record HasBase (t : Tree) (j : RunJob) (base : BaseTree) : Type 0 where
   pub spec : HasSpec t j base.description
   pub scripts : HasScripts t 0 j.scripts base.plan
   pub folder : Loads t j.folder base.loaded
 
-abbrev pub HasSomeSpec : Tree → Job → Type 0
+abbrev pub HasSomeSpec : Tree → RunJob → Type 0
 HasSomeSpec t j = (spec : SpecTree) × HasSpec t j spec
 
-abbrev pub HasTexts : Tree → Job → Type 0
+abbrev pub HasTexts : Tree → RunJob → Type 0
 HasTexts t j = HasSomeSpec t j × ((plan : List (List (List CommandTree))) × HasScripts t 0 j.scripts plan)
 
-abbrev pub HasInputs : Tree → Job → Type 0
+abbrev pub HasInputs : Tree → RunJob → Type 0
 HasInputs t j = HasTexts t j × ((nodes : Nodes) × Loads t j.folder nodes)
 
 -- a file or folder that a run reads is not there, and nothing that comes before it is refused
-abbrev pub CannotRead : Tree → Job → Type 0
+abbrev pub CannotRead : Tree → RunJob → Type 0
 CannotRead t j =
     (is_file_at t j.spec ≡ false) ⊎ ((HasSomeSpec t j × ((i : ℕ) × StopsAtScript LacksFile t 0 j.scripts i)) ⊎ (HasTexts t j × (is_folder_at t j.folder ≡ false)))
 
 -- the text of this word is the first that is outside the forms that are built
-abbrev pub IsFirstRefused : Tree → Job → ℕ → Type 0
+abbrev pub IsFirstRefused : Tree → RunJob → ℕ → Type 0
 IsFirstRefused t j word =
     ((word ≡ 1) × HasNoSpec t j) ⊎ (HasSomeSpec t j × ((i : ℕ) × (word ≡ place_of j i) × StopsAtScript HasNoScript t 0 j.scripts i))

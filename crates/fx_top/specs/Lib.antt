@@ -3,4 +3,5 @@ pub mod Codes
 pub mod Inputs
 pub mod Outcome
 pub mod Rows
+pub mod StatusOf
 pub mod Texts

@@ -11,7 +11,7 @@ use Rattle.fx_machine.specs.Tried.{retries_of, retry_tree}
 use Rattle.fx_machine.specs.Turns.{FollowsSchedule}
 use Rattle.fx_report.specs.Entries.{report}
 use Rattle.fx_report.specs.Events.{lines}
-use Rattle.fx_words.specs.Job.{Job, Mode, Plain, Scheduled}
+use Rattle.fx_words.specs.Job.{RunJob, Mode, Plain, Scheduled}
 use Rattle.fx_top.specs.Inputs.{HasBase}
 
 -- the events lead from the empty order to this one by the schedule's turns, the retries are their conflicts by shell, and
@@ -30,7 +30,7 @@ IsPrintedAs (Scheduled schedule) base order retries output = IsTracedAs base sch
 
 -- a commit order holds every transaction of every script exactly once, each script's in its order; the printed answers and
 -- the last filestore are those of these transactions run whole, one after another in that order, on the loaded filestore
-pub record IsOutcome (t : Tree) (j : Job) (nodes : Nodes) (output : List ℕ) : Type 0 where
+pub record IsOutcome (t : Tree) (j : RunJob) (nodes : Nodes) (output : List ℕ) : Type 0 where
   pub base : BaseTree
   pub order : List Turn
   pub retries : List Retry

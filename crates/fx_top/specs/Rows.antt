@@ -1,55 +1,38 @@
--- What each status of a run says: where it comes, and what is then left at the host and at the sink.
-use Rattle.std.specs.Prelude.{◌≡◌, ◌⊎◌, ℕ, Bool, true, false, List, [], ◌++◌, take, Option, Some, IfSome, IsSomeAnd}
+-- What each status of a command says: where it comes, and what is then left at the host and at the sink.
+use Rattle.std.specs.Prelude.{◌≡◌, ◌⊎◌, ◌&&◌, ℕ, Bool, true, false, List, [], ◌++◌, take, Option, Some, IfSome, IsSomeAnd}
+use Rattle.std.specs.List.{list_all}
 use Rattle.fx_base.specs.Causes.{Rose}
 use Rattle.fx_store.specs.Whole.{Nodes}
+use Rattle.fx_outside.specs.Host.{HostView, ReadsOnly}
 use Rattle.fx_outside.specs.Path.{parts, is_fit, above}
+use Rattle.fx_outside.specs.Sink.{SinkView}
 use Rattle.fx_outside.specs.Tree.{Tree, has_folder}
 use Rattle.fx_folder.specs.Folder.{IfTold, IsReady, IsTaken, IsSaved, IsPartlySaved}
 use Rattle.fx_folder.specs.Loads.{IsRefused}
-use Rattle.fx_words.specs.Job.{Job}
+use Rattle.fx_words.specs.Job.{Job, Run, RunJob}
 use Rattle.fx_top.specs.declared.status.Status.{Status}
 use Rattle.fx_top.specs.declared.status.Status.TheVariants as status
 use Rattle.fx_top.specs.declared.status.TextFault.TheVariants as fault
 use Rattle.fx_top.specs.Inputs.{HasTexts, HasInputs, CannotRead, IsFirstRefused}
 use Rattle.fx_top.specs.Outcome.{IsOutcome}
 
--- host and sink before and after a call: the told tree, the written bytes, and the counts of faults
-pub record Ends : Type 0 where
-  pub told : Option Tree
-  pub told' : Option Tree
-  pub faults : ℕ
-  pub faults' : ℕ
-  pub written : Option (List ℕ)
-  pub written' : Option (List ℕ)
-  pub failures : ℕ
-  pub failures' : ℕ
+-- nothing but reads was asked of the host, and nothing of the sink
+pub record IsSame (host host' : HostView) (sink sink' : SinkView) : Type 0 where
+  pub reads : ReadsOnly host host'
+  pub unprinted : sink' ≡ sink
 
-abbrev pub ends : Option Tree → Option Tree → ℕ → ℕ → Option (List ℕ) → Option (List ℕ) → ℕ → ℕ → Ends
-ends told told' faults faults' written written' failures failures' = record {
-  told = told;
-  told' = told';
-  faults = faults;
-  faults' = faults';
-  written = written;
-  written' = written';
-  failures = failures;
-  failures' = failures';
-}
+-- nothing was asked of host and sink
+pub record IsIdle (host host' : HostView) (sink sink' : SinkView) : Type 0 where
+  pub unasked : host' ≡ host
+  pub unprinted : sink' ≡ sink
 
--- host and sink are as before, and the sink has not failed
-pub record IsSame (e : Ends) : Type 0 where
-  pub host : e.told' ≡ e.told
-  pub sink : e.written' ≡ e.written
-  pub failures : e.failures' ≡ e.failures
-
--- host and sink are as before, and so are their counts
-pub record IsIdle (e : Ends) : Type 0 where
-  pub same : IsSame e
-  pub faults : e.faults' ≡ e.faults
+-- what was printed before stays in front
+abbrev pub Grows : SinkView → SinkView → Type 0
+Grows sink sink' = IfSome sink.written (λ w. (bytes : List ℕ) × (sink'.written ≡ Some (w ++ bytes)))
 
 -- all is done: the report is written after what was written before, and the last filestore's folder stands at OUT; all else
 -- of the host is as before
-pub record IsDone (t t' : Tree) (j : Job) (before after : Option (List ℕ)) : Type 0 where
+pub record IsDone (t t' : Tree) (j : RunJob) (before after : Option (List ℕ)) : Type 0 where
   pub nodes : Nodes
   pub output : List ℕ
   pub there : Bool
@@ -59,7 +42,7 @@ pub record IsDone (t t' : Tree) (j : Job) (before after : Option (List ℕ)) : T
   pub written : IfSome before (λ w. after ≡ Some (w ++ output))
 
 -- OUT is whole, and a front of the output is written: the folder and the output of one run that could have been done
-pub record IsCutShort (t t' : Tree) (j : Job) (before after : Option (List ℕ)) : Type 0 where
+pub record IsCutShort (t t' : Tree) (j : RunJob) (before after : Option (List ℕ)) : Type 0 where
   pub nodes : Nodes
   pub output : List ℕ
   pub there : Bool
@@ -68,35 +51,68 @@ pub record IsCutShort (t t' : Tree) (j : Job) (before after : Option (List ℕ))
   pub saved : IsSaved t t' (parts j.out) nodes
   pub written : IfSome before (λ w. (n : ℕ) × (after ≡ Some (w ++ take n output)))
 
--- OUT holds a part of the last filestore's folder, and nothing is written
-pub record IsPartThere (t t' : Tree) (j : Job) (before after : Option (List ℕ)) : Type 0 where
+-- OUT holds a part of the last filestore's folder
+pub record IsPartThere (t t' : Tree) (j : RunJob) : Type 0 where
   pub nodes : Nodes
   pub output : List ℕ
   pub there : Bool
   pub outcome : IsOutcome t j nodes output
   pub free : IsReady t j.out there
   pub part : IsPartlySaved t t' (parts j.out) nodes
-  pub sink : after ≡ before
 
--- nothing is changed at OUT, and nothing is written
-abbrev pub IsUntouched : Tree → Tree → Option (List ℕ) → Option (List ℕ) → Type 0
-IsUntouched t t' before after = (t' ≡ t) × (after ≡ before)
+-- OUT is as before, or holds such a part
+abbrev pub MayHoldPart : RunJob → Tree → Tree → Type 0
+MayHoldPart j t t' = (t' ≡ t) ⊎ IsPartThere t t' j
 
 -- OUT is unfit, or nothing stands there and no folder above
-abbrev pub CannotSave : Tree → Job → Type 0
+abbrev pub CannotSave : Tree → RunJob → Type 0
 CannotSave t j = HasInputs t j × ((is_fit j.out ≡ false) ⊎ (IsReady t j.out false × (has_folder t (above (parts j.out)) ≡ false)))
 
--- the table of the statuses
-abbrev pub Row : Job → Ends → Status → Type 0
-Row j e status.Done = IfTold e.told e.told' (λ t t'. IsDone t t' j e.written e.written')
-Row j e status.Usage = ⊥
-Row j e (status.TextRefused word cause) = IsSame e × (cause ≡ fault.NotBuilt 0) × IfSome e.told (λ t. IsFirstRefused t j word)
-Row j e (status.FolderRefused cause) = IsSame e × IfSome e.told (λ t. HasTexts t j × IsRefused t j.folder cause)
-Row j e status.ReadFault = IsSame e × (Rose e.faults e.faults' ⊎ IsSomeAnd e.told (λ t. CannotRead t j))
-Row j e status.NotEmpty = IsSame e × IfSome e.told (λ t. HasInputs t j × IsTaken t j.out)
-Row j e status.WriteFault =
-    (Rose e.faults e.faults' ⊎ (Rose e.failures e.failures' ⊎ IsSomeAnd e.told (λ t. CannotSave t j))) × IfTold e.told e.told' (λ t t'. HasInputs t j × (IsUntouched t t' e.written e.written' ⊎ (IsPartThere t t' j e.written e.written' ⊎ IsCutShort t t' j e.written e.written')))
-Row j e status.NoMemory = IfTold e.told e.told' (λ t t'. IsUntouched t t' e.written e.written' ⊎ IsPartThere t t' j e.written e.written')
+-- OUT was not written whole, and nothing is printed
+pub record IsUnsaved (j : RunJob) (host host' : HostView) (sink sink' : SinkView) : Type 0 where
+  pub cause : Rose host.faults host'.faults ⊎ IsSomeAnd host.told (λ t. CannotSave t j)
+  pub unprinted : sink' ≡ sink
+  pub left : IfTold host.told host'.told (λ t t'. HasInputs t j × MayHoldPart j t t')
+
+-- the sink failed, OUT is whole, and a front of the output is printed
+pub record IsUnprinted (j : RunJob) (host host' : HostView) (sink sink' : SinkView) : Type 0 where
+  pub cause : Rose sink.faults sink'.faults
+  pub grows : Grows sink sink'
+  pub left : IfTold host.told host'.told (λ t t'. IsCutShort t t' j sink.written sink'.written)
+
+-- the table of the statuses, for a run
+abbrev pub RunRow : RunJob → HostView → HostView → SinkView → SinkView → Status → Type 0
+RunRow j host host' sink sink' status.Done = Grows sink sink' × IfTold host.told host'.told (λ t t'. IsDone t t' j sink.written sink'.written)
+RunRow j host host' sink sink' status.Usage = ⊥
+RunRow j host host' sink sink' (status.TextRefused word cause) = IsSame host host' sink sink' × (cause ≡ fault.NotBuilt 0) × IfSome host.told (λ t. IsFirstRefused t j word)
+RunRow j host host' sink sink' (status.FolderRefused cause) = IsSame host host' sink sink' × IfSome host.told (λ t. HasTexts t j × IsRefused t j.folder cause)
+RunRow j host host' sink sink' status.ReadFault = IsSame host host' sink sink' × (Rose host.faults host'.faults ⊎ IsSomeAnd host.told (λ t. CannotRead t j))
+RunRow j host host' sink sink' status.NotEmpty = IsSame host host' sink sink' × IfSome host.told (λ t. HasInputs t j × IsTaken t j.out)
+RunRow j host host' sink sink' status.WriteFault = IsUnsaved j host host' sink sink' ⊎ IsUnprinted j host host' sink sink'
+RunRow j host host' sink sink' status.NoMemory = (sink' ≡ sink) × IfTold host.told host'.told (MayHoldPart j)
+
+-- the table, by the command
+abbrev pub Row : Job → HostView → HostView → SinkView → SinkView → Status → Type 0
+Row (Run j) host host' sink sink' st = RunRow j host host' sink sink' st
+
+-- a stage that only reads ends a run so, whatever the sink
+abbrev pub EndsAs : RunJob → HostView → HostView → Status → Type 0
+EndsAs j host host' st = (sink : SinkView) → RunRow j host host' sink sink st
+
+-- where all these paths are fit, no call is made at an unfit one
+abbrev pub AsksAllFit : List (List ℕ) → HostView → HostView → Type 0
+AsksAllFit paths host host' = list_all is_fit paths ≡ true → host'.unfit ≡ host.unfit
+
+-- the paths of a command are fit
+abbrev pub has_fit_paths : RunJob → Bool
+has_fit_paths j = is_fit j.spec && (is_fit j.folder && (is_fit j.out && list_all is_fit j.scripts))
+
+-- where they are, no call is made at an unfit path
+abbrev pub RunAsksFit : RunJob → HostView → HostView → Type 0
+RunAsksFit j host host' = has_fit_paths j ≡ true → host'.unfit ≡ host.unfit
+
+abbrev pub AsksFitPaths : Job → HostView → HostView → Type 0
+AsksFitPaths (Run j) host host' = RunAsksFit j host host'
 
 -- where OUT has to be made, a folder stands above it
 abbrev pub FitsOut : Tree → List ℕ → Bool → Type 0
@@ -104,8 +120,16 @@ FitsOut t path true = Unit {0}
 FitsOut t path false = has_folder t (above (parts path)) ≡ true
 
 -- texts of the built forms, a folder that loads, and an OUT that is an empty folder or can be made
-pub record IsProper (t : Tree) (j : Job) : Type 0 where
+pub record IsProperRun (t : Tree) (j : RunJob) : Type 0 where
   pub inputs : HasInputs t j
   pub there : Bool
   pub free : IsReady t j.out there
   pub above : FitsOut t j.out there
+
+abbrev pub IsProper : Tree → Job → Type 0
+IsProper t (Run j) = IsProperRun t j
+
+-- with fit inputs and no fault of the host or the sink all is done, or memory runs out
+abbrev pub Completes : Job → HostView → HostView → SinkView → SinkView → Status → Type 0
+Completes j host host' sink sink' st =
+    IfSome host.told (λ t. IsProper t j → (Rose host.faults host'.faults → ⊥) → (Rose sink.faults sink'.faults → ⊥) → (st ≡ status.Done) ⊎ (st ≡ status.NoMemory))

@@ -1,20 +1,20 @@
 //! Whole runs from a base on.
-ghost use Rattle.std.specs.Prelude.{◌≡◌, ◌<◌, ◌++◌, true, IfOk, length};
+ghost use Rattle.std.specs.Prelude.{◌≡◌, ◌++◌, IfOk};
 ghost use Rattle.std.specs.FinMap.{get};
 ghost use Rattle.fx_folder.specs.Folder.{IsFlat};
-ghost use Rattle.fx_forms.specs.Built.{is_built_spec, is_built_plan};
+ghost use Rattle.fx_spec.specs.Bases.{base_tree};
 ghost use Rattle.fx_sched.specs.Traced.{IsTraced};
 ghost use Rattle.fx_words.specs.Job.{shells_of};
 ghost use Rattle.fx_words.specs.JobOf.{asked, IsJob};
-ghost use Rattle.fx_top.specs.Answers.{base_of, last_of, IsRunFrom};
+ghost use Rattle.fx_top.specs.Answers.{last_of, IsRunFrom, IsRunnable};
 ghost use Rattle.fx_top.specs.Outcome.{IsPrintedAs};
 
 use fx_base::NoMemory;
 use fx_report::{event_lines, report};
 use fx_sched::{Traced, run_schedule};
-use fx_spec::{Base, Checked, Plan};
-use fx_store::{Filestore, LongText};
-use fx_words::Job;
+use fx_spec::Base;
+use fx_store::LongText;
+use fx_words::RunJob;
 use std::alloc::Global;
 use std::sync::Arc;
 
@@ -35,9 +35,10 @@ fn joined(front: LongText, back: &LongText) -> Result<LongText, NoMemory>
 }
 
 /// What a run prints: its report, after its events where it has a schedule.
-fn output_of(alloc: Global, job: &Job, traced: &Traced) -> Result<LongText, NoMemory>
+fn output_of(alloc: Global, job: &RunJob, traced: &Traced) -> Result<LongText, NoMemory>
     requires { IsTraced traced.now.board.base (shells_of (asked job.now)) traced.now }
-    ensures { IfOk result (IsPrintedAs (asked job.now).mode traced.now.board.base traced.now.board.order traced.now.retries) }
+    ensures { IfOk result (IsPrintedAs (asked job.now).mode
+        traced.now.board.base traced.now.board.order traced.now.retries) }
 {
     let report = report(alloc, &traced.board, &traced.retries)?;
     match job.schedule {
@@ -50,30 +51,14 @@ fn output_of(alloc: Global, job: &Job, traced: &Traced) -> Result<LongText, NoMe
 }
 
 /// Runs all scripts on the loaded filestore, by the job's schedule.
-pub fn run_scripts(
-    alloc: Global,
-    job: &Job,
-    description: Checked,
-    plan: Plan,
-    loaded: Filestore,
-) -> Result<Answer, NoMemory>
+pub fn run_base(alloc: Global, job: &RunJob, base: Arc<Base>) -> Result<Answer, NoMemory>
     requires job { IsJob job.now }
-    requires spec { is_built_spec description ≡ true }
-    requires plan { is_built_plan plan ≡ true }
-    requires count { length plan ≡ length (asked job.now).scripts }
-    requires flat { IsFlat (get loaded.nodes) }
-    ensures run { IfOk result (λ a. IsRunFrom (base_of description plan loaded.nodes) (asked job.now).mode (last_of a) a.output) }
+    requires base { IsRunnable (asked job.now) (base_tree base.value) }
+    ensures run { IfOk result (λ a.
+        IsRunFrom (base_tree base.value) (asked job.now).mode (last_of a) a.output) }
     ensures flat { IfOk result (λ a. IsFlat (get (last_of a))) }
 {
     let schedule = job.shells(alloc)?;
-    let base = Arc::new(
-        alloc,
-        Base {
-            description,
-            plan,
-            loaded,
-        },
-    )?;
     let traced = run_schedule(alloc, base, &schedule)?;
     let _ = traced.board.len();
     let output = output_of(alloc, job, &traced)?;

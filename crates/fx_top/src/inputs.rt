@@ -1,19 +1,21 @@
 //! The texts of a run, read from the host.
-ghost use Rattle.std.specs.Prelude.{◌≡◌, ◌⊎◌, ◌+◌, ◌≤◌, true, IfOk, IfErr, IfSome, IsSomeAnd, length, false};
-ghost use Rattle.fx_base.specs.Causes.{Rose};
+ghost use Rattle.std.specs.Prelude.{◌≡◌, ◌+◌, ◌≤◌, true, IfOk, IfErr, IfSome, length};
+ghost use Rattle.fx_outside.specs.Host.{ReadsOnly, AsksFit, HasFailed};
 ghost use Rattle.fx_outside.specs.Tree.{is_file_at};
 ghost use Rattle.fx_forms.specs.Built.{is_built_spec, is_built_script, is_built_plan};
 ghost use Rattle.fx_spec.specs.WellShaped.{IsScript};
 ghost use Rattle.fx_words.specs.JobOf.{asked, IsJob};
 ghost use Rattle.fx_top.specs.Inputs.{HasScripts};
 ghost use Rattle.fx_top.specs.Answers.{SpecRead, ScriptRead, UnreadCause};
+ghost use Rattle.fx_top.specs.Rows.{AsksAllFit};
 
+use crate::status::{Status, refused};
 use crate::texts::read_text;
 use fx_base::NoMemory;
 use fx_outside::{Host, HostFault, HostText};
 use fx_spec::{Checked, Plan, Script};
 use fx_texts::{read_description, read_script};
-use fx_words::Job;
+use fx_words::RunJob;
 use std::alloc::Global;
 
 /// Why the scripts of a run are not read.
@@ -28,15 +30,16 @@ pub enum Unread {
 /// The description at SPEC; none where its text is outside the forms that are built.
 pub fn read_spec<H: Host>(
     alloc: Global,
-    job: &Job,
+    job: &RunJob,
     host: &mut H,
 ) -> Result<Option<Checked>, HostFault>
-    ensures read { IfOk result (λ spec. IfSome (H.told host.old) (λ t. SpecRead t (asked job.now) spec)) }
+    ensures read { IfOk result (λ spec.
+        IfSome (H.view host.old).told (λ t. SpecRead t (asked job.now) spec)) }
     ensures built { IfOk result (λ spec. IfSome spec (λ s. is_built_spec s ≡ true)) }
-    ensures same { H.told host.new ≡ H.told host.old }
-    ensures later { H.faults host.old ≤ H.faults host.new }
-    ensures failed { IfErr result (λ fault. fault ≡ HostFault.Failed → Rose (H.faults host.old) (H.faults host.new)
-        ⊎ IsSomeAnd (H.told host.old) (λ t. is_file_at t (asked job.now).spec ≡ false)) }
+    ensures same { ReadsOnly (H.view host.old) (H.view host.new) }
+    ensures fit { AsksFit (asked job.now).spec (H.view host.old) (H.view host.new) }
+    ensures failed { IfErr result (λ fault. fault ≡ HostFault.Failed
+        → HasFailed (λ t. is_file_at t (asked job.now).spec) (H.view host.old) (H.view host.new)) }
 {
     let text = match read_text(alloc, host, job.spec) {
         Ok(text) => text,
@@ -56,14 +59,15 @@ fn read_script_at<H: Host>(
     before: u32,
 ) -> Result<Option<Script>, HostFault>
     requires { before ≤ 100000 }
-    ensures read { IfOk result (λ script. IfSome (H.told host.old) (λ t. ScriptRead t path.now before script)) }
+    ensures read { IfOk result (λ script.
+        IfSome (H.view host.old).told (λ t. ScriptRead t path.now before script)) }
     ensures built { IfOk result (λ script. IfSome script (λ s. is_built_script s ≡ true)) }
     ensures few { IfOk result (λ script. IfSome script (λ s. before + length s ≤ 100000)) }
     ensures shaped { IfOk result (λ script. IfSome script IsScript) }
-    ensures same { H.told host.new ≡ H.told host.old }
-    ensures later { H.faults host.old ≤ H.faults host.new }
-    ensures failed { IfErr result (λ fault. fault ≡ HostFault.Failed → Rose (H.faults host.old) (H.faults host.new)
-        ⊎ IsSomeAnd (H.told host.old) (λ t. is_file_at t path.now ≡ false)) }
+    ensures same { ReadsOnly (H.view host.old) (H.view host.new) }
+    ensures fit { AsksFit path.now (H.view host.old) (H.view host.new) }
+    ensures failed { IfErr result (λ fault. fault ≡ HostFault.Failed
+        → HasFailed (λ t. is_file_at t path.now) (H.view host.old) (H.view host.new)) }
 {
     let text = match read_text(alloc, host, path) {
         Ok(text) => text,
@@ -76,14 +80,15 @@ fn read_script_at<H: Host>(
 }
 
 /// The scripts of a job, in order, as a plan.
-pub fn read_plan<H: Host>(alloc: Global, job: &Job, host: &mut H) -> Result<Plan, Unread>
+pub fn read_plan<H: Host>(alloc: Global, job: &RunJob, host: &mut H) -> Result<Plan, Unread>
     requires { IsJob job.now }
-    ensures read { IfOk result (λ plan. IfSome (H.told host.old) (λ t. HasScripts t 0 (asked job.now).scripts plan)) }
+    ensures read { IfOk result (λ plan.
+        IfSome (H.view host.old).told (λ t. HasScripts t 0 (asked job.now).scripts plan)) }
     ensures built { IfOk result (λ plan. is_built_plan plan ≡ true) }
     ensures count { IfOk result (λ plan. length plan ≡ length (asked job.now).scripts) }
-    ensures same { H.told host.new ≡ H.told host.old }
-    ensures later { H.faults host.old ≤ H.faults host.new }
-    ensures unread { IfErr result (UnreadCause (H.told host.old) (asked job.now) (Rose (H.faults host.old) (H.faults host.new))) }
+    ensures same { ReadsOnly (H.view host.old) (H.view host.new) }
+    ensures fit { AsksAllFit (asked job.now).scripts (H.view host.old) (H.view host.new) }
+    ensures unread { IfErr result (UnreadCause (asked job.now) (H.view host.old) (H.view host.new)) }
 {
     let mut plan = Plan::new(alloc);
     let mut before = 0;
@@ -105,4 +110,19 @@ pub fn read_plan<H: Host>(alloc: Global, job: &Job, host: &mut H) -> Result<Plan
         before += plan.count(i);
     }
     Ok(plan)
+}
+
+impl From<Unread> for Status {
+    ghost use Rattle.std.specs.Prelude.{◌≡◌};
+    ghost use Rattle.fx_top.specs.StatusOf.{unread_status};
+
+    ghost from_gives = { λ unread status. status ≡ unread_status unread };
+
+    fn from(unread: Unread) -> Status {
+        match unread {
+            Unread::Refused(word) => refused(word),
+            Unread::ReadFault => Status::ReadFault,
+            Unread::NoMemory => Status::NoMemory,
+        }
+    }
 }

@@ -6,6 +6,8 @@ pub mod gate;
 pub mod host;
 pub mod inputs;
 pub mod print;
+pub mod reading;
+mod run;
 pub mod sink;
 pub mod status;
 pub mod texts;

@@ -1,9 +1,12 @@
 //! What a command of the program ends with.
 ghost use Rattle.std.specs.Prelude.{◌≡◌};
 ghost use Rattle.fx_top.specs.Codes.{status_code};
+ghost use Rattle.fx_top.specs.StatusOf.{refused_status};
 
+use fx_base::NoMemory;
 use fx_expr::{Shape, Word};
-use fx_folder::FolderCause;
+use fx_folder::{FolderCause, LoadFault, SaveFault};
+use fx_outside::HostFault;
 
 /// Why a text is refused. A place is a byte of the text, its length at its end.
 #[derive(Debug, Drop)]
@@ -61,6 +64,74 @@ impl Status {
             Status::NotEmpty => 6,
             Status::WriteFault => 7,
             Status::NoMemory => 8,
+        }
+    }
+}
+
+/// The status of a text outside the forms that are built.
+pub(crate) fn refused(word: u32) -> Status
+    ensures { result ≡ refused_status word }
+{
+    Status::TextRefused {
+        word,
+        cause: TextFault::NotBuilt(0),
+    }
+}
+
+impl From<NoMemory> for Status {
+    ghost use Rattle.std.specs.Prelude.{◌≡◌};
+    ghost use Rattle.fx_top.specs.declared.status.Status.TheVariants.{NoMemory};
+
+    ghost from_gives = { λ _ status. status ≡ NoMemory };
+
+    fn from(_: fx_base::NoMemory) -> Status {
+        Status::NoMemory
+    }
+}
+
+/// A text that is not read.
+impl From<HostFault> for Status {
+    ghost use Rattle.std.specs.Prelude.{◌≡◌};
+    ghost use Rattle.fx_top.specs.StatusOf.{read_status};
+
+    ghost from_gives = { λ fault status. status ≡ read_status fault };
+
+    fn from(fault: HostFault) -> Status {
+        match fault {
+            HostFault::Failed => Status::ReadFault,
+            HostFault::NoMemory => Status::NoMemory,
+        }
+    }
+}
+
+/// A folder that is not loaded.
+impl From<LoadFault> for Status {
+    ghost use Rattle.std.specs.Prelude.{◌≡◌};
+    ghost use Rattle.fx_top.specs.StatusOf.{load_status};
+
+    ghost from_gives = { λ fault status. status ≡ load_status fault };
+
+    fn from(fault: LoadFault) -> Status {
+        match fault {
+            LoadFault::Refused(cause) => Status::FolderRefused(cause),
+            LoadFault::ReadFault => Status::ReadFault,
+            LoadFault::NoMemory => Status::NoMemory,
+        }
+    }
+}
+
+/// OUT that is not written.
+impl From<SaveFault> for Status {
+    ghost use Rattle.std.specs.Prelude.{◌≡◌};
+    ghost use Rattle.fx_top.specs.StatusOf.{save_status};
+
+    ghost from_gives = { λ fault status. status ≡ save_status fault };
+
+    fn from(fault: SaveFault) -> Status {
+        match fault {
+            SaveFault::WriteFault => Status::WriteFault,
+            SaveFault::NotEmpty => Status::NotEmpty,
+            SaveFault::NoMemory => Status::NoMemory,
         }
     }
 }

@@ -1,8 +1,7 @@
 //! Reading a whole text of the host into memory.
-ghost use Rattle.std.specs.Prelude.{◌≡◌, ◌⊎◌, ◌≤◌, ◌<◌, true, false, IfOk, IfErr, OnOk, IfSome, IsSomeAnd, length};
-ghost use Rattle.fx_base.specs.Causes.{Rose};
+ghost use Rattle.std.specs.Prelude.{◌≡◌, ◌<◌, true, IfOk, IfErr, OnOk, IfSome, length};
 ghost use Rattle.fx_outside.specs.Tree.{is_file_at, bytes_at};
-ghost use Rattle.fx_outside.specs.Host.{ReadsAt};
+ghost use Rattle.fx_outside.specs.Host.{ReadsAt, ReadsOnly, AsksFit, HasFailed};
 ghost use Rattle.fx_outside.specs.declared.kind.HostFault.TheVariants.{Failed};
 ghost use Rattle.fx_top.specs.Texts.{IsReadAt};
 
@@ -29,13 +28,14 @@ fn read_piece<H: Host>(
     path: &HostText,
     from: u64,
 ) -> Result<Vec<u8>, HostFault>
-    ensures piece { IfOk result (λ piece. IfSome (H.told host.old)
+    ensures piece { IfOk result (λ piece. IfSome (H.view host.old).told
         (λ tree. ReadsAt (bytes_at tree path.now) from (length piece.items) piece.items)) }
-    ensures file { OnOk result (IfSome (H.told host.old) (λ tree. is_file_at tree path.now ≡ true)) }
-    ensures same { H.told host.new ≡ H.told host.old }
-    ensures later { H.faults host.old ≤ H.faults host.new }
-    ensures failed { IfErr result (λ fault. fault ≡ Failed → Rose (H.faults host.old) (H.faults host.new)
-        ⊎ IsSomeAnd (H.told host.old) (λ tree. is_file_at tree path.now ≡ false)) }
+    ensures file { OnOk result (IfSome (H.view host.old).told
+        (λ tree. is_file_at tree path.now ≡ true)) }
+    ensures same { ReadsOnly (H.view host.old) (H.view host.new) }
+    ensures fit { AsksFit path.now (H.view host.old) (H.view host.new) }
+    ensures failed { IfErr result (λ fault. fault ≡ Failed
+        → HasFailed (λ tree. is_file_at tree path.now) (H.view host.old) (H.view host.new)) }
 {
     let mut piece = match buffer(alloc) {
         Ok(piece) => piece,
@@ -56,11 +56,12 @@ pub fn read_text<H: Host>(
     host: &mut H,
     path: &HostText,
 ) -> Result<Vec<u8>, HostFault>
-    ensures read { IfOk result (λ text. IfSome (H.told host.old) (λ tree. IsReadAt tree path.now text.items)) }
-    ensures same { H.told host.new ≡ H.told host.old }
-    ensures later { H.faults host.old ≤ H.faults host.new }
-    ensures failed { IfErr result (λ fault. fault ≡ Failed → Rose (H.faults host.old) (H.faults host.new)
-        ⊎ IsSomeAnd (H.told host.old) (λ tree. is_file_at tree path.now ≡ false)) }
+    ensures read { IfOk result (λ text. IfSome (H.view host.old).told
+        (λ tree. IsReadAt tree path.now text.items)) }
+    ensures same { ReadsOnly (H.view host.old) (H.view host.new) }
+    ensures fit { AsksFit path.now (H.view host.old) (H.view host.new) }
+    ensures failed { IfErr result (λ fault. fault ≡ Failed
+        → HasFailed (λ tree. is_file_at tree path.now) (H.view host.old) (H.view host.new)) }
 {
     let mut text = Vec::new(alloc);
     'reading: while text.len() <= TEXT_LIMIT {

@@ -2,9 +2,9 @@ use Rattle.fx_top.proofs.Writing.{begins, goes_on}
 use Rattle.fx_top.proofs.print.print_all.Goals as goal
 
 pub writing-init : goal.writing-init
-writing-init g c = begins c.args.bytes.now (g.S.Sink.written c.args.out.now) (g.S.Sink.faults c.args.out.now)
+writing-init g c = begins c.args.bytes.now (g.S.Sink.view c.args.out.now)
 
 pub writing-preserved : goal.writing-preserved
 writing-preserved g c =
-    goes_on c.args.bytes.now c.writing.rest.now c.after-rest.result.now c.in-Ok.count (g.S.Sink.written c.args.out.now) (g.S.Sink.written c.writing.out) (g.S.Sink.written c.write.new.self) (g.S.Sink.faults c.args.out.now) (g.S.Sink.faults c.writing.out) (g.S.Sink.faults c.write.new.self)
+    goes_on c.args.bytes.now c.writing.rest.now c.after-rest.result.now c.in-Ok.count (g.S.Sink.view c.args.out.now) (g.S.Sink.view c.writing.out) (g.S.Sink.view c.write.new.self)
     c.writing.invariant c.in-Ok.ensures.written c.in-Ok.ensures.cause.later c.after-rest.ensures

@@ -3,7 +3,7 @@ use Rattle.fx_top.proofs.Writing.{IsWriting}
 use Rattle.fx_top.proofs.print.print_all.Given as goal
 
 abbrev pub invariant-writing : goal.invariant-writing
-invariant-writing g l = IsWriting l.bytes l.rest (g.S.Sink.written l.initial.out) (g.S.Sink.written l.out) (g.S.Sink.faults l.initial.out) (g.S.Sink.faults l.out)
+invariant-writing g l = IsWriting l.bytes l.rest (g.S.Sink.view l.initial.out) (g.S.Sink.view l.out)
 
 abbrev pub decreases-writing : goal.decreases-writing
 decreases-writing g l = length l.rest

@@ -1,6 +1,6 @@
 use Rattle.std.proofs.Common.{◌≡◌, Err, refl, ap, arith, length}
 use Rattle.fx_outside.specs.Tree.{is_file_at}
-use Rattle.fx_top.proofs.Reading.{cut, cut_to, take_front, suited}
+use Rattle.fx_top.proofs.Pieces.{cut, cut_to, take_front, suited}
 use Rattle.fx_top.proofs.texts.read_piece.Goals as goal
 
 pub returns-in-Err-read-clause-failed : goal.returns-in-Err-read-clause-failed
@@ -13,4 +13,4 @@ returns-clause-piece g c =
     cut_to _ c.args.path.now c.read.new.buf _ c.args.from c.in-Ok-read.count is (cut _ c.args.path.now c.read.new.buf c.args.from c.in-Ok-read.count (c.in-Ok-read.ensures.bound) c.in-Ok-read.ensures.answer)
 
 pub returns-clause-file : goal.returns-clause-file
-returns-clause-file g c = suited _ (λ tree. is_file_at tree c.args.path.now) _ _ _ _ refl c.in-Ok-read.ensures.cause
+returns-clause-file g c = suited _ (λ tree. is_file_at tree c.args.path.now) (g.H.Host.view c.args.host.now) (g.H.Host.view c.read.new.self) refl c.in-Ok-read.ensures.cause

@@ -1,12 +1,15 @@
-use Rattle.std.proofs.Common.{◌≡◌, ◌⊎◌, IfSome, subst}
-use Rattle.fx_base.specs.Causes.{Rose}
-use Rattle.fx_top.specs.declared.status.Status.TheVariants as status
-use Rattle.fx_top.specs.Rows.{IsProper}
-use Rattle.fx_words.specs.JobOf.{asked}
+use Rattle.std.proofs.Common.{IfSome, sym, subst}
+use Rattle.fx_words.specs.JobOf.{asked_job}
+use Rattle.fx_top.specs.Rows.{Row, Completes}
 use Rattle.fx_top.proofs.Completing.{completes}
 use Rattle.fx_top.proofs.top.top.Goals as goal
 
 pub returns-in-Some-clause-complete : goal.returns-in-Some-clause-complete
 returns-in-Some-clause-complete g c =
-    subst (λ o. IfSome o (λ j. IfSome (g.H.Host.told c.args.host.now) (λ t. IsProper t j → (Rose (g.H.Host.faults c.args.host.now) (g.H.Host.faults c.run_job.new.host) → ⊥) → (Rose (g.S.Sink.faults c.args.out.now) (g.S.Sink.faults c.run_job.new.out) → ⊥) → (c.run_job.result ≡ status.Done) ⊎ (c.run_job.result ≡ status.NoMemory)))) c.in-Some.ensures.asked
-    (completes (asked c.in-Some.job) (g.H.Host.told c.args.host.now) (g.H.Host.told c.run_job.new.host) (g.H.Host.faults c.args.host.now) (g.H.Host.faults c.run_job.new.host) (g.S.Sink.written c.args.out.now) (g.S.Sink.written c.run_job.new.out) (g.S.Sink.faults c.args.out.now) (g.S.Sink.faults c.run_job.new.out) c.run_job.result c.run_job.ensures)
+    let host = g.H.Host.view c.args.host.now in
+    let host' = g.H.Host.view c.run_job.new.host in
+    let sink = g.S.Sink.view c.args.out.now in
+    let sink' = g.S.Sink.view c.run_job.new.out in
+    let row = subst (λ st. Row (asked_job c.in-Some.job) (g.H.Host.view c.args.host.now) (g.H.Host.view c.run_job.new.host) (g.S.Sink.view c.args.out.now) (g.S.Sink.view c.run_job.new.out) st) (sym c.status_of.ensures) c.run_job.ensures.row in
+    subst (λ o. IfSome o (λ j. Completes j host host' sink sink' c.status_of.result)) c.in-Some.ensures.asked
+    (completes (asked_job c.in-Some.job) host host' sink sink' c.status_of.result row)

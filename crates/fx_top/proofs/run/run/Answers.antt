@@ -1,0 +1,36 @@
+use Rattle.std.proofs.Common.{sym, subst}
+use Rattle.fx_spec.specs.Bases.{base_tree}
+use Rattle.fx_words.specs.JobOf.{asked}
+use Rattle.fx_top.specs.Answers.{last_of}
+use Rattle.fx_top.specs.Rows.{RunRow}
+use Rattle.fx_top.specs.StatusOf.{status_of}
+use Rattle.fx_top.proofs.Ending.{err_of, ends_back}
+use Rattle.fx_top.proofs.Stages.{inputs_read, can_save}
+use Rattle.fx_top.proofs.run.run.Goals as goal
+
+pub returns-in_err-base-clause-row : goal.returns-in_err-base-clause-row
+returns-in_err-base-clause-row g c =
+    let a = g.H.Host.view c.args.host.now in
+    let b = g.H.Host.view c.read_base.new.host in
+    let sink = g.S.Sink.view c.args.out.now in
+    let is = err_of c.from_residual.result c.in_err-base.field-0.0 c.from_residual.ensures.1 in
+    subst (λ r. RunRow (asked c.args.job.now) a b sink sink (status_of r)) (sym is) (c.in_err-base.ensures.ends sink)
+
+pub make_ready-requires : goal.make_ready-requires
+make_ready-requires g c =
+    inputs_read (asked c.args.job.now) (base_tree c.in_ok-base.base.value) (g.H.Host.view c.args.host.now) (g.H.Host.view c.read_base.new.host) c.in_ok-base.ensures.same c.in_ok-base.ensures.read
+
+pub returns-in_err-there-clause-row : goal.returns-in_err-there-clause-row
+returns-in_err-there-clause-row g c =
+    let a = g.H.Host.view c.args.host.now in
+    let b = g.H.Host.view c.read_base.new.host in
+    let d = g.H.Host.view c.make_ready.new.host in
+    let sink = g.S.Sink.view c.args.out.now in
+    let status = c.in_err-there.field-0.0 in
+    let is = err_of c.from_residual-in_err-there.result status c.from_residual-in_err-there.ensures.1 in
+    subst (λ r. RunRow (asked c.args.job.now) a d sink sink (status_of r)) (sym is) (ends_back (asked c.args.job.now) a b d status c.in_ok-base.ensures.same c.in_err-there.ensures.ends sink)
+
+pub save_and_print-requires-clause-answered : goal.save_and_print-requires-clause-answered
+save_and_print-requires-clause-answered g c =
+    can_save (asked c.args.job.now) (base_tree c.in_ok-base.base.value) (last_of c.in_ok-answer.answer) c.in_ok-answer.answer.output c.in_ok-there.there (g.H.Host.view c.args.host.now) (g.H.Host.view c.read_base.new.host) (g.H.Host.view c.make_ready.new.host)
+    c.in_ok-base.ensures.same c.in_ok-there.ensures.same c.in_ok-base.ensures.read c.in_ok-there.ensures.ready c.in_ok-answer.ensures.run

@@ -1,0 +1,58 @@
+//! The command `run`, and `trace`, which has a schedule.
+ghost use Rattle.std.specs.Prelude.{IfSome};
+ghost use Rattle.std.specs.FinMap.{get};
+ghost use Rattle.fx_folder.specs.Folder.{IsFlat};
+ghost use Rattle.fx_words.specs.JobOf.{asked, IsJob};
+ghost use Rattle.fx_top.specs.Answers.{last_of, IsAnswered};
+ghost use Rattle.fx_top.specs.Rows.{RunRow, RunAsksFit};
+ghost use Rattle.fx_top.specs.StatusOf.{status_of};
+
+use crate::answer::{Answer, run_base};
+use crate::print::print_all;
+use crate::reading::{make_ready, read_base};
+use crate::status::Status;
+use fx_folder::save;
+use fx_outside::{Host, Sink, SinkFailed};
+use fx_words::RunJob;
+use std::alloc::Global;
+
+/// Saves the last filestore, and then prints the output.
+fn save_and_print<H: Host, S: Sink>(
+    alloc: Global,
+    job: &RunJob,
+    there: bool,
+    answer: &Answer,
+    host: &mut H,
+    out: &mut S,
+) -> Result<(), Status>
+    requires flat { IsFlat (get (last_of answer.now)) }
+    requires answered { IfSome (H.view host.old).told (λ t.
+        IsAnswered t (asked job.now) (last_of answer.now) answer.now.output there) }
+    ensures row { RunRow (asked job.now) (H.view host.old) (H.view host.new)
+        (S.view out.old) (S.view out.new) (status_of result) }
+    ensures fit { RunAsksFit (asked job.now) (H.view host.old) (H.view host.new) }
+{
+    save(alloc, host, job.out, there, answer.traced.board.store())?;
+    match print_all(out, answer.output.as_slice()) {
+        Ok(()) => Ok(()),
+        Err(SinkFailed) => Err(Status::WriteFault),
+    }
+}
+
+/// Runs the scripts on the folder, by the description, and leaves the folder that they make at OUT.
+pub(crate) fn run<H: Host, S: Sink>(
+    alloc: Global,
+    job: &RunJob,
+    host: &mut H,
+    out: &mut S,
+) -> Result<(), Status>
+    requires { IsJob job.now }
+    ensures row { RunRow (asked job.now) (H.view host.old) (H.view host.new)
+        (S.view out.old) (S.view out.new) (status_of result) }
+    ensures fit { RunAsksFit (asked job.now) (H.view host.old) (H.view host.new) }
+{
+    let base = read_base(alloc, job, host)?;
+    let there = make_ready(alloc, job, host)?;
+    let answer = run_base(alloc, job, base)?;
+    save_and_print(alloc, job, there, &answer, host, out)
+}
