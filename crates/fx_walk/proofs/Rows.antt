@@ -35,8 +35,8 @@ take_next xs i x is =
     take_more xs i x within ∙ ap (λ y. take i xs ++ y ∷ []) here
 
 -- bindings cut back to those before a name
-pub cut_back : (env now : Bindings) (x : List ℕ) (v : Tree) (n : ℕ) → now ≡ bind env x v → n ≡ length env → take n now ≡ env
-cut_back env now x v n grown long = ap (λ now. take n now) grown ∙ ap (λ n. take n (bind env x v)) long ∙ take-append_seam env ((x, v) ∷ [])
+pub cut_back : (env now left : Bindings) (x : List ℕ) (v : Tree) (n : ℕ) → left ≡ take n now → now ≡ bind env x v → n ≡ length env → left ≡ env
+cut_back env now left x v n cut grown long = cut ∙ ap (λ now. take n now) grown ∙ ap (λ n. take n (bind env x v)) long ∙ take-append_seam env ((x, v) ∷ [])
 
 -- the rows of the texts for which there are values
 abbrev pub done : List (List ℕ) → List Value → List (List ℕ × Tree)

@@ -2,6 +2,7 @@
 ghost use Rattle.std.specs.Prelude.{◌≡◌, ◌+◌, IfOk, cond, true, Some, None};
 ghost use Rattle.std.specs.Option.{option_map};
 ghost use Rattle.fx_expr.specs.Eval as eval;
+ghost use Rattle.fx_expr.specs.Eval.{eval_of};
 ghost use Rattle.fx_expr.specs.Shapes.{IsWellShaped};
 ghost use Rattle.fx_expr.specs.Tree.{Tree};
 ghost use Rattle.fx_expr.specs.Views.{expr_tree, tree_of};
@@ -24,7 +25,8 @@ pub(crate) fn inner_path<L: Ledger>(
     steps: &mut Steps<L>,
 ) -> Result<Option<Path>, NoMemory>
     requires { IsWellShaped env.now (expr_tree expr.now) }
-    ensures path { IfOk result (λ inner. inner ≡ path_given (describe.focus_path path.now (eval.eval_of env.now (expr_tree expr.now)))) }
+    ensures path { IfOk result (λ inner.
+        inner ≡ path_given (describe.focus_path path.now (eval_of env.now (expr_tree expr.now)))) }
     ensures tick { steps.new ≡ steps.old + 1 }
 {
     match eval_counted(alloc, expr, env, steps) {
@@ -35,7 +37,9 @@ pub(crate) fn inner_path<L: Ledger>(
 }
 
 fn extended(alloc: Global, path: &Path, value: &Value) -> Result<Option<Path>, NoMemory>
-    ensures { IfOk result (λ inner. inner ≡ path_given (describe.extension (paths.extended path.now (eval.text_in (tree_of value.now))))) }
+    ensures { IfOk result (λ inner.
+        inner ≡ path_given
+        (describe.extension (paths.extended path.now (eval.text_in (tree_of value.now))))) }
 {
     match path.extend(alloc, text_in(value)) {
         Ok(inner) => Ok(Some(inner)),
@@ -53,7 +57,7 @@ pub(crate) fn set_of<L: Ledger>(
     steps: &mut Steps<L>,
 ) -> Result<Option<TextSet>, NoMemory>
     requires { IsWellShaped env.now (expr_tree expr.now) }
-    ensures set { IfOk result (λ set. set ≡ set_given (eval.eval_of env.now (expr_tree expr.now))) }
+    ensures set { IfOk result (λ set. set ≡ set_given (eval_of env.now (expr_tree expr.now))) }
     ensures tick { steps.new ≡ steps.old + 1 }
 {
     match eval_counted(alloc, expr, env, steps) {
@@ -71,7 +75,8 @@ pub(crate) fn truth_of<L: Ledger>(
     steps: &mut Steps<L>,
 ) -> Result<Option<Value>, NoMemory>
     requires { IsWellShaped env.now (expr_tree expr.now) }
-    ensures truth { IfOk result (λ value. option_map tree_of value ≡ describe.truth (eval.eval_of env.now (expr_tree expr.now))) }
+    ensures truth { IfOk result (λ value.
+        option_map tree_of value ≡ describe.truth (eval_of env.now (expr_tree expr.now))) }
     ensures tick { steps.new ≡ steps.old + 1 }
 {
     match eval_counted(alloc, expr, env, steps) {

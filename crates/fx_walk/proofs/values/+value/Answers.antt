@@ -1,4 +1,4 @@
-use Rattle.std.proofs.Common.{◌≡◌, Ok, ◌++◌, ◌∷◌, [], ◌+◌, length, Some, None, refl, sym, ap, subst, ◌∙◌, rules, arith, length-append}
+use Rattle.std.proofs.Common.{◌≡◌, Ok, ◌++◌, ◌∷◌, [], ◌+◌, ℕ, List, length, Some, None, refl, sym, ap, subst, ◌∙◌, take, rules, arith, length-append}
 use Rattle.fx_expr.specs.Bindings.{bind}
 use Rattle.fx_expr.specs.Tree.{Tree}
 use Rattle.fx_expr.specs.Views.{expr_tree, tree_of}
@@ -267,7 +267,7 @@ row_in-value_in-value-requires g t c =
 pub row_in-returns-clause-env : goal.row_in-returns-clause-env
 row_in-returns-clause-env g t c =
     let grown : c.value_in-value.new.env ≡ bind c.args.env.now c.args.name.now (Tree.str c.args.text.now) = c.value_in-value.ensures.env ∙ c.in_ok-bind_text.ensures.bound in
-    c.cut.ensures ∙ cut_back c.args.env.now c.value_in-value.new.env c.args.name.now (Tree.str c.args.text.now) c.len-len.result grown c.len-len.ensures
+    cut_back c.args.env.now c.value_in-value.new.env c.cut.new.self c.args.name.now (Tree.str c.args.text.now) c.len-len.result c.cut.ensures grown c.len-len.ensures
 
 pub row_in-returns-clause-follows : goal.row_in-returns-clause-follows
 row_in-returns-clause-follows g t c =
