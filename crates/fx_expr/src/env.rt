@@ -12,7 +12,7 @@ use std::marker::Model;
 
 /// Words bound to values, the newest binding last. Where a word is bound twice, the newer binding counts. Contracts see
 /// the list of the words with the trees of their values.
-#[derive(Drop)]
+#[derive(Debug, Drop)]
 pub struct Env {
     bindings: Vec<(Word, Value)>,
 }

@@ -52,7 +52,7 @@ pub enum UnOp {
 }
 
 /// An expression.
-#[derive(Debug, Drop)]
+#[derive(Debug, PartialEq, Drop)]
 pub enum Expr {
     Str(Text),
     Int(i64),

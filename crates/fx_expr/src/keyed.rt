@@ -10,6 +10,7 @@ use std::alloc::Global;
 use std::marker::Model;
 
 /// A map from texts to values of one type. Contracts see the list of its pairs, in strictly ascending order of text.
+#[derive(Debug)]
 pub struct Keyed<V> {
     keys: TextSet,
     values: Vec<V>,

@@ -9,7 +9,7 @@ use std::alloc::Global;
 use std::marker::Model;
 
 /// A list of values. Contracts see the list of their trees.
-#[derive(Drop)]
+#[derive(Debug, Drop)]
 pub struct Values {
     items: Vec<Value>,
 }

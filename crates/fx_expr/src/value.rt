@@ -8,7 +8,7 @@ use fx_base::NoMemory;
 use std::alloc::Global;
 
 /// A value of the language.
-#[derive(Drop)]
+#[derive(Debug, Drop)]
 pub enum Value {
     Str(Text),
     Int(i64),
