@@ -2,3 +2,4 @@ pub mod Changing
 pub mod Indexes
 pub mod Settling
 pub mod Empty
+pub mod Crosses

@@ -4,6 +4,8 @@
 mod board;
 mod growing;
 mod index;
+mod kept;
 
 pub use board::{Board, Settle};
+pub use kept::Ground;
 pub use fx_machine::{Attempt, Entry, Event, Events, Pair, Retries, Retry};

@@ -8,3 +8,4 @@ pub mod Order
 pub mod Shaping
 pub mod Trees
 pub mod Zips
+pub mod Crosses

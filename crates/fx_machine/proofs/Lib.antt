@@ -9,3 +9,4 @@ pub mod Sums
 pub mod Lowering
 pub mod Settling
 pub mod Weight
+pub mod Crosses

@@ -11,3 +11,4 @@ pub mod Transactions
 pub mod Shaped
 pub mod Counted
 pub mod Asking
+pub mod Crosses

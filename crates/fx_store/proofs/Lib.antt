@@ -13,3 +13,4 @@ pub mod Relisted
 pub mod Overlays
 pub mod FlatStores
 pub mod SpellingLaws
+pub mod Crosses
