@@ -6,13 +6,18 @@
 mod answers;
 mod escapes;
 mod grammar;
+mod made;
+mod messages;
 mod names;
 mod outside;
+mod reports;
 mod runs;
 mod stage;
+mod steps;
 mod telling;
 mod tries;
 mod values;
+mod words;
 
 use answers::answered;
 use std::io;
