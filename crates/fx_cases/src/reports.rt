@@ -86,7 +86,7 @@ fn add_entry(
         outputs,
         end,
     };
-    entries.add(alloc, entry)
+    entries.push(entry)
 }
 
 fn add_done(
@@ -159,7 +159,7 @@ fn add_retry(
         entry: u64::from(number(entry)),
         path: path_of(alloc, path)?,
     };
-    retries.add(alloc, retry)
+    retries.push(retry)
 }
 
 fn add_look(
@@ -173,7 +173,7 @@ fn add_look(
         path: path_of(alloc, path)?,
         position: u64::from(numbers.second),
     };
-    events.add(alloc, event)
+    events.push(event)
 }
 
 fn add_settled(alloc: Global, events: &mut Events, numbers: Numbers) -> Result<(), NoMemory> {
@@ -181,7 +181,7 @@ fn add_settled(alloc: Global, events: &mut Events, numbers: Numbers) -> Result<(
         shell: numbers.shell,
         entry: u64::from(numbers.second),
     };
-    events.add(alloc, event)
+    events.push(event)
 }
 
 fn add_conflict(
@@ -195,7 +195,7 @@ fn add_conflict(
         entry: u64::from(numbers.second),
         path: path_of(alloc, path)?,
     };
-    events.add(alloc, event)
+    events.push(event)
 }
 
 /// Tells the lines of events.

@@ -110,7 +110,7 @@ pub fn tell_attempt(
 
 fn tell_event(alloc: Global, event: Event, out: &mut String) -> Result<(), NoMemory> {
     let mut events = Events::new(alloc);
-    events.add(alloc, event)?;
+    events.push(event)?;
     tell_events(alloc, &events, out)
 }
 
