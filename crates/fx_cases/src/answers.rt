@@ -279,16 +279,34 @@ fn answer(alloc: Global, stage: &mut Stage, line: &str, out: &mut String) -> Res
     }
 }
 
-/// The lines that begin with no `>`, each with what it gives.
-pub fn answered(alloc: Global, cases: &str) -> Result<String, NoMemory> {
-    let mut out = String::new(alloc);
-    let mut stage = Stage::new(alloc);
+/// Adds a line and what it gives.
+fn add_line(
+    alloc: Global,
+    stage: &mut Stage,
+    line: &str,
+    out: &mut String,
+) -> Result<(), NoMemory> {
+    out.push_str(line)?;
+    out.push_str("\n")?;
+    answer(alloc, stage, line, out)
+}
+
+fn add_lines(
+    alloc: Global,
+    stage: &mut Stage,
+    cases: &str,
+    out: &mut String,
+) -> Result<(), NoMemory> {
     for line in cases.lines() {
         if !line.starts_with('>') {
-            out.push_str(line)?;
-            out.push_str("\n")?;
-            answer(alloc, &mut stage, line, &mut out)?;
+            add_line(alloc, stage, line, out)?;
         }
     }
-    Ok(out)
+    Ok(())
+}
+
+/// Adds the lines that begin with no `>`, each with what it gives.
+pub fn add_answers(alloc: Global, cases: &str, out: &mut String) -> Result<(), NoMemory> {
+    let mut stage = Stage::new(alloc);
+    add_lines(alloc, &mut stage, cases, out)
 }

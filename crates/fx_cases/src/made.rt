@@ -1,9 +1,8 @@
 //! Values that are made of parts, in place of an expression's. Each word of a line makes a value, of the values before it
 //! where it has parts: `true`, `false`, `none`, `int:N`, `str:TEXT`, `names:TEXT,..`, `table:TEXT=TEXT,..`, and behind their
 //! parts `some` and `pair`.
-ghost use Rattle.std.specs.Prelude.{◌≡◌, length};
 
-use crate::telling::{tell, tell_bytes};
+use crate::telling::tell_bytes;
 use crate::values::text;
 use crate::words::integer;
 use fx_base::NoMemory;
@@ -97,26 +96,26 @@ fn plain(alloc: Global, word: &str) -> Result<Option<Value>, NoMemory> {
     }
 }
 
+/// Takes off the last value; `none` where there is none.
+fn last(alloc: Global, values: &mut Vec<Value>) -> Result<Box<Value>, NoMemory> {
+    let value = match values.pop() {
+        Some(value) => value,
+        None => Value::Nothing,
+    };
+    Ok(Box::new(alloc, value)?)
+}
+
 /// Puts the last value into an option.
 fn add_some(alloc: Global, values: &mut Vec<Value>) -> Result<(), NoMemory> {
-    let Some(value) = values.pop() else {
-        return Ok(());
-    };
-    let inner = Box::new(alloc, value)?;
+    let inner = last(alloc, values)?;
     values.push(Value::Some(inner))?;
     Ok(())
 }
 
 /// Puts the last two values into a pair.
 fn add_pair(alloc: Global, values: &mut Vec<Value>) -> Result<(), NoMemory> {
-    let Some(second) = values.pop() else {
-        return Ok(());
-    };
-    let second = Box::new(alloc, second)?;
-    let Some(first) = values.pop() else {
-        return Ok(());
-    };
-    let first = Box::new(alloc, first)?;
+    let second = last(alloc, values)?;
+    let first = last(alloc, values)?;
     values.push(Value::Pair(first, second))?;
     Ok(())
 }

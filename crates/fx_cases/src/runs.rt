@@ -12,12 +12,7 @@ use std::alloc::Global;
 pub const OUT: &str = "out";
 
 /// How a command ends.
-fn status_of(
-    alloc: Global,
-    words: &Words,
-    host: &mut MemoryHost,
-    sink: &mut MemorySink,
-) -> Status {
+fn status_of(alloc: Global, words: &Words, host: &mut MemoryHost, sink: &mut MemorySink) -> Status {
     top(&(), alloc, words, host, sink, &OpenGate)
 }
 

@@ -165,13 +165,23 @@ fn tell_entries(board: &Board, out: &mut String) -> Result<(), NoMemory> {
     Ok(())
 }
 
-fn kind_of(node: Option<Node>) -> &'static str {
+fn kind_of(node: &Option<Node>) -> &'static str {
     match node {
         Some(Node::File(_)) => "a file",
         Some(Node::Dir(_)) => "a directory",
         Some(Node::Link(_)) => "a link",
         None => "nothing",
     }
+}
+
+fn let_go(_: Option<Node>) {}
+
+/// What kind of node stands at a path, and the position of the look.
+fn seen(alloc: Global, board: &Board, path: &Path) -> Result<(&'static str, u64), NoMemory> {
+    let (node, position) = board.look(alloc, path)?;
+    let kind = kind_of(&node);
+    let_go(node);
+    Ok((kind, position))
 }
 
 fn tell_at(
@@ -181,19 +191,13 @@ fn tell_at(
     text: &str,
     out: &mut String,
 ) -> Result<(), NoMemory> {
-    let (node, position) = board.look(alloc, path)?;
-    let kind = kind_of(node);
+    let (kind, position) = seen(alloc, board, path)?;
     writeln!(out, "> {text} is {kind} at {position}")?;
     Ok(())
 }
 
 /// Tells what stands at a path, and the position of the look.
-fn tell_look(
-    alloc: Global,
-    board: &Board,
-    text: &str,
-    out: &mut String,
-) -> Result<(), NoMemory> {
+fn tell_look(alloc: Global, board: &Board, text: &str, out: &mut String) -> Result<(), NoMemory> {
     let bytes = unescaped(alloc, text)?;
     match Path::read(alloc, &bytes) {
         Ok(path) => tell_at(alloc, board, &path, text, out),
@@ -201,24 +205,14 @@ fn tell_look(
     }
 }
 
-fn tell_looks(
-    alloc: Global,
-    board: &Board,
-    paths: &str,
-    out: &mut String,
-) -> Result<(), NoMemory> {
+fn tell_looks(alloc: Global, board: &Board, paths: &str, out: &mut String) -> Result<(), NoMemory> {
     for path in paths.split(',') {
         tell_look(alloc, board, path, out)?;
     }
     Ok(())
 }
 
-fn tell_log(
-    alloc: Global,
-    board: &Board,
-    paths: &str,
-    out: &mut String,
-) -> Result<(), NoMemory> {
+fn tell_log(alloc: Global, board: &Board, paths: &str, out: &mut String) -> Result<(), NoMemory> {
     tell_counts(board, out)?;
     tell_entries(board, out)?;
     tell_looks(alloc, board, paths, out)
