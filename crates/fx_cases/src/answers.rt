@@ -7,7 +7,8 @@ use crate::runs::{tell_run, words_of};
 use crate::stage::Stage;
 use crate::telling::{tell, tell_tree};
 use crate::tries::{tell_faults, tell_schedules};
-use crate::{grammar, names, values};
+use crate::words::{integer, number, split_word};
+use crate::{grammar, made, messages, names, reports, steps, values};
 use fx_base::NoMemory;
 use fx_outside::HostKind;
 use std::alloc::Global;
@@ -32,6 +33,8 @@ enum Trial {
     Faults,
     Schedules,
     Tree,
+    Attempt,
+    Steps,
 }
 
 /// A call on the host or the sink.
@@ -60,6 +63,8 @@ enum Lower {
     Sets,
     Only,
     Match,
+    Value,
+    Message,
 }
 
 #[derive(Clone, Copy)]
@@ -69,6 +74,7 @@ enum Verb {
     Try(Trial),
     Call(Call),
     Lower(Lower),
+    Report(reports::Form),
 }
 
 const VERBS: &[(&str, Verb)] = &[
@@ -86,6 +92,8 @@ const VERBS: &[(&str, Verb)] = &[
     ("faults", Verb::Try(Trial::Faults)),
     ("schedules", Verb::Try(Trial::Schedules)),
     ("tree", Verb::Try(Trial::Tree)),
+    ("attempt", Verb::Try(Trial::Attempt)),
+    ("steps", Verb::Try(Trial::Steps)),
     ("standing", Verb::Call(Call::Standing)),
     ("list", Verb::Call(Call::List)),
     ("read", Verb::Call(Call::Read)),
@@ -120,6 +128,17 @@ const VERBS: &[(&str, Verb)] = &[
     ("sets", Verb::Lower(Lower::Sets)),
     ("only", Verb::Lower(Lower::Only)),
     ("match", Verb::Lower(Lower::Match)),
+    ("value", Verb::Lower(Lower::Value)),
+    ("message", Verb::Lower(Lower::Message)),
+    ("done", Verb::Report(reports::Form::Done)),
+    ("aborted", Verb::Report(reports::Form::Aborted)),
+    ("stopped", Verb::Report(reports::Form::Stopped)),
+    ("retry", Verb::Report(reports::Form::Retry)),
+    ("report", Verb::Report(reports::Form::Report)),
+    ("look", Verb::Report(reports::Form::Look)),
+    ("settled", Verb::Report(reports::Form::Settled)),
+    ("conflict", Verb::Report(reports::Form::Conflict)),
+    ("events", Verb::Report(reports::Form::Events)),
 ];
 
 fn verb_of(word: &str) -> Option<Verb> {
@@ -129,23 +148,6 @@ fn verb_of(word: &str) -> Option<Verb> {
         }
     }
     None
-}
-
-/// The first word of a line, and what stands behind the space behind it.
-fn split_word(line: &str) -> (&str, &str) {
-    match line.split_once(' ') {
-        Some(parts) => parts,
-        None => (line, ""),
-    }
-}
-
-/// The number that a text spells, and 0 where it spells none.
-fn number(text: &str) -> u32 {
-    text.parse::<u32>().unwrap_or(0)
-}
-
-fn integer(text: &str) -> i64 {
-    text.parse::<i64>().unwrap_or(0)
 }
 
 fn put(alloc: Global, stage: &mut Stage, setting: Setting, rest: &str) -> Result<bool, NoMemory> {
@@ -197,6 +199,8 @@ fn try_out(
         Trial::Faults => tell_faults(alloc, stage, rest, out),
         Trial::Schedules => tell_schedules(alloc, stage, out),
         Trial::Tree => tell_tree(alloc, &mut stage.host, rest, out),
+        Trial::Attempt => steps::tell_attempt(alloc, stage, rest, out),
+        Trial::Steps => steps::tell_steps(alloc, stage, rest, out),
     }
 }
 
@@ -240,7 +244,25 @@ fn call_lower(alloc: Global, lower: Lower, rest: &str, out: &mut String) -> Resu
         Lower::Sets => values::tell_sets(alloc, first, second, third, out),
         Lower::Only => values::tell_only(alloc, first, text, out),
         Lower::Match => values::tell_match(alloc, first, text, out),
+        Lower::Value => made::tell_value(alloc, rest, out),
+        Lower::Message => messages::tell_message(alloc, rest, out),
     }
+}
+
+fn report(
+    alloc: Global,
+    stage: &mut Stage,
+    form: reports::Form,
+    rest: &str,
+    out: &mut String,
+) -> Result<(), NoMemory> {
+    let (shell, more) = split_word(rest);
+    let (second, text) = split_word(more);
+    let numbers = reports::Numbers {
+        shell: number(shell),
+        second: number(second),
+    };
+    reports::tell_form(alloc, &mut stage.parts, form, numbers, text, out)
 }
 
 /// Adds what a line gives.
@@ -253,19 +275,38 @@ fn answer(alloc: Global, stage: &mut Stage, line: &str, out: &mut String) -> Res
         Some(Verb::Try(trial)) => try_out(alloc, stage, trial, rest, out),
         Some(Verb::Call(call)) => call_out(alloc, stage, call, rest, out),
         Some(Verb::Lower(lower)) => call_lower(alloc, lower, rest, out),
+        Some(Verb::Report(form)) => report(alloc, stage, form, rest, out),
     }
 }
 
-/// The lines that begin with no `>`, each with what it gives.
-pub fn answered(alloc: Global, cases: &str) -> Result<String, NoMemory> {
-    let mut out = String::new(alloc);
-    let mut stage = Stage::new(alloc);
+/// Adds a line and what it gives.
+fn add_line(
+    alloc: Global,
+    stage: &mut Stage,
+    line: &str,
+    out: &mut String,
+) -> Result<(), NoMemory> {
+    out.push_str(line)?;
+    out.push_str("\n")?;
+    answer(alloc, stage, line, out)
+}
+
+fn add_lines(
+    alloc: Global,
+    stage: &mut Stage,
+    cases: &str,
+    out: &mut String,
+) -> Result<(), NoMemory> {
     for line in cases.lines() {
         if !line.starts_with('>') {
-            out.push_str(line)?;
-            out.push_str("\n")?;
-            answer(alloc, &mut stage, line, &mut out)?;
+            add_line(alloc, stage, line, out)?;
         }
     }
-    Ok(out)
+    Ok(())
+}
+
+/// Adds the lines that begin with no `>`, each with what it gives.
+pub fn add_answers(alloc: Global, cases: &str, out: &mut String) -> Result<(), NoMemory> {
+    let mut stage = Stage::new(alloc);
+    add_lines(alloc, &mut stage, cases, out)
 }

@@ -12,12 +12,7 @@ use std::alloc::Global;
 pub const OUT: &str = "out";
 
 /// How a command ends.
-pub fn status_of(
-    alloc: Global,
-    words: &Words,
-    host: &mut MemoryHost,
-    sink: &mut MemorySink,
-) -> Status {
+fn status_of(alloc: Global, words: &Words, host: &mut MemoryHost, sink: &mut MemorySink) -> Status {
     top(&(), alloc, words, host, sink, &OpenGate)
 }
 
@@ -33,8 +28,8 @@ pub fn words_of(alloc: Global, line: &str) -> Result<Words, NoMemory> {
     Ok(words)
 }
 
-/// Runs a command, and tells its status, what it printed, and what stands at OUT.
-pub fn tell_run(
+/// Runs a command, and tells its status and its line on standard error.
+pub fn tell_end(
     alloc: Global,
     words: &Words,
     host: &mut MemoryHost,
@@ -42,7 +37,18 @@ pub fn tell_run(
     out: &mut String,
 ) -> Result<(), NoMemory> {
     let status = status_of(alloc, words, host, sink);
-    tell_status(out, &status)?;
+    tell_status(out, words, &status)
+}
+
+/// Runs a command, and tells its status, its line on standard error, what it printed, and what stands at OUT.
+pub fn tell_run(
+    alloc: Global,
+    words: &Words,
+    host: &mut MemoryHost,
+    sink: &mut MemorySink,
+    out: &mut String,
+) -> Result<(), NoMemory> {
+    tell_end(alloc, words, host, sink, out)?;
     tell_bytes(out, sink.written())?;
     tell_tree(alloc, host, OUT, out)
 }

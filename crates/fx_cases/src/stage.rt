@@ -1,6 +1,7 @@
 //! What a case sets up: a host, the calls on it that are to fail, and the sink that a run prints to.
 
 use crate::escapes::unescaped;
+use crate::reports::Parts;
 use fx_base::NoMemory;
 use fx_outside::{HostKind, HostText, MemoryHost, MemorySink};
 use std::alloc::Global;
@@ -26,6 +27,8 @@ pub struct Stage {
     placed: Vec<Placed>,
     room: u64,
     failing_writes: Vec<u64>,
+    /// The parts of a report that is made of parts.
+    pub parts: Parts,
 }
 
 pub fn host_text(alloc: Global, text: &str) -> Result<HostText, NoMemory> {
@@ -60,6 +63,7 @@ impl Stage {
             placed: Vec::new(alloc),
             room: ROOM,
             failing_writes: Vec::new(alloc),
+            parts: Parts::new(alloc),
         }
     }
 
@@ -106,6 +110,13 @@ impl Stage {
                 &entry.bytes,
             )?;
         }
+        Ok(host)
+    }
+
+    /// A host with all that was put, at which this call fails.
+    pub fn failing_host(&self, alloc: Global, call: u64) -> Result<MemoryHost, NoMemory> {
+        let mut host = self.fresh_host(alloc)?;
+        host.fail(alloc, call)?;
         Ok(host)
     }
 

@@ -2,8 +2,8 @@
 
 use crate::stage::host_text;
 use fx_base::NoMemory;
-use fx_folder::FolderCause;
-use fx_outside::{Host, HostFault, HostKind, HostText, Listing, MemoryHost, Standing};
+use fx_outside::{Host, HostFault, HostKind, HostText, Listing, MemoryHost, Standing, Words};
+use fx_program::Message;
 use fx_top::status::Status;
 use std::alloc::{AllocError, Global};
 use std::fmt::Write;
@@ -60,39 +60,14 @@ pub fn tell_bytes(out: &mut String, bytes: &[u8]) -> Result<(), NoMemory> {
     Ok(())
 }
 
-fn tell_cause(out: &mut String, name: &str, path: &HostText) -> Result<(), NoMemory> {
-    let path = path.as_str();
-    writeln!(out, "> status 4 {name} {path}")?;
+/// Tells how a command ended: its status, and its line on standard error.
+pub fn tell_status(out: &mut String, words: &Words, status: &Status) -> Result<(), NoMemory> {
+    let code = status.code();
+    writeln!(out, "> status {code}")?;
+    if let Some(line) = Message::of(words, status) {
+        writeln!(out, "> said {line}")?;
+    }
     Ok(())
-}
-
-fn tell_folder(out: &mut String, cause: &FolderCause) -> Result<(), NoMemory> {
-    match cause {
-        FolderCause::BadName(path) => tell_cause(out, "BadName", path),
-        FolderCause::Strange(path) => tell_cause(out, "Strange", path),
-        FolderCause::TooLarge(path) => tell_cause(out, "TooLarge", path),
-        FolderCause::NotBuilt(path) => tell_cause(out, "NotBuilt", path),
-        FolderCause::BadTable(line) => {
-            writeln!(out, "> status 4 BadTable {line}")?;
-            Ok(())
-        }
-    }
-}
-
-/// Tells how a command ended, with its cause.
-pub fn tell_status(out: &mut String, status: &Status) -> Result<(), NoMemory> {
-    match status {
-        Status::TextRefused { word, cause } => {
-            writeln!(out, "> status 3 word {word} {cause:?}")?;
-            Ok(())
-        }
-        Status::FolderRefused(cause) => tell_folder(out, cause),
-        _ => {
-            let code = status.code();
-            writeln!(out, "> status {code}")?;
-            Ok(())
-        }
-    }
 }
 
 /// What stands at a path. A call that fails is made once more.

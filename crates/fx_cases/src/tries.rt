@@ -1,10 +1,10 @@
 //! Commands that are run many times: with each call of the host failing in turn, and by each schedule of two scripts.
 
-use crate::runs::{OUT, status_of, tell_run, words_of};
+use crate::runs::{OUT, tell_end, tell_run, words_of};
 use crate::stage::Stage;
-use crate::telling::{tell, tell_status, tell_tree};
+use crate::telling::{tell, tell_tree};
 use fx_base::NoMemory;
-use fx_outside::Words;
+use fx_outside::{MemoryHost, Words};
 use std::alloc::Global;
 use std::collections::BTreeSet;
 
@@ -14,25 +14,87 @@ const CALL_LIMIT: u64 = 200;
 /// The number of schedules of six steps of two shells.
 const SCHEDULES: u32 = 64;
 
-/// What a command gives where a call of the host fails, if one is to.
-fn run_with(
+/// Tells what a command gives at a host.
+fn tell_on(
     alloc: Global,
     stage: &Stage,
     words: &Words,
-    failing: Option<u64>,
-) -> Result<String, NoMemory> {
-    let mut told = String::new(alloc);
-    let mut host = stage.fresh_host(alloc)?;
+    host: &mut MemoryHost,
+    out: &mut String,
+) -> Result<(), NoMemory> {
     let mut sink = stage.fresh_sink(alloc)?;
-    if let Some(call) = failing {
-        host.fail(alloc, call)?;
+    tell_run(alloc, words, host, &mut sink, out)
+}
+
+/// Tells what a command gives where nothing fails.
+fn tell_whole(
+    alloc: Global,
+    stage: &Stage,
+    words: &Words,
+    out: &mut String,
+) -> Result<(), NoMemory> {
+    let mut host = stage.fresh_host(alloc)?;
+    tell_on(alloc, stage, words, &mut host, out)
+}
+
+/// Tells what a command gives where a call of the host fails.
+fn tell_failing(
+    alloc: Global,
+    stage: &Stage,
+    words: &Words,
+    call: u64,
+    out: &mut String,
+) -> Result<(), NoMemory> {
+    let mut host = stage.failing_host(alloc, call)?;
+    tell_on(alloc, stage, words, &mut host, out)
+}
+
+/// Tells what differs from the time before.
+fn tell_new(out: &mut String, last: &str, told: &str) -> Result<(), NoMemory> {
+    if told != last {
+        out.push_str(told)?;
+        tell(out, "--")?;
     }
-    tell_run(alloc, words, &mut host, &mut sink, &mut told)?;
-    Ok(told)
+    Ok(())
 }
 
 /// Tells what a command gives where its first call of the host fails, where its second does and so on, up to the first at
-/// which nothing fails. What is the same as the time before is not told again.
+/// which all is as where nothing fails.
+fn tell_each(
+    alloc: Global,
+    stage: &Stage,
+    words: &Words,
+    whole: &str,
+    out: &mut String,
+) -> Result<(), NoMemory> {
+    let mut last = String::new(alloc);
+    for call in 0..CALL_LIMIT {
+        let mut told = String::new(alloc);
+        tell_failing(alloc, stage, words, call, &mut told)?;
+        if told.as_str() == whole {
+            break;
+        }
+        tell_new(out, last.as_str(), told.as_str())?;
+        last = told;
+    }
+    Ok(())
+}
+
+fn tell_both(
+    alloc: Global,
+    stage: &Stage,
+    words: &Words,
+    out: &mut String,
+) -> Result<(), NoMemory> {
+    let mut whole = String::new(alloc);
+    tell_whole(alloc, stage, words, &mut whole)?;
+    tell_each(alloc, stage, words, whole.as_str(), out)?;
+    out.push_str(whole.as_str())?;
+    Ok(())
+}
+
+/// Tells what a command gives where each call of the host fails in turn, and then where nothing fails. What is the same as
+/// the time before is not told again.
 pub fn tell_faults(
     alloc: Global,
     stage: &Stage,
@@ -40,21 +102,7 @@ pub fn tell_faults(
     out: &mut String,
 ) -> Result<(), NoMemory> {
     let words = words_of(alloc, line)?;
-    let whole = run_with(alloc, stage, &words, None)?;
-    let mut last = String::new(alloc);
-    for call in 0..CALL_LIMIT {
-        let told = run_with(alloc, stage, &words, Some(call))?;
-        if told.as_str() == whole.as_str() {
-            break;
-        }
-        if told.as_str() != last.as_str() {
-            out.push_str(told.as_str())?;
-            tell(out, "--")?;
-        }
-        last = told;
-    }
-    out.push_str(whole.as_str())?;
-    Ok(())
+    tell_both(alloc, stage, &words, out)
 }
 
 /// The schedule of six steps by the binary digits of a number.
@@ -91,29 +139,53 @@ fn tell_order(out: &mut String, trace: &str) -> Result<(), NoMemory> {
     Ok(())
 }
 
-/// What a trace by a schedule gives, without its looks, conflicts and retries.
-fn trace_by(alloc: Global, stage: &Stage, schedule: &str) -> Result<String, NoMemory> {
-    let line = format!(in alloc; "trace spec in {OUT} {schedule} first second")?;
-    let words = words_of(alloc, line.as_str())?;
-    let mut told = String::new(alloc);
-    let mut host = stage.fresh_host(alloc)?;
-    let mut sink = stage.fresh_sink(alloc)?;
-    let status = status_of(alloc, &words, &mut host, &mut sink);
-    tell_status(&mut told, &status)?;
-    match std::str::from_utf8(sink.written()) {
-        Ok(trace) => tell_order(&mut told, trace)?,
-        Err(_) => tell(&mut told, "not UTF-8")?,
+fn tell_printed(out: &mut String, printed: &[u8]) -> Result<(), NoMemory> {
+    match std::str::from_utf8(printed) {
+        Ok(trace) => tell_order(out, trace),
+        Err(_) => tell(out, "not UTF-8"),
     }
-    tell_tree(alloc, &mut host, OUT, &mut told)?;
+}
+
+/// Tells what a trace gives, without its looks, conflicts and retries.
+fn tell_trace(
+    alloc: Global,
+    stage: &Stage,
+    words: &Words,
+    host: &mut MemoryHost,
+    out: &mut String,
+) -> Result<(), NoMemory> {
+    let mut sink = stage.fresh_sink(alloc)?;
+    tell_end(alloc, words, host, &mut sink, out)?;
+    tell_printed(out, sink.written())?;
+    tell_tree(alloc, host, OUT, out)
+}
+
+/// The words of a trace by a schedule.
+fn trace_words(alloc: Global, number: u32) -> Result<Words, NoMemory> {
+    let schedule = schedule_of(alloc, number)?;
+    let line = format!(in alloc; "trace spec in {OUT} {schedule} first second")?;
+    words_of(alloc, line.as_str())
+}
+
+/// What a trace gives on a fresh stage, without its looks, conflicts and retries.
+fn trace_of(alloc: Global, stage: &Stage, words: &Words) -> Result<String, NoMemory> {
+    let mut host = stage.fresh_host(alloc)?;
+    let mut told = String::new(alloc);
+    tell_trace(alloc, stage, words, &mut host, &mut told)?;
     Ok(told)
+}
+
+/// What the trace by a schedule gives.
+fn order_by(alloc: Global, stage: &Stage, number: u32) -> Result<String, NoMemory> {
+    let words = trace_words(alloc, number)?;
+    trace_of(alloc, stage, &words)
 }
 
 /// What the traces by all schedules of six steps give, each once.
 fn orders(alloc: Global, stage: &Stage) -> Result<BTreeSet<String>, NoMemory> {
     let mut orders = BTreeSet::new(alloc);
     for number in 0..SCHEDULES {
-        let schedule = schedule_of(alloc, number)?;
-        orders.insert(trace_by(alloc, stage, schedule.as_str())?)?;
+        orders.insert(order_by(alloc, stage, number)?)?;
     }
     Ok(orders)
 }

@@ -23,7 +23,7 @@ pub enum Form {
 }
 
 /// A text as it stands in a case, up to the limit of texts.
-fn text(alloc: Global, spelled: &str) -> Result<Text, NoMemory> {
+pub fn text(alloc: Global, spelled: &str) -> Result<Text, NoMemory> {
     let mut bytes = unescaped(alloc, spelled)?;
     bytes.truncate(TEXT_LIMIT);
     Ok(Text::from_vec(bytes))

@@ -4,6 +4,7 @@ use fx_outside::{Host, HostFault, HostText};
 use std::alloc::{Allocator, Global};
 use std::fs::{File, Metadata, OpenFile, OpenOptions};
 use std::io::{self, Cursor, ErrorKind, Read, Seek, SeekFrom, Write};
+use std::process::Abort;
 use std::rt::Files;
 use std::test::Fail;
 
@@ -136,52 +137,87 @@ impl Files for Strange {
     }
 }
 
+fn put(alloc: Global, disk: &mut Disk<HostRuntime>, path: &str) -> Result<(), HostFault> {
+    let path = match text(alloc, path) {
+        Ok(path) => path,
+        Err(NoMemory) => return Err(HostFault::NoMemory),
+    };
+    disk.write_new(alloc, &path, b"")
+}
+
+fn fill(alloc: Global, disk: &mut Disk<HostRuntime>, folder: &HostText) -> Result<(), HostFault> {
+    disk.make_dir(alloc, folder)?;
+    put(alloc, disk, "g/a")?;
+    put(alloc, disk, "g/b")
+}
+
+/// Makes a folder of two files.
+fn make_folder(rt: &HostRuntime, folder: &HostText) -> Result<Result<(), HostFault>, Fail> {
+    let mut disk = Disk::new(rt.clone()?);
+    Ok(fill(rt.alloc(), &mut disk, folder))
+}
+
+/// How a folder that tells these names is not listed, and how many faults are counted then.
+fn list(
+    rt: &HostRuntime,
+    folder: &HostText,
+    names: [u8; 4],
+) -> Result<(Option<HostFault>, u64), Fail> {
+    let mut strange = Disk::new(Strange {
+        rt: rt.clone()?,
+        names,
+    });
+    let fault = strange.list(rt.alloc(), folder).err();
+    Ok((fault, strange.faults()))
+}
+
 #[test]
 fn names_that_are_no_utf8_or_stand_twice_are_faults(rt: HostRuntime) -> Result<(), Fail> {
+    let folder = text(rt.alloc(), "g")?;
+    assert_eq!(rt; make_folder(&rt, &folder)?, Ok(()));
+    let failed = (Some(HostFault::Failed), 1);
+    assert_eq!(rt; list(&rt, &folder, *b"a\0b\0")?, (None, 0));
+    assert_eq!(rt; list(&rt, &folder, *b"a\0\xff\0")?, failed);
+    assert_eq!(rt; list(&rt, &folder, *b"a\0a\0")?, failed);
+    Ok(())
+}
+
+/// How many bytes are read from a place on, and the first of them.
+fn read(
+    alloc: Global,
+    disk: &mut Disk<Strange>,
+    path: &HostText,
+    from: u64,
+) -> (Result<usize, HostFault>, u8) {
+    let mut buf = [0u8; 4];
+    let count = disk.read(alloc, path, from, &mut buf);
+    (count, buf[0])
+}
+
+/// Reads on, at the end, and from the front again; a read from elsewhere needs a seek.
+fn read_all(rt: &(impl Abort + AllocGlobal), disk: &mut Disk<Strange>, path: &HostText) {
     let alloc = rt.alloc();
-    let mut disk = Disk::new(rt.clone()?);
-    let folder = text(alloc, "g")?;
-    disk.make_dir(alloc, &folder)?;
-    disk.write_new(alloc, &text(alloc, "g/a")?, b"")?;
-    disk.write_new(alloc, &text(alloc, "g/b")?, b"")?;
-    for (names, fault) in [
-        (*b"a\0b\0", None),
-        (*b"a\0\xff\0", Some(HostFault::Failed)),
-        (*b"a\0a\0", Some(HostFault::Failed)),
-    ] {
-        let mut strange = Disk::new(Strange {
-            rt: rt.clone()?,
-            names,
-        });
-        assert_eq!(rt; strange.list(alloc, &folder).err(), fault, "{names:?}");
-        assert_eq!(rt; strange.faults(), u64::from(fault.is_some()), "{names:?}");
-    }
+    assert_eq!(rt; read(alloc, disk, path, 0), (Ok(4), b'h'));
+    assert_eq!(rt; read(alloc, disk, path, 4), (Ok(1), b'o'));
+    assert_eq!(rt; read(alloc, disk, path, 5), (Ok(0), 0));
+    assert_eq!(rt; read(alloc, disk, path, 0), (Ok(4), b'h'));
+    assert_eq!(rt; disk.faults(), 0);
+    assert_eq!(rt; read(alloc, disk, path, 1).0, Err(HostFault::Failed));
+    assert_eq!(rt; disk.faults(), 1);
+}
+
+fn write_and_read(rt: &(impl Abort + AllocGlobal), disk: &mut Disk<Strange>) -> Result<(), Fail> {
+    let path = text(rt.alloc(), "slow")?;
+    assert_eq!(rt; disk.write_new(rt.alloc(), &path, b"hello"), Ok(()));
+    read_all(rt, disk, &path);
     Ok(())
 }
 
 #[test]
 fn interrupted_reads_and_writes_go_on_with_no_seek(rt: HostRuntime) -> Result<(), Fail> {
-    let alloc = rt.alloc();
     let mut disk = Disk::new(Strange {
         rt: rt.clone()?,
         names: *b"a\0b\0",
     });
-    let path = text(alloc, "slow")?;
-    assert_eq!(rt; disk.write_new(alloc, &path, b"hello"), Ok(()));
-    let mut buf = [0u8; 4];
-    for (from, count, first) in [(0, 4, b'h'), (4, 1, b'o'), (5, 0, b'o'), (0, 4, b'h')] {
-        assert_eq!(rt;
-            disk.read(alloc, &path, from, &mut buf),
-            Ok(count),
-            "from {from}"
-        );
-        assert_eq!(rt; buf[0], first, "from {from}");
-    }
-    assert_eq!(rt; disk.faults(), 0);
-    assert_eq!(rt;
-        disk.read(alloc, &path, 1, &mut buf),
-        Err(HostFault::Failed)
-    );
-    assert_eq!(rt; disk.faults(), 1);
-    Ok(())
+    write_and_read(&rt, &mut disk)
 }

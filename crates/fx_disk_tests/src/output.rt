@@ -57,30 +57,40 @@ impl Print for Stalled {
     }
 }
 
-#[test]
-fn a_write_is_taken_or_counted(rt: HostRuntime) -> Result<(), Fail> {
-    let mut output = Output::new(&rt);
-    assert_eq!(rt; output.write(b"taken\n"), Ok(6));
-    assert_eq!(rt; output.faults(), 0);
-    File::create_new(&rt, "read-only")?;
+/// What is taken of a line that is written to a file that can't be written.
+fn write_lost(rt: &HostRuntime) -> io::Result<(Result<usize, SinkFailed>, u64)> {
+    File::create_new(rt, "read-only")?;
     let device = Device {
-        file: File::open(&rt, "read-only")?,
+        file: File::open(rt, "read-only")?,
     };
     let mut output = Output::new(&device);
-    assert_eq!(rt; output.write(b"lost\n"), Err(SinkFailed));
-    assert_eq!(rt; output.faults(), 1);
+    Ok((output.write(b"lost\n"), output.faults()))
+}
+
+fn write_taken(rt: &HostRuntime) -> (Result<usize, SinkFailed>, u64) {
+    let mut output = Output::new(rt);
+    (output.write(b"taken\n"), output.faults())
+}
+
+#[test]
+fn a_write_is_taken_or_counted(rt: HostRuntime) -> Result<(), Fail> {
+    assert_eq!(rt; write_taken(&rt), (Ok(6), 0));
+    assert_eq!(rt; write_lost(&rt)?, (Err(SinkFailed), 1));
     Ok(())
+}
+
+/// What a sink that takes so many bytes at a time takes of a line.
+fn write_stalled(count: usize) -> (Result<usize, SinkFailed>, u64) {
+    let stalled = Stalled {
+        is_begun: Cell::new(false),
+        count,
+    };
+    let mut output = Output::new(&stalled);
+    (output.write(b"part\n"), output.faults())
 }
 
 #[test]
 fn an_interrupted_write_goes_on_and_a_write_of_nothing_is_counted(rt: HostRuntime) {
-    for (count, taken, faults) in [(0, Err(SinkFailed), 1), (3, Ok(3), 0)] {
-        let stalled = Stalled {
-            is_begun: Cell::new(false),
-            count,
-        };
-        let mut output = Output::new(&stalled);
-        assert_eq!(rt; output.write(b"part\n"), taken);
-        assert_eq!(rt; output.faults(), faults);
-    }
+    assert_eq!(rt; write_stalled(0), (Err(SinkFailed), 1));
+    assert_eq!(rt; write_stalled(3), (Ok(3), 0));
 }

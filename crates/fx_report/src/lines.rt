@@ -154,10 +154,8 @@ fn add_log(out: &mut Vec<u8>, board: &Board) -> Result<(), NoMemory>
 fn add_entries(out: &mut Vec<u8>, entries: &PrintedEntries) -> Result<(), NoMemory>
     ensures { OnOk result (out.new.items ≡ out.old.items ++ report.entries_text 0 entries.now) }
 {
-    for i in 0..entries.len() {
-        if let Some(entry) = entries.at(i) {
-            add_entry(out, i, entry)?;
-        }
+    for (i, entry) in entries.as_slice().iter().enumerate() {
+        add_entry(out, i as u64, entry)?;
     }
     Ok(())
 }
@@ -177,10 +175,8 @@ fn add_retry(out: &mut Vec<u8>, retry: &Retry) -> Result<(), NoMemory>
 fn add_retries(out: &mut Vec<u8>, retries: &Retries) -> Result<(), NoMemory>
     ensures { OnOk result (out.new.items ≡ out.old.items ++ flat_map report.retry_line retries.now) }
 {
-    for i in 0..retries.len() {
-        if let Some(retry) = retries.at(i) {
-            add_retry(out, retry)?;
-        }
+    for retry in retries {
+        add_retry(out, retry)?;
     }
     Ok(())
 }
@@ -198,7 +194,7 @@ fn add_tail(out: &mut Vec<u8>, retries: &Retries) -> Result<(), NoMemory>
     ensures { OnOk result (out.new.items ≡ out.old.items ++ report.line (report.field (codes "retries ") (length retries.now))
         ++ flat_map report.retry_line retries.now ++ report.line (codes "end")) }
 {
-    add_count_line(out, b"retries ", retries.len())?;
+    add_count_line(out, b"retries ", retries.len() as u64)?;
     add_retries(out, retries)?;
     add_bytes(out, b"end\n")
 }
@@ -213,7 +209,7 @@ pub fn printed_report(
     ensures { IfOk result (λ text. text ≡ report.report_text entries.now retries.now) }
 {
     let mut out = Vec::new(alloc);
-    add_head(&mut out, entries.len())?;
+    add_head(&mut out, entries.len() as u64)?;
     add_entries(&mut out, entries)?;
     add_tail(&mut out, retries)?;
     Ok(LongText::from_vec(out))
@@ -281,10 +277,8 @@ pub fn event_lines(alloc: Global, events: &Events) -> Result<LongText, NoMemory>
     ensures { IfOk result (λ text. text ≡ told.lines events.now) }
 {
     let mut out = Vec::new(alloc);
-    for i in 0..events.len() {
-        if let Some(event) = events.at(i) {
-            add_event(&mut out, event)?;
-        }
+    for event in events {
+        add_event(&mut out, event)?;
     }
     Ok(LongText::from_vec(out))
 }

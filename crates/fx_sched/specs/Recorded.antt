@@ -1,6 +1,7 @@
 -- What is recorded of a run.
 use Rattle.std.specs.Prelude.{◌≡◌, ℕ, ◌<◌, false, List, [], ◌∷◌, ◌++◌, map, length, slice_index_or, slice_set, Contains}
 use Rattle.std.specs.List.{flat_map}
+use Rattle.fx_spec.specs.Order.{BaseTree}
 use Rattle.fx_machine.specs.declared.event.Event.{Event}
 use Rattle.fx_machine.specs.declared.event.Event.TheVariants as event
 use Rattle.fx_machine.specs.declared.retry.Retry.{Retry}
@@ -48,6 +49,15 @@ pub record HadRounds (old new : Recording) : Type 0 where
   pub events : new.events ≡ old.events ++ more
   pub over : (k : ℕ) → has_left new.world.base new.world.machine k ≡ false
   pub takes : TakesTurns old.world.base old.events [] more
+
+-- from the start the shells of a schedule have had their turns, and then all in rounds
+pub record HasPlayed (base : BaseTree) (schedule : List ℕ) (new : Recording) : Type 0 where
+  pub start : Recording
+  pub begun : start.world.base ≡ base
+  pub none : start.events ≡ []
+  pub between : Recording
+  pub turns : HadTurns start schedule between
+  pub rounds : HadRounds between new
 
 -- the retries of all shells, by shell
 abbrev pub joined : List (List Retry) → List Retry

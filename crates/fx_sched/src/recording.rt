@@ -106,7 +106,7 @@ fn take_turn(alloc: Global, recording: &mut Recording, shell: u32) -> Result<(),
         Some(event) => {
             let txn = recording.world.next(shell);
             note(alloc, &mut recording.retried, txn, &event)?;
-            recording.events.add(alloc, event)?;
+            recording.events.push(event)?;
             Ok(())
         }
     }
@@ -140,16 +140,16 @@ pub(crate) fn join(alloc: Global, shells: Vec<Retried>) -> Result<Retries, NoMem
 {
     let mut retries = Retries::new(alloc);
     for shell in shells {
-        append(alloc, &mut retries, shell.items)?;
+        append(&mut retries, shell.items)?;
     }
     Ok(retries)
 }
 
-fn append(alloc: Global, retries: &mut Retries, items: Vec<Retry>) -> Result<(), NoMemory>
+fn append(retries: &mut Retries, items: Vec<Retry>) -> Result<(), NoMemory>
     ensures { IfOk result (λ _. retries.new ≡ retries.old ++ items.items) }
 {
     for retry in items {
-        retries.add(alloc, retry)?;
+        retries.push(retry)?;
     }
     Ok(())
 }

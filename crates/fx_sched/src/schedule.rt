@@ -1,7 +1,8 @@
 ghost use Rattle.std.specs.Prelude.{◌≡◌, ◌<◌, true, All, IfOk, length};
 ghost use Rattle.fx_spec.specs.Bases.{base_tree};
 ghost use Rattle.fx_forms.specs.Built.{is_built_spec, is_built_plan};
-ghost use Rattle.fx_sched.specs.Traced.{IsTraced};
+ghost use Rattle.fx_sched.specs.Recorded.{HasPlayed};
+ghost use Rattle.fx_sched.specs.Traced.{IsTraced, IsTraceOf};
 
 use crate::recording::{Recording, begin, join, take_rounds, take_turns};
 use fx_base::NoMemory;
@@ -18,17 +19,23 @@ pub struct Traced {
     pub events: Events,
 }
 
-/// Steps the shells of the schedule in order, and then all shells in rounds from 0 on, until none has a transaction left.
-/// Each number of the schedule needs to be below the number of scripts.
-pub fn run_schedule(alloc: Global, base: Arc<Base>, schedule: &[u32]) -> Result<Traced, NoMemory>
+/// A whole run as it was recorded.
+fn recorded(alloc: Global, base: Arc<Base>, schedule: &[u32]) -> Result<Recording, NoMemory>
     requires spec { is_built_spec base.value.description ≡ true }
     requires plan { is_built_plan base.value.plan ≡ true }
     requires shells { All (λ k. k < length base.value.plan) schedule.now }
-    ensures { IfOk result (IsTraced (base_tree base.value) schedule.now) }
+    ensures { IfOk result (HasPlayed (base_tree base.value) schedule.now) }
 {
     let mut recording = begin(alloc, base)?;
     take_turns(alloc, &mut recording, schedule)?;
     take_rounds(alloc, &mut recording)?;
+    Ok(recording)
+}
+
+/// What is recorded, with the retries by shell.
+fn gathered(alloc: Global, recording: Recording) -> Result<Traced, NoMemory>
+    ensures { IfOk result (IsTraceOf recording) }
+{
     let Recording {
         world,
         events,
@@ -40,4 +47,16 @@ pub fn run_schedule(alloc: Global, base: Arc<Base>, schedule: &[u32]) -> Result<
         retries,
         events,
     })
+}
+
+/// Steps the shells of the schedule in order, and then all shells in rounds from 0 on, until none has a transaction left.
+/// Each number of the schedule needs to be below the number of scripts.
+pub fn run_schedule(alloc: Global, base: Arc<Base>, schedule: &[u32]) -> Result<Traced, NoMemory>
+    requires spec { is_built_spec base.value.description ≡ true }
+    requires plan { is_built_plan base.value.plan ≡ true }
+    requires shells { All (λ k. k < length base.value.plan) schedule.now }
+    ensures { IfOk result (IsTraced (base_tree base.value) schedule.now) }
+{
+    let recording = recorded(alloc, base, schedule)?;
+    gathered(alloc, recording)
 }
