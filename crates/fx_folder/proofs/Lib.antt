@@ -16,3 +16,9 @@ mod TableLinks
 mod TableSpelling
 pub mod Texts
 pub mod Walk
+pub mod Shapes
+pub mod Linking
+pub mod Walked
+pub mod Loaded
+pub mod Counted
+pub mod RoundTrip

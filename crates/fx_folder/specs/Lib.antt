@@ -4,6 +4,7 @@ pub mod DeepLaws
 pub mod Faults
 pub mod Folder
 pub mod Held
+pub mod LoadLaws
 pub mod Loads
 pub mod Reads
 pub mod Table

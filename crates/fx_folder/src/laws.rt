@@ -1,6 +1,7 @@
 //! Laws of the folder's definitions. Each stands on a function that does nothing, so that it is proved with the crate.
 ghost use Rattle.fx_folder.specs.DeepExamples.{DeepExamples};
 ghost use Rattle.fx_folder.specs.DeepLaws.{FlatFoldersAreTheSame, FlatLoadsAreDeep, FlatRefusalsAreDeep};
+ghost use Rattle.fx_folder.specs.LoadLaws.{LoadsAreWhole, FoldersAreLoaded};
 ghost use Rattle.fx_folder.specs.TableExamples.{TableExamples};
 ghost use Rattle.fx_folder.specs.TableLaws.{TablesAreRead, ReadTextsAreTables, TablesAreReadable, BadLinesAreFirst, LinksAreTables};
 
@@ -53,4 +54,14 @@ pub fn flat_loads_are_deep()
 /// folder inside or a table, which are not loaded yet.
 pub fn flat_refusals_are_deep()
     ensures { FlatRefusalsAreDeep }
+{}
+
+/// What a folder of a whole tree is loaded as is a whole filestore, where its files hold bytes.
+pub fn loads_are_whole()
+    ensures { LoadsAreWhole }
+{}
+
+/// The folder of a whole filestore within the limits is loaded as this filestore.
+pub fn folders_are_loaded()
+    ensures { FoldersAreLoaded }
 {}
