@@ -22,3 +22,4 @@ pub mod Walked
 pub mod Loaded
 pub mod Counted
 pub mod RoundTrip
+pub mod Refusals

@@ -7,6 +7,7 @@ pub mod Held
 pub mod LoadLaws
 pub mod Loads
 pub mod Reads
+pub mod RefusalLaws
 pub mod Table
 pub mod TableExamples
 pub mod TableLaws

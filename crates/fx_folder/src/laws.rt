@@ -2,6 +2,7 @@
 ghost use Rattle.fx_folder.specs.DeepExamples.{DeepExamples};
 ghost use Rattle.fx_folder.specs.DeepLaws.{FlatFoldersAreTheSame, FlatLoadsAreDeep, FlatRefusalsAreDeep};
 ghost use Rattle.fx_folder.specs.LoadLaws.{LoadsAreWhole, FoldersAreLoaded};
+ghost use Rattle.fx_folder.specs.RefusalLaws.{FirstCausesAreTold};
 ghost use Rattle.fx_folder.specs.TableExamples.{TableExamples};
 ghost use Rattle.fx_folder.specs.TableLaws.{TablesAreRead, ReadTextsAreTables, TablesAreReadable, BadLinesAreFirst, LinksAreTables};
 
@@ -64,4 +65,10 @@ pub fn loads_are_whole()
 /// The folder of a whole filestore within the limits is loaded as this filestore.
 pub fn folders_are_loaded()
     ensures { FoldersAreLoaded }
+{}
+
+/// A folder is refused for the cause of the first entry in the order of paths that has one, by what stands before it, and where
+/// no entry has one, for that of its table.
+pub fn first_causes_are_told()
+    ensures { FirstCausesAreTold }
 {}
