@@ -1,4 +1,5 @@
 pub mod Below
+pub mod Counted
 mod DeepExamples
 mod DeepLaws
 pub mod Filled
@@ -6,20 +7,21 @@ pub mod FlatLoads
 mod FlatNodes
 pub mod FlatWalks
 pub mod HeldEntries
+pub mod Linking
 pub mod Listings
+pub mod Loaded
 pub mod Ordered
 pub mod Reading
+pub mod Refusals
+pub mod RoundTrip
+pub mod Shapes
 pub mod Steps
 mod TableExamples
+pub mod TableFronts
 mod TableLines
 mod TableLinks
+pub mod TableRefusals
 mod TableSpelling
 pub mod Texts
 pub mod Walk
-pub mod Shapes
-pub mod Linking
 pub mod Walked
-pub mod Loaded
-pub mod Counted
-pub mod RoundTrip
-pub mod Refusals

@@ -1,5 +1,5 @@
 -- A folder is refused for the first cause of its entries.
-use Rattle.std.proofs.Common.{◌≡◌, ◌⊎◌, inl, inr, ℕ, ◌+◌, ◌-◌, ◌≤◌, Bool, true, false, cond, not, ◌&&◌, ◌||◌, T, List, [], ◌∷◌, ◌++◌, length, filter, Option, Some, None, Result, Ok, Err, refl, sym, ◌∙◌, ap, subst, arith, append_assoc, length-append}
+use Rattle.std.proofs.Common.{◌≡◌, ◌⊎◌, inl, inr, ℕ, ◌+◌, ◌-◌, ◌≤◌, Bool, true, false, cond, not, ◌&&◌, ◌||◌, T, List, [], ◌∷◌, ◌++◌, length, filter, Option, Some, None, Result, Ok, Err, refl, sym, ◌∙◌, ap, subst, arith, append_assoc, append-nil, length-append}
 use Rattle.std.specs.Prelude.{nat_lt, nat_le, bytes_eq}
 use Rattle.std.specs.declared.cmp.Ordering.{Ordering}
 use Rattle.std.specs.declared.cmp.Ordering.TheVariants.{Less, Equal, Greater}
@@ -20,14 +20,16 @@ use Rattle.fx_outside.proofs.Sorted.{first, second, is_less}
 use Rattle.fx_outside.proofs.Trees.{parts_total, parts_same}
 use Rattle.fx_store.specs.Names.{is_name}
 use Rattle.fx_store.specs.Orders.{path_eq_same}
+use Rattle.fx_store.specs.Whole.{Store}
 use Rattle.fx_folder.specs.declared.fault.FolderCause.{FolderCause}
 use Rattle.fx_folder.specs.declared.fault.FolderCause.TheVariants.{BadName, Strange, TooLarge}
 use Rattle.fx_folder.specs.Loads.{table_name, most_nodes, most_in_file, most_bytes}
 use Rattle.fx_folder.specs.Table.{TableLink}
 use Rattle.fx_folder.specs.Deep.{Held, all_below, table_in, place_of, last_name, all_bytes, refused_kind, refused_bytes, refused_entry, first_refused, unlisted, table_links, linked, unless_refused, as_nodes, deep_loads}
-use Rattle.fx_folder.specs.RefusalLaws.{Stands, all_standing, is_one_too_many, has_too_many, is_strange, where_so, cause_of, IsFirstCause, HasNoCause, IsTableCause, FirstCausesAreTold}
+use Rattle.fx_folder.specs.RefusalLaws.{Stands, all_standing, is_one_too_many, is_too_much, is_strange, where_so, cause_of, IsFirstCause, HasNoCause, IsTableCause, FirstCausesAreTold}
 use Rattle.fx_folder.proofs.Counted.{none_behind}
-use Rattle.fx_folder.proofs.Walked.{below_sorted, below_root, find_walked_below}
+use Rattle.fx_folder.proofs.TableRefusals.{IsCauseOf, table_is, table_refused}
+use Rattle.fx_folder.proofs.Walked.{below_sorted, below_root, find_all_below, find_walked_below}
 
 -- ---- one entry has the same cause by counters and by what stands before it
 
@@ -75,8 +77,8 @@ not_so false false cause e = refl
 fits_still : (before : List Held) (names : Parts) (e : Entry) → cause_of before names e ≡ None → all_bytes before + length e.bytes ≤ most_bytes
 fits_still before names e none =
     let place = place_of names in
-    let bytes = last_none (where_so (not (is_name (last_name names))) (BadName place)) (where_so (nat_lt 64 (length names) || is_one_too_many before) (TooLarge place)) (where_so (is_strange e.kind) (Strange place)) (where_so (nat_lt most_in_file (length e.bytes) || has_too_many before e) (TooLarge place)) none in
-    let few : nat_lt most_bytes (all_bytes before + length e.bytes) ≡ false = not_so (nat_lt most_in_file (length e.bytes)) (has_too_many before e) (TooLarge place) bytes in
+    let bytes = last_none (where_so (not (is_name (last_name names))) (BadName place)) (where_so (nat_lt 64 (length names) || is_one_too_many before) (TooLarge place)) (where_so (is_strange e.kind) (Strange place)) (where_so (nat_lt most_in_file (length e.bytes) || is_too_much before e) (TooLarge place)) none in
+    let few : nat_lt most_bytes (all_bytes before + length e.bytes) ≡ false = not_so (nat_lt most_in_file (length e.bytes)) (is_too_much before e) (TooLarge place) bytes in
     grind (arith, nat_tests)
 
 -- ---- the first cause along a list
@@ -109,6 +111,19 @@ same_first before ((names, e) ∷ hs) fits =
     ap (λ n. first_refused (n + 1) (most_bytes - all_bytes before - length e.bytes) hs) (sym (more_nodes before h))
     ∙ ap (λ n. first_refused (length (before ++ h ∷ []) + 1) n hs) (taken_twice most_bytes (all_bytes before) (length e.bytes) ∙ ap (λ n. most_bytes - n) (sym bytes))
     ∙ same_first (before ++ h ∷ []) hs (omega arith))
+
+nothing_then : {A : Type 0} (a b : Option A) → option_or a b ≡ None → (a ≡ None) × (b ≡ None)
+nothing_then None b e = (refl, e)
+nothing_then (Some x) b e = cc
+
+-- where no entry has a cause, the bytes of all are not too many
+fits_all : (before hs : List Held) → all_bytes before ≤ most_bytes → first_cause before hs ≡ None → all_bytes (before ++ hs) ≤ most_bytes
+fits_all before [] fits none = subst (λ l. all_bytes l ≤ most_bytes) (sym (append-nil before)) fits
+fits_all before (h ∷ hs) fits none =
+    let two = nothing_then (cause_of before h.0 h.1) (first_cause (before ++ h ∷ []) hs) none in
+    let still = fits_still before h.0 h.1 two.0 in
+    let bytes = more_bytes before h in
+    subst (λ l. all_bytes l ≤ most_bytes) (append_assoc before (h ∷ []) hs) (fits_all (before ++ h ∷ []) hs (omega arith) two.1)
 
 -- ---- those before an entry
 
@@ -235,15 +250,11 @@ module _ (all : List Held) (up : T (is_sorted parts_cmp all)) where
   none_is : (before hs : List Held) → all ≡ before ++ hs → first_cause before hs ≡ None → HaveNone hs
   none_is before [] is e q x found = cc
   none_is before (h ∷ hs) is e q x found =
-      let two = both_none (cause_of before h.0 h.1) (first_cause (before ++ h ∷ []) hs) e in
+      let two = nothing_then (cause_of before h.0 h.1) (first_cause (before ++ h ∷ []) hs) e in
       elim (found_at h hs q x found) [
         | inl it ↦ subst (λ k. at k x ≡ None) (sym it.0) (subst (λ y. at h.0 y ≡ None) it.1 (ap (λ l. cause_of l h.0 h.1) (head_before before h hs is) ∙ two.0))
         | inr after ↦ none_is (before ++ h ∷ []) hs (moved before h hs is) two.1 q x after
       ]
-    where
-      both_none : (a b : Option FolderCause) → option_or a b ≡ None → (a ≡ None) × (b ≡ None)
-      both_none None b e = (refl, e)
-      both_none (Some x) b e = cc
 
   -- there is one first cause
   one_first : (c d : FolderCause) → IsFirstOf all c → IsFirstOf all d → c ≡ d
@@ -306,19 +317,42 @@ module _ (tree : Tree) (P : Parts) where
   told : first_refused 1 most_bytes hs ≡ first_cause [] hs
   told = same_first [] hs (omega arith)
 
-  abbrev links : Result (List TableLink) FolderCause
-  links = table_links (length hs + 1) (most_bytes - all_bytes hs) (λ path. find parts_cmp path (unlisted hs)) (table_in (all_below tree P))
+  abbrev S : Store
+  S path = find parts_cmp path (unlisted hs)
 
-  table_refused : (r : Result (List TableLink) FolderCause) (cause : FolderCause) → as_nodes (linked (unlisted hs) r) ≡ Err cause → r ≡ Err cause
-  table_refused (Ok ls) cause e = cc
-  table_refused (Err c) cause e = cc
+  abbrev links : Result (List TableLink) FolderCause
+  links = table_links (length hs + 1) (most_bytes - all_bytes hs) S (table_in (all_below tree P))
+
+  not_linked : (r : Result (List TableLink) FolderCause) (cause : FolderCause) → as_nodes (linked (unlisted hs) r) ≡ Err cause → r ≡ Err cause
+  not_linked (Ok ls) cause e = cc
+  not_linked (Err c) cause e = cc
+
+  table_at : table_in (all_below tree P) ≡ get tree (P ++ table_name ∷ [])
+  table_at = find_all_below tree P table_name []
+
+  -- the table's cause, where all entries are loaded
+  module _ (fits : all_bytes hs ≤ most_bytes) where
+    has_table : (cause : FolderCause) (o : Option Entry) → table_in (all_below tree P) ≡ o → IsCauseOf hs fits S o cause → IsTableCause tree P cause
+    has_table cause None is why = absurd why
+    has_table cause (Some e) is why = record { table = e; stands = sym table_at ∙ is; why = why }
+
+    to_table : (cause : FolderCause) → links ≡ Err cause → IsTableCause tree P cause
+    to_table cause e = has_table cause (table_in (all_below tree P)) refl (table_is hs fits S (table_in (all_below tree P)) cause e)
+
+    from_table : (cause : FolderCause) → IsTableCause tree P cause → links ≡ Err cause
+    from_table cause told_so =
+        ap (table_links (length hs + 1) (most_bytes - all_bytes hs) S) (table_at ∙ told_so.stands)
+        ∙ table_refused hs fits S (Some told_so.table) cause told_so.why
+
+  all_fit : first_cause [] hs ≡ None → all_bytes hs ≤ most_bytes
+  all_fit none = fits_all [] hs (omega arith) none
 
   refused : (cause : FolderCause) → deep_loads tree P ≡ Err cause → IsFirstCause tree P cause ⊎ (HasNoCause tree P × IsTableCause tree P cause)
   refused cause e = by (first_cause [] hs) refl (sym (ap (λ o. as_nodes (unless_refused o (linked (unlisted hs) links))) told) ∙ e)
     where
       by : (o : Option FolderCause) → first_cause [] hs ≡ o → as_nodes (unless_refused o (linked (unlisted hs) links)) ≡ Err cause → IsFirstCause tree P cause ⊎ (HasNoCause tree P × IsTableCause tree P cause)
       by (Some c) is e = let same : c ≡ cause = cc in inl (to_paths cause (first_is hs sorted [] hs cause refl (is ∙ ap Some same)))
-      by None is e = inr (λ q x stands. none_is hs sorted [] hs refl is q x (is_found q x stands), table_refused links cause e)
+      by None is e = inr (λ q x stands. none_is hs sorted [] hs refl is q x (is_found q x stands), to_table (all_fit is) cause (not_linked links cause e))
 
   tells : (cause : FolderCause) → IsFirstCause tree P cause ⊎ (HasNoCause tree P × IsTableCause tree P cause) → deep_loads tree P ≡ Err cause
   tells cause why = ap (λ o. as_nodes (unless_refused o (linked (unlisted hs) links))) told ∙ by (first_cause [] hs) refl why
@@ -327,7 +361,7 @@ module _ (tree : Tree) (P : Parts) where
       by (Some c) is (inl f) = ap (λ x. Err x) (one_first hs sorted c cause (first_is hs sorted [] hs c refl is) (from_paths cause f))
       by (Some c) is (inr no_entry) = absurd (no_first hs sorted c (first_is hs sorted [] hs c refl is) (λ q e found. no_entry.0 q e (does_stand q e found)))
       by None is (inl f) = absurd (no_first hs sorted cause (from_paths cause f) (none_is hs sorted [] hs refl is))
-      by None is (inr no_entry) = ap (λ r. as_nodes (linked (unlisted hs) r)) no_entry.1
+      by None is (inr no_entry) = ap (λ r. as_nodes (linked (unlisted hs) r)) (from_table (all_fit is) cause no_entry.1)
 
 pub first_causes_are_told : FirstCausesAreTold
 first_causes_are_told tree P cause = (refused tree P cause, tells tree P cause)
