@@ -1,11 +1,8 @@
 pub mod Below
 pub mod Counted
 mod DeepExamples
-mod DeepLaws
 pub mod Filled
 pub mod FlatLoads
-mod FlatNodes
-pub mod FlatWalks
 pub mod HeldEntries
 pub mod Linking
 pub mod Listings

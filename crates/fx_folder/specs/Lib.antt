@@ -1,6 +1,5 @@
 pub mod Deep
 pub mod DeepExamples
-pub mod DeepLaws
 pub mod Faults
 pub mod Folder
 pub mod Held

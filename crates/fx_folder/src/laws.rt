@@ -1,6 +1,5 @@
 //! Laws of the folder's definitions. Each stands on a function that does nothing, so that it is proved with the crate.
 ghost use Rattle.fx_folder.specs.DeepExamples.{DeepExamples};
-ghost use Rattle.fx_folder.specs.DeepLaws.{FlatFoldersAreTheSame, FlatLoadsAreDeep, FlatRefusalsAreDeep};
 ghost use Rattle.fx_folder.specs.LoadLaws.{LoadsAreWhole, FoldersAreLoaded};
 ghost use Rattle.fx_folder.specs.RefusalLaws.{FirstCausesAreTold};
 ghost use Rattle.fx_folder.specs.TableExamples.{TableExamples};
@@ -39,22 +38,6 @@ pub fn table_examples()
 /// Small folders of some depth: what they are loaded as, with their links, and which refusal of others comes first.
 pub fn deep_examples()
     ensures { DeepExamples }
-{}
-
-/// The folder of a whole filestore of files alone has no table, and an entry for each of its nodes.
-pub fn flat_folders_are_the_same()
-    ensures { FlatFoldersAreTheSame }
-{}
-
-/// What loads as a folder of files alone loads as the same filestore where folders have any depth.
-pub fn flat_loads_are_deep()
-    ensures { FlatLoadsAreDeep }
-{}
-
-/// What is refused as a folder of files alone is refused for the same cause where folders have any depth, unless that is a
-/// folder inside or a table, which are not loaded yet.
-pub fn flat_refusals_are_deep()
-    ensures { FlatRefusalsAreDeep }
 {}
 
 /// What a folder of a whole tree is loaded as is a whole filestore, where its files hold bytes.
