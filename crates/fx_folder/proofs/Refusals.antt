@@ -16,7 +16,7 @@ use Rattle.fx_outside.specs.declared.kind.HostKind.{HostKind}
 use Rattle.fx_outside.specs.declared.kind.HostKind.TheVariants as kind
 use Rattle.fx_outside.specs.Path.{Parts, parts_cmp}
 use Rattle.fx_outside.specs.Tree.{Tree, Entry}
-use Rattle.fx_outside.proofs.Sorted.{first, second, is_less}
+use Rattle.fx_outside.proofs.Sorted.{strictly_sorted, first, second, is_less}
 use Rattle.fx_outside.proofs.Trees.{parts_total, parts_same}
 use Rattle.fx_store.specs.Names.{is_name}
 use Rattle.fx_store.specs.Orders.{path_eq_same}
@@ -26,7 +26,7 @@ use Rattle.fx_folder.specs.declared.fault.FolderCause.TheVariants.{BadName, Stra
 use Rattle.fx_folder.specs.Loads.{table_name, most_nodes, most_in_file, most_bytes}
 use Rattle.fx_folder.specs.Table.{TableLink}
 use Rattle.fx_folder.specs.Deep.{Held, all_below, table_in, place_of, last_name, all_bytes, refused_kind, refused_bytes, refused_entry, first_refused, unlisted, table_links, linked, unless_refused, as_nodes, deep_loads}
-use Rattle.fx_folder.specs.RefusalLaws.{Stands, all_standing, is_one_too_many, is_too_much, is_strange, where_so, cause_of, IsFirstCause, HasNoCause, IsTableCause, FirstCausesAreTold}
+use Rattle.fx_folder.specs.RefusalLaws.{Stands, all_standing, is_one_too_many, is_too_much, is_strange, where_so, cause_of, IsFirstCause, HasNoCause, IsTableCause, EntriesAreListed, FirstCausesAreTold}
 use Rattle.fx_folder.proofs.Counted.{none_behind}
 use Rattle.fx_folder.proofs.TableRefusals.{IsCauseOf, table_is, table_refused}
 use Rattle.fx_folder.proofs.Walked.{below_sorted, below_root, find_all_below, find_walked_below}
@@ -365,3 +365,9 @@ module _ (tree : Tree) (P : Parts) where
 
 pub first_causes_are_told : FirstCausesAreTold
 first_causes_are_told tree P cause = (refused tree P cause, tells tree P cause)
+
+pub entries_are_listed : EntriesAreListed
+entries_are_listed tree P = record {
+  ascending = strictly_sorted parts_cmp (all_standing tree P) (below_sorted tree P);
+  listed = λ q e. (is_found tree P q e, does_stand tree P q e);
+}

@@ -25,11 +25,11 @@ same_front : (at a b : Parts) → parts_cmp (at ++ a) (at ++ b) ≡ parts_cmp a 
 same_front [] a b = refl
 same_front (x ∷ at) a b = ap (λ r. ordering_then r (parts_cmp (at ++ a) (at ++ b))) (tied_itself name_total x) ∙ same_front at a b
 
-rest_append : (at path : Parts) → rest_of at (at ++ path) ≡ Some path
+pub rest_append : (at path : Parts) → rest_of at (at ++ path) ≡ Some path
 rest_append [] path = refl
 rest_append (a ∷ at) path = ap (λ b. cond b (rest_of at (at ++ path)) None) (ap is_eq (tied_itself name_total a)) ∙ rest_append at path
 
-rest_is : (at q path : Parts) → rest_of at q ≡ Some path → q ≡ at ++ path
+pub rest_is : (at q path : Parts) → rest_of at q ≡ Some path → q ≡ at ++ path
 rest_is [] q path e = same_Some q path e
 rest_is (a ∷ at) [] path e = cc
 rest_is (a ∷ at) (b ∷ q) path e = elim (cases_Bool (eq_by_cmp name_cmp a b)) [

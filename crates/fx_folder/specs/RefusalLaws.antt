@@ -5,6 +5,8 @@ use Rattle.std.specs.declared.cmp.Ordering.TheVariants.{Less}
 use Rattle.std.specs.Ordering.{is_lt}
 use Rattle.std.specs.Option.{option_or}
 use Rattle.std.specs.List.{filter}
+use Rattle.std.specs.List.Sorted.{IsStrictlySortedBy}
+use Rattle.std.specs.Map.{keys_of}
 use Rattle.std.specs.FinMap.{get, find}
 use Rattle.fx_outside.specs.declared.kind.HostKind.{HostKind}
 use Rattle.fx_outside.specs.declared.kind.HostKind.TheVariants as kind
@@ -28,6 +30,14 @@ Stands tree folder (name ∷ names) e = (bytes_eq name table_name ≡ false) × 
 -- all of these, in the order of their paths
 abbrev pub all_standing : Tree → Parts → List Held
 all_standing tree folder = walked (all_below tree folder)
+
+-- they are those that stand, each once
+pub record AreListed (tree : Tree) (folder : Parts) : Type 0 where
+  pub ascending : IsStrictlySortedBy parts_cmp (keys_of (all_standing tree folder))
+  pub listed : (names : Parts) (e : Entry) → Stands tree folder names e ↔ (find parts_cmp names (all_standing tree folder) ≡ Some e)
+
+abbrev pub EntriesAreListed : Type 0
+EntriesAreListed = (tree : Tree) (folder : Parts) → AreListed tree folder
 
 -- those that come before a path
 abbrev pub standing_before : Tree → Parts → Parts → List Held

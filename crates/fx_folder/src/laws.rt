@@ -1,7 +1,7 @@
 //! Laws of the folder's definitions. Each stands on a function that does nothing, so that it is proved with the crate.
 ghost use Rattle.fx_folder.specs.DeepExamples.{DeepExamples};
 ghost use Rattle.fx_folder.specs.LoadLaws.{LoadsAreWhole, FoldersAreLoaded};
-ghost use Rattle.fx_folder.specs.RefusalLaws.{FirstCausesAreTold};
+ghost use Rattle.fx_folder.specs.RefusalLaws.{EntriesAreListed, FirstCausesAreTold};
 ghost use Rattle.fx_folder.specs.TableExamples.{TableExamples};
 ghost use Rattle.fx_folder.specs.TableLaws.{TablesAreRead, ReadTextsAreTables, TablesAreReadable, BadLinesAreFirst, LinksAreTables};
 
@@ -48,6 +48,11 @@ pub fn loads_are_whole()
 /// The folder of a whole filestore within the limits is loaded as this filestore.
 pub fn folders_are_loaded()
     ensures { FoldersAreLoaded }
+{}
+
+/// The entries that are walked are all that stand below a folder, but for its table, each once and in the order of their paths.
+pub fn entries_are_listed()
+    ensures { EntriesAreListed }
 {}
 
 /// A folder is refused for the cause of the first entry in the order of paths that has one, by what stands before it, and where
