@@ -1,18 +1,24 @@
 pub mod Below
+pub mod Counted
 mod DeepExamples
-mod DeepLaws
 pub mod Filled
 pub mod FlatLoads
-mod FlatNodes
-pub mod FlatWalks
 pub mod HeldEntries
+pub mod Linking
 pub mod Listings
+pub mod Loaded
 pub mod Ordered
 pub mod Reading
+pub mod Refusals
+pub mod RoundTrip
+pub mod Shapes
 pub mod Steps
 mod TableExamples
+pub mod TableFronts
 mod TableLines
 mod TableLinks
+pub mod TableRefusals
 mod TableSpelling
 pub mod Texts
 pub mod Walk
+pub mod Walked

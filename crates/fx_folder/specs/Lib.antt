@@ -1,11 +1,12 @@
 pub mod Deep
 pub mod DeepExamples
-pub mod DeepLaws
 pub mod Faults
 pub mod Folder
 pub mod Held
+pub mod LoadLaws
 pub mod Loads
 pub mod Reads
+pub mod RefusalLaws
 pub mod Table
 pub mod TableExamples
 pub mod TableLaws

@@ -1,6 +1,7 @@
 //! Laws of the folder's definitions. Each stands on a function that does nothing, so that it is proved with the crate.
 ghost use Rattle.fx_folder.specs.DeepExamples.{DeepExamples};
-ghost use Rattle.fx_folder.specs.DeepLaws.{FlatFoldersAreTheSame, FlatLoadsAreDeep, FlatRefusalsAreDeep};
+ghost use Rattle.fx_folder.specs.LoadLaws.{LoadsAreWhole, FoldersAreLoaded};
+ghost use Rattle.fx_folder.specs.RefusalLaws.{EntriesAreListed, FirstCausesAreTold};
 ghost use Rattle.fx_folder.specs.TableExamples.{TableExamples};
 ghost use Rattle.fx_folder.specs.TableLaws.{TablesAreRead, ReadTextsAreTables, TablesAreReadable, BadLinesAreFirst, LinksAreTables};
 
@@ -39,18 +40,23 @@ pub fn deep_examples()
     ensures { DeepExamples }
 {}
 
-/// The folder of a whole filestore of files alone has no table, and an entry for each of its nodes.
-pub fn flat_folders_are_the_same()
-    ensures { FlatFoldersAreTheSame }
+/// What a folder of a whole tree is loaded as is a whole filestore, where its files hold bytes.
+pub fn loads_are_whole()
+    ensures { LoadsAreWhole }
 {}
 
-/// What loads as a folder of files alone loads as the same filestore where folders have any depth.
-pub fn flat_loads_are_deep()
-    ensures { FlatLoadsAreDeep }
+/// The folder of a whole filestore within the limits is loaded as this filestore.
+pub fn folders_are_loaded()
+    ensures { FoldersAreLoaded }
 {}
 
-/// What is refused as a folder of files alone is refused for the same cause where folders have any depth, unless that is a
-/// folder inside or a table, which are not loaded yet.
-pub fn flat_refusals_are_deep()
-    ensures { FlatRefusalsAreDeep }
+/// The entries that are walked are all that stand below a folder, but for its table, each once and in the order of their paths.
+pub fn entries_are_listed()
+    ensures { EntriesAreListed }
+{}
+
+/// A folder is refused for the cause of the first entry in the order of paths that has one, by what stands before it, and where
+/// no entry has one, for that of its table.
+pub fn first_causes_are_told()
+    ensures { FirstCausesAreTold }
 {}

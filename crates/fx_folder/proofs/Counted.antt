@@ -1,0 +1,169 @@
+-- The entries of a whole filestore's folder: in their order, and how many there are.
+use Rattle.std.proofs.Common.{◌≡◌, inl, inr, ℕ, ◌+◌, ◌≤◌, true, false, cond, T, List, [], ◌∷◌, length, sum_by, Option, Some, None, refl, sym, ◌∙◌, ap, subst, arith}
+use Rattle.std.specs.Ordering.{is_eq, is_lt, eq_by_cmp}
+use Rattle.std.specs.declared.cmp.Ordering.TheVariants.{Less, Equal, Greater}
+use Rattle.std.specs.declared.cmp.Ordering.{Ordering}
+use Rattle.std.specs.Option.{option_map}
+use Rattle.std.specs.List.{filter_map}
+use Rattle.std.specs.FinMap.{find, is_sorted}
+use Rattle.std.specs.FinMap.Entries.{below_all}
+use Rattle.std.proofs.lemmas.Bool.{cases_Bool}
+use Rattle.std.proofs.lemmas.List.Sums.{sum_by-cons}
+use Rattle.fx_outside.specs.Tree.{Entry, file, folder}
+use Rattle.fx_outside.proofs.Sorted.{both, first, second}
+use Rattle.fx_store.specs.declared.node.Node.{Node}
+use Rattle.fx_store.specs.declared.node.Node.TheVariants.{File, Dir, Link}
+use Rattle.fx_store.specs.Names.{path_cmp}
+use Rattle.fx_store.specs.Orders.{path_eq_same}
+use Rattle.fx_folder.specs.Folder.{host_entry}
+use Rattle.fx_folder.specs.Table.{TableLink, link_at}
+use Rattle.fx_folder.specs.Deep.{Held, Mapped, all_bytes}
+use Rattle.fx_folder.specs.LoadLaws.{size_of, sizes_of}
+use Rattle.fx_folder.proofs.Shapes.{found}
+
+abbrev Paths : Type 0
+Paths = List (List ℕ)
+
+-- ---- what is found behind a path
+
+absurd_less : (o : Ordering) → T (is_lt o) → is_eq o ≡ true → ⊥
+absurd_less Less less e = cc
+absurd_less Equal less e = less
+absurd_less Greater less e = less
+
+-- nothing is found at a path that comes before all of a list
+pub none_behind : {X : Type 0} (k : Paths) (es : List (Paths × X)) → T (below_all path_cmp k es) → find path_cmp k es ≡ None
+none_behind k [] h = refl
+none_behind k (e ∷ es) h = elim (cases_Bool (eq_by_cmp path_cmp k e.0)) [
+  | inl same ↦ absurd (absurd_less (path_cmp k e.0) (first (is_lt (path_cmp k e.0)) _ h) same)
+  | inr other ↦ ap (λ b. cond b (Some e.1) (find path_cmp k es)) other ∙ none_behind k es (second (is_lt (path_cmp k e.0)) _ h)
+]
+
+-- a path that ties with the first is not found again
+pub none_again : (p : Paths) (node : Node) (es : List Mapped) → T (is_sorted path_cmp ((p, node) ∷ es)) → (q : Paths) → eq_by_cmp path_cmp q p ≡ true → found es q ≡ None
+none_again p node es up q same = subst (λ k. found es k ≡ None) (sym (path_eq_same q p same)) (none_behind p es (first (below_all path_cmp p es) _ up))
+
+pub rest_sorted : (p : Paths) (node : Node) (es : List Mapped) → T (is_sorted path_cmp ((p, node) ∷ es)) → T (is_sorted path_cmp es)
+rest_sorted p node es up = second (below_all path_cmp p es) _ up
+
+-- ---- the root comes first
+
+no_root : (n : List ℕ) (r : Paths) (es : List Mapped) → T (below_all path_cmp (n ∷ r) es) → found es [] ≡ None
+no_root n r [] h = refl
+no_root n r (([], node) ∷ es) h = absurd (first false (below_all path_cmp (n ∷ r) es) h)
+no_root n r ((m ∷ s, node) ∷ es) h = no_root n r es (second (is_lt (path_cmp (n ∷ r) (m ∷ s))) _ h)
+
+pub record HasRoot (es : List Mapped) (node : Node) : Type 0 where
+  pub rest : List Mapped
+  pub is : es ≡ ([], node) ∷ rest
+
+pub has_root : (es : List Mapped) (node : Node) → T (is_sorted path_cmp es) → found es [] ≡ Some node → HasRoot es node
+has_root [] node up is = cc
+has_root (([], x) ∷ es) node up is = let same : x ≡ node = cc in record { rest = es; is = ap (λ y. ([], y) ∷ es) same }
+has_root ((n ∷ r, x) ∷ es) node up is = let none : None ≡ Some node = sym (no_root n r es (first (below_all path_cmp (n ∷ r) es) _ up)) ∙ is in cc
+
+-- ---- the entries of files and directories
+
+-- the entry of a node below the root
+abbrev pub held_at : Mapped → Option Held
+held_at ([], node) = None
+held_at (n ∷ r, node) = option_map (λ e. (n ∷ r, e)) (host_entry (Some node))
+
+abbrev pub held_of : List Mapped → List Held
+held_of es = filter_map held_at es
+
+pub find_held : (es : List Mapped) → T (is_sorted path_cmp es) → (n : List ℕ) (r : Paths) → find path_cmp (n ∷ r) (held_of es) ≡ host_entry (found es (n ∷ r))
+find_held [] up n r = refl
+find_held (([], node) ∷ es) up n r = find_held es (rest_sorted [] node es up) n r
+find_held ((m ∷ s, node) ∷ es) up n r = by node (find_held es (rest_sorted (m ∷ s) node es up) n r) (λ same. none_again (m ∷ s) node es up (n ∷ r) same)
+  where
+    shown : (e : Entry) (node : Node) → host_entry (Some node) ≡ Some e → find path_cmp (n ∷ r) (held_of es) ≡ host_entry (found es (n ∷ r)) → cond (eq_by_cmp path_cmp (n ∷ r) (m ∷ s)) (Some e) (find path_cmp (n ∷ r) (held_of es)) ≡ host_entry (cond (eq_by_cmp path_cmp (n ∷ r) (m ∷ s)) (Some node) (found es (n ∷ r)))
+    shown e node is rest = elim (eq_by_cmp path_cmp (n ∷ r) (m ∷ s)) as (λ b. cond b (Some e) (find path_cmp (n ∷ r) (held_of es)) ≡ host_entry (cond b (Some node) (found es (n ∷ r)))) [ true ↦ sym is | false ↦ rest ]
+
+    hidden : (text : List ℕ) → find path_cmp (n ∷ r) (held_of es) ≡ host_entry (found es (n ∷ r)) → (eq_by_cmp path_cmp (n ∷ r) (m ∷ s) ≡ true → found es (n ∷ r) ≡ None) → find path_cmp (n ∷ r) (held_of es) ≡ host_entry (cond (eq_by_cmp path_cmp (n ∷ r) (m ∷ s)) (Some (Link text)) (found es (n ∷ r)))
+    hidden text rest again = elim (cases_Bool (eq_by_cmp path_cmp (n ∷ r) (m ∷ s))) [
+      | inl same ↦ rest ∙ ap host_entry (again same) ∙ ap (λ b. host_entry (cond b (Some (Link text)) (found es (n ∷ r)))) (sym same)
+      | inr other ↦ rest ∙ ap (λ b. host_entry (cond b (Some (Link text)) (found es (n ∷ r)))) (sym other)
+    ]
+
+    by : (node : Node) → find path_cmp (n ∷ r) (held_of es) ≡ host_entry (found es (n ∷ r)) → (eq_by_cmp path_cmp (n ∷ r) (m ∷ s) ≡ true → found es (n ∷ r) ≡ None) → find path_cmp (n ∷ r) (held_of ((m ∷ s, node) ∷ es)) ≡ host_entry (cond (eq_by_cmp path_cmp (n ∷ r) (m ∷ s)) (Some node) (found es (n ∷ r)))
+    by (File bytes) rest again = shown _ (File bytes) refl rest
+    by (Dir names) rest again = shown _ (Dir names) refl rest
+    by (Link text) rest again = hidden text rest again
+
+pub no_root_held : (es : List Mapped) → find path_cmp [] (held_of es) ≡ None
+no_root_held [] = refl
+no_root_held (([], node) ∷ es) = no_root_held es
+no_root_held ((n ∷ r, File bytes) ∷ es) = no_root_held es
+no_root_held ((n ∷ r, Dir names) ∷ es) = no_root_held es
+no_root_held ((n ∷ r, Link text) ∷ es) = no_root_held es
+
+below_held : (k : Paths) (es : List Mapped) → T (below_all path_cmp k es) → T (below_all path_cmp k (held_of es))
+below_held k [] h = tt
+below_held k (([], node) ∷ es) h = below_held k es (second (is_lt (path_cmp k [])) _ h)
+below_held k ((n ∷ r, File bytes) ∷ es) h = both (is_lt (path_cmp k (n ∷ r))) _ (first (is_lt (path_cmp k (n ∷ r))) _ h) (below_held k es (second (is_lt (path_cmp k (n ∷ r))) _ h))
+below_held k ((n ∷ r, Dir names) ∷ es) h = both (is_lt (path_cmp k (n ∷ r))) _ (first (is_lt (path_cmp k (n ∷ r))) _ h) (below_held k es (second (is_lt (path_cmp k (n ∷ r))) _ h))
+below_held k ((n ∷ r, Link text) ∷ es) h = below_held k es (second (is_lt (path_cmp k (n ∷ r))) _ h)
+
+pub held_sorted : (es : List Mapped) → T (is_sorted path_cmp es) → T (is_sorted path_cmp (held_of es))
+held_sorted [] up = tt
+held_sorted (([], node) ∷ es) up = held_sorted es (rest_sorted [] node es up)
+held_sorted ((n ∷ r, File bytes) ∷ es) up = both (below_all path_cmp (n ∷ r) (held_of es)) _ (below_held (n ∷ r) es (first (below_all path_cmp (n ∷ r) es) _ up)) (held_sorted es (rest_sorted (n ∷ r) (File bytes) es up))
+held_sorted ((n ∷ r, Dir names) ∷ es) up = both (below_all path_cmp (n ∷ r) (held_of es)) _ (below_held (n ∷ r) es (first (below_all path_cmp (n ∷ r) es) _ up)) (held_sorted es (rest_sorted (n ∷ r) (Dir names) es up))
+held_sorted ((n ∷ r, Link text) ∷ es) up = held_sorted es (rest_sorted (n ∷ r) (Link text) es up)
+
+-- ---- counts
+
+abbrev pub links_in : List Mapped → List TableLink
+links_in es = filter_map link_at es
+
+abbrev pub texts_of : List TableLink → ℕ
+texts_of links = sum_by (λ (l : TableLink). length l.text) links
+
+-- what the root adds to each
+pub count_held : (es : List Mapped) → length (held_of es) + length (links_in es) ≤ length es
+count_held [] = omega arith
+count_held (([], File bytes) ∷ es) = let rest = count_held es in omega arith
+count_held (([], Dir names) ∷ es) = let rest = count_held es in omega arith
+count_held (([], Link text) ∷ es) = let rest = count_held es in omega arith
+count_held ((n ∷ r, File bytes) ∷ es) = let rest = count_held es in omega arith
+count_held ((n ∷ r, Dir names) ∷ es) = let rest = count_held es in omega arith
+count_held ((n ∷ r, Link text) ∷ es) = let rest = count_held es in omega arith
+
+pub more_bytes : (h : Held) (hs : List Held) → all_bytes (h ∷ hs) ≡ length h.1.bytes + all_bytes hs
+more_bytes h hs = sum_by-cons (λ (x : Held). length x.1.bytes) h hs
+
+more_texts : (l : TableLink) (ls : List TableLink) → texts_of (l ∷ ls) ≡ length l.text + texts_of ls
+more_texts l ls = sum_by-cons (λ (x : TableLink). length x.text) l ls
+
+more_sizes : (e : Mapped) (es : List Mapped) → sizes_of (e ∷ es) ≡ size_of e.1 + sizes_of es
+more_sizes e es = sum_by-cons (λ (x : Mapped). size_of x.1) e es
+
+pub sum_held : (es : List Mapped) → all_bytes (held_of es) + texts_of (links_in es) ≤ sizes_of es
+sum_held [] = omega arith
+sum_held (([], File bytes) ∷ es) = let rest = sum_held es in let all = more_sizes ([], File bytes) es in omega arith
+sum_held (([], Dir names) ∷ es) = let rest = sum_held es in let all = more_sizes ([], Dir names) es in omega arith
+sum_held (([], Link text) ∷ es) =
+    let rest = sum_held es in
+    let all = more_sizes ([], Link text) es in
+    let link = more_texts (record { path = []; text = text }) (links_in es) in
+    omega arith
+sum_held ((n ∷ r, File bytes) ∷ es) =
+    let rest = sum_held es in
+    let all = more_sizes (n ∷ r, File bytes) es in
+    let held = more_bytes (n ∷ r, file bytes) (held_of es) in
+    omega arith
+sum_held ((n ∷ r, Dir names) ∷ es) =
+    let rest = sum_held es in
+    let all = more_sizes (n ∷ r, Dir names) es in
+    let held = more_bytes (n ∷ r, folder) (held_of es) in
+    omega arith
+sum_held ((n ∷ r, Link text) ∷ es) =
+    let rest = sum_held es in
+    let all = more_sizes (n ∷ r, Link text) es in
+    let link = more_texts (record { path = n ∷ r; text = text }) (links_in es) in
+    omega arith
+
+-- with the root
+pub counted : (es : List Mapped) (names : List (List ℕ)) (rest : List Mapped) → es ≡ ([], Dir names) ∷ rest → length (held_of es) + length (links_in es) + 1 ≤ length es
+counted es names rest is = subst (λ l. length (held_of l) + length (links_in l) + 1 ≤ length l) (sym is) (let few = count_held rest in omega arith)

@@ -1,0 +1,301 @@
+-- What a folder is loaded as is a whole filestore.
+use Rattle.std.proofs.Common.{◌≡◌, inl, inr, ℕ, zero, suc, ◌+◌, ◌-◌, ◌<◌, ◌≤◌, ◌==◌, Bool, true, false, cond, not, ◌&&◌, ◌||◌, T, List, [], ◌∷◌, ◌++◌, map, length, take, Option, Some, None, Result, Ok, Err, is_some, IsSome, IfSome, All, refl, sym, ◌∙◌, ap, subst, arith, append_assoc, length-take}
+use Rattle.std.specs.Prelude.{nat_lt, nat_le, bytes_eq}
+use Rattle.std.specs.Ordering.{is_lt, eq_by_cmp}
+use Rattle.std.specs.Option.{option_or, option_map, option_map_or}
+use Rattle.std.specs.FinMap.{get, find, is_sorted, from_entries, get-from_entries}
+use Rattle.std.specs.FinMap.Entries.{below_all}
+use Rattle.std.proofs.lemmas.Bool.{cases_Bool, false≢true}
+use Rattle.std.proofs.lemmas.Bool.Decides.{nat_tests}
+use Rattle.std.proofs.lemmas.Option.{same_Some}
+use Rattle.std.proofs.lemmas.List.Elements.{All-nil, All-push}
+use Rattle.std.proofs.Math.Seq.{take-length, take-suc}
+use Rattle.fx_outside.specs.declared.kind.HostKind.{HostKind}
+use Rattle.fx_outside.specs.declared.kind.HostKind.TheVariants as kind
+use Rattle.fx_outside.specs.Path.{parts_cmp, above}
+use Rattle.fx_outside.specs.Tree as host
+use Rattle.fx_outside.specs.Tree.{Tree, Entry, has_folder, is_folder_kind}
+use Rattle.fx_outside.proofs.Sorted.{both, first, second, strictly_sorted}
+use Rattle.fx_store.specs.declared.node.Node.{Node}
+use Rattle.fx_store.specs.declared.node.Node.TheVariants.{File, Dir, Link}
+use Rattle.fx_store.specs.Names.{path_cmp, is_name, IsName, IsPath}
+use Rattle.fx_store.specs.Orders.{path_total, path_eq_same}
+use Rattle.fx_store.specs.Whole.{Store, Nodes}
+use Rattle.fx_store.proofs.Stores.{IsWhole-same}
+use Rattle.fx_folder.specs.declared.fault.FolderCause.{FolderCause}
+use Rattle.fx_folder.specs.declared.fault.FolderCause.TheVariants.{BadTable}
+use Rattle.fx_folder.specs.Loads.{table_name, most_nodes, most_in_file, most_bytes}
+use Rattle.fx_folder.specs.Table.{TableLink, IsLink, is_dir, read_table}
+use Rattle.fx_folder.specs.Deep.{Held, Mapped, all_below, walked, table_in, last_name, refused_kind, refused_bytes, refused_entry, first_refused, node_of_kind, unlisted, with_links, listed, unless_bad, are_too_many, links_before, read_links, table_file_links, table_links, linked, all_bytes, with_table, unless_refused, as_nodes}
+use Rattle.fx_folder.specs.LoadLaws.{IsOfBytes, AreOfBytes, LoadsAreWhole}
+use Rattle.fx_folder.proofs.TableLines.{read_texts_are_tables}
+use Rattle.fx_folder.proofs.Shapes.{found, IsLeaf, listed_whole, above_pushed, find_listed, relisted}
+use Rattle.fx_folder.proofs.Linking.{IsLinked, CanStand, links_made}
+use Rattle.fx_folder.proofs.Walked.{below_sorted, below_root, find_walked_below}
+
+abbrev Paths : Type 0
+Paths = List (List ℕ)
+
+-- ---- no entry is refused
+
+or_none : {A : Type 0} (a b : Option A) → option_or a b ≡ None → (a ≡ None) × (b ≡ None)
+or_none None b e = (refl, e)
+or_none (Some x) b e = cc
+
+-- what an entry is that is not refused
+pub record IsAccepted (names : Paths) (e : Entry) : Type 0 where
+  pub named : is_name (last_name names) ≡ true
+  pub short : length names ≤ 64
+  pub known : e.kind ≡ kind.Other → ⊥
+  pub small : length e.bytes ≤ most_in_file
+
+within : (named room : Bool) (k b : Option FolderCause) (c d : FolderCause) → cond named (cond room (option_or k b) (Some c)) (Some d) ≡ None → record { named : named ≡ true; room : room ≡ true; kind : k ≡ None; bytes : b ≡ None }
+within true true k b c d e = let two = or_none k b e in record { named = refl; room = refl; kind = two.0; bytes = two.1 }
+within true false k b c d e = cc
+within false room k b c d e = cc
+
+known_kind : (names : Paths) (k : HostKind) → refused_kind names k ≡ None → k ≡ kind.Other → ⊥
+known_kind names kind.File none is = cc
+known_kind names kind.Folder none is = cc
+known_kind names kind.Other none is = cc
+
+unless : (b : Bool) (c : FolderCause) → cond b (Some c) None ≡ None → b ≡ false
+unless true c e = cc
+unless false c e = refl
+
+or_false : (a b : Bool) → (a || b) ≡ false → (a ≡ false) × (b ≡ false)
+or_false true b e = cc
+or_false false b e = (refl, e)
+
+and_true : (a b : Bool) → (a && b) ≡ true → (a ≡ true) × (b ≡ true)
+and_true true b e = (refl, e)
+and_true false b e = cc
+
+pub is_accepted : (nodes left : ℕ) (names : Paths) (e : Entry) → refused_entry nodes left (names, e) ≡ None → IsAccepted names e
+is_accepted nodes left names e none =
+    let w = within (is_name (last_name names)) (nat_le (length names) 64 && nat_lt nodes most_nodes) (refused_kind names e.kind) (refused_bytes left names e.bytes) _ _ none in
+    let room = and_true (nat_le (length names) 64) (nat_lt nodes most_nodes) w.room in
+    let bytes = or_false (nat_lt most_in_file (length e.bytes)) (nat_lt left (length e.bytes)) (unless _ _ w.bytes) in
+    let short : nat_le (length names) 64 ≡ true = room.0 in
+    let small : nat_lt most_in_file (length e.bytes) ≡ false = bytes.0 in
+    record {
+      named = w.named;
+      short = grind (arith, nat_tests);
+      known = known_kind names e.kind w.kind;
+      small = grind (arith, nat_tests);
+    }
+
+pub all_accepted : (nodes left : ℕ) (hs : List Held) → first_refused nodes left hs ≡ None → (q : Paths) (e : Entry) → find parts_cmp q hs ≡ Some e → IsAccepted q e
+all_accepted nodes left [] none q e is = cc
+all_accepted nodes left ((names, x) ∷ hs) none q e is =
+    let two = or_none (refused_entry nodes left (names, x)) (first_refused (nodes + 1) (left - length x.bytes) hs) none in
+    elim (cases_Bool (eq_by_cmp parts_cmp q names)) [
+      | inl same ↦
+          let it : x ≡ e = same_Some x e (sym (ap (λ b. cond b (Some x) (find parts_cmp q hs)) same) ∙ is) in
+          subst (λ p. IsAccepted p e) (sym (path_eq_same q names same)) (subst (IsAccepted names) it (is_accepted nodes left names x two.0))
+      | inr other ↦ all_accepted (nodes + 1) (left - length x.bytes) hs two.1 q e (sym (ap (λ b. cond b (Some x) (find parts_cmp q hs)) other) ∙ is)
+    ]
+
+-- ---- files and directories by their paths
+
+abbrev pub node_of : Entry → Node
+node_of e = node_of_kind e.kind e.bytes
+
+find_nodes : (hs : List Held) (q : Paths) → found (map (λ (h : Held). (h.0, node_of_kind h.1.kind h.1.bytes)) hs) q ≡ option_map node_of (find parts_cmp q hs)
+find_nodes [] q = refl
+find_nodes (h ∷ hs) q = elim (cases_Bool (eq_by_cmp parts_cmp q h.0)) [
+  | inl same ↦ ap (λ b. cond b (Some (node_of h.1)) (found (map (λ (g : Held). (g.0, node_of_kind g.1.kind g.1.bytes)) hs) q)) same ∙ ap (λ b. option_map node_of (cond b (Some h.1) (find parts_cmp q hs))) (sym same)
+  | inr other ↦ ap (λ b. cond b (Some (node_of h.1)) (found (map (λ (g : Held). (g.0, node_of_kind g.1.kind g.1.bytes)) hs) q)) other ∙ find_nodes hs q ∙ ap (λ b. option_map node_of (cond b (Some h.1) (find parts_cmp q hs))) (sym other)
+]
+
+below_nodes : (k : Paths) (hs : List Held) → T (below_all parts_cmp k hs) → T (below_all path_cmp k (map (λ (h : Held). (h.0, node_of_kind h.1.kind h.1.bytes)) hs))
+below_nodes k [] h = tt
+below_nodes k (x ∷ hs) h = both (is_lt (parts_cmp k x.0)) _ (first (is_lt (parts_cmp k x.0)) _ h) (below_nodes k hs (second (is_lt (parts_cmp k x.0)) _ h))
+
+sorted_nodes : (hs : List Held) → T (is_sorted parts_cmp hs) → T (is_sorted path_cmp (map (λ (h : Held). (h.0, node_of_kind h.1.kind h.1.bytes)) hs))
+sorted_nodes [] h = tt
+sorted_nodes (x ∷ hs) h = both (below_all path_cmp x.0 (map (λ (g : Held). (g.0, node_of_kind g.1.kind g.1.bytes)) hs)) _ (below_nodes x.0 hs (first (below_all parts_cmp x.0 hs) _ h)) (sorted_nodes hs (second (below_all parts_cmp x.0 hs) _ h))
+
+pub unlisted_sorted : (hs : List Held) → T (below_all parts_cmp [] hs) → T (is_sorted parts_cmp hs) → T (is_sorted path_cmp (unlisted hs))
+unlisted_sorted hs root up = both (below_all path_cmp [] (map (λ (g : Held). (g.0, node_of_kind g.1.kind g.1.bytes)) hs)) _ (below_nodes [] hs root) (sorted_nodes hs up)
+
+-- at a path below the root
+pub find_unlisted : (hs : List Held) (n : List ℕ) (r : Paths) → found (unlisted hs) (n ∷ r) ≡ option_map node_of (find parts_cmp (n ∷ r) hs)
+find_unlisted hs n r = find_nodes hs (n ∷ r)
+
+-- ---- a folder stands above each entry
+
+some_of : {A : Type 0} (o : Option A) → is_some o ≡ true → (x : A) × (o ≡ Some x)
+some_of None e = absurd (false≢true e)
+some_of (Some x) e = (x, refl)
+
+not_hidden : (b : Bool) (o : Option Entry) (e : Entry) → cond b o None ≡ Some e → (b ≡ true) × (o ≡ Some e)
+not_hidden true o e is = (refl, is)
+not_hidden false o e is = cc
+
+some_mapped : {A B : Type 0} (f : A → B) (o : Option A) → is_some (option_map f o) ≡ true → is_some o ≡ true
+some_mapped f None e = e
+some_mapped f (Some x) e = refl
+
+folder_is : (o : Option Entry) → option_map_or (λ x. is_folder_kind x.kind) o false ≡ true → (x : Entry) × (o ≡ Some x) × (is_folder_kind x.kind ≡ true)
+folder_is None e = absurd (false≢true e)
+folder_is (Some x) e = (x, refl, e)
+
+folder_entry_is : (tree : Tree) (P : Paths) (n : List ℕ) (r : Paths) → has_folder tree (P ++ n ∷ r) ≡ option_map_or (λ x. is_folder_kind x.kind) (get tree (P ++ n ∷ r)) false
+folder_entry_is tree [] n r = refl
+folder_entry_is tree (p ∷ P) n r = refl
+
+dir_of_folder : (k : HostKind) (bytes : List ℕ) → is_folder_kind k ≡ true → is_dir (Some (node_of_kind k bytes)) ≡ true
+dir_of_folder kind.File bytes e = absurd (false≢true e)
+dir_of_folder kind.Folder bytes e = refl
+dir_of_folder kind.Other bytes e = absurd (false≢true e)
+
+stands_in : (tree : Tree) → host.IsWhole tree → (q : Paths) (n : List ℕ) (e : Entry) → get tree (q ++ n ∷ []) ≡ Some e → has_folder tree q ≡ true
+stands_in tree whole q n e is =
+    let p = q ++ n ∷ [] in
+    let placed = whole.placed p e is in
+    let one = and_true (not (length p == 0)) _ placed in
+    let two = and_true _ _ one.1 in
+    let three = and_true _ _ two.1 in
+    let four = and_true (has_folder tree (above p)) _ three.1 in
+    sym (ap (has_folder tree) (above_pushed q n)) ∙ four.0
+
+module _ (tree : Tree) (whole : host.IsWhole tree) (P : Paths) where
+  abbrev hs : List Held
+  hs = walked (all_below tree P)
+
+  above_walked : (path : Paths) (name : List ℕ) → is_some (found (unlisted hs) (path ++ name ∷ [])) ≡ true → is_dir (found (unlisted hs) path) ≡ true
+  above_walked [] name some = refl
+  above_walked (a ∷ p) name some =
+      let there = some_of (find parts_cmp (a ∷ (p ++ name ∷ [])) hs) (some_mapped node_of _ (sym (ap is_some (find_unlisted hs a (p ++ name ∷ []))) ∙ some)) in
+      let at = not_hidden (not (bytes_eq a table_name)) (get tree (P ++ a ∷ (p ++ name ∷ []))) there.0 (sym (find_walked_below tree P a (p ++ name ∷ [])) ∙ there.1) in
+      let parted : get tree ((P ++ a ∷ p) ++ name ∷ []) ≡ Some there.0 = ap (get tree) (append_assoc P (a ∷ p) (name ∷ [])) ∙ at.1 in
+      let around = folder_is (get tree (P ++ a ∷ p)) (sym (folder_entry_is tree P a p) ∙ stands_in tree whole (P ++ a ∷ p) name there.0 parted) in
+      ap is_dir (
+      find_unlisted hs a p
+      ∙ ap (option_map node_of) (find_walked_below tree P a p ∙ (ap (λ b. cond b (get tree (P ++ a ∷ p)) None) at.0 ∙ around.1))
+      ) ∙ dir_of_folder around.0.kind around.0.bytes around.2
+
+  module _ (none : first_refused 1 most_bytes hs ≡ None) where
+    last_off : (p : Paths) → 0 < length p → p ≡ take (length p - 1) p ++ last_name p ∷ []
+    last_off p some =
+        let n : suc (length p - 1) ≡ length p = omega (arith, some) in
+        sym (take-length p) ∙ (ap (λ k. take k p) (sym n) ∙ take-suc p (length p - 1) [] (omega (arith, some)))
+
+    accepted_at : (a : List ℕ) (p : Paths) → IsSome (found (unlisted hs) (a ∷ p)) → (e : Entry) × IsAccepted (a ∷ p) e
+    accepted_at a p some =
+        let there = some_of (find parts_cmp (a ∷ p) hs) (some_mapped node_of _ (sym (ap is_some (find_unlisted hs a p)) ∙ some)) in
+        (there.0, all_accepted 1 most_bytes hs none (a ∷ p) there.0 there.1)
+
+    some_dir : (o : Option Node) → is_dir o ≡ true → is_some o ≡ true
+    some_dir None e = e
+    some_dir (Some node) e = refl
+
+    all_names : (n : ℕ) (p : Paths) → length p ≡ n → IsSome (found (unlisted hs) p) → All IsName p
+    all_names n [] long some = All-nil IsName
+    all_names zero (a ∷ p) long some = absurd (omega arith)
+    all_names (suc n) (a ∷ p) long some =
+        let around = take (length (a ∷ p) - 1) (a ∷ p) in
+        let last = last_name (a ∷ p) in
+        let split : a ∷ p ≡ around ++ last ∷ [] = last_off (a ∷ p) (omega arith) in
+        let dir = above_walked around last (ap (λ q. is_some (found (unlisted hs) q)) (sym split) ∙ some) in
+        let short : length around ≡ n = omega (arith, length-take (length (a ∷ p) - 1) (a ∷ p), long) in
+        subst (All IsName) (sym split) (All-push IsName around last (all_names n around short (some_dir _ dir)) (accepted_at a p some).1.named)
+
+    path_walked : (p : Paths) → IsSome (found (unlisted hs) p) → IsPath p
+    path_walked [] some = record { names = All-nil IsName; short = omega arith }
+    path_walked (a ∷ p) some = record { names = all_names (length (a ∷ p)) (a ∷ p) refl some; short = (accepted_at a p some).1.short }
+
+    leaf_of : (q : Paths) (e : Entry) → IsAccepted q e → IsLeaf (node_of e)
+    leaf_of q e accepted = by e.kind refl
+      where
+        by : (k : HostKind) → e.kind ≡ k → IsLeaf (node_of_kind k e.bytes)
+        by kind.File is = accepted.small
+        by kind.Folder is = tt
+        by kind.Other is = absurd (accepted.known is)
+
+    leaf_at : (p : Paths) → IfSome (found (unlisted hs) p) IsLeaf
+    leaf_at [] = tt
+    leaf_at (a ∷ p) = subst (λ o. IfSome o IsLeaf) (sym (find_unlisted hs a p)) (by (find parts_cmp (a ∷ p) hs) refl)
+      where
+        by : (o : Option Entry) → find parts_cmp (a ∷ p) hs ≡ o → IfSome (option_map node_of o) IsLeaf
+        by None is = tt
+        by (Some e) is = leaf_of (a ∷ p) e (all_accepted 1 most_bytes hs none (a ∷ p) e is)
+
+    unlisted_shape : IsLinked (found (unlisted hs)) (unlisted hs)
+    unlisted_shape = record {
+      sorted = unlisted_sorted hs (below_root tree P) (below_sorted tree P);
+      shape = record { root = refl; above = above_walked; paths = path_walked; leaves = leaf_at };
+      dirs = λ q. refl;
+    }
+
+-- ---- the links are a table, or none
+
+record AreMade (S : Store) (links : List TableLink) : Type 0 where
+  valid : All IsLink links
+  stand : All (CanStand S) links
+
+no_links : (S : Store) → AreMade S []
+no_links S = record { valid = All-nil IsLink; stand = All-nil (CanStand S) }
+
+none_bad : (b : Bool) (c : FolderCause) (links made : List TableLink) → cond b (Err c) (unless_bad links None) ≡ Ok made → links ≡ made
+none_bad true c links made e = cc
+none_bad false c links made e = cc
+
+some_bad : (b : Bool) (c d : FolderCause) (links made : List TableLink) → cond b (Err c) (unless_bad links (Some d)) ≡ Ok made → ⊥
+some_bad true c d links made e = cc
+some_bad false c d links made e = cc
+
+read_made : (nodes left : ℕ) (S : Store) (text : List ℕ) (r : Result (List TableLink) ℕ) (links : List TableLink) → read_table S text ≡ r → read_links nodes left S text r ≡ Ok links → AreMade S links
+read_made nodes left S text (Ok found) links is e =
+    let same : found ≡ links = none_bad (are_too_many nodes left found) _ found links e in
+    let spells = read_texts_are_tables S text found is in
+    subst (AreMade S) same (record { valid = spells.table.valid; stand = spells.table.stand })
+read_made nodes left S text (Err number) links is e = absurd (some_bad (are_too_many nodes left (links_before S text number)) _ (BadTable number) (links_before S text number) links e)
+
+unless_large : (b : Bool) (c : FolderCause) (r : Result (List TableLink) FolderCause) (links : List TableLink) → cond b (Err c) r ≡ Ok links → r ≡ Ok links
+unless_large true c r links e = cc
+unless_large false c r links e = e
+
+file_made : (nodes left : ℕ) (S : Store) (k : HostKind) (text : List ℕ) (links : List TableLink) → table_file_links nodes left S k text ≡ Ok links → AreMade S links
+file_made nodes left S kind.File text links e = read_made nodes left S text (read_table S text) links refl (unless_large _ _ (read_links nodes left S text (read_table S text)) links e)
+file_made nodes left S kind.Folder text links e = cc
+file_made nodes left S kind.Other text links e = cc
+
+table_made : (nodes left : ℕ) (S : Store) (table : Option Entry) (links : List TableLink) → table_links nodes left S table ≡ Ok links → AreMade S links
+table_made nodes left S None links e = let same : [] ≡ links = cc in subst (AreMade S) same (no_links S)
+table_made nodes left S (Some e) links is = file_made nodes left S e.kind e.bytes links is
+
+-- ---- what was loaded
+
+-- the links of a table that is read, and what the entries are with them
+pub record IsLoaded (hs : List Held) (table : Option Entry) (nodes : Nodes) : Type 0 where
+  pub none : first_refused 1 most_bytes hs ≡ None
+  pub links : List TableLink
+  pub read : table_links (length hs + 1) (most_bytes - all_bytes hs) (λ path. find path_cmp path (unlisted hs)) table ≡ Ok links
+  pub is : from_entries (listed (with_links (unlisted hs) links)) ≡ nodes
+
+pub was_loaded : (hs : List Held) (table : Option Entry) (nodes : Nodes) → as_nodes (unless_refused (first_refused 1 most_bytes hs) (with_table hs table)) ≡ Ok nodes → IsLoaded hs table nodes
+was_loaded hs table nodes e = by (first_refused 1 most_bytes hs) (table_links (length hs + 1) (most_bytes - all_bytes hs) (λ path. find path_cmp path (unlisted hs)) table) refl refl e
+  where
+    by : (o : Option FolderCause) (r : Result (List TableLink) FolderCause) → first_refused 1 most_bytes hs ≡ o → table_links (length hs + 1) (most_bytes - all_bytes hs) (λ path. find path_cmp path (unlisted hs)) table ≡ r → as_nodes (unless_refused o (linked (unlisted hs) r)) ≡ Ok nodes → IsLoaded hs table nodes
+    by None (Ok links) none read e = record { none = none; links = links; read = read; is = cc }
+    by None (Err cause) none read e = cc
+    by (Some cause) r none read e = cc
+
+bytes_listed : (es : List Mapped) (q : Paths) (o : Option Node) → IfSome (option_map (relisted es q) o) IsOfBytes → IfSome o IsOfBytes
+bytes_listed es q None h = tt
+bytes_listed es q (Some (File bytes)) h = h
+bytes_listed es q (Some (Dir names)) h = tt
+bytes_listed es q (Some (Link text)) h = tt
+
+pub loads_are_whole : LoadsAreWhole
+loads_are_whole tree whole P nodes is bytes =
+    let hs = walked (all_below tree P) in
+    let made = was_loaded hs (table_in (all_below tree P)) nodes is in
+    let links = table_made _ _ (found (unlisted hs)) (table_in (all_below tree P)) made.links made.read in
+    let es = with_links (unlisted hs) made.links in
+    let linked = links_made (found (unlisted hs)) (unlisted hs) made.links links.valid links.stand (unlisted_shape tree whole P made.none) in
+    let same : (q : Paths) → found (listed es) q ≡ get nodes q = λ q. sym (get-from_entries path_total (listed es) q) ∙ ap (λ m. get m q) made.is in
+    let held : AreOfBytes (found es) = λ q. bytes_listed es q (found es q) (subst (λ o. IfSome o IsOfBytes) (sym (same q) ∙ find_listed es es q) (bytes q)) in
+    IsWhole-same (found (listed es)) (get nodes) same (listed_whole es (strictly_sorted path_cmp es linked.sorted) linked.shape held)

@@ -1,0 +1,45 @@
+-- What a folder is loaded as: a whole filestore, and from the folder of a filestore within the limits that filestore.
+use Rattle.std.specs.Prelude.{◌≡◌, ◌<◌, ◌≤◌, ℕ, List, length, sum_by, All, IfSome, ⊤, Ok}
+use Rattle.std.specs.FinMap.{get, len, entries}
+use Rattle.fx_outside.specs.Path.{Parts}
+use Rattle.fx_outside.specs.Tree as host
+use Rattle.fx_outside.specs.Tree.{Tree}
+use Rattle.fx_store.specs.declared.node.Node.{Node}
+use Rattle.fx_store.specs.declared.node.Node.TheVariants.{File, Dir, Link}
+use Rattle.fx_store.specs.Whole.{Store, Nodes, IsWhole}
+use Rattle.fx_folder.specs.Loads.{most_nodes, most_bytes}
+use Rattle.fx_folder.specs.Table.{table_text, links_of}
+use Rattle.fx_folder.specs.Deep.{Mapped, most_in_table, deep_loads, HasFolderOf}
+
+-- what a file holds is bytes
+abbrev pub IsOfBytes : Node → Type 0
+IsOfBytes (File bytes) = All (λ b. b < 256) bytes
+IsOfBytes (Dir names) = ⊤
+IsOfBytes (Link text) = ⊤
+
+abbrev pub AreOfBytes : Store → Type 0
+AreOfBytes S = (path : List (List ℕ)) → IfSome (S path) IsOfBytes
+
+-- what a folder of a whole tree is loaded as is a whole filestore; a tree of numbers that are no bytes is loaded too, so that
+-- they are bytes is asked of what was loaded
+abbrev pub LoadsAreWhole : Type 0
+LoadsAreWhole = (tree : Tree) → host.IsWhole tree → (folder : Parts) (nodes : Nodes) → deep_loads tree folder ≡ Ok nodes → AreOfBytes (get nodes) → IsWhole (get nodes)
+
+-- the bytes of a node that are counted: those of a file and those of a link's text
+abbrev pub size_of : Node → ℕ
+size_of (File bytes) = length bytes
+size_of (Dir names) = 0
+size_of (Link text) = length text
+
+abbrev pub sizes_of : List Mapped → ℕ
+sizes_of es = sum_by (λ (e : Mapped). size_of e.1) es
+
+-- a filestore that can be loaded: so many nodes with the root, so many bytes in its files and link texts, and in its table
+pub record IsWithinLimits (nodes : Nodes) : Type 0 where
+  pub count : len nodes ≤ most_nodes
+  pub bytes : sizes_of (entries nodes) ≤ most_bytes
+  pub table : length (table_text (links_of nodes)) ≤ most_in_table
+
+-- the folder of a whole filestore within the limits is loaded as this filestore
+abbrev pub FoldersAreLoaded : Type 0
+FoldersAreLoaded = (tree : Tree) (folder : Parts) (nodes : Nodes) → IsWhole (get nodes) → IsWithinLimits nodes → HasFolderOf tree folder nodes → deep_loads tree folder ≡ Ok nodes
