@@ -1,11 +1,12 @@
+//! Outputs that fail or take little.
+
 use fx_disk::Output;
-use fx_outside::{Sink, SinkFailed};
+use fx_outside::Sink;
 use std::cell::Cell;
 use std::fmt::Display;
 use std::fs::File;
 use std::io::{self, ErrorKind};
 use std::os::unix::fs::FileExt;
-use std::test::Fail;
 
 /// Prints to a file of the machine.
 #[derive(Drop)]
@@ -57,40 +58,37 @@ impl Print for Stalled {
     }
 }
 
-/// What is taken of a line that is written to a file that can't be written.
-fn write_lost(rt: &HostRuntime) -> io::Result<(Result<usize, SinkFailed>, u64)> {
+/// Tells what is taken of a line that goes to the standard output.
+pub fn tell_taken(rt: &HostRuntime, out: &mut String) -> io::Result<()> {
+    let mut output = Output::new(rt);
+    let taken = output.write(b"taken\n");
+    let faults = output.faults();
+    writeln!(out, "standard output: {taken:?}, faults {faults}")?;
+    Ok(())
+}
+
+/// Tells what is taken of a line that goes to a file which can't be written.
+pub fn tell_lost(rt: &HostRuntime, out: &mut String) -> io::Result<()> {
     File::create_new(rt, "read-only")?;
     let device = Device {
         file: File::open(rt, "read-only")?,
     };
     let mut output = Output::new(&device);
-    Ok((output.write(b"lost\n"), output.faults()))
-}
-
-fn write_taken(rt: &HostRuntime) -> (Result<usize, SinkFailed>, u64) {
-    let mut output = Output::new(rt);
-    (output.write(b"taken\n"), output.faults())
-}
-
-#[test]
-fn a_write_is_taken_or_counted(rt: HostRuntime) -> Result<(), Fail> {
-    assert_eq!(rt; write_taken(&rt), (Ok(6), 0));
-    assert_eq!(rt; write_lost(&rt)?, (Err(SinkFailed), 1));
+    let taken = output.write(b"lost\n");
+    let faults = output.faults();
+    writeln!(out, "read-only: {taken:?}, faults {faults}")?;
     Ok(())
 }
 
-/// What a sink that takes so many bytes at a time takes of a line.
-fn write_stalled(count: usize) -> (Result<usize, SinkFailed>, u64) {
+/// Tells what is taken of a line where the first call is interrupted and each takes so many bytes.
+pub fn tell_stalled(count: usize, out: &mut String) -> io::Result<()> {
     let stalled = Stalled {
         is_begun: Cell::new(false),
         count,
     };
     let mut output = Output::new(&stalled);
-    (output.write(b"part\n"), output.faults())
-}
-
-#[test]
-fn an_interrupted_write_goes_on_and_a_write_of_nothing_is_counted(rt: HostRuntime) {
-    assert_eq!(rt; write_stalled(0), (Err(SinkFailed), 1));
-    assert_eq!(rt; write_stalled(3), (Ok(3), 0));
+    let taken = output.write(b"part\n");
+    let faults = output.faults();
+    writeln!(out, "stalled at {count}: {taken:?}, faults {faults}")?;
+    Ok(())
 }

@@ -1,15 +1,14 @@
-use fx_base::NoMemory;
+//! Files that are slow, and folders that tell strange names.
+
 use fx_disk::Disk;
-use fx_outside::{Host, HostFault, HostText};
+use fx_outside::{Host, HostText};
 use std::alloc::{Allocator, Global};
 use std::fs::{File, Metadata, OpenFile, OpenOptions};
 use std::io::{self, Cursor, ErrorKind, Read, Seek, SeekFrom, Write};
-use std::process::Abort;
 use std::rt::Files;
-use std::test::Fail;
 
-fn text(alloc: Global, bytes: &str) -> Result<HostText, NoMemory> {
-    Ok(HostText::from_string(String::from_str(alloc, bytes)?))
+fn host_text(alloc: Global, text: &str) -> io::Result<HostText> {
+    Ok(HostText::from_string(String::from_str(alloc, text)?))
 }
 
 /// A file of the machine that is interrupted at every second call and can't be sought.
@@ -137,87 +136,109 @@ impl Files for Strange {
     }
 }
 
-fn put(alloc: Global, disk: &mut Disk<HostRuntime>, path: &str) -> Result<(), HostFault> {
-    let path = match text(alloc, path) {
-        Ok(path) => path,
-        Err(NoMemory) => return Err(HostFault::NoMemory),
-    };
-    disk.write_new(alloc, &path, b"")
+/// Tells what a new empty file at a path gives.
+fn tell_new(
+    alloc: Global,
+    disk: &mut Disk<HostRuntime>,
+    path: &str,
+    out: &mut String,
+) -> io::Result<()> {
+    let path = host_text(alloc, path)?;
+    let done = disk.write_new(alloc, &path, b"");
+    writeln!(out, "write-new {}: {done:?}", path.as_str())?;
+    Ok(())
 }
 
-fn fill(alloc: Global, disk: &mut Disk<HostRuntime>, folder: &HostText) -> Result<(), HostFault> {
-    disk.make_dir(alloc, folder)?;
-    put(alloc, disk, "g/a")?;
-    put(alloc, disk, "g/b")
-}
-
-/// Makes a folder of two files.
-fn make_folder(rt: &HostRuntime, folder: &HostText) -> Result<Result<(), HostFault>, Fail> {
+/// Makes the folder `g` of two files.
+fn tell_making(rt: &HostRuntime, folder: &HostText, out: &mut String) -> io::Result<()> {
+    let alloc = rt.alloc();
     let mut disk = Disk::new(rt.clone()?);
-    Ok(fill(rt.alloc(), &mut disk, folder))
+    let done = disk.make_dir(alloc, folder);
+    writeln!(out, "make-dir {}: {done:?}", folder.as_str())?;
+    tell_new(alloc, &mut disk, "g/a", out)?;
+    tell_new(alloc, &mut disk, "g/b", out)
 }
 
-/// How a folder that tells these names is not listed, and how many faults are counted then.
-fn list(
+/// Tells how a folder is not listed where it tells these names.
+fn tell_list(
     rt: &HostRuntime,
     folder: &HostText,
     names: [u8; 4],
-) -> Result<(Option<HostFault>, u64), Fail> {
+    out: &mut String,
+) -> io::Result<()> {
     let mut strange = Disk::new(Strange {
         rt: rt.clone()?,
         names,
     });
     let fault = strange.list(rt.alloc(), folder).err();
-    Ok((fault, strange.faults()))
-}
-
-#[test]
-fn names_that_are_no_utf8_or_stand_twice_are_faults(rt: HostRuntime) -> Result<(), Fail> {
-    let folder = text(rt.alloc(), "g")?;
-    assert_eq!(rt; make_folder(&rt, &folder)?, Ok(()));
-    let failed = (Some(HostFault::Failed), 1);
-    assert_eq!(rt; list(&rt, &folder, *b"a\0b\0")?, (None, 0));
-    assert_eq!(rt; list(&rt, &folder, *b"a\0\xff\0")?, failed);
-    assert_eq!(rt; list(&rt, &folder, *b"a\0a\0")?, failed);
+    let faults = strange.faults();
+    writeln!(out, "list {names:?}: fault {fault:?}, faults {faults}")?;
     Ok(())
 }
 
-/// How many bytes are read from a place on, and the first of them.
-fn read(
+/// Tells the listings of a folder where each name stands once, where one is not UTF-8, and where one stands twice.
+pub fn tell_lists(rt: &HostRuntime, out: &mut String) -> io::Result<()> {
+    let folder = host_text(rt.alloc(), "g")?;
+    tell_making(rt, &folder, out)?;
+    tell_list(rt, &folder, *b"a\0b\0", out)?;
+    tell_list(rt, &folder, *b"a\0\xff\0", out)?;
+    tell_list(rt, &folder, *b"a\0a\0", out)
+}
+
+/// Tells how many bytes are read from a place on, and the first of them.
+fn tell_read(
     alloc: Global,
     disk: &mut Disk<Strange>,
     path: &HostText,
     from: u64,
-) -> (Result<usize, HostFault>, u8) {
+    out: &mut String,
+) -> io::Result<()> {
     let mut buf = [0u8; 4];
     let count = disk.read(alloc, path, from, &mut buf);
-    (count, buf[0])
-}
-
-/// Reads on, at the end, and from the front again; a read from elsewhere needs a seek.
-fn read_all(rt: &(impl Abort + AllocGlobal), disk: &mut Disk<Strange>, path: &HostText) {
-    let alloc = rt.alloc();
-    assert_eq!(rt; read(alloc, disk, path, 0), (Ok(4), b'h'));
-    assert_eq!(rt; read(alloc, disk, path, 4), (Ok(1), b'o'));
-    assert_eq!(rt; read(alloc, disk, path, 5), (Ok(0), 0));
-    assert_eq!(rt; read(alloc, disk, path, 0), (Ok(4), b'h'));
-    assert_eq!(rt; disk.faults(), 0);
-    assert_eq!(rt; read(alloc, disk, path, 1).0, Err(HostFault::Failed));
-    assert_eq!(rt; disk.faults(), 1);
-}
-
-fn write_and_read(rt: &(impl Abort + AllocGlobal), disk: &mut Disk<Strange>) -> Result<(), Fail> {
-    let path = text(rt.alloc(), "slow")?;
-    assert_eq!(rt; disk.write_new(rt.alloc(), &path, b"hello"), Ok(()));
-    read_all(rt, disk, &path);
+    let first = buf[0];
+    let faults = disk.faults();
+    writeln!(
+        out,
+        "read from {from}: {count:?}, first {first}, faults {faults}"
+    )?;
     Ok(())
 }
 
-#[test]
-fn interrupted_reads_and_writes_go_on_with_no_seek(rt: HostRuntime) -> Result<(), Fail> {
+/// Reads on, at the end, and from the front again. A read from elsewhere needs a seek.
+fn tell_reads(
+    alloc: Global,
+    disk: &mut Disk<Strange>,
+    path: &HostText,
+    out: &mut String,
+) -> io::Result<()> {
+    for from in [0, 4, 5, 0, 1] {
+        tell_read(alloc, disk, path, from, out)?;
+    }
+    Ok(())
+}
+
+fn tell_write(
+    alloc: Global,
+    disk: &mut Disk<Strange>,
+    path: &HostText,
+    out: &mut String,
+) -> io::Result<()> {
+    let done = disk.write_new(alloc, path, b"hello");
+    writeln!(out, "write-new {}: {done:?}", path.as_str())?;
+    Ok(())
+}
+
+fn tell_on(alloc: Global, disk: &mut Disk<Strange>, out: &mut String) -> io::Result<()> {
+    let path = host_text(alloc, "slow")?;
+    tell_write(alloc, disk, &path, out)?;
+    tell_reads(alloc, disk, &path, out)
+}
+
+/// Tells what a write and reads give where each is interrupted, and nothing can be sought.
+pub fn tell_slow(rt: &HostRuntime, out: &mut String) -> io::Result<()> {
     let mut disk = Disk::new(Strange {
         rt: rt.clone()?,
         names: *b"a\0b\0",
     });
-    write_and_read(&rt, &mut disk)
+    tell_on(rt.alloc(), &mut disk, out)
 }
