@@ -1,0 +1,5 @@
+mod Orders
+mod Tries
+mod Steps
+pub mod Looks
+mod Gathers

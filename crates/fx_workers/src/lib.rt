@@ -1,0 +1,13 @@
+//! Workers: a script each, on a pass of their own over one shared log.
+#![tactic(auto)]
+
+mod attempting;
+mod crew;
+mod live;
+mod running;
+mod worker;
+
+pub use fx_machine::{Retries, Retry};
+pub use fx_shared::Board;
+pub use live::Live;
+pub use running::run_all;
