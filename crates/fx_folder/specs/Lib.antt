@@ -5,7 +5,9 @@ pub mod Faults
 pub mod Folder
 pub mod Held
 pub mod Loads
+pub mod Places
 pub mod Reads
+pub mod Remaining
 pub mod Table
 pub mod TableExamples
 pub mod TableLaws
