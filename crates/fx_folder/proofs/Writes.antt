@@ -1,5 +1,5 @@
 -- The steps of writing a folder: what each leaves, and that the next may be made.
-use Rattle.std.proofs.Common.{◌≡◌, ◌⊎◌, inl, inr, ℕ, ◌≤◌, Bool, true, false, cond, ◌&&◌, ◌||◌, List, [], ◌∷◌, ◌++◌, length, take, Option, Some, None, option_map, IfSome, IsSome, OnOk, OnErr, IfErr, Result, Ok, Err, All, refl, sym, ◌∙◌, ap, subst, arith, append_assoc, append-nil}
+use Rattle.std.proofs.Common.{◌≡◌, ◌⊎◌, inl, inr, ℕ, ◌+◌, ◌<◌, ◌≤◌, Bool, true, false, cond, ◌&&◌, ◌||◌, List, [], ◌∷◌, ◌++◌, length, take, Option, Some, None, option_map, IfSome, IsSome, OnOk, OnErr, IfErr, Result, Ok, Err, All, refl, sym, ◌∙◌, ap, subst, arith, append_assoc, append-nil}
 use Rattle.std.specs.Option.{option_or}
 use Rattle.std.specs.FinMap.{entries, get, insert, find}
 use Rattle.std.proofs.lemmas.Bool.{cases_Bool}
@@ -84,6 +84,24 @@ wrote_file_part told told' path bytes (inl same) = wrote_nothing told told' (par
 wrote_file_part told told' path bytes (inr some) =
     told_made told told' (λ t. insert t (parts path) (file (take some.0 bytes))) (λ t t'. WrotePart t t' (parts path) (Some (file bytes))) some.1
     (λ t. inr (file (take some.0 bytes), file bytes, refl, inr (bytes, some.0, refl, refl), refl))
+
+pub err_holds : {A E : Type 0} (r : Result A E) (P : Type 0) → P → OnErr r P
+err_holds (Ok a) P p = tt
+err_holds (Err e) P p = p
+
+-- the same place and entry, as the steps above name them
+
+pub wrote_at : {E : Type 0} (r : Result (Unit {0}) E) (a b : Option Tree) (q q' : Parts) (o o' : Option Entry) → q ≡ q' → o ≡ o' → OnOk r (IfTold a b (λ t t'. t' ≡ with_entry t q o)) → OnOk r (IfTold a b (λ t t'. t' ≡ with_entry t q' o'))
+wrote_at r a b q q' o o' p e h =
+    subst (λ x. OnOk r (IfTold a b (λ t t'. t' ≡ with_entry t q' x))) e (subst (λ x. OnOk r (IfTold a b (λ t t'. t' ≡ with_entry t x o))) p h)
+
+pub part_at : {E : Type 0} (r : Result (Unit {0}) E) (a b : Option Tree) (q q' : Parts) (o o' : Option Entry) → q ≡ q' → o ≡ o' → OnErr r (IfTold a b (λ t t'. WrotePart t t' q o)) → OnErr r (IfTold a b (λ t t'. WrotePart t t' q' o'))
+part_at r a b q q' o o' p e h =
+    subst (λ x. OnErr r (IfTold a b (λ t t'. WrotePart t t' q' x))) e (subst (λ x. OnErr r (IfTold a b (λ t t'. WrotePart t t' x o))) p h)
+
+pub unless_empty : (bytes text : List ℕ) → bytes ≡ text → 0 < length text → Some (file bytes) ≡ file_unless_empty text
+unless_empty bytes [] is some = absurd (omega (arith, some))
+unless_empty bytes (b ∷ text) is some = ap (λ x. Some (file x)) is
 
 -- while entries are written
 
@@ -246,13 +264,15 @@ table_file (link ∷ links) text is =
     long [] b more = refl
     long (a ∷ bytes) b more = refl
 
-pub saved_all : (told told1 told2 told3 : Option Tree) (path : List ℕ) (there : Bool) (nodes : Nodes) (text : List ℕ) → IsWhole (get nodes) → text ≡ table_text (links_of nodes) → IfTold told told1 (λ t u. u ≡ with_folder t (parts path) there) → IfTold told1 told2 (λ t t'. HasEntries t t' (parts path) (entries nodes)) → IfTold told2 told3 (λ t t'. t' ≡ with_entry t (parts path ++ table_name ∷ []) (file_unless_empty text)) → IfTold told told3 (λ t t'. IsSaved t t' (parts path) nodes)
-saved_all told told1 told2 told3 path there nodes text stored is made wrote added =
+pub saved_all : {E : Type 0} (r : Result (Unit {0}) E) (told told1 told2 told3 : Option Tree) (path : List ℕ) (there : Bool) (nodes : Nodes) (text : List ℕ) → IsWhole (get nodes) → text ≡ table_text (links_of nodes) → IfTold told told1 (λ t u. u ≡ with_folder t (parts path) there) → IfTold told1 told2 (λ t t'. HasEntries t t' (parts path) (entries nodes)) → OnOk r (IfTold told2 told3 (λ t t'. t' ≡ with_entry t (parts path ++ table_name ∷ []) (file_unless_empty text))) → OnOk r (IfTold told told3 (λ t t'. IsSaved t t' (parts path) nodes))
+saved_all (Err e) told told1 told2 told3 path there nodes text stored is made wrote added = tt
+saved_all (Ok done) told told1 told2 told3 path there nodes text stored is made wrote added =
     told_then told told2 told3 (λ t t'. HasEntries t t' (parts path) (entries nodes)) (λ t t'. t' ≡ with_entry t (parts path ++ table_name ∷ []) (file_unless_empty text)) (λ t t'. IsSaved t t' (parts path) nodes) (filled told told1 told2 path there nodes made wrote) added
     (λ t u v at has new. all_saved nodes stored t u (parts path) has v (new ∙ ap (with_entry u (parts path ++ table_name ∷ [])) (table_file (links_of nodes) text is)))
 
-pub stopped_in_table : (told told1 told2 told3 : Option Tree) (path : List ℕ) (there : Bool) (nodes : Nodes) (text : List ℕ) → IsWhole (get nodes) → text ≡ table_text (links_of nodes) → IfTold told told1 (λ t u. u ≡ with_folder t (parts path) there) → IfTold told1 told2 (λ t t'. HasEntries t t' (parts path) (entries nodes)) → IfTold told2 told3 (λ t t'. WrotePart t t' (parts path ++ table_name ∷ []) (file_unless_empty text)) → IfTold told told3 (λ t t'. IsPartlySaved t t' (parts path) nodes)
-stopped_in_table told told1 told2 told3 path there nodes text stored is made wrote part =
+pub stopped_in_table : {E : Type 0} (r : Result (Unit {0}) E) (told told1 told2 told3 : Option Tree) (path : List ℕ) (there : Bool) (nodes : Nodes) (text : List ℕ) → IsWhole (get nodes) → text ≡ table_text (links_of nodes) → IfTold told told1 (λ t u. u ≡ with_folder t (parts path) there) → IfTold told1 told2 (λ t t'. HasEntries t t' (parts path) (entries nodes)) → OnErr r (IfTold told2 told3 (λ t t'. WrotePart t t' (parts path ++ table_name ∷ []) (file_unless_empty text))) → OnErr r (IfTold told told3 (λ t t'. IsPartlySaved t t' (parts path) nodes))
+stopped_in_table (Ok done) told told1 told2 told3 path there nodes text stored is made wrote part = tt
+stopped_in_table (Err e) told told1 told2 told3 path there nodes text stored is made wrote part =
     told_then told told2 told3 (λ t t'. HasEntries t t' (parts path) (entries nodes)) (λ t t'. WrotePart t t' (parts path ++ table_name ∷ []) (file_unless_empty text)) (λ t t'. IsPartlySaved t t' (parts path) nodes) (filled told told1 told2 path there nodes made wrote) part
     (λ t u v at has some. refused_table nodes stored t u v (parts path) has (subst (WrotePart u v (parts path ++ table_name ∷ [])) (table_file (links_of nodes) text is) some))
 

@@ -237,7 +237,7 @@ fn table_below(alloc: Global, folder: &HostText) -> Result<HostText, NoMemory>
 /// The host path of an entry of a folder.
 fn place_below(alloc: Global, folder: &HostText, path: &Path) -> Result<HostText, NoMemory>
     ensures place { IfOk result (λ place. place ≡ folder.now ++ place_of path.now) }
-    ensures path { IsPath path.now }
+    ensures path { OnOk result (IsPath path.now) }
 {
     let mut text = String::from_str(alloc, folder.as_str())?;
     'joining: for i in 0..path.len() {
