@@ -1,27 +1,24 @@
 -- A walk over a filestore in the order of paths: what stands at a path and below, and what each step leaves.
-use Rattle.std.proofs.Common.{◌≡◌, inl, inr, ℕ, zero, suc, ◌+◌, ◌<◌, ◌≤◌, Bool, true, false, cond, ◌&&◌, ◌||◌, ◌==◌, T, List, [], ◌∷◌, ◌++◌, length, drop, option_to_list, is_some, Option, Some, None, Result, Ok, Err, OnOk, IfSome, IsSome, refl, sym, ◌∙◌, ap, subst, arith, append_assoc, append-nil}
-use Rattle.std.specs.declared.cmp.Ordering.{Ordering}
-use Rattle.std.specs.declared.cmp.Ordering.TheVariants.{Less, Equal, Greater}
+use Rattle.std.proofs.Common.{◌≡◌, inl, inr, ℕ, zero, suc, ◌+◌, Bool, true, false, cond, ◌||◌, T, List, [], ◌∷◌, ◌++◌, drop, is_some, Option, Some, None, Result, Ok, Err, OnOk, IfSome, IsSome, refl, sym, ◌∙◌, ap, subst, arith, append_assoc, append-nil}
+use Rattle.std.specs.declared.cmp.Ordering.TheVariants.{Less}
 use Rattle.std.specs.Ordering.{is_eq, is_lt, eq_by_cmp, ordering_then}
 use Rattle.std.specs.Cmp.{eq_by_cmp_equiv, tied_itself}
-use Rattle.std.specs.List.{AllByRecursion, filter, flat_map, list_any, slice_get}
+use Rattle.std.specs.List.{AllByRecursion, filter, list_any, slice_get}
 use Rattle.std.specs.List.Sorted.{IsStrictlySortedBy}
 use Rattle.std.specs.Option.{option_and_then, option_or}
 use Rattle.std.specs.FinMap.{entries, entries_sorted, get, get-entries, find, is_sorted}
 use Rattle.std.specs.FinMap.Entries.{below_all, find-where_key, is_sorted-where_key, same_entries}
 use Rattle.std.proofs.lemmas.Bool.{cases_Bool}
-use Rattle.std.proofs.lemmas.List.{drop_all}
 use Rattle.std.proofs.lemmas.Option.{same_Some}
 use Rattle.fx_store.specs.declared.node.Node.{Node}
 use Rattle.fx_store.specs.declared.node.Node.TheVariants.{File, Dir, Link}
-use Rattle.fx_store.specs.Names.{name_cmp, path_cmp, has, IsPath}
+use Rattle.fx_store.specs.Names.{name_cmp, path_cmp, has}
 use Rattle.fx_store.specs.Whole.{Store, Nodes, IsWhole, IsNode, lists}
-use Rattle.fx_store.specs.Filestore.{Table, IsTable}
-use Rattle.fx_outside.proofs.Sorted.{both, first, second, is_less, less_test}
+use Rattle.fx_outside.proofs.Sorted.{both, first, second, less_test}
 use Rattle.fx_outside.proofs.Trees.{name_total, parts_total, parts_same}
 use Rattle.fx_folder.specs.declared.descent.Level.{Level}
 use Rattle.fx_folder.specs.Places.{rest_of}
-use Rattle.fx_folder.specs.Remaining.{from_path, from_names, names_in, left_of, IsLevel, AreLevels, IsNextOf, Enters, ComesNext, IsLeftBelow}
+use Rattle.fx_folder.specs.Remaining.{from_path, from_names, names_in, left_of, IsLevel, IsNextOf, Enters, ComesNext, IsLeftBelow}
 use Rattle.fx_folder.proofs.Filled.{same_front, rest_is, longer, not_at}
 
 abbrev Path : Type 0
@@ -257,18 +254,6 @@ all_stay (e ∷ es) = ap (λ l. e ∷ l) (all_stay es)
 
 -- the steps of the walk
 
-all_push : (nodes : Nodes) (levels : List Level) (level : Level) → AreLevels nodes levels → IsLevel nodes level → AreLevels nodes (levels ++ level ∷ [])
-all_push nodes [] level all one = (one, tt)
-all_push nodes (l ∷ ls) level all one = (all.0, all_push nodes ls level all.1 one)
-
-pub all_but_last : (nodes : Nodes) (levels : List Level) (level : Level) → AreLevels nodes (levels ++ level ∷ []) → AreLevels nodes levels
-all_but_last nodes [] level all = tt
-all_but_last nodes (l ∷ ls) level all = (all.0, all_but_last nodes ls level all.1)
-
-pub the_last : (nodes : Nodes) (levels : List Level) (level : Level) → AreLevels nodes (levels ++ level ∷ []) → IsLevel nodes level
-the_last nodes [] level all = all.0
-the_last nodes (l ∷ ls) level all = the_last nodes ls level all.1
-
 left_push : (nodes : Nodes) (levels : List Level) (level : Level) → left_of nodes (levels ++ level ∷ []) ≡ from_names nodes level.path (drop level.next level.names) ++ left_of nodes levels
 left_push nodes [] level = sym (append-nil (from_names nodes level.path (drop level.next level.names)))
 left_push nodes (l ∷ ls) level =
@@ -282,31 +267,12 @@ entered_left nodes old new path (name ∷ names) here is =
     ap (left_of nodes) is ∙ left_push nodes old (record { path = path; names = name ∷ names; next = 0 })
     ∙ ap (λ o. from_names nodes path (names_in o) ++ left_of nodes old) (sym here)
 
-pub entered_levels : (nodes : Nodes) (old new : List Level) (path : Path) (names : List (List ℕ)) → get nodes path ≡ Some (Dir names) → Enters old path names new → AreLevels nodes old → AreLevels nodes new
-entered_levels nodes old new path [] here is all = subst (AreLevels nodes) (sym is) all
-entered_levels nodes old new path (name ∷ names) here is all =
-    let level : Level = record { path = path; names = name ∷ names; next = 0 } in
-    let more : 0 < length (name ∷ names) = omega arith in
-    subst (AreLevels nodes) (sym is) (all_push nodes old level all (record { directory = here; more = more }))
-
--- no directory
-pub passed_left : (nodes : Nodes) (levels : List Level) (path : Path) (o : Option Node) → get nodes path ≡ o → names_in o ≡ [] → left_of nodes levels ≡ from_names nodes path (names_in (get nodes path)) ++ left_of nodes levels
-passed_left nodes levels path o here none = ap (λ names. from_names nodes path names ++ left_of nodes levels) (sym none) ∙ ap (λ x. from_names nodes path (names_in x) ++ left_of nodes levels) (sym here)
-
 -- the directory above stays, unless it has no name more
 pub stays_left : (nodes : Nodes) (old new : List Level) (level : Level) (next : ℕ) → next ≡ level.next + 1 → new ≡ old ++ record level { next = next } ∷ [] → left_of nodes new ≡ from_names nodes level.path (drop (suc level.next) level.names) ++ left_of nodes old
 stays_left nodes old new level next is pushed =
     let one : next ≡ suc level.next = omega arith in
     ap (left_of nodes) pushed ∙ left_push nodes old (record level { next = next })
     ∙ ap (λ n. from_names nodes level.path (drop n level.names) ++ left_of nodes old) one
-
-pub stays_levels : (nodes : Nodes) (old new : List Level) (level : Level) (next : ℕ) → IsLevel nodes level → next < length level.names → new ≡ old ++ record level { next = next } ∷ [] → AreLevels nodes old → AreLevels nodes new
-stays_levels nodes old new level next is more pushed all =
-    subst (AreLevels nodes) (sym pushed) (all_push nodes old (record level { next = next }) all (record { directory = is.directory; more = more }))
-
-pub ends_left : (nodes : Nodes) (levels : List Level) (level : Level) → length level.names ≤ level.next + 1 → left_of nodes levels ≡ from_names nodes level.path (drop (suc level.next) level.names) ++ left_of nodes levels
-ends_left nodes levels level past =
-    ap (λ names. from_names nodes level.path names ++ left_of nodes levels) (sym (drop_all (suc level.next) level.names (omega arith)))
 
 drop_next : (names : List (List ℕ)) (i : ℕ) (name : List ℕ) → slice_get names i ≡ Some name → drop i names ≡ name ∷ drop (suc i) names
 drop_next [] i name at = cc
@@ -355,14 +321,6 @@ starts nodes whole levels left =
     let all : entries nodes ≡ ([], Dir root.0) ∷ from_names nodes [] root.0 = (root_first nodes whole).2 in
     (root.0, root.1, all ∙ ap (λ l. ([], Dir root.0) ∷ l) (sym (left ∙ append-nil (from_names nodes [] (names_in (get nodes []))) ∙ ap (λ o. from_names nodes [] (names_in o)) root.1)))
 
--- the last is gone back to
-pub popped : (nodes : Nodes) (old new : List Level) (o : Option Level) (level : Level) → old ≡ new ++ option_to_list o → o ≡ Some level → old ≡ new ++ level ∷ []
-popped nodes old new o level is some = is ∙ ap (λ x. new ++ option_to_list x) some
-
-pub none_left : (nodes : Nodes) (old new : List Level) (o : Option Level) → old ≡ new ++ option_to_list o → o ≡ None → (o ≡ None → length old ≡ 0) → left_of nodes old ≡ []
-none_left nodes [] new o is none empty = refl
-none_left nodes (l ∷ ls) new o is none empty = absurd (omega (arith, empty none))
-
 -- the path of a directory's next name is mapped, so it is no longer than a path may be
 pub child_there : (nodes : Nodes) → IsWhole (get nodes) → (level : Level) (path : Path) → IsLevel nodes level → IsNextOf level path → IsSome (get nodes path)
 child_there nodes whole level path is next =
@@ -371,15 +329,6 @@ child_there nodes whole level path is next =
     is_there : (o : Option Node) → is_some o ≡ true → IsSome o
     is_there None e = cc
     is_there (Some x) e = refl
-
-pub has_room : (nodes : Nodes) → IsWhole (get nodes) → (level : Level) → IsLevel nodes level → length level.path < 64
-has_room nodes whole level is =
-    let dir : IsNode level.path (Dir level.names) = node_at (get nodes) whole level.path (Dir level.names) is.directory in
-    let path : IsPath level.path = whole.paths level.path (subst IsSome (sym is.directory) refl) in
-    not_full (length level.path) level.names path.short dir.1 is.more
-  where
-    not_full : (n : ℕ) (names : List (List ℕ)) → n ≤ 64 → (n ≡ 64 → names ≡ []) → level.next < length names → n < 64
-    not_full n names short full more = let none : n ≡ 64 → length names ≡ 0 = λ e. ap length (full e) in grind (arith, none, short, more)
 
 pub entered_ok : {E : Type 0} (r : Result (Unit {0}) E) (nodes : Nodes) (old new : List Level) (path : Path) (names : List (List ℕ)) → get nodes path ≡ Some (Dir names) → OnOk r (Enters old path names new) → OnOk r (left_of nodes new ≡ from_names nodes path (names_in (get nodes path)) ++ left_of nodes old)
 entered_ok (Ok done) nodes old new path names here is = entered_left nodes old new path names here is

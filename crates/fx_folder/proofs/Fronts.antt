@@ -1,6 +1,5 @@
 -- The first of a filestore's nodes in a host's tree: one after another, and what stands there once the writing ends.
-use Rattle.std.proofs.Common.{◌≡◌, ◌⊎◌, inl, inr, ℕ, Bool, true, false, cond, ◌&&◌, ◌||◌, T, List, [], ◌∷◌, ◌++◌, length, take, is_none, is_some, Option, Some, None, IfSome, IsSome, IsTrue, refl, sym, ◌∙◌, ap, subst, arith, append_assoc, append-nil}
-use Rattle.std.specs.Prelude.{bytes_eq}
+use Rattle.std.proofs.Common.{◌≡◌, ◌⊎◌, inl, inr, ℕ, Bool, true, false, cond, ◌&&◌, ◌||◌, T, List, [], ◌∷◌, ◌++◌, is_none, is_some, Option, Some, None, IsSome, IsTrue, refl, sym, ◌∙◌, ap, subst, append_assoc, append-nil}
 use Rattle.std.specs.declared.cmp.Ordering.{Ordering}
 use Rattle.std.specs.declared.cmp.Ordering.TheVariants.{Less, Equal, Greater}
 use Rattle.std.specs.Ordering.{is_eq, is_lt, eq_by_cmp, ordering_then}
@@ -15,7 +14,7 @@ use Rattle.std.proofs.lemmas.Option.{same_Some}
 use Rattle.fx_store.specs.declared.node.Node.{Node}
 use Rattle.fx_store.specs.declared.node.Node.TheVariants.{File, Dir, Link}
 use Rattle.fx_store.specs.Names.{name_cmp, path_cmp, is_name, IsName}
-use Rattle.fx_store.specs.Whole.{Store, Nodes, IsWhole, lists}
+use Rattle.fx_store.specs.Whole.{Nodes, IsWhole, lists}
 use Rattle.fx_outside.specs.Path.{Parts, parts, parts_cmp, above, is_fit}
 use Rattle.fx_outside.specs.Tree as tree
 use Rattle.fx_outside.specs.Tree.{Tree, Entry, file, folder, has_folder, is_folder_kind, is_free, is_free_at}
@@ -114,9 +113,6 @@ module _ (nodes : Nodes) (done rest : List Mapped) (path : Path) (node : Node) (
   the_next =
       in_either nodes done ((path, node) ∷ rest) split path ∙ ap (λ o. option_or o (find path_cmp path ((path, node) ∷ rest))) fresh
       ∙ ap (λ b. cond b (Some node) (find path_cmp path rest)) (ap is_eq (tied_itself parts_total path))
-
-  pub split_next : entries nodes ≡ (done ++ (path, node) ∷ []) ++ rest
-  split_next = split ∙ sym (append_assoc done ((path, node) ∷ []) rest)
 
 -- entries of the tree
 

@@ -1,26 +1,22 @@
 -- The steps of writing a folder: what each leaves, and that the next may be made.
-use Rattle.std.proofs.Common.{◌≡◌, ◌⊎◌, inl, inr, ℕ, ◌+◌, ◌<◌, ◌≤◌, Bool, true, false, cond, ◌&&◌, ◌||◌, List, [], ◌∷◌, ◌++◌, length, take, Option, Some, None, option_map, IfSome, IsSome, OnOk, OnErr, IfErr, Result, Ok, Err, All, refl, sym, ◌∙◌, ap, subst, arith, append_assoc, append-nil}
+use Rattle.std.proofs.Common.{◌≡◌, inl, inr, ℕ, ◌<◌, ◌≤◌, Bool, true, List, [], ◌∷◌, ◌++◌, length, Option, Some, None, IfSome, IsSome, OnOk, OnErr, Result, Ok, Err, refl, sym, ◌∙◌, ap, subst, arith, append_assoc}
 use Rattle.std.specs.Option.{option_or}
-use Rattle.std.specs.FinMap.{entries, get, insert, find}
-use Rattle.std.proofs.lemmas.Bool.{cases_Bool}
-use Rattle.fx_base.specs.Causes.{Rose}
+use Rattle.std.specs.FinMap.{entries, get, find}
 use Rattle.fx_store.specs.declared.node.Node.{Node}
-use Rattle.fx_store.specs.declared.node.Node.TheVariants.{File, Dir, Link}
-use Rattle.fx_store.specs.Names.{path_cmp, IsName, IsPath}
+use Rattle.fx_store.specs.declared.node.Node.TheVariants.{Dir}
+use Rattle.fx_store.specs.Names.{path_cmp}
 use Rattle.fx_store.specs.Whole.{Nodes, IsWhole}
-use Rattle.fx_outside.specs.Path.{Parts, parts, is_fit}
+use Rattle.fx_outside.specs.Path.{Parts, parts}
 use Rattle.fx_outside.specs.Host.{HostView, AsksFit}
 use Rattle.fx_outside.proofs.Views.{fit_then}
 use Rattle.fx_outside.specs.Tree as tree
 use Rattle.fx_outside.specs.Tree.{Tree, Entry, file, folder, is_free_at, told_with}
-use Rattle.fx_folder.specs.declared.fault.SaveFault.{SaveFault}
-use Rattle.fx_folder.specs.declared.fault.SaveFault.TheVariants as faults
 use Rattle.fx_folder.specs.Places.{host_entry}
 use Rattle.fx_folder.specs.Loads.{table_name}
 use Rattle.fx_folder.specs.Reads.{path_below}
 use Rattle.fx_folder.specs.Table.{TableLink, line_of, links_of, table_text}
 use Rattle.fx_folder.specs.Deep.{place_of, table_entry}
-use Rattle.fx_folder.specs.Folder.{IfTold, IsSaved, IsPartlySaved, IsReady, SaveCause}
+use Rattle.fx_folder.specs.Folder.{IfTold, IsSaved, IsPartlySaved, IsReady}
 use Rattle.fx_folder.specs.Remaining.{ComesNext, IsLeftBelow}
 use Rattle.fx_folder.specs.Written.{with_folder, MadePart, IsOpen, with_entry, WrotePart, HasEntries, WroteFront, file_unless_empty}
 use Rattle.fx_folder.proofs.Filled.{opens}
@@ -32,14 +28,6 @@ abbrev Mapped : Type 0
 Mapped = List (List ℕ) × Node
 
 -- told trees
-
-told_made : (told told' : Option Tree) (f : Tree → Tree) (P : Tree → Tree → Type 0) → told' ≡ option_map f told → ((t : Tree) → P t (f t)) → IfTold told told' P
-told_made None told' f P e h = e
-told_made (Some t) told' f P e h = subst (λ o. IfTold (Some t) o P) (sym e) (h t)
-
-pub told_same : (told told' : Option Tree) (P : Tree → Tree → Type 0) → told' ≡ told → ((t : Tree) → P t t) → IfTold told told' P
-told_same None told' P e h = e
-told_same (Some t) told' P e h = subst (λ o. IfTold (Some t) o P) (sym e) (h t)
 
 told_open : (told : Option Tree) (P : Tree → Type 0) (Q : Tree → Tree → Type 0) → IfSome told P → ((t : Tree) → P t → Q t t) → IfTold told told Q
 told_open None P Q p h = refl
@@ -64,26 +52,6 @@ told_next (Some t) None P Q R p q h = tt
 told_next (Some t) (Some u) P Q R p q h = h t u p q
 
 -- one entry
-
-pub wrote_entry : (told told' : Option Tree) (path : List ℕ) (e : Entry) → told' ≡ told_with told path e → IfTold told told' (λ t t'. t' ≡ with_entry t (parts path) (Some e))
-wrote_entry told told' path e made = told_made told told' (λ t. insert t (parts path) e) (λ t t'. t' ≡ with_entry t (parts path) (Some e)) made (λ t. refl)
-
-pub wrote_none : (told told' : Option Tree) (at : Parts) → told' ≡ told → IfTold told told' (λ t t'. t' ≡ with_entry t at None)
-wrote_none told told' at same = told_same told told' (λ t t'. t' ≡ with_entry t at None) same (λ t. refl)
-
-pub wrote_nothing : (told told' : Option Tree) (at : Parts) (o : Option Entry) → told' ≡ told → IfTold told told' (λ t t'. WrotePart t t' at o)
-wrote_nothing told told' at o same = told_same told told' (λ t t'. WrotePart t t' at o) same (λ t. inl refl)
-
-pub wrote_folder_part : (told told' : Option Tree) (path : List ℕ) → (told' ≡ told) ⊎ (told' ≡ told_with told path folder) → IfTold told told' (λ t t'. WrotePart t t' (parts path) (Some folder))
-wrote_folder_part told told' path (inl same) = wrote_nothing told told' (parts path) (Some folder) same
-wrote_folder_part told told' path (inr made) =
-    told_made told told' (λ t. insert t (parts path) folder) (λ t t'. WrotePart t t' (parts path) (Some folder)) made (λ t. inr (folder, folder, refl, inl refl, refl))
-
-pub wrote_file_part : (told told' : Option Tree) (path bytes : List ℕ) → (told' ≡ told) ⊎ ((n : ℕ) × (told' ≡ told_with told path (file (take n bytes)))) → IfTold told told' (λ t t'. WrotePart t t' (parts path) (Some (file bytes)))
-wrote_file_part told told' path bytes (inl same) = wrote_nothing told told' (parts path) (Some (file bytes)) same
-wrote_file_part told told' path bytes (inr some) =
-    told_made told told' (λ t. insert t (parts path) (file (take some.0 bytes))) (λ t t'. WrotePart t t' (parts path) (Some (file bytes))) some.1
-    (λ t. inr (file (take some.0 bytes), file bytes, refl, inr (bytes, some.0, refl, refl), refl))
 
 pub err_holds : {A E : Type 0} (r : Result A E) (P : Type 0) → P → OnErr r P
 err_holds (Ok a) P p = tt
@@ -155,17 +123,6 @@ is_free old host path nodes left left' p whole ready was next =
     (λ t u is has.
     next_free nodes whole t u (parts path) was.done left' p next.0 (next_split nodes was.done left left' p next.0 was.split next.2) has was.some (path ++ place_of p) (fit_place path p is.fit names) (parts_place path p names))
 
-pub there : (nodes : Nodes) (left left' : List Mapped) (p : Parts) → ComesNext nodes left left' (Some p) → IsSome (get nodes p)
-there nodes left left' p next = subst IsSome (sym next.1) refl
-
-pub fewer : (nodes : Nodes) (left left' : List Mapped) (p : Parts) → ComesNext nodes left left' (Some p) → length left ≡ length left' + 1
-fewer nodes left left' p next = ap length next.2 ∙ omega arith
-
-pub wrote_all : (old host : HostView) (path : List ℕ) (nodes : Nodes) (left : List Mapped) → IsWriting old host path nodes left → left ≡ [] → IfTold old.told host.told (λ t t'. HasEntries t t' (parts path) (entries nodes))
-wrote_all old host path nodes left was none =
-    let all : was.done ≡ entries nodes = sym (was.split ∙ ap (λ l. was.done ++ l) none ∙ append-nil was.done) in
-    subst (λ es. IfTold old.told host.told (λ t t'. HasEntries t t' (parts path) es)) all was.stands
-
 -- it stops before the next entry, or in it
 
 pub stops_first : (host : HostView) (path : List ℕ) (nodes : Nodes) → IsWhole (get nodes) → IfSome host.told (λ t. IsOpen t path) → IfTold host.told host.told (λ t t'. WroteFront t t' (parts path) nodes)
@@ -209,26 +166,6 @@ stops_in old host host' path nodes left left' p was next wrote =
     })
 
 -- the whole folder
-
-pub on_ok : {A E : Type 0} (r : Result A E) (P Q : Type 0) → OnOk r P → (P → Q) → OnOk r Q
-on_ok (Ok a) P Q p h = h p
-on_ok (Err e) P Q p h = tt
-
-pub on_err : {A E : Type 0} (r : Result A E) (P Q : Type 0) → OnErr r P → (P → Q) → OnErr r Q
-on_err (Ok a) P Q p h = tt
-on_err (Err e) P Q p h = h p
-
--- the folder is there, or was made
-pub was_there : (told : Option Tree) (path : List ℕ) (there : Bool) → there ≡ true → IfTold told told (λ t u. u ≡ with_folder t (parts path) there)
-was_there told path there e = told_same told told (λ t u. u ≡ with_folder t (parts path) there) refl (λ t. ap (with_folder t (parts path)) (sym e))
-
-pub was_made : (told told' : Option Tree) (path : List ℕ) (there : Bool) → there ≡ false → told' ≡ told_with told path folder → IfTold told told' (λ t u. u ≡ with_folder t (parts path) there)
-was_made told told' path there e made = told_made told told' (λ t. insert t (parts path) folder) (λ t u. u ≡ with_folder t (parts path) there) made (λ t. ap (with_folder t (parts path)) (sym e))
-
-pub made_part : (told told' : Option Tree) (path : List ℕ) (there : Bool) → there ≡ false → (told' ≡ told) ⊎ (told' ≡ told_with told path folder) → IfTold told told' (λ t u. MadePart t u (parts path) there)
-made_part told told' path there new (inl same) = told_same told told' (λ t u. MadePart t u (parts path) there) same (λ t. inl refl)
-made_part told told' path there new (inr made) =
-    told_map told told' (λ t u. u ≡ with_folder t (parts path) there) (λ t u. MadePart t u (parts path) there) (was_made told told' path there new made) (λ t u is e. inr e)
 
 -- what is known of the tree before the folder is written
 pub record IsStart (told : Option Tree) (path : List ℕ) (there : Bool) (nodes : Nodes) : Type 0 where
@@ -286,16 +223,4 @@ stopped_at_folder None told' path there nodes start made = made
 stopped_at_folder (Some t) None path there nodes start made = made
 stopped_at_folder (Some t) (Some u) path there nodes start made = refused_folder nodes start.stored t u path there start.whole start.ready made
 
-pub stopped_first : (told : Option Tree) (path : List ℕ) (nodes : Nodes) → IfTold told told (λ t t'. IsPartlySaved t t' (parts path) nodes)
-stopped_first told path nodes = told_same told told (λ t t'. IsPartlySaved t t' (parts path) nodes) refl (λ t. inl refl)
-
 -- the causes of a refusal
-
-pub save_cause : (old new : HostView) (path : List ℕ) (there : Bool) (r : Result (Unit {0}) SaveFault) → (r ≡ Err faults.WriteFault → Rose old.faults new.faults) → (r ≡ Err faults.NotEmpty → ⊥) → IfErr r (SaveCause path there old new)
-save_cause old new path there (Ok done) fault free = tt
-save_cause old new path there (Err faults.WriteFault) fault free = inl (fault refl)
-save_cause old new path there (Err faults.NotEmpty) fault free = free refl
-save_cause old new path there (Err faults.NoMemory) fault free = tt
-
-pub earlier : (before middle now : ℕ) → before ≤ middle → Rose middle now → Rose before now
-earlier before middle now later rose = omega (arith, later, rose)

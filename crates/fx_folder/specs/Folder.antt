@@ -42,6 +42,7 @@ pub record IsPartOf (tree tree' : Tree) (at : Parts) (nodes : Nodes) (last : Par
 
 abbrev pub IsPartlySaved : Tree → Tree → Parts → Nodes → Type 0
 IsPartlySaved tree tree' at nodes = (tree' ≡ tree) ⊎ ((last : Parts) × IsPartOf tree tree' at nodes last)
+
 -- every entry of the root is a file
 abbrev pub IsFileNode : Node → Type 0
 IsFileNode (File bytes) = Unit {0}

@@ -1,5 +1,5 @@
 -- What stands for nodes in a host's tree, and what is left of a place behind a folder's.
-use Rattle.std.specs.Prelude.{cond, List, [], ◌∷◌, Option, Some, None}
+use Rattle.std.specs.Prelude.{cond, [], ◌∷◌, Option, Some, None}
 use Rattle.std.specs.Ordering.{eq_by_cmp}
 use Rattle.fx_store.specs.declared.node.Node.{Node}
 use Rattle.fx_store.specs.declared.node.Node.TheVariants.{File, Dir, Link}

@@ -133,12 +133,7 @@ fn enter(
 }
 
 /// Goes into a directory that lists something.
-fn push(
-    alloc: Global,
-    levels: &mut Vec<Level>,
-    path: &Path,
-    names: &Names,
-) -> Result<(), NoMemory>
+fn push(alloc: Global, levels: &mut Vec<Level>, path: &Path, names: &Names) -> Result<(), NoMemory>
     ensures { OnOk result (Enters levels.old.items path.now names.now levels.new.items) }
 {
     if names.len() == 0 {

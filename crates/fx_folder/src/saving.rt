@@ -34,7 +34,8 @@ pub fn save<H: Host>(
     store: &Filestore,
 ) -> Result<(), SaveFault>
     requires ready { IfSome (H.view host.old).told (λ tree. IsReady tree folder.now there) }
-    ensures saved { OnOk result (Saves folder.now store.now.nodes (H.view host.old) (H.view host.new)) }
+    ensures saved { OnOk result
+        (Saves folder.now store.now.nodes (H.view host.old) (H.view host.new)) }
     ensures part { OnErr result
         (SavesPart folder.now store.now.nodes (H.view host.old) (H.view host.new)) }
     ensures fault { IfErr result (SaveCause folder.now there (H.view host.old) (H.view host.new)) }
@@ -112,10 +113,10 @@ fn write_entry<H: Host>(
     requires there { IsSome (get store.now.nodes path.now) }
     ensures written { OnOk result (IfTold (H.view host.old).told (H.view host.new).told
         (λ tree tree'. tree' ≡ with_entry tree (parts folder.now ++ path.now)
-            (host_entry (get store.now.nodes path.now)))) }
+        (host_entry (get store.now.nodes path.now)))) }
     ensures partly { OnErr result (IfTold (H.view host.old).told (H.view host.new).told
         (λ tree tree'. WrotePart tree tree' (parts folder.now ++ path.now)
-            (host_entry (get store.now.nodes path.now)))) }
+        (host_entry (get store.now.nodes path.now)))) }
     ensures fault { result ≡ Err WriteFault
         → Rose (H.view host.old).faults (H.view host.new).faults }
     ensures free { result ≡ Err NotEmpty → ⊥ }
@@ -208,10 +209,10 @@ fn add_table<H: Host>(
         is_free_at tree (path_below folder.now table_name) ≡ true) }
     ensures written { OnOk result (IfTold (H.view host.old).told (H.view host.new).told
         (λ tree tree'. tree' ≡ with_entry tree (parts folder.now ++ table_name ∷ [])
-            (file_unless_empty text.now))) }
+        (file_unless_empty text.now))) }
     ensures partly { OnErr result (IfTold (H.view host.old).told (H.view host.new).told
         (λ tree tree'. WrotePart tree tree' (parts folder.now ++ table_name ∷ [])
-            (file_unless_empty text.now))) }
+        (file_unless_empty text.now))) }
     ensures fault { result ≡ Err WriteFault
         → Rose (H.view host.old).faults (H.view host.new).faults }
     ensures free { result ≡ Err NotEmpty → ⊥ }

@@ -20,5 +20,6 @@ returns-in_err-write_entry-clause-partly g c =
 
 pub writing-preserved : goal.writing-preserved
 writing-preserved g c = (
-    c.in_ok-path.ensures.levels,
-    goes_on (g.H.Host.view c.args.host.now) (g.H.Host.view c.writing.host) (g.H.Host.view c.write_entry.new.host) c.args.folder.now c.args.store.now.nodes _ _ c.in-Some.path (c.writing.invariant).1 (rw c.in-Some.is at c.in_ok-path.ensures.next) c.write_entry.ensures.later c.write_entry.ensures.fit c.in_ok-write_entry.ensures.written)
+  c.in_ok-path.ensures.levels,
+  goes_on (g.H.Host.view c.args.host.now) (g.H.Host.view c.writing.host) (g.H.Host.view c.write_entry.new.host) c.args.folder.now c.args.store.now.nodes _ _ c.in-Some.path (c.writing.invariant).1 (rw c.in-Some.is at c.in_ok-path.ensures.next) c.write_entry.ensures.later c.write_entry.ensures.fit c.in_ok-write_entry.ensures.written,
+)
