@@ -15,7 +15,7 @@ use Rattle.fx_store.specs.declared.node.Node.{Node}
 use Rattle.fx_store.specs.declared.node.Node.TheVariants.{File, Dir, Link}
 use Rattle.fx_store.specs.Names.{path_cmp}
 use Rattle.fx_store.specs.Orders.{path_eq_same}
-use Rattle.fx_folder.specs.Folder.{host_entry}
+use Rattle.fx_folder.specs.Places.{host_entry}
 use Rattle.fx_folder.specs.Table.{TableLink, link_at}
 use Rattle.fx_folder.specs.Deep.{Held, Mapped, all_bytes}
 use Rattle.fx_folder.specs.LoadLaws.{size_of, sizes_of}

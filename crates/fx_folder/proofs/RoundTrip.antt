@@ -26,7 +26,7 @@ use Rattle.fx_store.specs.Resolve.{parent}
 use Rattle.fx_store.specs.Whole.{Store, Nodes, IsWhole, IsNode, lists}
 use Rattle.fx_folder.specs.declared.fault.FolderCause.{FolderCause}
 use Rattle.fx_folder.specs.declared.fault.FolderCause.TheVariants.{TooLarge}
-use Rattle.fx_folder.specs.Folder.{host_entry}
+use Rattle.fx_folder.specs.Places.{host_entry}
 use Rattle.fx_folder.specs.Loads.{table_name, most_nodes, most_in_file, most_bytes}
 use Rattle.fx_folder.specs.Table.{TableLink, IsTable, links_of, is_dir, can_stand, table_text, read_table}
 use Rattle.fx_folder.specs.TableLaws.{but_no_link, unlinked}

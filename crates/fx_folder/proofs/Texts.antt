@@ -1,5 +1,5 @@
 -- Paths of entries of a folder, as texts.
-use Rattle.std.proofs.Common.{◌≡◌, inl, inr, ℕ, ◌==◌, ◌<◌, Bool, true, false, not, cond, ◌&&◌, ◌||◌, List, [], ◌∷◌, ◌++◌, length, refl, sym, ◌∙◌, ap, arith}
+use Rattle.std.proofs.Common.{◌≡◌, inl, inr, ℕ, ◌==◌, ◌<◌, Bool, true, false, not, cond, ◌&&◌, ◌||◌, List, [], ◌∷◌, ◌++◌, length, All, append_assoc, append-nil, refl, sym, ◌∙◌, ap, arith}
 use Rattle.std.specs.Prelude.{nat_lt, nat_le, bytes_eq, codes}
 use Rattle.std.specs.List.{list_all, list_any, slice_split, onto_first}
 use Rattle.std.specs.Str.{is_utf8, IsUtf8}
@@ -10,7 +10,10 @@ use Rattle.std.proofs.lemmas.List.Splits.{length-slice_split}
 use Rattle.std.proofs.lemmas.Str.{IsUtf8-from_is_utf8}
 use Rattle.fx_store.specs.Names.{IsName, is_name, is_slash, is_nul, is_reserved}
 use Rattle.fx_outside.specs.Path.{Parts, parts, is_fit, is_fit_part}
+use Rattle.std.proofs.lemmas.List.Elements.{All-head, All-tail}
 use Rattle.fx_folder.specs.Reads.{path_below}
+use Rattle.fx_folder.specs.Loads.{table_name}
+use Rattle.fx_folder.specs.Deep.{place_of}
 
 left : (a b : Bool) → (a && b) ≡ true → a ≡ true
 left true b e = refl
@@ -104,3 +107,28 @@ pub fit_below : (folder name : List ℕ) → is_fit folder ≡ true → IsName n
 fit_below folder name fit is =
     ap (list_all is_fit_part) (parts_below folder name is) ∙ list_all-append is_fit_part (parts folder) (name ∷ [])
     ∙ both (list_all is_fit_part (parts folder)) _ fit (both (is_fit_part name) true (fit_name name is) refl)
+
+-- the path below a folder of the names of a filestore's path
+
+named : (n : List ℕ) (p : Parts) → All IsName (n ∷ p) → IsName n
+named n p all = All-head IsName n p all
+
+pub parts_place : (folder : List ℕ) (p : Parts) → All IsName p → parts (folder ++ place_of p) ≡ parts folder ++ p
+parts_place folder [] all = ap parts (append-nil folder) ∙ sym (append-nil (parts folder))
+parts_place folder (n ∷ p) all =
+    ap parts (sym (append_assoc folder (47 ∷ n) (place_of p))) ∙ parts_place (path_below folder n) p (All-tail IsName n p all)
+    ∙ ap (λ q. q ++ p) (parts_below folder n (named n p all)) ∙ append_assoc (parts folder) (n ∷ []) p
+
+pub fit_place : (folder : List ℕ) (p : Parts) → is_fit folder ≡ true → All IsName p → is_fit (folder ++ place_of p) ≡ true
+fit_place folder [] fit all = ap is_fit (append-nil folder) ∙ fit
+fit_place folder (n ∷ p) fit all =
+    ap is_fit (sym (append_assoc folder (47 ∷ n) (place_of p))) ∙ fit_place (path_below folder n) p (fit_below folder n fit (named n p all)) (All-tail IsName n p all)
+
+-- the table below a folder
+
+pub parts_table : (folder : List ℕ) → parts (path_below folder table_name) ≡ parts folder ++ table_name ∷ []
+parts_table folder = parts_joined folder table_name ∙ ap (λ p. parts folder ++ p) (one_part table_name refl)
+
+pub fit_table : (folder : List ℕ) → is_fit folder ≡ true → is_fit (path_below folder table_name) ≡ true
+fit_table folder fit =
+    ap (list_all is_fit_part) (parts_table folder) ∙ list_all-append is_fit_part (parts folder) (table_name ∷ []) ∙ both (is_fit folder) true fit refl

@@ -1,8 +1,7 @@
--- The folder of a filestore: which entries stand for it in a host's tree.
-use Rattle.std.specs.Prelude.{◌≡◌, ◌≢◌, ◌⊎◌, ℕ, Bool, true, false, cond, List, [], ◌∷◌, ◌++◌, take, IfSome, IsSomeAnd, Option, Some, None}
+-- The folder of a filestore: which entries stand for it in a host's tree once it is saved, and which after a refusal.
+use Rattle.std.specs.Prelude.{◌≡◌, ◌≢◌, ◌⊎◌, ℕ, Bool, true, false, cond, ◌||◌, List, [], ◌∷◌, ◌++◌, take, IsTrue, IfSome, IsSomeAnd, Option, Some, None}
 use Rattle.std.specs.FinMap.{get}
-use Rattle.std.specs.declared.cmp.Ordering.TheVariants.{Less}
-use Rattle.std.specs.Ordering.{eq_by_cmp}
+use Rattle.std.specs.Ordering.{is_lt}
 use Rattle.fx_store.specs.declared.node.Node.{Node}
 use Rattle.fx_store.specs.declared.node.Node.TheVariants.{File, Dir, Link}
 use Rattle.fx_store.specs.Whole.{Store, Nodes}
@@ -11,42 +10,34 @@ use Rattle.fx_folder.specs.declared.fault.SaveFault.{SaveFault}
 use Rattle.fx_folder.specs.declared.fault.SaveFault.TheVariants as fault
 use Rattle.fx_base.specs.Causes.{Rose}
 use Rattle.fx_outside.specs.Host.{HostView, HasFailed}
-use Rattle.fx_outside.specs.Listing.{name_cmp}
 use Rattle.fx_outside.specs.Path.{Parts, parts, parts_cmp, is_fit, above}
-use Rattle.fx_outside.specs.Tree.{Tree, Entry, file, folder, entry_at, is_folder_at, has_folder}
+use Rattle.fx_outside.specs.Tree.{Tree, Entry, file, entry_at, is_folder_at, has_folder}
+pub use Rattle.fx_folder.specs.Places.{host_entry, rest_of}
+use Rattle.fx_folder.specs.Deep.{folder_entry, is_table_place}
 
--- a file and a directory are entries of the host; links are not written yet
-abbrev pub host_entry : Option Node → Option Entry
-host_entry None = None
-host_entry (Some (File bytes)) = Some (file bytes)
-host_entry (Some (Dir names)) = Some folder
-host_entry (Some (Link text)) = None
-
--- what is left of the parts behind a folder's, if they begin with these
-abbrev pub rest_of : Parts → Parts → Option Parts
-rest_of [] q = Some q
-rest_of (a ∷ at) [] = None
-rest_of (a ∷ at) (b ∷ q) = cond (eq_by_cmp name_cmp a b) (rest_of at q) None
-
-abbrev pub entry_or : Option Entry → Store → Option Parts → Option Entry
-entry_or outside S None = outside
-entry_or outside S (Some path) = host_entry (S path)
+abbrev pub entry_or : Option Entry → Nodes → Option Parts → Option Entry
+entry_or outside nodes None = outside
+entry_or outside nodes (Some path) = folder_entry nodes path
 
 -- the new tree has the folder of the filestore at these parts, and is the old one elsewhere
 abbrev pub IsSaved : Tree → Tree → Parts → Nodes → Type 0
-IsSaved tree tree' at nodes = (q : Parts) → get tree' q ≡ entry_or (get tree q) (get nodes) (rest_of at q)
+IsSaved tree tree' at nodes = (q : Parts) → get tree' q ≡ entry_or (get tree q) nodes (rest_of at q)
 
 -- a file with a prefix of the bytes of the file that the whole folder has there
 abbrev pub IsFrontOf : Entry → Entry → Type 0
 IsFrontOf e whole = (bytes : List ℕ) × (n : ℕ) × (whole ≡ file bytes) × (e ≡ file (take n bytes))
 
+-- the order in which a folder is written: that of paths, but the table last of all
+abbrev pub is_written_before : Parts → Parts → Bool
+is_written_before before path = cond (is_table_place before) false (is_table_place path || is_lt (parts_cmp before path))
+
 -- the new tree has a part of that folder at these parts, and is the old one elsewhere; the file last begun may hold a prefix
--- of its bytes, and what stands before an entry that is there, in path order, is there whole
+-- of its bytes, and what is written before an entry that is there is there whole
 pub record IsPartOf (tree tree' : Tree) (at : Parts) (nodes : Nodes) (last : Parts) : Type 0 where
   pub outside : (q : Parts) → rest_of at q ≡ None → get tree' q ≡ get tree q
   pub inside : (path : Parts) (e : Entry) → get tree' (at ++ path) ≡ Some e
-      → (whole : Entry) × (host_entry (get nodes path) ≡ Some whole) × ((e ≡ whole) ⊎ ((path ≡ last) × IsFrontOf e whole))
-  pub ordered : (path before : Parts) (e whole : Entry) → get tree' (at ++ path) ≡ Some e → parts_cmp before path ≡ Less → host_entry (get nodes before) ≡ Some whole
+      → (whole : Entry) × (folder_entry nodes path ≡ Some whole) × ((e ≡ whole) ⊎ ((path ≡ last) × IsFrontOf e whole))
+  pub ordered : (path before : Parts) (e whole : Entry) → get tree' (at ++ path) ≡ Some e → IsTrue (is_written_before before path) → folder_entry nodes before ≡ Some whole
       → get tree' (at ++ before) ≡ Some whole
 
 abbrev pub IsPartlySaved : Tree → Tree → Parts → Nodes → Type 0

@@ -5,8 +5,10 @@ pub mod Folder
 pub mod Held
 pub mod LoadLaws
 pub mod Loads
+pub mod Places
 pub mod Reads
 pub mod RefusalLaws
+pub mod Remaining
 pub mod Table
 pub mod TableExamples
 pub mod TableLaws

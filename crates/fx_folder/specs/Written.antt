@@ -1,59 +1,63 @@
 -- What the steps of writing a folder leave.
-use Rattle.std.specs.Prelude.{◌≡◌, ◌⊎◌, ℕ, Bool, true, cond, List, [], ◌∷◌, ◌++◌, map, take, Option, Some, None}
-use Rattle.std.specs.FinMap.{get, insert}
-use Rattle.std.specs.List.{slice_get}
+use Rattle.std.specs.Prelude.{◌≡◌, ◌⊎◌, ℕ, Bool, true, cond, List, [], ◌∷◌, ◌++◌, IsSome, Option, Some, None}
+use Rattle.std.specs.FinMap.{get, insert, find, entries}
 use Rattle.fx_store.specs.declared.node.Node.{Node}
 use Rattle.fx_store.specs.declared.node.Node.TheVariants.{File, Dir, Link}
-use Rattle.fx_store.specs.Whole.{Store}
+use Rattle.fx_store.specs.Names.{path_cmp}
+use Rattle.fx_store.specs.Whole.{Nodes}
 use Rattle.fx_outside.specs.Path.{Parts, parts, is_fit}
-use Rattle.fx_outside.specs.Tree.{Tree, file, folder, has_folder}
-
--- what a file holds
-abbrev pub bytes_in : Option Node → List ℕ
-bytes_in None = []
-bytes_in (Some (File bytes)) = bytes
-bytes_in (Some (Dir names)) = []
-bytes_in (Some (Link text)) = []
-
--- the files of these names
-abbrev pub files_of : Store → List (List ℕ) → List (List ℕ × List ℕ)
-files_of S names = map (λ n. (n, bytes_in (S (n ∷ [])))) names
-
--- the tree with one file more in a folder for each of these, one after another
-abbrev pub with_files : Tree → Parts → List (List ℕ × List ℕ) → Tree
-with_files tree at [] = tree
-with_files tree at (f ∷ fs) = with_files (insert tree (at ++ f.0 ∷ []) (file f.1)) at fs
+use Rattle.fx_outside.specs.Tree.{Tree, Entry, file, folder}
+use Rattle.fx_folder.specs.Places.{host_entry, rest_of}
+use Rattle.fx_folder.specs.Folder.{IsFrontOf}
+use Rattle.fx_folder.specs.Table.{line_of}
 
 -- the tree with the folder itself, which is made where it is not there
 abbrev pub with_folder : Tree → Parts → Bool → Tree
 with_folder tree at there = cond there tree (insert tree at folder)
 
--- a folder stands at the path, with nothing in it
+-- the folder was made, if it had to be, or nothing was
+abbrev pub MadePart : Tree → Tree → Parts → Bool → Type 0
+MadePart tree tree' at there = (tree' ≡ tree) ⊎ (tree' ≡ with_folder tree at there)
+
+-- a folder stands at the path, with nothing below
 pub record IsOpen (tree : Tree) (path : List ℕ) : Type 0 where
   pub fit : is_fit path ≡ true
-  pub folder : has_folder tree (parts path) ≡ true
-  pub empty : (n : List ℕ) → get tree (parts path ++ n ∷ []) ≡ None
+  pub folder : get tree (parts path) ≡ Some folder
+  pub empty : (name : List ℕ) (names : Parts) → get tree (parts path ++ name ∷ names) ≡ None
 
--- the file of a name is there, with so many of its bytes
-abbrev pub with_front : Tree → Parts → List ℕ → Store → ℕ → Tree
-with_front tree at name S n = insert tree (at ++ name ∷ []) (file (take n (bytes_in (S (name ∷ [])))))
+-- the tree with an entry more, if there is one
+abbrev pub with_entry : Tree → Parts → Option Entry → Tree
+with_entry tree place None = tree
+with_entry tree place (Some e) = insert tree place e
 
-abbrev pub WroteFile : Tree → Tree → List ℕ → List ℕ → Store → Type 0
-WroteFile tree tree' path name S = tree' ≡ insert tree (parts path ++ name ∷ []) (file (bytes_in (S (name ∷ []))))
+-- nothing of the entry was written, or all, or a front of the file that it is
+abbrev pub WrotePart : Tree → Tree → Parts → Option Entry → Type 0
+WrotePart tree tree' place entry =
+    (tree' ≡ tree) ⊎ ((e : Entry) × (whole : Entry) × (entry ≡ Some whole) × ((e ≡ whole) ⊎ IsFrontOf e whole) × (tree' ≡ insert tree place e))
 
-abbrev pub WroteFilePart : Tree → Tree → List ℕ → List ℕ → Store → Type 0
-WroteFilePart tree tree' path name S = (tree' ≡ tree) ⊎ ((n : ℕ) × (tree' ≡ with_front tree (parts path) name S n))
+-- the file of a text, if it is not empty
+abbrev pub file_unless_empty : List ℕ → Option Entry
+file_unless_empty [] = None
+file_unless_empty (b ∷ text) = Some (file (b ∷ text))
 
--- the files of all names that the root lists are there
-pub record WroteAll (tree tree' : Tree) (at : Parts) (S : Store) : Type 0 where
-  pub names : List (List ℕ)
-  pub root : S [] ≡ Some (Dir names)
-  pub files : tree' ≡ with_files tree at (files_of S names)
+-- the line of a link in the table, where one stands at the path
+abbrev pub line_at : List (List ℕ) → Option Node → List ℕ
+line_at path None = []
+line_at path (Some (File bytes)) = []
+line_at path (Some (Dir names)) = []
+line_at path (Some (Link text)) = line_of (record { path = path; text = text }) ++ 10 ∷ []
 
--- the files of the first of these names are there, and perhaps a front of the next one
-pub record WrotePart (tree tree' : Tree) (at : Parts) (S : Store) : Type 0 where
-  pub names : List (List ℕ)
-  pub root : S [] ≡ Some (Dir names)
-  pub count : ℕ
-  pub files : (tree' ≡ with_files tree at (files_of S (take count names)))
-      ⊎ ((name : List ℕ) × (n : ℕ) × (slice_get names count ≡ Some name) × (tree' ≡ with_front (with_files tree at (files_of S (take count names))) at name S n))
+-- the new tree has the entries of these nodes at these parts and below, and is the old one elsewhere
+pub record HasEntries (tree tree' : Tree) (at : Parts) (nodes : List (List (List ℕ) × Node)) : Type 0 where
+  pub outside : (q : Parts) → rest_of at q ≡ None → get tree' q ≡ get tree q
+  pub inside : (path : Parts) → get tree' (at ++ path) ≡ host_entry (find path_cmp path nodes)
+
+-- the entries of the first of the filestore's nodes are there, and perhaps the next one, or a front of it
+pub record WroteFront (tree tree' : Tree) (at : Parts) (nodes : Nodes) : Type 0 where
+  pub done : List (List (List ℕ) × Node)
+  pub left : List (List (List ℕ) × Node)
+  pub split : entries nodes ≡ done ++ left
+  pub some : IsSome (find path_cmp [] done)
+  pub before : Tree
+  pub written : HasEntries tree before at done
+  pub begun : (tree' ≡ before) ⊎ ((path : Parts) × (node : Node) × (rest : List (List (List ℕ) × Node)) × (left ≡ (path, node) ∷ rest) × WrotePart before tree' (at ++ path) (host_entry (Some node)))

@@ -1,13 +1,16 @@
 //! Folders of a host as filestores, and filestores as folders.
 #![tactic(auto)]
 
+mod descent;
 mod fault;
 pub mod laws;
+mod links;
 mod loading;
 mod readying;
 mod saving;
 
 pub use fault::{FolderCause, LoadFault, SaveFault};
+pub use links::write_table;
 pub use loading::load;
 pub use readying::ready;
 pub use saving::save;

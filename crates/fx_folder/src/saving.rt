@@ -1,25 +1,31 @@
 //! Filestores as folders.
-ghost use Rattle.std.specs.Prelude.{◌≡◌, ◌≤◌, ◌∷◌, [], true, Ok, Err, IfOk, IfErr, OnOk, OnErr, IfSome, IsSome};
-ghost use Rattle.std.specs.FinMap.{get};
+ghost use Rattle.std.specs.Prelude.{◌≡◌, ◌≤◌, ◌++◌, ◌∷◌, [], true, Some, Ok, Err, IfOk, IfErr, OnOk, OnErr, IfSome, IsSome, string_bytes};
+ghost use Rattle.std.specs.FinMap.{get, entries};
 ghost use Rattle.fx_base.specs.Causes.{Rose};
-ghost use Rattle.fx_store.specs.Names.{IsName};
 ghost use Rattle.fx_store.specs.Whole.{IsWhole};
+ghost use Rattle.fx_store.specs.Names.{IsPath, IsName};
 ghost use Rattle.fx_outside.specs.Path.{parts};
-ghost use Rattle.fx_outside.specs.Host.{AsksFit};
-ghost use Rattle.fx_outside.specs.Tree.{is_free_at};
+ghost use Rattle.fx_outside.specs.Host.{AsksFit, HasFailed, CountsUnfit};
+ghost use Rattle.fx_outside.specs.Tree.{is_free_at, file, folder};
 ghost use Rattle.fx_folder.specs.declared.fault.SaveFault.TheVariants.{WriteFault, NotEmpty};
+ghost use Rattle.fx_folder.specs.Deep.{place_of};
+ghost use Rattle.fx_folder.specs.Loads.{table_name};
 ghost use Rattle.fx_folder.specs.Reads.{path_below};
-ghost use Rattle.fx_folder.specs.Folder.{IsReady, IsFlat, IfTold, Saves, SavesPart, IsFileNode, SaveCause};
-ghost use Rattle.fx_folder.specs.Written.{IsOpen, WroteFile, WroteFilePart, WroteAll, WrotePart};
+ghost use Rattle.fx_folder.specs.Places.{host_entry};
+ghost use Rattle.fx_folder.specs.Folder.{IsReady, IfTold, Saves, SavesPart, SaveCause};
+ghost use Rattle.fx_folder.specs.Written.{with_folder, MadePart, IsOpen, with_entry, WrotePart, HasEntries, WroteFront, file_unless_empty};
 
 use crate::SaveFault;
+use crate::descent::Descent;
+use crate::links::write_table;
 use fx_base::NoMemory;
 use fx_outside::{Host, HostFault, HostText};
-use fx_store::{Bytes, Filestore, Name, Names, Node, Path, PathFault};
+use fx_store::{Filestore, LongText, Name, Node, Path};
 use std::alloc::Global;
 
-/// Writes a filestore of files alone as a folder: the folder itself, unless an empty one is there, and then the files in
-/// order of name. A refusal may leave a part of it, in which the file last begun may hold a prefix of its bytes.
+/// Writes a filestore as a folder: the folder itself, unless an empty one is there, then directories and files in the order
+/// of paths, and last the table of links, if there is one. A refusal may leave a part of it, in which the file last begun
+/// may hold a prefix of its bytes.
 pub fn save<H: Host>(
     alloc: Global,
     host: &mut H,
@@ -28,147 +34,230 @@ pub fn save<H: Host>(
     store: &Filestore,
 ) -> Result<(), SaveFault>
     requires ready { IfSome (H.view host.old).told (λ tree. IsReady tree folder.now there) }
-    requires flat { IsFlat (get store.now.nodes) }
-    ensures saved { OnOk result (Saves folder.now store.now.nodes (H.view host.old) (H.view host.new)) }
+    ensures saved { OnOk result
+        (Saves folder.now store.now.nodes (H.view host.old) (H.view host.new)) }
     ensures part { OnErr result
         (SavesPart folder.now store.now.nodes (H.view host.old) (H.view host.new)) }
     ensures fault { IfErr result (SaveCause folder.now there (H.view host.old) (H.view host.new)) }
     ensures later { (H.view host.old).faults ≤ (H.view host.new).faults }
     ensures fit { AsksFit folder.now (H.view host.old) (H.view host.new) }
 {
-    let names = root_names(alloc, store);
+    let table = write_table(alloc, store)?;
+    make_folder(alloc, host, folder, there)?;
+    write_entries(alloc, host, folder, store)?;
+    add_table(alloc, host, folder, &table)
+}
+
+/// Makes the folder, unless it is there.
+fn make_folder<H: Host>(
+    alloc: Global,
+    host: &mut H,
+    folder: &HostText,
+    there: bool,
+) -> Result<(), SaveFault>
+    requires ready { IfSome (H.view host.old).told (λ tree. IsReady tree folder.now there) }
+    ensures made { OnOk result (IfTold (H.view host.old).told (H.view host.new).told
+        (λ tree tree'. tree' ≡ with_folder tree (parts folder.now) there)) }
+    ensures partly { OnErr result (IfTold (H.view host.old).told (H.view host.new).told
+        (λ tree tree'. MadePart tree tree' (parts folder.now) there)) }
+    ensures fault { IfErr result (SaveCause folder.now there (H.view host.old) (H.view host.new)) }
+    ensures later { (H.view host.old).faults ≤ (H.view host.new).faults }
+    ensures fit { AsksFit folder.now (H.view host.old) (H.view host.new) }
+{
     if there {
-        return write_files(alloc, host, folder, names, store);
+        return Ok(());
     }
     match host.make_dir(alloc, folder) {
-        Ok(()) => write_files(alloc, host, folder, names, store),
-        Err(HostFault::Failed) => Err(SaveFault::WriteFault),
-        Err(HostFault::NoMemory) => Err(SaveFault::NoMemory),
-    }
-}
-
-/// Writes the files of a filestore, which these are the names of, into an empty folder.
-fn write_files<H: Host>(
-    alloc: Global,
-    host: &mut H,
-    folder: &HostText,
-    names: &Names,
-    store: &Filestore,
-) -> Result<(), SaveFault>
-    requires open { IfSome (H.view host.old).told (λ tree. IsOpen tree folder.now) }
-    requires root { get store.now.nodes [] ≡ Some (Node.Dir names.now) }
-    requires whole { IsWhole (get store.now.nodes) }
-    requires flat { IsFlat (get store.now.nodes) }
-    ensures written { OnOk result (IfTold (H.view host.old).told (H.view host.new).told
-        (λ tree tree'. WroteAll tree tree' (parts folder.now) (get store.now.nodes))) }
-    ensures partly { OnErr result (IfTold (H.view host.old).told (H.view host.new).told
-        (λ tree tree'. WrotePart tree tree' (parts folder.now) (get store.now.nodes))) }
-    ensures fault { result ≡ Err WriteFault
-        → Rose (H.view host.old).faults (H.view host.new).faults }
-    ensures free { result ≡ Err NotEmpty → ⊥ }
-    ensures later { (H.view host.old).faults ≤ (H.view host.new).faults }
-    ensures fit { AsksFit folder.now (H.view host.old) (H.view host.new) }
-{
-    'writing: for i in 0..names.len() {
-        let Some(name) = names.at(i) else {
-            unreachable!()
-        };
-        match write_file(alloc, host, folder, name, store) {
-            Ok(()) => {}
-            Err(fault) => return Err(fault),
-        }
-    }
-    Ok(())
-}
-
-/// The names that the root lists.
-fn root_names(alloc: Global, store: &Filestore) -> &Names
-    ensures root { get store.now.nodes [] ≡ Some (Node.Dir result.now) }
-    ensures whole { IsWhole (get store.now.nodes) }
-{
-    match store.get(&Path::root(alloc)) {
-        Some(Node::Dir(names)) => names,
-        Some(Node::File(_)) => unreachable!(),
-        Some(Node::Link(_)) => unreachable!(),
-        None => unreachable!(),
-    }
-}
-
-/// Writes one file of a filestore.
-fn write_file<H: Host>(
-    alloc: Global,
-    host: &mut H,
-    folder: &HostText,
-    name: &Name,
-    store: &Filestore,
-) -> Result<(), SaveFault>
-    requires free { IfSome (H.view host.old).told (λ tree.
-        is_free_at tree (path_below folder.now name.now) ≡ true) }
-    requires there { IsSome (get store.now.nodes (name.now ∷ [])) }
-    requires flat { IsFlat (get store.now.nodes) }
-    ensures written { OnOk result (IfTold (H.view host.old).told (H.view host.new).told
-        (λ tree tree'. WroteFile tree tree' folder.now name.now (get store.now.nodes))) }
-    ensures partly { OnErr result (IfTold (H.view host.old).told (H.view host.new).told
-        (λ tree tree'. WroteFilePart tree tree' folder.now name.now (get store.now.nodes))) }
-    ensures fault { result ≡ Err WriteFault
-        → Rose (H.view host.old).faults (H.view host.new).faults }
-    ensures free { result ≡ Err NotEmpty → ⊥ }
-    ensures later { (H.view host.old).faults ≤ (H.view host.new).faults }
-    ensures fit { AsksFit folder.now (H.view host.old) (H.view host.new) }
-{
-    let path = match entry_path(alloc, folder, name) {
-        Ok(path) => path,
-        Err(NoMemory) => return Err(SaveFault::NoMemory),
-    };
-    let place = match root_entry(alloc, name) {
-        Ok(place) => place,
-        Err(NoMemory) => return Err(SaveFault::NoMemory),
-    };
-    let bytes = file_at(store, &place);
-    match host.write_new(alloc, &path, bytes.as_slice()) {
         Ok(()) => Ok(()),
         Err(HostFault::Failed) => Err(SaveFault::WriteFault),
         Err(HostFault::NoMemory) => Err(SaveFault::NoMemory),
     }
 }
 
-/// The file at a path other than the root.
-fn file_at<'a>(store: &'a Filestore, path: &Path) -> &'a Bytes
-    requires there { IsSome (get store.now.nodes path.now) }
-    requires file { IfSome (get store.now.nodes path.now) IsFileNode }
-    ensures { get store.now.nodes path.now ≡ Some (Node.File result.now) }
+/// Writes the directories and files of a filestore into an empty folder, in the order of their paths.
+fn write_entries<H: Host>(
+    alloc: Global,
+    host: &mut H,
+    folder: &HostText,
+    store: &Filestore,
+) -> Result<(), SaveFault>
+    requires open { IfSome (H.view host.old).told (λ tree. IsOpen tree folder.now) }
+    requires whole { IsWhole (get store.now.nodes) }
+    ensures written { OnOk result (IfTold (H.view host.old).told (H.view host.new).told
+        (λ tree tree'. HasEntries tree tree' (parts folder.now) (entries store.now.nodes))) }
+    ensures partly { OnErr result (IfTold (H.view host.old).told (H.view host.new).told
+        (λ tree tree'. WroteFront tree tree' (parts folder.now) store.now.nodes)) }
+    ensures fault { result ≡ Err WriteFault
+        → Rose (H.view host.old).faults (H.view host.new).faults }
+    ensures free { result ≡ Err NotEmpty → ⊥ }
+    ensures later { (H.view host.old).faults ≤ (H.view host.new).faults }
+    ensures fit { AsksFit folder.now (H.view host.old) (H.view host.new) }
 {
+    let mut descent = Descent::new(alloc, store)?;
+    'writing: while let Some(path) = descent.next(alloc, store)? {
+        write_entry(alloc, host, folder, &path, store)?;
+    }
+    Ok(())
+}
+
+/// Writes what stands at a path of a filestore, unless that is a link.
+fn write_entry<H: Host>(
+    alloc: Global,
+    host: &mut H,
+    folder: &HostText,
+    path: &Path,
+    store: &Filestore,
+) -> Result<(), SaveFault>
+    requires free { IfSome (H.view host.old).told (λ tree.
+        is_free_at tree (folder.now ++ place_of path.now) ≡ true) }
+    requires there { IsSome (get store.now.nodes path.now) }
+    ensures written { OnOk result (IfTold (H.view host.old).told (H.view host.new).told
+        (λ tree tree'. tree' ≡ with_entry tree (parts folder.now ++ path.now)
+        (host_entry (get store.now.nodes path.now)))) }
+    ensures partly { OnErr result (IfTold (H.view host.old).told (H.view host.new).told
+        (λ tree tree'. WrotePart tree tree' (parts folder.now ++ path.now)
+        (host_entry (get store.now.nodes path.now)))) }
+    ensures fault { result ≡ Err WriteFault
+        → Rose (H.view host.old).faults (H.view host.new).faults }
+    ensures free { result ≡ Err NotEmpty → ⊥ }
+    ensures later { (H.view host.old).faults ≤ (H.view host.new).faults }
+    ensures fit { AsksFit folder.now (H.view host.old) (H.view host.new) }
+{
+    let place = place_below(alloc, folder, path)?;
     match store.get(path) {
-        Some(Node::File(bytes)) => bytes,
-        Some(Node::Dir(_)) => unreachable!(),
-        Some(Node::Link(_)) => unreachable!(),
+        Some(node) => write_node(alloc, host, &place, node),
         None => unreachable!(),
     }
 }
 
-/// The path of an entry of the root.
-fn root_entry(alloc: Global, name: &Name) -> Result<Path, NoMemory>
-    ensures { IfOk result (λ path. path ≡ name.now ∷ []) }
+/// Writes a directory or a file where nothing stands, and nothing for a link.
+fn write_node<H: Host>(
+    alloc: Global,
+    host: &mut H,
+    place: &HostText,
+    node: &Node,
+) -> Result<(), SaveFault>
+    requires { IfSome (H.view host.old).told (λ tree. is_free_at tree place.now ≡ true) }
+    ensures written { OnOk result (IfTold (H.view host.old).told (H.view host.new).told
+        (λ tree tree'. tree' ≡ with_entry tree (parts place.now) (host_entry (Some node.now)))) }
+    ensures partly { OnErr result (IfTold (H.view host.old).told (H.view host.new).told
+        (λ tree tree'. WrotePart tree tree' (parts place.now) (host_entry (Some node.now)))) }
+    ensures fault { result ≡ Err WriteFault
+        → Rose (H.view host.old).faults (H.view host.new).faults }
+    ensures free { result ≡ Err NotEmpty → ⊥ }
+    ensures later { (H.view host.old).faults ≤ (H.view host.new).faults }
+    ensures fit { AsksFit place.now (H.view host.old) (H.view host.new) }
 {
-    match Path::root(alloc).join(alloc, name) {
-        Ok(path) => Ok(path),
-        Err(PathFault::NoMemory) => Err(NoMemory),
-        Err(PathFault::BadName) => unreachable!(),
-        Err(PathFault::TooDeep) => unreachable!(),
+    match node {
+        Node::Dir(_) => write_folder(alloc, host, place),
+        Node::File(bytes) => write_file(alloc, host, place, bytes.as_slice()),
+        Node::Link(_) => Ok(()),
     }
 }
 
+fn write_folder<H: Host>(alloc: Global, host: &mut H, place: &HostText) -> Result<(), SaveFault>
+    requires { IfSome (H.view host.old).told (λ tree. is_free_at tree place.now ≡ true) }
+    ensures written { OnOk result (IfTold (H.view host.old).told (H.view host.new).told
+        (λ tree tree'. tree' ≡ with_entry tree (parts place.now) (Some folder))) }
+    ensures partly { OnErr result (IfTold (H.view host.old).told (H.view host.new).told
+        (λ tree tree'. WrotePart tree tree' (parts place.now) (Some folder))) }
+    ensures fault { result ≡ Err WriteFault
+        → Rose (H.view host.old).faults (H.view host.new).faults }
+    ensures free { result ≡ Err NotEmpty → ⊥ }
+    ensures later { (H.view host.old).faults ≤ (H.view host.new).faults }
+    ensures fit { AsksFit place.now (H.view host.old) (H.view host.new) }
+{
+    match host.make_dir(alloc, place) {
+        Ok(()) => Ok(()),
+        Err(HostFault::Failed) => Err(SaveFault::WriteFault),
+        Err(HostFault::NoMemory) => Err(SaveFault::NoMemory),
+    }
+}
+
+fn write_file<H: Host>(
+    alloc: Global,
+    host: &mut H,
+    place: &HostText,
+    bytes: &[u8],
+) -> Result<(), SaveFault>
+    requires { IfSome (H.view host.old).told (λ tree. is_free_at tree place.now ≡ true) }
+    ensures written { OnOk result (IfTold (H.view host.old).told (H.view host.new).told
+        (λ tree tree'. tree' ≡ with_entry tree (parts place.now) (Some (file bytes.now)))) }
+    ensures partly { OnErr result (IfTold (H.view host.old).told (H.view host.new).told
+        (λ tree tree'. WrotePart tree tree' (parts place.now) (Some (file bytes.now)))) }
+    ensures fault { result ≡ Err WriteFault
+        → Rose (H.view host.old).faults (H.view host.new).faults }
+    ensures free { result ≡ Err NotEmpty → ⊥ }
+    ensures later { (H.view host.old).faults ≤ (H.view host.new).faults }
+    ensures fit { AsksFit place.now (H.view host.old) (H.view host.new) }
+{
+    match host.write_new(alloc, place, bytes) {
+        Ok(()) => Ok(()),
+        Err(HostFault::Failed) => Err(SaveFault::WriteFault),
+        Err(HostFault::NoMemory) => Err(SaveFault::NoMemory),
+    }
+}
+
+/// Writes the table of links, whose text this is, if it has any.
+fn add_table<H: Host>(
+    alloc: Global,
+    host: &mut H,
+    folder: &HostText,
+    text: &LongText,
+) -> Result<(), SaveFault>
+    requires { IfSome (H.view host.old).told (λ tree.
+        is_free_at tree (path_below folder.now table_name) ≡ true) }
+    ensures written { OnOk result (IfTold (H.view host.old).told (H.view host.new).told
+        (λ tree tree'. tree' ≡ with_entry tree (parts folder.now ++ table_name ∷ [])
+        (file_unless_empty text.now))) }
+    ensures partly { OnErr result (IfTold (H.view host.old).told (H.view host.new).told
+        (λ tree tree'. WrotePart tree tree' (parts folder.now ++ table_name ∷ [])
+        (file_unless_empty text.now))) }
+    ensures fault { result ≡ Err WriteFault
+        → Rose (H.view host.old).faults (H.view host.new).faults }
+    ensures free { result ≡ Err NotEmpty → ⊥ }
+    ensures later { (H.view host.old).faults ≤ (H.view host.new).faults }
+    ensures fit { AsksFit folder.now (H.view host.old) (H.view host.new) }
+{
+    if text.len() == 0 {
+        return Ok(());
+    }
+    let place = table_below(alloc, folder)?;
+    write_file(alloc, host, &place, text.as_slice())
+}
+
+/// The host path of the table of a folder.
+fn table_below(alloc: Global, folder: &HostText) -> Result<HostText, NoMemory>
+    ensures { IfOk result (λ place. place ≡ path_below folder.now table_name) }
+{
+    let mut text = String::from_str(alloc, folder.as_str())?;
+    text.push_str("/.forest-links")?;
+    Ok(HostText::from_string(text))
+}
+
 /// The host path of an entry of a folder.
-fn entry_path(alloc: Global, folder: &HostText, name: &Name) -> Result<HostText, NoMemory>
-    ensures path { IfOk result (λ path. path ≡ path_below folder.now name.now) }
-    ensures name { IsName name.now }
+fn place_below(alloc: Global, folder: &HostText, path: &Path) -> Result<HostText, NoMemory>
+    ensures place { IfOk result (λ place. place ≡ folder.now ++ place_of path.now) }
+    ensures path { OnOk result (IsPath path.now) }
+{
+    let mut text = String::from_str(alloc, folder.as_str())?;
+    'joining: for i in 0..path.len() {
+        if let Some(name) = path.name(i) {
+            add_name(&mut text, name)?;
+        }
+    }
+    Ok(HostText::from_string(text))
+}
+
+/// Adds `/` and a name.
+fn add_name(text: &mut String, name: &Name) -> Result<(), NoMemory>
+    ensures { OnOk result (string_bytes text.new ≡ string_bytes text.old ++ 47 ∷ name.now) }
 {
     let name = match str::from_utf8(name.as_slice()) {
         Ok(name) => name,
         Err(_) => unreachable!(),
     };
-    let mut text = String::from_str(alloc, folder.as_str())?;
     text.push('/')?;
     text.push_str(name)?;
-    Ok(HostText::from_string(text))
+    Ok(())
 }

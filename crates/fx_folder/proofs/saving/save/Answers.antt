@@ -1,44 +1,26 @@
-use Rattle.std.proofs.Common.{rules, ◌≡◌, true, false}
-use Rattle.fx_folder.proofs.Steps.{was_there, was_made, opened, all_saved, all_part, first_part, on_ok, on_err, save_cause, earlier}
+use Rattle.fx_folder.proofs.Writes.{err_holds, opened, free_for_table, saved_all, stopped_in_table, stopped_in_front, stopped_at_folder}
 use Rattle.fx_folder.proofs.saving.save.Goals as goal
 
-pub write_files-requires-clause-open : goal.write_files-requires-clause-open
-write_files-requires-clause-open g c =
-    let there : c.args.there ≡ true = search rules in
-    opened (g.H.Host.view c.args.host.now).told _ c.args.folder.now c.args.there (g.met.H.Host.whole c.args.host.now) c.requires.ready (was_there _ c.args.folder.now c.args.there there)
+pub returns-in_err-make_folder-clause-part : goal.returns-in_err-make_folder-clause-part
+returns-in_err-make_folder-clause-part g c =
+    err_holds _ _ (stopped_at_folder (g.H.Host.view c.args.host.now).told _ c.args.folder.now c.args.there c.args.store.now.nodes (record { whole = g.met.H.Host.whole c.args.host.now; ready = c.requires.ready; stored = c.in_ok-table.ensures.whole }) c.in_err-make_folder.ensures.partly)
 
-pub returns-then-there-clause-saved : goal.returns-then-there-clause-saved
-returns-then-there-clause-saved g c =
-    let there : c.args.there ≡ true = search rules in
-    on_ok _ _ _ c.write_files.ensures.written (all_saved (g.H.Host.view c.args.host.now).told _ _ c.args.folder.now c.args.there c.args.store.now.nodes (g.met.H.Host.whole c.args.host.now) c.requires.ready c.root_names-names.ensures.whole c.requires.flat (was_there _ c.args.folder.now c.args.there there))
+pub write_entries-requires-clause-open : goal.write_entries-requires-clause-open
+write_entries-requires-clause-open g c =
+    opened (g.H.Host.view c.args.host.now).told _ c.args.folder.now c.args.there (g.met.H.Host.whole c.args.host.now) c.requires.ready c.in_ok-make_folder.ensures.made
 
-pub returns-then-there-clause-part : goal.returns-then-there-clause-part
-returns-then-there-clause-part g c =
-    let there : c.args.there ≡ true = search rules in
-    on_err _ _ _ c.write_files.ensures.partly (all_part (g.H.Host.view c.args.host.now).told _ _ c.args.folder.now c.args.there c.args.store.now.nodes (g.met.H.Host.whole c.args.host.now) c.requires.ready c.root_names-names.ensures.whole c.requires.flat (was_there _ c.args.folder.now c.args.there there))
+pub returns-in_err-write_entries-clause-part : goal.returns-in_err-write_entries-clause-part
+returns-in_err-write_entries-clause-part g c =
+    err_holds _ _ (stopped_in_front (g.H.Host.view c.args.host.now).told _ _ c.args.folder.now c.args.there c.args.store.now.nodes c.in_ok-table.ensures.whole c.in_ok-make_folder.ensures.made c.in_err-write_entries.ensures.partly)
 
-pub write_files-requires-in-Ok-clause-open : goal.write_files-requires-in-Ok-clause-open
-write_files-requires-in-Ok-clause-open g c =
-    let new : c.args.there ≡ false = search rules in
-    opened (g.H.Host.view c.args.host.now).told _ c.args.folder.now c.args.there (g.met.H.Host.whole c.args.host.now) c.requires.ready (was_made _ _ c.args.folder.now c.args.there new c.in-Ok.ensures.made)
+pub add_table-requires : goal.add_table-requires
+add_table-requires g c =
+    free_for_table (g.H.Host.view c.args.host.now).told _ _ c.args.folder.now c.args.there c.args.store.now.nodes (record { whole = g.met.H.Host.whole c.args.host.now; ready = c.requires.ready; stored = c.in_ok-table.ensures.whole }) c.in_ok-make_folder.ensures.made c.in_ok-write_entries.ensures.written
 
-pub returns-in-Ok-clause-saved : goal.returns-in-Ok-clause-saved
-returns-in-Ok-clause-saved g c =
-    let new : c.args.there ≡ false = search rules in
-    on_ok _ _ _ c.write_files-in-Ok.ensures.written (all_saved (g.H.Host.view c.args.host.now).told _ _ c.args.folder.now c.args.there c.args.store.now.nodes (g.met.H.Host.whole c.args.host.now) c.requires.ready c.root_names-names.ensures.whole c.requires.flat (was_made _ _ c.args.folder.now c.args.there new c.in-Ok.ensures.made))
+pub returns-clause-saved : goal.returns-clause-saved
+returns-clause-saved g c =
+    saved_all c.add_table.result (g.H.Host.view c.args.host.now).told (g.H.Host.view c.make_folder.new.host).told (g.H.Host.view c.write_entries.new.host).told (g.H.Host.view c.add_table.new.host).told c.args.folder.now c.args.there c.args.store.now.nodes c.in_ok-table.table c.in_ok-table.ensures.whole c.in_ok-table.ensures.text c.in_ok-make_folder.ensures.made c.in_ok-write_entries.ensures.written c.add_table.ensures.written
 
-pub returns-in-Ok-clause-part : goal.returns-in-Ok-clause-part
-returns-in-Ok-clause-part g c =
-    let new : c.args.there ≡ false = search rules in
-    on_err _ _ _ c.write_files-in-Ok.ensures.partly (all_part (g.H.Host.view c.args.host.now).told _ _ c.args.folder.now c.args.there c.args.store.now.nodes (g.met.H.Host.whole c.args.host.now) c.requires.ready c.root_names-names.ensures.whole c.requires.flat (was_made _ _ c.args.folder.now c.args.there new c.in-Ok.ensures.made))
-
-pub returns-in-Err-Failed-clause-part : goal.returns-in-Err-Failed-clause-part
-returns-in-Err-Failed-clause-part g c =
-    let new : c.args.there ≡ false = search rules in
-    first_part (g.H.Host.view c.args.host.now).told _ c.args.folder.now c.args.there c.args.store.now.nodes c.root_names-names.result.now (g.met.H.Host.whole c.args.host.now) c.requires.ready c.root_names-names.ensures.whole c.requires.flat c.root_names-names.ensures.root new (c.in-Err-Failed.ensures.failed (search rules))
-
-pub returns-then-there-clause-fault : goal.returns-then-there-clause-fault
-returns-then-there-clause-fault g c = save_cause (g.H.Host.view c.args.host.now) (g.H.Host.view c.write_files.new.host) c.args.folder.now c.args.there _ c.write_files.ensures.fault c.write_files.ensures.free
-
-pub returns-in-Ok-clause-fault : goal.returns-in-Ok-clause-fault
-returns-in-Ok-clause-fault g c = save_cause (g.H.Host.view c.args.host.now) (g.H.Host.view c.write_files-in-Ok.new.host) c.args.folder.now c.args.there _ (λ failed. earlier _ _ _ c.make_dir.ensures.cause.later (c.write_files-in-Ok.ensures.fault failed)) c.write_files-in-Ok.ensures.free
+pub returns-clause-part : goal.returns-clause-part
+returns-clause-part g c =
+    stopped_in_table c.add_table.result (g.H.Host.view c.args.host.now).told (g.H.Host.view c.make_folder.new.host).told (g.H.Host.view c.write_entries.new.host).told (g.H.Host.view c.add_table.new.host).told c.args.folder.now c.args.there c.args.store.now.nodes c.in_ok-table.table c.in_ok-table.ensures.whole c.in_ok-table.ensures.text c.in_ok-make_folder.ensures.made c.in_ok-write_entries.ensures.written c.add_table.ensures.partly

@@ -1,0 +1,226 @@
+-- The steps of writing a folder: what each leaves, and that the next may be made.
+use Rattle.std.proofs.Common.{◌≡◌, inl, inr, ℕ, ◌<◌, ◌≤◌, Bool, true, List, [], ◌∷◌, ◌++◌, length, Option, Some, None, IfSome, IsSome, OnOk, OnErr, Result, Ok, Err, refl, sym, ◌∙◌, ap, subst, arith, append_assoc}
+use Rattle.std.specs.Option.{option_or}
+use Rattle.std.specs.FinMap.{entries, get, find}
+use Rattle.fx_store.specs.declared.node.Node.{Node}
+use Rattle.fx_store.specs.declared.node.Node.TheVariants.{Dir}
+use Rattle.fx_store.specs.Names.{path_cmp}
+use Rattle.fx_store.specs.Whole.{Nodes, IsWhole}
+use Rattle.fx_outside.specs.Path.{Parts, parts}
+use Rattle.fx_outside.specs.Host.{HostView, AsksFit}
+use Rattle.fx_outside.proofs.Views.{fit_then}
+use Rattle.fx_outside.specs.Tree as tree
+use Rattle.fx_outside.specs.Tree.{Tree, Entry, file, folder, is_free_at, told_with}
+use Rattle.fx_folder.specs.Places.{host_entry}
+use Rattle.fx_folder.specs.Loads.{table_name}
+use Rattle.fx_folder.specs.Reads.{path_below}
+use Rattle.fx_folder.specs.Table.{TableLink, line_of, links_of, table_text}
+use Rattle.fx_folder.specs.Deep.{place_of, table_entry}
+use Rattle.fx_folder.specs.Folder.{IfTold, IsSaved, IsPartlySaved, IsReady}
+use Rattle.fx_folder.specs.Remaining.{ComesNext, IsLeftBelow}
+use Rattle.fx_folder.specs.Written.{with_folder, MadePart, IsOpen, with_entry, WrotePart, HasEntries, WroteFront, file_unless_empty}
+use Rattle.fx_folder.proofs.Filled.{opens}
+use Rattle.fx_folder.proofs.Descents.{find_append, root_first}
+use Rattle.fx_folder.proofs.Fronts.{begins, adds, fresh, from_old, next_free, table_free, all_saved, refused_front, refused_table, refused_folder}
+use Rattle.fx_folder.proofs.Texts.{parts_place, fit_place, parts_table, fit_table}
+
+abbrev Mapped : Type 0
+Mapped = List (List ℕ) × Node
+
+-- told trees
+
+told_open : (told : Option Tree) (P : Tree → Type 0) (Q : Tree → Tree → Type 0) → IfSome told P → ((t : Tree) → P t → Q t t) → IfTold told told Q
+told_open None P Q p h = refl
+told_open (Some t) P Q p h = h t p
+
+pub told_then : (a b c : Option Tree) (P Q R : Tree → Tree → Type 0) → IfTold a b P → IfTold b c Q → ((t u v : Tree) → a ≡ Some t → P t u → Q u v → R t v) → IfTold a c R
+told_then None None c P Q R p q h = q
+told_then None (Some u) c P Q R p q h = cc
+told_then (Some t) None c P Q R p q h = absurd p
+told_then (Some t) (Some u) None P Q R p q h = absurd q
+told_then (Some t) (Some u) (Some v) P Q R p q h = h t u v refl p q
+
+told_map : (a b : Option Tree) (P Q : Tree → Tree → Type 0) → IfTold a b P → ((t u : Tree) → a ≡ Some t → P t u → Q t u) → IfTold a b Q
+told_map None b P Q p h = p
+told_map (Some t) None P Q p h = p
+told_map (Some t) (Some u) P Q p h = h t u refl p
+
+told_next : (a b : Option Tree) (P : Tree → Type 0) (Q : Tree → Tree → Type 0) (R : Tree → Type 0) → IfSome a P → IfTold a b Q → ((t u : Tree) → P t → Q t u → R u) → IfSome b R
+told_next None None P Q R p q h = tt
+told_next None (Some u) P Q R p q h = cc
+told_next (Some t) None P Q R p q h = tt
+told_next (Some t) (Some u) P Q R p q h = h t u p q
+
+-- one entry
+
+pub err_holds : {A E : Type 0} (r : Result A E) (P : Type 0) → P → OnErr r P
+err_holds (Ok a) P p = tt
+err_holds (Err e) P p = p
+
+-- the same place and entry, as the steps above name them
+
+pub wrote_at : {E : Type 0} (r : Result (Unit {0}) E) (a b : Option Tree) (q q' : Parts) (o o' : Option Entry) → q ≡ q' → o ≡ o' → OnOk r (IfTold a b (λ t t'. t' ≡ with_entry t q o)) → OnOk r (IfTold a b (λ t t'. t' ≡ with_entry t q' o'))
+wrote_at r a b q q' o o' p e h =
+    subst (λ x. OnOk r (IfTold a b (λ t t'. t' ≡ with_entry t q' x))) e (subst (λ x. OnOk r (IfTold a b (λ t t'. t' ≡ with_entry t x o))) p h)
+
+pub part_at : {E : Type 0} (r : Result (Unit {0}) E) (a b : Option Tree) (q q' : Parts) (o o' : Option Entry) → q ≡ q' → o ≡ o' → OnErr r (IfTold a b (λ t t'. WrotePart t t' q o)) → OnErr r (IfTold a b (λ t t'. WrotePart t t' q' o'))
+part_at r a b q q' o o' p e h =
+    subst (λ x. OnErr r (IfTold a b (λ t t'. WrotePart t t' q' x))) e (subst (λ x. OnErr r (IfTold a b (λ t t'. WrotePart t t' x o))) p h)
+
+pub unless_empty : (bytes text : List ℕ) → bytes ≡ text → 0 < length text → Some (file bytes) ≡ file_unless_empty text
+unless_empty bytes [] is some = absurd (omega (arith, some))
+unless_empty bytes (b ∷ text) is some = ap (λ x. Some (file x)) is
+
+-- while entries are written
+
+pub record IsWriting (old now : HostView) (path : List ℕ) (nodes : Nodes) (left : List (List (List ℕ) × Node)) : Type 0 where
+  pub later : old.faults ≤ now.faults
+  pub fit : AsksFit path old now
+  pub done : List (List (List ℕ) × Node)
+  pub split : entries nodes ≡ done ++ left
+  pub some : IsSome (find path_cmp [] done)
+  pub stands : IfTold old.told now.told (λ t t'. HasEntries t t' (parts path) done)
+
+pub starts_writing : (host : HostView) (path : List ℕ) (nodes : Nodes) (left : List Mapped) → IfSome host.told (λ t. IsOpen t path) → IsLeftBelow nodes left → IsWriting host host path nodes left
+starts_writing host path nodes left open_ below = record {
+  later = omega arith;
+  fit = λ _. refl;
+  done = ([], Dir below.0) ∷ [];
+  split = below.2;
+  some = refl;
+  stands = told_open host.told (λ t. IsOpen t path) (λ t t'. HasEntries t t' (parts path) (([], Dir below.0) ∷ [])) open_ (λ t is. begins t path below.0 is);
+}
+
+some_or : (a b : Option Node) → IsSome a → IsSome (option_or a b)
+some_or None b e = cc
+some_or (Some x) b e = refl
+
+next_split : (nodes : Nodes) (done left left' : List Mapped) (p : Parts) (node : Node) → entries nodes ≡ done ++ left → left ≡ (p, node) ∷ left' → entries nodes ≡ done ++ (p, node) ∷ left'
+next_split nodes done left left' p node split is = split ∙ ap (λ l. done ++ l) is
+
+pub goes_on : (old host host' : HostView) (path : List ℕ) (nodes : Nodes) (left left' : List Mapped) (p : Parts) → IsWriting old host path nodes left → ComesNext nodes left left' (Some p) → host.faults ≤ host'.faults → AsksFit path host host' → IfTold host.told host'.told (λ t t'. t' ≡ with_entry t (parts path ++ p) (host_entry (get nodes p))) → IsWriting old host' path nodes left'
+goes_on old host host' path nodes left left' p was next later fit wrote =
+    let node = next.0 in
+    let one : List Mapped = (p, node) ∷ [] in
+    let split = next_split nodes was.done left left' p node was.split next.2 in
+    record {
+      later = omega (arith, later, was.later);
+      fit = fit_then path old host host' was.fit fit;
+      done = was.done ++ one;
+      split = split ∙ sym (append_assoc was.done one left');
+      some = subst IsSome (sym (find_append [] was.done one)) (some_or (find path_cmp [] was.done) (find path_cmp [] one) was.some);
+      stands = told_then old.told host.told host'.told (λ t t'. HasEntries t t' (parts path) was.done) (λ t t'. t' ≡ with_entry t (parts path ++ p) (host_entry (get nodes p))) (λ t t'. HasEntries t t' (parts path) (was.done ++ one)) was.stands wrote
+          (λ t u v is has added.
+          adds t u v (parts path) was.done p node has (fresh nodes was.done left' p node split)
+          (added ∙ ap (λ o. with_entry u (parts path ++ p) (host_entry o)) next.1));
+    }
+
+-- the next entry may be written
+pub is_free : (old host : HostView) (path : List ℕ) (nodes : Nodes) (left left' : List Mapped) (p : Parts) → IsWhole (get nodes) → IfSome old.told (λ t. IsOpen t path) → IsWriting old host path nodes left → ComesNext nodes left left' (Some p) → IfSome host.told (λ t. is_free_at t (path ++ place_of p) ≡ true)
+is_free old host path nodes left left' p whole ready was next =
+    let names = (whole.paths p (subst IsSome (sym next.1) refl)).names in
+    told_next old.told host.told (λ t. IsOpen t path) (λ t t'. HasEntries t t' (parts path) was.done) (λ t. is_free_at t (path ++ place_of p) ≡ true) ready was.stands
+    (λ t u is has.
+    next_free nodes whole t u (parts path) was.done left' p next.0 (next_split nodes was.done left left' p next.0 was.split next.2) has was.some (path ++ place_of p) (fit_place path p is.fit names) (parts_place path p names))
+
+-- it stops before the next entry, or in it
+
+pub stops_first : (host : HostView) (path : List ℕ) (nodes : Nodes) → IsWhole (get nodes) → IfSome host.told (λ t. IsOpen t path) → IfTold host.told host.told (λ t t'. WroteFront t t' (parts path) nodes)
+stops_first host path nodes whole ready =
+    let root = root_first nodes whole in
+    told_open host.told (λ t. IsOpen t path) (λ t t'. WroteFront t t' (parts path) nodes) ready
+    (λ t is. record {
+      done = ([], Dir root.0) ∷ [];
+      left = root.1;
+      split = root.2;
+      some = refl;
+      before = t;
+      written = begins t path root.0 is;
+      begun = inl refl;
+    })
+
+pub stops_before : (old host : HostView) (path : List ℕ) (nodes : Nodes) (left : List Mapped) → IsWriting old host path nodes left → IfTold old.told host.told (λ t t'. WroteFront t t' (parts path) nodes)
+stops_before old host path nodes left was =
+    told_map old.told host.told (λ t t'. HasEntries t t' (parts path) was.done) (λ t t'. WroteFront t t' (parts path) nodes) was.stands
+    (λ t u is has. record {
+      done = was.done;
+      left = left;
+      split = was.split;
+      some = was.some;
+      before = u;
+      written = has;
+      begun = inl refl;
+    })
+
+pub stops_in : (old host host' : HostView) (path : List ℕ) (nodes : Nodes) (left left' : List Mapped) (p : Parts) → IsWriting old host path nodes left → ComesNext nodes left left' (Some p) → IfTold host.told host'.told (λ t t'. WrotePart t t' (parts path ++ p) (host_entry (get nodes p))) → IfTold old.told host'.told (λ t t'. WroteFront t t' (parts path) nodes)
+stops_in old host host' path nodes left left' p was next wrote =
+    told_then old.told host.told host'.told (λ t t'. HasEntries t t' (parts path) was.done) (λ t t'. WrotePart t t' (parts path ++ p) (host_entry (get nodes p))) (λ t t'. WroteFront t t' (parts path) nodes) was.stands wrote
+    (λ t u v is has part. record {
+      done = was.done;
+      left = left;
+      split = was.split;
+      some = was.some;
+      before = u;
+      written = has;
+      begun = inr (p, next.0, left', next.2, subst (λ o. WrotePart u v (parts path ++ p) (host_entry o)) next.1 part);
+    })
+
+-- the whole folder
+
+-- what is known of the tree before the folder is written
+pub record IsStart (told : Option Tree) (path : List ℕ) (there : Bool) (nodes : Nodes) : Type 0 where
+  pub whole : IfSome told tree.IsWhole
+  pub ready : IfSome told (λ t. IsReady t path there)
+  pub stored : IsWhole (get nodes)
+
+pub opened : (told told' : Option Tree) (path : List ℕ) (there : Bool) → IfSome told tree.IsWhole → IfSome told (λ t. IsReady t path there) → IfTold told told' (λ t u. u ≡ with_folder t (parts path) there) → IfSome told' (λ t. IsOpen t path)
+opened None None path there whole can made = tt
+opened None (Some u) path there whole can made = cc
+opened (Some t) told' path there whole can made =
+    told_next (Some t) told' (λ x. IsOpen (with_folder x (parts path) there) path) (λ t u. u ≡ with_folder t (parts path) there) (λ u. IsOpen u path) (opens t path there whole can) made
+    (λ x u is e. subst (λ y. IsOpen y path) (sym e) is)
+
+-- the folder and its entries are there
+pub filled : (told told1 told2 : Option Tree) (path : List ℕ) (there : Bool) (nodes : Nodes) → IfTold told told1 (λ t u. u ≡ with_folder t (parts path) there) → IfTold told1 told2 (λ t t'. HasEntries t t' (parts path) (entries nodes)) → IfTold told told2 (λ t t'. HasEntries t t' (parts path) (entries nodes))
+filled told told1 told2 path there nodes made wrote =
+    told_then told told1 told2 (λ t u. u ≡ with_folder t (parts path) there) (λ t t'. HasEntries t t' (parts path) (entries nodes)) (λ t t'. HasEntries t t' (parts path) (entries nodes)) made wrote
+    (λ t u v is first has. from_old t u v (parts path) there (entries nodes) first has)
+
+pub free_for_table : (told told1 told2 : Option Tree) (path : List ℕ) (there : Bool) (nodes : Nodes) → IsStart told path there nodes → IfTold told told1 (λ t u. u ≡ with_folder t (parts path) there) → IfTold told1 told2 (λ t t'. HasEntries t t' (parts path) (entries nodes)) → IfSome told2 (λ t. is_free_at t (path_below path table_name) ≡ true)
+free_for_table told told1 told2 path there nodes start made wrote =
+    told_next told1 told2 (λ t. IsOpen t path) (λ t t'. HasEntries t t' (parts path) (entries nodes)) (λ t. is_free_at t (path_below path table_name) ≡ true) (opened told told1 path there start.whole start.ready made) wrote
+    (λ t u is has. table_free nodes start.stored t u (parts path) has (path_below path table_name) (fit_table path is.fit) (parts_table path))
+
+table_file : (links : List TableLink) (text : List ℕ) → text ≡ table_text links → file_unless_empty text ≡ table_entry links
+table_file [] text is = ap file_unless_empty is
+table_file (link ∷ links) text is =
+    ap file_unless_empty (is ∙ append_assoc (line_of link) (10 ∷ []) (table_text links)) ∙ long (line_of link) 10 (table_text links)
+    ∙ sym (ap (λ x. Some (file x)) (append_assoc (line_of link) (10 ∷ []) (table_text links)))
+  where
+    long : (bytes : List ℕ) (b : ℕ) (more : List ℕ) → file_unless_empty (bytes ++ b ∷ more) ≡ Some (file (bytes ++ b ∷ more))
+    long [] b more = refl
+    long (a ∷ bytes) b more = refl
+
+pub saved_all : {E : Type 0} (r : Result (Unit {0}) E) (told told1 told2 told3 : Option Tree) (path : List ℕ) (there : Bool) (nodes : Nodes) (text : List ℕ) → IsWhole (get nodes) → text ≡ table_text (links_of nodes) → IfTold told told1 (λ t u. u ≡ with_folder t (parts path) there) → IfTold told1 told2 (λ t t'. HasEntries t t' (parts path) (entries nodes)) → OnOk r (IfTold told2 told3 (λ t t'. t' ≡ with_entry t (parts path ++ table_name ∷ []) (file_unless_empty text))) → OnOk r (IfTold told told3 (λ t t'. IsSaved t t' (parts path) nodes))
+saved_all (Err e) told told1 told2 told3 path there nodes text stored is made wrote added = tt
+saved_all (Ok done) told told1 told2 told3 path there nodes text stored is made wrote added =
+    told_then told told2 told3 (λ t t'. HasEntries t t' (parts path) (entries nodes)) (λ t t'. t' ≡ with_entry t (parts path ++ table_name ∷ []) (file_unless_empty text)) (λ t t'. IsSaved t t' (parts path) nodes) (filled told told1 told2 path there nodes made wrote) added
+    (λ t u v at has new. all_saved nodes stored t u (parts path) has v (new ∙ ap (with_entry u (parts path ++ table_name ∷ [])) (table_file (links_of nodes) text is)))
+
+pub stopped_in_table : {E : Type 0} (r : Result (Unit {0}) E) (told told1 told2 told3 : Option Tree) (path : List ℕ) (there : Bool) (nodes : Nodes) (text : List ℕ) → IsWhole (get nodes) → text ≡ table_text (links_of nodes) → IfTold told told1 (λ t u. u ≡ with_folder t (parts path) there) → IfTold told1 told2 (λ t t'. HasEntries t t' (parts path) (entries nodes)) → OnErr r (IfTold told2 told3 (λ t t'. WrotePart t t' (parts path ++ table_name ∷ []) (file_unless_empty text))) → OnErr r (IfTold told told3 (λ t t'. IsPartlySaved t t' (parts path) nodes))
+stopped_in_table (Ok done) told told1 told2 told3 path there nodes text stored is made wrote part = tt
+stopped_in_table (Err e) told told1 told2 told3 path there nodes text stored is made wrote part =
+    told_then told told2 told3 (λ t t'. HasEntries t t' (parts path) (entries nodes)) (λ t t'. WrotePart t t' (parts path ++ table_name ∷ []) (file_unless_empty text)) (λ t t'. IsPartlySaved t t' (parts path) nodes) (filled told told1 told2 path there nodes made wrote) part
+    (λ t u v at has some. refused_table nodes stored t u v (parts path) has (subst (WrotePart u v (parts path ++ table_name ∷ [])) (table_file (links_of nodes) text is) some))
+
+pub stopped_in_front : (told told1 told2 : Option Tree) (path : List ℕ) (there : Bool) (nodes : Nodes) → IsWhole (get nodes) → IfTold told told1 (λ t u. u ≡ with_folder t (parts path) there) → IfTold told1 told2 (λ t t'. WroteFront t t' (parts path) nodes) → IfTold told told2 (λ t t'. IsPartlySaved t t' (parts path) nodes)
+stopped_in_front told told1 told2 path there nodes stored made wrote =
+    told_then told told1 told2 (λ t u. u ≡ with_folder t (parts path) there) (λ t t'. WroteFront t t' (parts path) nodes) (λ t t'. IsPartlySaved t t' (parts path) nodes) made wrote
+    (λ t u v is first was. refused_front nodes stored t u v (parts path) there first was)
+
+pub stopped_at_folder : (told told' : Option Tree) (path : List ℕ) (there : Bool) (nodes : Nodes) → IsStart told path there nodes → IfTold told told' (λ t u. MadePart t u (parts path) there) → IfTold told told' (λ t t'. IsPartlySaved t t' (parts path) nodes)
+stopped_at_folder None told' path there nodes start made = made
+stopped_at_folder (Some t) None path there nodes start made = made
+stopped_at_folder (Some t) (Some u) path there nodes start made = refused_folder nodes start.stored t u path there start.whole start.ready made
+
+-- the causes of a refusal

@@ -1,0 +1,20 @@
+use Rattle.std.proofs.Common.{rules, ◌≡◌, ◌++◌, true, Some, ap, sym, subst, ◌∙◌}
+use Rattle.std.specs.FinMap.{get}
+use Rattle.fx_outside.specs.Path.{parts, is_fit}
+use Rattle.fx_folder.specs.Places.{host_entry}
+use Rattle.fx_folder.proofs.Texts.{parts_place, fit_place}
+use Rattle.fx_folder.proofs.Writes.{wrote_at, part_at}
+use Rattle.fx_folder.proofs.saving.write_entry.Goals as goal
+
+pub returns-clause-written : goal.returns-clause-written
+returns-clause-written g c =
+    let here : get c.args.store.now.nodes c.args.path.now ≡ Some c.in-Some.node.now = search rules in
+    wrote_at c.write_node.result _ _ (parts c.in_ok-place.place) (parts c.args.folder.now ++ c.args.path.now) (host_entry (Some c.in-Some.node.now)) (host_entry (get c.args.store.now.nodes c.args.path.now)) (ap parts c.in_ok-place.ensures.place ∙ parts_place c.args.folder.now c.args.path.now c.in_ok-place.ensures.path.names) (ap host_entry (sym here)) c.write_node.ensures.written
+
+pub returns-clause-partly : goal.returns-clause-partly
+returns-clause-partly g c =
+    let here : get c.args.store.now.nodes c.args.path.now ≡ Some c.in-Some.node.now = search rules in
+    part_at c.write_node.result _ _ (parts c.in_ok-place.place) (parts c.args.folder.now ++ c.args.path.now) (host_entry (Some c.in-Some.node.now)) (host_entry (get c.args.store.now.nodes c.args.path.now)) (ap parts c.in_ok-place.ensures.place ∙ parts_place c.args.folder.now c.args.path.now c.in_ok-place.ensures.path.names) (ap host_entry (sym here)) c.write_node.ensures.partly
+
+pub returns-clause-fit : goal.returns-clause-fit
+returns-clause-fit g c = λ fit. c.write_node.ensures.fit (subst (λ p. is_fit p ≡ true) (sym c.in_ok-place.ensures.place) (fit_place c.args.folder.now c.args.path.now fit c.in_ok-place.ensures.path.names))
