@@ -1,16 +1,17 @@
 //! The lines of cases, and what each gives.
 
+use crate::messages::tell_message;
 use crate::outside::{
     tell_list, tell_make_dir, tell_read, tell_standing, tell_write_new, tell_writes,
 };
 use crate::runs::{tell_run, words_of};
 use crate::stage::Stage;
-use crate::telling::{tell, tell_tree};
+use crate::steps::{tell_attempt, tell_steps};
+use crate::telling::tell_tree;
 use crate::tries::{tell_faults, tell_schedules};
-use crate::words::{integer, number, split_word};
-use crate::{grammar, made, messages, names, reports, steps, values};
 use fx_base::NoMemory;
 use fx_outside::HostKind;
+use fx_telling::{Case, number, split_word, tell};
 use std::alloc::Global;
 
 /// What a line sets up.
@@ -48,33 +49,13 @@ enum Call {
     Writes,
 }
 
-/// A call of a lower crate, with texts.
-#[derive(Clone, Copy)]
-enum Lower {
-    Named(names::Form),
-    Join,
-    Compare,
-    Read(grammar::Form),
-    Script,
-    Level,
-    Valued(values::Form),
-    Minus,
-    Decimal,
-    Sets,
-    Only,
-    Match,
-    Value,
-    Message,
-}
-
 #[derive(Clone, Copy)]
 enum Verb {
     Note,
     Set(Setting),
     Try(Trial),
     Call(Call),
-    Lower(Lower),
-    Report(reports::Form),
+    Message,
 }
 
 const VERBS: &[(&str, Verb)] = &[
@@ -100,45 +81,7 @@ const VERBS: &[(&str, Verb)] = &[
     ("make-dir", Verb::Call(Call::MakeDir)),
     ("write-new", Verb::Call(Call::WriteNew)),
     ("writes", Verb::Call(Call::Writes)),
-    ("name", Verb::Lower(Lower::Named(names::Form::Name))),
-    ("path", Verb::Lower(Lower::Named(names::Form::Path))),
-    ("focus", Verb::Lower(Lower::Named(names::Form::Focus))),
-    ("link", Verb::Lower(Lower::Named(names::Form::Link))),
-    ("join", Verb::Lower(Lower::Join)),
-    ("compare", Verb::Lower(Lower::Compare)),
-    ("tokens", Verb::Lower(Lower::Read(grammar::Form::Tokens))),
-    (
-        "token-count",
-        Verb::Lower(Lower::Read(grammar::Form::Count)),
-    ),
-    ("expr", Verb::Lower(Lower::Read(grammar::Form::Expr))),
-    ("shape", Verb::Lower(Lower::Read(grammar::Form::Shape))),
-    (
-        "description",
-        Verb::Lower(Lower::Read(grammar::Form::Description)),
-    ),
-    ("script", Verb::Lower(Lower::Script)),
-    ("level", Verb::Lower(Lower::Level)),
-    ("text", Verb::Lower(Lower::Valued(values::Form::Text))),
-    ("size", Verb::Lower(Lower::Valued(values::Form::Size))),
-    ("int", Verb::Lower(Lower::Valued(values::Form::Int))),
-    ("lines", Verb::Lower(Lower::Valued(values::Form::Lines))),
-    ("minus", Verb::Lower(Lower::Minus)),
-    ("decimal", Verb::Lower(Lower::Decimal)),
-    ("sets", Verb::Lower(Lower::Sets)),
-    ("only", Verb::Lower(Lower::Only)),
-    ("match", Verb::Lower(Lower::Match)),
-    ("value", Verb::Lower(Lower::Value)),
-    ("message", Verb::Lower(Lower::Message)),
-    ("done", Verb::Report(reports::Form::Done)),
-    ("aborted", Verb::Report(reports::Form::Aborted)),
-    ("stopped", Verb::Report(reports::Form::Stopped)),
-    ("retry", Verb::Report(reports::Form::Retry)),
-    ("report", Verb::Report(reports::Form::Report)),
-    ("look", Verb::Report(reports::Form::Look)),
-    ("settled", Verb::Report(reports::Form::Settled)),
-    ("conflict", Verb::Report(reports::Form::Conflict)),
-    ("events", Verb::Report(reports::Form::Events)),
+    ("message", Verb::Message),
 ];
 
 fn verb_of(word: &str) -> Option<Verb> {
@@ -199,8 +142,8 @@ fn try_out(
         Trial::Faults => tell_faults(alloc, stage, rest, out),
         Trial::Schedules => tell_schedules(alloc, stage, out),
         Trial::Tree => tell_tree(alloc, &mut stage.host, rest, out),
-        Trial::Attempt => steps::tell_attempt(alloc, stage, rest, out),
-        Trial::Steps => steps::tell_steps(alloc, stage, rest, out),
+        Trial::Attempt => tell_attempt(alloc, stage, rest, out),
+        Trial::Steps => tell_steps(alloc, stage, rest, out),
     }
 }
 
@@ -222,91 +165,16 @@ fn call_out(
     }
 }
 
-fn call_lower(alloc: Global, lower: Lower, rest: &str, out: &mut String) -> Result<(), NoMemory> {
-    let (first, text) = split_word(rest);
-    let (second, third) = split_word(text);
-    match lower {
-        Lower::Named(form) => names::tell_form(alloc, form, rest, out),
-        Lower::Join => names::tell_joined(alloc, first, text, out),
-        Lower::Compare => names::tell_order(alloc, first, text, out),
-        Lower::Read(form) => grammar::tell_form(alloc, form, rest, out),
-        Lower::Script => grammar::tell_script(alloc, number(first), text, out),
-        Lower::Level => grammar::tell_level(alloc, number(first), number(text), out),
-        Lower::Valued(form) => values::tell_form(alloc, form, rest, out),
-        Lower::Minus => values::tell_minus(
-            alloc,
-            integer(first),
-            integer(second),
-            integer(third),
-            out,
-        ),
-        Lower::Decimal => values::tell_decimal(alloc, integer(first), integer(text), out),
-        Lower::Sets => values::tell_sets(alloc, first, second, third, out),
-        Lower::Only => values::tell_only(alloc, first, text, out),
-        Lower::Match => values::tell_match(alloc, first, text, out),
-        Lower::Value => made::tell_value(alloc, rest, out),
-        Lower::Message => messages::tell_message(alloc, rest, out),
-    }
-}
-
-fn report(
-    alloc: Global,
-    stage: &mut Stage,
-    form: reports::Form,
-    rest: &str,
-    out: &mut String,
-) -> Result<(), NoMemory> {
-    let (shell, more) = split_word(rest);
-    let (second, text) = split_word(more);
-    let numbers = reports::Numbers {
-        shell: number(shell),
-        second: number(second),
-    };
-    reports::tell_form(alloc, &mut stage.parts, form, numbers, text, out)
-}
-
-/// Adds what a line gives.
-fn answer(alloc: Global, stage: &mut Stage, line: &str, out: &mut String) -> Result<(), NoMemory> {
-    let (word, rest) = split_word(line);
-    match verb_of(word) {
-        None => tell(out, "no such word"),
-        Some(Verb::Note) => Ok(()),
-        Some(Verb::Set(setting)) => set_up(alloc, stage, setting, rest, out),
-        Some(Verb::Try(trial)) => try_out(alloc, stage, trial, rest, out),
-        Some(Verb::Call(call)) => call_out(alloc, stage, call, rest, out),
-        Some(Verb::Lower(lower)) => call_lower(alloc, lower, rest, out),
-        Some(Verb::Report(form)) => report(alloc, stage, form, rest, out),
-    }
-}
-
-/// Adds a line and what it gives.
-fn add_line(
-    alloc: Global,
-    stage: &mut Stage,
-    line: &str,
-    out: &mut String,
-) -> Result<(), NoMemory> {
-    out.push_str(line)?;
-    out.push_str("\n")?;
-    answer(alloc, stage, line, out)
-}
-
-fn add_lines(
-    alloc: Global,
-    stage: &mut Stage,
-    cases: &str,
-    out: &mut String,
-) -> Result<(), NoMemory> {
-    for line in cases.lines() {
-        if !line.starts_with('>') {
-            add_line(alloc, stage, line, out)?;
+impl Case for Stage {
+    fn answer(&mut self, alloc: Global, line: &str, out: &mut String) -> Result<(), NoMemory> {
+        let (word, rest) = split_word(line);
+        match verb_of(word) {
+            None => tell(out, "no such word"),
+            Some(Verb::Note) => Ok(()),
+            Some(Verb::Set(setting)) => set_up(alloc, self, setting, rest, out),
+            Some(Verb::Try(trial)) => try_out(alloc, self, trial, rest, out),
+            Some(Verb::Call(call)) => call_out(alloc, self, call, rest, out),
+            Some(Verb::Message) => tell_message(alloc, rest, out),
         }
     }
-    Ok(())
-}
-
-/// Adds the lines that begin with no `>`, each with what it gives.
-pub fn add_answers(alloc: Global, cases: &str, out: &mut String) -> Result<(), NoMemory> {
-    let mut stage = Stage::new(alloc);
-    add_lines(alloc, &mut stage, cases, out)
 }

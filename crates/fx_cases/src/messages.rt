@@ -1,13 +1,12 @@
 //! The lines on standard error of statuses that are made of parts, in place of a run's.
 
-use crate::escapes::unescaped;
 use crate::stage::host_text;
 use crate::telling::tell_status;
-use crate::words::{number, split_word};
 use fx_base::NoMemory;
 use fx_expr::{Shape, Word};
 use fx_folder::FolderCause;
 use fx_outside::{HostText, Words};
+use fx_telling::{number, split_word, unescaped};
 use fx_top::status::{Status, TextFault};
 use std::alloc::Global;
 

@@ -1,10 +1,9 @@
 //! Calls on the host and the sink in memory.
 
-use crate::escapes::unescaped;
 use crate::stage::{Stage, host_text};
-use crate::telling::{tell, tell_bytes};
 use fx_base::NoMemory;
 use fx_outside::{Host, HostFault, Listing, MemorySink, Sink};
+use fx_telling::{tell, tell_bytes, unescaped};
 use std::alloc::Global;
 use std::fmt::Write;
 

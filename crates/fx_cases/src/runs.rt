@@ -1,9 +1,10 @@
 //! Runs of the top call over a host and a sink in memory.
 
 use crate::stage::host_text;
-use crate::telling::{tell_bytes, tell_status, tell_tree};
+use crate::telling::{tell_status, tell_tree};
 use fx_base::NoMemory;
 use fx_outside::{MemoryHost, MemorySink, OpenGate, Words};
+use fx_telling::tell_bytes;
 use fx_top::status::Status;
 use fx_top::top::top;
 use std::alloc::Global;

@@ -1,9 +1,8 @@
 //! What a case sets up: a host, the calls on it that are to fail, and the sink that a run prints to.
 
-use crate::escapes::unescaped;
-use crate::reports::Parts;
 use fx_base::NoMemory;
 use fx_outside::{HostKind, HostText, MemoryHost, MemorySink};
+use fx_telling::unescaped;
 use std::alloc::Global;
 
 /// The room of a sink where a case says nothing of it.
@@ -27,8 +26,6 @@ pub struct Stage {
     placed: Vec<Placed>,
     room: u64,
     failing_writes: Vec<u64>,
-    /// The parts of a report that is made of parts.
-    pub parts: Parts,
 }
 
 pub fn host_text(alloc: Global, text: &str) -> Result<HostText, NoMemory> {
@@ -63,7 +60,6 @@ impl Stage {
             placed: Vec::new(alloc),
             room: ROOM,
             failing_writes: Vec::new(alloc),
-            parts: Parts::new(alloc),
         }
     }
 

@@ -2,19 +2,17 @@
 ghost use Rattle.std.specs.Prelude.{◌≡◌, true, IfOk};
 ghost use Rattle.fx_forms.specs.Built.{is_built_spec, is_built_plan};
 
-use crate::escapes::unescaped;
-use crate::reports::tell_events;
 use crate::runs::words_of;
 use crate::stage::Stage;
-use crate::telling::tell;
-use crate::words::split_word;
 use fx_base::NoMemory;
 use fx_board::{Attempt, Board, Event, Events};
 use fx_outside::Words;
+use fx_report::event_lines;
 use fx_run::run;
 use fx_sched::World;
 use fx_spec::{Base, End};
 use fx_store::{Node, Path};
+use fx_telling::{split_word, tell, tell_bytes, unescaped};
 use fx_top::reading::read_base;
 use fx_top::status::Status;
 use fx_view::{Known, Reads, Stop};
@@ -111,7 +109,8 @@ pub fn tell_attempt(
 fn tell_event(alloc: Global, event: Event, out: &mut String) -> Result<(), NoMemory> {
     let mut events = Events::new(alloc);
     events.push(event)?;
-    tell_events(alloc, &events, out)
+    let lines = event_lines(alloc, &events)?;
+    tell_bytes(out, lines.as_slice())
 }
 
 /// A shell has a turn.

@@ -1,11 +1,12 @@
-//! What is told of bytes, statuses and trees. Each line of it begins with `> `.
+//! What is told of statuses and trees. Each line of it begins with `> `.
 
 use crate::stage::host_text;
 use fx_base::NoMemory;
 use fx_outside::{Host, HostFault, HostKind, HostText, Listing, MemoryHost, Standing, Words};
 use fx_program::Message;
+use fx_telling::{tell, tell_bytes};
 use fx_top::status::Status;
-use std::alloc::{AllocError, Global};
+use std::alloc::Global;
 use std::fmt::Write;
 
 /// The most entries that are told of a tree.
@@ -13,52 +14,6 @@ const ENTRY_LIMIT: usize = 10_000;
 
 /// The most bytes that are told of a file.
 const FILE_LIMIT: usize = 1_048_576;
-
-/// Tells a line.
-pub fn tell(out: &mut String, line: &str) -> Result<(), NoMemory> {
-    writeln!(out, "> {line}")?;
-    Ok(())
-}
-
-/// Adds a byte, in hexadecimal where it is none that is printed.
-fn add_byte(out: &mut String, byte: u8) -> Result<(), AllocError> {
-    match byte {
-        b' '..=b'~' => out.push(char::from(byte)),
-        _ => write!(out, "\\x{byte:02x}"),
-    }
-}
-
-/// Adds bytes within a line.
-pub fn add_bytes(out: &mut String, bytes: &[u8]) -> Result<(), NoMemory> {
-    for byte in bytes {
-        add_byte(out, *byte)?;
-    }
-    Ok(())
-}
-
-/// Adds a byte of a text with lines.
-fn add_line_byte(out: &mut String, byte: u8) -> Result<(), AllocError> {
-    match byte {
-        b'\n' => out.push('\n'),
-        _ => add_byte(out, byte),
-    }
-}
-
-/// Tells the lines of a text, with a backslash where it does not end its last line.
-pub fn tell_bytes(out: &mut String, bytes: &[u8]) -> Result<(), NoMemory> {
-    let mut begins = true;
-    for byte in bytes {
-        if begins {
-            out.push_str("> ")?;
-        }
-        begins = *byte == b'\n';
-        add_line_byte(out, *byte)?;
-    }
-    if !begins {
-        out.push_str("\\\n")?;
-    }
-    Ok(())
-}
 
 /// Tells how a command ended: its status, and its line on standard error.
 pub fn tell_status(out: &mut String, words: &Words, status: &Status) -> Result<(), NoMemory> {

@@ -2,9 +2,10 @@
 
 use crate::runs::{OUT, tell_end, tell_run, words_of};
 use crate::stage::Stage;
-use crate::telling::{tell, tell_tree};
+use crate::telling::tell_tree;
 use fx_base::NoMemory;
 use fx_outside::{MemoryHost, Words};
+use fx_telling::tell;
 use std::alloc::Global;
 use std::collections::BTreeSet;
 

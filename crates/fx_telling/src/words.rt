@@ -13,6 +13,7 @@ pub fn number(text: &str) -> u32 {
     text.parse::<u32>().unwrap_or(0)
 }
 
+/// The integer that a text spells, and 0 where it spells none.
 pub fn integer(text: &str) -> i64 {
     text.parse::<i64>().unwrap_or(0)
 }

@@ -4,11 +4,10 @@ ghost use Rattle.fx_expr.specs.ShapeTree.{ShapeTree};
 ghost use Rattle.fx_expr.specs.Shapes.{HasShape};
 ghost use Rattle.fx_expr.specs.Views.{expr_tree};
 
-use crate::escapes::unescaped;
-use crate::telling::tell_bytes;
 use fx_base::NoMemory;
 use fx_expr::{BinOp, Env, EvalFault, Expr, TEXT_LIMIT, Text, UnOp, Value, eval, matches};
 use fx_report::value_line;
+use fx_telling::{tell_bytes, unescaped};
 use std::alloc::Global;
 use std::fmt::Write;
 

@@ -1,9 +1,8 @@
 //! Names, paths and link texts.
 
-use crate::escapes::unescaped;
-use crate::telling::{add_bytes, tell};
 use fx_base::NoMemory;
 use fx_store::{LinkText, Name, Path, PathFault};
+use fx_telling::{add_bytes, tell, unescaped};
 use std::alloc::Global;
 use std::fmt::Write;
 

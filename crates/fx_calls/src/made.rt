@@ -2,12 +2,11 @@
 //! where it has parts: `true`, `false`, `none`, `int:N`, `str:TEXT`, `names:TEXT,..`, `table:TEXT=TEXT,..`, and behind their
 //! parts `some` and `pair`.
 
-use crate::telling::tell_bytes;
 use crate::values::text;
-use crate::words::integer;
 use fx_base::NoMemory;
 use fx_expr::{Keyed, Text, TextSet, Value};
 use fx_report::value_line;
+use fx_telling::{integer, tell_bytes};
 use std::alloc::Global;
 
 /// Adds the texts between commas.

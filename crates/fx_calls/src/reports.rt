@@ -1,15 +1,13 @@
 //! Reports and events that are made of parts, in place of a run.
 
-use crate::escapes::unescaped;
-use crate::telling::{tell, tell_bytes};
 use crate::values::text;
-use crate::words::{number, split_word};
 use fx_base::NoMemory;
 use fx_board::{Event, Events};
 use fx_expr::{ExprFault, Value, Values};
 use fx_report::{PrintedEntries, PrintedEntry, Retries, Retry, event_lines, printed_report};
 use fx_spec::{End, Refusal};
 use fx_store::Path;
+use fx_telling::{number, split_word, tell_bytes, unescaped};
 use std::alloc::Global;
 
 /// The parts of a case.
@@ -199,7 +197,7 @@ fn add_conflict(
 }
 
 /// Tells the lines of events.
-pub fn tell_events(alloc: Global, events: &Events, out: &mut String) -> Result<(), NoMemory> {
+fn tell_events(alloc: Global, events: &Events, out: &mut String) -> Result<(), NoMemory> {
     let lines = event_lines(alloc, events)?;
     tell_bytes(out, lines.as_slice())
 }

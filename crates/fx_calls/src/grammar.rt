@@ -1,10 +1,9 @@
 //! Tokens, expressions, shapes, descriptions and scripts.
 
-use crate::escapes::unescaped;
-use crate::telling::{add_bytes, tell};
 use fx_base::NoMemory;
 use fx_lex::{LexFault, Spanned, Token, Tokens, lex};
 use fx_parse::{parse_expr, parse_shape};
+use fx_telling::{add_bytes, tell, unescaped};
 use fx_texts::{TEXT_LIMIT, read_description, read_script};
 use std::alloc::Global;
 use std::fmt::Write;
