@@ -7,12 +7,14 @@ use Rattle.std.proofs.lemmas.Bool.{le-leb}
 use Rattle.std.proofs.lemmas.List.Elements.{All-head, All-tail}
 use Rattle.fx_store.specs.declared.node.Node.{Node}
 use Rattle.fx_store.specs.declared.node.Node.TheVariants.{File, Dir, Link}
+use Rattle.fx_store.specs.declared.name.PathFault.{PathFault}
+use Rattle.fx_store.specs.Faults.{read_link}
 use Rattle.fx_store.specs.Names.{IsContent}
 use Rattle.fx_expr.specs.Sets.{IsAscending, set_of}
 use Rattle.fx_expr.specs.Tree.{Tree}
 use Rattle.fx_expr.proofs.Canon.{ascending_set, has_set, same_sets}
 use Rattle.fx_spec.specs.declared.refusal.Refusal.{Refusal}
-use Rattle.fx_spec.specs.Edit.{is_content, is_storable, form_node, stored_node, names_node}
+use Rattle.fx_spec.specs.Edit.{is_content, is_storable, form_node, stored_node, names_node, link_node}
 use Rattle.fx_spec.specs.Move.{Answered}
 use Rattle.fx_spec.specs.SpecTree.{SpecTree}
 use Rattle.fx_edit.specs.Values.{text_of, texts_of}
@@ -104,3 +106,19 @@ text-stored form t content = ap (λ b. cond b (form_node form (Tree.str t)) (Err
 
 pub texts-stored : (ts : List (List ℕ)) → IsAscending ts → stored_node SpecTree.dir (Tree.names ts) ≡ names_node ts
 texts-stored ts up = ap (λ b. cond b (names_node ts) (Err Refusal.WrongForm)) (is_set_of ts up)
+
+-- ---- what calls tell of them
+
+pub file_told : (v : Tree) (t bytes : List ℕ) → text_of v ≡ Some t → (bytes ≡ t) × IsContent t → stored_node SpecTree.file v ≡ Ok (File bytes)
+file_told v t bytes is held =
+    ap (stored_node SpecTree.file) (text_is v t is) ∙ (text-stored SpecTree.file t held.1 ∙ ap (λ (b : List ℕ). Ok (File b)) (sym held.0))
+
+pub dir_told : (v : Tree) (ts : List (List ℕ)) → texts_of v ≡ Some ts → IsAscending ts → stored_node SpecTree.dir v ≡ names_node ts
+dir_told v ts is up = ap (stored_node SpecTree.dir) (texts_are v ts is) ∙ texts-stored ts up
+
+pub link_told : (v : Tree) (t : List ℕ) → text_of v ≡ Some t → stored_node SpecTree.link v ≡ stored_node SpecTree.link (Tree.str t)
+link_told v t is = ap (stored_node SpecTree.link) (text_is v t is)
+
+pub link_node_told : (t : List ℕ) (answer : Result (List ℕ) PathFault) → IsContent t → read_link t ≡ answer → stored_node SpecTree.link (Tree.str t) ≡ link_node answer
+link_node_told t answer content is = text-stored SpecTree.link t content ∙ ap link_node is
+

@@ -10,4 +10,5 @@ pub mod Deep
 pub mod Taken
 pub mod Edited
 pub mod Removes
+pub mod Naming
 pub mod Done

@@ -1,6 +1,7 @@
 -- The removal of an entry with its name, as calls go by its rule.
-use Rattle.std.proofs.Common.{◌≡◌, ℕ, List, [], ◌∷◌, ◌++◌, length, Option, Some, None, Result, Ok, Err, refl, sym, subst, ap, ◌∙◌, arith}
+use Rattle.std.proofs.Common.{◌≡◌, ℕ, ◌-◌, List, [], ◌∷◌, ◌++◌, length, Option, Some, None, Result, Ok, Err, refl, sym, subst, ap, ◌∙◌, arith}
 use Rattle.std.specs.Prelude.{IsErrAnd}
+use Rattle.std.proofs.lemmas.Option.{get_or_from_slice_get}
 use Rattle.fx_store.specs.declared.node.Node.{Node}
 use Rattle.fx_store.specs.declared.node.Node.TheVariants.{Dir}
 use Rattle.fx_store.specs.declared.changes.Change.{Change}
@@ -25,11 +26,11 @@ Path = List (List ℕ)
 
 -- the rule of a removal, at a path that is not the root
 pub remove_entry-is : (path : Path) (name : List ℕ) → HasLast path name → remove_entry path ≡ editing (removing path name)
-remove_entry-is [] name has = let no : [] ≡ has.some.0 ∷ has.some.1.0 = has.some.1.1 in cc
+remove_entry-is [] name has = absurd (omega (arith, has.some))
 remove_entry-is (n ∷ names) name has =
     let q : Path = n ∷ names in
     ap (λ (f : Option Node → Ask (Answered (List Change))). Look (parent q) f) (fun_ext (λ above.
-      ap (λ l. clear q >>= λ below. Answer (Ok (set_to (parent q) (Dir (without_name l (names_of above))) ∷ below))) (sym has.last)
+      ap (λ l. clear q >>= λ below. Answer (Ok (set_to (parent q) (Dir (without_name l (names_of above))) ∷ below))) (get_or_from_slice_get q (length q - 1) name [] has.last)
       ∙ sym (editing-first (set_to (parent q) (Dir (without_name name (names_of above))) ∷ []) (clear q))))
 
 module _ {R : Type 0} (m : Meaning R) (own : Known) (old mid : R) (path : Path) (name : List ℕ) (above : Path) (same : above ≡ parent path) where

@@ -1,13 +1,13 @@
 -- Parts of the rules of edits, as the code goes through them.
-use Rattle.std.specs.Prelude.{◌≡◌, ℕ, ◌+◌, List, [], ◌∷◌, ◌++◌, drop, slice_get, slice_index_or, length, ◌-◌, Option, Some, None, Result, Ok}
+use Rattle.std.specs.Prelude.{◌≡◌, ℕ, ◌+◌, false, List, [], ◌∷◌, ◌++◌, drop, slice_get, length, ◌-◌, ◌<◌, Option, Some, None, Result, Ok}
 use Rattle.fx_store.specs.declared.node.Node.{Node}
 use Rattle.fx_store.specs.declared.node.Node.TheVariants.{Dir}
 use Rattle.fx_store.specs.declared.changes.Change.{Change}
 use Rattle.fx_store.specs.Changes.{changed_paths}
-use Rattle.fx_store.specs.Resolve.{◌/ₚ◌, parent}
+use Rattle.fx_store.specs.Resolve.{◌/ₚ◌, parent, resolve}
 use Rattle.fx_store.specs.Rule.{Ask, Answer, Look, look_all, ◌>>=◌}
 use Rattle.fx_expr.specs.Sets.{with_text}
-use Rattle.fx_spec.specs.Edit.{set_to, removed, names_of, entries, clear, children, without_name}
+use Rattle.fx_spec.specs.Edit.{set_to, removed, names_of, entries, clear, children, without_name, follows_last, store_landed, create_landed, remove_landed}
 use Rattle.fx_spec.specs.Move.{Answered}
 
 -- the changes of a rule, after some others
@@ -60,10 +60,20 @@ pub record IsNextMade (names : List (List ℕ)) (i : ℕ) (node : Node) (path mo
 
 -- the path has a last name, which is this
 pub record HasLast (path : List (List ℕ)) (name : List ℕ) : Type 0 where
-  pub some : (n : List ℕ) × ((rest : List (List ℕ)) × (path ≡ n ∷ rest))
-  pub last : name ≡ slice_index_or path (length path - 1) []
+  pub some : 0 < length path
+  pub last : slice_get path (length path - 1) ≡ Some name
 
 -- the directory above a path lists the last name no more, and what the path has is removed with all below
 abbrev pub removing : List (List ℕ) → List ℕ → Ask (List Change)
 removing path name =
     Look (parent path) (λ above. Answer (names_of above)) >>= λ names. adding (set_to (parent path) (Dir (without_name name names)) ∷ []) (clear path)
+
+-- the edits at a path, by where it lands
+abbrev pub store_there : List (List ℕ) → Node → Ask (Answered (List Change))
+store_there path node = resolve path (follows_last node) >>= store_landed path node
+
+abbrev pub create_there : List (List ℕ) → Node → Ask (Answered (List Change))
+create_there path node = resolve path false >>= create_landed path node
+
+abbrev pub remove_there : List (List ℕ) → Ask (Answered (List Change))
+remove_there path = resolve path false >>= remove_landed path

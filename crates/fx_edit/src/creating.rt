@@ -1,7 +1,5 @@
 //! `create`: an empty file or directory, where nothing is yet.
 ghost use Rattle.std.specs.Prelude.{◌≡◌, false};
-ghost use Rattle.fx_store.specs.Resolve as resolving;
-ghost use Rattle.fx_store.specs.Rule.{◌>>=◌};
 ghost use Rattle.fx_rules.specs.Answering.{answered};
 ghost use Rattle.fx_rules.specs.Halts.{split};
 ghost use Rattle.fx_spec.specs.Edit as edit;
@@ -9,6 +7,7 @@ ghost use Rattle.fx_view.specs.Follows.{GoesBy};
 ghost use Rattle.fx_view.specs.Own.{own_at};
 ghost use Rattle.fx_walk.specs.Places.{place_tree};
 ghost use Rattle.fx_edit.specs.Edits as says;
+ghost use Rattle.fx_edit.specs.Rules.{create_there};
 
 use crate::edits::Edits;
 use crate::making::make;
@@ -60,7 +59,7 @@ fn create_node<R: Reader>(
     node: &Node,
 ) -> Result<Edits, Halt>
     ensures { GoesBy R.meaning (answered (λ e. e)) (own_at overlay.now) reader.old reader.new
-        (resolving.resolve path.now false >>= edit.create_landed path.now node.now) (split result) }
+        (create_there path.now node.now) (split result) }
 {
     let landing = resolve(alloc, reader, overlay, path, false)?;
     create_landed(alloc, reader, overlay, path, landing, node)

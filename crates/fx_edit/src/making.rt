@@ -88,7 +88,8 @@ fn make_in<R: Reader>(
         (made_in here.now name.now (made_all here.now names.now node.now)) result }
 {
     let listed = names_at(alloc, reader, overlay, here)?;
-    let edits = made(alloc, here, listed.with(alloc, name)?, names, node)?;
+    let more = listed.with(alloc, name)?;
+    let edits = made(alloc, here, more, names, node)?;
     edits.look_at_rest(alloc, reader, overlay)?;
     Ok(edits)
 }
@@ -143,6 +144,8 @@ fn add_next(
     requires short { length path.now < 64 }
     ensures { IfOk result (λ more. IsNextMade names.now i node.now path.now more edits.old edits.new) }
 {
+    // The next place fits.
+    prove!(i < names.len());
     let name = match names.at(i) {
         Some(name) => name,
         None => unreachable!(),

@@ -1,8 +1,9 @@
 //! The node that a value makes at a form, and the empty node of a form.
-ghost use Rattle.std.specs.Prelude.{◌≡◌, ◌<◌, Some, Ok, Err, cond, length, slice_get, IfOk};
+ghost use Rattle.std.specs.Prelude.{◌≡◌, ◌<◌, Some, length, slice_get, IfOk};
 ghost use Rattle.std.specs.Option.{option_copied};
-ghost use Rattle.fx_store.specs.declared.node.Node.TheVariants.{File, Dir};
-ghost use Rattle.fx_store.specs.Names.{IsContent, is_name};
+ghost use Rattle.fx_store.specs.declared.node.Node.TheVariants.{Dir};
+ghost use Rattle.fx_store.specs.Names.{IsContent};
+ghost use Rattle.fx_expr.specs.Sets.{IsAscending};
 ghost use Rattle.fx_expr.specs.Tree.{Tree};
 ghost use Rattle.fx_expr.specs.Views.{tree_of};
 ghost use Rattle.fx_spec.specs.Edit as edit;
@@ -10,7 +11,7 @@ ghost use Rattle.fx_spec.specs.Move.{needed};
 ghost use Rattle.fx_spec.specs.SpecTree.{SpecTree};
 ghost use Rattle.fx_spec.specs.Views.{spec_tree};
 ghost use Rattle.fx_spec.specs.declared.refusal.Refusal.TheVariants as refusal;
-ghost use Rattle.fx_edit.specs.Values.{text_of, texts_of, Tells};
+ghost use Rattle.fx_edit.specs.Values.{text_of, texts_of, name_read, Tells};
 
 use fx_base::NoMemory;
 use fx_expr::{Text, TextSet, Value};
@@ -99,17 +100,22 @@ fn texts_in(value: &Value) -> Option<&TextSet>
 fn content(alloc: Global, text: &Text) -> Result<Bytes, NoMemory>
     ensures { IfOk result (λ bytes. (bytes ≡ text.now) × IsContent text.now) }
 {
-    let bytes = Bytes::from_vec(text.copy(alloc)?.into_vec());
-    // A content has its limits.
-    let _limits = bytes.as_slice();
-    Ok(bytes)
+    Ok(Bytes::from_vec(Vec::from_slice(alloc, bytes_of(text))?))
+}
+
+/// The bytes of a text, which are within the limits of a file's content.
+fn bytes_of(text: &Text) -> &[u8]
+    ensures bytes { result.now ≡ text.now }
+    ensures content { IsContent text.now }
+{
+    text.as_slice()
 }
 
 /// The link of a text.
 fn link_of(alloc: Global, text: &Text) -> Result<Node, Halt>
     ensures { Tells (λ n. n) (edit.stored_node SpecTree.link (Tree.str text.now)) result }
 {
-    match LinkText::read(alloc, text.as_slice()) {
+    match LinkText::read(alloc, bytes_of(text)) {
         Ok(link) => Ok(Node::Link(link)),
         Err(PathFault::BadName) => Err(Halt::Refused(Refusal::BadName)),
         Err(PathFault::TooDeep) => Err(Halt::Refused(Refusal::TooDeep)),
@@ -119,7 +125,8 @@ fn link_of(alloc: Global, text: &Text) -> Result<Node, Halt>
 
 /// The names that the texts of a set are.
 fn names_of(alloc: Global, texts: &TextSet) -> Result<Names, Halt>
-    ensures { Tells (λ names. Dir names) (edit.names_node texts.now) result }
+    ensures names { Tells (λ names. Dir names) (edit.names_node texts.now) result }
+    ensures order { IsAscending texts.now }
 {
     let mut names = Vec::new(alloc);
     for i in 0..texts.len() {
@@ -141,7 +148,7 @@ fn text_at(texts: &TextSet, i: u64) -> &Text
 
 /// The name that a text is.
 fn name_of(alloc: Global, text: &Text) -> Result<Name, Halt>
-    ensures { Tells (λ name. name) (cond (is_name text.now) (Ok text.now) (Err refusal.BadName)) result }
+    ensures { Tells (λ name. name) (name_read text.now) result }
 {
     match Name::read(alloc, text.as_slice()) {
         Ok(name) => Ok(name),

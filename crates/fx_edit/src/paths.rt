@@ -1,5 +1,6 @@
 //! The path below, the path above, and the last name of a path.
-ghost use Rattle.std.specs.Prelude.{◌≡◌, ◌<◌, ◌+◌, ℕ, [], length, take, IfOk, MatchOption};
+ghost use Rattle.std.specs.Prelude.{◌≡◌, ◌<◌, ◌+◌, ℕ, [], Some, length, take, slice_get, IfOk, MatchOption};
+ghost use Rattle.fx_store.specs.Names.{IsPath};
 ghost use Rattle.fx_store.specs.Resolve as rule;
 ghost use Rattle.fx_store.specs.Resolve.{◌/ₚ◌};
 ghost use Rattle.fx_edit.specs.Rules.{HasLast};
@@ -38,10 +39,7 @@ fn one_more(alloc: Global, above: &Path, path: &Path, i: u32) -> Result<Path, No
     requires i { i < length path.now }
     ensures { IfOk result (λ more. more ≡ take (i + 1) path.now) }
 {
-    let Some(name) = path.name(i) else {
-        unreachable!();
-    };
-    match above.join(alloc, name) {
+    match above.join(alloc, name_in(path, i)) {
         Ok(more) => Ok(more),
         Err(PathFault::NoMemory) => Err(NoMemory),
         Err(PathFault::BadName) => unreachable!(),
@@ -51,14 +49,23 @@ fn one_more(alloc: Global, above: &Path, path: &Path, i: u32) -> Result<Path, No
 
 /// The last name of a path; the root has none.
 pub(crate) fn last_name(path: &Path) -> Option<&Name>
-    ensures { MatchOption result (path.now ≡ []) (λ n. HasLast path.now n.now) }
+    ensures { MatchOption result (path.now ≡ []) (λ name. HasLast path.now name.now) }
 {
     let len = path.len();
     if len == 0 {
         return None;
     }
-    match path.name(len - 1) {
-        Some(name) => Some(name),
+    Some(name_in(path, len - 1))
+}
+
+/// The name at a place of a path.
+fn name_in(path: &Path, i: u32) -> &Name
+    requires { i < length path.now }
+    ensures name { slice_get path.now i ≡ Some result.now }
+    ensures path { IsPath path.now }
+{
+    match path.name(i) {
+        Some(name) => name,
         None => unreachable!(),
     }
 }

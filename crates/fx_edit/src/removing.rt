@@ -1,9 +1,7 @@
 //! `remove`: the entry at a place's own path goes, with all below it.
 ghost use Rattle.std.specs.Prelude.{◌≡◌, ◌∷◌, [], false};
 ghost use Rattle.fx_store.specs.declared.node.Node.TheVariants.{Dir};
-ghost use Rattle.fx_store.specs.Resolve as resolving;
 ghost use Rattle.fx_store.specs.Rule as rule;
-ghost use Rattle.fx_store.specs.Rule.{◌>>=◌};
 ghost use Rattle.fx_rules.specs.Answering.{answered};
 ghost use Rattle.fx_rules.specs.Halts.{split};
 ghost use Rattle.fx_spec.specs.Edit as edit;
@@ -11,7 +9,7 @@ ghost use Rattle.fx_view.specs.Follows.{GoesBy};
 ghost use Rattle.fx_view.specs.Own.{own_at};
 ghost use Rattle.fx_walk.specs.Places.{place_tree};
 ghost use Rattle.fx_edit.specs.Edits as says;
-ghost use Rattle.fx_edit.specs.Rules.{HasLast, removing};
+ghost use Rattle.fx_edit.specs.Rules.{HasLast, removing, remove_there};
 
 use crate::clearing::clear;
 use crate::edits::Edits;
@@ -49,7 +47,7 @@ fn gone<R: Reader>(
     path: &Path,
 ) -> Result<Edits, Halt>
     ensures { GoesBy R.meaning (answered (λ e. e)) (own_at overlay.now) reader.old reader.new
-        (resolving.resolve path.now false >>= edit.remove_landed path.now) (split result) }
+        (remove_there path.now) (split result) }
 {
     let landing = resolve(alloc, reader, overlay, path, false)?;
     remove_landed(alloc, reader, overlay, path, landing)

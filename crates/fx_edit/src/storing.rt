@@ -1,8 +1,6 @@
 //! `store`: a value becomes the content of the node where a place's path lands.
 ghost use Rattle.std.specs.Prelude.{◌≡◌, ◌∷◌, [], IfOk};
-ghost use Rattle.fx_store.specs.Resolve as resolving;
 ghost use Rattle.fx_store.specs.Rule as rule;
-ghost use Rattle.fx_store.specs.Rule.{◌>>=◌};
 ghost use Rattle.fx_expr.specs.Views.{tree_of};
 ghost use Rattle.fx_rules.specs.Answering.{answered};
 ghost use Rattle.fx_rules.specs.Halts.{split};
@@ -12,6 +10,7 @@ ghost use Rattle.fx_view.specs.Own.{own_at};
 ghost use Rattle.fx_walk.specs.Places.{place_tree};
 ghost use Rattle.fx_edit.specs.Edits as says;
 ghost use Rattle.fx_edit.specs.Kinds.{is_file, is_dir, is_link, is_alike};
+ghost use Rattle.fx_edit.specs.Rules.{store_there};
 
 use crate::edits::Edits;
 use crate::lookups::names_in;
@@ -69,7 +68,7 @@ fn store_node<R: Reader>(
     node: Node,
 ) -> Result<Edits, Halt>
     ensures { GoesBy R.meaning (answered (λ e. e)) (own_at overlay.now) reader.old reader.new
-        (resolving.resolve path.now (edit.follows_last node) >>= edit.store_landed path.now node) (split result) }
+        (store_there path.now node) (split result) }
 {
     let landing = resolve(alloc, reader, overlay, path, follows_last(&node))?;
     store_landed(alloc, reader, overlay, path, landing, node)

@@ -29,6 +29,3 @@ pub returns-in_err-copy-in-TooManyLinks : goal.returns-in_err-copy-in-TooManyLin
 returns-in_err-copy-in-TooManyLinks g c =
     halts_refused g.R.Reader.meaning (λ (e : List Change). e) (own_at c.args.overlay.now) c.args.reader.now c.from_residual.result (edit.remove_landed c.args.path.now c.args.landing) c.from_residual.ensures.1
 
-pub returns-in_ok-copy-in-TooManyLinks : goal.returns-in_ok-copy-in-TooManyLinks
-returns-in_ok-copy-in-TooManyLinks g c =
-    edit_refused g.R.Reader.meaning (own_at c.args.overlay.now) c.args.reader.now (edit.remove_landed c.args.path.now c.args.landing) (Refusal.Blocked c.in_ok-copy-in-TooManyLinks.field-0) (ap (λ (l : Landing). edit.remove_landed c.args.path.now l) c.in-TooManyLinks.is ∙ ap (λ (p : List (List ℕ)). Answer (Err (Refusal.Blocked p))) (sym c.in_ok-copy-in-TooManyLinks.ensures.copied))
