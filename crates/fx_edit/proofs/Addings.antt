@@ -1,5 +1,5 @@
 -- Changes that are added to others, and the rule of a removal, step by step.
-use Rattle.std.proofs.Common.{◌≡◌, ℕ, zero, suc, ◌+◌, ◌-◌, ◌<◌, ◌≤◌, Bool, true, false, cond, List, [], ◌∷◌, ◌++◌, length, Option, Some, None, Ok, refl, sym, ap, ◌∙◌, arith, append_assoc, length-append}
+use Rattle.std.proofs.Common.{◌≡◌, ℕ, suc, ◌-◌, ◌<◌, ◌≤◌, Bool, true, false, cond, List, [], ◌∷◌, ◌++◌, length, Option, Some, None, Ok, refl, sym, ap, ◌∙◌, arith, append_assoc, length-append}
 use Rattle.std.proofs.lemmas.List.{append-nil}
 use mathlib.Core.Path.{fun_ext}
 use Rattle.fx_store.specs.declared.node.Node.{Node}
@@ -11,7 +11,6 @@ use Rattle.fx_store.specs.Rule.{Ask, Answer, Look, ◌>>=◌}
 use Rattle.fx_store.proofs.Asks.{ask-bind-assoc}
 use Rattle.fx_expr.specs.Sets.{set_of}
 use Rattle.fx_spec.specs.Edit.{set_to, removed, names_of, clear_all, cleared, clear_levels, clear, entry, entries, new_names}
-use Rattle.fx_spec.specs.Move.{Answered}
 use Rattle.fx_edit.specs.Rules.{adding, editing, listing, cleared_listing}
 
 abbrev Path : Type 0

@@ -1,12 +1,12 @@
 -- Entries that are changed one after another.
-use Rattle.std.proofs.Common.{◌≡◌, ℕ, ◌+◌, ◌≤◌, List, [], ◌∷◌, ◌++◌, length, drop, Some, Result, Ok, Err, sym, subst, ap, ◌∙◌}
+use Rattle.std.proofs.Common.{◌≡◌, ℕ, ◌+◌, ◌≤◌, List, length, drop, Some, Result, Ok, Err, sym, subst, ap, ◌∙◌}
 use Rattle.std.specs.Prelude.{slice_get, IsErrAnd}
 use Rattle.std.proofs.lemmas.List.{drop_all}
 use Rattle.fx_store.specs.declared.changes.Change.{Change}
-use Rattle.fx_store.specs.Rule.{Known, Ask, Answer, ◌>>=◌}
+use Rattle.fx_store.specs.Rule.{Known, Ask, ◌>>=◌}
 use Rattle.fx_spec.specs.Edit.{entries}
 use Rattle.fx_view.specs.declared.reader.Stop.{Stop}
-use Rattle.fx_view.specs.Follows.{GoesBy, Follows}
+use Rattle.fx_view.specs.Follows.{GoesBy}
 use Rattle.fx_view.specs.Meaning.{Meaning}
 use Rattle.fx_view.proofs.Calls.{consults_by}
 use Rattle.fx_view.proofs.Courses.{Goes, goes_on, goes_stop, goes_end}

@@ -1,22 +1,20 @@
 -- Removals, and entries of a directory with new names, as calls go by their rules.
-use Rattle.std.proofs.Common.{◌≡◌, ℕ, ◌<◌, ◌≤◌, Bool, true, false, List, [], ◌∷◌, ◌++◌, length, Option, Some, None, Result, Ok, Err, refl, sym, subst, ap, ◌∙◌}
+use Rattle.std.proofs.Common.{◌≡◌, ℕ, ◌≤◌, List, [], ◌∷◌, ◌++◌, length, Option, Some, None, Result, Ok, Err, refl, sym, ap, ◌∙◌}
 use Rattle.std.specs.Prelude.{IsErrAnd}
 use Rattle.fx_store.specs.declared.node.Node.{Node}
-use Rattle.fx_store.specs.declared.node.Node.TheVariants.{File, Dir}
+use Rattle.fx_store.specs.declared.node.Node.TheVariants.{File}
 use Rattle.fx_store.specs.declared.changes.Change.{Change}
-use Rattle.fx_store.specs.Names.{has}
-use Rattle.fx_store.specs.Resolve.{◌/ₚ◌, parent}
+use Rattle.fx_store.specs.Resolve.{◌/ₚ◌}
 use Rattle.fx_store.specs.Rule.{Known, Ask, Answer, Look, look, ◌>>=◌}
-use Rattle.fx_spec.specs.Edit.{set_to, removed, names_of, clear, entry, entries, without_name}
+use Rattle.fx_spec.specs.Edit.{set_to, removed, clear, entries}
 use Rattle.fx_view.specs.declared.reader.Stop.{Stop}
 use Rattle.fx_view.specs.declared.reader.Stop.TheVariants as stop
 use Rattle.fx_view.specs.Follows.{GoesBy}
 use Rattle.fx_view.specs.Meaning.{Meaning}
-use Rattle.fx_view.proofs.Errors.{err_of}
-use Rattle.fx_view.proofs.Rulings.{by_answer, by_refused, by_then, by_then_answer}
+use Rattle.fx_view.proofs.Rulings.{by_answer, by_then, by_then_answer}
 use Rattle.fx_edit.specs.Rules.{adding, listing, cleared_listing}
-use Rattle.fx_edit.proofs.Addings.{adding-then, adding-none, adding-clear, adding-listing, clear-deep, entry-dropped, entry-kept, entry-added}
-use Rattle.fx_edit.proofs.Exits.{by_rule, refused_by, stops_by, tires_by}
+use Rattle.fx_edit.proofs.Addings.{adding-none, adding-clear, adding-listing}
+use Rattle.fx_edit.proofs.Exits.{by_rule, stops_by, tires_by}
 
 abbrev Path : Type 0
 Path = List (List ℕ)

@@ -1,6 +1,6 @@
 -- What an edit comes to: its changes are put, it is refused, or it stops.
-use Rattle.std.proofs.Common.{◌≡◌, ℕ, Bool, true, false, cond, List, [], ◌∷◌, ◌++◌, Option, Some, None, Result, Ok, Err, refl, sym, subst, ap, ◌∙◌}
-use Rattle.std.specs.Prelude.{IsErrAnd, IfOk}
+use Rattle.std.proofs.Common.{◌≡◌, Bool, true, false, cond, List, [], ◌∷◌, ◌++◌, Option, Some, Result, Ok, Err, refl, sym, subst, ap, ◌∙◌}
+use Rattle.std.specs.Prelude.{IsErrAnd}
 use mathlib.Core.Path.{fun_ext}
 use Rattle.std.specs.Ordering.{eq_by_cmp}
 use Rattle.fx_store.specs.declared.node.Node.{Node}
@@ -17,7 +17,7 @@ use Rattle.fx_view.specs.Follows.{GoesBy, Went, walked}
 use Rattle.fx_view.specs.Meaning.{Meaning}
 use Rattle.fx_view.specs.Own.{own_at, put_own, put_all, AreRead}
 use Rattle.fx_view.specs.OwnList.{OwnList}
-use Rattle.fx_view.specs.Reads.{known_of, Agrees}
+use Rattle.fx_view.specs.Reads.{known_of}
 use Rattle.fx_view.proofs.Calls.{consults_by}
 use Rattle.fx_view.proofs.Errors.{err_of}
 use Rattle.fx_view.proofs.Owning.{own_at-put, read_more, read_put}

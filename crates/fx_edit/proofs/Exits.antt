@@ -1,15 +1,15 @@
 -- Calls that go by rules and pass errors on by `?`.
-use Rattle.std.proofs.Common.{◌≡◌, Result, Ok, Err, refl, sym, subst, ap, ◌∙◌}
+use Rattle.std.proofs.Common.{◌≡◌, Result, Ok, Err, refl, sym, subst}
 use Rattle.std.specs.Prelude.{IsErrAnd}
 use Rattle.fx_store.specs.Rule.{Known, Ask, Answer, ◌>>=◌}
 use Rattle.fx_spec.specs.declared.refusal.Refusal.{Refusal}
-use Rattle.fx_spec.specs.Move.{Answered, unrefused}
+use Rattle.fx_spec.specs.Move.{Answered}
 use Rattle.fx_view.specs.declared.reader.Stop.{Stop}
 use Rattle.fx_view.specs.declared.reader.Stop.TheVariants as stop
 use Rattle.fx_view.specs.Follows.{GoesBy}
 use Rattle.fx_view.specs.Meaning.{Meaning}
 use Rattle.fx_view.proofs.Errors.{err_of}
-use Rattle.fx_view.proofs.Rulings.{by_answer, by_refused, by_then, by_stop, by_same, by_then_answer, by_then_refused}
+use Rattle.fx_view.proofs.Rulings.{by_answer, by_refused, by_stop, by_same, by_then_refused}
 use Rattle.fx_rules.specs.declared.halt.Halt.{Halt}
 use Rattle.fx_rules.specs.declared.halt.Halt.TheVariants as halt
 use Rattle.fx_rules.specs.Answering.{answered}

@@ -1,5 +1,5 @@
 -- Looks at each changed path but the first, one after another.
-use Rattle.std.proofs.Common.{◌≡◌, ℕ, ◌+◌, ◌≤◌, List, [], ◌∷◌, length, drop, Option, Some, Result, Ok, Err, sym, subst, ap}
+use Rattle.std.proofs.Common.{◌≡◌, ℕ, ◌+◌, ◌≤◌, List, length, drop, Option, Some, Result, Ok, Err, sym, subst, ap}
 use Rattle.std.specs.Prelude.{slice_get, IsErrAnd}
 use Rattle.std.proofs.lemmas.List.{drop_all}
 use Rattle.fx_store.specs.declared.node.Node.{Node}

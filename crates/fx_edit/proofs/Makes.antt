@@ -1,5 +1,5 @@
 -- What is made at missing names, step by step.
-use Rattle.std.proofs.Common.{◌≡◌, ℕ, suc, ◌+◌, ◌<◌, ◌≤◌, Bool, true, false, cond, List, [], ◌∷◌, ◌++◌, map, length, drop, Option, Some, None, Ok, Err, refl, sym, ap, ◌∙◌, arith, append_assoc, length-append, length-drop}
+use Rattle.std.proofs.Common.{◌≡◌, ℕ, ◌+◌, ◌<◌, ◌≤◌, Bool, true, false, cond, List, [], ◌∷◌, ◌++◌, map, length, drop, Option, Some, None, Ok, Err, refl, sym, ap, ◌∙◌, arith, append_assoc, length-append, length-drop}
 use Rattle.std.specs.Prelude.{slice_get, nat_lt, ◌&&◌}
 use Rattle.std.proofs.lemmas.Bool.Decides.{nat_tests}
 use Rattle.std.proofs.lemmas.List.{append-nil, drop_all}
@@ -13,7 +13,7 @@ use Rattle.fx_store.specs.Resolve.{◌/ₚ◌, is_full}
 use Rattle.fx_store.specs.Rule.{Ask, Answer, Look, ◌>>=◌, look_all}
 use Rattle.fx_expr.specs.Sets.{with_text}
 use Rattle.fx_spec.specs.declared.refusal.Refusal.{Refusal}
-use Rattle.fx_spec.specs.Edit.{set_to, names_of, children, made, make, lacks_room, is_too_deep, unless_deep}
+use Rattle.fx_spec.specs.Edit.{set_to, names_of, children, made, make, lacks_room, is_too_deep}
 use Rattle.fx_spec.specs.Move.{Answered}
 use Rattle.fx_view.proofs.Lists.{drop_at, drop_past}
 use Rattle.fx_edit.specs.Kinds.{lists_some}

@@ -1,5 +1,5 @@
 -- Kinds of nodes.
-use Rattle.std.specs.Prelude.{ℕ, Bool, true, false, List, length, nat_lt, Option, Some, None}
+use Rattle.std.specs.Prelude.{Bool, true, false, length, nat_lt, Option, Some, None}
 use Rattle.fx_store.specs.declared.node.Node.{Node}
 use Rattle.fx_store.specs.declared.node.Node.TheVariants.{File, Dir, Link}
 

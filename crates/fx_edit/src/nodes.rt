@@ -100,22 +100,18 @@ fn texts_in(value: &Value) -> Option<&TextSet>
 fn content(alloc: Global, text: &Text) -> Result<Bytes, NoMemory>
     ensures { IfOk result (λ bytes. (bytes ≡ text.now) × IsContent text.now) }
 {
-    Ok(Bytes::from_vec(Vec::from_slice(alloc, bytes_of(text))?))
-}
-
-/// The bytes of a text, which are within the limits of a file's content.
-fn bytes_of(text: &Text) -> &[u8]
-    ensures bytes { result.now ≡ text.now }
-    ensures content { IsContent text.now }
-{
-    text.as_slice()
+    let bytes = Bytes::from_vec(text.copy(alloc)?.into_vec());
+    // A content is within its limits.
+    let _limits = bytes.as_slice();
+    Ok(bytes)
 }
 
 /// The link of a text.
 fn link_of(alloc: Global, text: &Text) -> Result<Node, Halt>
     ensures { Tells (λ n. n) (edit.stored_node SpecTree.link (Tree.str text.now)) result }
 {
-    match LinkText::read(alloc, bytes_of(text)) {
+    let bytes = content(alloc, text)?;
+    match LinkText::read(alloc, bytes.as_slice()) {
         Ok(link) => Ok(Node::Link(link)),
         Err(PathFault::BadName) => Err(Halt::Refused(Refusal::BadName)),
         Err(PathFault::TooDeep) => Err(Halt::Refused(Refusal::TooDeep)),

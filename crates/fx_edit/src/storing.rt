@@ -1,5 +1,6 @@
 //! `store`: a value becomes the content of the node where a place's path lands.
 ghost use Rattle.std.specs.Prelude.{◌≡◌, ◌∷◌, [], IfOk};
+ghost use Rattle.fx_store.specs.declared.node.Node.TheVariants.{Dir};
 ghost use Rattle.fx_store.specs.Rule as rule;
 ghost use Rattle.fx_expr.specs.Views.{tree_of};
 ghost use Rattle.fx_rules.specs.Answering.{answered};

@@ -1,5 +1,5 @@
 use Rattle.std.proofs.Common.{arith}
-use Rattle.fx_edit.proofs.Makes.{making_first, making_next, making_short, making_ends}
+use Rattle.fx_edit.proofs.Makes.{making_next, making_short, making_ends}
 use Rattle.fx_edit.proofs.making.add_along.Goals as goal
 
 pub loop-i-preserved : goal.loop-i-preserved

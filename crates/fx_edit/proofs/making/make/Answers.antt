@@ -1,7 +1,7 @@
 use Rattle.std.proofs.Common.{◌≡◌, false, sym, ◌∙◌}
 use Rattle.fx_spec.specs.Edit as edit
 use Rattle.fx_view.specs.Own.{own_at}
-use Rattle.fx_edit.specs.Rules.{editing, made_in, made_all}
+use Rattle.fx_edit.specs.Rules.{made_in, made_all}
 use Rattle.fx_edit.proofs.Edited.{unless_deep-room, edit_stops, edit_done}
 use Rattle.fx_edit.proofs.Makes.{make-is}
 use Rattle.fx_edit.proofs.making.make.Goals as goal

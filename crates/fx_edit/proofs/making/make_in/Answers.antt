@@ -1,4 +1,4 @@
-use Rattle.std.proofs.Common.{sym, ap, ◌∙◌, List, ℕ, ◌∷◌}
+use Rattle.std.proofs.Common.{ap, ◌∙◌, List, ℕ, ◌∷◌}
 use Rattle.fx_store.specs.declared.node.Node.TheVariants.{Dir}
 use Rattle.fx_spec.specs.Edit as edit
 use Rattle.fx_view.specs.Own.{own_at}

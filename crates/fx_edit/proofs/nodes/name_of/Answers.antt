@@ -1,6 +1,6 @@
 use Rattle.std.proofs.Common.{sym, ◌∙◌, ap}
 use Rattle.fx_store.specs.Faults.{read_name}
-use Rattle.fx_edit.proofs.Naming.{named_ok, named_bad, named_deep}
+use Rattle.fx_edit.proofs.Naming.{named_ok, named_bad}
 use Rattle.fx_edit.proofs.nodes.name_of.Goals as goal
 
 pub returns-in-Ok : goal.returns-in-Ok

@@ -1,4 +1,4 @@
-use Rattle.std.proofs.Common.{◌≡◌, ◌++◌, drop, take}
+use Rattle.std.proofs.Common.{◌≡◌, ◌++◌, take}
 use Rattle.fx_edit.proofs.relisting.add_names.Given as goal
 
 abbrev pub invariant-loop-i : goal.invariant-loop-i

@@ -1,4 +1,4 @@
-use Rattle.std.proofs.Common.{◌≡◌, Some, List, ℕ, arith}
+use Rattle.std.proofs.Common.{◌≡◌, Some, arith}
 use Rattle.std.specs.Prelude.{slice_get}
 use Rattle.fx_spec.specs.Edit as edit
 use Rattle.fx_view.specs.Own.{own_at}

@@ -1,9 +1,7 @@
-use Rattle.std.proofs.Common.{ℕ, List, ap, sym, ◌∙◌}
+use Rattle.std.proofs.Common.{List, ap}
 use Rattle.fx_store.specs.declared.changes.Change.{Change}
 use Rattle.fx_store.specs.declared.node.Landing.{Landing}
-use Rattle.fx_store.specs.declared.node.Landing.TheVariants.{At, Absent, Blocked, TooManyLinks}
-use Rattle.fx_store.specs.Rule.{Answer}
-use Rattle.std.proofs.Common.{Err}
+use Rattle.fx_store.specs.declared.node.Landing.TheVariants.{At}
 use Rattle.fx_rules.specs.Answering.{answered}
 use Rattle.fx_rules.specs.Halts.{split}
 use Rattle.fx_spec.specs.declared.refusal.Refusal.{Refusal}
