@@ -121,4 +121,3 @@ link_told v t is = ap (stored_node SpecTree.link) (text_is v t is)
 
 pub link_node_told : (t : List ℕ) (answer : Result (List ℕ) PathFault) → IsContent t → read_link t ≡ answer → stored_node SpecTree.link (Tree.str t) ≡ link_node answer
 link_node_told t answer content is = text-stored SpecTree.link t content ∙ ap link_node is
-

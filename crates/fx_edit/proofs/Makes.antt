@@ -43,9 +43,9 @@ make-is here [] n node first = cc
 make-is here (m ∷ names) n node first =
     let same : m ≡ n = cc in
     ap (λ (f : Option Node → Ask (Answered (List Change))). Look here f) (fun_ext (λ found.
-      ap (λ (cs : List Change). look_all {A = Answered (List Change)} (changed_paths cs) (Answer (Ok (set_to here (Dir (with_text m (names_of found))) ∷ cs)))) (made-is here m names node)
-      ∙ (ap (λ (l : List ℕ). look_all {A = Answered (List Change)} (changed_paths (made_all here (m ∷ names) node)) (Answer (Ok (set_to here (Dir (with_text l (names_of found))) ∷ made_all here (m ∷ names) node)))) same
-      ∙ sym (looks-editing (changed_paths (made_all here (m ∷ names) node)) (set_to here (Dir (with_text n (names_of found))) ∷ made_all here (m ∷ names) node)))))
+    ap (λ (cs : List Change). look_all {A = Answered (List Change)} (changed_paths cs) (Answer (Ok (set_to here (Dir (with_text m (names_of found))) ∷ cs)))) (made-is here m names node)
+    ∙ (ap (λ (l : List ℕ). look_all {A = Answered (List Change)} (changed_paths (made_all here (m ∷ names) node)) (Answer (Ok (set_to here (Dir (with_text l (names_of found))) ∷ made_all here (m ∷ names) node)))) same
+    ∙ sym (looks-editing (changed_paths (made_all here (m ∷ names) node)) (set_to here (Dir (with_text n (names_of found))) ∷ made_all here (m ∷ names) node)))))
 
 pub make-none : (here : Path) (names : List (List ℕ)) (node : Node) → slice_get names 0 ≡ None → make here names node ≡ Answer (Err (Refusal.Blocked here))
 make-none here [] node first = refl

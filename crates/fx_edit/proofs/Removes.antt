@@ -28,8 +28,8 @@ remove_entry-is [] name has = absurd (omega (arith, has.some))
 remove_entry-is (n ∷ names) name has =
     let q : Path = n ∷ names in
     ap (λ (f : Option Node → Ask (Answered (List Change))). Look (parent q) f) (fun_ext (λ above.
-      ap (λ l. clear q >>= λ below. Answer (Ok (set_to (parent q) (Dir (without_name l (names_of above))) ∷ below))) (get_or_from_slice_get q (length q - 1) name [] has.last)
-      ∙ sym (editing-first (set_to (parent q) (Dir (without_name name (names_of above))) ∷ []) (clear q))))
+    ap (λ l. clear q >>= λ below. Answer (Ok (set_to (parent q) (Dir (without_name l (names_of above))) ∷ below))) (get_or_from_slice_get q (length q - 1) name [] has.last)
+    ∙ sym (editing-first (set_to (parent q) (Dir (without_name name (names_of above))) ∷ []) (clear q))))
 
 module _ {R : Type 0} (m : Meaning R) (own : Known) (old mid : R) (path : Path) (name : List ℕ) (above : Path) (same : above ≡ parent path) where
   abbrev Lists : Result (List (List ℕ)) Stop → Type 0

@@ -173,12 +173,7 @@ fn one(alloc: Global, name: &Name) -> Result<Names, NoMemory>
 }
 
 /// Adds the empty files that a new directory lists.
-fn add_children(
-    alloc: Global,
-    edits: &mut Edits,
-    path: &Path,
-    node: &Node,
-) -> Result<(), NoMemory>
+fn add_children(alloc: Global, edits: &mut Edits, path: &Path, node: &Node) -> Result<(), NoMemory>
     requires { edit.lacks_room path.now node.now ≡ false }
     ensures { OnOk result (edits.new ≡ edits.old ++ edit.children path.now node.now) }
 {
@@ -189,12 +184,7 @@ fn add_children(
     }
 }
 
-fn add_files(
-    alloc: Global,
-    edits: &mut Edits,
-    path: &Path,
-    names: &Names,
-) -> Result<(), NoMemory>
+fn add_files(alloc: Global, edits: &mut Edits, path: &Path, names: &Names) -> Result<(), NoMemory>
     requires { edit.lacks_room path.now (Dir names.now) ≡ false }
     ensures { OnOk result (edits.new ≡ edits.old
         ++ map (λ n. edit.set_to (path.now /ₚ n) (File [])) names.now) }

@@ -26,4 +26,3 @@ returns-in-Blocked g c =
 pub returns-in_err-copy-in-TooManyLinks : goal.returns-in_err-copy-in-TooManyLinks
 returns-in_err-copy-in-TooManyLinks g c =
     halts_refused g.R.Reader.meaning (λ (e : List Change). e) (own_at c.args.overlay.now) c.args.reader.now c.from_residual.result (edit.create_landed c.args.path.now c.args.node.now c.args.landing) c.from_residual.ensures.1
-
