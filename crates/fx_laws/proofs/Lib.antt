@@ -14,3 +14,4 @@ pub mod Lines
 pub mod Cuts
 pub mod EntryNames
 pub mod Spelled
+pub mod Edited

@@ -7,3 +7,4 @@ pub mod Limited
 pub mod Small
 pub mod TokenLaws
 pub mod Spelled
+pub mod Edited

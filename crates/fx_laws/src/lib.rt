@@ -1,8 +1,9 @@
-//! Laws of the definitions: of stores that change nothing, of the tokens of trees, of what a
+//! Laws of the definitions: of edits, of stores that change nothing, of the tokens of trees, of what a
 //! printed report spells, and worked examples that the checker computes. Each law stands on a function that does nothing,
 //! so that it is proved with the crate.
 #![tactic(auto)]
 
+pub mod edits;
 pub mod limits;
 pub mod reports;
 pub mod retries;

@@ -202,7 +202,7 @@ all_names (n ∷ names) ok = All-cons IsName n names ok.0 (all_names names ok.1)
 -- ---------------------------------------------------------------------------------------------------------------- edits
 
 -- a node within its limits wherever it stands
-abbrev NodeOk : Node → Type 0
+abbrev pub NodeOk : Node → Type 0
 NodeOk (File bytes) = IsContent bytes
 NodeOk (Dir names) = IsNameSet names
 NodeOk (Link text) = IsLinkText text
@@ -258,7 +258,7 @@ form_node_ok SpecTree.dir (Tree.names names) ok node e = names_node_ok names (as
 form_node_ok SpecTree.link (Tree.str text) ok node e = link_node_ok text (content_ok text ok) node e
 form_node_ok _ v ok node e = cc
 
-stored_node_ok : (spec : SpecTree) (v : Tree) (node : Node) → stored_node spec v ≡ Ok node → NodeOk node
+pub stored_node_ok : (spec : SpecTree) (v : Tree) (node : Node) → stored_node spec v ≡ Ok node → NodeOk node
 stored_node_ok spec v node e = at (is_storable v) refl e
   where
     at : (b : Bool) → is_storable v ≡ b → ◌≡◌ {A = Answered Node} (cond b (form_node spec v) (Err Refusal.WrongForm)) (Ok node) → NodeOk node
@@ -270,12 +270,12 @@ both_false true b e h = e
 both_false false b e h = absurd (true≢false (sym h))
 
 -- a directory's names have room where the test says so
-has_room : (q names : List (List ℕ)) → lacks_room q (Dir names) ≡ false → length q ≡ 64 → names ≡ []
+pub has_room : (q names : List (List ℕ)) → lacks_room q (Dir names) ≡ false → length q ≡ 64 → names ≡ []
 has_room q [] e full = refl
 has_room q (n ∷ names) e full =
     absurd (true≢false (sym (lt-ltb 0 (suc (length names)) (omega arith)) ∙ both_false (is_full q) (nat_lt 0 (length (n ∷ names))) e (lt-ltb 63 (length q) (omega (arith, full)))))
 
-unless-ok : (b : Bool) (S : Store) (rule : Ask (Answered (List Change))) (cs : List Change) → answer S (unless_deep b rule) ≡ Ok cs → (b ≡ false) × (answer S rule ≡ Ok cs)
+pub unless-ok : (b : Bool) (S : Store) (rule : Ask (Answered (List Change))) (cs : List Change) → answer S (unless_deep b rule) ≡ Ok cs → (b ≡ false) × (answer S rule ≡ Ok cs)
 unless-ok true S rule cs e = cc
 unless-ok false S rule cs e = (refl, e)
 

@@ -1,5 +1,5 @@
 -- An edit looks at each path that it changes.
-use Rattle.std.proofs.Common.{◌≡◌, ℕ, zero, suc, Bool, true, false, cond, refl, sym, subst, List, [], ◌∷◌, ◌++◌, Option, Some, None, Ok, Err}
+use Rattle.std.proofs.Common.{◌≡◌, ℕ, zero, suc, ◌-◌, Bool, true, false, cond, refl, sym, subst, List, [], ◌∷◌, ◌++◌, length, Option, Some, None, Ok, Err}
 use Rattle.std.specs.Prelude.{IsSome}
 use Rattle.fx_store.specs.declared.node.Node.{Node}
 use Rattle.fx_store.specs.declared.node.Node.TheVariants.{File, Dir, Link}
@@ -91,7 +91,7 @@ module _ (known own : Known) where
 
   clear_known : (q : Path) → Gives (clear q) AreKnown
   unfolding clear
-  clear_known q = clears 64 q
+  clear_known q = clears (65 - length q) q
 
   -- ---- a directory's new names
 

@@ -1,5 +1,5 @@
 -- What a removal clears, and that a directory's new names and a removed entry leave a whole filestore whole.
-use Rattle.std.proofs.Common.{◌≡◌, ◌≢◌, ℕ, zero, suc, ◌≤◌, ◌<◌, Bool, true, false, cond, ◌||◌, refl, ap, subst, sym, ◌∙◌, ◌⊎◌, inl, inr, List, [], ◌∷◌, ◌++◌, map, length, Option, Some, None, is_some, nat_eq, arith, length-append, append_assoc}
+use Rattle.std.proofs.Common.{◌≡◌, ◌≢◌, ℕ, zero, suc, ◌-◌, ◌≤◌, ◌<◌, Bool, true, false, cond, ◌||◌, refl, ap, subst, sym, ◌∙◌, ◌⊎◌, inl, inr, List, [], ◌∷◌, ◌++◌, map, length, Option, Some, None, is_some, nat_eq, arith, length-append, append_assoc}
 use Rattle.std.proofs.lemmas.List.{append-nil, map-append}
 use Rattle.std.proofs.lemmas.List.Folds.{list_any-append}
 use Rattle.std.proofs.lemmas.Bool.{true≢false}
@@ -147,35 +147,39 @@ module _ (S : Store) (q old new : List (List ℕ)) (fresh : List ℕ → Node) (
   abbrev pub gone : List ℕ → List Change
   gone n = answer S (clear (q /ₚ n))
 
-  gone-is : (n : List ℕ) → gone n ≡ map removed (below 64 S (q /ₚ n))
+  -- so many levels from an entry on have paths of at most 64 names
+  abbrev levels : List ℕ → ℕ
+  levels n = 65 - length (q /ₚ n)
+
+  gone-is : (n : List ℕ) → gone n ≡ map removed (below (levels n) S (q /ₚ n))
   unfolding clear
-  gone-is n = cleared-is 64 S (q /ₚ n)
+  gone-is n = cleared-is (levels n) S (q /ₚ n)
 
   -- the removal of an entry leaves nothing there
   pub gone_target : (n : List ℕ) (rest : List (List ℕ)) (U : Store) → has new n ≡ false → (U (q ++ n ∷ rest) ≡ S (q ++ n ∷ rest)) ⊎ (U (q ++ n ∷ rest) ≡ relist_at S old new fresh (q ++ n ∷ rest) (Some (n ∷ rest)))
       → over U (gone n) (q ++ n ∷ rest) ≡ relist_at S old new fresh (q ++ n ∷ rest) (Some (n ∷ rest))
   gone_target n rest U h ok =
-      ap (λ cs. over U cs (q ++ n ∷ rest)) (gone-is n) ∙ over-removals U (below 64 S (q /ₚ n)) (q ++ n ∷ rest) ∙ at (has_path (below 64 S (q /ₚ n)) (q ++ n ∷ rest)) refl ∙ rw h
+      ap (λ cs. over U cs (q ++ n ∷ rest)) (gone-is n) ∙ over-removals U (below (levels n) S (q /ₚ n)) (q ++ n ∷ rest) ∙ at (has_path (below (levels n) S (q /ₚ n)) (q ++ n ∷ rest)) refl ∙ rw h
     where
-      empty : (x : Option Node) → S (q ++ n ∷ rest) ≡ x → has_path (below 64 S (q /ₚ n)) (q ++ n ∷ rest) ≡ false → x ≡ None
+      empty : (x : Option Node) → S (q ++ n ∷ rest) ≡ x → has_path (below (levels n) S (q /ₚ n)) (q ++ n ∷ rest) ≡ false → x ≡ None
       empty None e f = refl
       empty (Some node) e f =
           let there : is_some (S ((q /ₚ n) ++ rest)) ≡ true = ap (λ r. is_some (S r)) (append_assoc q (n ∷ []) rest) ∙ ap is_some e in
           let short : length ((q /ₚ n) ++ rest) ≤ 64 = (can.whole.paths ((q /ₚ n) ++ rest) there).short in
-          let few : length rest < 64 = omega (arith, short, length-append (q /ₚ n) rest, length-append q (n ∷ [])) in
-          absurd (true≢false (sym (subst (λ r. has_path (below 64 S (q /ₚ n)) r ≡ true) (append_assoc q (n ∷ []) rest) (found 64 S can.whole (q /ₚ n) rest there few)) ∙ f))
+          let few : length rest < levels n = omega (arith, short, length-append (q /ₚ n) rest) in
+          absurd (true≢false (sym (subst (λ r. has_path (below (levels n) S (q /ₚ n)) r ≡ true) (append_assoc q (n ∷ []) rest) (found (levels n) S can.whole (q /ₚ n) rest there few)) ∙ f))
 
-      left : (U (q ++ n ∷ rest) ≡ S (q ++ n ∷ rest)) ⊎ (U (q ++ n ∷ rest) ≡ relist_at S old new fresh (q ++ n ∷ rest) (Some (n ∷ rest))) → has_path (below 64 S (q /ₚ n)) (q ++ n ∷ rest) ≡ false → U (q ++ n ∷ rest) ≡ None
+      left : (U (q ++ n ∷ rest) ≡ S (q ++ n ∷ rest)) ⊎ (U (q ++ n ∷ rest) ≡ relist_at S old new fresh (q ++ n ∷ rest) (Some (n ∷ rest))) → has_path (below (levels n) S (q /ₚ n)) (q ++ n ∷ rest) ≡ false → U (q ++ n ∷ rest) ≡ None
       left (inl f) e = f ∙ empty (S (q ++ n ∷ rest)) refl e
       left (inr f) e = f ∙ rw h
 
-      at : (b : Bool) → has_path (below 64 S (q /ₚ n)) (q ++ n ∷ rest) ≡ b → cond b None (U (q ++ n ∷ rest)) ≡ None
+      at : (b : Bool) → has_path (below (levels n) S (q /ₚ n)) (q ++ n ∷ rest) ≡ b → cond b None (U (q ++ n ∷ rest)) ≡ None
       at true e = refl
       at false e = left ok e
 
   pub gone_away : (n : List ℕ) (r : List (List ℕ)) (U : Store) → ((rest : List (List ℕ)) → r ≢ q ++ n ∷ rest) → over U (gone n) r ≡ U r
-  gone_away n r U away = ap (λ cs. over U cs r) (gone-is n) ∙ over-removals U (below 64 S (q /ₚ n)) r ∙ at (has_path (below 64 S (q /ₚ n)) r) refl
+  gone_away n r U away = ap (λ cs. over U cs r) (gone-is n) ∙ over-removals U (below (levels n) S (q /ₚ n)) r ∙ at (has_path (below (levels n) S (q /ₚ n)) r) refl
     where
-      at : (b : Bool) → has_path (below 64 S (q /ₚ n)) r ≡ b → cond b None (U r) ≡ U r
-      at true e = let w : (t : List (List ℕ)) × (r ≡ (q /ₚ n) ++ t) = only_below 64 S (q /ₚ n) r e in absurd (away w.0 (w.1 ∙ append_assoc q (n ∷ []) w.0))
+      at : (b : Bool) → has_path (below (levels n) S (q /ₚ n)) r ≡ b → cond b None (U r) ≡ U r
+      at true e = let w : (t : List (List ℕ)) × (r ≡ (q /ₚ n) ++ t) = only_below (levels n) S (q /ₚ n) r e in absurd (away w.0 (w.1 ∙ append_assoc q (n ∷ []) w.0))
       at false e = refl

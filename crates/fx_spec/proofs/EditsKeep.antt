@@ -13,7 +13,7 @@ use Rattle.fx_store.specs.declared.node.Node.{Node}
 use Rattle.fx_store.specs.declared.node.Node.TheVariants.{File, Dir, Link}
 use Rattle.fx_store.specs.declared.changes.Change.{Change}
 use Rattle.fx_store.specs.Names.{name_cmp, IsName, IsNameSet, has}
-use Rattle.fx_store.specs.Relisted.{relist_at, IsLeaf, CanRelist}
+use Rattle.fx_store.specs.Relisted.{relist_at, IsLeaf, CanRelist, rest_of, relisted}
 use Rattle.fx_store.specs.Resolve.{◌/ₚ◌, parent}
 use Rattle.fx_store.specs.Rule.{Ask, Answer, Look, answer, ◌>>=◌}
 use Rattle.fx_store.specs.Whole.{Store, IsWhole, IsNode, lists, over}
@@ -23,7 +23,7 @@ use Rattle.fx_expr.specs.Sets.{IsAscending, set_of}
 use Rattle.fx_expr.proofs.Canon.{ascending_set}
 use Rattle.fx_spec.specs.Move.{Answered}
 use Rattle.fx_spec.specs.Edit.{set_to, names_of, clear, entry, entries, new_names, last_name, without_name, remove_entry}
-use Rattle.fx_spec.proofs.EditsWhole.{changes_of, Brings, IsWhole-brought, kept_target, made_target, made_away}
+use Rattle.fx_spec.proofs.EditsWhole.{changes_of, Brings, relisting, IsWhole-brought, kept_target, made_target, made_away}
 use Rattle.fx_spec.proofs.EditsClear.{has-set_of, gone_target, gone_away}
 
 pub same_ok : {A : Type 0} (a b : A) → ◌≡◌ {A = Answered A} (Ok a) (Ok b) → a ≡ b
@@ -84,12 +84,20 @@ new_names_keep S q old new whole e names room cs ok =
     answer-bind S (entries (entry q old new) (set_of (old ++ new))) (λ below. Answer (Ok (set_to q (Dir new) ∷ below))) ∙ ap (λ below. Ok (set_to q (Dir new) ∷ below)) (entries-is S (entry q old new) (set_of (old ++ new))) in
     subst (λ cs. IsWhole (over S cs)) (same_ok _ _ (sym is ∙ ok)) (IsWhole-brought S q old new (λ n. File []) can (λ n. answer S (entry q old new n)) (set_of (old ++ new)) (entry-brings S q old new can))
 
+-- and the filestore is as before, but that the directory lists the new names
+pub new_names_relist : (S : Store) (q old new : List (List ℕ)) → IsWhole S → S q ≡ Some (Dir old) → IsNameSet new → (length q ≡ 64 → new ≡ []) → (cs : List Change) → answer S (new_names q old new) ≡ Ok cs → (r : List (List ℕ)) → over S cs r ≡ relisted S q old new (λ n. File []) r
+new_names_relist S q old new whole e names room cs ok r =
+    let can : CanRelist S q old new (λ n. File []) = record { whole = whole; dir = e; names = names; room = room; leaves = λ n h. empty_file (q /ₚ n) } in
+    let is : answer S (new_names q old new) ≡ Ok (set_to q (Dir new) ∷ changes_of (λ n. answer S (entry q old new n)) (set_of (old ++ new))) =
+    answer-bind S (entries (entry q old new) (set_of (old ++ new))) (λ below. Answer (Ok (set_to q (Dir new) ∷ below))) ∙ ap (λ below. Ok (set_to q (Dir new) ∷ below)) (entries-is S (entry q old new) (set_of (old ++ new))) in
+    ap (λ cs. over S cs r) (sym (same_ok _ _ (sym is ∙ ok))) ∙ relisting S q old new (λ n. File []) can (λ n. answer S (entry q old new n)) (set_of (old ++ new)) (entry-brings S q old new can) r (rest_of q r) refl
+
 -- ---------------------------------------------------------------------------------------------------- a removed entry
 
 not_same : (n x : List ℕ) → bytes_eq n x ≡ eq_by_cmp name_cmp n x
 not_same n x = texts_ties n x
 
-without_own : (n : List ℕ) (names : List (List ℕ)) → has (without_name n names) n ≡ false
+pub without_own : (n : List ℕ) (names : List (List ℕ)) → has (without_name n names) n ≡ false
 without_own n [] = refl
 without_own n (x ∷ names) = at (bytes_eq n x) refl (without_own n names)
   where
@@ -97,7 +105,7 @@ without_own n (x ∷ names) = at (bytes_eq n x) refl (without_own n names)
     at true e h = h
     at false e h = rw (sym (not_same n x) ∙ e) h
 
-without_other : (n m : List ℕ) (names : List (List ℕ)) → eq_by_cmp name_cmp m n ≡ false → has (without_name n names) m ≡ has names m
+pub without_other : (n m : List ℕ) (names : List (List ℕ)) → eq_by_cmp name_cmp m n ≡ false → has (without_name n names) m ≡ has names m
 without_other n m [] e = refl
 without_other n m (x ∷ names) e = at (bytes_eq n x) refl (without_other n m names e)
   where
@@ -120,44 +128,55 @@ one_lacks n m h = at (eq_by_cmp name_cmp m n) refl h
     at false e k = refl
 
 -- a path that is not the root, by its parent and its last name
-ends_in : (q : List (List ℕ)) → 0 < length q → q ≡ parent q /ₚ last_name q
+pub ends_in : (q : List (List ℕ)) → 0 < length q → q ≡ parent q /ₚ last_name q
 ends_in q l =
     let n : suc (length q - 1) ≡ length q = omega (arith, l) in
     sym (take-length q) ∙ ap (λ k. take k q) (sym n) ∙ take-suc q (length q - 1) [] (omega (arith, l))
 
-removed_whole : (S : Store) (up : List (List ℕ)) (n : List ℕ) (old : List (List ℕ)) → IsWhole S → S up ≡ Some (Dir old) → IsWhole (over S (set_to up (Dir (without_name n old)) ∷ answer S (clear (up /ₚ n))))
-removed_whole S up n old whole e =
-    subst (λ cs. IsWhole (over S (set_to up (Dir (without_name n old)) ∷ cs))) (append-nil (answer S (clear (up /ₚ n)))) (
-    IsWhole-brought S up old (without_name n old) (λ m. File []) can (λ m. answer S (clear (up /ₚ m))) (n ∷ []) brings)
-  where
-    listing : IsNameSet old × (length up ≡ 64 → old ≡ [])
-    listing = dir_node S whole up old e
+module _ (S : Store) (up : List (List ℕ)) (n : List ℕ) (old : List (List ℕ)) (whole : IsWhole S) (e : S up ≡ Some (Dir old)) where
+  pub can_remove : CanRelist S up old (without_name n old) (λ m. File [])
+  can_remove =
+      let listing = dir_node S whole up old e in
+      record {
+        whole = whole;
+        dir = e;
+        names = record { names = All-filter (λ m. not (bytes_eq n m)) IsName old listing.0.names; ascending = IsStrictlySortedBy-filter name_cmp (λ m. not (bytes_eq n m)) old listing.0.ascending };
+        room = λ full. ap (λ l. without_name n l) (listing.1 full);
+        leaves = λ m h. empty_file (up /ₚ m);
+      }
 
-    can : CanRelist S up old (without_name n old) (λ m. File [])
-    can = record {
-      whole = whole;
-      dir = e;
-      names = record { names = All-filter (λ m. not (bytes_eq n m)) IsName old listing.0.names; ascending = IsStrictlySortedBy-filter name_cmp (λ m. not (bytes_eq n m)) old listing.0.ascending };
-      room = λ full. ap (λ l. without_name n l) (listing.1 full);
-      leaves = λ m h. empty_file (up /ₚ m);
-    }
+  removal_brings : Brings S up old (without_name n old) (λ m. File []) can_remove (λ m. answer S (clear (up /ₚ m))) (n ∷ [])
+  removal_brings = record {
+    own = λ m rest U h ok. gone_target S up old (without_name n old) (λ m. File []) can_remove m rest U (subst (λ k. has (without_name n old) k ≡ false) (sym (one_has n m h)) (without_own n old)) ok;
+    other = λ m r U away. gone_away S up old (without_name n old) (λ m. File []) can_remove m r U away;
+    kept = λ m rest h. kept_target S up old (without_name n old) (λ m. File []) can_remove m rest (without_other n m old (one_lacks n m h));
+  }
 
-    brings : Brings S up old (without_name n old) (λ m. File []) can (λ m. answer S (clear (up /ₚ m))) (n ∷ [])
-    brings = record {
-      own = λ m rest U h ok. gone_target S up old (without_name n old) (λ m. File []) can m rest U (subst (λ k. has (without_name n old) k ≡ false) (sym (one_has n m h)) (without_own n old)) ok;
-      other = λ m r U away. gone_away S up old (without_name n old) (λ m. File []) can m r U away;
-      kept = λ m rest h. kept_target S up old (without_name n old) (λ m. File []) can m rest (without_other n m old (one_lacks n m h));
-    }
+  abbrev removal : List Change
+  removal = set_to up (Dir (without_name n old)) ∷ answer S (clear (up /ₚ n))
 
-listed_dir : (x : Option Node) (n : List ℕ) → lists x n ≡ true → (names : List (List ℕ)) × (x ≡ Some (Dir names))
+  removed_whole : IsWhole (over S removal)
+  removed_whole =
+      subst (λ cs. IsWhole (over S (set_to up (Dir (without_name n old)) ∷ cs))) (append-nil (answer S (clear (up /ₚ n)))) (
+      IsWhole-brought S up old (without_name n old) (λ m. File []) can_remove (λ m. answer S (clear (up /ₚ m))) (n ∷ []) removal_brings)
+
+  -- the filestore is as before, but that the directory lists the name no more
+  pub removal_relists : (r : List (List ℕ)) → over S removal r ≡ relisted S up old (without_name n old) (λ m. File []) r
+  removal_relists r =
+      ap (λ cs. over S (set_to up (Dir (without_name n old)) ∷ cs) r) (sym (append-nil (answer S (clear (up /ₚ n)))))
+      ∙ relisting S up old (without_name n old) (λ m. File []) can_remove (λ m. answer S (clear (up /ₚ m))) (n ∷ []) removal_brings r (rest_of up r) refl
+
+pub listed_dir : (x : Option Node) (n : List ℕ) → lists x n ≡ true → (names : List (List ℕ)) × (x ≡ Some (Dir names))
 listed_dir None n h = absurd (true≢false (sym h))
 listed_dir (Some (File b)) n h = absurd (true≢false (sym h))
 listed_dir (Some (Dir names)) n h = (names, refl)
 listed_dir (Some (Link t)) n h = absurd (true≢false (sym h))
 
-pub remove_keeps : (S : Store) → IsWhole S → (q : List (List ℕ)) → is_some (S q) ≡ true → (cs : List Change) → answer S (remove_entry q) ≡ Ok cs → IsWhole (over S cs)
-remove_keeps S whole [] there cs ok = cc
-remove_keeps S whole (m ∷ names) there cs ok = at (listed_dir (S (parent q)) (last_name q) (sym (whole.listed (parent q) (last_name q)) ∙ subst (λ r. is_some (S r) ≡ true) split there))
+-- what a removal changes, at a path that is not the root
+pub remove_is : (S : Store) → IsWhole S → (q : List (List ℕ)) → is_some (S q) ≡ true → (cs : List Change) → answer S (remove_entry q) ≡ Ok cs
+    → (0 < length q) × ((old : List (List ℕ)) × ((S (parent q) ≡ Some (Dir old)) × (set_to (parent q) (Dir (without_name (last_name q) old)) ∷ answer S (clear (parent q /ₚ last_name q)) ≡ cs)))
+remove_is S whole [] there cs ok = cc
+remove_is S whole (m ∷ names) there cs ok = at (listed_dir (S (parent q)) (last_name q) (sym (whole.listed (parent q) (last_name q)) ∙ subst (λ r. is_some (S r) ≡ true) split there))
   where
     q : List (List ℕ)
     q = m ∷ names
@@ -168,10 +187,15 @@ remove_keeps S whole (m ∷ names) there cs ok = at (listed_dir (S (parent q)) (
     is : answer S (remove_entry (m ∷ names)) ≡ Ok (set_to (parent (m ∷ names)) (Dir (without_name (last_name (m ∷ names)) (names_of (S (parent (m ∷ names)))))) ∷ answer S (clear (m ∷ names)))
     is = answer-bind S (clear (m ∷ names)) (λ below. Answer (Ok (set_to (parent (m ∷ names)) (Dir (without_name (last_name (m ∷ names)) (names_of (S (parent (m ∷ names)))))) ∷ below)))
 
-    at : (old : List (List ℕ)) × (S (parent (m ∷ names)) ≡ Some (Dir old)) → IsWhole (over S cs)
+    at : (old : List (List ℕ)) × (S (parent (m ∷ names)) ≡ Some (Dir old))
+        → (0 < length (m ∷ names)) × ((old : List (List ℕ)) × ((S (parent (m ∷ names)) ≡ Some (Dir old)) × (set_to (parent (m ∷ names)) (Dir (without_name (last_name (m ∷ names)) old)) ∷ answer S (clear (parent (m ∷ names) /ₚ last_name (m ∷ names))) ≡ cs)))
     at w =
-        let whole' : IsWhole (over S (set_to (parent (m ∷ names)) (Dir (without_name (last_name (m ∷ names)) w.0)) ∷ answer S (clear (parent (m ∷ names) /ₚ last_name (m ∷ names))))) = removed_whole S (parent (m ∷ names)) (last_name (m ∷ names)) w.0 whole w.1 in
         let listed : names_of (S (parent (m ∷ names))) ≡ w.0 = ap names_of w.1 in
         let same : set_to (parent (m ∷ names)) (Dir (without_name (last_name (m ∷ names)) w.0)) ∷ answer S (clear (parent (m ∷ names) /ₚ last_name (m ∷ names))) ≡ cs =
         (λ i. set_to (parent (m ∷ names)) (Dir (without_name (last_name (m ∷ names)) (sym listed i))) ∷ answer S (clear (sym split i))) ∙ same_ok _ _ (sym is ∙ ok) in
-        subst (λ cs. IsWhole (over S cs)) same whole'
+        (omega arith, (w.0, (w.1, same)))
+
+pub remove_keeps : (S : Store) → IsWhole S → (q : List (List ℕ)) → is_some (S q) ≡ true → (cs : List Change) → answer S (remove_entry q) ≡ Ok cs → IsWhole (over S cs)
+remove_keeps S whole q there cs ok =
+    let is = remove_is S whole q there cs ok in
+    subst (λ cs. IsWhole (over S cs)) is.1.1.1 (removed_whole S (parent q) (last_name q) is.1.0 whole is.1.1.0)

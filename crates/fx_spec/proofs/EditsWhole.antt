@@ -168,7 +168,7 @@ module _ (S : Store) (q old new : List (List ℕ)) (fresh : List ℕ → Node) (
             still f (inr g) = inr (f ∙ g)
 
     -- the directory's new names and then its entries' changes relist it
-    relisting : (r : List (List ℕ)) (t : Option (List (List ℕ))) → rest_of q r ≡ t → over S (set_to q (Dir new) ∷ changes_of C among) r ≡ relist_at S old new fresh r t
+    pub relisting : (r : List (List ℕ)) (t : Option (List (List ℕ))) → rest_of q r ≡ t → over S (set_to q (Dir new) ∷ changes_of C among) r ≡ relist_at S old new fresh r t
     relisting r None e =
         untouched among r (update S (set_to q (Dir new))) away ∙ update_away S (set_to q (Dir new)) r not_q
       where

@@ -47,8 +47,9 @@ abbrev pub clear_levels : ℕ → List (List ℕ) → Ask (List Change)
 clear_levels zero q = Answer []
 clear_levels (suc levels) q = Look q (cleared q (λ p. clear_levels levels p))
 
+-- no path has more than 64 names
 unfoldable pub clear : List (List ℕ) → Ask (List Change)
-clear q = clear_levels 64 q
+clear q = clear_levels (65 - length q) q
 
 -- an entry of a directory that lists the new names in place of the old: a new name is an empty file, a dropped one is
 -- removed with all below, and one that stays is not touched

@@ -1,0 +1,14 @@
+pub mod Exits
+pub mod Addings
+pub mod Changing
+pub mod Makes
+pub mod Alike
+pub mod Holding
+pub mod Looks
+pub mod Clears
+pub mod Deep
+pub mod Taken
+pub mod Edited
+pub mod Removes
+pub mod Naming
+pub mod Done

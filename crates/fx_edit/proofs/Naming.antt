@@ -1,0 +1,133 @@
+-- The names that the texts of a set are.
+use Rattle.std.proofs.Common.{◌≡◌, ℕ, zero, suc, ◌+◌, ◌≤◌, Bool, true, false, cond, ◌&&◌, List, [], ◌∷◌, ◌++◌, length, get_or, take, Some, Result, Ok, Err, refl, sym, subst, ap, ◌∙◌, All}
+use Rattle.std.specs.Prelude.{slice_get, IsErrAnd}
+use Rattle.std.specs.List.{list_all}
+use Rattle.std.proofs.lemmas.List.{take_more, take_all}
+use Rattle.std.proofs.lemmas.List.Elements.{All-nil, All-cons}
+use Rattle.std.proofs.lemmas.Option.{get_or_from_slice_get, slice_get_within}
+use Rattle.fx_store.specs.declared.node.Node.TheVariants.{Dir}
+use Rattle.fx_store.specs.declared.name.PathFault.{PathFault}
+use Rattle.fx_store.specs.declared.name.PathFault.TheVariants.{BadName, TooDeep}
+use Rattle.fx_store.specs.Faults.{read_name}
+use Rattle.fx_store.specs.Names.{is_name, IsNameSet}
+use Rattle.fx_expr.specs.Sets.{IsAscending}
+use Rattle.fx_spec.specs.declared.refusal.Refusal.{Refusal}
+use Rattle.fx_spec.specs.Edit.{names_node}
+use Rattle.fx_spec.specs.Move.{Answered}
+use Rattle.fx_view.proofs.Errors.{err_of}
+use Rattle.fx_view.specs.declared.reader.Stop.TheVariants as stop
+use Rattle.fx_rules.specs.declared.halt.Halt.{Halt}
+use Rattle.fx_rules.specs.declared.halt.Halt.TheVariants as halt
+use Rattle.fx_edit.specs.Values.{name_read, Tells}
+
+both_true : (a b : Bool) → a ≡ true → b ≡ true → a && b ≡ true
+both_true true b p q = q
+both_true false b p q = cc
+
+first_true : (a b : Bool) → a && b ≡ true → (a ≡ true) × (b ≡ true)
+first_true true b e = (refl, e)
+first_true false b e = cc
+
+module _ (test : List ℕ → Bool) where
+  all_more : (xs : List (List ℕ)) (x : List ℕ) → list_all test xs ≡ true → test x ≡ true → list_all test (xs ++ x ∷ []) ≡ true
+  all_more [] x all e = both_true (test x) true e refl
+  all_more (y ∷ xs) x all e = let p = first_true (test y) (list_all test xs) all in both_true (test y) (list_all test (xs ++ x ∷ [])) p.0 (all_more xs x p.1 e)
+
+  all_fails : (xs : List (List ℕ)) (i : ℕ) (x : List ℕ) → slice_get xs i ≡ Some x → test x ≡ false → list_all test xs ≡ false
+  all_fails [] i x here e = cc
+  all_fails (y ∷ xs) zero x here e = let same : y ≡ x = cc in ap (λ y. test y && list_all test xs) same ∙ ap (λ b. b && list_all test xs) e
+  all_fails (y ∷ xs) (suc i) x here e = at (test y) (all_fails xs i x here e)
+    where
+      at : (b : Bool) → list_all test xs ≡ false → b && list_all test xs ≡ false
+      at true f = f
+      at false f = refl
+
+  all_pass : (xs : List (List ℕ)) → list_all test xs ≡ true → All (λ x. test x ≡ true) xs
+  all_pass [] e = All-nil (λ x. test x ≡ true)
+  all_pass (x ∷ xs) e = let p = first_true (test x) (list_all test xs) e in All-cons (λ x. test x ≡ true) x xs p.0 (all_pass xs p.1)
+
+read_ok : (t name : List ℕ) → name_read t ≡ Ok name → (is_name t ≡ true) × (name ≡ t)
+read_ok t name e = at (is_name t) refl e
+  where
+    at : (b : Bool) → is_name t ≡ b → ◌≡◌ {A = Answered (List ℕ)} (cond b (Ok t) (Err Refusal.BadName)) (Ok name) → (is_name t ≡ true) × (name ≡ t)
+    at true f e = let same : name ≡ t = cc in (f, same)
+    at false f e = cc
+
+read_err : (t : List ℕ) (refusal : Refusal) → name_read t ≡ Err refusal → (is_name t ≡ false) × (Refusal.BadName ≡ refusal)
+read_err t refusal e = at (is_name t) refl e
+  where
+    at : (b : Bool) → is_name t ≡ b → ◌≡◌ {A = Answered (List ℕ)} (cond b (Ok t) (Err Refusal.BadName)) (Err refusal) → (is_name t ≡ false) × (Refusal.BadName ≡ refusal)
+    at true f e = cc
+    at false f e = let same : Refusal.BadName ≡ refusal = cc in (f, same)
+
+-- so many of the texts are names
+pub record AreNamed (texts names : List (List ℕ)) (i : ℕ) : Type 0 where
+  pub same : names ≡ take i texts
+  pub all : list_all is_name names ≡ true
+
+module _ (texts : List (List ℕ)) where
+  pub naming_first : (names : List (List ℕ)) → names ≡ [] → AreNamed texts names 0
+  naming_first names none = record { same = none; all = ap (list_all is_name) none }
+
+  pub naming_next : (names longer : List (List ℕ)) (i : ℕ) (t name : List ℕ) → AreNamed texts names i → slice_get texts i ≡ Some t → name_read t ≡ Ok name → longer ≡ names ++ name ∷ [] → AreNamed texts longer (i + 1)
+  naming_next names longer i t name is here read added =
+      let ok = read_ok t name read in
+      let got : get_or texts i t ≡ t = get_or_from_slice_get texts i t t here in
+      record {
+        same = added ∙ (ap (λ ns. ns ++ name ∷ []) is.same ∙ (ap (λ n. take i texts ++ n ∷ []) (ok.1 ∙ sym got) ∙ sym (take_more texts i t (slice_get_within texts i t here))));
+        all = ap (list_all is_name) added ∙ all_more is_name names name is.all (ap is_name ok.1 ∙ ok.0);
+      }
+
+  pub naming_wrong : (i : ℕ) (t : List ℕ) (refusal : Refusal) → slice_get texts i ≡ Some t → name_read t ≡ Err refusal → names_node texts ≡ Err refusal
+  naming_wrong i t refusal here read =
+      let bad = read_err t refusal read in
+      ap (λ b. cond b (Ok (Dir texts)) (Err Refusal.BadName)) (all_fails is_name texts i t here bad.0) ∙ ap (λ (r : Refusal). Err r) bad.1
+
+  module _ (names : List (List ℕ)) (i : ℕ) (is : AreNamed texts names i) (past : length texts ≤ i) where
+    whole : names ≡ texts
+    whole = is.same ∙ take_all i texts past
+
+    pub naming_set : IsAscending texts → IsNameSet names
+    naming_set up = record { names = all_pass is_name names is.all; ascending = subst IsAscending (sym whole) up }
+
+    pub naming_ends : (made : List (List ℕ)) → made ≡ names → names_node texts ≡ Ok (Dir made)
+    naming_ends made same =
+        ap names_node (sym whole) ∙ (ap (λ b. cond b (Ok (Dir names)) (Err Refusal.BadName)) is.all ∙ ap (λ (ns : List (List ℕ)). Ok (Dir ns)) (sym same))
+
+-- ---- what calls tell
+
+-- memory is refused
+pub told_tired : {A X : Type 0} (view : X → A) (told : Answered A) (r : Result X Halt) → IsErrAnd r (λ h. h ≡ halt.Stopped stop.NoMemory) → Tells view told r
+told_tired view told r is = subst (Tells view told) (sym (err_of r (halt.Stopped stop.NoMemory) is)) refl
+
+-- a refusal that is passed on
+module _ {A B X Y : Type 0} (view : X → A) (then_view : Y → B) (told : Answered A) (other : Answered B) (same : (refusal : Refusal) → told ≡ Err refusal → other ≡ Err refusal) where
+  passed : (e : Halt) → Tells view told (Err e) → Tells {A = B} {X = Y} then_view other (Err e)
+  passed (halt.Refused refusal) is = same refusal is
+  passed (halt.Stopped why) is = is
+
+  pub told_on : (r : Result Y Halt) (e : Halt) → IsErrAnd r (λ h. h ≡ e) → Tells view told (Err e) → Tells then_view other r
+  told_on r e is h = subst (Tells then_view other) (sym (err_of r e is)) (passed e h)
+
+-- a name is read
+module _ (t : List ℕ) where
+  pub named_ok : (name : List ℕ) → read_name t ≡ Ok name → name_read t ≡ Ok name
+  named_ok name e = at (is_name t) e
+    where
+      at : (b : Bool) → ◌≡◌ {A = Result (List ℕ) PathFault} (cond b (Ok t) (Err BadName)) (Ok name) → ◌≡◌ {A = Answered (List ℕ)} (cond b (Ok t) (Err Refusal.BadName)) (Ok name)
+      at true f = let same : t ≡ name = cc in ap (λ (n : List ℕ). Ok n) same
+      at false f = cc
+
+  pub named_bad : read_name t ≡ Err BadName → name_read t ≡ Err Refusal.BadName
+  named_bad e = at (is_name t) e
+    where
+      at : (b : Bool) → ◌≡◌ {A = Result (List ℕ) PathFault} (cond b (Ok t) (Err BadName)) (Err BadName) → ◌≡◌ {A = Answered (List ℕ)} (cond b (Ok t) (Err Refusal.BadName)) (Err Refusal.BadName)
+      at true f = cc
+      at false f = refl
+
+  pub named_deep : read_name t ≡ Err TooDeep → ⊥
+  named_deep e = at (is_name t) e
+    where
+      at : (b : Bool) → ◌≡◌ {A = Result (List ℕ) PathFault} (cond b (Ok t) (Err BadName)) (Err TooDeep) → ⊥
+      at true f = cc
+      at false f = cc

@@ -1,0 +1,4 @@
+pub mod Edits
+pub mod Rules
+pub mod Kinds
+pub mod Values

@@ -1,0 +1,79 @@
+-- Parts of the rules of edits, as the code goes through them.
+use Rattle.std.specs.Prelude.{◌≡◌, ℕ, ◌+◌, false, List, [], ◌∷◌, ◌++◌, drop, slice_get, length, ◌-◌, ◌<◌, Option, Some, None, Ok}
+use Rattle.fx_store.specs.declared.node.Node.{Node}
+use Rattle.fx_store.specs.declared.node.Node.TheVariants.{Dir}
+use Rattle.fx_store.specs.declared.changes.Change.{Change}
+use Rattle.fx_store.specs.Changes.{changed_paths}
+use Rattle.fx_store.specs.Resolve.{◌/ₚ◌, parent, resolve}
+use Rattle.fx_store.specs.Rule.{Ask, Answer, Look, look_all, ◌>>=◌}
+use Rattle.fx_expr.specs.Sets.{with_text}
+use Rattle.fx_spec.specs.Edit.{set_to, removed, names_of, entries, clear, children, without_name, follows_last, store_landed, create_landed, remove_landed}
+use Rattle.fx_spec.specs.Move.{Answered}
+
+-- the changes of a rule, after some others
+abbrev pub adding : List Change → Ask (List Change) → Ask (List Change)
+adding before rule = rule >>= λ changes. Answer (before ++ changes)
+
+-- the changes of a rule, as an edit's answer
+abbrev pub editing : Ask (List Change) → Ask (Answered (List Change))
+editing rule = rule >>= λ changes. Answer (Ok changes)
+
+-- looks at each path, with nothing to answer
+abbrev pub looking : List (List (List ℕ)) → Ask (Unit {0})
+looking paths = look_all paths (Answer tt)
+
+-- what a node lists, if there is one
+abbrev pub listing : Option Node → Option (List (List ℕ))
+listing None = None
+listing (Some node) = Some (names_of (Some node))
+
+-- the entry at a path, with these names below it, removed with all below; or nothing is there
+abbrev pub cleared_listing : List (List ℕ) → Option (List (List ℕ)) → Ask (List Change)
+cleared_listing q None = Answer []
+cleared_listing q (Some names) = entries (λ n. clear (q /ₚ n)) names >>= λ below. Answer (removed q ∷ below)
+
+-- what is made before these names: a directory of the first, or else the node
+abbrev pub made_node : List (List ℕ) → Node → Node
+made_node [] node = node
+made_node (m ∷ names) node = Dir (m ∷ [])
+
+-- what is made at each of the names, one below the other: the node at the last one
+abbrev pub made_along : List (List ℕ) → List (List ℕ) → Node → List Change
+made_along here [] node = []
+made_along here (n ∷ names) node = set_to (here /ₚ n) (made_node names node) ∷ made_along (here /ₚ n) names node
+
+-- and the files that the node lists
+abbrev pub made_all : List (List ℕ) → List (List ℕ) → Node → List Change
+made_all here names node = made_along here names node ++ children (here ++ names) node
+
+-- a directory is looked at, and then each path at which something is made; it lists the first name from then on
+abbrev pub made_in : List (List ℕ) → List ℕ → List Change → Ask (List Change)
+made_in here n changes =
+    Look here (λ found. Answer (names_of found)) >>= λ names. looking (changed_paths changes) >>= λ u. Answer (set_to here (Dir (with_text n names)) ∷ changes)
+
+-- one more is made, at the name of this place
+pub record IsNextMade (names : List (List ℕ)) (i : ℕ) (node : Node) (path more : List (List ℕ)) (old new : List Change) : Type 0 where
+  pub name : List ℕ
+  pub here : slice_get names i ≡ Some name
+  pub longer : more ≡ path /ₚ name
+  pub added : new ≡ old ++ set_to more (made_node (drop (i + 1) names) node) ∷ []
+
+-- the path has a last name, which is this
+pub record HasLast (path : List (List ℕ)) (name : List ℕ) : Type 0 where
+  pub some : 0 < length path
+  pub last : slice_get path (length path - 1) ≡ Some name
+
+-- the directory above a path lists the last name no more, and what the path has is removed with all below
+abbrev pub removing : List (List ℕ) → List ℕ → Ask (List Change)
+removing path name =
+    Look (parent path) (λ above. Answer (names_of above)) >>= λ names. adding (set_to (parent path) (Dir (without_name name names)) ∷ []) (clear path)
+
+-- the edits at a path, by where it lands
+abbrev pub store_there : List (List ℕ) → Node → Ask (Answered (List Change))
+store_there path node = resolve path (follows_last node) >>= store_landed path node
+
+abbrev pub create_there : List (List ℕ) → Node → Ask (Answered (List Change))
+create_there path node = resolve path false >>= create_landed path node
+
+abbrev pub remove_there : List (List ℕ) → Ask (Answered (List Change))
+remove_there path = resolve path false >>= remove_landed path

@@ -1,0 +1,86 @@
+//! `create`: an empty file or directory, where nothing is yet.
+ghost use Rattle.std.specs.Prelude.{◌≡◌, false};
+ghost use Rattle.fx_rules.specs.Answering.{answered};
+ghost use Rattle.fx_rules.specs.Halts.{split};
+ghost use Rattle.fx_spec.specs.Edit as edit;
+ghost use Rattle.fx_view.specs.Follows.{GoesBy};
+ghost use Rattle.fx_view.specs.Own.{own_at};
+ghost use Rattle.fx_walk.specs.Places.{place_tree};
+ghost use Rattle.fx_edit.specs.Edits as says;
+ghost use Rattle.fx_edit.specs.Rules.{create_there};
+
+use crate::edits::Edits;
+use crate::making::make;
+use crate::nodes::bare_node;
+use fx_rules::Halt;
+use fx_spec::{Place, Refusal};
+use fx_store::{Landing, Node, Path};
+use fx_view::{Overlay, Reader, resolve};
+use std::alloc::Global;
+
+/// Makes an empty file or directory at a place, with the missing directories on the way; the bare form of an option is that of
+/// its part, and of a pair that of its first part. A last link is not followed. Refused: NoDefault, Exists, Blocked, TooDeep.
+/// After a refusal the own changes are as before.
+pub fn create<R: Reader>(
+    alloc: Global,
+    reader: &mut R,
+    overlay: &mut Overlay,
+    place: &Place,
+) -> Result<(), Halt>
+    ensures { says.Edits R.meaning overlay.old overlay.new reader.old reader.new
+        (edit.create_at (place_tree place.now)) result }
+{
+    // The place's path is within its limits.
+    prove!(place.path.len() <= 64);
+    let edits = created(alloc, reader, overlay, place)?;
+    Ok(edits.put_all(alloc, overlay)?)
+}
+
+/// The changes of a creation.
+fn created<R: Reader>(
+    alloc: Global,
+    reader: &mut R,
+    overlay: &Overlay,
+    place: &Place,
+) -> Result<Edits, Halt>
+    ensures { GoesBy R.meaning (answered (λ e. e)) (own_at overlay.now) reader.old reader.new
+        (edit.create_at (place_tree place.now)) (split result) }
+{
+    let node = bare_node(alloc, place.spec)?;
+    create_node(alloc, reader, overlay, place.path, &node)
+}
+
+/// The changes of a creation of a node at a path.
+fn create_node<R: Reader>(
+    alloc: Global,
+    reader: &mut R,
+    overlay: &Overlay,
+    path: &Path,
+    node: &Node,
+) -> Result<Edits, Halt>
+    ensures { GoesBy R.meaning (answered (λ e. e)) (own_at overlay.now) reader.old reader.new
+        (create_there path.now node.now) (split result) }
+{
+    let landing = resolve(alloc, reader, overlay, path, false)?;
+    create_landed(alloc, reader, overlay, path, landing, node)
+}
+
+/// The changes of a creation by where the place's path lands.
+fn create_landed<R: Reader>(
+    alloc: Global,
+    reader: &mut R,
+    overlay: &Overlay,
+    path: &Path,
+    landing: Landing,
+    node: &Node,
+) -> Result<Edits, Halt>
+    ensures { GoesBy R.meaning (answered (λ e. e)) (own_at overlay.now) reader.old reader.new
+        (edit.create_landed path.now node.now landing) (split result) }
+{
+    match landing {
+        Landing::At(_) => Err(Halt::Refused(Refusal::Exists)),
+        Landing::Absent(here, names) => make(alloc, reader, overlay, &here, &names, node),
+        Landing::Blocked(at) => Err(Halt::Refused(Refusal::Blocked(at))),
+        Landing::TooManyLinks => Err(Halt::Refused(Refusal::Blocked(path.copy(alloc)?))),
+    }
+}

@@ -1,0 +1,178 @@
+//! The node that a value makes at a form, and the empty node of a form.
+ghost use Rattle.std.specs.Prelude.{◌≡◌, ◌<◌, Some, length, slice_get, IfOk};
+ghost use Rattle.std.specs.Option.{option_copied};
+ghost use Rattle.fx_store.specs.declared.node.Node.TheVariants.{Dir};
+ghost use Rattle.fx_store.specs.Names.{IsContent};
+ghost use Rattle.fx_expr.specs.Sets.{IsAscending};
+ghost use Rattle.fx_expr.specs.Tree.{Tree};
+ghost use Rattle.fx_expr.specs.Views.{tree_of};
+ghost use Rattle.fx_spec.specs.Edit as edit;
+ghost use Rattle.fx_spec.specs.Move.{needed};
+ghost use Rattle.fx_spec.specs.SpecTree.{SpecTree};
+ghost use Rattle.fx_spec.specs.Views.{spec_tree};
+ghost use Rattle.fx_spec.specs.declared.refusal.Refusal.TheVariants as refusal;
+ghost use Rattle.fx_edit.specs.Values.{text_of, texts_of, name_read, Tells};
+
+use fx_base::NoMemory;
+use fx_expr::{Text, TextSet, Value};
+use fx_rules::Halt;
+use fx_spec::{Refusal, Spec};
+use fx_store::{Bytes, LinkText, Name, Names, Node, PathFault};
+use fx_view::Stop;
+use std::alloc::Global;
+
+/// The node that the value makes at a form, or why it makes none.
+pub(crate) fn stored_node(alloc: Global, form: &Spec, value: &Value) -> Result<Node, Halt>
+    ensures { Tells (λ n. n) (edit.stored_node (spec_tree form.now) (tree_of value.now)) result }
+{
+    match form {
+        Spec::File => file_node(alloc, value),
+        Spec::Dir => dir_node(alloc, value),
+        Spec::Link => link_node(alloc, value),
+        Spec::Focus(_, _)
+        | Spec::Pair(_, _, _)
+        | Spec::Comp(_, _, _)
+        | Spec::Opt(_)
+        | Spec::Pred(_) => Err(Halt::Refused(Refusal::WrongForm)),
+    }
+}
+
+fn file_node(alloc: Global, value: &Value) -> Result<Node, Halt>
+    ensures { Tells (λ n. n) (edit.stored_node SpecTree.file (tree_of value.now)) result }
+{
+    match text_in(value) {
+        Some(text) => Ok(Node::File(content(alloc, text)?)),
+        None => Err(Halt::Refused(Refusal::WrongForm)),
+    }
+}
+
+fn link_node(alloc: Global, value: &Value) -> Result<Node, Halt>
+    ensures { Tells (λ n. n) (edit.stored_node SpecTree.link (tree_of value.now)) result }
+{
+    match text_in(value) {
+        Some(text) => link_of(alloc, text),
+        None => Err(Halt::Refused(Refusal::WrongForm)),
+    }
+}
+
+fn dir_node(alloc: Global, value: &Value) -> Result<Node, Halt>
+    ensures { Tells (λ n. n) (edit.stored_node SpecTree.dir (tree_of value.now)) result }
+{
+    match texts_in(value) {
+        Some(texts) => Ok(Node::Dir(names_of(alloc, texts)?)),
+        None => Err(Halt::Refused(Refusal::WrongForm)),
+    }
+}
+
+/// The text that a value is.
+fn text_in(value: &Value) -> Option<&Text>
+    ensures { option_copied result ≡ text_of (tree_of value.now) }
+{
+    match value {
+        Value::Str(text) => Some(text),
+        Value::Int(_)
+        | Value::Bool(_)
+        | Value::Names(_)
+        | Value::Pair(_, _)
+        | Value::Nothing
+        | Value::Some(_)
+        | Value::Table(_) => None,
+    }
+}
+
+/// The set that a value is.
+fn texts_in(value: &Value) -> Option<&TextSet>
+    ensures { option_copied result ≡ texts_of (tree_of value.now) }
+{
+    match value {
+        Value::Names(texts) => Some(texts),
+        Value::Str(_)
+        | Value::Int(_)
+        | Value::Bool(_)
+        | Value::Pair(_, _)
+        | Value::Nothing
+        | Value::Some(_)
+        | Value::Table(_) => None,
+    }
+}
+
+/// The text as a file's content.
+fn content(alloc: Global, text: &Text) -> Result<Bytes, NoMemory>
+    ensures { IfOk result (λ bytes. (bytes ≡ text.now) × IsContent text.now) }
+{
+    let bytes = Bytes::from_vec(text.copy(alloc)?.into_vec());
+    // A content is within its limits.
+    let _limits = bytes.as_slice();
+    Ok(bytes)
+}
+
+/// The link of a text.
+fn link_of(alloc: Global, text: &Text) -> Result<Node, Halt>
+    ensures { Tells (λ n. n) (edit.stored_node SpecTree.link (Tree.str text.now)) result }
+{
+    let bytes = content(alloc, text)?;
+    match LinkText::read(alloc, bytes.as_slice()) {
+        Ok(link) => Ok(Node::Link(link)),
+        Err(PathFault::BadName) => Err(Halt::Refused(Refusal::BadName)),
+        Err(PathFault::TooDeep) => Err(Halt::Refused(Refusal::TooDeep)),
+        Err(PathFault::NoMemory) => Err(Halt::Stopped(Stop::NoMemory)),
+    }
+}
+
+/// The names that the texts of a set are.
+fn names_of(alloc: Global, texts: &TextSet) -> Result<Names, Halt>
+    ensures names { Tells (λ names. Dir names) (edit.names_node texts.now) result }
+    ensures order { IsAscending texts.now }
+{
+    let mut names = Vec::new(alloc);
+    for i in 0..texts.len() {
+        names.push(name_of(alloc, text_at(texts, i))?)?;
+    }
+    Ok(Names::from_vec(alloc, names)?)
+}
+
+/// The text at a place of a set.
+fn text_at(texts: &TextSet, i: u64) -> &Text
+    requires { i < length texts.now }
+    ensures { slice_get texts.now i ≡ Some result.now }
+{
+    match texts.at(i) {
+        Some(text) => text,
+        None => unreachable!(),
+    }
+}
+
+/// The name that a text is.
+fn name_of(alloc: Global, text: &Text) -> Result<Name, Halt>
+    ensures { Tells (λ name. name) (name_read text.now) result }
+{
+    match Name::read(alloc, text.as_slice()) {
+        Ok(name) => Ok(name),
+        Err(PathFault::BadName) => Err(Halt::Refused(Refusal::BadName)),
+        Err(PathFault::TooDeep) => unreachable!(),
+        Err(PathFault::NoMemory) => Err(Halt::Stopped(Stop::NoMemory)),
+    }
+}
+
+/// The empty node of a form, or that it has none.
+pub(crate) fn bare_node(alloc: Global, form: &Spec) -> Result<Node, Halt>
+    ensures { Tells (λ n. n) (needed refusal.NoDefault (edit.bare_node (spec_tree form.now))) result }
+{
+    match bare(alloc, form) {
+        Some(node) => Ok(node),
+        None => Err(Halt::Refused(Refusal::NoDefault)),
+    }
+}
+
+#[cycle(bare)]
+fn bare(alloc: Global, form: &Spec) -> Option<Node>
+    ensures { result ≡ edit.bare_node (spec_tree form.now) }
+{
+    match form {
+        Spec::File => Some(Node::File(Bytes::new(alloc))),
+        Spec::Dir => Some(Node::Dir(Names::new(alloc))),
+        Spec::Pair(_, first, _) => bare(alloc, first),
+        Spec::Opt(part) => bare(alloc, part),
+        Spec::Link | Spec::Focus(_, _) | Spec::Comp(_, _, _) | Spec::Pred(_) => None,
+    }
+}

@@ -1,0 +1,216 @@
+//! `store`: a value becomes the content of the node where a place's path lands.
+ghost use Rattle.std.specs.Prelude.{◌≡◌, ◌∷◌, [], IfOk};
+ghost use Rattle.fx_store.specs.declared.node.Node.TheVariants.{Dir};
+ghost use Rattle.fx_store.specs.Rule as rule;
+ghost use Rattle.fx_expr.specs.Views.{tree_of};
+ghost use Rattle.fx_rules.specs.Answering.{answered};
+ghost use Rattle.fx_rules.specs.Halts.{split};
+ghost use Rattle.fx_spec.specs.Edit as edit;
+ghost use Rattle.fx_view.specs.Follows.{GoesBy};
+ghost use Rattle.fx_view.specs.Own.{own_at};
+ghost use Rattle.fx_walk.specs.Places.{place_tree};
+ghost use Rattle.fx_edit.specs.Edits as says;
+ghost use Rattle.fx_edit.specs.Kinds.{is_file, is_dir, is_link, is_alike};
+ghost use Rattle.fx_edit.specs.Rules.{store_there};
+
+use crate::edits::Edits;
+use crate::lookups::names_in;
+use crate::making::make;
+use crate::nodes::stored_node;
+use crate::relisting::{Relist, relisted};
+use fx_expr::Value;
+use fx_rules::Halt;
+use fx_spec::{Place, Refusal};
+use fx_store::{Landing, Names, Node, Path};
+use fx_view::{Overlay, Reader, Stop, look, resolve};
+use std::alloc::Global;
+
+/// Makes the value the content of the node at a place: a text at a file or a link, a set of names at a directory, whose new
+/// names are empty files from then on, and whose dropped ones are gone with all below. A node that is missing is made, with the
+/// directories on the way. A last link is followed, unless the place is a link's. Refused: WrongForm, BadName, TooDeep,
+/// Blocked. After a refusal the own changes are as before.
+pub fn store<R: Reader>(
+    alloc: Global,
+    reader: &mut R,
+    overlay: &mut Overlay,
+    place: &Place,
+    value: &Value,
+) -> Result<(), Halt>
+    ensures { says.Edits R.meaning overlay.old overlay.new reader.old reader.new
+        (edit.store_at (tree_of value.now) (place_tree place.now)) result }
+{
+    // The place's path is within its limits.
+    prove!(place.path.len() <= 64);
+    let edits = stored(alloc, reader, overlay, place, value)?;
+    Ok(edits.put_all(alloc, overlay)?)
+}
+
+/// The changes of a store.
+fn stored<R: Reader>(
+    alloc: Global,
+    reader: &mut R,
+    overlay: &Overlay,
+    place: &Place,
+    value: &Value,
+) -> Result<Edits, Halt>
+    ensures { GoesBy R.meaning (answered (λ e. e)) (own_at overlay.now) reader.old reader.new
+        (edit.store_at (tree_of value.now) (place_tree place.now)) (split result) }
+{
+    let node = stored_node(alloc, place.spec, value)?;
+    store_node(alloc, reader, overlay, place.path, node)
+}
+
+/// The changes of a store of a node at a path.
+fn store_node<R: Reader>(
+    alloc: Global,
+    reader: &mut R,
+    overlay: &Overlay,
+    path: &Path,
+    node: Node,
+) -> Result<Edits, Halt>
+    ensures { GoesBy R.meaning (answered (λ e. e)) (own_at overlay.now) reader.old reader.new
+        (store_there path.now node) (split result) }
+{
+    let landing = resolve(alloc, reader, overlay, path, follows_last(&node))?;
+    store_landed(alloc, reader, overlay, path, landing, node)
+}
+
+fn follows_last(node: &Node) -> bool
+    ensures { result ≡ edit.follows_last node.now }
+{
+    match node {
+        Node::File(_) => true,
+        Node::Dir(_) => true,
+        Node::Link(_) => false,
+    }
+}
+
+/// The changes of a store by where the place's path lands.
+fn store_landed<R: Reader>(
+    alloc: Global,
+    reader: &mut R,
+    overlay: &Overlay,
+    path: &Path,
+    landing: Landing,
+    node: Node,
+) -> Result<Edits, Halt>
+    ensures { GoesBy R.meaning (answered (λ e. e)) (own_at overlay.now) reader.old reader.new
+        (edit.store_landed path.now node landing) (split result) }
+{
+    match landing {
+        Landing::At(at) => replace(alloc, reader, overlay, at, node),
+        Landing::Absent(here, names) => make(alloc, reader, overlay, &here, &names, &node),
+        Landing::Blocked(at) => Err(Halt::Refused(Refusal::Blocked(at))),
+        Landing::TooManyLinks => Err(Halt::Refused(Refusal::Blocked(path.copy(alloc)?))),
+    }
+}
+
+/// The changes of a store where a node stands.
+fn replace<R: Reader>(
+    alloc: Global,
+    reader: &mut R,
+    overlay: &Overlay,
+    path: Path,
+    node: Node,
+) -> Result<Edits, Halt>
+    ensures { GoesBy R.meaning (answered (λ e. e)) (own_at overlay.now) reader.old reader.new
+        (rule.Look path (edit.replaced path node)) (split result) }
+{
+    let found = look(alloc, reader, overlay, &path)?;
+    replaced(alloc, reader, overlay, path, node, found)
+}
+
+/// The same, where this was found: a node of the same kind alone is replaced.
+fn replaced<R: Reader>(
+    alloc: Global,
+    reader: &mut R,
+    overlay: &Overlay,
+    path: Path,
+    node: Node,
+    found: Option<Node>,
+) -> Result<Edits, Halt>
+    ensures { GoesBy R.meaning (answered (λ e. e)) (own_at overlay.now) reader.old reader.new
+        (edit.replaced path node found) (split result) }
+{
+    if !is_alike(&node, &found) {
+        return Err(Halt::Refused(Refusal::Blocked(path)));
+    }
+    match node {
+        Node::File(bytes) => Ok(Edits::of(alloc, path, Node::File(bytes))?),
+        Node::Link(text) => Ok(Edits::of(alloc, path, Node::Link(text))?),
+        Node::Dir(new) => {
+            let old = names_in(alloc, found);
+            relist(alloc, reader, overlay, Relist { path, old, new })
+        }
+    }
+}
+
+/// The changes of a directory's new names, for which it needs room below it.
+fn relist<R: Reader>(
+    alloc: Global,
+    reader: &mut R,
+    overlay: &Overlay,
+    list: Relist,
+) -> Result<Edits, Halt>
+    ensures { GoesBy R.meaning (answered (λ e. e)) (own_at overlay.now) reader.old reader.new
+        (edit.unless_deep (edit.lacks_room list.path (Dir list.new))
+        (edit.new_names list.path list.old list.new)) (split result) }
+{
+    if lacks_room(&list.path, &list.new) {
+        return Err(Halt::Refused(Refusal::TooDeep));
+    }
+    Ok(relisted(alloc, reader, overlay, &list)?)
+}
+
+/// Whether the names would be below a path of 64 names.
+fn lacks_room(path: &Path, names: &Names) -> bool
+    ensures { result ≡ edit.lacks_room path.now (Dir names.now) }
+{
+    if path.len() < 64 {
+        return false;
+    }
+    names.len() > 0
+}
+
+fn is_alike(node: &Node, found: &Option<Node>) -> bool
+    ensures { result ≡ is_alike node.now found.now }
+{
+    match node {
+        Node::File(_) => is_file(found),
+        Node::Dir(_) => is_dir(found),
+        Node::Link(_) => is_link(found),
+    }
+}
+
+fn is_file(found: &Option<Node>) -> bool
+    ensures { result ≡ is_file found.now }
+{
+    match found {
+        Some(Node::File(_)) => true,
+        Some(Node::Dir(_)) => false,
+        Some(Node::Link(_)) => false,
+        None => false,
+    }
+}
+
+fn is_dir(found: &Option<Node>) -> bool
+    ensures { result ≡ is_dir found.now }
+{
+    match found {
+        Some(Node::File(_)) => false,
+        Some(Node::Dir(_)) => true,
+        Some(Node::Link(_)) => false,
+        None => false,
+    }
+}
+
+fn is_link(found: &Option<Node>) -> bool
+    ensures { result ≡ is_link found.now }
+{
+    match found {
+        Some(Node::File(_)) => false,
+        Some(Node::Dir(_)) => false,
+        Some(Node::Link(_)) => true,
+        None => false,
+    }
+}
