@@ -47,7 +47,7 @@ pub if_some_both : {A : Type 0} (P Q R : A → Type 0) (o : Option A) → ((x : 
 if_some_both P Q R None f p q = tt
 if_some_both P Q R (Some x) f p q = f x p q
 
-some_and : {A : Type 0} (P Q R : A → Type 0) (o : Option A) → ((x : A) → P x → Q x → R x) → IfSome o P → IsSomeAnd o Q → IsSomeAnd o R
+pub some_and : {A : Type 0} (P Q R : A → Type 0) (o : Option A) → ((x : A) → P x → Q x → R x) → IfSome o P → IsSomeAnd o Q → IsSomeAnd o R
 some_and P Q R None f p q = q
 some_and P Q R (Some x) f p q = f x p q
 
@@ -60,13 +60,13 @@ if_told_map P Q R None told' f j p = p
 if_told_map P Q R (Some t) None f j p = p
 if_told_map P Q R (Some t) (Some t') f j p = f t t' j p
 
-some_unit : {A : Type 0} (o : Option A) → IfSome o (λ _. Unit {0})
+pub some_unit : {A : Type 0} (o : Option A) → IfSome o (λ _. Unit {0})
 some_unit None = tt
 some_unit (Some x) = tt
 
 -- ---- stages that only read
 
-same : (host host' : HostView) (sink : SinkView) → ReadsOnly host host' → IsSame host host' sink sink
+pub same : (host host' : HostView) (sink : SinkView) → ReadsOnly host host' → IsSame host host' sink sink
 same host host' sink reads = record { reads = reads; unprinted = refl }
 
 pub no_memory : (j : RunJob) (host host' : HostView) → ReadsOnly host host' → EndsAs j host host' status.NoMemory
@@ -151,10 +151,10 @@ not_saved j nodes output there host host' save.WriteFault is part cause sink =
 not_saved j nodes output there host host' save.NotEmpty is part cause sink = absurd cause
 not_saved j nodes output there host host' save.NoMemory is part cause sink = (refl, only_part j host.told host'.told (part_there j nodes output there host host' is part))
 
-grows_front : (sink sink' : SinkView) (output : List ℕ) → IfSome sink.written (λ w. (n : ℕ) × (sink'.written ≡ Some (w ++ take n output))) → Grows sink sink'
+pub grows_front : (sink sink' : SinkView) (output : List ℕ) → IfSome sink.written (λ w. (n : ℕ) × (sink'.written ≡ Some (w ++ take n output))) → Grows sink sink'
 grows_front sink sink' output front = if_some_map _ _ sink.written (λ w front. (take front.0 output, front.1)) front
 
-grows_all : (sink sink' : SinkView) (output : List ℕ) → IfSome sink.written (λ w. sink'.written ≡ Some (w ++ output)) → Grows sink sink'
+pub grows_all : (sink sink' : SinkView) (output : List ℕ) → IfSome sink.written (λ w. sink'.written ≡ Some (w ++ output)) → Grows sink sink'
 grows_all sink sink' output all = if_some_map _ _ sink.written (λ w all. (output, all)) all
 
 pub not_printed : (j : RunJob) (nodes : Nodes) (output : List ℕ) (there : Bool) (host host' : HostView) (sink sink' : SinkView) → IfSome host.told (λ t. IsAnswered t j nodes output there) → Saves j.out nodes host host' → IfSome sink.written (λ w. (n : ℕ) × (sink'.written ≡ Some (w ++ take n output))) → Rose sink.faults sink'.faults → RunRow j host host' sink sink' status.WriteFault
@@ -174,17 +174,17 @@ all_done j nodes output there host host' sink sink' is saved whole = (
 
 -- ---- a row from a later moment on is one from an earlier moment on, where only reads lie between
 
-cause_back : (P : Tree → Type 0) (a b c : HostView) → ReadsOnly a b → Rose b.faults c.faults ⊎ IsSomeAnd b.told P → Rose a.faults c.faults ⊎ IsSomeAnd a.told P
+pub cause_back : (P : Tree → Type 0) (a b c : HostView) → ReadsOnly a b → Rose b.faults c.faults ⊎ IsSomeAnd b.told P → Rose a.faults c.faults ⊎ IsSomeAnd a.told P
 cause_back P a b c reads (inl rose) = inl (rose_back a b c reads.later rose)
 cause_back P a b c reads (inr is) = inr (subst (λ o. IsSomeAnd o P) reads.same is)
 
 told_back : (P : Tree → Tree → Type 0) (a b c : HostView) → ReadsOnly a b → IfTold b.told c.told P → IfTold a.told c.told P
 told_back P a b c reads is = subst (λ o. IfTold o c.told P) reads.same is
 
-some_back : (P : Tree → Type 0) (a b : HostView) → ReadsOnly a b → IfSome b.told P → IfSome a.told P
+pub some_back : (P : Tree → Type 0) (a b : HostView) → ReadsOnly a b → IfSome b.told P → IfSome a.told P
 some_back P a b reads is = subst (λ o. IfSome o P) reads.same is
 
-same_back : (a b c : HostView) (sink sink' : SinkView) → ReadsOnly a b → IsSame b c sink sink' → IsSame a c sink sink'
+pub same_back : (a b c : HostView) (sink sink' : SinkView) → ReadsOnly a b → IsSame b c sink sink' → IsSame a c sink sink'
 same_back a b c sink sink' reads is = record { reads = reads_then a b c reads is.reads; unprinted = is.unprinted }
 
 pub row_back : (j : RunJob) (a b c : HostView) (sink sink' : SinkView) (st : Status) → ReadsOnly a b → RunRow j b c sink sink' st → RunRow j a c sink sink' st
@@ -203,15 +203,15 @@ ends_back j a b c st reads ends sink = row_back j a b c sink sink st reads (ends
 
 -- ---- fit paths
 
+pub left_true : (a b : Bool) → (a && b) ≡ true → a ≡ true
+left_true true b e = refl
+left_true false b e = cc
+
+pub right_true : (a b : Bool) → (a && b) ≡ true → b ≡ true
+right_true true b e = e
+right_true false b e = cc
+
 module _ (j : RunJob) (fit : has_fit_paths j ≡ true) where
-  left_true : (a b : Bool) → (a && b) ≡ true → a ≡ true
-  left_true true b e = refl
-  left_true false b e = cc
-
-  right_true : (a b : Bool) → (a && b) ≡ true → b ≡ true
-  right_true true b e = e
-  right_true false b e = cc
-
   pub fit_spec : is_fit j.spec ≡ true
   fit_spec = left_true (is_fit j.spec) _ fit
 

@@ -10,7 +10,9 @@ use Rattle.fx_top.specs.declared.inputs.Unread.{Unread}
 use Rattle.fx_top.specs.declared.inputs.Unread.TheVariants as unread
 use Rattle.fx_top.specs.declared.status.Status.{Status}
 use Rattle.fx_top.specs.declared.status.Status.TheVariants as status
-use Rattle.fx_top.specs.declared.status.TextFault.TheVariants as text
+use Rattle.fx_show.specs.declared.fault.DescriptionFault.{DescriptionFault}
+use Rattle.fx_show.specs.declared.fault.DescriptionFault.TheVariants as description
+use Rattle.fx_show.specs.declared.fault.TextFault.TheVariants as text
 
 abbrev pub status_of : Result (Unit {0}) Status → Status
 status_of (Ok _) = status.Done
@@ -24,6 +26,11 @@ read_status host.NoMemory = status.NoMemory
 -- of the text of a word that is outside the forms that are built
 abbrev pub refused_status : ℕ → Status
 refused_status word = status.TextRefused word (text.NotBuilt 0)
+
+-- of the text of SPEC that gives no description
+abbrev pub description_status : DescriptionFault → Status
+description_status (description.Refused cause) = status.TextRefused 1 cause
+description_status description.NoMemory = status.NoMemory
 
 abbrev pub unread_status : Unread → Status
 unread_status (unread.Refused word) = refused_status word

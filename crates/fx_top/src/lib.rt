@@ -8,6 +8,7 @@ pub mod inputs;
 pub mod print;
 pub mod reading;
 mod run;
+mod show;
 pub mod sink;
 pub mod status;
 pub mod texts;

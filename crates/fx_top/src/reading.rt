@@ -12,7 +12,7 @@ ghost use Rattle.fx_top.specs.Inputs.{HasSpec, HasScripts, HasSomeSpec, HasTexts
 ghost use Rattle.fx_top.specs.Rows.{EndsAs, RunAsksFit};
 
 use crate::inputs::{read_plan, read_spec};
-use crate::status::{Status, refused};
+use crate::status::{SPEC_WORD, Status, refused};
 use fx_base::NoMemory;
 use fx_folder::{load, ready};
 use fx_outside::Host;
@@ -21,9 +21,6 @@ use fx_store::Filestore;
 use fx_words::RunJob;
 use std::alloc::Global;
 use std::sync::Arc;
-
-/// The place of SPEC among the words, the command being 0.
-const SPEC_WORD: u32 = 1;
 
 /// Reads the description.
 fn read_description<H: Host>(alloc: Global, job: &RunJob, host: &mut H) -> Result<Checked, Status>

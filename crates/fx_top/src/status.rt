@@ -4,32 +4,14 @@ ghost use Rattle.fx_top.specs.Codes.{status_code};
 ghost use Rattle.fx_top.specs.StatusOf.{refused_status};
 
 use fx_base::NoMemory;
-use fx_expr::{Shape, Word};
 use fx_folder::{FolderCause, LoadFault, SaveFault};
 use fx_outside::HostFault;
+use fx_show::DescriptionFault;
 
-/// Why a text is refused. A place is a byte of the text, its length at its end.
-#[derive(Debug, Drop)]
-pub enum TextFault {
-    /// The text has more than 65,536 bytes.
-    TooLarge,
-    /// No token begins at this place.
-    BadToken(u32),
-    /// The tokens up to this place begin no text of the grammar.
-    Unexpected(u32),
-    /// A form that begins at this place is nested more than 64 deep.
-    TooNested(u32),
-    /// The text has a form that is not built yet.
-    NotBuilt(u32),
-    /// The word is not bound.
-    Unknown(Word),
-    /// A part has another shape than its place needs.
-    TypeDiffers { expected: Shape, found: Shape },
-    /// The word is bound already.
-    Repeated(Word),
-    /// The scripts have more than 100,000 transactions together.
-    TooMany,
-}
+pub use fx_show::TextFault;
+
+/// The place of SPEC among the words, the command being 0.
+pub(crate) const SPEC_WORD: u32 = 1;
 
 /// What a command ends with.
 #[derive(Debug, Drop)]
@@ -100,6 +82,24 @@ impl From<HostFault> for Status {
         match fault {
             HostFault::Failed => Status::ReadFault,
             HostFault::NoMemory => Status::NoMemory,
+        }
+    }
+}
+
+/// A description that is not read, at the word that names it.
+impl From<DescriptionFault> for Status {
+    ghost use Rattle.std.specs.Prelude.{◌≡◌};
+    ghost use Rattle.fx_top.specs.StatusOf.{description_status};
+
+    ghost from_gives = { λ fault status. status ≡ description_status fault };
+
+    fn from(fault: DescriptionFault) -> Status {
+        match fault {
+            DescriptionFault::Refused(cause) => Status::TextRefused {
+                word: SPEC_WORD,
+                cause,
+            },
+            DescriptionFault::NoMemory => Status::NoMemory,
         }
     }
 }

@@ -6,6 +6,7 @@ ghost use Rattle.fx_top.specs.Rows.{Row, IsIdle, AsksFitPaths, Completes};
 ghost use Rattle.fx_top.specs.StatusOf.{status_of};
 
 use crate::run::run;
+use crate::show::show;
 use crate::status::Status;
 use fx_outside::{Gate, Host, Sink, Words};
 use fx_words::{Job, job_of};
@@ -25,6 +26,7 @@ fn run_job<H: Host, S: Sink>(
 {
     match job {
         Job::Run(job) => run(alloc, job, host, out),
+        Job::Show(job) => show(alloc, job, host, out),
     }
 }
 
