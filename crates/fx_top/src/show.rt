@@ -55,6 +55,27 @@ fn read_folder<H: Host>(
 }
 
 /// What is shown of the folder by the description.
+fn output_by<H: Host>(
+    alloc: Global,
+    job: &ShowJob,
+    spec: &Checked,
+    host: &mut H,
+) -> Result<LongText, Status>
+    requires { IfSome (H.view host.old).told
+        (λ t. HasDescription t (asked_show job.now) spec.now) }
+    ensures shows { IfOk result (λ output.
+        IfSome (H.view host.old).told (λ t. IsShowing t (asked_show job.now) output)) }
+    ensures same { ReadsOnly (H.view host.old) (H.view host.new) }
+    ensures fit { ShowAsksFit (asked_show job.now) (H.view host.old) (H.view host.new) }
+    ensures ends { IfErr result
+        (ShowEndsAs (asked_show job.now) (H.view host.old) (H.view host.new)) }
+{
+    let store = read_folder(alloc, job, host)?;
+    let output = shown(alloc, spec, &store)?;
+    Ok(output)
+}
+
+/// What is shown of the folder by the description that is read.
 fn output_of<H: Host>(alloc: Global, job: &ShowJob, host: &mut H) -> Result<LongText, Status>
     ensures shows { IfOk result (λ output.
         IfSome (H.view host.old).told (λ t. IsShowing t (asked_show job.now) output)) }
@@ -64,9 +85,7 @@ fn output_of<H: Host>(alloc: Global, job: &ShowJob, host: &mut H) -> Result<Long
         (ShowEndsAs (asked_show job.now) (H.view host.old) (H.view host.new)) }
 {
     let spec = read_description(alloc, job, host)?;
-    let store = read_folder(alloc, job, host)?;
-    let output = shown(alloc, &spec, &store)?;
-    Ok(output)
+    output_by(alloc, job, &spec, host)
 }
 
 /// Prints whether the folder has a value by the description, and which.
