@@ -18,8 +18,8 @@ use Rattle.fx_parse.specs.declared.fault.ParseFault.TheVariants as parse
 use Rattle.fx_spec.specs.Move.{value_shape}
 use Rattle.fx_spec.specs.SpecTree.{SpecTree}
 use Rattle.fx_show.specs.declared.fault.DescriptionFault.{DescriptionFault}
-use Rattle.fx_show.specs.declared.fault.TextFault.{TextFault}
-use Rattle.fx_show.specs.declared.fault.TextFault.TheVariants as fault
+use Rattle.fx_command.specs.declared.status.TextFault.{TextFault}
+use Rattle.fx_command.specs.declared.status.TextFault.TheVariants as fault
 use Rattle.fx_show.specs.Described.{Describes, HasCause, HasFault, IsRefusedFor, IsUndescribed}
 use Rattle.fx_show.specs.Faults.{of_parse, of_check}
 

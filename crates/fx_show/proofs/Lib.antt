@@ -1,2 +1,4 @@
 pub mod Causes
+pub mod Completing
+pub mod Showing
 pub mod Values

@@ -11,8 +11,8 @@ use Rattle.fx_spec.specs.SpecTree.{SpecTree}
 use Rattle.fx_spec.specs.WellShaped as shaped
 use Rattle.fx_show.specs.declared.fault.DescriptionFault.{DescriptionFault}
 use Rattle.fx_show.specs.declared.fault.DescriptionFault.TheVariants as refusal
-use Rattle.fx_show.specs.declared.fault.TextFault.{TextFault}
-use Rattle.fx_show.specs.declared.fault.TextFault.TheVariants as fault
+use Rattle.fx_command.specs.declared.status.TextFault.{TextFault}
+use Rattle.fx_command.specs.declared.status.TextFault.TheVariants as fault
 
 -- the text stands for this description, whose names and shapes fit
 pub record Describes (text : List ℕ) (spec : SpecTree) : Type 0 where

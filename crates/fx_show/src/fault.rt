@@ -1,31 +1,11 @@
-//! Why the text of a description or of a script is refused.
+//! Why the text of a description is refused.
 
 use fx_check::CheckFault;
-use fx_expr::{Shape, Word};
+use fx_command::{Status, TextFault};
 use fx_parse::ParseFault;
 
-/// Why a text is refused. A place is a byte of the text, its length at its end.
-#[derive(Debug, Drop)]
-pub enum TextFault {
-    /// The text has more than 65,536 bytes.
-    TooLarge,
-    /// No token begins at this place.
-    BadToken(u32),
-    /// The tokens up to this place begin no text of the grammar.
-    Unexpected(u32),
-    /// A form that begins at this place is nested more than 64 deep.
-    TooNested(u32),
-    /// The text has a form that is not built yet.
-    NotBuilt(u32),
-    /// The word is not bound.
-    Unknown(Word),
-    /// A part has another shape than its place needs.
-    TypeDiffers { expected: Shape, found: Shape },
-    /// The word is bound already.
-    Repeated(Word),
-    /// The scripts have more than 100,000 transactions together.
-    TooMany,
-}
+/// The place of SPEC among the words, the command being 0.
+const SPEC_WORD: u32 = 1;
 
 /// Why a text gives no description.
 #[derive(Debug, Drop)]
@@ -68,6 +48,23 @@ impl From<CheckFault> for DescriptionFault {
             CheckFault::Repeated(word) => DescriptionFault::Refused(TextFault::Repeated(word)),
             CheckFault::TooMany => DescriptionFault::Refused(TextFault::TooMany),
             CheckFault::NoMemory => DescriptionFault::NoMemory,
+        }
+    }
+}
+
+impl From<DescriptionFault> for Status {
+    ghost use Rattle.std.specs.Prelude.{◌≡◌};
+    ghost use Rattle.fx_show.specs.Faults.{status_of_fault};
+
+    ghost from_gives = { λ fault status. status ≡ status_of_fault fault };
+
+    fn from(fault: DescriptionFault) -> Status {
+        match fault {
+            DescriptionFault::Refused(cause) => Status::TextRefused {
+                word: SPEC_WORD,
+                cause,
+            },
+            DescriptionFault::NoMemory => Status::NoMemory,
         }
     }
 }

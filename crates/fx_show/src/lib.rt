@@ -1,10 +1,12 @@
-//! Descriptions, read from their texts and checked, and what `show` prints of a filestore by one.
+//! The command `show`: a description, read from its text and checked, and the value of a folder by it.
 #![tactic(auto)]
 
+mod command;
 mod described;
 mod fault;
-mod shown;
+mod values;
 
+pub use command::show;
 pub use described::description_of;
-pub use fault::{DescriptionFault, TextFault};
-pub use shown::shown;
+pub use fault::DescriptionFault;
+pub use values::shown;

@@ -14,10 +14,12 @@ use Rattle.fx_folder.specs.Loads.{Loads, IsRefused}
 use Rattle.fx_folder.specs.declared.fault.FolderCause.{FolderCause}
 use Rattle.fx_store.specs.Whole.{Nodes}
 use Rattle.fx_spec.specs.CommandTree.{CommandTree}
-use Rattle.fx_top.specs.declared.status.Status.{Status}
-use Rattle.fx_top.specs.declared.status.Status.TheVariants as status
-use Rattle.fx_top.specs.Rows.{Row, RunRow, ShowRow, CannotSave, IsProperRun, FitsOut, Completes}
-use Rattle.fx_top.specs.Shows.{HasNoDescription, HasSomeDescription, CannotShow, IsProperShow}
+use Rattle.fx_command.specs.declared.status.Status.{Status}
+use Rattle.fx_command.specs.declared.status.Status.TheVariants as status
+use Rattle.fx_show.specs.Rows.{ShowRow}
+use Rattle.fx_show.specs.Shows.{IsProperShow}
+use Rattle.fx_show.proofs.Completing.{show_completes}
+use Rattle.fx_top.specs.Rows.{Row, RunRow, CannotSave, IsProperRun, FitsOut, Completes}
 use Rattle.fx_top.specs.Inputs.{HasTexts, HasInputs, CannotRead, IsFirstRefused, HasScript, HasNoScript, HasScripts, StopsAtScript, LacksFile}
 use Rattle.fx_words.specs.Job.{Job, Run, Show, RunJob, ShowJob}
 
@@ -109,26 +111,9 @@ told_row : (j : RunJob) (host host' : HostView) (sink sink' : SinkView) (st : St
 told_row j host host' sink sink' st row None is = tt
 told_row j host host' sink sink' st row (Some t) is = λ proper none quiet. row_at j t host host' sink sink' st is proper none quiet row
 
-can_show : (t : Tree) (j : ShowJob) → IsProperShow t j → CannotShow t j → ⊥
-can_show t j proper (inl spec) = two (is_file_at t j.spec) proper.described.1.file spec
-can_show t j proper (inr (described, folder)) = two (is_folder_at t j.folder) proper.loaded.0 folder
-
-show_row_at : (j : ShowJob) (t : Tree) (host host' : HostView) (sink sink' : SinkView) (st : Status) → host.told ≡ Some t → IsProperShow t j → (Rose host.faults host'.faults → ⊥) → (Rose sink.faults sink'.faults → ⊥) → ShowRow j host host' sink sink' st → Ends st
-show_row_at j t host host' sink sink' status.Done is proper none quiet row = inl refl
-show_row_at j t host host' sink sink' status.Usage is proper none quiet row = absurd row
-show_row_at j t host host' sink sink' (status.TextRefused word cause) is proper none quiet row =
-    absurd ((subst (λ o. IfSome o (λ t. HasNoDescription t j cause)) is row.2).refused.none proper.described.0 proper.described.1.describes)
-show_row_at j t host host' sink sink' (status.FolderRefused cause) is proper none quiet row =
-    absurd (not_both t j.folder proper.nodes cause proper.loaded (subst (λ o. IfSome o (λ t. HasSomeDescription t j × IsRefused t j.folder cause)) is row.1).1)
-show_row_at j t host host' sink sink' status.ReadFault is proper none quiet (same, inl rose) = absurd (none rose)
-show_row_at j t host host' sink sink' status.ReadFault is proper none quiet (same, inr cannot) = absurd (can_show t j proper (subst (λ o. IsSomeAnd o (λ t. CannotShow t j)) is cannot))
-show_row_at j t host host' sink sink' status.NotEmpty is proper none quiet row = absurd row
-show_row_at j t host host' sink sink' status.WriteFault is proper none quiet row = absurd (quiet row.cause)
-show_row_at j t host host' sink sink' status.NoMemory is proper none quiet row = inr refl
-
 told_show_row : (j : ShowJob) (host host' : HostView) (sink sink' : SinkView) (st : Status) → ShowRow j host host' sink sink' st → (o : Option Tree) → host.told ≡ o → IfSome o (λ t. IsProperShow t j → (Rose host.faults host'.faults → ⊥) → (Rose sink.faults sink'.faults → ⊥) → Ends st)
 told_show_row j host host' sink sink' st row None is = tt
-told_show_row j host host' sink sink' st row (Some t) is = λ proper none quiet. show_row_at j t host host' sink sink' st is proper none quiet row
+told_show_row j host host' sink sink' st row (Some t) is = λ proper none quiet. show_completes j t host host' sink sink' st is proper none quiet row
 
 pub completes : (j : Job) (host host' : HostView) (sink sink' : SinkView) (st : Status) → Row j host host' sink sink' st → Completes j host host' sink sink' st
 completes (Run j) host host' sink sink' st row = told_row j host host' sink sink' st row host.told refl

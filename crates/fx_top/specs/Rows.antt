@@ -9,27 +9,15 @@ use Rattle.fx_outside.specs.Sink.{SinkView}
 use Rattle.fx_outside.specs.Tree.{Tree, has_folder}
 use Rattle.fx_folder.specs.Folder.{IfTold, IsReady, IsTaken, IsSaved, IsPartlySaved}
 use Rattle.fx_folder.specs.Loads.{IsRefused}
-use Rattle.fx_show.specs.declared.fault.TextFault.TheVariants as fault
-use Rattle.fx_words.specs.Job.{Job, Run, Show, RunJob, ShowJob}
-use Rattle.fx_top.specs.declared.status.Status.{Status}
-use Rattle.fx_top.specs.declared.status.Status.TheVariants as status
+use Rattle.fx_words.specs.Job.{Job, Run, Show, RunJob}
+use Rattle.fx_command.specs.declared.status.Status.{Status}
+use Rattle.fx_command.specs.declared.status.Status.TheVariants as status
+use Rattle.fx_command.specs.declared.status.TextFault.TheVariants as fault
+use Rattle.fx_command.specs.Left.{IsSame, Grows}
+use Rattle.fx_show.specs.Rows.{ShowRow, ShowAsksFit}
+use Rattle.fx_show.specs.Shows.{IsProperShow}
 use Rattle.fx_top.specs.Inputs.{HasTexts, HasInputs, CannotRead, IsFirstRefused}
 use Rattle.fx_top.specs.Outcome.{IsOutcome}
-use Rattle.fx_top.specs.Shows.{HasSomeDescription, HasNoDescription, IsShowing, CannotShow, IsProperShow}
-
--- nothing but reads was asked of the host, and nothing of the sink
-pub record IsSame (host host' : HostView) (sink sink' : SinkView) : Type 0 where
-  pub reads : ReadsOnly host host'
-  pub unprinted : sink' ≡ sink
-
--- nothing was asked of host and sink
-pub record IsIdle (host host' : HostView) (sink sink' : SinkView) : Type 0 where
-  pub unasked : host' ≡ host
-  pub unprinted : sink' ≡ sink
-
--- what was printed before stays in front
-abbrev pub Grows : SinkView → SinkView → Type 0
-Grows sink sink' = IfSome sink.written (λ w. (bytes : List ℕ) × (sink'.written ≡ Some (w ++ bytes)))
 
 -- all is done: the report is written after what was written before, and the last filestore's folder stands at OUT; all else
 -- of the host is as before
@@ -92,36 +80,6 @@ RunRow j host host' sink sink' status.NotEmpty = IsSame host host' sink sink' ×
 RunRow j host host' sink sink' status.WriteFault = IsUnsaved j host host' sink sink' ⊎ IsUnprinted j host host' sink sink'
 RunRow j host host' sink sink' status.NoMemory = (sink' ≡ sink) × IfTold host.told host'.told (MayHoldPart j)
 
--- what is shown stands after what was written before
-pub record IsShown (t : Tree) (j : ShowJob) (before after : Option (List ℕ)) : Type 0 where
-  pub output : List ℕ
-  pub showing : IsShowing t j output
-  pub written : IfSome before (λ w. after ≡ Some (w ++ output))
-
--- a front of it is written
-pub record IsShownInPart (t : Tree) (j : ShowJob) (before after : Option (List ℕ)) : Type 0 where
-  pub output : List ℕ
-  pub showing : IsShowing t j output
-  pub written : IfSome before (λ w. (n : ℕ) × (after ≡ Some (w ++ take n output)))
-
--- the sink failed, and a front of the output is printed
-pub record IsUnshown (j : ShowJob) (host host' : HostView) (sink sink' : SinkView) : Type 0 where
-  pub reads : ReadsOnly host host'
-  pub cause : Rose sink.faults sink'.faults
-  pub grows : Grows sink sink'
-  pub left : IfSome host.told (λ t. IsShownInPart t j sink.written sink'.written)
-
--- the table for `show`: it asks nothing but reads of the host, however it ends
-abbrev pub ShowRow : ShowJob → HostView → HostView → SinkView → SinkView → Status → Type 0
-ShowRow j host host' sink sink' status.Done = ReadsOnly host host' × Grows sink sink' × IfSome host.told (λ t. IsShown t j sink.written sink'.written)
-ShowRow j host host' sink sink' status.Usage = ⊥
-ShowRow j host host' sink sink' (status.TextRefused word cause) = IsSame host host' sink sink' × (word ≡ 1) × IfSome host.told (λ t. HasNoDescription t j cause)
-ShowRow j host host' sink sink' (status.FolderRefused cause) = IsSame host host' sink sink' × IfSome host.told (λ t. HasSomeDescription t j × IsRefused t j.folder cause)
-ShowRow j host host' sink sink' status.ReadFault = IsSame host host' sink sink' × (Rose host.faults host'.faults ⊎ IsSomeAnd host.told (λ t. CannotShow t j))
-ShowRow j host host' sink sink' status.NotEmpty = ⊥
-ShowRow j host host' sink sink' status.WriteFault = IsUnshown j host host' sink sink'
-ShowRow j host host' sink sink' status.NoMemory = IsSame host host' sink sink'
-
 -- the table, by the command
 abbrev pub Row : Job → HostView → HostView → SinkView → SinkView → Status → Type 0
 Row (Run j) host host' sink sink' st = RunRow j host host' sink sink' st
@@ -130,9 +88,6 @@ Row (Show j) host host' sink sink' st = ShowRow j host host' sink sink' st
 -- a stage that only reads ends a run so, whatever the sink
 abbrev pub EndsAs : RunJob → HostView → HostView → Status → Type 0
 EndsAs j host host' st = (sink : SinkView) → RunRow j host host' sink sink st
-
-abbrev pub ShowEndsAs : ShowJob → HostView → HostView → Status → Type 0
-ShowEndsAs j host host' st = (sink : SinkView) → ShowRow j host host' sink sink st
 
 -- where all these paths are fit, no call is made at an unfit one
 abbrev pub AsksAllFit : List (List ℕ) → HostView → HostView → Type 0
@@ -145,9 +100,6 @@ has_fit_paths j = is_fit j.spec && (is_fit j.folder && (is_fit j.out && list_all
 -- where they are, no call is made at an unfit path
 abbrev pub RunAsksFit : RunJob → HostView → HostView → Type 0
 RunAsksFit j host host' = has_fit_paths j ≡ true → host'.unfit ≡ host.unfit
-
-abbrev pub ShowAsksFit : ShowJob → HostView → HostView → Type 0
-ShowAsksFit j host host' = (is_fit j.spec && is_fit j.folder) ≡ true → host'.unfit ≡ host.unfit
 
 abbrev pub AsksFitPaths : Job → HostView → HostView → Type 0
 AsksFitPaths (Run j) host host' = RunAsksFit j host host'

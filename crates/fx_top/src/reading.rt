@@ -11,9 +11,9 @@ ghost use Rattle.fx_top.specs.Answers.{IsRunnable};
 ghost use Rattle.fx_top.specs.Inputs.{HasSpec, HasScripts, HasSomeSpec, HasTexts, HasInputs, HasBase};
 ghost use Rattle.fx_top.specs.Rows.{EndsAs, RunAsksFit};
 
-use crate::inputs::{read_plan, read_spec};
-use crate::status::{SPEC_WORD, Status, refused};
+use crate::inputs::{read_plan, read_spec, refused};
 use fx_base::NoMemory;
+use fx_command::Status;
 use fx_folder::{load, ready};
 use fx_outside::Host;
 use fx_spec::{Base, Checked, Plan};
@@ -21,6 +21,9 @@ use fx_store::Filestore;
 use fx_words::RunJob;
 use std::alloc::Global;
 use std::sync::Arc;
+
+/// The place of SPEC among the words, the command being 0.
+const SPEC_WORD: u32 = 1;
 
 /// Reads the description.
 fn read_description<H: Host>(alloc: Global, job: &RunJob, host: &mut H) -> Result<Checked, Status>

@@ -3,16 +3,15 @@ ghost use Rattle.std.specs.Prelude.{◌≡◌, IfOk, IfErr, IfSome};
 ghost use Rattle.fx_outside.specs.Host.{ReadsOnly};
 ghost use Rattle.fx_folder.specs.Loads.{Loads};
 ghost use Rattle.fx_words.specs.JobOf.{asked_show};
-ghost use Rattle.fx_top.specs.Rows.{ShowRow, ShowEndsAs, ShowAsksFit};
-ghost use Rattle.fx_top.specs.Shows.{HasDescription, HasSomeDescription, IsShowing};
-ghost use Rattle.fx_top.specs.StatusOf.{status_of};
+ghost use Rattle.fx_show.specs.Rows.{ShowRow, ShowEndsAs, ShowAsksFit};
+ghost use Rattle.fx_show.specs.Shows.{HasDescription, HasSomeDescription, IsShowing};
+ghost use Rattle.fx_command.specs.StatusOf.{status_of};
 
-use crate::print::print_all;
-use crate::status::Status;
-use crate::texts::read_text;
+use crate::described::description_of;
+use crate::values::shown;
+use fx_command::{Status, print_all, read_text};
 use fx_folder::load;
 use fx_outside::{Host, Sink, SinkFailed};
-use fx_show::{description_of, shown};
 use fx_spec::Checked;
 use fx_store::{Filestore, LongText};
 use fx_words::ShowJob;
@@ -89,7 +88,7 @@ fn output_of<H: Host>(alloc: Global, job: &ShowJob, host: &mut H) -> Result<Long
 }
 
 /// Prints whether the folder has a value by the description, and which.
-pub(crate) fn show<H: Host, S: Sink>(
+pub fn show<H: Host, S: Sink>(
     alloc: Global,
     job: &ShowJob,
     host: &mut H,

@@ -5,7 +5,7 @@ use Rattle.fx_store.specs.Whole.{Nodes}
 use Rattle.fx_outside.specs.Tree.{Tree, is_file_at, bytes_at, is_folder_at}
 use Rattle.fx_folder.specs.Loads.{Loads}
 use Rattle.fx_spec.specs.SpecTree.{SpecTree}
-use Rattle.fx_show.specs.declared.fault.TextFault.{TextFault}
+use Rattle.fx_command.specs.declared.status.TextFault.{TextFault}
 use Rattle.fx_show.specs.Described.{Describes, IsRefusedFor}
 use Rattle.fx_show.specs.Shown.{root_value, shown}
 use Rattle.fx_words.specs.Job.{ShowJob}

@@ -17,17 +17,18 @@ use Rattle.fx_grammar.specs.Texts as texts
 use Rattle.fx_spec.specs.SpecTree.{SpecTree}
 use Rattle.fx_show.specs.declared.fault.DescriptionFault.{DescriptionFault}
 use Rattle.fx_show.specs.declared.fault.DescriptionFault.TheVariants as description
-use Rattle.fx_show.specs.declared.fault.TextFault.{TextFault}
-use Rattle.fx_show.specs.declared.fault.TextFault.TheVariants as fault
+use Rattle.fx_command.specs.declared.status.TextFault.{TextFault}
+use Rattle.fx_command.specs.declared.status.TextFault.TheVariants as fault
 use Rattle.fx_show.specs.Described.{Describes, IsRefusedFor, IsUndescribed}
 use Rattle.fx_show.specs.Shown.{root_value, shown}
-use Rattle.fx_top.specs.declared.status.Status.{Status}
-use Rattle.fx_top.specs.declared.status.Status.TheVariants as status
-use Rattle.fx_top.specs.Rows.{ShowRow, ShowEndsAs, IsShown, IsShownInPart}
-use Rattle.fx_top.specs.Shows.{HasDescription, HasNoDescription, HasSomeDescription, IsShowing, CannotShow}
-use Rattle.fx_top.specs.StatusOf.{read_status, description_status, load_status}
-use Rattle.fx_top.specs.Texts.{IsReadAt}
-use Rattle.fx_top.proofs.Ending.{if_some_map, if_some_both, some_and, some_unit, same, grows_front, grows_all, cause_back, some_back, same_back, left_true, right_true}
+use Rattle.fx_command.specs.declared.status.Status.{Status}
+use Rattle.fx_command.specs.declared.status.Status.TheVariants as status
+use Rattle.fx_show.specs.Rows.{ShowRow, ShowEndsAs, IsShown, IsShownInPart}
+use Rattle.fx_show.specs.Shows.{HasDescription, HasNoDescription, HasSomeDescription, IsShowing, CannotShow}
+use Rattle.fx_command.specs.StatusOf.{read_status, load_status}
+use Rattle.fx_show.specs.Faults.{status_of_fault}
+use Rattle.fx_command.specs.Texts.{IsReadAt}
+use Rattle.fx_command.proofs.Told.{if_some_map, if_some_both, some_and, some_unit, same, grows_front, grows_all, cause_back, some_back, same_back, left_true, right_true}
 use Rattle.fx_words.specs.Job.{ShowJob}
 
 -- ---- the text
@@ -75,7 +76,7 @@ text_unread j host host' fails.Failed reads failed =
     show_read_failed j (λ t. is_file_at t j.spec) (λ _. Unit {0}) host host' reads (λ t _ none. inl none) (some_unit host.told) (failed refl)
 text_unread j host host' fails.NoMemory reads failed = show_no_memory j host host' reads
 
-pub text_refused : (j : ShowJob) (host host' : HostView) (text : List ℕ) (refusal : DescriptionFault) → ReadsOnly host host' → IfSome host.told (λ t. IsReadAt t j.spec text) → IsUndescribed text refusal → ShowEndsAs j host host' (description_status refusal)
+pub text_refused : (j : ShowJob) (host host' : HostView) (text : List ℕ) (refusal : DescriptionFault) → ReadsOnly host host' → IfSome host.told (λ t. IsReadAt t j.spec text) → IsUndescribed text refusal → ShowEndsAs j host host' (status_of_fault refusal)
 text_refused j host host' text (description.Refused cause) reads read is sink =
     (same host host' sink reads, refl, if_some_map (λ t. IsReadAt t j.spec text) (λ t. HasNoDescription t j cause) host.told (λ t read. record { file = read.file; refused = refused_whole t j.spec text cause read is }) read)
 text_refused j host host' text description.NoMemory reads read is sink = show_no_memory j host host' reads sink
