@@ -1,4 +1,4 @@
+pub mod Alone
 pub mod Causes
 pub mod Completing
 pub mod Showing
-pub mod Values

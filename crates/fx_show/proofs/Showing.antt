@@ -1,5 +1,5 @@
 -- The rows of the table of statuses for `show`, from what its stages ensure.
-use Rattle.std.proofs.Common.{◌≡◌, ◌⊎◌, inl, inr, ℕ, ◌≤◌, ◌<◌, Bool, true, false, ◌&&◌, List, ◌++◌, take, length, Option, Some, None, IfSome, refl, sym, ◌∙◌, subst, arith}
+use Rattle.std.proofs.Common.{◌≡◌, ◌⊎◌, inl, inr, ℕ, ◌≤◌, ◌<◌, Bool, true, false, ◌&&◌, List, ◌++◌, take, length, Option, Some, None, Result, Ok, Err, IfOk, IfErr, IfSome, refl, sym, ◌∙◌, subst, arith}
 use Rattle.std.specs.FinMap.{get}
 use Rattle.fx_base.specs.Causes.{Rose}
 use Rattle.fx_store.specs.Whole.{Nodes}
@@ -96,10 +96,14 @@ some_description j spec a b reads is =
     subst (λ o. IfSome o (λ t. HasSomeDescription t j)) (sym reads.same)
     (if_some_map (λ t. HasDescription t j spec) (λ t. HasSomeDescription t j) a.told (λ t is. (spec, is)) is)
 
-pub showing : (j : ShowJob) (spec : SpecTree) (nodes : Nodes) (output : List ℕ) (a b : HostView) → ReadsOnly a b → IfSome a.told (λ t. HasDescription t j spec) → IfSome b.told (λ t. Loads t j.folder nodes) → output ≡ shown (root_value (get nodes) spec) → IfSome a.told (λ t. IsShowing t j output)
-showing j spec nodes output a b reads described loaded shows =
+pub showing : (j : ShowJob) (spec : SpecTree) (nodes : Nodes) (output : List ℕ) (a : HostView) → IfSome a.told (λ t. HasDescription t j spec) → IfSome a.told (λ t. Loads t j.folder nodes) → output ≡ shown (root_value (get nodes) spec) → IfSome a.told (λ t. IsShowing t j output)
+showing j spec nodes output a described loaded shows =
     if_some_both (λ t. HasDescription t j spec) (λ t. Loads t j.folder nodes) (λ t. IsShowing t j output) a.told
-    (λ t described loaded. record { spec = spec; nodes = nodes; described = described; loaded = loaded; shows = shows }) described (some_back (λ t. Loads t j.folder nodes) a b reads loaded)
+    (λ t described loaded. record { spec = spec; nodes = nodes; described = described; loaded = loaded; shows = shows }) described loaded
+
+pub showing_before : (j : ShowJob) (a b : HostView) (result : Result (List ℕ) Status) → ReadsOnly a b → IfOk result (λ output. IfSome b.told (λ t. IsShowing t j output)) → IfOk result (λ output. IfSome a.told (λ t. IsShowing t j output))
+showing_before j a b (Ok output) reads is = some_back (λ t. IsShowing t j output) a b reads is
+showing_before j a b (Err st) reads is = tt
 
 show_row_back : (j : ShowJob) (a b c : HostView) (sink sink' : SinkView) (st : Status) → ReadsOnly a b → ShowRow j b c sink sink' st → ShowRow j a c sink sink' st
 show_row_back j a b c sink sink' status.Done reads row = (reads_then a b c reads row.0, row.1, some_back (λ t. IsShown t j sink.written sink'.written) a b reads row.2)
@@ -118,6 +122,10 @@ show_row_back j a b c sink sink' status.NoMemory reads row = same_back a b c sin
 
 pub show_ends_back : (j : ShowJob) (a b c : HostView) (st : Status) → ReadsOnly a b → ShowEndsAs j b c st → ShowEndsAs j a c st
 show_ends_back j a b c st reads ends sink = show_row_back j a b c sink sink st reads (ends sink)
+
+pub show_ends_before : {X : Type 0} (j : ShowJob) (a b c : HostView) (result : Result X Status) → ReadsOnly a b → IfErr result (ShowEndsAs j b c) → IfErr result (ShowEndsAs j a c)
+show_ends_before j a b c (Ok x) reads ends = tt
+show_ends_before j a b c (Err st) reads ends = show_ends_back j a b c st reads ends
 
 -- ---- the last stage
 

@@ -39,9 +39,9 @@ HasCause text (fault.Repeated word) = HasFault text (Fault.repeated word)
 HasCause text fault.TooMany = HasFault text Fault.too_many
 
 -- the text describes nothing, for this cause
-pub record IsRefusedFor (text : List ℕ) (cause : TextFault) : Type 0 where
+pub record IsRefusedFor (text : List ℕ) (first : TextFault) : Type 0 where
   pub none : (spec : SpecTree) → Describes text spec → ⊥
-  pub cause : HasCause text cause
+  pub cause : HasCause text first
 
 -- the text describes nothing; or memory ran out
 abbrev pub IsUndescribed : List ℕ → DescriptionFault → Type 0

@@ -84,8 +84,12 @@ fn output_of<H: Host>(alloc: Global, job: &ShowJob, host: &mut H) -> Result<Long
         (ShowEndsAs (asked_show job.now) (H.view host.old) (H.view host.new)) }
 {
     let spec = read_description(alloc, job, host)?;
-    output_by(alloc, job, &spec, host)
+    let output = output_by(alloc, job, &spec, host);
+    let_go(spec);
+    output
 }
+
+fn let_go(_spec: Checked) {}
 
 /// Prints whether the folder has a value by the description, and which.
 pub fn show<H: Host, S: Sink>(

@@ -17,5 +17,7 @@ alone_answer {X = X} m view own old new rule x none h begins S agrees =
     whole_answer m view (old, 0) (new, bare.evaluations) rule x bare.follows S
     (agrees (whole_vouched m view (old, 0) (new, bare.evaluations) rule (own_at []) (Ok x) bare.follows old begins))
 
-pub alone_needs : {R A X : Type 0} (m : Meaning R) (view : X → A) (own : Known) (old new : R) (rule : Ask A) (path : List (List ℕ)) → m.complete old ≡ true → FollowsAlone {X = X} m view own old new rule (Err (stop.Needs path)) → ⊥
-alone_needs m view own old new rule path complete h = whole_needs m view (old, 0) (new, h.evaluations) rule own path complete h.follows
+pub alone_needs : {R A X : Type 0} (m : Meaning R) (view : X → A) (own : Known) (old new : R) (rule : Ask A) (why : Stop) (path : List (List ℕ)) → FollowsAlone {X = X} m view own old new rule (Err why) → m.complete old ≡ true → why ≡ stop.Needs path → ⊥
+alone_needs {X = X} m view own old new rule why path h complete is =
+    let needs = subst (λ why. FollowsAlone {X = X} m view own old new rule (Err why)) is h in
+    whole_needs m view (old, 0) (new, needs.evaluations) rule own path complete needs.follows
