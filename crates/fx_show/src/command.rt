@@ -18,11 +18,7 @@ use fx_words::ShowJob;
 use std::alloc::Global;
 
 /// Reads the description.
-fn read_description<H: Host>(
-    alloc: Global,
-    job: &ShowJob,
-    host: &mut H,
-) -> Result<Checked, Status>
+fn read_description<H: Host>(alloc: Global, job: &ShowJob, host: &mut H) -> Result<Checked, Status>
     ensures read { IfOk result (λ spec.
         IfSome (H.view host.old).told (λ t. HasDescription t (asked_show job.now) spec)) }
     ensures same { ReadsOnly (H.view host.old) (H.view host.new) }
@@ -36,11 +32,7 @@ fn read_description<H: Host>(
 }
 
 /// Loads the folder, after the description.
-fn read_folder<H: Host>(
-    alloc: Global,
-    job: &ShowJob,
-    host: &mut H,
-) -> Result<Filestore, Status>
+fn read_folder<H: Host>(alloc: Global, job: &ShowJob, host: &mut H) -> Result<Filestore, Status>
     requires { IfSome (H.view host.old).told (λ t. HasSomeDescription t (asked_show job.now)) }
     ensures loaded { IfOk result (λ s.
         IfSome (H.view host.old).told (λ t. Loads t (asked_show job.now).folder s.nodes)) }

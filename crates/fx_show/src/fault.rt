@@ -25,7 +25,9 @@ impl From<ParseFault> for DescriptionFault {
         match fault {
             ParseFault::TooLarge => DescriptionFault::Refused(TextFault::TooLarge),
             ParseFault::BadToken(place) => DescriptionFault::Refused(TextFault::BadToken(place)),
-            ParseFault::Unexpected(place) => DescriptionFault::Refused(TextFault::Unexpected(place)),
+            ParseFault::Unexpected(place) => DescriptionFault::Refused(TextFault::Unexpected(
+                place,
+            )),
             ParseFault::TooNested(place) => DescriptionFault::Refused(TextFault::TooNested(place)),
             ParseFault::NotBuilt(place) => DescriptionFault::Refused(TextFault::NotBuilt(place)),
             ParseFault::NoMemory => DescriptionFault::NoMemory,

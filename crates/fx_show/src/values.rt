@@ -40,11 +40,7 @@ fn value_at(
 }
 
 /// The value of a root description on a filestore; `None` where it has none.
-fn value_of(
-    alloc: Global,
-    spec: &Checked,
-    store: &Filestore,
-) -> Result<Option<Value>, NoMemory>
+fn value_of(alloc: Global, spec: &Checked, store: &Filestore) -> Result<Option<Value>, NoMemory>
     ensures { IfOk result (λ value. root_value (get store.now.nodes) spec.now ≡ option_map tree_of value) }
 {
     let mut reader = Whole::new(alloc, store);

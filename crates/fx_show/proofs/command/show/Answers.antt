@@ -22,12 +22,3 @@ returns-in-Ok-clause-row g c =
     let sink' = g.S.Sink.view c.print_all.new.out in
     show_done (asked_show c.args.job.now) c.in_ok-output.output a b sink sink' c.in_ok-output.ensures.same c.in_ok-output.ensures.shows
     (subst (λ b. IfSome sink.written (λ w. sink'.written ≡ Some (w ++ b))) c.as_slice.ensures c.in-Ok.ensures.written)
-
-pub returns-in-Err-clause-row : goal.returns-in-Err-clause-row
-returns-in-Err-clause-row g c =
-    let a = g.H.Host.view c.args.host.now in
-    let b = g.H.Host.view c.output_of.new.host in
-    let sink = g.S.Sink.view c.args.out.now in
-    let sink' = g.S.Sink.view c.print_all.new.out in
-    show_unprinted (asked_show c.args.job.now) c.in_ok-output.output a b sink sink' c.in_ok-output.ensures.same c.in_ok-output.ensures.shows
-    (subst (λ b. IfSome sink.written (λ w. (n : ℕ) × (sink'.written ≡ Some (w ++ take n b)))) c.as_slice.ensures c.in-Err.ensures.front) c.in-Err.ensures.cause.failed

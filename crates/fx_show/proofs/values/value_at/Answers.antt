@@ -14,8 +14,8 @@ returns-in-Ok c =
     let S = get c.args.reader.now.store.now.nodes in
     alone_answer _ (option_map tree_of) c.args.overlay.now c.args.reader.now c.value.new.reader (value_at (place_tree c.args.place.now)) c.in-Ok.value c.requires.unchanged c.in-Ok.ensures.follows (λ agrees. (refl, agrees)) S
     (λ vouched.
-      let both = vouched (subst (λ reads. Agrees reads S) (sym c.requires.unread) (agrees_none S)) in
-      subst (λ nodes. Agrees c.value.new.reader.reads (get nodes)) both.0 both.1)
+    let both = vouched (subst (λ reads. Agrees reads S) (sym c.requires.unread) (agrees_none S)) in
+    subst (λ nodes. Agrees c.value.new.reader.reads (get nodes)) both.0 both.1)
 
 pub unreachable-requires : goal.unreachable-requires
 unreachable-requires c =
