@@ -1,7 +1,7 @@
 //! The program.
 ghost use Rattle.std.specs.Prelude.{◌≡◌};
 ghost use Rattle.std.specs.Process.{exit_status};
-ghost use Rattle.fx_top.specs.Codes.{status_code};
+ghost use Rattle.fx_command.specs.Codes.{status_code};
 
 use crate::Message;
 use fx_base::NoMemory;

@@ -14,11 +14,14 @@ use Rattle.fx_folder.specs.Loads.{Loads, IsRefused}
 use Rattle.fx_folder.specs.declared.fault.FolderCause.{FolderCause}
 use Rattle.fx_store.specs.Whole.{Nodes}
 use Rattle.fx_spec.specs.CommandTree.{CommandTree}
-use Rattle.fx_top.specs.declared.status.Status.{Status}
-use Rattle.fx_top.specs.declared.status.Status.TheVariants as status
+use Rattle.fx_command.specs.declared.status.Status.{Status}
+use Rattle.fx_command.specs.declared.status.Status.TheVariants as status
+use Rattle.fx_show.specs.Rows.{ShowRow}
+use Rattle.fx_show.specs.Shows.{IsProperShow}
+use Rattle.fx_show.proofs.Completing.{show_completes}
 use Rattle.fx_top.specs.Rows.{Row, RunRow, CannotSave, IsProperRun, FitsOut, Completes}
 use Rattle.fx_top.specs.Inputs.{HasTexts, HasInputs, CannotRead, IsFirstRefused, HasScript, HasNoScript, HasScripts, StopsAtScript, LacksFile}
-use Rattle.fx_words.specs.Job.{Job, Run, RunJob}
+use Rattle.fx_words.specs.Job.{Job, Run, Show, RunJob, ShowJob}
 
 two : (b : Bool) → b ≡ true → b ≡ false → ⊥
 two b is isnt = let both : true ≡ false = sym is ∙ isnt in cc
@@ -108,12 +111,18 @@ told_row : (j : RunJob) (host host' : HostView) (sink sink' : SinkView) (st : St
 told_row j host host' sink sink' st row None is = tt
 told_row j host host' sink sink' st row (Some t) is = λ proper none quiet. row_at j t host host' sink sink' st is proper none quiet row
 
+told_show_row : (j : ShowJob) (host host' : HostView) (sink sink' : SinkView) (st : Status) → ShowRow j host host' sink sink' st → (o : Option Tree) → host.told ≡ o → IfSome o (λ t. IsProperShow t j → (Rose host.faults host'.faults → ⊥) → (Rose sink.faults sink'.faults → ⊥) → Ends st)
+told_show_row j host host' sink sink' st row None is = tt
+told_show_row j host host' sink sink' st row (Some t) is = λ proper none quiet. show_completes j t host host' sink sink' st is proper none quiet row
+
 pub completes : (j : Job) (host host' : HostView) (sink sink' : SinkView) (st : Status) → Row j host host' sink sink' st → Completes j host host' sink sink' st
 completes (Run j) host host' sink sink' st row = told_row j host host' sink sink' st row host.told refl
+completes (Show j) host host' sink sink' st row = told_show_row j host host' sink sink' st row host.told refl
 
 -- a command does not end as words without a form do
 not_usage : (j : Job) (host host' : HostView) (sink sink' : SinkView) → Row j host host' sink sink' status.Usage → ⊥
 not_usage (Run j) host host' sink sink' row = row
+not_usage (Show j) host host' sink sink' row = row
 
 pub row_usage : (j : Job) (host host' : HostView) (sink sink' : SinkView) (st : Status) → Row j host host' sink sink' st → st ≡ status.Usage → ⊥
 row_usage j host host' sink sink' st row is = not_usage j host host' sink sink' (subst (λ st. Row j host host' sink sink' st) is row)

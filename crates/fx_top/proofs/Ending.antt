@@ -1,8 +1,6 @@
 -- The rows of the table of statuses, from what the stages of a run ensure.
 use Rattle.std.proofs.Common.{◌≡◌, ◌⊎◌, inl, inr, ℕ, ◌≤◌, Bool, true, false, ◌&&◌, List, ◌++◌, take, Option, Some, None, Result, Ok, Err, IfSome, IfErr, IsSomeAnd, refl, sym, ◌∙◌, subst, arith}
-use Rattle.std.specs.Result.{IsErrAnd}
 use Rattle.std.specs.List.{list_all}
-use Rattle.std.proofs.lemmas.Result.{err_from_is_err_and}
 use Rattle.fx_base.specs.Causes.{Rose}
 use Rattle.fx_store.specs.Whole.{Nodes}
 use Rattle.fx_outside.specs.declared.kind.HostFault.{HostFault}
@@ -20,54 +18,18 @@ use Rattle.fx_folder.specs.declared.fault.SaveFault.{SaveFault}
 use Rattle.fx_folder.specs.declared.fault.SaveFault.TheVariants as save
 use Rattle.fx_top.specs.declared.inputs.Unread.{Unread}
 use Rattle.fx_top.specs.declared.inputs.Unread.TheVariants as unread
-use Rattle.fx_top.specs.declared.status.Status.{Status}
-use Rattle.fx_top.specs.declared.status.Status.TheVariants as status
+use Rattle.fx_command.specs.declared.status.Status.{Status}
+use Rattle.fx_command.specs.declared.status.Status.TheVariants as status
+use Rattle.fx_command.specs.StatusOf.{read_status, load_status, save_status}
+use Rattle.fx_command.proofs.Told.{err_of, if_err_of, if_some_map, if_some_both, some_and, if_told_same, if_told_map, some_unit, same, grows_front, grows_all, cause_back, told_back, some_back, same_back, left_true, right_true}
 use Rattle.fx_top.specs.Answers.{IsAnswered, UnreadCause}
 use Rattle.fx_top.specs.Inputs.{HasNoSpec, HasSomeSpec, HasTexts, HasInputs, CannotRead}
 use Rattle.fx_top.specs.Outcome.{IsOutcome}
-use Rattle.fx_top.specs.Rows.{RunRow, EndsAs, IsSame, Grows, MayHoldPart, IsPartThere, IsDone, IsCutShort, CannotSave, has_fit_paths}
-use Rattle.fx_top.specs.StatusOf.{status_of, read_status, refused_status, unread_status, load_status, save_status}
+use Rattle.fx_top.specs.Rows.{RunRow, EndsAs, MayHoldPart, IsPartThere, IsDone, IsCutShort, CannotSave, has_fit_paths}
+use Rattle.fx_top.specs.Unread.{refused_status, unread_status}
 use Rattle.fx_words.specs.Job.{RunJob}
 
--- an error that a `?` hands on
-pub err_of : {X E : Type 0} (r : Result X E) (e : E) → IsErrAnd r (λ d. d ≡ e) → r ≡ Err e
-err_of {X = X} {E = E} r e is =
-    let err = err_from_is_err_and r is in
-    err.1 ∙ subst (λ d. ◌≡◌ {A = Result X E} (Err err.0) (Err d)) err.2 refl
-
-pub if_err_of : {X E : Type 0} (P : E → Type 0) (r : Result X E) (e : E) → IsErrAnd r (λ d. d ≡ e) → P e → IfErr r P
-if_err_of P r e is holds = subst (λ r. IfErr r P) (sym (err_of r e is)) holds
-
--- words on a told tree
-pub if_some_map : {A : Type 0} (P Q : A → Type 0) (o : Option A) → ((x : A) → P x → Q x) → IfSome o P → IfSome o Q
-if_some_map P Q None f p = tt
-if_some_map P Q (Some x) f p = f x p
-
-pub if_some_both : {A : Type 0} (P Q R : A → Type 0) (o : Option A) → ((x : A) → P x → Q x → R x) → IfSome o P → IfSome o Q → IfSome o R
-if_some_both P Q R None f p q = tt
-if_some_both P Q R (Some x) f p q = f x p q
-
-some_and : {A : Type 0} (P Q R : A → Type 0) (o : Option A) → ((x : A) → P x → Q x → R x) → IfSome o P → IsSomeAnd o Q → IsSomeAnd o R
-some_and P Q R None f p q = q
-some_and P Q R (Some x) f p q = f x p q
-
-if_told_same : (P : Tree → Tree → Type 0) (told told' : Option Tree) → told' ≡ told → IfSome told (λ t. P t t) → IfTold told told' P
-if_told_same P None told' same p = same
-if_told_same P (Some t) told' same p = subst (λ o. IfTold (Some t) o P) (sym same) p
-
-if_told_map : (P Q : Tree → Tree → Type 0) (R : Tree → Type 0) (told told' : Option Tree) → ((t t' : Tree) → R t → P t t' → Q t t') → IfSome told R → IfTold told told' P → IfTold told told' Q
-if_told_map P Q R None told' f j p = p
-if_told_map P Q R (Some t) None f j p = p
-if_told_map P Q R (Some t) (Some t') f j p = f t t' j p
-
-some_unit : {A : Type 0} (o : Option A) → IfSome o (λ _. Unit {0})
-some_unit None = tt
-some_unit (Some x) = tt
-
 -- ---- stages that only read
-
-same : (host host' : HostView) (sink : SinkView) → ReadsOnly host host' → IsSame host host' sink sink
-same host host' sink reads = record { reads = reads; unprinted = refl }
 
 pub no_memory : (j : RunJob) (host host' : HostView) → ReadsOnly host host' → EndsAs j host host' status.NoMemory
 no_memory j host host' reads sink =
@@ -151,12 +113,6 @@ not_saved j nodes output there host host' save.WriteFault is part cause sink =
 not_saved j nodes output there host host' save.NotEmpty is part cause sink = absurd cause
 not_saved j nodes output there host host' save.NoMemory is part cause sink = (refl, only_part j host.told host'.told (part_there j nodes output there host host' is part))
 
-grows_front : (sink sink' : SinkView) (output : List ℕ) → IfSome sink.written (λ w. (n : ℕ) × (sink'.written ≡ Some (w ++ take n output))) → Grows sink sink'
-grows_front sink sink' output front = if_some_map _ _ sink.written (λ w front. (take front.0 output, front.1)) front
-
-grows_all : (sink sink' : SinkView) (output : List ℕ) → IfSome sink.written (λ w. sink'.written ≡ Some (w ++ output)) → Grows sink sink'
-grows_all sink sink' output all = if_some_map _ _ sink.written (λ w all. (output, all)) all
-
 pub not_printed : (j : RunJob) (nodes : Nodes) (output : List ℕ) (there : Bool) (host host' : HostView) (sink sink' : SinkView) → IfSome host.told (λ t. IsAnswered t j nodes output there) → Saves j.out nodes host host' → IfSome sink.written (λ w. (n : ℕ) × (sink'.written ≡ Some (w ++ take n output))) → Rose sink.faults sink'.faults → RunRow j host host' sink sink' status.WriteFault
 not_printed j nodes output there host host' sink sink' is saved front rose = inr (record {
   cause = rose;
@@ -173,19 +129,6 @@ all_done j nodes output there host host' sink sink' is saved whole = (
 )
 
 -- ---- a row from a later moment on is one from an earlier moment on, where only reads lie between
-
-cause_back : (P : Tree → Type 0) (a b c : HostView) → ReadsOnly a b → Rose b.faults c.faults ⊎ IsSomeAnd b.told P → Rose a.faults c.faults ⊎ IsSomeAnd a.told P
-cause_back P a b c reads (inl rose) = inl (rose_back a b c reads.later rose)
-cause_back P a b c reads (inr is) = inr (subst (λ o. IsSomeAnd o P) reads.same is)
-
-told_back : (P : Tree → Tree → Type 0) (a b c : HostView) → ReadsOnly a b → IfTold b.told c.told P → IfTold a.told c.told P
-told_back P a b c reads is = subst (λ o. IfTold o c.told P) reads.same is
-
-some_back : (P : Tree → Type 0) (a b : HostView) → ReadsOnly a b → IfSome b.told P → IfSome a.told P
-some_back P a b reads is = subst (λ o. IfSome o P) reads.same is
-
-same_back : (a b c : HostView) (sink sink' : SinkView) → ReadsOnly a b → IsSame b c sink sink' → IsSame a c sink sink'
-same_back a b c sink sink' reads is = record { reads = reads_then a b c reads is.reads; unprinted = is.unprinted }
 
 pub row_back : (j : RunJob) (a b c : HostView) (sink sink' : SinkView) (st : Status) → ReadsOnly a b → RunRow j b c sink sink' st → RunRow j a c sink sink' st
 row_back j a b c sink sink' status.Done reads row = (row.0, told_back _ a b c reads row.1)
@@ -204,14 +147,6 @@ ends_back j a b c st reads ends sink = row_back j a b c sink sink st reads (ends
 -- ---- fit paths
 
 module _ (j : RunJob) (fit : has_fit_paths j ≡ true) where
-  left_true : (a b : Bool) → (a && b) ≡ true → a ≡ true
-  left_true true b e = refl
-  left_true false b e = cc
-
-  right_true : (a b : Bool) → (a && b) ≡ true → b ≡ true
-  right_true true b e = e
-  right_true false b e = cc
-
   pub fit_spec : is_fit j.spec ≡ true
   fit_spec = left_true (is_fit j.spec) _ fit
 

@@ -1,7 +1,5 @@
 pub mod Completing
 pub mod Ending
 pub mod Flat
-pub mod Pieces
 pub mod Plans
 pub mod Stages
-pub mod Writing

@@ -12,7 +12,7 @@ use Rattle.fx_spec.specs.Order.{BaseTree}
 use Rattle.fx_words.specs.Job.{RunJob}
 use Rattle.fx_top.specs.Inputs.{HasSpec, HasScripts, HasSomeSpec, HasTexts, HasInputs, HasBase}
 use Rattle.fx_top.specs.Answers.{IsRunFrom, IsAnswered}
-use Rattle.fx_top.proofs.Ending.{if_some_map, if_some_both}
+use Rattle.fx_command.proofs.Told.{if_some_map, if_some_both}
 
 abbrev Plan : Type 0
 Plan = List (List (List CommandTree))

@@ -1,7 +1,5 @@
 pub mod Answers
-pub mod Codes
 pub mod Inputs
 pub mod Outcome
 pub mod Rows
-pub mod StatusOf
-pub mod Texts
+pub mod Unread

@@ -9,26 +9,15 @@ use Rattle.fx_outside.specs.Sink.{SinkView}
 use Rattle.fx_outside.specs.Tree.{Tree, has_folder}
 use Rattle.fx_folder.specs.Folder.{IfTold, IsReady, IsTaken, IsSaved, IsPartlySaved}
 use Rattle.fx_folder.specs.Loads.{IsRefused}
-use Rattle.fx_words.specs.Job.{Job, Run, RunJob}
-use Rattle.fx_top.specs.declared.status.Status.{Status}
-use Rattle.fx_top.specs.declared.status.Status.TheVariants as status
-use Rattle.fx_top.specs.declared.status.TextFault.TheVariants as fault
+use Rattle.fx_words.specs.Job.{Job, Run, Show, RunJob}
+use Rattle.fx_command.specs.declared.status.Status.{Status}
+use Rattle.fx_command.specs.declared.status.Status.TheVariants as status
+use Rattle.fx_command.specs.declared.status.TextFault.TheVariants as fault
+use Rattle.fx_command.specs.Left.{IsSame, Grows}
+use Rattle.fx_show.specs.Rows.{ShowRow, ShowAsksFit}
+use Rattle.fx_show.specs.Shows.{IsProperShow}
 use Rattle.fx_top.specs.Inputs.{HasTexts, HasInputs, CannotRead, IsFirstRefused}
 use Rattle.fx_top.specs.Outcome.{IsOutcome}
-
--- nothing but reads was asked of the host, and nothing of the sink
-pub record IsSame (host host' : HostView) (sink sink' : SinkView) : Type 0 where
-  pub reads : ReadsOnly host host'
-  pub unprinted : sink' ≡ sink
-
--- nothing was asked of host and sink
-pub record IsIdle (host host' : HostView) (sink sink' : SinkView) : Type 0 where
-  pub unasked : host' ≡ host
-  pub unprinted : sink' ≡ sink
-
--- what was printed before stays in front
-abbrev pub Grows : SinkView → SinkView → Type 0
-Grows sink sink' = IfSome sink.written (λ w. (bytes : List ℕ) × (sink'.written ≡ Some (w ++ bytes)))
 
 -- all is done: the report is written after what was written before, and the last filestore's folder stands at OUT; all else
 -- of the host is as before
@@ -94,6 +83,7 @@ RunRow j host host' sink sink' status.NoMemory = (sink' ≡ sink) × IfTold host
 -- the table, by the command
 abbrev pub Row : Job → HostView → HostView → SinkView → SinkView → Status → Type 0
 Row (Run j) host host' sink sink' st = RunRow j host host' sink sink' st
+Row (Show j) host host' sink sink' st = ShowRow j host host' sink sink' st
 
 -- a stage that only reads ends a run so, whatever the sink
 abbrev pub EndsAs : RunJob → HostView → HostView → Status → Type 0
@@ -113,6 +103,7 @@ RunAsksFit j host host' = has_fit_paths j ≡ true → host'.unfit ≡ host.unfi
 
 abbrev pub AsksFitPaths : Job → HostView → HostView → Type 0
 AsksFitPaths (Run j) host host' = RunAsksFit j host host'
+AsksFitPaths (Show j) host host' = ShowAsksFit j host host'
 
 -- where OUT has to be made, a folder stands above it
 abbrev pub FitsOut : Tree → List ℕ → Bool → Type 0
@@ -128,6 +119,7 @@ pub record IsProperRun (t : Tree) (j : RunJob) : Type 0 where
 
 abbrev pub IsProper : Tree → Job → Type 0
 IsProper t (Run j) = IsProperRun t j
+IsProper t (Show j) = IsProperShow t j
 
 -- with fit inputs and no fault of the host or the sink all is done, or memory runs out
 abbrev pub Completes : Job → HostView → HostView → SinkView → SinkView → Status → Type 0

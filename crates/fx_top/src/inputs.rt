@@ -8,10 +8,10 @@ ghost use Rattle.fx_words.specs.JobOf.{asked, IsJob};
 ghost use Rattle.fx_top.specs.Inputs.{HasScripts};
 ghost use Rattle.fx_top.specs.Answers.{SpecRead, ScriptRead, UnreadCause};
 ghost use Rattle.fx_top.specs.Rows.{AsksAllFit};
+ghost use Rattle.fx_top.specs.Unread.{refused_status};
 
-use crate::status::{Status, refused};
-use crate::texts::read_text;
 use fx_base::NoMemory;
+use fx_command::{Status, TextFault, read_text};
 use fx_outside::{Host, HostFault, HostText};
 use fx_spec::{Checked, Plan, Script};
 use fx_texts::{read_description, read_script};
@@ -112,9 +112,19 @@ pub fn read_plan<H: Host>(alloc: Global, job: &RunJob, host: &mut H) -> Result<P
     Ok(plan)
 }
 
+/// The status of a text outside the forms that are built.
+pub(crate) fn refused(word: u32) -> Status
+    ensures { result ≡ refused_status word }
+{
+    Status::TextRefused {
+        word,
+        cause: TextFault::NotBuilt(0),
+    }
+}
+
 impl From<Unread> for Status {
     ghost use Rattle.std.specs.Prelude.{◌≡◌};
-    ghost use Rattle.fx_top.specs.StatusOf.{unread_status};
+    ghost use Rattle.fx_top.specs.Unread.{unread_status};
 
     ghost from_gives = { λ unread status. status ≡ unread_status unread };
 

@@ -11,9 +11,9 @@ ghost use Rattle.fx_top.specs.Answers.{IsRunnable};
 ghost use Rattle.fx_top.specs.Inputs.{HasSpec, HasScripts, HasSomeSpec, HasTexts, HasInputs, HasBase};
 ghost use Rattle.fx_top.specs.Rows.{EndsAs, RunAsksFit};
 
-use crate::inputs::{read_plan, read_spec};
-use crate::status::{Status, refused};
+use crate::inputs::{read_plan, read_spec, refused};
 use fx_base::NoMemory;
+use fx_command::Status;
 use fx_folder::{load, ready};
 use fx_outside::Host;
 use fx_spec::{Base, Checked, Plan};

@@ -5,12 +5,11 @@ ghost use Rattle.fx_folder.specs.Folder.{IsFlat};
 ghost use Rattle.fx_words.specs.JobOf.{asked, IsJob};
 ghost use Rattle.fx_top.specs.Answers.{last_of, IsAnswered};
 ghost use Rattle.fx_top.specs.Rows.{RunRow, RunAsksFit};
-ghost use Rattle.fx_top.specs.StatusOf.{status_of};
+ghost use Rattle.fx_command.specs.StatusOf.{status_of};
 
 use crate::answer::{Answer, run_base};
-use crate::print::print_all;
 use crate::reading::{make_ready, read_base};
-use crate::status::Status;
+use fx_command::{Status, print_all};
 use fx_folder::save;
 use fx_outside::{Host, Sink, SinkFailed};
 use fx_words::RunJob;

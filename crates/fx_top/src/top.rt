@@ -2,12 +2,14 @@
 ghost use Rattle.std.specs.Prelude.{◌≡◌, ◌↔◌, None, IfSome};
 ghost use Rattle.fx_words.specs.Job.{job_of};
 ghost use Rattle.fx_words.specs.JobOf.{asked_job, IsAnyJob};
-ghost use Rattle.fx_top.specs.Rows.{Row, IsIdle, AsksFitPaths, Completes};
-ghost use Rattle.fx_top.specs.StatusOf.{status_of};
+ghost use Rattle.fx_top.specs.Rows.{Row, AsksFitPaths, Completes};
+ghost use Rattle.fx_command.specs.Left.{IsIdle};
+ghost use Rattle.fx_command.specs.StatusOf.{status_of};
 
 use crate::run::run;
-use crate::status::Status;
+use fx_command::Status;
 use fx_outside::{Gate, Host, Sink, Words};
+use fx_show::show;
 use fx_words::{Job, job_of};
 use std::alloc::Global;
 
@@ -25,6 +27,7 @@ fn run_job<H: Host, S: Sink>(
 {
     match job {
         Job::Run(job) => run(alloc, job, host, out),
+        Job::Show(job) => show(alloc, job, host, out),
     }
 }
 

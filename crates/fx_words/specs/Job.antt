@@ -18,9 +18,15 @@ pub record RunJob : Type 0 where
   pub scripts : List (List ℕ)
   pub mode : Mode
 
+-- whether the folder has a value by the description, and which
+pub record ShowJob : Type 0 where
+  pub spec : List ℕ
+  pub folder : List ℕ
+
 -- what the words ask for
 pub data Job : Type 0 where
   Run : RunJob → Job
+  Show : ShowJob → Job
 
 -- a word may be an argument: it is not empty and does not begin with `-`
 abbrev pub is_plain : List ℕ → Bool
@@ -64,11 +70,16 @@ trace_job (spec ∷ folder ∷ out ∷ schedule ∷ scripts) =
     cond (is_count (length scripts)) (option_map job (schedule_of (length scripts) schedule)) None
 trace_job _ = None
 
+abbrev pub show_job : List (List ℕ) → Option ShowJob
+show_job (spec ∷ folder ∷ []) = Some (record { spec = spec; folder = folder })
+show_job _ = None
+
 -- the command that a word names, with its arguments
 abbrev pub named_job : List ℕ → List (List ℕ) → Option Job
 named_job command arguments =
     cond (bytes_eq command (codes "run")) (option_map Run (run_job arguments))
-    (cond (bytes_eq command (codes "trace")) (option_map Run (trace_job arguments)) None)
+    (cond (bytes_eq command (codes "trace")) (option_map Run (trace_job arguments))
+    (cond (bytes_eq command (codes "show")) (option_map Show (show_job arguments)) None))
 
 -- the command that the words ask for, if they have a command's form
 abbrev pub job_of : List (List ℕ) → Option Job

@@ -4,7 +4,8 @@ use Rattle.std.specs.Option.{unwrap_or, option_map}
 use Rattle.fx_words.specs.declared.job.Job as every
 use Rattle.fx_words.specs.declared.job.Job.TheVariants as any
 use Rattle.fx_words.specs.declared.job.RunJob as code
-use Rattle.fx_words.specs.Job.{Job, Run, RunJob, Mode, Plain, Scheduled, schedule_of, first_place}
+use Rattle.fx_words.specs.declared.job.ShowJob as code_show
+use Rattle.fx_words.specs.Job.{Job, Run, Show, RunJob, ShowJob, Mode, Plain, Scheduled, schedule_of, first_place}
 
 abbrev pub scripts_in : code.RunJob → List (List ℕ)
 scripts_in j = drop j.first j.words.now
@@ -31,8 +32,13 @@ pub record IsJob (j : code.RunJob) : Type 0 where
   pub few : length (scripts_in j) ≤ 64
   pub schedule : IsScheduleOf (length (scripts_in j)) (schedule_text j)
 
+abbrev pub asked_show : code_show.ShowJob → ShowJob
+asked_show j = record { spec = j.spec.now; folder = j.folder.now }
+
 abbrev pub asked_job : every.Job → Job
 asked_job (any.Run j) = Run (asked j)
+asked_job (any.Show j) = Show (asked_show j)
 
 abbrev pub IsAnyJob : every.Job → Type 0
 IsAnyJob (any.Run j) = IsJob j
+IsAnyJob (any.Show j) = Unit {0}

@@ -1,6 +1,6 @@
 ghost use Rattle.std.specs.Prelude.{◌≡◌, ◌+◌, ◌≤◌, ◌<◌, IfOk, IfSome, Some, slice_get, option_copied, option_map, length, drop, bytes_eq};
 ghost use Rattle.fx_words.specs.Job as job;
-ghost use Rattle.fx_words.specs.JobOf.{asked, asked_job, IsJob, IsAnyJob};
+ghost use Rattle.fx_words.specs.JobOf.{asked, asked_show, asked_job, IsJob, IsAnyJob};
 
 use crate::schedule::{is_schedule, read_schedule};
 use fx_base::NoMemory;
@@ -11,6 +11,7 @@ use std::alloc::Global;
 #[derive(Clone, Copy)]
 pub enum Job<'a> {
     Run(RunJob<'a>),
+    Show(ShowJob<'a>),
 }
 
 /// The arguments of `run SPEC FOLDER OUT SCRIPT`, or of `trace SPEC FOLDER OUT SCHEDULE SCRIPT...`, which alone has a
@@ -23,6 +24,13 @@ pub struct RunJob<'a> {
     pub schedule: Option<&'a HostText>,
     words: &'a Words,
     first: u64,
+}
+
+/// The arguments of `show SPEC FOLDER`.
+#[derive(Clone, Copy)]
+pub struct ShowJob<'a> {
+    pub spec: &'a HostText,
+    pub folder: &'a HostText,
 }
 
 /// Whether a word may be an argument: it is not empty and does not begin with `-`.
@@ -105,6 +113,18 @@ fn trace_job(words: &Words) -> Option<RunJob<'_>>
     })
 }
 
+/// The arguments of `show`, if there are as many as it takes.
+fn show_job(words: &Words) -> Option<ShowJob<'_>>
+    ensures { option_map asked_show result ≡ job.show_job (drop 1 words.now) }
+{
+    if words.len() != 3 {
+        return None;
+    }
+    let spec = words.at(1)?;
+    let folder = words.at(2)?;
+    Some(ShowJob { spec, folder })
+}
+
 /// The command that the words ask for; none exactly where they have no command's form, or a number of the schedule is not
 /// below the number of scripts.
 pub fn job_of(words: &Words) -> Option<Job<'_>>
@@ -120,6 +140,9 @@ pub fn job_of(words: &Words) -> Option<Job<'_>>
     }
     if names(command, "trace") {
         return Some(Job::Run(trace_job(words)?));
+    }
+    if names(command, "show") {
+        return Some(Job::Show(show_job(words)?));
     }
     None
 }

@@ -5,4 +5,4 @@ mod decimal;
 mod job;
 mod schedule;
 
-pub use job::{Job, RunJob, job_of};
+pub use job::{Job, RunJob, ShowJob, job_of};

@@ -3,8 +3,9 @@ use Rattle.fx_spec.specs.Bases.{base_tree}
 use Rattle.fx_words.specs.JobOf.{asked}
 use Rattle.fx_top.specs.Answers.{last_of}
 use Rattle.fx_top.specs.Rows.{RunRow}
-use Rattle.fx_top.specs.StatusOf.{status_of}
-use Rattle.fx_top.proofs.Ending.{err_of, ends_back}
+use Rattle.fx_command.specs.StatusOf.{status_of}
+use Rattle.fx_command.proofs.Told.{err_of}
+use Rattle.fx_top.proofs.Ending.{ends_back}
 use Rattle.fx_top.proofs.Stages.{inputs_read, can_save}
 use Rattle.fx_top.proofs.run.run.Goals as goal
 

@@ -3,12 +3,13 @@ ghost use Rattle.std.specs.Prelude.{◌≡◌, ◌<◌, true, IfOk, IfErr, OnOk,
 ghost use Rattle.fx_outside.specs.Tree.{is_file_at, bytes_at};
 ghost use Rattle.fx_outside.specs.Host.{ReadsAt, ReadsOnly, AsksFit, HasFailed};
 ghost use Rattle.fx_outside.specs.declared.kind.HostFault.TheVariants.{Failed};
-ghost use Rattle.fx_top.specs.Texts.{IsReadAt};
+ghost use Rattle.fx_command.specs.Texts.{IsReadAt};
 
 use fx_base::NoMemory;
 use fx_outside::{Host, HostFault, HostText};
-use fx_texts::TEXT_LIMIT;
 use std::alloc::Global;
+
+const TEXT_LIMIT: usize = 65_536;
 
 /// How many bytes are asked for at a time.
 const PIECE: usize = 8_192;

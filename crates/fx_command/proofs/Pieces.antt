@@ -7,7 +7,7 @@ use Rattle.fx_outside.specs.declared.kind.HostFault.{HostFault}
 use Rattle.fx_outside.specs.Host.{HostView, HasCause, ReadsAt, ReadsOnly, AsksFit}
 use Rattle.fx_outside.proofs.Views.{reads_none, reads_then, fit_then}
 use Rattle.fx_outside.specs.Tree.{Tree, is_file_at, bytes_at}
-use Rattle.fx_top.specs.Texts.{IsFrontAt, IsReadAt}
+use Rattle.fx_command.specs.Texts.{IsFrontAt, IsReadAt}
 
 -- a call that answers suits the tree
 suits_true : {A : Type 0} (result : Result A HostFault) (suits : Bool) (X : Type 0) → IsOk result → (suits ≡ false → IsErr result × X) → suits ≡ true

@@ -1,5 +1,5 @@
-use Rattle.fx_top.proofs.Writing.{begins, goes_on}
-use Rattle.fx_top.proofs.print.print_all.Goals as goal
+use Rattle.fx_command.proofs.Writing.{begins, goes_on}
+use Rattle.fx_command.proofs.print.print_all.Goals as goal
 
 pub writing-init : goal.writing-init
 writing-init g c = begins c.args.bytes.now (g.S.Sink.view c.args.out.now)

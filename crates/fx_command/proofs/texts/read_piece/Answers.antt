@@ -1,7 +1,7 @@
 use Rattle.std.proofs.Common.{◌≡◌, Err, refl, ap, arith, length}
 use Rattle.fx_outside.specs.Tree.{is_file_at}
-use Rattle.fx_top.proofs.Pieces.{cut, cut_to, take_front, suited}
-use Rattle.fx_top.proofs.texts.read_piece.Goals as goal
+use Rattle.fx_command.proofs.Pieces.{cut, cut_to, take_front, suited}
+use Rattle.fx_command.proofs.texts.read_piece.Goals as goal
 
 pub returns-in-Err-read-clause-failed : goal.returns-in-Err-read-clause-failed
 returns-in-Err-read-clause-failed g c = λ failed. c.in-Err-read.ensures.cause.failed (ap (λ e. Err e) failed)

@@ -1,7 +1,7 @@
 -- The numbers of the statuses.
 use Rattle.std.specs.Prelude.{ℕ}
-use Rattle.fx_top.specs.declared.status.Status.{Status}
-use Rattle.fx_top.specs.declared.status.Status.TheVariants as status
+use Rattle.fx_command.specs.declared.status.Status.{Status}
+use Rattle.fx_command.specs.declared.status.Status.TheVariants as status
 
 abbrev pub status_code : Status → ℕ
 status_code status.Done = 0

@@ -1,0 +1,18 @@
+-- What a command that asked nothing but reads, or nothing at all, leaves at the host and at the sink.
+use Rattle.std.specs.Prelude.{◌≡◌, List, ℕ, ◌++◌, Some, IfSome}
+use Rattle.fx_outside.specs.Host.{HostView, ReadsOnly}
+use Rattle.fx_outside.specs.Sink.{SinkView}
+
+-- nothing but reads was asked of the host, and nothing of the sink
+pub record IsSame (host host' : HostView) (sink sink' : SinkView) : Type 0 where
+  pub reads : ReadsOnly host host'
+  pub unprinted : sink' ≡ sink
+
+-- nothing was asked of host and sink
+pub record IsIdle (host host' : HostView) (sink sink' : SinkView) : Type 0 where
+  pub unasked : host' ≡ host
+  pub unprinted : sink' ≡ sink
+
+-- what was printed before stays in front
+abbrev pub Grows : SinkView → SinkView → Type 0
+Grows sink sink' = IfSome sink.written (λ w. (bytes : List ℕ) × (sink'.written ≡ Some (w ++ bytes)))

@@ -1,0 +1,4 @@
+pub mod Codes
+pub mod Left
+pub mod StatusOf
+pub mod Texts

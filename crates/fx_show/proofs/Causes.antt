@@ -1,0 +1,64 @@
+-- The cause for which a text is refused, from the faults of its parser and of its check.
+use Rattle.std.proofs.Common.{◌≡◌, ◌∙◌, ℕ, List, [], Result, Ok, Err, IfErr, refl, sym, ap, subst}
+use Rattle.std.specs.Result.{IsErrAnd}
+use Rattle.std.proofs.lemmas.Result.{err_from_is_err_and}
+use Rattle.fx_check.specs.declared.fault.CheckFault.{CheckFault}
+use Rattle.fx_check.specs.declared.fault.CheckFault.TheVariants as check
+use Rattle.fx_check.specs.Checked.{checked}
+use Rattle.fx_check.specs.Faults.{Fault}
+use Rattle.fx_check.specs.Gives.{IsFault}
+use Rattle.fx_check.proofs.Checking.{is_checked}
+use Rattle.fx_expr.specs.ShapeTree.{ShapeTree}
+use Rattle.fx_expr.specs.Views.{shape_tree}
+use Rattle.fx_grammar.specs.Grammars.{descriptions}
+use Rattle.fx_grammar.specs.Refused.{IsRefused}
+use Rattle.fx_grammar.specs.Texts as texts
+use Rattle.fx_parse.specs.declared.fault.ParseFault.{ParseFault}
+use Rattle.fx_parse.specs.declared.fault.ParseFault.TheVariants as parse
+use Rattle.fx_spec.specs.Move.{value_shape}
+use Rattle.fx_spec.specs.SpecTree.{SpecTree}
+use Rattle.fx_show.specs.declared.fault.DescriptionFault.{DescriptionFault}
+use Rattle.fx_command.specs.declared.status.TextFault.{TextFault}
+use Rattle.fx_command.specs.declared.status.TextFault.TheVariants as fault
+use Rattle.fx_show.specs.Described.{Describes, HasCause, HasFault, IsRefusedFor, IsUndescribed}
+use Rattle.fx_show.specs.Faults.{of_parse, of_check}
+
+-- no fault but want of memory comes where the text stands for a description
+abbrev OnlyMemory : List ℕ → ParseFault → Type 0
+OnlyMemory text f = (spec : SpecTree) → texts.IsDescription text spec → f ≡ parse.NoMemory
+
+refused : (text : List ℕ) (cause : TextFault) (f : ParseFault) → (f ≡ parse.NoMemory → ⊥) → OnlyMemory text f → HasCause text cause → IsRefusedFor text cause
+refused text cause f isnt only has = record { none = λ spec is. isnt (only spec is.read); cause = has }
+
+pub not_parsed : (text : List ℕ) (f : ParseFault) → OnlyMemory text f → IsRefused descriptions text f → IsUndescribed text (of_parse f)
+not_parsed text parse.TooLarge only has = refused text fault.TooLarge parse.TooLarge (λ e. cc) only has
+not_parsed text (parse.BadToken n) only has = refused text (fault.BadToken n) (parse.BadToken n) (λ e. cc) only has
+not_parsed text (parse.Unexpected n) only has = refused text (fault.Unexpected n) (parse.Unexpected n) (λ e. cc) only has
+not_parsed text (parse.TooNested n) only has = refused text (fault.TooNested n) (parse.TooNested n) (λ e. cc) only has
+not_parsed text (parse.NotBuilt n) only has = absurd has
+not_parsed text parse.NoMemory only has = tt
+
+-- a description with a fault is not one without
+unshaped : (spec : SpecTree) (first : Fault) (s : ShapeTree) → checked [] spec ≡ Err first → checked [] spec ≡ Ok s → ⊥
+unshaped spec first s fault fine = let both : Ok s ≡ Err first = sym fine ∙ fault in cc
+
+faulty : (text : List ℕ) (spec : SpecTree) (cause : TextFault) (first : Fault) → ((other : SpecTree) → texts.IsDescription text other → spec ≡ other) → checked [] spec ≡ Err first → HasCause text cause → IsRefusedFor text cause
+faulty text spec cause first only found has = record {
+  none = λ other is. unshaped spec first (value_shape other) found (ap (checked []) (only other is.read) ∙ is_checked [] other is.shapes);
+  cause = has;
+}
+
+pub not_checked : (text : List ℕ) (spec : SpecTree) (f : CheckFault) → texts.IsDescription text spec → ((other : SpecTree) → texts.IsDescription text other → spec ≡ other) → IsFault f (checked [] spec) → IsUndescribed text (of_check f)
+not_checked text spec (check.Unknown word) read only found = faulty text spec (fault.Unknown word) (Fault.unknown word) only found (record { spec = spec; read = read; found = found })
+not_checked text spec (check.TypeDiffers a b) read only found =
+    faulty text spec (fault.TypeDiffers a b) (Fault.differs (shape_tree a) (shape_tree b)) only found (record { spec = spec; read = read; found = found })
+not_checked text spec (check.Repeated word) read only found = faulty text spec (fault.Repeated word) (Fault.repeated word) only found (record { spec = spec; read = read; found = found })
+not_checked text spec check.TooMany read only found = faulty text spec fault.TooMany Fault.too_many only found (record { spec = spec; read = read; found = found })
+not_checked text spec check.NoMemory read only found = tt
+
+-- an error that a `?` hands on
+pub handed : {X E : Type 0} (P : E → Type 0) (r : Result X E) (e : E) → IsErrAnd r (λ d. d ≡ e) → P e → IfErr r P
+handed {X = X} {E = E} P r e is holds =
+    let err = err_from_is_err_and r is in
+    let whole : r ≡ Err e = err.1 ∙ subst (λ d. ◌≡◌ {A = Result X E} (Err err.0) (Err d)) err.2 refl in
+    subst (λ r. IfErr r P) (sym whole) holds

@@ -1,0 +1,4 @@
+pub mod Alone
+pub mod Causes
+pub mod Completing
+pub mod Showing

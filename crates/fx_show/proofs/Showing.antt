@@ -1,0 +1,154 @@
+-- The rows of the table of statuses for `show`, from what its stages ensure.
+use Rattle.std.proofs.Common.{◌≡◌, ◌⊎◌, inl, inr, ℕ, ◌≤◌, ◌<◌, Bool, true, false, ◌&&◌, List, ◌++◌, take, length, Option, Some, None, Result, Ok, Err, IfOk, IfErr, IfSome, refl, sym, ◌∙◌, subst, arith}
+use Rattle.std.specs.FinMap.{get}
+use Rattle.fx_base.specs.Causes.{Rose}
+use Rattle.fx_store.specs.Whole.{Nodes}
+use Rattle.fx_outside.specs.declared.kind.HostFault.{HostFault}
+use Rattle.fx_outside.specs.declared.kind.HostFault.TheVariants as fails
+use Rattle.fx_outside.specs.Host.{HostView, ReadsOnly, HasFailed}
+use Rattle.fx_outside.specs.Path.{is_fit}
+use Rattle.fx_outside.specs.Sink.{SinkView}
+use Rattle.fx_outside.specs.Tree.{Tree, is_file_at, bytes_at, is_folder_at}
+use Rattle.fx_outside.proofs.Views.{reads_then}
+use Rattle.fx_folder.specs.Loads.{Loads, LoadCause}
+use Rattle.fx_folder.specs.declared.fault.LoadFault.{LoadFault}
+use Rattle.fx_folder.specs.declared.fault.LoadFault.TheVariants as load
+use Rattle.fx_grammar.specs.Texts as texts
+use Rattle.fx_spec.specs.SpecTree.{SpecTree}
+use Rattle.fx_show.specs.declared.fault.DescriptionFault.{DescriptionFault}
+use Rattle.fx_show.specs.declared.fault.DescriptionFault.TheVariants as description
+use Rattle.fx_command.specs.declared.status.TextFault.{TextFault}
+use Rattle.fx_command.specs.declared.status.TextFault.TheVariants as fault
+use Rattle.fx_show.specs.Described.{Describes, IsRefusedFor, IsUndescribed}
+use Rattle.fx_show.specs.Shown.{root_value, shown}
+use Rattle.fx_command.specs.declared.status.Status.{Status}
+use Rattle.fx_command.specs.declared.status.Status.TheVariants as status
+use Rattle.fx_show.specs.Rows.{ShowRow, ShowEndsAs, IsShown, IsShownInPart}
+use Rattle.fx_show.specs.Shows.{HasDescription, HasNoDescription, HasSomeDescription, IsShowing, CannotShow}
+use Rattle.fx_command.specs.StatusOf.{read_status, load_status}
+use Rattle.fx_show.specs.Faults.{status_of_fault}
+use Rattle.fx_command.specs.Texts.{IsReadAt}
+use Rattle.fx_command.proofs.Told.{if_some_map, if_some_both, some_and, some_unit, same, grows_front, grows_all, cause_back, some_back, same_back, left_true, right_true}
+use Rattle.fx_words.specs.Job.{ShowJob}
+
+-- ---- the text
+
+described : (t : Tree) (j : ShowJob) (text : List ℕ) (spec : SpecTree) → Describes text spec → IsReadAt t j.spec text → HasDescription t j spec
+described t j text spec is read = record { file = read.file; describes = subst (λ x. Describes x spec) (read.whole is.read.short) is }
+
+pub description_read : (j : ShowJob) (host : HostView) (text : List ℕ) (spec : SpecTree) → IfSome host.told (λ t. IsReadAt t j.spec text) → Describes text spec → IfSome host.told (λ t. HasDescription t j spec)
+description_read j host text spec read is = if_some_map (λ t. IsReadAt t j.spec text) (λ t. HasDescription t j spec) host.told (λ t read. described t j text spec is read) read
+
+-- a text that is within its limit was read whole; else so many bytes were read that it is none
+whole : (t : Tree) (path text : List ℕ) (cause : TextFault) → IsReadAt t path text → length text ≤ 65536 → IsRefusedFor text cause → IsRefusedFor (bytes_at t path) cause
+whole t path text cause read short is = subst (λ x. IsRefusedFor x cause) (read.whole short) is
+
+too_large : (t : Tree) (path text : List ℕ) → IsReadAt t path text → 65536 < length text → IsRefusedFor (bytes_at t path) fault.TooLarge
+too_large t path text read large = record {
+  none = λ spec is. absurd (omega (arith, large, read.within, is.read.short));
+  cause = omega (arith, large, read.within);
+}
+
+refused_whole : (t : Tree) (path text : List ℕ) (cause : TextFault) → IsReadAt t path text → IsRefusedFor text cause → IsRefusedFor (bytes_at t path) cause
+refused_whole t path text fault.TooLarge read is = too_large t path text read is.cause
+refused_whole t path text (fault.BadToken n) read is = whole t path text (fault.BadToken n) read is.cause.0 is
+refused_whole t path text (fault.Unexpected n) read is = whole t path text (fault.Unexpected n) read is.cause.short is
+refused_whole t path text (fault.TooNested n) read is = whole t path text (fault.TooNested n) read is.cause.short is
+refused_whole t path text (fault.NotBuilt n) read is = absurd is.cause
+refused_whole t path text (fault.Unknown w) read is = whole t path text (fault.Unknown w) read is.cause.read.short is
+refused_whole t path text (fault.TypeDiffers a b) read is = whole t path text (fault.TypeDiffers a b) read is.cause.read.short is
+refused_whole t path text (fault.Repeated w) read is = whole t path text (fault.Repeated w) read is.cause.read.short is
+refused_whole t path text fault.TooMany read is = whole t path text fault.TooMany read is.cause.read.short is
+
+-- ---- stages that only read
+
+show_no_memory : (j : ShowJob) (host host' : HostView) → ReadsOnly host host' → ShowEndsAs j host host' status.NoMemory
+show_no_memory j host host' reads sink = same host host' sink reads
+
+show_read_failed : (j : ShowJob) (suits : Tree → Bool) (P : Tree → Type 0) (host host' : HostView) → ReadsOnly host host' → ((t : Tree) → P t → suits t ≡ false → CannotShow t j) → IfSome host.told P → HasFailed suits host host' → ShowEndsAs j host host' status.ReadFault
+show_read_failed j suits P host host' reads why before (inl rose) sink = (same host host' sink reads, inl rose)
+show_read_failed j suits P host host' reads why before (inr none) sink =
+    (same host host' sink reads, inr (some_and P (λ t. suits t ≡ false) (λ t. CannotShow t j) host.told why before none))
+
+-- the text is not read, or refused
+pub text_unread : (j : ShowJob) (host host' : HostView) (fault : HostFault) → ReadsOnly host host' → (fault ≡ fails.Failed → HasFailed (λ t. is_file_at t j.spec) host host') → ShowEndsAs j host host' (read_status fault)
+text_unread j host host' fails.Failed reads failed =
+    show_read_failed j (λ t. is_file_at t j.spec) (λ _. Unit {0}) host host' reads (λ t _ none. inl none) (some_unit host.told) (failed refl)
+text_unread j host host' fails.NoMemory reads failed = show_no_memory j host host' reads
+
+pub text_refused : (j : ShowJob) (host host' : HostView) (text : List ℕ) (refusal : DescriptionFault) → ReadsOnly host host' → IfSome host.told (λ t. IsReadAt t j.spec text) → IsUndescribed text refusal → ShowEndsAs j host host' (status_of_fault refusal)
+text_refused j host host' text (description.Refused cause) reads read is sink =
+    (same host host' sink reads, refl, if_some_map (λ t. IsReadAt t j.spec text) (λ t. HasNoDescription t j cause) host.told (λ t read. record { file = read.file; refused = refused_whole t j.spec text cause read is }) read)
+text_refused j host host' text description.NoMemory reads read is sink = show_no_memory j host host' reads sink
+
+-- the folder is not loaded
+pub folder_unloaded : (j : ShowJob) (host host' : HostView) (fault : LoadFault) → ReadsOnly host host' → IfSome host.told (λ t. HasSomeDescription t j) → LoadCause j.folder host host' fault → ShowEndsAs j host host' (load_status fault)
+folder_unloaded j host host' (load.Refused cause) reads described refused sink =
+    (same host host' sink reads, if_some_both (λ t. HasSomeDescription t j) _ _ host.told (λ t described refused. (described, refused)) described refused)
+folder_unloaded j host host' load.ReadFault reads described failed sink =
+    show_read_failed j (λ t. is_folder_at t j.folder) (λ t. HasSomeDescription t j) host host' reads (λ t described none. inr (described, none)) described failed sink
+folder_unloaded j host host' load.NoMemory reads described failed sink = show_no_memory j host host' reads sink
+
+-- ---- from one stage to the next
+
+pub some_description : (j : ShowJob) (spec : SpecTree) (a b : HostView) → ReadsOnly a b → IfSome a.told (λ t. HasDescription t j spec) → IfSome b.told (λ t. HasSomeDescription t j)
+some_description j spec a b reads is =
+    subst (λ o. IfSome o (λ t. HasSomeDescription t j)) (sym reads.same)
+    (if_some_map (λ t. HasDescription t j spec) (λ t. HasSomeDescription t j) a.told (λ t is. (spec, is)) is)
+
+pub showing : (j : ShowJob) (spec : SpecTree) (nodes : Nodes) (output : List ℕ) (a : HostView) → IfSome a.told (λ t. HasDescription t j spec) → IfSome a.told (λ t. Loads t j.folder nodes) → output ≡ shown (root_value (get nodes) spec) → IfSome a.told (λ t. IsShowing t j output)
+showing j spec nodes output a described loaded shows =
+    if_some_both (λ t. HasDescription t j spec) (λ t. Loads t j.folder nodes) (λ t. IsShowing t j output) a.told
+    (λ t described loaded. record { spec = spec; nodes = nodes; described = described; loaded = loaded; shows = shows }) described loaded
+
+pub showing_before : (j : ShowJob) (a b : HostView) (result : Result (List ℕ) Status) → ReadsOnly a b → IfOk result (λ output. IfSome b.told (λ t. IsShowing t j output)) → IfOk result (λ output. IfSome a.told (λ t. IsShowing t j output))
+showing_before j a b (Ok output) reads is = some_back (λ t. IsShowing t j output) a b reads is
+showing_before j a b (Err st) reads is = tt
+
+show_row_back : (j : ShowJob) (a b c : HostView) (sink sink' : SinkView) (st : Status) → ReadsOnly a b → ShowRow j b c sink sink' st → ShowRow j a c sink sink' st
+show_row_back j a b c sink sink' status.Done reads row = (reads_then a b c reads row.0, row.1, some_back (λ t. IsShown t j sink.written sink'.written) a b reads row.2)
+show_row_back j a b c sink sink' status.Usage reads row = row
+show_row_back j a b c sink sink' (status.TextRefused word cause) reads row = (same_back a b c sink sink' reads row.0, row.1, some_back (λ t. HasNoDescription t j cause) a b reads row.2)
+show_row_back j a b c sink sink' (status.FolderRefused cause) reads row = (same_back a b c sink sink' reads row.0, some_back _ a b reads row.1)
+show_row_back j a b c sink sink' status.ReadFault reads row = (same_back a b c sink sink' reads row.0, cause_back (λ t. CannotShow t j) a b c reads row.1)
+show_row_back j a b c sink sink' status.NotEmpty reads row = row
+show_row_back j a b c sink sink' status.WriteFault reads row = record {
+  reads = reads_then a b c reads row.reads;
+  cause = row.cause;
+  grows = row.grows;
+  left = some_back (λ t. IsShownInPart t j sink.written sink'.written) a b reads row.left;
+}
+show_row_back j a b c sink sink' status.NoMemory reads row = same_back a b c sink sink' reads row
+
+pub show_ends_back : (j : ShowJob) (a b c : HostView) (st : Status) → ReadsOnly a b → ShowEndsAs j b c st → ShowEndsAs j a c st
+show_ends_back j a b c st reads ends sink = show_row_back j a b c sink sink st reads (ends sink)
+
+pub show_ends_before : {X : Type 0} (j : ShowJob) (a b c : HostView) (result : Result X Status) → ReadsOnly a b → IfErr result (ShowEndsAs j b c) → IfErr result (ShowEndsAs j a c)
+show_ends_before j a b c (Ok x) reads ends = tt
+show_ends_before j a b c (Err st) reads ends = show_ends_back j a b c st reads ends
+
+-- ---- the last stage
+
+pub show_unprinted : (j : ShowJob) (output : List ℕ) (host host' : HostView) (sink sink' : SinkView) → ReadsOnly host host' → IfSome host.told (λ t. IsShowing t j output) → IfSome sink.written (λ w. (n : ℕ) × (sink'.written ≡ Some (w ++ take n output))) → Rose sink.faults sink'.faults → ShowRow j host host' sink sink' status.WriteFault
+show_unprinted j output host host' sink sink' reads is front rose = record {
+  reads = reads;
+  cause = rose;
+  grows = grows_front sink sink' output front;
+  left = if_some_map (λ t. IsShowing t j output) (λ t. IsShownInPart t j sink.written sink'.written) host.told (λ t is. record { output = output; showing = is; written = front }) is;
+}
+
+pub show_done : (j : ShowJob) (output : List ℕ) (host host' : HostView) (sink sink' : SinkView) → ReadsOnly host host' → IfSome host.told (λ t. IsShowing t j output) → IfSome sink.written (λ w. sink'.written ≡ Some (w ++ output)) → ShowRow j host host' sink sink' status.Done
+show_done j output host host' sink sink' reads is all = (
+  reads,
+  grows_all sink sink' output all,
+  if_some_map (λ t. IsShowing t j output) (λ t. IsShown t j sink.written sink'.written) host.told (λ t is. record { output = output; showing = is; written = all }) is,
+)
+
+-- ---- fit paths
+
+module _ (j : ShowJob) (fit : (is_fit j.spec && is_fit j.folder) ≡ true) where
+  pub show_fit_spec : is_fit j.spec ≡ true
+  show_fit_spec = left_true (is_fit j.spec) (is_fit j.folder) fit
+
+  pub show_fit_folder : is_fit j.folder ≡ true
+  show_fit_folder = right_true (is_fit j.spec) (is_fit j.folder) fit

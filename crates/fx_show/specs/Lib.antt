@@ -1,0 +1,5 @@
+pub mod Described
+pub mod Faults
+pub mod Rows
+pub mod Shown
+pub mod Shows
