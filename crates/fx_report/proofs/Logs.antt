@@ -1,8 +1,7 @@
 -- The entries of a log are those of its order.
-use Rattle.std.proofs.Common.{◌≡◌, ℕ, zero, suc, ◌+◌, List, [], ◌∷◌, Option, Some, None, length, refl, sym, ap, ◌∙◌, subst, arith}
+use Rattle.std.proofs.Common.{◌≡◌, ℕ, zero, suc, ◌+◌, List, [], ◌∷◌, Some, length, refl, ap, ◌∙◌, arith}
 use Rattle.std.specs.List.{slice_get}
 use Rattle.std.specs.FinMap.{get}
-use Rattle.fx_spec.specs.CommandTree.{CommandTree}
 use Rattle.fx_spec.specs.Plans.{Turn, txn_of}
 use Rattle.fx_spec.specs.Order.{BaseTree, state}
 use Rattle.fx_spec.specs.Transaction.{outputs, end}

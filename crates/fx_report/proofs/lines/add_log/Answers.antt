@@ -1,4 +1,4 @@
-use Rattle.std.proofs.Common.{◌≡◌, ◌++◌, ◌<◌, ◌≤◌, length, refl, sym, ap, ◌∙◌, arith, append_assoc, take}
+use Rattle.std.proofs.Common.{◌++◌, ◌≤◌, length, refl, ap, ◌∙◌, arith, append_assoc}
 use Rattle.std.proofs.lemmas.List.{take_all}
 use Rattle.fx_report.specs.Entries.{entries_of}
 use Rattle.fx_report.specs.Report.{entries_text}

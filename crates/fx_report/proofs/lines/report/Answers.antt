@@ -1,6 +1,6 @@
 use Rattle.std.proofs.Common.{◌≡◌, length, refl, sym}
 use Rattle.fx_report.specs.Entries.{entries_of}
-use Rattle.fx_report.specs.Report.{report_text, field, line}
+use Rattle.fx_report.specs.Report.{report_text}
 use Rattle.fx_report.proofs.Logs.{entries_of_length}
 use Rattle.fx_report.proofs.lines.report.Goals as goal
 
