@@ -1,11 +1,10 @@
 -- Changes that are added to others, and the rule of a removal, step by step.
-use Rattle.std.proofs.Common.{◌≡◌, ℕ, suc, ◌-◌, ◌<◌, ◌≤◌, Bool, true, false, cond, List, [], ◌∷◌, ◌++◌, length, Option, Some, None, Ok, refl, sym, ap, ◌∙◌, arith, append_assoc, length-append}
+use Rattle.std.proofs.Common.{◌≡◌, ℕ, suc, ◌-◌, ◌<◌, ◌≤◌, List, [], ◌∷◌, ◌++◌, length, Option, Some, None, Ok, refl, sym, ap, ◌∙◌, arith, append_assoc, length-append}
 use Rattle.std.proofs.lemmas.List.{append-nil}
 use mathlib.Core.Path.{fun_ext}
 use Rattle.fx_store.specs.declared.node.Node.{Node}
-use Rattle.fx_store.specs.declared.node.Node.TheVariants.{File, Dir}
+use Rattle.fx_store.specs.declared.node.Node.TheVariants.{Dir}
 use Rattle.fx_store.specs.declared.changes.Change.{Change}
-use Rattle.fx_store.specs.Names.{has}
 use Rattle.fx_store.specs.Resolve.{◌/ₚ◌}
 use Rattle.fx_store.specs.Rule.{Ask, Answer, Look, ◌>>=◌}
 use Rattle.fx_store.proofs.Asks.{ask-bind-assoc}
@@ -72,22 +71,6 @@ adding-clear before q short = ap (adding before) (clear-is q short) ∙ adding-t
 
 pub adding-listing : (before : List Change) (q : Path) (names : List (List ℕ)) → adding before (cleared_listing q (Some names)) ≡ adding (before ++ removed q ∷ []) (entries (λ n. clear (q /ₚ n)) names)
 adding-listing before q names = adding-first before (removed q ∷ []) (entries (λ n. clear (q /ₚ n)) names)
-
--- ---- an entry of a directory with new names
-
-module _ (q : Path) (old new : List (List ℕ)) (n : List ℕ) where
-  pub entry-dropped : has new n ≡ false → entry q old new n ≡ clear (q /ₚ n)
-  entry-dropped gone = ap (λ b. cond b (cond (has old n) (Answer []) (Look (q /ₚ n) (λ node. Answer (set_to (q /ₚ n) (File []) ∷ [])))) (clear (q /ₚ n))) gone
-
-  pub entry-kept : has new n ≡ true → has old n ≡ true → entry q old new n ≡ Answer []
-  entry-kept there before =
-      ap (λ b. cond b (cond (has old n) (Answer []) (Look (q /ₚ n) (λ node. Answer (set_to (q /ₚ n) (File []) ∷ [])))) (clear (q /ₚ n))) there
-      ∙ ap (λ (b : Bool). cond b (Answer []) (Look (q /ₚ n) (λ node. Answer (set_to (q /ₚ n) (File []) ∷ [])))) before
-
-  pub entry-added : has new n ≡ true → has old n ≡ false → entry q old new n ≡ Look (q /ₚ n) (λ node. Answer (set_to (q /ₚ n) (File []) ∷ []))
-  entry-added there before =
-      ap (λ b. cond b (cond (has old n) (Answer []) (Look (q /ₚ n) (λ node. Answer (set_to (q /ₚ n) (File []) ∷ [])))) (clear (q /ₚ n))) there
-      ∙ ap (λ (b : Bool). cond b (Answer []) (Look (q /ₚ n) (λ node. Answer (set_to (q /ₚ n) (File []) ∷ [])))) before
 
 -- ---- a directory with new names, as an edit
 

@@ -30,9 +30,6 @@ module _ {R : Type 0} (m : Meaning R) (own : Known) (old : R) (before : List Cha
       by_rule m (λ (u : Unit {0}). before) own old old (Answer before) (adding before rule) (Ok tt) (ap (adding before) is ∙ adding-none before)
       (by_answer m (λ (u : Unit {0}). before) own old before tt refl)
 
-  pub adds_as : (new : R) (after : List Change) (rule other : Ask (List Change)) (r : Result (Unit {0}) Stop) → other ≡ rule → Adds new after rule r → Adds new after other r
-  adds_as new after rule other r is h = by_rule m (λ (u : Unit {0}). after) own old new (adding before rule) (adding before other) r (ap (adding before) is) h
-
   -- ---- a removal
 
   module _ (q : Path) (short : length q ≤ 64) (mid : R) where

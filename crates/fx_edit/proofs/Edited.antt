@@ -1,5 +1,5 @@
 -- Edits by the rules of their changes.
-use Rattle.std.proofs.Common.{◌≡◌, ℕ, Bool, true, false, List, ◌∷◌, drop, Result, Ok, Err, refl, sym, subst, ap}
+use Rattle.std.proofs.Common.{◌≡◌, ℕ, Bool, false, List, ◌∷◌, drop, Result, Ok, Err, refl, sym, subst, ap}
 use Rattle.std.specs.Prelude.{IsErrAnd}
 use Rattle.fx_store.specs.declared.node.Node.TheVariants.{Dir}
 use Rattle.fx_store.specs.declared.changes.Change.{Change}
@@ -29,9 +29,6 @@ Path = List (List ℕ)
 abbrev Changes : Type 0
 Changes = List Change
 
-pub unless_deep-deep : (b : Bool) (rule : Ask (Answered (List Change))) → b ≡ true → unless_deep b rule ≡ Answer (Err Refusal.TooDeep)
-unless_deep-deep b rule is = ap (λ b. unless_deep b rule) is
-
 pub unless_deep-room : (b : Bool) (rule : Ask (Answered (List Change))) → b ≡ false → unless_deep b rule ≡ rule
 unless_deep-room b rule is = ap (λ b. unless_deep b rule) is
 
@@ -52,11 +49,6 @@ module _ {R : Type 0} (m : Meaning R) (own : Known) (old : R) (other : Ask (Answ
   edit_refused refusal is =
       by_rule m (answered (λ (e : Changes). e)) own old old (Answer (Err refusal)) other (Ok (Err refusal)) is
       (by_answer m (answered (λ (e : Changes). e)) own old (Err refusal) (Err refusal) refl)
-
-  pub edit_at_once : (cs : List Change) → other ≡ Answer (Ok cs) → GoesBy {X = Result (List Change) Refusal} m (answered (λ (e : Changes). e)) own old old other (Ok (Ok cs))
-  edit_at_once cs is =
-      by_rule m (answered (λ (e : Changes). e)) own old old (Answer (Ok cs)) other (Ok (Ok cs)) is
-      (by_answer m (answered (λ (e : Changes). e)) own old (Ok cs) (Ok cs) refl)
 
 -- ---- what is made in a directory
 

@@ -1,7 +1,7 @@
 -- Calls that go by rules and pass errors on by `?`.
-use Rattle.std.proofs.Common.{◌≡◌, Result, Ok, Err, refl, sym, subst}
+use Rattle.std.proofs.Common.{◌≡◌, Result, Ok, Err, sym, subst}
 use Rattle.std.specs.Prelude.{IsErrAnd}
-use Rattle.fx_store.specs.Rule.{Known, Ask, Answer, ◌>>=◌}
+use Rattle.fx_store.specs.Rule.{Known, Ask, ◌>>=◌}
 use Rattle.fx_spec.specs.declared.refusal.Refusal.{Refusal}
 use Rattle.fx_spec.specs.Move.{Answered}
 use Rattle.fx_view.specs.declared.reader.Stop.{Stop}
@@ -9,20 +9,16 @@ use Rattle.fx_view.specs.declared.reader.Stop.TheVariants as stop
 use Rattle.fx_view.specs.Follows.{GoesBy}
 use Rattle.fx_view.specs.Meaning.{Meaning}
 use Rattle.fx_view.proofs.Errors.{err_of}
-use Rattle.fx_view.proofs.Rulings.{by_answer, by_refused, by_stop, by_same, by_then_refused}
+use Rattle.fx_view.proofs.Rulings.{by_refused, by_stop, by_same, by_then_refused}
 use Rattle.fx_rules.specs.declared.halt.Halt.{Halt}
 use Rattle.fx_rules.specs.declared.halt.Halt.TheVariants as halt
 use Rattle.fx_rules.specs.Answering.{answered}
 use Rattle.fx_rules.specs.Halts.{split}
-use Rattle.fx_rules.proofs.Halting.{split_stopped, split_refused}
+use Rattle.fx_rules.proofs.Halting.{split_stopped}
 
 -- ---- a call that may be stopped
 
 module _ {R B Y : Type 0} (m : Meaning R) (then_view : Y → B) (own : Known) (old : R) (r : Result Y Stop) where
-  -- memory is refused before anything is read
-  pub refused_by : (rule : Ask B) → IsErrAnd r (λ d. d ≡ stop.NoMemory) → GoesBy m then_view own old old rule r
-  refused_by rule is = subst (λ (r : Result Y Stop). GoesBy m then_view own old old rule r) (sym (err_of r stop.NoMemory is)) (by_refused m then_view own old rule)
-
   module _ {A X : Type 0} (view : X → A) (mid : R) (rule : Ask A) (f : A → Ask B) where
     -- the first call stops
     pub stops_by : (why : Stop) → IsErrAnd r (λ d. d ≡ why) → GoesBy {A = A} {X = X} m view own old mid rule (Err why) → GoesBy m then_view own old mid (rule >>= f) r
@@ -40,21 +36,11 @@ module _ {R B Y : Type 0} (m : Meaning R) (then_view : Y → B) (own : Known) (o
   halts_refused rule is =
       subst (λ (s : Result (Result Y Refusal) Stop). GoesBy m (answered then_view) own old old rule s) (sym (split_stopped r stop.NoMemory is)) (by_refused m (answered then_view) own old rule)
 
-  -- the rule refuses at once
-  pub halts_answer : (refusal : Refusal) → IsErrAnd r (λ h. h ≡ halt.Refused refusal) → GoesBy m (answered then_view) own old old (Answer (Err refusal)) (split r)
-  halts_answer refusal is =
-      subst (λ (s : Result (Result Y Refusal) Stop). GoesBy m (answered then_view) own old old (Answer (Err refusal)) s) (sym (split_refused r refusal is)) (by_answer m (answered then_view) own old (Err refusal) (Err refusal) refl)
-
   module _ {A X : Type 0} (view : X → A) (mid : R) (rule : Ask A) (f : A → Ask (Answered B)) where
     -- the first call stops
     pub halts_by : (why : Stop) → IsErrAnd r (λ h. h ≡ halt.Stopped why) → GoesBy {A = A} {X = X} m view own old mid rule (Err why) → GoesBy m (answered then_view) own old mid (rule >>= f) (split r)
     halts_by why is first =
         subst (λ (s : Result (Result Y Refusal) Stop). GoesBy m (answered then_view) own old mid (rule >>= f) s) (sym (split_stopped r why is)) (by_stop m view (answered then_view) own old mid rule f why first)
-
-    -- the first call answers, and then memory is refused
-    pub halts_tired : (x : X) → IsErrAnd r (λ h. h ≡ halt.Stopped stop.NoMemory) → GoesBy m view own old mid rule (Ok x) → GoesBy m (answered then_view) own old mid (rule >>= f) (split r)
-    halts_tired x is first =
-        subst (λ (s : Result (Result Y Refusal) Stop). GoesBy m (answered then_view) own old mid (rule >>= f) s) (sym (split_stopped r stop.NoMemory is)) (by_then_refused m view (answered then_view) own old mid rule f x first)
 
 -- ---- a rule that is written another way
 

@@ -75,9 +75,6 @@ link-wrong v e = wrong SpecTree.link v (no_text v e).1
 pub dir-wrong : (v : Tree) → texts_of v ≡ None → stored_node SpecTree.dir v ≡ Err Refusal.WrongForm
 dir-wrong v e = wrong SpecTree.dir v (no_texts v e)
 
-pub focus-wrong : (e : _) (s : SpecTree) (v : Tree) → stored_node (SpecTree.focus e s) v ≡ Err Refusal.WrongForm
-focus-wrong e s v = wrong (SpecTree.focus e s) v refl
-
 -- ---- those that do
 
 pub text_is : (v : Tree) (t : List ℕ) → text_of v ≡ Some t → v ≡ Tree.str t

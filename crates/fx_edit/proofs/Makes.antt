@@ -75,17 +75,6 @@ deep_under here names node short = not_deep here names node (omega arith) ∙ ro
 pub deep_at : (here : Path) (names : List (List ℕ)) (node : Node) → length here + length names ≤ 64 → 64 ≤ length here + length names → is_too_deep here names node ≡ lists_some node
 deep_at here names node short full = not_deep here names node short ∙ room_at (here ++ names) node (omega (arith, length-append here names))
 
--- what is not too deep has room
-pub deep_short : (here : Path) (names : List (List ℕ)) (node : Node) → is_too_deep here names node ≡ false → length here + length names ≤ 64
-deep_short here names node e = at (nat_lt 64 (length here + length names)) refl e
-  where
-    at : (b : Bool) → nat_lt 64 (length here + length names) ≡ b → cond b true (lacks_room (here ++ names) node) ≡ false → length here + length names ≤ 64
-    at true f e = cc
-    at false f e = grind (arith, nat_tests)
-
-pub deep_room : (here : Path) (names : List (List ℕ)) (node : Node) → is_too_deep here names node ≡ false → lacks_room (here ++ names) node ≡ false
-deep_room here names node e = sym (not_deep here names node (deep_short here names node e)) ∙ e
-
 -- a directory with a name, where there is room, has a path of less than 64 names
 pub room_short : (q : Path) (names : List (List ℕ)) → lacks_room q (Dir names) ≡ false → 0 < length names → length q < 64
 room_short q names e some = at (is_full q) refl e
@@ -97,12 +86,6 @@ room_short q names e some = at (is_full q) refl e
     at true f e = let bad : true ≡ false = sym one ∙ e in cc
     at false f e = grind (arith, nat_tests)
 
-pub room_full : (q : Path) (names : List (List ℕ)) → 64 ≤ length q → lacks_room q (Dir names) ≡ nat_lt 0 (length names)
-room_full q names full = room_at q (Dir names) full
-
-pub room_empty : (q : Path) (names : List (List ℕ)) → length q < 64 → lacks_room q (Dir names) ≡ false
-room_empty q names short = room_under q (Dir names) short
-
 -- ---- along the names
 
 -- so many of the names are made
@@ -111,9 +94,6 @@ pub record IsMaking (here : Path) (names : List (List ℕ)) (node : Node) (begun
   pub whole : path ++ drop i names ≡ here ++ names
 
 module _ (here : Path) (names : List (List ℕ)) (node : Node) (begun : List Change) where
-  pub making_first : IsMaking here names node begun here begun 0
-  making_first = record { rest = refl; whole = refl }
-
   pub making_next : (path more : Path) (so_far longer : List Change) (i : ℕ) → IsMaking here names node begun path so_far i → IsNextMade names i node path more so_far longer → IsMaking here names node begun more longer (i + 1)
   making_next path more so_far longer i is next =
       let n = next.name in

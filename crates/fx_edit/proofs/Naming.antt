@@ -7,7 +7,7 @@ use Rattle.std.proofs.lemmas.List.Elements.{All-nil, All-cons}
 use Rattle.std.proofs.lemmas.Option.{get_or_from_slice_get, slice_get_within}
 use Rattle.fx_store.specs.declared.node.Node.TheVariants.{Dir}
 use Rattle.fx_store.specs.declared.name.PathFault.{PathFault}
-use Rattle.fx_store.specs.declared.name.PathFault.TheVariants.{BadName, TooDeep}
+use Rattle.fx_store.specs.declared.name.PathFault.TheVariants.{BadName}
 use Rattle.fx_store.specs.Faults.{read_name}
 use Rattle.fx_store.specs.Names.{is_name, IsNameSet}
 use Rattle.fx_expr.specs.Sets.{IsAscending}
@@ -15,7 +15,6 @@ use Rattle.fx_spec.specs.declared.refusal.Refusal.{Refusal}
 use Rattle.fx_spec.specs.Edit.{names_node}
 use Rattle.fx_spec.specs.Move.{Answered}
 use Rattle.fx_view.proofs.Errors.{err_of}
-use Rattle.fx_view.specs.declared.reader.Stop.TheVariants as stop
 use Rattle.fx_rules.specs.declared.halt.Halt.{Halt}
 use Rattle.fx_rules.specs.declared.halt.Halt.TheVariants as halt
 use Rattle.fx_edit.specs.Values.{name_read, Tells}
@@ -96,10 +95,6 @@ module _ (texts : List (List ℕ)) where
 
 -- ---- what calls tell
 
--- memory is refused
-pub told_tired : {A X : Type 0} (view : X → A) (told : Answered A) (r : Result X Halt) → IsErrAnd r (λ h. h ≡ halt.Stopped stop.NoMemory) → Tells view told r
-told_tired view told r is = subst (Tells view told) (sym (err_of r (halt.Stopped stop.NoMemory) is)) refl
-
 -- a refusal that is passed on
 module _ {A B X Y : Type 0} (view : X → A) (then_view : Y → B) (told : Answered A) (other : Answered B) (same : (refusal : Refusal) → told ≡ Err refusal → other ≡ Err refusal) where
   passed : (e : Halt) → Tells view told (Err e) → Tells {A = B} {X = Y} then_view other (Err e)
@@ -124,10 +119,3 @@ module _ (t : List ℕ) where
       at : (b : Bool) → ◌≡◌ {A = Result (List ℕ) PathFault} (cond b (Ok t) (Err BadName)) (Err BadName) → ◌≡◌ {A = Answered (List ℕ)} (cond b (Ok t) (Err Refusal.BadName)) (Err Refusal.BadName)
       at true f = cc
       at false f = refl
-
-  pub named_deep : read_name t ≡ Err TooDeep → ⊥
-  named_deep e = at (is_name t) e
-    where
-      at : (b : Bool) → ◌≡◌ {A = Result (List ℕ) PathFault} (cond b (Ok t) (Err BadName)) (Err TooDeep) → ⊥
-      at true f = cc
-      at false f = cc
