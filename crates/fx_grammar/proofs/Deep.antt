@@ -7,11 +7,13 @@ use Rattle.std.proofs.lemmas.List.Folds.{list_all-append}
 use Rattle.fx_expr.specs.ExprTree.{ExprTree}
 use Rattle.fx_expr.specs.ShapeTree.{ShapeTree}
 use Rattle.fx_spec.specs.SpecTree.{SpecTree}
-use Rattle.fx_spec.specs.Levels.{expr_levels as expr_depth, shape_levels as shape_depth, spec_levels as spec_depth}
+use Rattle.fx_spec.specs.CommandTree.{ActTree, CommandTree, Block, block}
+use Rattle.fx_spec.specs.Levels.{expr_levels as expr_depth, shape_levels as shape_depth, spec_levels as spec_depth, act_levels as act_depth, command_levels as command_depth, block_levels as block_depth, txn_levels as txn_depth}
 use Rattle.fx_parse.specs.Grammars.{expr_levels, shape_levels}
 use Rattle.fx_parse.proofs.Machine.{at_most}
 use Rattle.fx_parse.proofs.ExprLink.{front_low, rest_low, tail_low}
-use Rattle.fx_grammar.specs.TokenLevels.{spec_token_levels}
+use Rattle.fx_grammar.specs.Agree.{script_levels as script_depth}
+use Rattle.fx_grammar.specs.TokenLevels.{spec_token_levels, act_rest_levels, command_token_levels, block_token_levels, txn_token_levels, script_token_levels}
 
 -- no level is above a bound
 pub record Low (b : ℕ) (l : List ℕ) : Type 0 where
@@ -162,3 +164,134 @@ spec_low b d (SpecTree.pred e) h = cons (here b d (expr_depth e) h) (zero (join 
 spec_low b d SpecTree.file h = leaf_low b d h
 spec_low b d SpecTree.dir h = leaf_low b d h
 spec_low b d SpecTree.link h = leaf_low b d h
+
+-- an act at the end of a command of level d
+pub act_deep : (b d : ℕ) (a : ActTree) → d ≤ b → Low b (act_rest_levels d a) → d + act_depth a ≤ suc b
+act_deep b d (ActTree.to e) here h = one b d (expr_depth e) (expr_deep b (suc d) e (front (expr_levels (suc d) e) _ (tail h)))
+act_deep b d (ActTree.store e) here h = one b d (expr_depth e) (expr_deep b (suc d) e (front (expr_levels (suc d) e) _ (tail h)))
+act_deep b d ActTree.into here h = omega (arith, here)
+act_deep b d ActTree.next here h = omega (arith, here)
+act_deep b d ActTree.prev here h = omega (arith, here)
+act_deep b d ActTree.out here h = omega (arith, here)
+act_deep b d ActTree.down here h = omega (arith, here)
+act_deep b d ActTree.up here h = omega (arith, here)
+act_deep b d ActTree.top here h = omega (arith, here)
+act_deep b d ActTree.create here h = omega (arith, here)
+act_deep b d ActTree.remove here h = omega (arith, here)
+
+pub act_low : (b d : ℕ) (a : ActTree) → d + act_depth a ≤ suc b → Low b (act_rest_levels d a)
+act_low b d (ActTree.to e) h = zero (join (expr_low b (suc d) e (inside b d (expr_depth e) h)) (zero none))
+act_low b d (ActTree.store e) h = zero (join (expr_low b (suc d) e (inside b d (expr_depth e) h)) (zero none))
+act_low b d ActTree.into h = none
+act_low b d ActTree.next h = none
+act_low b d ActTree.prev h = none
+act_low b d ActTree.out h = none
+act_low b d ActTree.down h = none
+act_low b d ActTree.up h = none
+act_low b d ActTree.top h = none
+act_low b d ActTree.create h = none
+act_low b d ActTree.remove h = none
+
+head : {b d : ℕ} {l : List ℕ} → Low b (d ∷ l) → d ≤ b
+head {b} {d} h = leb-true d b (and_parts _ _ h.low).0
+
+next : (b d : ℕ) → d ≤ b → suc d ≤ suc b
+next b d h = omega arith
+
+both : (b d m n : ℕ) → d + m ≤ b → d + n ≤ b → d + max m n ≤ b
+both b d m n h i = let most = max-le {a = m} {b = n} {k = b - d} (omega arith) (omega arith) in omega (arith, most, h)
+
+left : (b d m n : ℕ) → d + max m n ≤ b → d + m ≤ b
+left b d m n h = omega (arith, le-max_left m n)
+
+right : (b d m n : ℕ) → d + max m n ≤ b → d + n ≤ b
+right b d m n h = omega (arith, le-max_right m n)
+
+leaf_here : (b d : ℕ) → d + 1 ≤ suc b → d ≤ b
+leaf_here b d h = omega arith
+
+act_here : (b d : ℕ) (a : ActTree) → d + act_depth a ≤ suc b → d ≤ b
+act_here b d (ActTree.to e) h = here b d (expr_depth e) h
+act_here b d (ActTree.store e) h = here b d (expr_depth e) h
+act_here b d ActTree.into h = leaf_here b d h
+act_here b d ActTree.next h = leaf_here b d h
+act_here b d ActTree.prev h = leaf_here b d h
+act_here b d ActTree.out h = leaf_here b d h
+act_here b d ActTree.down h = leaf_here b d h
+act_here b d ActTree.up h = leaf_here b d h
+act_here b d ActTree.top h = leaf_here b d h
+act_here b d ActTree.create h = leaf_here b d h
+act_here b d ActTree.remove h = leaf_here b d h
+
+mutual
+  pub command_deep : (b d : ℕ) (c : CommandTree) → Low b (command_token_levels d c) → d + command_depth c ≤ suc b
+  command_deep b d (CommandTree.act a) h = act_deep b d a (head h) (tail h)
+  command_deep b d (CommandTree.attempt x a) h = act_deep b d a (head h) (tail (tail (tail h)))
+  command_deep b d (CommandTree.bind x e) h = one b d (expr_depth e) (expr_deep b (suc d) e (tail (tail (tail h))))
+  command_deep b d (CommandTree.assign x e) h = one b d (expr_depth e) (expr_deep b (suc d) e (tail (tail (tail h))))
+  command_deep b d (CommandTree.fetch x s) h = one b d (shape_depth s) (shape_deep b (suc d) s (tail (tail (tail h))))
+  command_deep b d (CommandTree.whole x s) h = one b d (shape_depth s) (shape_deep b (suc d) s (tail (tail (tail h))))
+  command_deep b d (CommandTree.validate x) h = leaf_deep h
+  command_deep b d (CommandTree.print e) h = one b d (expr_depth e) (expr_deep b (suc d) e (front (expr_levels (suc d) e) _ (tail (tail h))))
+  command_deep b d (CommandTree.branch e x y) h =
+      let inner = tail (tail h) in
+      let middle = tail (tail (rest (expr_levels (suc d) e) _ inner)) in
+      let behind = tail (tail (tail (rest (block_token_levels (suc d) x) _ middle))) in
+      let fits = next b d (head h) in
+      let blocks = both (suc b) (suc d) (block_depth x) (block_depth y) (block_deep b (suc d) x fits (front (block_token_levels (suc d) x) _ middle)) (block_deep b (suc d) y fits (front (block_token_levels (suc d) y) _ behind)) in
+      two b d (expr_depth e) (max (block_depth x) (block_depth y)) (expr_deep b (suc d) e (front (expr_levels (suc d) e) _ inner)) blocks
+  command_deep b d (CommandTree.each x e y) h =
+      let inner = tail (tail (tail (tail h))) in
+      let behind = tail (tail (rest (expr_levels (suc d) e) _ inner)) in
+      two b d (expr_depth e) (block_depth y) (expr_deep b (suc d) e (front (expr_levels (suc d) e) _ inner)) (block_deep b (suc d) y (next b d (head h)) (front (block_token_levels (suc d) y) _ behind))
+  command_deep b d CommandTree.abort h = leaf_deep h
+
+  pub block_deep : (b d : ℕ) (cs : Block) → d ≤ suc b → Low b (block_token_levels d cs) → d + block_depth cs ≤ suc b
+  block_deep b d Block.none fits h = omega (arith, fits)
+  block_deep b d (Block.then c cs) fits h =
+      both (suc b) d (command_depth c) (block_depth cs) (command_deep b d c (front (command_token_levels d c) _ h)) (block_deep b d cs fits (rest (command_token_levels d c) _ h))
+
+mutual
+  pub command_low : (b d : ℕ) (c : CommandTree) → d + command_depth c ≤ suc b → Low b (command_token_levels d c)
+  command_low b d (CommandTree.act a) h = cons (act_here b d a h) (act_low b d a h)
+  command_low b d (CommandTree.attempt x a) h = cons (act_here b d a h) (zero (zero (act_low b d a h)))
+  command_low b d (CommandTree.bind x e) h = cons (here b d (expr_depth e) h) (zero (zero (expr_low b (suc d) e (inside b d (expr_depth e) h))))
+  command_low b d (CommandTree.assign x e) h = cons (here b d (expr_depth e) h) (zero (zero (expr_low b (suc d) e (inside b d (expr_depth e) h))))
+  command_low b d (CommandTree.fetch x s) h = cons (here b d (shape_depth s) h) (zero (zero (shape_low b (suc d) s (inside b d (shape_depth s) h))))
+  command_low b d (CommandTree.whole x s) h = cons (here b d (shape_depth s) h) (zero (zero (shape_low b (suc d) s (inside b d (shape_depth s) h))))
+  command_low b d (CommandTree.validate x) h = cons (leaf_here b d h) (zero none)
+  command_low b d (CommandTree.print e) h = cons (here b d (expr_depth e) h) (zero (join (expr_low b (suc d) e (inside b d (expr_depth e) h)) (zero none)))
+  command_low b d (CommandTree.branch e x y) h =
+      let blocks = second b d (expr_depth e) (max (block_depth x) (block_depth y)) h in
+      let test = expr_low b (suc d) e (first b d (expr_depth e) (max (block_depth x) (block_depth y)) h) in
+      let yes = block_low b (suc d) x (left (suc b) (suc d) (block_depth x) (block_depth y) blocks) in
+      let no = block_low b (suc d) y (right (suc b) (suc d) (block_depth x) (block_depth y) blocks) in
+      cons (here b d (max (expr_depth e) (max (block_depth x) (block_depth y))) h) (zero (join test (zero (zero (join yes (zero (zero (zero (join no (zero none))))))))))
+  command_low b d (CommandTree.each x e y) h =
+      let set = expr_low b (suc d) e (first b d (expr_depth e) (block_depth y) h) in
+      let body = block_low b (suc d) y (second b d (expr_depth e) (block_depth y) h) in
+      cons (here b d (max (expr_depth e) (block_depth y)) h) (zero (zero (zero (join set (zero (zero (join body (zero none))))))))
+  command_low b d CommandTree.abort h = cons (leaf_here b d h) none
+
+  pub block_low : (b d : ℕ) (cs : Block) → d + block_depth cs ≤ suc b → Low b (block_token_levels d cs)
+  block_low b d Block.none h = none
+  block_low b d (Block.then c cs) h =
+      join (command_low b d c (left (suc b) d (command_depth c) (block_depth cs) h)) (block_low b d cs (right (suc b) d (command_depth c) (block_depth cs) h))
+
+pub txn_deep : (b d : ℕ) (t : List CommandTree) → Low b (txn_token_levels d t) → d + txn_depth t ≤ suc b
+txn_deep b d t h =
+    one b d (block_depth (block t)) (block_deep b (suc d) (block t) (next b d (head h)) (front (block_token_levels (suc d) (block t)) _ (tail (tail h))))
+
+pub txn_low : (b d : ℕ) (t : List CommandTree) → d + txn_depth t ≤ suc b → Low b (txn_token_levels d t)
+txn_low b d t h =
+    cons (here b d (block_depth (block t)) h) (zero (join (block_low b (suc d) (block t) (inside b d (block_depth (block t)) h)) (zero none)))
+
+pub script_deep : (b d : ℕ) (ts : List (List CommandTree)) → d ≤ suc b → Low b (script_token_levels d ts) → d + script_depth ts ≤ suc b
+script_deep b d [] fits h = omega (arith, fits)
+script_deep b d (t ∷ ts) fits h =
+    both (suc b) d (txn_depth t) (script_depth ts) (txn_deep b d t (front (txn_token_levels d t) _ h)) (script_deep b d ts fits (rest (txn_token_levels d t) _ h))
+
+pub script_low : (b d : ℕ) (ts : List (List CommandTree)) → d + script_depth ts ≤ suc b → Low b (script_token_levels d ts)
+script_low b d [] h = none
+script_low b d (t ∷ ts) h =
+    join (txn_low b d t (left (suc b) d (txn_depth t) (script_depth ts) h)) (script_low b d ts (right (suc b) d (txn_depth t) (script_depth ts) h))

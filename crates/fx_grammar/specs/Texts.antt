@@ -5,9 +5,9 @@ use Rattle.fx_lex.specs.declared.token.Spanned.{Spanned}
 use Rattle.fx_lex.specs.Reading.{AreTokensOf}
 use Rattle.fx_parse.specs.Reader.{kinds}
 use Rattle.fx_spec.specs.SpecTree.{SpecTree}
-use Rattle.fx_spec.specs.CommandTree.{CommandTree, block}
+use Rattle.fx_spec.specs.CommandTree.{CommandTree}
 use Rattle.fx_spec.specs.Levels.{spec_levels, txn_levels}
-use Rattle.fx_grammar.specs.Tokens.{spec_tokens, script_tokens, spec_names, block_names}
+use Rattle.fx_grammar.specs.Tokens.{spec_tokens, script_tokens, spec_names, txn_names}
 
 -- the text has these tokens, one after another
 abbrev pub HasTokens : List ℕ → List Token → Type 0
@@ -23,7 +23,7 @@ pub record IsDescription (text : List ℕ) (spec : SpecTree) : Type 0 where
 
 -- a transaction that a text can stand for: nested at most 64 deep, with no kept word for a name
 pub record IsTxn (commands : List CommandTree) : Type 0 where
-  pub names : block_names (block commands) ≡ true
+  pub names : txn_names commands ≡ true
   pub nested : txn_levels commands ≤ 64
 
 -- a text of at most 65,536 bytes stands for a script: its tokens are those of the transactions

@@ -1,6 +1,6 @@
 -- The tokens of descriptions and scripts, form by form; those of expressions and shapes are the parser's.
 use Rattle.std.specs.Prelude.{Bool, true, ◌&&◌, List, [], ◌∷◌, ◌++◌}
-use Rattle.std.specs.List.{flat_map}
+use Rattle.std.specs.List.{flat_map, list_all}
 use Rattle.fx_lex.specs.declared.token.Token.{Token}
 use Rattle.fx_lex.specs.declared.token.Token.TheVariants as token
 use Rattle.fx_lex.specs.declared.token.Mark.TheVariants as mark
@@ -106,3 +106,9 @@ abbrev mutual
   pub block_names : Block → Bool
   block_names Block.none = true
   block_names (Block.then c cs) = command_names c && block_names cs
+
+abbrev pub txn_names : List CommandTree → Bool
+txn_names commands = block_names (block commands)
+
+abbrev pub script_names : List (List CommandTree) → Bool
+script_names txns = list_all txn_names txns
