@@ -1,4 +1,6 @@
 pub mod Below
+pub mod Branches
+pub mod Counted
 mod DeepExamples
 mod DeepLaws
 pub mod Filled
@@ -6,9 +8,14 @@ pub mod FlatLoads
 mod FlatNodes
 pub mod FlatWalks
 pub mod HeldEntries
+pub mod Linking
 pub mod Listings
+pub mod Loaded
 pub mod Ordered
+pub mod Places
 pub mod Reading
+pub mod RoundTrip
+pub mod Shapes
 pub mod Steps
 mod TableExamples
 mod TableLines
@@ -16,9 +23,5 @@ mod TableLinks
 mod TableSpelling
 pub mod Texts
 pub mod Walk
-pub mod Shapes
-pub mod Linking
 pub mod Walked
-pub mod Loaded
-pub mod Counted
-pub mod RoundTrip
+pub mod Ways

@@ -4,6 +4,7 @@ pub mod DeepLaws
 pub mod Faults
 pub mod Folder
 pub mod Held
+pub mod Limits
 pub mod LoadLaws
 pub mod Loads
 pub mod Reads
@@ -11,4 +12,5 @@ pub mod Table
 pub mod TableExamples
 pub mod TableLaws
 pub mod TableSpelling
+pub mod Walks
 pub mod Written

@@ -6,6 +6,7 @@ pub mod laws;
 mod loading;
 mod readying;
 mod saving;
+mod walking;
 
 pub use fault::{FolderCause, LoadFault, SaveFault};
 pub use loading::load;
