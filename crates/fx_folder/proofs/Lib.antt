@@ -8,6 +8,7 @@ pub mod FlatLoads
 mod FlatNodes
 pub mod FlatWalks
 pub mod HeldEntries
+pub mod Items
 pub mod Linking
 pub mod Listings
 pub mod Loaded

@@ -1,5 +1,5 @@
 -- Where the entries of a folder of any depth stand for the host, and what each of them is loaded as.
-use Rattle.std.proofs.Common.{◌≡◌, ◌≢◌, inl, inr, ℕ, ◌==◌, ◌+◌, ◌-◌, ◌<◌, ◌≤◌, min, Bool, true, false, not, cond, ◌&&◌, ◌||◌, List, [], ◌∷◌, ◌++◌, map, length, Option, Some, None, option_map, IfSome, Result, Ok, Err, refl, sym, ◌∙◌, ap, subst, append_assoc, append-nil, arith, length-append}
+use Rattle.std.proofs.Common.{◌≡◌, ◌≢◌, inl, inr, ℕ, ◌==◌, ◌+◌, ◌-◌, ◌<◌, ◌≤◌, min, Bool, true, false, not, cond, ◌&&◌, ◌||◌, List, [], ◌∷◌, ◌++◌, map, length, Option, Some, None, option_map, IfSome, IfOk, IfErr, OnOk, Result, Ok, Err, refl, sym, ◌∙◌, ap, subst, append_assoc, append-nil, arith, length-append}
 use Rattle.std.specs.Prelude.{⊤, All, nat_le, nat_lt}
 use Rattle.std.specs.Option.{option_or, option_map_or}
 use Rattle.std.specs.List.{list_all, slice_index_or}
@@ -72,6 +72,20 @@ pub record IsPassed (folder text : List ℕ) (path : Parts) (x : Item) : Type 0 
   pub text : 47 ∷ text ≡ place_of path
   pub is : path ≡ item_path x
   pub path : IsPath path
+
+pub passed_of : (folder text : List ℕ) (path : Parts) (x : Item) → 47 ∷ text ≡ place_of (item_path x) → path ≡ item_path x → IsPath path → IsPassed folder text path x
+passed_of folder text path x is same valid = record { text = is ∙ ap place_of (sym same); is = same; path = valid }
+
+pub text_is : (text : List ℕ) (path p : Parts) → 47 ∷ text ≡ place_of p → path ≡ p → 47 ∷ text ≡ place_of path
+text_is text path p is same = is ∙ ap place_of (sym same)
+
+pub on_ok : {A E : Type 0} (r : Result A E) (P : Type 0) → P → OnOk r P
+on_ok (Ok x) P p = p
+on_ok (Err e) P p = tt
+
+pub on_ok_then : {A E : Type 0} (r : Result A E) (P Q : Type 0) → (P → Q) → OnOk r P → OnOk r Q
+on_ok_then (Ok x) P Q f p = f p
+on_ok_then (Err e) P Q f p = tt
 
 kind_file : (o : Option Entry) (k : HostKind) → option_map (λ e. e.kind) o ≡ Some k → k ≡ kinds.File → option_map_or (λ e. is_file_kind e.kind) o false ≡ true
 kind_file None k e f = cc
@@ -211,6 +225,10 @@ no_refusal_told None at nodes left x fault is = tt
 no_refusal_told (Some t) at nodes left x (Refused cause) is = absurd is
 no_refusal_told (Some t) at nodes left x ReadFault is = tt
 no_refusal_told (Some t) at nodes left x NoMemory is = tt
+
+pub folder_result : (told : Option Tree) → IfSome told IsWhole → (folder text : List ℕ) (path : Parts) (nodes left : ℕ) (x : Item) (r : Result Change LoadFault) → IfSome told (λ t. (is_folder_at t folder ≡ true) × IsThere t (parts folder) x) → refused_path nodes (item_path x) ≡ None → IsPassed folder text path x → x.kind ≡ kinds.Folder → IfOk r (λ change. change ≡ record { path = path; node = Some (Dir []) }) → IfErr r IsNoRefusal → IfSome told (λ t. AnswersEntry nodes left (held_of t (parts folder) x) r)
+folder_result told whole folder text path nodes left x (Ok change) there none passed kind is cause = folder_told told whole folder text path nodes left x change there none passed kind is
+folder_result told whole folder text path nodes left x (Err fault) there none passed kind is cause = no_refusal_told told (parts folder) nodes left x fault cause
 
 -- ---- what is to be walked behind an item
 

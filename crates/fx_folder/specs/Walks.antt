@@ -1,10 +1,11 @@
 -- What is left to walk of a folder, and what the walk has found.
-use Rattle.std.specs.Prelude.{◌≡◌, ℕ, ◌-◌, Bool, false, cond, ◌&&◌, nat_le, nat_lt, List, [], ◌∷◌, ◌++◌, map, length, bytes_eq, Option, Some, None, Result, Ok, Err, ⊤, option_map}
+use Rattle.std.specs.Prelude.{◌≡◌, ℕ, ◌-◌, Bool, false, cond, ◌&&◌, nat_le, nat_lt, List, [], ◌∷◌, ◌++◌, map, length, bytes_eq, IfSome, Option, Some, None, Result, Ok, Err, ⊤, option_map}
 use Rattle.std.specs.Option.{option_map_or}
-use Rattle.std.specs.FinMap.{get}
+use Rattle.std.specs.FinMap.{get, entries}
 use Rattle.fx_outside.specs.declared.kind.HostKind.{HostKind}
-use Rattle.fx_outside.specs.Path.{Parts}
-use Rattle.fx_outside.specs.Tree.{Tree, Entry}
+use Rattle.fx_outside.specs.Listing.{Names}
+use Rattle.fx_outside.specs.Path.{Parts, parts}
+use Rattle.fx_outside.specs.Tree.{Tree, Entry, Lists}
 use Rattle.fx_store.specs.declared.node.Node.{Node}
 use Rattle.fx_store.specs.declared.node.Node.TheVariants.{File, Dir, Link}
 use Rattle.fx_store.specs.declared.changes.Change.{Change}
@@ -102,6 +103,10 @@ AnswersEntry nodes left h (Err NoMemory) = ⊤
 pub record IsEntered (tree : Tree) (at : Parts) (names : Parts) (todo todo' : List Item) : Type 0 where
   pub ahead : walked (ahead tree at todo') ≡ walked (map (behind names) (all_below tree (at ++ names)) ++ ahead tree at todo)
   pub there : AreThere tree at todo → AreThere tree at todo'
+
+-- the entries of the folder at a path become items
+abbrev pub AddsItems : Option Tree → List ℕ → Parts → List Item → List Item → Type 0
+AddsItems told path names todo todo' = (listing : Names) × (todo' ≡ todo ++ items_of names (entries listing)) × IfSome told (λ tree. Lists tree (parts path) listing)
 
 -- everything that a walk found, with the bytes that may still be loaded; or the first refusal
 abbrev pub AnswersWalk : Tree → Parts → Result Walked LoadFault → Type 0

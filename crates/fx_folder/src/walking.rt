@@ -3,12 +3,12 @@ ghost use Rattle.std.specs.Prelude.{◌≡◌, ◌<◌, ◌≤◌, ◌+◌, ◌+
 ghost use Rattle.std.specs.FinMap.{entries};
 ghost use Rattle.fx_base.specs.Causes.{Rose};
 ghost use Rattle.fx_outside.specs.Path.{parts};
-ghost use Rattle.fx_outside.specs.Listing.{Names};
 ghost use Rattle.fx_outside.specs.Tree.{Lists, is_folder_at, is_file_at, bytes_at};
 ghost use Rattle.fx_outside.specs.Host.{ReadsOnly, AsksFit};
+ghost use Rattle.fx_store.specs.Names.{IsPath};
 ghost use Rattle.fx_folder.specs.declared.fault.LoadFault.TheVariants.{ReadFault};
 ghost use Rattle.fx_folder.specs.Deep.{place_of};
-ghost use Rattle.fx_folder.specs.Walks.{item_path, items_of, in_table, held_of, AnswersEntry, IsThere, IsEntered, IsOnWay, AnswersWalk, WalkCause, IsNoRefusal, PassesPath, AnswersFile, size_of};
+ghost use Rattle.fx_folder.specs.Walks.{item_path, items_of, in_table, held_of, AnswersEntry, IsThere, IsEntered, IsOnWay, AnswersWalk, WalkCause, IsNoRefusal, AddsItems, PassesPath, AnswersFile, size_of};
 ghost use Rattle.fx_folder.specs.Reads.{path_below};
 
 use crate::loading::{MAX_BYTES, MAX_NODES, TABLE, below_folder, path_below, read_file};
@@ -214,8 +214,8 @@ fn enter_folder<H: Host>(
     requires folder { IfSome (H.view host.old).told (λ tree.
         is_folder_at tree (path_below folder.now text.now) ≡ true) }
     ensures change { IfOk result (λ change. change ≡ record { path = path; node = Some (Node.Dir []) }) }
-    ensures todo { OnOk result ((names : Names) × (todo.new.items ≡ todo.old.items ++ items_of path (entries names))
-        × IfSome (H.view host.old).told (λ tree. Lists tree (parts (path_below folder.now text.now)) names)) }
+    ensures todo { OnOk result (AddsItems (H.view host.old).told (path_below folder.now text.now) path
+        todo.old.items todo.new.items) }
     ensures cause { IfErr result IsNoRefusal }
     ensures fault { result ≡ Err ReadFault
         → Rose (H.view host.old).faults (H.view host.new).faults }
@@ -285,6 +285,7 @@ fn entry_path(
 ) -> Result<Path, LoadFault>
     requires text { 47 ∷ text.now ≡ place_of (item_path item.now) }
     ensures path { PassesPath nodes (item_path item.now) result }
+    ensures names { IfOk result IsPath }
     ensures few { OnOk result (nodes < MAX_NODES) }
 {
     let name = match Name::read(alloc, item.name.as_str().as_bytes()) {
@@ -299,7 +300,10 @@ fn entry_path(
         return Err(LoadFault::Refused(FolderCause::TooLarge(below_folder(alloc, text)?)));
     }
     match item.parent.join(alloc, &name) {
-        Ok(path) => Ok(path),
+        Ok(path) => {
+            prove!(path.len() <= 64);
+            Ok(path)
+        }
         Err(PathFault::NoMemory) => Err(LoadFault::NoMemory),
         Err(PathFault::TooDeep) => Err(LoadFault::Refused(FolderCause::TooLarge(below_folder(
             alloc, text,
