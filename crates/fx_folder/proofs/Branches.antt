@@ -2,7 +2,7 @@
 use Rattle.std.proofs.Common.{◌≡◌, ◌≢◌, inl, inr, ℕ, suc, Bool, true, false, not, cond, ◌&&◌, T, List, [], ◌∷◌, ◌++◌, map, length, Option, Some, None, option_map, refl, sym, ◌∙◌, ap, subst, append_assoc, append-nil}
 use Rattle.std.specs.Prelude.{⊤}
 use Rattle.std.specs.declared.cmp.Ordering.{Ordering}
-use Rattle.std.specs.declared.cmp.Ordering.TheVariants.{Less, Equal}
+use Rattle.std.specs.declared.cmp.Ordering.TheVariants.{Less, Equal, Greater}
 use Rattle.std.specs.Ordering.{is_eq, is_lt, eq_by_cmp, ordering_then}
 use Rattle.std.specs.Cmp.{tied_itself}
 use Rattle.std.specs.Option.{option_and_then, option_map_or, option_or}
@@ -63,12 +63,12 @@ below_sorted P (e ∷ es) h =
 -- no names lead to the folder itself
 root_below : (P : Parts) (es : List (Parts × Entry)) → T (below_all parts_cmp [] (filter_map (held_below P) es))
 root_below P [] = tt
-root_below P (e ∷ es) = by (rest_of P e.0) refl
+root_below P (e ∷ es) = by (rest_of P e.0) refl (root_below P es)
   where
-    by : (o : Option Parts) → rest_of P e.0 ≡ o → T (below_all parts_cmp [] (cons_option (below_as (rest_of P e.0) e.1) (filter_map (held_below P) es)))
-    by None is = subst (λ o. T (below_all parts_cmp [] (cons_option (below_as o e.1) (filter_map (held_below P) es)))) (sym is) (root_below P es)
-    by (Some []) is = subst (λ o. T (below_all parts_cmp [] (cons_option (below_as o e.1) (filter_map (held_below P) es)))) (sym is) (root_below P es)
-    by (Some (n ∷ q)) is = subst (λ o. T (below_all parts_cmp [] (cons_option (below_as o e.1) (filter_map (held_below P) es)))) (sym is) (root_below P es)
+    by : (o : Option Parts) → rest_of P e.0 ≡ o → T (below_all parts_cmp [] (filter_map (held_below P) es)) → T (below_all parts_cmp [] (cons_option (below_as (rest_of P e.0) e.1) (filter_map (held_below P) es)))
+    by None is rest = subst (λ o. T (below_all parts_cmp [] (cons_option (below_as o e.1) (filter_map (held_below P) es)))) (sym is) rest
+    by (Some []) is rest = subst (λ o. T (below_all parts_cmp [] (cons_option (below_as o e.1) (filter_map (held_below P) es)))) (sym is) rest
+    by (Some (n ∷ q)) is rest = subst (λ o. T (below_all parts_cmp [] (cons_option (below_as o e.1) (filter_map (held_below P) es)))) (sym is) rest
 
 not_found : {X : Type 0} (k : Parts) (es : List (Parts × X)) → T (below_all parts_cmp k es) → find parts_cmp k es ≡ None
 not_found k [] h = refl
@@ -84,21 +84,18 @@ apart_from P q r never = elim (cases_Bool (eq_by_cmp parts_cmp (P ++ r) q)) [
 
 find_in : (P : Parts) (n : List ℕ) (r : Parts) (es : List (Parts × Entry)) → find parts_cmp (n ∷ r) (filter_map (held_below P) es) ≡ find parts_cmp (P ++ n ∷ r) es
 find_in P n r [] = refl
-find_in P n r (e ∷ es) = by (rest_of P e.0) refl
+find_in P n r (e ∷ es) = by (rest_of P e.0) refl (find_in P n r es)
   where
-    abbrev Goal : Option Parts → Type 0
-    Goal o = find parts_cmp (n ∷ r) (cons_option (below_as o e.1) (filter_map (held_below P) es)) ≡ cond (eq_by_cmp parts_cmp (P ++ n ∷ r) e.0) (Some e.1) (find parts_cmp (P ++ n ∷ r) es)
-
     passed : (rest_of P e.0 ≡ Some (n ∷ r) → ⊥) → find parts_cmp (P ++ n ∷ r) es ≡ cond (eq_by_cmp parts_cmp (P ++ n ∷ r) e.0) (Some e.1) (find parts_cmp (P ++ n ∷ r) es)
     passed never = ap (λ b. cond b (Some e.1) (find parts_cmp (P ++ n ∷ r) es)) (sym (apart_from P e.0 (n ∷ r) never))
 
-    by : (o : Option Parts) → rest_of P e.0 ≡ o → find parts_cmp (n ∷ r) (cons_option (below_as (rest_of P e.0) e.1) (filter_map (held_below P) es)) ≡ cond (eq_by_cmp parts_cmp (P ++ n ∷ r) e.0) (Some e.1) (find parts_cmp (P ++ n ∷ r) es)
-    by None is = ap (λ o. find parts_cmp (n ∷ r) (cons_option (below_as o e.1) (filter_map (held_below P) es))) is ∙ find_in P n r es ∙ passed (λ w. let wrong : None ≡ Some (n ∷ r) = sym is ∙ w in cc)
-    by (Some []) is = ap (λ o. find parts_cmp (n ∷ r) (cons_option (below_as o e.1) (filter_map (held_below P) es))) is ∙ find_in P n r es ∙ passed (λ w. let wrong : Some [] ≡ Some (n ∷ r) = sym is ∙ w in cc)
-    by (Some (m ∷ q)) is =
+    by : (o : Option Parts) → rest_of P e.0 ≡ o → find parts_cmp (n ∷ r) (filter_map (held_below P) es) ≡ find parts_cmp (P ++ n ∷ r) es → find parts_cmp (n ∷ r) (cons_option (below_as (rest_of P e.0) e.1) (filter_map (held_below P) es)) ≡ cond (eq_by_cmp parts_cmp (P ++ n ∷ r) e.0) (Some e.1) (find parts_cmp (P ++ n ∷ r) es)
+    by None is rest = ap (λ o. find parts_cmp (n ∷ r) (cons_option (below_as o e.1) (filter_map (held_below P) es))) is ∙ rest ∙ passed (λ w. let wrong : None ≡ Some (n ∷ r) = sym is ∙ w in cc)
+    by (Some []) is rest = ap (λ o. find parts_cmp (n ∷ r) (cons_option (below_as o e.1) (filter_map (held_below P) es))) is ∙ rest ∙ passed (λ w. let wrong : Some [] ≡ Some (n ∷ r) = sym is ∙ w in cc)
+    by (Some (m ∷ q)) is rest =
         let tied : eq_by_cmp parts_cmp (n ∷ r) (m ∷ q) ≡ eq_by_cmp parts_cmp (P ++ n ∷ r) e.0 = ap is_eq (sym (same_front P (n ∷ r) (m ∷ q))) ∙ ap (eq_by_cmp parts_cmp (P ++ n ∷ r)) (sym (rest_is P e.0 (m ∷ q) is)) in
         ap (λ o. find parts_cmp (n ∷ r) (cons_option (below_as o e.1) (filter_map (held_below P) es))) is
-        ∙ ap (λ x. cond (eq_by_cmp parts_cmp (n ∷ r) (m ∷ q)) (Some e.1) x) (find_in P n r es)
+        ∙ ap (λ x. cond (eq_by_cmp parts_cmp (n ∷ r) (m ∷ q)) (Some e.1) x) rest
         ∙ ap (λ b. cond b (Some e.1) (find parts_cmp (P ++ n ∷ r) es)) tied
 
 pub all_sorted : (t : Tree) (P : Parts) → T (is_sorted parts_cmp (all_below t P))
@@ -182,28 +179,26 @@ module _ (t : Tree) (P : Parts) where
   found_at n [] (Some kind) = Some (record { kind = kind; bytes = bytes_in t (P ++ n ∷ []) })
   found_at n (b ∷ r) (Some kind) = find parts_cmp (b ∷ r) (all_below t (P ++ n ∷ []))
 
+  itself : (n : List ℕ) (k : HostKind) (ys : List Held) → ((s : Parts) → find parts_cmp (n ∷ s) ys ≡ None) → (r : Parts) → find parts_cmp (n ∷ r) (block t P (n, k) ++ ys) ≡ found_at n r (Some k)
+  itself n k ys none [] = ap (λ o. cond (is_eq o) (Some (record { kind = k; bytes = bytes_in t (P ++ n ∷ []) })) (find parts_cmp (n ∷ []) (map (behind (n ∷ [])) (all_below t (P ++ n ∷ [])) ++ ys))) (one_front n [] [])
+  itself n k ys none (b ∷ r) =
+      ap (λ o. cond (is_eq o) (Some (record { kind = k; bytes = bytes_in t (P ++ n ∷ []) })) (find parts_cmp (n ∷ b ∷ r) (map (behind (n ∷ [])) (all_below t (P ++ n ∷ [])) ++ ys))) (one_front n (b ∷ r) [])
+      ∙ find_front n (b ∷ r) (all_below t (P ++ n ∷ [])) ys (none (b ∷ r))
+
   find_blocks : (n : List ℕ) (r : Parts) (es : List (List ℕ × HostKind)) → T (is_sorted name_cmp es) → find parts_cmp (n ∷ r) (blocks t P es) ≡ found_at n r (find name_cmp n es)
   find_blocks n r [] h = refl
   find_blocks n r (e ∷ es) h = elim (cases_Bool (eq_by_cmp name_cmp n e.0)) [
-    | inl same ↦ here r same ∙ ap (λ b. found_at n r (cond b (Some e.1) (find name_cmp n es))) (sym same)
+    | inl same ↦
+        let it : n ≡ e.0 = name_same n e.0 (true_test _ (sym same)) in
+        let none : (s : Parts) → find parts_cmp (n ∷ s) (blocks t P es) ≡ None = λ s. not_found (n ∷ s) (blocks t P es) (blocks_after n s es (subst (λ m. T (below_all name_cmp m es)) (sym it) (first (below_all name_cmp e.0 es) _ h))) in
+        subst (λ m. find parts_cmp (n ∷ r) (block t P (m, e.1) ++ blocks t P es) ≡ found_at n r (Some e.1)) it (itself n e.1 (blocks t P es) none r)
+        ∙ ap (λ b. found_at n r (cond b (Some e.1) (find name_cmp n es))) (sym same)
     | inr apart ↦
         ap (λ b. cond b (Some (record { kind = e.1; bytes = bytes_in t (P ++ e.0 ∷ []) })) (find parts_cmp (n ∷ r) (map (behind (e.0 ∷ [])) (all_below t (P ++ e.0 ∷ [])) ++ blocks t P es))) (apart_names n e.0 r [] apart)
         ∙ find_other n e.0 r (all_below t (P ++ e.0 ∷ [])) (blocks t P es) apart
         ∙ find_blocks n r es (second (below_all name_cmp e.0 es) _ h)
         ∙ ap (λ b. found_at n r (cond b (Some e.1) (find name_cmp n es))) (sym apart)
   ]
-    where
-      here : (r : Parts) → eq_by_cmp name_cmp n e.0 ≡ true → find parts_cmp (n ∷ r) (blocks t P (e ∷ es)) ≡ found_at n r (Some e.1)
-      here r same = subst (λ m. find parts_cmp (n ∷ r) ((m ∷ [], record { kind = e.1; bytes = bytes_in t (P ++ m ∷ []) }) ∷ map (behind (m ∷ [])) (all_below t (P ++ m ∷ [])) ++ blocks t P es) ≡ found_at n r (Some e.1)) (name_same n e.0 (true_test _ (sym same))) (itself r)
-        where
-          none : (s : Parts) → find parts_cmp (n ∷ s) (blocks t P es) ≡ None
-          none s = not_found (n ∷ s) (blocks t P es) (blocks_after n s es (subst (λ m. T (below_all name_cmp m es)) (sym (name_same n e.0 (true_test _ (sym same)))) (first (below_all name_cmp e.0 es) _ h)))
-
-          itself : (s : Parts) → find parts_cmp (n ∷ s) ((n ∷ [], record { kind = e.1; bytes = bytes_in t (P ++ n ∷ []) }) ∷ map (behind (n ∷ [])) (all_below t (P ++ n ∷ [])) ++ blocks t P es) ≡ found_at n s (Some e.1)
-          itself [] = ap (λ o. cond (is_eq o) (Some (record { kind = e.1; bytes = bytes_in t (P ++ n ∷ []) })) (find parts_cmp (n ∷ []) (map (behind (n ∷ [])) (all_below t (P ++ n ∷ [])) ++ blocks t P es))) (one_front n [] [])
-          itself (b ∷ s) =
-              ap (λ o. cond (is_eq o) (Some (record { kind = e.1; bytes = bytes_in t (P ++ n ∷ []) })) (find parts_cmp (n ∷ b ∷ s) (map (behind (n ∷ [])) (all_below t (P ++ n ∷ [])) ++ blocks t P es))) (one_front n (b ∷ s) [])
-              ∙ find_front n (b ∷ s) (all_below t (P ++ n ∷ [])) (blocks t P es) (none (b ∷ s))
 
 -- the entry of a kind that is found is that entry
 pushed_some : (P : Parts) (n : List ℕ) → P ++ n ∷ [] ≢ []
@@ -217,20 +212,20 @@ found_same t whole P n (b ∷ r) None is =
 found_same t whole P n [] (Some e) is = ap (λ o. Some (record { kind = e.kind; bytes = option_map_or (λ (x : Entry). x.bytes) o [] })) is ∙ sym is
 found_same t whole P n (b ∷ r) (Some e) is = find_below t (P ++ n ∷ []) b r ∙ ap (get t) (append_assoc P (n ∷ []) (b ∷ r))
 
+no_root : (n : List ℕ) (xs ys : List Held) → find parts_cmp [] ys ≡ None → find parts_cmp [] (map (behind (n ∷ [])) xs ++ ys) ≡ None
+no_root n [] ys none = none
+no_root n (x ∷ xs) ys none = no_root n xs ys none
+
+root_blocks : (t : Tree) (P : Parts) (es : List (List ℕ × HostKind)) → find parts_cmp [] (blocks t P es) ≡ None
+root_blocks t P [] = refl
+root_blocks t P (e ∷ es) = no_root e.0 (all_below t (P ++ e.0 ∷ [])) (blocks t P es) (root_blocks t P es)
+
 pub below_blocks : (t : Tree) (whole : IsWhole t) (P : Parts) (names : Names) → Lists t P names → all_below t P ≡ blocks t P (entries names)
 below_blocks t whole P names lists =
     same_entries parts_cmp parts_total parts_same (all_below t P) (blocks t P (entries names)) (all_sorted t P) (blocks_sorted t P (entries names) (entries_sorted names)) by
   where
-    root_blocks : (es : List (List ℕ × HostKind)) → find parts_cmp [] (blocks t P es) ≡ None
-    root_blocks [] = refl
-    root_blocks (e ∷ es) = no_root (all_below t (P ++ e.0 ∷ [])) (blocks t P es) (root_blocks es)
-      where
-        no_root : (xs ys : List Held) → find parts_cmp [] ys ≡ None → find parts_cmp [] (map (behind (e.0 ∷ [])) xs ++ ys) ≡ None
-        no_root [] ys none = none
-        no_root (x ∷ xs) ys none = no_root xs ys none
-
     by : (q : Parts) → find parts_cmp q (all_below t P) ≡ find parts_cmp q (blocks t P (entries names))
-    by [] = find_none t P ∙ sym (root_blocks (entries names))
+    by [] = find_none t P ∙ sym (root_blocks t P (entries names))
     by (n ∷ r) =
         find_below t P n r
         ∙ sym (find_blocks t P n r (entries names) (entries_sorted names) ∙ ap (found_at t P n r) (sym (get-entries names n) ∙ lists n) ∙ found_same t whole P n r (get t (P ++ n ∷ [])) refl)
@@ -267,7 +262,7 @@ in_table_more : (q r : Parts) → in_table q ≡ true → in_table (q ++ r) ≡ 
 in_table_more [] r e = cc
 in_table_more (x ∷ q) r e = e
 
-table_is : (h : Held) → is_table h ≡ in_table h.0
+pub table_is : (h : Held) → is_table h ≡ in_table h.0
 table_is ([], e) = refl
 table_is (x ∷ q, e) = refl
 

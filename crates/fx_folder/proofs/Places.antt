@@ -69,12 +69,12 @@ entry_of_text t folder text p here path is =
 
 -- an item that was passed, at its text
 pub record IsPassed (folder text : List ℕ) (path : Parts) (x : Item) : Type 0 where
-  pub text : 47 ∷ text ≡ place_of path
+  pub spelled : 47 ∷ text ≡ place_of path
   pub is : path ≡ item_path x
-  pub path : IsPath path
+  pub valid : IsPath path
 
 pub passed_of : (folder text : List ℕ) (path : Parts) (x : Item) → 47 ∷ text ≡ place_of (item_path x) → path ≡ item_path x → IsPath path → IsPassed folder text path x
-passed_of folder text path x is same valid = record { text = is ∙ ap place_of (sym same); is = same; path = valid }
+passed_of folder text path x is same valid = record { spelled = is ∙ ap place_of (sym same); is = same; valid = valid }
 
 pub text_is : (text : List ℕ) (path p : Parts) → 47 ∷ text ≡ place_of p → path ≡ p → 47 ∷ text ≡ place_of path
 text_is text path p is same = is ∙ ap place_of (sym same)
@@ -96,7 +96,7 @@ kind_folder None k e f = cc
 kind_folder (Some entry) k e f = let same : entry.kind ≡ kinds.Folder = cc in ap is_folder_kind same
 
 entry_of_item : (t : Tree) (folder text : List ℕ) (path : Parts) (x : Item) → is_folder_at t folder ≡ true → IsPassed folder text path x → entry_at t (path_below folder text) ≡ get t (parts folder ++ item_path x)
-entry_of_item t folder text path x here passed = entry_of_text t folder text path here passed.path passed.text ∙ ap (λ q. get t (parts folder ++ q)) passed.is
+entry_of_item t folder text path x here passed = entry_of_text t folder text path here passed.valid passed.spelled ∙ ap (λ q. get t (parts folder ++ q)) passed.is
 
 pub file_there : (told : Option Tree) (folder text : List ℕ) (path : Parts) (x : Item) → IfSome told (λ t. (is_folder_at t folder ≡ true) × IsThere t (parts folder) x) → IsPassed folder text path x → x.kind ≡ kinds.File → IfSome told (λ t. is_file_at t (path_below folder text) ≡ true)
 file_there None folder text path x there passed kind = tt
@@ -138,7 +138,7 @@ other_refused (Some t) folder text path nodes left x none passed kind =
     let h = held_of t (parts folder) x in
     entry_known nodes left (item_path x) h.1 none
     ∙ ap (λ k. option_or (refused_kind (item_path x) k) (refused_bytes left (item_path x) h.1.bytes)) kind
-    ∙ ap (λ l. Some (Strange l)) (sym (passed.text ∙ ap place_of passed.is))
+    ∙ ap (λ l. Some (Strange l)) (sym (passed.spelled ∙ ap place_of passed.is))
 
 sizes : (left most n : ℕ) → (nat_lt most n || nat_lt left n) ≡ nat_lt (min left most) n
 sizes left most n = grind (arith, nat_tests)
@@ -209,8 +209,7 @@ no_size left p = let small : (nat_lt most_in_file 0 || nat_lt left 0) ≡ false 
 folder_entry : (t : Tree) → IsWhole t → (folder text : List ℕ) (path : Parts) (nodes left : ℕ) (x : Item) (change : Change) → (is_folder_at t folder ≡ true) × IsThere t (parts folder) x → refused_path nodes (item_path x) ≡ None → IsPassed folder text path x → x.kind ≡ kinds.Folder → change ≡ record { path = path; node = Some (Dir []) } → AnswersEntry nodes left (held_of t (parts folder) x) (Ok change)
 folder_entry t whole folder text path nodes left x change there none passed kind is =
     let p = item_path x in
-    let empty : bytes_in t (parts folder ++ p) ≡ [] = folder_bytes t whole (parts folder ++ p) (get t (parts folder ++ p)) refl (there.1.kind ∙ ap Some kind) in
-    (
+    let empty : bytes_in t (parts folder ++ p) ≡ [] = folder_bytes t whole (parts folder ++ p) (get t (parts folder ++ p)) refl (there.1.kind ∙ ap Some kind) in (
       entry_known nodes left p (held_of t (parts folder) x).1 none ∙ ap (λ k. option_or (refused_kind p k) (refused_bytes left p (bytes_in t (parts folder ++ p)))) kind ∙ ap (refused_bytes left p) empty ∙ no_size left p,
       is ∙ ap (λ q. record { path = q; node = Some (Dir []) }) passed.is ∙ ap (λ k. record { path = p; node = Some (node_of_kind k (bytes_in t (parts folder ++ p))) }) (sym kind),
       ap size_of is ∙ ap length (sym empty),
@@ -279,6 +278,6 @@ entered_folder None whole folder text path x names todo todo' passed is lists = 
 entered_folder (Some t) whole folder text path x names todo todo' passed is lists =
     let at = parts folder in
     let p = item_path x in
-    let listed : Lists t (at ++ p) names = subst (λ q. Lists t (at ++ q) names) passed.is (subst (λ q. Lists t q names) (parts_of_text folder text path passed.path passed.text) lists) in
+    let listed : Lists t (at ++ p) names = subst (λ q. Lists t (at ++ q) names) passed.is (subst (λ q. Lists t q names) (parts_of_text folder text path passed.valid passed.spelled) lists) in
     let new : todo' ≡ todo ++ items_of p (entries names) = is ∙ ap (λ q. todo ++ items_of q (entries names)) passed.is in
     subst (λ l. IsEntered t at p todo l) (sym new) (record { ahead = items_ahead t whole at p names todo listed; there = items_there t at p names todo listed })

@@ -199,7 +199,11 @@ pub(crate) fn read_file<H: Host>(
 }
 
 /// The host path of an entry of a folder.
-pub(crate) fn path_below(alloc: Global, folder: &HostText, name: &HostText) -> Result<HostText, AllocError>
+pub(crate) fn path_below(
+    alloc: Global,
+    folder: &HostText,
+    name: &HostText,
+) -> Result<HostText, AllocError>
     ensures { IfOk result (λ path. path ≡ path_below folder.now name.now) }
 {
     let mut path = String::from_str(alloc, folder.as_str())?;

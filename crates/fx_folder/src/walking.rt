@@ -261,12 +261,7 @@ fn is_table(parent: &Path, name: &HostText) -> bool
     name.as_str() == TABLE
 }
 
-fn new_item(
-    alloc: Global,
-    parent: &Path,
-    name: &HostText,
-    kind: HostKind,
-) -> Result<Item, NoMemory>
+fn new_item(alloc: Global, parent: &Path, name: &HostText, kind: HostKind) -> Result<Item, NoMemory>
     ensures { IfOk result (λ i. i ≡ record { parent = parent.now; name = name.now; kind = kind }) }
 {
     Ok(Item {
@@ -277,12 +272,7 @@ fn new_item(
 }
 
 /// The path of an item, where so many nodes come before it.
-fn entry_path(
-    alloc: Global,
-    item: &Item,
-    text: &HostText,
-    nodes: u64,
-) -> Result<Path, LoadFault>
+fn entry_path(alloc: Global, item: &Item, text: &HostText, nodes: u64) -> Result<Path, LoadFault>
     requires text { 47 ∷ text.now ≡ place_of (item_path item.now) }
     ensures path { PassesPath nodes (item_path item.now) result }
     ensures names { IfOk result IsPath }
