@@ -27,7 +27,7 @@ use Rattle.fx_folder.proofs.Filled.{rest_append, rest_is, none_below, none_in}
 
 -- ---- what stands below a folder is sorted, and found by its names
 
-same_front : (P a b : Parts) → parts_cmp (P ++ a) (P ++ b) ≡ parts_cmp a b
+pub same_front : (P a b : Parts) → parts_cmp (P ++ a) (P ++ b) ≡ parts_cmp a b
 same_front [] a b = refl
 same_front (x ∷ P) a b = ap (λ r. ordering_then r (parts_cmp (P ++ a) (P ++ b))) (tied_itself name_total x) ∙ same_front P a b
 

@@ -1,3 +1,4 @@
+pub mod Behind
 pub mod Below
 pub mod Branches
 pub mod Counted

@@ -7,6 +7,7 @@ pub mod Held
 pub mod Limits
 pub mod LoadLaws
 pub mod Loads
+pub mod Mapped
 pub mod Reads
 pub mod Table
 pub mod TableExamples

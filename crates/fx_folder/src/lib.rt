@@ -3,6 +3,7 @@
 
 mod fault;
 pub mod laws;
+mod listing;
 mod loading;
 mod readying;
 mod saving;
