@@ -24,6 +24,7 @@ mod TableLines
 mod TableLinks
 mod TableSpelling
 pub mod Texts
+pub mod Unspelled
 pub mod Walk
 pub mod Walked
 pub mod Ways

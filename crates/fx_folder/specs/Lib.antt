@@ -13,5 +13,6 @@ pub mod Table
 pub mod TableExamples
 pub mod TableLaws
 pub mod TableSpelling
+pub mod Unspells
 pub mod Walks
 pub mod Written

@@ -7,6 +7,7 @@ mod listing;
 mod loading;
 mod readying;
 mod saving;
+mod spelling;
 mod walking;
 
 pub use fault::{FolderCause, LoadFault, SaveFault};
