@@ -8,6 +8,7 @@ pub mod Filled
 pub mod FlatLoads
 mod FlatNodes
 pub mod FlatWalks
+pub mod Gives
 pub mod HeldEntries
 pub mod Items
 pub mod Linking

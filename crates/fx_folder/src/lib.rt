@@ -8,6 +8,7 @@ mod loading;
 mod readying;
 mod saving;
 mod spelling;
+mod table;
 mod walking;
 
 pub use fault::{FolderCause, LoadFault, SaveFault};

@@ -7,7 +7,7 @@ use fx_base::NoMemory;
 use std::alloc::Global;
 
 /// The bytes that a text spells: `None` where it spells none.
-fn unspelled(alloc: Global, text: &[u8]) -> Result<Option<Vec<u8>>, NoMemory>
+pub(crate) fn unspelled(alloc: Global, text: &[u8]) -> Result<Option<Vec<u8>>, NoMemory>
     ensures { IfOk result (λ bytes. option_map (λ v. v.items) bytes ≡ unspelled text.now) }
 {
     let mut bytes = Vec::new(alloc);
