@@ -1,14 +1,19 @@
+pub mod Behind
 pub mod Below
+pub mod Branches
 pub mod Counted
 mod DeepExamples
 pub mod Descents
 pub mod Filled
 pub mod FlatLoads
 pub mod Fronts
+pub mod Gives
 pub mod HeldEntries
+pub mod Items
 pub mod Linking
 pub mod Listings
 pub mod Loaded
+pub mod Places
 pub mod Reading
 pub mod Refusals
 pub mod RoundTrip
@@ -21,6 +26,8 @@ pub mod TableRefusals
 mod TableSpelling
 pub mod TableTexts
 pub mod Texts
+pub mod Unspelled
 pub mod Walk
 pub mod Walked
+pub mod Ways
 pub mod Writes

@@ -16,8 +16,8 @@ use Rattle.fx_store.specs.Names.{is_name, path_cmp}
 use Rattle.fx_store.specs.Whole.{Store, Nodes}
 use Rattle.fx_folder.specs.declared.fault.FolderCause.{FolderCause}
 use Rattle.fx_folder.specs.declared.fault.FolderCause.TheVariants.{BadName, Strange, TooLarge, BadTable}
+use Rattle.fx_folder.specs.Limits.{most_nodes, most_in_file, most_bytes, table_name}
 use Rattle.fx_folder.specs.Places.{host_entry, rest_of}
-use Rattle.fx_folder.specs.Loads.{most_nodes, most_in_file, most_bytes, table_name}
 use Rattle.fx_folder.specs.Table.{TableLink, is_feed, read_table, table_text, links_of}
 
 -- an entry, with the names that lead to it from a folder

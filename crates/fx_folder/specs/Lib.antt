@@ -3,8 +3,10 @@ pub mod DeepExamples
 pub mod Faults
 pub mod Folder
 pub mod Held
+pub mod Limits
 pub mod LoadLaws
 pub mod Loads
+pub mod Mapped
 pub mod Places
 pub mod Reads
 pub mod RefusalLaws
@@ -13,4 +15,6 @@ pub mod Table
 pub mod TableExamples
 pub mod TableLaws
 pub mod TableSpelling
+pub mod Unspells
+pub mod Walks
 pub mod Written

@@ -1,5 +1,5 @@
 -- What a folder that holds files alone is loaded as, or why it is refused.
-use Rattle.std.specs.Prelude.{◌≡◌, true, IfSome, ◌+◌, ◌-◌, ℕ, nat_lt, min, cond, List, [], ◌∷◌, map, length, codes, bytes_eq, Option, Some, None, Result, Ok, Err, ⊤}
+use Rattle.std.specs.Prelude.{◌≡◌, true, IfSome, ◌+◌, ◌-◌, ℕ, nat_lt, min, cond, List, [], ◌∷◌, map, length, bytes_eq, Option, Some, None, Result, Ok, Err, ⊤}
 use Rattle.std.specs.Option.{option_or}
 use Rattle.fx_outside.specs.declared.kind.HostKind.{HostKind}
 use Rattle.fx_outside.specs.declared.kind.HostKind.TheVariants.{File, Folder, Other}
@@ -14,21 +14,8 @@ use Rattle.fx_folder.specs.declared.fault.FolderCause.{FolderCause}
 use Rattle.fx_folder.specs.declared.fault.FolderCause.TheVariants.{BadName, Strange, TooLarge, NotBuilt}
 use Rattle.fx_folder.specs.declared.fault.LoadFault.{LoadFault}
 use Rattle.fx_folder.specs.declared.fault.LoadFault.TheVariants.{Refused, ReadFault, NoMemory}
+pub use Rattle.fx_folder.specs.Limits.{most_nodes, most_in_file, most_bytes, table_name}
 use Rattle.fx_folder.specs.Held.{held}
-
--- how many nodes a loaded filestore has, the root among them, and how many bytes a file and all files
-abbrev pub most_nodes : ℕ
-most_nodes = 100000
-
-abbrev pub most_in_file : ℕ
-most_in_file = 1048576
-
-abbrev pub most_bytes : ℕ
-most_bytes = 67108864
-
--- the file in which a folder keeps its links
-abbrev pub table_name : List ℕ
-table_name = codes ".forest-links"
 
 -- where an entry stands below the folder
 abbrev pub place : List ℕ → List ℕ

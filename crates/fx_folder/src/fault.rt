@@ -73,6 +73,17 @@ impl From<AllocError> for LoadFault {
     }
 }
 
+impl<T: Drop> From<AllocFailed<T>> for LoadFault {
+    ghost use Rattle.std.specs.Prelude.{◌≡◌};
+    ghost use Rattle.fx_folder.specs.declared.fault.LoadFault.TheVariants.{NoMemory};
+
+    ghost from_gives = { λ _ fault. fault ≡ NoMemory };
+
+    fn from(_: AllocFailed<T>) -> LoadFault {
+        LoadFault::NoMemory
+    }
+}
+
 impl From<HostFault> for SaveFault {
     ghost use Rattle.std.specs.Prelude.{◌≡◌};
     ghost use Rattle.fx_folder.specs.Faults.{save_fault};

@@ -5,9 +5,13 @@ mod descent;
 mod fault;
 pub mod laws;
 mod links;
+mod listing;
 mod loading;
 mod readying;
 mod saving;
+mod spelling;
+mod table;
+mod walking;
 
 pub use fault::{FolderCause, LoadFault, SaveFault};
 pub use links::write_table;

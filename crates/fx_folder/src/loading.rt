@@ -17,18 +17,18 @@ use fx_store::{Bytes, Files, Filestore, Name, PathFault};
 use std::alloc::{AllocError, Global};
 
 /// The most nodes of a loaded filestore, its root among them.
-const MAX_NODES: u64 = 100_000;
+pub(crate) const MAX_NODES: u64 = 100_000;
 
 /// The most bytes of a loaded file, and of all of them.
 const MAX_FILE: u64 = 1_048_576;
 
-const MAX_BYTES: u64 = 67_108_864;
+pub(crate) const MAX_BYTES: u64 = 67_108_864;
 
 /// How many bytes are read at once.
 const CHUNK: usize = 65_536;
 
 /// The file in which a folder keeps its links.
-const TABLE: &str = ".forest-links";
+pub(crate) const TABLE: &str = ".forest-links";
 
 /// Loads a folder that holds files alone. An entry that can't be loaded is refused with its path; where there are
 /// several, it is the first in order of name.
@@ -164,7 +164,7 @@ fn file_name(alloc: Global, name: &HostText, kind: HostKind, nodes: u64) -> Resu
 }
 
 /// Reads a file of a folder to its end, unless it has more bytes than are left.
-fn read_file<H: Host>(
+pub(crate) fn read_file<H: Host>(
     alloc: Global,
     host: &mut H,
     folder: &HostText,
@@ -199,7 +199,11 @@ fn read_file<H: Host>(
 }
 
 /// The host path of an entry of a folder.
-fn path_below(alloc: Global, folder: &HostText, name: &HostText) -> Result<HostText, AllocError>
+pub(crate) fn path_below(
+    alloc: Global,
+    folder: &HostText,
+    name: &HostText,
+) -> Result<HostText, AllocError>
     ensures { IfOk result (λ path. path ≡ path_below folder.now name.now) }
 {
     let mut path = String::from_str(alloc, folder.as_str())?;
@@ -209,7 +213,7 @@ fn path_below(alloc: Global, folder: &HostText, name: &HostText) -> Result<HostT
 }
 
 /// The path of an entry below its folder, as refusals name it.
-fn below_folder(alloc: Global, name: &HostText) -> Result<HostText, AllocError>
+pub(crate) fn below_folder(alloc: Global, name: &HostText) -> Result<HostText, AllocError>
     ensures { IfOk result (λ path. path ≡ place name.now) }
 {
     let mut path = String::from_str(alloc, "/")?;

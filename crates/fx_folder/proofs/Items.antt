@@ -1,0 +1,111 @@
+-- Items of a folder: which entry is its table, and where an item stands.
+use Rattle.std.proofs.Common.{◌≡◌, ℕ, zero, suc, ◌+◌, ◌<◌, ◌≤◌, Bool, true, false, cond, List, [], ◌∷◌, ◌++◌, length, take, drop, Option, None, Some, refl, sym, ◌∙◌, ap, subst, arith, append_assoc, append-nil}
+use Rattle.std.specs.Prelude.{bytes_eq}
+use Rattle.std.specs.List.{slice_get}
+use Rattle.std.proofs.lemmas.Bool.{cases_Bool, false≢true}
+use Rattle.std.proofs.lemmas.Option.{same_Some}
+use Rattle.std.proofs.lemmas.List.Elements.{All-head}
+use Rattle.std.proofs.lemmas.Grind.{flat_map-append}
+use Rattle.std.proofs.lemmas.Slice.Eq.{bytes_eq-Decides}
+use Rattle.std.proofs.Math.Seq.{take-length}
+use Rattle.fx_outside.specs.declared.kind.HostKind.{HostKind}
+use Rattle.fx_outside.specs.Path.{Parts}
+use Rattle.fx_store.specs.Names.{is_name, IsName, IsPath}
+use Rattle.fx_folder.specs.declared.walking.Item.{Item}
+use Rattle.fx_folder.specs.Limits.{table_name}
+use Rattle.fx_folder.specs.Deep.{place_of}
+use Rattle.fx_folder.specs.Walks.{in_table, item, items_of}
+
+reserved : is_name table_name ≡ false
+unfolding is_name
+reserved = refl
+
+name_apart : (m : List ℕ) → IsName m → bytes_eq m table_name ≡ false
+name_apart m is = by (bytes_eq m table_name) refl
+  where
+    by : (b : Bool) → bytes_eq m table_name ≡ b → b ≡ false
+    by false e = refl
+    by true e = absurd (false≢true (sym reserved ∙ (ap is_name (sym ((bytes_eq-Decides m table_name).0 e)) ∙ is)))
+
+-- only an entry of the root can be the table
+pub deep_apart : (p : Parts) (n : List ℕ) → IsPath p → 0 < length p → in_table (p ++ n ∷ []) ≡ false
+deep_apart [] n path some = absurd (omega arith)
+deep_apart (m ∷ p) n path some = name_apart m (All-head IsName m p path.names)
+
+pub at_root : (p : Parts) (n : List ℕ) (b : Bool) → length p ≤ 0 → b ≡ bytes_eq n table_name → b ≡ in_table (p ++ n ∷ [])
+at_root [] n b none is = is
+at_root (m ∷ p) n b none is = absurd (omega arith)
+
+drop_at : {A : Type 0} (xs : List A) (i : ℕ) (x : A) → slice_get xs i ≡ Some x → drop i xs ≡ x ∷ drop (suc i) xs
+drop_at [] i x is = cc
+drop_at (y ∷ xs) zero x is = ap (λ z. z ∷ xs) (same_Some y x is)
+drop_at (y ∷ xs) (suc i) x is = drop_at xs i x is
+
+none_past : {A : Type 0} (xs : List A) (i : ℕ) → slice_get xs i ≡ None → length xs ≤ i
+none_past [] i e = omega arith
+none_past (x ∷ xs) zero e = cc
+none_past (x ∷ xs) (suc i) e = let rest = none_past xs i e in omega arith
+
+pub not_past : {A : Type 0} (xs : List A) (i : ℕ) → i < length xs → None ≡ slice_get xs i → ⊥
+not_past xs i lt none = let le = none_past xs i (sym none) in omega arith
+
+after : (i j : ℕ) → j ≡ i + 1 → suc i ≡ j
+after i j e = omega arith
+
+pub nothing_left : (p : Parts) (es : List (List ℕ × HostKind)) (n : ℕ) (old : List Item) → length es ≤ n → old ≡ old ++ items_of p (drop n es)
+nothing_left p es n old le = sym (ap (λ l. old ++ items_of p l) (drop_all es n le) ∙ append-nil old)
+  where
+    drop_all : (xs : List (List ℕ × HostKind)) (i : ℕ) → length xs ≤ i → drop i xs ≡ []
+    drop_all [] zero h = refl
+    drop_all [] (suc i) h = refl
+    drop_all (x ∷ xs) zero h = absurd (omega arith)
+    drop_all (x ∷ xs) (suc i) h = drop_all xs i (omega arith)
+
+-- one entry more becomes an item, unless it is the table
+pub one_item : (p : Parts) (es : List (List ℕ × HostKind)) (i j : ℕ) (n : List ℕ) (k : HostKind) (old todo : List Item) → j ≡ i + 1 → Some (n, k) ≡ slice_get es i → todo ≡ old ++ items_of p (drop j es) → in_table (p ++ n ∷ []) ≡ false → todo ++ item p (n, k) ∷ [] ≡ old ++ items_of p (drop i es)
+one_item p es i j n k old todo next is so other =
+    let at : drop i es ≡ (n, k) ∷ drop j es = drop_at es i (n, k) (sym is) ∙ ap (λ m. (n, k) ∷ drop m es) (after i j next) in
+    ap (λ l. l ++ item p (n, k) ∷ []) so
+    ∙ append_assoc old (items_of p (drop j es)) (item p (n, k) ∷ [])
+    ∙ ap (λ b. old ++ (items_of p (drop j es) ++ cond b [] (item p (n, k) ∷ []))) (sym other)
+    ∙ ap (λ l. old ++ items_of p l) (sym at)
+
+pub no_item : (p : Parts) (es : List (List ℕ × HostKind)) (i j : ℕ) (n : List ℕ) (k : HostKind) (old todo : List Item) → j ≡ i + 1 → Some (n, k) ≡ slice_get es i → todo ≡ old ++ items_of p (drop j es) → in_table (p ++ n ∷ []) ≡ true → todo ≡ old ++ items_of p (drop i es)
+no_item p es i j n k old todo next is so table =
+    let at : drop i es ≡ (n, k) ∷ drop j es = drop_at es i (n, k) (sym is) ∙ ap (λ m. (n, k) ∷ drop m es) (after i j next) in
+    so ∙ ap (λ l. old ++ l) (sym (append-nil (items_of p (drop j es))))
+    ∙ ap (λ b. old ++ (items_of p (drop j es) ++ cond b [] (item p (n, k) ∷ []))) (sym table)
+    ∙ ap (λ l. old ++ items_of p l) (sym at)
+
+-- ---- the text of an item
+
+take_at : (xs : Parts) (i : ℕ) (x : List ℕ) → slice_get xs i ≡ Some x → take (i + 1) xs ≡ take i xs ++ x ∷ []
+take_at [] i x is = cc
+take_at (y ∷ xs) zero x is = ap (λ z. z ∷ []) (same_Some y x is)
+take_at (y ∷ xs) (suc i) x is = let one : suc i + 1 ≡ suc (i + 1) = omega arith in ap (λ n. take n (y ∷ xs)) one ∙ ap (λ l. y ∷ l) (take_at xs i x is)
+
+place_push : (p : Parts) (n : List ℕ) → place_of (p ++ n ∷ []) ≡ place_of p ++ 47 ∷ n
+place_push p n = flat_map-append (λ name. 47 ∷ name) p (n ∷ []) ∙ ap (λ l. place_of p ++ l) (append-nil (47 ∷ n))
+
+-- one name more
+pub more_text : (p : Parts) (i : ℕ) (n old new : List ℕ) → Some n ≡ slice_get p i → 47 ∷ old ≡ place_of (take i p) ++ 47 ∷ [] → new ≡ old ++ n ++ 47 ∷ [] → 47 ∷ new ≡ place_of (take (i + 1) p) ++ 47 ∷ []
+more_text p i n old new is so e =
+    ap (λ l. 47 ∷ l) e
+    ∙ ap (λ l. (l ++ n) ++ 47 ∷ []) so
+    ∙ ap (λ l. l ++ 47 ∷ []) (append_assoc (place_of (take i p)) (47 ∷ []) n)
+    ∙ ap (λ l. l ++ 47 ∷ []) (sym (place_push (take i p) n))
+    ∙ ap (λ q. place_of q ++ 47 ∷ []) (sym (take_at p i n (sym is)))
+
+-- and the last one
+pub last_text : (p : Parts) (i : ℕ) (n old new : List ℕ) → length p ≤ i → 47 ∷ old ≡ place_of (take i p) ++ 47 ∷ [] → new ≡ old ++ n → 47 ∷ new ≡ place_of (p ++ n ∷ [])
+last_text p i n old new end so e =
+    ap (λ l. 47 ∷ l) e ∙ ap (λ l. l ++ n) so
+    ∙ append_assoc (place_of (take i p)) (47 ∷ []) n
+    ∙ ap (λ q. place_of q ++ 47 ∷ n) (take_past p i end)
+    ∙ sym (place_push p n)
+  where
+    take_past : (xs : Parts) (j : ℕ) → length xs ≤ j → take j xs ≡ xs
+    take_past [] zero le = refl
+    take_past [] (suc j) le = refl
+    take_past (x ∷ xs) zero le = absurd (omega arith)
+    take_past (x ∷ xs) (suc j) le = ap (λ l. x ∷ l) (take_past xs j (omega arith))

@@ -1,0 +1,14 @@
+use Rattle.std.proofs.Common.{◌≡◌, sym, arith, rules}
+use Rattle.std.specs.Prelude.{bytes_eq}
+use Rattle.std.proofs.lemmas.Grind.{common_steps}
+use Rattle.fx_folder.specs.Limits.{table_name}
+use Rattle.fx_folder.proofs.Items.{deep_apart, at_root}
+use Rattle.fx_folder.proofs.walking.is_table.Goals as goal
+
+pub returns-then-len-gt0 : goal.returns-then-len-gt0
+returns-then-len-gt0 c = sym (deep_apart c.args.parent.now c.args.name.now c.len.ensures.path (omega (arith, c.len.ensures, c.if-len-gt0.true)))
+
+pub returns : goal.returns
+returns c =
+    let same : c.eq.result ≡ bytes_eq c.args.name.now table_name = first_of (search rules, grind (arith, common_steps)) in
+    at_root c.args.parent.now c.args.name.now c.eq.result (omega (arith, c.len.ensures, c.if-len-gt0.false)) same

@@ -1,0 +1,16 @@
+-- How much is loaded of a folder, and what its table file is called.
+use Rattle.std.specs.Prelude.{ℕ, List, codes}
+
+-- how many nodes a loaded filestore has, the root among them, and how many bytes a file and all files
+abbrev pub most_nodes : ℕ
+most_nodes = 100000
+
+abbrev pub most_in_file : ℕ
+most_in_file = 1048576
+
+abbrev pub most_bytes : ℕ
+most_bytes = 67108864
+
+-- the file in which a folder keeps its links
+abbrev pub table_name : List ℕ
+table_name = codes ".forest-links"

@@ -1,0 +1,343 @@
+//! The walk through a folder: its entries in order of path, each folder's before its next sibling.
+ghost use Rattle.std.specs.Prelude.{◌≡◌, ◌<◌, ◌≤◌, ◌+◌, ◌++◌, ◌∷◌, [], length, true, Ok, Err, IfOk, IfErr, OnOk, IfSome, string_bytes};
+ghost use Rattle.std.specs.FinMap.{entries};
+ghost use Rattle.fx_base.specs.Causes.{Rose};
+ghost use Rattle.fx_outside.specs.Path.{parts};
+ghost use Rattle.fx_outside.specs.Tree.{Lists, is_folder_at, is_file_at, bytes_at};
+ghost use Rattle.fx_outside.specs.Host.{ReadsOnly, AsksFit};
+ghost use Rattle.fx_store.specs.Names.{IsPath};
+ghost use Rattle.fx_folder.specs.declared.fault.LoadFault.TheVariants.{ReadFault};
+ghost use Rattle.fx_folder.specs.Deep.{place_of};
+ghost use Rattle.fx_folder.specs.Walks.{item_path, items_of, in_table, held_of, AnswersEntry, IsThere, IsEntered, IsOnWay, AnswersWalk, WalkCause, IsNoRefusal, AddsItems, PassesPath, AnswersFile, size_of};
+ghost use Rattle.fx_folder.specs.Reads.{path_below};
+
+use crate::loading::{MAX_BYTES, MAX_NODES, TABLE, below_folder, path_below, read_file};
+use crate::{FolderCause, LoadFault};
+use fx_base::NoMemory;
+use fx_outside::{Host, HostKind, HostText, Listing};
+use fx_store::{Change, Name, Names, Node, Path, PathFault};
+use std::alloc::{AllocError, Global};
+
+/// An entry that is still to be walked: the path of its folder, its name and its kind.
+#[derive(Debug, Drop)]
+pub struct Item {
+    pub parent: Path,
+    pub name: HostText,
+    pub kind: HostKind,
+}
+
+/// Everything that a walk found, in order of path: files, and directories that list no names yet. So many bytes may still
+/// be loaded.
+#[derive(Debug, Drop)]
+pub struct Walked {
+    pub found: Vec<Change>,
+    pub left: u64,
+}
+
+/// Walks a folder that has this listing.
+pub(crate) fn walk<H: Host>(
+    alloc: Global,
+    host: &mut H,
+    folder: &HostText,
+    names: &Listing,
+    buf: &mut [u8],
+) -> Result<Walked, LoadFault>
+    requires room { 0 < length buf.old }
+    requires told { IfSome (H.view host.old).told (λ tree.
+        (is_folder_at tree folder.now ≡ true) × Lists tree (parts folder.now) names.now) }
+    ensures answer { IfSome (H.view host.old).told (λ tree. AnswersWalk tree (parts folder.now) result) }
+    ensures fault { result ≡ Err ReadFault
+        → Rose (H.view host.old).faults (H.view host.new).faults }
+    ensures same { ReadsOnly (H.view host.old) (H.view host.new) }
+    ensures fit { AsksFit folder.now (H.view host.old) (H.view host.new) }
+{
+    let root = Path::root(alloc);
+    let mut todo = Vec::new(alloc);
+    add_items(alloc, &root, names, &mut todo)?;
+    let mut found = Vec::new(alloc);
+    let node = Some(Node::Dir(Names::new(alloc)));
+    found.push(Change { path: root, node })?;
+    match walk_items(alloc, host, folder, &mut found, &mut todo, buf) {
+        Ok(left) => Ok(Walked { found, left }),
+        Err(fault) => Err(fault),
+    }
+}
+
+/// Walks what is left, and gives how many bytes may still be loaded.
+fn walk_items<H: Host>(
+    alloc: Global,
+    host: &mut H,
+    folder: &HostText,
+    found: &mut Vec<Change>,
+    todo: &mut Vec<Item>,
+    buf: &mut [u8],
+) -> Result<u64, LoadFault>
+    requires room { 0 < length buf.old }
+    requires folder { IfSome (H.view host.old).told (λ tree. is_folder_at tree folder.now ≡ true) }
+    requires way { IfSome (H.view host.old).told (λ tree.
+        IsOnWay tree (parts folder.now) found.old.items MAX_BYTES todo.old.items) }
+    ensures way { IfOk result (λ left. IfSome (H.view host.old).told (λ tree.
+        IsOnWay tree (parts folder.now) found.new.items left [])) }
+    ensures cause { IfErr result (λ fault. IfSome (H.view host.old).told (λ tree.
+        WalkCause tree (parts folder.now) fault)) }
+    ensures fault { result ≡ Err ReadFault
+        → Rose (H.view host.old).faults (H.view host.new).faults }
+    ensures same { ReadsOnly (H.view host.old) (H.view host.new) }
+    ensures fit { AsksFit folder.now (H.view host.old) (H.view host.new) }
+{
+    let mut left = MAX_BYTES;
+    'walking: while let Some(item) = todo.pop() {
+        match walk_item(alloc, host, folder, &item, found, todo, left, buf) {
+            Ok(rest) => left = rest,
+            Err(fault) => return Err(fault),
+        }
+    }
+    Ok(left)
+}
+
+/// Walks one item, and gives how many bytes may still be loaded.
+fn walk_item<H: Host>(
+    alloc: Global,
+    host: &mut H,
+    folder: &HostText,
+    item: &Item,
+    found: &mut Vec<Change>,
+    todo: &mut Vec<Item>,
+    left: u64,
+    buf: &mut [u8],
+) -> Result<u64, LoadFault>
+    requires room { 0 < length buf.old }
+    requires folder { IfSome (H.view host.old).told (λ tree. is_folder_at tree folder.now ≡ true) }
+    requires way { IfSome (H.view host.old).told (λ tree.
+        IsOnWay tree (parts folder.now) found.old.items left (todo.old.items ++ item.now ∷ [])) }
+    ensures way { IfOk result (λ rest. IfSome (H.view host.old).told (λ tree.
+        IsOnWay tree (parts folder.now) found.new.items rest todo.new.items)) }
+    ensures cause { IfErr result (λ fault. IfSome (H.view host.old).told (λ tree.
+        WalkCause tree (parts folder.now) fault)) }
+    ensures count { OnOk result (length found.new.items ≡ length found.old.items + 1) }
+    ensures few { OnOk result (length found.old.items < MAX_NODES) }
+    ensures fault { result ≡ Err ReadFault
+        → Rose (H.view host.old).faults (H.view host.new).faults }
+    ensures same { ReadsOnly (H.view host.old) (H.view host.new) }
+    ensures fit { AsksFit folder.now (H.view host.old) (H.view host.new) }
+{
+    let nodes = found.len() as u64;
+    match enter(alloc, host, folder, item, todo, nodes, left, buf) {
+        Ok(change) => {
+            let rest = left - size_of(&change);
+            found.push(change)?;
+            Ok(rest)
+        }
+        Err(fault) => Err(fault),
+    }
+}
+
+/// What an item is loaded as, where so many nodes come before it and so many bytes may still be loaded. The entries of a
+/// folder become items.
+fn enter<H: Host>(
+    alloc: Global,
+    host: &mut H,
+    folder: &HostText,
+    item: &Item,
+    todo: &mut Vec<Item>,
+    nodes: u64,
+    left: u64,
+    buf: &mut [u8],
+) -> Result<Change, LoadFault>
+    requires room { 0 < length buf.old }
+    requires there { IfSome (H.view host.old).told (λ tree.
+        (is_folder_at tree folder.now ≡ true) × IsThere tree (parts folder.now) item.now) }
+    ensures answer { IfSome (H.view host.old).told (λ tree.
+        AnswersEntry nodes left (held_of tree (parts folder.now) item.now) result) }
+    ensures entered { OnOk result (IfSome (H.view host.old).told (λ tree.
+        IsEntered tree (parts folder.now) (item_path item.now) todo.old.items todo.new.items)) }
+    ensures size { IfOk result (λ change. size_of change ≤ left) }
+    ensures few { OnOk result (nodes < MAX_NODES) }
+    ensures fault { result ≡ Err ReadFault
+        → Rose (H.view host.old).faults (H.view host.new).faults }
+    ensures same { ReadsOnly (H.view host.old) (H.view host.new) }
+    ensures fit { AsksFit folder.now (H.view host.old) (H.view host.new) }
+{
+    let text = text_of(alloc, item)?;
+    let path = match entry_path(alloc, item, &text, nodes) {
+        Ok(path) => path,
+        Err(fault) => return Err(fault),
+    };
+    match item.kind {
+        HostKind::File => enter_file(alloc, host, folder, &text, path, left, buf),
+        HostKind::Folder => enter_folder(alloc, host, folder, &text, path, todo),
+        HostKind::Other => Err(LoadFault::Refused(FolderCause::Strange(below_folder(
+            alloc, &text,
+        )?))),
+    }
+}
+
+/// The file at a text below the folder.
+fn enter_file<H: Host>(
+    alloc: Global,
+    host: &mut H,
+    folder: &HostText,
+    text: &HostText,
+    path: Path,
+    left: u64,
+    buf: &mut [u8],
+) -> Result<Change, LoadFault>
+    requires room { 0 < length buf.old }
+    requires text { 47 ∷ text.now ≡ place_of path }
+    requires file { IfSome (H.view host.old).told (λ tree. is_file_at tree (path_below folder.now text.now) ≡ true) }
+    ensures answer { IfSome (H.view host.old).told (λ tree.
+        AnswersFile left path (bytes_at tree (path_below folder.now text.now)) result) }
+    ensures size { IfOk result (λ change. size_of change ≤ left) }
+    ensures fault { result ≡ Err ReadFault
+        → Rose (H.view host.old).faults (H.view host.new).faults }
+    ensures same { ReadsOnly (H.view host.old) (H.view host.new) }
+    ensures fit { AsksFit (path_below folder.now text.now) (H.view host.old) (H.view host.new) }
+{
+    match read_file(alloc, host, folder, text, left, buf) {
+        Ok(bytes) => Ok(Change {
+            path,
+            node: Some(Node::File(bytes)),
+        }),
+        Err(fault) => Err(fault),
+    }
+}
+
+/// The folder at a text below the folder, whose entries become items.
+fn enter_folder<H: Host>(
+    alloc: Global,
+    host: &mut H,
+    folder: &HostText,
+    text: &HostText,
+    path: Path,
+    todo: &mut Vec<Item>,
+) -> Result<Change, LoadFault>
+    requires folder { IfSome (H.view host.old).told (λ tree.
+        is_folder_at tree (path_below folder.now text.now) ≡ true) }
+    ensures change { IfOk result (λ change. change ≡ record { path = path; node = Some (Node.Dir []) }) }
+    ensures todo { OnOk result (AddsItems (H.view host.old).told (path_below folder.now text.now) path
+        todo.old.items todo.new.items) }
+    ensures cause { IfErr result IsNoRefusal }
+    ensures fault { result ≡ Err ReadFault
+        → Rose (H.view host.old).faults (H.view host.new).faults }
+    ensures same { ReadsOnly (H.view host.old) (H.view host.new) }
+    ensures fit { AsksFit (path_below folder.now text.now) (H.view host.old) (H.view host.new) }
+{
+    let place = path_below(alloc, folder, text)?;
+    let names = host.list(alloc, &place)?;
+    add_items(alloc, &path, &names, todo)?;
+    Ok(Change {
+        path,
+        node: Some(Node::Dir(Names::new(alloc))),
+    })
+}
+
+/// The entries of a folder become items, all but the table, with the first name at the end.
+fn add_items(
+    alloc: Global,
+    parent: &Path,
+    names: &Listing,
+    todo: &mut Vec<Item>,
+) -> Result<(), NoMemory>
+    ensures { OnOk result (todo.new.items ≡ todo.old.items ++ items_of parent.now (entries names.now)) }
+{
+    for i in (0..names.len()).rev() {
+        let Some((name, kind)) = names.at(i) else {
+            unreachable!()
+        };
+        if !is_table(parent, name) {
+            todo.push(new_item(alloc, parent, name, *kind)?)?;
+        }
+    }
+    Ok(())
+}
+
+/// Whether an entry is the table of the folder.
+fn is_table(parent: &Path, name: &HostText) -> bool
+    ensures { result ≡ in_table (parent.now ++ name.now ∷ []) }
+{
+    if parent.len() > 0 {
+        return false;
+    }
+    name.as_str() == TABLE
+}
+
+fn new_item(alloc: Global, parent: &Path, name: &HostText, kind: HostKind) -> Result<Item, NoMemory>
+    ensures { IfOk result (λ i. i ≡ record { parent = parent.now; name = name.now; kind = kind }) }
+{
+    Ok(Item {
+        parent: parent.copy(alloc)?,
+        name: name.copy(alloc)?,
+        kind,
+    })
+}
+
+/// The path of an item, where so many nodes come before it.
+fn entry_path(alloc: Global, item: &Item, text: &HostText, nodes: u64) -> Result<Path, LoadFault>
+    requires text { 47 ∷ text.now ≡ place_of (item_path item.now) }
+    ensures path { PassesPath nodes (item_path item.now) result }
+    ensures names { IfOk result IsPath }
+    ensures few { OnOk result (nodes < MAX_NODES) }
+{
+    let name = match Name::read(alloc, item.name.as_str().as_bytes()) {
+        Ok(name) => name,
+        Err(PathFault::NoMemory) => return Err(LoadFault::NoMemory),
+        Err(PathFault::BadName) => {
+            return Err(LoadFault::Refused(FolderCause::BadName(below_folder(alloc, text)?)));
+        }
+        Err(PathFault::TooDeep) => unreachable!(),
+    };
+    if nodes >= MAX_NODES {
+        return Err(LoadFault::Refused(FolderCause::TooLarge(below_folder(alloc, text)?)));
+    }
+    match item.parent.join(alloc, &name) {
+        Ok(path) => {
+            prove!(path.len() <= 64);
+            Ok(path)
+        }
+        Err(PathFault::NoMemory) => Err(LoadFault::NoMemory),
+        Err(PathFault::TooDeep) => Err(LoadFault::Refused(FolderCause::TooLarge(below_folder(
+            alloc, text,
+        )?))),
+        Err(PathFault::BadName) => unreachable!(),
+    }
+}
+
+/// Where an item stands below the folder, with `/` between each two names.
+fn text_of(alloc: Global, item: &Item) -> Result<HostText, AllocError>
+    ensures { IfOk result (λ text. 47 ∷ text ≡ place_of (item_path item.now)) }
+{
+    let mut text = String::new(alloc);
+    for i in 0..item.parent.len() {
+        let Some(name) = item.parent.name(i) else {
+            unreachable!()
+        };
+        push_name(&mut text, name)?;
+    }
+    text.push_str(item.name.as_str())?;
+    Ok(HostText::from_string(text))
+}
+
+/// Adds a name and a `/`.
+fn push_name(text: &mut String, name: &Name) -> Result<(), AllocError>
+    ensures { OnOk result (string_bytes text.new ≡ string_bytes text.old ++ name.now ++ 47 ∷ []) }
+{
+    let name = match str::from_utf8(name.as_slice()) {
+        Ok(name) => name,
+        Err(_) => unreachable!(),
+    };
+    text.push_str(name)?;
+    text.push('/')?;
+    Ok(())
+}
+
+/// How many bytes a change puts into a file.
+fn size_of(change: &Change) -> u64
+    ensures { result ≡ size_of change.now }
+{
+    match &change.node {
+        Some(Node::File(bytes)) => bytes.len(),
+        Some(Node::Dir(_)) => 0,
+        Some(Node::Link(_)) => 0,
+        None => 0,
+    }
+}
