@@ -6,7 +6,6 @@ use Rattle.fx_expr.proofs.Crosses.{Values-send, Values-sync}
 use Rattle.fx_spec.proofs.Crosses.{End-send, End-sync}
 use Rattle.fx_machine.specs.contracts.entry.Entry as entry
 use Rattle.fx_machine.specs.contracts.retry.Retry as retry
-use Rattle.fx_machine.specs.contracts.retry.Retries as retries
 
 pub Entry-send : IsSend (entry.the_field).row
 Entry-send = search (sendable, crosses, Paths-send, Values-send, End-send) depth 40
@@ -19,9 +18,3 @@ Retry-send = search (sendable, crosses, Path-send) depth 40
 
 pub Retry-sync : IsSync (retry.the_field).row
 Retry-sync = search (sendable, crosses, Path-sync) depth 40
-
-pub Retries-send : IsSend (retries.the_field).row
-Retries-send = search (sendable, crosses, Retry-send) depth 40
-
-pub Retries-sync : IsSync (retries.the_field).row
-Retries-sync = search (sendable, crosses, Retry-sync) depth 40
