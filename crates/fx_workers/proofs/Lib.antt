@@ -1,5 +1,0 @@
-mod Orders
-mod Tries
-mod Steps
-pub mod Looks
-mod Gathers
