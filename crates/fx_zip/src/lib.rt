@@ -1,0 +1,14 @@
+//! A zipper over a description: an address, the place that it has in a filestore, and moves from it, read through a reader
+//! with own changes on top.
+#![tactic(auto)]
+
+mod evaluating;
+mod forms;
+mod frame;
+mod leading;
+mod moving;
+mod part;
+mod step;
+mod zip;
+
+pub use zip::Zip;
