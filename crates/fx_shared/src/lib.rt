@@ -1,0 +1,8 @@
+//! A log that threads share. A thread has a pass, with which it looks and settles by turns; the pass knows the base of the
+//! log, which entries it has seen, and how many of them are its own.
+#![tactic(auto)]
+
+mod shared;
+
+pub use fx_board::{Board, Settle};
+pub use shared::{Pass, Shared};
