@@ -25,6 +25,7 @@ impl Model for Ground {
 /// The history is the order: an entry is the number of its shell, and that of its transaction in the shell's script.
 impl Kept for Board {
     type Origin = Ground;
+
     type Item = (u32, u32);
 
     ghost base = { λ b. b.base };

@@ -7,5 +7,5 @@ mod index;
 mod kept;
 
 pub use board::{Board, Settle};
-pub use kept::Ground;
 pub use fx_machine::{Attempt, Entry, Event, Events, Pair, Retries, Retry};
+pub use kept::Ground;

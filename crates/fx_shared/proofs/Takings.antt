@@ -1,5 +1,5 @@
 -- What a pass knows after one turn with the log.
-use Rattle.std.proofs.Common.{◌≡◌, ℕ, ◌+◌, true, false, List, [], ◌∷◌, ◌++◌, length, Option, Some, None, Result, Ok, Err, refl, sym, ap, subst, ◌∙◌, inl, inr, arith, length-append}
+use Rattle.std.proofs.Common.{◌≡◌, ℕ, ◌+◌, false, List, [], ◌∷◌, length, Option, Some, Result, Ok, Err, refl, sym, ap, subst, ◌∙◌, arith, length-append}
 use Rattle.std.specs.Prelude.{IfOk, IfErr, OnErr}
 use Rattle.std.specs.FinMap.{get}
 use Rattle.std.proofs.lemmas.Option.{same_Some}
@@ -15,7 +15,7 @@ use Rattle.fx_base.specs.declared.NoMemory.{NoMemory as Out}
 use Rattle.fx_board.specs.declared.board.Settle.TheVariants.{Conflict, NoMemory}
 use Rattle.fx_board.specs.Board.{IsLog, IsFreshReads, IsNamed, last_state, settled, RefusedAs}
 use Rattle.fx_board.specs.Log.{Log}
-use Rattle.fx_turn.specs.Histories.{Begins, own, count}
+use Rattle.fx_turn.specs.Histories.{Begins, own}
 use Rattle.fx_turn.specs.Views.{taking, giving, IsNumbered}
 use Rattle.fx_turn.specs.Plays.{Fits}
 use Rattle.fx_shared.specs.Passes.{LogView, HasBase, HasLegal, AreTrueFor, HasSeenMore, IsLook, HasSettled, IsRefused}

@@ -1,6 +1,5 @@
 use denote.Param.Send.{sendable}
 use Rattle.fx_board.proofs.Crosses.{Board-send}
-use Rattle.std.specs.List.{All}
 use Rattle.std.proofs.lemmas.List.Elements.{All-weaker}
 use Rattle.std.proofs.Common.{◌≡◌, ◌∙◌, ℕ, sym}
 use Rattle.fx_turn.specs.Histories.{count}
