@@ -9,6 +9,7 @@ use fx_base::NoMemory;
 use fx_outside::{Host, HostFault, HostText};
 use std::alloc::Global;
 
+/// The most bytes of the text of a description or of a script.
 const TEXT_LIMIT: usize = 65_536;
 
 /// How many bytes are asked for at a time.
@@ -50,7 +51,7 @@ fn read_piece<H: Host>(
     Ok(piece)
 }
 
-/// The bytes of the file at a path, read to its end; of a file of more than [`TEXT_LIMIT`] bytes, more than so many
+/// The bytes of the file at a path, read to its end; of a file of more than 65,536 bytes, more than so many
 /// bytes from its front.
 pub fn read_text<H: Host>(
     alloc: Global,
