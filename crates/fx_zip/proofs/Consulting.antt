@@ -1,0 +1,144 @@
+-- Steps that consult the filestore: inside an entry, and to a second part.
+use Rattle.std.proofs.Common.{◌≡◌, ℕ, Bool, true, false, cond, List, [], ◌∷◌, ◌||◌, Option, Some, None, option_map, Result, Ok, Err, refl, sym, ap, ◌∙◌, subst}
+use Rattle.std.specs.Prelude.{IsErrAnd, IfOk, nat_eq}
+use Rattle.std.specs.Cmp.Lexicographic.{pointwise}
+use Rattle.std.specs.Option.{IfSome}
+use Rattle.fx_store.specs.Rule.{Known, Ask, Answer, ◌>>=◌}
+use Rattle.fx_expr.specs.Bindings.{bind}
+use Rattle.fx_expr.specs.Sets.{has_text, least}
+use Rattle.fx_expr.specs.Tree.{Tree}
+use Rattle.fx_expr.proofs.Order.{same_text}
+use Rattle.fx_spec.specs.declared.refusal.Refusal.{Refusal}
+use Rattle.fx_spec.specs.Describe.{Bindings, exists, value}
+use Rattle.fx_spec.specs.Move.{Answered, go_into, this_if}
+use Rattle.fx_spec.specs.Place.{First, Second, Inside, Address, PlaceTree, placed, where_true, lead}
+use Rattle.fx_spec.specs.SpecTree.{SpecTree}
+use Rattle.fx_view.specs.declared.reader.Stop.{Stop}
+use Rattle.fx_view.specs.declared.reader.Stop.TheVariants as stop
+use Rattle.fx_view.specs.Follows.{Follows}
+use Rattle.fx_view.specs.Meaning.{Meaning}
+use Rattle.fx_view.specs.Reads.{known_of}
+use Rattle.fx_view.proofs.Calls.{follows_then_answer, follows_then_refused, follows_stop}
+use Rattle.fx_view.proofs.Errors.{err_of}
+use Rattle.fx_rules.specs.declared.halt.Halt.{Halt}
+use Rattle.fx_rules.specs.declared.halt.Halt.TheVariants as halt
+use Rattle.fx_rules.specs.Answering.{answered}
+use Rattle.fx_zip.specs.declared.frame.Entry.{Entry}
+use Rattle.fx_zip.specs.declared.frame.Spot.{Spot}
+use Rattle.fx_zip.specs.Parts.{child}
+use Rattle.fx_zip.specs.Spots.{grown, spot_place, IsSpot, Leads, LeadsTo, Enters, BindsValue, bound_value}
+use Rattle.fx_zip.specs.Steps.{step_tree}
+use Rattle.fx_zip.proofs.Beside.{leads_second}
+use Rattle.fx_zip.proofs.Entering.{leads_step}
+use Rattle.fx_zip.proofs.Leads.{grown_is}
+
+-- ---- elements that are chosen are elements
+
+pub has_least : (set : List (List ℕ)) (t : List ℕ) → least set ≡ Some t → has_text t set ≡ true
+has_least [] t e = absurd (cc)
+has_least (u ∷ us) t e = let same : u ≡ t = cc in ap (λ b. b || has_text t us) (ap (λ v. pointwise nat_eq u v) (sym same) ∙ same_text u)
+
+pub has_asked : (text : List ℕ) (set : List (List ℕ)) (t : List ℕ) → this_if text (has_text text set) ≡ Some t → has_text t set ≡ true
+has_asked text set t e = at (has_text text set) refl e
+  where
+    at : (b : Bool) → has_text text set ≡ b → this_if text b ≡ Some t → has_text t set ≡ true
+    at false is e = absurd (cc)
+    at true is e = let same : text ≡ t = cc in ap (λ u. has_text u set) (sym same) ∙ is
+
+module _ {R : Type 0} (m : Meaning R) (own : Known) (p : List (List ℕ)) (env : Bindings) (old new : R × ℕ) where
+  -- ---- inside an entry
+
+  abbrev There : Result Bool Stop → Type 0
+  There r = Follows m (λ b. b) own old new (exists p) r
+
+  module _ (s d : SpecTree) (form : s ≡ SpecTree.opt d) where
+    abbrev LeadsInside : Result (Option Spot) Stop → Type 0
+    LeadsInside r = LeadsTo m own Inside p env s old new r
+
+    abbrev in_place : Bool → Ask (Option PlaceTree)
+    in_place there = Answer (where_true there (placed p env d))
+
+    leads_form : (r : Result (Option Spot) Stop) → LeadsTo m own Inside p env (SpecTree.opt d) old new r → LeadsInside r
+    leads_form r h = subst (λ s. LeadsTo m own Inside p env s old new r) (sym form) h
+
+    pub inside_stops : (why : Stop) (r : Result (Option Spot) Stop) → IsErrAnd r (λ d. d ≡ why) → There (Err why) → LeadsInside r
+    inside_stops why r is h = subst LeadsInside (sym (err_of r why is)) (leads_form (Err why) (record {
+      follows = follows_stop m (λ b. b) (option_map (spot_place env d)) own old new (exists p) in_place why h;
+      spot = tt;
+    }))
+
+    pub inside_memory : (there : Bool) (r : Result (Option Spot) Stop) → IsErrAnd r (λ d. d ≡ stop.NoMemory) → There (Ok there) → LeadsInside r
+    inside_memory there r is h = subst LeadsInside (sym (err_of r stop.NoMemory is)) (leads_form (Err stop.NoMemory) (record {
+      follows = follows_then_refused m (λ b. b) (option_map (spot_place env d)) own old new (exists p) in_place there h;
+      spot = tt;
+    }))
+
+    pub inside_leads : (there : Bool) (spot : Spot) → there ≡ true → spot.frame.path ≡ p → spot.bound ≡ None → There (Ok there) → LeadsInside (Ok (Some spot))
+    inside_leads there spot held path bound h = leads_form (Ok (Some spot)) (record {
+      follows =
+          follows_then_answer m (λ b. b) (option_map (spot_place env d)) own old new (exists p) in_place there (Some spot) h
+          (ap in_place held ∙ (λ i. Answer (Some (placed (sym path i) (grown env (sym bound i)) d))));
+      spot = record { held = tt; back = ap (grown env) bound };
+    })
+
+    pub inside_none : (there : Bool) → there ≡ false → There (Ok there) → LeadsInside (Ok None)
+    inside_none there gone h = leads_form (Ok None) (record {
+      follows = follows_then_answer m (λ b. b) (option_map (spot_place env d)) own old new (exists p) in_place there None h (ap in_place gone);
+      spot = tt;
+    })
+
+  module _ (d : SpecTree) where
+    abbrev EntersInside : Result Entry Halt → Type 0
+    EntersInside r = Enters m own (λ a. go_into a p env (SpecTree.opt d)) p env (SpecTree.opt d) old new r
+
+    abbrev then_inside : Address → Bool → Ask (Answered Address)
+    then_inside a there = Answer (cond there (Ok (Inside ∷ a)) (Err Refusal.Lacks))
+
+    pub entry_stops : (why : Stop) (r : Result Entry Halt) → IsErrAnd r (λ h. h ≡ halt.Stopped why) → There (Err why) → EntersInside r
+    entry_stops why r is h = subst EntersInside (sym (err_of r (halt.Stopped why) is)) (record {
+      follows = λ a. follows_stop m (λ b. b) (answered (λ e. step_tree e.step ∷ a)) own old new (exists p) (then_inside a) why h;
+      leads = tt;
+    })
+
+    pub entry_memory : (there : Bool) (r : Result Entry Halt) → IsErrAnd r (λ h. h ≡ halt.Stopped stop.NoMemory) → There (Ok there) → EntersInside r
+    entry_memory there r is h = subst EntersInside (sym (err_of r (halt.Stopped stop.NoMemory) is)) (record {
+      follows = λ a. follows_then_refused m (λ b. b) (answered (λ e. step_tree e.step ∷ a)) own old new (exists p) (then_inside a) there h;
+      leads = tt;
+    })
+
+    pub entry_lacks : (there : Bool) → there ≡ false → There (Ok there) → EntersInside (Err (halt.Refused Refusal.Lacks))
+    entry_lacks there gone h = record {
+      follows = λ a. follows_then_answer m (λ b. b) (answered (λ e. step_tree e.step ∷ a)) own old new (exists p) (then_inside a) there (Err Refusal.Lacks) h (ap (then_inside a) gone);
+      leads = tt;
+    }
+
+    pub entry_inside : (there : Bool) (entry : Entry) → there ≡ true → step_tree entry.step ≡ Inside → entry.spot.frame.path ≡ p → entry.spot.bound ≡ None → There (Ok there) → EntersInside (Ok entry)
+    entry_inside there entry held step path bound h =
+        let led = inside_leads (SpecTree.opt d) d refl there entry.spot held path bound h in
+        record {
+          follows = λ a.
+              follows_then_answer m (λ b. b) (answered (λ e. step_tree e.step ∷ a)) own old new (exists p) (then_inside a) there (Ok entry) h
+              (ap (then_inside a) held ∙ (λ i. Answer (Ok (sym step i ∷ a))));
+          leads = leads_step (known_of (m.reads new.0)) own Inside (step_tree entry.step) p env (SpecTree.opt d) entry.spot step (record { found = led.follows.goes.0; fits = led.spot });
+        }
+
+  -- ---- to a second part
+
+  module _ (s : SpecTree) (x : List ℕ) (a b : SpecTree) (form : s ≡ SpecTree.pair x a b) where
+    abbrev then_pair : Option Tree → Ask (Option PlaceTree)
+    then_pair v = Answer (option_map (λ v. placed p (bind env x v) b) v)
+
+    at_pair : (r : Result (Option Spot) Stop) → Follows m (option_map bound_value) own old new (value p env a) r → IfOk r (λ o. IfSome o (λ spot. BindsValue p x (bound_value spot) spot)) → LeadsTo m own Second p env (SpecTree.pair x a b) old new r
+    at_pair (Err why) h binds = record { follows = follows_stop m (option_map bound_value) (option_map (spot_place env b)) own old new (value p env a) then_pair why h; spot = tt }
+    at_pair (Ok None) h binds = record { follows = follows_then_answer m (option_map bound_value) (option_map (spot_place env b)) own old new (value p env a) then_pair None None h refl; spot = tt }
+    at_pair (Ok (Some spot)) h binds =
+        let leads = leads_second (known_of (m.reads new.0)) own p env (SpecTree.pair x a b) x a b spot refl h.goes.0 binds in
+        record {
+          follows =
+              follows_then_answer m (option_map bound_value) (option_map (spot_place env b)) own old new (value p env a) then_pair (Some spot) (Some spot) h
+              (λ i. Answer (Some (placed (sym binds.path i) (sym (grown_is env spot.bound (x, bound_value spot) binds.bound) i) b)));
+          spot = leads.fits;
+        }
+
+    pub second_leads : (r : Result (Option Spot) Stop) → Follows m (option_map bound_value) own old new (value p env a) r → IfOk r (λ o. IfSome o (λ spot. BindsValue p x (bound_value spot) spot)) → LeadsTo m own Second p env s old new r
+    second_leads r h binds = subst (λ s. LeadsTo m own Second p env s old new r) (sym form) (at_pair r h binds)

@@ -1,0 +1,191 @@
+-- Where the steps lead, form by form.
+use Rattle.std.proofs.Common.{◌≡◌, ℕ, suc, ◌+◌, ◌-◌, ◌≤◌, Bool, true, false, List, [], ◌∷◌, ◌++◌, length, take, Option, Some, None, option_map, Result, Ok, Err, refl, sym, ap, ◌∙◌, subst, arith, length-append}
+use Rattle.std.specs.Prelude.{IsErrAnd, IfOk}
+use Rattle.std.specs.Option.{IfSome, unwrap_or}
+use Rattle.std.proofs.Math.Seq.{take-append_seam}
+use Rattle.fx_store.specs.Rule.{Known, Ask, Answer, Tick, ◌>>=◌}
+use Rattle.fx_expr.specs.Bindings.{bind}
+use Rattle.fx_expr.specs.Eval.{Outcome, eval_of, names_in}
+use Rattle.fx_expr.specs.ExprTree.{ExprTree}
+use Rattle.fx_expr.specs.Sets.{has_text}
+use Rattle.fx_expr.specs.Tree.{Tree}
+use Rattle.fx_expr.specs.Views.{entry_tree, tree_of}
+use Rattle.fx_expr.specs.declared.value.Value.{Value}
+use Rattle.fx_spec.specs.declared.refusal.Refusal.{Refusal}
+use Rattle.fx_spec.specs.Describe.{Bindings, exists, focus_path, value}
+use Rattle.fx_spec.specs.Move.{Answered}
+use Rattle.fx_spec.specs.Place.{Step, First, Second, Inside, Down, Elem, placed, where_true, has_element, at_path, lead}
+use Rattle.fx_spec.specs.SpecTree.{SpecTree}
+use Rattle.fx_view.specs.declared.reader.Stop.{Stop}
+use Rattle.fx_view.specs.declared.reader.Stop.TheVariants as stop
+use Rattle.fx_view.specs.Follows.{Follows}
+use Rattle.fx_view.specs.Meaning.{Meaning}
+use Rattle.fx_view.proofs.Errors.{err_of}
+use Rattle.fx_rules.specs.declared.halt.Halt.{Halt}
+use Rattle.fx_rules.specs.declared.halt.Halt.TheVariants as halt
+use Rattle.fx_rules.specs.Answering.{answered}
+use Rattle.fx_rules.specs.Halts.{split}
+use Rattle.fx_zip.specs.declared.frame.Spot.{Spot}
+use Rattle.fx_zip.specs.Fresh.{around, HasSet, IsHeld}
+use Rattle.fx_zip.specs.Parts.{child, IsNoPair, IsNoComp, IsNoFocus, IsNoOption}
+use Rattle.fx_zip.specs.Spots.{grown, spot_place, IsSpot, LeadsTo, LeadsAt, BindsText, BindsValue, bound_value}
+use Rattle.fx_zip.specs.Telling.{told, costs, Says, Tells, set_answer, given}
+
+-- ---- what is given where a call is not refused
+
+module _ {A X : Type 0} (view : X → A) (o : Answered A) where
+  pub given_some : (r : Result X Halt) (x : X) → Says (answered view) (Some o) (split r) → Ok (Some x) ≡ given r → o ≡ Ok (view x)
+  given_some (Ok y) x h e = let same : x ≡ y = cc in let is : o ≡ Ok (view y) = cc in is ∙ ap (λ x. Ok (view x)) (sym same)
+  given_some (Err (halt.Refused f)) x h e = absurd (cc)
+  given_some (Err (halt.Stopped why)) x h e = absurd (cc)
+
+  pub given_none : (r : Result X Halt) → Says (answered view) (Some o) (split r) → Ok None ≡ given r → (f : Refusal) × (o ≡ Err f)
+  given_none (Ok y) h e = absurd (cc)
+  given_none (Err (halt.Refused f)) h e = let is : o ≡ Err f = cc in (f, is)
+  given_none (Err (halt.Stopped why)) h e = absurd (cc)
+
+  pub given_stop : (r : Result X Halt) (why : Stop) → Says (answered view) (Some o) (split r) → Err why ≡ given r → why ≡ stop.NoMemory
+  given_stop (Ok y) why h e = absurd (cc)
+  given_stop (Err (halt.Refused f)) why h e = absurd (cc)
+  given_stop (Err (halt.Stopped stop.NoMemory)) why h e = cc
+  given_stop (Err (halt.Stopped (stop.Needs p))) why h e = absurd h
+
+-- ---- names bound and given back
+
+pub grown_is : (env : Bindings) (b : Option (List ℕ × Value)) (e : List ℕ × Tree) → option_map entry_tree b ≡ Some e → grown env b ≡ env ++ e ∷ []
+grown_is env None e h = absurd (cc)
+grown_is env (Some b) e h = let same : entry_tree b ≡ e = cc in ap (λ e. env ++ e ∷ []) same
+
+pub front_last : (env : Bindings) (e : List ℕ × Tree) → take (length (env ++ e ∷ []) - 1) (env ++ e ∷ []) ≡ env
+front_last env e =
+    let long = length-append env (e ∷ []) in
+    let n : length (env ++ e ∷ []) - 1 ≡ length env = omega (arith, long) in
+    ap (λ n. take n (env ++ e ∷ [])) n ∙ take-append_seam env (e ∷ [])
+
+front_grown : (env : Bindings) (b : Option (List ℕ × Value)) (e : List ℕ × Tree) → option_map entry_tree b ≡ Some e → take (length (grown env b) - 1) (grown env b) ≡ env
+front_grown env b e h = ap (λ g. take (length g - 1) g) (grown_is env b e h) ∙ front_last env e
+
+pub bound_is : (b : Option (List ℕ × Value)) (x : List ℕ) (v : Tree) → option_map entry_tree b ≡ Some (x, v) → unwrap_or (option_map (λ (b : List ℕ × Value). tree_of b.1) b) Tree.nothing ≡ v
+bound_is None x v h = absurd (cc)
+bound_is (Some b) x v h = let same : ◌≡◌ {A = List ℕ × Tree} (entry_tree b) (x, v) = cc in ap (λ (e : List ℕ × Tree). e.1) same
+
+module _ (p : List (List ℕ)) (env : Bindings) where
+  -- ---- memory is refused
+
+  pub leads_refused : (step : Step) (s : SpecTree) (was now : ℕ) (r : Result (Option Spot) Stop) → now ≤ was + costs (lead step p env s) → IsErrAnd r (λ d. d ≡ stop.NoMemory) → LeadsAt step p env s was now r
+  leads_refused step s was now r most is =
+      subst (λ (r : Result (Option Spot) Stop). LeadsAt step p env s was now r) (sym (err_of r stop.NoMemory is))
+      (record { tells = record { says = tt; most = most }; spot = tt })
+
+  -- ---- first parts
+
+  pub first_leads : (s : SpecTree) (x : List ℕ) (a b : SpecTree) (n : ℕ) (spot : Spot) → s ≡ SpecTree.pair x a b → spot.frame.path ≡ p → spot.bound ≡ None → LeadsAt First p env s n n (Ok (Some spot))
+  first_leads s x a b n spot is path bound =
+      subst (λ s. LeadsAt First p env s n n (Ok (Some spot))) (sym is)
+      (record {
+        tells = record { says = λ i. Some (Some (placed (sym path i) (grown env (sym bound i)) a)); most = omega arith };
+        spot = record { held = tt; back = ap (grown env) bound };
+      })
+
+  pub first_none : (s : SpecTree) (n : ℕ) → IsNoPair s → LeadsAt First p env s n n (Ok None)
+  first_none SpecTree.file n none = record { tells = record { says = refl; most = omega arith }; spot = tt }
+  first_none SpecTree.dir n none = record { tells = record { says = refl; most = omega arith }; spot = tt }
+  first_none SpecTree.link n none = record { tells = record { says = refl; most = omega arith }; spot = tt }
+  first_none (SpecTree.focus e s) n none = record { tells = record { says = refl; most = omega arith }; spot = tt }
+  first_none (SpecTree.pair x a b) n none = absurd none
+  first_none (SpecTree.comp s x e) n none = record { tells = record { says = refl; most = omega arith }; spot = tt }
+  first_none (SpecTree.opt s) n none = record { tells = record { says = refl; most = omega arith }; spot = tt }
+  first_none (SpecTree.pred e) n none = record { tells = record { says = refl; most = omega arith }; spot = tt }
+
+  -- ---- the paths of focuses
+
+  module _ (s : SpecTree) (e : ExprTree) (d : SpecTree) (is : s ≡ SpecTree.focus e d) (was now : ℕ) (one : now ≡ was + 1) where
+    down_cost : now ≤ was + costs (lead Down p env s)
+    down_cost = subst (λ s. now ≤ was + costs (lead Down p env s)) (sym is) (omega (arith, one))
+
+    pub down_refused : (r : Result (Option Spot) Stop) → IsErrAnd r (λ d. d ≡ stop.NoMemory) → LeadsAt Down p env s was now r
+    down_refused r none = leads_refused Down s was now r down_cost none
+
+    pub down_leads : (q : List (List ℕ)) (spot : Spot) → focus_path p (eval_of env e) ≡ Ok q → spot.frame.path ≡ q → spot.bound ≡ None → LeadsAt Down p env s was now (Ok (Some spot))
+    down_leads q spot formed path bound =
+        subst (λ s. LeadsAt Down p env s was now (Ok (Some spot))) (sym is)
+        (record {
+          tells = record {
+            says = ap (λ q. Some (at_path env d q)) formed ∙ (λ i. Some (Some (placed (sym path i) (grown env (sym bound i)) d)));
+            most = omega (arith, one);
+          };
+          spot = record { held = tt; back = ap (grown env) bound };
+        })
+
+    pub down_none : (f : Refusal) → focus_path p (eval_of env e) ≡ Err f → LeadsAt Down p env s was now (Ok None)
+    down_none f formed =
+        subst (λ s. LeadsAt Down p env s was now (Ok None)) (sym is)
+        (record { tells = record { says = ap (λ q. Some (at_path env d q)) formed; most = omega (arith, one) }; spot = tt })
+
+  pub down_form : (s : SpecTree) (n : ℕ) → IsNoFocus s → LeadsAt Down p env s n n (Ok None)
+  down_form SpecTree.file n none = record { tells = record { says = refl; most = omega arith }; spot = tt }
+  down_form SpecTree.dir n none = record { tells = record { says = refl; most = omega arith }; spot = tt }
+  down_form SpecTree.link n none = record { tells = record { says = refl; most = omega arith }; spot = tt }
+  down_form (SpecTree.focus e s) n none = absurd none
+  down_form (SpecTree.pair x a b) n none = record { tells = record { says = refl; most = omega arith }; spot = tt }
+  down_form (SpecTree.comp s x e) n none = record { tells = record { says = refl; most = omega arith }; spot = tt }
+  down_form (SpecTree.opt s) n none = record { tells = record { says = refl; most = omega arith }; spot = tt }
+  down_form (SpecTree.pred e) n none = record { tells = record { says = refl; most = omega arith }; spot = tt }
+
+  -- ---- elements
+
+  has_answer : (o : Outcome) (t : List ℕ) (set : List (List ℕ)) → set_answer o ≡ Ok set → has_element t o ≡ has_text t set
+  has_answer (Ok v) t set h = let same : names_in v ≡ set = cc in ap (has_text t) same
+  has_answer (Err f) t set h = absurd (cc)
+
+  no_answer : (o : Outcome) (t : List ℕ) (f : Refusal) → set_answer o ≡ Err f → has_element t o ≡ false
+  no_answer (Ok v) t f h = absurd (cc)
+  no_answer (Err g) t f h = refl
+
+  pub element_spot : (t : List ℕ) (d : SpecTree) (x : List ℕ) (e : ExprTree) (set : List (List ℕ)) (spot : Spot) → set_answer (eval_of env e) ≡ Ok set → BindsText p x t set spot → IsSpot (Elem t) env (SpecTree.comp d x e) spot
+  element_spot t d x e set spot answer binds = record {
+    held = subst (λ o. HasSet o (eval_of env e)) (sym binds.held) answer;
+    back = front_grown env spot.bound (x, Tree.str t) binds.bound;
+  }
+
+  pub element_place : (t : List ℕ) (d : SpecTree) (x : List ℕ) (e : ExprTree) (set : List (List ℕ)) (spot : Spot) → set_answer (eval_of env e) ≡ Ok set → has_text t set ≡ true → BindsText p x t set spot
+      → where_true (has_element t (eval_of env e)) (placed p (bind env x (Tree.str t)) d) ≡ Some (spot_place env d spot)
+  element_place t d x e set spot answer has binds =
+      ap (λ b. where_true b (placed p (bind env x (Tree.str t)) d)) (has_answer (eval_of env e) t set answer ∙ has)
+      ∙ (λ i. Some (placed (sym binds.path i) (sym (grown_is env spot.bound (x, Tree.str t) binds.bound) i) d))
+
+  module _ (t : List ℕ) (s : SpecTree) (d : SpecTree) (x : List ℕ) (e : ExprTree) (is : s ≡ SpecTree.comp d x e) (was now : ℕ) (one : now ≡ was + 1) where
+    element_cost : now ≤ was + costs (lead (Elem t) p env s)
+    element_cost = subst (λ s. now ≤ was + costs (lead (Elem t) p env s)) (sym is) (omega (arith, one))
+
+    pub element_refused : (r : Result (Option Spot) Stop) → IsErrAnd r (λ d. d ≡ stop.NoMemory) → LeadsAt (Elem t) p env s was now r
+    element_refused r none = leads_refused (Elem t) s was now r element_cost none
+
+    pub element_leads : (set : List (List ℕ)) (spot : Spot) → set_answer (eval_of env e) ≡ Ok set → has_text t set ≡ true → BindsText p x t set spot → LeadsAt (Elem t) p env s was now (Ok (Some spot))
+    element_leads set spot answer has binds =
+        subst (λ s. LeadsAt (Elem t) p env s was now (Ok (Some spot))) (sym is)
+        (record {
+          tells = record { says = ap Some (element_place t d x e set spot answer has binds); most = omega (arith, one) };
+          spot = element_spot t d x e set spot answer binds;
+        })
+
+    none_if : has_element t (eval_of env e) ≡ false → LeadsAt (Elem t) p env s was now (Ok None)
+    none_if none =
+        subst (λ s. LeadsAt (Elem t) p env s was now (Ok None)) (sym is)
+        (record { tells = record { says = ap (λ b. Some (where_true b (placed p (bind env x (Tree.str t)) d))) none; most = omega (arith, one) }; spot = tt })
+
+    pub element_none : (set : List (List ℕ)) → set_answer (eval_of env e) ≡ Ok set → has_text t set ≡ false → LeadsAt (Elem t) p env s was now (Ok None)
+    element_none set answer none = none_if (has_answer (eval_of env e) t set answer ∙ none)
+
+    pub element_fault : (f : Refusal) → set_answer (eval_of env e) ≡ Err f → LeadsAt (Elem t) p env s was now (Ok None)
+    element_fault f answer = none_if (no_answer (eval_of env e) t f answer)
+
+  pub element_form : (t : List ℕ) (s : SpecTree) (n : ℕ) → IsNoComp s → LeadsAt (Elem t) p env s n n (Ok None)
+  element_form t SpecTree.file n none = record { tells = record { says = refl; most = omega arith }; spot = tt }
+  element_form t SpecTree.dir n none = record { tells = record { says = refl; most = omega arith }; spot = tt }
+  element_form t SpecTree.link n none = record { tells = record { says = refl; most = omega arith }; spot = tt }
+  element_form t (SpecTree.focus e s) n none = record { tells = record { says = refl; most = omega arith }; spot = tt }
+  element_form t (SpecTree.pair x a b) n none = record { tells = record { says = refl; most = omega arith }; spot = tt }
+  element_form t (SpecTree.comp s x e) n none = absurd none
+  element_form t (SpecTree.opt s) n none = record { tells = record { says = refl; most = omega arith }; spot = tt }
+  element_form t (SpecTree.pred e) n none = record { tells = record { says = refl; most = omega arith }; spot = tt }

@@ -1,0 +1,9 @@
+pub mod Turning
+pub mod Standing
+pub mod Settled
+pub mod Telling
+pub mod Leads
+pub mod Entering
+pub mod Places
+pub mod Beside
+pub mod Consulting

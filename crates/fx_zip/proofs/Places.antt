@@ -1,0 +1,245 @@
+-- Moves and questions: the place is found, and then the rule is followed from there.
+use Rattle.std.proofs.Common.{◌≡◌, ℕ, ◌+◌, ◌≤◌, List, [], ◌∷◌, Option, Some, None, Result, Ok, Err, refl, sym, ap, ◌∙◌, subst, arith}
+use Rattle.std.specs.Prelude.{IfOk, IsErrAnd}
+use Rattle.fx_store.specs.Rule.{Known, Ask, Answer, Found, follow, answer, ticks, changed, ◌>>=◌}
+use Rattle.fx_store.specs.Whole.{Store}
+use Rattle.fx_store.proofs.Asks.{ask-bind-assoc}
+use Rattle.fx_spec.specs.declared.refusal.Refusal.{Refusal}
+use Rattle.fx_spec.specs.Evals.{evals_with}
+use Rattle.fx_spec.specs.Move.{Answered, needed, unrefused, at_place}
+use Rattle.fx_spec.specs.Place.{Address, PlaceTree, place}
+use Rattle.fx_spec.specs.SpecTree.{SpecTree}
+use Rattle.fx_spec.specs.Describe.{Bindings}
+use Rattle.fx_spec.specs.Transaction.{from_place}
+use Rattle.fx_spec.specs.WellShaped.{IsDescription}
+use Rattle.fx_walk.specs.Scopes.{HasScope}
+use Rattle.fx_view.specs.declared.reader.Stop.{Stop}
+use Rattle.fx_view.specs.declared.reader.Stop.TheVariants as stop
+use Rattle.fx_view.specs.Follows.{Follows}
+use Rattle.fx_view.specs.Meaning.{Meaning}
+use Rattle.fx_view.specs.Reads.{known_of, Agrees}
+use Rattle.fx_view.proofs.Calls.{agrees_by, follows_then, follows_same}
+use Rattle.fx_view.proofs.Errors.{err_of}
+use Rattle.fx_view.proofs.Rules.{found_answer}
+use Rattle.fx_rules.specs.declared.halt.Halt.{Halt}
+use Rattle.fx_rules.specs.declared.halt.Halt.TheVariants as halt
+use Rattle.fx_rules.specs.Answering.{answered}
+use Rattle.fx_rules.specs.Halts.{split}
+use Rattle.fx_rules.proofs.Halting.{step_halt}
+use Rattle.fx_zip.specs.declared.frame.Entry.{Entry}
+use Rattle.fx_zip.specs.Calls.{OnRefused, place_needed, settling_evals, place_evals, Evaluates, Finds, Moves, Turns, Turned, Asks}
+use Rattle.fx_zip.specs.Fresh.{IsFresh, Stands}
+use Rattle.fx_zip.specs.Parts.{part}
+use Rattle.fx_zip.specs.Spots.{Leads, LeadsFrom, Enters, entered}
+use Rattle.fx_zip.specs.Steps.{step_tree}
+use Rattle.fx_zip.specs.Trees.{ZipTree, path_of, here}
+use Rattle.fx_zip.proofs.Standing.{stands_fresh, stands_grows, stands_here, stands_entered, stands_scope, fresh_grows}
+use Rattle.fx_zip.proofs.Telling.{follows_grows, follows_memory, follows_as, found_follows}
+
+at_place_is : {B : Type 0} (root : SpecTree) (a : Address) (rest : PlaceTree → Ask (Answered B)) → (place_needed root a >>= unrefused rest) ≡ at_place root a rest
+at_place_is root a rest = ask-bind-assoc (place root a) (λ at. Answer (needed Refusal.NoPlace at)) (unrefused rest)
+
+refused_as : {X : Type 0} (r : Result X Halt) (p q : Type 0) → (p → q) → OnRefused r p → OnRefused r q
+refused_as (Ok x) p q f h = tt
+refused_as (Err (halt.Refused refusal)) p q f h = f h
+refused_as (Err (halt.Stopped why)) p q f h = tt
+
+always_refused : {X : Type 0} (r : Result X Halt) (p : Type 0) → p → OnRefused r p
+always_refused (Ok x) p h = tt
+always_refused (Err (halt.Refused refusal)) p h = h
+always_refused (Err (halt.Stopped why)) p h = tt
+
+always : {X : Type 0} (r : Result X Stop) (p : Type 0) → p → IfOk r (λ _. p)
+always (Ok x) p h = h
+always (Err why) p h = tt
+
+module _ {R : Type 0} (m : Meaning R) (own : Known) where
+  -- ---- the place is not found
+
+  fresh_err : (X Y : Type 0) (e : Halt) (p : Type 0) → IfOk (split {X = X} (Err e)) (λ _. p) → IfOk (split {X = Y} (Err e)) (λ _. p)
+  fresh_err X Y (halt.Refused refusal) p h = h
+  fresh_err X Y (halt.Stopped why) p h = tt
+
+  module _ {B Y : Type 0} (view : Y → B) (old mid : ZipTree) (was now : R × ℕ) (rest : PlaceTree → Ask (Answered B)) (evals : Store → ℕ) (e : Halt) (finds : Finds m own old mid was now (Err e)) where
+    unfound_follows : Follows {A = Answered B} {X = Result Y Refusal} m (answered view) own was now (at_place old.root old.address rest) (split (Err e))
+    unfound_follows =
+        follows_same m (answered view) own was now (place_needed old.root old.address >>= unrefused rest) (at_place old.root old.address rest) (split (Err e)) (at_place_is old.root old.address rest)
+        (step_halt m (λ _. here mid) view own was now (place_needed old.root old.address) rest e finds.follows)
+
+    unfound_most : Evaluates m own old was now evals
+    unfound_most S agrees = let most = finds.most S agrees in omega (arith, most)
+
+    unfound_asks : Asks {X = Y} m view own old mid was now (at_place old.root old.address rest) evals (Err e)
+    unfound_asks = record {
+      follows = unfound_follows;
+      fresh = fresh_err (Unit {0}) Y e (IsFresh (known_of (m.reads now.0)) own mid) finds.fresh;
+      root = finds.root;
+      address = finds.address;
+      most = unfound_most;
+    }
+
+    pub asks_unfound : (r : Result Y Halt) → IsErrAnd r (λ h. h ≡ e) → Asks m view own old mid was now (at_place old.root old.address rest) evals r
+    asks_unfound r is = subst (λ (r : Result Y Halt). Asks m view own old mid was now (at_place old.root old.address rest) evals r) (sym (err_of r e is)) unfound_asks
+
+  module _ (old mid : ZipTree) (was now : R × ℕ) (rest : PlaceTree → Ask (Answered Address)) (rule : Ask (Answered Address)) (same : at_place old.root old.address rest ≡ rule) (evals : Store → ℕ) where
+    unfound_moves : (e : Halt) → Finds m own old mid was now (Err e) → Moves m own old mid was now rule evals (Err e)
+    unfound_moves e finds = record {
+      follows = follows_same m (answered (λ _. mid.address)) own was now (at_place old.root old.address rest) rule (split (Err e)) same (unfound_follows (λ _. mid.address) old mid was now rest evals e finds);
+      fresh = finds.fresh;
+      root = finds.root;
+      refused = always_refused {X = Unit {0}} (Err e) (mid.address ≡ old.address) finds.address;
+      most = unfound_most {Y = Unit {0}} (λ _. mid.address) old mid was now rest evals e finds;
+    }
+
+    pub moves_unfound : (e : Halt) (r : Result (Unit {0}) Halt) → IsErrAnd r (λ h. h ≡ e) → Finds m own old mid was now (Err e) → Moves m own old mid was now rule evals r
+    moves_unfound e r is finds = subst (Moves m own old mid was now rule evals) (sym (err_of r e is)) (unfound_moves e finds)
+
+  -- ---- it is found, and then
+
+  module _ (old mid : ZipTree) (was then : R × ℕ) (finds : Finds m own old mid was then (Ok tt)) where
+    -- at each filestore that agrees the place is that one
+    here_at : (S : Store) → Agrees (m.reads then.0) S → answer (changed own S) (place old.root old.address) ≡ Some (here mid)
+    here_at S agrees =
+        let is = found_answer (known_of (m.reads then.0)) own S agrees (place mid.root mid.address) (Some (here mid)) (stands_here (known_of (m.reads then.0)) own mid finds.stands) in
+        let same : place old.root old.address ≡ place mid.root mid.address = ap (λ root. place root old.address) (sym finds.root) ∙ ap (place mid.root) (sym finds.address) in
+        ap (answer (changed own S)) same ∙ is
+
+    module _ {B Y : Type 0} (view : Y → B) (rest : PlaceTree → Ask (Answered B)) (now : R × ℕ) (r : Result (Result Y Refusal) Stop) (next : Follows m (answered view) own then now (rest (here mid)) r) where
+      found_next : Follows m (answered view) own was now (at_place old.root old.address rest) r
+      found_next =
+          follows_same m (answered view) own was now (place_needed old.root old.address >>= unrefused rest) (at_place old.root old.address rest) r (at_place_is old.root old.address rest)
+          (follows_then m (answered (λ _. here mid)) (answered view) own was then (place_needed old.root old.address) (unrefused rest) now (Ok tt) r finds.follows next)
+
+      found_most : (evals_here evals : Store → ℕ) → ((S : Store) → Agrees (m.reads now.0) S → now.1 ≤ then.1 + evals_here (changed own S)) → ((S : Store) → answer S (place old.root old.address) ≡ Some (here mid) → evals S ≡ evals_here S) → Evaluates m own old was now evals
+      found_most evals_here evals most same S agrees =
+          let before = agrees_by m (answered view) own then.0 now.0 (rest (here mid)) r next.goes S agrees in
+          let first = finds.most S before in
+          let then_most = most S agrees in
+          let is = same (changed own S) (here_at S before) in
+          omega (arith, first, then_most, is)
+
+    pub moves_on : (new : ZipTree) (now : R × ℕ) (rest : PlaceTree → Ask (Answered Address)) (rule : Ask (Answered Address)) → at_place old.root old.address rest ≡ rule → (evals_here evals : Store → ℕ) → ((S : Store) → answer S (place old.root old.address) ≡ Some (here mid) → evals S ≡ evals_here S)
+        → (r : Result (Unit {0}) Halt) → Turns m own mid new then now (rest (here mid)) evals_here r → Moves m own old new was now rule evals r
+    moves_on new now rest rule same evals_here evals counted r turns = record {
+      follows = follows_same m (answered (λ _. new.address)) own was now (at_place old.root old.address rest) rule (split r) same (found_next (λ _. new.address) rest now (split r) turns.follows);
+      fresh = turns.fresh;
+      root = turns.root ∙ finds.root;
+      refused = refused_as r (new.address ≡ mid.address) (new.address ≡ old.address) (λ e. e ∙ finds.address) turns.refused;
+      most = found_most (λ _. new.address) rest now (split r) turns.follows evals_here evals turns.most counted;
+    }
+
+    -- the bound of a rule from the place
+    pub counted_here : {B : Type 0} (rest : PlaceTree → Ask B) (S : Store) → answer S (place old.root old.address) ≡ Some (here mid) → place_evals old rest S ≡ ticks S (rest (here mid))
+    counted_here rest S is = ap (evals_with (λ at. ticks S (rest at))) is
+
+    pub asks_on : {B Y : Type 0} (view : Y → B) (rest : PlaceTree → Ask (Answered B)) (new : ZipTree) (now : R × ℕ) (r : Result Y Halt) → new ≡ mid → Follows m (answered view) own then now (rest (here mid)) (split r)
+        → Asks m view own old new was now (at_place old.root old.address rest) (place_evals old rest) r
+    asks_on view rest new now r same next =
+        let fresh = fresh_grows (known_of (m.reads then.0)) own mid (known_of (m.reads now.0)) (follows_grows m own (answered view) then now (rest (here mid)) (split r) next) (stands_fresh (known_of (m.reads then.0)) own mid finds.stands) in
+        record {
+          follows = found_next view rest now (split r) next;
+          fresh = always (split r) (IsFresh (known_of (m.reads now.0)) own new) (subst (IsFresh (known_of (m.reads now.0)) own) (sym same) fresh);
+          root = ap (λ (z : ZipTree). z.root) same ∙ finds.root;
+          address = ap (λ (z : ZipTree). z.address) same ∙ finds.address;
+          most = found_most view rest now (split r) next (λ S. ticks S (rest (here mid))) (place_evals old rest) next.most (counted_here rest);
+        }
+
+  -- ---- entries
+
+  module _ (mid : ZipTree) (was now : R × ℕ) (stands : Stands (known_of (m.reads was.0)) own mid) (rule : Address → Ask (Answered Address)) where
+    abbrev EntersHere : Result Entry Halt → Type 0
+    EntersHere r = Enters m own rule (path_of mid.frames) mid.env (part mid.root mid.address) was now r
+
+    abbrev TurnsHere : ZipTree → Result (Unit {0}) Halt → Type 0
+    TurnsHere new r = Turns m own mid new was now (rule mid.address) (λ S. ticks S (rule mid.address)) r
+
+    grows_here : (r : Result Entry Halt) → EntersHere r → Stands (known_of (m.reads now.0)) own mid
+    grows_here r h = stands_grows (known_of (m.reads was.0)) own mid (known_of (m.reads now.0)) (follows_grows m own (answered (λ e. step_tree e.step ∷ mid.address)) was now (rule mid.address) (split r) (h.follows mid.address)) stands
+
+    -- the step is added
+    pub enter_turns : (e : Entry) (new : ZipTree) → EntersHere (Ok e) → new ≡ entered mid (step_tree e.step) e.spot → TurnsHere new (Ok tt)
+    enter_turns e new h same = subst (λ z. TurnsHere z (Ok tt)) (sym same) (record {
+      follows = follows_as m own (answered (λ e. step_tree e.step ∷ mid.address)) was now (rule mid.address) (answered (λ _. step_tree e.step ∷ mid.address)) (Ok e) (Ok tt) refl (h.follows mid.address);
+      fresh = stands_fresh (known_of (m.reads now.0)) own (entered mid (step_tree e.step) e.spot) (stands_entered (known_of (m.reads now.0)) own mid (step_tree e.step) e.spot (grows_here (Ok e) h) h.leads);
+      root = refl;
+      refused = tt;
+      most = (h.follows mid.address).most;
+    })
+
+    -- memory for it is refused
+    pub enter_memory : (e : Result Entry Halt) (new : ZipTree) (r : Result (Unit {0}) Halt) → EntersHere e → new.root ≡ mid.root → IsErrAnd r (λ h. h ≡ halt.Stopped stop.NoMemory) → TurnsHere new r
+    enter_memory e new r h root is = subst (TurnsHere new) (sym (err_of r (halt.Stopped stop.NoMemory) is)) (record {
+      follows = follows_memory m own (answered (λ e. step_tree e.step ∷ mid.address)) was now (rule mid.address) (answered (λ _. new.address)) (split e) (h.follows mid.address);
+      fresh = tt;
+      root = root;
+      refused = tt;
+      most = (h.follows mid.address).most;
+    })
+
+    -- there is no entry
+    none_turns : (e : Halt) → EntersHere (Err e) → TurnsHere mid (Err e)
+    none_turns (halt.Refused f) h = record {
+      follows = follows_as m own (answered (λ e. step_tree e.step ∷ mid.address)) was now (rule mid.address) (answered (λ _. mid.address)) (Err f) (Err f) refl (h.follows mid.address);
+      fresh = stands_fresh (known_of (m.reads now.0)) own mid (grows_here (Err (halt.Refused f)) h);
+      root = refl;
+      refused = refl;
+      most = (h.follows mid.address).most;
+    }
+    none_turns (halt.Stopped stop.NoMemory) h = record {
+      follows = follows_memory m own (answered (λ e. step_tree e.step ∷ mid.address)) was now (rule mid.address) (answered (λ _. mid.address)) (Err stop.NoMemory) (h.follows mid.address);
+      fresh = tt;
+      root = refl;
+      refused = tt;
+      most = (h.follows mid.address).most;
+    }
+    none_turns (halt.Stopped (stop.Needs p)) h = record {
+      follows = record { goes = (h.follows mid.address).goes; most = (h.follows mid.address).most };
+      fresh = tt;
+      root = refl;
+      refused = tt;
+      most = (h.follows mid.address).most;
+    }
+
+    pub no_entry : (e : Halt) (r : Result (Unit {0}) Halt) → EntersHere (Err e) → IsErrAnd r (λ h. h ≡ e) → TurnsHere mid r
+    no_entry e r h is = subst (TurnsHere mid) (sym (err_of r e is)) (none_turns e h)
+
+-- ---- one move
+
+scope_as : (env e : Bindings) (s t : SpecTree) → env ≡ e → s ≡ t → HasScope e t → HasScope env s
+scope_as env e s t same is h = subst (λ v. HasScope v s) (sym same) (subst (HasScope e) (sym is) h)
+
+module _ (known own : Known) (z : ZipTree) (p : List (List ℕ)) (env : Bindings) (s : SpecTree) (path : p ≡ path_of z.frames) (bound : env ≡ z.env) (form : s ≡ part z.root z.address) where
+  pub here_scope : IsDescription [] z.root → Stands known own z → HasScope env s
+  here_scope d stands = scope_as env z.env s (part z.root z.address) bound form (stands_scope known own z d stands)
+
+  module _ (move : Address → List (List ℕ) → Bindings → SpecTree → Ask (Answered Address)) (r : Result Entry Halt) where
+    pub enters_here : {R : Type 0} (m : Meaning R) (was now : R × ℕ) → Enters m own (λ a. move a p env s) p env s was now r → Enters m own (λ a. move a (path_of z.frames) z.env (part z.root z.address)) (path_of z.frames) z.env (part z.root z.address) was now r
+    enters_here m was now h =
+        subst (λ q. Enters m own (λ a. move a q z.env (part z.root z.address)) q z.env (part z.root z.address) was now r) path
+        (subst (λ e. Enters m own (λ a. move a p e (part z.root z.address)) p e (part z.root z.address) was now r) bound
+        (subst (λ t. Enters m own (λ a. move a p env t) p env t was now r) form h))
+
+module _ {R : Type 0} (m : Meaning R) (own : Known) (old mid : ZipTree) (was then now : R × ℕ) (finds : Finds m own old mid was then (Ok tt)) (move : Address → List (List ℕ) → Bindings → SpecTree → Ask (Answered Address)) where
+  abbrev move_here : Address → Ask (Answered Address)
+  move_here a = move a (path_of mid.frames) mid.env (part mid.root mid.address)
+
+  abbrev Moved : ZipTree → Result (Unit {0}) Halt → Type 0
+  Moved new r = Moves m own old new was now (from_place old.root old.address move) (place_evals old (λ at. move old.address at.path at.env at.spec)) r
+
+  moved : (new : ZipTree) (r : Result (Unit {0}) Halt) → Turns m own mid new then now (move_here mid.address) (λ S. ticks S (move_here mid.address)) r → Moved new r
+  moved new r turns =
+      moves_on m own old mid was then finds new now (λ at. move old.address at.path at.env at.spec) (from_place old.root old.address move) refl (λ S. ticks S (move_here old.address)) (place_evals old (λ at. move old.address at.path at.env at.spec))
+      (counted_here m own old mid was then finds (λ at. move old.address at.path at.env at.spec)) r
+      (subst (λ a. Turns m own mid new then now (move_here a) (λ S. ticks S (move_here a)) r) finds.address turns)
+
+  abbrev EntersFrom : Result Entry Halt → Type 0
+  EntersFrom r = Enters m own move_here (path_of mid.frames) mid.env (part mid.root mid.address) then now r
+
+  pub moved_in : (e : Entry) (new : ZipTree) → EntersFrom (Ok e) → new ≡ entered mid (step_tree e.step) e.spot → Moved new (Ok tt)
+  moved_in e new h same = moved new (Ok tt) (enter_turns m own mid then now finds.stands move_here e new h same)
+
+  pub moved_memory : (e : Entry) (new : ZipTree) (r : Result (Unit {0}) Halt) → EntersFrom (Ok e) → new.root ≡ mid.root → IsErrAnd r (λ h. h ≡ halt.Stopped stop.NoMemory) → Moved new r
+  moved_memory e new r h root is = moved new r (enter_memory m own mid then now finds.stands move_here (Ok e) new r h root is)
+
+  pub moved_not : (e : Halt) (r : Result (Unit {0}) Halt) → EntersFrom (Err e) → IsErrAnd r (λ h. h ≡ e) → Moved mid r
+  moved_not e r h is = moved mid r (no_entry m own mid then now finds.stands move_here e r h is)

@@ -1,0 +1,47 @@
+-- Lists with the last first.
+use Rattle.std.proofs.Common.{◌≡◌, ℕ, suc, ◌+◌, List, [], ◌∷◌, ◌++◌, length, take, drop, Option, Some, None, refl, sym, ap, ◌∙◌, append_assoc, arith, length-append, length-take}
+use Rattle.std.specs.Prelude.{slice_get}
+use Rattle.std.proofs.lemmas.Option.{slice_get_within}
+use Rattle.std.proofs.lemmas.List.{take-append-drop}
+use Rattle.fx_view.proofs.Lists.{drop_at}
+use Rattle.fx_zip.specs.Steps.{turned_onto, turned}
+
+module _ {A B : Type 0} (f : A → B) where
+  onto-append : (others : List B) (xs ys : List A) → turned_onto f others (xs ++ ys) ≡ turned_onto f (turned_onto f others xs) ys
+  onto-append others [] ys = refl
+  onto-append others (x ∷ xs) ys = onto-append (f x ∷ others) xs ys
+
+  pub turned-last : (xs : List A) (x : A) → turned f (xs ++ x ∷ []) ≡ f x ∷ turned f xs
+  turned-last xs x = onto-append [] xs (x ∷ [])
+
+  onto-front : (others : List B) (xs : List A) → turned_onto f others xs ≡ turned f xs ++ others
+  onto-front others [] = refl
+  onto-front others (x ∷ xs) =
+      onto-front (f x ∷ others) xs ∙ sym (append_assoc (turned f xs) (f x ∷ []) others) ∙ ap (λ ys. ys ++ others) (sym (onto-front (f x ∷ []) xs))
+
+  pub length-turned : (xs : List A) → length (turned f xs) ≡ length xs
+  length-turned [] = refl
+  length-turned (x ∷ xs) =
+      let long = length-append (turned f xs) (f x ∷ []) in
+      let same = ap length (onto-front (f x ∷ []) xs) in
+      omega (arith, long, same, length-turned xs)
+
+  -- the one at a place, between those after it and those before it
+  pub turned_at : (xs : List A) (n : ℕ) (x : A) → slice_get xs n ≡ Some x → turned f xs ≡ (turned f (drop (n + 1) xs) ++ f x ∷ []) ++ turned f (take n xs)
+  turned_at xs n x is =
+      ap (turned f) (sym (take-append-drop n xs))
+      ∙ onto-append [] (take n xs) (drop n xs)
+      ∙ ap (turned_onto f (turned f (take n xs))) (drop_at xs n x is)
+      ∙ onto-front (f x ∷ turned f (take n xs)) (drop (n + 1) xs)
+      ∙ sym (append_assoc (turned f (drop (n + 1) xs)) (f x ∷ []) (turned f (take n xs)))
+
+-- two lists with ends of one length
+pub same_ends : {A : Type 0} (a b k l : List A) → a ++ k ≡ b ++ l → length k ≡ length l → (a ≡ b) × (k ≡ l)
+same_ends [] [] k l e same = (refl, e)
+same_ends [] (y ∷ b) k l e same = let long = length-append b l in let all = ap length e in absurd (omega (arith, long, all, same))
+same_ends (x ∷ a) [] k l e same = let long = length-append a k in let all = ap length e in absurd (omega (arith, long, all, same))
+same_ends (x ∷ a) (y ∷ b) k l e same =
+    let heads : x ≡ y = cc in
+    let tails : a ++ k ≡ b ++ l = cc in
+    let rest = same_ends a b k l tails same in
+    (ap (λ z. z ∷ a) heads ∙ ap (λ zs. y ∷ zs) rest.0, rest.1)

@@ -1,0 +1,16 @@
+use Rattle.std.proofs.Common.{◌≡◌, ◌++◌, ◌∷◌, [], ◌+◌, ◌<◌, length, take, sym, ap, ◌∙◌, rules}
+use Rattle.std.proofs.lemmas.List.{take_more}
+use Rattle.fx_spec.specs.Views.{spec_tree}
+use Rattle.fx_zip.specs.Parts.{child, part}
+use Rattle.fx_zip.specs.Steps.{step_tree, turned}
+use Rattle.fx_zip.proofs.Turning.{turned-last}
+use Rattle.fx_zip.proofs.part.part.Goals as goal
+
+pub loop-step-preserved : goal.loop-step-preserved
+loop-step-preserved c =
+    let steps = c.args.steps.now in
+    let i = c.loop-step.step-index in
+    let item = c.step-item.result in
+    let within : i < length steps = search rules in
+    let taken : take (i + 1) steps ≡ take i steps ++ item ∷ [] = take_more steps i item within ∙ ap (λ y. take i steps ++ y ∷ []) (sym c.step-item.is) in
+    c.child-spec.ensures ∙ ap (child (step_tree item)) c.loop-step.invariant ∙ ap (part (spec_tree c.args.root.now)) (sym (ap (turned step_tree) taken ∙ turned-last step_tree (take i steps) item))

@@ -1,0 +1,77 @@
+-- A zipper whose frames are those of the places that its steps have over what is known, with the own changes on top.
+use Rattle.std.specs.Prelude.{◌≡◌, ℕ, ◌-◌, cond, List, [], ◌∷◌, ◌++◌, length, take, drop, Option, Some, None, Ok}
+use Rattle.fx_store.specs.Rule.{Known, Found, follow}
+use Rattle.fx_expr.specs.Eval.{Outcome, eval_of}
+use Rattle.fx_spec.specs.Describe.{Bindings}
+use Rattle.fx_spec.specs.Place.{Step, First, Second, Inside, Down, Elem, Address, placed, lead}
+use Rattle.fx_spec.specs.SpecTree.{SpecTree}
+use Rattle.fx_zip.specs.declared.frame.Frame.{Frame}
+use Rattle.fx_zip.specs.Parts.{child, part}
+use Rattle.fx_zip.specs.Telling.{set_answer}
+use Rattle.fx_zip.specs.Trees.{ZipTree, path_of, is_settled}
+
+-- the names bound around a step: to a second part and to an element it binds one more
+abbrev pub around : Step → Bindings → Bindings
+around Second env = take (length env - 1) env
+around (Elem t) env = take (length env - 1) env
+around _ env = env
+
+-- at an element, the set that the comprehension around it has
+abbrev pub HasSet : Option (List (List ℕ)) → Outcome → Type 0
+HasSet None o = ⊥
+HasSet (Some set) o = set_answer o ≡ Ok set
+
+abbrev pub IsHeld : Step → Option (List (List ℕ)) → Bindings → SpecTree → Type 0
+IsHeld (Elem t) set env (SpecTree.comp s x e) = HasSet set (eval_of env e)
+IsHeld _ set env spec = Unit {0}
+
+-- each step leads from the frame before it to its own
+abbrev pub AreFound : Known → Known → SpecTree → Address → List Frame → Bindings → Type 0
+AreFound known own root [] [] env = env ≡ []
+AreFound known own root [] (f ∷ fs) env = ⊥
+AreFound known own root (step ∷ above) [] env = ⊥
+AreFound known own root (step ∷ above) (f ∷ fs) env =
+    (follow known own (lead step (path_of fs) (around step env) (part root above)) ≡ Found (Some (placed f.path env (child step (part root above)))))
+    × IsHeld step f.set (around step env) (part root above)
+    × AreFound known own root above fs (around step env)
+
+-- the frames are those of the first steps; those of the others are not kept
+pub record IsFresh (known own : Known) (z : ZipTree) : Type 0 where
+  pub ahead : Address
+  pub kept : Address
+  pub whole : z.address ≡ ahead ++ kept
+  pub found : AreFound known own z.root kept z.frames z.env
+
+-- they are those of all steps
+pub record Stands (known own : Known) (z : ZipTree) : Type 0 where
+  pub found : AreFound known own z.root z.address z.frames z.env
+
+abbrev pub around_last : Address → Bindings → Bindings
+around_last [] env = env
+around_last (step ∷ above) env = around step env
+
+-- without the last step's frame
+abbrev pub unframed : ZipTree → ZipTree
+unframed z = record { root = z.root; address = z.address; frames = drop 1 z.frames; env = around_last z.address z.env }
+
+-- back by one step
+abbrev pub left : ZipTree → ZipTree
+left z =
+    record {
+      root = z.root;
+      address = drop 1 z.address;
+      frames = cond (is_settled z) (drop 1 z.frames) z.frames;
+      env = cond (is_settled z) (around_last z.address z.env) z.env;
+    }
+
+abbrev pub last_step : Address → Option Step
+last_step [] = None
+last_step (step ∷ above) = Some step
+
+abbrev pub last_set : List Frame → Option (List (List ℕ))
+last_set [] = None
+last_set (f ∷ fs) = f.set
+
+-- the zipper does not stand at an element whose set is kept
+abbrev pub IsNoElement : ZipTree → Type 0
+IsNoElement z = (t : List ℕ) → last_step z.address ≡ Some (Elem t) → last_set z.frames ≡ None

@@ -1,0 +1,97 @@
+-- Where a step leads, and the zipper that has gone there.
+use Rattle.std.specs.Prelude.{◌≡◌, ℕ, List, [], ◌∷◌, ◌++◌, Option, Some, None, Result, IfOk}
+use Rattle.std.specs.Option.{IfSome, option_map, unwrap_or}
+use Rattle.fx_store.specs.Rule.{Known, Ask, Found, follow}
+use Rattle.fx_expr.specs.Tree.{Tree}
+use Rattle.fx_expr.specs.Views.{entry_tree, tree_of}
+use Rattle.fx_expr.specs.declared.value.Value.{Value}
+use Rattle.fx_spec.specs.Describe.{Bindings}
+use Rattle.fx_spec.specs.Move.{Answered, element}
+use Rattle.fx_spec.specs.Place.{Step, Elem, Address, PlaceTree, placed, lead}
+use Rattle.fx_spec.specs.SpecTree.{SpecTree}
+use Rattle.fx_view.specs.declared.reader.Stop.{Stop}
+use Rattle.fx_view.specs.Follows.{Follows}
+use Rattle.fx_view.specs.Meaning.{Meaning}
+use Rattle.fx_view.specs.Reads.{known_of}
+use Rattle.fx_rules.specs.declared.halt.Halt.{Halt}
+use Rattle.fx_rules.specs.Answering.{answered}
+use Rattle.fx_rules.specs.Halts.{split}
+use Rattle.fx_zip.specs.declared.frame.Frame.{Frame}
+use Rattle.fx_zip.specs.declared.frame.Spot.{Spot}
+use Rattle.fx_zip.specs.declared.frame.Entry.{Entry}
+use Rattle.fx_zip.specs.Fresh.{around, IsHeld}
+use Rattle.fx_zip.specs.Parts.{child, part}
+use Rattle.fx_zip.specs.Steps.{step_tree}
+use Rattle.fx_zip.specs.Telling.{Says, Tells}
+use Rattle.fx_zip.specs.Trees.{ZipTree, path_of}
+
+-- with one name more, where there is one
+abbrev pub grown : Bindings → Option (List ℕ × Value) → Bindings
+grown env None = env
+grown env (Some b) = env ++ entry_tree b ∷ []
+
+-- the place of a spot
+abbrev pub spot_place : Bindings → SpecTree → Spot → PlaceTree
+spot_place env spec spot = placed spot.frame.path (grown env spot.bound) spec
+
+-- the spot keeps the set of the comprehension, and binds a name where the step does
+pub record IsSpot (step : Step) (env : Bindings) (spec : SpecTree) (spot : Spot) : Type 0 where
+  pub held : IsHeld step spot.frame.set env spec
+  pub back : around step (grown env spot.bound) ≡ env
+
+-- the step leads from a place to the spot
+pub record Leads (known own : Known) (step : Step) (p : List (List ℕ)) (env : Bindings) (spec : SpecTree) (spot : Spot) : Type 0 where
+  pub found : follow known own (lead step p env spec) ≡ Found (Some (spot_place env (child step spec) spot))
+  pub fits : IsSpot step env spec spot
+
+-- one frame more
+abbrev pub kept_too : ZipTree → Spot → ZipTree
+kept_too z spot = record { root = z.root; address = z.address; frames = spot.frame ∷ z.frames; env = grown z.env spot.bound }
+
+-- one step more, with its frame
+abbrev pub entered : ZipTree → Step → Spot → ZipTree
+entered z step spot = record { root = z.root; address = step ∷ z.address; frames = spot.frame ∷ z.frames; env = grown z.env spot.bound }
+
+-- a spot at the path that binds the name to the text, with the set
+pub record BindsText (p : List (List ℕ)) (x t : List ℕ) (set : List (List ℕ)) (spot : Spot) : Type 0 where
+  pub path : spot.frame.path ≡ p
+  pub held : spot.frame.set ≡ Some set
+  pub bound : option_map entry_tree spot.bound ≡ Some (x, Tree.str t)
+
+-- one that binds the name to the value
+pub record BindsValue (p : List (List ℕ)) (x : List ℕ) (v : Tree) (spot : Spot) : Type 0 where
+  pub path : spot.frame.path ≡ p
+  pub bound : option_map entry_tree spot.bound ≡ Some (x, v)
+
+-- the value that a spot binds
+abbrev pub bound_value : Spot → Tree
+bound_value spot = unwrap_or (option_map (λ b. tree_of b.1) spot.bound) Tree.nothing
+
+-- the call answers the spot to which the step leads, where it leads to one
+pub record LeadsTo {R : Type 0} (m : Meaning R) (own : Known) (step : Step) (p : List (List ℕ)) (env : Bindings) (spec : SpecTree) (was now : R × ℕ) (result : Result (Option Spot) Stop) : Type 0 where
+  pub follows : Follows m (option_map (spot_place env (child step spec))) own was now (lead step p env spec) result
+  pub spot : IfOk result (λ o. IfSome o (IsSpot step env spec))
+
+-- and consults nothing
+pub record LeadsAt (step : Step) (p : List (List ℕ)) (env : Bindings) (spec : SpecTree) (was now : ℕ) (result : Result (Option Spot) Stop) : Type 0 where
+  pub tells : Tells (option_map (spot_place env (child step spec))) was now (lead step p env spec) result
+  pub spot : IfOk result (λ o. IfSome o (IsSpot step env spec))
+
+-- the call answers the entry of the step that the rule of a move adds
+pub record Enters {R : Type 0} (m : Meaning R) (own : Known) (rule : Address → Ask (Answered Address)) (p : List (List ℕ)) (env : Bindings) (spec : SpecTree) (was now : R × ℕ) (result : Result Entry Halt) : Type 0 where
+  pub follows : (a : Address) → Follows m (answered (λ e. step_tree e.step ∷ a)) own was now (rule a) (split result)
+  pub leads : IfOk result (λ e. Leads (known_of (m.reads now.0)) own (step_tree e.step) p env spec e.spot)
+
+-- and consults nothing
+pub record EntersAt (rule : Address → Ask (Answered Address)) (p : List (List ℕ)) (env : Bindings) (spec : SpecTree) (was now : ℕ) (result : Result Entry Halt) : Type 0 where
+  pub tells : (a : Address) → Tells (answered (λ e. step_tree e.step ∷ a)) was now (rule a) (split result)
+  pub leads : (known own : Known) → IfOk result (λ e. Leads known own (step_tree e.step) p env spec e.spot)
+
+-- the call answers the entry of the chosen element, where there is one
+pub record Chooses (p : List (List ℕ)) (x : List ℕ) (set : List (List ℕ)) (choice : Option (List ℕ)) (result : Result Entry Halt) : Type 0 where
+  pub says : (a : Address) → Says (answered (λ e. step_tree e.step ∷ a)) (Some (element a choice)) (split result)
+  pub spot : IfOk result (λ e. (t : List ℕ) → choice ≡ Some t → (step_tree e.step ≡ Elem t) × BindsText p x t set e.spot)
+
+-- the entry's step leads from the place at which a zipper stands
+abbrev pub LeadsFrom : Known → Known → ZipTree → Entry → Type 0
+LeadsFrom known own z e = Leads known own (step_tree e.step) (path_of z.frames) z.env (part z.root z.address) e.spot

@@ -1,0 +1,122 @@
+//! What expressions of a description give, with their faults.
+ghost use Rattle.std.specs.Prelude.{◌≡◌, ◌+◌, Some};
+ghost use Rattle.fx_expr.specs.Eval as eval;
+ghost use Rattle.fx_expr.specs.Eval.{eval_of};
+ghost use Rattle.fx_expr.specs.Shapes.{IsWellShaped};
+ghost use Rattle.fx_expr.specs.Views.{expr_tree, tree_of};
+ghost use Rattle.fx_store.specs.Faults as paths;
+ghost use Rattle.fx_spec.specs.Describe as describe;
+ghost use Rattle.fx_spec.specs.Move.{evaluated};
+ghost use Rattle.fx_rules.specs.Answering.{answered};
+ghost use Rattle.fx_rules.specs.Halts.{split};
+ghost use Rattle.fx_zip.specs.Telling.{Says, set_answer, given};
+
+use fx_base::Steps;
+use fx_expr::{Env, EvalFault, Expr, TextSet, Value, eval_counted};
+use fx_rules::Halt;
+use fx_spec::Refusal;
+use fx_store::{Path, PathFault};
+use fx_view::Stop;
+use std::alloc::Global;
+use std::sync::ledger::Ledger;
+
+/// The value of an expression.
+pub(crate) fn evaluate<L: Ledger>(
+    alloc: Global,
+    env: &Env,
+    expr: &Expr,
+    steps: &mut Steps<L>,
+) -> Result<Value, Halt>
+    requires { IsWellShaped env.now (expr_tree expr.now) }
+    ensures value { Says (answered tree_of)
+        (Some (evaluated (eval_of env.now (expr_tree expr.now)))) (split result) }
+    ensures tick { steps.new ≡ steps.old + 1 }
+{
+    match eval_counted(alloc, expr, env, steps) {
+        Ok(value) => Ok(value),
+        Err(EvalFault::Fault(fault)) => Err(Halt::Refused(Refusal::Expr(fault))),
+        Err(EvalFault::NoMemory) => Err(Halt::Stopped(Stop::NoMemory)),
+    }
+}
+
+/// The set of a comprehension.
+pub(crate) fn set_of<L: Ledger>(
+    alloc: Global,
+    env: &Env,
+    expr: &Expr,
+    steps: &mut Steps<L>,
+) -> Result<TextSet, Halt>
+    requires { IsWellShaped env.now (expr_tree expr.now) }
+    ensures set { Says (answered (λ set. set))
+        (Some (set_answer (eval_of env.now (expr_tree expr.now)))) (split result) }
+    ensures tick { steps.new ≡ steps.old + 1 }
+{
+    match eval_counted(alloc, expr, env, steps) {
+        Ok(value) => Ok(into_names(alloc, value)),
+        Err(EvalFault::Fault(fault)) => Err(Halt::Refused(Refusal::Expr(fault))),
+        Err(EvalFault::NoMemory) => Err(Halt::Stopped(Stop::NoMemory)),
+    }
+}
+
+/// The path of a focus.
+pub(crate) fn inner_path<L: Ledger>(
+    alloc: Global,
+    path: &Path,
+    env: &Env,
+    expr: &Expr,
+    steps: &mut Steps<L>,
+) -> Result<Path, Halt>
+    requires { IsWellShaped env.now (expr_tree expr.now) }
+    ensures path { Says (answered (λ q. q))
+        (Some (describe.focus_path path.now (eval_of env.now (expr_tree expr.now)))) (split result) }
+    ensures tick { steps.new ≡ steps.old + 1 }
+{
+    match eval_counted(alloc, expr, env, steps) {
+        Ok(value) => extended(alloc, path, &value),
+        Err(EvalFault::Fault(fault)) => Err(Halt::Refused(Refusal::Expr(fault))),
+        Err(EvalFault::NoMemory) => Err(Halt::Stopped(Stop::NoMemory)),
+    }
+}
+
+fn extended(alloc: Global, path: &Path, value: &Value) -> Result<Path, Halt>
+    ensures { Says (answered (λ q. q)) (Some (describe.extension
+        (paths.extended path.now (eval.text_in (tree_of value.now))))) (split result) }
+{
+    match path.extend(alloc, text_in(value)) {
+        Ok(inner) => Ok(inner),
+        Err(PathFault::BadName) => Err(Halt::Refused(Refusal::BadName)),
+        Err(PathFault::TooDeep) => Err(Halt::Refused(Refusal::TooDeep)),
+        Err(PathFault::NoMemory) => Err(Halt::Stopped(Stop::NoMemory)),
+    }
+}
+
+/// What there is where a call is not refused.
+pub(crate) fn if_given<T: Drop>(answer: Result<T, Halt>) -> Result<Option<T>, Stop>
+    ensures { result ≡ given answer }
+{
+    match answer {
+        Ok(value) => Ok(Some(value)),
+        Err(Halt::Refused(_)) => Ok(None),
+        Err(Halt::Stopped(stop)) => Err(stop),
+    }
+}
+
+fn text_in(value: &Value) -> &[u8]
+    ensures { result.now ≡ eval.text_in (tree_of value.now) }
+{
+    match value {
+        Value::Str(text) => text.as_slice(),
+        Value::Int(_) | Value::Bool(_) | Value::Names(_) => &[],
+        Value::Pair(_, _) | Value::Nothing | Value::Some(_) | Value::Table(_) => &[],
+    }
+}
+
+fn into_names(alloc: Global, value: Value) -> TextSet
+    ensures { result ≡ eval.names_in (tree_of value) }
+{
+    match value {
+        Value::Names(names) => names,
+        Value::Str(_) | Value::Int(_) | Value::Bool(_) => TextSet::new(alloc),
+        Value::Pair(_, _) | Value::Nothing | Value::Some(_) | Value::Table(_) => TextSet::new(alloc),
+    }
+}

@@ -1,0 +1,188 @@
+//! Where a step leads from a place.
+ghost use Rattle.std.specs.Prelude.{◌≡◌, ℕ, false, true, IfOk, MatchOption};
+ghost use Rattle.std.specs.Option.{IfSome, option_map};
+ghost use Rattle.fx_expr.specs.Sets.{has_text};
+ghost use Rattle.fx_expr.specs.Views.{tree_of};
+ghost use Rattle.fx_spec.specs.Describe.{Bindings, value};
+ghost use Rattle.fx_spec.specs.Place as place;
+ghost use Rattle.fx_spec.specs.Views.{spec_tree};
+ghost use Rattle.fx_view.specs.Follows.{Follows, Consults};
+ghost use Rattle.fx_view.specs.Own.{own_at};
+ghost use Rattle.fx_walk.specs.Scopes.{HasScope};
+ghost use Rattle.fx_zip.specs.Spots.{LeadsTo, LeadsAt, BindsText, BindsValue, bound_value};
+ghost use Rattle.fx_zip.specs.Steps.{step_tree};
+
+use crate::evaluating::{if_given, inner_path, set_of};
+use crate::forms::{comp_of, focus_of, option_of, pair_of};
+use crate::frame::{Spot, element_spot, second_spot, spot_at};
+use crate::step::Step;
+use fx_base::{NoMemory, Steps};
+use fx_expr::{Env, Text, TextSet, Word};
+use fx_spec::Spec;
+use fx_store::Path;
+use fx_view::{Overlay, Reader, Stop};
+use fx_walk::{exists, value_in};
+use std::alloc::Global;
+use std::sync::ledger::Ledger;
+
+/// The spot to which a step leads, where it leads to one. The environment is as before on every way out.
+pub(crate) fn led<R: Reader, L: Ledger>(
+    alloc: Global,
+    reader: &mut R,
+    overlay: &Overlay,
+    step: &Step,
+    path: &Path,
+    env: &mut Env,
+    spec: &Spec,
+    steps: &mut Steps<L>,
+) -> Result<Option<Spot>, Stop>
+    requires described { HasScope env.old (spec_tree spec.now) }
+    ensures env { env.new ≡ env.old }
+    ensures leads { LeadsTo R.meaning (own_at overlay.now) (step_tree step.now) path.now env.old
+        (spec_tree spec.now) (reader.old, steps.old) (reader.new, steps.new) result }
+{
+    match step {
+        Step::First => first(alloc, path, spec),
+        Step::Second => second(alloc, reader, overlay, path, env, spec, steps),
+        Step::Inside => inside(alloc, reader, overlay, path, spec),
+        Step::Down => down(alloc, path, env, spec, steps),
+        Step::Elem(text) => element(alloc, path, env, spec, text, steps),
+    }
+}
+
+fn first(alloc: Global, path: &Path, spec: &Spec) -> Result<Option<Spot>, Stop>
+    ensures leads { (env : Bindings) (n : ℕ)
+        → LeadsAt place.First path.now env (spec_tree spec.now) n n result }
+{
+    match pair_of(spec) {
+        Some(_) => Ok(Some(spot_at(path.copy(alloc)?))),
+        None => Ok(None),
+    }
+}
+
+fn second<R: Reader, L: Ledger>(
+    alloc: Global,
+    reader: &mut R,
+    overlay: &Overlay,
+    path: &Path,
+    env: &mut Env,
+    spec: &Spec,
+    steps: &mut Steps<L>,
+) -> Result<Option<Spot>, Stop>
+    requires described { HasScope env.old (spec_tree spec.now) }
+    ensures env { env.new ≡ env.old }
+    ensures leads { LeadsTo R.meaning (own_at overlay.now) place.Second path.now env.old
+        (spec_tree spec.now) (reader.old, steps.old) (reader.new, steps.new) result }
+{
+    match pair_of(spec) {
+        Some((name, first, _)) => {
+            after_first(alloc, reader, overlay, path, env, name, first, steps)
+        }
+        None => Ok(None),
+    }
+}
+
+/// The spot at the second part of a pair, where the first part has a value.
+pub(crate) fn after_first<R: Reader, L: Ledger>(
+    alloc: Global,
+    reader: &mut R,
+    overlay: &Overlay,
+    path: &Path,
+    env: &mut Env,
+    name: &Word,
+    first: &Spec,
+    steps: &mut Steps<L>,
+) -> Result<Option<Spot>, Stop>
+    requires described { HasScope env.old (spec_tree first.now) }
+    ensures env { env.new ≡ env.old }
+    ensures follows { Follows R.meaning (option_map bound_value) (own_at overlay.now)
+        (reader.old, steps.old) (reader.new, steps.new)
+        (value path.now env.old (spec_tree first.now)) result }
+    ensures spot { IfOk result (λ o. IfSome o (λ spot.
+        BindsValue path.now name.now (bound_value spot) spot)) }
+{
+    match value_in(alloc, reader, overlay, path, env, first, steps)? {
+        Some(value) => Ok(Some(second_spot(alloc, path, name, value)?)),
+        None => Ok(None),
+    }
+}
+
+fn inside<R: Reader>(
+    alloc: Global,
+    reader: &mut R,
+    overlay: &Overlay,
+    path: &Path,
+    spec: &Spec,
+) -> Result<Option<Spot>, Stop>
+    ensures leads { (env : Bindings) (n : ℕ) → LeadsTo R.meaning (own_at overlay.now) place.Inside
+        path.now env (spec_tree spec.now) (reader.old, n) (reader.new, n) result }
+{
+    match option_of(spec) {
+        Some(_) => {
+            if exists(alloc, reader, overlay, path)? {
+                Ok(Some(spot_at(path.copy(alloc)?)))
+            } else {
+                Ok(None)
+            }
+        }
+        None => Ok(None),
+    }
+}
+
+fn down<L: Ledger>(
+    alloc: Global,
+    path: &Path,
+    env: &Env,
+    spec: &Spec,
+    steps: &mut Steps<L>,
+) -> Result<Option<Spot>, Stop>
+    requires described { HasScope env.now (spec_tree spec.now) }
+    ensures leads { LeadsAt place.Down path.now env.now (spec_tree spec.now)
+        steps.old steps.new result }
+{
+    match focus_of(spec) {
+        Some((text, _)) => match if_given(inner_path(alloc, path, env, text, steps))? {
+            Some(inner) => Ok(Some(spot_at(inner))),
+            None => Ok(None),
+        },
+        None => Ok(None),
+    }
+}
+
+fn element<L: Ledger>(
+    alloc: Global,
+    path: &Path,
+    env: &Env,
+    spec: &Spec,
+    text: &Text,
+    steps: &mut Steps<L>,
+) -> Result<Option<Spot>, Stop>
+    requires described { HasScope env.now (spec_tree spec.now) }
+    ensures leads { LeadsAt (place.Elem text.now) path.now env.now (spec_tree spec.now)
+        steps.old steps.new result }
+{
+    match comp_of(spec) {
+        Some((_, name, set)) => match if_given(set_of(alloc, env, set, steps))? {
+            Some(set) => Ok(spot_in(alloc, path, name, text, &set)?),
+            None => Ok(None),
+        },
+        None => Ok(None),
+    }
+}
+
+fn spot_in(
+    alloc: Global,
+    path: &Path,
+    name: &Word,
+    text: &Text,
+    set: &TextSet,
+) -> Result<Option<Spot>, NoMemory>
+    ensures { IfOk result (λ o. MatchOption o (has_text text.now set.now ≡ false) (λ spot.
+        (has_text text.now set.now ≡ true) × BindsText path.now name.now text.now set.now spot)) }
+{
+    if set.has(text) {
+        Ok(Some(element_spot(alloc, path, name, text, set)?))
+    } else {
+        Ok(None)
+    }
+}

@@ -1,0 +1,19 @@
+//! A zipper over a description: an address, the place that it has in a filestore, and moves from it, read through a reader
+//! with own changes on top.
+#![tactic(auto)]
+
+mod asks;
+mod evaluating;
+mod fetching;
+mod forms;
+mod frame;
+mod leading;
+mod moves;
+mod moving;
+mod part;
+mod settling;
+mod sideways;
+mod step;
+mod zip;
+
+pub use zip::Zip;

@@ -1,0 +1,193 @@
+//! Where a move leads from a place.
+ghost use Rattle.std.specs.Prelude.{◌≡◌, List, ℕ, IfOk};
+ghost use Rattle.std.specs.Option.{option_copied};
+ghost use Rattle.fx_expr.specs.Shapes.{IsWellShaped};
+ghost use Rattle.fx_expr.specs.Views.{expr_tree};
+ghost use Rattle.fx_spec.specs.Describe.{Bindings};
+ghost use Rattle.fx_spec.specs.Move as move;
+ghost use Rattle.fx_spec.specs.Place as place;
+ghost use Rattle.fx_spec.specs.SpecTree.{SpecTree};
+ghost use Rattle.fx_spec.specs.Views.{spec_tree};
+ghost use Rattle.fx_view.specs.Own.{own_at};
+ghost use Rattle.fx_walk.specs.Scopes.{HasScope};
+ghost use Rattle.fx_zip.specs.Spots.{Enters, EntersAt, Chooses, BindsText};
+ghost use Rattle.fx_zip.specs.Parts.{IsNoComp, IsNoOption};
+ghost use Rattle.fx_zip.specs.Steps.{step_tree};
+
+use crate::evaluating::{inner_path, set_of};
+use crate::forms::{comp_of, focus_of, option_of, pair_of};
+use crate::frame::{Entry, element_spot, spot_at};
+use crate::step::Step;
+use fx_base::{NoMemory, Steps};
+use fx_expr::{Env, Expr, Text, TextSet, Word};
+use fx_rules::Halt;
+use fx_spec::{Refusal, Spec};
+use fx_store::Path;
+use fx_view::{Overlay, Reader};
+use fx_walk::exists;
+use std::alloc::Global;
+use std::sync::ledger::Ledger;
+
+/// The entry at a focus's path.
+pub(crate) fn down<L: Ledger>(
+    alloc: Global,
+    path: &Path,
+    env: &Env,
+    spec: &Spec,
+    steps: &mut Steps<L>,
+) -> Result<Entry, Halt>
+    requires described { HasScope env.now (spec_tree spec.now) }
+    ensures enters { EntersAt (λ a. move.go_down a path.now env.now (spec_tree spec.now))
+        path.now env.now (spec_tree spec.now) steps.old steps.new result }
+{
+    match focus_of(spec) {
+        Some((text, _)) => {
+            let inner = inner_path(alloc, path, env, text, steps)?;
+            Ok(Entry {
+                step: Step::Down,
+                spot: spot_at(inner),
+            })
+        }
+        None => Err(Halt::Refused(Refusal::NoStep)),
+    }
+}
+
+/// The entry at an element that is asked for.
+pub(crate) fn to<L: Ledger>(
+    alloc: Global,
+    path: &Path,
+    env: &Env,
+    spec: &Spec,
+    text: &Text,
+    steps: &mut Steps<L>,
+) -> Result<Entry, Halt>
+    requires described { HasScope env.now (spec_tree spec.now) }
+    ensures enters { EntersAt (λ a. move.go_to text.now a path.now env.now (spec_tree spec.now))
+        path.now env.now (spec_tree spec.now) steps.old steps.new result }
+{
+    match comp_of(spec) {
+        Some((_, name, set)) => {
+            let set = set_of(alloc, env, set, steps)?;
+            let choice = this_if(text, set.has(text));
+            chosen(alloc, path, name, &set, choice)
+        }
+        None => Err(Halt::Refused(Refusal::NoStep)),
+    }
+}
+
+/// The entry at a first part, at a least element or inside an entry.
+pub(crate) fn into<R: Reader, L: Ledger>(
+    alloc: Global,
+    reader: &mut R,
+    overlay: &Overlay,
+    path: &Path,
+    env: &Env,
+    spec: &Spec,
+    steps: &mut Steps<L>,
+) -> Result<Entry, Halt>
+    requires described { HasScope env.now (spec_tree spec.now) }
+    ensures enters { Enters R.meaning (own_at overlay.now)
+        (λ a. move.go_into a path.now env.now (spec_tree spec.now))
+        path.now env.now (spec_tree spec.now) (reader.old, steps.old) (reader.new, steps.new) result }
+{
+    match comp_of(spec) {
+        Some((_, name, set)) => least(alloc, path, env, name, set, steps),
+        None => match option_of(spec) {
+            Some(_) => inside(alloc, reader, overlay, path),
+            None => first(alloc, path, spec),
+        },
+    }
+}
+
+fn first(alloc: Global, path: &Path, spec: &Spec) -> Result<Entry, Halt>
+    requires no_comp { IsNoComp (spec_tree spec.now) }
+    requires no_option { IsNoOption (spec_tree spec.now) }
+    ensures enters { (env : Bindings) (n : ℕ) → EntersAt (λ a. move.go_into a path.now env (spec_tree spec.now))
+        path.now env (spec_tree spec.now) n n result }
+{
+    match pair_of(spec) {
+        Some(_) => Ok(Entry {
+            step: Step::First,
+            spot: spot_at(path.copy(alloc)?),
+        }),
+        None => Err(Halt::Refused(Refusal::NoStep)),
+    }
+}
+
+fn least<L: Ledger>(
+    alloc: Global,
+    path: &Path,
+    env: &Env,
+    name: &Word,
+    set: &Expr,
+    steps: &mut Steps<L>,
+) -> Result<Entry, Halt>
+    requires shaped { IsWellShaped env.now (expr_tree set.now) }
+    ensures enters { (part : SpecTree) → EntersAt
+        (λ a. move.go_into a path.now env.now (SpecTree.comp part name.now (expr_tree set.now)))
+        path.now env.now (SpecTree.comp part name.now (expr_tree set.now))
+        steps.old steps.new result }
+{
+    let set = set_of(alloc, env, set, steps)?;
+    chosen(alloc, path, name, &set, set.first())
+}
+
+fn inside<R: Reader>(
+    alloc: Global,
+    reader: &mut R,
+    overlay: &Overlay,
+    path: &Path,
+) -> Result<Entry, Halt>
+    ensures enters { (env : Bindings) (part : SpecTree) (n : ℕ) → Enters R.meaning (own_at overlay.now)
+        (λ a. move.go_into a path.now env (SpecTree.opt part))
+        path.now env (SpecTree.opt part) (reader.old, n) (reader.new, n) result }
+{
+    if exists(alloc, reader, overlay, path)? {
+        Ok(Entry {
+            step: Step::Inside,
+            spot: spot_at(path.copy(alloc)?),
+        })
+    } else {
+        Err(Halt::Refused(Refusal::Lacks))
+    }
+}
+
+/// The entry at the chosen element of a set, where there is one.
+pub(crate) fn chosen(
+    alloc: Global,
+    path: &Path,
+    name: &Word,
+    set: &TextSet,
+    choice: Option<&Text>,
+) -> Result<Entry, Halt>
+    ensures { Chooses path.now name.now set.now (option_copied choice.entry) result }
+{
+    match choice {
+        Some(text) => Ok(element(alloc, path, name, text, set)?),
+        None => Err(Halt::Refused(Refusal::NoElement)),
+    }
+}
+
+fn element(
+    alloc: Global,
+    path: &Path,
+    name: &Word,
+    text: &Text,
+    set: &TextSet,
+) -> Result<Entry, NoMemory>
+    ensures { IfOk result (λ e. (step_tree e.step ≡ place.Elem text.now)
+        × BindsText path.now name.now text.now set.now e.spot) }
+{
+    let spot = element_spot(alloc, path, name, text, set)?;
+    let text = text.copy(alloc)?;
+    Ok(Entry {
+        step: Step::Elem(text),
+        spot,
+    })
+}
+
+fn this_if(text: &Text, holds: bool) -> Option<&Text>
+    ensures { option_copied result ≡ move.this_if text.now holds }
+{
+    if holds { Some(text) } else { None }
+}

@@ -1,0 +1,328 @@
+//! The zipper: its steps, its frames, and the names that they bind.
+ghost use Rattle.std.specs.Prelude.{◌≡◌, ◌-◌, ◌∷◌, [], IfOk, OnErr, drop, length, take};
+ghost use Rattle.std.specs.Option.{option_map};
+ghost use Rattle.fx_spec.specs.Views.{spec_tree};
+ghost use Rattle.fx_spec.specs.WellShaped.{IsDescription};
+ghost use Rattle.fx_walk.specs.Places.{place_tree};
+ghost use Rattle.fx_zip.specs.Fresh.{around, left, unframed, last_step, last_set};
+ghost use Rattle.fx_zip.specs.Parts as parts;
+ghost use Rattle.fx_zip.specs.Spots.{entered, kept_too, grown};
+ghost use Rattle.fx_zip.specs.Steps.{step_tree, turned};
+ghost use Rattle.fx_zip.specs.Trees.{here, is_settled, path_of};
+
+use crate::frame::{Entry, Frame, Spot};
+use crate::part::{part, part_around};
+use crate::step::Step;
+use fx_base::NoMemory;
+use fx_expr::{Env, TextSet, Value, Word};
+use fx_spec::{Base, Place, Refusal, Spec};
+use fx_store::Path;
+use std::alloc::Global;
+use std::marker::Model;
+use std::sync::Arc;
+
+/// An address in a described filestore, with a frame for each of its first steps: the path there, and the values of the
+/// names bound on the way. Contracts see the root description, the address, the frames and the values.
+///
+/// A call that reads needs a reader that still has all reads of the zipper's earlier calls. After own changes `stored` is
+/// called: the next call that needs the place finds it again from the root on.
+#[derive(Drop)]
+pub struct Zip {
+    pub(crate) base: Arc<Base>,
+    /// The root path, to lend it.
+    pub(crate) top: Path,
+    pub(crate) steps: Vec<Step>,
+    /// Of the first steps, as many as there are.
+    pub(crate) frames: Vec<Frame>,
+    /// What the frames' steps bind.
+    pub(crate) env: Env,
+}
+
+impl Model for Zip {
+    ghost use Rattle.std.specs.Prelude.{◌≡◌, []};
+    ghost use Rattle.fx_zip.specs.Trees.{ZipTree, coded_zip};
+
+    ghost Value = { ZipTree };
+
+    ghost coded = { coded_zip };
+
+    ghost use Rattle.fx_zip.specs.View.{zip_tree};
+
+    ghost view = { zip_tree };
+
+    ghost invariant = { λ z. z.top ≡ [] };
+}
+
+impl Zip {
+    ghost use Rattle.fx_spec.specs.Move.{go_out, go_up};
+    ghost use Rattle.fx_store.specs.Rule.{Known};
+    ghost use Rattle.fx_rules.specs.Answering.{answered};
+    ghost use Rattle.fx_spec.specs.Shaped.{IsDescribedPlace};
+    ghost use Rattle.fx_zip.specs.Fresh.{IsFresh, Stands};
+
+    /// A zipper at the root description.
+    pub fn new(alloc: Global, base: Arc<Base>) -> Zip
+        ensures root { result.root ≡ base.value.description }
+        ensures address { result.address ≡ [] }
+        ensures fresh { (known own : Known) → IsFresh known own result }
+    {
+        Zip {
+            base,
+            top: Path::root(alloc),
+            steps: Vec::new(alloc),
+            frames: Vec::new(alloc),
+            env: Env::new(alloc),
+        }
+    }
+
+    /// Back to the root description.
+    pub fn go_top(&mut self)
+        ensures root { self.new.root ≡ self.old.root }
+        ensures address { self.new.address ≡ [] }
+        ensures fresh { (known own : Known) → IsFresh known own self.new }
+    {
+        self.steps.truncate(0);
+        self.frames.truncate(0);
+        self.env.cut(0);
+    }
+
+    /// Forgets all frames, after own changes. It takes no memory.
+    pub fn stored(&mut self)
+        ensures root { self.new.root ≡ self.old.root }
+        ensures address { self.new.address ≡ self.old.address }
+        ensures fresh { (known own : Known) → IsFresh known own self.new }
+    {
+        self.frames.truncate(0);
+        self.env.cut(0);
+    }
+
+    /// Back from a part, an element or an entry.
+    pub fn go_out(&mut self) -> Result<(), Refusal>
+        ensures root { self.new.root ≡ self.old.root }
+        ensures address { answered (λ _. self.new.address) result ≡ go_out self.old.address }
+        ensures refused { OnErr result (self.new ≡ self.old) }
+        ensures fresh { (known own : Known) → IsFresh known own self.old → IsFresh known own self.new }
+    {
+        match self.last() {
+            Some(Step::First) | Some(Step::Second) | Some(Step::Inside) | Some(Step::Elem(_)) => {
+                self.leave();
+                Ok(())
+            }
+            Some(Step::Down) | None => Err(Refusal::NoStep),
+        }
+    }
+
+    /// Back from the path of a focus.
+    pub fn go_up(&mut self) -> Result<(), Refusal>
+        ensures root { self.new.root ≡ self.old.root }
+        ensures address { answered (λ _. self.new.address) result ≡ go_up self.old.address }
+        ensures refused { OnErr result (self.new ≡ self.old) }
+        ensures fresh { (known own : Known) → IsFresh known own self.old → IsFresh known own self.new }
+    {
+        match self.last() {
+            Some(Step::Down) => {
+                self.leave();
+                Ok(())
+            }
+            Some(Step::First) | Some(Step::Second) | Some(Step::Inside) | Some(Step::Elem(_)) => {
+                Err(Refusal::NoStep)
+            }
+            None => Err(Refusal::NoStep),
+        }
+    }
+
+    /// The place at which the zipper stands, once it was found.
+    pub fn here(&self) -> Place<'_>
+        ensures place { place_tree result ≡ here self.now }
+        ensures described { (known own : Known) → Stands known own self.now
+            → IsDescribedPlace (place_tree result) }
+    {
+        Place {
+            path: self.path(),
+            env: self.env(),
+            spec: self.spec(),
+        }
+    }
+}
+
+impl Zip {
+    pub(crate) fn path(&self) -> &Path
+        ensures { result.now ≡ path_of self.now.frames }
+    {
+        last_path(&self.top, self.frames.as_slice())
+    }
+
+    pub(crate) fn env(&self) -> &Env
+        ensures { result.now ≡ self.now.env }
+    {
+        &self.env
+    }
+
+    pub(crate) fn spec(&self) -> &Spec
+        ensures part { spec_tree result.now ≡ parts.part self.now.root self.now.address }
+        ensures described { IsDescription [] self.now.root }
+    {
+        part(self.root(), self.steps.as_slice())
+    }
+
+    pub(crate) fn root(&self) -> &Spec
+        ensures root { spec_tree result.now ≡ self.now.root }
+        ensures described { IsDescription [] self.now.root }
+    {
+        self.base.description.spec()
+    }
+
+    /// The part around the last step.
+    pub(crate) fn around(&self) -> &Spec
+        ensures part { spec_tree result.now ≡ parts.part self.now.root (drop 1 self.now.address) }
+        ensures described { IsDescription [] self.now.root }
+    {
+        part_around(self.root(), self.steps.as_slice())
+    }
+
+    /// The set that the last frame keeps.
+    pub(crate) fn held(&self) -> Option<&TextSet>
+        ensures { option_map (λ set. set.now) result ≡ last_set self.now.frames }
+    {
+        held_set(self.frames.as_slice())
+    }
+
+    pub(crate) fn last(&self) -> Option<&Step>
+        ensures { option_map (λ step. step_tree step.now) result ≡ last_step self.now.address }
+    {
+        self.steps.last()
+    }
+
+    /// Whether each step has its frame.
+    pub(crate) fn is_settled(&self) -> bool
+        ensures { result ≡ is_settled self.now }
+    {
+        self.frames.len() == self.steps.len()
+    }
+
+    /// Adds a step with its frame.
+    pub(crate) fn enter(&mut self, alloc: Global, entry: Entry) -> Result<(), NoMemory>
+        ensures entered { IfOk result (λ _.
+            self.new ≡ entered self.old (step_tree entry.step) entry.spot) }
+        ensures root { self.new.root ≡ self.old.root }
+    {
+        self.add_step(entry.step)?;
+        self.keep(alloc, entry.spot)
+    }
+
+    fn add_step(&mut self, step: Step) -> Result<(), NoMemory>
+        ensures added { IfOk result (λ _.
+            self.new ≡ record self.old { address = step_tree step ∷ self.old.address }) }
+        ensures root { self.new.root ≡ self.old.root }
+    {
+        self.steps.push(step)?;
+        Ok(())
+    }
+
+    /// Puts a step with its frame in place of the last one.
+    pub(crate) fn replace(&mut self, alloc: Global, entry: Entry) -> Result<(), NoMemory>
+        ensures entered { IfOk result (λ _.
+            self.new ≡ entered (left self.old) (step_tree entry.step) entry.spot) }
+        ensures root { self.new.root ≡ self.old.root }
+    {
+        self.leave();
+        self.enter(alloc, entry)
+    }
+
+    /// Adds the frame of the first step that has none.
+    pub(crate) fn keep(&mut self, alloc: Global, spot: Spot) -> Result<(), NoMemory>
+        ensures kept { IfOk result (λ _. self.new ≡ kept_too self.old spot) }
+        ensures root { self.new.root ≡ self.old.root }
+        ensures address { self.new.address ≡ self.old.address }
+    {
+        self.frames.push(spot.frame)?;
+        bind(alloc, &mut self.env, spot.bound)
+    }
+
+    /// Takes off the last step, and its frame where it has one.
+    pub(crate) fn leave(&mut self)
+        ensures { self.new ≡ left self.old }
+    {
+        if self.is_settled() {
+            self.drop_frame();
+        }
+        self.drop_step();
+    }
+
+    fn drop_frame(&mut self)
+        ensures { self.new ≡ unframed self.old }
+    {
+        if let Some(step) = self.steps.last() {
+            unbind(&mut self.env, step);
+        }
+        if let Some(frame) = self.frames.pop() {
+            drop(frame);
+        }
+    }
+
+    fn drop_step(&mut self)
+        ensures { self.new ≡ record self.old { address = drop 1 self.old.address } }
+    {
+        if let Some(step) = self.steps.pop() {
+            drop(step);
+        }
+    }
+}
+
+/// The path of the last frame, or the root path.
+pub(crate) fn last_path<'a>(top: &'a Path, frames: &'a [Frame]) -> &'a Path
+    requires { top.now ≡ [] }
+    ensures { result.now ≡ path_of (turned (λ f. f) frames.now) }
+{
+    match frames.last() {
+        Some(frame) => &frame.path,
+        None => top,
+    }
+}
+
+/// The path of the frame before the last, or the root path.
+pub(crate) fn path_around<'a>(top: &'a Path, frames: &'a [Frame]) -> &'a Path
+    requires { top.now ≡ [] }
+    ensures { result.now ≡ path_of (drop 1 (turned (λ f. f) frames.now)) }
+{
+    match frames.split_last() {
+        Some((_, front)) => last_path(top, front),
+        None => top,
+    }
+}
+
+fn held_set(frames: &[Frame]) -> Option<&TextSet>
+    ensures { option_map (λ set. set.now) result ≡ last_set (turned (λ f. f) frames.now) }
+{
+    match frames.last() {
+        Some(frame) => frame.set.as_ref(),
+        None => None,
+    }
+}
+
+fn bind(alloc: Global, env: &mut Env, bound: Option<(Word, Value)>) -> Result<(), NoMemory>
+    ensures { IfOk result (λ _. env.new ≡ grown env.old bound) }
+{
+    match bound {
+        Some(binding) => env.add(alloc, binding),
+        None => Ok(()),
+    }
+}
+
+fn unbind(env: &mut Env, step: &Step)
+    ensures { env.new ≡ around (step_tree step.now) env.old }
+{
+    match step {
+        Step::Second | Step::Elem(_) => drop_last(env),
+        Step::First | Step::Inside | Step::Down => {}
+    }
+}
+
+fn drop_last(env: &mut Env)
+    ensures { env.new ≡ take (length env.old - 1) env.old }
+{
+    let len = env.len();
+    if len > 0 {
+        env.cut(len - 1);
+    }
+}
