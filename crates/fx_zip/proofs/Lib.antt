@@ -7,3 +7,4 @@ pub mod Entering
 pub mod Places
 pub mod Beside
 pub mod Consulting
+pub mod Finding

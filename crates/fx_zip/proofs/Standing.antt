@@ -3,6 +3,7 @@ use Rattle.std.proofs.Common.{◌≡◌, ℕ, suc, ◌+◌, ◌<◌, Bool, true,
 use Rattle.std.specs.Prelude.{nat_eq}
 use Rattle.std.specs.Option.{IfSome, unwrap_or}
 use Rattle.std.proofs.lemmas.Bool.Decides.{nat_tests}
+use Rattle.std.proofs.lemmas.List.{append-nil}
 use Rattle.fx_store.specs.declared.node.Node.{Node}
 use Rattle.fx_store.specs.Rule.{Known, Found, follow, AgreesWith, answer, changed}
 use Rattle.fx_store.specs.Whole.{Store}
@@ -143,3 +144,12 @@ module _ (known own : Known) (z : ZipTree) where
 
   pub fresh_left : IsFresh known own z → IsFresh known own (left z)
   fresh_left h = left_ahead h.ahead h.kept h.whole h.found
+
+-- without frames, nothing is kept
+pub fresh_none : (known own : Known) (z : ZipTree) → z.frames ≡ [] → z.env ≡ [] → IsFresh known own z
+fresh_none known own z frames env = record {
+  ahead = z.address;
+  kept = [];
+  whole = sym (append-nil z.address);
+  found = subst (λ fs. AreFound known own z.root [] fs z.env) (sym frames) env;
+}

@@ -1,6 +1,7 @@
 -- Lists with the last first.
-use Rattle.std.proofs.Common.{◌≡◌, ℕ, suc, ◌+◌, List, [], ◌∷◌, ◌++◌, length, take, drop, Option, Some, None, refl, sym, ap, ◌∙◌, append_assoc, arith, length-append, length-take}
-use Rattle.std.specs.Prelude.{slice_get}
+use Rattle.std.proofs.Common.{◌≡◌, ℕ, suc, ◌+◌, ◌<◌, List, [], ◌∷◌, ◌++◌, length, take, drop, Bool, true, false, Option, Some, None, refl, sym, ap, ◌∙◌, append_assoc, arith, length-append, length-take}
+use Rattle.std.specs.Prelude.{slice_get, IsSome}
+use Rattle.std.specs.Option.{option_to_list}
 use Rattle.std.proofs.lemmas.Option.{slice_get_within}
 use Rattle.std.proofs.lemmas.List.{take-append-drop}
 use Rattle.fx_view.proofs.Lists.{drop_at}
@@ -45,3 +46,10 @@ same_ends (x ∷ a) (y ∷ b) k l e same =
     let tails : a ++ k ≡ b ++ l = cc in
     let rest = same_ends a b k l tails same in
     (ap (λ z. z ∷ a) heads ∙ ap (λ zs. y ∷ zs) rest.0, rest.1)
+
+-- one of them taken off
+pub popped : {A B : Type 0} (f : A → B) (old new : List A) (r : Option A) → old ≡ new ++ option_to_list r → (0 < length old → IsSome r) → turned f new ≡ drop 1 (turned f old)
+popped f old new (Some x) items some = sym (ap (λ xs. drop 1 (turned f xs)) items ∙ ap (drop 1) (turned-last f new x))
+popped f [] [] None items some = refl
+popped f [] (y ∷ new) None items some = absurd (cc)
+popped f (x ∷ old) new None items some = let more : false ≡ true = some (omega arith) in absurd (cc)

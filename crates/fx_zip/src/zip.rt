@@ -1,10 +1,10 @@
 //! The zipper: its steps, its frames, and the names that they bind.
-ghost use Rattle.std.specs.Prelude.{◌≡◌, ◌-◌, ◌∷◌, [], IfOk, OnErr, drop, length, take};
+ghost use Rattle.std.specs.Prelude.{◌≡◌, ◌-◌, ◌∷◌, [], IfOk, OnErr, drop, length, nat_eq, take};
 ghost use Rattle.std.specs.Option.{option_map};
 ghost use Rattle.fx_spec.specs.Views.{spec_tree};
 ghost use Rattle.fx_spec.specs.WellShaped.{IsDescription};
 ghost use Rattle.fx_walk.specs.Places.{place_tree};
-ghost use Rattle.fx_zip.specs.Fresh.{around, left, unframed, last_step, last_set};
+ghost use Rattle.fx_zip.specs.Fresh.{around, around_last, left, unframed, last_step, last_set};
 ghost use Rattle.fx_zip.specs.Parts as parts;
 ghost use Rattle.fx_zip.specs.Spots.{entered, kept_too, grown};
 ghost use Rattle.fx_zip.specs.Steps.{step_tree, turned};
@@ -190,14 +190,14 @@ impl Zip {
     pub(crate) fn last(&self) -> Option<&Step>
         ensures { option_map (λ step. step_tree step.now) result ≡ last_step self.now.address }
     {
-        self.steps.last()
+        last_step_of(self.steps.as_slice())
     }
 
     /// Whether each step has its frame.
     pub(crate) fn is_settled(&self) -> bool
         ensures { result ≡ is_settled self.now }
     {
-        self.frames.len() == self.steps.len()
+        as_many(self.frames.as_slice(), self.steps.as_slice())
     }
 
     /// Adds a step with its frame.
@@ -215,8 +215,7 @@ impl Zip {
             self.new ≡ record self.old { address = step_tree step ∷ self.old.address }) }
         ensures root { self.new.root ≡ self.old.root }
     {
-        self.steps.push(step)?;
-        Ok(())
+        push_step(&mut self.steps, step)
     }
 
     /// Puts a step with its frame in place of the last one.
@@ -235,7 +234,7 @@ impl Zip {
         ensures root { self.new.root ≡ self.old.root }
         ensures address { self.new.address ≡ self.old.address }
     {
-        self.frames.push(spot.frame)?;
+        push_frame(&mut self.frames, spot.frame)?;
         bind(alloc, &mut self.env, spot.bound)
     }
 
@@ -252,20 +251,14 @@ impl Zip {
     fn drop_frame(&mut self)
         ensures { self.new ≡ unframed self.old }
     {
-        if let Some(step) = self.steps.last() {
-            unbind(&mut self.env, step);
-        }
-        if let Some(frame) = self.frames.pop() {
-            drop(frame);
-        }
+        unbind_last(&mut self.env, self.steps.as_slice());
+        pop_frame(&mut self.frames);
     }
 
     fn drop_step(&mut self)
         ensures { self.new ≡ record self.old { address = drop 1 self.old.address } }
     {
-        if let Some(step) = self.steps.pop() {
-            drop(step);
-        }
+        pop_step(&mut self.steps);
     }
 }
 
@@ -274,8 +267,8 @@ pub(crate) fn last_path<'a>(top: &'a Path, frames: &'a [Frame]) -> &'a Path
     requires { top.now ≡ [] }
     ensures { result.now ≡ path_of (turned (λ f. f) frames.now) }
 {
-    match frames.last() {
-        Some(frame) => &frame.path,
+    match frames.split_last() {
+        Some((frame, _)) => &frame.path,
         None => top,
     }
 }
@@ -294,8 +287,8 @@ pub(crate) fn path_around<'a>(top: &'a Path, frames: &'a [Frame]) -> &'a Path
 fn held_set(frames: &[Frame]) -> Option<&TextSet>
     ensures { option_map (λ set. set.now) result ≡ last_set (turned (λ f. f) frames.now) }
 {
-    match frames.last() {
-        Some(frame) => frame.set.as_ref(),
+    match frames.split_last() {
+        Some((frame, _)) => frame.set.as_ref(),
         None => None,
     }
 }
@@ -326,3 +319,61 @@ fn drop_last(env: &mut Env)
         env.cut(len - 1);
     }
 }
+
+fn unbind_last(env: &mut Env, steps: &[Step])
+    ensures { env.new ≡ around_last (turned step_tree steps.now) env.old }
+{
+    match steps.split_last() {
+        Some((step, _)) => unbind(env, step),
+        None => {}
+    }
+}
+
+fn as_many(frames: &[Frame], steps: &[Step]) -> bool
+    ensures { result ≡ nat_eq (length (turned (λ f. f) frames.now)) (length (turned step_tree steps.now)) }
+{
+    frames.len() == steps.len()
+}
+
+fn last_step_of(steps: &[Step]) -> Option<&Step>
+    ensures { option_map (λ step. step_tree step.now) result ≡ last_step (turned step_tree steps.now) }
+{
+    match steps.split_last() {
+        Some((step, _)) => Some(step),
+        None => None,
+    }
+}
+
+fn push_step(steps: &mut Vec<Step>, step: Step) -> Result<(), NoMemory>
+    ensures { IfOk result (λ _. turned step_tree steps.new.items
+        ≡ step_tree step ∷ turned step_tree steps.old.items) }
+{
+    steps.push(step)?;
+    Ok(())
+}
+
+fn push_frame(frames: &mut Vec<Frame>, frame: Frame) -> Result<(), NoMemory>
+    ensures { IfOk result (λ _. turned (λ f. f) frames.new.items
+        ≡ frame ∷ turned (λ f. f) frames.old.items) }
+{
+    frames.push(frame)?;
+    Ok(())
+}
+
+fn pop_step(steps: &mut Vec<Step>)
+    ensures { turned step_tree steps.new.items ≡ drop 1 (turned step_tree steps.old.items) }
+{
+    let last = steps.pop();
+    let_go_step(last);
+}
+
+fn pop_frame(frames: &mut Vec<Frame>)
+    ensures { turned (λ f. f) frames.new.items ≡ drop 1 (turned (λ f. f) frames.old.items) }
+{
+    let last = frames.pop();
+    let_go_frame(last);
+}
+
+fn let_go_step(_: Option<Step>) {}
+
+fn let_go_frame(_: Option<Frame>) {}

@@ -1,0 +1,127 @@
+-- The loop that finds the place of a zipper.
+use Rattle.std.proofs.Common.{◌≡◌, ℕ, ◌+◌, ◌<◌, ◌≤◌, Bool, true, false, cond, List, [], ◌∷◌, ◌++◌, length, Option, Some, None, Result, Ok, Err, refl, sym, ap, ◌∙◌, subst, arith, length-append}
+use Rattle.std.specs.Prelude.{IsErrAnd, IfOk}
+use Rattle.fx_store.specs.Rule.{Known, Ask, Answer, ◌>>=◌, ticks, changed}
+use Rattle.fx_store.specs.Whole.{Store}
+use Rattle.fx_spec.specs.declared.refusal.Refusal.{Refusal}
+use Rattle.fx_spec.specs.Move.{needed}
+use Rattle.fx_spec.specs.Place.{Address, PlaceTree, placed, place}
+use Rattle.fx_view.specs.declared.reader.Stop.{Stop}
+use Rattle.fx_view.specs.declared.reader.Stop.TheVariants as stop
+use Rattle.fx_view.specs.Follows.{Follows}
+use Rattle.fx_view.specs.Meaning.{Meaning}
+use Rattle.fx_view.specs.Reads.{known_of, Agrees}
+use Rattle.fx_view.proofs.Calls.{follows_then_answer, follows_stop}
+use Rattle.fx_view.proofs.Errors.{err_of}
+use Rattle.fx_rules.specs.declared.halt.Halt.{Halt}
+use Rattle.fx_rules.specs.declared.halt.Halt.TheVariants as halt
+use Rattle.fx_rules.specs.Answering.{answered}
+use Rattle.fx_rules.specs.Halts.{split}
+use Rattle.fx_zip.specs.Calls.{IsSettling, SettlesTo, Settles, Finds, Evaluates, place_needed, settling_evals}
+use Rattle.fx_zip.specs.Fresh.{AreFound, IsFresh, Stands}
+use Rattle.fx_zip.specs.Parts.{part}
+use Rattle.fx_zip.specs.Trees.{ZipTree, is_settled, path_of, here}
+use Rattle.fx_zip.proofs.Settled.{PlaceOr, settling_first, settling_fresh}
+use Rattle.fx_zip.proofs.Standing.{found_length, fresh_stands, stands_fresh, is_true}
+
+pub record Finding {R : Type 0} (m : Meaning R) (own : Known) (first : ZipTree) (start now : R × ℕ) (z : ZipTree) : Type 0 where
+  pub settling : IsSettling m own start now z
+  pub root : z.root ≡ first.root
+  pub address : z.address ≡ first.address
+  pub quiet : is_settled first ≡ true → (now ≡ start) × (is_settled z ≡ true)
+
+module _ {R : Type 0} (m : Meaning R) (own : Known) (first : ZipTree) (start : R × ℕ) where
+  pub finding_first : IsFresh (known_of (m.reads start.0)) own first → Finding m own first start start first
+  finding_first h = record { settling = settling_first m own start first h; root = refl; address = refl; quiet = λ e. (refl, e) }
+
+  module _ (now : R × ℕ) (z : ZipTree) (f : Finding m own first start now z) where
+    at_root : (a : Address) → place z.root z.address ≡ place first.root first.address
+    at_root a = ap (λ root. place root z.address) f.root ∙ ap (place first.root) f.address
+
+    place_first : (then : R × ℕ) (r : Result (Option PlaceTree) Stop) → PlaceOr m own z.root start then z.address r → PlaceOr m own first.root start then first.address r
+    place_first then r h = subst (λ (rule : Ask (Option PlaceTree)). Follows {A = Option PlaceTree} {X = Option PlaceTree} m (λ at. at) own start then rule r) (at_root []) h
+
+    -- every step has its frame
+    pub found_all : is_settled z ≡ true → Finds m own first z start now (Ok tt)
+    found_all settled =
+        let fresh = settling_fresh m own start now z f.settling in
+        let stands = fresh_stands (known_of (m.reads now.0)) own z fresh settled in
+        let kept : f.settling.kept ≡ z.address = kept_all f.settling.ahead f.settling.kept f.settling.whole (same_length settled) in
+        let there : PlaceOr m own z.root start now z.address (Ok (Some (here z))) = subst (λ a. PlaceOr m own z.root start now a (Ok (Some (placed (path_of z.frames) z.env (part z.root a))))) kept f.settling.so_far in
+        let at_first = place_first now (Ok (Some (here z))) there in
+        record {
+          follows = follows_then_answer m (λ at. at) (answered (λ _. here z)) own start now (place first.root first.address) (λ at. Answer (needed Refusal.NoPlace at)) (Some (here z)) (Ok tt) at_first refl;
+          stands = stands;
+          fresh = fresh;
+          root = f.root;
+          address = f.address;
+          most = all_most (Ok (Some (here z))) at_first;
+        }
+      where
+        same_length : is_settled z ≡ true → length f.settling.kept ≡ length z.address
+        same_length e =
+            let stands = fresh_stands (known_of (m.reads now.0)) own z (settling_fresh m own start now z f.settling) e in
+            let kept = found_length (known_of (m.reads now.0)) own z.root f.settling.kept z.frames z.env f.settling.found in
+            let all = found_length (known_of (m.reads now.0)) own z.root z.address z.frames z.env stands.found in
+            omega (arith, kept, all)
+
+        kept_all : (ahead kept : Address) → z.address ≡ ahead ++ kept → length kept ≡ length z.address → kept ≡ z.address
+        kept_all [] kept whole long = sym whole
+        kept_all (s ∷ ahead) kept whole long = let all = ap length whole in let both = length-append ahead kept in absurd (omega (arith, all, both, long))
+
+        all_most : (r : Result (Option PlaceTree) Stop) → PlaceOr m own first.root start now first.address r → Evaluates m own first start now (λ S. 0)
+        all_most r h S agrees = at (is_settled first) refl
+          where
+            at : (b : Bool) → is_settled first ≡ b → now.1 ≤ start.1 + (cond (is_settled first) 0 (ticks (changed own S) (place first.root first.address)) + 0)
+            at true e = let same = ap (λ (p : R × ℕ). p.1) (f.quiet e).0 in omega (arith, same)
+            at false e = let most = h.most S agrees in let is = ap (λ b. cond b 0 (ticks (changed own S) (place first.root first.address))) e in omega (arith, most, is)
+
+    module _ (unsettled : is_settled z ≡ false) (new : ZipTree) (then : R × ℕ) where
+      not_first : is_settled first ≡ true → ⊥
+      not_first e = let s : is_settled z ≡ true = (f.quiet e).1 in absurd (cc)
+
+      first_unsettled : (b : Bool) → is_settled first ≡ b → is_settled first ≡ false
+      first_unsettled true e = absurd (not_first e)
+      first_unsettled false e = e
+
+      stop_most : (r : Result (Option PlaceTree) Stop) → PlaceOr m own first.root start then first.address r → Evaluates m own first start then (λ S. 0)
+      stop_most r h S agrees =
+          let most = h.most S agrees in
+          let is = ap (λ b. cond b 0 (ticks (changed own S) (place first.root first.address))) (first_unsettled (is_settled first) refl) in
+          omega (arith, most, is)
+
+      pub finding_next : Settles m own z new now then (Ok true) → Finding m own first start then new
+      finding_next h = record {
+        settling = h.to start f.settling;
+        root = h.root ∙ f.root;
+        address = h.address ∙ f.address;
+        quiet = λ e. absurd (not_first e);
+      }
+
+      pub found_none : Settles m own z new now then (Ok false) → Finds m own first new start then (Err (halt.Refused Refusal.NoPlace))
+      found_none h =
+          let none = h.to start f.settling in
+          let at_first = place_first then (Ok None) none.0 in
+          record {
+            follows = follows_then_answer m (λ at. at) (answered (λ _. here new)) own start then (place first.root first.address) (λ at. Answer (needed Refusal.NoPlace at)) None (Err Refusal.NoPlace) at_first refl;
+            stands = tt;
+            fresh = none.1;
+            root = h.root ∙ f.root;
+            address = h.address ∙ f.address;
+            most = stop_most (Ok None) at_first;
+          }
+
+      stops : (why : Stop) → Settles m own z new now then (Err why) → Finds m own first new start then (Err (halt.Stopped why))
+      stops why h =
+          let at_first = place_first then (Err why) (h.to start f.settling) in
+          record {
+            follows = follows_stop m (λ at. at) (answered (λ _. here new)) own start then (place first.root first.address) (λ at. Answer (needed Refusal.NoPlace at)) why at_first;
+            stands = tt;
+            fresh = tt;
+            root = h.root ∙ f.root;
+            address = h.address ∙ f.address;
+            most = stop_most (Err why) at_first;
+          }
+
+      pub found_stop : (why : Stop) (r : Result (Unit {0}) Halt) → IsErrAnd r (λ h. h ≡ halt.Stopped why) → Settles m own z new now then (Err why) → Finds m own first new start then r
+      found_stop why r is h = subst (Finds m own first new start then) (sym (err_of r (halt.Stopped why) is)) (stops why h)

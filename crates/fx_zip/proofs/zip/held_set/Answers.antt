@@ -1,0 +1,13 @@
+use Rattle.std.proofs.Common.{◌≡◌, ◌++◌, ◌∷◌, [], Some, nat_eq, option_map, sym, ap, ◌∙◌, subst, drop, length, arith, rules}
+use Rattle.std.specs.Option.{option_copied}
+use Rattle.fx_zip.specs.Fresh.{around_last, last_step, last_set}
+use Rattle.fx_zip.specs.Steps.{step_tree, turned}
+use Rattle.fx_zip.specs.Trees.{path_of}
+use Rattle.fx_zip.proofs.Turning.{turned-last, length-turned, popped}
+use Rattle.fx_zip.proofs.Standing.{fresh_none}
+use Rattle.fx_zip.proofs.zip.held_set.Goals as goal
+
+pub returns-in-Some : goal.returns-in-Some
+returns-in-Some c =
+    let last : last_set (turned (λ f. f) c.args.frames.now) ≡ c.in-Some.frame.now.set = ap last_set (ap (turned (λ f. f)) c.in-Some.ensures.cases.0 ∙ turned-last (λ f. f) c.in-Some.field-0-1.now c.in-Some.frame.now) in
+    subst (λ s. option_map (λ set. set.now) c.as_ref.result ≡ s) (sym last) c.as_ref.ensures.value

@@ -1,0 +1,11 @@
+use Rattle.std.proofs.Common.{◌≡◌, ◌++◌, ◌∷◌, [], Some, nat_eq, option_map, sym, ap, ◌∙◌, subst, drop, length, arith, rules}
+use Rattle.std.specs.Option.{option_copied}
+use Rattle.fx_zip.specs.Fresh.{around_last, last_step, last_set}
+use Rattle.fx_zip.specs.Steps.{step_tree, turned}
+use Rattle.fx_zip.specs.Trees.{path_of}
+use Rattle.fx_zip.proofs.Turning.{turned-last, length-turned, popped}
+use Rattle.fx_zip.proofs.Standing.{fresh_none}
+use Rattle.fx_zip.proofs.zip.pop_step.Goals as goal
+
+pub returns : goal.returns
+returns c = popped step_tree c.args.steps.now.items c.pop-last.new.self.items c.pop-last.result c.pop-last.ensures.items (λ more. c.pop-last.ensures.variant.1 (omega (arith, more, c.args.steps.now.ok.0)))
