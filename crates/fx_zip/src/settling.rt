@@ -68,6 +68,7 @@ impl Zip {
         overlay: &Overlay,
         steps: &mut Steps<L>,
     ) -> Result<bool, Stop>
+        requires fresh { IsFresh (known_of (R.meaning.reads reader.old)) (own_at overlay.now) self.old }
         requires unsettled { is_settled self.old ≡ false }
         ensures settles { Settles R.meaning (own_at overlay.now) self.old self.new
             (reader.old, steps.old) (reader.new, steps.new) result }
