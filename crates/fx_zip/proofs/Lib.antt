@@ -4,6 +4,7 @@ pub mod Settled
 pub mod Telling
 pub mod Leads
 pub mod Entering
+pub mod Nexting
 pub mod Places
 pub mod Beside
 pub mod Consulting

@@ -1,5 +1,5 @@
 -- Where a step leads, and the zipper that has gone there.
-use Rattle.std.specs.Prelude.{◌≡◌, ℕ, List, [], ◌∷◌, ◌++◌, Option, Some, None, Result, IfOk}
+use Rattle.std.specs.Prelude.{◌≡◌, ℕ, List, [], ◌∷◌, ◌++◌, length, Option, Some, None, Result, IfOk}
 use Rattle.std.specs.Option.{IfSome, option_map, unwrap_or}
 use Rattle.fx_store.specs.Rule.{Known, Ask, Found, follow}
 use Rattle.fx_expr.specs.Tree.{Tree}
@@ -71,6 +71,15 @@ bound_value spot = unwrap_or (option_map (λ b. tree_of b.1) spot.bound) Tree.no
 pub record LeadsTo {R : Type 0} (m : Meaning R) (own : Known) (step : Step) (p : List (List ℕ)) (env : Bindings) (spec : SpecTree) (was now : R × ℕ) (result : Result (Option Spot) Stop) : Type 0 where
   pub follows : Follows m (option_map (spot_place env (child step spec))) own was now (lead step p env spec) result
   pub spot : IfOk result (λ o. IfSome o (IsSpot step env spec))
+
+-- the same of the first step that has no frame
+pub record LeadsNext {R : Type 0} (m : Meaning R) (own : Known) (z : ZipTree) (was now : R × ℕ) (result : Result (Option Spot) Stop) : Type 0 where
+  pub ahead : Address
+  pub step : Step
+  pub kept : Address
+  pub whole : z.address ≡ ahead ++ (step ∷ kept)
+  pub long : length kept ≡ length z.frames
+  pub leads : LeadsTo m own step (path_of z.frames) z.env (part z.root kept) was now result
 
 -- and consults nothing
 pub record LeadsAt (step : Step) (p : List (List ℕ)) (env : Bindings) (spec : SpecTree) (was now : ℕ) (result : Result (Option Spot) Stop) : Type 0 where

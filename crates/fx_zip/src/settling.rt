@@ -9,8 +9,10 @@ ghost use Rattle.fx_view.specs.Reads.{known_of};
 ghost use Rattle.fx_walk.specs.Places.{place_tree};
 ghost use Rattle.fx_zip.specs.Calls.{Finds, Settles, place_needed};
 ghost use Rattle.fx_zip.specs.Fresh.{IsFresh};
+ghost use Rattle.fx_zip.specs.Spots.{LeadsNext};
 ghost use Rattle.fx_zip.specs.Trees.{is_settled};
 
+use crate::frame::Spot;
 use crate::leading::led;
 use crate::part::part;
 use crate::zip::{Zip, last_path};
@@ -73,10 +75,33 @@ impl Zip {
         ensures settles { Settles R.meaning (own_at overlay.now) self.old self.new
             (reader.old, steps.old) (reader.new, steps.new) result }
     {
+        match self.next_spot(alloc, reader, overlay, steps)? {
+            Some(spot) => {
+                self.keep(alloc, spot)?;
+                Ok(true)
+            }
+            None => Ok(false),
+        }
+    }
+
+    /// The spot to which the first step leads that has no frame, where it leads to one.
+    fn next_spot<R: Reader, L: Ledger>(
+        &mut self,
+        alloc: Global,
+        reader: &mut R,
+        overlay: &Overlay,
+        steps: &mut Steps<L>,
+    ) -> Result<Option<Spot>, Stop>
+        requires fresh { IsFresh (known_of (R.meaning.reads reader.old)) (own_at overlay.now) self.old }
+        requires unsettled { is_settled self.old ≡ false }
+        ensures same { self.new ≡ self.old }
+        ensures leads { LeadsNext R.meaning (own_at overlay.now) self.old
+            (reader.old, steps.old) (reader.new, steps.new) result }
+    {
         let done = self.frames.len();
         let spec = part(self.base.description.spec(), &self.steps[..done]);
         let path = last_path(&self.top, self.frames.as_slice());
-        match led(
+        led(
             alloc,
             reader,
             overlay,
@@ -85,12 +110,6 @@ impl Zip {
             &mut self.env,
             spec,
             steps,
-        )? {
-            Some(spot) => {
-                self.keep(alloc, spot)?;
-                Ok(true)
-            }
-            None => Ok(false),
-        }
+        )
     }
 }
