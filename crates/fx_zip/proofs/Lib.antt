@@ -9,3 +9,6 @@ pub mod Places
 pub mod Beside
 pub mod Consulting
 pub mod Finding
+pub mod Chosen
+pub mod Asking
+pub mod Around

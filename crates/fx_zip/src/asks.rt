@@ -1,4 +1,6 @@
 //! What the program asks at the zipper's place.
+ghost use Rattle.std.specs.Prelude.{IfOk};
+ghost use Rattle.fx_expr.specs.Shapes.{ValueHas};
 ghost use Rattle.fx_expr.specs.Tree.{Tree};
 ghost use Rattle.fx_expr.specs.Views.{shape_tree, tree_of};
 ghost use Rattle.fx_spec.specs.Move as move;
@@ -32,6 +34,7 @@ impl Zip {
             (reader.old, steps.old) (reader.new, steps.new)
             (move.at_place self.old.root self.old.address (move.fetch_at (shape_tree shape.now)))
             (place_evals self.old (move.fetch_at (shape_tree shape.now))) result }
+        ensures shape { IfOk result (λ v. ValueHas (tree_of v) (shape_tree shape.now)) }
     {
         self.find(alloc, reader, overlay, steps)?;
         fetch_at(
@@ -61,6 +64,7 @@ impl Zip {
             (reader.old, steps.old) (reader.new, steps.new)
             (move.at_place self.old.root self.old.address (move.whole_at (shape_tree shape.now)))
             (place_evals self.old (move.whole_at (shape_tree shape.now))) result }
+        ensures shape { IfOk result (λ v. ValueHas (tree_of v) (shape_tree shape.now)) }
     {
         self.find(alloc, reader, overlay, steps)?;
         whole_at(

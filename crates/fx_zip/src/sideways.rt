@@ -9,13 +9,13 @@ ghost use Rattle.fx_view.specs.Own.{own_at};
 ghost use Rattle.fx_view.specs.Reads.{known_of};
 ghost use Rattle.fx_zip.specs.Calls.{Moves, Turns, Turned, Besides};
 ghost use Rattle.fx_zip.specs.Calls.{sideways_evals, next_at, prev_at, next_evals, beside};
-ghost use Rattle.fx_zip.specs.Fresh.{IsFresh, Stands, IsNoElement, last_step, last_set};
+ghost use Rattle.fx_zip.specs.Fresh.{IsFresh, Stands, IsNoElement, last_step, last_set, is_first, is_second};
 ghost use Rattle.fx_zip.specs.Parts.{comp_name, part};
-ghost use Rattle.fx_zip.specs.Spots.{Chooses};
+ghost use Rattle.fx_zip.specs.Spots.{Chooses, FirstLeads};
 ghost use Rattle.fx_zip.specs.Trees.{here, path_of};
 
 use crate::forms::{comp_of, pair_of};
-use crate::frame::{Entry, spot_at};
+use crate::frame::{Entry, Spot, spot_at};
 use crate::leading::after_first;
 use crate::moving::chosen;
 use crate::part::part_around;
@@ -25,7 +25,8 @@ use fx_base::Steps;
 use fx_expr::{Text, TextSet};
 use fx_rules::Halt;
 use fx_spec::Refusal;
-use fx_view::{Overlay, Reader};
+use fx_store::Path;
+use fx_view::{Overlay, Reader, Stop};
 use std::alloc::Global;
 use std::sync::ledger::Ledger;
 
@@ -45,10 +46,10 @@ impl Zip {
             (sideways_evals self.old self.old.address) result }
     {
         self.find(alloc, reader, overlay, steps)?;
-        match self.last() {
-            Some(Step::First) => self.to_second(alloc, reader, overlay, steps),
-            Some(Step::Second) | Some(Step::Inside) | Some(Step::Down) => self.to_greater(alloc),
-            Some(Step::Elem(_)) | None => self.to_greater(alloc),
+        if self.is_at_first() {
+            self.to_second(alloc, reader, overlay, steps)
+        } else {
+            self.to_greater(alloc)
         }
     }
 
@@ -66,10 +67,10 @@ impl Zip {
             (move.go_prev self.old.root self.old.address) (λ S. 0) result }
     {
         self.find(alloc, reader, overlay, steps)?;
-        match self.last() {
-            Some(Step::Second) => self.to_first(alloc),
-            Some(Step::First) | Some(Step::Inside) | Some(Step::Down) => self.to_smaller(alloc),
-            Some(Step::Elem(_)) | None => self.to_smaller(alloc),
+        if self.is_at_second() {
+            self.to_first(alloc)
+        } else {
+            self.to_smaller(alloc)
         }
     }
 }
@@ -90,32 +91,76 @@ impl Zip {
             (next_at self.old.root self.old.address (here self.old))
             (next_evals self.old.address (here self.old)) result }
     {
+        match self.after_first(alloc, reader, overlay, steps)? {
+            Some(spot) => Ok(self.replace(
+                alloc,
+                Entry {
+                    step: Step::Second,
+                    spot,
+                },
+            )?),
+            None => Err(Halt::Refused(Refusal::Lacks)),
+        }
+    }
+
+    /// The spot at the second part of the pair around, where the first part has a value.
+    fn after_first<R: Reader, L: Ledger>(
+        &mut self,
+        alloc: Global,
+        reader: &mut R,
+        overlay: &Overlay,
+        steps: &mut Steps<L>,
+    ) -> Result<Option<Spot>, Stop>
+        requires stands { Stands (known_of (R.meaning.reads reader.old)) (own_at overlay.now) self.old }
+        requires first { last_step self.old.address ≡ Some place.First }
+        ensures same { self.new ≡ self.old }
+        ensures leads { FirstLeads R.meaning (own_at overlay.now) self.old
+            (reader.old, steps.old) (reader.new, steps.new) result }
+    {
         let path = path_around(&self.top, self.frames.as_slice());
         let around = part_around(self.base.description.spec(), self.steps.as_slice());
         match pair_of(around) {
-            Some((name, first, _)) => {
-                match after_first(
-                    alloc,
-                    reader,
-                    overlay,
-                    path,
-                    &mut self.env,
-                    name,
-                    first,
-                    steps,
-                )? {
-                    Some(spot) => Ok(self.replace(
-                        alloc,
-                        Entry {
-                            step: Step::Second,
-                            spot,
-                        },
-                    )?),
-                    None => Err(Halt::Refused(Refusal::Lacks)),
-                }
-            }
-            None => unreachable!(),
+            Some((name, first, _)) => after_first(
+                alloc,
+                reader,
+                overlay,
+                path,
+                &mut self.env,
+                name,
+                first,
+                steps,
+            ),
+            None => Ok(None),
         }
+    }
+
+    /// Whether the zipper stands at a first part.
+    fn is_at_first(&self) -> bool
+        ensures { result ≡ is_first (last_step self.now.address) }
+    {
+        match self.last() {
+            Some(Step::First) => true,
+            Some(Step::Second) | Some(Step::Inside) | Some(Step::Down) | Some(Step::Elem(_)) => false,
+            None => false,
+        }
+    }
+
+    /// Whether the zipper stands at a second part.
+    fn is_at_second(&self) -> bool
+        ensures { result ≡ is_second (last_step self.now.address) }
+    {
+        match self.last() {
+            Some(Step::Second) => true,
+            Some(Step::First) | Some(Step::Inside) | Some(Step::Down) | Some(Step::Elem(_)) => false,
+            None => false,
+        }
+    }
+
+    /// The path of the place around.
+    fn outer_path(&self) -> &Path
+        ensures { result.now ≡ path_of (drop 1 self.now.frames) }
+    {
+        path_around(&self.top, self.frames.as_slice())
     }
 
     /// From a second part to the first.
@@ -124,7 +169,7 @@ impl Zip {
         ensures { (known own : Known) → Stands known own self.old → Turned known own self.old self.new
             (prev_at self.old.root self.old.address (here self.old)) result }
     {
-        let path = path_around(&self.top, self.frames.as_slice()).copy(alloc)?;
+        let path = self.outer_path().copy(alloc)?;
         Ok(self.replace(
             alloc,
             Entry {
@@ -181,7 +226,7 @@ impl Zip {
         match comp_of(self.around()) {
             Some((_, name, _)) => chosen(
                 alloc,
-                path_around(&self.top, self.frames.as_slice()),
+                self.outer_path(),
                 name,
                 set,
                 choice,
