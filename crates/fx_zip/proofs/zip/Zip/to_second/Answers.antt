@@ -21,8 +21,8 @@ returns-in_err-spot g c = record { turns = to_second_stop g.R.Reader.meaning (ow
 pub returns-in_err-replace-in-Some : goal.returns-in_err-replace-in-Some
 returns-in_err-replace-in-Some g c = record { turns = to_second_memory g.R.Reader.meaning (own_at c.args.overlay.now) c.args.self.now (c.args.reader.now, c.args.steps.now) (c.after_first.new.reader, c.after_first.new.steps) c.requires.stands c.requires.first c.after_first.new.self c.after_first.ensures.same c.in_ok-spot.field-0 c.replace.new.self c.from_residual-in_err-replace-in-Some.result c.in_ok-spot.ensures.leads c.in_err-replace-in-Some.ensures.root c.from_residual-in_err-replace-in-Some.ensures.1 }
 
-pub returns-in-Some : goal.returns-in-Some
-returns-in-Some g c = record { turns = to_second_on g.R.Reader.meaning (own_at c.args.overlay.now) c.args.self.now (c.args.reader.now, c.args.steps.now) (c.after_first.new.reader, c.after_first.new.steps) c.requires.stands c.requires.first c.after_first.new.self c.after_first.ensures.same c.in_ok-spot.field-0 c.in-Some.spot c.replace.new.self c.in-Some.is c.in_ok-spot.ensures.leads c.in_ok-replace-in-Some.ensures.entered }
+pub returns-in_ok-replace-in-Some : goal.returns-in_ok-replace-in-Some
+returns-in_ok-replace-in-Some g c = record { turns = to_second_on g.R.Reader.meaning (own_at c.args.overlay.now) c.args.self.now (c.args.reader.now, c.args.steps.now) (c.after_first.new.reader, c.after_first.new.steps) c.requires.stands c.requires.first c.after_first.new.self c.after_first.ensures.same c.in_ok-spot.field-0 c.in-Some.spot c.replace.new.self c.in-Some.is c.in_ok-spot.ensures.leads c.in_ok-replace-in-Some.ensures.entered }
 
 pub returns-in-None : goal.returns-in-None
 returns-in-None g c = record { turns = to_second_none g.R.Reader.meaning (own_at c.args.overlay.now) c.args.self.now (c.args.reader.now, c.args.steps.now) (c.after_first.new.reader, c.after_first.new.steps) c.requires.stands c.requires.first c.after_first.new.self c.after_first.ensures.same c.in_ok-spot.field-0 c.in-None.is c.in_ok-spot.ensures.leads }
