@@ -306,15 +306,15 @@ module _ {R : Type 0} (m : Meaning R) (own : Known) (z : ZipTree) (was now : R �
 
   pub second_turns : (spot : Spot) (new : ZipTree) → First_ (Ok (Some spot)) → BindsValue (path_of (drop 1 z.frames)) x (bound_value spot) spot → new ≡ entered (left z) Second spot → ToSecond new (Ok tt)
   second_turns spot new h binds same = subst (λ w. ToSecond w (Ok tt)) (sym same) (
-    turns_by (entered (left z) Second spot) (Ok tt) (Ok (Some spot)) h refl tt
-    (stands_fresh (known_of (m.reads now.0)) own (entered (left z) Second spot)
-    (stands_entered (known_of (m.reads now.0)) own (left z) Second spot (stands_left (known_of (m.reads now.0)) own z (stands_now (Ok (Some spot)) h)) (second_from spot h binds)))
-    (follows_then_answer m (option_map bound_value) (answered (λ _. Second ∷ drop 1 z.address)) own was now Value then_second (Some spot) (Ok tt) h refl))
+      turns_by (entered (left z) Second spot) (Ok tt) (Ok (Some spot)) h refl tt
+      (stands_fresh (known_of (m.reads now.0)) own (entered (left z) Second spot)
+      (stands_entered (known_of (m.reads now.0)) own (left z) Second spot (stands_left (known_of (m.reads now.0)) own z (stands_now (Ok (Some spot)) h)) (second_from spot h binds)))
+      (follows_then_answer m (option_map bound_value) (answered (λ _. Second ∷ drop 1 z.address)) own was now Value then_second (Some spot) (Ok tt) h refl))
 
   pub second_memory : (o : Option Spot) (new : ZipTree) (r : Result (Unit {0}) Halt) → First_ (Ok o) → new.root ≡ z.root → IsErrAnd r (λ d. d ≡ halt.Stopped stop.NoMemory) → ToSecond new r
   second_memory o new r h root none = subst (ToSecond new) (sym (err_of r (halt.Stopped stop.NoMemory) none)) (
-    turns_by new (Err (halt.Stopped stop.NoMemory)) (Ok o) h root tt tt
-    (follows_then_refused m (option_map bound_value) (answered (λ _. new.address)) own was now Value then_second o h))
+      turns_by new (Err (halt.Stopped stop.NoMemory)) (Ok o) h root tt tt
+      (follows_then_refused m (option_map bound_value) (answered (λ _. new.address)) own was now Value then_second o h))
 
   pub second_none : First_ (Ok None) → ToSecond z (Err (halt.Refused Refusal.Lacks))
   second_none h =
@@ -323,5 +323,5 @@ module _ {R : Type 0} (m : Meaning R) (own : Known) (z : ZipTree) (was now : R �
 
   pub second_stop : (why : Stop) (r : Result (Unit {0}) Halt) → First_ (Err why) → IsErrAnd r (λ d. d ≡ halt.Stopped why) → ToSecond z r
   second_stop why r h none = subst (ToSecond z) (sym (err_of r (halt.Stopped why) none)) (
-    turns_by z (Err (halt.Stopped why)) (Err why) h refl tt tt
-    (follows_stop m (option_map bound_value) (answered (λ _. z.address)) own was now Value then_second why h))
+      turns_by z (Err (halt.Stopped why)) (Err why) h refl tt tt
+      (follows_stop m (option_map bound_value) (answered (λ _. z.address)) own was now Value then_second why h))

@@ -10,5 +10,4 @@ pub mod Beside
 pub mod Consulting
 pub mod Finding
 pub mod Chosen
-pub mod Asking
 pub mod Around

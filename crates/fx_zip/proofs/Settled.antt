@@ -102,8 +102,7 @@ module _ {R : Type 0} (m : Meaning R) (own : Known) (start was now : R × ℕ) (
   pub settles_none : LeadsOn (Ok None) → PlaceOr m own z.root start now z.address (Ok None) × IsFresh (known_of (m.reads now.0)) own z
   settles_none h =
       let leads = behind_leads (Ok None) h in
-      let at_step = place_on (Ok None) (follows_as m own (option_map (spot_place z.env (child step (part z.root at.kept)))) was now (lead step (path_of z.frames) z.env (part z.root at.kept)) (λ at. at) None None refl leads.follows) in
-      (
+      let at_step = place_on (Ok None) (follows_as m own (option_map (spot_place z.env (child step (part z.root at.kept)))) was now (lead step (path_of z.frames) z.env (part z.root at.kept)) (λ at. at) None None refl leads.follows) in (
         subst (λ a. PlaceOr m own z.root start now a (Ok None)) (sym whole_now) (none_above m own z.root start now next.front (step ∷ at.kept) at_step),
         record { ahead = at.ahead; kept = at.kept; whole = at.whole; found = grown_now (Ok None) h },
       )

@@ -117,6 +117,8 @@ fn into_names(alloc: Global, value: Value) -> TextSet
     match value {
         Value::Names(names) => names,
         Value::Str(_) | Value::Int(_) | Value::Bool(_) => TextSet::new(alloc),
-        Value::Pair(_, _) | Value::Nothing | Value::Some(_) | Value::Table(_) => TextSet::new(alloc),
+        Value::Pair(_, _) | Value::Nothing | Value::Some(_) | Value::Table(_) => TextSet::new(
+            alloc,
+        ),
     }
 }

@@ -2,9 +2,7 @@
 //! with own changes on top.
 #![tactic(auto)]
 
-mod asks;
 mod evaluating;
-mod fetching;
 mod forms;
 mod frame;
 mod leading;

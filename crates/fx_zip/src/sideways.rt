@@ -140,7 +140,8 @@ impl Zip {
     {
         match self.last() {
             Some(Step::First) => true,
-            Some(Step::Second) | Some(Step::Inside) | Some(Step::Down) | Some(Step::Elem(_)) => false,
+            Some(Step::Second) | Some(Step::Inside) | Some(Step::Down) | Some(Step::Elem(_)) =>
+                false,
             None => false,
         }
     }
@@ -151,7 +152,8 @@ impl Zip {
     {
         match self.last() {
             Some(Step::Second) => true,
-            Some(Step::First) | Some(Step::Inside) | Some(Step::Down) | Some(Step::Elem(_)) => false,
+            Some(Step::First) | Some(Step::Inside) | Some(Step::Down) | Some(Step::Elem(_)) =>
+                false,
             None => false,
         }
     }
@@ -224,13 +226,7 @@ impl Zip {
             (λ x. Chooses (path_of (drop 1 self.now.frames)) x set.now (option_copied choice.entry) result) }
     {
         match comp_of(self.around()) {
-            Some((_, name, _)) => chosen(
-                alloc,
-                self.outer_path(),
-                name,
-                set,
-                choice,
-            ),
+            Some((_, name, _)) => chosen(alloc, self.outer_path(), name, set, choice),
             None => Err(Halt::Refused(Refusal::NoStep)),
         }
     }

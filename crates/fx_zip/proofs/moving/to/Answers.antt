@@ -1,6 +1,5 @@
 use Rattle.std.proofs.Common.{◌≡◌, Ok, refl, ap, sym, ◌∙◌}
 use Rattle.std.specs.Option.{option_copied}
-
 use Rattle.fx_expr.specs.Eval.{eval_of}
 use Rattle.fx_expr.specs.Sets.{has_text}
 use Rattle.fx_expr.specs.Views.{expr_tree}
