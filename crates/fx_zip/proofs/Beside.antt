@@ -248,7 +248,7 @@ leads_second known own p env s x a b spot form found binds =
       fits = record { held = tt; back = ap (λ g. take (length g - 1) g) (grown_is env spot.bound (x, bound_value spot) binds.bound) ∙ front_last env (x, bound_value spot) };
     })
 
-first_at : (known own : Known) (root : SpecTree) (a : Address) (fs : List Frame) (env : Bindings) (x : List ℕ) (l r : SpecTree) → last_step a ≡ Some First → part root (drop 1 a) ≡ SpecTree.pair x l r → AreFound known own root a fs env
+pub first_at : (known own : Known) (root : SpecTree) (a : Address) (fs : List Frame) (env : Bindings) (x : List ℕ) (l r : SpecTree) → last_step a ≡ Some First → part root (drop 1 a) ≡ SpecTree.pair x l r → AreFound known own root a fs env
     → (placed (path_of fs) env (part root a) ≡ placed (path_of (drop 1 fs)) env l) × (around_last a env ≡ env) × (a ≡ First ∷ drop 1 a)
 first_at known own root [] fs env x l r e form found = absurd (cc)
 first_at known own root (Second ∷ a) fs env x l r e form found = absurd (cc)

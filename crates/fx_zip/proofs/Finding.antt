@@ -1,5 +1,5 @@
 -- The loop that finds the place of a zipper.
-use Rattle.std.proofs.Common.{◌≡◌, ℕ, ◌+◌, ◌<◌, ◌≤◌, Bool, true, false, cond, List, [], ◌∷◌, ◌++◌, length, Option, Some, None, Result, Ok, Err, refl, sym, ap, ◌∙◌, subst, arith, length-append}
+use Rattle.std.proofs.Common.{◌≡◌, ℕ, ◌+◌, ◌-◌, ◌<◌, ◌≤◌, Bool, true, false, cond, List, [], ◌∷◌, ◌++◌, length, Option, Some, None, Result, Ok, Err, refl, sym, ap, ◌∙◌, subst, arith, length-append}
 use Rattle.std.specs.Prelude.{IsErrAnd, IfOk}
 use Rattle.fx_store.specs.Rule.{Known, Ask, Answer, ◌>>=◌, ticks, changed}
 use Rattle.fx_store.specs.Whole.{Store}
@@ -22,7 +22,9 @@ use Rattle.fx_zip.specs.Fresh.{AreFound, IsFresh, Stands}
 use Rattle.fx_zip.specs.Parts.{part}
 use Rattle.fx_zip.specs.Trees.{ZipTree, is_settled, path_of, here}
 use Rattle.fx_zip.proofs.Settled.{PlaceOr, settling_first, settling_fresh}
+use Rattle.fx_zip.proofs.Nexting.{few_frames}
 use Rattle.fx_zip.proofs.Standing.{found_length, fresh_stands, stands_fresh, is_true}
+use Rattle.fx_zip.proofs.Telling.{follows_as, follows_memory}
 
 pub record Finding {R : Type 0} (m : Meaning R) (own : Known) (first : ZipTree) (start now : R × ℕ) (z : ZipTree) : Type 0 where
   pub settling : IsSettling m own start now z
@@ -77,6 +79,14 @@ module _ {R : Type 0} (m : Meaning R) (own : Known) (first : ZipTree) (start : R
             at false e = let most = h.most S agrees in let is = ap (λ b. cond b 0 (ticks (changed own S) (place first.root first.address))) e in omega (arith, most, is)
 
     module _ (unsettled : is_settled z ≡ false) (new : ZipTree) (then : R × ℕ) where
+      -- fewer steps have no frame
+      pub finding_smaller : (more : Bool) → more ≡ true → Settles m own z new now then (Ok more) → length new.address - length new.frames < length z.address - length z.frames
+      finding_smaller more goes h =
+          let few = few_frames (known_of (m.reads now.0)) own z (settling_fresh m own start now z f.settling) unsettled in
+          let same = ap length h.address in
+          let one = h.more goes in
+          omega (arith, few, same, one)
+
       not_first : is_settled first ≡ true → ⊥
       not_first e = let s : is_settled z ≡ true = (f.quiet e).1 in absurd (cc)
 
@@ -90,17 +100,17 @@ module _ {R : Type 0} (m : Meaning R) (own : Known) (first : ZipTree) (start : R
           let is = ap (λ b. cond b 0 (ticks (changed own S) (place first.root first.address))) (first_unsettled (is_settled first) refl) in
           omega (arith, most, is)
 
-      pub finding_next : Settles m own z new now then (Ok true) → Finding m own first start then new
-      finding_next h = record {
-        settling = h.to start f.settling;
+      pub finding_next : (more : Bool) → more ≡ true → Settles m own z new now then (Ok more) → Finding m own first start then new
+      finding_next more goes h = record {
+        settling = subst (λ b. SettlesTo m own start then z new (Ok b)) goes (h.to start f.settling);
         root = h.root ∙ f.root;
         address = h.address ∙ f.address;
         quiet = λ e. absurd (not_first e);
       }
 
-      pub found_none : Settles m own z new now then (Ok false) → Finds m own first new start then (Err (halt.Refused Refusal.NoPlace))
-      found_none h =
-          let none = h.to start f.settling in
+      pub found_none : (more : Bool) → more ≡ false → Settles m own z new now then (Ok more) → Finds m own first new start then (Err (halt.Refused Refusal.NoPlace))
+      found_none more ends h =
+          let none = subst (λ b. SettlesTo m own start then z new (Ok b)) ends (h.to start f.settling) in
           let at_first = place_first then (Ok None) none.0 in
           record {
             follows = follows_then_answer m (λ at. at) (answered (λ _. here new)) own start then (place first.root first.address) (λ at. Answer (needed Refusal.NoPlace at)) None (Err Refusal.NoPlace) at_first refl;
@@ -125,3 +135,20 @@ module _ {R : Type 0} (m : Meaning R) (own : Known) (first : ZipTree) (start : R
 
       pub found_stop : (why : Stop) (r : Result (Unit {0}) Halt) → IsErrAnd r (λ h. h ≡ halt.Stopped why) → Settles m own z new now then (Err why) → Finds m own first new start then r
       found_stop why r is h = subst (Finds m own first new start then) (sym (err_of r (halt.Stopped why) is)) (stops why h)
+
+-- ---- the place, handed out
+
+module _ {R : Type 0} (m : Meaning R) (own : Known) (old mid : ZipTree) (was now : R × ℕ) {X : Type 0} (view : X → PlaceTree) where
+  abbrev Hands : Result X Halt → Type 0
+  Hands r = Follows m (answered view) own was now (place_needed old.root old.address) (split r)
+
+  pub hands_found : Finds m own old mid was now (Ok tt) → (x : X) → view x ≡ here mid → Hands (Ok x)
+  hands_found finds x same = follows_as m own (answered (λ _. here mid)) was now (place_needed old.root old.address) (answered view) (Ok tt) (Ok x) (ap Ok (sym same)) finds.follows
+
+  hands_err : (e : Halt) → Finds m own old mid was now (Err e) → Hands (Err e)
+  hands_err (halt.Refused f) finds = follows_as m own (answered (λ _. here mid)) was now (place_needed old.root old.address) (answered view) (Err f) (Err f) refl finds.follows
+  hands_err (halt.Stopped stop.NoMemory) finds = follows_memory m own (answered (λ _. here mid)) was now (place_needed old.root old.address) (answered view) (Err stop.NoMemory) finds.follows
+  hands_err (halt.Stopped (stop.Needs p)) finds = record { goes = finds.follows.goes; most = finds.follows.most }
+
+  pub hands_unfound : (e : Halt) (r : Result X Halt) → Finds m own old mid was now (Err e) → IsErrAnd r (λ h. h ≡ e) → Hands r
+  hands_unfound e r finds is = subst Hands (sym (err_of r e is)) (hands_err e finds)

@@ -4,7 +4,10 @@ pub mod Settled
 pub mod Telling
 pub mod Leads
 pub mod Entering
+pub mod Nexting
 pub mod Places
 pub mod Beside
 pub mod Consulting
 pub mod Finding
+pub mod Chosen
+pub mod Around

@@ -1,5 +1,5 @@
 -- A zipper whose frames are those of the places that its steps have over what is known, with the own changes on top.
-use Rattle.std.specs.Prelude.{◌≡◌, ℕ, ◌-◌, cond, List, [], ◌∷◌, ◌++◌, length, take, drop, Option, Some, None, Ok}
+use Rattle.std.specs.Prelude.{◌≡◌, ℕ, ◌-◌, Bool, true, false, cond, List, [], ◌∷◌, ◌++◌, length, take, drop, Option, Some, None, Ok}
 use Rattle.fx_store.specs.Rule.{Known, Found, follow}
 use Rattle.fx_expr.specs.Eval.{Outcome, eval_of}
 use Rattle.fx_spec.specs.Describe.{Bindings}
@@ -67,6 +67,15 @@ left z =
 abbrev pub last_step : Address → Option Step
 last_step [] = None
 last_step (step ∷ above) = Some step
+
+-- the step is that to a first part, or to a second
+abbrev pub is_first : Option Step → Bool
+is_first (Some First) = true
+is_first _ = false
+
+abbrev pub is_second : Option Step → Bool
+is_second (Some Second) = true
+is_second _ = false
 
 abbrev pub last_set : List Frame → Option (List (List ℕ))
 last_set [] = None

@@ -1,11 +1,11 @@
 -- Where a step leads, and the zipper that has gone there.
-use Rattle.std.specs.Prelude.{◌≡◌, ℕ, List, [], ◌∷◌, ◌++◌, Option, Some, None, Result, IfOk}
+use Rattle.std.specs.Prelude.{◌≡◌, ℕ, List, [], ◌∷◌, ◌++◌, length, drop, Option, Some, None, Result, IfOk}
 use Rattle.std.specs.Option.{IfSome, option_map, unwrap_or}
 use Rattle.fx_store.specs.Rule.{Known, Ask, Found, follow}
 use Rattle.fx_expr.specs.Tree.{Tree}
 use Rattle.fx_expr.specs.Views.{entry_tree, tree_of}
 use Rattle.fx_expr.specs.declared.value.Value.{Value}
-use Rattle.fx_spec.specs.Describe.{Bindings}
+use Rattle.fx_spec.specs.Describe.{Bindings, value}
 use Rattle.fx_spec.specs.Move.{Answered, element}
 use Rattle.fx_spec.specs.Place.{Step, Elem, Address, PlaceTree, placed, lead}
 use Rattle.fx_spec.specs.SpecTree.{SpecTree}
@@ -72,10 +72,28 @@ pub record LeadsTo {R : Type 0} (m : Meaning R) (own : Known) (step : Step) (p :
   pub follows : Follows m (option_map (spot_place env (child step spec))) own was now (lead step p env spec) result
   pub spot : IfOk result (λ o. IfSome o (IsSpot step env spec))
 
+-- the same of the first step that has no frame
+pub record LeadsNext {R : Type 0} (m : Meaning R) (own : Known) (z : ZipTree) (was now : R × ℕ) (result : Result (Option Spot) Stop) : Type 0 where
+  pub ahead : Address
+  pub step : Step
+  pub kept : Address
+  pub whole : z.address ≡ ahead ++ (step ∷ kept)
+  pub long : length kept ≡ length z.frames
+  pub leads : LeadsTo m own step (path_of z.frames) z.env (part z.root kept) was now result
+
 -- and consults nothing
 pub record LeadsAt (step : Step) (p : List (List ℕ)) (env : Bindings) (spec : SpecTree) (was now : ℕ) (result : Result (Option Spot) Stop) : Type 0 where
   pub tells : Tells (option_map (spot_place env (child step spec))) was now (lead step p env spec) result
   pub spot : IfOk result (λ o. IfSome o (IsSpot step env spec))
+
+-- the call answers where the second part of the pair around a first part is, where the first part has a value
+pub record FirstLeads {R : Type 0} (m : Meaning R) (own : Known) (z : ZipTree) (was now : R × ℕ) (result : Result (Option Spot) Stop) : Type 0 where
+  pub name : List ℕ
+  pub first : SpecTree
+  pub second : SpecTree
+  pub form : part z.root (drop 1 z.address) ≡ SpecTree.pair name first second
+  pub follows : Follows m (option_map bound_value) own was now (value (path_of (drop 1 z.frames)) z.env first) result
+  pub spot : IfOk result (λ o. IfSome o (λ spot. BindsValue (path_of (drop 1 z.frames)) name (bound_value spot) spot))
 
 -- the call answers the entry of the step that the rule of a move adds
 pub record Enters {R : Type 0} (m : Meaning R) (own : Known) (rule : Address → Ask (Answered Address)) (p : List (List ℕ)) (env : Bindings) (spec : SpecTree) (was now : R × ℕ) (result : Result Entry Halt) : Type 0 where

@@ -6,8 +6,11 @@ mod evaluating;
 mod forms;
 mod frame;
 mod leading;
+mod moves;
 mod moving;
 mod part;
+mod settling;
+mod sideways;
 mod step;
 mod zip;
 

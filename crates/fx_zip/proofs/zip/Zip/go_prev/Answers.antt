@@ -1,0 +1,33 @@
+use Rattle.std.proofs.Common.{◌≡◌, ℕ, List, [], Ok, Some, None, sym, ap, ◌∙◌, subst, drop, rules}
+use Rattle.fx_spec.specs.Describe.{Bindings}
+use Rattle.fx_spec.specs.SpecTree.{SpecTree}
+use Rattle.fx_spec.specs.Views.{spec_tree}
+use Rattle.fx_spec.specs.WellShaped.{IsDescription}
+use Rattle.fx_view.specs.Own.{own_at}
+use Rattle.fx_view.specs.Reads.{known_of}
+use Rattle.fx_zip.specs.declared.frame.Frame.{Frame}
+use Rattle.fx_zip.specs.declared.step.Step.{Step}
+use Rattle.fx_zip.specs.Parts.{part}
+use Rattle.fx_zip.specs.Steps.{step_tree, turned}
+use Rattle.fx_zip.specs.Trees.{ZipTree, path_of}
+use Rattle.fx_zip.specs.View.{zip_tree}
+use Rattle.fx_zip.proofs.Around.{no_pair_around, first_scope, first_leads_on, to_second_on, to_second_memory, to_second_none, to_second_stop, moved_next, moved_greater, moved_first, moved_smaller, first_of_true, second_of_true}
+use Rattle.fx_zip.proofs.Places.{moves_unfound}
+use Rattle.fx_zip.proofs.zip.Zip.go_prev.Goals as goal
+use Rattle.fx_spec.specs.Move.{go_prev}
+use Rattle.fx_zip.specs.Calls.{prev_at, sideways_evals}
+use Rattle.fx_zip.proofs.Around.{prev_rule}
+
+pub returns-in_err-find : goal.returns-in_err-find
+returns-in_err-find g c = record {
+  moves = moves_unfound g.R.Reader.meaning (own_at c.args.overlay.now) c.args.self.now c.find.new.self (c.args.reader.now, c.args.steps.now) (c.find.new.reader, c.find.new.steps) (prev_at c.args.self.now.root c.args.self.now.address) (go_prev c.args.self.now.root c.args.self.now.address) (prev_rule c.args.self.now.root c.args.self.now.address) (λ S. 0) c.in_err-find.field-0.0 c.from_residual.result c.from_residual.ensures.1 c.in_err-find.ensures;
+}
+
+pub to_first-requires : goal.to_first-requires
+to_first-requires g c = record { second = (second_of_true _ (sym c.is_at_second.ensures ∙ c.if-is_at_second.true)) }
+
+pub returns-then-is_at_second : goal.returns-then-is_at_second
+returns-then-is_at_second g c = record { moves = moved_first g.R.Reader.meaning (own_at c.args.overlay.now) c.args.self.now c.find.new.self (c.args.reader.now, c.args.steps.now) (c.find.new.reader, c.find.new.steps) c.in_ok-find.ensures c.to_first.new.self c.to_first.result (c.to_first.ensures (known_of (g.R.Reader.meaning.reads c.find.new.reader)) (own_at c.args.overlay.now) c.in_ok-find.ensures.stands) }
+
+pub returns-else-is_at_second : goal.returns-else-is_at_second
+returns-else-is_at_second g c = record { moves = moved_smaller g.R.Reader.meaning (own_at c.args.overlay.now) c.args.self.now c.find.new.self (c.args.reader.now, c.args.steps.now) (c.find.new.reader, c.find.new.steps) c.in_ok-find.ensures c.to_smaller.new.self c.to_smaller.result (sym c.is_at_second.ensures ∙ c.if-is_at_second.false) (c.to_smaller.ensures (known_of (g.R.Reader.meaning.reads c.find.new.reader)) (own_at c.args.overlay.now) c.in_ok-find.ensures.stands) }

@@ -1,0 +1,249 @@
+//! Moves to a second or a first part, and to another element.
+ghost use Rattle.std.specs.Prelude.{◌≡◌, Some, MatchOption, drop};
+ghost use Rattle.std.specs.Option.{option_copied};
+ghost use Rattle.fx_expr.specs.Sets.{least_above, greatest_below};
+ghost use Rattle.fx_spec.specs.Move as move;
+ghost use Rattle.fx_spec.specs.Place as place;
+ghost use Rattle.fx_store.specs.Rule.{Known};
+ghost use Rattle.fx_view.specs.Own.{own_at};
+ghost use Rattle.fx_view.specs.Reads.{known_of};
+ghost use Rattle.fx_zip.specs.Calls.{Moves, Turns, Turned, Besides};
+ghost use Rattle.fx_zip.specs.Calls.{sideways_evals, next_at, prev_at, next_evals, beside};
+ghost use Rattle.fx_zip.specs.Fresh.{IsFresh, Stands, IsNoElement, last_step, last_set, is_first, is_second};
+ghost use Rattle.fx_zip.specs.Parts.{comp_name, part};
+ghost use Rattle.fx_zip.specs.Spots.{Chooses, FirstLeads};
+ghost use Rattle.fx_zip.specs.Trees.{here, path_of};
+
+use crate::forms::{comp_of, pair_of};
+use crate::frame::{Entry, Spot, spot_at};
+use crate::leading::after_first;
+use crate::moving::chosen;
+use crate::part::part_around;
+use crate::step::Step;
+use crate::zip::{Zip, path_around};
+use fx_base::Steps;
+use fx_expr::{Text, TextSet};
+use fx_rules::Halt;
+use fx_spec::Refusal;
+use fx_store::Path;
+use fx_view::{Overlay, Reader, Stop};
+use std::alloc::Global;
+use std::sync::ledger::Ledger;
+
+impl Zip {
+    /// From a first part, which needs a value, to the second; or to the next greater element.
+    pub fn go_next<R: Reader, L: Ledger>(
+        &mut self,
+        alloc: Global,
+        reader: &mut R,
+        overlay: &Overlay,
+        steps: &mut Steps<L>,
+    ) -> Result<(), Halt>
+        requires fresh { IsFresh (known_of (R.meaning.reads reader.old)) (own_at overlay.now) self.old }
+        ensures moves { Moves R.meaning (own_at overlay.now) self.old self.new
+            (reader.old, steps.old) (reader.new, steps.new)
+            (move.go_next self.old.root self.old.address)
+            (sideways_evals self.old self.old.address) result }
+    {
+        self.find(alloc, reader, overlay, steps)?;
+        if self.is_at_first() {
+            self.to_second(alloc, reader, overlay, steps)
+        } else {
+            self.to_greater(alloc)
+        }
+    }
+
+    /// From a second part to the first, or to the next smaller element.
+    pub fn go_prev<R: Reader, L: Ledger>(
+        &mut self,
+        alloc: Global,
+        reader: &mut R,
+        overlay: &Overlay,
+        steps: &mut Steps<L>,
+    ) -> Result<(), Halt>
+        requires fresh { IsFresh (known_of (R.meaning.reads reader.old)) (own_at overlay.now) self.old }
+        ensures moves { Moves R.meaning (own_at overlay.now) self.old self.new
+            (reader.old, steps.old) (reader.new, steps.new)
+            (move.go_prev self.old.root self.old.address) (λ S. 0) result }
+    {
+        self.find(alloc, reader, overlay, steps)?;
+        if self.is_at_second() {
+            self.to_first(alloc)
+        } else {
+            self.to_smaller(alloc)
+        }
+    }
+}
+
+impl Zip {
+    /// From a first part to the second.
+    fn to_second<R: Reader, L: Ledger>(
+        &mut self,
+        alloc: Global,
+        reader: &mut R,
+        overlay: &Overlay,
+        steps: &mut Steps<L>,
+    ) -> Result<(), Halt>
+        requires stands { Stands (known_of (R.meaning.reads reader.old)) (own_at overlay.now) self.old }
+        requires first { last_step self.old.address ≡ Some place.First }
+        ensures turns { Turns R.meaning (own_at overlay.now) self.old self.new
+            (reader.old, steps.old) (reader.new, steps.new)
+            (next_at self.old.root self.old.address (here self.old))
+            (next_evals self.old.address (here self.old)) result }
+    {
+        match self.after_first(alloc, reader, overlay, steps)? {
+            Some(spot) => Ok(self.replace(
+                alloc,
+                Entry {
+                    step: Step::Second,
+                    spot,
+                },
+            )?),
+            None => Err(Halt::Refused(Refusal::Lacks)),
+        }
+    }
+
+    /// The spot at the second part of the pair around, where the first part has a value.
+    fn after_first<R: Reader, L: Ledger>(
+        &mut self,
+        alloc: Global,
+        reader: &mut R,
+        overlay: &Overlay,
+        steps: &mut Steps<L>,
+    ) -> Result<Option<Spot>, Stop>
+        requires stands { Stands (known_of (R.meaning.reads reader.old)) (own_at overlay.now) self.old }
+        requires first { last_step self.old.address ≡ Some place.First }
+        ensures same { self.new ≡ self.old }
+        ensures leads { FirstLeads R.meaning (own_at overlay.now) self.old
+            (reader.old, steps.old) (reader.new, steps.new) result }
+    {
+        let path = path_around(&self.top, self.frames.as_slice());
+        let around = part_around(self.base.description.spec(), self.steps.as_slice());
+        match pair_of(around) {
+            Some((name, first, _)) => after_first(
+                alloc,
+                reader,
+                overlay,
+                path,
+                &mut self.env,
+                name,
+                first,
+                steps,
+            ),
+            None => Ok(None),
+        }
+    }
+
+    /// Whether the zipper stands at a first part.
+    fn is_at_first(&self) -> bool
+        ensures { result ≡ is_first (last_step self.now.address) }
+    {
+        match self.last() {
+            Some(Step::First) => true,
+            Some(Step::Second) | Some(Step::Inside) | Some(Step::Down) | Some(Step::Elem(_)) =>
+                false,
+            None => false,
+        }
+    }
+
+    /// Whether the zipper stands at a second part.
+    fn is_at_second(&self) -> bool
+        ensures { result ≡ is_second (last_step self.now.address) }
+    {
+        match self.last() {
+            Some(Step::Second) => true,
+            Some(Step::First) | Some(Step::Inside) | Some(Step::Down) | Some(Step::Elem(_)) =>
+                false,
+            None => false,
+        }
+    }
+
+    /// The path of the place around.
+    fn outer_path(&self) -> &Path
+        ensures { result.now ≡ path_of (drop 1 self.now.frames) }
+    {
+        path_around(&self.top, self.frames.as_slice())
+    }
+
+    /// From a second part to the first.
+    fn to_first(&mut self, alloc: Global) -> Result<(), Halt>
+        requires second { last_step self.old.address ≡ Some place.Second }
+        ensures { (known own : Known) → Stands known own self.old → Turned known own self.old self.new
+            (prev_at self.old.root self.old.address (here self.old)) result }
+    {
+        let path = self.outer_path().copy(alloc)?;
+        Ok(self.replace(
+            alloc,
+            Entry {
+                step: Step::First,
+                spot: spot_at(path),
+            },
+        )?)
+    }
+
+    /// From an element to the next greater one.
+    fn to_greater(&mut self, alloc: Global) -> Result<(), Halt>
+        ensures { (known own : Known) → Stands known own self.old → Turned known own self.old self.new
+            (beside self.old.root least_above self.old.address) result }
+    {
+        let entry = self.greater(alloc)?;
+        Ok(self.replace(alloc, entry)?)
+    }
+
+    /// From an element to the next smaller one.
+    fn to_smaller(&mut self, alloc: Global) -> Result<(), Halt>
+        ensures { (known own : Known) → Stands known own self.old → Turned known own self.old self.new
+            (beside self.old.root greatest_below self.old.address) result }
+    {
+        let entry = self.smaller(alloc)?;
+        Ok(self.replace(alloc, entry)?)
+    }
+
+    fn greater(&self, alloc: Global) -> Result<Entry, Halt>
+        ensures { (known own : Known) → Stands known own self.now → Besides known own self.now
+            (beside self.now.root least_above self.now.address) result }
+    {
+        match self.element() {
+            Some((text, set)) => self.other(alloc, set, set.above(text)),
+            None => Err(Halt::Refused(Refusal::NoStep)),
+        }
+    }
+
+    fn smaller(&self, alloc: Global) -> Result<Entry, Halt>
+        ensures { (known own : Known) → Stands known own self.now → Besides known own self.now
+            (beside self.now.root greatest_below self.now.address) result }
+    {
+        match self.element() {
+            Some((text, set)) => self.other(alloc, set, set.below(text)),
+            None => Err(Halt::Refused(Refusal::NoStep)),
+        }
+    }
+
+    /// The entry at the chosen element of the set around the place.
+    fn other(&self, alloc: Global, set: &TextSet, choice: Option<&Text>) -> Result<Entry, Halt>
+        ensures { MatchOption (comp_name (part self.now.root (drop 1 self.now.address)))
+            (Unit {0})
+            (λ x. Chooses (path_of (drop 1 self.now.frames)) x set.now (option_copied choice.entry) result) }
+    {
+        match comp_of(self.around()) {
+            Some((_, name, _)) => chosen(alloc, self.outer_path(), name, set, choice),
+            None => Err(Halt::Refused(Refusal::NoStep)),
+        }
+    }
+
+    /// The element at which the zipper stands, with the set around it.
+    fn element(&self) -> Option<(&Text, &TextSet)>
+        ensures { MatchOption result (IsNoElement self.now) (λ r.
+            (last_step self.now.address ≡ Some (place.Elem r.0.now))
+            × (last_set self.now.frames ≡ Some r.1.now)) }
+    {
+        match self.last() {
+            Some(Step::Elem(text)) => match self.held() {
+                Some(set) => Some((text, set)),
+                None => None,
+            },
+            Some(Step::First) | Some(Step::Second) | Some(Step::Inside) | Some(Step::Down) => None,
+            None => None,
+        }
+    }
+}
