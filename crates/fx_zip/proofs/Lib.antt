@@ -11,3 +11,4 @@ pub mod Consulting
 pub mod Finding
 pub mod Chosen
 pub mod Around
+pub mod Questions

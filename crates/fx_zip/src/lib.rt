@@ -2,7 +2,9 @@
 //! with own changes on top.
 #![tactic(auto)]
 
+mod asking;
 mod evaluating;
+mod fetching;
 mod forms;
 mod frame;
 mod leading;
@@ -10,6 +12,7 @@ mod moves;
 mod moving;
 mod part;
 mod settling;
+mod shapes;
 mod sideways;
 mod step;
 mod zip;

@@ -1,0 +1,168 @@
+//! What is fetched at a place, its value, and whether there is one.
+ghost use Rattle.std.specs.Prelude.{◌≡◌, is_some};
+ghost use Rattle.std.specs.Option.{option_map};
+ghost use Rattle.fx_expr.specs.Tree.{Tree};
+ghost use Rattle.fx_expr.specs.Views.{shape_tree, tree_of};
+ghost use Rattle.fx_rules.specs.Answering.{answered};
+ghost use Rattle.fx_rules.specs.Halts.{split};
+ghost use Rattle.fx_spec.specs.Describe.{Bindings};
+ghost use Rattle.fx_spec.specs.Move as move;
+ghost use Rattle.fx_spec.specs.Place.{placed};
+ghost use Rattle.fx_spec.specs.SpecTree.{SpecTree};
+ghost use Rattle.fx_spec.specs.Views.{spec_tree};
+ghost use Rattle.fx_view.specs.Follows.{Follows, Consults};
+ghost use Rattle.fx_view.specs.Own.{own_at};
+ghost use Rattle.fx_walk.specs.Scopes.{HasScope};
+ghost use Rattle.fx_zip.specs.Calls.{value_needed};
+
+use crate::evaluating::evaluate;
+use crate::shapes::{has_fetch_shape, has_value_shape};
+use fx_base::Steps;
+use fx_expr::{Env, Shape, Value};
+use fx_rules::Halt;
+use fx_spec::{Refusal, Spec};
+use fx_store::Path;
+use fx_view::{Overlay, Reader, Stop};
+use fx_walk::{exists, value_in};
+use std::alloc::Global;
+use std::sync::ledger::Ledger;
+
+/// What the form gives, where that has the shape. The environment is as before on every way out.
+pub(crate) fn fetch_at<R: Reader, L: Ledger>(
+    alloc: Global,
+    reader: &mut R,
+    overlay: &Overlay,
+    path: &Path,
+    env: &mut Env,
+    spec: &Spec,
+    shape: &Shape,
+    steps: &mut Steps<L>,
+) -> Result<Value, Halt>
+    requires described { HasScope env.old (spec_tree spec.now) }
+    ensures env { env.new ≡ env.old }
+    ensures follows { Follows R.meaning (answered tree_of) (own_at overlay.now)
+        (reader.old, steps.old) (reader.new, steps.new)
+        (move.fetch_at (shape_tree shape.now) (placed path.now env.old (spec_tree spec.now)))
+        (split result) }
+{
+    if has_fetch_shape(spec, shape) {
+        fetched(alloc, reader, overlay, path, env, spec, steps)
+    } else {
+        Err(Halt::Refused(Refusal::WrongForm))
+    }
+}
+
+/// The value of the description, where that has the shape. The environment is as before on every way out.
+pub(crate) fn whole_at<R: Reader, L: Ledger>(
+    alloc: Global,
+    reader: &mut R,
+    overlay: &Overlay,
+    path: &Path,
+    env: &mut Env,
+    spec: &Spec,
+    shape: &Shape,
+    steps: &mut Steps<L>,
+) -> Result<Value, Halt>
+    requires described { HasScope env.old (spec_tree spec.now) }
+    ensures env { env.new ≡ env.old }
+    ensures follows { Follows R.meaning (answered tree_of) (own_at overlay.now)
+        (reader.old, steps.old) (reader.new, steps.new)
+        (move.whole_at (shape_tree shape.now) (placed path.now env.old (spec_tree spec.now)))
+        (split result) }
+{
+    if has_value_shape(spec, shape) {
+        value_at(alloc, reader, overlay, path, env, spec, steps)
+    } else {
+        Err(Halt::Refused(Refusal::WrongForm))
+    }
+}
+
+/// Whether the description has a value. The environment is as before on every way out.
+pub(crate) fn validate_at<R: Reader, L: Ledger>(
+    alloc: Global,
+    reader: &mut R,
+    overlay: &Overlay,
+    path: &Path,
+    env: &mut Env,
+    spec: &Spec,
+    steps: &mut Steps<L>,
+) -> Result<bool, Halt>
+    requires described { HasScope env.old (spec_tree spec.now) }
+    ensures env { env.new ≡ env.old }
+    ensures follows { Follows R.meaning (answered (λ b. Tree.bool b)) (own_at overlay.now)
+        (reader.old, steps.old) (reader.new, steps.new)
+        (move.validate_at (placed path.now env.old (spec_tree spec.now))) (split result) }
+{
+    let value = value_in(alloc, reader, overlay, path, env, spec, steps)?;
+    Ok(is_there(value))
+}
+
+fn fetched<R: Reader, L: Ledger>(
+    alloc: Global,
+    reader: &mut R,
+    overlay: &Overlay,
+    path: &Path,
+    env: &mut Env,
+    spec: &Spec,
+    steps: &mut Steps<L>,
+) -> Result<Value, Halt>
+    requires described { HasScope env.old (spec_tree spec.now) }
+    ensures env { env.new ≡ env.old }
+    ensures follows { Follows R.meaning (answered tree_of) (own_at overlay.now)
+        (reader.old, steps.old) (reader.new, steps.new)
+        (move.fetched path.now env.old (spec_tree spec.now)) (split result) }
+{
+    match spec {
+        Spec::File => value_at(alloc, reader, overlay, path, env, spec, steps),
+        Spec::Dir => value_at(alloc, reader, overlay, path, env, spec, steps),
+        Spec::Link => value_at(alloc, reader, overlay, path, env, spec, steps),
+        Spec::Focus(text, _) => evaluate(alloc, env, text, steps),
+        Spec::Comp(_, _, set) => evaluate(alloc, env, set, steps),
+        Spec::Pred(test) => evaluate(alloc, env, test, steps),
+        Spec::Opt(_) => entry_at(alloc, reader, overlay, path),
+        Spec::Pair(_, _, _) => Err(Halt::Refused(Refusal::WrongForm)),
+    }
+}
+
+/// Whether there is an entry, as a value.
+fn entry_at<R: Reader>(
+    alloc: Global,
+    reader: &mut R,
+    overlay: &Overlay,
+    path: &Path,
+) -> Result<Value, Halt>
+    ensures follows { (env : Bindings) (part : SpecTree) → Consults R.meaning (answered tree_of)
+        (own_at overlay.now) reader.old reader.new
+        (move.fetched path.now env (SpecTree.opt part)) (split result) }
+{
+    let there = exists(alloc, reader, overlay, path)?;
+    Ok(Value::Bool(there))
+}
+
+/// The value of the description, which has to be there.
+fn value_at<R: Reader, L: Ledger>(
+    alloc: Global,
+    reader: &mut R,
+    overlay: &Overlay,
+    path: &Path,
+    env: &mut Env,
+    spec: &Spec,
+    steps: &mut Steps<L>,
+) -> Result<Value, Halt>
+    requires described { HasScope env.old (spec_tree spec.now) }
+    ensures env { env.new ≡ env.old }
+    ensures follows { Follows R.meaning (answered tree_of) (own_at overlay.now)
+        (reader.old, steps.old) (reader.new, steps.new)
+        (value_needed path.now env.old (spec_tree spec.now)) (split result) }
+{
+    match value_in(alloc, reader, overlay, path, env, spec, steps)? {
+        Some(value) => Ok(value),
+        None => Err(Halt::Refused(Refusal::Lacks)),
+    }
+}
+
+fn is_there(value: Option<Value>) -> bool
+    ensures { result ≡ is_some (option_map tree_of value) }
+{
+    value.is_some()
+}
