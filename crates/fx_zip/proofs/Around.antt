@@ -1,14 +1,14 @@
 -- Moves from a first part to the second, and to another element.
-use Rattle.std.proofs.Common.{◌≡◌, ℕ, Bool, true, false, List, [], ◌∷◌, drop, Option, Some, None, option_map, Result, Ok, Err, refl, sym, ap, ◌∙◌, subst}
+use Rattle.std.proofs.Common.{◌≡◌, ℕ, true, false, List, [], ◌∷◌, drop, Option, Some, None, option_map, Result, Ok, Err, refl, sym, ap, ◌∙◌, subst}
 use Rattle.std.specs.Prelude.{IfOk, IsErrAnd}
 use Rattle.std.specs.Option.{IfSome}
-use Rattle.fx_store.specs.Rule.{Known, Ask, Answer, Found, follow, answer, ticks}
+use Rattle.fx_store.specs.Rule.{Known, Found, follow, answer, ticks}
 use Rattle.fx_store.specs.Whole.{Store}
 use Rattle.fx_expr.specs.Sets.{least_above, greatest_below}
 use Rattle.fx_spec.specs.declared.refusal.Refusal.{Refusal}
 use Rattle.fx_spec.specs.Describe.{Bindings, value}
 use Rattle.fx_spec.specs.Evals.{evals_with}
-use Rattle.fx_spec.specs.Move.{Answered, at_place, go_next, go_prev}
+use Rattle.fx_spec.specs.Move.{at_place, go_next, go_prev}
 use Rattle.fx_spec.specs.Place.{Step, First, Second, Inside, Down, Elem, Address, PlaceTree, placed, lead, place}
 use Rattle.fx_spec.specs.SpecTree.{SpecTree}
 use Rattle.fx_spec.specs.WellShaped.{IsDescription}

@@ -1,15 +1,13 @@
 -- Moves from a step to one beside it.
-use Rattle.std.proofs.Common.{◌≡◌, ℕ, ◌+◌, ◌-◌, ◌≤◌, Bool, true, false, cond, List, [], ◌∷◌, ◌++◌, length, drop, take, Option, Some, None, is_some, option_map, Result, Ok, Err, refl, sym, ap, ◌∙◌, subst, arith}
+use Rattle.std.proofs.Common.{◌≡◌, ℕ, ◌-◌, true, cond, List, [], ◌∷◌, length, drop, take, Option, Some, None, is_some, option_map, Result, Ok, Err, refl, sym, ap, ◌∙◌, subst, arith}
 use Rattle.std.specs.Prelude.{IsErrAnd, IfOk, MatchOption}
-use Rattle.std.specs.Option.{IfSome}
-use Rattle.fx_store.specs.Rule.{Known, Ask, Answer, Tick, Found, follow, ticks, changed, ◌>>=◌}
+use Rattle.fx_store.specs.Rule.{Known, Ask, Answer, Found, follow, ticks, changed, ◌>>=◌}
 use Rattle.fx_store.specs.Whole.{Store}
 use Rattle.fx_expr.specs.Bindings.{bind}
 use Rattle.fx_expr.specs.Eval.{Outcome, eval_of, names_in}
 use Rattle.fx_expr.specs.ExprTree.{ExprTree}
-use Rattle.fx_expr.specs.Sets.{has_text, least, least_above, greatest_below}
+use Rattle.fx_expr.specs.Sets.{has_text}
 use Rattle.fx_expr.specs.Tree.{Tree}
-use Rattle.fx_expr.specs.Views.{entry_tree, tree_of}
 use Rattle.fx_spec.specs.declared.refusal.Refusal.{Refusal}
 use Rattle.fx_spec.specs.Describe.{Bindings, value}
 use Rattle.fx_spec.specs.Move.{Answered, unrefused, needed, at_place, another, chosen, element}
@@ -33,14 +31,14 @@ use Rattle.fx_zip.specs.declared.frame.Spot.{Spot}
 use Rattle.fx_zip.specs.Calls.{OnRefused, SaysFound, Turns, Turned, Besides, beside, next_at, prev_at, next_evals}
 use Rattle.fx_zip.specs.Fresh.{around, around_last, HasSet, IsHeld, AreFound, IsFresh, Stands, IsNoElement, last_step, last_set, left}
 use Rattle.fx_zip.specs.Parts.{child, part, comp_name}
-use Rattle.fx_zip.specs.Spots.{grown, spot_place, bound_value, IsSpot, Leads, LeadsFrom, Chooses, BindsText, BindsValue, entered}
+use Rattle.fx_zip.specs.Spots.{bound_value, Leads, LeadsFrom, Chooses, BindsValue, entered}
 use Rattle.fx_zip.specs.Steps.{step_tree}
 use Rattle.fx_zip.specs.Telling.{Says, set_answer}
 use Rattle.fx_zip.specs.Trees.{ZipTree, path_of, here}
 use Rattle.fx_zip.proofs.Entering.{leads_at, leads_step}
 use Rattle.fx_zip.proofs.Leads.{first_leads, element_leads, grown_is, front_last}
-use Rattle.fx_zip.proofs.Standing.{found_place, stands_fresh, stands_grows, stands_settled, stands_left, stands_entered, left_settled, without_last, is_true}
-use Rattle.fx_zip.proofs.Telling.{follows_grows, follows_memory, found_follows}
+use Rattle.fx_zip.proofs.Standing.{found_place, stands_fresh, stands_grows, stands_settled, stands_left, stands_entered, left_settled, is_true}
+use Rattle.fx_zip.proofs.Telling.{follows_grows, found_follows}
 
 says_found : {A X : Type 0} (known own : Known) (view : X → A) (rule : Ask A) (o : A) (r : Result X Stop) → follow known own rule ≡ Found o → Says view (Some o) r → SaysFound known own view rule r
 says_found known own view rule o (Ok x) e h = let same : o ≡ view x = cc in e ∙ ap (λ a. Found a) same

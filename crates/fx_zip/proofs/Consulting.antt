@@ -3,7 +3,7 @@ use Rattle.std.proofs.Common.{◌≡◌, ℕ, Bool, true, false, cond, List, [],
 use Rattle.std.specs.Prelude.{IsErrAnd, IfOk, nat_eq}
 use Rattle.std.specs.Cmp.Lexicographic.{pointwise}
 use Rattle.std.specs.Option.{IfSome}
-use Rattle.fx_store.specs.Rule.{Known, Ask, Answer, ◌>>=◌}
+use Rattle.fx_store.specs.Rule.{Known, Ask, Answer}
 use Rattle.fx_expr.specs.Bindings.{bind}
 use Rattle.fx_expr.specs.Sets.{has_text, least}
 use Rattle.fx_expr.specs.Tree.{Tree}
@@ -11,7 +11,7 @@ use Rattle.fx_expr.proofs.Order.{same_text}
 use Rattle.fx_spec.specs.declared.refusal.Refusal.{Refusal}
 use Rattle.fx_spec.specs.Describe.{Bindings, exists, value}
 use Rattle.fx_spec.specs.Move.{Answered, go_into, this_if}
-use Rattle.fx_spec.specs.Place.{First, Second, Inside, Address, PlaceTree, placed, where_true, lead}
+use Rattle.fx_spec.specs.Place.{Second, Inside, Address, PlaceTree, placed, where_true}
 use Rattle.fx_spec.specs.SpecTree.{SpecTree}
 use Rattle.fx_view.specs.declared.reader.Stop.{Stop}
 use Rattle.fx_view.specs.declared.reader.Stop.TheVariants as stop
@@ -25,8 +25,7 @@ use Rattle.fx_rules.specs.declared.halt.Halt.TheVariants as halt
 use Rattle.fx_rules.specs.Answering.{answered}
 use Rattle.fx_zip.specs.declared.frame.Entry.{Entry}
 use Rattle.fx_zip.specs.declared.frame.Spot.{Spot}
-use Rattle.fx_zip.specs.Parts.{child}
-use Rattle.fx_zip.specs.Spots.{grown, spot_place, IsSpot, Leads, LeadsTo, Enters, BindsValue, bound_value}
+use Rattle.fx_zip.specs.Spots.{grown, spot_place, LeadsTo, Enters, BindsValue, bound_value}
 use Rattle.fx_zip.specs.Steps.{step_tree}
 use Rattle.fx_zip.proofs.Beside.{leads_second}
 use Rattle.fx_zip.proofs.Entering.{leads_step}

@@ -1,14 +1,14 @@
 -- Where moves lead from a place, form by form.
-use Rattle.std.proofs.Common.{◌≡◌, ℕ, ◌+◌, ◌≤◌, Bool, true, false, cond, List, [], ◌∷◌, Option, Some, None, Result, Ok, Err, refl, sym, ap, ◌∙◌, subst, arith}
+use Rattle.std.proofs.Common.{◌≡◌, ℕ, ◌+◌, ◌≤◌, true, List, [], ◌∷◌, Option, Some, None, Result, Ok, Err, refl, sym, ap, ◌∙◌, subst, arith}
 use Rattle.std.specs.Prelude.{IsErrAnd, IfOk}
-use Rattle.fx_store.specs.Rule.{Known, Ask, Answer, Tick, follow, Found, ◌>>=◌}
+use Rattle.fx_store.specs.Rule.{Known, Ask, Answer, Tick}
 use Rattle.fx_expr.specs.Eval.{Outcome, eval_of, names_in}
 use Rattle.fx_expr.specs.ExprTree.{ExprTree}
 use Rattle.fx_expr.specs.Sets.{has_text}
 use Rattle.fx_spec.specs.declared.refusal.Refusal.{Refusal}
-use Rattle.fx_spec.specs.Describe.{Bindings, focus_path, exists}
-use Rattle.fx_spec.specs.Move.{Answered, then_step, element, chosen, go_into, go_down}
-use Rattle.fx_spec.specs.Place.{Step, First, Second, Inside, Down, Elem, Address, lead}
+use Rattle.fx_spec.specs.Describe.{Bindings}
+use Rattle.fx_spec.specs.Move.{Answered, element, chosen, go_into}
+use Rattle.fx_spec.specs.Place.{Step, First, Elem, Address, lead}
 use Rattle.fx_spec.specs.SpecTree.{SpecTree}
 use Rattle.fx_view.specs.declared.reader.Stop.{Stop}
 use Rattle.fx_view.specs.declared.reader.Stop.TheVariants as stop
@@ -20,10 +20,10 @@ use Rattle.fx_rules.specs.Halts.{split}
 use Rattle.fx_zip.specs.declared.frame.Entry.{Entry}
 use Rattle.fx_zip.specs.declared.frame.Spot.{Spot}
 use Rattle.fx_zip.specs.Parts.{IsNoPair, IsNoComp, IsNoOption}
-use Rattle.fx_zip.specs.Spots.{Leads, LeadsAt, EntersAt, Chooses, BindsText}
+use Rattle.fx_zip.specs.Spots.{Leads, LeadsAt, EntersAt, Chooses}
 use Rattle.fx_zip.specs.Steps.{step_tree}
-use Rattle.fx_zip.specs.Telling.{told, costs, Says, Tells, set_answer}
-use Rattle.fx_zip.proofs.Leads.{first_leads, down_leads, element_leads}
+use Rattle.fx_zip.specs.Telling.{told, costs, Says, set_answer}
+use Rattle.fx_zip.proofs.Leads.{first_leads, element_leads}
 use Rattle.fx_zip.proofs.Telling.{told_found}
 
 pub leads_at : (known own : Known) (step : Step) (p : List (List ℕ)) (env : Bindings) (s : SpecTree) (was now : ℕ) (spot : Spot) → LeadsAt step p env s was now (Ok (Some spot)) → Leads known own step p env s spot

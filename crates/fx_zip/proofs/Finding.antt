@@ -1,8 +1,7 @@
 -- The loop that finds the place of a zipper.
-use Rattle.std.proofs.Common.{◌≡◌, ℕ, ◌+◌, ◌-◌, ◌<◌, ◌≤◌, Bool, true, false, cond, List, [], ◌∷◌, ◌++◌, length, Option, Some, None, Result, Ok, Err, refl, sym, ap, ◌∙◌, subst, arith, length-append}
-use Rattle.std.specs.Prelude.{IsErrAnd, IfOk}
-use Rattle.fx_store.specs.Rule.{Known, Ask, Answer, ◌>>=◌, ticks, changed}
-use Rattle.fx_store.specs.Whole.{Store}
+use Rattle.std.proofs.Common.{◌≡◌, ℕ, ◌+◌, ◌-◌, ◌<◌, ◌≤◌, Bool, true, false, cond, [], ◌∷◌, ◌++◌, length, Option, Some, None, Result, Ok, Err, refl, sym, ap, ◌∙◌, subst, arith, length-append}
+use Rattle.std.specs.Prelude.{IsErrAnd}
+use Rattle.fx_store.specs.Rule.{Known, Ask, Answer, ticks, changed}
 use Rattle.fx_spec.specs.declared.refusal.Refusal.{Refusal}
 use Rattle.fx_spec.specs.Move.{needed}
 use Rattle.fx_spec.specs.Place.{Address, PlaceTree, placed, place}
@@ -10,20 +9,20 @@ use Rattle.fx_view.specs.declared.reader.Stop.{Stop}
 use Rattle.fx_view.specs.declared.reader.Stop.TheVariants as stop
 use Rattle.fx_view.specs.Follows.{Follows}
 use Rattle.fx_view.specs.Meaning.{Meaning}
-use Rattle.fx_view.specs.Reads.{known_of, Agrees}
+use Rattle.fx_view.specs.Reads.{known_of}
 use Rattle.fx_view.proofs.Calls.{follows_then_answer, follows_stop}
 use Rattle.fx_view.proofs.Errors.{err_of}
 use Rattle.fx_rules.specs.declared.halt.Halt.{Halt}
 use Rattle.fx_rules.specs.declared.halt.Halt.TheVariants as halt
 use Rattle.fx_rules.specs.Answering.{answered}
 use Rattle.fx_rules.specs.Halts.{split}
-use Rattle.fx_zip.specs.Calls.{IsSettling, SettlesTo, Settles, Finds, Evaluates, place_needed, settling_evals}
-use Rattle.fx_zip.specs.Fresh.{AreFound, IsFresh, Stands}
+use Rattle.fx_zip.specs.Calls.{IsSettling, SettlesTo, Settles, Finds, Evaluates, place_needed}
+use Rattle.fx_zip.specs.Fresh.{IsFresh}
 use Rattle.fx_zip.specs.Parts.{part}
 use Rattle.fx_zip.specs.Trees.{ZipTree, is_settled, path_of, here}
 use Rattle.fx_zip.proofs.Settled.{PlaceOr, settling_first, settling_fresh}
 use Rattle.fx_zip.proofs.Nexting.{few_frames}
-use Rattle.fx_zip.proofs.Standing.{found_length, fresh_stands, stands_fresh, is_true}
+use Rattle.fx_zip.proofs.Standing.{found_length, fresh_stands}
 use Rattle.fx_zip.proofs.Telling.{follows_as, follows_memory}
 
 pub record Finding {R : Type 0} (m : Meaning R) (own : Known) (first : ZipTree) (start now : R × ℕ) (z : ZipTree) : Type 0 where

@@ -1,9 +1,8 @@
 -- Where the steps lead, form by form.
-use Rattle.std.proofs.Common.{◌≡◌, ℕ, suc, ◌+◌, ◌-◌, ◌≤◌, Bool, true, false, List, [], ◌∷◌, ◌++◌, length, take, Option, Some, None, option_map, Result, Ok, Err, refl, sym, ap, ◌∙◌, subst, arith, length-append}
-use Rattle.std.specs.Prelude.{IsErrAnd, IfOk}
-use Rattle.std.specs.Option.{IfSome, unwrap_or}
+use Rattle.std.proofs.Common.{◌≡◌, ℕ, ◌+◌, ◌-◌, ◌≤◌, true, false, List, [], ◌∷◌, ◌++◌, length, take, Option, Some, None, option_map, Result, Ok, Err, refl, sym, ap, ◌∙◌, subst, arith, length-append}
+use Rattle.std.specs.Prelude.{IsErrAnd}
+use Rattle.std.specs.Option.{unwrap_or}
 use Rattle.std.proofs.Math.Seq.{take-append_seam}
-use Rattle.fx_store.specs.Rule.{Known, Ask, Answer, Tick, ◌>>=◌}
 use Rattle.fx_expr.specs.Bindings.{bind}
 use Rattle.fx_expr.specs.Eval.{Outcome, eval_of, names_in}
 use Rattle.fx_expr.specs.ExprTree.{ExprTree}
@@ -12,24 +11,22 @@ use Rattle.fx_expr.specs.Tree.{Tree}
 use Rattle.fx_expr.specs.Views.{entry_tree, tree_of}
 use Rattle.fx_expr.specs.declared.value.Value.{Value}
 use Rattle.fx_spec.specs.declared.refusal.Refusal.{Refusal}
-use Rattle.fx_spec.specs.Describe.{Bindings, exists, focus_path, value}
+use Rattle.fx_spec.specs.Describe.{Bindings, focus_path}
 use Rattle.fx_spec.specs.Move.{Answered}
-use Rattle.fx_spec.specs.Place.{Step, First, Second, Inside, Down, Elem, placed, where_true, has_element, at_path, lead}
+use Rattle.fx_spec.specs.Place.{Step, First, Down, Elem, placed, where_true, has_element, at_path, lead}
 use Rattle.fx_spec.specs.SpecTree.{SpecTree}
 use Rattle.fx_view.specs.declared.reader.Stop.{Stop}
 use Rattle.fx_view.specs.declared.reader.Stop.TheVariants as stop
-use Rattle.fx_view.specs.Follows.{Follows}
-use Rattle.fx_view.specs.Meaning.{Meaning}
 use Rattle.fx_view.proofs.Errors.{err_of}
 use Rattle.fx_rules.specs.declared.halt.Halt.{Halt}
 use Rattle.fx_rules.specs.declared.halt.Halt.TheVariants as halt
 use Rattle.fx_rules.specs.Answering.{answered}
 use Rattle.fx_rules.specs.Halts.{split}
 use Rattle.fx_zip.specs.declared.frame.Spot.{Spot}
-use Rattle.fx_zip.specs.Fresh.{around, HasSet, IsHeld}
-use Rattle.fx_zip.specs.Parts.{child, IsNoPair, IsNoComp, IsNoFocus, IsNoOption}
-use Rattle.fx_zip.specs.Spots.{grown, spot_place, IsSpot, LeadsTo, LeadsAt, BindsText, BindsValue, bound_value}
-use Rattle.fx_zip.specs.Telling.{told, costs, Says, Tells, set_answer, given}
+use Rattle.fx_zip.specs.Fresh.{HasSet}
+use Rattle.fx_zip.specs.Parts.{IsNoPair, IsNoComp, IsNoFocus}
+use Rattle.fx_zip.specs.Spots.{grown, spot_place, IsSpot, LeadsAt, BindsText}
+use Rattle.fx_zip.specs.Telling.{costs, Says, set_answer, given}
 
 -- ---- what is given where a call is not refused
 

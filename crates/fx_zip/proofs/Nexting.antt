@@ -1,14 +1,11 @@
 -- The first step that has no frame, and the zipper with one frame more.
-use Rattle.std.proofs.Common.{◌≡◌, ℕ, ◌+◌, ◌<◌, ◌≤◌, Bool, true, false, List, [], ◌∷◌, ◌++◌, length, take, get_or, Option, Some, None, option_map, Result, Ok, Err, refl, sym, ap, ◌∙◌, subst, arith, append_assoc, length-append}
+use Rattle.std.proofs.Common.{◌≡◌, ℕ, ◌<◌, Bool, true, false, List, [], ◌∷◌, ◌++◌, length, take, get_or, Option, Some, None, Result, Ok, Err, refl, sym, ap, ◌∙◌, subst, arith, append_assoc, length-append}
 use Rattle.std.specs.Prelude.{slice_get, IsErrAnd, nat_eq}
 use Rattle.std.proofs.lemmas.Option.{slice_get_read}
 use Rattle.fx_zip.specs.declared.frame.Frame.{Frame}
 use Rattle.std.proofs.lemmas.Bool.Decides.{nat_tests}
 use Rattle.fx_store.specs.Rule.{Known}
-use Rattle.fx_expr.specs.Tree.{Tree}
 use Rattle.fx_spec.specs.Describe.{Bindings}
-use Rattle.fx_spec.specs.Place as place
-use Rattle.fx_spec.specs.Place.{Address}
 use Rattle.fx_spec.specs.SpecTree.{SpecTree}
 use Rattle.fx_spec.specs.WellShaped.{IsDescription}
 use Rattle.fx_view.specs.declared.reader.Stop.{Stop}
@@ -19,9 +16,9 @@ use Rattle.fx_view.proofs.Errors.{err_of}
 use Rattle.fx_walk.specs.Scopes.{HasScope}
 use Rattle.fx_zip.specs.declared.frame.Spot.{Spot}
 use Rattle.fx_zip.specs.declared.step.Step.{Step}
-use Rattle.fx_zip.specs.Calls.{IsSettling, SettlesTo, Settles}
-use Rattle.fx_zip.specs.Fresh.{AreFound, IsFresh}
-use Rattle.fx_zip.specs.Parts.{child, part}
+use Rattle.fx_zip.specs.Calls.{IsSettling, Settles}
+use Rattle.fx_zip.specs.Fresh.{IsFresh}
+use Rattle.fx_zip.specs.Parts.{part}
 use Rattle.fx_zip.specs.Spots.{LeadsTo, LeadsNext, kept_too}
 use Rattle.fx_zip.specs.Steps.{step_tree, turned}
 use Rattle.fx_zip.specs.Trees.{ZipTree, path_of, is_settled}

@@ -1,7 +1,7 @@
 -- Moves and questions: the place is found, and then the rule is followed from there.
-use Rattle.std.proofs.Common.{◌≡◌, ℕ, ◌+◌, ◌≤◌, List, [], ◌∷◌, Option, Some, None, Result, Ok, Err, refl, sym, ap, ◌∙◌, subst, arith}
+use Rattle.std.proofs.Common.{◌≡◌, ℕ, ◌+◌, ◌≤◌, List, [], ◌∷◌, Some, Result, Ok, Err, refl, sym, ap, ◌∙◌, subst, arith}
 use Rattle.std.specs.Prelude.{IfOk, IsErrAnd}
-use Rattle.fx_store.specs.Rule.{Known, Ask, Answer, Found, follow, answer, ticks, changed, ◌>>=◌}
+use Rattle.fx_store.specs.Rule.{Known, Ask, Answer, answer, ticks, changed, ◌>>=◌}
 use Rattle.fx_store.specs.Whole.{Store}
 use Rattle.fx_store.proofs.Asks.{ask-bind-assoc}
 use Rattle.fx_spec.specs.declared.refusal.Refusal.{Refusal}
@@ -27,14 +27,14 @@ use Rattle.fx_rules.specs.Answering.{answered}
 use Rattle.fx_rules.specs.Halts.{split}
 use Rattle.fx_rules.proofs.Halting.{step_halt}
 use Rattle.fx_zip.specs.declared.frame.Entry.{Entry}
-use Rattle.fx_zip.specs.Calls.{OnRefused, place_needed, settling_evals, place_evals, Evaluates, Finds, Moves, Turns, Turned, Asks}
+use Rattle.fx_zip.specs.Calls.{OnRefused, place_needed, place_evals, Evaluates, Finds, Moves, Turns, Asks}
 use Rattle.fx_zip.specs.Fresh.{IsFresh, Stands}
 use Rattle.fx_zip.specs.Parts.{part}
-use Rattle.fx_zip.specs.Spots.{Leads, LeadsFrom, Enters, entered}
+use Rattle.fx_zip.specs.Spots.{Enters, entered}
 use Rattle.fx_zip.specs.Steps.{step_tree}
 use Rattle.fx_zip.specs.Trees.{ZipTree, path_of, here}
 use Rattle.fx_zip.proofs.Standing.{stands_fresh, stands_grows, stands_here, stands_entered, stands_scope, fresh_grows}
-use Rattle.fx_zip.proofs.Telling.{follows_grows, follows_memory, follows_as, found_follows}
+use Rattle.fx_zip.proofs.Telling.{follows_grows, follows_memory, follows_as}
 
 at_place_is : {B : Type 0} (root : SpecTree) (a : Address) (rest : PlaceTree → Ask (Answered B)) → (place_needed root a >>= unrefused rest) ≡ at_place root a rest
 at_place_is root a rest = ask-bind-assoc (place root a) (λ at. Answer (needed Refusal.NoPlace at)) (unrefused rest)

@@ -1,11 +1,9 @@
 -- Frames found one after another, from a start on.
-use Rattle.std.proofs.Common.{◌≡◌, ℕ, ◌+◌, Bool, true, false, List, [], ◌∷◌, ◌++◌, length, take, drop, Option, Some, None, option_map, Result, Ok, Err, refl, sym, ap, ◌∙◌, subst, arith, append_assoc, length-append, length-take}
-use Rattle.std.specs.Prelude.{slice_get, IsErrAnd, IfOk}
+use Rattle.std.proofs.Common.{◌≡◌, ℕ, ◌+◌, List, [], ◌∷◌, ◌++◌, length, take, drop, Option, Some, None, option_map, Result, Ok, Err, refl, sym, ap, ◌∙◌, subst, arith, append_assoc, length-take}
+use Rattle.std.specs.Prelude.{slice_get}
 use Rattle.std.proofs.lemmas.Option.{slice_get_within}
-use Rattle.fx_store.specs.Rule.{Known, Ask, Answer, ◌>>=◌}
-use Rattle.fx_spec.specs.declared.refusal.Refusal.{Refusal}
+use Rattle.fx_store.specs.Rule.{Known}
 use Rattle.fx_spec.specs.Describe.{with_some}
-use Rattle.fx_spec.specs.Move.{needed}
 use Rattle.fx_spec.specs.Place as place
 use Rattle.fx_spec.specs.Place.{Address, PlaceTree, placed, lead, place}
 use Rattle.fx_spec.specs.SpecTree.{SpecTree}
@@ -15,17 +13,16 @@ use Rattle.fx_view.specs.Follows.{Follows, walked}
 use Rattle.fx_view.specs.Meaning.{Meaning}
 use Rattle.fx_view.specs.Reads.{known_of}
 use Rattle.fx_view.proofs.Calls.{follows_then, follows_stop, follows_then_answer}
-use Rattle.fx_view.proofs.Errors.{err_of}
 use Rattle.fx_view.proofs.Going.{Went-none}
 use Rattle.fx_zip.specs.declared.frame.Spot.{Spot}
 use Rattle.fx_zip.specs.declared.step.Step.{Step}
-use Rattle.fx_zip.specs.Calls.{IsSettling, SettlesTo, Settles}
+use Rattle.fx_zip.specs.Calls.{IsSettling}
 use Rattle.fx_zip.specs.Fresh.{AreFound, IsFresh}
 use Rattle.fx_zip.specs.Parts.{child, part}
-use Rattle.fx_zip.specs.Spots.{spot_place, grown, LeadsTo, Leads, kept_too}
+use Rattle.fx_zip.specs.Spots.{spot_place, grown, LeadsTo, kept_too}
 use Rattle.fx_zip.specs.Steps.{step_tree, turned}
 use Rattle.fx_zip.specs.Trees.{ZipTree, path_of}
-use Rattle.fx_zip.proofs.Standing.{found_length, found_place, found_grows, found_entered}
+use Rattle.fx_zip.proofs.Standing.{found_place, found_grows, found_entered}
 use Rattle.fx_zip.proofs.Telling.{follows_grows, follows_as, follows_memory}
 use Rattle.fx_zip.proofs.Turning.{turned_at, length-turned, same_ends}
 

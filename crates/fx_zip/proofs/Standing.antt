@@ -1,5 +1,5 @@
 -- Zippers whose frames are found: what is known of their place, with more reads, one frame more, and one step less.
-use Rattle.std.proofs.Common.{◌≡◌, ℕ, suc, ◌+◌, ◌<◌, Bool, true, false, cond, List, [], ◌∷◌, ◌++◌, length, drop, Option, Some, None, refl, sym, ap, ◌∙◌, subst, arith, length-append}
+use Rattle.std.proofs.Common.{◌≡◌, ℕ, suc, ◌<◌, true, false, cond, List, [], ◌∷◌, ◌++◌, length, drop, Option, Some, None, refl, sym, ap, ◌∙◌, subst, arith, length-append}
 use Rattle.std.specs.Prelude.{nat_eq}
 use Rattle.std.specs.Option.{IfSome, unwrap_or}
 use Rattle.std.proofs.lemmas.Bool.Decides.{nat_tests}
@@ -8,7 +8,7 @@ use Rattle.fx_store.specs.declared.node.Node.{Node}
 use Rattle.fx_store.specs.Rule.{Known, Found, follow, AgreesWith, answer, changed}
 use Rattle.fx_store.specs.Whole.{Store}
 use Rattle.fx_spec.specs.Describe.{Bindings, with_some}
-use Rattle.fx_spec.specs.Place.{Step, Address, PlaceTree, placed, lead, place}
+use Rattle.fx_spec.specs.Place.{Step, Address, placed, lead, place}
 use Rattle.fx_spec.specs.Shaped.{IsDescribedPlace}
 use Rattle.fx_spec.specs.SpecTree.{SpecTree}
 use Rattle.fx_spec.specs.WellShaped.{IsDescription}
@@ -20,7 +20,7 @@ use Rattle.fx_zip.specs.declared.frame.Frame.{Frame}
 use Rattle.fx_zip.specs.declared.frame.Spot.{Spot}
 use Rattle.fx_zip.specs.Fresh.{around, around_last, IsHeld, AreFound, IsFresh, Stands, left}
 use Rattle.fx_zip.specs.Parts.{child, part}
-use Rattle.fx_zip.specs.Spots.{grown, Leads, entered, kept_too}
+use Rattle.fx_zip.specs.Spots.{grown, Leads, entered}
 use Rattle.fx_zip.specs.Trees.{ZipTree, path_of, is_settled, IsSettled, here}
 
 module _ (known own : Known) (root : SpecTree) where

@@ -1,6 +1,5 @@
 -- Calls that consult nothing, and what follows from a rule that was followed.
-use Rattle.std.proofs.Common.{◌≡◌, ℕ, ◌+◌, ◌≤◌, List, ◌∷◌, Option, Some, None, Result, Ok, Err, refl, sym, ap, ◌∙◌, subst, arith}
-use Rattle.std.specs.Prelude.{IfOk}
+use Rattle.std.proofs.Common.{◌≡◌, ℕ, ◌≤◌, List, ◌∷◌, Option, Some, Result, Ok, Err, ap, ◌∙◌, arith}
 use Rattle.fx_store.specs.Rule.{Known, Ask, Answer, Look, Tick, Found, follow, ticks, changed, ◌>>=◌}
 use Rattle.fx_store.specs.Whole.{Store}
 use Rattle.fx_spec.specs.Move.{Answered}
@@ -16,13 +15,12 @@ use Rattle.fx_view.proofs.Calls.{went_by, follows_stop, follows_then_answer}
 use Rattle.fx_view.proofs.Going.{Went-none, Went-grows}
 use Rattle.fx_view.proofs.Growing.{Grows}
 use Rattle.fx_rules.specs.declared.halt.Halt.{Halt}
-use Rattle.fx_rules.specs.declared.halt.Halt.TheVariants as halt
 use Rattle.fx_rules.specs.Answering.{answered}
 use Rattle.fx_rules.specs.Halts.{split}
 use Rattle.fx_zip.specs.declared.frame.Entry.{Entry}
 use Rattle.fx_zip.specs.declared.frame.Spot.{Spot}
 use Rattle.fx_zip.specs.Calls.{SaysFound}
-use Rattle.fx_zip.specs.Spots.{Leads, LeadsTo, LeadsAt, Enters, EntersAt}
+use Rattle.fx_zip.specs.Spots.{LeadsTo, LeadsAt, Enters, EntersAt}
 use Rattle.fx_zip.specs.Steps.{step_tree}
 use Rattle.fx_zip.specs.Telling.{told, costs, Says, Tells}
 

@@ -1,5 +1,5 @@
 -- What the calls of a zipper say.
-use Rattle.std.specs.Prelude.{◌≡◌, ℕ, ◌+◌, ◌≤◌, Bool, true, false, cond, List, [], ◌∷◌, ◌++◌, length, drop, Option, Some, None, is_some, Result, Ok, Err, IfOk}
+use Rattle.std.specs.Prelude.{◌≡◌, ℕ, ◌+◌, ◌≤◌, Bool, true, false, cond, List, ◌∷◌, ◌++◌, length, drop, Option, Some, None, is_some, Result, Ok, Err, IfOk}
 use Rattle.fx_store.specs.Rule.{Known, Ask, Answer, ◌>>=◌, Found, follow, answer, ticks, changed}
 use Rattle.fx_store.specs.Whole.{Store}
 use Rattle.fx_spec.specs.declared.refusal.Refusal.{Refusal}
@@ -8,7 +8,7 @@ use Rattle.fx_spec.specs.Describe.{Bindings, value}
 use Rattle.fx_spec.specs.Evals.{evals_with}
 use Rattle.fx_expr.specs.Sets.{least_above, greatest_below}
 use Rattle.fx_spec.specs.Move.{Answered, needed, at_place, another}
-use Rattle.fx_spec.specs.Place.{Step, First, Second, Elem, Address, PlaceTree, placed, place}
+use Rattle.fx_spec.specs.Place.{First, Second, Elem, Address, PlaceTree, placed, place}
 use Rattle.fx_spec.specs.SpecTree.{SpecTree}
 use Rattle.fx_view.specs.declared.reader.Stop.{Stop}
 use Rattle.fx_view.specs.declared.reader.Stop.TheVariants as stop

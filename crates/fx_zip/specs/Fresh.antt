@@ -3,7 +3,7 @@ use Rattle.std.specs.Prelude.{◌≡◌, ℕ, ◌-◌, Bool, true, false, cond, 
 use Rattle.fx_store.specs.Rule.{Known, Found, follow}
 use Rattle.fx_expr.specs.Eval.{Outcome, eval_of}
 use Rattle.fx_spec.specs.Describe.{Bindings}
-use Rattle.fx_spec.specs.Place.{Step, First, Second, Inside, Down, Elem, Address, placed, lead}
+use Rattle.fx_spec.specs.Place.{Step, First, Second, Elem, Address, placed, lead}
 use Rattle.fx_spec.specs.SpecTree.{SpecTree}
 use Rattle.fx_zip.specs.declared.frame.Frame.{Frame}
 use Rattle.fx_zip.specs.Parts.{child, part}

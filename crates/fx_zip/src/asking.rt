@@ -106,7 +106,16 @@ impl Zip {
     {
         let path = last_path(&self.top, self.frames.as_slice());
         let spec = part(self.base.description.spec(), self.steps.as_slice());
-        fetch_at(alloc, reader, overlay, path, &mut self.env, spec, shape, steps)
+        fetch_at(
+            alloc,
+            reader,
+            overlay,
+            path,
+            &mut self.env,
+            spec,
+            shape,
+            steps,
+        )
     }
 
     /// The same, of a zipper that stands.
@@ -127,7 +136,16 @@ impl Zip {
     {
         let path = last_path(&self.top, self.frames.as_slice());
         let spec = part(self.base.description.spec(), self.steps.as_slice());
-        whole_at(alloc, reader, overlay, path, &mut self.env, spec, shape, steps)
+        whole_at(
+            alloc,
+            reader,
+            overlay,
+            path,
+            &mut self.env,
+            spec,
+            shape,
+            steps,
+        )
     }
 
     /// The same, of a zipper that stands.

@@ -1,4 +1,4 @@
-use Rattle.std.proofs.Common.{◌≡◌, Some, None, Ok, Err, refl, subst}
+use Rattle.std.proofs.Common.{Some, None, Ok, Err, refl, subst}
 use Rattle.std.specs.Option.{option_map}
 use Rattle.fx_store.specs.Rule.{Answer}
 use Rattle.fx_expr.specs.Views.{tree_of}

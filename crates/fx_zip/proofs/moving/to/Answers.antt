@@ -1,10 +1,9 @@
-use Rattle.std.proofs.Common.{◌≡◌, Ok, refl, ap, sym, ◌∙◌}
+use Rattle.std.proofs.Common.{◌≡◌, Ok, ap, ◌∙◌}
 use Rattle.std.specs.Option.{option_copied}
 use Rattle.fx_expr.specs.Eval.{eval_of}
 use Rattle.fx_expr.specs.Sets.{has_text}
 use Rattle.fx_expr.specs.Views.{expr_tree}
 use Rattle.fx_spec.specs.Move.{go_to, this_if}
-use Rattle.fx_spec.specs.SpecTree.{SpecTree}
 use Rattle.fx_spec.specs.Views.{spec_tree}
 use Rattle.fx_zip.specs.Telling.{set_answer}
 use Rattle.fx_zip.proofs.Consulting.{has_asked}

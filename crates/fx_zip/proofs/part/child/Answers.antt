@@ -1,12 +1,3 @@
-use Rattle.fx_zip.proofs.Turning.{same_ends}
-use Rattle.fx_zip.proofs.Standing.{fresh_left}
-use Rattle.fx_zip.proofs.Settled.{settles_on}
-use Rattle.fx_zip.proofs.Telling.{enters_of}
-use Rattle.fx_zip.proofs.Leads.{element_leads}
-use Rattle.fx_zip.proofs.Entering.{leads_at}
-use Rattle.fx_zip.proofs.Places.{no_entry}
-use Rattle.fx_zip.proofs.Beside.{second_stop}
-use Rattle.fx_zip.proofs.Finding.{found_stop}
 use Rattle.std.proofs.Common.{sym, ap, ◌∙◌}
 use Rattle.fx_spec.specs.Views.{spec_tree}
 use Rattle.fx_zip.specs.Parts as parts

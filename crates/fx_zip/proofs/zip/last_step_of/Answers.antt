@@ -1,10 +1,7 @@
-use Rattle.std.proofs.Common.{◌≡◌, ◌++◌, ◌∷◌, [], Some, nat_eq, option_map, sym, ap, ◌∙◌, subst, drop, length, arith, rules}
-use Rattle.std.specs.Option.{option_copied}
-use Rattle.fx_zip.specs.Fresh.{around_last, last_step, last_set}
+use Rattle.std.proofs.Common.{sym, ap, ◌∙◌}
+use Rattle.fx_zip.specs.Fresh.{last_step}
 use Rattle.fx_zip.specs.Steps.{step_tree, turned}
-use Rattle.fx_zip.specs.Trees.{path_of}
-use Rattle.fx_zip.proofs.Turning.{turned-last, length-turned, popped}
-use Rattle.fx_zip.proofs.Standing.{fresh_none}
+use Rattle.fx_zip.proofs.Turning.{turned-last}
 use Rattle.fx_zip.proofs.zip.last_step_of.Goals as goal
 
 pub returns-in-Some : goal.returns-in-Some

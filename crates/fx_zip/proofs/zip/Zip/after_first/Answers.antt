@@ -1,6 +1,5 @@
-use Rattle.std.proofs.Common.{◌≡◌, ℕ, List, [], Ok, Some, None, sym, ap, ◌∙◌, subst, drop, rules}
+use Rattle.std.proofs.Common.{◌≡◌, List, [], sym, ap, ◌∙◌, subst, drop, rules}
 use Rattle.fx_spec.specs.Describe.{Bindings}
-use Rattle.fx_spec.specs.SpecTree.{SpecTree}
 use Rattle.fx_spec.specs.Views.{spec_tree}
 use Rattle.fx_spec.specs.WellShaped.{IsDescription}
 use Rattle.fx_view.specs.Own.{own_at}
@@ -11,8 +10,7 @@ use Rattle.fx_zip.specs.Parts.{part}
 use Rattle.fx_zip.specs.Steps.{step_tree, turned}
 use Rattle.fx_zip.specs.Trees.{ZipTree, path_of}
 use Rattle.fx_zip.specs.View.{zip_tree}
-use Rattle.fx_zip.proofs.Around.{no_pair_around, first_scope, first_leads_on, to_second_on, to_second_memory, to_second_none, to_second_stop, moved_next, moved_greater, moved_first, moved_smaller, first_of_true, second_of_true}
-use Rattle.fx_zip.proofs.Places.{moves_unfound}
+use Rattle.fx_zip.proofs.Around.{no_pair_around, first_scope, first_leads_on}
 use Rattle.fx_zip.proofs.zip.Zip.after_first.Goals as goal
 
 pub after_first-requires : goal.after_first-requires

@@ -1,4 +1,4 @@
-use Rattle.std.proofs.Common.{[], ap, subst, sym}
+use Rattle.std.proofs.Common.{[], subst}
 use Rattle.std.proofs.lemmas.Result.{IfOk-from_err}
 use Rattle.fx_expr.specs.Shapes.{ValueHas}
 use Rattle.fx_expr.specs.Views.{shape_tree, tree_of}

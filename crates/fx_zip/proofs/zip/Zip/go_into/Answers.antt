@@ -6,7 +6,6 @@ use Rattle.fx_view.specs.Own.{own_at}
 use Rattle.fx_view.specs.Reads.{known_of}
 use Rattle.fx_zip.specs.Calls.{place_evals}
 use Rattle.fx_zip.proofs.Places.{moves_unfound, here_scope, enters_here, moved_in, moved_memory, moved_not}
-use Rattle.fx_zip.proofs.Telling.{enters_of}
 use Rattle.fx_zip.proofs.zip.Zip.go_into.Goals as goal
 
 pub returns-in_err-find : goal.returns-in_err-find

@@ -1,17 +1,7 @@
-use Rattle.std.proofs.Common.{◌≡◌, ℕ, List, [], Ok, Some, None, sym, ap, ◌∙◌, subst, drop, rules}
-use Rattle.fx_spec.specs.Describe.{Bindings}
-use Rattle.fx_spec.specs.SpecTree.{SpecTree}
-use Rattle.fx_spec.specs.Views.{spec_tree}
-use Rattle.fx_spec.specs.WellShaped.{IsDescription}
+use Rattle.std.proofs.Common.{sym, ◌∙◌}
 use Rattle.fx_view.specs.Own.{own_at}
 use Rattle.fx_view.specs.Reads.{known_of}
-use Rattle.fx_zip.specs.declared.frame.Frame.{Frame}
-use Rattle.fx_zip.specs.declared.step.Step.{Step}
-use Rattle.fx_zip.specs.Parts.{part}
-use Rattle.fx_zip.specs.Steps.{step_tree, turned}
-use Rattle.fx_zip.specs.Trees.{ZipTree, path_of}
-use Rattle.fx_zip.specs.View.{zip_tree}
-use Rattle.fx_zip.proofs.Around.{no_pair_around, first_scope, first_leads_on, to_second_on, to_second_memory, to_second_none, to_second_stop, moved_next, moved_greater, moved_first, moved_smaller, first_of_true, second_of_true}
+use Rattle.fx_zip.proofs.Around.{moved_next, moved_greater, first_of_true}
 use Rattle.fx_zip.proofs.Places.{moves_unfound}
 use Rattle.fx_zip.proofs.zip.Zip.go_next.Goals as goal
 use Rattle.fx_spec.specs.Move.{go_next}

@@ -1,6 +1,5 @@
-use Rattle.std.proofs.Common.{◌≡◌, ◌<◌, ℕ, List, length, take, [], subst, ap, ◌∙◌, sym, arith, rules, length-take}
+use Rattle.std.proofs.Common.{◌≡◌, List, length, take, [], subst, ap, ◌∙◌, sym, arith, rules, length-take}
 use Rattle.fx_spec.specs.Describe.{Bindings}
-use Rattle.fx_spec.specs.SpecTree.{SpecTree}
 use Rattle.fx_spec.specs.Views.{spec_tree}
 use Rattle.fx_spec.specs.WellShaped.{IsDescription}
 use Rattle.fx_view.specs.Own.{own_at}
