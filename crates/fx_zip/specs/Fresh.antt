@@ -54,6 +54,10 @@ around_last (step ∷ above) env = around step env
 abbrev pub unframed : ZipTree → ZipTree
 unframed z = record { root = z.root; address = z.address; frames = drop 1 z.frames; env = around_last z.address z.env }
 
+-- without any frame
+abbrev pub unkept : ZipTree → ZipTree
+unkept z = record { root = z.root; address = z.address; frames = []; env = [] }
+
 -- back by one step
 abbrev pub left : ZipTree → ZipTree
 left z =

@@ -4,7 +4,7 @@ ghost use Rattle.std.specs.Option.{option_map};
 ghost use Rattle.fx_spec.specs.Views.{spec_tree};
 ghost use Rattle.fx_spec.specs.WellShaped.{IsDescription};
 ghost use Rattle.fx_walk.specs.Places.{place_tree};
-ghost use Rattle.fx_zip.specs.Fresh.{around, around_last, left, unframed, last_step, last_set};
+ghost use Rattle.fx_zip.specs.Fresh.{around, around_last, left, unframed, unkept, last_step, last_set};
 ghost use Rattle.fx_zip.specs.Parts as parts;
 ghost use Rattle.fx_zip.specs.Spots.{entered, kept_too, grown};
 ghost use Rattle.fx_zip.specs.Steps.{step_tree, turned};
@@ -81,9 +81,8 @@ impl Zip {
         ensures address { self.new.address ≡ [] }
         ensures fresh { (known own : Known) → IsFresh known own self.new }
     {
+        self.forget();
         self.steps.truncate(0);
-        self.frames.truncate(0);
-        self.env.cut(0);
     }
 
     /// Forgets all frames, after own changes. It takes no memory.
@@ -92,8 +91,7 @@ impl Zip {
         ensures address { self.new.address ≡ self.old.address }
         ensures fresh { (known own : Known) → IsFresh known own self.new }
     {
-        self.frames.truncate(0);
-        self.env.cut(0);
+        self.forget();
     }
 
     /// Back from a part, an element or an entry.
@@ -236,6 +234,14 @@ impl Zip {
     {
         push_frame(&mut self.frames, spot.frame)?;
         bind(alloc, &mut self.env, spot.bound)
+    }
+
+    /// Drops all frames.
+    fn forget(&mut self)
+        ensures { self.new ≡ unkept self.old }
+    {
+        self.frames.truncate(0);
+        self.env.cut(0);
     }
 
     /// Takes off the last step, and its frame where it has one.
