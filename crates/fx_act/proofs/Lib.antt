@@ -1,0 +1,3 @@
+pub mod Going
+pub mod Taken
+pub mod Edited
