@@ -1,4 +1,4 @@
--- A course that was pursued, and its attempt.
+-- A transaction that was pursued, and its attempt.
 use Rattle.std.proofs.Common.{◌≡◌, ℕ, Bool, List, [], All, Contains, Option, Some, None, Result, Ok, Err, refl, ◌∙◌, sym, subst}
 use Rattle.std.specs.Prelude.{IfOk, IfErr}
 use Rattle.std.specs.Map.{keys_of}
@@ -7,7 +7,7 @@ use Rattle.fx_spec.specs.CommandTree.{CommandTree}
 use Rattle.fx_spec.specs.Plans.{txn_of}
 use Rattle.fx_spec.specs.Order.{BaseTree}
 use Rattle.fx_spec.specs.Transaction.{Flow, flow_outputs}
-use Rattle.fx_spec.specs.declared.refusal.Refusal.{Refusal}
+use Rattle.fx_spec.specs.declared.refusal.End.{End}
 use Rattle.fx_view.specs.declared.reader.Stop.{Stop}
 use Rattle.fx_view.specs.declared.reader.Stop.TheVariants as stop
 use Rattle.fx_view.specs.Meaning.{Meaning}
@@ -19,45 +19,45 @@ use Rattle.fx_view.proofs.Going.{Went-kept_on}
 use Rattle.fx_machine.specs.declared.attempt.Attempt.{Attempt}
 use Rattle.fx_machine.specs.Explained.{IsExplained}
 use Rattle.fx_run.specs.declared.finishing.Finished.{Finished}
-use Rattle.fx_run.specs.declared.pursuing.Course.{Course}
-use Rattle.fx_run.specs.declared.standing.Standing.{Standing}
-use Rattle.fx_run.specs.Course.{pursued, came_of}
+use Rattle.fx_obey.specs.declared.pursuing.Ran.{Ran}
+use Rattle.fx_obey.specs.declared.work.Work.{Work}
+use Rattle.fx_obey.specs.Course.{pursued, came_of}
+use Rattle.fx_obey.specs.Pursuing.{Came}
+use Rattle.fx_obey.specs.Works.{flow_by}
 use Rattle.fx_run.specs.Finishing.{KeepsAll, IsFinished, IsAttempt, Finishes}
-use Rattle.fx_run.specs.Pursuing.{Came}
 use Rattle.fx_run.specs.Running.{ReadsFit, Attempted, KeepsOn, StoppedAt}
-use Rattle.fx_run.specs.Standing.{flow_by}
 use Rattle.fx_run.proofs.Explaining.{explained, next_needed, unread_needed, fit_again}
 
-outputs_by : (i : ℕ) (s : Standing) (o : Option Refusal) → flow_outputs (flow_by i s o) ≡ s.outputs
-outputs_by i s None = refl
-outputs_by i s (Some refusal) = refl
+outputs_by : (w : Work) (o : Option End) → flow_outputs (flow_by w o) ≡ w.outputs
+outputs_by w None = refl
+outputs_by w (Some end) = refl
 
 module _ {R : Type 0} (m : Meaning R) (root : SpecTree) (t : List CommandTree) (shell txn : ℕ) (old mid : R) where
-  -- the reader keeps its reads while the course is finished, and gives them to the attempt
-  pub attempted : (kept new : R) (course : Course) (f : Finished) (a : Attempt) → a ≡ record { shell = shell; txn = txn; reads = m.reads mid; changes = f.changes; outputs = f.outputs; end = f.end }
-      → GoesBy m came_of no_own old mid (pursued root t) (Ok course) → AreRead course.standing.overlay (m.reads mid) → KeepsAll m mid kept → IsFinished course (m.reads mid) f
+  -- the reader keeps its reads while it is finished, and gives them to the attempt
+  pub attempted : (kept new : R) (ran : Ran) (f : Finished) (a : Attempt) → a ≡ record { shell = shell; txn = txn; reads = m.reads mid; changes = f.changes; outputs = f.outputs; end = f.end }
+      → GoesBy m came_of no_own old mid (pursued root t) (Ok ran) → AreRead ran.work.walk.overlay (m.reads mid) → KeepsAll m mid kept → IsFinished ran (m.reads mid) f
       → m.reads new ≡ [] → m.complete new ≡ m.complete kept → ((start : R) → m.vouches start kept (m.reads kept) → m.vouches start new (m.reads kept)) → IsAttempt m root t shell txn old new a
-  attempted kept new course f a is follows read keeps finished none same vouched =
+  attempted kept new ran f a is follows read keeps finished none same vouched =
       subst (IsAttempt m root t shell txn old new) (sym is) (record {
         whose = refl;
         number = refl;
-        came = came_of course;
+        came = came_of ran;
         found = follows.0;
         more = follows.1.more;
         kept = follows.1.kept;
         walked = follows.1.only;
         read = read;
         changes = finished.kept;
-        outputs = finished.outputs ∙ sym (outputs_by course.number course.standing course.refusal);
+        outputs = finished.outputs ∙ sym (outputs_by ran.work ran.over);
         end = finished.end;
         none = none;
         same = same ∙ (keeps.same ∙ follows.1.same);
         vouched = λ start v. subst (λ rs. m.vouches start new rs) keeps.kept (vouched start (keeps.vouched start (follows.1.vouched start v)));
       })
 
-  -- memory is refused while the course is finished
-  pub attempt_refused : (kept : R) (course : Course) → GoesBy m came_of no_own old mid (pursued root t) (Ok course) → KeepsAll m mid kept → GoesBy {A = Came Flow} {X = Course} m came_of no_own old kept (pursued root t) (Err stop.NoMemory)
-  attempt_refused kept course follows keeps =
+  -- memory is refused while it is finished
+  pub attempt_refused : (kept : R) (ran : Ran) → GoesBy m came_of no_own old mid (pursued root t) (Ok ran) → KeepsAll m mid kept → GoesBy {A = Came Flow} {X = Ran} m came_of no_own old kept (pursued root t) (Err stop.NoMemory)
+  attempt_refused kept ran follows keeps =
       subst (λ rs. Went m old kept (walked (known_of rs) no_own (pursued root t))) (sym keeps.kept)
       (Went-kept_on m old mid kept (walked (known_of (m.reads mid)) no_own (pursued root t)) keeps.kept keeps.same keeps.vouched follows.1)
 

@@ -1,13 +1,6 @@
-pub mod Pursuits
 pub mod Ways
 pub mod Stable
 pub mod Explaining
-pub mod Makings
-pub mod Places
-pub mod Steps
-pub mod Awaiting
-pub mod Stepping
-pub mod Loops
 pub mod Copies
 pub mod Planned
 pub mod Attempts

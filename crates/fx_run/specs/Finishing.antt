@@ -1,4 +1,4 @@
--- What a course comes to as an attempt.
+-- What a transaction comes to as an attempt.
 use Rattle.std.specs.Prelude.{◌≡◌, ◌⊎◌, ℕ, Bool, List, [], ◌++◌, All, Contains, Option, Some, Result, Ok, Err}
 use Rattle.std.specs.Map.{keys_of}
 use Rattle.fx_store.specs.Rule.{follow, Found}
@@ -15,10 +15,11 @@ use Rattle.fx_view.specs.Own.{AreRead, no_own}
 use Rattle.fx_view.specs.Reads.{known_of, IsRead}
 use Rattle.fx_machine.specs.declared.attempt.Attempt.{Attempt}
 use Rattle.fx_run.specs.declared.finishing.Finished.{Finished}
-use Rattle.fx_run.specs.declared.pursuing.Course.{Course}
-use Rattle.fx_run.specs.Course.{KeptOf, end_of, pursued, came_of}
+use Rattle.fx_obey.specs.declared.pursuing.Ran.{Ran}
+use Rattle.fx_obey.specs.Course.{pursued, came_of}
+use Rattle.fx_obey.specs.Pursuing.{Came}
+use Rattle.fx_run.specs.Course.{KeptOf, end_of}
 use Rattle.fx_run.specs.Keeping.{AreKept}
-use Rattle.fx_run.specs.Pursuing.{Came}
 
 -- at each own path the copied reads are what was read there
 pub record IsCopy (own : OwnList) (reads copied : ReadList) : Type 0 where
@@ -37,11 +38,11 @@ pub record KeepsAll {R : Type 0} (m : Meaning R) (old new : R) : Type 0 where
   pub same : m.complete new ≡ m.complete old
   pub vouched : (start : R) → m.vouches start old (m.reads old) → m.vouches start new (m.reads new)
 
--- the changes that the course keeps, its outputs and its end
-pub record IsFinished (c : Course) (reads : ReadList) (f : Finished) : Type 0 where
-  pub kept : KeptOf c reads f.changes
-  pub outputs : f.outputs ≡ c.standing.outputs
-  pub end : f.end ≡ end_of c
+-- the changes that the transaction keeps, its outputs and its end
+pub record IsFinished (r : Ran) (reads : ReadList) (f : Finished) : Type 0 where
+  pub kept : KeptOf r reads f.changes
+  pub outputs : f.outputs ≡ r.work.outputs
+  pub end : f.end ≡ end_of r
 
 -- the attempt holds the reads at the end, which are those of before and some that were walked; its own changes were read
 pub record IsAttempt {R : Type 0} (m : Meaning R) (root : SpecTree) (t : List CommandTree) (shell txn : ℕ) (old new : R) (a : Attempt) : Type 0 where
@@ -63,4 +64,4 @@ pub record IsAttempt {R : Type 0} (m : Meaning R) (root : SpecTree) (t : List Co
 -- the transaction was pursued to an attempt, or up to a stop
 abbrev pub Finishes : {R : Type 0} → Meaning R → SpecTree → List CommandTree → ℕ → ℕ → R → R → Result Attempt Stop → Type 0
 Finishes m root t shell txn old new (Ok a) = IsAttempt m root t shell txn old new a
-Finishes m root t shell txn old new (Err why) = GoesBy {A = Came Flow} {X = Course} m came_of no_own old new (pursued root t) (Err why)
+Finishes m root t shell txn old new (Err why) = GoesBy {A = Came Flow} {X = Ran} m came_of no_own old new (pursued root t) (Err why)

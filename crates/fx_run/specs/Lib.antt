@@ -1,9 +1,4 @@
-pub mod Pursuing
 pub mod Keeping
-pub mod Answering
-pub mod Making
-pub mod Standing
-pub mod Rules
 pub mod Course
 pub mod Finishing
 pub mod Running

@@ -1,14 +1,17 @@
-//! What a course comes to: its changes, outputs and end.
+//! What a transaction comes to: its changes, outputs and end.
 ghost use Rattle.std.specs.Prelude.{◌≡◌, IfOk};
+ghost use Rattle.std.specs.Option.{unwrap_or};
 ghost use Rattle.fx_store.specs.Changes.{IsChanges};
 ghost use Rattle.fx_view.specs.Own.{AreRead, IsNet};
 ghost use Rattle.fx_view.specs.Reads.{known_of, IsRead};
+ghost use Rattle.fx_spec.specs.declared.refusal.End.TheVariants.{Done};
+ghost use Rattle.fx_run.specs.Keeping.{AreKept};
 ghost use Rattle.fx_run.specs.Finishing.{IsCopy, IsFinished, Keeps, KeepsAll};
 
-use crate::pursuing::Course;
-use crate::standing::Standing;
+use fx_act::Walk;
 use fx_base::NoMemory;
 use fx_expr::Values;
+use fx_obey::{Ran, Work};
 use fx_spec::End;
 use fx_store::{Changes, Node, Path};
 use fx_view::{Overlay, Reader, Reads, Stop};
@@ -71,7 +74,7 @@ fn copied<R: Reader>(alloc: Global, reader: &mut R, overlay: &Overlay) -> Result
     Ok(kept)
 }
 
-/// Finishes a course that was not refused.
+/// The changes of a transaction that is done: what its own ones set that was not there.
 fn done<R: Reader>(alloc: Global, reader: &mut R, overlay: Overlay) -> Result<Changes, NoMemory>
     requires { AreRead overlay (R.meaning.reads reader.old) }
     ensures kept { KeepsAll R.meaning reader.old reader.new }
@@ -85,42 +88,49 @@ fn done<R: Reader>(alloc: Global, reader: &mut R, overlay: Overlay) -> Result<Ch
     Ok(changes)
 }
 
-/// Finishes a course: the reader keeps its reads.
-pub(crate) fn finish<R: Reader>(
+/// The changes that a transaction keeps: none, unless it is done.
+fn changes_of<R: Reader>(
     alloc: Global,
     reader: &mut R,
-    course: Course,
-) -> Result<Finished, NoMemory>
-    requires { AreRead course.standing.overlay (R.meaning.reads reader.old) }
+    end: &End,
+    overlay: Overlay,
+) -> Result<Changes, NoMemory>
+    requires { AreRead overlay (R.meaning.reads reader.old) }
     ensures kept { KeepsAll R.meaning reader.old reader.new }
-    ensures finished { IfOk result (IsFinished course (R.meaning.reads reader.old)) }
+    ensures changes { IfOk result (AreKept end.now overlay (R.meaning.reads reader.old)) }
 {
-    let Course {
-        standing,
-        number,
-        refusal,
-    } = course;
-    let Standing {
-        overlay,
-        outputs,
-        ..
-    } = standing;
-    match refusal {
-        None => match done(alloc, reader, overlay) {
-            Ok(changes) => Ok(Finished {
-                changes,
-                outputs,
-                end: End::Done,
-            }),
-            Err(NoMemory) => Err(NoMemory),
-        },
-        Some(refusal) => Ok(Finished {
-            changes: Changes::new(alloc),
+    match end {
+        End::Done => done(alloc, reader, overlay),
+        End::Stopped { .. } => Ok(Changes::new(alloc)),
+        End::Aborted => Ok(Changes::new(alloc)),
+    }
+}
+
+fn end_of(over: Option<End>) -> End
+    ensures { result ≡ unwrap_or over Done }
+{
+    match over {
+        Some(end) => end,
+        None => End::Done,
+    }
+}
+
+/// Finishes a transaction that has come to its end: the reader keeps its reads.
+pub(crate) fn finish<R: Reader>(alloc: Global, reader: &mut R, ran: Ran) -> Result<Finished, NoMemory>
+    requires { AreRead ran.work.walk.overlay (R.meaning.reads reader.old) }
+    ensures kept { KeepsAll R.meaning reader.old reader.new }
+    ensures finished { IfOk result (IsFinished ran (R.meaning.reads reader.old)) }
+{
+    let Ran { work, over } = ran;
+    let Work { walk, outputs, .. } = work;
+    let Walk { overlay, .. } = walk;
+    let end = end_of(over);
+    match changes_of(alloc, reader, &end, overlay) {
+        Ok(changes) => Ok(Finished {
+            changes,
             outputs,
-            end: End::Stopped {
-                command: number,
-                refusal,
-            },
+            end,
         }),
+        Err(NoMemory) => Err(NoMemory),
     }
 }

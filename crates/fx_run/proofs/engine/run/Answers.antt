@@ -1,19 +1,16 @@
-use Rattle.std.proofs.Common.{◌≡◌, Some, ap, subst, ◌∙◌}
+use Rattle.std.proofs.Common.{◌≡◌, Some, subst}
 use Rattle.fx_spec.specs.declared.base.Base.{Base}
 use Rattle.fx_spec.specs.Plans.{txn_of}
 use Rattle.fx_spec.specs.Bases.{base_tree}
-use Rattle.fx_run.specs.Finishing.{Finishes}
 use Rattle.fx_run.proofs.Attempts.{run_explained, run_stopped}
 use Rattle.fx_run.proofs.engine.run.Goals as goal
 
 pub returns-clause-explained : goal.returns-clause-explained
 returns-clause-explained g c =
     let r = g.R.Reader in
-    run_explained r.meaning (base_tree c.args.base.now.value) c.args.shell c.args.txn c.commands_of-commands.result.now (subst (λ (b : Base). txn_of b.plan (c.args.shell, c.args.txn) ≡ Some c.commands_of-commands.result.now) c.deref.ensures c.commands_of-commands.ensures.txn) c.args.reader.now c.attempt.new.reader c.requires.fit c.attempt.result
-    (subst (λ root. Finishes r.meaning root c.commands_of-commands.result.now c.args.shell c.args.txn c.args.reader.now c.attempt.new.reader c.attempt.result) (c.spec.ensures.tree ∙ ap (λ (b : Base). b.description) c.deref-2.ensures) c.attempt.ensures)
+    run_explained r.meaning (base_tree c.args.base.now.value) c.args.shell c.args.txn c.commands_of-commands.result.now (subst (λ (b : Base). txn_of b.plan (c.args.shell, c.args.txn) ≡ Some c.commands_of-commands.result.now) c.deref.ensures c.commands_of-commands.ensures.txn) c.args.reader.now c.attempt.new.reader c.requires.fit c.attempt.result c.attempt.ensures
 
 pub returns-clause-stopped : goal.returns-clause-stopped
 returns-clause-stopped g c =
     let r = g.R.Reader in
-    run_stopped r.meaning (base_tree c.args.base.now.value) c.args.shell c.args.txn c.commands_of-commands.result.now (subst (λ (b : Base). txn_of b.plan (c.args.shell, c.args.txn) ≡ Some c.commands_of-commands.result.now) c.deref.ensures c.commands_of-commands.ensures.txn) c.args.reader.now c.attempt.new.reader c.requires.fit c.attempt.result
-    (subst (λ root. Finishes r.meaning root c.commands_of-commands.result.now c.args.shell c.args.txn c.args.reader.now c.attempt.new.reader c.attempt.result) (c.spec.ensures.tree ∙ ap (λ (b : Base). b.description) c.deref-2.ensures) c.attempt.ensures)
+    run_stopped r.meaning (base_tree c.args.base.now.value) c.args.shell c.args.txn c.commands_of-commands.result.now (subst (λ (b : Base). txn_of b.plan (c.args.shell, c.args.txn) ≡ Some c.commands_of-commands.result.now) c.deref.ensures c.commands_of-commands.ensures.txn) c.args.reader.now c.attempt.new.reader c.requires.fit c.attempt.result c.attempt.ensures

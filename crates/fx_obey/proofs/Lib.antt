@@ -1,0 +1,10 @@
+pub mod Counts
+pub mod Pursuits
+pub mod Obeyed
+pub mod Asked
+pub mod Quiet
+pub mod Scoped
+pub mod Cycles
+pub mod Written
+pub mod Choices
+pub mod Starts
