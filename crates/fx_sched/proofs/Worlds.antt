@@ -11,7 +11,6 @@ use Rattle.fx_spec.specs.CommandTree.{CommandTree}
 use Rattle.fx_spec.specs.Plans.{Turn, txn_of, script_of, count_of}
 use Rattle.fx_spec.specs.Order.{BaseTree, numbers_of}
 use Rattle.fx_spec.proofs.Orders.{numbers_own, numbers_other}
-use Rattle.fx_forms.specs.Built.{is_built_spec, is_built_plan}
 use Rattle.fx_view.specs.ReadList.{ReadList}
 use Rattle.fx_machine.specs.declared.event.Event.{Event}
 use Rattle.fx_machine.specs.declared.event.Event.TheVariants as event
@@ -201,8 +200,6 @@ moved_world base old new shells number s e t over at left m =
     record {
       same = over.same ∙ sym k.base;
       world = record {
-        spec = subst (λ (b : BaseTree). is_built_spec b.description ≡ true) (sym k.base) w.spec;
-        plan = subst (λ (b : BaseTree). is_built_plan b.plan ≡ true) (sym k.base) w.plan;
         count = length-set shells number t ∙ w.count ∙ ap (λ (b : BaseTree). length b.plan) (sym k.base);
         each = k.each;
         reached = subst (λ b. IsReached b (machine_of new.order (set shells number t))) (sym k.base) (record {
@@ -226,10 +223,8 @@ new_each (suc n) (suc k) s e = new_each n k s e
 pub started_machine : (base : BaseTree) → machine_of [] (replicate (length base.plan) new_shell) ≡ resting base []
 started_machine base = let with_looks : List (List Look) → Machine = λ ls. record { order = []; looks = ls } in ap with_looks (started_looks (length base.plan))
 
-pub started_world : (base : BaseTree) → is_built_spec base.description ≡ true → is_built_plan base.plan ≡ true → IsWorld (started base) (replicate (length base.plan) new_shell)
-started_world base spec plan = record {
-  spec = spec;
-  plan = plan;
+pub started_world : (base : BaseTree) → IsWorld (started base) (replicate (length base.plan) new_shell)
+started_world base = record {
   count = length-replicate (length base.plan) new_shell;
   each = λ k s e. subst (IsShell (started base) k) (sym (new_each (length base.plan) k s e)) (fresh_shell (started base) k 0 refl);
   reached = record { events = []; run = sym (started_machine base) };
@@ -262,15 +257,15 @@ lowers base old new shells shells' number e over l =
 
 -- ---- the start of a run
 
-pub started_over : (base clone read : Base) (log : Log) (shells : List Shell) (count : ℕ) → is_built_spec base.description ≡ true → is_built_plan base.plan ≡ true → log ≡ started (base_tree clone) → clone ≡ base → shells ≡ replicate count new_shell → count ≡ length read.plan → read ≡ base → IsWorldOver base log shells × (running_of log shells ≡ began (base_tree base))
-started_over base clone read log shells count spec plan l c s n r =
+pub started_over : (base clone read : Base) (log : Log) (shells : List Shell) (count : ℕ) → log ≡ started (base_tree clone) → clone ≡ base → shells ≡ replicate count new_shell → count ≡ length read.plan → read ≡ base → IsWorldOver base log shells × (running_of log shells ≡ began (base_tree base))
+started_over base clone read log shells count l c s n r =
     let log_is : log ≡ started (base_tree base) = l ∙ ap (λ (b : Base). started (base_tree b)) c in
     let count_of : count ≡ length base.plan = n ∙ ap (λ (b : Base). length b.plan) r in
     let shells_are : shells ≡ replicate (length base.plan) new_shell = s ∙ ap (λ n. replicate n new_shell) count_of in
     let with_machine : Machine → Running = λ m. record { base = base_tree base; machine = m } in (
       record {
         same = sym (ap (λ (l : Log). l.base) log_is);
-        world = subst (λ log. IsWorld log shells) (sym log_is) (subst (IsWorld (started (base_tree base))) (sym shells_are) (started_world (base_tree base) spec plan));
+        world = subst (λ log. IsWorld log shells) (sym log_is) (subst (IsWorld (started (base_tree base))) (sym shells_are) (started_world (base_tree base)));
       },
       ap (λ log. running_of log shells) log_is ∙ ap (running_of (started (base_tree base))) shells_are ∙ ap with_machine (started_machine (base_tree base)),
     )

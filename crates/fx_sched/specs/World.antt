@@ -6,7 +6,6 @@ use Rattle.fx_spec.specs.Bases.{base_tree}
 use Rattle.fx_spec.specs.Order.{BaseTree}
 use Rattle.fx_view.specs.ReadList.{ReadList}
 use Rattle.fx_view.specs.Reads.{IsReads}
-use Rattle.fx_forms.specs.Built.{is_built_spec, is_built_plan}
 use Rattle.fx_machine.specs.declared.event.Event.{Event}
 use Rattle.fx_machine.specs.Laws.{IsReached}
 use Rattle.fx_machine.specs.Machine.{Machine, Look, Step, resting, next_number, next_txn, shell_of}
@@ -35,8 +34,6 @@ pub record IsShell (log : Log) (number : ℕ) (s : Shell) : Type 0 where
   pub fit : ReadsFit log.base (number, s.next) s.reads
 
 pub record IsWorld (log : Log) (shells : List Shell) : Type 0 where
-  pub spec : is_built_spec log.base.description ≡ true
-  pub plan : is_built_plan log.base.plan ≡ true
   pub count : length shells ≡ length log.base.plan
   pub each : (number : ℕ) (s : Shell) → slice_get shells number ≡ Some s → IsShell log number s
   pub reached : IsReached log.base (machine_of log.order shells)

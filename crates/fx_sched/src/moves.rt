@@ -3,7 +3,6 @@ ghost use Rattle.std.specs.Prelude.{◌≡◌, ◌<◌, ◌+◌, ◌^◌, true, 
 ghost use Rattle.fx_spec.specs.Bases.{base_tree};
 ghost use Rattle.fx_spec.specs.Plans.{txn_of};
 ghost use Rattle.fx_view.specs.Reads.{read_at};
-ghost use Rattle.fx_forms.specs.Built.{is_built_spec, is_built_plan};
 ghost use Rattle.fx_machine.specs.Explained.{IsExplained};
 ghost use Rattle.fx_machine.specs.Machine.{next_number};
 ghost use Rattle.fx_machine.specs.Passes.{AreTrueReads};
@@ -29,8 +28,6 @@ pub(crate) fn advance(
     number: u32,
     shell: Shell,
 ) -> Result<(Shell, Event), Shell>
-    requires spec { is_built_spec base.now.value.description ≡ true }
-    requires plan { is_built_plan base.now.value.plan ≡ true }
     requires base { base_tree base.now.value ≡ board.old.base }
     requires shell { IsShell board.old number shell }
     requires left { IsSome (txn_of board.old.base.plan (number, shell.next)) }

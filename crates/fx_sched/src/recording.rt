@@ -2,7 +2,6 @@
 ghost use Rattle.std.specs.Prelude.{◌≡◌, ◌<◌, ◌++◌, ◌∷◌, true, All, IfOk, [], length};
 ghost use Rattle.fx_spec.specs.Bases.{base_tree};
 ghost use Rattle.fx_spec.specs.Order.{first_numbers};
-ghost use Rattle.fx_forms.specs.Built.{is_built_spec, is_built_plan};
 ghost use Rattle.fx_machine.specs.Machine.{shell_of};
 ghost use Rattle.fx_sched.specs.Recorded.{lists_of, noted, joined, IsRecording, HadTurns, HadRounds};
 
@@ -29,8 +28,6 @@ pub(crate) struct Recording {
 
 /// Nothing has come yet.
 pub(crate) fn begin(alloc: Global, base: Arc<Base>) -> Result<Recording, NoMemory>
-    requires spec { is_built_spec base.value.description ≡ true }
-    requires plan { is_built_plan base.value.plan ≡ true }
     ensures base { IfOk result (λ r. r.world.base ≡ base_tree base.value) }
     ensures events { IfOk result (λ r. r.events ≡ []) }
     ensures recording { IfOk result IsRecording }

@@ -1,6 +1,5 @@
 ghost use Rattle.std.specs.Prelude.{◌≡◌, ◌<◌, true, All, IfOk, length};
 ghost use Rattle.fx_spec.specs.Bases.{base_tree};
-ghost use Rattle.fx_forms.specs.Built.{is_built_spec, is_built_plan};
 ghost use Rattle.fx_sched.specs.Recorded.{HasPlayed};
 ghost use Rattle.fx_sched.specs.Traced.{IsTraced, IsTraceOf};
 
@@ -21,8 +20,6 @@ pub struct Traced {
 
 /// A whole run as it was recorded.
 fn recorded(alloc: Global, base: Arc<Base>, schedule: &[u32]) -> Result<Recording, NoMemory>
-    requires spec { is_built_spec base.value.description ≡ true }
-    requires plan { is_built_plan base.value.plan ≡ true }
     requires shells { All (λ k. k < length base.value.plan) schedule.now }
     ensures { IfOk result (HasPlayed (base_tree base.value) schedule.now) }
 {
@@ -52,8 +49,6 @@ fn gathered(alloc: Global, recording: Recording) -> Result<Traced, NoMemory>
 /// Steps the shells of the schedule in order, and then all shells in rounds from 0 on, until none has a transaction left.
 /// Each number of the schedule needs to be below the number of scripts.
 pub fn run_schedule(alloc: Global, base: Arc<Base>, schedule: &[u32]) -> Result<Traced, NoMemory>
-    requires spec { is_built_spec base.value.description ≡ true }
-    requires plan { is_built_plan base.value.plan ≡ true }
     requires shells { All (λ k. k < length base.value.plan) schedule.now }
     ensures { IfOk result (IsTraced (base_tree base.value) schedule.now) }
 {

@@ -1,6 +1,5 @@
 ghost use Rattle.std.specs.Prelude.{◌≡◌, ℕ, ◌<◌, true, false, IfOk, IfSome, OnErr, length, replicate};
 ghost use Rattle.fx_spec.specs.Bases.{base_tree};
-ghost use Rattle.fx_forms.specs.Built.{is_built_spec, is_built_plan};
 ghost use Rattle.fx_machine.specs.Machine.{next_number};
 ghost use Rattle.fx_machine.specs.Measure.{measure, IsLower, has_left};
 ghost use Rattle.fx_sched.specs.Left.{SomeLeft};
@@ -49,8 +48,6 @@ impl Model for World {
 impl World {
     /// No entries, and no looks.
     pub fn new(alloc: Global, base: Arc<Base>) -> Result<World, NoMemory>
-        requires spec { is_built_spec base.value.description ≡ true }
-        requires plan { is_built_plan base.value.plan ≡ true }
         ensures { IfOk result (λ w. w ≡ began (base_tree base.value)) }
     {
         let shells = new_shells(alloc, base.plan.len())?;
