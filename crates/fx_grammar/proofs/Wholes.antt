@@ -14,14 +14,14 @@ not_empty : (x : Token) (more : List Token) → x ∷ more ≡ [] → ⊥
 not_empty x more e = cc
 
 module _ {Tree : Type 0} (g : Grammar Tree) (ts : List Token) where
-  misplaced_cut : (j k : ℕ) (p : IsMisplaced g ts j) (q : IsMisplaced g ts k) → Cut p.front p.rest q.front q.rest → j ≡ k
+  pub misplaced_cut : (j k : ℕ) (p : IsMisplaced g ts j) (q : IsMisplaced g ts k) → Cut p.front p.rest q.front q.rest → j ≡ k
   misplaced_cut j k p q (Before t m x b) =
       absurd (p.ends t (m ++ q.rest) x (begins_next g 1 ts p.front m t q.begins.tree q.begins.rest q.begins.right (q.begins.spelled ∙ ap (λ l. l ++ q.begins.rest) b)))
   misplaced_cut j k p q (Same a x) = p.place ∙ ap length x ∙ sym q.place
   misplaced_cut j k p q (Behind t m y a) =
       absurd (q.ends t (m ++ p.rest) y (begins_next g 1 ts q.front m t p.begins.tree p.begins.rest p.begins.right (p.begins.spelled ∙ ap (λ l. l ++ p.begins.rest) a)))
 
-  kinds_cut : (j k : ℕ) (p : IsMisplaced g ts j) (q : IsTooNested g 1 ts k) → Cut p.front p.rest q.front (q.x ∷ q.more) → ⊥
+  pub kinds_cut : (j k : ℕ) (p : IsMisplaced g ts j) (q : IsTooNested g 1 ts k) → Cut p.front p.rest q.front (q.x ∷ q.more) → ⊥
   kinds_cut j k p q (Before t m x b) =
       p.ends t (m ++ q.x ∷ q.more) x (begins_next g 1 ts p.front m t q.begins.tree (q.x ∷ q.begins.rest) q.begins.right (q.begins.spelled ∙ ap (λ l. l ++ q.x ∷ q.begins.rest) b))
   kinds_cut j k p q (Same a x) =

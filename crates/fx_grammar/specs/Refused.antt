@@ -48,5 +48,4 @@ module _ {Tree : Type 0} (g : Grammar Tree) where
   IsRefused text (fault.BadToken place) = (length text ≤ 65536) × IsBadAt text place
   IsRefused text (fault.Unexpected place) = GoesWrong IsMisplaced text place
   IsRefused text (fault.TooNested place) = GoesWrong (IsTooNested g 1) text place
-  IsRefused text (fault.NotBuilt place) = ⊥
   IsRefused text fault.NoMemory = Unit {0}

@@ -61,7 +61,7 @@ level (Expr d) = d
 level _ = 0
 
 abbrev pub table : Table Sym
-table = record { expand = expand; level = level }
+table = record { expand = expand; level = λ s x. level s }
 
 -- a kept word and what it begins
 pub head_word : (k : Keyword) → head_of (word k) ≡ keyword_head k

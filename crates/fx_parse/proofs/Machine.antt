@@ -5,10 +5,10 @@ use Rattle.std.proofs.lemmas.Bool.{ltb-true, ltb-false, leb-true, le-leb, and_fr
 use Rattle.fx_lex.specs.declared.token.Token.{Token}
 use Rattle.fx_parse.specs.Stuck.{Stuck, Unexpected, TooNested}
 
--- What a symbol of the stack becomes when it takes a token, and the level of the form that it begins.
+-- What a symbol of the stack becomes when it takes a token, and the level of the form that the token begins.
 pub record Table (Sym : Type 0) : Type 0 where
   pub expand : Sym → Token → Option (List Sym)
-  pub level : Sym → ℕ
+  pub level : Sym → Token → ℕ
 
 -- each level is at most a bound
 abbrev pub at_most : ℕ → List ℕ → Bool
@@ -28,7 +28,7 @@ module _ {Sym : Type 0} (m : Table Sym) where
   abbrev pub Runs : List Sym → List Token → List ℕ → List Sym → Type 0
   Runs stack [] levels end = (levels ≡ []) × (end ≡ stack)
   Runs [] (x ∷ ts) levels end = ⊥
-  Runs (s ∷ stack) (x ∷ ts) levels end = (more : List Sym) × (rest : List ℕ) × (m.expand s x ≡ Some more) × (levels ≡ m.level s ∷ rest) × Runs (more ++ stack) ts rest end
+  Runs (s ∷ stack) (x ∷ ts) levels end = (more : List Sym) × (rest : List ℕ) × (m.expand s x ≡ Some more) × (levels ≡ m.level s x ∷ rest) × Runs (more ++ stack) ts rest end
 
   -- one run after another
   pub run_on : (a : List Token) (stack middle end : List Sym) (b : List Token) (k l : List ℕ) → Runs stack a k middle → Runs middle b l end → Runs stack (a ++ b) (k ++ l) end
@@ -71,7 +71,7 @@ module _ {Sym : Type 0} (m : Table Sym) where
       let both : Some p.0 ≡ Some q.0 = sym p.2 ∙ q.2 in
       let same : p.0 ≡ q.0 = cc in
       let rest = same_levels ts (p.0 ++ stack) E F p.1 q.1 p.4 (subst (λ z. Runs (z ++ stack) ts q.1 F) (sym same) q.4) in
-      p.3 ∙ ap (λ n. m.level s ∷ n) rest ∙ sym q.3
+      p.3 ∙ ap (λ n. m.level s x ∷ n) rest ∙ sym q.3
 
   -- where one list of tokens empties the stack and a front of it does not, the next token fits the symbol on top
   pub record GoesOn (s : Sym) (x : List Token) : Type 0 where
@@ -104,7 +104,7 @@ module _ {Sym : Type 0} (m : Table Sym) where
   abbrev pub scan : List Sym → List Token → Result (List Token) Stuck
   scan [] ts = Ok ts
   scan (s ∷ stack) [] = Err (Unexpected 0)
-  scan (s ∷ stack) (x ∷ ts) = scan_from (m.expand s x) (ltb 64 (m.level s)) (suc (length ts)) (λ more. scan (more ++ stack) ts)
+  scan (s ∷ stack) (x ∷ ts) = scan_from (m.expand s x) (ltb 64 (m.level s x)) (suc (length ts)) (λ more. scan (more ++ stack) ts)
 
   pub record Empties (stack : List Sym) (ts rest : List Token) : Type 0 where
     pub front : List Token
@@ -138,36 +138,36 @@ module _ {Sym : Type 0} (m : Table Sym) where
     pub runs : Runs stack front levels (top ∷ after)
     pub low : shallow levels ≡ true
     pub fits : m.expand top x ≡ Some next
-    pub deep : 64 < m.level top
+    pub deep : 64 < m.level top x
 
   abbrev pub Outcome : List Sym → List Token → Result (List Token) Stuck → Type 0
   Outcome stack ts (Ok rest) = Empties stack ts rest
   Outcome stack ts (Err (Unexpected k)) = Blocks stack ts k
   Outcome stack ts (Err (TooNested k)) = Deepens stack ts k
 
-  grows : (s : Sym) (x : Token) (stack more : List Sym) (ts : List Token) (r : Result (List Token) Stuck) → m.expand s x ≡ Some more → m.level s ≤ 64 → Outcome (more ++ stack) ts r → Outcome (s ∷ stack) (x ∷ ts) r
+  grows : (s : Sym) (x : Token) (stack more : List Sym) (ts : List Token) (r : Result (List Token) Stuck) → m.expand s x ≡ Some more → m.level s x ≤ 64 → Outcome (more ++ stack) ts r → Outcome (s ∷ stack) (x ∷ ts) r
   grows s x stack more ts (Ok rest) e low o = record {
     front = x ∷ o.front;
-    levels = m.level s ∷ o.levels;
+    levels = m.level s x ∷ o.levels;
     parts = ap (λ l. x ∷ l) o.parts;
     runs = (more, o.levels, e, refl, o.runs);
-    low = and_from _ _ (le-leb (m.level s) 64 low) o.low;
+    low = and_from _ _ (le-leb (m.level s x) 64 low) o.low;
   }
   grows s x stack more ts (Err (Unexpected k)) e low o = record {
     front = x ∷ o.front;
-    levels = m.level s ∷ o.levels;
+    levels = m.level s x ∷ o.levels;
     top = o.top;
     after = o.after;
     rest = o.rest;
     parts = ap (λ l. x ∷ l) o.parts;
     place = o.place;
     runs = (more, o.levels, e, refl, o.runs);
-    low = and_from _ _ (le-leb (m.level s) 64 low) o.low;
+    low = and_from _ _ (le-leb (m.level s x) 64 low) o.low;
     ends = o.ends;
   }
   grows s x stack more ts (Err (TooNested k)) e low o = record {
     front = x ∷ o.front;
-    levels = m.level s ∷ o.levels;
+    levels = m.level s x ∷ o.levels;
     top = o.top;
     after = o.after;
     x = o.x;
@@ -176,12 +176,12 @@ module _ {Sym : Type 0} (m : Table Sym) where
     parts = ap (λ l. x ∷ l) o.parts;
     place = o.place;
     runs = (more, o.levels, e, refl, o.runs);
-    low = and_from _ _ (le-leb (m.level s) 64 low) o.low;
+    low = and_from _ _ (le-leb (m.level s x) 64 low) o.low;
     fits = o.fits;
     deep = o.deep;
   }
 
-  says_from : (s : Sym) (x : Token) (stack : List Sym) (ts : List Token) → ((stack : List Sym) → Outcome stack ts (scan stack ts)) → (o : Option (List Sym)) (b : Bool) → m.expand s x ≡ o → ltb 64 (m.level s) ≡ b → Outcome (s ∷ stack) (x ∷ ts) (scan_from o b (suc (length ts)) (λ more. scan (more ++ stack) ts))
+  says_from : (s : Sym) (x : Token) (stack : List Sym) (ts : List Token) → ((stack : List Sym) → Outcome stack ts (scan stack ts)) → (o : Option (List Sym)) (b : Bool) → m.expand s x ≡ o → ltb 64 (m.level s x) ≡ b → Outcome (s ∷ stack) (x ∷ ts) (scan_from o b (suc (length ts)) (λ more. scan (more ++ stack) ts))
   says_from s x stack ts ih None b e l = record {
     front = [];
     levels = [];
@@ -207,10 +207,10 @@ module _ {Sym : Type 0} (m : Table Sym) where
     runs = (refl, refl);
     low = refl;
     fits = e;
-    deep = ltb-true 64 (m.level s) l;
+    deep = ltb-true 64 (m.level s x) l;
   }
   says_from s x stack ts ih (Some more) false e l =
-      grows s x stack more ts (scan (more ++ stack) ts) e (ltb-false 64 (m.level s) l) (ih (more ++ stack))
+      grows s x stack more ts (scan (more ++ stack) ts) e (ltb-false 64 (m.level s x) l) (ih (more ++ stack))
 
   pub scan_says : (ts : List Token) (stack : List Sym) → Outcome stack ts (scan stack ts)
   scan_says ts [] = record { front = []; levels = []; parts = refl; runs = (refl, refl); low = refl }
@@ -226,7 +226,7 @@ module _ {Sym : Type 0} (m : Table Sym) where
     low = refl;
     ends = λ y more same. absurd cc;
   }
-  scan_says (x ∷ ts) (s ∷ stack) = says_from s x stack ts (scan_says ts) (m.expand s x) (ltb 64 (m.level s)) refl refl
+  scan_says (x ∷ ts) (s ∷ stack) = says_from s x stack ts (scan_says ts) (m.expand s x) (ltb 64 (m.level s x)) refl refl
 
   -- What a stack stands for, where it is said what each symbol stands for and each step keeps it.
   module _ (Means : Sym → List Token → Type 0) where
@@ -234,7 +234,7 @@ module _ {Sym : Type 0} (m : Table Sym) where
     MeansAll [] ts = ts ≡ []
     MeansAll (s ∷ stack) ts = (a : List Token) × (b : List Token) × (ts ≡ a ++ b) × Means s a × MeansAll stack b
 
-    means_split : (more stack : List Sym) (ts : List Token) → MeansAll (more ++ stack) ts → (a : List Token) × (b : List Token) × (ts ≡ a ++ b) × MeansAll more a × MeansAll stack b
+    pub means_split : (more stack : List Sym) (ts : List Token) → MeansAll (more ++ stack) ts → (a : List Token) × (b : List Token) × (ts ≡ a ++ b) × MeansAll more a × MeansAll stack b
     means_split [] stack ts p = ([], ts, refl, refl, p)
     means_split (s ∷ more) stack ts p =
         let q = means_split more stack p.1 p.4 in

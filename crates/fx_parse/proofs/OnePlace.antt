@@ -50,7 +50,7 @@ module _ {Tree : Type 0} (g : Grammar Tree) (d : ℕ) (ts : List Token) where
       let same : t ≡ p.x = cc in
       q.shallow p.front m p.x (b ∙ ap (λ z. p.front ++ z ∷ m) same) p.begins
 
-  too_nested_cut : (j k : ℕ) (p : IsTooNested g d ts j) (q : IsTooNested g d ts k) → Cut p.front (p.x ∷ p.more) q.front (q.x ∷ q.more) → j ≡ k
+  pub too_nested_cut : (j k : ℕ) (p : IsTooNested g d ts j) (q : IsTooNested g d ts k) → Cut p.front (p.x ∷ p.more) q.front (q.x ∷ q.more) → j ≡ k
   too_nested_cut j k p q (Before t m x b) = absurd (deep_cut j k p q t m x b)
   too_nested_cut j k p q (Same a x) = p.place ∙ ap length x ∙ sym q.place
   too_nested_cut j k p q (Behind t m y a) = absurd (deep_cut k j q p t m y a)

@@ -57,12 +57,12 @@ module _ {Sym : Type 0} {Tree : Type 0} (m : Table Sym) (g : Grammar Tree) (star
   pub too_nested_is : (d : ℕ) (ts : List Token) (k : ℕ) → Deepens m (start d ∷ []) ts k → IsTooNested g d ts k
   too_nested_is d ts k b =
       let rest = finish (b.next ++ b.after) in
-      let here : Runs m (b.top ∷ b.after) (b.x ∷ rest.0) (m.level b.top ∷ rest.1) [] = (b.next, rest.1, b.fits, refl, rest.2) in
-      let all = run_on m b.front (start d ∷ []) (b.top ∷ b.after) [] (b.x ∷ rest.0) b.levels (m.level b.top ∷ rest.1) b.runs here in
-      let tree = fits.means d (b.front ++ b.x ∷ rest.0) (b.levels ++ m.level b.top ∷ rest.1) all in
+      let here : Runs m (b.top ∷ b.after) (b.x ∷ rest.0) (m.level b.top b.x ∷ rest.1) [] = (b.next, rest.1, b.fits, refl, rest.2) in
+      let all = run_on m b.front (start d ∷ []) (b.top ∷ b.after) [] (b.x ∷ rest.0) b.levels (m.level b.top b.x ∷ rest.1) b.runs here in
+      let tree = fits.means d (b.front ++ b.x ∷ rest.0) (b.levels ++ m.level b.top b.x ∷ rest.1) all in
       let own : Runs m (start d ∷ []) (b.front ++ b.x ∷ rest.0) (g.levels d tree.0) [] = subst (λ l. Runs m (start d ∷ []) l (g.levels d tree.0) []) (sym tree.2) (fits.runs d tree.0 tree.1) in
-      let same = levels_at m b.front rest.0 rest.0 b.x (start d ∷ []) [] [] (g.levels d tree.0) (b.levels ++ m.level b.top ∷ rest.1) own all in
-      let at = get_or_at b.levels (m.level b.top) rest.1 0 (length b.front) (run_length m b.front (start d ∷ []) (b.top ∷ b.after) b.levels b.runs) in
+      let same = levels_at m b.front rest.0 rest.0 b.x (start d ∷ []) [] [] (g.levels d tree.0) (b.levels ++ m.level b.top b.x ∷ rest.1) own all in
+      let at = get_or_at b.levels (m.level b.top b.x) rest.1 0 (length b.front) (run_length m b.front (start d ∷ []) (b.top ∷ b.after) b.levels b.runs) in
       record {
         front = b.front;
         x = b.x;

@@ -46,7 +46,7 @@ level (Shape d) = d
 level _ = 0
 
 abbrev pub table : Table Sym
-table = record { expand = expand; level = level }
+table = record { expand = expand; level = λ s x. level s }
 
 pub shape_word : (k : Keyword) → shape_of (word k) ≡ keyword_shape k
 shape_word k = ap word_shape (keyword_again k)

@@ -24,6 +24,8 @@ sign_is sign.LeftParen (token.Mark mark.LeftParen) is = refl
 sign_is sign.LeftParen t is = cc
 sign_is sign.RightParen (token.Mark mark.RightParen) is = refl
 sign_is sign.RightParen t is = cc
+sign_is sign.LeftBrace (token.Mark mark.LeftBrace) is = refl
+sign_is sign.LeftBrace t is = cc
 sign_is sign.RightBrace (token.Mark mark.RightBrace) is = refl
 sign_is sign.RightBrace t is = cc
 sign_is sign.RightAngle (token.Mark mark.RightAngle) is = refl
@@ -36,18 +38,26 @@ sign_is sign.ColonColon (token.Mark mark.ColonColon) is = refl
 sign_is sign.ColonColon t is = cc
 sign_is sign.Bar (token.Mark mark.Bar) is = refl
 sign_is sign.Bar t is = cc
+sign_is sign.Equal (token.Mark mark.Equal) is = refl
+sign_is sign.Equal t is = cc
 sign_is sign.In t is = word_is keyword.In t is
+sign_is sign.Else t is = word_is keyword.Else t is
+sign_is sign.Txn t is = word_is keyword.Txn t is
 
 pub sign_again : (s : Sign) → is_sign s (sign_token s) ≡ true
 sign_again sign.LeftParen = refl
 sign_again sign.RightParen = refl
+sign_again sign.LeftBrace = refl
 sign_again sign.RightBrace = refl
 sign_again sign.RightAngle = refl
 sign_again sign.Comma = refl
 sign_again sign.Colon = refl
 sign_again sign.ColonColon = refl
 sign_again sign.Bar = refl
+sign_again sign.Equal = refl
 sign_again sign.In = refl
+sign_again sign.Else = refl
+sign_again sign.Txn = refl
 
 -- the token is a name
 abbrev pub names : Token → Bool

@@ -18,7 +18,7 @@ module _ {Sym : Type 0} (m : Table Sym) where
   pub ran : {stack : List Sym} → Run stack [] [] stack
   ran = record { runs = (refl, refl) }
 
-  pub takes : (s : Sym) (x : Token) (more : List Sym) {stack end : List Sym} {ts : List Token} {l : List ℕ} → m.expand s x ≡ Some more → Run (more ++ stack) ts l end → Run (s ∷ stack) (x ∷ ts) (m.level s ∷ l) end
+  pub takes : (s : Sym) (x : Token) (more : List Sym) {stack end : List Sym} {ts : List Token} {l : List ℕ} → m.expand s x ≡ Some more → Run (more ++ stack) ts l end → Run (s ∷ stack) (x ∷ ts) (m.level s x ∷ l) end
   takes s x more {l} e r = record { runs = (more, l, e, refl, r.runs) }
 
   pub goes : {stack middle end : List Sym} {a b : List Token} {k l : List ℕ} → Run stack a k middle → Run middle b l end → Run stack (a ++ b) (k ++ l) end

@@ -15,7 +15,7 @@ lifted part (Some more) = Some (map part more)
 -- the outer machine takes a token at a symbol of the inner one as that does
 pub record Holds {S T : Type 0} (m : Table S) (n : Table T) (part : S → T) : Type 0 where
   pub expands : (s : S) (x : Token) → n.expand (part s) x ≡ lifted part (m.expand s x)
-  pub levels : (s : S) → n.level (part s) ≡ m.level s
+  pub levels : (s : S) (x : Token) → n.level (part s) x ≡ m.level s x
 
 -- what a symbol stands for: the tokens that empty it
 abbrev pub Over : {S : Type 0} → Table S → S → List Token → Type 0
@@ -26,7 +26,7 @@ module _ {S T : Type 0} (m : Table S) (n : Table T) (part : S → T) (holds : Ho
   run_within [] stack end l r = (r.0, ap (map part) r.1)
   run_within (x ∷ ts) [] end l r = absurd r
   run_within (x ∷ ts) (s ∷ stack) end l r =
-      (map part r.0, r.1, holds.expands s x ∙ ap (lifted part) r.2, r.3 ∙ ap (λ d. d ∷ r.1) (sym (holds.levels s)), subst (λ k. Runs n k ts r.1 (map part end)) (map-append part r.0 stack) (run_within ts (r.0 ++ stack) end r.1 r.4))
+      (map part r.0, r.1, holds.expands s x ∙ ap (lifted part) r.2, r.3 ∙ ap (λ d. d ∷ r.1) (sym (holds.levels s x)), subst (λ k. Runs n k ts r.1 (map part end)) (map-append part r.0 stack) (run_within ts (r.0 ++ stack) end r.1 r.4))
 
   scan_step : (o : Option (List S)) (b : Bool) (k : ℕ) (stack : List S) (below : List T) (ts : List Token) → ((more : List S) → scan n (map part more ++ below) ts ≡ (scan m more ts >>= (λ rest. scan n below rest))) → scan_from n (lifted part o) b k (λ more. scan n (more ++ (map part stack ++ below)) ts) ≡ (scan_from m o b k (λ more. scan m (more ++ stack) ts) >>= (λ rest. scan n below rest))
   scan_step None b k stack below ts ih = refl
@@ -38,7 +38,7 @@ module _ {S T : Type 0} (m : Table S) (n : Table T) (part : S → T) (holds : Ho
   scan_within ts [] below = refl
   scan_within [] (s ∷ stack) below = refl
   scan_within (x ∷ ts) (s ∷ stack) below =
-      ap (λ o. scan_from n o (ltb 64 (n.level (part s))) (suc (length ts)) (λ more. scan n (more ++ (map part stack ++ below)) ts)) (holds.expands s x) ∙ ap (λ d. scan_from n (lifted part (m.expand s x)) (ltb 64 d) (suc (length ts)) (λ more. scan n (more ++ (map part stack ++ below)) ts)) (holds.levels s) ∙ scan_step (m.expand s x) (ltb 64 (m.level s)) (suc (length ts)) stack below ts (λ more. scan_within ts more below)
+      ap (λ o. scan_from n o (ltb 64 (n.level (part s) x)) (suc (length ts)) (λ more. scan n (more ++ (map part stack ++ below)) ts)) (holds.expands s x) ∙ ap (λ d. scan_from n (lifted part (m.expand s x)) (ltb 64 d) (suc (length ts)) (λ more. scan n (more ++ (map part stack ++ below)) ts)) (holds.levels s x) ∙ scan_step (m.expand s x) (ltb 64 (m.level s x)) (suc (length ts)) stack below ts (λ more. scan_within ts more below)
 
   -- a reader of the inner machine's symbol, in the outer one
   pub goes_within : {A : Type 0} (read : List Token → Result (A × List Token) Stuck) (s : S) → ((ts : List Token) → scan m (s ∷ []) ts ≡ (read ts >>= (λ r. Ok r.1))) → (below : List T) (ts : List Token) → scan n (part s ∷ below) ts ≡ (read ts >>= (λ r. scan n below r.1))
@@ -59,7 +59,7 @@ module _ {S T : Type 0} (m : Table S) (n : Table T) (part : S → T) (holds : Ho
     lifted_step s x more ts (Some k) h e r =
         let same : map part k ≡ more = cc in
         let all = all_over k ts (subst (λ z. MeansAll n Means z ts) (sym same) r) in
-        (m.level s ∷ all.0, (k, all.0, h, refl, subst (λ z. Runs m z ts all.0 []) (sym (append-nil k)) all.1))
+        (m.level s x ∷ all.0, (k, all.0, h, refl, subst (λ z. Runs m z ts all.0 []) (sym (append-nil k)) all.1))
 
     pub part_step : (s : S) (x : Token) (more : List T) (ts : List Token) → n.expand (part s) x ≡ Some more → MeansAll n Means more ts → Over m s (x ∷ ts)
     part_step s x more ts e r = lifted_step s x more ts (m.expand s x) refl (sym (holds.expands s x) ∙ e) r

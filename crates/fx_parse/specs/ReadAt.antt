@@ -37,4 +37,3 @@ module _ {Tree : Type 0} (g : Grammar Tree) where
   IsParseFault depth list from fault.NoMemory = Unit {0}
   IsParseFault depth list from fault.TooLarge = ⊥
   IsParseFault depth list from (fault.BadToken place) = ⊥
-  IsParseFault depth list from (fault.NotBuilt place) = ⊥

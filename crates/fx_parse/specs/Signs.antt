@@ -1,4 +1,4 @@
--- Tokens that stand for themselves between the parts of a form, and names.
+-- Tokens that stand for themselves in a form, and names.
 use Rattle.std.specs.Prelude.{ℕ, Bool, true, false, List, [], ◌∷◌, Result, Ok, Err, bytes_eq, if◌then◌else◌}
 use Rattle.fx_lex.specs.declared.token.Token.{Token}
 use Rattle.fx_lex.specs.declared.token.Token.TheVariants as token
@@ -14,13 +14,17 @@ use Rattle.fx_parse.specs.Reader.{unexpected}
 abbrev pub sign_token : Sign → Token
 sign_token sign.LeftParen = token.Mark mark.LeftParen
 sign_token sign.RightParen = token.Mark mark.RightParen
+sign_token sign.LeftBrace = token.Mark mark.LeftBrace
 sign_token sign.RightBrace = token.Mark mark.RightBrace
 sign_token sign.RightAngle = token.Mark mark.RightAngle
 sign_token sign.Comma = token.Mark mark.Comma
 sign_token sign.Colon = token.Mark mark.Colon
 sign_token sign.ColonColon = token.Mark mark.ColonColon
 sign_token sign.Bar = token.Mark mark.Bar
+sign_token sign.Equal = token.Mark mark.Equal
 sign_token sign.In = word keyword.In
+sign_token sign.Else = word keyword.Else
+sign_token sign.Txn = word keyword.Txn
 
 abbrev pub is_word : List ℕ → Token → Bool
 is_word wanted (token.Word w) = bytes_eq w wanted
@@ -33,6 +37,8 @@ is_sign sign.LeftParen (token.Mark mark.LeftParen) = true
 is_sign sign.LeftParen _ = false
 is_sign sign.RightParen (token.Mark mark.RightParen) = true
 is_sign sign.RightParen _ = false
+is_sign sign.LeftBrace (token.Mark mark.LeftBrace) = true
+is_sign sign.LeftBrace _ = false
 is_sign sign.RightBrace (token.Mark mark.RightBrace) = true
 is_sign sign.RightBrace _ = false
 is_sign sign.RightAngle (token.Mark mark.RightAngle) = true
@@ -45,7 +51,11 @@ is_sign sign.ColonColon (token.Mark mark.ColonColon) = true
 is_sign sign.ColonColon _ = false
 is_sign sign.Bar (token.Mark mark.Bar) = true
 is_sign sign.Bar _ = false
+is_sign sign.Equal (token.Mark mark.Equal) = true
+is_sign sign.Equal _ = false
 is_sign sign.In t = is_word (keyword_bytes keyword.In) t
+is_sign sign.Else t = is_word (keyword_bytes keyword.Else) t
+is_sign sign.Txn t = is_word (keyword_bytes keyword.Txn) t
 
 -- a name, and what follows
 abbrev pub name_at : List Token → Result (List ℕ × List Token) Stuck

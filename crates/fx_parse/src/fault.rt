@@ -12,8 +12,6 @@ pub enum ParseFault {
     Unexpected(u32),
     /// A form of level 65 begins here.
     TooNested(u32),
-    /// The form here is not supported yet.
-    NotBuilt(u32),
     NoMemory,
 }
 
@@ -29,7 +27,6 @@ impl fmt::Display for ParseFault {
             ParseFault::BadToken(place) => write!(f, "no token begins at byte {place}"),
             ParseFault::Unexpected(place) => write!(f, "unexpected token at byte {place}"),
             ParseFault::TooNested(place) => write!(f, "nested too deep at byte {place}"),
-            ParseFault::NotBuilt(place) => write!(f, "not supported yet, at byte {place}"),
             ParseFault::NoMemory => write!(f, "out of memory"),
         }
     }

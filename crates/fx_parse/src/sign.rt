@@ -11,19 +11,25 @@ use fx_expr::Word;
 use fx_lex::{Mark, Spanned, Token};
 use std::alloc::Global;
 
-/// A token that stands for itself between the parts of a form.
+/// A token that stands for itself in a form.
 #[derive(Clone, Copy, Debug)]
 pub enum Sign {
     LeftParen,
     RightParen,
+    LeftBrace,
     RightBrace,
     RightAngle,
     Comma,
     Colon,
     ColonColon,
     Bar,
+    Equal,
     /// The kept word `in`.
     In,
+    /// The kept word `else`.
+    Else,
+    /// The kept word `txn`.
+    Txn,
 }
 
 fn is_word(token: &Token, wanted: &[u8]) -> bool
@@ -43,13 +49,17 @@ fn is_sign(token: &Token, sign: Sign) -> bool
     match sign {
         Sign::LeftParen => matches!(token, Token::Mark(Mark::LeftParen)),
         Sign::RightParen => matches!(token, Token::Mark(Mark::RightParen)),
+        Sign::LeftBrace => matches!(token, Token::Mark(Mark::LeftBrace)),
         Sign::RightBrace => matches!(token, Token::Mark(Mark::RightBrace)),
         Sign::RightAngle => matches!(token, Token::Mark(Mark::RightAngle)),
         Sign::Comma => matches!(token, Token::Mark(Mark::Comma)),
         Sign::Colon => matches!(token, Token::Mark(Mark::Colon)),
         Sign::ColonColon => matches!(token, Token::Mark(Mark::ColonColon)),
         Sign::Bar => matches!(token, Token::Mark(Mark::Bar)),
+        Sign::Equal => matches!(token, Token::Mark(Mark::Equal)),
         Sign::In => is_word(token, Keyword::In.bytes()),
+        Sign::Else => is_word(token, Keyword::Else.bytes()),
+        Sign::Txn => is_word(token, Keyword::Txn.bytes()),
     }
 }
 

@@ -35,7 +35,6 @@ not_parsed text parse.TooLarge only has = refused text fault.TooLarge parse.TooL
 not_parsed text (parse.BadToken n) only has = refused text (fault.BadToken n) (parse.BadToken n) (λ e. cc) only has
 not_parsed text (parse.Unexpected n) only has = refused text (fault.Unexpected n) (parse.Unexpected n) (λ e. cc) only has
 not_parsed text (parse.TooNested n) only has = refused text (fault.TooNested n) (parse.TooNested n) (λ e. cc) only has
-not_parsed text (parse.NotBuilt n) only has = absurd has
 not_parsed text parse.NoMemory only has = tt
 
 -- a description with a fault is not one without

@@ -14,7 +14,6 @@ of_parse parse.TooLarge = Refused fault.TooLarge
 of_parse (parse.BadToken place) = Refused (fault.BadToken place)
 of_parse (parse.Unexpected place) = Refused (fault.Unexpected place)
 of_parse (parse.TooNested place) = Refused (fault.TooNested place)
-of_parse (parse.NotBuilt place) = Refused (fault.NotBuilt place)
 of_parse parse.NoMemory = NoMemory
 
 abbrev pub of_check : CheckFault → DescriptionFault

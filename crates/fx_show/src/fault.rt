@@ -29,7 +29,6 @@ impl From<ParseFault> for DescriptionFault {
                 place,
             )),
             ParseFault::TooNested(place) => DescriptionFault::Refused(TextFault::TooNested(place)),
-            ParseFault::NotBuilt(place) => DescriptionFault::Refused(TextFault::NotBuilt(place)),
             ParseFault::NoMemory => DescriptionFault::NoMemory,
         }
     }

@@ -54,17 +54,17 @@ expand (Part s) x = lifted Part (inner.table.expand s x)
 expand Name x = passed (names x)
 expand (Fixed s) x = passed (is_sign s x)
 
-abbrev pub level : Sym → ℕ
-level (Spec d) = d
-level (Part s) = inner.table.level s
-level Name = 0
-level (Fixed s) = 0
+abbrev pub level : Sym → Token → ℕ
+level (Spec d) x = d
+level (Part s) x = inner.table.level s x
+level Name x = 0
+level (Fixed s) x = 0
 
 abbrev pub table : Table Sym
 table = record { expand = expand; level = level }
 
 pub holds : Holds inner.table table Part
-holds = record { expands = λ s x. refl; levels = λ s. refl }
+holds = record { expands = λ s x. refl; levels = λ s x. refl }
 
 pub start_word : (k : Keyword) → start_of (word k) ≡ keyword_start k
 start_word k = ap word_start (keyword_again k)
