@@ -1,0 +1,4 @@
+pub mod Cutting
+pub mod Described
+pub mod Lined
+pub mod Scripted
