@@ -1,13 +1,11 @@
 -- Acts and questions, as calls that pursue a command's task.
-use Rattle.std.proofs.Common.{◌≡◌, ℕ, List, [], ◌∷◌, Option, Some, None, Result, Ok, Err, refl, ap, ◌∙◌, sym, subst}
+use Rattle.std.proofs.Common.{◌≡◌, ℕ, List, Some, None, Result, Ok, Err, refl, ap, ◌∙◌, sym, subst}
 use Rattle.std.specs.Prelude.{IfOk, pos}
-use Rattle.fx_store.specs.declared.changes.Change.{Change}
 use Rattle.fx_store.specs.Rule.{Known, Ask, Answer}
 use Rattle.fx_expr.specs.Bindings.{bind}
 use Rattle.fx_expr.specs.Tree.{Tree}
 use Rattle.fx_spec.specs.declared.refusal.Refusal.{Refusal}
 use Rattle.fx_spec.specs.declared.refusal.End.{End}
-use Rattle.fx_spec.specs.Describe.{Bindings}
 use Rattle.fx_spec.specs.Move.{Answered}
 use Rattle.fx_spec.specs.Refusals.{refusal_number}
 use Rattle.fx_spec.specs.Task.{Task, Ends, asking}
@@ -17,21 +15,20 @@ use Rattle.fx_view.specs.declared.reader.Stop.TheVariants as stop
 use Rattle.fx_view.specs.Follows.{GoesBy}
 use Rattle.fx_view.specs.Meaning.{Meaning}
 use Rattle.fx_view.specs.OwnList.{OwnList}
-use Rattle.fx_view.specs.Own.{AreRead, no_own, own_at, put_all}
+use Rattle.fx_view.specs.Own.{AreRead, own_at}
 use Rattle.fx_view.proofs.Errors.{err_of}
 use Rattle.fx_view.proofs.Owning.{read_more}
 use Rattle.fx_rules.specs.declared.halt.Halt.{Halt}
 use Rattle.fx_rules.specs.declared.halt.Halt.TheVariants as halt
 use Rattle.fx_rules.specs.Answering.{answered}
-use Rattle.fx_rules.specs.Halts.{split, parted}
 use Rattle.fx_act.specs.declared.walk.Walk.{Walk}
 use Rattle.fx_act.specs.Acts.{Acts, Took}
 use Rattle.fx_obey.specs.declared.leave.Leave.{Leave}
 use Rattle.fx_obey.specs.declared.leave.Leave.TheVariants as leave
 use Rattle.fx_obey.specs.declared.work.Work.{Work}
-use Rattle.fx_obey.specs.Leaving.{or_left, tried_number, ended}
-use Rattle.fx_obey.specs.Pursuing.{Came, came, pursuit}
-use Rattle.fx_obey.specs.Works.{root_of, standing_of, came_by, IsSound, Obeys, Tells}
+use Rattle.fx_obey.specs.Leaving.{or_left, tried_number}
+use Rattle.fx_obey.specs.Pursuing.{came, pursuit}
+use Rattle.fx_obey.specs.Works.{standing_of, came_by, IsSound, Obeys, Tells}
 use Rattle.fx_obey.proofs.Obeyed.{Leaves, asked_ends, asked_refused, asked_stops}
 
 -- the own changes stay read while the reader goes on

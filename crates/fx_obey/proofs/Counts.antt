@@ -1,5 +1,5 @@
 -- Numbers of commands.
-use Rattle.std.proofs.Common.{◌≡◌, ℕ, zero, suc, ◌+◌, ◌≤◌, List, [], ◌∷◌, drop, Some, ap, sym, arith}
+use Rattle.std.proofs.Common.{◌≡◌, ℕ, zero, suc, ◌+◌, ◌≤◌, List, [], ◌∷◌, drop, Some, ap, arith}
 use Rattle.std.specs.Prelude.{slice_get}
 use Rattle.fx_spec.specs.CommandTree.{CommandTree, block, count, count_block}
 use Rattle.fx_view.proofs.Lists.{drop_at}

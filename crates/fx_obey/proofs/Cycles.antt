@@ -1,16 +1,14 @@
 -- Commands one after another, and a block once for each text: what is left of them from one on.
-use Rattle.std.proofs.Common.{◌≡◌, ℕ, ◌+◌, ◌<◌, List, [], ◌∷◌, ◌++◌, length, take, drop, Some, None, Result, Ok, Err, refl, ap, ◌∙◌, sym, subst, arith, append-nil, append_assoc}
-use Rattle.std.specs.Prelude.{IfOk, slice_get, ◌^◌}
+use Rattle.std.proofs.Common.{◌≡◌, ℕ, ◌+◌, ◌<◌, List, [], ◌∷◌, ◌++◌, length, take, drop, Some, Result, Ok, Err, refl, ap, ◌∙◌, sym, subst, arith, append_assoc}
+use Rattle.std.specs.Prelude.{slice_get, ◌^◌}
 use Rattle.fx_expr.specs.Bindings.{bind}
 use Rattle.fx_expr.specs.ShapeTree.{ShapeTree}
 use Rattle.fx_expr.specs.Shapes.{BindingsHave}
 use Rattle.fx_expr.specs.Tree.{Tree}
-use Rattle.fx_spec.specs.declared.refusal.End.{End}
 use Rattle.fx_spec.specs.SpecTree.{SpecTree}
 use Rattle.fx_spec.specs.CommandTree.{CommandTree, Block, block, count, count_block}
-use Rattle.fx_spec.specs.Describe.{Bindings}
 use Rattle.fx_spec.specs.Task.{Task, Ends, ◌>=>◌}
-use Rattle.fx_spec.specs.Transaction.{Standing, Flow, On, Over, go_on, binding, leaving, within, each_in, run, run_block}
+use Rattle.fx_spec.specs.Transaction.{Standing, Flow, On, go_on, binding, leaving, within, each_in, run, run_block}
 use Rattle.fx_spec.specs.WellShaped.{Scope, IsBlock}
 use Rattle.fx_view.specs.Meaning.{Meaning}
 use Rattle.fx_view.specs.Follows.{GoesBy}
@@ -22,7 +20,7 @@ use Rattle.fx_obey.specs.declared.work.Work.{Work}
 use Rattle.fx_obey.specs.Leaving.{ended}
 use Rattle.fx_obey.specs.Pursuing.{pursuit}
 use Rattle.fx_obey.specs.Works.{root_of, standing_of, came_by, IsSound, Obeys}
-use Rattle.fx_obey.specs.Scopes.{HasBlock, HasCommand, HasTurn, Opens, Scopes, ScopesBlock, Keeps, KeepsTurn}
+use Rattle.fx_obey.specs.Scopes.{HasBlock, HasCommand, HasTurn, Opens, Scopes, ScopesBlock, KeepsTurn}
 use Rattle.fx_obey.proofs.Scoped.{opens_same}
 use Rattle.fx_obey.proofs.Obeyed.{Leaves, obeys_quiet, obeys_same, obeys_then, obeys_leaves}
 

@@ -1,36 +1,25 @@
 -- Calls that pursue tasks: what goes along every way out is proved here alone.
-use Rattle.std.proofs.Common.{◌≡◌, ℕ, List, [], ◌∷◌, Option, Some, None, Result, Ok, Err, refl, ap, ◌∙◌, sym, subst}
-use Rattle.std.specs.Prelude.{IfOk, IsErrAnd}
-use Rattle.fx_store.specs.declared.changes.Change.{Change}
+use Rattle.std.proofs.Common.{◌≡◌, List, Option, Some, None, Result, Ok, Err, ap, ◌∙◌, sym, subst}
+use Rattle.std.specs.Prelude.{IsErrAnd}
 use Rattle.fx_store.specs.Rule.{Ask, Answer, ◌>>=◌}
 use Rattle.fx_expr.specs.Tree.{Tree}
-use Rattle.fx_spec.specs.declared.refusal.Refusal.{Refusal}
 use Rattle.fx_spec.specs.declared.refusal.End.{End}
-use Rattle.fx_spec.specs.Move.{Answered}
-use Rattle.fx_spec.specs.SpecTree.{SpecTree}
 use Rattle.fx_spec.specs.Task.{Task, Ends, asking, ◌>=>◌}
-use Rattle.fx_spec.specs.Transaction.{Standing, Flow, On, Over, go_on, or_stop}
+use Rattle.fx_spec.specs.Transaction.{Flow, On, Over}
 use Rattle.fx_view.specs.declared.reader.Stop.{Stop}
 use Rattle.fx_view.specs.declared.reader.Stop.TheVariants as stop
 use Rattle.fx_view.specs.Follows.{GoesBy}
 use Rattle.fx_view.specs.Meaning.{Meaning}
-use Rattle.fx_view.specs.OwnList.{OwnList}
-use Rattle.fx_view.specs.Own.{AreRead, no_own, own_at}
-use Rattle.fx_view.specs.Reads.{known_of}
+use Rattle.fx_view.specs.Own.{no_own, own_at}
 use Rattle.fx_view.proofs.Errors.{err_of}
-use Rattle.fx_view.proofs.Owning.{read_more}
 use Rattle.fx_view.proofs.Rulings.{by_answer, by_refused, by_same, by_then, by_stop, by_then_answer, by_then_refused}
-use Rattle.fx_rules.specs.declared.halt.Halt.{Halt}
-use Rattle.fx_rules.specs.declared.halt.Halt.TheVariants as halt
-use Rattle.fx_rules.specs.Answering.{answered}
-use Rattle.fx_zip.specs.Fresh.{IsFresh}
 use Rattle.fx_act.specs.declared.walk.Walk.{Walk}
 use Rattle.fx_obey.specs.declared.leave.Leave.{Leave}
 use Rattle.fx_obey.specs.declared.leave.Leave.TheVariants as leave
 use Rattle.fx_obey.specs.declared.work.Work.{Work}
-use Rattle.fx_obey.specs.Leaving.{left_by, or_left, ended, OrStops}
+use Rattle.fx_obey.specs.Leaving.{ended}
 use Rattle.fx_obey.specs.Pursuing.{Came, came, topped, pursuit}
-use Rattle.fx_obey.specs.Works.{root_of, standing_of, flow_by, came_by, IsSound, Obeys, IsQuiet, Tells}
+use Rattle.fx_obey.specs.Works.{root_of, standing_of, flow_by, came_by, IsSound, Obeys, IsQuiet}
 use Rattle.fx_obey.proofs.Pursuits.{by_topped, pursuit-asking, pursuit-then}
 
 -- what `?` hands on

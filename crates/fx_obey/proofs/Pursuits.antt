@@ -12,7 +12,6 @@ use Rattle.fx_spec.proofs.Tasks.{eq_paths}
 use Rattle.fx_view.specs.OwnList.{OwnList}
 use Rattle.fx_view.specs.Own.{own_at, put_own, put_all, no_own}
 use Rattle.fx_view.specs.Meaning.{Meaning}
-use Rattle.fx_view.specs.ReadList.{ReadList}
 use Rattle.fx_view.specs.Reads.{known_of}
 use Rattle.fx_view.specs.declared.reader.Stop.{Stop}
 use Rattle.fx_view.specs.declared.reader.Stop.TheVariants as stop

@@ -1,11 +1,9 @@
 -- Commands that neither read nor change, as calls that pursue a command's task.
-use Rattle.std.proofs.Common.{◌≡◌, ℕ, Bool, List, Option, Some, None, Result, Ok, Err, refl, ap, ◌∙◌, sym, subst}
+use Rattle.std.proofs.Common.{◌≡◌, ℕ, Result, Ok, Err, refl, ap, ◌∙◌, sym, subst}
 use Rattle.fx_spec.specs.declared.refusal.Refusal.{Refusal}
-use Rattle.fx_spec.specs.declared.refusal.End.{End}
 use Rattle.fx_spec.specs.Move.{Answered}
 use Rattle.fx_spec.specs.Task.{Task, Ends}
 use Rattle.fx_spec.specs.Transaction.{Standing, Flow, On, Over, or_stop}
-use Rattle.fx_view.specs.declared.reader.Stop.{Stop}
 use Rattle.fx_view.specs.declared.reader.Stop.TheVariants as stop
 use Rattle.fx_view.proofs.Errors.{err_of}
 use Rattle.fx_obey.specs.declared.leave.Leave.{Leave}

@@ -1,5 +1,5 @@
 -- Variables of the shapes that a scope gives them, through commands and blocks.
-use Rattle.std.proofs.Common.{◌≡◌, ℕ, suc, Bool, true, false, cond, List, [], ◌∷◌, ◌++◌, length, take, Option, Some, None, Result, Ok, Err, refl, ap, ◌∙◌, sym, subst, append-nil, append_assoc}
+use Rattle.std.proofs.Common.{◌≡◌, ℕ, Bool, true, false, cond, List, [], ◌∷◌, ◌++◌, length, take, Some, None, Result, Ok, Err, refl, ap, ◌∙◌, sym, subst, append-nil, append_assoc}
 use Rattle.std.specs.Prelude.{IfOk, nat_eq, pos}
 use Rattle.std.specs.Cmp.Lexicographic.{pointwise}
 use Rattle.fx_expr.proofs.Canon.{nat_list_exact}
@@ -13,7 +13,7 @@ use Rattle.fx_expr.proofs.Shaping.{eval_has}
 use Rattle.fx_spec.specs.CommandTree.{ActTree, CommandTree, Block}
 use Rattle.fx_spec.specs.Describe.{Bindings}
 use Rattle.fx_spec.specs.Move.{evaluated}
-use Rattle.fx_spec.specs.WellShaped.{Scope, IsFree, IsBlock, IsAct}
+use Rattle.fx_spec.specs.WellShaped.{Scope, IsBlock}
 use Rattle.fx_act.specs.Acts.{HasAct}
 use Rattle.fx_obey.specs.declared.leave.Leave.{Leave}
 use Rattle.fx_obey.specs.Scopes.{HasBlock, HasCommand, HasTurn, Opens, Scopes, ScopesBlock, Keeps, KeepsTurn}
@@ -180,6 +180,9 @@ module _ (old new : Bindings) where
     scopes_each x e a keeps scope rest b h = on (BindingsHave new scope) (Opens scope new rest) r (λ c. opens_same scope new rest c h.3) (keeps scope b h.2)
 
 -- a block that is left, and a turn
+pub cut_by : (n : ℕ) (old mid new : Bindings) → new ≡ take n mid → n ≡ length old → new ≡ take (length old) mid
+cut_by n old mid new cut is = cut ∙ ap (λ n. take n mid) is
+
 pub keeps_cut : (old mid new : Bindings) (b : Block) → ScopesBlock b old mid (Ok tt) → new ≡ take (length old) mid → Keeps b old new (Ok tt)
 keeps_cut old mid new b scopes cut scope has h =
     let o = scopes scope has h in

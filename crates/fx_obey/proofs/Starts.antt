@@ -1,10 +1,9 @@
 -- A whole transaction, from its start.
-use Rattle.std.proofs.Common.{◌≡◌, ℕ, List, [], Option, Some, None, Result, Ok, Err, ap, ◌∙◌, sym, subst}
-use Rattle.fx_store.specs.Rule.{Known, Ask}
+use Rattle.std.proofs.Common.{◌≡◌, List, [], Option, Some, None, Result, Ok, Err, ap, ◌∙◌, sym, subst}
+use Rattle.fx_store.specs.Rule.{Known}
 use Rattle.fx_spec.specs.declared.base.Base.{Base}
 use Rattle.fx_spec.specs.declared.refusal.End.{End}
 use Rattle.fx_spec.specs.CommandTree.{CommandTree, block}
-use Rattle.fx_spec.specs.Describe.{Bindings}
 use Rattle.fx_spec.specs.SpecTree.{SpecTree}
 use Rattle.fx_spec.specs.Transaction.{Flow, run_block, transaction}
 use Rattle.fx_spec.specs.WellShaped.{IsTransaction}

@@ -1,7 +1,5 @@
 -- A task followed over what is known, as one rule: it answers the task's end, with the own changes that there are then.
-use Rattle.std.specs.Prelude.{List, [], ◌∷◌}
-use Rattle.fx_store.specs.declared.changes.Change.{Change}
-use Rattle.fx_store.specs.Rule.{Ask, Answer, Look, Tick, Known, seen}
+use Rattle.fx_store.specs.Rule.{Ask, Answer, Look, Tick, seen}
 use Rattle.fx_spec.specs.Task.{Task, Ends, Looks, Sets}
 use Rattle.fx_view.specs.OwnList.{OwnList}
 use Rattle.fx_view.specs.Own.{own_at, put_all}

@@ -5,7 +5,7 @@ use Rattle.fx_expr.specs.ShapeTree.{ShapeTree}
 use Rattle.fx_expr.specs.Shapes.{BindingsHave}
 use Rattle.fx_spec.specs.CommandTree.{CommandTree, Block}
 use Rattle.fx_spec.specs.Describe.{Bindings}
-use Rattle.fx_spec.specs.WellShaped.{Scope, IsFree, IsBlock}
+use Rattle.fx_spec.specs.WellShaped.{Scope, IsBlock}
 use Rattle.fx_obey.specs.declared.leave.Leave.{Leave}
 
 -- the block that comes is well shaped with these variables

@@ -1,5 +1,5 @@
 -- Where the engine stands between two commands, as the definitions have it, and what a call says that goes on from there.
-use Rattle.std.specs.Prelude.{◌≡◌, ℕ, List, ◌++◌, ◌∷◌, [], Option, Some, None, Result, Ok, Err, IfOk}
+use Rattle.std.specs.Prelude.{◌≡◌, ℕ, List, Option, Some, None, Result, Ok, Err, IfOk}
 use Rattle.fx_store.specs.Rule.{Ask}
 use Rattle.fx_expr.specs.Bindings.{bind}
 use Rattle.fx_expr.specs.ShapeTree.{ShapeTree}

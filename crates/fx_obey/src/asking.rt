@@ -38,7 +38,10 @@ pub(crate) fn fetch<R: Reader>(
     ensures scope { Scopes (CommandTree.fetch word.now (shape_tree shape.now))
         work.old.variables work.new.variables result }
 {
-    let value = or_stop(number, fetched::<R, Brand>(alloc, reader, &mut work.walk, shape, Blank::new(1)))?;
+    let value = or_stop(
+        number,
+        fetched::<R, Brand>(alloc, reader, &mut work.walk, shape, Blank::new(1)),
+    )?;
     Ok(bind_value(alloc, &mut work.variables, word, value)?)
 }
 
@@ -58,7 +61,10 @@ pub(crate) fn whole<R: Reader>(
     ensures scope { Scopes (CommandTree.whole word.now (shape_tree shape.now))
         work.old.variables work.new.variables result }
 {
-    let value = or_stop(number, valued::<R, Brand>(alloc, reader, &mut work.walk, shape, Blank::new(1)))?;
+    let value = or_stop(
+        number,
+        valued::<R, Brand>(alloc, reader, &mut work.walk, shape, Blank::new(1)),
+    )?;
     Ok(bind_value(alloc, &mut work.variables, word, value)?)
 }
 
@@ -77,7 +83,10 @@ pub(crate) fn validate<R: Reader>(
     ensures scope { Scopes (CommandTree.validate word.now)
         work.old.variables work.new.variables result }
 {
-    let valid = or_stop(number, validated::<R, Brand>(alloc, reader, &mut work.walk, Blank::new(1)))?;
+    let valid = or_stop(
+        number,
+        validated::<R, Brand>(alloc, reader, &mut work.walk, Blank::new(1)),
+    )?;
     Ok(bind_truth(alloc, &mut work.variables, word, valid)?)
 }
 
@@ -97,7 +106,8 @@ fn fetched<R: Reader, L: Ledger>(
     ensures shape { IfOk result (λ value. ValueHas (tree_of value) (shape_tree shape.now)) }
 {
     let mut steps = Steps::<L>::open(blank);
-    walk.zip.fetch(alloc, reader, &walk.overlay, shape, &mut steps)
+    walk.zip
+        .fetch(alloc, reader, &walk.overlay, shape, &mut steps)
 }
 
 fn valued<R: Reader, L: Ledger>(
@@ -116,7 +126,8 @@ fn valued<R: Reader, L: Ledger>(
     ensures shape { IfOk result (λ value. ValueHas (tree_of value) (shape_tree shape.now)) }
 {
     let mut steps = Steps::<L>::open(blank);
-    walk.zip.whole(alloc, reader, &walk.overlay, shape, &mut steps)
+    walk.zip
+        .whole(alloc, reader, &walk.overlay, shape, &mut steps)
 }
 
 fn validated<R: Reader, L: Ledger>(

@@ -22,7 +22,8 @@ pub(crate) fn bind_value(
     word: &Word,
     value: Value,
 ) -> Result<(), NoMemory>
-    ensures { IfOk result (λ _. variables.new ≡ bindings.bind variables.old word.now (tree_of value)) }
+    ensures { IfOk result (λ _.
+        variables.new ≡ bindings.bind variables.old word.now (tree_of value)) }
 {
     let word = word.copy(alloc)?;
     variables.add(alloc, (word, value))
@@ -111,12 +112,7 @@ pub(crate) fn assign(
 }
 
 /// `print(e)`: the value of `e` is one output more.
-pub(crate) fn print(
-    alloc: Global,
-    work: &mut Work,
-    number: u32,
-    expr: &Expr,
-) -> Result<(), Leave>
+pub(crate) fn print(alloc: Global, work: &mut Work, number: u32, expr: &Expr) -> Result<(), Leave>
     requires { HasCommand work.old.variables (CommandTree.print (expr_tree expr.now)) }
     ensures quiet { IsQuiet (run (root_of work.old) number
         (CommandTree.print (expr_tree expr.now)) (standing_of work.old))

@@ -21,7 +21,8 @@ pub(crate) fn evaluated(
     variables: &Env,
 ) -> Result<Value, Leave>
     requires { IsWellShaped variables.now (expr_tree expr.now) }
-    ensures { OrStops number tree_of (move.evaluated (eval_of variables.now (expr_tree expr.now))) result }
+    ensures { OrStops number tree_of
+        (move.evaluated (eval_of variables.now (expr_tree expr.now))) result }
 {
     match eval(alloc, expr, variables) {
         Ok(value) => Ok(value),

@@ -6,7 +6,8 @@ ghost use Rattle.fx_expr.specs.Views.{expr_tree};
 ghost use Rattle.fx_spec.specs.CommandTree.{CommandTree, block, count, count_block};
 ghost use Rattle.fx_spec.specs.Transaction.{binding, each_in, run, run_block, within};
 ghost use Rattle.fx_spec.specs.Views.{command_tree};
-ghost use Rattle.fx_obey.specs.Scopes.{HasBlock, HasCommand, HasTurn, Keeps, KeepsTurn, Scopes, ScopesBlock};
+ghost use Rattle.fx_obey.specs.Scopes.{HasBlock, HasCommand, HasTurn, Keeps, KeepsTurn};
+ghost use Rattle.fx_obey.specs.Scopes.{Scopes, ScopesBlock};
 ghost use Rattle.fx_obey.specs.Works.{IsSound, Obeys, root_of, standing_of};
 
 use crate::acting::{act, attempt};
@@ -117,10 +118,11 @@ fn choose<R: Reader>(
     requires shaped { HasCommand work.old.variables
         (CommandTree.branch (expr_tree test.now) (block yes.now) (block no.now)) }
     requires sound { IsSound (R.meaning.reads reader.old) work.old.walk }
-    requires few { number + (1 + (count_block (block yes.now) + count_block (block no.now))) < 2 ^ 32 }
+    requires few { number +
+        (1 + (count_block (block yes.now) + count_block (block no.now))) < 2 ^ 32 }
     ensures obeys { Obeys R.meaning (run (root_of work.old) number
-        (CommandTree.branch (expr_tree test.now) (block yes.now) (block no.now)) (standing_of work.old))
-        work.old work.new reader.old reader.new result }
+        (CommandTree.branch (expr_tree test.now) (block yes.now) (block no.now))
+        (standing_of work.old)) work.old work.new reader.old reader.new result }
     ensures scope { Scopes (CommandTree.branch (expr_tree test.now) (block yes.now) (block no.now))
         work.old.variables work.new.variables result }
 {
@@ -171,9 +173,10 @@ fn repeat<R: Reader>(
     requires sound { IsSound (R.meaning.reads reader.old) work.old.walk }
     requires few { number + count_block (block body.now) < 2 ^ 32 }
     ensures obeys { Obeys R.meaning
-        (each_in (λ s. run_block (root_of work.old) number (block body.now) s) word.now texts.now (standing_of work.old))
-        work.old work.new reader.old reader.new result }
-    ensures keeps { KeepsTurn word.now (block body.now) work.old.variables work.new.variables result }
+        (each_in (λ s. run_block (root_of work.old) number (block body.now) s) word.now texts.now
+        (standing_of work.old)) work.old work.new reader.old reader.new result }
+    ensures keeps { KeepsTurn word.now (block body.now)
+        work.old.variables work.new.variables result }
 {
     'repeating: for i in 0..texts.len() {
         turn(alloc, reader, work, number, word, text_at(texts, i), body)?;
@@ -199,7 +202,8 @@ fn turn<R: Reader>(
         (within (standing_of work.old) (run_block (root_of work.old) number (block body.now)
         (binding (standing_of work.old) word.now (Tree.str text.now))))
         work.old work.new reader.old reader.new result }
-    ensures keeps { KeepsTurn word.now (block body.now) work.old.variables work.new.variables result }
+    ensures keeps { KeepsTurn word.now (block body.now)
+        work.old.variables work.new.variables result }
 {
     let len = work.variables.len();
     bind_text(alloc, &mut work.variables, word, text)?;

@@ -1,7 +1,6 @@
 -- A transaction that was pursued, and its attempt.
-use Rattle.std.proofs.Common.{◌≡◌, ℕ, Bool, List, [], All, Contains, Option, Some, None, Result, Ok, Err, refl, ◌∙◌, sym, subst}
+use Rattle.std.proofs.Common.{◌≡◌, ℕ, List, [], Option, Some, None, Result, Ok, Err, refl, ◌∙◌, sym, subst}
 use Rattle.std.specs.Prelude.{IfOk, IfErr}
-use Rattle.std.specs.Map.{keys_of}
 use Rattle.fx_spec.specs.SpecTree.{SpecTree}
 use Rattle.fx_spec.specs.CommandTree.{CommandTree}
 use Rattle.fx_spec.specs.Plans.{txn_of}
@@ -11,7 +10,6 @@ use Rattle.fx_spec.specs.declared.refusal.End.{End}
 use Rattle.fx_view.specs.declared.reader.Stop.{Stop}
 use Rattle.fx_view.specs.declared.reader.Stop.TheVariants as stop
 use Rattle.fx_view.specs.Meaning.{Meaning}
-use Rattle.fx_view.specs.ReadList.{ReadList}
 use Rattle.fx_view.specs.Own.{AreRead, no_own}
 use Rattle.fx_view.specs.Reads.{known_of}
 use Rattle.fx_view.specs.Follows.{Went, GoesBy, walked}

@@ -1,7 +1,7 @@
 -- A transaction of a plan is one of the plan's scripts, and so well shaped.
-use Rattle.std.proofs.Common.{◌≡◌, ℕ, zero, suc, ◌<◌, Bool, true, List, [], ◌∷◌, length, All, Some, refl, subst}
-use Rattle.std.specs.Prelude.{slice_get, slice_index_or, ◌^◌}
-use Rattle.std.proofs.lemmas.List.Elements.{All-nil, All-cons, All-head, All-tail}
+use Rattle.std.proofs.Common.{◌≡◌, ℕ, zero, suc, List, [], ◌∷◌, All, Some, subst}
+use Rattle.std.specs.Prelude.{slice_get, slice_index_or}
+use Rattle.std.proofs.lemmas.List.Elements.{All-nil, All-head, All-tail}
 use Rattle.fx_spec.specs.CommandTree.{CommandTree}
 use Rattle.fx_spec.specs.Plans.{Turn, IsPlan, script_of, txn_of}
 use Rattle.fx_spec.specs.WellShaped.{IsTransaction, IsScript}

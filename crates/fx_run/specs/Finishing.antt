@@ -1,5 +1,5 @@
 -- What a transaction comes to as an attempt.
-use Rattle.std.specs.Prelude.{◌≡◌, ◌⊎◌, ℕ, Bool, List, [], ◌++◌, All, Contains, Option, Some, Result, Ok, Err}
+use Rattle.std.specs.Prelude.{◌≡◌, ◌⊎◌, ℕ, List, [], ◌++◌, All, Contains, Option, Some, Result, Ok, Err}
 use Rattle.std.specs.Map.{keys_of}
 use Rattle.fx_store.specs.Rule.{follow, Found}
 use Rattle.fx_spec.specs.SpecTree.{SpecTree}

@@ -1,5 +1,5 @@
 -- What the engine needs of a reader and says of it.
-use Rattle.std.specs.Prelude.{◌≡◌, ℕ, Bool, false, List, [], ◌++◌, Some, None, Contains, ◌∷◌}
+use Rattle.std.specs.Prelude.{◌≡◌, ℕ, false, List, [], ◌++◌, Some, None, Contains, ◌∷◌}
 use Rattle.std.specs.FinMap.{get}
 use Rattle.fx_store.specs.Rule.{first_unknown}
 use Rattle.fx_store.specs.Whole.{Nodes, IsWhole}

@@ -38,7 +38,8 @@ fn attempt<R: Reader>(
     reader: &mut R,
 ) -> Result<Attempt, Stop>
     requires { IsTransaction commands.now }
-    ensures { Finishes R.meaning base.now.value.description commands.now shell txn reader.old reader.new result }
+    ensures { Finishes R.meaning base.now.value.description commands.now shell txn
+        reader.old reader.new result }
 {
     let ran = match pursue(alloc, reader, base, commands) {
         Ok(ran) => ran,
@@ -72,7 +73,8 @@ pub fn run<R: Reader>(
     requires fit { ReadsFit (base_tree base.now.value) (shell, txn) (R.meaning.reads reader.old) }
     ensures explained { IfOk result (IsExplained (base_tree base.now.value)) }
     ensures attempted { IfOk result (Attempted R.meaning reader.old reader.new shell txn) }
-    ensures stopped { IfErr result (StoppedAt R.meaning (base_tree base.now.value) (shell, txn) reader.old reader.new) }
+    ensures stopped { IfErr result
+        (StoppedAt R.meaning (base_tree base.now.value) (shell, txn) reader.old reader.new) }
 {
     let commands = commands_of(&base.plan, shell, txn);
     attempt(alloc, base, commands, shell, txn, reader)

@@ -43,7 +43,8 @@ fn read_again<R: Reader>(
     path: &Path,
 ) -> Result<Option<Node>, NoMemory>
     requires { IsRead (R.meaning.reads reader.old) path.now }
-    ensures node { IfOk result (λ node. known_of (R.meaning.reads reader.old) path.now ≡ Some node) }
+    ensures node { IfOk result (λ node.
+        known_of (R.meaning.reads reader.old) path.now ≡ Some node) }
     ensures kept { KeepsAll R.meaning reader.old reader.new }
 {
     match reader.read(alloc, path) {
@@ -78,7 +79,8 @@ fn copied<R: Reader>(alloc: Global, reader: &mut R, overlay: &Overlay) -> Result
 fn done<R: Reader>(alloc: Global, reader: &mut R, overlay: Overlay) -> Result<Changes, NoMemory>
     requires { AreRead overlay (R.meaning.reads reader.old) }
     ensures kept { KeepsAll R.meaning reader.old reader.new }
-    ensures net { IfOk result (λ changes. IsNet overlay (R.meaning.reads reader.old) changes × IsChanges changes) }
+    ensures net { IfOk result (λ changes.
+        IsNet overlay (R.meaning.reads reader.old) changes × IsChanges changes) }
 {
     let reads = match copied(alloc, reader, &overlay) {
         Ok(reads) => reads,
@@ -116,7 +118,11 @@ fn end_of(over: Option<End>) -> End
 }
 
 /// Finishes a transaction that has come to its end: the reader keeps its reads.
-pub(crate) fn finish<R: Reader>(alloc: Global, reader: &mut R, ran: Ran) -> Result<Finished, NoMemory>
+pub(crate) fn finish<R: Reader>(
+    alloc: Global,
+    reader: &mut R,
+    ran: Ran,
+) -> Result<Finished, NoMemory>
     requires { AreRead ran.work.walk.overlay (R.meaning.reads reader.old) }
     ensures kept { KeepsAll R.meaning reader.old reader.new }
     ensures finished { IfOk result (IsFinished ran (R.meaning.reads reader.old)) }

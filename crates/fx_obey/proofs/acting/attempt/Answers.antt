@@ -1,4 +1,4 @@
-use Rattle.std.proofs.Common.{refl, sym, ◌∙◌}
+use Rattle.std.proofs.Common.{refl, sym}
 use Rattle.fx_spec.specs.Transaction.{effect}
 use Rattle.fx_spec.specs.Views.{act_tree}
 use Rattle.fx_obey.specs.Works.{root_of}

@@ -1,4 +1,4 @@
-use Rattle.std.proofs.Common.{rules, ◌≡◌, ◌+◌, ◌<◌, ◌^◌, drop, arith, sym, ap}
+use Rattle.std.proofs.Common.{◌≡◌, ◌+◌, ◌<◌, ◌^◌, drop, arith}
 use Rattle.fx_spec.specs.CommandTree.{block, count, count_block}
 use Rattle.fx_spec.specs.Views.{command_tree}
 use Rattle.fx_obey.proofs.Counts.{count_at}

@@ -1,13 +1,9 @@
-use Rattle.std.proofs.Common.{◌≡◌, ◌+◌, ◌<◌, ◌≤◌, ◌^◌, Bool, cond, None, Ok, Err, drop, take, length, refl, ap, sym, subst, ◌∙◌, rules, arith}
+use Rattle.std.proofs.Common.{◌≡◌, ◌+◌, ◌<◌, ◌≤◌, ◌^◌, Ok, Err, take, refl, ap, ◌∙◌, rules, arith}
 use Rattle.std.proofs.lemmas.List.{drop_all}
-use Rattle.fx_expr.specs.Bindings.{bind}
-use Rattle.fx_expr.specs.Eval.{eval_of, names_in, truth_in}
-use Rattle.fx_expr.specs.ExprTree.{ExprTree}
 use Rattle.fx_expr.specs.Tree.{Tree}
 use Rattle.fx_expr.specs.Views.{expr_tree}
-use Rattle.fx_spec.specs.CommandTree.{CommandTree, block, count, count_block}
-use Rattle.fx_spec.specs.Move.{evaluated}
-use Rattle.fx_spec.specs.Transaction.{binding, within, each_in, run, run_block}
+use Rattle.fx_spec.specs.CommandTree.{block, count, count_block}
+use Rattle.fx_spec.specs.Transaction.{binding, within, run_block}
 use Rattle.fx_spec.specs.Views.{command_tree}
 use Rattle.fx_spec.specs.declared.command.Command.{Command}
 use Rattle.fx_spec.specs.declared.refusal.End.{End}
@@ -15,10 +11,10 @@ use Rattle.fx_obey.specs.declared.leave.Leave.TheVariants as leave
 use Rattle.fx_obey.specs.Scopes.{HasBlock, HasCommand, HasTurn}
 use Rattle.fx_obey.specs.Works.{root_of, standing_of, IsSound}
 use Rattle.fx_obey.proofs.Counts.{below_all}
-use Rattle.fx_obey.proofs.Cycles.{turn_from, within_ends, within_leaves, obeying_starts, command_comes, few_come, obeying_leaves, obeying_on, obeying_ends, opens_ends, obeys_from, turning_starts, turn_comes, turning_ends, turning_keeps, turning_leaves, turning_on}
+use Rattle.fx_obey.proofs.Cycles.{turn_from, within_ends, within_leaves, obeying_starts, command_comes, few_come, obeying_leaves, obeying_on, obeying_ends, opens_ends, turning_starts, turn_comes, turning_ends, turning_keeps, turning_leaves, turning_on}
 use Rattle.fx_obey.proofs.Obeyed.{obeys_none}
 use Rattle.fx_obey.proofs.Choices.{choice_leaves, chosen_yes, chosen_no, each_leaves, repeated}
-use Rattle.fx_obey.proofs.Scoped.{branch_shaped, yes_shaped, no_shaped, each_shaped, turn_shaped, turn_bound, scopes_yes, scopes_no, scopes_each, keeps_cut, keeps_turn}
+use Rattle.fx_obey.proofs.Scoped.{cut_by, branch_shaped, yes_shaped, no_shaped, each_shaped, turn_shaped, turn_bound, scopes_each, keeps_cut, keeps_turn}
 use Rattle.fx_obey.proofs.Written.{comes_as, counts_as, scopes_as, obeys_as, quiet_as}
 use Rattle.fx_obey.proofs.obeying.+obey.Goals as goal
 
@@ -171,11 +167,11 @@ within_block-returns-clause-obeys g t c =
     let h = c.in_ok-obey_all.ensures.obeys in
     within_ends g.R.Reader.meaning (run_block (root_of c.args.work.now) c.args.number (block c.args.commands.now) (standing_of c.args.work.now)) c.args.work.now c.obey_all.new.work
     (record { walk = c.obey_all.new.work.walk; variables = c.cut.new.self; outputs = c.obey_all.new.work.outputs })
-    c.args.reader.now c.obey_all.new.reader h h.sound refl refl (c.cut.ensures ∙ ap (λ n. take n c.obey_all.new.work.variables) c.len-len.ensures)
+    c.args.reader.now c.obey_all.new.reader h h.sound refl refl (cut_by c.len-len.result c.args.work.now.variables c.obey_all.new.work.variables c.cut.new.self c.cut.ensures c.len-len.ensures)
 
 pub within_block-returns-clause-keeps : goal.within_block-returns-clause-keeps
 within_block-returns-clause-keeps g t c =
-    keeps_cut c.args.work.now.variables c.obey_all.new.work.variables c.cut.new.self (block c.args.commands.now) c.in_ok-obey_all.ensures.scope (c.cut.ensures ∙ ap (λ n. take n c.obey_all.new.work.variables) c.len-len.ensures)
+    keeps_cut c.args.work.now.variables c.obey_all.new.work.variables c.cut.new.self (block c.args.commands.now) c.in_ok-obey_all.ensures.scope (cut_by c.len-len.result c.args.work.now.variables c.obey_all.new.work.variables c.cut.new.self c.cut.ensures c.len-len.ensures)
 
 -- ---- choose
 
@@ -282,8 +278,8 @@ turn-returns-clause-obeys g t c =
     let h = turn_from g.R.Reader.meaning w (record { walk = w.walk; variables = c.bind_text.new.variables; outputs = w.outputs }) c.obey_all.new.work c.args.reader.now c.obey_all.new.reader (Ok tt) c.args.number (block c.args.body.now) c.args.word.now c.args.text.now refl refl c.in_ok-bind_text.ensures c.in_ok-obey_all.ensures.obeys in
     within_ends g.R.Reader.meaning (run_block (root_of w) c.args.number (block c.args.body.now) (binding (standing_of w) c.args.word.now (Tree.str c.args.text.now))) w c.obey_all.new.work
     (record { walk = c.obey_all.new.work.walk; variables = c.cut.new.self; outputs = c.obey_all.new.work.outputs })
-    c.args.reader.now c.obey_all.new.reader h h.sound refl refl (c.cut.ensures ∙ ap (λ n. take n c.obey_all.new.work.variables) c.len-len.ensures)
+    c.args.reader.now c.obey_all.new.reader h h.sound refl refl (cut_by c.len-len.result c.args.work.now.variables c.obey_all.new.work.variables c.cut.new.self c.cut.ensures c.len-len.ensures)
 
 pub turn-returns-clause-keeps : goal.turn-returns-clause-keeps
 turn-returns-clause-keeps g t c =
-    keeps_turn c.args.work.now.variables c.bind_text.new.variables c.obey_all.new.work.variables c.cut.new.self c.args.word.now c.args.text.now (block c.args.body.now) c.in_ok-bind_text.ensures c.in_ok-obey_all.ensures.scope (c.cut.ensures ∙ ap (λ n. take n c.obey_all.new.work.variables) c.len-len.ensures)
+    keeps_turn c.args.work.now.variables c.bind_text.new.variables c.obey_all.new.work.variables c.cut.new.self c.args.word.now c.args.text.now (block c.args.body.now) c.in_ok-bind_text.ensures c.in_ok-obey_all.ensures.scope (cut_by c.len-len.result c.args.work.now.variables c.obey_all.new.work.variables c.cut.new.self c.cut.ensures c.len-len.ensures)
