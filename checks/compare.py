@@ -1,0 +1,313 @@
+"""Holds the built program against the second program of the meaning, model.py, on random inputs.
+
+usage: compare.py PROGRAM [SEED] [COUNT]
+
+Each case is a random folder with links, a description, up to three scripts and a schedule: `show`, `trace` and `run` have
+to print, write and refuse what the model says. Of `run` the order and the retries are those that it prints: the answers
+and OUT are those of its transactions run whole in that order. Some texts are broken before, so that refusals are compared
+too. Prints how many cases there were of each kind, and ends with 1 at the first difference, which it tells.
+"""
+
+import os
+import random
+import re
+import shutil
+import subprocess
+import sys
+import tempfile
+from collections import Counter
+
+import model
+
+PROGRAM = os.path.abspath(sys.argv[1])
+SEED = int(sys.argv[2]) if len(sys.argv) > 2 else 1
+COUNT = int(sys.argv[3]) if len(sys.argv) > 3 else 1000
+
+NAMES = ["a", "b", "c", "a-x", "x.txt", "é"]
+TEXTS = [b"", b"a", b"b", b"1", b"7\n", b"a\nb\n", b"c\nx.txt", b"a/b", b"..", b"b\n\na\n", b"9223372036854775807", b"\xff\"\\"]
+TARGETS = ["a", "b", "../a", "/", "/b/c", "a/b", ".", "..", "gone", "c/../a", "./a-x"]
+
+
+def quoted(text):
+    return model.quote(text if isinstance(text, bytes) else text.encode())
+
+
+class Maker:
+    """Random texts that are mostly well shaped."""
+
+    def __init__(self, random_):
+        self.r = random_
+
+    def words(self, scope, shape):
+        return [word for word, found in scope if found == shape]
+
+    def expr(self, scope, shape, depth=0):
+        r = self.r
+        words = self.words(scope, shape)
+        if words and r.random() < 0.4:
+            return r.choice(words)
+        deep = depth < 2 and r.random() < 0.5
+        part = lambda s: self.expr(scope, s, depth + 1)
+        if deep and r.random() < 0.1:
+            return f"if({part(model.BOOL)}, {part(shape)}, {part(shape)})"
+        if shape == model.STR:
+            choices = [lambda: quoted(r.choice([n.encode() for n in NAMES] + TEXTS))]
+            if deep:
+                choices += [lambda: f"({part(model.STR)} ++ {part(model.STR)})", lambda: f"text({part(model.INTEGER)})"]
+                pairs = [w for w, s in scope if s[0] == "pair" and s[1] == model.STR]
+                choices += [lambda: f"first({r.choice(pairs)})"] * bool(pairs)
+        elif shape == model.INTEGER:
+            choices = [lambda: str(r.choice([0, 1, 2, 7, 2**63 - 1]))]
+            if deep:
+                choices += [lambda: f"({part(model.INTEGER)} {r.choice('+-')} {part(model.INTEGER)})", lambda: f"size({part(model.NAMES)})", lambda: f"int({part(model.STR)})"]
+        elif shape == model.BOOL:
+            choices = [lambda: r.choice(["true", "false"])]
+            if deep:
+                choices += [
+                    lambda: f"not({part(model.BOOL)})", lambda: f"({part(model.STR)} in {part(model.NAMES)})", lambda: f"({part(model.STR)} == {part(model.STR)})",
+                    lambda: f"({part(model.INTEGER)} < {part(model.INTEGER)})", lambda: f"({part(model.BOOL)} {r.choice(['and', 'or'])} {part(model.BOOL)})",
+                ]
+                options = [w for w, s in scope if s[0] == "opt"]
+                choices += [lambda: f"present({r.choice(options)})"] * bool(options)
+        elif shape == model.NAMES:
+            choices = [lambda: "empty", lambda: f"one({quoted(r.choice(NAMES))})"]
+            if deep:
+                choices += [
+                    lambda: f"({part(model.NAMES)} {r.choice(['union', 'minus'])} {part(model.NAMES)})", lambda: f"lines({part(model.STR)})",
+                    lambda: f"({part(model.NAMES)} only {quoted(r.choice(['*', 'a*', '?', '*.txt', 'b']))})",
+                ]
+                tables = [w for w, s in scope if s[0] == "table"]
+                choices += [lambda: f"keys({r.choice(tables)})"] * bool(tables)
+        else:
+            return r.choice(words) if words else '"none"'
+        return r.choice(choices)()
+
+    def fresh(self, scope, letter):
+        return f"{letter}{len(scope)}"
+
+    def spec(self, scope, depth=0):
+        """A description and its value's shape."""
+        r = self.r
+        kind = r.choice(["file", "dir", "focus", "focus", "pair", "pair", "comp", "opt", "link", "pred"]) if depth < 5 else r.choice(["file", "dir", "link"])
+        if depth == 0 and r.random() < 0.8:
+            kind = r.choice(["focus", "pair", "pair", "comp"])
+        if kind in ("file", "link"):
+            return kind, model.STR
+        if kind == "dir":
+            return kind, model.NAMES
+        if kind == "focus":
+            part, shape = self.spec(scope, depth + 1)
+            e = quoted(r.choice(NAMES)) if r.random() < 0.6 else self.expr(scope, model.STR)
+            return f"({e} :: {part})", shape
+        if kind == "pair":
+            x = self.fresh(scope, "p")
+            a, first = self.spec(scope, depth + 1)
+            b, second = self.spec([*scope, (x, first)], depth + 1)
+            return f"<{x} : {a}, {b}>", ("pair", first, second)
+        if kind == "comp":
+            x = self.fresh(scope, "c")
+            part, shape = self.spec([*scope, (x, model.STR)], depth + 1)
+            if r.random() < 0.6:
+                part, shape = f"({x} :: {part})", shape
+            return f"{{{part} | {x} in {self.expr(scope, model.NAMES)}}}", ("table", shape)
+        if kind == "opt":
+            part, shape = self.spec(scope, depth + 1)
+            return f"opt({part})", ("opt", shape)
+        return f"pred({self.expr(scope, model.BOOL)})", model.BOOL
+
+    def act(self, scope):
+        r = self.r
+        word = r.choice(["into", "into", "down", "down", "next", "prev", "out", "up", "top", "create", "remove", "store", "store", "to"])
+        if word == "store":
+            return f"store({self.expr(scope, r.choice([model.STR, model.STR, model.NAMES, model.INTEGER]))})"
+        return f"to({self.expr(scope, model.STR)})" if word == "to" else word
+
+    def block(self, scope, depth=0):
+        r, scope, found = self.r, list(scope), []
+        for _ in range(r.randrange(1, 7 if depth == 0 else 3)):
+            kind = r.choice(["act"] * 9 + ["try"] * 3 + ["print"] * 3 + ["let", "set", "fetch", "fetch", "fetch", "value", "validate", "if", "each"] + ["abort"] * (r.random() < 0.1))
+            x = self.fresh(scope, "vwxy"[depth % 4])
+            shape = r.choice([model.STR, model.INTEGER, model.BOOL, model.NAMES])
+            if kind == "act":
+                found.append(self.act(scope))
+            elif kind == "try":
+                found.append(f"try {x} {self.act(scope)}")
+                scope.append((x, model.INTEGER))
+            elif kind == "print":
+                shape = r.choice([s for _, s in scope] + [shape])
+                found.append(f"print({self.expr(scope, shape)})")
+            elif kind == "let":
+                found.append(f"let {x} = {self.expr(scope, shape)}")
+                scope.append((x, shape))
+            elif kind == "set" and scope:
+                word, shape = r.choice(scope)
+                if shape in (model.STR, model.INTEGER, model.BOOL, model.NAMES):
+                    found.append(f"set {word} = {self.expr(scope, shape)}")
+            elif kind == "fetch":
+                shape = r.choice([model.STR, model.STR, model.NAMES, model.BOOL])
+                found.append(f"fetch {x} : {model.shape_text(shape)}")
+                scope.append((x, shape))
+            elif kind == "value":
+                shape = r.choice([model.STR, model.NAMES, ("opt", model.STR), ("table", model.STR), ("pair", model.STR, model.STR)])
+                found.append(f"value {x} : {model.shape_text(shape)}")
+                scope.append((x, shape))
+            elif kind == "validate":
+                found.append(f"validate {x}")
+                scope.append((x, model.BOOL))
+            elif kind == "if" and depth < 2:
+                found.append(f"if ({self.expr(scope, model.BOOL)}) {{ {self.block(scope, depth + 1)} }} else {{ {self.block(scope, depth + 1)} }}")
+            elif kind == "each" and depth < 2:
+                body = self.block([*scope, (x, model.STR)], depth + 1)
+                found.append(f"each {x} in ({self.expr(scope, model.NAMES)}) {{ {body} }}")
+            elif kind == "abort":
+                found.append("abort")
+        return " ".join(found)
+
+    def script(self):
+        return "\n".join(f"txn {{ {self.block([])} }}" for _ in range(self.r.randrange(0, 4))).encode()
+
+    def broken(self, text):
+        """The text, now and then with a piece of it gone, doubled or changed."""
+        r = self.r
+        if not text or r.random() < 0.85:
+            return text
+        i = r.randrange(len(text))
+        piece = r.choice([b"", text[i : i + 1] * 2, bytes([r.randrange(256)]), b" file ", b"(", b"}", b"zz", b"1", b'"'])
+        return text[:i] + piece + text[i + 1 :]
+
+    def folder(self, top):
+        r = self.r
+        os.mkdir(top)
+        paths = [()]
+
+        def fill(at, path, depth):
+            for name in r.sample(NAMES, r.randrange(0, 5)):
+                there = os.path.join(at, name)
+                paths.append((*path, name.encode()))
+                if depth < 3 and r.random() < 0.35:
+                    os.mkdir(there)
+                    fill(there, (*path, name.encode()), depth + 1)
+                else:
+                    with open(there, "wb") as it:
+                        it.write(r.choice(TEXTS))
+
+        fill(top, (), 0)
+        links = {}
+        for _ in range(r.choice([0, 0, 1, 2, 3])):
+            parent = r.choice(paths)
+            path = (*parent, r.choice(NAMES).encode())
+            if path not in paths and (not parent or os.path.isdir(os.path.join(top, *(p.decode() for p in parent)))):
+                links[path] = r.choice(TARGETS).encode()
+        table = b"".join(model.spelled(model.path_text(p)) + b" -> " + model.spelled(t) + b"\n" for p, t in sorted(links.items()))
+        if table and r.random() < 0.1:
+            table = self.broken(table[:-1] if r.random() < 0.3 else table + table)
+        if table or r.random() < 0.1:
+            with open(os.path.join(top, ".forest-links"), "wb") as it:
+                it.write(table)
+
+
+class Different(Exception):
+    pass
+
+
+def run(words, room):
+    ran = subprocess.run([PROGRAM, *words], cwd=room, stdout=subprocess.PIPE, stderr=subprocess.PIPE, stdin=subprocess.DEVNULL, timeout=60)
+    return ran.returncode, ran.stdout.decode(), ran.stderr.decode()
+
+
+def expect(what, found, wanted):
+    if found != wanted:
+        raise Different(f"{what}:\n--- the program\n{found}\n--- the model\n{wanted}")
+
+
+def inputs(room, scripts, of_show):
+    """What the texts and the folder stand for; or the status and the line of the first that is refused."""
+    word = "spec"
+    try:
+        with open(os.path.join(room, "spec"), "rb") as it:
+            spec = model.read_description(it.read())
+        plan = []
+        for word in [] if of_show else scripts:
+            with open(os.path.join(room, word), "rb") as it:
+                plan.append(model.read_script(it.read(), sum(map(len, plan))))
+        word = "folder"
+        return spec, plan, model.load(os.path.join(room, "in"))
+    except model.Refused as refused:
+        return (4 if word == "folder" else 3), f"txforest: {word}: {refused}\n"
+
+
+def compare(room, maker, counts):
+    r = maker.r
+    maker.folder(os.path.join(room, "in"))
+    spec, _ = maker.spec([])
+    with open(os.path.join(room, "spec"), "wb") as it:
+        it.write(maker.broken(spec.encode()))
+    scripts = [f"s{i}" for i in range(r.choice([1, 1, 2, 2, 3]))]
+    for name in scripts:
+        with open(os.path.join(room, name), "wb") as it:
+            it.write(maker.broken(maker.script()))
+    schedule = [r.randrange(len(scripts)) for _ in range(r.randrange(0, 12))]
+
+    found = run(["show", "spec", "in"], room)
+    read = inputs(room, scripts, True)
+    if len(read) == 2:
+        expect("show", found, (read[0], "", read[1]))
+        counts[f"show refused {read[0]}"] += 1
+    else:
+        try:
+            v = model.value(model.View(read[2].get), (), [], read[0])
+            wanted = f"valid yes\nvalue {model.printed(v)}\n"
+        except model.NoValue:
+            wanted = "valid no\n"
+        expect("show", found, (0, wanted, ""))
+        counts[wanted.split("\n")[0]] += 1
+
+    read = inputs(room, scripts, False)
+    words = ["trace", "spec", "in", "out", ",".join(map(str, schedule)) or "none", *scripts]
+    found = run(words, room)
+    if len(read) == 2:
+        expect("trace", found, (read[0], "", read[1]))
+        expect("run", run(["run", "spec", "in", "out", *scripts], room), found)
+        counts[f"run refused {read[0]}"] += 1
+        return
+    root, plan, store = read
+    events, order, retries, last = model.trace(root, plan, store, schedule)
+    expect("trace", found, (0, "".join(e + "\n" for e in events) + model.report(order, retries), ""))
+    expect("OUT", model.saved(os.path.join(room, "out")), model.folder_of(last))
+    for _, _, _, end in order:
+        counts[re.sub(r"stopped \d+ (\d+ \w+).*", r"stopped \1", end)] += 1
+    counts["conflicts"] += len(retries)
+    shutil.rmtree(os.path.join(room, "out"))
+
+    status, printed, line = run(["run", "spec", "in", "out", *scripts], room)
+    expect("run", (status, line), (0, ""))
+    turns = [(int(k), int(j)) for k, j in re.findall(r"(?m)^entry \d+ shell (\d+) txn (\d+) ", printed)]
+    retries = re.findall(r"(?m)^retry shell (\d+) txn (\d+) entry (\d+) path (.*)$", printed)
+    expect("the order of run", sorted(turns), [(k, j) for k, txns in enumerate(plan) for j in range(len(txns))])
+    for k in range(len(plan)):
+        expect("the order of a shell", [j for i, j in turns if i == k], list(range(len(plan[k]))))
+    answers, last = model.whole_run(root, [plan[k][j] for k, j in turns], store)
+    wanted = model.report([(k, j, outputs, end) for (k, j), (outputs, end) in zip(turns, answers)], [])
+    cut = printed.index("retries ") if not turns else printed.rindex("\nretries ") + 1
+    expect("the answers of run", printed[:cut], wanted[: wanted.rindex("retries ")])
+    for k, j, i, _ in retries:
+        if not turns.index((int(k), int(j))) > int(i) or turns[int(i)][0] == int(k):
+            raise Different(f"a retry of run names no earlier entry of another shell: {printed}")
+    expect("OUT of run", model.saved(os.path.join(room, "out")), model.folder_of(last))
+    counts["runs"] += 1
+    counts["retries of runs"] += len(retries)
+
+
+counts = Counter()
+for case in range(SEED, SEED + COUNT):
+    with tempfile.TemporaryDirectory(prefix="compare-") as room:
+        try:
+            compare(room, Maker(random.Random(case)), counts)
+        except Different as different:
+            kept = f"/tmp/compare-{case}"
+            shutil.rmtree(kept, ignore_errors=True)
+            shutil.copytree(room, kept)
+            sys.exit(f"case {case}, kept in {kept}: {different}")
+for what, n in sorted(counts.items()):
+    print(f"{n:7} {what}")
+print(f"{COUNT:7} cases, the same in both")

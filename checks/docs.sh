@@ -1,0 +1,16 @@
+#!/usr/bin/env bash
+# Builds the program and runs the commands that the documents show, and the examples: each has to print what stands there.
+set -eu
+top=$(cd "$(dirname "$0")/.." && pwd)
+program=$("$top/bench/build.sh")
+python3 -B "$top/checks/docs.py" "$program" docs/GUIDE.md
+fresh=$(mktemp -d)
+trap 'rm -rf "$fresh"' EXIT
+for example in config:add,scale,check projects:count,log,turn records:add,careless releases:release,use,half; do
+    cd "$top/examples/${example%%:*}"
+    scripts=${example#*:}
+    "$program" trace description folder "$fresh/out" "$(cat schedule)" ${scripts//,/ } | diff report -
+    "$program" show description "$fresh/out" | grep -q '^valid yes$'
+    rm -r "$fresh/out"
+done
+echo "the examples print what their reports show"

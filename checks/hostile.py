@@ -1,0 +1,357 @@
+"""Runs the built program on what a hostile user, disk or machine may give it.
+
+usage: hostile.py PROGRAM
+
+Each try has a stage of its own: a fresh folder with the texts, FOLDER and what else it needs. After it the status must be
+one that the try allows, standard error must hold one line of the program exactly where the status is not 0, everything
+on the stage but OUT must be as before, and the program must have ended by itself and in time. Prints how many tries each
+part made, and ends with 1 at the first that is not so.
+"""
+
+import contextlib
+import hashlib
+import os
+import resource
+import signal
+import socket
+import stat
+import subprocess
+import sys
+import tempfile
+import threading
+import time
+
+PROGRAM = os.path.abspath(sys.argv[1])
+SECONDS = 120
+
+# What each status may be called for: everything that reads, everything that may be done.
+DONE, USAGE, TEXT, FOLDER, READ, TAKEN, WRITE, MEMORY = 0, 2, 3, 4, 5, 6, 7, 8
+TEXT_LIMIT = 65_536
+FILE_LIMIT = 1_048_576
+
+FILES = {"a": b"hi", "n": b"7\n", "list": b"a\nn\n", "d/x": b"1", "d/e/y": b"2"}
+LINKS = b"/cur -> d\n"
+
+DESCRIPTIONS = [
+    'file',
+    '("a" :: file)',
+    '<x : ("list" :: file), {(y :: opt(file)) | y in lines(x)}>',
+    '<d : dir, {(n :: file) | n in (d only "*.txt")}>',
+    '(("cur" ++ "/x") :: opt(<s : file, pred((size(s) < 10))>))',
+]
+SCRIPTS = [
+    'txn { down fetch x : str print(x) }',
+    'txn { down store("ho") up }\ntxn { down fetch x : str store(x) print("a\\x41") }',
+    'txn { into next try e down print(e) each n in ((one("a") union one("b"))) { if ((n == "a")) { print(n) } else { abort } } }',
+    'txn { validate v let t = if(v, "y", "n") set t = (t ++ "!") print(t) }',
+    '# comment\ntxn{}txn { value v : pair(str, table(opt(str))) print(second(v)) }',
+]
+
+
+class Wrong(Exception):
+    """A try that did not go as it should."""
+
+
+def tree_sum(folder, without):
+    """A sum over everything below a folder but one path: names, kinds, modes and bytes."""
+    found = hashlib.sha256()
+    for at, folders, files in os.walk(folder):
+        folders[:] = sorted(f for f in folders if os.path.join(at, f) != without)
+        for name in sorted(folders + files):
+            path = os.path.join(at, name)
+            if path == without:
+                continue
+            mode = os.lstat(path).st_mode
+            found.update(repr((os.path.relpath(path, folder), stat.S_IFMT(mode))).encode("utf-8", "surrogateescape"))
+            if stat.S_ISREG(mode):
+                with contextlib.suppress(PermissionError), open(path, "rb") as it:
+                    found.update(it.read())
+    return found.hexdigest()
+
+
+class Stage:
+    """A fresh folder with a description, a script and FOLDER, in which the program is run."""
+
+    def __init__(self, files=FILES, description=DESCRIPTIONS[1], script=SCRIPTS[0], table=None):
+        self.room = tempfile.TemporaryDirectory(prefix="hostile-")
+        self.top = self.room.name
+        os.chmod(self.top, 0o755)
+        self.out = self.path("out")
+        self.put("spec", description)
+        self.put("script", script)
+        os.mkdir(self.path("in"))
+        for name, content in files.items():
+            self.put(f"in/{name}", content)
+        if table is not None:
+            self.put("in/.forest-links", table)
+
+    def __enter__(self):
+        return self
+
+    def __exit__(self, *_):
+        self.room.cleanup()
+
+    def path(self, name):
+        return os.path.join(self.top, name)
+
+    def put(self, name, content):
+        path = self.path(name)
+        os.makedirs(os.path.dirname(path), exist_ok=True)
+        with open(path, "wb") as it:
+            it.write(content.encode() if isinstance(content, str) else content)
+
+    def run(self, allowed, words=None, **given):
+        """Runs the program, and gives the status with what it printed."""
+        global tries
+        tries += 1
+        words = words or ["run", "spec", "in", "out", "script"]
+        given.setdefault("stdout", subprocess.PIPE)
+        keeps = given.pop("keeps", True)
+        meanwhile = given.pop("meanwhile", None)
+        before = tree_sum(self.top, self.out)
+        with subprocess.Popen([PROGRAM, *words], cwd=self.top, stdin=subprocess.DEVNULL, stderr=subprocess.PIPE, **given) as child:
+            if meanwhile:
+                meanwhile(child)
+            try:
+                printed, line = child.communicate(timeout=SECONDS)
+            except subprocess.TimeoutExpired:
+                child.kill()
+                raise Wrong(f"{words}: it did not end within {SECONDS} s") from None
+        status = child.returncode
+        if status < 0:
+            raise Wrong(f"{words}: ended by {signal.Signals(-status).name}")
+        if status not in allowed:
+            raise Wrong(f"{words}: status {status}, {line!r}, where {sorted(allowed)} may come")
+        if (status == 0) != (line == b"") or line.count(b"\n") > 1 or line and not line.startswith(b"txforest: "):
+            raise Wrong(f"{words}: status {status} with {line!r} on standard error")
+        if keeps and tree_sum(self.top, self.out) != before:
+            raise Wrong(f"{words}: something besides OUT changed")
+        if status in (USAGE, TEXT, FOLDER, READ, TAKEN) and (printed or os.path.lexists(self.out) and status != TAKEN):
+            raise Wrong(f"{words}: status {status}, and something was printed or written")
+        return status, printed
+
+
+def broken_texts():
+    """Ten good texts, each with every byte left out, doubled and turned into others."""
+    for texts, name in ((DESCRIPTIONS, "spec"), (SCRIPTS, "script")):
+        words = ["show", "spec", "in"] if name == "spec" else None
+        for text in texts:
+            good = text.encode()
+            with Stage(table=LINKS) as stage:
+                for i, byte in enumerate(good):
+                    turned = [bytes([byte ^ bit]) for bit in (0x01, 0x20, 0x80)]
+                    for piece in (b"", bytes([byte, byte]), *turned, b"\0"):
+                        stage.put(name, good[:i] + piece + good[i + 1 :])
+                        status, _ = stage.run({DONE, TEXT}, words)
+                        if status == DONE and os.path.isdir(stage.out):
+                            subprocess.run(["rm", "-r", stage.out], check=True)
+
+
+def nested(open_, inner, close, depth):
+    return open_ * depth + inner + close * depth
+
+
+def limits():
+    """Texts, names, files, folders, links, tables, schedules and scripts at their limits, and one beyond."""
+    show = ["show", "spec", "in"]
+    for size, allowed in ((TEXT_LIMIT, {DONE}), (TEXT_LIMIT + 1, {TEXT}), (1 << 24, {TEXT})):
+        with Stage(description=DESCRIPTIONS[1] + " " * (size - len(DESCRIPTIONS[1]))) as stage:
+            stage.run(allowed, show)
+        with Stage(script=SCRIPTS[0] + " " * (size - len(SCRIPTS[0]))) as stage:
+            stage.run(allowed)
+    for depth, allowed in ((63, {DONE}), (64, {TEXT}), (16_000, {TEXT})):
+        with Stage(description=nested("opt(", "file", ")", depth)) as stage:
+            stage.run(allowed, show)
+    for depth in (62, 63, 64, 9_000):
+        with Stage(description=f'({nested("(", chr(34) + "a" + chr(34), " ++ " + chr(34) * 2 + ")", depth)} :: file)') as stage:
+            stage.run({DONE} if depth < 63 else {TEXT}, show)
+        with Stage(script=f"txn {{ {nested('if (true) { ', 'print(1)', ' } else { }', depth)} }}") as stage:
+            stage.run({DONE, TEXT})
+    for size, allowed in ((FILE_LIMIT, {DONE}), (FILE_LIMIT + 1, {FOLDER})):
+        with Stage(files={"a": b"x" * size}) as stage:
+            stage.run(allowed)
+    for length, allowed in ((255, {DONE}),):
+        with Stage(files={"n" * length: b"", "a": b"1"}) as stage:
+            stage.run(allowed)
+    for depth, allowed in ((64, {DONE, FOLDER}), (65, {FOLDER})):
+        with Stage(files={"/".join(["d"] * (depth - 1) + ["a"]): b"1", "a": b""}) as stage:
+            stage.run(allowed)
+    with Stage(files={f"{i:03}": b"x" * FILE_LIMIT for i in range(64)} | {"zz": b"1"}) as stage:
+        stage.run({FOLDER})
+    for count, allowed in ((64, {DONE}), (65, {USAGE})):
+        with Stage() as stage:
+            stage.run(allowed, ["trace", "spec", "in", "out", "none", *["script"] * count])
+    for schedule in ("", "0,", ",0", "00", "01", "1", "-1", "+0", "4294967296", "0 ,0", "none,0", "None", "0,0x1"):
+        with Stage() as stage:
+            stage.run({USAGE}, ["trace", "spec", "in", "out", schedule, "script"])
+    with Stage() as stage:
+        stage.run({DONE}, ["trace", "spec", "in", "out", ",".join(["0"] * 30_000), "script"])
+    many = "txn{}" * (TEXT_LIMIT // 5)
+    rest = "txn{}" * (100_000 - 7 * (TEXT_LIMIT // 5))
+    for last, allowed in ((rest, {DONE}), (rest + "txn{}", {TEXT})):
+        with Stage(script=many) as stage:
+            stage.put("last", last)
+            stage.run(allowed, ["trace", "spec", "in", "out", "none", *["script"] * 7, "last"])
+
+
+def tables():
+    """Tables of links, good and broken."""
+    good = [b"", LINKS, b"/l -> a\n/m -> ../x\n", b"/a%20b -> ../x\n/cur -> p\n"]
+    for text in good:
+        with Stage(table=text) as stage:
+            stage.run({DONE, FOLDER})
+    for text in (
+        b"/l -> a", b"/%6C -> a\n", b"/l  -> a\n", b"/ -> a\n", b"/l -> a/\n", b"/a/l -> a\n", b"/a -> a\n",
+        b"/m -> a\n/l -> a\n", b"\n", b"/l -> \n", b"/l\0 -> a\n", b"\xff\n", b"/l -> a\r\n", b"/gone/l -> a\n",
+        b"/l -> " + b"a" * 4_097 + b"\n", b"/l -> " + b"/".join([b"a"] * 65) + b"\n", b"/" + b"n" * 256 + b" -> a\n",
+    ):
+        with Stage(table=text) as stage:
+            stage.run({FOLDER})
+    full = b"".join(b"/%05d -> a\n" % i for i in range(50_000))
+    with Stage(table=full) as stage:
+        stage.run({DONE, FOLDER})
+    with Stage(files={"a": b"1", ".forest-links/x": b""}) as stage:
+        stage.run({FOLDER})
+
+
+def strange_entries():
+    """Links, pipes, sockets and devices in FOLDER, and in the place of each word."""
+    makers = {
+        "symbolic link": lambda path: os.symlink("a", path),
+        "dangling link": lambda path: os.symlink("gone", path),
+        "link to itself": lambda path: os.symlink("s", path),
+        "pipe": os.mkfifo,
+        "socket": lambda path: socket.socket(socket.AF_UNIX).bind(path),
+    }
+    if os.geteuid() == 0:
+        makers["device"] = lambda path: os.mknod(path, 0o600 | stat.S_IFCHR, os.makedev(1, 3))
+    for make in makers.values():
+        for name in ("s", "d/s"):
+            with Stage() as stage:
+                with contextlib.suppress(PermissionError):
+                    make(stage.path(f"in/{name}"))
+                    stage.run({FOLDER})
+    for word in ("spec", "script", "in"):
+        for other in ("gone", "in", "in/d", "/dev/null", "/dev/zero", "/proc/self/mem", "."):
+            words = ["run", "spec", "in", "out", "script"]
+            words[words.index(word)] = other
+            with Stage() as stage:
+                stage.run({DONE, TEXT, FOLDER, READ, TAKEN, WRITE}, words, keeps=other != ".")
+    for out, allowed in (("in", {TAKEN}), ("spec", {TAKEN}), ("gone/out", {WRITE}), ("/dev/null", {TAKEN}), ("spec/out", {WRITE})):
+        with Stage() as stage:
+            stage.run(allowed, ["run", "spec", "in", out, "script"])
+    with Stage() as stage:
+        os.symlink("gone", stage.path("out"))
+        stage.run({TAKEN, WRITE})
+
+
+def words():
+    """Command lines of no form."""
+    for line in (
+        [], ["run"], ["run", "spec", "in", "out"], ["Run", "spec", "in", "out", "script"], ["--help"], ["--version"], ["-"],
+        ["run", "spec", "in", "out", "-x"], ["run", "spec", "in", "out", ""], ["show", "spec"], ["show", "spec", "in", "out"],
+        ["trace", "spec", "in", "out", "script"], ["run", "spec", "in", "out", *["script"] * 65], [b"\xff"], ["nothing", "spec"],
+    ):
+        with Stage() as stage:
+            stage.run({USAGE}, line)
+
+
+def outputs():
+    """Standard outputs that are closed, full, slow, or go away."""
+    with Stage(script='txn { print("hello") }' * 2_000) as stage:
+        with open("/dev/full", "wb") as full:
+            stage.run({WRITE, TEXT}, stdout=full)
+    with Stage() as stage:
+        stage.run({WRITE}, preexec_fn=lambda: os.close(1), stdout=None)
+    with Stage(script='txn { print("hello") }' * 2_000) as stage:
+        read, write = os.pipe()
+        os.close(read)
+        stage.run({WRITE, TEXT}, stdout=write)
+        os.close(write)
+    with Stage(script='txn { print("hello") }' * 2_000) as stage:
+
+        def slowly(child):
+            for _ in range(20):
+                time.sleep(0.01)
+                child.stdout.read(512)
+
+        stage.run({DONE, TEXT}, meanwhile=slowly)
+
+
+def places():
+    """Folders that can't be read or written, that are full, and that change under the program's hands."""
+    if os.geteuid() == 0:
+        nobody = {"user": 65534, "group": 65534, "extra_groups": []}
+        for name in ("spec", "script", "in", "in/a", "in/d"):
+            with Stage() as stage:
+                os.chmod(stage.path(name), 0)
+                stage.run({READ, WRITE}, **nobody)
+        with Stage() as stage:
+            stage.run({WRITE}, **nobody)
+        with Stage() as stage:
+            small = stage.path("small")
+            os.mkdir(small)
+            mounted = subprocess.run(["mount", "-t", "tmpfs", "-o", "size=64k", "tmpfs", small], stderr=subprocess.DEVNULL)
+            if mounted.returncode == 0:
+                try:
+                    stage.put("in/big", b"x" * 500_000)
+                    stage.run({WRITE}, ["run", "spec", "in", "small/out", "script"], keeps=False)
+                finally:
+                    subprocess.run(["umount", small], check=True)
+    for _ in range(20):
+        with Stage(files={f"d{i}/f{j}": b"x" * 100 for i in range(20) for j in range(20)}) as stage:
+            ended = threading.Event()
+
+            def removing():
+                for i in range(20):
+                    for j in range(20):
+                        with contextlib.suppress(OSError):
+                            os.remove(stage.path(f"in/d{i}/f{j}"))
+                        if ended.is_set():
+                            return
+
+            thread = threading.Thread(target=removing)
+            stage.run({DONE, FOLDER, READ}, keeps=False, meanwhile=lambda _, it=thread: it.start())
+            ended.set()
+            thread.join()
+
+
+def machine():
+    """Little memory, few open files, and signals that stop and wake the program."""
+    for size in (1 << 20, 1 << 22, 1 << 24, 1 << 26, 1 << 28):
+        for given in (FILES, {"a": b"x" * FILE_LIMIT, **{f"{i}": b"y" * 10_000 for i in range(500)}}):
+            with Stage(files=given) as stage:
+
+                def little(size=size):
+                    resource.setrlimit(resource.RLIMIT_DATA, (size, size))
+
+                stage.run({DONE, READ, WRITE, MEMORY}, preexec_fn=little)
+    for count in (3, 4, 5, 8):
+        with Stage() as stage:
+
+            def few(count=count):
+                resource.setrlimit(resource.RLIMIT_NOFILE, (count, count))
+
+            stage.run({DONE, READ, WRITE}, preexec_fn=few)
+    with Stage(files={f"d{i}/f{j}": b"x" * 100 for i in range(30) for j in range(50)}) as stage:
+
+        def stopping(child):
+            for _ in range(50):
+                with contextlib.suppress(ProcessLookupError):
+                    child.send_signal(signal.SIGSTOP)
+                    child.send_signal(signal.SIGCONT)
+                    child.send_signal(signal.SIGWINCH)
+                time.sleep(0.001)
+
+        stage.run({DONE, FOLDER}, meanwhile=stopping)
+
+
+tries = 0
+for part in (words, broken_texts, limits, tables, strange_entries, outputs, places, machine):
+    first = tries
+    try:
+        part()
+    except Wrong as wrong:
+        sys.exit(f"{part.__name__}: {wrong}")
+    print(f"{tries - first:6} tries: {part.__doc__.rstrip('.')}", flush=True)
+print(f"{tries:6} tries, each with an allowed status and nothing else changed")
