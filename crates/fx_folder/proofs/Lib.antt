@@ -8,6 +8,7 @@ pub mod Filled
 pub mod FlatLoads
 pub mod Fronts
 pub mod Gives
+pub mod Growing
 pub mod HeldEntries
 pub mod Items
 pub mod Linking

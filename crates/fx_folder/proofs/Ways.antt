@@ -100,7 +100,7 @@ fault_told (Some t) at (Refused why) cause = cause
 fault_told (Some t) at ReadFault cause = tt
 fault_told (Some t) at NoMemory cause = tt
 
-root_pushed : (items : List Change) (p : Parts) (names : List (List ℕ)) → items ≡ [] → p ≡ [] → names ≡ [] → items ++ record { path = p; node = Some (Dir names) } ∷ [] ≡ root_found ∷ []
+pub root_pushed : (items : List Change) (p : Parts) (names : List (List ℕ)) → items ≡ [] → p ≡ [] → names ≡ [] → items ++ record { path = p; node = Some (Dir names) } ∷ [] ≡ root_found ∷ []
 root_pushed items p names a b c =
     ap (λ l. l ++ record { path = p; node = Some (Dir names) } ∷ []) a
     ∙ ap (λ q. record { path = q; node = Some (Dir names) } ∷ []) b

@@ -2,6 +2,7 @@ pub mod Deep
 pub mod DeepExamples
 pub mod Faults
 pub mod Folder
+pub mod Grown
 pub mod Held
 pub mod Limits
 pub mod LoadLaws
