@@ -1,6 +1,7 @@
 pub mod Behind
 pub mod Below
 pub mod Branches
+pub mod Making
 pub mod Counted
 mod DeepExamples
 pub mod Descents
@@ -14,6 +15,7 @@ pub mod Items
 pub mod Linking
 pub mod Listings
 pub mod Loaded
+pub mod Naming
 pub mod Places
 pub mod Reading
 pub mod Refusals

@@ -23,6 +23,7 @@ use Rattle.fx_store.proofs.Stores.{IsWhole-same}
 use Rattle.fx_folder.specs.Table.{is_dir}
 use Rattle.fx_folder.specs.Deep.{Mapped, names_below, with_names, listed}
 use Rattle.fx_folder.specs.LoadLaws.{IsOfBytes, AreOfBytes}
+pub use Rattle.fx_folder.specs.Shaped.{IsLeaf, IsShaped}
 
 abbrev Paths : Type 0
 Paths = List (List ℕ)
@@ -102,19 +103,6 @@ no_names (n ∷ ns) never = absurd (never n (has_first n ns))
 
 -- ---- a shape of a filestore
 
--- within the limits, whichever bytes a file holds
-abbrev pub IsLeaf : Node → Type 0
-IsLeaf (File bytes) = length bytes ≤ MAX_FILE_BYTES
-IsLeaf (Dir names) = ⊤
-IsLeaf (Link text) = IsLinkText text
-
--- a root, and a directory above each path; what the directories list is left open
-pub record IsShaped (S : Store) : Type 0 where
-  pub root : is_dir (S []) ≡ true
-  pub above : (path : Paths) (name : List ℕ) → is_some (S (path ++ name ∷ [])) ≡ true → is_dir (S path) ≡ true
-  pub paths : (path : Paths) → IsSome (S path) → IsPath path
-  pub leaves : (path : Paths) → IfSome (S path) IsLeaf
-
 last_name : (path : Paths) (name : List ℕ) → All IsName (path ++ name ∷ []) → IsName name
 last_name [] name all = All-head IsName name [] all
 last_name (n ∷ path) name all = last_name path name (All-tail IsName n (path ++ name ∷ []) all)
@@ -173,7 +161,7 @@ module _ (es : List Mapped) (up : IsStrictlySortedBy path_cmp (keys_of es)) (sha
   path_below : (path : Paths) (name : List ℕ) → has (names_below es path) name ≡ true → IsPath (path ++ name ∷ [])
   path_below path name h = shape.paths (path ++ name ∷ []) (sym (has_below es path name) ∙ h)
 
-  is_set : (path : Paths) → IsNode path (Dir (names_below es path))
+  pub is_set : (path : Paths) → IsNode path (Dir (names_below es path))
   is_set path = (
     record {
       names = all_names (names_below es path) (λ n h. last_name path n (path_below path n h).names);

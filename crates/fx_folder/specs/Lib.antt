@@ -12,6 +12,7 @@ pub mod Places
 pub mod Reads
 pub mod RefusalLaws
 pub mod Remaining
+pub mod Shaped
 pub mod Table
 pub mod TableExamples
 pub mod TableLaws

@@ -1,6 +1,7 @@
 //! Folders of a host as filestores, and filestores as folders.
 #![tactic(auto)]
 
+mod building;
 mod descent;
 mod fault;
 pub mod laws;
