@@ -13,6 +13,7 @@ pub mod Growing
 pub mod HeldEntries
 pub mod Items
 pub mod Linking
+pub mod Lining
 pub mod Listings
 pub mod Loaded
 pub mod Naming

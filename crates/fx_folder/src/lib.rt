@@ -5,6 +5,7 @@ mod building;
 mod descent;
 mod fault;
 pub mod laws;
+mod lines;
 mod links;
 mod listing;
 mod loading;
