@@ -21,6 +21,7 @@ pub mod Places
 pub mod Reading
 pub mod Refusals
 pub mod RoundTrip
+pub mod Searching
 pub mod Shapes
 mod TableExamples
 pub mod TableFronts

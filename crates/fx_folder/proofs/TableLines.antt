@@ -97,7 +97,7 @@ path_bytes (n ∷ ns) all = names_bytes (n ∷ ns) all
 few : {A : Type 0} (n : ℕ) (x : Result A PathFault) (f : PathFault) → n ≤ 64 → cond (nat_lt 64 n) (Err f) x ≡ x
 few n x f h = grind (arith, nat_tests)
 
-read_path_text : (p : List (List ℕ)) → IsPath p → read_path (path_text p) ≡ Ok p
+pub read_path_text : (p : List (List ℕ)) → IsPath p → read_path (path_text p) ≡ Ok p
 read_path_text p path = (path_texts_read (path_text p) p).reads (record { names = path.names; spelled = refl }) ∙ few (length p) (Ok p) TooDeep path.short
 
 chosen_ok : {A : Type 0} (b : Bool) (x : Result A PathFault) (f : PathFault) (a : A) → cond b x (Err f) ≡ Ok a → (b ≡ true) × (x ≡ Ok a)

@@ -1,5 +1,5 @@
 -- What the reader of a table answers, line by line.
-use Rattle.std.specs.Prelude.{◌≡◌, ℕ, ◌+◌, ◌-◌, ◌<◌, ◌≤◌, ◌==◌, Bool, true, false, not, ◌||◌, nat_lt, List, [], ◌∷◌, ◌++◌, map, length, take, drop, sum_by, All, IsTrue, Option, Some, None, Result, Ok, Err, ⊤}
+use Rattle.std.specs.Prelude.{◌≡◌, ℕ, ◌+◌, ◌-◌, ◌<◌, ◌≤◌, ◌==◌, Bool, true, false, not, ◌||◌, nat_lt, List, [], ◌∷◌, ◌++◌, map, length, take, drop, sum_by, All, IsTrue, unwrap_or, Option, Some, None, Result, Ok, Err, ⊤}
 use Rattle.std.specs.Option.{option_map}
 use Rattle.std.specs.List.Sorted.{IsStrictlySortedBy}
 use Rattle.fx_store.specs.declared.node.Node.{Node}
@@ -7,7 +7,7 @@ use Rattle.fx_store.specs.declared.node.Node.TheVariants.{File, Dir, Link}
 use Rattle.fx_store.specs.declared.changes.Change.{Change}
 use Rattle.fx_store.specs.declared.link.LinkText.{LinkText}
 use Rattle.fx_store.specs.declared.path.Path.{Path}
-use Rattle.fx_store.specs.Changes.{changed_paths}
+use Rattle.fx_store.specs.Changes.{changed_paths, change_at}
 use Rattle.fx_store.specs.Names.{path_cmp, IsPath}
 use Rattle.fx_store.specs.Whole.{Store}
 use Rattle.fx_folder.specs.declared.fault.FolderCause.{FolderCause}
@@ -41,6 +41,10 @@ links_in changes = map link_in changes
 pub record AreLinks (S : Store) (changes : List Change) : Type 0 where
   pub made : changes ≡ map link_change (links_in changes)
   pub table : IsTable S (links_in changes)
+
+-- what stands at a path by changes alone
+abbrev pub standing_by : List Change → Store
+standing_by changes path = unwrap_or (change_at changes path) None
 
 -- the first place of a byte, if there is any
 abbrev pub IsAbsent : ℕ → List ℕ → Type 0

@@ -4,6 +4,7 @@
 mod building;
 mod descent;
 mod fault;
+mod ground;
 pub mod laws;
 mod lines;
 mod links;

@@ -1,7 +1,6 @@
 //! The reader of a table's lines.
-ghost use Rattle.std.specs.Prelude.{◌≡◌, ◌<◌, ◌++◌, ◌∷◌, [], length, IfOk, IfErr, OnOk};
+ghost use Rattle.std.specs.Prelude.{◌≡◌, ◌∷◌, [], IfOk, IfErr};
 ghost use Rattle.fx_store.specs.Whole.{Store};
-ghost use Rattle.fx_store.specs.Resolve.{parent};
 ghost use Rattle.fx_folder.specs.Table.{can_stand};
 ghost use Rattle.fx_folder.specs.Lines.{FindsFirst, GivesLine, DecidesFollow, AreLinks, ReadsNext, StopsNext, ReadsAll, LinesCause, TakesRoom};
 ghost use Rattle.fx_folder.specs.Deep.{place_of};
@@ -11,7 +10,7 @@ use crate::table::link_of;
 use crate::{FolderCause, LoadFault};
 use fx_base::NoMemory;
 use fx_outside::HostText;
-use fx_store::{Change, Changes, LinkText, Name, Node, Path, PathFault};
+use fx_store::{Change, Changes, LinkText, Node, Path};
 use std::alloc::Global;
 
 /// Files and directories, among which links are made.
@@ -159,34 +158,4 @@ pub(crate) fn table_place(alloc: Global) -> Result<HostText, NoMemory>
     ensures { IfOk result (λ place. place ≡ place_of (table_name ∷ [])) }
 {
     Ok(HostText::from_string(String::from_str(alloc, "/.forest-links")?))
-}
-
-/// The path above one that has names.
-fn parent_of(alloc: Global, path: &Path) -> Result<Path, NoMemory>
-    ensures { IfOk result (λ above. above ≡ parent path.now) }
-{
-    let mut text = Vec::new(alloc);
-    for i in 1..path.len() {
-        if let Some(name) = path.name(i - 1) {
-            add_name(&mut text, name)?;
-        }
-    }
-    if text.len() == 0 {
-        return Ok(Path::root(alloc));
-    }
-    match Path::read(alloc, &text) {
-        Ok(above) => Ok(above),
-        Err(PathFault::NoMemory) => Err(NoMemory),
-        Err(PathFault::BadName) => unreachable!(),
-        Err(PathFault::TooDeep) => unreachable!(),
-    }
-}
-
-/// Adds `/` and a name.
-fn add_name(text: &mut Vec<u8>, name: &Name) -> Result<(), NoMemory>
-    ensures { OnOk result (text.new.items ≡ text.old.items ++ 47 ∷ name.now) }
-{
-    text.push(b'/')?;
-    text.extend_from_slice(name.as_slice())?;
-    Ok(())
 }
