@@ -16,6 +16,7 @@ pub mod Linking
 pub mod Lining
 pub mod Listings
 pub mod Loaded
+pub mod Mixing
 pub mod Naming
 pub mod Places
 pub mod Reading

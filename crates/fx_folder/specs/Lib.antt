@@ -9,6 +9,7 @@ pub mod Lines
 pub mod LoadLaws
 pub mod Loads
 pub mod Mapped
+pub mod Merges
 pub mod Places
 pub mod Reads
 pub mod RefusalLaws

@@ -10,6 +10,7 @@ mod lines;
 mod links;
 mod listing;
 mod loading;
+mod merging;
 mod readying;
 mod saving;
 mod spelling;
