@@ -19,6 +19,7 @@ pub mod Table
 pub mod TableExamples
 pub mod TableLaws
 pub mod TableSpelling
+pub mod Tables
 pub mod Unspells
 pub mod Walks
 pub mod Written

@@ -5,6 +5,7 @@ mod building;
 mod descent;
 mod fault;
 mod ground;
+mod joining;
 pub mod laws;
 mod lines;
 mod links;

@@ -21,5 +21,5 @@ loop-change-preserved c = record {
 
 pub returns : goal.returns
 returns c =
-    let end = YieldsList-end (YieldsList-from_vec c.args.found.items c.into_iter-change-iterator.ensures.into_iter_gives.0 (c.into_iter-change-iterator.ensures.into_iter_gives.1 ∙ c.args.found.ok.0)) c.loop-change.yielded _ c.loop-change.yielded_by _ _ c.in-None.is c.next.ensures.steps in
+    let end = YieldsList-end (YieldsList-from_vec {s = c.into_iter-change-iterator.result} c.args.found.items c.into_iter-change-iterator.ensures.into_iter_gives.0 (c.into_iter-change-iterator.ensures.into_iter_gives.1 ∙ c.args.found.ok.0)) c.loop-change.yielded c.loop-change.change-iterator c.loop-change.yielded_by _ c.next.new.self c.in-None.is c.next.ensures.steps in
     merging_end c.args.found.items (links_in c.args.links) c.loop-change.yielded c.loop-change.rest.items c.loop-change.all.items c.move_rest.new.all.items c.loop-change.invariant.merging (sym end.0 ∙ map-id c.loop-change.yielded) c.in_ok-move_rest.ensures

@@ -1,10 +1,10 @@
-use Rattle.std.proofs.Common.{◌≡◌, ◌++◌, true, length, take, arith, sym, subst, ◌∙◌}
+use Rattle.std.proofs.Common.{refl, ◌≡◌, ◌++◌, true, length, take, arith, sym, subst, ◌∙◌}
 use Rattle.std.proofs.lemmas.Grind.{common_steps}
 use Rattle.fx_outside.specs.Path.{is_fit}
 use Rattle.fx_outside.proofs.Views.{reads_then}
 use Rattle.fx_folder.specs.Reads.{path_below}
 use Rattle.fx_folder.proofs.Reading.{front_told}
-use Rattle.fx_folder.proofs.loading.read_file.Goals as goal
+use Rattle.fx_folder.proofs.loading.read_whole.Goals as goal
 
 pub loop-bytes-preserved : goal.loop-bytes-preserved
 loop-bytes-preserved g c =
@@ -13,6 +13,7 @@ loop-bytes-preserved g c =
     record {
       within = grind (arith, common_steps);
       reads = reads_then _ _ _ c.loop-bytes.invariant.reads c.read.ensures.same;
-      fit = λ fit. c.read.ensures.unfit.fit (subst (λ p. is_fit p ≡ true) (sym c.in_ok-path.ensures) fit) ∙ c.loop-bytes.invariant.fit fit;
-      front = front_told _ _ (path_below c.args.folder.now c.args.name.now) c.in_ok-path.path c.loop-bytes.bytes.items c.read.new.buf c.extend_from_slice.new.self.items c.len.result c.in_ok-count.count c.loop-bytes.invariant.reads.same c.in_ok-path.ensures start c.loop-bytes.invariant.front c.in_ok-count.ensures.answer longer;
+      fit = λ fit. c.read.ensures.unfit.fit (fit) ∙ c.loop-bytes.invariant.fit fit;
+      front = front_told _ _ c.args.path.now c.args.path.now c.loop-bytes.bytes.items c.read.new.buf c.extend_from_slice.new.self.items c.len.result c.in_ok-count.count c.loop-bytes.invariant.reads.same refl start c.loop-bytes.invariant.front c.in_ok-count.ensures.answer longer;
     }
+
