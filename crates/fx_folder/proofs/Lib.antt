@@ -6,11 +6,11 @@ pub mod Counted
 mod DeepExamples
 pub mod Descents
 pub mod Filled
-pub mod FlatLoads
+pub mod Answering
 pub mod Fronts
+pub mod Gathering
 pub mod Gives
 pub mod Growing
-pub mod HeldEntries
 pub mod Items
 pub mod Linking
 pub mod Lining
@@ -33,7 +33,6 @@ mod TableSpelling
 pub mod TableTexts
 pub mod Texts
 pub mod Unspelled
-pub mod Walk
 pub mod Walked
 pub mod Ways
 pub mod Writes

@@ -32,7 +32,7 @@ paths_of : (es : List Mapped) → changed_paths (changes_of es) ≡ keys_of es
 paths_of [] = refl
 paths_of (e ∷ es) = ap (λ l. e.0 ∷ l) (paths_of es)
 
-set_at : (es : List Mapped) (q : Parts) → change_at (changes_of es) q ≡ option_map Some (found es q)
+pub set_at : (es : List Mapped) (q : Parts) → change_at (changes_of es) q ≡ option_map Some (found es q)
 set_at [] q = refl
 set_at (e ∷ es) q = by (eq_by_cmp path_cmp q e.0) (set_at es q)
   where

@@ -23,8 +23,7 @@ use Rattle.fx_folder.specs.declared.fault.FolderCause.TheVariants.{BadName, Stra
 use Rattle.fx_folder.specs.declared.fault.LoadFault.{LoadFault}
 use Rattle.fx_folder.specs.declared.fault.LoadFault.TheVariants.{Refused, ReadFault, NoMemory}
 use Rattle.fx_folder.specs.Limits.{most_nodes, most_in_file}
-use Rattle.fx_folder.specs.Loads.{refused_size, place}
-use Rattle.fx_folder.specs.Reads.{path_below, ReadsFile}
+use Rattle.fx_folder.specs.Reads.{path_below, place, refused_size, ReadsFile}
 use Rattle.fx_folder.specs.Deep.{all_below, walked, place_of, last_name, refused_kind, refused_bytes, refused_entry, node_of_kind}
 use Rattle.fx_folder.specs.Walks.{item_path, items_of, bytes_in, held_of, behind, ahead, IsThere, AreThere, IsEntered, AnswersEntry, AnswersFile, PassesPath, refused_path, IsNoRefusal, size_of}
 use Rattle.fx_folder.proofs.Texts.{parts_below, fit_below}

@@ -3,7 +3,6 @@ pub mod DeepExamples
 pub mod Faults
 pub mod Folder
 pub mod Grown
-pub mod Held
 pub mod Limits
 pub mod Lines
 pub mod LoadLaws

@@ -1,4 +1,4 @@
-use Rattle.fx_folder.proofs.FlatLoads.{is_loaded, is_not_loaded}
+use Rattle.fx_folder.proofs.Answering.{is_loaded, is_not_loaded}
 use Rattle.fx_folder.proofs.loading.load.Goals as goal
 
 pub returns-clause-loaded : goal.returns-clause-loaded

@@ -1,4 +1,4 @@
--- A loaded filestore has files alone, and a folder is loaded or refused as its entries say.
+-- A folder is loaded or refused as its definition says.
 use Rattle.std.proofs.Common.{◌≡◌, ◌⊎◌, inl, inr, ℕ, Bool, true, false, cond, List, [], ◌∷◌, map, Option, Some, None, IfSome, IfOk, IfErr, Result, Ok, Err, refl, sym, subst}
 use Rattle.std.specs.Ordering.{eq_by_cmp}
 use Rattle.std.specs.FinMap.{get, insert, get-insert, get-empty, empty}
@@ -15,36 +15,7 @@ use Rattle.fx_outside.specs.Tree.{Tree, is_folder_at}
 use Rattle.fx_folder.specs.declared.fault.FolderCause.{FolderCause}
 use Rattle.fx_folder.specs.declared.fault.LoadFault.{LoadFault}
 use Rattle.fx_folder.specs.declared.fault.LoadFault.TheVariants.{Refused, ReadFault, NoMemory}
-use Rattle.fx_folder.specs.Folder.{IsFlat, IsFileNode}
 use Rattle.fx_folder.specs.Loads.{loads, Loads, IsRefused, LoadCause, AnswersAs}
-
-file_or : (b : Bool) (bytes : List ℕ) (o : Option Node) → IfSome o IsFileNode → IfSome (cond b (Some (File bytes)) o) IsFileNode
-file_or true bytes o h = tt
-file_or false bytes o h = h
-
-flat_file : (m : Nodes) (f : List ℕ × List ℕ) → IsFlat (get m) → IsFlat (get (insert m (f.0 ∷ []) (File f.1)))
-flat_file m f h = λ name rest.
-    let P : Option Node → Type 0 = λ o. IfSome o IsFileNode in
-    subst P (sym (get-insert path_total m (f.0 ∷ []) (File f.1) (name ∷ rest))) (file_or (eq_by_cmp path_cmp (name ∷ rest) (f.0 ∷ [])) f.1 (get m (name ∷ rest)) (h name rest))
-
-flat_root : (m : Nodes) (names : List (List ℕ)) → IsFlat (get m) → IsFlat (get (insert m [] (Dir names)))
-flat_root m names h = λ name rest.
-    let P : Option Node → Type 0 = λ o. IfSome o IsFileNode in
-    subst P (sym (get-insert path_total m [] (Dir names) (name ∷ rest))) (h name rest)
-
-flat_files : (m : Nodes) (files : List (List ℕ × List ℕ)) → IsFlat (get m) → IsFlat (get (over_nodes m (map file_change files)))
-flat_files m [] h = h
-flat_files m (f ∷ files) h = flat_files (insert m (f.0 ∷ []) (File f.1)) files (flat_file m f h)
-
-flat_empty : IsFlat (get (empty {X = Node} {R = path_cmp}))
-flat_empty = λ name rest.
-    let P : Option Node → Type 0 = λ o. IfSome o IsFileNode in
-    subst P (sym (get-empty path_cmp (name ∷ rest))) tt
-
-pub loaded_flat : (nodes : Nodes) (files : List (List ℕ × List ℕ)) → nodes ≡ flat files → IsFlat (get nodes)
-loaded_flat nodes files is =
-    let P : Nodes → Type 0 = λ m. IsFlat (get m) in
-    subst P (sym is) (flat_files _ files (flat_root root_only _ (flat_root empty [] flat_empty)))
 
 no_fault : {A : Type 0} (s : A) → (◌≡◌ {A = Result A LoadFault} (Ok s) (Err ReadFault)) ⊎ (◌≡◌ {A = Result A LoadFault} (Ok s) (Err NoMemory)) → ⊥
 no_fault s (inl e) = cc
