@@ -47,7 +47,7 @@ use Rattle.fx_folder.specs.Merges.{MakesLink, MakeLinks, CanMerge}
 use Rattle.fx_folder.specs.RefusalLaws.{exceed_limits, IsLineCause, HasTooManyLinks, HasBadLine}
 use Rattle.fx_folder.specs.Shaped.{IsLeaf, IsShaped, change_of, changes_of, made_by, AreShaped}
 use Rattle.fx_folder.specs.Table.{TableLink, IsLink, IsTable, is_dir, can_stand, table_text, read_table}
-use Rattle.fx_folder.specs.Tables.{text_of, AnswersText, room_behind, IsJoined, AnswersFound, HasTable, items_in}
+use Rattle.fx_folder.specs.Tables.{ReadsWhole, text_of, AnswersText, room_behind, IsJoined, AnswersFound, HasTable, items_in}
 use Rattle.fx_folder.specs.Walks.{found_as, root_found, AnswersWalk}
 use Rattle.fx_folder.proofs.Branches.{find_below}
 use Rattle.fx_folder.proofs.Filled.{parts_is}
@@ -169,9 +169,9 @@ free_of (Some node) p e = absurd (by (is_dir p) e)
     by true e = cc
     by false e = cc
 
-apart_from : (S : Store) (es : List Mapped) (ls : List TableLink) → ((q : Parts) → S q ≡ found es q) → All (CanStand S) ls → AllByRecursion (λ (l : TableLink). find path_cmp l.path es ≡ None) ls
-apart_from S es [] same all = tt
-apart_from S es (l ∷ ls) same all = (sym (same l.path) ∙ free_of (S l.path) _ (All-head (CanStand S) l ls all), apart_from S es ls same (All-tail (CanStand S) l ls all))
+apart_from : (S : Store) (fs : List Mapped) (ls : List TableLink) → ((q : Parts) → S q ≡ found fs q) → All (CanStand S) ls → AllByRecursion (λ (l : TableLink). find path_cmp l.path fs ≡ None) ls
+apart_from S fs [] same all = tt
+apart_from S fs (l ∷ ls) same all = (sym (same l.path) ∙ free_of (S l.path) _ (All-head (CanStand S) l ls all), apart_from S fs ls same (All-tail (CanStand S) l ls all))
 
 made_links : (cs : List Change) → cs ≡ map link_change (links_in cs) → MakeLinks cs
 made_links cs is = by cs is
@@ -207,11 +207,11 @@ module _ (cs : List Change) (are : AreFound cs) (links : List Change) (linked : 
   joined_links : IsLinked (found (mapped_of cs)) (with_links (mapped_of cs) (links_in links))
   joined_links = links_made (found (mapped_of cs)) (mapped_of cs) (links_in links) linked.table.valid (subst (λ F. All (CanStand F) (links_in links)) same_store linked.table.stand) (is_linked cs are)
 
-  bytes_linked : (es : List Mapped) (ks : List TableLink) → AreOfBytes (found es) → AreOfBytes (found (with_links es ks))
-  bytes_linked es [] held = held
-  bytes_linked es (k ∷ ks) held = bytes_linked (put path_cmp k.path (Link k.text) es) ks (λ q. subst (λ o. IfSome o IsOfBytes) (sym (find_linked es k q)) (by (eq_by_cmp path_cmp q k.path) q))
+  bytes_linked : (fs : List Mapped) (ks : List TableLink) → AreOfBytes (found fs) → AreOfBytes (found (with_links fs ks))
+  bytes_linked fs [] held = held
+  bytes_linked fs (k ∷ ks) held = bytes_linked (put path_cmp k.path (Link k.text) fs) ks (λ q. subst (λ o. IfSome o IsOfBytes) (sym (find_linked fs k q)) (by (eq_by_cmp path_cmp q k.path) q))
     where
-      by : (b : Bool) (q : Parts) → IfSome (cond b (Some (Link k.text)) (found es q)) IsOfBytes
+      by : (b : Bool) (q : Parts) → IfSome (cond b (Some (Link k.text)) (found fs q)) IsOfBytes
       by true q = tt
       by false q = held q
 
@@ -460,3 +460,36 @@ cause_told None folder fault answer = tt
 cause_told (Some t) folder (Refused cause) answer = λ here. ap as_nodes answer
 cause_told (Some t) folder ReadFault answer = λ here. tt
 cause_told (Some t) folder NoMemory answer = λ here. tt
+
+pub file_is : (told : Option Tree) (p q : List ℕ) → q ≡ p → IfSome told (λ t. is_file_at t p ≡ true) → IfSome told (λ t. is_file_at t q ≡ true)
+file_is told p q same is = subst (λ r. IfSome told (λ t. is_file_at t r ≡ true)) (sym same) is
+
+not_above : (n m : ℕ) → n ≤ m → nat_lt m n ≡ false
+not_above n m le = grind (arith, nat_tests)
+
+is_above : (n m : ℕ) → m < n → nat_lt m n ≡ true
+is_above n m lt = grind (arith, nat_tests)
+
+pub text_read : (told : Option Tree) (p q : List ℕ) (text : List ℕ) → q ≡ p → IfSome told (λ t. ReadsWhole most_in_table (bytes_at t q) (Some text)) → IfSome told (λ t. AnswersText (text_of kind.File (bytes_at t p)) (Ok text))
+text_read None p q text same reads = tt
+text_read (Some t) p q text same reads =
+    let short = not_above (length (bytes_at t q)) most_in_table reads.0 in
+    subst (λ r. text_of kind.File (bytes_at t r) ≡ Ok text) same (ap (λ b. cond b (Err (TooLarge (place_of (table_name ∷ [])))) (Ok (bytes_at t q))) short ∙ ap Ok (sym reads.1))
+
+pub text_over : (told : Option Tree) (p q : List ℕ) (place : List ℕ) → q ≡ p → place ≡ place_of (table_name ∷ []) → IfSome told (λ t. ReadsWhole most_in_table (bytes_at t q) None) → IfSome told (λ t. AnswersText (text_of kind.File (bytes_at t p)) (Err (Refused (TooLarge place))))
+text_over None p q place same is reads = tt
+text_over (Some t) p q place same is reads =
+    let long = is_above (length (bytes_at t q)) most_in_table reads in
+    subst (λ r. text_of kind.File (bytes_at t r) ≡ Err (TooLarge place)) same (ap (λ b. cond b (Err (TooLarge (place_of (table_name ∷ [])))) (Ok (bytes_at t q))) long ∙ ap (λ l. Err (TooLarge l)) (sym is))
+
+pub text_strange : (told : Option Tree) (p : List ℕ) (k : HostKind) (place : List ℕ) → place ≡ place_of (table_name ∷ []) → (k ≡ kind.Folder) ⊎ (k ≡ kind.Other) → IfSome told (λ t. AnswersText (text_of k (bytes_at t p)) (Err (Refused (Strange place))))
+text_strange None p k place is other = tt
+text_strange (Some t) p k place is (inl folder) = ap (λ x. text_of x (bytes_at t p)) folder ∙ ap (λ l. Err (Strange l)) (sym is)
+text_strange (Some t) p k place is (inr strange) = ap (λ x. text_of x (bytes_at t p)) strange ∙ ap (λ l. Err (Strange l)) (sym is)
+
+pub text_of_file : (told : Option Tree) (p : List ℕ) (k : HostKind) (r : Result (List ℕ) LoadFault) → k ≡ kind.File → IfSome told (λ t. AnswersText (text_of kind.File (bytes_at t p)) r) → IfSome told (λ t. AnswersText (text_of k (bytes_at t p)) r)
+text_of_file told p k r is answer = subst (λ x. IfSome told (λ t. AnswersText (text_of x (bytes_at t p)) r)) (sym is) answer
+
+pub lists_told : (told : Option Tree) (folder : List ℕ) (names : Names) → IfSome told (λ t. (is_folder_at t folder ≡ true) × Lists t (parts folder) names) → IfSome told (λ t. Lists t (parts folder) names)
+lists_told None folder names lists = tt
+lists_told (Some t) folder names lists = lists.1

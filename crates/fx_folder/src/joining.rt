@@ -15,8 +15,9 @@ ghost use Rattle.fx_folder.specs.Tables.{ReadsWhole, text_of, AnswersText, Answe
 ghost use Rattle.fx_folder.specs.Walks.{AnswersWalk};
 
 use crate::lines::{Room, read_links, table_place};
-use crate::loading::{MAX_NODES, TABLE, path_below, read_whole};
+use crate::loading::{MAX_NODES, TABLE, read_whole};
 use crate::merging::merged;
+use crate::saving::table_below;
 use crate::walking::Walked;
 use crate::{FolderCause, LoadFault};
 use fx_base::NoMemory;
@@ -126,10 +127,9 @@ fn read_table_file<H: Host>(
     ensures fault { result ≡ Err ReadFault
         → Rose (H.view host.old).faults (H.view host.new).faults }
     ensures same { ReadsOnly (H.view host.old) (H.view host.new) }
-    ensures fit { AsksFit folder.now (H.view host.old) (H.view host.new) }
+    ensures fit { AsksFit (path_below folder.now table_name) (H.view host.old) (H.view host.new) }
 {
-    let name = HostText::from_string(String::from_str(alloc, TABLE)?);
-    let path = path_below(alloc, folder, &name)?;
+    let path = table_below(alloc, folder)?;
     match read_whole(alloc, host, &path, MAX_TABLE, buf)? {
         Some(text) => Ok(text),
         None => Err(LoadFault::Refused(FolderCause::TooLarge(table_place(alloc)?))),
