@@ -1,15 +1,6 @@
 -- A folder is loaded or refused as its definition says.
-use Rattle.std.proofs.Common.{◌≡◌, ◌⊎◌, inl, inr, ℕ, Bool, true, false, cond, List, [], ◌∷◌, map, Option, Some, None, IfSome, IfOk, IfErr, Result, Ok, Err, refl, sym, subst}
-use Rattle.std.specs.Ordering.{eq_by_cmp}
-use Rattle.std.specs.FinMap.{get, insert, get-insert, get-empty, empty}
+use Rattle.std.proofs.Common.{◌≡◌, ◌⊎◌, inl, inr, ℕ, Bool, true, false, List, Option, Some, None, IfSome, IfOk, IfErr, Result, Ok, Err, refl}
 use Rattle.fx_store.specs.declared.filestore.Filestore.{Filestore}
-use Rattle.fx_store.specs.declared.node.Node.{Node}
-use Rattle.fx_store.specs.declared.node.Node.TheVariants.{File, Dir}
-use Rattle.fx_store.specs.Names.{path_cmp}
-use Rattle.fx_store.specs.Orders.{path_total}
-use Rattle.fx_store.specs.Whole.{Nodes, over_nodes}
-use Rattle.fx_store.specs.Filestore.{root_only}
-use Rattle.fx_store.specs.Flat.{flat, file_change}
 use Rattle.fx_outside.specs.Host.{HostView, HasFailed}
 use Rattle.fx_outside.specs.Tree.{Tree, is_folder_at}
 use Rattle.fx_folder.specs.declared.fault.FolderCause.{FolderCause}

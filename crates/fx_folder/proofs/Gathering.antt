@@ -1,20 +1,17 @@
 -- What was walked, with the links of the table, is what the definition of loading gives.
-use Rattle.std.proofs.Common.{◌≡◌, ◌⊎◌, inl, inr, ℕ, suc, ◌+◌, ◌-◌, ◌<◌, ◌≤◌, Bool, true, false, cond, ◌&&◌, ◌||◌, T, List, [], ◌∷◌, ◌++◌, map, length, sum_by, Option, Some, None, Result, Ok, Err, IfOk, IfErr, IfSome, IsSome, is_some, is_none, option_map, All, refl, sym, ◌∙◌, ap, subst, arith, length-append}
-use Rattle.std.specs.Prelude.{nat_lt, nat_le, unwrap_or, ⊤}
+use Rattle.std.proofs.Common.{◌≡◌, ◌⊎◌, inl, inr, ℕ, suc, ◌+◌, ◌-◌, ◌<◌, ◌≤◌, Bool, true, false, cond, ◌&&◌, ◌||◌, List, [], ◌∷◌, ◌++◌, map, length, Option, Some, None, Result, Ok, Err, IfOk, IfErr, IfSome, is_some, is_none, option_map, All, refl, sym, ◌∙◌, ap, subst, arith}
+use Rattle.std.specs.Prelude.{nat_lt, unwrap_or}
 use Rattle.std.specs.Option.{option_or, option_map_or}
 use Rattle.std.specs.Ordering.{eq_by_cmp}
-use Rattle.std.specs.Cmp.Lexicographic.{slice_cmp}
 use Rattle.std.specs.List.{AllByRecursion}
 use Rattle.std.specs.List.Sorted.{IsStrictlySortedBy}
 use Rattle.std.specs.Map.{keys_of}
-use Rattle.std.specs.FinMap.{get, find, put, is_sorted, from_entries}
-use Rattle.std.proofs.lemmas.Bool.{cases_Bool, false≢true}
+use Rattle.std.specs.FinMap.{get, find, put, from_entries}
 use Rattle.std.proofs.lemmas.Bool.Decides.{nat_tests}
 use Rattle.std.proofs.lemmas.List.Elements.{All-head, All-tail}
 use Rattle.fx_outside.specs.declared.kind.HostKind.{HostKind}
 use Rattle.fx_outside.specs.declared.kind.HostKind.TheVariants as kind
-use Rattle.fx_outside.specs.Listing.{name_cmp}
-use Rattle.fx_outside.specs.Path.{Parts, parts, parts_cmp}
+use Rattle.fx_outside.specs.Path.{Parts, parts}
 use Rattle.fx_outside.specs.Listing.{Names}
 use Rattle.fx_outside.specs.Tree.{Tree, Entry, Lists, entry_at, is_folder_at, is_file_at, is_file_kind, bytes_at}
 use Rattle.std.specs.Global.{Global}
@@ -37,21 +34,20 @@ use Rattle.fx_folder.specs.declared.fault.FolderCause.TheVariants.{BadName, Stra
 use Rattle.fx_folder.specs.declared.fault.LoadFault.{LoadFault}
 use Rattle.fx_folder.specs.declared.fault.LoadFault.TheVariants.{Refused, ReadFault, NoMemory}
 use Rattle.fx_folder.specs.declared.walking.Walked.{Walked}
-use Rattle.fx_folder.specs.Deep.{Held, Mapped, all_below, walked, table_in, all_bytes, first_refused, refused_entry, node_of_kind, unlisted, listed, with_links, place_of, most_in_table, are_too_many, limited, unless_bad, read_links, table_file_links, table_links, linked, with_table, unless_refused, loaded, as_nodes, links_before}
+use Rattle.fx_folder.specs.Deep.{Held, Mapped, all_below, walked, table_in, all_bytes, first_refused, refused_entry, node_of_kind, unlisted, listed, with_links, place_of, most_in_table, unless_bad, read_links, table_file_links, linked, with_table, unless_refused, loaded, as_nodes}
 use Rattle.fx_folder.specs.Grown.{IsFoundNode, HasDir, IsFound, AreFound}
 use Rattle.fx_folder.specs.Limits.{most_nodes, most_bytes, table_name}
 use Rattle.fx_folder.specs.LoadLaws.{IsOfBytes, AreOfBytes}
-use Rattle.fx_folder.specs.Lines.{link_change, link_in, links_in, standing_by, AreLinks, texts_of, is_over, ReadsAll, StopsMany, StopsBad, LinesCause}
+use Rattle.fx_folder.specs.Lines.{link_change, link_in, links_in, standing_by, AreLinks, texts_of, is_over, ReadsAll, LinesCause}
 use Rattle.fx_folder.specs.Mapped.{mapped_of, node_or_dir}
-use Rattle.fx_folder.specs.Merges.{MakesLink, MakeLinks, CanMerge}
-use Rattle.fx_folder.specs.RefusalLaws.{exceed_limits, IsLineCause, HasTooManyLinks, HasBadLine}
-use Rattle.fx_folder.specs.Shaped.{IsLeaf, IsShaped, change_of, changes_of, made_by, AreShaped}
-use Rattle.fx_folder.specs.Table.{TableLink, IsLink, IsTable, is_dir, can_stand, table_text, read_table}
+use Rattle.fx_folder.specs.Merges.{MakeLinks, CanMerge}
+use Rattle.fx_folder.specs.RefusalLaws.{exceed_limits, IsLineCause}
+use Rattle.fx_folder.specs.Shaped.{IsLeaf, IsShaped, change_of, changes_of, AreShaped}
+use Rattle.fx_folder.specs.Table.{TableLink, IsTable, is_dir, read_table}
 use Rattle.fx_folder.specs.Tables.{ReadsWhole, text_of, AnswersText, room_behind, IsJoined, AnswersFound, HasTable, items_in}
-use Rattle.fx_folder.specs.Walks.{found_as, root_found, AnswersWalk}
+use Rattle.fx_folder.specs.Walks.{found_as, AnswersWalk}
 use Rattle.fx_folder.proofs.Branches.{find_below}
-use Rattle.fx_folder.proofs.Filled.{parts_is}
-use Rattle.fx_folder.proofs.Linking.{IsLinked, CanStand, links_made, find_linked, linked_at}
+use Rattle.fx_folder.proofs.Linking.{IsLinked, CanStand, links_made, find_linked}
 use Rattle.fx_folder.proofs.Making.{set_at}
 use Rattle.fx_folder.proofs.Naming.{mapped_changes}
 use Rattle.fx_folder.proofs.Refusals.{same_first, fits_all}
@@ -303,23 +299,30 @@ module _ (t : Tree) (at : Parts) (w : Walked) (are : AreFound w.found.items) (wa
   cause_of text (BadName place) why = absurd why
   cause_of text (Strange place) why = absurd why
   cause_of text (NotBuilt place) why = absurd why
-  cause_of text (TooLarge place) why = inl (ap TooLarge why.0, record {
-    links = why.1.links;
-    front = record { rest = why.1.front.rest; parts = why.1.front.parts; table = subst (λ F. IsTable F why.1.links) same_ground why.1.front.table };
-    many = sym (over_is why.1.links) ∙ why.1.many;
-  })
-  cause_of text (BadTable n) why = inr (n, refl, record {
-    first = record {
-      links = why.first.links;
-      rest = why.first.rest;
-      parts = why.first.parts;
-      table = subst (λ F. IsTable F why.first.links) same_ground why.first.table;
-      place = why.first.place;
-      some = why.first.some;
-      stops = λ l later e table. why.first.stops l later e (subst (λ F. IsTable F (why.first.links ++ l ∷ [])) (sym same_ground) table);
-    };
-    few = sym (over_is why.first.links) ∙ why.few;
-  })
+  cause_of text (TooLarge place) why = inl (
+    ap TooLarge why.0,
+    record {
+      links = why.1.links;
+      front = record { rest = why.1.front.rest; parts = why.1.front.parts; table = subst (λ F. IsTable F why.1.links) same_ground why.1.front.table };
+      many = sym (over_is why.1.links) ∙ why.1.many;
+    },
+  )
+  cause_of text (BadTable n) why = inr (
+    n,
+    refl,
+    record {
+      first = record {
+        links = why.first.links;
+        rest = why.first.rest;
+        parts = why.first.parts;
+        table = subst (λ F. IsTable F why.first.links) same_ground why.first.table;
+        place = why.first.place;
+        some = why.first.some;
+        stops = λ l later e table. why.first.stops l later e (subst (λ F. IsTable F (why.first.links ++ l ∷ [])) (sym same_ground) table);
+      };
+      few = sym (over_is why.first.links) ∙ why.few;
+    },
+  )
 
   abbrev table : Option Entry
   table = table_in (all_below t at)

@@ -1,5 +1,5 @@
 -- A walk grows a tree, entry by entry in the order of paths.
-use Rattle.std.proofs.Common.{◌≡◌, ◌⊎◌, inl, inr, ℕ, suc, ◌-◌, Bool, true, false, cond, T, List, [], ◌∷◌, ◌++◌, map, length, take, Option, Some, None, Result, Ok, Err, IfOk, OnOk, refl, sym, ◌∙◌, ap, subst, arith, append_assoc, append-nil, length-append}
+use Rattle.std.proofs.Common.{◌≡◌, ◌⊎◌, inl, inr, ℕ, ◌-◌, Bool, true, false, cond, T, List, [], ◌∷◌, ◌++◌, length, take, Option, Some, None, Result, Ok, Err, IfOk, OnOk, refl, sym, ◌∙◌, ap, subst, arith, append_assoc, append-nil}
 use Rattle.std.specs.declared.cmp.Ordering.{Ordering}
 use Rattle.std.specs.declared.cmp.Ordering.TheVariants.{Less, Equal, Greater}
 use Rattle.std.specs.Cmp.{tied_itself}
@@ -9,15 +9,14 @@ use Rattle.std.specs.List.Sorted.{IsStrictlySortedBy}
 use Rattle.std.specs.Map.{keys_of}
 use Rattle.std.specs.FinMap.{empty, entries, entries_sorted, find, is_sorted}
 use Rattle.std.specs.FinMap.Entries.{below_all}
-use Rattle.std.proofs.lemmas.Bool.{cases_Bool, false≢true}
+use Rattle.std.proofs.lemmas.Bool.{false≢true}
 use Rattle.std.proofs.lemmas.List.Elements.{All-nil}
 use Rattle.fx_outside.specs.declared.kind.HostKind.{HostKind}
 use Rattle.fx_outside.specs.Listing.{Names, name_cmp}
-use Rattle.fx_outside.specs.Path.{Parts, parts_cmp}
+use Rattle.fx_outside.specs.Path.{Parts}
 use Rattle.fx_outside.proofs.Sorted.{first, second, is_less}
 use Rattle.fx_outside.proofs.Trees.{parts_total, in_folder_cmp, entries_none}
-use Rattle.fx_store.specs.declared.node.Node.{Node}
-use Rattle.fx_store.specs.declared.node.Node.TheVariants.{File, Dir, Link}
+use Rattle.fx_store.specs.declared.node.Node.TheVariants.{Dir}
 use Rattle.fx_store.specs.declared.changes.Change.{Change}
 use Rattle.fx_store.specs.Names.{path_cmp, IsPath, IsName}
 use Rattle.fx_folder.specs.declared.walking.Item.{Item}
@@ -314,7 +313,7 @@ module _ (found : List Change) (todo todo' : List Item) (x : Item) (c : Change) 
   ascends_more =
       let kids = children c.path (entries finds.names) in
       let put = put_between (keys_of es) c.path kids (paths_ahead todo) ascends (children_behind c.path (entries finds.names)) (children_ascend c.path (entries finds.names) (entries_sorted finds.names))
-          (each_before c.path (entries finds.names) todo (rest_sorted (keys_of es) c.path (paths_ahead todo) ascends) (parents_before es c.path (paths_ahead todo) todo ascends stand)) in
+      (each_before c.path (entries finds.names) todo (rest_sorted (keys_of es) c.path (paths_ahead todo) ascends) (parents_before es c.path (paths_ahead todo) todo ascends stand)) in
       subst (IsStrictlySortedBy path_cmp) (sym (ap (λ l. l ++ paths_ahead todo') keys_more ∙ (append_assoc (keys_of es) (c.path ∷ []) (paths_ahead todo') ∙ ap (λ l. keys_of es ++ c.path ∷ l) next))) put
 
   opened : (entries finds.names ≡ []) ⊎ HasDir (mapped_of (found ++ c ∷ [])) c.path

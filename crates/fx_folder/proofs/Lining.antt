@@ -1,17 +1,16 @@
 -- The lines of a table, read one after another.
-use Rattle.std.proofs.Common.{◌≡◌, inl, inr, ℕ, zero, suc, ◌+◌, ◌-◌, ◌<◌, ◌≤◌, ◌==◌, Bool, true, false, not, cond, ◌||◌, List, [], ◌∷◌, ◌++◌, map, length, take, drop, get_or, sum_by, All, IsTrue, Option, Some, None, Result, Ok, Err, IfOk, option_map, refl, sym, ◌∙◌, ap, subst, arith, append_assoc, append-nil, length-append}
+use Rattle.std.proofs.Common.{◌≡◌, ℕ, zero, suc, ◌+◌, ◌-◌, ◌<◌, ◌≤◌, ◌==◌, Bool, true, false, not, cond, ◌||◌, List, [], ◌∷◌, ◌++◌, map, length, take, drop, get_or, All, IsTrue, Option, Some, None, Result, Ok, Err, IfOk, option_map, refl, sym, ◌∙◌, ap, subst, arith, append_assoc, append-nil, length-append}
 use Rattle.std.specs.Prelude.{nat_lt, bytes_eq, codes, IsErrAnd}
 use Rattle.std.proofs.lemmas.Result.{err_from_is_err_and}
 use Rattle.std.specs.declared.cmp.Ordering.TheVariants.{Less}
-use Rattle.std.specs.List.{AllByRecursion, flat_map, slice_split}
+use Rattle.std.specs.List.{AllByRecursion, slice_split}
 use Rattle.std.proofs.lemmas.List.Splits.{slice_split_none, slice_split_at, length-slice_split}
 use Rattle.fx_base.specs.declared.NoMemory.{NoMemory as Memory}
 use Rattle.fx_folder.specs.TableSpelling.{unspelled}
 use Rattle.fx_folder.specs.Unspells.{GivesLink}
 use Rattle.std.specs.List.Sorted.{IsStrictlySortedBy}
-use Rattle.std.proofs.lemmas.Bool.{false≢true}
 use Rattle.std.proofs.lemmas.Bool.Decides.{nat_tests}
-use Rattle.std.proofs.lemmas.List.Elements.{All-nil, All-cons, All-head, All-tail, All-push}
+use Rattle.std.proofs.lemmas.List.Elements.{All-nil, All-head, All-tail, All-push}
 use Rattle.std.proofs.lemmas.List.Sums.{sum_by-append}
 use Rattle.std.proofs.lemmas.Option.{same_Some}
 use Rattle.fx_store.specs.declared.node.Node.TheVariants.{Link}
@@ -24,8 +23,7 @@ use Rattle.fx_folder.specs.declared.fault.LoadFault.{LoadFault}
 use Rattle.fx_folder.specs.declared.fault.LoadFault.TheVariants.{Refused, ReadFault, NoMemory}
 use Rattle.fx_folder.specs.declared.lines.Room.{Room}
 use Rattle.fx_folder.specs.Table.{TableLink, IsLink, IsTable, line_of, table_text, read_line, read_parts, link_of, is_space, can_stand}
-use Rattle.fx_folder.specs.RefusalLaws.{BeginsWith}
-use Rattle.fx_folder.specs.Lines.{link_change, link_in, links_in, AreLinks, IsAbsent, IsFirstAt, GivesLine, CanFollow, texts_of, is_over, room_less, as_link, TakesRoom, IsNextLine, ReadsNext, IsOver, IsStopped, StopsNext, ReadsAll, StopsMany, StopsBad, LinesCause}
+use Rattle.fx_folder.specs.Lines.{link_change, link_in, links_in, AreLinks, IsAbsent, IsFirstAt, GivesLine, CanFollow, texts_of, is_over, room_less, TakesRoom, IsNextLine, ReadsNext, IsOver, IsStopped, StopsNext, ReadsAll, LinesCause}
 use Rattle.fx_folder.proofs.TableLines.{line_is, line_read, same_line, no_feed}
 
 -- ---- the first place of a byte
@@ -85,7 +83,6 @@ rest_is (suc n) [] = none (length {A = ℕ} [] - suc n)
     none zero = refl
     none (suc k) = refl
 rest_is (suc n) (x ∷ xs) = let one : length (x ∷ xs) - suc n ≡ length xs - n = omega arith in ap (λ k. take k (drop n xs)) one ∙ rest_is n xs
-
 
 abbrev pair_of : Option TableLink → Option (List (List ℕ) × List ℕ)
 pair_of o = option_map (λ (l : TableLink). (l.path, l.text)) o
@@ -408,16 +405,18 @@ module _ (S : Store) (room : Room) (text : List ℕ) (changes : List Change) (le
   reading_stops rest (Refused (BadName place)) lt is stops = stops
   reading_stops rest (Refused (Strange place)) lt is stops = stops
   reading_stops rest (Refused (TooLarge place)) lt is stops =
-      let l = stops.1.link in
-      (stops.0, record {
-        links = ls ++ l ∷ [];
-        front = record {
-          rest = drop stops.1.count (drop at text);
-          parts = begins l (drop stops.1.count (drop at text)) (sym is ∙ (stops.1.next.line ∙ ap (λ t. line_of l ++ 10 ∷ drop stops.1.count t) is));
-          table = stops.1.next.table;
-        };
-        many = sym (over_push room ls l reading.few) ∙ (ap (λ r. is_over r (l ∷ [])) (sym reading.remains) ∙ stops.1.many);
-      })
+      let l = stops.1.link in (
+        stops.0,
+        record {
+          links = ls ++ l ∷ [];
+          front = record {
+            rest = drop stops.1.count (drop at text);
+            parts = begins l (drop stops.1.count (drop at text)) (sym is ∙ (stops.1.next.line ∙ ap (λ t. line_of l ++ 10 ∷ drop stops.1.count t) is));
+            table = stops.1.next.table;
+          };
+          many = sym (over_push room ls l reading.few) ∙ (ap (λ r. is_over r (l ∷ [])) (sym reading.remains) ∙ stops.1.many);
+        },
+      )
   reading_stops rest (Refused (BadTable n)) lt is stops = record {
     first = record {
       links = ls;

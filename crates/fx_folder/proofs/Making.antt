@@ -1,10 +1,10 @@
 -- The filestore that lists what was found.
-use Rattle.std.proofs.Common.{◌≡◌, inl, inr, ℕ, suc, ◌-◌, ◌≤◌, Bool, true, false, cond, List, [], ◌∷◌, ◌++◌, map, length, Option, Some, None, Result, Ok, Err, IfOk, is_some, IsSome, IfSome, option_map, refl, sym, ◌∙◌, ap, subst, arith, length-append}
+use Rattle.std.proofs.Common.{◌≡◌, Bool, true, false, cond, List, [], ◌∷◌, map, Option, Some, None, Result, Ok, Err, IfOk, option_map, refl, sym, ◌∙◌, ap, subst}
 use Rattle.std.specs.Prelude.{unwrap_or}
 use Rattle.std.specs.Ordering.{eq_by_cmp}
 use Rattle.std.specs.List.Sorted.{IsStrictlySortedBy}
 use Rattle.std.specs.Map.{keys_of}
-use Rattle.std.specs.FinMap.{get, find, from_entries, get-from_entries}
+use Rattle.std.specs.FinMap.{get, from_entries, get-from_entries}
 use Rattle.std.proofs.lemmas.Bool.{false≢true}
 use Rattle.fx_outside.specs.Path.{Parts}
 use Rattle.fx_store.specs.declared.node.Node.{Node}
@@ -16,14 +16,13 @@ use Rattle.fx_store.specs.Changes.{IsChanges, changed_paths, change_at}
 use Rattle.fx_base.specs.declared.NoMemory.{NoMemory}
 use Rattle.fx_store.specs.declared.filestore.Filestore.{Filestore}
 use Rattle.fx_store.specs.Filestore.{root_only}
-use Rattle.fx_store.specs.Whole.{Store, Nodes, IsWhole, over, over_nodes}
+use Rattle.fx_store.specs.Whole.{IsWhole, over, over_nodes}
 use Rattle.fx_store.proofs.Overlays.{over-change_at}
 use Rattle.fx_store.proofs.Stores.{get-over_nodes, same_nodes, IsWhole-same}
 use Rattle.fx_store.proofs.WholeStores.{bare, get-root_only}
-use Rattle.fx_folder.specs.Deep.{Mapped, names_below, with_names, listed}
-use Rattle.fx_folder.specs.LoadLaws.{AreOfBytes}
+use Rattle.fx_folder.specs.Deep.{Mapped, with_names, listed}
 use Rattle.fx_folder.specs.Mapped.{mapped_of}
-use Rattle.fx_folder.specs.Shaped.{IsShaped, change_of, changes_of, made_by, AreShaped, HaveNameSets}
+use Rattle.fx_folder.specs.Shaped.{changes_of, AreShaped, HaveNameSets}
 use Rattle.fx_folder.specs.Table.{is_dir}
 use Rattle.fx_folder.proofs.Shapes.{found, listed_whole, find_listed, relisted, is_set}
 use Rattle.fx_folder.proofs.Naming.{same_key}

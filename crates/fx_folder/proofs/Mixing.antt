@@ -1,9 +1,7 @@
 -- Links are set among files and directories, one path after another.
-use Rattle.std.proofs.Common.{◌≡◌, ℕ, suc, Bool, true, false, cond, List, [], ◌∷◌, ◌++◌, map, reverse, length, Option, Some, None, refl, sym, ◌∙◌, ap, subst, append_assoc, append-nil, arith}
-use Rattle.std.specs.Prelude.{⊤}
+use Rattle.std.proofs.Common.{◌≡◌, ℕ, Bool, true, false, cond, List, [], ◌∷◌, ◌++◌, map, reverse, length, Some, None, refl, sym, ◌∙◌, ap, subst, append_assoc, append-nil, arith}
 use Rattle.std.specs.declared.cmp.Ordering.{Ordering}
 use Rattle.std.specs.declared.cmp.Ordering.TheVariants.{Less, Equal, Greater}
-use Rattle.std.specs.Cmp.{tied_itself}
 use Rattle.std.specs.Ordering.{is_eq, is_lt, eq_by_cmp}
 use Rattle.std.specs.List.{AllByRecursion}
 use Rattle.std.specs.List.Sorted.{IsStrictlySortedBy}
@@ -14,7 +12,7 @@ use Rattle.fx_outside.proofs.Sorted.{greater_from_less}
 use Rattle.fx_store.specs.declared.node.Node.TheVariants.{Link}
 use Rattle.fx_store.specs.declared.changes.Change.{Change}
 use Rattle.fx_store.specs.Names.{path_cmp}
-use Rattle.fx_store.specs.Orders.{path_total, path_same}
+use Rattle.fx_store.specs.Orders.{path_total}
 use Rattle.fx_folder.specs.Deep.{Mapped, with_links}
 use Rattle.fx_folder.specs.Lines.{link_change, link_in, links_in}
 use Rattle.fx_folder.specs.Mapped.{mapped_of, node_or_dir}
@@ -218,7 +216,7 @@ merging_more found links yielded rest rest' all mid end c merging moves is left 
     let above = all_behind e F (pending rest') (sorted_end m.taken (pending rest') up) behind moves.stops in
     let sets = same_heads c (change_of e) left (changes_of F) was.set in
     let split : with_links (e ∷ F) (pending rest) ≡ map entry m.taken ++ (e ∷ with_links F (pending rest')) =
-        ap (with_links (e ∷ F)) m.pend ∙ (links_before e F m.taken (pending rest') up m.before ∙ ap (λ l. map entry m.taken ++ l) (links_behind e F (pending rest') above)) in
+    ap (with_links (e ∷ F)) m.pend ∙ (links_before e F m.taken (pending rest') up m.before ∙ ap (λ l. map entry m.taken ++ l) (links_behind e F (pending rest') above)) in
     record {
       whole =
           was.whole

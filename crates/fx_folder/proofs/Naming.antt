@@ -1,5 +1,5 @@
 -- One directory after another lists the names that stand in it.
-use Rattle.std.proofs.Common.{◌≡◌, inl, inr, ℕ, zero, suc, ◌+◌, ◌<◌, ◌≤◌, Bool, true, false, cond, List, [], ◌∷◌, ◌++◌, map, length, take, drop, set, get_or, Option, Some, None, option_map, refl, sym, ◌∙◌, ap, subst, arith, append-nil}
+use Rattle.std.proofs.Common.{◌≡◌, ℕ, zero, suc, ◌+◌, ◌<◌, ◌≤◌, true, false, List, [], ◌∷◌, ◌++◌, map, length, take, drop, set, get_or, Option, Some, option_map, refl, sym, ◌∙◌, ap, subst, arith, append-nil}
 use Rattle.std.specs.List.{filter_map, cons_option, slice_get}
 use Rattle.std.specs.List.Sorted.{IsStrictlySortedBy}
 use Rattle.std.specs.Map.{keys_of}
@@ -12,7 +12,7 @@ use Rattle.fx_store.specs.declared.changes.Change.{Change}
 use Rattle.fx_store.specs.Names.{path_cmp, IsNameSet}
 use Rattle.fx_folder.specs.Table.{is_dir}
 use Rattle.fx_folder.specs.Deep.{Mapped, names_below, with_names, listed}
-use Rattle.fx_folder.specs.Mapped.{mapped_of, node_or_dir}
+use Rattle.fx_folder.specs.Mapped.{mapped_of}
 use Rattle.fx_folder.specs.Shaped.{HaveNameSets, ListsAt, change_of, changes_of}
 
 -- of the nodes, so many directories list their names

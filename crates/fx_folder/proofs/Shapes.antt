@@ -1,6 +1,5 @@
 -- Paths with nodes, whose directories are given the names that stand in them, are a whole filestore.
-use Rattle.std.proofs.Common.{◌≡◌, inl, inr, ℕ, suc, ◌-◌, ◌≤◌, Bool, true, false, cond, ◌||◌, List, [], ◌∷◌, ◌++◌, map, length, take, Option, Some, None, is_some, IsSome, IfSome, All, refl, sym, ◌∙◌, ap, subst, arith, length-append}
-use Rattle.std.specs.Prelude.{⊤}
+use Rattle.std.proofs.Common.{◌≡◌, inl, inr, ℕ, suc, ◌-◌, Bool, true, false, cond, ◌||◌, List, [], ◌∷◌, ◌++◌, map, length, take, Option, Some, None, is_some, IfSome, All, refl, sym, ◌∙◌, ap, subst, arith, length-append}
 use Rattle.std.specs.declared.cmp.Ordering.TheVariants.{Less}
 use Rattle.std.specs.Ordering.{is_eq, eq_by_cmp}
 use Rattle.std.specs.Cmp.{tied_itself}
@@ -13,10 +12,9 @@ use Rattle.std.proofs.lemmas.Bool.{cases_Bool, false≢true}
 use Rattle.std.proofs.lemmas.List.Elements.{All-nil, All-cons, All-head, All-tail}
 use Rattle.fx_outside.specs.Path.{name_in}
 use Rattle.fx_outside.proofs.Trees.{parts_same, true_test, in_folder_cmp, name_in_folder, name_in_pushed}
-use Rattle.fx_store.specs.declared.limits.TheConstants.{MAX_FILE_BYTES}
 use Rattle.fx_store.specs.declared.node.Node.{Node}
 use Rattle.fx_store.specs.declared.node.Node.TheVariants.{File, Dir, Link}
-use Rattle.fx_store.specs.Names.{name_cmp, path_cmp, has, IsName, IsPath, IsLinkText}
+use Rattle.fx_store.specs.Names.{name_cmp, path_cmp, has, IsName, IsPath}
 use Rattle.fx_store.specs.Orders.{name_total, path_eq_same}
 use Rattle.fx_store.specs.Whole.{Store, IsWhole, IsNode, lists}
 use Rattle.fx_store.proofs.Stores.{IsWhole-same}

@@ -1,5 +1,5 @@
 -- What the reader of a table answers, line by line.
-use Rattle.std.specs.Prelude.{◌≡◌, ℕ, ◌+◌, ◌-◌, ◌<◌, ◌≤◌, ◌==◌, Bool, true, false, not, ◌||◌, nat_lt, List, [], ◌∷◌, ◌++◌, map, length, take, drop, sum_by, All, IsTrue, unwrap_or, Option, Some, None, Result, Ok, Err, ⊤}
+use Rattle.std.specs.Prelude.{◌≡◌, ℕ, ◌+◌, ◌-◌, ◌<◌, ◌≤◌, ◌==◌, Bool, true, false, not, ◌||◌, nat_lt, List, [], ◌∷◌, ◌++◌, map, length, take, drop, sum_by, All, IsTrue, unwrap_or, Option, Some, None, ⊤}
 use Rattle.std.specs.Option.{option_map}
 use Rattle.std.specs.List.Sorted.{IsStrictlySortedBy}
 use Rattle.fx_store.specs.declared.node.Node.{Node}
@@ -8,9 +8,8 @@ use Rattle.fx_store.specs.declared.changes.Change.{Change}
 use Rattle.fx_store.specs.declared.link.LinkText.{LinkText}
 use Rattle.fx_store.specs.declared.path.Path.{Path}
 use Rattle.fx_store.specs.Changes.{changed_paths, change_at}
-use Rattle.fx_store.specs.Names.{path_cmp, IsPath}
+use Rattle.fx_store.specs.Names.{path_cmp}
 use Rattle.fx_store.specs.Whole.{Store}
-use Rattle.fx_folder.specs.declared.fault.FolderCause.{FolderCause}
 use Rattle.fx_folder.specs.declared.fault.FolderCause.TheVariants.{BadName, Strange, TooLarge, BadTable, NotBuilt}
 use Rattle.fx_folder.specs.declared.fault.LoadFault.{LoadFault}
 use Rattle.fx_folder.specs.declared.fault.LoadFault.TheVariants.{Refused, ReadFault, NoMemory}

@@ -1,5 +1,5 @@
 -- What the table of a folder adds to what was walked.
-use Rattle.std.specs.Prelude.{◌≡◌, ℕ, ◌+◌, ◌-◌, ◌≤◌, ◌<◌, cond, nat_lt, List, [], ◌∷◌, ◌++◌, length, Option, Some, None, Result, Ok, Err, ⊤, option_map, Vec}
+use Rattle.std.specs.Prelude.{◌≡◌, ℕ, ◌-◌, ◌≤◌, ◌<◌, cond, nat_lt, List, [], ◌∷◌, ◌++◌, length, Option, Some, None, Result, Ok, Err, ⊤, option_map, Vec}
 use Rattle.std.specs.Global.{Global}
 use Rattle.std.specs.FinMap.{get}
 use Rattle.fx_outside.specs.declared.kind.HostKind.{HostKind}
@@ -7,13 +7,11 @@ use Rattle.fx_outside.specs.declared.kind.HostKind.TheVariants as kind
 use Rattle.fx_outside.specs.Path.{Parts}
 use Rattle.fx_outside.specs.Tree.{Tree}
 use Rattle.fx_store.specs.declared.changes.Change.{Change}
-use Rattle.fx_store.specs.Whole.{Store}
 use Rattle.fx_folder.specs.declared.fault.FolderCause.{FolderCause}
 use Rattle.fx_folder.specs.declared.fault.FolderCause.TheVariants.{Strange, TooLarge}
 use Rattle.fx_folder.specs.declared.fault.LoadFault.{LoadFault}
 use Rattle.fx_folder.specs.declared.fault.LoadFault.TheVariants.{Refused, ReadFault, NoMemory}
 use Rattle.fx_folder.specs.declared.lines.Room.{Room}
-use Rattle.fx_folder.specs.declared.walking.Walked.{Walked}
 use Rattle.fx_folder.specs.Deep.{all_below, listed, loaded, most_in_table, place_of, with_links}
 use Rattle.fx_folder.specs.Limits.{most_nodes, table_name}
 use Rattle.fx_folder.specs.Lines.{links_in, standing_by, ReadsAll}

@@ -77,10 +77,13 @@ fn next_link<G: Ground>(
     if !room.takes(&target) {
         return Err(LoadFault::Refused(FolderCause::TooLarge(table_place(alloc)?)));
     }
-    links.add(alloc, Change {
-        path,
-        node: Some(Node::Link(target)),
-    })?;
+    links.add(
+        alloc,
+        Change {
+            path,
+            node: Some(Node::Link(target)),
+        },
+    )?;
     Ok(end + 1)
 }
 

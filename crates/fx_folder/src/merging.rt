@@ -34,11 +34,7 @@ pub(crate) fn merged(
 }
 
 /// Moves the links that stand before a path; the last of them is the first.
-fn move_before(
-    rest: &mut Vec<Change>,
-    path: &Path,
-    all: &mut Vec<Change>,
-) -> Result<(), NoMemory>
+fn move_before(rest: &mut Vec<Change>, path: &Path, all: &mut Vec<Change>) -> Result<(), NoMemory>
     requires { MakeLinks rest.old.items }
     ensures { OnOk result
         (MovesAll rest.old.items rest.new.items path.now all.old.items all.new.items) }

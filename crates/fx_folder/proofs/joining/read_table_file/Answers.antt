@@ -4,7 +4,7 @@ use Rattle.fx_folder.specs.Deep.{most_in_table}
 use Rattle.fx_folder.specs.Tables.{ReadsWhole}
 use Rattle.fx_folder.specs.Limits.{table_name}
 use Rattle.fx_folder.specs.Reads.{path_below}
-use Rattle.fx_folder.proofs.Gathering.{file_is, text_read, text_over}
+use Rattle.fx_folder.proofs.Gathering.{file_is, text_read}
 use Rattle.fx_folder.proofs.joining.read_table_file.Goals as goal
 
 pub read_whole-requires-clause-file : goal.read_whole-requires-clause-file

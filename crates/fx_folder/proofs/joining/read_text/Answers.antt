@@ -1,7 +1,6 @@
-use Rattle.std.proofs.Common.{inl, inr}
 use Rattle.fx_folder.specs.Limits.{table_name}
 use Rattle.fx_folder.specs.Reads.{path_below}
-use Rattle.fx_folder.proofs.Gathering.{table_file, text_of_file, text_strange}
+use Rattle.fx_folder.proofs.Gathering.{table_file, text_of_file}
 use Rattle.fx_folder.proofs.Texts.{fit_table}
 use Rattle.fx_folder.proofs.joining.read_text.Goals as goal
 

@@ -1,6 +1,4 @@
-use Rattle.std.proofs.Common.{◌≡◌, ◌+◌, ◌-◌, take, drop, length, codes, not, ap, sym, ◌∙◌, arith, rules}
-use Rattle.std.specs.Prelude.{bytes_eq}
-use Rattle.std.proofs.lemmas.Grind.{common_steps}
+use Rattle.std.proofs.Common.{◌+◌}
 use Rattle.fx_folder.proofs.Lining.{is_arrow, is_no_arrow, rest_is, no_space, one_space, no_arrow, many_spaces, line_result}
 use Rattle.fx_folder.proofs.lines.link_of_line.Goals as goal
 

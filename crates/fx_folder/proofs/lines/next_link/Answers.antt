@@ -1,6 +1,6 @@
-use Rattle.std.proofs.Common.{◌+◌, take, refl, subst, sym, ◌∙◌}
+use Rattle.std.proofs.Common.{◌+◌, take, refl, subst}
 use Rattle.fx_folder.specs.Lines.{GivesLine, TakesRoom}
-use Rattle.fx_folder.proofs.Lining.{no_line, bad_line, bad_place, next_line, over_next, reads_next}
+use Rattle.fx_folder.proofs.Lining.{bad_line, bad_place, next_line, over_next, reads_next}
 use Rattle.fx_folder.proofs.lines.next_link.Goals as goal
 
 pub returns-in_default-2-clause-cause : goal.returns-in_default-2-clause-cause

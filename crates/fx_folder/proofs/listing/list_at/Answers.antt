@@ -1,4 +1,4 @@
-use Rattle.std.proofs.Common.{sym, ◌∙◌, ap, refl}
+use Rattle.std.proofs.Common.{sym, ◌∙◌}
 use Rattle.fx_folder.proofs.Naming.{key_of, there, one_path, names_are, lists_none, lists_dir}
 use Rattle.fx_folder.proofs.listing.list_at.Goals as goal
 

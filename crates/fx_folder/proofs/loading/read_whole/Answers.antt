@@ -1,8 +1,6 @@
-use Rattle.std.proofs.Common.{refl, ◌≡◌, ◌++◌, true, length, take, arith, sym, subst, ◌∙◌}
+use Rattle.std.proofs.Common.{refl, ◌≡◌, ◌++◌, length, take, arith, ◌∙◌}
 use Rattle.std.proofs.lemmas.Grind.{common_steps}
-use Rattle.fx_outside.specs.Path.{is_fit}
 use Rattle.fx_outside.proofs.Views.{reads_then}
-use Rattle.fx_folder.specs.Reads.{path_below}
 use Rattle.fx_folder.proofs.Reading.{front_told}
 use Rattle.fx_folder.proofs.loading.read_whole.Goals as goal
 
@@ -16,4 +14,3 @@ loop-bytes-preserved g c =
       fit = λ fit. c.read.ensures.unfit.fit (fit) ∙ c.loop-bytes.invariant.fit fit;
       front = front_told _ _ c.args.path.now c.args.path.now c.loop-bytes.bytes.items c.read.new.buf c.extend_from_slice.new.self.items c.len.result c.in_ok-count.count c.loop-bytes.invariant.reads.same refl start c.loop-bytes.invariant.front c.in_ok-count.ensures.answer longer;
     }
-

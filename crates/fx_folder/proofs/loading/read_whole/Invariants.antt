@@ -1,7 +1,6 @@
 use Rattle.std.proofs.Common.{◌≡◌, ◌-◌, ◌≤◌, length, take, IfSome}
 use Rattle.fx_outside.specs.Host.{ReadsOnly, AsksFit}
 use Rattle.fx_outside.specs.Tree.{bytes_at}
-use Rattle.fx_folder.specs.Reads.{path_below}
 use Rattle.fx_folder.proofs.loading.read_whole.Given as goal
 
 abbrev pub invariant-loop-bytes : goal.invariant-loop-bytes

@@ -1,8 +1,7 @@
-use Rattle.std.proofs.Common.{◌≡◌, [], ◌++◌, reverse, refl, sym, ap, subst, ◌∙◌, rules}
+use Rattle.std.proofs.Common.{reverse, sym, ap, ◌∙◌}
 use Rattle.std.proofs.lemmas.List.{map-id}
 use Rattle.std.proofs.lemmas.Iterator.Adapters.{YieldsList-from_vec}
 use Rattle.std.proofs.lemmas.Iterator.Consumers.{YieldsList-end}
-use Rattle.fx_folder.specs.Merges.{MakeLinks}
 use Rattle.fx_folder.specs.Lines.{links_in}
 use Rattle.fx_folder.proofs.Mixing.{made_reversed, merging_none, merging_more, merging_end}
 use Rattle.fx_folder.proofs.merging.merged.Goals as goal

@@ -1,4 +1,3 @@
-use Rattle.std.proofs.Common.{refl}
 use Rattle.fx_folder.proofs.Mixing.{rest_moved, rest_made}
 use Rattle.fx_folder.proofs.merging.move_rest.Goals as goal
 

@@ -1,4 +1,4 @@
-use Rattle.std.proofs.Common.{◌-◌, ◌+◌, length, IfSome}
+use Rattle.std.proofs.Common.{◌-◌, length, IfSome}
 use Rattle.fx_outside.specs.Host.{ReadsOnly, AsksFit}
 use Rattle.fx_outside.specs.Path.{parts}
 use Rattle.fx_folder.specs.Grown.{IsGrown}
