@@ -30,7 +30,7 @@ use Rattle.fx_store.specs.Names.{path_cmp, IsPath}
 use Rattle.fx_store.specs.Orders.{path_eq_same}
 use Rattle.fx_store.specs.Whole.{Store}
 use Rattle.fx_folder.specs.declared.fault.FolderCause.{FolderCause}
-use Rattle.fx_folder.specs.declared.fault.FolderCause.TheVariants.{BadName, Strange, TooLarge, BadTable, NotBuilt}
+use Rattle.fx_folder.specs.declared.fault.FolderCause.TheVariants.{BadName, Strange, TooLarge, BadTable}
 use Rattle.fx_folder.specs.declared.fault.LoadFault.{LoadFault}
 use Rattle.fx_folder.specs.declared.fault.LoadFault.TheVariants.{Refused, ReadFault, NoMemory}
 use Rattle.fx_folder.specs.declared.walking.Walked.{Walked}
@@ -298,7 +298,6 @@ module _ (t : Tree) (at : Parts) (w : Walked) (are : AreFound w.found.items) (wa
   cause_of : (text : List ℕ) (cause : FolderCause) → LinesCause ground (room_behind cs w.left) text (Refused cause) → IsLineCause U hs text cause
   cause_of text (BadName place) why = absurd why
   cause_of text (Strange place) why = absurd why
-  cause_of text (NotBuilt place) why = absurd why
   cause_of text (TooLarge place) why = inl (
     ap TooLarge why.0,
     record {

@@ -18,7 +18,7 @@ use Rattle.fx_store.specs.declared.changes.Change.{Change}
 use Rattle.fx_store.specs.Changes.{changed_paths}
 use Rattle.fx_store.specs.Names.{path_cmp}
 use Rattle.fx_store.specs.Whole.{Store}
-use Rattle.fx_folder.specs.declared.fault.FolderCause.TheVariants.{BadName, Strange, TooLarge, BadTable, NotBuilt}
+use Rattle.fx_folder.specs.declared.fault.FolderCause.TheVariants.{BadName, Strange, TooLarge, BadTable}
 use Rattle.fx_folder.specs.declared.fault.LoadFault.{LoadFault}
 use Rattle.fx_folder.specs.declared.fault.LoadFault.TheVariants.{Refused, ReadFault, NoMemory}
 use Rattle.fx_folder.specs.declared.lines.Room.{Room}
@@ -429,6 +429,5 @@ module _ (S : Store) (room : Room) (text : List ℕ) (changes : List Change) (le
     };
     few = reading.few;
   }
-  reading_stops rest (Refused (NotBuilt place)) lt is stops = stops
   reading_stops rest ReadFault lt is stops = stops
   reading_stops rest NoMemory lt is stops = tt

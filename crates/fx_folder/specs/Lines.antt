@@ -10,7 +10,7 @@ use Rattle.fx_store.specs.declared.path.Path.{Path}
 use Rattle.fx_store.specs.Changes.{changed_paths, change_at}
 use Rattle.fx_store.specs.Names.{path_cmp}
 use Rattle.fx_store.specs.Whole.{Store}
-use Rattle.fx_folder.specs.declared.fault.FolderCause.TheVariants.{BadName, Strange, TooLarge, BadTable, NotBuilt}
+use Rattle.fx_folder.specs.declared.fault.FolderCause.TheVariants.{BadName, Strange, TooLarge, BadTable}
 use Rattle.fx_folder.specs.declared.fault.LoadFault.{LoadFault}
 use Rattle.fx_folder.specs.declared.fault.LoadFault.TheVariants.{Refused, ReadFault, NoMemory}
 use Rattle.fx_folder.specs.declared.lines.Room.{Room}
@@ -122,7 +122,6 @@ StopsNext S room text number old (Refused (BadName place)) = ⊥
 StopsNext S room text number old (Refused (Strange place)) = ⊥
 StopsNext S room text number old (Refused (TooLarge place)) = (place ≡ place_of (table_name ∷ [])) × IsOver S room text old
 StopsNext S room text number old (Refused (BadTable n)) = (n ≡ number) × IsStopped S text old
-StopsNext S room text number old (Refused (NotBuilt place)) = ⊥
 StopsNext S room text number old ReadFault = ⊥
 StopsNext S room text number old NoMemory = ⊤
 
@@ -148,6 +147,5 @@ LinesCause S room text (Refused (BadName place)) = ⊥
 LinesCause S room text (Refused (Strange place)) = ⊥
 LinesCause S room text (Refused (TooLarge place)) = (place ≡ place_of (table_name ∷ [])) × StopsMany S room text
 LinesCause S room text (Refused (BadTable n)) = StopsBad S room text n
-LinesCause S room text (Refused (NotBuilt place)) = ⊥
 LinesCause S room text ReadFault = ⊥
 LinesCause S room text NoMemory = ⊤

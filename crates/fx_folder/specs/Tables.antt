@@ -18,7 +18,7 @@ use Rattle.fx_folder.specs.Lines.{links_in, standing_by, ReadsAll}
 use Rattle.fx_folder.specs.Mapped.{mapped_of}
 use Rattle.fx_folder.specs.Shaped.{changes_of}
 
--- the contents of a file, if they are not too many; a copy of what a call reads
+-- the contents of a file, if they are not more than the limit
 abbrev pub ReadsWhole : ℕ → List ℕ → Option (List ℕ) → Type 0
 ReadsWhole limit contents None = limit < length contents
 ReadsWhole limit contents (Some bytes) = (length contents ≤ limit) × (bytes ≡ contents)
