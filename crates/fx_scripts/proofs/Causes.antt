@@ -1,5 +1,5 @@
 -- The cause for which a script's text is refused, from the faults of its parser and of its check.
-use Rattle.std.proofs.Common.{◌≡◌, ◌≤◌, ◌+◌, ◌^◌, ◌∙◌, ℕ, true, cond, leb, List, [], Result, Ok, Err, IfErr, length, refl, sym, ap, subst, arith}
+use Rattle.std.proofs.Common.{◌≡◌, ◌≤◌, ◌+◌, ◌∙◌, ℕ, cond, List, [], Result, Ok, Err, IfErr, length, refl, sym, ap, subst, arith}
 use Rattle.std.specs.Prelude.{All}
 use Rattle.std.specs.Result.{IsErrAnd}
 use Rattle.std.proofs.lemmas.Bool.{le-leb}
@@ -20,9 +20,8 @@ use Rattle.fx_spec.specs.CommandTree.{CommandTree, block, count_block}
 use Rattle.fx_spec.specs.WellShaped.{IsBlock, IsScript}
 use Rattle.fx_command.specs.declared.status.TextFault.{TextFault}
 use Rattle.fx_command.specs.declared.status.TextFault.TheVariants as fault
-use Rattle.fx_scripts.specs.declared.fault.ScriptFault.{ScriptFault}
 use Rattle.fx_scripts.specs.Faults.{of_parse, of_check}
-use Rattle.fx_scripts.specs.Scripted.{Scripts, HasCause, HasFault, IsNoScriptFor, IsUnscripted}
+use Rattle.fx_scripts.specs.Scripted.{HasCause, IsNoScriptFor, IsUnscripted}
 
 abbrev Txns : Type 0
 Txns = List (List CommandTree)
