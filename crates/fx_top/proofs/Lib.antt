@@ -1,5 +1,4 @@
 pub mod Completing
 pub mod Ending
-pub mod Flat
 pub mod Plans
 pub mod Stages

@@ -1,11 +1,10 @@
 -- What a run has come to between its stages.
 use Rattle.std.specs.Prelude.{◌≡◌, ◌⊎◌, ℕ, Bool, true, List, Option, Some, None, IfSome, IsSomeAnd, map, length, ⊤}
-use Rattle.std.specs.FinMap.{get}
 use Rattle.fx_store.specs.Whole.{Nodes}
 use Rattle.fx_base.specs.Causes.{Rose}
 use Rattle.fx_outside.specs.Host.{HostView}
 use Rattle.fx_outside.specs.Tree.{Tree}
-use Rattle.fx_folder.specs.Folder.{IsReady, IsFlat}
+use Rattle.fx_folder.specs.Folder.{IsReady}
 use Rattle.fx_forms.specs.Built.{is_built_spec, is_built_plan}
 use Rattle.fx_spec.specs.SpecTree.{SpecTree}
 use Rattle.fx_spec.specs.CommandTree.{CommandTree}
@@ -36,12 +35,11 @@ UnreadCause j host host' (unread.Refused word) = IfSome host.told (λ t. (i : �
 UnreadCause j host host' unread.ReadFault = Rose host.faults host'.faults ⊎ IsSomeAnd host.told (λ t. (i : ℕ) × StopsAtScript LacksFile t 0 j.scripts i)
 UnreadCause j host host' unread.NoMemory = ⊤
 
--- texts of the built forms, a script for each of the command's, and a filestore of files alone
+-- texts of the built forms, and a script for each of the command's
 pub record IsRunnable (j : RunJob) (base : BaseTree) : Type 0 where
   pub spec : is_built_spec base.description ≡ true
   pub plan : is_built_plan base.plan ≡ true
   pub count : length base.plan ≡ length j.scripts
-  pub flat : IsFlat (get base.loaded)
 
 -- a whole run from a base on: the output, and the last filestore
 pub record IsRunFrom (base : BaseTree) (mode : Mode) (nodes : Nodes) (output : List ℕ) : Type 0 where

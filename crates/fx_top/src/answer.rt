@@ -1,7 +1,5 @@
 //! Whole runs from a base on.
 ghost use Rattle.std.specs.Prelude.{◌≡◌, ◌++◌, IfOk};
-ghost use Rattle.std.specs.FinMap.{get};
-ghost use Rattle.fx_folder.specs.Folder.{IsFlat};
 ghost use Rattle.fx_spec.specs.Bases.{base_tree};
 ghost use Rattle.fx_sched.specs.Traced.{IsTraced};
 ghost use Rattle.fx_words.specs.Job.{shells_of};
@@ -56,7 +54,6 @@ pub fn run_base(alloc: Global, job: &RunJob, base: Arc<Base>) -> Result<Answer, 
     requires base { IsRunnable (asked job.now) (base_tree base.value) }
     ensures run { IfOk result (λ a.
         IsRunFrom (base_tree base.value) (asked job.now).mode (last_of a) a.output) }
-    ensures flat { IfOk result (λ a. IsFlat (get (last_of a))) }
 {
     let schedule = job.shells(alloc)?;
     let traced = run_schedule(alloc, base, &schedule)?;

@@ -1,8 +1,7 @@
 //! The stages of a run that read: the description, the scripts, the folder, and whether OUT can be written.
 ghost use Rattle.std.specs.Prelude.{◌≡◌, true, length, IfOk, IfErr, IfSome};
-ghost use Rattle.std.specs.FinMap.{get};
 ghost use Rattle.fx_outside.specs.Host.{ReadsOnly};
-ghost use Rattle.fx_folder.specs.Folder.{IsFlat, IsReady};
+ghost use Rattle.fx_folder.specs.Folder.{IsReady};
 ghost use Rattle.fx_folder.specs.Loads.{Loads};
 ghost use Rattle.fx_forms.specs.Built.{is_built_spec, is_built_plan};
 ghost use Rattle.fx_spec.specs.Bases.{base_tree};
@@ -61,7 +60,6 @@ fn read_folder<H: Host>(alloc: Global, job: &RunJob, host: &mut H) -> Result<Fil
     requires { IfSome (H.view host.old).told (λ t. HasTexts t (asked job.now)) }
     ensures loaded { IfOk result (λ s.
         IfSome (H.view host.old).told (λ t. Loads t (asked job.now).folder s.nodes)) }
-    ensures flat { IfOk result (λ s. IsFlat (get s.nodes)) }
     ensures same { ReadsOnly (H.view host.old) (H.view host.new) }
     ensures fit { RunAsksFit (asked job.now) (H.view host.old) (H.view host.new) }
     ensures ends { IfErr result (EndsAs (asked job.now) (H.view host.old) (H.view host.new)) }
