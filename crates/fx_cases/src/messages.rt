@@ -52,7 +52,6 @@ fn placed_fault(name: &str, place: u32) -> TextFault {
         "BadToken" => TextFault::BadToken(place),
         "Unexpected" => TextFault::Unexpected(place),
         "TooNested" => TextFault::TooNested(place),
-        "NotBuilt" => TextFault::NotBuilt(place),
         _ => TextFault::TooMany,
     }
 }

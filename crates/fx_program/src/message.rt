@@ -77,7 +77,6 @@ fn put_text_fault<W: fmt::Write>(f: &mut Formatter<W>, cause: &TextFault) -> fmt
         TextFault::BadToken(place) => put_place(f, "BadToken", *place),
         TextFault::Unexpected(place) => put_place(f, "Unexpected", *place),
         TextFault::TooNested(place) => put_place(f, "TooNested", *place),
-        TextFault::NotBuilt(place) => put_place(f, "NotBuilt", *place),
         TextFault::Unknown(word) => put_word(f, "Unknown", word),
         TextFault::TypeDiffers { expected, found } => put_shapes(f, expected, found),
         TextFault::Repeated(word) => put_word(f, "Repeated", word),

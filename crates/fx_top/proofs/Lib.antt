@@ -1,4 +1,5 @@
 pub mod Completing
 pub mod Ending
 pub mod Plans
+pub mod Scripts
 pub mod Stages

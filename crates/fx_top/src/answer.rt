@@ -4,7 +4,7 @@ ghost use Rattle.fx_spec.specs.Bases.{base_tree};
 ghost use Rattle.fx_sched.specs.Traced.{IsTraced};
 ghost use Rattle.fx_words.specs.Job.{shells_of};
 ghost use Rattle.fx_words.specs.JobOf.{asked, IsJob};
-ghost use Rattle.fx_top.specs.Answers.{last_of, IsRunFrom, IsRunnable};
+ghost use Rattle.fx_top.specs.Answers.{last_of, HasEachScript, IsRunFrom};
 ghost use Rattle.fx_top.specs.Outcome.{IsPrintedAs};
 
 use fx_base::NoMemory;
@@ -51,7 +51,7 @@ fn output_of(alloc: Global, job: &RunJob, traced: &Traced) -> Result<LongText, N
 /// Runs all scripts on the loaded filestore, by the job's schedule.
 pub fn run_base(alloc: Global, job: &RunJob, base: Arc<Base>) -> Result<Answer, NoMemory>
     requires job { IsJob job.now }
-    requires base { IsRunnable (asked job.now) (base_tree base.value) }
+    requires count { HasEachScript (asked job.now) (base_tree base.value) }
     ensures run { IfOk result (λ a.
         IsRunFrom (base_tree base.value) (asked job.now).mode (last_of a) a.output) }
 {
