@@ -89,8 +89,7 @@ fn path_cause(name: &str, path: HostText) -> FolderCause {
     match name {
         "BadName" => FolderCause::BadName(path),
         "Strange" => FolderCause::Strange(path),
-        "TooLarge" => FolderCause::TooLarge(path),
-        _ => FolderCause::NotBuilt(path),
+        _ => FolderCause::TooLarge(path),
     }
 }
 

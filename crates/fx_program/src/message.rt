@@ -139,7 +139,6 @@ fn folder_refused<W: fmt::Write>(f: &mut Formatter<W>, cause: &FolderCause) -> f
         FolderCause::Strange(path) => put_path(f, "Strange", path),
         FolderCause::TooLarge(path) => put_path(f, "TooLarge", path),
         FolderCause::BadTable(number) => write!(f, "BadTable {number}"),
-        FolderCause::NotBuilt(path) => put_path(f, "NotBuilt", path),
     }
 }
 
