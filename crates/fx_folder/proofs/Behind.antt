@@ -1,14 +1,13 @@
 -- What stands below a directory stands behind it, one after another.
-use Rattle.std.proofs.Common.{◌≡◌, inl, inr, ℕ, zero, suc, ◌+◌, ◌<◌, ◌≤◌, Bool, true, false, cond, T, List, [], ◌∷◌, ◌++◌, map, length, drop, get_or, Option, Some, None, is_some, refl, sym, ◌∙◌, ap, subst, arith, append_assoc, append-nil, length-append}
+use Rattle.std.proofs.Common.{◌≡◌, ℕ, zero, suc, ◌+◌, ◌<◌, ◌≤◌, Bool, true, false, cond, List, [], ◌∷◌, ◌++◌, length, drop, get_or, Option, Some, None, is_some, refl, sym, ◌∙◌, ap, subst, arith, append_assoc, append-nil, length-append}
 use Rattle.std.specs.declared.cmp.Ordering.{Ordering}
 use Rattle.std.specs.declared.cmp.Ordering.TheVariants.{Less, Equal, Greater}
 use Rattle.std.specs.Ordering.{is_eq, eq_by_cmp, ordering_then}
-use Rattle.std.specs.List.{AllByRecursion, cons_option, slice_get, filter_map}
+use Rattle.std.specs.List.{AllByRecursion, cons_option, slice_get}
 use Rattle.std.specs.List.Sorted.{IsStrictlySortedBy}
 use Rattle.std.specs.Map.{keys_of}
-use Rattle.std.proofs.lemmas.Bool.{cases_Bool}
 use Rattle.fx_outside.specs.Path.{Parts, parts_cmp, name_in}
-use Rattle.fx_outside.proofs.Trees.{name_total, name_same, parts_total, true_test, name_in_folder, name_in_pushed}
+use Rattle.fx_outside.proofs.Trees.{name_total, name_same, name_in_folder, name_in_pushed}
 use Rattle.fx_outside.specs.Listing.{name_cmp}
 use Rattle.fx_store.specs.declared.node.Node.{Node}
 use Rattle.fx_store.specs.Names.{path_cmp}

@@ -1,5 +1,5 @@
 -- A line of the table gives a link where both of its texts can be read.
-use Rattle.std.proofs.Common.{◌≡◌, List, ℕ, Option, None, Some, Result, Ok, Err, option_map, refl, sym, ◌∙◌, ap}
+use Rattle.std.proofs.Common.{◌≡◌, List, ℕ, Option, None, Some, Result, Ok, Err, option_map, refl, ◌∙◌, ap}
 use Rattle.fx_store.specs.declared.name.PathFault.{PathFault}
 use Rattle.fx_store.specs.Faults.{read_path, read_link}
 use Rattle.fx_folder.specs.Table.{TableLink, linked, link_of}

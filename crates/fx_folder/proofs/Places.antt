@@ -1,11 +1,10 @@
 -- Where the entries of a folder of any depth stand for the host, and what each of them is loaded as.
-use Rattle.std.proofs.Common.{◌≡◌, ◌≢◌, inl, inr, ℕ, ◌==◌, ◌+◌, ◌-◌, ◌<◌, ◌≤◌, min, Bool, true, false, not, cond, ◌&&◌, ◌||◌, List, [], ◌∷◌, ◌++◌, map, length, Option, Some, None, option_map, IfSome, IfOk, IfErr, OnOk, Result, Ok, Err, refl, sym, ◌∙◌, ap, subst, append_assoc, append-nil, arith, length-append}
+use Rattle.std.proofs.Common.{◌≡◌, ℕ, ◌==◌, min, Bool, true, false, not, cond, ◌&&◌, ◌||◌, List, [], ◌∷◌, ◌++◌, map, length, Option, Some, None, option_map, IfSome, IfOk, IfErr, OnOk, Result, Ok, Err, refl, sym, ◌∙◌, ap, subst, append_assoc, append-nil, arith}
 use Rattle.std.specs.Prelude.{⊤, All, nat_le, nat_lt}
 use Rattle.std.specs.Option.{option_or, option_map_or}
-use Rattle.std.specs.List.{list_all, slice_index_or}
+use Rattle.std.specs.List.{list_all}
 use Rattle.std.specs.FinMap.{get, entries, find}
 use Rattle.std.specs.FinMap.Entries.{same_entries}
-use Rattle.std.proofs.lemmas.Bool.{cases_Bool}
 use Rattle.std.proofs.lemmas.Bool.Decides.{nat_tests}
 use Rattle.std.proofs.lemmas.List.Elements.{All-head, All-tail}
 use Rattle.fx_outside.specs.declared.kind.HostKind.{HostKind}
@@ -19,14 +18,13 @@ use Rattle.fx_store.specs.declared.changes.Change.{Change}
 use Rattle.fx_store.specs.Names.{IsName, IsPath, is_name}
 use Rattle.fx_folder.specs.declared.walking.Item.{Item}
 use Rattle.fx_folder.specs.declared.fault.FolderCause.{FolderCause}
-use Rattle.fx_folder.specs.declared.fault.FolderCause.TheVariants.{BadName, Strange, TooLarge}
+use Rattle.fx_folder.specs.declared.fault.FolderCause.TheVariants.{Strange, TooLarge}
 use Rattle.fx_folder.specs.declared.fault.LoadFault.{LoadFault}
 use Rattle.fx_folder.specs.declared.fault.LoadFault.TheVariants.{Refused, ReadFault, NoMemory}
 use Rattle.fx_folder.specs.Limits.{most_nodes, most_in_file}
-use Rattle.fx_folder.specs.Loads.{refused_size, place}
-use Rattle.fx_folder.specs.Reads.{path_below, ReadsFile}
+use Rattle.fx_folder.specs.Reads.{path_below, place, refused_size, ReadsFile}
 use Rattle.fx_folder.specs.Deep.{all_below, walked, place_of, last_name, refused_kind, refused_bytes, refused_entry, node_of_kind}
-use Rattle.fx_folder.specs.Walks.{item_path, items_of, bytes_in, held_of, behind, ahead, IsThere, AreThere, IsEntered, AnswersEntry, AnswersFile, PassesPath, refused_path, IsNoRefusal, size_of}
+use Rattle.fx_folder.specs.Walks.{item_path, items_of, bytes_in, held_of, behind, ahead, IsThere, IsEntered, AnswersEntry, AnswersFile, PassesPath, refused_path, IsNoRefusal, size_of}
 use Rattle.fx_folder.proofs.Texts.{parts_below, fit_below}
 use Rattle.fx_folder.proofs.Below.{folder_fit}
 use Rattle.fx_folder.proofs.Filled.{stands_in}

@@ -6,7 +6,8 @@ use Rattle.fx_outside.specs.declared.kind.HostKind.TheVariants.{Folder}
 use Rattle.fx_outside.specs.declared.kind.Standing.TheVariants.{Is}
 use Rattle.fx_outside.specs.Tree.{Tree, Entry, bytes_at}
 use Rattle.fx_outside.specs.Host.{ReadsAt}
-use Rattle.fx_folder.specs.Loads.{refused_size, place, most_in_file}
+use Rattle.fx_folder.specs.Limits.{most_in_file}
+use Rattle.fx_folder.specs.Reads.{refused_size, place}
 use Rattle.fx_folder.specs.declared.fault.FolderCause.TheVariants.{TooLarge}
 
 -- a call that suits the told tree does not fail for the tree's sake

@@ -100,7 +100,7 @@ more_nodes before h = length-append before (h ∷ [])
 taken_twice : (most a b : ℕ) → most - a - b ≡ most - (a + b)
 taken_twice most a b = omega arith
 
-same_first : (before hs : List Held) → all_bytes before ≤ most_bytes → first_refused (length before + 1) (most_bytes - all_bytes before) hs ≡ first_cause before hs
+pub same_first : (before hs : List Held) → all_bytes before ≤ most_bytes → first_refused (length before + 1) (most_bytes - all_bytes before) hs ≡ first_cause before hs
 same_first before [] fits = refl
 same_first before ((names, e) ∷ hs) fits =
     let h : Held = (names, e) in
@@ -117,7 +117,7 @@ nothing_then None b e = (refl, e)
 nothing_then (Some x) b e = cc
 
 -- where no entry has a cause, the bytes of all are not too many
-fits_all : (before hs : List Held) → all_bytes before ≤ most_bytes → first_cause before hs ≡ None → all_bytes (before ++ hs) ≤ most_bytes
+pub fits_all : (before hs : List Held) → all_bytes before ≤ most_bytes → first_cause before hs ≡ None → all_bytes (before ++ hs) ≤ most_bytes
 fits_all before [] fits none = subst (λ l. all_bytes l ≤ most_bytes) (sym (append-nil before)) fits
 fits_all before (h ∷ hs) fits none =
     let two = nothing_then (cause_of before h.0 h.1) (first_cause (before ++ h ∷ []) hs) none in

@@ -1,6 +1,5 @@
 -- Paths with nodes, whose directories are given the names that stand in them, are a whole filestore.
-use Rattle.std.proofs.Common.{◌≡◌, inl, inr, ℕ, suc, ◌-◌, ◌≤◌, Bool, true, false, cond, ◌||◌, List, [], ◌∷◌, ◌++◌, map, length, take, Option, Some, None, is_some, IsSome, IfSome, All, refl, sym, ◌∙◌, ap, subst, arith, length-append}
-use Rattle.std.specs.Prelude.{⊤}
+use Rattle.std.proofs.Common.{◌≡◌, inl, inr, ℕ, suc, ◌-◌, Bool, true, false, cond, ◌||◌, List, [], ◌∷◌, ◌++◌, map, length, take, Option, Some, None, is_some, IfSome, All, refl, sym, ◌∙◌, ap, subst, arith, length-append}
 use Rattle.std.specs.declared.cmp.Ordering.TheVariants.{Less}
 use Rattle.std.specs.Ordering.{is_eq, eq_by_cmp}
 use Rattle.std.specs.Cmp.{tied_itself}
@@ -13,16 +12,16 @@ use Rattle.std.proofs.lemmas.Bool.{cases_Bool, false≢true}
 use Rattle.std.proofs.lemmas.List.Elements.{All-nil, All-cons, All-head, All-tail}
 use Rattle.fx_outside.specs.Path.{name_in}
 use Rattle.fx_outside.proofs.Trees.{parts_same, true_test, in_folder_cmp, name_in_folder, name_in_pushed}
-use Rattle.fx_store.specs.declared.limits.TheConstants.{MAX_FILE_BYTES}
 use Rattle.fx_store.specs.declared.node.Node.{Node}
 use Rattle.fx_store.specs.declared.node.Node.TheVariants.{File, Dir, Link}
-use Rattle.fx_store.specs.Names.{name_cmp, path_cmp, has, IsName, IsPath, IsLinkText}
+use Rattle.fx_store.specs.Names.{name_cmp, path_cmp, has, IsName, IsPath}
 use Rattle.fx_store.specs.Orders.{name_total, path_eq_same}
 use Rattle.fx_store.specs.Whole.{Store, IsWhole, IsNode, lists}
 use Rattle.fx_store.proofs.Stores.{IsWhole-same}
 use Rattle.fx_folder.specs.Table.{is_dir}
 use Rattle.fx_folder.specs.Deep.{Mapped, names_below, with_names, listed}
 use Rattle.fx_folder.specs.LoadLaws.{IsOfBytes, AreOfBytes}
+pub use Rattle.fx_folder.specs.Shaped.{IsLeaf, IsShaped}
 
 abbrev Paths : Type 0
 Paths = List (List ℕ)
@@ -102,19 +101,6 @@ no_names (n ∷ ns) never = absurd (never n (has_first n ns))
 
 -- ---- a shape of a filestore
 
--- within the limits, whichever bytes a file holds
-abbrev pub IsLeaf : Node → Type 0
-IsLeaf (File bytes) = length bytes ≤ MAX_FILE_BYTES
-IsLeaf (Dir names) = ⊤
-IsLeaf (Link text) = IsLinkText text
-
--- a root, and a directory above each path; what the directories list is left open
-pub record IsShaped (S : Store) : Type 0 where
-  pub root : is_dir (S []) ≡ true
-  pub above : (path : Paths) (name : List ℕ) → is_some (S (path ++ name ∷ [])) ≡ true → is_dir (S path) ≡ true
-  pub paths : (path : Paths) → IsSome (S path) → IsPath path
-  pub leaves : (path : Paths) → IfSome (S path) IsLeaf
-
 last_name : (path : Paths) (name : List ℕ) → All IsName (path ++ name ∷ []) → IsName name
 last_name [] name all = All-head IsName name [] all
 last_name (n ∷ path) name all = last_name path name (All-tail IsName n (path ++ name ∷ []) all)
@@ -173,7 +159,7 @@ module _ (es : List Mapped) (up : IsStrictlySortedBy path_cmp (keys_of es)) (sha
   path_below : (path : Paths) (name : List ℕ) → has (names_below es path) name ≡ true → IsPath (path ++ name ∷ [])
   path_below path name h = shape.paths (path ++ name ∷ []) (sym (has_below es path name) ∙ h)
 
-  is_set : (path : Paths) → IsNode path (Dir (names_below es path))
+  pub is_set : (path : Paths) → IsNode path (Dir (names_below es path))
   is_set path = (
     record {
       names = all_names (names_below es path) (λ n h. last_name path n (path_below path n h).names);

@@ -97,7 +97,7 @@ path_bytes (n ∷ ns) all = names_bytes (n ∷ ns) all
 few : {A : Type 0} (n : ℕ) (x : Result A PathFault) (f : PathFault) → n ≤ 64 → cond (nat_lt 64 n) (Err f) x ≡ x
 few n x f h = grind (arith, nat_tests)
 
-read_path_text : (p : List (List ℕ)) → IsPath p → read_path (path_text p) ≡ Ok p
+pub read_path_text : (p : List (List ℕ)) → IsPath p → read_path (path_text p) ≡ Ok p
 read_path_text p path = (path_texts_read (path_text p) p).reads (record { names = path.names; spelled = refl }) ∙ few (length p) (Ok p) TooDeep path.short
 
 chosen_ok : {A : Type 0} (b : Bool) (x : Result A PathFault) (f : PathFault) (a : A) → cond b x (Err f) ≡ Ok a → (b ≡ true) × (x ≡ Ok a)
@@ -204,7 +204,7 @@ arrow_feedless =
     All-cons (λ b. is_feed b ≡ false) 32 (45 ∷ 62 ∷ 32 ∷ []) refl
     (All-cons (λ b. is_feed b ≡ false) 45 (62 ∷ 32 ∷ []) refl (All-cons (λ b. is_feed b ≡ false) 62 (32 ∷ []) refl (All-cons (λ b. is_feed b ≡ false) 32 [] refl (All-nil (λ b. is_feed b ≡ false)))))
 
-line_feedless : (l : TableLink) → All (λ b. is_feed b ≡ false) (line_of l)
+pub line_feedless : (l : TableLink) → All (λ b. is_feed b ≡ false) (line_of l)
 line_feedless l =
     All-append (λ b. is_feed b ≡ false) (spelling (path_text l.path)) (codes " -> " ++ spelling l.text) (feedless (path_text l.path))
     (All-append (λ b. is_feed b ≡ false) (codes " -> ") (spelling l.text) arrow_feedless (feedless l.text))
@@ -355,7 +355,7 @@ tables_are_readable links others p q e = sym (lines_read links p) ∙ (ap (λ t.
 -- ---- the first bad line
 
 -- each piece of a text that is cut at its line feeds has none
-abbrev Feedless : List ℕ → Type 0
+abbrev pub Feedless : List ℕ → Type 0
 Feedless line = All (λ b. is_feed b ≡ false) line
 
 feedless_first : (b : ℕ) (lines : List (List ℕ)) → is_feed b ≡ false → All Feedless lines → All Feedless (onto_first b lines)
@@ -389,11 +389,11 @@ cut : (l : TableLink) (later : List ℕ) → slice_split is_feed (line_of l ++ 1
 cut l later = slice_split_at is_feed (line_of l) 10 later (line_feedless l) refl
 
 -- the first line of a text is one alone
-same_line : (line text : List ℕ) (l : TableLink) (later : List ℕ) → Feedless line → line ++ 10 ∷ text ≡ line_of l ++ 10 ∷ later → line ≡ line_of l
+pub same_line : (line text : List ℕ) (l : TableLink) (later : List ℕ) → Feedless line → line ++ 10 ∷ text ≡ line_of l ++ 10 ∷ later → line ≡ line_of l
 same_line line text l later none e =
     ap head_or (sym (slice_split_at is_feed line 10 text none refl) ∙ (ap (slice_split is_feed) e ∙ cut l later))
 
-no_feed : (line : List ℕ) (l : TableLink) (later : List ℕ) → Feedless line → line ≡ line_of l ++ 10 ∷ later → ⊥
+pub no_feed : (line : List ℕ) (l : TableLink) (later : List ℕ) → Feedless line → line ≡ line_of l ++ 10 ∷ later → ⊥
 no_feed line l later none e =
     let lines : line ∷ [] ≡ line_of l ∷ slice_split is_feed later = sym (slice_split_none is_feed line none) ∙ (ap (slice_split is_feed) e ∙ cut l later) in
     let some = some_line later in

@@ -44,7 +44,7 @@ module _ (all : List Held) where
   over : (most b n : ℕ) → b ≤ most → nat_lt (most - b) n ≡ nat_lt most (b + n)
   over most b n le = grind (arith, nat_tests)
 
-  same_many : all_bytes all ≤ most_bytes → (links : List TableLink) → deep.are_too_many nodes left links ≡ exceed_limits all links
+  pub same_many : all_bytes all ≤ most_bytes → (links : List TableLink) → deep.are_too_many nodes left links ≡ exceed_limits all links
   unfolding texts
   same_many fits links = ap (λ b. nat_lt most_nodes (nodes + length links) || b) (over most_bytes (all_bytes all) (texts links) fits)
 
@@ -93,7 +93,7 @@ module _ (all : List Held) where
         ap (λ ls. limited nodes left ls (Some (BadTable n))) (links_before_is S text n other)
         ∙ (limit_is other.links (Some (BadTable n)) ∙ (ap (λ b. cond b (Err too_large) (Err (BadTable n))) (ap (exceed_limits all) (sym same) ∙ has.few) ∙ ap (λ m. Err (BadTable m)) place))
 
-    lines_refused : (cause : FolderCause) → IsLineCause S all text cause → read_links nodes left S text (read_table S text) ≡ Err cause
+    pub lines_refused : (cause : FolderCause) → IsLineCause S all text cause → read_links nodes left S text (read_table S text) ≡ Err cause
     lines_refused cause (inl (same, many)) = many_read many (read_table S text) refl ∙ ap (λ c. Err c) (sym same)
     lines_refused cause (inr (number, same, bad)) = bad_read number bad (read_table S text) refl ∙ ap (λ c. Err c) (sym same)
 

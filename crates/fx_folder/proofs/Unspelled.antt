@@ -1,9 +1,8 @@
 -- A spelled text is read byte by byte.
-use Rattle.std.proofs.Common.{◌≡◌, ℕ, zero, suc, ◌+◌, ◌-◌, ◌<◌, ◌≤◌, ◌==◌, Bool, true, false, cond, List, [], ◌∷◌, ◌++◌, length, take, drop, Option, Some, None, option_map, refl, sym, ◌∙◌, ap, subst, arith, length-drop, append_assoc, append-nil}
-use Rattle.std.specs.List.{slice_index_or}
+use Rattle.std.proofs.Common.{◌≡◌, ℕ, zero, suc, ◌+◌, ◌-◌, List, [], ◌∷◌, ◌++◌, length, take, drop, Option, Some, None, option_map, refl, sym, ◌∙◌, ap, arith, length-drop, append_assoc}
 use Rattle.std.proofs.lemmas.List.{take_all}
-use Rattle.fx_folder.specs.TableSpelling.{is_plain, plain_byte, digit_value, escaped, onto, unspelled}
-use Rattle.fx_folder.specs.Unspells.{IsFirst, GoesOn}
+use Rattle.fx_folder.specs.TableSpelling.{onto, unspelled}
+use Rattle.fx_folder.specs.Unspells.{GoesOn}
 
 -- bytes before those that are still to be read
 abbrev pub joined : List ℕ → Option (List ℕ) → Option (List ℕ)

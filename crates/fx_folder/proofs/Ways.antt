@@ -1,14 +1,11 @@
 -- One entry after another of a folder is walked.
-use Rattle.std.proofs.Common.{◌≡◌, inl, inr, ℕ, ◌+◌, ◌-◌, ◌<◌, ◌≤◌, Bool, true, false, not, cond, ◌&&◌, List, [], ◌∷◌, ◌++◌, map, length, Option, Some, None, option_map, IfSome, Result, Ok, Err, IfOk, IfErr, refl, sym, ◌∙◌, ap, subst, append_assoc, append-nil, arith, length-append}
-use Rattle.std.specs.Prelude.{⊤}
-use Rattle.std.specs.Option.{option_or, option_map_or}
-use Rattle.std.specs.FinMap.{get, entries}
+use Rattle.std.proofs.Common.{◌≡◌, ℕ, ◌+◌, ◌-◌, true, false, not, cond, List, [], ◌∷◌, ◌++◌, map, length, Option, Some, None, IfSome, Ok, Err, refl, sym, ◌∙◌, ap, subst, append_assoc, append-nil, arith, length-append}
+use Rattle.std.specs.Option.{option_or}
+use Rattle.std.specs.FinMap.{entries}
 use Rattle.std.proofs.lemmas.List.Sums.{sum_by-cons}
-use Rattle.fx_outside.specs.declared.kind.HostKind.{HostKind}
-use Rattle.fx_outside.specs.declared.kind.HostKind.TheVariants as kinds
 use Rattle.fx_outside.specs.Listing.{Names}
 use Rattle.fx_outside.specs.Path.{Parts, parts}
-use Rattle.fx_outside.specs.Tree.{Tree, Entry, IsWhole, Lists, is_folder_at}
+use Rattle.fx_outside.specs.Tree.{Tree, IsWhole, Lists, is_folder_at}
 use Rattle.fx_store.specs.declared.node.Node.TheVariants.{Dir}
 use Rattle.fx_store.specs.declared.changes.Change.{Change}
 use Rattle.fx_folder.specs.declared.walking.Item.{Item}
@@ -17,8 +14,8 @@ use Rattle.fx_folder.specs.declared.fault.FolderCause.{FolderCause}
 use Rattle.fx_folder.specs.declared.fault.LoadFault.{LoadFault}
 use Rattle.fx_folder.specs.declared.fault.LoadFault.TheVariants.{Refused, ReadFault, NoMemory}
 use Rattle.fx_folder.specs.Limits.{most_bytes}
-use Rattle.fx_folder.specs.Deep.{Held, all_below, walked, is_table, all_bytes, first_refused, refused_entry}
-use Rattle.fx_folder.specs.Walks.{item_path, items_of, in_table, held_of, behind, branch, ahead, IsThere, AreThere, found_as, root_found, IsOnWay, IsEntered, AnswersEntry, AnswersWalk, WalkCause, size_of}
+use Rattle.fx_folder.specs.Deep.{Held, all_below, walked, all_bytes, first_refused, refused_entry}
+use Rattle.fx_folder.specs.Walks.{item_path, items_of, in_table, held_of, behind, ahead, IsThere, found_as, root_found, IsOnWay, IsEntered, AnswersEntry, AnswersWalk, WalkCause, size_of}
 use Rattle.fx_folder.proofs.Branches.{ahead_push, items_ahead, items_there, there_front, there_last, table_is}
 
 behind_none : (xs : List Held) → map (behind []) xs ≡ xs
@@ -100,7 +97,7 @@ fault_told (Some t) at (Refused why) cause = cause
 fault_told (Some t) at ReadFault cause = tt
 fault_told (Some t) at NoMemory cause = tt
 
-root_pushed : (items : List Change) (p : Parts) (names : List (List ℕ)) → items ≡ [] → p ≡ [] → names ≡ [] → items ++ record { path = p; node = Some (Dir names) } ∷ [] ≡ root_found ∷ []
+pub root_pushed : (items : List Change) (p : Parts) (names : List (List ℕ)) → items ≡ [] → p ≡ [] → names ≡ [] → items ++ record { path = p; node = Some (Dir names) } ∷ [] ≡ root_found ∷ []
 root_pushed items p names a b c =
     ap (λ l. l ++ record { path = p; node = Some (Dir names) } ∷ []) a
     ∙ ap (λ q. record { path = q; node = Some (Dir names) } ∷ []) b

@@ -1,5 +1,4 @@
--- What a folder of any depth is loaded as, links included, or why it is refused; and the folder of a filestore. The loader
--- that is built takes flat folders alone.
+-- What a folder of any depth is loaded as, links included, or why it is refused; and the folder of a filestore.
 use Rattle.std.specs.Prelude.{◌≡◌, ℕ, ◌+◌, ◌-◌, Bool, false, nat_le, nat_lt, cond, not, ◌||◌, ◌&&◌, List, [], ◌∷◌, ◌++◌, map, length, take, slice_index_or, bytes_eq, Option, Some, None, Result, Ok, Err}
 use Rattle.std.specs.Option.{option_or, option_map, option_and_then}
 use Rattle.std.specs.List.{flat_map, filter_map, filter, slice_split, sum_by}

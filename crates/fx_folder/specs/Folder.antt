@@ -2,9 +2,7 @@
 use Rattle.std.specs.Prelude.{◌≡◌, ◌≢◌, ◌⊎◌, ℕ, Bool, true, false, cond, ◌||◌, List, [], ◌∷◌, ◌++◌, take, IsTrue, IfSome, IsSomeAnd, Option, Some, None}
 use Rattle.std.specs.FinMap.{get}
 use Rattle.std.specs.Ordering.{is_lt}
-use Rattle.fx_store.specs.declared.node.Node.{Node}
-use Rattle.fx_store.specs.declared.node.Node.TheVariants.{File, Dir, Link}
-use Rattle.fx_store.specs.Whole.{Store, Nodes}
+use Rattle.fx_store.specs.Whole.{Nodes}
 use Rattle.fx_outside.specs.declared.kind.HostKind.TheVariants as kind
 use Rattle.fx_folder.specs.declared.fault.SaveFault.{SaveFault}
 use Rattle.fx_folder.specs.declared.fault.SaveFault.TheVariants as fault
@@ -42,15 +40,6 @@ pub record IsPartOf (tree tree' : Tree) (at : Parts) (nodes : Nodes) (last : Par
 
 abbrev pub IsPartlySaved : Tree → Tree → Parts → Nodes → Type 0
 IsPartlySaved tree tree' at nodes = (tree' ≡ tree) ⊎ ((last : Parts) × IsPartOf tree tree' at nodes last)
-
--- every entry of the root is a file
-abbrev pub IsFileNode : Node → Type 0
-IsFileNode (File bytes) = Unit {0}
-IsFileNode (Dir names) = ⊥
-IsFileNode (Link text) = ⊥
-
-abbrev pub IsFlat : Store → Type 0
-IsFlat S = (name : List ℕ) (rest : List (List ℕ)) → IfSome (S (name ∷ rest)) IsFileNode
 
 -- the tree of a host that tells one, before and after a call
 abbrev pub IfTold : Option Tree → Option Tree → (Tree → Tree → Type 0) → Type 0

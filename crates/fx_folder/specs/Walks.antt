@@ -5,7 +5,7 @@ use Rattle.std.specs.FinMap.{get, entries}
 use Rattle.fx_outside.specs.declared.kind.HostKind.{HostKind}
 use Rattle.fx_outside.specs.Listing.{Names}
 use Rattle.fx_outside.specs.Path.{Parts, parts}
-use Rattle.fx_outside.specs.Tree.{Tree, Entry, Lists}
+use Rattle.fx_outside.specs.Tree.{Tree, Lists}
 use Rattle.fx_store.specs.declared.node.Node.{Node}
 use Rattle.fx_store.specs.declared.node.Node.TheVariants.{File, Dir, Link}
 use Rattle.fx_store.specs.declared.changes.Change.{Change}

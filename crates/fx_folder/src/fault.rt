@@ -14,8 +14,6 @@ pub enum FolderCause {
     TooLarge(HostText),
     /// The table file is refused at this line, counted from 1.
     BadTable(u64),
-    /// A folder in the folder, or a table file: they are not loaded yet.
-    NotBuilt(HostText),
 }
 
 /// Why a folder is not loaded.

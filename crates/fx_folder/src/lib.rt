@@ -1,12 +1,17 @@
 //! Folders of a host as filestores, and filestores as folders.
 #![tactic(auto)]
 
+mod building;
 mod descent;
 mod fault;
+mod ground;
+mod joining;
 pub mod laws;
+mod lines;
 mod links;
 mod listing;
 mod loading;
+mod merging;
 mod readying;
 mod saving;
 mod spelling;

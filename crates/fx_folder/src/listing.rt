@@ -7,12 +7,55 @@ ghost use Rattle.std.specs.Ordering.{eq_by_cmp};
 ghost use Rattle.fx_outside.specs.Path.{name_in};
 ghost use Rattle.fx_store.specs.Names.{name_cmp, path_cmp, IsNameSet};
 ghost use Rattle.fx_folder.specs.Folder.{rest_of};
-ghost use Rattle.fx_folder.specs.Deep.{names_below};
+ghost use Rattle.fx_folder.specs.Deep.{names_below, listed};
+ghost use Rattle.fx_folder.specs.Shaped.{HaveNameSets, ListsAt, changes_of};
+ghost use Rattle.fx_folder.specs.Table.{is_dir};
 ghost use Rattle.fx_folder.specs.Mapped.{mapped_of};
 
 use fx_base::NoMemory;
-use fx_store::{Change, Name, Names, Path};
+use fx_store::{Change, Name, Names, Node, Path};
 use std::alloc::Global;
+use std::mem;
+
+/// Each directory lists the names that stand directly in it, where the changes go by their paths.
+pub(crate) fn list_names(alloc: Global, found: &mut Vec<Change>) -> Result<(), NoMemory>
+    requires set { found.old.items ≡ changes_of (mapped_of found.old.items) }
+    requires sets { HaveNameSets (mapped_of found.old.items) }
+    ensures { OnOk result (found.new.items ≡ changes_of (listed (mapped_of found.old.items))) }
+{
+    for i in 0..found.len() {
+        list_at(alloc, found, i)?;
+    }
+    Ok(())
+}
+
+/// The change at an index lists the names that stand directly in its directory, if it makes one.
+fn list_at(alloc: Global, found: &mut Vec<Change>, i: usize) -> Result<(), NoMemory>
+    requires within { i < length found.old.items }
+    requires sets { HaveNameSets (mapped_of found.old.items) }
+    ensures { OnOk result (ListsAt found.old.items i found.new.items) }
+{
+    if !is_dir(&found[i]) {
+        return Ok(());
+    }
+    let names = names_at(alloc, found, i, &found[i].path)?;
+    let_go(mem::replace(&mut found[i].node, Some(Node::Dir(names))));
+    Ok(())
+}
+
+/// Whether a change makes a directory.
+fn is_dir(change: &Change) -> bool
+    ensures { result ≡ is_dir change.now.node }
+{
+    match &change.node {
+        Some(Node::Dir(_)) => true,
+        Some(Node::File(_)) => false,
+        Some(Node::Link(_)) => false,
+        None => false,
+    }
+}
+
+fn let_go(_node: Option<Node>) {}
 
 /// The names that stand directly in a directory, where the changes go by their paths: all that is below it stands behind
 /// it.

@@ -1,19 +1,22 @@
 //! Folders as filestores.
-ghost use Rattle.std.specs.Prelude.{◌≡◌, ◌⊎◌, ◌+◌, ◌-◌, ◌<◌, ◌≤◌, length, true, false, min, Ok, Err, IfOk, IfErr, IfSome};
-ghost use Rattle.std.specs.FinMap.{get};
+ghost use Rattle.std.specs.Prelude.{◌≡◌, ◌⊎◌, ◌+◌, ◌-◌, ◌<◌, ◌≤◌, length, true, false, min, Ok, Err, IfOk, IfErr, IfSome, option_map};
 ghost use Rattle.fx_base.specs.Causes.{Rose};
 ghost use Rattle.fx_outside.specs.Path.{parts};
 ghost use Rattle.fx_outside.specs.Tree.{Lists, is_folder_at, is_file_at, bytes_at};
 ghost use Rattle.fx_outside.specs.Host.{ReadsOnly, AsksFit, HasFailed};
+ghost use Rattle.fx_outside.specs.declared.kind.HostFault.TheVariants.{Failed};
 ghost use Rattle.fx_folder.specs.declared.fault.LoadFault.TheVariants.{ReadFault, NoMemory};
-ghost use Rattle.fx_folder.specs.Folder.{IsFlat};
-ghost use Rattle.fx_folder.specs.Held.{held};
-ghost use Rattle.fx_folder.specs.Loads.{loads, Loads, LoadCause, AnswersAs, place, refused_unread, files};
-ghost use Rattle.fx_folder.specs.Reads.{path_below, entry_bytes, HasEntry, PassesUnread, ReadsFile, ReadsEntry, ReadsFiles};
+ghost use Rattle.fx_folder.specs.Tables.{ReadsWhole, AnswersFound, items_in};
+ghost use Rattle.fx_folder.specs.Loads.{loads, Loads, LoadCause, AnswersAs};
+ghost use Rattle.fx_folder.specs.Reads.{path_below, place, ReadsFile};
+ghost use Rattle.fx_folder.specs.Shaped.{AreShaped};
 
+use crate::building::filestore_of;
+use crate::joining::{table_kind, with_table};
+use crate::walking::{Walked, walk};
 use crate::{FolderCause, LoadFault};
-use fx_outside::{Host, HostKind, HostText, Listing};
-use fx_store::{Bytes, Files, Filestore, Name, PathFault};
+use fx_outside::{Host, HostFault, HostText, Listing};
+use fx_store::{Bytes, Change, Filestore};
 use std::alloc::{AllocError, Global};
 
 /// The most nodes of a loaded filestore, its root among them.
@@ -30,27 +33,25 @@ const CHUNK: usize = 65_536;
 /// The file in which a folder keeps its links.
 pub(crate) const TABLE: &str = ".forest-links";
 
-/// Loads a folder that holds files alone. An entry that can't be loaded is refused with its path; where there are
-/// several, it is the first in order of name.
+/// Loads a folder of any depth, with the links of its table. An entry that can't be loaded is refused with its path;
+/// where there are several, it is the first in order of path, and the table comes last.
 pub fn load<H: Host>(alloc: Global, host: &mut H, folder: &HostText) -> Result<Filestore, LoadFault>
     ensures loaded { IfOk result (λ s.
         IfSome (H.view host.old).told (λ tree. Loads tree folder.now s.nodes)) }
-    ensures flat { IfOk result (λ s. IsFlat (get s.nodes)) }
     ensures fault { IfErr result (LoadCause folder.now (H.view host.old) (H.view host.new)) }
     ensures same { ReadsOnly (H.view host.old) (H.view host.new) }
     ensures fit { AsksFit folder.now (H.view host.old) (H.view host.new) }
 {
-    load_files(alloc, host, folder)
+    load_folder(alloc, host, folder)
 }
 
-fn load_files<H: Host>(
+fn load_folder<H: Host>(
     alloc: Global,
     host: &mut H,
     folder: &HostText,
 ) -> Result<Filestore, LoadFault>
     ensures answer { IfSome (H.view host.old).told (λ tree.
         is_folder_at tree folder.now ≡ true → AnswersAs (loads tree folder.now) result) }
-    ensures flat { IfOk result (λ s. IsFlat (get s.nodes)) }
     ensures fault { result ≡ Err ReadFault
         → HasFailed (λ tree. is_folder_at tree folder.now) (H.view host.old) (H.view host.new) }
     ensures missing { IfSome (H.view host.old).told (λ tree.
@@ -60,43 +61,47 @@ fn load_files<H: Host>(
 {
     let names = host.list(alloc, folder)?;
     let mut buf = buffer(alloc, CHUNK)?;
-    match read_files(alloc, host, folder, &names, &mut buf) {
-        Ok(files) => Ok(Filestore::flat(alloc, files)?),
+    match find_all(alloc, host, folder, &names, &mut buf) {
+        Ok(found) => Ok(filestore_of(alloc, found)?),
         Err(fault) => Err(fault),
     }
 }
 
-fn read_files<H: Host>(
+/// Everything in a folder that has this listing, with the links of its table.
+fn find_all<H: Host>(
     alloc: Global,
     host: &mut H,
     folder: &HostText,
     names: &Listing,
     buf: &mut [u8],
-) -> Result<Files, LoadFault>
+) -> Result<Vec<Change>, LoadFault>
     requires room { 0 < length buf.old }
     requires told { IfSome (H.view host.old).told (λ tree.
         (is_folder_at tree folder.now ≡ true) × Lists tree (parts folder.now) names.now) }
+    ensures shaped { IfOk result (λ all. AreShaped all.items) }
     ensures answer { IfSome (H.view host.old).told (λ tree.
-        ReadsFiles (held tree (parts folder.now)) result) }
+        AnswersFound tree (parts folder.now) (items_in result)) }
     ensures fault { result ≡ Err ReadFault
         → Rose (H.view host.old).faults (H.view host.new).faults }
     ensures same { ReadsOnly (H.view host.old) (H.view host.new) }
     ensures fit { AsksFit folder.now (H.view host.old) (H.view host.new) }
 {
-    let mut files = Files::new(alloc);
-    let mut left = MAX_BYTES;
-    for i in 0..names.len() {
-        let Some((name, kind)) = names.at(i) else {
-            unreachable!()
-        };
-        let (name, bytes) = match read_entry(alloc, host, folder, name, *kind, i + 1, left, buf) {
-            Ok(read) => read,
-            Err(fault) => return Err(fault),
-        };
-        left -= bytes.len();
-        files.add(alloc, name, bytes)?;
+    let table = table_kind(alloc, names)?;
+    let walked = match walk(alloc, host, folder, names, buf) {
+        Ok(walked) => walked,
+        Err(fault) => return Err(fault),
+    };
+    match table {
+        Some(kind) => with_table(alloc, host, folder, kind, walked, buf),
+        None => Ok(all_of(walked)),
     }
-    Ok(files)
+}
+
+fn all_of(walked: Walked) -> Vec<Change>
+    ensures { result.items ≡ walked.found.items }
+{
+    let Walked { found, left: _ } = walked;
+    found
 }
 
 fn buffer(alloc: Global, size: usize) -> Result<Vec<u8>, AllocError>
@@ -105,65 +110,7 @@ fn buffer(alloc: Global, size: usize) -> Result<Vec<u8>, AllocError>
     vec![in alloc; 0; size]
 }
 
-/// Reads an entry of a folder, where so many nodes come before it and so many bytes are left.
-fn read_entry<H: Host>(
-    alloc: Global,
-    host: &mut H,
-    folder: &HostText,
-    name: &HostText,
-    kind: HostKind,
-    nodes: u64,
-    left: u64,
-    buf: &mut [u8],
-) -> Result<(Name, Bytes), LoadFault>
-    requires room { 0 < length buf.old }
-    requires entry { IfSome (H.view host.old).told (λ tree. HasEntry tree folder.now name.now kind) }
-    ensures answer { IfSome (H.view host.old).told (λ tree.
-        ReadsEntry nodes left name.now kind (entry_bytes tree folder.now name.now) result) }
-    ensures named { IfOk result (λ read. read.0 ≡ name.now) }
-    ensures short { IfOk result (λ read. length read.1 ≤ left) }
-    ensures fault { result ≡ Err ReadFault
-        → Rose (H.view host.old).faults (H.view host.new).faults }
-    ensures same { ReadsOnly (H.view host.old) (H.view host.new) }
-    ensures fit { AsksFit folder.now (H.view host.old) (H.view host.new) }
-{
-    let known = file_name(alloc, name, kind, nodes)?;
-    match read_file(alloc, host, folder, name, left, buf) {
-        Ok(bytes) => Ok((known, bytes)),
-        Err(fault) => Err(fault),
-    }
-}
-
-/// The name of an entry that is to be read, where so many nodes come before it.
-fn file_name(alloc: Global, name: &HostText, kind: HostKind, nodes: u64) -> Result<Name, LoadFault>
-    ensures { PassesUnread (refused_unread nodes name.now kind) name.now result }
-{
-    if name.as_str() == TABLE {
-        return Err(LoadFault::Refused(FolderCause::NotBuilt(below_folder(alloc, name)?)));
-    }
-    let known = match Name::read(alloc, name.as_str().as_bytes()) {
-        Ok(known) => known,
-        Err(PathFault::NoMemory) => return Err(LoadFault::NoMemory),
-        Err(PathFault::BadName) => {
-            return Err(LoadFault::Refused(FolderCause::BadName(below_folder(alloc, name)?)));
-        }
-        Err(PathFault::TooDeep) => unreachable!(),
-    };
-    if nodes >= MAX_NODES {
-        return Err(LoadFault::Refused(FolderCause::TooLarge(below_folder(alloc, name)?)));
-    }
-    match kind {
-        HostKind::File => Ok(known),
-        HostKind::Folder => Err(LoadFault::Refused(FolderCause::NotBuilt(below_folder(
-            alloc, name,
-        )?))),
-        HostKind::Other => Err(LoadFault::Refused(FolderCause::Strange(below_folder(
-            alloc, name,
-        )?))),
-    }
-}
-
-/// Reads a file of a folder to its end, unless it has more bytes than are left.
+/// Reads a file of a folder, unless it has more bytes than are left.
 pub(crate) fn read_file<H: Host>(
     alloc: Global,
     host: &mut H,
@@ -185,14 +132,37 @@ pub(crate) fn read_file<H: Host>(
 {
     let path = path_below(alloc, folder, name)?;
     let limit = left.min(MAX_FILE) as usize;
+    match read_whole(alloc, host, &path, limit, buf)? {
+        Some(bytes) => Ok(Bytes::from_vec(bytes)),
+        None => Err(LoadFault::Refused(FolderCause::TooLarge(below_folder(alloc, name)?))),
+    }
+}
+
+/// Reads a file to its end: `None` where it has more bytes than the limit.
+pub(crate) fn read_whole<H: Host>(
+    alloc: Global,
+    host: &mut H,
+    path: &HostText,
+    limit: usize,
+    buf: &mut [u8],
+) -> Result<Option<Vec<u8>>, HostFault>
+    requires room { 0 < length buf.old }
+    requires file { IfSome (H.view host.old).told (λ tree. is_file_at tree path.now ≡ true) }
+    ensures answer { IfOk result (λ bytes. IfSome (H.view host.old).told (λ tree.
+        ReadsWhole limit (bytes_at tree path.now) (option_map (λ v. v.items) bytes))) }
+    ensures short { IfOk result (λ bytes. IfSome bytes (λ v. length v.items ≤ limit)) }
+    ensures fault { result ≡ Err Failed → Rose (H.view host.old).faults (H.view host.new).faults }
+    ensures same { ReadsOnly (H.view host.old) (H.view host.new) }
+    ensures fit { AsksFit path.now (H.view host.old) (H.view host.new) }
+{
     let mut bytes = Vec::new(alloc);
     loop {
-        let count = host.read(alloc, &path, bytes.len() as u64, buf)?;
+        let count = host.read(alloc, path, bytes.len() as u64, buf)?;
         if count == 0 {
-            return Ok(Bytes::from_vec(bytes));
+            return Ok(Some(bytes));
         }
         if count > limit - bytes.len() {
-            return Err(LoadFault::Refused(FolderCause::TooLarge(below_folder(alloc, name)?)));
+            return Ok(None);
         }
         bytes.extend_from_slice(&buf[..count])?;
     }

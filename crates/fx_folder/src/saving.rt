@@ -227,7 +227,7 @@ fn add_table<H: Host>(
 }
 
 /// The host path of the table of a folder.
-fn table_below(alloc: Global, folder: &HostText) -> Result<HostText, NoMemory>
+pub(crate) fn table_below(alloc: Global, folder: &HostText) -> Result<HostText, NoMemory>
     ensures { IfOk result (λ place. place ≡ path_below folder.now table_name) }
 {
     let mut text = String::from_str(alloc, folder.as_str())?;

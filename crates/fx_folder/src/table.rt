@@ -10,7 +10,11 @@ use fx_store::{LinkText, Path, PathFault};
 use std::alloc::Global;
 
 /// The link of a spelled path text and a spelled link text: `None` where they give none.
-fn link_of(alloc: Global, path: &[u8], text: &[u8]) -> Result<Option<(Path, LinkText)>, NoMemory>
+pub(crate) fn link_of(
+    alloc: Global,
+    path: &[u8],
+    text: &[u8],
+) -> Result<Option<(Path, LinkText)>, NoMemory>
     ensures { IfOk result (λ link. GivesLink (unspelled path.now) (unspelled text.now) link) }
 {
     let Some(path) = path_of(alloc, path)? else {

@@ -8,6 +8,7 @@ ghost use Rattle.fx_outside.specs.Host.{ReadsOnly, AsksFit};
 ghost use Rattle.fx_store.specs.Names.{IsPath};
 ghost use Rattle.fx_folder.specs.declared.fault.LoadFault.TheVariants.{ReadFault};
 ghost use Rattle.fx_folder.specs.Deep.{place_of};
+ghost use Rattle.fx_folder.specs.Grown.{IsFoundNode, AreFound, IsGrown, Finds};
 ghost use Rattle.fx_folder.specs.Walks.{item_path, items_of, in_table, held_of, AnswersEntry, IsThere, IsEntered, IsOnWay, AnswersWalk, WalkCause, IsNoRefusal, AddsItems, PassesPath, AnswersFile, size_of};
 ghost use Rattle.fx_folder.specs.Reads.{path_below};
 
@@ -46,6 +47,7 @@ pub(crate) fn walk<H: Host>(
     requires told { IfSome (H.view host.old).told (λ tree.
         (is_folder_at tree folder.now ≡ true) × Lists tree (parts folder.now) names.now) }
     ensures answer { IfSome (H.view host.old).told (λ tree. AnswersWalk tree (parts folder.now) result) }
+    ensures found { IfOk result (λ walked. AreFound walked.found.items) }
     ensures fault { result ≡ Err ReadFault
         → Rose (H.view host.old).faults (H.view host.new).faults }
     ensures same { ReadsOnly (H.view host.old) (H.view host.new) }
@@ -76,8 +78,10 @@ fn walk_items<H: Host>(
     requires folder { IfSome (H.view host.old).told (λ tree. is_folder_at tree folder.now ≡ true) }
     requires way { IfSome (H.view host.old).told (λ tree.
         IsOnWay tree (parts folder.now) found.old.items MAX_BYTES todo.old.items) }
+    requires grown { IsGrown found.old.items todo.old.items }
     ensures way { IfOk result (λ left. IfSome (H.view host.old).told (λ tree.
         IsOnWay tree (parts folder.now) found.new.items left [])) }
+    ensures grown { OnOk result (AreFound found.new.items) }
     ensures cause { IfErr result (λ fault. IfSome (H.view host.old).told (λ tree.
         WalkCause tree (parts folder.now) fault)) }
     ensures fault { result ≡ Err ReadFault
@@ -110,8 +114,10 @@ fn walk_item<H: Host>(
     requires folder { IfSome (H.view host.old).told (λ tree. is_folder_at tree folder.now ≡ true) }
     requires way { IfSome (H.view host.old).told (λ tree.
         IsOnWay tree (parts folder.now) found.old.items left (todo.old.items ++ item.now ∷ [])) }
+    requires grown { IsGrown found.old.items (todo.old.items ++ item.now ∷ []) }
     ensures way { IfOk result (λ rest. IfSome (H.view host.old).told (λ tree.
         IsOnWay tree (parts folder.now) found.new.items rest todo.new.items)) }
+    ensures grown { OnOk result (IsGrown found.new.items todo.new.items) }
     ensures cause { IfErr result (λ fault. IfSome (H.view host.old).told (λ tree.
         WalkCause tree (parts folder.now) fault)) }
     ensures count { OnOk result (length found.new.items ≡ length found.old.items + 1) }
@@ -151,6 +157,7 @@ fn enter<H: Host>(
         AnswersEntry nodes left (held_of tree (parts folder.now) item.now) result) }
     ensures entered { OnOk result (IfSome (H.view host.old).told (λ tree.
         IsEntered tree (parts folder.now) (item_path item.now) todo.old.items todo.new.items)) }
+    ensures found { IfOk result (Finds item.now todo.old.items todo.new.items) }
     ensures size { IfOk result (λ change. size_of change ≤ left) }
     ensures few { OnOk result (nodes < MAX_NODES) }
     ensures fault { result ≡ Err ReadFault
@@ -187,6 +194,7 @@ fn enter_file<H: Host>(
     requires file { IfSome (H.view host.old).told (λ tree. is_file_at tree (path_below folder.now text.now) ≡ true) }
     ensures answer { IfSome (H.view host.old).told (λ tree.
         AnswersFile left path (bytes_at tree (path_below folder.now text.now)) result) }
+    ensures found { IfOk result (λ change. (change.path ≡ path) × IsFoundNode change.node) }
     ensures size { IfOk result (λ change. size_of change ≤ left) }
     ensures fault { result ≡ Err ReadFault
         → Rose (H.view host.old).faults (H.view host.new).faults }
@@ -194,10 +202,13 @@ fn enter_file<H: Host>(
     ensures fit { AsksFit (path_below folder.now text.now) (H.view host.old) (H.view host.new) }
 {
     match read_file(alloc, host, folder, text, left, buf) {
-        Ok(bytes) => Ok(Change {
-            path,
-            node: Some(Node::File(bytes)),
-        }),
+        Ok(bytes) => {
+            prove!(bytes.as_slice().len() <= 1_048_576);
+            Ok(Change {
+                path,
+                node: Some(Node::File(bytes)),
+            })
+        }
         Err(fault) => Err(fault),
     }
 }

@@ -1,6 +1,5 @@
 use Rattle.std.proofs.Common.{◌≡◌, ◌<◌, length, get_or, IfOk, sym, ◌∙◌, subst, arith}
 use Rattle.fx_store.specs.Names.{IsNameSet}
-use Rattle.fx_folder.specs.Deep.{names_below}
 use Rattle.fx_folder.specs.Mapped.{mapped_of}
 use Rattle.fx_folder.proofs.Behind.{first_names, more_names, key_at, names_done}
 use Rattle.fx_folder.proofs.listing.names_at.Goals as goal

@@ -1,4 +1,4 @@
-use Rattle.std.proofs.Common.{length, drop, subst, arith, length-drop}
+use Rattle.std.proofs.Common.{drop, subst, arith, length-drop}
 use Rattle.fx_folder.specs.Unspells.{GoesOn}
 use Rattle.fx_folder.proofs.Unspelled.{one_more, tail_of}
 use Rattle.fx_folder.proofs.spelling.unspelled.Goals as goal

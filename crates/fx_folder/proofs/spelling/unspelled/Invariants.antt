@@ -1,4 +1,4 @@
-use Rattle.std.proofs.Common.{◌≡◌, ◌≤◌, ◌-◌, ◌++◌, length, drop}
+use Rattle.std.proofs.Common.{◌≡◌, ◌≤◌, ◌-◌, length, drop}
 use Rattle.fx_folder.specs.TableSpelling.{unspelled}
 use Rattle.fx_folder.proofs.Unspelled.{joined}
 use Rattle.fx_folder.proofs.spelling.unspelled.Given as goal

@@ -1,6 +1,5 @@
-use Rattle.std.proofs.Common.{◌≡◌, ◌+◌, ◌-◌, ◌<◌, ◌++◌, ◌∷◌, [], length, false, true, sym, ◌∙◌, ap, arith}
+use Rattle.std.proofs.Common.{◌≡◌, ◌+◌, ◌-◌, ◌++◌, ◌∷◌, [], sym, ◌∙◌, ap, arith}
 use Rattle.std.specs.FinMap.{entries, len-entries}
-use Rattle.fx_folder.specs.Walks.{in_table, item, items_of}
 use Rattle.fx_folder.proofs.Items.{nothing_left, not_past, one_item, no_item}
 use Rattle.fx_folder.proofs.walking.add_items.Goals as goal
 

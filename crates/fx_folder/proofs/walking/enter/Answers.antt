@@ -1,4 +1,6 @@
 use Rattle.std.proofs.Common.{refl}
+use Rattle.fx_folder.specs.Reads.{path_below}
+use Rattle.fx_folder.proofs.Growing.{file_found, folder_found}
 use Rattle.fx_folder.proofs.Places.{passed_of, on_ok, on_ok_then, file_there, folder_there, file_told, folder_result, entered_file, entered_folder, fit_of_text, text_is}
 use Rattle.fx_folder.proofs.walking.enter.Goals as goal
 
@@ -25,3 +27,9 @@ returns-in-Folder-clause-entered g c = on_ok_then c.enter_folder.result _ _ (λ 
 
 pub returns-in-Folder-clause-fit : goal.returns-in-Folder-clause-fit
 returns-in-Folder-clause-fit g c = λ fit. c.enter_folder.ensures.fit (fit_of_text c.args.folder.now c.in_ok-text.text c.in-Ok.path c.in-Ok.ensures.names (text_is c.in_ok-text.text c.in-Ok.path _ c.in_ok-text.ensures c.in-Ok.ensures.path.1) fit)
+
+pub returns-in-File-clause-found : goal.returns-in-File-clause-found
+returns-in-File-clause-found g c = file_found c.args.item.now c.args.todo.now.items c.in-Ok.path c.enter_file.result c.in-Ok.ensures.names c.in-Ok.ensures.path.1 c.enter_file.ensures.found
+
+pub returns-in-Folder-clause-found : goal.returns-in-Folder-clause-found
+returns-in-Folder-clause-found g c = folder_found (g.H.Host.view c.args.host.now).told (path_below c.args.folder.now c.in_ok-text.text) c.args.item.now c.args.todo.now.items c.enter_folder.new.todo.items c.in-Ok.path c.enter_folder.result c.in-Ok.ensures.names c.in-Ok.ensures.path.1 c.enter_folder.ensures.change c.enter_folder.ensures.todo

@@ -1,0 +1,497 @@
+-- What was walked, with the links of the table, is what the definition of loading gives.
+use Rattle.std.proofs.Common.{◌≡◌, ◌⊎◌, inl, inr, ℕ, suc, ◌+◌, ◌-◌, ◌<◌, ◌≤◌, Bool, true, false, cond, ◌&&◌, ◌||◌, List, [], ◌∷◌, ◌++◌, map, length, Option, Some, None, Result, Ok, Err, IfOk, IfErr, IfSome, is_some, is_none, option_map, All, refl, sym, ◌∙◌, ap, subst, arith}
+use Rattle.std.specs.Prelude.{nat_lt, unwrap_or}
+use Rattle.std.specs.Option.{option_or, option_map_or}
+use Rattle.std.specs.Ordering.{eq_by_cmp}
+use Rattle.std.specs.List.{AllByRecursion}
+use Rattle.std.specs.List.Sorted.{IsStrictlySortedBy}
+use Rattle.std.specs.Map.{keys_of}
+use Rattle.std.specs.FinMap.{get, find, put, from_entries}
+use Rattle.std.proofs.lemmas.Bool.Decides.{nat_tests}
+use Rattle.std.proofs.lemmas.List.Elements.{All-head, All-tail}
+use Rattle.fx_outside.specs.declared.kind.HostKind.{HostKind}
+use Rattle.fx_outside.specs.declared.kind.HostKind.TheVariants as kind
+use Rattle.fx_outside.specs.Path.{Parts, parts}
+use Rattle.fx_outside.specs.Listing.{Names}
+use Rattle.fx_outside.specs.Tree.{Tree, Entry, Lists, entry_at, is_folder_at, is_file_at, is_file_kind, bytes_at}
+use Rattle.std.specs.Global.{Global}
+use Rattle.std.specs.Prelude.{Vec}
+use Rattle.fx_store.specs.declared.filestore.Filestore.{Filestore}
+use Rattle.fx_folder.specs.Loads.{loads, AnswersAs}
+use Rattle.fx_folder.specs.Reads.{path_below}
+use Rattle.fx_folder.proofs.Below.{folder_fit}
+use Rattle.fx_folder.proofs.Texts.{parts_table, fit_table}
+use Rattle.fx_outside.proofs.Sorted.{sorted_test, strictly_sorted}
+use Rattle.fx_store.specs.declared.node.Node.{Node}
+use Rattle.fx_store.specs.declared.node.Node.TheVariants.{File, Dir, Link}
+use Rattle.fx_store.specs.declared.changes.Change.{Change}
+use Rattle.fx_store.specs.Changes.{IsChanges, changed_paths, change_at}
+use Rattle.fx_store.specs.Names.{path_cmp, IsPath}
+use Rattle.fx_store.specs.Orders.{path_eq_same}
+use Rattle.fx_store.specs.Whole.{Store}
+use Rattle.fx_folder.specs.declared.fault.FolderCause.{FolderCause}
+use Rattle.fx_folder.specs.declared.fault.FolderCause.TheVariants.{BadName, Strange, TooLarge, BadTable}
+use Rattle.fx_folder.specs.declared.fault.LoadFault.{LoadFault}
+use Rattle.fx_folder.specs.declared.fault.LoadFault.TheVariants.{Refused, ReadFault, NoMemory}
+use Rattle.fx_folder.specs.declared.walking.Walked.{Walked}
+use Rattle.fx_folder.specs.Deep.{Held, Mapped, all_below, walked, table_in, all_bytes, first_refused, refused_entry, node_of_kind, unlisted, listed, with_links, place_of, most_in_table, unless_bad, read_links, table_file_links, linked, with_table, unless_refused, loaded, as_nodes}
+use Rattle.fx_folder.specs.Grown.{IsFoundNode, HasDir, IsFound, AreFound}
+use Rattle.fx_folder.specs.Limits.{most_nodes, most_bytes, table_name}
+use Rattle.fx_folder.specs.LoadLaws.{IsOfBytes, AreOfBytes}
+use Rattle.fx_folder.specs.Lines.{link_change, link_in, links_in, standing_by, AreLinks, texts_of, is_over, ReadsAll, LinesCause}
+use Rattle.fx_folder.specs.Mapped.{mapped_of, node_or_dir}
+use Rattle.fx_folder.specs.Merges.{MakeLinks, CanMerge}
+use Rattle.fx_folder.specs.RefusalLaws.{exceed_limits, IsLineCause}
+use Rattle.fx_folder.specs.Shaped.{IsLeaf, IsShaped, change_of, changes_of, AreShaped}
+use Rattle.fx_folder.specs.Table.{TableLink, IsTable, is_dir, read_table}
+use Rattle.fx_folder.specs.Tables.{ReadsWhole, text_of, AnswersText, room_behind, IsJoined, AnswersFound, HasTable, items_in}
+use Rattle.fx_folder.specs.Walks.{found_as, AnswersWalk}
+use Rattle.fx_folder.proofs.Branches.{find_below}
+use Rattle.fx_folder.proofs.Linking.{IsLinked, CanStand, links_made, find_linked}
+use Rattle.fx_folder.proofs.Making.{set_at}
+use Rattle.fx_folder.proofs.Naming.{mapped_changes}
+use Rattle.fx_folder.proofs.Refusals.{same_first, fits_all}
+use Rattle.fx_folder.proofs.Shapes.{found}
+use Rattle.fx_folder.proofs.TableLines.{tables_are_read}
+use Rattle.fx_folder.proofs.TableRefusals.{lines_refused, same_many}
+
+-- ---- what was found has a shape
+
+found_set : (cs : List Change) (es : List Mapped) → AllByRecursion (IsFound es) cs → cs ≡ changes_of (mapped_of cs)
+found_set [] es all = refl
+found_set (c ∷ cs) es all = λ i. first c all.0 i ∷ found_set cs es all.1 i
+  where
+    by : (p : Parts) (o : Option Node) → IsFoundNode o → ◌≡◌ {A = Change} (record { path = p; node = o }) (change_of (p, node_or_dir o))
+    by p None is = absurd is
+    by p (Some node) is = refl
+
+    first : (c : Change) → IsFound es c → c ≡ change_of (c.path, node_or_dir c.node)
+    first c is = by c.path c.node is.node
+
+-- what holds of each change holds where one is found
+each_at : (P : Parts → Option Node → Type 0) (cs : List Change) (q : Parts) (node : Node) → AllByRecursion (λ (c : Change). P c.path c.node) cs → cs ≡ changes_of (mapped_of cs) → found (mapped_of cs) q ≡ Some node → P q (Some node)
+each_at P [] q node all set is = cc
+each_at P (c ∷ cs) q node all set is = by (eq_by_cmp path_cmp q c.path) refl is (each_at P cs q node all.1 (ap rest set))
+  where
+    rest : List Change → List Change
+    rest [] = []
+    rest (d ∷ ds) = ds
+
+    head_or : List Change → Option Node
+    head_or [] = None
+    head_or (d ∷ ds) = d.node
+
+    by : (b : Bool) → eq_by_cmp path_cmp q c.path ≡ b → cond b (Some (node_or_dir c.node)) (found (mapped_of cs) q) ≡ Some node → (found (mapped_of cs) q ≡ Some node → P q (Some node)) → P q (Some node)
+    by true same is further =
+        let here : c.node ≡ Some node = ap head_or set ∙ is in
+        subst (λ p. P p (Some node)) (sym (path_eq_same q c.path same)) (subst (P c.path) here all.0)
+    by false other is further = further is
+
+some_of : (o : Option Node) → is_some o ≡ true → (node : Node) × (o ≡ Some node)
+some_of None e = cc
+some_of (Some node) e = (node, refl)
+
+module _ (cs : List Change) (are : AreFound cs) where
+  abbrev es : List Mapped
+  es = mapped_of cs
+
+  set : cs ≡ changes_of (mapped_of cs)
+  set = found_set cs es are.each
+
+  weaker : (P : Parts → Option Node → Type 0) → ((c : Change) → IsFound es c → P c.path c.node) → (ds : List Change) → AllByRecursion (IsFound es) ds → AllByRecursion (λ (c : Change). P c.path c.node) ds
+  weaker P f [] all = tt
+  weaker P f (d ∷ ds) all = (f d all.0, weaker P f ds all.1)
+
+  at_path : (P : Parts → Option Node → Type 0) → ((c : Change) → IsFound es c → P c.path c.node) → (q : Parts) (node : Node) → found es q ≡ Some node → P q (Some node)
+  at_path P f q node is = each_at P cs q node (weaker P f cs are.each) set is
+
+  leaf_of : (o : Option Node) → IsFoundNode o → IfSome o IsLeaf
+  leaf_of None is = tt
+  leaf_of (Some (File bytes)) is = is.short
+  leaf_of (Some (Dir names)) is = tt
+  leaf_of (Some (Link text)) is = absurd is
+
+  bytes_of : (o : Option Node) → IsFoundNode o → IfSome o IsOfBytes
+  bytes_of None is = tt
+  bytes_of (Some (File bytes)) is = is.bytes
+  bytes_of (Some (Dir names)) is = tt
+  bytes_of (Some (Link text)) is = tt
+
+  if_found : (P : Node → Type 0) → ((c : Change) → IsFound es c → IfSome c.node P) → (q : Parts) → IfSome (found es q) P
+  if_found P f q = by (found es q) refl
+    where
+      by : (o : Option Node) → found es q ≡ o → IfSome o P
+      by None is = tt
+      by (Some node) is = at_path (λ p o. IfSome o P) f q node is
+
+  shape : IsShaped (found es)
+  shape = record {
+    root = are.root;
+    above = λ path name some.
+        let there = some_of (found es (path ++ name ∷ [])) some in
+        at_path (λ p o. (q : Parts) (n : List ℕ) → p ≡ q ++ n ∷ [] → HasDir es q) (λ c is q n e. is.above q n e) (path ++ name ∷ []) there.0 there.1 path name refl;
+    paths = λ path some. let there = some_of (found es path) some in at_path (λ p o. IsPath p) (λ c is. is.path) path there.0 there.1;
+    leaves = if_found IsLeaf (λ c is. leaf_of c.node is.node);
+  }
+
+  pub found_shaped : AreShaped cs
+  found_shaped = record { set = set; ascending = are.ascending; shape = shape; bytes = if_found IsOfBytes (λ c is. bytes_of c.node is.node) }
+
+  keys_paths : (ds : List Change) → keys_of (mapped_of ds) ≡ changed_paths ds
+  keys_paths [] = refl
+  keys_paths (d ∷ ds) = ap (λ l. d.path ∷ l) (keys_paths ds)
+
+  pub found_changes : IsChanges cs
+  found_changes = subst (IsStrictlySortedBy path_cmp) (keys_paths cs) are.ascending
+
+  -- what stands by the changes
+  pub stands : (q : Parts) → standing_by cs q ≡ found es q
+  stands q = ap (λ l. unwrap_or (change_at l q) None) set ∙ (ap (λ o. unwrap_or o None) (set_at es q) ∙ by (found es q))
+    where
+      by : (o : Option Node) → unwrap_or (option_map Some o) None ≡ o
+      by None = refl
+      by (Some node) = refl
+
+  is_linked : IsLinked (found es) es
+  is_linked = record { sorted = sorted_test path_cmp es are.ascending; shape = shape; dirs = λ q. refl }
+
+-- ---- links that are a table can be merged
+
+free_of : (o p : Option Node) → (is_dir p && is_none o) ≡ true → o ≡ None
+free_of None p e = refl
+free_of (Some node) p e = absurd (by (is_dir p) e)
+  where
+    by : (b : Bool) → (b && false) ≡ true → ⊥
+    by true e = cc
+    by false e = cc
+
+apart_from : (S : Store) (fs : List Mapped) (ls : List TableLink) → ((q : Parts) → S q ≡ found fs q) → All (CanStand S) ls → AllByRecursion (λ (l : TableLink). find path_cmp l.path fs ≡ None) ls
+apart_from S fs [] same all = tt
+apart_from S fs (l ∷ ls) same all = (sym (same l.path) ∙ free_of (S l.path) _ (All-head (CanStand S) l ls all), apart_from S fs ls same (All-tail (CanStand S) l ls all))
+
+made_links : (cs : List Change) → cs ≡ map link_change (links_in cs) → MakeLinks cs
+made_links cs is = by cs is
+  where
+    tail_of : List Change → List Change
+    tail_of [] = []
+    tail_of (c ∷ cs) = cs
+
+    head_is : (c d : Change) (cs ds : List Change) → c ∷ cs ≡ d ∷ ds → c ≡ d
+    head_is c d cs ds e = cc
+
+    by : (cs : List Change) → cs ≡ map link_change (links_in cs) → MakeLinks cs
+    by [] is = tt
+    by (c ∷ cs) is = (head_is c (link_change (link_in c)) cs (map link_change (links_in cs)) is, by cs (ap tail_of is))
+
+module _ (cs : List Change) (are : AreFound cs) (links : List Change) (linked : AreLinks (standing_by cs) links) where
+  abbrev S : Store
+  S = standing_by cs
+
+  ls : List TableLink
+  ls = links_in links
+
+  pub links_make : MakeLinks links
+  links_make = made_links links linked.made
+
+  pub can_merge : CanMerge (mapped_of cs) (links_in links)
+  unfolding IsStrictlySortedBy
+  can_merge = record { apart = apart_from S (mapped_of cs) (links_in links) (stands cs are) linked.table.stand; ascending = linked.table.ascending.1 }
+
+  same_store : S ≡ found (mapped_of cs)
+  same_store = λ i q. stands cs are q i
+
+  joined_links : IsLinked (found (mapped_of cs)) (with_links (mapped_of cs) (links_in links))
+  joined_links = links_made (found (mapped_of cs)) (mapped_of cs) (links_in links) linked.table.valid (subst (λ F. All (CanStand F) (links_in links)) same_store linked.table.stand) (is_linked cs are)
+
+  bytes_linked : (fs : List Mapped) (ks : List TableLink) → AreOfBytes (found fs) → AreOfBytes (found (with_links fs ks))
+  bytes_linked fs [] held = held
+  bytes_linked fs (k ∷ ks) held = bytes_linked (put path_cmp k.path (Link k.text) fs) ks (λ q. subst (λ o. IfSome o IsOfBytes) (sym (find_linked fs k q)) (by (eq_by_cmp path_cmp q k.path) q))
+    where
+      by : (b : Bool) (q : Parts) → IfSome (cond b (Some (Link k.text)) (found fs q)) IsOfBytes
+      by true q = tt
+      by false q = held q
+
+  pub joined_shaped : (all : List Change) → all ≡ changes_of (with_links (mapped_of cs) (links_in links)) → AreShaped all
+  joined_shaped all is =
+      let fs = with_links (mapped_of cs) (links_in links) in
+      let same : mapped_of (changes_of fs) ≡ fs = mapped_changes fs in
+      subst AreShaped (sym is) (record {
+        set = ap changes_of (sym same);
+        ascending = subst (λ l. IsStrictlySortedBy path_cmp (keys_of l)) (sym same) (strictly_sorted path_cmp fs joined_links.sorted);
+        shape = subst (λ l. IsShaped (found l)) (sym same) joined_links.shape;
+        bytes = subst (λ l. AreOfBytes (found l)) (sym same) (bytes_linked (mapped_of cs) (links_in links) (found_shaped cs are).bytes);
+      })
+
+-- ---- what was walked is what is unlisted
+
+mapped_walked : (hs : List Held) → mapped_of (map found_as hs) ≡ map (λ (h : Held). (h.0, node_of_kind h.1.kind h.1.bytes)) hs
+mapped_walked [] = refl
+mapped_walked (h ∷ hs) = ap (λ l. (h.0, node_of_kind h.1.kind h.1.bytes) ∷ l) (mapped_walked hs)
+
+length_mapped : (hs : List Held) → length (map found_as hs) ≡ length hs
+length_mapped [] = refl
+length_mapped (h ∷ hs) = ap suc (length_mapped hs)
+
+passes : (a b c : Bool) (o : Option FolderCause) (x y : FolderCause) → cond a (cond (b && c) o (Some x)) (Some y) ≡ None → c ≡ true
+passes true true true o x y e = refl
+passes true true false o x y e = cc
+passes true false c o x y e = cc
+passes false b c o x y e = cc
+
+neither : (a b : Option FolderCause) → option_or a b ≡ None → (a ≡ None) × (b ≡ None)
+neither None b e = (refl, e)
+neither (Some x) b e = cc
+
+below : (n : ℕ) → nat_lt n most_nodes ≡ true → n < most_nodes
+below n e = grind (arith, nat_tests)
+
+few_nodes : (nodes left : ℕ) (hs : List Held) → nodes ≤ most_nodes → first_refused nodes left hs ≡ None → nodes + length hs ≤ most_nodes
+few_nodes nodes left [] le none = omega (arith, le)
+few_nodes nodes left (h ∷ hs) le none =
+    let two = neither (refused_entry nodes left h) (first_refused (nodes + 1) (left - length h.1.bytes) hs) none in
+    let lt = below nodes (passes _ _ (nat_lt nodes most_nodes) _ _ _ two.0) in
+    omega (arith, few_nodes (nodes + 1) (left - length h.1.bytes) hs (omega (arith, lt)) two.1)
+
+module _ (t : Tree) (at : Parts) (w : Walked) (are : AreFound w.found.items) (walk : AnswersWalk t at (Ok w)) where
+  abbrev hs : List Held
+  hs = walked (all_below t at)
+
+  abbrev cs : List Change
+  cs = w.found.items
+
+  pub unlisted_is : mapped_of cs ≡ unlisted hs
+  unlisted_is = ap mapped_of walk.1 ∙ ap (λ l. ([], Dir []) ∷ l) (mapped_walked hs)
+
+  count : length cs ≡ length hs + 1
+  count = ap length walk.1 ∙ (let n = length_mapped hs in omega (arith, n))
+
+  few : length hs + 1 ≤ most_nodes
+  few = let n = few_nodes 1 most_bytes hs (omega arith) walk.0 in omega (arith, n)
+
+  fits : all_bytes hs ≤ most_bytes
+  fits = fits_all [] hs (omega arith) (sym (same_first [] hs (omega arith)) ∙ walk.0)
+
+  abbrev ground : Store
+  ground = standing_by cs
+
+  abbrev U : Store
+  U = λ path. find path_cmp path (unlisted hs)
+
+  same_ground : ground ≡ U
+  same_ground = λ i q. (stands cs are q ∙ ap (λ l. found l q) unlisted_is) i
+
+  over_count : (n k : ℕ) → n ≤ most_nodes → nat_lt (most_nodes - n) k ≡ nat_lt most_nodes (n + k)
+  over_count n k le = grind (arith, nat_tests)
+
+  over_is : (ls : List TableLink) → is_over (room_behind cs w.left) ls ≡ exceed_limits hs ls
+  over_is ls =
+      ap (λ b. b || nat_lt w.left (texts_of ls)) (ap (λ n. nat_lt (most_nodes - n) (length ls)) count ∙ over_count (length hs + 1) (length ls) few)
+      ∙ (ap (λ n. nat_lt most_nodes (length hs + 1 + length ls) || nat_lt n (texts_of ls)) walk.2 ∙ same_many hs fits ls)
+
+  -- the table's text is read
+  lines_read : (text : List ℕ) (links : List Change) → ReadsAll ground (room_behind cs w.left) text links → read_links (length hs + 1) (most_bytes - all_bytes hs) U text (read_table U text) ≡ Ok (links_in links)
+  lines_read text links reads =
+      let read : read_table U text ≡ Ok (links_in links) = ap (read_table U) reads.whole ∙ tables_are_read U (links_in links) (subst (λ F. IsTable F (links_in links)) same_ground reads.are.table) in
+      ap (read_links (length hs + 1) (most_bytes - all_bytes hs) U text) read
+      ∙ ap (λ b. cond b (Err (TooLarge (place_of (table_name ∷ [])))) (unless_bad (links_in links) None)) (same_many hs fits (links_in links) ∙ (sym (over_is (links_in links)) ∙ reads.few))
+
+  cause_of : (text : List ℕ) (cause : FolderCause) → LinesCause ground (room_behind cs w.left) text (Refused cause) → IsLineCause U hs text cause
+  cause_of text (BadName place) why = absurd why
+  cause_of text (Strange place) why = absurd why
+  cause_of text (TooLarge place) why = inl (
+    ap TooLarge why.0,
+    record {
+      links = why.1.links;
+      front = record { rest = why.1.front.rest; parts = why.1.front.parts; table = subst (λ F. IsTable F why.1.links) same_ground why.1.front.table };
+      many = sym (over_is why.1.links) ∙ why.1.many;
+    },
+  )
+  cause_of text (BadTable n) why = inr (
+    n,
+    refl,
+    record {
+      first = record {
+        links = why.first.links;
+        rest = why.first.rest;
+        parts = why.first.parts;
+        table = subst (λ F. IsTable F why.first.links) same_ground why.first.table;
+        place = why.first.place;
+        some = why.first.some;
+        stops = λ l later e table. why.first.stops l later e (subst (λ F. IsTable F (why.first.links ++ l ∷ [])) (sym same_ground) table);
+      };
+      few = sym (over_is why.first.links) ∙ why.few;
+    },
+  )
+
+  abbrev table : Option Entry
+  table = table_in (all_below t at)
+
+  table_is : table ≡ get t (at ++ table_name ∷ [])
+  table_is = find_below t at table_name []
+
+  loaded_is : (o : Option Entry) → table ≡ o → loaded (all_below t at) ≡ with_table hs o
+  loaded_is o is = ap (λ c. unless_refused c (with_table hs table)) walk.0 ∙ ap (with_table hs) is
+
+  -- ---- the folder has no table
+
+  pub answers_bare : get t (at ++ table_name ∷ []) ≡ None → loaded (all_below t at) ≡ Ok (listed (mapped_of cs))
+  answers_bare none = loaded_is None (table_is ∙ none) ∙ ap (λ l. Ok (listed l)) (sym unlisted_is)
+
+  -- ---- the folder has a table
+
+  module _ (e : Entry) (there : get t (at ++ table_name ∷ []) ≡ Some e) where
+    abbrev nodes : ℕ
+    nodes = length hs + 1
+
+    abbrev left : ℕ
+    left = most_bytes - all_bytes hs
+
+    whole_is : loaded (all_below t at) ≡ linked (unlisted hs) (table_file_links nodes left U e.kind e.bytes)
+    whole_is = loaded_is (Some e) (table_is ∙ there)
+
+    text_links : (k : HostKind) (contents text : List ℕ) → text_of k contents ≡ Ok text → table_file_links nodes left U k contents ≡ read_links nodes left U text (read_table U text)
+    text_links kind.File contents text is = by (nat_lt most_in_table (length contents)) is
+      where
+        by : (b : Bool) → cond b (Err (TooLarge (place_of (table_name ∷ [])))) (Ok contents) ≡ Ok text → cond b (Err (TooLarge (place_of (table_name ∷ [])))) (read_links nodes left U contents (read_table U contents)) ≡ read_links nodes left U text (read_table U text)
+        by true is = cc
+        by false is = let same : contents ≡ text = cc in ap (λ c. read_links nodes left U c (read_table U c)) same
+    text_links kind.Folder contents text is = cc
+    text_links kind.Other contents text is = cc
+
+    text_cause : (k : HostKind) (contents : List ℕ) (cause : FolderCause) → text_of k contents ≡ Err cause → table_file_links nodes left U k contents ≡ Err cause
+    text_cause kind.File contents cause is = by (nat_lt most_in_table (length contents)) is
+      where
+        by : (b : Bool) → cond b (Err (TooLarge (place_of (table_name ∷ [])))) (Ok contents) ≡ Err cause → cond b (Err (TooLarge (place_of (table_name ∷ [])))) (read_links nodes left U contents (read_table U contents)) ≡ Err cause
+        by true is = cc
+        by false is = cc
+    text_cause kind.Folder contents cause is = cc
+    text_cause kind.Other contents cause is = cc
+
+    pub answers_unread : (cause : FolderCause) → text_of e.kind e.bytes ≡ Err cause → loaded (all_below t at) ≡ Err cause
+    answers_unread cause is = whole_is ∙ ap (linked (unlisted hs)) (text_cause e.kind e.bytes cause is)
+
+    pub answers_joined : (text : List ℕ) (all : List Change) → text_of e.kind e.bytes ≡ Ok text → IsJoined cs w.left text all → loaded (all_below t at) ≡ Ok (listed (mapped_of all))
+    answers_joined text all is joined =
+        whole_is ∙ ap (linked (unlisted hs)) (text_links e.kind e.bytes text is ∙ lines_read text joined.links joined.read)
+        ∙ ap (λ l. Ok (listed l)) (ap (λ l. with_links l (links_in joined.links)) (sym unlisted_is) ∙ sym (ap mapped_of joined.all ∙ mapped_changes (with_links (mapped_of cs) (links_in joined.links))))
+
+    pub answers_stopped : (text : List ℕ) (cause : FolderCause) → text_of e.kind e.bytes ≡ Ok text → LinesCause ground (room_behind cs w.left) text (Refused cause) → loaded (all_below t at) ≡ Err cause
+    answers_stopped text cause is why =
+        whole_is ∙ ap (linked (unlisted hs)) (text_links e.kind e.bytes text is ∙ lines_refused hs fits U text cause (cause_of text cause why))
+
+-- ---- for a host that may tell its tree
+
+entry_table : (t : Tree) (folder : List ℕ) → is_folder_at t folder ≡ true → entry_at t (path_below folder table_name) ≡ get t (parts folder ++ table_name ∷ [])
+entry_table t folder here =
+    ap (λ b. cond b (get t (parts (path_below folder table_name))) None) (fit_table folder (folder_fit t folder here))
+    ∙ ap (get t) (parts_table folder)
+
+record HasEntry (t : Tree) (folder : List ℕ) (k : HostKind) : Type 0 where
+  entry : Entry
+  there : get t (parts folder ++ table_name ∷ []) ≡ Some entry
+  kind : entry.kind ≡ k
+  bytes : bytes_at t (path_below folder table_name) ≡ entry.bytes
+
+has_entry : (t : Tree) (folder : List ℕ) (k : HostKind) → is_folder_at t folder ≡ true → HasTable t (parts folder) k → HasEntry t folder k
+has_entry t folder k here has = by (get t (parts folder ++ table_name ∷ [])) refl has
+  where
+    by : (o : Option Entry) → get t (parts folder ++ table_name ∷ []) ≡ o → option_map (λ e. e.kind) o ≡ Some k → HasEntry t folder k
+    by None is e = cc
+    by (Some x) is e = record {
+      entry = x;
+      there = is;
+      kind = cc;
+      bytes = ap (λ o. option_map_or (λ (e : Entry). e.bytes) o []) (entry_table t folder here ∙ is);
+    }
+
+pub table_file : (told : Option Tree) (folder : List ℕ) (k : HostKind) → IfSome told (λ t. is_folder_at t folder ≡ true) → IfSome told (λ t. HasTable t (parts folder) k) → k ≡ kind.File → IfSome told (λ t. is_file_at t (path_below folder table_name) ≡ true)
+table_file None folder k here has is = tt
+table_file (Some t) folder k here has is =
+    let e = has_entry t folder k here has in
+    ap (λ o. option_map_or (λ (x : Entry). is_file_kind x.kind) o false) (entry_table t folder here ∙ e.there) ∙ ap is_file_kind (e.kind ∙ is)
+
+text_here : (t : Tree) (folder : List ℕ) (k : HostKind) (e : HasEntry t folder k) (answer : Result (List ℕ) FolderCause) → text_of k (bytes_at t (path_below folder table_name)) ≡ answer → text_of e.entry.kind e.entry.bytes ≡ answer
+text_here t folder k e answer is = ap (λ x. text_of x e.entry.bytes) e.kind ∙ (ap (text_of k) (sym e.bytes) ∙ is)
+
+pub joined_told : (told : Option Tree) (folder : List ℕ) (k : HostKind) (w : Walked) (text : List ℕ) (r : Result (Vec Change Global) LoadFault) → AreFound w.found.items → IfSome told (λ t. is_folder_at t folder ≡ true) → IfSome told (λ t. HasTable t (parts folder) k) → IfSome told (λ t. AnswersWalk t (parts folder) (Ok w)) → IfSome told (λ t. AnswersText (text_of k (bytes_at t (path_below folder table_name))) (Ok text))
+    → IfOk r (λ all. IsJoined w.found.items w.left text all.items) → IfErr r (LinesCause (standing_by w.found.items) (room_behind w.found.items w.left) text) → IfSome told (λ t. AnswersFound t (parts folder) (items_in r))
+joined_told None folder k w text r are here has walk answer joined cause = tt
+joined_told (Some t) folder k w text (Ok all) are here has walk answer joined cause =
+    let e = has_entry t folder k here has in
+    answers_joined t (parts folder) w are walk e.entry e.there text all.items (text_here t folder k e (Ok text) answer) joined
+joined_told (Some t) folder k w text (Err (Refused why)) are here has walk answer joined cause =
+    let e = has_entry t folder k here has in
+    answers_stopped t (parts folder) w are walk e.entry e.there text why (text_here t folder k e (Ok text) answer) cause
+joined_told (Some t) folder k w text (Err ReadFault) are here has walk answer joined cause = tt
+joined_told (Some t) folder k w text (Err NoMemory) are here has walk answer joined cause = tt
+
+pub unread_told : (told : Option Tree) (folder : List ℕ) (k : HostKind) (w : Walked) (fault : LoadFault) → AreFound w.found.items → IfSome told (λ t. is_folder_at t folder ≡ true) → IfSome told (λ t. HasTable t (parts folder) k) → IfSome told (λ t. AnswersWalk t (parts folder) (Ok w)) → IfSome told (λ t. AnswersText (text_of k (bytes_at t (path_below folder table_name))) (Err fault))
+    → IfSome told (λ t. AnswersFound t (parts folder) (Err fault))
+unread_told None folder k w fault are here has walk answer = tt
+unread_told (Some t) folder k w (Refused cause) are here has walk answer =
+    let e = has_entry t folder k here has in
+    answers_unread t (parts folder) w are walk e.entry e.there cause (text_here t folder k e (Err cause) answer)
+unread_told (Some t) folder k w ReadFault are here has walk answer = tt
+unread_told (Some t) folder k w NoMemory are here has walk answer = tt
+
+pub walk_told : (told : Option Tree) (at : Parts) (fault : LoadFault) → IfSome told (λ t. AnswersWalk t at (Err fault)) → IfSome told (λ t. AnswersFound t at (Err fault))
+walk_told None at fault walk = tt
+walk_told (Some t) at (Refused cause) walk = ap (λ c. unless_refused c (with_table (walked (all_below t at)) (table_in (all_below t at)))) walk
+walk_told (Some t) at ReadFault walk = tt
+walk_told (Some t) at NoMemory walk = tt
+
+pub bare_told : (told : Option Tree) (at : Parts) (w : Walked) (names : Names) (all : List Change) → AreFound w.found.items → IfSome told (λ t. Lists t at names) → IfSome told (λ t. AnswersWalk t at (Ok w)) → None ≡ get names table_name → all ≡ w.found.items → IfSome told (λ t. AnswersFound t at (Ok all))
+bare_told None at w names all are lists walk none is = tt
+bare_told (Some t) at w names all are lists walk none is =
+    answers_bare t at w are walk (by (get t (at ++ table_name ∷ [])) (sym (lists table_name) ∙ sym none)) ∙ ap (λ l. Ok (listed (mapped_of l))) (sym is)
+  where
+    by : (o : Option Entry) → option_map (λ e. e.kind) o ≡ None → o ≡ None
+    by None e = refl
+    by (Some x) e = cc
+
+pub has_told : (told : Option Tree) (at : Parts) (names : Names) (k : HostKind) → IfSome told (λ t. Lists t at names) → Some k ≡ get names table_name → IfSome told (λ t. HasTable t at k)
+has_told None at names k lists is = tt
+has_told (Some t) at names k lists is = sym (lists table_name) ∙ sym is
+
+pub built_told : (told : Option Tree) (folder : List ℕ) (all : List Change) (s : Filestore) → IfSome told (λ t. AnswersFound t (parts folder) (Ok all)) → s.nodes ≡ from_entries (listed (mapped_of all)) → IfSome told (λ t. is_folder_at t folder ≡ true → AnswersAs (loads t folder) (Ok s))
+built_told None folder all s answer is = tt
+built_told (Some t) folder all s answer is = λ here. ap as_nodes answer ∙ ap Ok (sym is)
+
+pub cause_told : (told : Option Tree) (folder : List ℕ) (fault : LoadFault) → IfSome told (λ t. AnswersFound t (parts folder) (Err fault)) → IfSome told (λ t. is_folder_at t folder ≡ true → AnswersAs (loads t folder) (Err fault))
+cause_told None folder fault answer = tt
+cause_told (Some t) folder (Refused cause) answer = λ here. ap as_nodes answer
+cause_told (Some t) folder ReadFault answer = λ here. tt
+cause_told (Some t) folder NoMemory answer = λ here. tt
+
+pub file_is : (told : Option Tree) (p q : List ℕ) → q ≡ p → IfSome told (λ t. is_file_at t p ≡ true) → IfSome told (λ t. is_file_at t q ≡ true)
+file_is told p q same is = subst (λ r. IfSome told (λ t. is_file_at t r ≡ true)) (sym same) is
+
+not_above : (n m : ℕ) → n ≤ m → nat_lt m n ≡ false
+not_above n m le = grind (arith, nat_tests)
+
+is_above : (n m : ℕ) → m < n → nat_lt m n ≡ true
+is_above n m lt = grind (arith, nat_tests)
+
+pub text_read : (told : Option Tree) (p q : List ℕ) (text : List ℕ) → q ≡ p → IfSome told (λ t. ReadsWhole most_in_table (bytes_at t q) (Some text)) → IfSome told (λ t. AnswersText (text_of kind.File (bytes_at t p)) (Ok text))
+text_read None p q text same reads = tt
+text_read (Some t) p q text same reads =
+    let short = not_above (length (bytes_at t q)) most_in_table reads.0 in
+    subst (λ r. text_of kind.File (bytes_at t r) ≡ Ok text) same (ap (λ b. cond b (Err (TooLarge (place_of (table_name ∷ [])))) (Ok (bytes_at t q))) short ∙ ap Ok (sym reads.1))
+
+pub text_over : (told : Option Tree) (p q : List ℕ) (place : List ℕ) → q ≡ p → place ≡ place_of (table_name ∷ []) → IfSome told (λ t. ReadsWhole most_in_table (bytes_at t q) None) → IfSome told (λ t. AnswersText (text_of kind.File (bytes_at t p)) (Err (Refused (TooLarge place))))
+text_over None p q place same is reads = tt
+text_over (Some t) p q place same is reads =
+    let long = is_above (length (bytes_at t q)) most_in_table reads in
+    subst (λ r. text_of kind.File (bytes_at t r) ≡ Err (TooLarge place)) same (ap (λ b. cond b (Err (TooLarge (place_of (table_name ∷ [])))) (Ok (bytes_at t q))) long ∙ ap (λ l. Err (TooLarge l)) (sym is))
+
+pub text_strange : (told : Option Tree) (p : List ℕ) (k : HostKind) (place : List ℕ) → place ≡ place_of (table_name ∷ []) → (k ≡ kind.Folder) ⊎ (k ≡ kind.Other) → IfSome told (λ t. AnswersText (text_of k (bytes_at t p)) (Err (Refused (Strange place))))
+text_strange None p k place is other = tt
+text_strange (Some t) p k place is (inl folder) = ap (λ x. text_of x (bytes_at t p)) folder ∙ ap (λ l. Err (Strange l)) (sym is)
+text_strange (Some t) p k place is (inr strange) = ap (λ x. text_of x (bytes_at t p)) strange ∙ ap (λ l. Err (Strange l)) (sym is)
+
+pub text_of_file : (told : Option Tree) (p : List ℕ) (k : HostKind) (r : Result (List ℕ) LoadFault) → k ≡ kind.File → IfSome told (λ t. AnswersText (text_of kind.File (bytes_at t p)) r) → IfSome told (λ t. AnswersText (text_of k (bytes_at t p)) r)
+text_of_file told p k r is answer = subst (λ x. IfSome told (λ t. AnswersText (text_of x (bytes_at t p)) r)) (sym is) answer
+
+pub lists_told : (told : Option Tree) (folder : List ℕ) (names : Names) → IfSome told (λ t. (is_folder_at t folder ≡ true) × Lists t (parts folder) names) → IfSome told (λ t. Lists t (parts folder) names)
+lists_told None folder names lists = tt
+lists_told (Some t) folder names lists = lists.1

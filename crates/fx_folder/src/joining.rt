@@ -1,0 +1,137 @@
+//! The table of a folder, and what was found with its links.
+ghost use Rattle.std.specs.Prelude.{◌≡◌, ◌≤◌, ◌<◌, ◌∷◌, [], length, true, Ok, Err, IfOk, IfErr, IfSome, option_map};
+ghost use Rattle.std.specs.FinMap.{get};
+ghost use Rattle.fx_base.specs.Causes.{Rose};
+ghost use Rattle.fx_outside.specs.Host.{ReadsOnly, AsksFit};
+ghost use Rattle.fx_outside.specs.Path.{parts};
+ghost use Rattle.fx_outside.specs.Tree.{is_folder_at, is_file_at, bytes_at};
+ghost use Rattle.fx_folder.specs.declared.fault.LoadFault.TheVariants.{ReadFault};
+ghost use Rattle.fx_folder.specs.Grown.{AreFound};
+ghost use Rattle.fx_folder.specs.Limits.{table_name};
+ghost use Rattle.fx_folder.specs.Lines.{standing_by, LinesCause};
+ghost use Rattle.fx_folder.specs.Reads.{path_below};
+ghost use Rattle.fx_folder.specs.Shaped.{AreShaped};
+ghost use Rattle.fx_folder.specs.Tables.{ReadsWhole, text_of, AnswersText, AnswersFound, HasTable, IsJoined, room_behind, items_in};
+ghost use Rattle.fx_folder.specs.Walks.{AnswersWalk};
+
+use crate::lines::{Room, read_links, table_place};
+use crate::loading::{MAX_NODES, TABLE, read_whole};
+use crate::merging::merged;
+use crate::saving::table_below;
+use crate::walking::Walked;
+use crate::{FolderCause, LoadFault};
+use fx_base::NoMemory;
+use fx_outside::{Host, HostKind, HostText, Listing};
+use fx_store::{Change, Changes};
+use std::alloc::Global;
+
+/// The most bytes of a table.
+const MAX_TABLE: usize = 33_554_432;
+
+/// The kind of a folder's table, if it has one.
+pub(crate) fn table_kind(alloc: Global, names: &Listing) -> Result<Option<HostKind>, NoMemory>
+    ensures { IfOk result (λ kind. kind ≡ get names.now table_name) }
+{
+    let name = HostText::from_string(String::from_str(alloc, TABLE)?);
+    match names.get(&name) {
+        Some(kind) => Ok(Some(*kind)),
+        None => Ok(None),
+    }
+}
+
+/// What was walked of a folder, with the links of its table, which is of this kind.
+pub(crate) fn with_table<H: Host>(
+    alloc: Global,
+    host: &mut H,
+    folder: &HostText,
+    kind: HostKind,
+    walked: Walked,
+    buf: &mut [u8],
+) -> Result<Vec<Change>, LoadFault>
+    requires room { 0 < length buf.old }
+    requires folder { IfSome (H.view host.old).told (λ tree. is_folder_at tree folder.now ≡ true) }
+    requires table { IfSome (H.view host.old).told (λ tree. HasTable tree (parts folder.now) kind) }
+    requires walked { IfSome (H.view host.old).told (λ tree.
+        AnswersWalk tree (parts folder.now) (Ok walked)) }
+    requires found { AreFound walked.found.items }
+    ensures shaped { IfOk result (λ all. AreShaped all.items) }
+    ensures answer { IfSome (H.view host.old).told (λ tree.
+        AnswersFound tree (parts folder.now) (items_in result)) }
+    ensures fault { result ≡ Err ReadFault
+        → Rose (H.view host.old).faults (H.view host.new).faults }
+    ensures same { ReadsOnly (H.view host.old) (H.view host.new) }
+    ensures fit { AsksFit folder.now (H.view host.old) (H.view host.new) }
+{
+    match read_text(alloc, host, folder, kind, buf) {
+        Ok(text) => joined(alloc, walked, &text),
+        Err(fault) => Err(fault),
+    }
+}
+
+/// What was walked, with the links of a table's text.
+fn joined(alloc: Global, walked: Walked, text: &[u8]) -> Result<Vec<Change>, LoadFault>
+    requires { AreFound walked.found.items }
+    ensures shaped { IfOk result (λ all. AreShaped all.items) }
+    ensures joined { IfOk result (λ all. IsJoined walked.found.items walked.left text.now all.items) }
+    ensures cause { IfErr result (LinesCause (standing_by walked.found.items)
+        (room_behind walked.found.items walked.left) text.now) }
+{
+    let Walked { found, left } = walked;
+    let room = Room {
+        links: MAX_NODES.saturating_sub(found.len() as u64),
+        bytes: left,
+    };
+    let found = Changes::from_vec(found);
+    match read_links(alloc, text, &found, room) {
+        Ok(links) => Ok(merged(alloc, found.into_vec(), links)?),
+        Err(fault) => Err(fault),
+    }
+}
+
+/// The text of a folder's table, which is of this kind.
+fn read_text<H: Host>(
+    alloc: Global,
+    host: &mut H,
+    folder: &HostText,
+    kind: HostKind,
+    buf: &mut [u8],
+) -> Result<Vec<u8>, LoadFault>
+    requires room { 0 < length buf.old }
+    requires folder { IfSome (H.view host.old).told (λ tree. is_folder_at tree folder.now ≡ true) }
+    requires table { IfSome (H.view host.old).told (λ tree. HasTable tree (parts folder.now) kind) }
+    ensures answer { IfSome (H.view host.old).told (λ tree.
+        AnswersText (text_of kind (bytes_at tree (path_below folder.now table_name))) (items_in result)) }
+    ensures fault { result ≡ Err ReadFault
+        → Rose (H.view host.old).faults (H.view host.new).faults }
+    ensures same { ReadsOnly (H.view host.old) (H.view host.new) }
+    ensures fit { AsksFit folder.now (H.view host.old) (H.view host.new) }
+{
+    match kind {
+        HostKind::File => read_table_file(alloc, host, folder, buf),
+        HostKind::Folder => Err(LoadFault::Refused(FolderCause::Strange(table_place(alloc)?))),
+        HostKind::Other => Err(LoadFault::Refused(FolderCause::Strange(table_place(alloc)?))),
+    }
+}
+
+fn read_table_file<H: Host>(
+    alloc: Global,
+    host: &mut H,
+    folder: &HostText,
+    buf: &mut [u8],
+) -> Result<Vec<u8>, LoadFault>
+    requires room { 0 < length buf.old }
+    requires file { IfSome (H.view host.old).told (λ tree.
+        is_file_at tree (path_below folder.now table_name) ≡ true) }
+    ensures answer { IfSome (H.view host.old).told (λ tree. AnswersText
+        (text_of HostKind.File (bytes_at tree (path_below folder.now table_name))) (items_in result)) }
+    ensures fault { result ≡ Err ReadFault
+        → Rose (H.view host.old).faults (H.view host.new).faults }
+    ensures same { ReadsOnly (H.view host.old) (H.view host.new) }
+    ensures fit { AsksFit (path_below folder.now table_name) (H.view host.old) (H.view host.new) }
+{
+    let path = table_below(alloc, folder)?;
+    match read_whole(alloc, host, &path, MAX_TABLE, buf)? {
+        Some(text) => Ok(text),
+        None => Err(LoadFault::Refused(FolderCause::TooLarge(table_place(alloc)?))),
+    }
+}
