@@ -1,10 +1,14 @@
 //! Tokens, expressions, shapes, descriptions and scripts.
 
 use fx_base::NoMemory;
+use fx_command::{Status, TextFault};
 use fx_lex::{LexFault, Spanned, Token, Tokens, lex};
-use fx_parse::{parse_expr, parse_shape};
+use fx_outside::{HostText, Words};
+use fx_parse::{TEXT_LIMIT, parse_expr, parse_shape};
+use fx_program::Message;
+use fx_scripts::{ScriptFault, script_of};
+use fx_show::{DescriptionFault, description_of};
 use fx_telling::{add_bytes, tell, unescaped};
-use fx_texts::{TEXT_LIMIT, read_description, read_script};
 use std::alloc::Global;
 use std::fmt::Write;
 
@@ -133,13 +137,38 @@ fn tell_shape(alloc: Global, bytes: &[u8], out: &mut String) -> Result<(), NoMem
     }
 }
 
-fn tell_built(out: &mut String, built: bool) -> Result<(), NoMemory> {
-    tell(out, if built { "built" } else { "refused" })
+/// The words of a command line with one word, by which the line of a refused text names it.
+fn text_words(alloc: Global) -> Result<Words, NoMemory> {
+    let mut words = Words::new(alloc);
+    words.add(
+        alloc,
+        HostText::from_string(String::from_str(alloc, "text")?),
+    )?;
+    Ok(words)
+}
+
+/// Tells the cause for which a text is refused, as the line on standard error tells it behind the file.
+fn tell_cause(alloc: Global, cause: TextFault, out: &mut String) -> Result<(), NoMemory> {
+    let words = text_words(alloc)?;
+    let status = Status::TextRefused { word: 0, cause };
+    let Some(message) = Message::of(&words, &status) else {
+        return Ok(());
+    };
+    let line = format!(in alloc; "{message}")?;
+    tell(
+        out,
+        line.as_str()
+            .strip_prefix("txforest: text: ")
+            .unwrap_or_default(),
+    )
 }
 
 fn tell_description(alloc: Global, bytes: &[u8], out: &mut String) -> Result<(), NoMemory> {
-    let built = read_description(alloc, bytes)?.is_some();
-    tell_built(out, built)
+    match description_of(alloc, bytes) {
+        Ok(_) => tell(out, "read"),
+        Err(DescriptionFault::Refused(cause)) => tell_cause(alloc, cause, out),
+        Err(DescriptionFault::NoMemory) => Err(NoMemory),
+    }
 }
 
 /// Tells what a text is read as.
@@ -154,7 +183,7 @@ pub fn tell_form(alloc: Global, form: Form, text: &str, out: &mut String) -> Res
     }
 }
 
-/// Tells whether a text is a script behind so many transactions.
+/// Tells whether a text is a script behind so many transactions, or the cause for which it is refused.
 pub fn tell_script(
     alloc: Global,
     before: u32,
@@ -162,8 +191,11 @@ pub fn tell_script(
     out: &mut String,
 ) -> Result<(), NoMemory> {
     let bytes = unescaped(alloc, text)?;
-    let built = read_script(alloc, &bytes, before.min(TXN_LIMIT))?.is_some();
-    tell_built(out, built)
+    match script_of(alloc, &bytes, before.min(TXN_LIMIT)) {
+        Ok(_) => tell(out, "read"),
+        Err(ScriptFault::Refused(cause)) => tell_cause(alloc, cause, out),
+        Err(ScriptFault::NoMemory) => Err(NoMemory),
+    }
 }
 
 /// Tells the expression of the text `x` from a token on, at a level.

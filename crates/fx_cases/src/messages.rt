@@ -52,7 +52,6 @@ fn placed_fault(name: &str, place: u32) -> TextFault {
         "BadToken" => TextFault::BadToken(place),
         "Unexpected" => TextFault::Unexpected(place),
         "TooNested" => TextFault::TooNested(place),
-        "NotBuilt" => TextFault::NotBuilt(place),
         _ => TextFault::TooMany,
     }
 }
@@ -90,8 +89,7 @@ fn path_cause(name: &str, path: HostText) -> FolderCause {
     match name {
         "BadName" => FolderCause::BadName(path),
         "Strange" => FolderCause::Strange(path),
-        "TooLarge" => FolderCause::TooLarge(path),
-        _ => FolderCause::NotBuilt(path),
+        _ => FolderCause::TooLarge(path),
     }
 }
 

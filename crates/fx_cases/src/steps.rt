@@ -1,7 +1,4 @@
 //! Single transactions and single steps of shells, over the texts and the folder of a stage.
-ghost use Rattle.std.specs.Prelude.{◌≡◌, true, IfOk};
-ghost use Rattle.fx_forms.specs.Built.{is_built_spec, is_built_plan};
-
 use crate::runs::words_of;
 use crate::stage::Stage;
 use fx_base::NoMemory;
@@ -28,10 +25,7 @@ fn run_words(alloc: Global, scripts: &str) -> Result<Words, NoMemory> {
 }
 
 /// What a run of the scripts begins with: the description at `spec`, the folder at `in`, and the scripts.
-fn base_of(alloc: Global, stage: &mut Stage, scripts: &str) -> Result<Arc<Base>, Status>
-    ensures spec { IfOk result (λ base. is_built_spec base.value.description ≡ true) }
-    ensures plan { IfOk result (λ base. is_built_plan base.value.plan ≡ true) }
-{
+fn base_of(alloc: Global, stage: &mut Stage, scripts: &str) -> Result<Arc<Base>, Status> {
     let words = run_words(alloc, scripts)?;
     match job_of(&words) {
         Some(Job::Run(job)) => read_base(alloc, &job, &mut stage.host),
@@ -81,10 +75,7 @@ fn tell_result(out: &mut String, result_of: Result<Attempt, Stop>) -> Result<(),
 }
 
 /// Tells the attempt of the first transaction, where nothing was read yet.
-fn tell_first(alloc: Global, base: &Arc<Base>, out: &mut String) -> Result<(), NoMemory>
-    requires spec { is_built_spec base.now.value.description ≡ true }
-    requires plan { is_built_plan base.now.value.plan ≡ true }
-{
+fn tell_first(alloc: Global, base: &Arc<Base>, out: &mut String) -> Result<(), NoMemory> {
     if base.plan.txn(0, 0).is_none() {
         return tell(out, "no transaction");
     }
@@ -234,10 +225,7 @@ fn tell_from(
     turns: &str,
     paths: &str,
     out: &mut String,
-) -> Result<(), NoMemory>
-    requires spec { is_built_spec base.value.description ≡ true }
-    requires plan { is_built_plan base.value.plan ≡ true }
-{
+) -> Result<(), NoMemory> {
     let mut world = World::new(alloc, base)?;
     tell_world(alloc, &mut world, turns, paths, out)
 }

@@ -18,8 +18,6 @@ pub enum TextFault {
     Unexpected(u32),
     /// A form that begins at this place is nested more than 64 deep.
     TooNested(u32),
-    /// The text has a form that is not built yet.
-    NotBuilt(u32),
     /// The word is not bound.
     Unknown(Word),
     /// A part has another shape than its place needs.

@@ -7,7 +7,7 @@ use Rattle.fx_parse.specs.declared.keyword.Keyword.{Keyword}
 use Rattle.fx_parse.specs.declared.keyword.Keyword.TheVariants as keyword
 use Rattle.fx_parse.specs.Grammars.{word, closing, comma, expr_tokens, is_name, has_names}
 use Rattle.fx_spec.specs.SpecTree.{SpecTree}
-use Rattle.fx_texts.specs.Tokens.{Tokens, spec_tokens, spec_names}
+use Rattle.fx_grammar.specs.Tokens.{Tokens, spec_tokens, spec_names}
 use Rattle.fx_laws.specs.TokenLaws.{HasOneReading}
 use Rattle.fx_laws.proofs.Parts.{expr_reading}
 use Rattle.fx_laws.proofs.Tokened.{tail_of, word_of, behind_two, behind_three, left_of, right_of, first, number, number_word, same_number, apart}

@@ -6,8 +6,8 @@ use Rattle.std.proofs.lemmas.List.Elements.{All-head, All-tail}
 use Rattle.fx_lex.proofs.Unique.{tokens_unique}
 use Rattle.fx_parse.specs.Reader.{kinds}
 use Rattle.fx_spec.specs.CommandTree.{CommandTree}
-use Rattle.fx_texts.specs.Tokens.{Tokens, spec_tokens, script_tokens}
-use Rattle.fx_texts.specs.Texts.{HasTokens, IsTxn}
+use Rattle.fx_grammar.specs.Tokens.{Tokens, spec_tokens, script_tokens}
+use Rattle.fx_grammar.specs.Texts.{HasTokens, IsTxn}
 use Rattle.fx_laws.specs.TokenLaws.{txn_names, TextsHaveOneDescription, TextsHaveOneScript}
 use Rattle.fx_laws.proofs.Described.{spec_reading}
 use Rattle.fx_laws.proofs.Commanded.{scripts_differ}

@@ -8,7 +8,7 @@ use Rattle.fx_parse.specs.declared.keyword.Keyword.{Keyword}
 use Rattle.fx_parse.specs.Keywords.{keyword_of}
 use Rattle.fx_parse.specs.Grammars.{word, comma}
 use Rattle.fx_parse.proofs.KeywordLaws.{keyword_again}
-use Rattle.fx_texts.specs.Tokens.{Tokens}
+use Rattle.fx_grammar.specs.Tokens.{Tokens}
 
 pub tail_of : (s t : Token) (x y : Tokens) → s ∷ x ≡ t ∷ y → x ≡ y
 tail_of s t x y e = cc

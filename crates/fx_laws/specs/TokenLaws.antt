@@ -5,8 +5,8 @@ use Rattle.fx_lex.specs.declared.token.Token.TheVariants as token
 use Rattle.fx_lex.specs.declared.token.Mark.TheVariants as mark
 use Rattle.fx_spec.specs.SpecTree.{SpecTree}
 use Rattle.fx_spec.specs.CommandTree.{CommandTree, Block, block}
-use Rattle.fx_texts.specs.Tokens.{Tokens, block_tokens, script_tokens, block_names}
-use Rattle.fx_texts.specs.Texts.{IsDescription, IsScript}
+use Rattle.fx_grammar.specs.Tokens.{Tokens, block_tokens, script_tokens, block_names}
+use Rattle.fx_grammar.specs.Texts.{IsDescription, IsScript}
 
 module _ {Tree : Type 0} (tokens : Tree → Tokens) (is_right : Tree → Bool) where
   -- the tokens of one tree never begin those of another, however deep the trees are nested

@@ -1,5 +1,5 @@
 //! Laws of tokens: different trees have different tokens, and so different texts.
-ghost use Rattle.fx_texts.specs.Tokens.{spec_tokens, act_tokens, command_tokens, txn_tokens, spec_names, act_names, command_names};
+ghost use Rattle.fx_grammar.specs.Tokens.{spec_tokens, act_tokens, command_tokens, txn_tokens, spec_names, act_names, command_names};
 ghost use Rattle.fx_laws.specs.TokenLaws.{HasOneReading, BlocksHaveOneReading, ScriptsDiffer, TextsHaveOneDescription, TextsHaveOneScript, txn_names};
 
 /// Tokens are read in one way: where no name is a kept word, those of one tree never begin those of another, however deep

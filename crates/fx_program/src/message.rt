@@ -77,7 +77,6 @@ fn put_text_fault<W: fmt::Write>(f: &mut Formatter<W>, cause: &TextFault) -> fmt
         TextFault::BadToken(place) => put_place(f, "BadToken", *place),
         TextFault::Unexpected(place) => put_place(f, "Unexpected", *place),
         TextFault::TooNested(place) => put_place(f, "TooNested", *place),
-        TextFault::NotBuilt(place) => put_place(f, "NotBuilt", *place),
         TextFault::Unknown(word) => put_word(f, "Unknown", word),
         TextFault::TypeDiffers { expected, found } => put_shapes(f, expected, found),
         TextFault::Repeated(word) => put_word(f, "Repeated", word),
@@ -140,7 +139,6 @@ fn folder_refused<W: fmt::Write>(f: &mut Formatter<W>, cause: &FolderCause) -> f
         FolderCause::Strange(path) => put_path(f, "Strange", path),
         FolderCause::TooLarge(path) => put_path(f, "TooLarge", path),
         FolderCause::BadTable(number) => write!(f, "BadTable {number}"),
-        FolderCause::NotBuilt(path) => put_path(f, "NotBuilt", path),
     }
 }
 

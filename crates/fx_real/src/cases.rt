@@ -13,6 +13,7 @@ use std::os::unix::fs::symlink;
 enum Setting {
     Folder,
     File,
+    Line,
     Link,
     Pipe,
     Room,
@@ -33,6 +34,7 @@ const VERBS: &[(&str, Verb)] = &[
     ("#", Verb::Note),
     ("folder", Verb::Set(Setting::Folder)),
     ("file", Verb::Set(Setting::File)),
+    ("line", Verb::Set(Setting::Line)),
     ("link", Verb::Set(Setting::Link)),
     ("pipe", Verb::Set(Setting::Pipe)),
     ("room", Verb::Set(Setting::Room)),
@@ -82,9 +84,16 @@ fn pipe_of(rt: &HostRuntime, text: &str) -> io::Result<PipeReader> {
     Ok(reader)
 }
 
+/// Makes a file whose text ends its last line.
+fn put_line(rt: &HostRuntime, path: &str, text: &str) -> io::Result<()> {
+    let line = format!(in rt.alloc(); "{text}\n")?;
+    File::create_new(rt, path)?.write_all(line.as_bytes())
+}
+
 fn put(rt: &HostRuntime, setting: Setting, path: &str, text: &str) -> io::Result<()> {
     match setting {
         Setting::Folder => fs::create_dir(rt, path),
+        Setting::Line => put_line(rt, path, text),
         Setting::Link => symlink(rt, text, path),
         _ => File::create_new(rt, path)?.write_all(text.as_bytes()),
     }

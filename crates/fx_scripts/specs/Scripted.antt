@@ -33,7 +33,6 @@ HasCause text before fault.TooLarge = IsRefused scripts text parse.TooLarge
 HasCause text before (fault.BadToken place) = IsRefused scripts text (parse.BadToken place)
 HasCause text before (fault.Unexpected place) = IsRefused scripts text (parse.Unexpected place)
 HasCause text before (fault.TooNested place) = IsRefused scripts text (parse.TooNested place)
-HasCause text before (fault.NotBuilt place) = ⊥
 HasCause text before (fault.Unknown word) = HasFault text before (Fault.unknown word)
 HasCause text before (fault.TypeDiffers expected found) = HasFault text before (Fault.differs (shape_tree expected) (shape_tree found))
 HasCause text before (fault.Repeated word) = HasFault text before (Fault.repeated word)

@@ -49,12 +49,11 @@ too_large t path text read large = record {
   cause = omega (arith, large, read.within);
 }
 
-refused_whole : (t : Tree) (path text : List ℕ) (cause : TextFault) → IsReadAt t path text → IsRefusedFor text cause → IsRefusedFor (bytes_at t path) cause
+pub refused_whole : (t : Tree) (path text : List ℕ) (cause : TextFault) → IsReadAt t path text → IsRefusedFor text cause → IsRefusedFor (bytes_at t path) cause
 refused_whole t path text fault.TooLarge read is = too_large t path text read is.cause
 refused_whole t path text (fault.BadToken n) read is = whole t path text (fault.BadToken n) read is.cause.0 is
 refused_whole t path text (fault.Unexpected n) read is = whole t path text (fault.Unexpected n) read is.cause.short is
 refused_whole t path text (fault.TooNested n) read is = whole t path text (fault.TooNested n) read is.cause.short is
-refused_whole t path text (fault.NotBuilt n) read is = absurd is.cause
 refused_whole t path text (fault.Unknown w) read is = whole t path text (fault.Unknown w) read is.cause.read.short is
 refused_whole t path text (fault.TypeDiffers a b) read is = whole t path text (fault.TypeDiffers a b) read is.cause.read.short is
 refused_whole t path text (fault.Repeated w) read is = whole t path text (fault.Repeated w) read is.cause.read.short is

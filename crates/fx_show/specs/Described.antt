@@ -26,13 +26,12 @@ pub record HasFault (text : List ℕ) (first : Fault) : Type 0 where
   pub found : checked [] spec ≡ Err first
 
 -- the first cause for which the text is refused: its length comes first, then its tokens, then its form, then names and
--- shapes. All forms of descriptions are built.
+-- shapes
 abbrev pub HasCause : List ℕ → TextFault → Type 0
 HasCause text fault.TooLarge = IsRefused descriptions text parse.TooLarge
 HasCause text (fault.BadToken place) = IsRefused descriptions text (parse.BadToken place)
 HasCause text (fault.Unexpected place) = IsRefused descriptions text (parse.Unexpected place)
 HasCause text (fault.TooNested place) = IsRefused descriptions text (parse.TooNested place)
-HasCause text (fault.NotBuilt place) = ⊥
 HasCause text (fault.Unknown word) = HasFault text (Fault.unknown word)
 HasCause text (fault.TypeDiffers expected found) = HasFault text (Fault.differs (shape_tree expected) (shape_tree found))
 HasCause text (fault.Repeated word) = HasFault text (Fault.repeated word)

@@ -15,6 +15,7 @@ use Rattle.fx_folder.specs.declared.fault.FolderCause.{FolderCause}
 use Rattle.fx_store.specs.Whole.{Nodes}
 use Rattle.fx_spec.specs.CommandTree.{CommandTree}
 use Rattle.fx_command.specs.declared.status.Status.{Status}
+use Rattle.fx_command.specs.declared.status.TextFault.{TextFault}
 use Rattle.fx_command.specs.declared.status.Status.TheVariants as status
 use Rattle.fx_show.specs.Rows.{ShowRow}
 use Rattle.fx_show.specs.Shows.{IsProperShow}
@@ -33,12 +34,12 @@ not_stopped stops t before (path ∷ paths) [] apart has i stopped = has
 not_stopped stops t before (path ∷ paths) (txns ∷ plan) apart has i (inl here) = apart path before txns has.0 here.1
 not_stopped stops t before (path ∷ paths) (txns ∷ plan) apart has i (inr later) =
     let read = later.3 in
-    let same : txns ≡ later.2 = read.only txns has.0.script has.0.built in
+    let same : txns ≡ later.2 = read.only txns has.0.script in
     not_stopped stops t (before + length txns) paths plan apart has.1 later.0 (subst (λ us. StopsAtScript stops t (before + length us) paths later.0) (sym same) later.4)
 
-not_first : (t : Tree) (j : RunJob) (word : ℕ) → HasTexts t j → IsFirstRefused t j word → ⊥
-not_first t j word has (inl first) = first.1.none has.0.0 has.0.1.description has.0.1.built
-not_first t j word has (inr second) = not_stopped HasNoScript t 0 j.scripts has.1.0 (λ path before txns read none. none.none txns read.script read.built read.few) has.1.1 second.1.0 second.1.2
+not_first : (t : Tree) (j : RunJob) (word : ℕ) (cause : TextFault) → HasTexts t j → IsFirstRefused t j word cause → ⊥
+not_first t j word cause has (inl first) = first.1.refused.none has.0.0 has.0.1.describes
+not_first t j word cause has (inr second) = not_stopped (HasNoScript cause) t 0 j.scripts has.1.0 (λ path before txns read none. none.refused.none txns read.script) has.1.1 second.1.0 second.1.2
 
 not_both : (t : Tree) (path : List ℕ) (nodes : Nodes) (cause : FolderCause) → Loads t path nodes → IsRefused t path cause → ⊥
 not_both t path nodes cause loads refused = let both : Ok nodes ≡ Err cause = sym loads.1 ∙ refused.1 in cc
@@ -92,7 +93,7 @@ Ends st = (st ≡ status.Done) ⊎ (st ≡ status.NoMemory)
 row_at : (j : RunJob) (t : Tree) (host host' : HostView) (sink sink' : SinkView) (st : Status) → host.told ≡ Some t → IsProperRun t j → (Rose host.faults host'.faults → ⊥) → (Rose sink.faults sink'.faults → ⊥) → RunRow j host host' sink sink' st → Ends st
 row_at j t host host' sink sink' status.Done is proper none quiet row = inl refl
 row_at j t host host' sink sink' status.Usage is proper none quiet row = absurd row
-row_at j t host host' sink sink' (status.TextRefused word cause) is proper none quiet row = absurd (not_first t j word proper.inputs.0 (subst (λ o. IfSome o (λ t. IsFirstRefused t j word)) is row.2))
+row_at j t host host' sink sink' (status.TextRefused word cause) is proper none quiet row = absurd (not_first t j word cause proper.inputs.0 (subst (λ o. IfSome o (λ t. IsFirstRefused t j word cause)) is row.1))
 row_at j t host host' sink sink' (status.FolderRefused cause) is proper none quiet row =
     absurd (not_both t j.folder proper.inputs.1.0 cause proper.inputs.1.1 (subst (λ o. IfSome o (λ t. HasTexts t j × IsRefused t j.folder cause)) is row.1).1)
 row_at j t host host' sink sink' status.ReadFault is proper none quiet (same, inl rose) = absurd (none rose)

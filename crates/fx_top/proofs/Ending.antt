@@ -20,13 +20,21 @@ use Rattle.fx_top.specs.declared.inputs.Unread.{Unread}
 use Rattle.fx_top.specs.declared.inputs.Unread.TheVariants as unread
 use Rattle.fx_command.specs.declared.status.Status.{Status}
 use Rattle.fx_command.specs.declared.status.Status.TheVariants as status
+use Rattle.fx_command.specs.declared.status.TextFault.{TextFault}
 use Rattle.fx_command.specs.StatusOf.{read_status, load_status, save_status}
+use Rattle.fx_command.specs.Texts.{IsReadAt}
+use Rattle.fx_show.specs.Described.{Describes, IsRefusedFor, IsUndescribed}
+use Rattle.fx_show.specs.Faults.{status_of_fault}
+use Rattle.fx_show.specs.declared.fault.DescriptionFault.{DescriptionFault}
+use Rattle.fx_show.specs.declared.fault.DescriptionFault.TheVariants as description
+use Rattle.fx_show.proofs.Showing.{refused_whole}
+use Rattle.fx_spec.specs.SpecTree.{SpecTree}
 use Rattle.fx_command.proofs.Told.{err_of, if_err_of, if_some_map, if_some_both, some_and, if_told_same, if_told_map, some_unit, same, grows_front, grows_all, cause_back, told_back, some_back, same_back, left_true, right_true}
 use Rattle.fx_top.specs.Answers.{IsAnswered, UnreadCause}
-use Rattle.fx_top.specs.Inputs.{HasNoSpec, HasSomeSpec, HasTexts, HasInputs, CannotRead}
+use Rattle.fx_top.specs.Inputs.{HasSpec, HasNoSpec, HasSomeSpec, HasTexts, HasInputs, CannotRead, IsFirstRefused}
 use Rattle.fx_top.specs.Outcome.{IsOutcome}
 use Rattle.fx_top.specs.Rows.{RunRow, EndsAs, MayHoldPart, IsPartThere, IsDone, IsCutShort, CannotSave, has_fit_paths}
-use Rattle.fx_top.specs.Unread.{refused_status, unread_status}
+use Rattle.fx_top.specs.Unread.{unread_status}
 use Rattle.fx_words.specs.Job.{RunJob}
 
 -- ---- stages that only read
@@ -47,14 +55,24 @@ spec_unread j host host' fails.Failed reads failed =
     read_failed j (λ t. is_file_at t j.spec) (λ _. Unit {0}) host host' reads (λ t _ none. inl none) (some_unit host.told) (failed refl)
 spec_unread j host host' fails.NoMemory reads failed = no_memory j host host' reads
 
-pub spec_refused : (j : RunJob) (host host' : HostView) → ReadsOnly host host' → IfSome host.told (λ t. HasNoSpec t j) → EndsAs j host host' (refused_status 1)
-spec_refused j host host' reads none sink =
-    (same host host' sink reads, refl, if_some_map (λ t. HasNoSpec t j) _ host.told (λ t none. inl (refl, none)) none)
+spec_refused_for : (j : RunJob) (text : List ℕ) (cause : TextFault) (t : Tree) → IsReadAt t j.spec text → IsRefusedFor text cause → HasNoSpec t j cause
+spec_refused_for j text cause t read is = record { file = read.file; refused = refused_whole t j.spec text cause read is }
+
+pub spec_refused : (j : RunJob) (host host' : HostView) (text : List ℕ) (refusal : DescriptionFault) → ReadsOnly host host' → IfSome host.told (λ t. IsReadAt t j.spec text) → IsUndescribed text refusal → EndsAs j host host' (status_of_fault refusal)
+spec_refused j host host' text (description.Refused cause) reads read is sink =
+    (same host host' sink reads, if_some_map (λ t. IsReadAt t j.spec text) (λ t. IsFirstRefused t j 1 cause) host.told (λ t read. inl (refl, spec_refused_for j text cause t read is)) read)
+spec_refused j host host' text description.NoMemory reads read is sink = no_memory j host host' reads sink
+
+spec_there : (j : RunJob) (text : List ℕ) (spec : SpecTree) (t : Tree) → IsReadAt t j.spec text → Describes text spec → HasSpec t j spec
+spec_there j text spec t read is = record { file = read.file; describes = subst (λ x. Describes x spec) (read.whole is.read.short) is }
+
+pub spec_read : (j : RunJob) (host : HostView) (text : List ℕ) (spec : SpecTree) → IfSome host.told (λ t. IsReadAt t j.spec text) → Describes text spec → IfSome host.told (λ t. HasSpec t j spec)
+spec_read j host text spec read is = if_some_map (λ t. IsReadAt t j.spec text) (λ t. HasSpec t j spec) host.told (λ t read. spec_there j text spec t read is) read
 
 -- the scripts are not read, or refused
 pub scripts_unread : (j : RunJob) (host host' : HostView) (fault : Unread) → ReadsOnly host host' → IfSome host.told (λ t. HasSomeSpec t j) → UnreadCause j host host' fault → EndsAs j host host' (unread_status fault)
-scripts_unread j host host' (unread.Refused word) reads spec cause sink =
-    (same host host' sink reads, refl, if_some_both (λ t. HasSomeSpec t j) _ _ host.told (λ t spec stops. inr (spec, stops)) spec cause)
+scripts_unread j host host' (unread.Refused word first) reads spec cause sink =
+    (same host host' sink reads, if_some_both (λ t. HasSomeSpec t j) _ (λ t. IsFirstRefused t j word first) host.told (λ t spec stops. inr (spec, stops)) spec cause)
 scripts_unread j host host' unread.ReadFault reads spec (inl rose) sink = (same host host' sink reads, inl rose)
 scripts_unread j host host' unread.ReadFault reads spec (inr none) sink =
     (same host host' sink reads, inr (some_and (λ t. HasSomeSpec t j) _ (λ t. CannotRead t j) host.told (λ t spec stops. inr (inl (spec, stops))) spec none))
@@ -133,7 +151,7 @@ all_done j nodes output there host host' sink sink' is saved whole = (
 pub row_back : (j : RunJob) (a b c : HostView) (sink sink' : SinkView) (st : Status) → ReadsOnly a b → RunRow j b c sink sink' st → RunRow j a c sink sink' st
 row_back j a b c sink sink' status.Done reads row = (row.0, told_back _ a b c reads row.1)
 row_back j a b c sink sink' status.Usage reads row = row
-row_back j a b c sink sink' (status.TextRefused word cause) reads row = (same_back a b c sink sink' reads row.0, row.1, some_back _ a b reads row.2)
+row_back j a b c sink sink' (status.TextRefused word cause) reads row = (same_back a b c sink sink' reads row.0, some_back _ a b reads row.1)
 row_back j a b c sink sink' (status.FolderRefused cause) reads row = (same_back a b c sink sink' reads row.0, some_back _ a b reads row.1)
 row_back j a b c sink sink' status.ReadFault reads row = (same_back a b c sink sink' reads row.0, cause_back _ a b c reads row.1)
 row_back j a b c sink sink' status.NotEmpty reads row = (same_back a b c sink sink' reads row.0, some_back _ a b reads row.1)

@@ -1,5 +1,5 @@
 pub mod Completing
 pub mod Ending
-pub mod Flat
 pub mod Plans
+pub mod Scripts
 pub mod Stages

@@ -6,7 +6,6 @@ use Rattle.std.proofs.Math.ListN.{get_or}
 use Rattle.std.proofs.Math.Seq.{get_or-append_seam}
 use Rattle.std.proofs.lemmas.List.{append-nil}
 use Rattle.std.proofs.lemmas.List.Elements.{All-append, All-cons, All-nil}
-use Rattle.std.proofs.lemmas.List.Folds.{list_all-append}
 use Rattle.std.proofs.lemmas.List.Sums.{sum_by_push}
 use Rattle.fx_base.specs.Causes.{Rose}
 use Rattle.fx_outside.specs.Host.{HostView, ReadsOnly, AsksFit, HasFailed}
@@ -16,7 +15,7 @@ use Rattle.fx_outside.proofs.Views.{reads_none, reads_then, rose_back}
 use Rattle.fx_spec.specs.CommandTree.{CommandTree}
 use Rattle.fx_spec.specs.WellShaped.{IsScript}
 use Rattle.fx_spec.specs.Plans.{IsPlan, count_of}
-use Rattle.fx_forms.specs.Built.{is_built_script, is_built_plan}
+use Rattle.fx_command.specs.declared.status.TextFault.{TextFault}
 use Rattle.fx_top.specs.Inputs.{HasScripts, StopsAtScript, GoesOn, HasNoScript, LacksFile}
 
 abbrev Plan : Type 0
@@ -40,13 +39,13 @@ drop_all (x ∷ xs) = drop_all xs
 -- the first scripts are read: whatever the others are, or wherever they stop, is so of all
 pub record IsFront (t : Tree) (paths : Paths) (plan : Plan) (i before : ℕ) : Type 0 where
   pub on : (more : Plan) → HasScripts t before (drop i paths) more → HasScripts t 0 paths (plan ++ more)
-  pub refused : (k : ℕ) → StopsAtScript HasNoScript t before (drop i paths) k → StopsAtScript HasNoScript t 0 paths (i + k)
+  pub refused : (cause : TextFault) (k : ℕ) → StopsAtScript (HasNoScript cause) t before (drop i paths) k → StopsAtScript (HasNoScript cause) t 0 paths (i + k)
   pub lacking : (k : ℕ) → StopsAtScript LacksFile t before (drop i paths) k → StopsAtScript LacksFile t 0 paths (i + k)
 
 front_empty : (t : Tree) (paths : Paths) → IsFront t paths [] 0 0
 front_empty t paths = record {
   on = λ more has. has;
-  refused = λ k stops. subst (λ n. StopsAtScript HasNoScript t 0 paths n) (omega arith) stops;
+  refused = λ cause k stops. subst (λ n. StopsAtScript (HasNoScript cause) t 0 paths n) (omega arith) stops;
   lacking = λ k stops. subst (λ n. StopsAtScript LacksFile t 0 paths n) (omega arith) stops;
 }
 
@@ -59,7 +58,7 @@ front_more t paths plan i before path txns at goes was =
     let left = drop_there paths i path at in
     record {
       on = λ more has. subst (λ all. HasScripts t 0 paths all) (sym (append_assoc plan (txns ∷ []) more)) (was.on (txns ∷ more) (subst (λ ps. HasScripts t before ps (txns ∷ more)) (sym left) (goes.script, has)));
-      refused = λ k stops. subst (λ n. StopsAtScript HasNoScript t 0 paths n) (omega arith) (was.refused (k + 1) (stop_later HasNoScript t path before k txns (drop i paths) (drop (i + 1) paths) left goes stops));
+      refused = λ cause k stops. subst (λ n. StopsAtScript (HasNoScript cause) t 0 paths n) (omega arith) (was.refused cause (k + 1) (stop_later (HasNoScript cause) t path before k txns (drop i paths) (drop (i + 1) paths) left goes stops));
       lacking = λ k stops. subst (λ n. StopsAtScript LacksFile t 0 paths n) (omega arith) (was.lacking (k + 1) (stop_later LacksFile t path before k txns (drop i paths) (drop (i + 1) paths) left goes stops));
     }
 
@@ -70,7 +69,6 @@ pub record IsReading (old now : HostView) (paths : Paths) (plan : Plan) (i befor
   pub front : IfSome old.told (λ t. IsFront t paths plan i before)
   pub count : length plan ≡ i
   pub sum : sum_by length plan ≡ before
-  pub built : is_built_plan plan ≡ true
   pub planned : IsPlan plan
 
 front_begins : (told : Option Tree) (paths : Paths) → IfSome told (λ t. IsFront t paths [] 0 0)
@@ -84,7 +82,6 @@ begins host paths plan none = subst (λ plan. IsReading host host paths plan 0 0
   front = front_begins host.told paths;
   count = refl;
   sum = refl;
-  built = refl;
   planned = record { scripts = All-nil IsScript; shells = omega arith; few = omega arith };
 })
 
@@ -100,9 +97,6 @@ front_goes_on : (told told' : Option Tree) (paths : Paths) (plan : Plan) (i befo
 front_goes_on None told' paths plan i before path script same at was goes = tt
 front_goes_on (Some t) told' paths plan i before path script same at was goes = front_more t paths plan i before path script at (subst (λ o. IfSome o (λ t. GoesOn t path before script)) same goes) was
 
-built_more : (plan : Plan) (script : List (List CommandTree)) → is_built_plan plan ≡ true → is_built_script script ≡ true → is_built_plan (plan ++ script ∷ []) ≡ true
-built_more plan script was is = list_all-append is_built_script plan (script ∷ []) ∙ ap (λ b. b && (is_built_script script && true)) was ∙ ap (λ b. b && true) is
-
 and_left : (a b : Bool) → (a && b) ≡ true → a ≡ true
 and_left true b e = refl
 and_left false b e = cc
@@ -117,14 +111,13 @@ fit_at [] i path at fit = cc
 fit_at (p ∷ paths) zero path at fit = let same : p ≡ path = cc in subst (λ x. is_fit x ≡ true) same (and_left (is_fit p) (list_all is_fit paths) fit)
 fit_at (p ∷ paths) (suc i) path at fit = fit_at paths i path at (and_right (is_fit p) (list_all is_fit paths) fit)
 
-reads_one : (old now then : HostView) (paths : Paths) (plan : Plan) (i before : ℕ) (path : List ℕ) (script : List (List CommandTree)) → IsReading old now paths plan i before → slice_get paths i ≡ Some path → ReadsOnly now then → AsksFit path now then → IfSome now.told (λ t. GoesOn t path before script) → is_built_script script ≡ true → IsPlan (plan ++ script ∷ []) → IsReading old then paths (plan ++ script ∷ []) (i + 1) (before + length script)
-reads_one old now then paths plan i before path script was at reads fit goes built planned = record {
+reads_one : (old now then : HostView) (paths : Paths) (plan : Plan) (i before : ℕ) (path : List ℕ) (script : List (List CommandTree)) → IsReading old now paths plan i before → slice_get paths i ≡ Some path → ReadsOnly now then → AsksFit path now then → IfSome now.told (λ t. GoesOn t path before script) → IsPlan (plan ++ script ∷ []) → IsReading old then paths (plan ++ script ∷ []) (i + 1) (before + length script)
+reads_one old now then paths plan i before path script was at reads fit goes planned = record {
   reads = reads_then old now then was.reads reads;
   fit = λ all. fit (fit_at paths i path at all) ∙ was.fit all;
   front = front_goes_on old.told now.told paths plan i before path script was.reads.same at was.front goes;
   count = length-append plan (script ∷ []) ∙ ap (λ n. n + 1) was.count;
   sum = sum_by_push length plan script ∙ ap (λ n. n + length script) was.sum;
-  built = built_more plan script was.built built;
   planned = planned;
 }
 
@@ -133,9 +126,9 @@ count_pushed : (plan : Plan) (i : ℕ) (script : List (List CommandTree)) → le
 count_pushed plan i script is =
     ap (λ n. length (get_or (plan ++ script ∷ []) n [])) (sym is) ∙ ap (λ s. length s) (get_or-append_seam plan script [] [])
 
-pub reads_on : (old now then : HostView) (paths : Paths) (plan plan' : Plan) (i before count : ℕ) (path : List ℕ) (script : List (List CommandTree)) → IsReading old now paths plan i before → slice_get paths i ≡ Some path → plan' ≡ plan ++ script ∷ [] → count ≡ count_of plan' i → IsScript script → ReadsOnly now then → AsksFit path now then → IfSome now.told (λ t. GoesOn t path before script) → is_built_script script ≡ true → before + length script ≤ 100000 → length plan < 64 → IsReading old then paths plan' (i + 1) (before + count)
-reads_on old now then paths plan plan' i before count path script was at pushed counted is reads fit goes built few room =
-    let one = reads_one old now then paths plan i before path script was at reads fit goes built (fits plan script before was.planned was.sum is room few) in
+pub reads_on : (old now then : HostView) (paths : Paths) (plan plan' : Plan) (i before count : ℕ) (path : List ℕ) (script : List (List CommandTree)) → IsReading old now paths plan i before → slice_get paths i ≡ Some path → plan' ≡ plan ++ script ∷ [] → count ≡ count_of plan' i → IsScript script → ReadsOnly now then → AsksFit path now then → IfSome now.told (λ t. GoesOn t path before script) → before + length script ≤ 100000 → length plan < 64 → IsReading old then paths plan' (i + 1) (before + count)
+reads_on old now then paths plan plan' i before count path script was at pushed counted is reads fit goes few room =
+    let one = reads_one old now then paths plan i before path script was at reads fit goes (fits plan script before was.planned was.sum is room few) in
     let adds : length script ≡ count = sym (count_pushed plan i script was.count) ∙ ap (λ p. count_of p i) (sym pushed) ∙ sym counted in
     subst (λ p. IsReading old then paths p (i + 1) (before + count)) (sym pushed) (subst (λ n. IsReading old then paths (plan ++ script ∷ []) (i + 1) (before + n)) adds one)
 
@@ -157,18 +150,18 @@ ends (Some t) paths plan i before all front = whole t paths plan i before all fr
 stop_here : (S : Tree → List ℕ → ℕ → Type 0) (t : Tree) (path : List ℕ) (before : ℕ) (left paths : Paths) → left ≡ path ∷ paths → S t path before → StopsAtScript S t before left 0
 stop_here S t path before left paths is stops = subst (λ ps. StopsAtScript S t before ps 0) (sym is) (inl (refl, stops))
 
-refused_at : (t : Tree) (paths : Paths) (plan : Plan) (i before : ℕ) (path : List ℕ) → slice_get paths i ≡ Some path → IsFront t paths plan i before → HasNoScript t path before → StopsAtScript HasNoScript t 0 paths i
-refused_at t paths plan i before path at front none =
-    subst (λ n. StopsAtScript HasNoScript t 0 paths n) (omega arith) (front.refused 0 (stop_here HasNoScript t path before (drop i paths) (drop (i + 1) paths) (drop_there paths i path at) none))
+refused_at : (t : Tree) (cause : TextFault) (paths : Paths) (plan : Plan) (i before : ℕ) (path : List ℕ) → slice_get paths i ≡ Some path → IsFront t paths plan i before → HasNoScript cause t path before → StopsAtScript (HasNoScript cause) t 0 paths i
+refused_at t cause paths plan i before path at front none =
+    subst (λ n. StopsAtScript (HasNoScript cause) t 0 paths n) (omega arith) (front.refused cause 0 (stop_here (HasNoScript cause) t path before (drop i paths) (drop (i + 1) paths) (drop_there paths i path at) none))
 
 lacking_at : (t : Tree) (paths : Paths) (plan : Plan) (i before : ℕ) (path : List ℕ) → slice_get paths i ≡ Some path → IsFront t paths plan i before → is_file_at t path ≡ false → StopsAtScript LacksFile t 0 paths i
 lacking_at t paths plan i before path at front none =
     subst (λ n. StopsAtScript LacksFile t 0 paths n) (omega arith) (front.lacking 0 (stop_here LacksFile t path before (drop i paths) (drop (i + 1) paths) (drop_there paths i path at) none))
 
-pub refuses : (told now : Option Tree) (paths : Paths) (plan : Plan) (i before : ℕ) (path : List ℕ) (word : ℕ) (place : ℕ → ℕ) → now ≡ told → word ≡ place i → slice_get paths i ≡ Some path → IfSome told (λ t. IsFront t paths plan i before) → IfSome now (λ t. HasNoScript t path before) → IfSome told (λ t. (i : ℕ) × (word ≡ place i) × StopsAtScript HasNoScript t 0 paths i)
-refuses None now paths plan i before path word place same is at front none = tt
-refuses (Some t) now paths plan i before path word place same is at front none =
-    (i, is, refused_at t paths plan i before path at front (subst (λ o. IfSome o (λ t. HasNoScript t path before)) same none))
+pub refuses : (told now : Option Tree) (cause : TextFault) (paths : Paths) (plan : Plan) (i before : ℕ) (path : List ℕ) (word : ℕ) (place : ℕ → ℕ) → now ≡ told → word ≡ place i → slice_get paths i ≡ Some path → IfSome told (λ t. IsFront t paths plan i before) → IfSome now (λ t. HasNoScript cause t path before) → IfSome told (λ t. (i : ℕ) × (word ≡ place i) × StopsAtScript (HasNoScript cause) t 0 paths i)
+refuses None now cause paths plan i before path word place same is at front none = tt
+refuses (Some t) now cause paths plan i before path word place same is at front none =
+    (i, is, refused_at t cause paths plan i before path at front (subst (λ o. IfSome o (λ t. HasNoScript cause t path before)) same none))
 
 lacks : (told now : Option Tree) (paths : Paths) (plan : Plan) (i before : ℕ) (path : List ℕ) → now ≡ told → slice_get paths i ≡ Some path → IfSome told (λ t. IsFront t paths plan i before) → IsSomeAnd now (λ t. is_file_at t path ≡ false) → IsSomeAnd told (λ t. (i : ℕ) × StopsAtScript LacksFile t 0 paths i)
 lacks None now paths plan i before path same at front none = let no = subst (λ o. IsSomeAnd o (λ t. is_file_at t path ≡ false)) same none in absurd no

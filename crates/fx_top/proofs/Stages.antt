@@ -1,10 +1,9 @@
 -- From one stage of a run to the next.
 use Rattle.std.proofs.Common.{◌≡◌, ℕ, Bool, true, List, length, Option, Some, None, IfSome, sym, subst}
-use Rattle.std.specs.FinMap.{get}
 use Rattle.fx_store.specs.Whole.{Nodes}
 use Rattle.fx_outside.specs.Host.{HostView, ReadsOnly}
 use Rattle.fx_outside.specs.Tree.{Tree}
-use Rattle.fx_folder.specs.Folder.{IsReady, IsFlat}
+use Rattle.fx_folder.specs.Folder.{IsReady}
 use Rattle.fx_folder.specs.Loads.{Loads}
 use Rattle.fx_spec.specs.SpecTree.{SpecTree}
 use Rattle.fx_spec.specs.CommandTree.{CommandTree}

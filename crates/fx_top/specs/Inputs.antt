@@ -6,34 +6,32 @@ use Rattle.fx_folder.specs.Loads.{Loads}
 use Rattle.fx_spec.specs.SpecTree.{SpecTree}
 use Rattle.fx_spec.specs.CommandTree.{CommandTree}
 use Rattle.fx_spec.specs.Order.{BaseTree}
-use Rattle.fx_forms.specs.Built.{is_built_spec, is_built_script}
-use Rattle.fx_texts.specs.Texts.{IsDescription, IsScript}
+use Rattle.fx_command.specs.declared.status.TextFault.{TextFault}
+use Rattle.fx_show.specs.Described.{Describes, IsRefusedFor}
+use Rattle.fx_scripts.specs.Scripted.{Scripts, IsNoScriptFor}
 use Rattle.fx_words.specs.Job.{RunJob, place_of}
 
--- the file at SPEC stands for a description of the built forms; or its text is outside them
+-- the file at SPEC describes this; or its text is refused, first for this cause
 pub record HasSpec (t : Tree) (j : RunJob) (spec : SpecTree) : Type 0 where
   pub file : is_file_at t j.spec ≡ true
-  pub description : IsDescription (bytes_at t j.spec) spec
-  pub built : is_built_spec spec ≡ true
+  pub describes : Describes (bytes_at t j.spec) spec
 
-pub record HasNoSpec (t : Tree) (j : RunJob) : Type 0 where
+pub record HasNoSpec (t : Tree) (j : RunJob) (cause : TextFault) : Type 0 where
   pub file : is_file_at t j.spec ≡ true
-  pub none : (spec : SpecTree) → IsDescription (bytes_at t j.spec) spec → is_built_spec spec ≡ true → ⊥
+  pub refused : IsRefusedFor (bytes_at t j.spec) cause
 
--- the file at a path stands for a script of the built forms, of at most 100,000 transactions with those before it; or not
+-- the file at a path stands for a script that follows so many transactions; or its text is refused, first for this cause
 pub record HasScript (t : Tree) (path : List ℕ) (before : ℕ) (txns : List (List CommandTree)) : Type 0 where
   pub file : is_file_at t path ≡ true
-  pub script : IsScript (bytes_at t path) txns
-  pub built : is_built_script txns ≡ true
-  pub few : before + length txns ≤ 100000
+  pub script : Scripts (bytes_at t path) before txns
 
-pub record HasNoScript (t : Tree) (path : List ℕ) (before : ℕ) : Type 0 where
+pub record HasNoScript (cause : TextFault) (t : Tree) (path : List ℕ) (before : ℕ) : Type 0 where
   pub file : is_file_at t path ≡ true
-  pub none : (txns : List (List CommandTree)) → IsScript (bytes_at t path) txns → is_built_script txns ≡ true → before + length txns ≤ 100000 → ⊥
+  pub refused : IsNoScriptFor (bytes_at t path) before cause
 
--- the text at the path stands for these transactions of the built forms and for no others
-abbrev pub IsOnlyScript : Tree → List ℕ → List (List CommandTree) → Type 0
-IsOnlyScript t path txns = (others : List (List CommandTree)) → IsScript (bytes_at t path) others → is_built_script others ≡ true → others ≡ txns
+-- the text at the path stands for these transactions and for no others
+abbrev pub IsOnlyScript : Tree → List ℕ → ℕ → List (List CommandTree) → Type 0
+IsOnlyScript t path before txns = (others : List (List CommandTree)) → Scripts (bytes_at t path) before others → others ≡ txns
 
 -- the files at the paths stand for the scripts of a plan, one after another
 abbrev pub HasScripts : Tree → ℕ → List (List ℕ) → List (List (List CommandTree)) → Type 0
@@ -45,9 +43,9 @@ HasScripts t before (path ∷ paths) (txns ∷ plan) = HasScript t path before t
 -- a script that is read, after which others follow
 pub record GoesOn (t : Tree) (path : List ℕ) (before : ℕ) (txns : List (List CommandTree)) : Type 0 where
   pub script : HasScript t path before txns
-  pub only : IsOnlyScript t path txns
+  pub only : IsOnlyScript t path before txns
 
--- the script of number `i` is the first whose file is not there, or whose text is outside the forms; those before it are read
+-- the script of number `i` is the first whose file is not there, or whose text is refused; those before it are read
 abbrev pub StopsAtScript : (Tree → List ℕ → ℕ → Type 0) → Tree → ℕ → List (List ℕ) → ℕ → Type 0
 StopsAtScript stops t before [] i = ⊥
 StopsAtScript stops t before (path ∷ paths) i =
@@ -76,7 +74,7 @@ abbrev pub CannotRead : Tree → RunJob → Type 0
 CannotRead t j =
     (is_file_at t j.spec ≡ false) ⊎ ((HasSomeSpec t j × ((i : ℕ) × StopsAtScript LacksFile t 0 j.scripts i)) ⊎ (HasTexts t j × (is_folder_at t j.folder ≡ false)))
 
--- the text of this word is the first that is outside the forms that are built
-abbrev pub IsFirstRefused : Tree → RunJob → ℕ → Type 0
-IsFirstRefused t j word =
-    ((word ≡ 1) × HasNoSpec t j) ⊎ (HasSomeSpec t j × ((i : ℕ) × (word ≡ place_of j i) × StopsAtScript HasNoScript t 0 j.scripts i))
+-- the text of this word is the first that is refused, first for this cause
+abbrev pub IsFirstRefused : Tree → RunJob → ℕ → TextFault → Type 0
+IsFirstRefused t j word cause =
+    ((word ≡ 1) × HasNoSpec t j cause) ⊎ (HasSomeSpec t j × ((i : ℕ) × (word ≡ place_of j i) × StopsAtScript (HasNoScript cause) t 0 j.scripts i))

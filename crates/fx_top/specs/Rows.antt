@@ -12,7 +12,6 @@ use Rattle.fx_folder.specs.Loads.{IsRefused}
 use Rattle.fx_words.specs.Job.{Job, Run, Show, RunJob}
 use Rattle.fx_command.specs.declared.status.Status.{Status}
 use Rattle.fx_command.specs.declared.status.Status.TheVariants as status
-use Rattle.fx_command.specs.declared.status.TextFault.TheVariants as fault
 use Rattle.fx_command.specs.Left.{IsSame, Grows}
 use Rattle.fx_show.specs.Rows.{ShowRow, ShowAsksFit}
 use Rattle.fx_show.specs.Shows.{IsProperShow}
@@ -73,7 +72,7 @@ pub record IsUnprinted (j : RunJob) (host host' : HostView) (sink sink' : SinkVi
 abbrev pub RunRow : RunJob → HostView → HostView → SinkView → SinkView → Status → Type 0
 RunRow j host host' sink sink' status.Done = Grows sink sink' × IfTold host.told host'.told (λ t t'. IsDone t t' j sink.written sink'.written)
 RunRow j host host' sink sink' status.Usage = ⊥
-RunRow j host host' sink sink' (status.TextRefused word cause) = IsSame host host' sink sink' × (cause ≡ fault.NotBuilt 0) × IfSome host.told (λ t. IsFirstRefused t j word)
+RunRow j host host' sink sink' (status.TextRefused word cause) = IsSame host host' sink sink' × IfSome host.told (λ t. IsFirstRefused t j word cause)
 RunRow j host host' sink sink' (status.FolderRefused cause) = IsSame host host' sink sink' × IfSome host.told (λ t. HasTexts t j × IsRefused t j.folder cause)
 RunRow j host host' sink sink' status.ReadFault = IsSame host host' sink sink' × (Rose host.faults host'.faults ⊎ IsSomeAnd host.told (λ t. CannotRead t j))
 RunRow j host host' sink sink' status.NotEmpty = IsSame host host' sink sink' × IfSome host.told (λ t. HasInputs t j × IsTaken t j.out)
@@ -110,7 +109,7 @@ abbrev pub FitsOut : Tree → List ℕ → Bool → Type 0
 FitsOut t path true = Unit {0}
 FitsOut t path false = has_folder t (above (parts path)) ≡ true
 
--- texts of the built forms, a folder that loads, and an OUT that is an empty folder or can be made
+-- texts that stand for a description and scripts, a folder that loads, and an OUT that is an empty folder or can be made
 pub record IsProperRun (t : Tree) (j : RunJob) : Type 0 where
   pub inputs : HasInputs t j
   pub there : Bool

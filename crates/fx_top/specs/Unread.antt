@@ -1,16 +1,26 @@
--- The status with which a command ends whose texts are not read as trees of the built forms.
-use Rattle.std.specs.Prelude.{ℕ}
+-- How a command ends whose scripts are not read.
 use Rattle.fx_command.specs.declared.status.Status.{Status}
 use Rattle.fx_command.specs.declared.status.Status.TheVariants as status
-use Rattle.fx_command.specs.declared.status.TextFault.TheVariants as text
+use Rattle.fx_outside.specs.declared.kind.HostFault.{HostFault}
+use Rattle.fx_outside.specs.declared.kind.HostFault.TheVariants as host
+use Rattle.fx_scripts.specs.declared.fault.ScriptFault.{ScriptFault}
+use Rattle.fx_scripts.specs.declared.fault.ScriptFault.TheVariants as fault
+use Rattle.fx_top.specs.declared.inputs.ScriptUnread.{ScriptUnread}
+use Rattle.fx_top.specs.declared.inputs.ScriptUnread.TheVariants as script
 use Rattle.fx_top.specs.declared.inputs.Unread.{Unread}
 use Rattle.fx_top.specs.declared.inputs.Unread.TheVariants as unread
 
--- of the text of a word that is outside the forms that are built
-abbrev pub refused_status : ℕ → Status
-refused_status word = status.TextRefused word (text.NotBuilt 0)
+-- of a file that is not read
+abbrev pub of_host : HostFault → ScriptUnread
+of_host host.Failed = script.ReadFault
+of_host host.NoMemory = script.NoMemory
+
+-- of a text that is refused
+abbrev pub of_script : ScriptFault → ScriptUnread
+of_script (fault.Refused cause) = script.Refused cause
+of_script fault.NoMemory = script.NoMemory
 
 abbrev pub unread_status : Unread → Status
-unread_status (unread.Refused word) = refused_status word
+unread_status (unread.Refused word cause) = status.TextRefused word cause
 unread_status unread.ReadFault = status.ReadFault
 unread_status unread.NoMemory = status.NoMemory

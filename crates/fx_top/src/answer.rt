@@ -1,12 +1,10 @@
 //! Whole runs from a base on.
 ghost use Rattle.std.specs.Prelude.{◌≡◌, ◌++◌, IfOk};
-ghost use Rattle.std.specs.FinMap.{get};
-ghost use Rattle.fx_folder.specs.Folder.{IsFlat};
 ghost use Rattle.fx_spec.specs.Bases.{base_tree};
 ghost use Rattle.fx_sched.specs.Traced.{IsTraced};
 ghost use Rattle.fx_words.specs.Job.{shells_of};
 ghost use Rattle.fx_words.specs.JobOf.{asked, IsJob};
-ghost use Rattle.fx_top.specs.Answers.{last_of, IsRunFrom, IsRunnable};
+ghost use Rattle.fx_top.specs.Answers.{last_of, HasEachScript, IsRunFrom};
 ghost use Rattle.fx_top.specs.Outcome.{IsPrintedAs};
 
 use fx_base::NoMemory;
@@ -53,10 +51,9 @@ fn output_of(alloc: Global, job: &RunJob, traced: &Traced) -> Result<LongText, N
 /// Runs all scripts on the loaded filestore, by the job's schedule.
 pub fn run_base(alloc: Global, job: &RunJob, base: Arc<Base>) -> Result<Answer, NoMemory>
     requires job { IsJob job.now }
-    requires base { IsRunnable (asked job.now) (base_tree base.value) }
+    requires count { HasEachScript (asked job.now) (base_tree base.value) }
     ensures run { IfOk result (λ a.
         IsRunFrom (base_tree base.value) (asked job.now).mode (last_of a) a.output) }
-    ensures flat { IfOk result (λ a. IsFlat (get (last_of a))) }
 {
     let schedule = job.shells(alloc)?;
     let traced = run_schedule(alloc, base, &schedule)?;

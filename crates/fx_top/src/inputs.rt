@@ -1,82 +1,84 @@
-//! The texts of a run, read from the host.
-ghost use Rattle.std.specs.Prelude.{◌≡◌, ◌+◌, ◌≤◌, true, IfOk, IfErr, IfSome, length};
-ghost use Rattle.fx_outside.specs.Host.{ReadsOnly, AsksFit, HasFailed};
-ghost use Rattle.fx_outside.specs.Tree.{is_file_at};
-ghost use Rattle.fx_forms.specs.Built.{is_built_spec, is_built_script, is_built_plan};
+//! The scripts of a run, read from the host.
+ghost use Rattle.std.specs.Prelude.{◌≡◌, ◌+◌, ◌≤◌, IfOk, IfErr, IfSome, length};
+ghost use Rattle.fx_outside.specs.Host.{ReadsOnly, AsksFit};
 ghost use Rattle.fx_spec.specs.WellShaped.{IsScript};
 ghost use Rattle.fx_words.specs.JobOf.{asked, IsJob};
-ghost use Rattle.fx_top.specs.Inputs.{HasScripts};
-ghost use Rattle.fx_top.specs.Answers.{SpecRead, ScriptRead, UnreadCause};
+ghost use Rattle.fx_top.specs.Inputs.{GoesOn, HasScripts};
+ghost use Rattle.fx_top.specs.Answers.{ScriptCause, UnreadCause};
 ghost use Rattle.fx_top.specs.Rows.{AsksAllFit};
-ghost use Rattle.fx_top.specs.Unread.{refused_status};
 
-use fx_base::NoMemory;
 use fx_command::{Status, TextFault, read_text};
 use fx_outside::{Host, HostFault, HostText};
-use fx_spec::{Checked, Plan, Script};
-use fx_texts::{read_description, read_script};
+use fx_scripts::{ScriptFault, script_of};
+use fx_spec::{Plan, Script};
 use fx_words::RunJob;
 use std::alloc::Global;
 
-/// Why the scripts of a run are not read.
+/// Why a script is not read.
 #[derive(Drop)]
-pub enum Unread {
-    /// The text of this word is outside the forms that are built.
-    Refused(u32),
+pub enum ScriptUnread {
+    /// Its text is refused for this cause.
+    Refused(TextFault),
     ReadFault,
     NoMemory,
 }
 
-/// The description at SPEC; none where its text is outside the forms that are built.
-pub fn read_spec<H: Host>(
-    alloc: Global,
-    job: &RunJob,
-    host: &mut H,
-) -> Result<Option<Checked>, HostFault>
-    ensures read { IfOk result (λ spec.
-        IfSome (H.view host.old).told (λ t. SpecRead t (asked job.now) spec)) }
-    ensures built { IfOk result (λ spec. IfSome spec (λ s. is_built_spec s ≡ true)) }
-    ensures same { ReadsOnly (H.view host.old) (H.view host.new) }
-    ensures fit { AsksFit (asked job.now).spec (H.view host.old) (H.view host.new) }
-    ensures failed { IfErr result (λ fault. fault ≡ HostFault.Failed
-        → HasFailed (λ t. is_file_at t (asked job.now).spec) (H.view host.old) (H.view host.new)) }
-{
-    let text = match read_text(alloc, host, job.spec) {
-        Ok(text) => text,
-        Err(fault) => return Err(fault),
-    };
-    match read_description(alloc, &text) {
-        Ok(spec) => Ok(spec),
-        Err(NoMemory) => Err(HostFault::NoMemory),
+impl From<HostFault> for ScriptUnread {
+    ghost use Rattle.std.specs.Prelude.{◌≡◌};
+    ghost use Rattle.fx_top.specs.Unread.{of_host};
+
+    ghost from_gives = { λ fault unread. unread ≡ of_host fault };
+
+    fn from(fault: HostFault) -> ScriptUnread {
+        match fault {
+            HostFault::Failed => ScriptUnread::ReadFault,
+            HostFault::NoMemory => ScriptUnread::NoMemory,
+        }
     }
 }
 
-/// The script at a path, after so many transactions; none where its text is outside the forms that are built.
+impl From<ScriptFault> for ScriptUnread {
+    ghost use Rattle.std.specs.Prelude.{◌≡◌};
+    ghost use Rattle.fx_top.specs.Unread.{of_script};
+
+    ghost from_gives = { λ fault unread. unread ≡ of_script fault };
+
+    fn from(fault: ScriptFault) -> ScriptUnread {
+        match fault {
+            ScriptFault::Refused(cause) => ScriptUnread::Refused(cause),
+            ScriptFault::NoMemory => ScriptUnread::NoMemory,
+        }
+    }
+}
+
+/// Why the scripts of a run are not read.
+#[derive(Drop)]
+pub enum Unread {
+    /// The text of this word is refused for this cause.
+    Refused(u32, TextFault),
+    ReadFault,
+    NoMemory,
+}
+
+/// The script at a path, after so many transactions.
 fn read_script_at<H: Host>(
     alloc: Global,
     host: &mut H,
     path: &HostText,
     before: u32,
-) -> Result<Option<Script>, HostFault>
+) -> Result<Script, ScriptUnread>
     requires { before ≤ 100000 }
     ensures read { IfOk result (λ script.
-        IfSome (H.view host.old).told (λ t. ScriptRead t path.now before script)) }
-    ensures built { IfOk result (λ script. IfSome script (λ s. is_built_script s ≡ true)) }
-    ensures few { IfOk result (λ script. IfSome script (λ s. before + length s ≤ 100000)) }
-    ensures shaped { IfOk result (λ script. IfSome script IsScript) }
+        IfSome (H.view host.old).told (λ t. GoesOn t path.now before script)) }
+    ensures few { IfOk result (λ script. before + length script ≤ 100000) }
+    ensures shaped { IfOk result IsScript }
     ensures same { ReadsOnly (H.view host.old) (H.view host.new) }
     ensures fit { AsksFit path.now (H.view host.old) (H.view host.new) }
-    ensures failed { IfErr result (λ fault. fault ≡ HostFault.Failed
-        → HasFailed (λ t. is_file_at t path.now) (H.view host.old) (H.view host.new)) }
+    ensures unread { IfErr result (ScriptCause path.now before (H.view host.old) (H.view host.new)) }
 {
-    let text = match read_text(alloc, host, path) {
-        Ok(text) => text,
-        Err(fault) => return Err(fault),
-    };
-    match read_script(alloc, &text, before) {
-        Ok(script) => Ok(script),
-        Err(NoMemory) => Err(HostFault::NoMemory),
-    }
+    let text = read_text(alloc, host, path)?;
+    let script = script_of(alloc, &text, before)?;
+    Ok(script)
 }
 
 /// The scripts of a job, in order, as a plan.
@@ -84,7 +86,6 @@ pub fn read_plan<H: Host>(alloc: Global, job: &RunJob, host: &mut H) -> Result<P
     requires { IsJob job.now }
     ensures read { IfOk result (λ plan.
         IfSome (H.view host.old).told (λ t. HasScripts t 0 (asked job.now).scripts plan)) }
-    ensures built { IfOk result (λ plan. is_built_plan plan ≡ true) }
     ensures count { IfOk result (λ plan. length plan ≡ length (asked job.now).scripts) }
     ensures same { ReadsOnly (H.view host.old) (H.view host.new) }
     ensures fit { AsksAllFit (asked job.now).scripts (H.view host.old) (H.view host.new) }
@@ -98,10 +99,12 @@ pub fn read_plan<H: Host>(alloc: Global, job: &RunJob, host: &mut H) -> Result<P
             None => unreachable!(),
         };
         let script = match read_script_at(alloc, host, path, before) {
-            Ok(Some(script)) => script,
-            Ok(None) => return Err(Unread::Refused(job.place(i))),
-            Err(HostFault::Failed) => return Err(Unread::ReadFault),
-            Err(HostFault::NoMemory) => return Err(Unread::NoMemory),
+            Ok(script) => script,
+            Err(ScriptUnread::Refused(cause)) => {
+                return Err(Unread::Refused(job.place(i), cause));
+            }
+            Err(ScriptUnread::ReadFault) => return Err(Unread::ReadFault),
+            Err(ScriptUnread::NoMemory) => return Err(Unread::NoMemory),
         };
         match plan.push(alloc, script) {
             Ok(()) => {}
@@ -112,16 +115,6 @@ pub fn read_plan<H: Host>(alloc: Global, job: &RunJob, host: &mut H) -> Result<P
     Ok(plan)
 }
 
-/// The status of a text outside the forms that are built.
-pub(crate) fn refused(word: u32) -> Status
-    ensures { result ≡ refused_status word }
-{
-    Status::TextRefused {
-        word,
-        cause: TextFault::NotBuilt(0),
-    }
-}
-
 impl From<Unread> for Status {
     ghost use Rattle.std.specs.Prelude.{◌≡◌};
     ghost use Rattle.fx_top.specs.Unread.{unread_status};
@@ -130,7 +123,7 @@ impl From<Unread> for Status {
 
     fn from(unread: Unread) -> Status {
         match unread {
-            Unread::Refused(word) => refused(word),
+            Unread::Refused(word, cause) => Status::TextRefused { word, cause },
             Unread::ReadFault => Status::ReadFault,
             Unread::NoMemory => Status::NoMemory,
         }

@@ -1,43 +1,37 @@
 //! The stages of a run that read: the description, the scripts, the folder, and whether OUT can be written.
-ghost use Rattle.std.specs.Prelude.{◌≡◌, true, length, IfOk, IfErr, IfSome};
-ghost use Rattle.std.specs.FinMap.{get};
+ghost use Rattle.std.specs.Prelude.{◌≡◌, length, IfOk, IfErr, IfSome};
 ghost use Rattle.fx_outside.specs.Host.{ReadsOnly};
-ghost use Rattle.fx_folder.specs.Folder.{IsFlat, IsReady};
+ghost use Rattle.fx_folder.specs.Folder.{IsReady};
 ghost use Rattle.fx_folder.specs.Loads.{Loads};
-ghost use Rattle.fx_forms.specs.Built.{is_built_spec, is_built_plan};
 ghost use Rattle.fx_spec.specs.Bases.{base_tree};
 ghost use Rattle.fx_words.specs.JobOf.{asked, IsJob};
-ghost use Rattle.fx_top.specs.Answers.{IsRunnable};
+ghost use Rattle.fx_top.specs.Answers.{HasEachScript};
 ghost use Rattle.fx_top.specs.Inputs.{HasSpec, HasScripts, HasSomeSpec, HasTexts, HasInputs, HasBase};
 ghost use Rattle.fx_top.specs.Rows.{EndsAs, RunAsksFit};
 
-use crate::inputs::{read_plan, read_spec, refused};
+use crate::inputs::read_plan;
 use fx_base::NoMemory;
-use fx_command::Status;
+use fx_command::{Status, read_text};
 use fx_folder::{load, ready};
 use fx_outside::Host;
+use fx_show::description_of;
 use fx_spec::{Base, Checked, Plan};
 use fx_store::Filestore;
 use fx_words::RunJob;
 use std::alloc::Global;
 use std::sync::Arc;
 
-/// The place of SPEC among the words, the command being 0.
-const SPEC_WORD: u32 = 1;
-
 /// Reads the description.
 fn read_description<H: Host>(alloc: Global, job: &RunJob, host: &mut H) -> Result<Checked, Status>
     ensures read { IfOk result (λ spec.
         IfSome (H.view host.old).told (λ t. HasSpec t (asked job.now) spec)) }
-    ensures built { IfOk result (λ spec. is_built_spec spec ≡ true) }
     ensures same { ReadsOnly (H.view host.old) (H.view host.new) }
     ensures fit { RunAsksFit (asked job.now) (H.view host.old) (H.view host.new) }
     ensures ends { IfErr result (EndsAs (asked job.now) (H.view host.old) (H.view host.new)) }
 {
-    match read_spec(alloc, job, host)? {
-        Some(spec) => Ok(spec),
-        None => Err(refused(SPEC_WORD)),
-    }
+    let text = read_text(alloc, host, job.spec)?;
+    let spec = description_of(alloc, &text)?;
+    Ok(spec)
 }
 
 /// Reads the scripts, after the description.
@@ -46,7 +40,6 @@ fn read_scripts<H: Host>(alloc: Global, job: &RunJob, host: &mut H) -> Result<Pl
     requires spec { IfSome (H.view host.old).told (λ t. HasSomeSpec t (asked job.now)) }
     ensures read { IfOk result (λ plan.
         IfSome (H.view host.old).told (λ t. HasScripts t 0 (asked job.now).scripts plan)) }
-    ensures built { IfOk result (λ plan. is_built_plan plan ≡ true) }
     ensures count { IfOk result (λ plan. length plan ≡ length (asked job.now).scripts) }
     ensures same { ReadsOnly (H.view host.old) (H.view host.new) }
     ensures fit { RunAsksFit (asked job.now) (H.view host.old) (H.view host.new) }
@@ -61,7 +54,6 @@ fn read_folder<H: Host>(alloc: Global, job: &RunJob, host: &mut H) -> Result<Fil
     requires { IfSome (H.view host.old).told (λ t. HasTexts t (asked job.now)) }
     ensures loaded { IfOk result (λ s.
         IfSome (H.view host.old).told (λ t. Loads t (asked job.now).folder s.nodes)) }
-    ensures flat { IfOk result (λ s. IsFlat (get s.nodes)) }
     ensures same { ReadsOnly (H.view host.old) (H.view host.new) }
     ensures fit { RunAsksFit (asked job.now) (H.view host.old) (H.view host.new) }
     ensures ends { IfErr result (EndsAs (asked job.now) (H.view host.old) (H.view host.new)) }
@@ -92,7 +84,7 @@ pub fn read_base<H: Host>(alloc: Global, job: &RunJob, host: &mut H) -> Result<A
     requires { IsJob job.now }
     ensures read { IfOk result (λ base.
         IfSome (H.view host.old).told (λ t. HasBase t (asked job.now) (base_tree base.value))) }
-    ensures built { IfOk result (λ base. IsRunnable (asked job.now) (base_tree base.value)) }
+    ensures count { IfOk result (λ base. HasEachScript (asked job.now) (base_tree base.value)) }
     ensures same { ReadsOnly (H.view host.old) (H.view host.new) }
     ensures fit { RunAsksFit (asked job.now) (H.view host.old) (H.view host.new) }
     ensures ends { IfErr result (EndsAs (asked job.now) (H.view host.old) (H.view host.new)) }

@@ -1,7 +1,5 @@
 //! The command `run`, and `trace`, which has a schedule.
 ghost use Rattle.std.specs.Prelude.{IfSome};
-ghost use Rattle.std.specs.FinMap.{get};
-ghost use Rattle.fx_folder.specs.Folder.{IsFlat};
 ghost use Rattle.fx_words.specs.JobOf.{asked, IsJob};
 ghost use Rattle.fx_top.specs.Answers.{last_of, IsAnswered};
 ghost use Rattle.fx_top.specs.Rows.{RunRow, RunAsksFit};
@@ -24,8 +22,7 @@ fn save_and_print<H: Host, S: Sink>(
     host: &mut H,
     out: &mut S,
 ) -> Result<(), Status>
-    requires flat { IsFlat (get (last_of answer.now)) }
-    requires answered { IfSome (H.view host.old).told (λ t.
+    requires { IfSome (H.view host.old).told (λ t.
         IsAnswered t (asked job.now) (last_of answer.now) answer.now.output there) }
     ensures row { RunRow (asked job.now) (H.view host.old) (H.view host.new)
         (S.view out.old) (S.view out.new) (status_of result) }

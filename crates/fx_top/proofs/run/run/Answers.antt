@@ -31,7 +31,7 @@ returns-in_err-there-clause-row g c =
     let is = err_of c.from_residual-in_err-there.result status c.from_residual-in_err-there.ensures.1 in
     subst (λ r. RunRow (asked c.args.job.now) a d sink sink (status_of r)) (sym is) (ends_back (asked c.args.job.now) a b d status c.in_ok-base.ensures.same c.in_err-there.ensures.ends sink)
 
-pub save_and_print-requires-clause-answered : goal.save_and_print-requires-clause-answered
-save_and_print-requires-clause-answered g c =
+pub save_and_print-requires : goal.save_and_print-requires
+save_and_print-requires g c =
     can_save (asked c.args.job.now) (base_tree c.in_ok-base.base.value) (last_of c.in_ok-answer.answer) c.in_ok-answer.answer.output c.in_ok-there.there (g.H.Host.view c.args.host.now) (g.H.Host.view c.read_base.new.host) (g.H.Host.view c.make_ready.new.host)
     c.in_ok-base.ensures.same c.in_ok-there.ensures.same c.in_ok-base.ensures.read c.in_ok-there.ensures.ready c.in_ok-answer.ensures.run

@@ -16,7 +16,7 @@ returns-in_err-save-clause-row g c =
     let fault = c.in_err-save.field-0.0 in
     let is = err_of c.from_residual.result (save_status fault) c.from_residual.ensures.1 in
     subst (λ r. RunRow (asked c.args.job.now) host host' sink sink (status_of r)) (sym is)
-    (not_saved (asked c.args.job.now) (last_of c.args.answer.now) c.args.answer.now.output c.args.there host host' fault c.requires.answered
+    (not_saved (asked c.args.job.now) (last_of c.args.answer.now) c.args.answer.now.output c.args.there host host' fault c.requires
     (subst (λ n. SavesPart c.args.job.now.out.now n host host') c.store.ensures.nodes c.in_err-save.ensures.part) c.in_err-save.ensures.fault sink)
 
 pub returns-in-Ok-clause-row : goal.returns-in-Ok-clause-row
@@ -25,7 +25,7 @@ returns-in-Ok-clause-row g c =
     let host' = g.H.Host.view c.save.new.host in
     let sink = g.S.Sink.view c.args.out.now in
     let sink' = g.S.Sink.view c.print_all.new.out in
-    all_done (asked c.args.job.now) (last_of c.args.answer.now) c.args.answer.now.output c.args.there host host' sink sink' c.requires.answered
+    all_done (asked c.args.job.now) (last_of c.args.answer.now) c.args.answer.now.output c.args.there host host' sink sink' c.requires
     (subst (λ n. Saves c.args.job.now.out.now n host host') c.store.ensures.nodes c.in_ok-save.ensures.saved)
     (subst (λ b. IfSome sink.written (λ w. sink'.written ≡ Some (w ++ b))) c.as_slice.ensures c.in-Ok.ensures.written)
 
@@ -35,6 +35,6 @@ returns-in-Err-clause-row g c =
     let host' = g.H.Host.view c.save.new.host in
     let sink = g.S.Sink.view c.args.out.now in
     let sink' = g.S.Sink.view c.print_all.new.out in
-    not_printed (asked c.args.job.now) (last_of c.args.answer.now) c.args.answer.now.output c.args.there host host' sink sink' c.requires.answered
+    not_printed (asked c.args.job.now) (last_of c.args.answer.now) c.args.answer.now.output c.args.there host host' sink sink' c.requires
     (subst (λ n. Saves c.args.job.now.out.now n host host') c.store.ensures.nodes c.in_ok-save.ensures.saved)
     (subst (λ b. IfSome sink.written (λ w. (n : ℕ) × (sink'.written ≡ Some (w ++ take n b)))) c.as_slice.ensures c.in-Err.ensures.front) c.in-Err.ensures.cause.failed

@@ -1,7 +1,0 @@
-pub mod Body
-pub mod Lexed
-pub mod Reader
-pub mod Reads
-pub mod Signs
-pub mod Texts
-pub mod Tokens
