@@ -1,0 +1,128 @@
+//! The commands at a zipper, as the lines of cases name them.
+ghost use Rattle.std.specs.Prelude.{◌≡◌, IfOk, Ok};
+ghost use Rattle.fx_rules.specs.Halts.{split};
+ghost use Rattle.fx_moves.specs.Ready.{IsReady};
+
+use crate::verbs::{Edit, Move, Question};
+use crate::walk::Walk;
+use fx_base::{NoMemory, Steps};
+use fx_expr::{Shape, Text, Value};
+use fx_rules::Halt;
+use fx_spec::Refusal;
+use std::alloc::Global;
+use std::sync::ledger::Ledger;
+
+/// An answer or a refusal. A reader of a whole filestore needs no path, so that it stops for want of memory alone.
+pub fn refused_or<T: Drop>(result_of: Result<T, Halt>) -> Result<Result<T, Refusal>, NoMemory>
+    ensures { IfOk result (λ answer. split result_of ≡ Ok answer) }
+{
+    match result_of {
+        Ok(value) => Ok(Ok(value)),
+        Err(Halt::Refused(refusal)) => Ok(Err(refusal)),
+        Err(Halt::Stopped(_)) => Err(NoMemory),
+    }
+}
+
+fn as_halt(result_of: Result<(), Refusal>) -> Result<(), Halt> {
+    match result_of {
+        Ok(()) => Ok(()),
+        Err(refusal) => Err(Halt::Refused(refusal)),
+    }
+}
+
+/// Moves; `text` is the element of `to`.
+pub fn move_by<L: Ledger>(
+    alloc: Global,
+    walk: &mut Walk,
+    act: Move,
+    text: &Text,
+    steps: &mut Steps<L>,
+) -> Result<(), Halt>
+    requires ready { IsReady walk.old }
+    ensures ready { IfOk (split result) (λ _. IsReady walk.new) }
+{
+    match act {
+        Move::Into => walk
+            .zip
+            .go_into(alloc, &mut walk.reader, &walk.overlay, steps),
+        Move::To => walk
+            .zip
+            .go_to(alloc, &mut walk.reader, &walk.overlay, text, steps),
+        Move::Next => walk
+            .zip
+            .go_next(alloc, &mut walk.reader, &walk.overlay, steps),
+        Move::Prev => walk
+            .zip
+            .go_prev(alloc, &mut walk.reader, &walk.overlay, steps),
+        Move::Down => walk
+            .zip
+            .go_down(alloc, &mut walk.reader, &walk.overlay, steps),
+        Move::Out => as_halt(walk.zip.go_out()),
+        Move::Up => as_halt(walk.zip.go_up()),
+        Move::Top => {
+            walk.zip.go_top();
+            Ok(())
+        }
+    }
+}
+
+/// What is asked at the place.
+pub fn ask<L: Ledger>(
+    alloc: Global,
+    walk: &mut Walk,
+    question: Question,
+    shape: &Shape,
+    steps: &mut Steps<L>,
+) -> Result<Value, Halt>
+    requires ready { IsReady walk.old }
+    ensures ready { IfOk (split result) (λ _. IsReady walk.new) }
+{
+    match question {
+        Question::Fetch => walk
+            .zip
+            .fetch(alloc, &mut walk.reader, &walk.overlay, shape, steps),
+        Question::Value => walk
+            .zip
+            .whole(alloc, &mut walk.reader, &walk.overlay, shape, steps),
+        Question::Validate => {
+            match walk
+                .zip
+                .validate(alloc, &mut walk.reader, &walk.overlay, steps)
+            {
+                Ok(valid) => Ok(Value::Bool(valid)),
+                Err(halt) => Err(halt),
+            }
+        }
+    }
+}
+
+/// The edit at the place where the zipper stands.
+fn edit_here(alloc: Global, walk: &mut Walk, edit: Edit, value: &Value) -> Result<(), Halt> {
+    let place = walk.zip.here();
+    match edit {
+        Edit::Store => fx_edit::store(alloc, &mut walk.reader, &mut walk.overlay, &place, value),
+        Edit::Create => fx_edit::create(alloc, &mut walk.reader, &mut walk.overlay, &place),
+        Edit::Remove => fx_edit::remove(alloc, &mut walk.reader, &mut walk.overlay, &place),
+    }
+}
+
+/// Edits at the place; `value` is what is stored.
+pub fn edit_by<L: Ledger>(
+    alloc: Global,
+    walk: &mut Walk,
+    edit: Edit,
+    value: &Value,
+    steps: &mut Steps<L>,
+) -> Result<(), Halt>
+    requires ready { IsReady walk.old }
+    ensures ready { IfOk (split result) (λ _. IsReady walk.new) }
+{
+    match walk.zip.find(alloc, &mut walk.reader, &walk.overlay, steps) {
+        Ok(()) => {
+            let done = edit_here(alloc, walk, edit, value);
+            walk.zip.stored();
+            done
+        }
+        Err(halt) => Err(halt),
+    }
+}

@@ -1,0 +1,124 @@
+//! Texts, paths, shapes, values and nodes, as the lines of cases spell them.
+
+use crate::verbs::Put;
+use fx_base::NoMemory;
+use fx_expr::{Shape, TEXT_LIMIT, Text, TextSet, Value};
+use fx_lex::{LexFault, Tokens, lex};
+use fx_parse::{TEXT_LIMIT as TOKENS_LIMIT, parse_shape};
+use fx_store::{Bytes, LinkText, Name, Names, Node, Path};
+use fx_telling::{integer, split_word, unescaped};
+use std::alloc::Global;
+
+/// A text as it stands in a case, up to the limit of texts.
+pub fn text_of(alloc: Global, spelled: &str) -> Result<Text, NoMemory> {
+    let mut bytes = unescaped(alloc, spelled)?;
+    bytes.truncate(TEXT_LIMIT);
+    Ok(Text::from_vec(bytes))
+}
+
+/// The path of a text; the root where it is none.
+pub fn path_of(alloc: Global, spelled: &str) -> Result<Path, NoMemory> {
+    let bytes = unescaped(alloc, spelled)?;
+    match Path::read(alloc, &bytes) {
+        Ok(path) => Ok(path),
+        Err(_) => Ok(Path::root(alloc)),
+    }
+}
+
+/// The tokens of a text; none where it is too large.
+fn tokens_of(alloc: Global, bytes: &[u8]) -> Result<Tokens, LexFault> {
+    let short = bytes.len() <= TOKENS_LIMIT;
+    if short {
+        lex(alloc, bytes)
+    } else {
+        Err(LexFault::NoMemory)
+    }
+}
+
+/// The shape of tokens; that of an integer where they are none.
+fn read_shape(alloc: Global, tokens: &Tokens) -> Shape {
+    match parse_shape(alloc, tokens, 0, 1) {
+        Ok((shape, _)) => shape,
+        Err(_) => Shape::Int,
+    }
+}
+
+/// The shape of a text; that of an integer where it is none.
+pub fn shape_of(alloc: Global, spelled: &str) -> Result<Shape, NoMemory> {
+    let bytes = unescaped(alloc, spelled)?;
+    match tokens_of(alloc, &bytes) {
+        Ok(tokens) => Ok(read_shape(alloc, &tokens)),
+        Err(_) => Ok(Shape::Int),
+    }
+}
+
+/// Adds the text of a part between commas, of which an empty one is none.
+fn add_text(alloc: Global, texts: &mut Vec<Text>, part: &str) -> Result<(), NoMemory> {
+    if !part.is_empty() {
+        texts.push(text_of(alloc, part)?)?;
+    }
+    Ok(())
+}
+
+/// The set of the texts between commas.
+fn set_of(alloc: Global, spelled: &str) -> Result<TextSet, NoMemory> {
+    let mut texts = Vec::new(alloc);
+    for part in spelled.split(',') {
+        add_text(alloc, &mut texts, part)?;
+    }
+    TextSet::from_texts(alloc, texts)
+}
+
+/// The value of a kind and a text: `str`, `names`, `int`, and else a truth value.
+pub fn value_of(alloc: Global, spelled: &str) -> Result<Value, NoMemory> {
+    let (kind, text) = split_word(spelled);
+    match kind {
+        "str" => Ok(Value::Str(text_of(alloc, text)?)),
+        "names" => Ok(Value::Names(set_of(alloc, text)?)),
+        "int" => Ok(Value::Int(integer(text))),
+        _ => Ok(Value::Bool(kind == "true")),
+    }
+}
+
+/// The directory with a name more, where the part is one that can stand behind those there.
+fn add_name(alloc: Global, names: Names, part: &str) -> Result<Names, NoMemory> {
+    let bytes = unescaped(alloc, part)?;
+    match Name::read(alloc, &bytes) {
+        Ok(name) => names.with(alloc, &name),
+        Err(_) => Ok(names),
+    }
+}
+
+/// The names between commas.
+fn names_of(alloc: Global, spelled: &str) -> Result<Names, NoMemory> {
+    let mut names = Names::new(alloc);
+    for part in spelled.split(',') {
+        names = add_name(alloc, names, part)?;
+    }
+    Ok(names)
+}
+
+fn file_of(alloc: Global, spelled: &str) -> Result<Node, NoMemory> {
+    let mut bytes = unescaped(alloc, spelled)?;
+    bytes.truncate(TEXT_LIMIT);
+    Ok(Node::File(Bytes::from_vec(bytes)))
+}
+
+/// The link of a text; none where it is no link's text.
+fn link_of(alloc: Global, spelled: &str) -> Result<Option<Node>, NoMemory> {
+    let bytes = unescaped(alloc, spelled)?;
+    match LinkText::read(alloc, &bytes) {
+        Ok(link) => Ok(Some(Node::Link(link))),
+        Err(_) => Ok(None),
+    }
+}
+
+/// The node that is put, or none.
+pub fn node_of(alloc: Global, put: Put, spelled: &str) -> Result<Option<Node>, NoMemory> {
+    match put {
+        Put::File => Ok(Some(file_of(alloc, spelled)?)),
+        Put::Dir => Ok(Some(Node::Dir(names_of(alloc, spelled)?))),
+        Put::Link => link_of(alloc, spelled),
+        Put::Nothing => Ok(None),
+    }
+}
