@@ -1,0 +1,1 @@
+use Rattle.fx_folder.proofs.linked.unfiled.Goals as goal
