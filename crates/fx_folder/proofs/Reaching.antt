@@ -1,29 +1,28 @@
 -- Changes that make the links of a table among what a filestore holds.
-use Rattle.std.proofs.Common.{◌≡◌, ◌⊎◌, inl, inr, ℕ, suc, ◌+◌, ◌-◌, ◌<◌, ◌≤◌, Bool, true, false, cond, ◌&&◌, ◌||◌, T, List, [], ◌∷◌, ◌++◌, map, length, sum_by, Option, Some, None, Result, Ok, Err, IfOk, IfErr, IfSome, IsSome, is_some, is_none, option_map, All, refl, sym, ◌∙◌, ap, subst, arith, length-append, append_assoc, append-nil}
+use Rattle.std.proofs.Common.{◌≡◌, ◌⊎◌, inl, inr, ℕ, ◌+◌, ◌≤◌, Bool, true, false, cond, ◌||◌, List, [], ◌∷◌, ◌++◌, map, length, Option, Some, None, Result, Ok, Err, IfSome, option_map, refl, sym, ◌∙◌, ap, subst, arith, length-append, append_assoc, append-nil}
 use Rattle.std.specs.Prelude.{nat_lt, unwrap_or, codes, ◌/◌, ◌%◌}
 use Rattle.std.specs.Fmt.{digit_glyph}
 use Rattle.std.proofs.lemmas.List.Sums.{sum_by-cons}
 use Rattle.std.specs.declared.cmp.Ordering.{Ordering}
 use Rattle.std.specs.declared.cmp.Ordering.TheVariants.{Less, Equal, Greater}
-use Rattle.std.specs.Ordering.{is_eq, is_lt, eq_by_cmp}
-use Rattle.std.specs.List.{AllByRecursion, filter, flat_map}
+use Rattle.std.specs.Ordering.{is_eq, eq_by_cmp}
+use Rattle.std.specs.List.{AllByRecursion}
 use Rattle.std.specs.List.Sorted.{IsStrictlySortedBy}
 use Rattle.std.specs.Map.{keys_of}
-use Rattle.std.specs.FinMap.{get, find, put, entries, entries_sorted, from_entries, is_sorted, get-entries, get-from_entries}
+use Rattle.std.specs.FinMap.{get, find, put, entries, entries_sorted, get-entries, get-from_entries}
 use Rattle.std.specs.FinMap.Entries.{by_order}
-use Rattle.std.proofs.lemmas.Bool.{cases_Bool, false≢true}
+use Rattle.std.proofs.lemmas.Bool.{false≢true}
 use Rattle.std.proofs.lemmas.Bool.Decides.{nat_tests}
 use Rattle.std.proofs.lemmas.List.Elements.{filter-append}
 use Rattle.fx_outside.specs.Path.{Parts}
 use Rattle.fx_outside.proofs.Sorted.{strictly_sorted}
-use Rattle.fx_store.specs.declared.filestore.Filestore.{Filestore}
 use Rattle.fx_store.specs.declared.node.Node.{Node}
 use Rattle.fx_store.specs.declared.node.Node.TheVariants.{File, Dir, Link}
 use Rattle.fx_store.specs.declared.changes.Change.{Change}
 use Rattle.fx_store.specs.Changes.{IsChanges, changed_paths, change_at}
 use Rattle.fx_store.specs.Names.{path_cmp, path_text, IsNameSet}
 use Rattle.fx_store.specs.Orders.{path_total, path_eq_same}
-use Rattle.fx_store.specs.Whole.{Store, Nodes, IsWhole, IsNode, lists, over, over_nodes}
+use Rattle.fx_store.specs.Whole.{Nodes, IsWhole, IsNode, lists, over, over_nodes}
 use Rattle.fx_store.proofs.Overlays.{over-change_at}
 use Rattle.fx_store.proofs.Stores.{get-over_nodes, same_nodes}
 use Rattle.fx_folder.specs.declared.fault.FolderCause.TheVariants.{BadName, Strange, TooLarge, BadTable}
@@ -31,19 +30,18 @@ use Rattle.fx_folder.specs.declared.fault.LoadFault.{LoadFault}
 use Rattle.fx_folder.specs.declared.fault.LoadFault.TheVariants.{Refused, ReadFault, NoMemory}
 use Rattle.fx_folder.specs.declared.lines.Room.{Room}
 use Rattle.fx_folder.specs.declared.descent.Level.{Level}
-use Rattle.fx_folder.specs.Deep.{Mapped, names_below, with_names, listed, with_links}
+use Rattle.fx_folder.specs.Deep.{Mapped, listed, with_links}
 use Rattle.fx_folder.specs.LoadLaws.{IsOfBytes, AreOfBytes}
-use Rattle.fx_folder.specs.Lines.{links_in, AreLinks, texts_of, is_over, ReadsAll, LinesCause}
+use Rattle.fx_folder.specs.Lines.{links_in, AreLinks, texts_of, ReadsAll, LinesCause}
 use Rattle.fx_folder.specs.Linked.{linked_nodes, MakesTable, TableCause, bare_node, bare, AddsBare, makes_no_file, unfiled}
 use Rattle.fx_folder.specs.Mapped.{mapped_of}
 use Rattle.fx_folder.specs.Merges.{MakeLinks, CanMerge}
 use Rattle.fx_folder.specs.Remaining.{left_of, AreLevels, IsLeftBelow, ComesNext}
 use Rattle.fx_folder.specs.Shaped.{IsLeaf, IsShaped, change_of, changes_of, HaveNameSets}
-use Rattle.fx_folder.specs.Table.{TableLink, IsTable, is_dir, can_stand, line_of, table_text, read_table}
-use Rattle.fx_folder.specs.TableLaws.{IsFirstBadLine}
+use Rattle.fx_folder.specs.Table.{TableLink, is_dir, line_of, table_text, read_table}
 use Rattle.fx_folder.specs.TableSpelling.{is_plain, spelled, spelling}
 use Rattle.fx_folder.proofs.Gathering.{made_links, apart_from}
-use Rattle.fx_folder.proofs.Linking.{IsLinked, CanStand, links_made, find_linked}
+use Rattle.fx_folder.proofs.Linking.{IsLinked, links_made, find_linked}
 use Rattle.fx_folder.proofs.Making.{set_at, paths_of, keys_with}
 use Rattle.fx_folder.proofs.Naming.{mapped_changes, same_names}
 use Rattle.fx_folder.proofs.Shapes.{found, is_set, find_listed, relisted}

@@ -1,4 +1,4 @@
-use Rattle.std.proofs.Common.{sym, ap, ◌∙◌, subst}
+use Rattle.std.proofs.Common.{ap, ◌∙◌}
 use Rattle.fx_store.specs.Whole.{over_nodes}
 use Rattle.fx_folder.proofs.Reaching.{bare_set, bare_links, bare_merge, all_is, all_set, bare_sets, all_listed, kept_ascend, makes_links}
 use Rattle.fx_folder.proofs.linked.changes_by.Goals as goal

@@ -1,1 +1,0 @@
-use Rattle.fx_folder.proofs.linked.unfiled.Goals as goal
