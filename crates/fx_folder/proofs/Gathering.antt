@@ -165,11 +165,11 @@ free_of (Some node) p e = absurd (by (is_dir p) e)
     by true e = cc
     by false e = cc
 
-apart_from : (S : Store) (fs : List Mapped) (ls : List TableLink) → ((q : Parts) → S q ≡ found fs q) → All (CanStand S) ls → AllByRecursion (λ (l : TableLink). find path_cmp l.path fs ≡ None) ls
+pub apart_from : (S : Store) (fs : List Mapped) (ls : List TableLink) → ((q : Parts) → S q ≡ found fs q) → All (CanStand S) ls → AllByRecursion (λ (l : TableLink). find path_cmp l.path fs ≡ None) ls
 apart_from S fs [] same all = tt
 apart_from S fs (l ∷ ls) same all = (sym (same l.path) ∙ free_of (S l.path) _ (All-head (CanStand S) l ls all), apart_from S fs ls same (All-tail (CanStand S) l ls all))
 
-made_links : (cs : List Change) → cs ≡ map link_change (links_in cs) → MakeLinks cs
+pub made_links : (cs : List Change) → cs ≡ map link_change (links_in cs) → MakeLinks cs
 made_links cs is = by cs is
   where
     tail_of : List Change → List Change

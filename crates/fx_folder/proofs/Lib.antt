@@ -19,6 +19,7 @@ pub mod Loaded
 pub mod Mixing
 pub mod Naming
 pub mod Places
+pub mod Reaching
 pub mod Reading
 pub mod Refusals
 pub mod RoundTrip

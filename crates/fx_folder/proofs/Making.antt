@@ -27,7 +27,7 @@ use Rattle.fx_folder.specs.Table.{is_dir}
 use Rattle.fx_folder.proofs.Shapes.{found, listed_whole, find_listed, relisted, is_set}
 use Rattle.fx_folder.proofs.Naming.{same_key}
 
-paths_of : (es : List Mapped) → changed_paths (changes_of es) ≡ keys_of es
+pub paths_of : (es : List Mapped) → changed_paths (changes_of es) ≡ keys_of es
 paths_of [] = refl
 paths_of (e ∷ es) = ap (λ l. e.0 ∷ l) (paths_of es)
 
@@ -39,7 +39,7 @@ set_at (e ∷ es) q = by (eq_by_cmp path_cmp q e.0) (set_at es q)
     by true rest = refl
     by false rest = rest
 
-keys_with : (es fs : List Mapped) → keys_of (map (with_names es) fs) ≡ keys_of fs
+pub keys_with : (es fs : List Mapped) → keys_of (map (with_names es) fs) ≡ keys_of fs
 keys_with es [] = refl
 keys_with es (e ∷ fs) = ap (λ l. (with_names es e).0 ∷ l) (keys_with es fs) ∙ ap (λ k. k ∷ keys_of fs) (same_key es e)
 

@@ -41,7 +41,7 @@ names_named : (es : List Mapped) (p : Parts) → names_below es p ≡ named p (k
 names_named [] p = refl
 names_named (e ∷ es) p = ap (cons_option (name_in p e.0)) (names_named es p)
 
-same_names : (es fs : List Mapped) (p : Parts) → keys_of es ≡ keys_of fs → names_below es p ≡ names_below fs p
+pub same_names : (es fs : List Mapped) (p : Parts) → keys_of es ≡ keys_of fs → names_below es p ≡ names_below fs p
 same_names es fs p same = names_named es p ∙ (ap (named p) same ∙ sym (names_named fs p))
 
 same_with : (es fs : List Mapped) (e : Mapped) → keys_of es ≡ keys_of fs → with_names es e ≡ with_names fs e

@@ -5,6 +5,7 @@ pub mod Folder
 pub mod Grown
 pub mod Limits
 pub mod Lines
+pub mod Linked
 pub mod LoadLaws
 pub mod Loads
 pub mod Mapped

@@ -9,7 +9,7 @@ ghost use Rattle.fx_folder.specs.Table.{is_dir};
 
 use crate::lines::Ground;
 use fx_base::NoMemory;
-use fx_store::{Change, Changes, Name, Node, Path, PathFault};
+use fx_store::{Change, Changes, Filestore, Name, Node, Path, PathFault};
 use std::alloc::Global;
 use std::cmp::Ordering;
 
@@ -22,6 +22,18 @@ impl Ground for Changes {
         }
         let above = parent_of(alloc, path)?;
         Ok(is_dir(node_in(self, &above)))
+    }
+}
+
+impl Ground for Filestore {
+    ghost store = { λ s. get s.nodes };
+
+    fn can_stand(&self, alloc: Global, path: &Path) -> Result<bool, NoMemory> {
+        if self.get(path).is_some() {
+            return Ok(false);
+        }
+        let above = parent_of(alloc, path)?;
+        Ok(is_dir(self.get(&above)))
     }
 }
 

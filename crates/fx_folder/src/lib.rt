@@ -8,6 +8,7 @@ mod ground;
 mod joining;
 pub mod laws;
 mod lines;
+mod linked;
 mod links;
 mod listing;
 mod loading;
@@ -19,6 +20,7 @@ mod table;
 mod walking;
 
 pub use fault::{FolderCause, LoadFault, SaveFault};
+pub use linked::read_table;
 pub use links::write_table;
 pub use loading::load;
 pub use readying::ready;
