@@ -39,7 +39,8 @@ fn attempt<R: Wait, G: Gate>(
     requires ready { IsReadyPass crew.now.shared.now pass }
     requires planned { txn < count_of (base_of crew.now).plan shell }
     ensures ready { IfOk result (λ r. IsReadyPass crew.now.shared.now r.0) }
-    ensures tried { IfOk result (λ r. HasTried (base_of crew.now) shell txn (view pass) (view r.0) r.1) }
+    ensures tried { IfOk result (λ r.
+        HasTried (base_of crew.now) shell txn (view pass) (view r.0) r.1) }
 {
     let mut live = Live::new(crew.rt, crew.alloc, crew.shared, pass, txn, crew.gate);
     match run(crew.alloc, crew.base, shell, txn, &mut live) {

@@ -60,7 +60,8 @@ pub(crate) fn work_all<R: Threads + Wait + Sync, G: Gate + Sync>(
         crew.rt,
         passes,
         &|pass: Pass| -> Result<Worker, NoMemory>
-            requires { IsBuilt (base_of crew.now) × IsFresh (base_of crew.now) crew.now.shared.now pass }
+            requires { IsBuilt (base_of crew.now)
+                × IsFresh (base_of crew.now) crew.now.shared.now pass }
             ensures { IfOk result (IsDoneBy (base_of crew.entry.now) crew.entry.now.shared.now pass) }
         { work(crew, pass) },
     )

@@ -105,7 +105,12 @@ fn note(
 }
 
 impl<R: Wait, G: Gate> Reader for Live<'_, R, G> {
-    ghost meaning = { record { reads = λ l. l.reads; complete = λ _. true; vouches = λ start now reads. (now.shared.now ≡ start.shared.now) × Vouches (view start.pass) (view now.pass) start.reads reads } };
+    ghost meaning = { record {
+      reads = λ l. l.reads;
+      complete = λ _. true;
+      vouches = λ start now reads. (now.shared.now ≡ start.shared.now)
+          × Vouches (view start.pass) (view now.pass) start.reads reads;
+    } };
 
     fn read(&mut self, alloc: Global, path: &Path) -> Result<Option<Node>, Stop> {
         if let Some((node, _)) = self.reads.get(path) {

@@ -30,7 +30,8 @@ fn passes_of<R, G>(crew: &Crew<'_, R, G>, maker: &mut Pass) -> Result<Vec<Pass>,
     ensures splits { OnOk result ((view maker.new).splits ≡ length (base_of crew.now).plan) }
     ensures joined { (view maker.new).joined ≡ (view maker.old).joined }
     ensures all { IfOk result (λ passes. length passes.items ≡ length (base_of crew.now).plan) }
-    ensures fresh { IfOk result (λ passes. AreFresh (base_of crew.now) crew.now.shared.now passes.items) }
+    ensures fresh { IfOk result (λ passes.
+        AreFresh (base_of crew.now) crew.now.shared.now passes.items) }
 {
     let mut passes = Vec::new(crew.alloc);
     for _shell in 0..crew.base.plan.len() {
