@@ -1,0 +1,8 @@
+mod Orders
+mod Tries
+mod Steps
+mod Attempts
+pub mod Looks
+mod Gathers
+mod Works
+mod Crosses

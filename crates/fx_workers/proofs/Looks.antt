@@ -1,0 +1,126 @@
+-- What a live reader goes on to vouch for.
+use Rattle.std.proofs.Common.{◌≡◌, ◌⊎◌, inl, inr, ℕ, ◌≤◌, Bool, true, false, cond, List, [], ◌∷◌, ◌++◌, length, Option, Some, None, is_some, Result, Ok, Err, refl, sym, ap, subst, ◌∙◌, arith}
+use Rattle.std.specs.Prelude.{OnOk, OnErr}
+use Rattle.std.specs.FinMap.{get}
+use Rattle.std.specs.Ordering.{eq_by_cmp}
+use Rattle.std.proofs.lemmas.Bool.{false≢true}
+use Rattle.std.proofs.lemmas.Option.{same_Some, none-some}
+use Rattle.fx_store.specs.declared.node.Node.{Node}
+use Rattle.fx_store.specs.Names.{path_cmp}
+use Rattle.fx_store.specs.Orders.{path_eq_same}
+use Rattle.fx_view.specs.ReadList.{ReadList}
+use Rattle.fx_view.specs.Reads.{read_at}
+use Rattle.fx_spec.specs.Plans.{Turn}
+use Rattle.fx_spec.specs.Order.{BaseTree, state}
+use Rattle.fx_board.specs.Log.{Log}
+use Rattle.fx_turn.specs.declared.kept.Kept.{Ghosts}
+use Rattle.fx_turn.specs.declared.seat.Seat.{Seat}
+use Rattle.fx_turn.specs.Seats.{view}
+use Rattle.fx_shared.specs.declared.shared.Shared.{Shared}
+use Rattle.fx_shared.specs.Shared.{IsPassOf, IsReadyPass}
+use Rattle.fx_turn.proofs.Growth.{begins_on}
+use Rattle.fx_shared.specs.Passes.{LogView, HasSeenMore, IsLook}
+use Rattle.fx_shared.proofs.Truths.{begins_short, true_later}
+use Rattle.fx_workers.specs.Live.{AreTrueOver, Vouches}
+
+abbrev Path : Type 0
+Path = List (List ℕ)
+
+abbrev Read : Type 0
+Read = Option Node × ℕ
+
+-- a read is one of those before, or the new one
+read_more_cases : (reads : ReadList) (path : Path) (read : Read) (q : Path) (r : Read) → read_at (reads ++ (path, read) ∷ []) q ≡ Some r → (read_at reads q ≡ Some r) ⊎ ((q ≡ path) × (read ≡ r))
+read_more_cases [] path read q r e = go (eq_by_cmp path_cmp q path) refl e
+  where
+    go : (b : Bool) → eq_by_cmp path_cmp q path ≡ b → cond b (Some read) None ≡ Some r → (read_at [] q ≡ Some r) ⊎ ((q ≡ path) × (read ≡ r))
+    go true is e = inr (path_eq_same q path is, same_Some read r e)
+    go false is e = absurd (none-some r e)
+read_more_cases (x ∷ xs) path read q r e = go (eq_by_cmp path_cmp q x.0) e (read_more_cases xs path read q r)
+  where
+    go : (b : Bool) → cond b (Some x.1) (read_at (xs ++ (path, read) ∷ []) q) ≡ Some r → (read_at (xs ++ (path, read) ∷ []) q ≡ Some r → (read_at xs q ≡ Some r) ⊎ ((q ≡ path) × (read ≡ r))) → (cond b (Some x.1) (read_at xs q) ≡ Some r) ⊎ ((q ≡ path) × (read ≡ r))
+    go true e rest = inl e
+    go false e rest = rest e
+
+-- true reads are true for the pass when it has seen more
+pub stand_on : (v w : LogView) (reads : ReadList) → HasSeenMore v w → AreTrueOver v reads → AreTrueOver w reads
+stand_on v w reads more stand = λ base e. true_later base v.seen w.seen reads more.seen (stand base (sym more.base ∙ e))
+
+pub stand_none : (v : LogView) → AreTrueOver v []
+stand_none v = λ base is path node position e. absurd (none-some (node, position) e)
+
+-- so is a further one that was just looked at
+pub stand_more : (v : LogView) (reads : ReadList) (path : Path) (node : Option Node) (position : ℕ) → AreTrueOver v reads → IsLook v path (node, position) → AreTrueOver v (reads ++ (path, (node, position)) ∷ [])
+stand_more v reads path node position stand look = λ base is q n i e. by base is q n i (read_more_cases reads path (node, position) q (n, i) e)
+  where
+    by : (base : BaseTree) → v.base ≡ Some base → (q : Path) (n : Option Node) (i : ℕ) → (read_at reads q ≡ Some (n, i)) ⊎ ((q ≡ path) × (◌≡◌ {A = Read} (node, position) (n, i))) → (i ≤ length v.seen) × (n ≡ get (state base v.seen i) q)
+    by base is q n i (inl h) = stand base is q n i h
+    by base is q n i (inr h) =
+        let here : node ≡ get (state base v.seen position) path = subst (λ b. node ≡ get (state b v.seen position) path) (same_Some look.node.0 base (sym look.node.1 ∙ is)) look.node.2 in
+        let at : position ≡ i = ap (λ (r : Read). r.1) h.1 in
+        let same : node ≡ n = ap (λ (r : Read). r.0) h.1 in
+        let now = look.now in
+        (omega (arith, at, now), sym same ∙ (here ∙ (ap (λ i. get (state base v.seen i) path) at ∙ ap (get (state base v.seen i)) (sym h.0))))
+
+-- the pass has seen more, and more again
+pub see_on : (a b c : LogView) → HasSeenMore a b → HasSeenMore b c → HasSeenMore a c
+see_on a b c s t = record {
+  number = t.number ∙ s.number;
+  base = t.base ∙ s.base;
+  mine = t.mine ∙ s.mine;
+  seen = begins_on a.seen b.seen c.seen s.seen t.seen;
+}
+
+-- the pass has seen more
+pub vouches_on : (start v w : LogView) (before reads : ReadList) → HasSeenMore v w → Vouches start v before reads → Vouches start w before reads
+vouches_on start v w before reads more old = record {
+  seen = see_on start v w old.seen more;
+  stand = stand_on v w reads more old.stand;
+  since = old.since;
+}
+
+-- and has looked at one path more
+pub vouches_more : (start v w : LogView) (before reads : ReadList) (path : Path) (node : Option Node) (position : ℕ) → HasSeenMore v w → IsLook w path (node, position) → Vouches start v before reads → Vouches start w before (reads ++ (path, (node, position)) ∷ [])
+vouches_more start v w before reads path node position more look old = record {
+  seen = (vouches_on start v w before reads more old).seen;
+  stand = stand_more w reads path node position (stand_on v w reads more old.stand) look;
+  since = λ q n i e none. by q n i none (read_more_cases reads path (node, position) q (n, i) e);
+}
+  where
+    by : (q : Path) (n : Option Node) (i : ℕ) → read_at before q ≡ None → (read_at reads q ≡ Some (n, i)) ⊎ ((q ≡ path) × (◌≡◌ {A = Read} (node, position) (n, i))) → length start.seen ≤ i
+    by q n i none (inl h) = old.since q n i h none
+    by q n i none (inr h) =
+        let at : position ≡ i = ap (λ (r : Read). r.1) h.1 in
+        let now = look.now in
+        let early = begins_short start.seen v.seen old.seen.seen in
+        let later = begins_short v.seen w.seen more.seen in
+        omega (arith, at, now, early, later)
+
+-- ---- the pass of a live reader
+
+based_by : (o : Option BaseTree) → is_some o ≡ true → (base : BaseTree) × (o ≡ Some base) × Unit {0}
+based_by (Some base) e = (base, refl, tt)
+based_by None e = absurd (false≢true e)
+
+is_based : (o : Option BaseTree) (base : BaseTree) → o ≡ Some base → is_some o ≡ true
+is_based o base e = ap (λ o. is_some o) e
+
+module _ {g : Ghosts Log BaseTree Turn} where
+  pub ready_by : (shared : Shared) (pass : Seat Log BaseTree Turn g) (shell : ℕ) → IsPassOf shared pass → (view pass).number ≡ Some shell → (view pass).in_turn ≡ false → is_some (view pass).base ≡ true → IsReadyPass shared pass
+  ready_by shared pass shell turn number idle based = record { turn = turn; numbered = (shell, number); idle = idle; based = based_by (view pass).base based }
+
+  pub some_base : (shared : Shared) (pass : Seat Log BaseTree Turn g) → IsReadyPass shared pass → is_some (view pass).base ≡ true
+  some_base shared pass ready = is_based (view pass).base ready.based.0 ready.based.1
+
+-- a look is noted, or it is not
+pub stand_noted : {E : Type 0} (v : LogView) (old new : ReadList) (path : Path) (read : Read) (r : Result (Unit {0}) E) → AreTrueOver v old → IsLook v path read → OnOk r (new ≡ old ++ (path, read) ∷ []) → OnErr r (new ≡ old) → AreTrueOver v new
+stand_noted v old new path read (Ok u) stand look ok err = subst (AreTrueOver v) (sym ok) (stand_more v old path read.0 read.1 stand look)
+stand_noted v old new path read (Err e) stand look ok err = subst (AreTrueOver v) (sym err) stand
+
+-- a look that is noted, and one that is not: the pass has seen more
+pub vouches_looked : (start v w : LogView) (before old same new : ReadList) (path : Path) (node : Option Node) (position : ℕ) → HasSeenMore v w → IsLook w path (node, position) → Vouches start v before old → same ≡ old → new ≡ same ++ (path, (node, position)) ∷ [] → Vouches start w before new
+vouches_looked start v w before old same new path node position more look vouches kept noted =
+    subst (Vouches start w before) (sym (noted ∙ ap (λ reads. reads ++ (path, (node, position)) ∷ []) kept)) (vouches_more start v w before old path node position more look vouches)
+
+pub vouches_missed : (start v w : LogView) (before old new : ReadList) → HasSeenMore v w → Vouches start v before old → new ≡ old → Vouches start w before new
+vouches_missed start v w before old new more vouches kept = subst (Vouches start w before) (sym kept) (vouches_on start v w before old more vouches)

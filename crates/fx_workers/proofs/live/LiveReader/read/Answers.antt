@@ -1,0 +1,28 @@
+use Rattle.std.proofs.Common.{◌∙◌}
+use Rattle.fx_turn.specs.Seats.{view}
+use Rattle.fx_workers.proofs.Looks.{stand_noted, vouches_looked, vouches_missed}
+use Rattle.fx_workers.proofs.live.LiveReader.read.Goals as goal
+
+pub invariant_of-self : goal.invariant_of-self
+invariant_of-self g c =
+    let s = c.look.new.self in
+    record {
+      turn = s.turn;
+      number = s.number;
+      idle = s.idle;
+      based = s.based;
+      true_reads = stand_noted (view s.pass) s.reads c.note.new.reads c.args.path.now (c.in_ok-node.node, c.in_ok-node.position) c.note.result s.true_reads c.in_ok-node.ensures.look c.note.ensures.ok c.note.ensures.err;
+    }
+
+pub returns-in_err-note-clause-vouched : goal.returns-in_err-note-clause-vouched
+returns-in_err-note-clause-vouched g c = λ start v. (
+  c.look.ensures.shared ∙ v.0,
+  vouches_missed (view start.pass) (view c.args.self.now.pass) (view c.look.new.self.pass) start.reads c.args.self.now.reads c.note.new.reads c.look.ensures.more v.1 (c.in_err-note.ensures.err ∙ c.look.ensures.reads),
+)
+
+pub returns-clause-vouched : goal.returns-clause-vouched
+returns-clause-vouched g c = λ start v. (
+  c.look.ensures.shared ∙ v.0,
+  vouches_looked (view start.pass) (view c.args.self.now.pass) (view c.look.new.self.pass) start.reads c.args.self.now.reads c.look.new.self.reads c.note.new.reads c.args.path.now c.in_ok-node.node c.in_ok-node.position
+      c.look.ensures.more c.in_ok-node.ensures.look v.1 c.look.ensures.reads c.in_ok-note.ensures.ok,
+)

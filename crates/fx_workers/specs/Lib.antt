@@ -1,0 +1,5 @@
+pub mod Built
+pub mod Live
+pub mod Tried
+pub mod Crews
+pub mod Workers

@@ -1,0 +1,141 @@
+//! A run of all scripts of a plan.
+ghost use Rattle.std.specs.Prelude.{◌≡◌, ◌+◌, ◌++◌, [], IfOk, OnOk, length, map};
+ghost use Rattle.fx_spec.specs.Bases.{base_tree};
+ghost use Rattle.fx_spec.specs.Order.{IsComplete, RetriesOk};
+ghost use Rattle.fx_machine.specs.Tried.{retry_tree};
+ghost use Rattle.fx_turn.specs.Views.{joins};
+ghost use Rattle.fx_turn.specs.Seats.{view};
+ghost use Rattle.fx_shared.specs.Shared.{IsPassOf};
+ghost use Rattle.fx_workers.specs.Built.{IsBuilt};
+ghost use Rattle.fx_workers.specs.Crews.{base_of};
+ghost use Rattle.fx_workers.specs.Workers.{AreFresh, IsDone, AreDone, HasGathered, IsMakerOf};
+
+use crate::crew::{Crew, work_all};
+use crate::worker::Worker;
+use fx_base::NoMemory;
+use fx_board::Board;
+use fx_machine::{Retries, Retry};
+use fx_outside::Gate;
+use fx_shared::{Pass, Shared};
+use fx_spec::Base;
+use std::alloc::Global;
+use std::sync::{Arc, Wait};
+use std::thread::Threads;
+
+/// A pass for each shell, in order.
+fn passes_of<R, G>(crew: &Crew<'_, R, G>, maker: &mut Pass) -> Result<Vec<Pass>, NoMemory>
+    requires maker { IsMakerOf (base_of crew.now) crew.now.shared.now maker.old }
+    requires none { (view maker.old).splits ≡ 0 }
+    ensures maker { IsMakerOf (base_of crew.now) crew.now.shared.now maker.new }
+    ensures splits { OnOk result ((view maker.new).splits ≡ length (base_of crew.now).plan) }
+    ensures joined { (view maker.new).joined ≡ (view maker.old).joined }
+    ensures all { IfOk result (λ passes. length passes.items ≡ length (base_of crew.now).plan) }
+    ensures fresh { IfOk result (λ passes.
+        AreFresh (base_of crew.now) crew.now.shared.now passes.items) }
+{
+    let mut passes = Vec::new(crew.alloc);
+    for _shell in 0..crew.base.plan.len() {
+        passes.push(crew.shared.pass(maker))?;
+    }
+    Ok(passes)
+}
+
+/// Adds a worker's retries, in order.
+fn add_all(retries: &mut Retries, more: Vec<Retry>) -> Result<(), NoMemory>
+    ensures { OnOk result (retries.new ≡ retries.old ++ more.items) }
+{
+    for retry in more {
+        retries.push(retry)?;
+    }
+    Ok(())
+}
+
+/// Takes in the pass of a worker that is done, and adds its retries.
+fn take_in<R, G>(
+    crew: &Crew<'_, R, G>,
+    maker: &mut Pass,
+    retries: &mut Retries,
+    worker: Worker,
+) -> Result<(), NoMemory>
+    requires pass { IsPassOf crew.now.shared.now maker.old }
+    requires gathered { HasGathered (base_of crew.now) (view maker.old) retries.old }
+    requires done { IsDone (base_of crew.now) crew.now.shared.now (joins (view maker.old)) worker }
+    ensures pass { IsPassOf crew.now.shared.now maker.new }
+    ensures splits { (view maker.new).splits ≡ (view maker.old).splits }
+    ensures joins { joins (view maker.new) ≡ joins (view maker.old) + 1 }
+    ensures gathered { OnOk result (HasGathered (base_of crew.now) (view maker.new) retries.new) }
+{
+    let Worker {
+        pass,
+        next: _,
+        retries: more,
+    } = worker;
+    crew.shared.join(maker, pass);
+    add_all(retries, more)
+}
+
+/// Takes in the passes of all workers, and answers their retries by shell.
+fn gather<R, G>(
+    crew: &Crew<'_, R, G>,
+    maker: &mut Pass,
+    all: Vec<Result<Worker, NoMemory>>,
+) -> Result<Retries, NoMemory>
+    requires pass { IsPassOf crew.now.shared.now maker.old }
+    requires none { HasGathered (base_of crew.now) (view maker.old) [] }
+    requires first { joins (view maker.old) ≡ 0 }
+    requires done { AreDone (base_of crew.now) crew.now.shared.now all.items }
+    ensures pass { OnOk result (IsPassOf crew.now.shared.now maker.new) }
+    ensures splits { OnOk result ((view maker.new).splits ≡ (view maker.old).splits) }
+    ensures joins { OnOk result (joins (view maker.new) ≡ length all.items) }
+    ensures gathered { IfOk result (HasGathered (base_of crew.now) (view maker.new)) }
+{
+    let mut retries = Retries::new(crew.alloc);
+    for worked in all {
+        let worker = worked?;
+        take_in(crew, maker, &mut retries, worker)?;
+    }
+    Ok(retries)
+}
+
+/// Gives out a pass for each script, has the scripts worked off, and takes the passes in.
+fn work_over<R: Threads + Wait + Sync, G: Gate + Sync>(
+    crew: &Crew<'_, R, G>,
+    maker: &mut Pass,
+) -> Result<Retries, NoMemory>
+    requires built { IsBuilt (base_of crew.now) }
+    requires maker { IsMakerOf (base_of crew.now) crew.now.shared.now maker.old }
+    requires first { ((view maker.old).splits ≡ 0) × ((view maker.old).joined ≡ []) }
+    ensures pass { OnOk result (IsPassOf crew.now.shared.now maker.new) }
+    ensures splits { OnOk result ((view maker.new).splits ≡ length (base_of crew.now).plan) }
+    ensures joins { OnOk result (joins (view maker.new) ≡ length (base_of crew.now).plan) }
+    ensures gathered { IfOk result (HasGathered (base_of crew.now) (view maker.new)) }
+{
+    let passes = passes_of(crew, maker)?;
+    let all = work_all(crew, passes)?;
+    gather(crew, maker, all)
+}
+
+/// Runs the scripts of a plan over one shared log, each in a thread of its own, and answers the log and the retries by
+/// shell. Before each look and each settle, and after each settled transaction, a worker passes the gate.
+pub fn run_all<R: Threads + Wait + Sync, G: Gate + Sync>(
+    rt: &R,
+    alloc: Global,
+    base: Arc<Base>,
+    gate: &G,
+) -> Result<(Board, Retries), NoMemory>
+    requires built { IsBuilt (base_tree base.value) }
+    ensures base { IfOk result (λ r. r.0.base ≡ base_tree base.value) }
+    ensures complete { IfOk result (λ r. IsComplete r.0.base r.0.order) }
+    ensures retries { IfOk result (λ r. RetriesOk r.0.base r.0.order (map retry_tree r.1)) }
+{
+    let (shared, mut maker) = Shared::new(alloc, Arc::try_clone(&base)?)?;
+    let crew = Crew {
+        rt,
+        alloc,
+        base: &base,
+        shared: &shared,
+        gate,
+    };
+    let retries = work_over(&crew, &mut maker)?;
+    Ok((shared.close(maker), retries))
+}
