@@ -1,4 +1,3 @@
-pub mod Built
 pub mod Live
 pub mod Tried
 pub mod Crews

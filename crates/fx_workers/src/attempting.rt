@@ -5,7 +5,6 @@ ghost use Rattle.fx_machine.specs.Explained.{IsExplained};
 ghost use Rattle.fx_turn.specs.Seats.{view};
 ghost use Rattle.fx_shared.specs.Passes.{HasBase, HasLegal, AreTrueFor};
 ghost use Rattle.fx_shared.specs.Shared.{IsReadyPass};
-ghost use Rattle.fx_workers.specs.Built.{IsBuilt};
 ghost use Rattle.fx_workers.specs.Crews.{base_of};
 ghost use Rattle.fx_workers.specs.Workers.{IsWorker, HasTried, ComesTo, HasGone};
 
@@ -35,7 +34,6 @@ fn attempt<R: Wait, G: Gate>(
     shell: u32,
     txn: u32,
 ) -> Result<(Pass, Attempt), NoMemory>
-    requires built { IsBuilt (base_of crew.now) }
     requires ready { IsReadyPass crew.now.shared.now pass }
     requires planned { txn < count_of (base_of crew.now).plan shell }
     ensures ready { IfOk result (λ r. IsReadyPass crew.now.shared.now r.0) }
@@ -93,7 +91,6 @@ pub(crate) fn advance<R: Wait, G: Gate>(
     shell: u32,
     worker: Worker,
 ) -> Result<Worker, NoMemory>
-    requires built { IsBuilt (base_of crew.now) }
     requires worker { IsWorker (base_of crew.now) crew.now.shared.now shell worker }
     requires left { worker.next < count_of (base_of crew.now).plan shell }
     requires room { worker.next + 1 < 2 ^ 32 }

@@ -1,6 +1,5 @@
 //! Workers in threads of their own.
 ghost use Rattle.std.specs.Prelude.{◌≡◌, IfOk, length};
-ghost use Rattle.fx_workers.specs.Built.{IsBuilt};
 ghost use Rattle.fx_workers.specs.Crews.{base_of};
 ghost use Rattle.fx_workers.specs.Workers.{IsFresh, AreFresh, IsDoneBy, AreDone};
 
@@ -27,7 +26,6 @@ pub(crate) struct Crew<'a, R, G> {
 
 /// Settles the transactions of the pass's script, one after another.
 fn work<R: Wait, G: Gate>(crew: &Crew<'_, R, G>, pass: Pass) -> Result<Worker, NoMemory>
-    requires built { IsBuilt (base_of crew.now) }
     requires pass { IsFresh (base_of crew.now) crew.now.shared.now pass }
     ensures { IfOk result (IsDoneBy (base_of crew.now) crew.now.shared.now pass) }
 {
@@ -51,7 +49,6 @@ pub(crate) fn work_all<R: Threads + Wait + Sync, G: Gate + Sync>(
     crew: &Crew<'_, R, G>,
     passes: Vec<Pass>,
 ) -> Result<Vec<Result<Worker, NoMemory>>, AllocError>
-    requires built { IsBuilt (base_of crew.now) }
     requires passes { AreFresh (base_of crew.now) crew.now.shared.now passes.items }
     ensures all { IfOk result (λ all. length all.items ≡ length passes.items) }
     ensures done { IfOk result (λ all. AreDone (base_of crew.now) crew.now.shared.now all.items) }
@@ -60,8 +57,7 @@ pub(crate) fn work_all<R: Threads + Wait + Sync, G: Gate + Sync>(
         crew.rt,
         passes,
         &|pass: Pass| -> Result<Worker, NoMemory>
-            requires { IsBuilt (base_of crew.now)
-                × IsFresh (base_of crew.now) crew.now.shared.now pass }
+            requires { IsFresh (base_of crew.now) crew.now.shared.now pass }
             ensures { IfOk result (IsDoneBy (base_of crew.entry.now) crew.entry.now.shared.now pass) }
         { work(crew, pass) },
     )

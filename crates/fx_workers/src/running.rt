@@ -6,7 +6,6 @@ ghost use Rattle.fx_machine.specs.Tried.{retry_tree};
 ghost use Rattle.fx_turn.specs.Views.{joins};
 ghost use Rattle.fx_turn.specs.Seats.{view};
 ghost use Rattle.fx_shared.specs.Shared.{IsPassOf};
-ghost use Rattle.fx_workers.specs.Built.{IsBuilt};
 ghost use Rattle.fx_workers.specs.Crews.{base_of};
 ghost use Rattle.fx_workers.specs.Workers.{AreFresh, IsDone, AreDone, HasGathered, IsMakerOf};
 
@@ -102,7 +101,6 @@ fn work_over<R: Threads + Wait + Sync, G: Gate + Sync>(
     crew: &Crew<'_, R, G>,
     maker: &mut Pass,
 ) -> Result<Retries, NoMemory>
-    requires built { IsBuilt (base_of crew.now) }
     requires maker { IsMakerOf (base_of crew.now) crew.now.shared.now maker.old }
     requires first { ((view maker.old).splits ≡ 0) × ((view maker.old).joined ≡ []) }
     ensures pass { OnOk result (IsPassOf crew.now.shared.now maker.new) }
@@ -123,7 +121,6 @@ pub fn run_all<R: Threads + Wait + Sync, G: Gate + Sync>(
     base: Arc<Base>,
     gate: &G,
 ) -> Result<(Board, Retries), NoMemory>
-    requires built { IsBuilt (base_tree base.value) }
     ensures base { IfOk result (λ r. r.0.base ≡ base_tree base.value) }
     ensures complete { IfOk result (λ r. IsComplete r.0.base r.0.order) }
     ensures retries { IfOk result (λ r. RetriesOk r.0.base r.0.order (map retry_tree r.1)) }

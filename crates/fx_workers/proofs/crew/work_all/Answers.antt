@@ -25,7 +25,7 @@ map_vec-requires-sync-F g c κs within =
 pub map_vec-requires-after_bounds : goal.map_vec-requires-after_bounds
 map_vec-requires-after_bounds g c κs within = λ i x h e.
     let fresh = c.requires.passes.each i x h in
-    (c.requires.built, subst (IsFresh (base_of c.args.crew.now) c.args.crew.now.shared.now) (sym e) fresh)
+    subst (IsFresh (base_of c.args.crew.now) c.args.crew.now.shared.now) (sym e) fresh
 
 pub returns-clause-done : goal.returns-clause-done
 returns-clause-done g c =
