@@ -16,6 +16,11 @@ use Rattle.fx_spec.specs.CommandTree.{CommandTree}
 use Rattle.fx_spec.specs.WellShaped.{IsScript}
 use Rattle.fx_spec.specs.Plans.{IsPlan, count_of}
 use Rattle.fx_command.specs.declared.status.TextFault.{TextFault}
+use Rattle.fx_words.specs.Job.{RunJob, place_of}
+use Rattle.fx_top.specs.declared.inputs.ScriptUnread.{ScriptUnread}
+use Rattle.fx_top.specs.declared.inputs.ScriptUnread.TheVariants as script
+use Rattle.fx_top.specs.Answers.{ScriptCause, UnreadCause}
+use Rattle.fx_top.specs.Unread.{unread_at}
 use Rattle.fx_top.specs.Inputs.{HasScripts, StopsAtScript, GoesOn, HasNoScript, LacksFile}
 
 abbrev Plan : Type 0
@@ -158,7 +163,7 @@ lacking_at : (t : Tree) (paths : Paths) (plan : Plan) (i before : ℕ) (path : L
 lacking_at t paths plan i before path at front none =
     subst (λ n. StopsAtScript LacksFile t 0 paths n) (omega arith) (front.lacking 0 (stop_here LacksFile t path before (drop i paths) (drop (i + 1) paths) (drop_there paths i path at) none))
 
-pub refuses : (told now : Option Tree) (cause : TextFault) (paths : Paths) (plan : Plan) (i before : ℕ) (path : List ℕ) (word : ℕ) (place : ℕ → ℕ) → now ≡ told → word ≡ place i → slice_get paths i ≡ Some path → IfSome told (λ t. IsFront t paths plan i before) → IfSome now (λ t. HasNoScript cause t path before) → IfSome told (λ t. (i : ℕ) × (word ≡ place i) × StopsAtScript (HasNoScript cause) t 0 paths i)
+refuses : (told now : Option Tree) (cause : TextFault) (paths : Paths) (plan : Plan) (i before : ℕ) (path : List ℕ) (word : ℕ) (place : ℕ → ℕ) → now ≡ told → word ≡ place i → slice_get paths i ≡ Some path → IfSome told (λ t. IsFront t paths plan i before) → IfSome now (λ t. HasNoScript cause t path before) → IfSome told (λ t. (i : ℕ) × (word ≡ place i) × StopsAtScript (HasNoScript cause) t 0 paths i)
 refuses None now cause paths plan i before path word place same is at front none = tt
 refuses (Some t) now cause paths plan i before path word place same is at front none =
     (i, is, refused_at t cause paths plan i before path at front (subst (λ o. IfSome o (λ t. HasNoScript cause t path before)) same none))
@@ -167,6 +172,13 @@ lacks : (told now : Option Tree) (paths : Paths) (plan : Plan) (i before : ℕ) 
 lacks None now paths plan i before path same at front none = let no = subst (λ o. IsSomeAnd o (λ t. is_file_at t path ≡ false)) same none in absurd no
 lacks (Some t) now paths plan i before path same at front none = (i, lacking_at t paths plan i before path at front (subst (λ o. IsSomeAnd o (λ t. is_file_at t path ≡ false)) same none))
 
-pub fails : (old now then : HostView) (paths : Paths) (plan : Plan) (i before : ℕ) (path : List ℕ) → IsReading old now paths plan i before → slice_get paths i ≡ Some path → HasFailed (λ t. is_file_at t path) now then → Rose old.faults then.faults ⊎ IsSomeAnd old.told (λ t. (i : ℕ) × StopsAtScript LacksFile t 0 paths i)
+fails : (old now then : HostView) (paths : Paths) (plan : Plan) (i before : ℕ) (path : List ℕ) → IsReading old now paths plan i before → slice_get paths i ≡ Some path → HasFailed (λ t. is_file_at t path) now then → Rose old.faults then.faults ⊎ IsSomeAnd old.told (λ t. (i : ℕ) × StopsAtScript LacksFile t 0 paths i)
 fails old now then paths plan i before path was at (inl rose) = inl (rose_back old now then was.reads.later rose)
 fails old now then paths plan i before path was at (inr none) = inr (lacks old.told now.told paths plan i before path was.reads.same at was.front none)
+
+-- the script of number `i` is not read
+pub unread_here : (j : RunJob) (old now then : HostView) (plan : Plan) (i before : ℕ) (path : List ℕ) (word : ℕ) (fault : ScriptUnread) → IsReading old now j.scripts plan i before → slice_get j.scripts i ≡ Some path → word ≡ place_of j i → ScriptCause path before now then fault → UnreadCause j old then (unread_at word fault)
+unread_here j old now then plan i before path word (script.Refused cause) was at is none =
+    refuses old.told now.told cause j.scripts plan i before path word (λ i. place_of j i) was.reads.same is at was.front none
+unread_here j old now then plan i before path word script.ReadFault was at is failed = fails old now then j.scripts plan i before path was at failed
+unread_here j old now then plan i before path word script.NoMemory was at is none = tt

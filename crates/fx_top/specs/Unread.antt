@@ -1,4 +1,5 @@
 -- How a command ends whose scripts are not read.
+use Rattle.std.specs.Prelude.{ℕ}
 use Rattle.fx_command.specs.declared.status.Status.{Status}
 use Rattle.fx_command.specs.declared.status.Status.TheVariants as status
 use Rattle.fx_outside.specs.declared.kind.HostFault.{HostFault}
@@ -19,6 +20,12 @@ of_host host.NoMemory = script.NoMemory
 abbrev pub of_script : ScriptFault → ScriptUnread
 of_script (fault.Refused cause) = script.Refused cause
 of_script fault.NoMemory = script.NoMemory
+
+-- the script that a word names is not read
+abbrev pub unread_at : ℕ → ScriptUnread → Unread
+unread_at word (script.Refused cause) = unread.Refused word cause
+unread_at word script.ReadFault = unread.ReadFault
+unread_at word script.NoMemory = unread.NoMemory
 
 abbrev pub unread_status : Unread → Status
 unread_status (unread.Refused word cause) = status.TextRefused word cause

@@ -6,6 +6,7 @@ ghost use Rattle.fx_words.specs.JobOf.{asked, IsJob};
 ghost use Rattle.fx_top.specs.Inputs.{GoesOn, HasScripts};
 ghost use Rattle.fx_top.specs.Answers.{ScriptCause, UnreadCause};
 ghost use Rattle.fx_top.specs.Rows.{AsksAllFit};
+ghost use Rattle.fx_top.specs.Unread.{unread_at};
 
 use fx_command::{Status, TextFault, read_text};
 use fx_outside::{Host, HostFault, HostText};
@@ -60,6 +61,19 @@ pub enum Unread {
     NoMemory,
 }
 
+impl ScriptUnread {
+    /// Why the scripts of a run are not read, where this word names the script.
+    fn at(self, word: u32) -> Unread
+        ensures { result ≡ unread_at word self }
+    {
+        match self {
+            ScriptUnread::Refused(cause) => Unread::Refused(word, cause),
+            ScriptUnread::ReadFault => Unread::ReadFault,
+            ScriptUnread::NoMemory => Unread::NoMemory,
+        }
+    }
+}
+
 /// The script at a path, after so many transactions.
 fn read_script_at<H: Host>(
     alloc: Global,
@@ -100,11 +114,7 @@ pub fn read_plan<H: Host>(alloc: Global, job: &RunJob, host: &mut H) -> Result<P
         };
         let script = match read_script_at(alloc, host, path, before) {
             Ok(script) => script,
-            Err(ScriptUnread::Refused(cause)) => {
-                return Err(Unread::Refused(job.place(i), cause));
-            }
-            Err(ScriptUnread::ReadFault) => return Err(Unread::ReadFault),
-            Err(ScriptUnread::NoMemory) => return Err(Unread::NoMemory),
+            Err(unread) => return Err(unread.at(job.place(i))),
         };
         match plan.push(alloc, script) {
             Ok(()) => {}

@@ -1,31 +1,21 @@
-use Rattle.std.proofs.Common.{rules, ◌≡◌, ◌+◌, ◌≤◌, length, IfSome, Some, subst, arith}
+use Rattle.std.proofs.Common.{rules, ◌≡◌, ◌+◌, ◌≤◌, length, Some, sym, subst, arith}
 use Rattle.std.specs.Prelude.{slice_get}
-use Rattle.fx_words.specs.Job.{place_of}
 use Rattle.fx_words.specs.JobOf.{asked}
-use Rattle.fx_top.specs.Answers.{ScriptCause}
-use Rattle.fx_top.proofs.Plans.{begins, fits, reads_on, refuses, fails, fit_stop, ends}
+use Rattle.fx_top.specs.Answers.{UnreadCause}
+use Rattle.fx_top.proofs.Plans.{begins, fits, reads_on, unread_here, fit_stop, ends}
 use Rattle.fx_top.proofs.inputs.read_plan.Goals as goal
 
 pub scripts-init : goal.scripts-init
 scripts-init g c = begins (g.H.Host.view c.args.host.now) (asked c.args.job.now).scripts _ c.new-plan.ensures
 
-pub returns-in-Err-Refused-clause-unread : goal.returns-in-Err-Refused-clause-unread
-returns-in-Err-Refused-clause-unread g c =
+pub returns-in-Err-clause-unread : goal.returns-in-Err-clause-unread
+returns-in-Err-clause-unread g c =
     let a = g.H.Host.view c.args.host.now in
     let b = g.H.Host.view c.scripts.host in
     let d = g.H.Host.view c.read_script_at.new.host in
     let here : slice_get (asked c.args.job.now).scripts c.scripts.i ≡ Some c.in-Some.path.now = search rules in
-    let none = subst (ScriptCause c.in-Some.path.now c.scripts.before b d) c.in-Err-Refused.field-0-is c.in-Err-Refused.ensures.unread in
-    refuses a.told b.told c.in-Err-Refused.cause (asked c.args.job.now).scripts c.scripts.plan c.scripts.i c.scripts.before c.in-Some.path.now c.place.result (λ i. place_of (asked c.args.job.now) i)
-    c.scripts.invariant.reads.same c.place.ensures here c.scripts.invariant.front none
-
-pub returns-in-Err-ReadFault-clause-unread : goal.returns-in-Err-ReadFault-clause-unread
-returns-in-Err-ReadFault-clause-unread g c =
-    let b = g.H.Host.view c.scripts.host in
-    let d = g.H.Host.view c.read_script_at.new.host in
-    let here : slice_get (asked c.args.job.now).scripts c.scripts.i ≡ Some c.in-Some.path.now = search rules in
-    let failed = subst (ScriptCause c.in-Some.path.now c.scripts.before b d) c.in-Err-ReadFault.field-0-is c.in-Err-ReadFault.ensures.unread in
-    fails (g.H.Host.view c.args.host.now) b d (asked c.args.job.now).scripts c.scripts.plan c.scripts.i c.scripts.before c.in-Some.path.now c.scripts.invariant here failed
+    subst (λ f. UnreadCause (asked c.args.job.now) a d f) (sym c.at.ensures)
+    (unread_here (asked c.args.job.now) a b d c.scripts.plan c.scripts.i c.scripts.before c.in-Some.path.now c.place.result c.in-Err.unread c.scripts.invariant here c.place.ensures c.in-Err.ensures.unread)
 
 pub push-requires : goal.push-requires
 push-requires g c =
@@ -41,22 +31,12 @@ pub returns-clause-read : goal.returns-clause-read
 returns-clause-read g c =
     ends (g.H.Host.view c.args.host.now).told (asked c.args.job.now).scripts c.scripts.plan c.scripts.i c.scripts.before (omega (arith, c.scripts-test.false, c.scripts.auto.i-end, c.scripts-i-end.ensures.count)) c.scripts.invariant.front
 
-pub returns-in-Err-Refused-clause-fit : goal.returns-in-Err-Refused-clause-fit
-returns-in-Err-Refused-clause-fit g c =
+pub returns-in-Err-push-clause-fit : goal.returns-in-Err-push-clause-fit
+returns-in-Err-push-clause-fit g c =
     let here : slice_get (asked c.args.job.now).scripts c.scripts.i ≡ Some c.in-Some.path.now = search rules in
-    fit_stop (g.H.Host.view c.args.host.now) (g.H.Host.view c.scripts.host) (g.H.Host.view c.read_script_at.new.host) (asked c.args.job.now).scripts c.scripts.plan c.scripts.i c.scripts.before c.in-Some.path.now c.scripts.invariant here c.in-Err-Refused.ensures.fit
-
-pub returns-in-Err-ReadFault-clause-fit : goal.returns-in-Err-ReadFault-clause-fit
-returns-in-Err-ReadFault-clause-fit g c =
-    let here : slice_get (asked c.args.job.now).scripts c.scripts.i ≡ Some c.in-Some.path.now = search rules in
-    fit_stop (g.H.Host.view c.args.host.now) (g.H.Host.view c.scripts.host) (g.H.Host.view c.read_script_at.new.host) (asked c.args.job.now).scripts c.scripts.plan c.scripts.i c.scripts.before c.in-Some.path.now c.scripts.invariant here c.in-Err-ReadFault.ensures.fit
-
-pub returns-in-Err-NoMemory-clause-fit : goal.returns-in-Err-NoMemory-clause-fit
-returns-in-Err-NoMemory-clause-fit g c =
-    let here : slice_get (asked c.args.job.now).scripts c.scripts.i ≡ Some c.in-Some.path.now = search rules in
-    fit_stop (g.H.Host.view c.args.host.now) (g.H.Host.view c.scripts.host) (g.H.Host.view c.read_script_at.new.host) (asked c.args.job.now).scripts c.scripts.plan c.scripts.i c.scripts.before c.in-Some.path.now c.scripts.invariant here c.in-Err-NoMemory.ensures.fit
+    fit_stop (g.H.Host.view c.args.host.now) (g.H.Host.view c.scripts.host) (g.H.Host.view c.read_script_at.new.host) (asked c.args.job.now).scripts c.scripts.plan c.scripts.i c.scripts.before c.in-Some.path.now c.scripts.invariant here c.in-Ok.ensures.fit
 
 pub returns-in-Err-clause-fit : goal.returns-in-Err-clause-fit
 returns-in-Err-clause-fit g c =
     let here : slice_get (asked c.args.job.now).scripts c.scripts.i ≡ Some c.in-Some.path.now = search rules in
-    fit_stop (g.H.Host.view c.args.host.now) (g.H.Host.view c.scripts.host) (g.H.Host.view c.read_script_at.new.host) (asked c.args.job.now).scripts c.scripts.plan c.scripts.i c.scripts.before c.in-Some.path.now c.scripts.invariant here c.in-Ok.ensures.fit
+    fit_stop (g.H.Host.view c.args.host.now) (g.H.Host.view c.scripts.host) (g.H.Host.view c.read_script_at.new.host) (asked c.args.job.now).scripts c.scripts.plan c.scripts.i c.scripts.before c.in-Some.path.now c.scripts.invariant here c.in-Err.ensures.fit
