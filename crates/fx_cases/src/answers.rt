@@ -8,11 +8,14 @@ use crate::runs::{tell_run, words_of};
 use crate::stage::Stage;
 use crate::steps::{tell_attempt, tell_steps};
 use crate::telling::tell_tree;
+use crate::threads::tell_threads;
 use crate::tries::{tell_faults, tell_schedules};
 use fx_base::NoMemory;
 use fx_outside::HostKind;
 use fx_telling::{Case, number, split_word, tell};
 use std::alloc::Global;
+use std::sync::Wait;
+use std::thread::Threads;
 
 /// What a line sets up.
 #[derive(Clone, Copy)]
@@ -33,6 +36,7 @@ enum Trial {
     Top,
     Faults,
     Schedules,
+    Threads,
     Tree,
     Attempt,
     Steps,
@@ -72,6 +76,7 @@ const VERBS: &[(&str, Verb)] = &[
     ("top", Verb::Try(Trial::Top)),
     ("faults", Verb::Try(Trial::Faults)),
     ("schedules", Verb::Try(Trial::Schedules)),
+    ("threads", Verb::Try(Trial::Threads)),
     ("tree", Verb::Try(Trial::Tree)),
     ("attempt", Verb::Try(Trial::Attempt)),
     ("steps", Verb::Try(Trial::Steps)),
@@ -124,13 +129,20 @@ fn set_up(
     Ok(())
 }
 
-fn run(alloc: Global, stage: &mut Stage, rest: &str, out: &mut String) -> Result<(), NoMemory> {
+fn run<R: Threads + Wait + Sync>(
+    rt: &R,
+    alloc: Global,
+    stage: &mut Stage,
+    rest: &str,
+    out: &mut String,
+) -> Result<(), NoMemory> {
     let words = words_of(alloc, rest)?;
     let mut sink = stage.fresh_sink(alloc)?;
-    tell_run(alloc, &words, &mut stage.host, &mut sink, out)
+    tell_run(rt, alloc, &words, &mut stage.host, &mut sink, out)
 }
 
-fn try_out(
+fn try_out<R: Threads + Wait + Sync>(
+    rt: &R,
     alloc: Global,
     stage: &mut Stage,
     trial: Trial,
@@ -138,9 +150,10 @@ fn try_out(
     out: &mut String,
 ) -> Result<(), NoMemory> {
     match trial {
-        Trial::Top => run(alloc, stage, rest, out),
-        Trial::Faults => tell_faults(alloc, stage, rest, out),
-        Trial::Schedules => tell_schedules(alloc, stage, out),
+        Trial::Top => run(rt, alloc, stage, rest, out),
+        Trial::Faults => tell_faults(rt, alloc, stage, rest, out),
+        Trial::Schedules => tell_schedules(rt, alloc, stage, out),
+        Trial::Threads => tell_threads(rt, alloc, stage, rest, out),
         Trial::Tree => tell_tree(alloc, &mut stage.host, rest, out),
         Trial::Attempt => tell_attempt(alloc, stage, rest, out),
         Trial::Steps => tell_steps(alloc, stage, rest, out),
@@ -165,15 +178,32 @@ fn call_out(
     }
 }
 
-impl Case for Stage {
+/// A stage, and what runs on it.
+#[derive(Drop)]
+pub struct Runner<'a, R> {
+    rt: &'a R,
+    stage: Stage,
+}
+
+impl<'a, R> Runner<'a, R> {
+    /// An empty stage.
+    pub fn new(rt: &'a R, alloc: Global) -> Runner<'a, R> {
+        Runner {
+            rt,
+            stage: Stage::new(alloc),
+        }
+    }
+}
+
+impl<R: Threads + Wait + Sync> Case for Runner<'_, R> {
     fn answer(&mut self, alloc: Global, line: &str, out: &mut String) -> Result<(), NoMemory> {
         let (word, rest) = split_word(line);
         match verb_of(word) {
             None => tell(out, "no such word"),
             Some(Verb::Note) => Ok(()),
-            Some(Verb::Set(setting)) => set_up(alloc, self, setting, rest, out),
-            Some(Verb::Try(trial)) => try_out(alloc, self, trial, rest, out),
-            Some(Verb::Call(call)) => call_out(alloc, self, call, rest, out),
+            Some(Verb::Set(setting)) => set_up(alloc, &mut self.stage, setting, rest, out),
+            Some(Verb::Try(trial)) => try_out(self.rt, alloc, &mut self.stage, trial, rest, out),
+            Some(Verb::Call(call)) => call_out(alloc, &mut self.stage, call, rest, out),
             Some(Verb::Message) => tell_message(alloc, rest, out),
         }
     }

@@ -10,19 +10,20 @@ mod runs;
 mod stage;
 mod steps;
 mod telling;
+mod threads;
 mod tries;
 
+use answers::Runner;
 use fx_telling::add_answers;
-use stage::Stage;
 use std::io;
 use std::io::ErrorKind;
 
 fn main(rt: HostRuntime) -> io::Result<()> {
     let alloc = rt.alloc();
     let cases = io::read_to_string(alloc, rt.reader())?;
-    let mut stage = Stage::new(alloc);
+    let mut runner = Runner::new(&rt, alloc);
     let mut answers = String::new(alloc);
-    match add_answers(alloc, &mut stage, cases.as_str(), &mut answers) {
+    match add_answers(alloc, &mut runner, cases.as_str(), &mut answers) {
         Ok(()) => rt.print(answers),
         Err(fx_base::NoMemory) => Err(io::Error::from(ErrorKind::OutOfMemory)),
     }

@@ -8,13 +8,21 @@ use fx_telling::tell_bytes;
 use fx_top::status::Status;
 use fx_top::top::top;
 use std::alloc::Global;
+use std::sync::Wait;
+use std::thread::Threads;
 
 /// The path at which a run writes its folder.
 pub const OUT: &str = "out";
 
 /// How a command ends.
-fn status_of(alloc: Global, words: &Words, host: &mut MemoryHost, sink: &mut MemorySink) -> Status {
-    top(&(), alloc, words, host, sink, &OpenGate)
+fn status_of<R: Threads + Wait + Sync>(
+    rt: &R,
+    alloc: Global,
+    words: &Words,
+    host: &mut MemoryHost,
+    sink: &mut MemorySink,
+) -> Status {
+    top(rt, alloc, words, host, sink, &OpenGate)
 }
 
 /// The words of a line between its spaces; none in an empty line.
@@ -30,26 +38,28 @@ pub fn words_of(alloc: Global, line: &str) -> Result<Words, NoMemory> {
 }
 
 /// Runs a command, and tells its status and its line on standard error.
-pub fn tell_end(
+pub fn tell_end<R: Threads + Wait + Sync>(
+    rt: &R,
     alloc: Global,
     words: &Words,
     host: &mut MemoryHost,
     sink: &mut MemorySink,
     out: &mut String,
 ) -> Result<(), NoMemory> {
-    let status = status_of(alloc, words, host, sink);
+    let status = status_of(rt, alloc, words, host, sink);
     tell_status(out, words, &status)
 }
 
 /// Runs a command, and tells its status, its line on standard error, what it printed, and what stands at OUT.
-pub fn tell_run(
+pub fn tell_run<R: Threads + Wait + Sync>(
+    rt: &R,
     alloc: Global,
     words: &Words,
     host: &mut MemoryHost,
     sink: &mut MemorySink,
     out: &mut String,
 ) -> Result<(), NoMemory> {
-    tell_end(alloc, words, host, sink, out)?;
+    tell_end(rt, alloc, words, host, sink, out)?;
     tell_bytes(out, sink.written())?;
     tell_tree(alloc, host, OUT, out)
 }

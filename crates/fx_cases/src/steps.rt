@@ -25,7 +25,7 @@ fn run_words(alloc: Global, scripts: &str) -> Result<Words, NoMemory> {
 }
 
 /// What a run of the scripts begins with: the description at `spec`, the folder at `in`, and the scripts.
-fn base_of(alloc: Global, stage: &mut Stage, scripts: &str) -> Result<Arc<Base>, Status> {
+pub fn base_of(alloc: Global, stage: &mut Stage, scripts: &str) -> Result<Arc<Base>, Status> {
     let words = run_words(alloc, scripts)?;
     match job_of(&words) {
         Some(Job::Run(job)) => read_base(alloc, &job, &mut stage.host),

@@ -8,6 +8,8 @@ use fx_outside::{MemoryHost, Words};
 use fx_telling::tell;
 use std::alloc::Global;
 use std::collections::BTreeSet;
+use std::sync::Wait;
+use std::thread::Threads;
 
 /// The most calls of which each is made to fail.
 const CALL_LIMIT: u64 = 200;
@@ -16,7 +18,8 @@ const CALL_LIMIT: u64 = 200;
 const SCHEDULES: u32 = 64;
 
 /// Tells what a command gives at a host.
-fn tell_on(
+fn tell_on<R: Threads + Wait + Sync>(
+    rt: &R,
     alloc: Global,
     stage: &Stage,
     words: &Words,
@@ -24,22 +27,24 @@ fn tell_on(
     out: &mut String,
 ) -> Result<(), NoMemory> {
     let mut sink = stage.fresh_sink(alloc)?;
-    tell_run(alloc, words, host, &mut sink, out)
+    tell_run(rt, alloc, words, host, &mut sink, out)
 }
 
 /// Tells what a command gives where nothing fails.
-fn tell_whole(
+fn tell_whole<R: Threads + Wait + Sync>(
+    rt: &R,
     alloc: Global,
     stage: &Stage,
     words: &Words,
     out: &mut String,
 ) -> Result<(), NoMemory> {
     let mut host = stage.fresh_host(alloc)?;
-    tell_on(alloc, stage, words, &mut host, out)
+    tell_on(rt, alloc, stage, words, &mut host, out)
 }
 
 /// Tells what a command gives where a call of the host fails.
-fn tell_failing(
+fn tell_failing<R: Threads + Wait + Sync>(
+    rt: &R,
     alloc: Global,
     stage: &Stage,
     words: &Words,
@@ -47,7 +52,7 @@ fn tell_failing(
     out: &mut String,
 ) -> Result<(), NoMemory> {
     let mut host = stage.failing_host(alloc, call)?;
-    tell_on(alloc, stage, words, &mut host, out)
+    tell_on(rt, alloc, stage, words, &mut host, out)
 }
 
 /// Tells what differs from the time before.
@@ -61,7 +66,8 @@ fn tell_new(out: &mut String, last: &str, told: &str) -> Result<(), NoMemory> {
 
 /// Tells what a command gives where its first call of the host fails, where its second does and so on, up to the first at
 /// which all is as where nothing fails.
-fn tell_each(
+fn tell_each<R: Threads + Wait + Sync>(
+    rt: &R,
     alloc: Global,
     stage: &Stage,
     words: &Words,
@@ -71,7 +77,7 @@ fn tell_each(
     let mut last = String::new(alloc);
     for call in 0..CALL_LIMIT {
         let mut told = String::new(alloc);
-        tell_failing(alloc, stage, words, call, &mut told)?;
+        tell_failing(rt, alloc, stage, words, call, &mut told)?;
         if told.as_str() == whole {
             break;
         }
@@ -81,29 +87,31 @@ fn tell_each(
     Ok(())
 }
 
-fn tell_both(
+fn tell_both<R: Threads + Wait + Sync>(
+    rt: &R,
     alloc: Global,
     stage: &Stage,
     words: &Words,
     out: &mut String,
 ) -> Result<(), NoMemory> {
     let mut whole = String::new(alloc);
-    tell_whole(alloc, stage, words, &mut whole)?;
-    tell_each(alloc, stage, words, whole.as_str(), out)?;
+    tell_whole(rt, alloc, stage, words, &mut whole)?;
+    tell_each(rt, alloc, stage, words, whole.as_str(), out)?;
     out.push_str(whole.as_str())?;
     Ok(())
 }
 
 /// Tells what a command gives where each call of the host fails in turn, and then where nothing fails. What is the same as
 /// the time before is not told again.
-pub fn tell_faults(
+pub fn tell_faults<R: Threads + Wait + Sync>(
+    rt: &R,
     alloc: Global,
     stage: &Stage,
     line: &str,
     out: &mut String,
 ) -> Result<(), NoMemory> {
     let words = words_of(alloc, line)?;
-    tell_both(alloc, stage, &words, out)
+    tell_both(rt, alloc, stage, &words, out)
 }
 
 /// The schedule of six steps by the binary digits of a number.
@@ -148,7 +156,8 @@ fn tell_printed(out: &mut String, printed: &[u8]) -> Result<(), NoMemory> {
 }
 
 /// Tells what a trace gives, without its looks, conflicts and retries.
-fn tell_trace(
+fn tell_trace<R: Threads + Wait + Sync>(
+    rt: &R,
     alloc: Global,
     stage: &Stage,
     words: &Words,
@@ -156,7 +165,7 @@ fn tell_trace(
     out: &mut String,
 ) -> Result<(), NoMemory> {
     let mut sink = stage.fresh_sink(alloc)?;
-    tell_end(alloc, words, host, &mut sink, out)?;
+    tell_end(rt, alloc, words, host, &mut sink, out)?;
     tell_printed(out, sink.written())?;
     tell_tree(alloc, host, OUT, out)
 }
@@ -169,31 +178,50 @@ fn trace_words(alloc: Global, number: u32) -> Result<Words, NoMemory> {
 }
 
 /// What a trace gives on a fresh stage, without its looks, conflicts and retries.
-fn trace_of(alloc: Global, stage: &Stage, words: &Words) -> Result<String, NoMemory> {
+fn trace_of<R: Threads + Wait + Sync>(
+    rt: &R,
+    alloc: Global,
+    stage: &Stage,
+    words: &Words,
+) -> Result<String, NoMemory> {
     let mut host = stage.fresh_host(alloc)?;
     let mut told = String::new(alloc);
-    tell_trace(alloc, stage, words, &mut host, &mut told)?;
+    tell_trace(rt, alloc, stage, words, &mut host, &mut told)?;
     Ok(told)
 }
 
 /// What the trace by a schedule gives.
-fn order_by(alloc: Global, stage: &Stage, number: u32) -> Result<String, NoMemory> {
+fn order_by<R: Threads + Wait + Sync>(
+    rt: &R,
+    alloc: Global,
+    stage: &Stage,
+    number: u32,
+) -> Result<String, NoMemory> {
     let words = trace_words(alloc, number)?;
-    trace_of(alloc, stage, &words)
+    trace_of(rt, alloc, stage, &words)
 }
 
 /// What the traces by all schedules of six steps give, each once.
-fn orders(alloc: Global, stage: &Stage) -> Result<BTreeSet<String>, NoMemory> {
+fn orders<R: Threads + Wait + Sync>(
+    rt: &R,
+    alloc: Global,
+    stage: &Stage,
+) -> Result<BTreeSet<String>, NoMemory> {
     let mut orders = BTreeSet::new(alloc);
     for number in 0..SCHEDULES {
-        orders.insert(order_by(alloc, stage, number)?)?;
+        orders.insert(order_by(rt, alloc, stage, number)?)?;
     }
     Ok(orders)
 }
 
 /// Tells what the traces by all schedules of six steps give, in order.
-pub fn tell_schedules(alloc: Global, stage: &Stage, out: &mut String) -> Result<(), NoMemory> {
-    for told in &orders(alloc, stage)? {
+pub fn tell_schedules<R: Threads + Wait + Sync>(
+    rt: &R,
+    alloc: Global,
+    stage: &Stage,
+    out: &mut String,
+) -> Result<(), NoMemory> {
+    for told in &orders(rt, alloc, stage)? {
         out.push_str(told.as_str())?;
         tell(out, "--")?;
     }

@@ -14,6 +14,8 @@ use std::env::{self, Args};
 use std::io::{self, ErrorKind};
 use std::process::{ExitCode, Termination};
 use std::rt::{Env, Files};
+use std::sync::Wait;
+use std::thread::Threads;
 
 /// The words of the command line, without the program's name.
 fn read_words<R: Env + AllocGlobal>(rt: &R) -> io::Result<Words> {
@@ -33,7 +35,10 @@ fn words_of(alloc: Global, args: Args) -> Result<Words, NoMemory> {
 }
 
 /// Runs the words over the machine's files and the standard output.
-fn run<R: Files + Print + AllocGlobal + Clone + Drop>(rt: &R, words: &Words) -> Status {
+fn run<R>(rt: &R, words: &Words) -> Status
+where
+    R: Files + Print + AllocGlobal + Clone + Drop + Threads + Wait + Sync,
+{
     match rt.clone() {
         Ok(files) => {
             let mut host = Disk::new(files);
@@ -54,10 +59,10 @@ fn code_of<R: Eprint>(rt: &R, words: &Words, status: &Status) -> ExitCode
     ExitCode::from(status.code())
 }
 
-fn run_to_end<R: Files + Print + Eprint + AllocGlobal + Clone + Drop>(
-    rt: &R,
-    words: &Words,
-) -> ExitCode {
+fn run_to_end<R>(rt: &R, words: &Words) -> ExitCode
+where
+    R: Files + Print + Eprint + AllocGlobal + Clone + Drop + Threads + Wait + Sync,
+{
     let status = run(rt, words);
     code_of(rt, words, &status)
 }
@@ -86,7 +91,10 @@ impl Termination for Ended {
 }
 
 /// Runs the words of the command line and says the end: its code, and its line where the run is not done.
-pub fn program<R: Env + Files + Print + Eprint + AllocGlobal + Clone + Drop>(rt: &R) -> Ended {
+pub fn program<R>(rt: &R) -> Ended
+where
+    R: Env + Files + Print + Eprint + AllocGlobal + Clone + Drop + Threads + Wait + Sync,
+{
     let code = match read_words(rt) {
         Ok(words) => run_to_end(rt, &words),
         Err(error) => end_unread(rt, error),

@@ -7,6 +7,8 @@ use std::fs::{self, File};
 use std::io::{self, PipeReader, Write};
 use std::os::fd::AsRawFd;
 use std::os::unix::fs::symlink;
+use std::sync::Wait;
+use std::thread::Threads;
 
 /// What a line sets up.
 #[derive(Clone, Copy)]
@@ -120,19 +122,31 @@ fn read_at(rt: &HostRuntime, rest: &str, out: &mut String) -> io::Result<()> {
 }
 
 /// Runs the program, with the pipe at the word `PIPE`.
-fn run(rt: &HostRuntime, words: &str, before: &Before, out: &mut String) -> io::Result<()> {
+fn run<T: Threads + Wait + Sync>(
+    rt: &HostRuntime,
+    threads: &T,
+    words: &str,
+    before: &Before,
+    out: &mut String,
+) -> io::Result<()> {
     match &before.pipe {
-        None => tell_run(rt, words, before.printer, out),
+        None => tell_run(rt, threads, words, before.printer, out),
         Some(pipe) => {
             let path = format!(in rt.alloc(); "/dev/fd/{}", pipe.as_raw_fd())?;
             let words = words.replace(rt.alloc(), "PIPE", path.as_str())?;
-            tell_run(rt, words.as_str(), before.printer, out)
+            tell_run(rt, threads, words.as_str(), before.printer, out)
         }
     }
 }
 
 /// Adds what a line gives.
-fn answer(rt: &HostRuntime, line: &str, before: &mut Before, out: &mut String) -> io::Result<()> {
+fn answer<T: Threads + Wait + Sync>(
+    rt: &HostRuntime,
+    threads: &T,
+    line: &str,
+    before: &mut Before,
+    out: &mut String,
+) -> io::Result<()> {
     let (word, rest) = split_word(line);
     match verb_of(word) {
         None => tell(out, "no such word"),
@@ -140,25 +154,30 @@ fn answer(rt: &HostRuntime, line: &str, before: &mut Before, out: &mut String) -
         Some(Verb::Set(setting)) => set_up(rt, setting, rest, before),
         Some(Verb::Call(call)) => call_on(rt, call, rest, out),
         Some(Verb::Read) => read_at(rt, rest, out),
-        Some(Verb::Run) => run(rt, rest, before, out),
+        Some(Verb::Run) => run(rt, threads, rest, before, out),
         Some(Verb::Tree) => tell_tree(rt, rest, out),
     }
 }
 
 /// Adds a line and what it gives.
-fn add_answered(
+fn add_answered<T: Threads + Wait + Sync>(
     rt: &HostRuntime,
+    threads: &T,
     line: &str,
     before: &mut Before,
     out: &mut String,
 ) -> io::Result<()> {
     out.push_str(line)?;
     out.push('\n')?;
-    answer(rt, line, before, out)
+    answer(rt, threads, line, before, out)
 }
 
 /// The lines that begin with no `>`, each with what it gives.
-pub fn answered(rt: &HostRuntime, cases: &str) -> io::Result<String> {
+pub fn answered<T: Threads + Wait + Sync>(
+    rt: &HostRuntime,
+    threads: &T,
+    cases: &str,
+) -> io::Result<String> {
     let mut out = String::new(rt.alloc());
     let mut before = Before {
         pipe: None,
@@ -166,7 +185,7 @@ pub fn answered(rt: &HostRuntime, cases: &str) -> io::Result<String> {
     };
     for line in cases.lines() {
         if !line.starts_with('>') {
-            add_answered(rt, line, &mut before, &mut out)?;
+            add_answered(rt, threads, line, &mut before, &mut out)?;
         }
     }
     Ok(out)

@@ -15,6 +15,6 @@ use std::io;
 
 fn main(rt: HostRuntime) -> io::Result<()> {
     let cases = io::read_to_string(rt.alloc(), rt.reader())?;
-    let answers = answered(&rt, cases.as_str())?;
+    let answers = answered(&rt, &rt, cases.as_str())?;
     rt.print(answers)
 }

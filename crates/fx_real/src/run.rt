@@ -6,6 +6,8 @@ use fx_program::program;
 use std::fs::{self, File};
 use std::io;
 use std::process::{ExitCode, Termination};
+use std::sync::Wait;
+use std::thread::Threads;
 
 /// Where the output of a run goes.
 #[derive(Clone, Copy)]
@@ -32,8 +34,9 @@ fn clear(rt: &HostRuntime) -> io::Result<()> {
 }
 
 /// Runs the program, and tells its code, what it printed, and its lines on standard error.
-pub fn tell_run(
+pub fn tell_run<T: Threads + Wait + Sync>(
     rt: &HostRuntime,
+    threads: &T,
     words: &str,
     printer: Printer,
     out: &mut String,
@@ -41,6 +44,7 @@ pub fn tell_run(
     clear(rt)?;
     let stage = Stage {
         rt,
+        threads,
         words,
         room: printer.room,
     };

@@ -7,6 +7,8 @@ use std::fmt::Display;
 use std::fs::{File, Metadata, OpenOptions};
 use std::io::{self, ErrorKind, Write};
 use std::rt::{Env, Files};
+use std::sync::Wait;
+use std::thread::Threads;
 
 /// Where the output of a run stands.
 pub const PRINTED: &str = "printed";
@@ -14,10 +16,11 @@ pub const PRINTED: &str = "printed";
 /// Where the lines on standard error of a run stand.
 pub const SAID: &str = "said";
 
-/// The runtime of a run. It prints no more than `room` bytes.
+/// The runtime of a run. It prints no more than `room` bytes, and its threads are those of `threads`.
 #[derive(Clone, Copy)]
-pub struct Stage<'a> {
+pub struct Stage<'a, T> {
     pub rt: &'a HostRuntime,
+    pub threads: &'a T,
     /// The words, with a space between each two.
     pub words: &'a str,
     pub room: u64,
@@ -39,7 +42,11 @@ fn appended(rt: &HostRuntime, path: &str) -> io::Result<File> {
     OpenOptions::new().create(true).append(true).open(rt, path)
 }
 
-impl Alloc for Stage<'_> {
+impl<T: Threads> Threads for Stage<'_, T> {}
+
+impl<T: Wait> Wait for Stage<'_, T> {}
+
+impl<T> Alloc for Stage<'_, T> {
     type A = Global;
 
     fn alloc(&self) -> Global {
@@ -47,7 +54,7 @@ impl Alloc for Stage<'_> {
     }
 }
 
-impl Env for Stage<'_> {
+impl<T> Env for Stage<'_, T> {
     fn arg(&self, i: usize, buf: &mut [u8]) -> Result<usize, FillError> {
         let Some(word) = word_at(self.words, i) else {
             return Err(FillError::NotPresent);
@@ -69,7 +76,7 @@ impl Env for Stage<'_> {
     }
 }
 
-impl Print for Stage<'_> {
+impl<T> Print for Stage<'_, T> {
     fn print<D: Display + Drop>(&self, _value: D) -> io::Result<()> {
         Err(io::Error::from(ErrorKind::Unsupported))
     }
@@ -93,7 +100,7 @@ impl Print for Stage<'_> {
     }
 }
 
-impl Eprint for Stage<'_> {
+impl<T> Eprint for Stage<'_, T> {
     fn eprint<D: Display + Drop>(&self, value: D) -> io::Result<()> {
         appended(self.rt, SAID)?.write_fmt(value)
     }
@@ -103,7 +110,7 @@ impl Eprint for Stage<'_> {
     }
 }
 
-impl Files for Stage<'_> {
+impl<T> Files for Stage<'_, T> {
     type File = <HostRuntime as Files>::File;
 
     type Dir = <HostRuntime as Files>::Dir;

@@ -1,5 +1,5 @@
 -- What a run has come to between its stages.
-use Rattle.std.specs.Prelude.{◌≡◌, ◌⊎◌, ℕ, Bool, true, List, Option, Some, None, IfSome, IsSomeAnd, map, length, ⊤}
+use Rattle.std.specs.Prelude.{◌≡◌, ◌⊎◌, ◌++◌, ℕ, Bool, true, List, Option, Some, None, IfSome, IsSomeAnd, map, length, ⊤}
 use Rattle.fx_store.specs.Whole.{Nodes}
 use Rattle.fx_base.specs.Causes.{Rose}
 use Rattle.fx_outside.specs.Host.{HostView, HasFailed}
@@ -11,6 +11,9 @@ use Rattle.fx_machine.specs.declared.retry.Retry.{Retry}
 use Rattle.fx_machine.specs.Tried.{retry_tree}
 use Rattle.fx_words.specs.Job.{RunJob, Mode, place_of}
 use Rattle.fx_board.specs.Board.{last_state}
+use Rattle.fx_report.specs.Entries.{report}
+use Rattle.fx_report.specs.Events.{lines}
+use Rattle.fx_sched.specs.declared.schedule.Traced.{Traced}
 use Rattle.fx_top.specs.declared.answer.Answer.{Answer}
 use Rattle.fx_top.specs.declared.inputs.Unread.{Unread}
 use Rattle.fx_top.specs.declared.inputs.Unread.TheVariants as unread
@@ -51,4 +54,8 @@ pub record IsAnswered (t : Tree) (j : RunJob) (nodes : Nodes) (output : List ℕ
 
 -- the last filestore of a run
 abbrev pub last_of : Answer → Nodes
-last_of a = last_state a.traced.board
+last_of a = last_state a.board
+
+-- the output is the events and then the report of a run by a schedule
+abbrev pub IsPrintedTrace : Traced → List ℕ → Type 0
+IsPrintedTrace traced output = output ≡ lines traced.events ++ report traced.board.base traced.board.order traced.retries

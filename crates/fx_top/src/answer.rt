@@ -1,25 +1,28 @@
 //! Whole runs from a base on.
-ghost use Rattle.std.specs.Prelude.{◌≡◌, ◌++◌, IfOk};
+ghost use Rattle.std.specs.Prelude.{◌≡◌, ◌++◌, ◌<◌, All, IfOk, length};
 ghost use Rattle.fx_spec.specs.Bases.{base_tree};
 ghost use Rattle.fx_sched.specs.Traced.{IsTraced};
-ghost use Rattle.fx_words.specs.Job.{shells_of};
+ghost use Rattle.fx_words.specs.Job.{Plain, Scheduled};
 ghost use Rattle.fx_words.specs.JobOf.{asked, IsJob};
-ghost use Rattle.fx_top.specs.Answers.{last_of, HasEachScript, IsRunFrom};
-ghost use Rattle.fx_top.specs.Outcome.{IsPrintedAs};
+ghost use Rattle.fx_top.specs.Answers.{last_of, HasEachScript, IsPrintedTrace, IsRunFrom};
 
 use fx_base::NoMemory;
+use fx_board::Board;
+use fx_outside::Gate;
 use fx_report::{event_lines, report};
 use fx_sched::{Traced, run_schedule};
 use fx_spec::Base;
 use fx_store::LongText;
 use fx_words::RunJob;
+use fx_workers::run_all;
 use std::alloc::Global;
-use std::sync::Arc;
+use std::sync::{Arc, Wait};
+use std::thread::Threads;
 
 /// A whole run: its log and its output.
 #[derive(Drop)]
 pub struct Answer {
-    pub traced: Traced,
+    pub board: Board,
     pub output: LongText,
 }
 
@@ -32,32 +35,61 @@ fn joined(front: LongText, back: &LongText) -> Result<LongText, NoMemory>
     Ok(LongText::from_vec(bytes))
 }
 
-/// What a run prints: its report, after its events where it has a schedule.
-fn output_of(alloc: Global, job: &RunJob, traced: &Traced) -> Result<LongText, NoMemory>
-    requires { IsTraced traced.now.board.base (shells_of (asked job.now)) traced.now }
-    ensures { IfOk result (IsPrintedAs (asked job.now).mode
-        traced.now.board.base traced.now.board.order traced.now.retries) }
+/// Runs each script on a thread of its own.
+fn run_on_threads<R: Threads + Wait + Sync, G: Gate + Sync>(
+    rt: &R,
+    alloc: Global,
+    base: Arc<Base>,
+    gate: &G,
+) -> Result<Answer, NoMemory>
+    ensures { IfOk result (λ a. IsRunFrom (base_tree base.value) Plain (last_of a) a.output) }
 {
-    let report = report(alloc, &traced.board, &traced.retries)?;
-    match job.schedule {
-        None => Ok(report),
-        Some(_) => {
-            let events = event_lines(alloc, &traced.events)?;
-            joined(events, &report)
-        }
-    }
+    let (board, retries) = run_all(rt, alloc, base, gate)?;
+    let output = report(alloc, &board, &retries)?;
+    Ok(Answer { board, output })
 }
 
-/// Runs all scripts on the loaded filestore, by the job's schedule.
-pub fn run_base(alloc: Global, job: &RunJob, base: Arc<Base>) -> Result<Answer, NoMemory>
+/// What is printed of a run by a schedule: its events, and then its report.
+fn traced_output(alloc: Global, traced: &Traced) -> Result<LongText, NoMemory>
+    ensures { IfOk result (IsPrintedTrace traced.now) }
+{
+    let report = report(alloc, &traced.board, &traced.retries)?;
+    let events = event_lines(alloc, &traced.events)?;
+    joined(events, &report)
+}
+
+/// Runs all scripts on one thread, by a schedule of shells.
+fn run_by(alloc: Global, base: Arc<Base>, schedule: &[u32]) -> Result<Answer, NoMemory>
+    requires { All (λ k. k < length base.value.plan) schedule.now }
+    ensures { IfOk result (λ a.
+        IsRunFrom (base_tree base.value) (Scheduled schedule.now) (last_of a) a.output) }
+{
+    let traced = run_schedule(alloc, base, schedule)?;
+    let output = traced_output(alloc, &traced)?;
+    Ok(Answer {
+        board: traced.board,
+        output,
+    })
+}
+
+/// Runs all scripts on the loaded filestore: on threads, or by the job's schedule.
+pub fn run_base<R: Threads + Wait + Sync, G: Gate + Sync>(
+    rt: &R,
+    alloc: Global,
+    job: &RunJob,
+    base: Arc<Base>,
+    gate: &G,
+) -> Result<Answer, NoMemory>
     requires job { IsJob job.now }
     requires count { HasEachScript (asked job.now) (base_tree base.value) }
-    ensures run { IfOk result (λ a.
+    ensures { IfOk result (λ a.
         IsRunFrom (base_tree base.value) (asked job.now).mode (last_of a) a.output) }
 {
-    let schedule = job.shells(alloc)?;
-    let traced = run_schedule(alloc, base, &schedule)?;
-    let _ = traced.board.len();
-    let output = output_of(alloc, job, &traced)?;
-    Ok(Answer { traced, output })
+    match job.schedule {
+        None => run_on_threads(rt, alloc, base, gate),
+        Some(_) => {
+            let schedule = job.shells(alloc)?;
+            run_by(alloc, base, &schedule)
+        }
+    }
 }

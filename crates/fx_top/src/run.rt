@@ -1,4 +1,4 @@
-//! The command `run`, and `trace`, which has a schedule.
+//! The command `run`, which runs its scripts on threads, and `trace`, which runs them by a schedule.
 ghost use Rattle.std.specs.Prelude.{IfSome};
 ghost use Rattle.fx_words.specs.JobOf.{asked, IsJob};
 ghost use Rattle.fx_top.specs.Answers.{last_of, IsAnswered};
@@ -9,9 +9,11 @@ use crate::answer::{Answer, run_base};
 use crate::reading::{make_ready, read_base};
 use fx_command::{Status, print_all};
 use fx_folder::save;
-use fx_outside::{Host, Sink, SinkFailed};
+use fx_outside::{Gate, Host, Sink, SinkFailed};
 use fx_words::RunJob;
 use std::alloc::Global;
+use std::sync::Wait;
+use std::thread::Threads;
 
 /// Saves the last filestore, and then prints the output.
 fn save_and_print<H: Host, S: Sink>(
@@ -28,7 +30,7 @@ fn save_and_print<H: Host, S: Sink>(
         (S.view out.old) (S.view out.new) (status_of result) }
     ensures fit { RunAsksFit (asked job.now) (H.view host.old) (H.view host.new) }
 {
-    save(alloc, host, job.out, there, answer.traced.board.store())?;
+    save(alloc, host, job.out, there, answer.board.store())?;
     match print_all(out, answer.output.as_slice()) {
         Ok(()) => Ok(()),
         Err(SinkFailed) => Err(Status::WriteFault),
@@ -36,11 +38,13 @@ fn save_and_print<H: Host, S: Sink>(
 }
 
 /// Runs the scripts on the folder, by the description, and leaves the folder that they make at OUT.
-pub(crate) fn run<H: Host, S: Sink>(
+pub(crate) fn run<R: Threads + Wait + Sync, H: Host, S: Sink, G: Gate + Sync>(
+    rt: &R,
     alloc: Global,
     job: &RunJob,
     host: &mut H,
     out: &mut S,
+    gate: &G,
 ) -> Result<(), Status>
     requires { IsJob job.now }
     ensures row { RunRow (asked job.now) (H.view host.old) (H.view host.new)
@@ -49,6 +53,6 @@ pub(crate) fn run<H: Host, S: Sink>(
 {
     let base = read_base(alloc, job, host)?;
     let there = make_ready(alloc, job, host)?;
-    let answer = run_base(alloc, job, base)?;
+    let answer = run_base(rt, alloc, job, base, gate)?;
     save_and_print(alloc, job, there, &answer, host, out)
 }

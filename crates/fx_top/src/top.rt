@@ -12,13 +12,17 @@ use fx_outside::{Gate, Host, Sink, Words};
 use fx_show::show;
 use fx_words::{Job, job_of};
 use std::alloc::Global;
+use std::sync::Wait;
+use std::thread::Threads;
 
 /// Does what a command asks for.
-fn run_job<H: Host, S: Sink>(
+fn run_job<R: Threads + Wait + Sync, H: Host, S: Sink, G: Gate + Sync>(
+    rt: &R,
     alloc: Global,
     job: &Job,
     host: &mut H,
     out: &mut S,
+    gate: &G,
 ) -> Result<(), Status>
     requires { IsAnyJob job.now }
     ensures row { Row (asked_job job.now) (H.view host.old) (H.view host.new)
@@ -26,7 +30,7 @@ fn run_job<H: Host, S: Sink>(
     ensures fit { AsksFitPaths (asked_job job.now) (H.view host.old) (H.view host.new) }
 {
     match job {
-        Job::Run(job) => run(alloc, job, host, out),
+        Job::Run(job) => run(rt, alloc, job, host, out, gate),
         Job::Show(job) => show(alloc, job, host, out),
     }
 }
@@ -42,14 +46,15 @@ fn status_of(ended: Result<(), Status>) -> Status
 }
 
 /// Does what the words of the command line ask for, and answers how it ended. What is read stands in the host, and the
-/// output goes to the sink.
-pub fn top<R, H: Host, S: Sink, G: Gate + Sync>(
-    _rt: &R,
+/// output goes to the sink. Each thread of a run passes the gate before each look, before each settle, and once it has
+/// settled.
+pub fn top<R: Threads + Wait + Sync, H: Host, S: Sink, G: Gate + Sync>(
+    rt: &R,
     alloc: Global,
     words: &Words,
     host: &mut H,
     out: &mut S,
-    _gate: &G,
+    gate: &G,
 ) -> Status
     // The words have no command's form.
     ensures usage { (result ≡ Status.Usage) ↔ (job_of words.now ≡ None) }
@@ -69,7 +74,7 @@ pub fn top<R, H: Host, S: Sink, G: Gate + Sync>(
         Completes j (H.view host.old) (H.view host.new) (S.view out.old) (S.view out.new) result) }
 {
     match job_of(words) {
-        Some(job) => status_of(run_job(alloc, &job, host, out)),
+        Some(job) => status_of(run_job(rt, alloc, &job, host, out, gate)),
         None => Status::Usage,
     }
 }

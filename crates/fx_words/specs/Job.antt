@@ -5,7 +5,7 @@ use Rattle.std.specs.List.{list_all, slice_split}
 use Rattle.std.specs.Option.{option_map, option_and_then}
 use Rattle.std.specs.Str.{bytes_eq}
 
--- one run after another, or by a schedule of shells
+-- a thread for each script, or by a schedule of shells
 pub data Mode : Type 0 where
   Plain : Mode
   Scheduled : List ℕ → Mode
@@ -61,7 +61,7 @@ abbrev pub is_count : ℕ → Bool
 is_count n = nat_le 1 n && nat_le n 64
 
 abbrev pub run_job : List (List ℕ) → Option RunJob
-run_job (spec ∷ folder ∷ out ∷ script ∷ []) = Some (record { spec = spec; folder = folder; out = out; scripts = script ∷ []; mode = Plain })
+run_job (spec ∷ folder ∷ out ∷ scripts) = cond (is_count (length scripts)) (Some (record { spec = spec; folder = folder; out = out; scripts = scripts; mode = Plain })) None
 run_job _ = None
 
 abbrev pub trace_job : List (List ℕ) → Option RunJob

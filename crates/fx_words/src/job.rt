@@ -14,7 +14,7 @@ pub enum Job<'a> {
     Show(ShowJob<'a>),
 }
 
-/// The arguments of `run SPEC FOLDER OUT SCRIPT`, or of `trace SPEC FOLDER OUT SCHEDULE SCRIPT...`, which alone has a
+/// The arguments of `run SPEC FOLDER OUT SCRIPT...`, or of `trace SPEC FOLDER OUT SCHEDULE SCRIPT...`, which alone has a
 /// schedule.
 #[derive(Clone, Copy)]
 pub struct RunJob<'a> {
@@ -71,7 +71,7 @@ fn run_job(words: &Words) -> Option<RunJob<'_>>
     ensures asked { option_map asked result ≡ job.run_job (drop 1 words.now) }
     ensures job { IfSome result IsJob }
 {
-    if words.len() != 5 {
+    if words.len() < 5 || words.len() > 68 {
         return None;
     }
     let spec = words.at(1)?;

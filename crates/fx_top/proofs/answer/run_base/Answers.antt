@@ -5,8 +5,7 @@ use Rattle.fx_words.specs.JobOf.{asked}
 use Rattle.fx_words.proofs.Below.{job_below}
 use Rattle.fx_top.proofs.answer.run_base.Goals as goal
 
-pub run_schedule-requires : goal.run_schedule-requires
-run_schedule-requires c =
-    let shells : shells_of (asked c.args.job.now) ≡ c.deref.result.now = sym c.in_ok-schedule.ensures ∙ sym c.deref.ensures.value in
-    let below = subst (λ n. All (λ k. k < n) c.deref.result.now) (sym c.requires.count) (subst (λ ks. All (λ k. k < length (asked c.args.job.now).scripts) ks) shells (job_below c.args.job.now c.requires.job)) in
-    record { shells = below }
+pub run_by-requires : goal.run_by-requires
+run_by-requires g c =
+    let shells : shells_of (asked c.args.job.now) ≡ c.deref.result.now = sym c.in_ok-schedule-in-Some.ensures ∙ sym c.deref.ensures.value in
+    subst (λ n. All (λ k. k < n) c.deref.result.now) (sym c.requires.count) (subst (λ ks. All (λ k. k < length (asked c.args.job.now).scripts) ks) shells (job_below c.args.job.now c.requires.job))

@@ -34,4 +34,4 @@ returns-in_err-there-clause-row g c =
 pub save_and_print-requires : goal.save_and_print-requires
 save_and_print-requires g c =
     can_save (asked c.args.job.now) (base_tree c.in_ok-base.base.value) (last_of c.in_ok-answer.answer) c.in_ok-answer.answer.output c.in_ok-there.there (g.H.Host.view c.args.host.now) (g.H.Host.view c.read_base.new.host) (g.H.Host.view c.make_ready.new.host)
-    c.in_ok-base.ensures.same c.in_ok-there.ensures.same c.in_ok-base.ensures.read c.in_ok-there.ensures.ready c.in_ok-answer.ensures.run
+    c.in_ok-base.ensures.same c.in_ok-there.ensures.same c.in_ok-base.ensures.read c.in_ok-there.ensures.ready c.in_ok-answer.ensures
