@@ -14,6 +14,9 @@ import time
 
 import measure
 
+TEXT_LIMIT = 65_536
+COUNT = 'txn{to("%s")down fetch n:str store(text((int(n)+1)))}\n'
+STORE = 'txn{to("%s")down fetch n:str store(n)}\n'
 REPORT = re.compile(rb"forest report 1\nentries (\d+)\n")
 
 
@@ -57,7 +60,8 @@ def write_inputs(scratch, load):
         file.write(f"{{(n :: file) | n in {set_of(names)}}}\n")
     scripts = []
     for shell in range(load.shells):
-        text = "".join(f'txn{{to("{names[load.file_of(shell, i)]}")down store("1")}}\n' for i in range(load.each))
+        transaction = COUNT if load.each * len(COUNT) < TEXT_LIMIT else STORE
+        text = "".join(transaction % names[load.file_of(shell, i)] for i in range(load.each))
         scripts.append(os.path.join(scratch, f"s{shell}"))
         with open(scripts[-1], "w") as file:
             file.write(text)

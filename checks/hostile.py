@@ -104,7 +104,7 @@ class Stage:
         """Runs the program, and gives the status with what it printed."""
         global tries
         tries += 1
-        words = words or ["run", "spec", "in", "out", "script"]
+        words = ["run", "spec", "in", "out", "script"] if words is None else words
         given.setdefault("stdout", subprocess.PIPE)
         keeps = given.pop("keeps", True)
         meanwhile = given.pop("meanwhile", None)
@@ -326,7 +326,7 @@ def machine():
                     resource.setrlimit(resource.RLIMIT_DATA, (size, size))
 
                 stage.run({DONE, READ, WRITE, MEMORY}, preexec_fn=little)
-    for count in (3, 4, 5, 8):
+    for count in (4, 5, 6, 8, 16):
         with Stage() as stage:
 
             def few(count=count):
