@@ -122,7 +122,7 @@ fn read_at(rt: &HostRuntime, rest: &str, out: &mut String) -> io::Result<()> {
 }
 
 /// Runs the program, with the pipe at the word `PIPE`.
-fn run<T: Threads + Wait + Sync>(
+fn run<T: Clone + Threads + Wait + Sync>(
     rt: &HostRuntime,
     threads: &T,
     words: &str,
@@ -140,7 +140,7 @@ fn run<T: Threads + Wait + Sync>(
 }
 
 /// Adds what a line gives.
-fn answer<T: Threads + Wait + Sync>(
+fn answer<T: Clone + Threads + Wait + Sync>(
     rt: &HostRuntime,
     threads: &T,
     line: &str,
@@ -160,7 +160,7 @@ fn answer<T: Threads + Wait + Sync>(
 }
 
 /// Adds a line and what it gives.
-fn add_answered<T: Threads + Wait + Sync>(
+fn add_answered<T: Clone + Threads + Wait + Sync>(
     rt: &HostRuntime,
     threads: &T,
     line: &str,
@@ -173,7 +173,7 @@ fn add_answered<T: Threads + Wait + Sync>(
 }
 
 /// The lines that begin with no `>`, each with what it gives.
-pub fn answered<T: Threads + Wait + Sync>(
+pub fn answered<T: Clone + Threads + Wait + Sync>(
     rt: &HostRuntime,
     threads: &T,
     cases: &str,

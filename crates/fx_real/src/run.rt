@@ -34,7 +34,7 @@ fn clear(rt: &HostRuntime) -> io::Result<()> {
 }
 
 /// Runs the program, and tells its code, what it printed, and its lines on standard error.
-pub fn tell_run<T: Threads + Wait + Sync>(
+pub fn tell_run<T: Clone + Threads + Wait + Sync>(
     rt: &HostRuntime,
     threads: &T,
     words: &str,
