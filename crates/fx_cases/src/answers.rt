@@ -12,7 +12,7 @@ use crate::threads::tell_threads;
 use crate::tries::{tell_faults, tell_schedules};
 use fx_base::NoMemory;
 use fx_outside::HostKind;
-use fx_telling::{Case, number, split_word, tell};
+use fx_telling::{number, split_word, tell};
 use std::alloc::Global;
 use std::sync::Wait;
 use std::thread::Threads;
@@ -178,33 +178,50 @@ fn call_out(
     }
 }
 
-/// A stage, and what runs on it.
-#[derive(Drop)]
-pub struct Runner<'a, R> {
-    rt: &'a R,
-    stage: Stage,
-}
-
-impl<'a, R> Runner<'a, R> {
-    /// An empty stage.
-    pub fn new(rt: &'a R, alloc: Global) -> Runner<'a, R> {
-        Runner {
-            rt,
-            stage: Stage::new(alloc),
-        }
+/// Adds what a line gives, in lines that begin with `>`.
+fn answer<R: Threads + Wait + Sync>(
+    rt: &R,
+    alloc: Global,
+    stage: &mut Stage,
+    line: &str,
+    out: &mut String,
+) -> Result<(), NoMemory> {
+    let (word, rest) = split_word(line);
+    match verb_of(word) {
+        None => tell(out, "no such word"),
+        Some(Verb::Note) => Ok(()),
+        Some(Verb::Set(setting)) => set_up(alloc, stage, setting, rest, out),
+        Some(Verb::Try(trial)) => try_out(rt, alloc, stage, trial, rest, out),
+        Some(Verb::Call(call)) => call_out(alloc, stage, call, rest, out),
+        Some(Verb::Message) => tell_message(alloc, rest, out),
     }
 }
 
-impl<R: Threads + Wait + Sync> Case for Runner<'_, R> {
-    fn answer(&mut self, alloc: Global, line: &str, out: &mut String) -> Result<(), NoMemory> {
-        let (word, rest) = split_word(line);
-        match verb_of(word) {
-            None => tell(out, "no such word"),
-            Some(Verb::Note) => Ok(()),
-            Some(Verb::Set(setting)) => set_up(alloc, &mut self.stage, setting, rest, out),
-            Some(Verb::Try(trial)) => try_out(self.rt, alloc, &mut self.stage, trial, rest, out),
-            Some(Verb::Call(call)) => call_out(alloc, &mut self.stage, call, rest, out),
-            Some(Verb::Message) => tell_message(alloc, rest, out),
+/// Adds a line and what it gives.
+fn add_answered<R: Threads + Wait + Sync>(
+    rt: &R,
+    alloc: Global,
+    stage: &mut Stage,
+    line: &str,
+    out: &mut String,
+) -> Result<(), NoMemory> {
+    out.push_str(line)?;
+    out.push('\n')?;
+    answer(rt, alloc, stage, line, out)
+}
+
+/// The lines that begin with no `>`, each with what it gives.
+pub fn answered<R: Threads + Wait + Sync>(
+    rt: &R,
+    alloc: Global,
+    cases: &str,
+) -> Result<String, NoMemory> {
+    let mut out = String::new(alloc);
+    let mut stage = Stage::new(alloc);
+    for line in cases.lines() {
+        if !line.starts_with('>') {
+            add_answered(rt, alloc, &mut stage, line, &mut out)?;
         }
     }
+    Ok(out)
 }

@@ -13,18 +13,15 @@ mod telling;
 mod threads;
 mod tries;
 
-use answers::Runner;
-use fx_telling::add_answers;
+use answers::answered;
 use std::io;
 use std::io::ErrorKind;
 
 fn main(rt: HostRuntime) -> io::Result<()> {
     let alloc = rt.alloc();
     let cases = io::read_to_string(alloc, rt.reader())?;
-    let mut runner = Runner::new(&rt, alloc);
-    let mut answers = String::new(alloc);
-    match add_answers(alloc, &mut runner, cases.as_str(), &mut answers) {
-        Ok(()) => rt.print(answers),
+    match answered(&rt, alloc, cases.as_str()) {
+        Ok(answers) => rt.print(answers),
         Err(fx_base::NoMemory) => Err(io::Error::from(ErrorKind::OutOfMemory)),
     }
 }
