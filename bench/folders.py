@@ -4,8 +4,6 @@
 usage: folders.py [FILES..]      how many files, in directories of 100; 10,000 and 98,999 where none is given
 """
 import os
-import shutil
-import subprocess
 import sys
 import tempfile
 
@@ -36,19 +34,6 @@ def links(path, count):
         file.writelines(f"/l{i:05} -> gone/{i}\n" for i in range(count))
 
 
-def best(scratch, make_words, repeats):
-    fastest = None
-    for i in range(repeats):
-        out = os.path.join(scratch, f"out{i}")
-        shutil.rmtree(out, ignore_errors=True)
-        run = measure.run(make_words(out), scratch)
-        if run.status != 0:
-            sys.exit(f"status {run.status}: {run.err.decode(errors='replace')}")
-        if fastest is None or run.seconds < fastest.seconds:
-            fastest = run
-    return fastest, out
-
-
 def measured(make, count):
     with tempfile.TemporaryDirectory() as scratch:
         folder, spec, script = (os.path.join(scratch, name) for name in ("in", "spec", "script"))
@@ -56,12 +41,11 @@ def measured(make, count):
         for path, text in ((spec, DESCRIPTION), (script, SCRIPT)):
             with open(path, "w") as file:
                 file.write(text)
-        ours, out = best(scratch, lambda out: [measure.program(), "run", spec, folder, out, script], REPEATS)
+        ours, out = measure.best(scratch, lambda out: [measure.program(), "run", spec, folder, out, script], REPEATS)
         if ours.out != REPORT:
             sys.exit(f"another report: {ours.out[:200]!r}")
-        if subprocess.run(["diff", "-r", "-q", folder, out], stdout=subprocess.DEVNULL).returncode != 0:
-            sys.exit("the folder that was written differs from the one that was read")
-        copied, _ = best(scratch, lambda out: ["cp", "-r", folder, out], REPEATS)
+        measure.check_same(folder, out)
+        copied, _ = measure.best(scratch, lambda out: ["cp", "-r", folder, out], REPEATS)
         return ours, copied
 
 

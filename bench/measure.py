@@ -3,7 +3,9 @@
 out), peak memory in KiB, status and its two outputs. The peak is at least that of the script that measures, some 13 MiB.
 """
 import os
+import shutil
 import subprocess
+import sys
 import time
 
 
@@ -29,6 +31,26 @@ def run(words, scratch):
         child.returncode = os.waitstatus_to_exitcode(status)
     with open(out_path, "rb") as out, open(err_path, "rb") as err:
         return Run(seconds, usage.ru_utime, usage.ru_maxrss, child.returncode, out.read(), err.read())
+
+
+def best(scratch, make_words, repeats):
+    """The fastest of some runs, each into a folder of its own, and the last of these folders."""
+    fastest = None
+    for i in range(repeats):
+        out = os.path.join(scratch, f"out{i}")
+        shutil.rmtree(out, ignore_errors=True)
+        ran = run(make_words(out), scratch)
+        if ran.status != 0:
+            sys.exit(f"status {ran.status}: {ran.err.decode(errors='replace')}")
+        if fastest is None or ran.seconds < fastest.seconds:
+            fastest = ran
+    return fastest, out
+
+
+def check_same(folder, out):
+    """Ends the bench where two folders differ."""
+    if subprocess.run(["diff", "-r", "-q", folder, out], stdout=subprocess.DEVNULL).returncode != 0:
+        sys.exit("the folder that was written differs from the one that was read")
 
 
 def growth(after, before):

@@ -6,8 +6,6 @@ The folders are made below TMPDIR; on a file system in memory the disk is left o
 usage: run.py [FILES..]      how many files; 1,000, 10,000 and 99,999 where none is given
 """
 import os
-import shutil
-import subprocess
 import sys
 import tempfile
 
@@ -35,20 +33,6 @@ def large_folder(path):
         file.write(b"x" * LARGE_FILE)
 
 
-def best(scratch, make_words, repeats):
-    """The fastest of some runs, each into a folder of its own, and the last of these folders."""
-    fastest = None
-    for i in range(repeats):
-        out = os.path.join(scratch, f"out{i}")
-        shutil.rmtree(out, ignore_errors=True)
-        run = measure.run(make_words(out), scratch)
-        if run.status != 0:
-            sys.exit(f"status {run.status}: {run.err.decode(errors='replace')}")
-        if fastest is None or run.seconds < fastest.seconds:
-            fastest = run
-    return fastest, out
-
-
 def measured(scratch, folder, repeats):
     spec = os.path.join(scratch, "spec")
     script = os.path.join(scratch, "script")
@@ -56,12 +40,11 @@ def measured(scratch, folder, repeats):
         file.write(DESCRIPTION)
     with open(script, "w") as file:
         file.write(SCRIPT)
-    ours, out = best(scratch, lambda out: [measure.program(), "run", spec, folder, out, script], repeats)
+    ours, out = measure.best(scratch, lambda out: [measure.program(), "run", spec, folder, out, script], repeats)
     if ours.out != REPORT:
         sys.exit(f"another report: {ours.out[:200]!r}")
-    if subprocess.run(["diff", "-r", "-q", folder, out], stdout=subprocess.DEVNULL).returncode != 0:
-        sys.exit("the folder that was written differs from the one that was read")
-    copied, _ = best(scratch, lambda out: ["cp", "-r", folder, out], repeats)
+    measure.check_same(folder, out)
+    copied, _ = measure.best(scratch, lambda out: ["cp", "-r", folder, out], repeats)
     return ours, copied
 
 
