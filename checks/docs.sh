@@ -3,7 +3,7 @@
 set -eu
 top=$(cd "$(dirname "$0")/.." && pwd)
 program=$("$top/bench/build.sh")
-python3 -B "$top/checks/docs.py" "$program" docs/GUIDE.md
+python3 -B "$top/checks/docs.py" "$program" docs/GUIDE.md docs/LANGUAGE.md
 fresh=$(mktemp -d)
 trap 'rm -rf "$fresh"' EXIT
 for example in config:add,scale,check projects:count,log,turn records:add,careless releases:release,use,half; do
