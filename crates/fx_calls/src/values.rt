@@ -5,8 +5,9 @@ ghost use Rattle.fx_expr.specs.Shapes.{HasShape};
 ghost use Rattle.fx_expr.specs.Views.{expr_tree};
 
 use fx_base::NoMemory;
-use fx_expr::{BinOp, Env, EvalFault, Expr, TEXT_LIMIT, Text, UnOp, Value, eval, matches};
+use fx_expr::{BinOp, Env, EvalFault, Expr, TEXT_LIMIT, Text, UnOp, Value, matches};
 use fx_report::value_line;
+use fx_rules::evaluated;
 use fx_telling::{tell_bytes, unescaped};
 use std::alloc::Global;
 use std::fmt::Write;
@@ -92,7 +93,7 @@ fn tell_str(alloc: Global, expr: &Expr, out: &mut String) -> Result<(), NoMemory
     requires { HasShape [] (expr_tree expr.now) ShapeTree.str }
 {
     let env = Env::new(alloc);
-    let value = eval(alloc, expr, &env);
+    let value = evaluated(alloc, expr, &env);
     tell_result(alloc, value, out)
 }
 
@@ -100,7 +101,7 @@ fn tell_int(alloc: Global, expr: &Expr, out: &mut String) -> Result<(), NoMemory
     requires { HasShape [] (expr_tree expr.now) ShapeTree.int }
 {
     let env = Env::new(alloc);
-    let value = eval(alloc, expr, &env);
+    let value = evaluated(alloc, expr, &env);
     tell_result(alloc, value, out)
 }
 
@@ -108,7 +109,7 @@ fn tell_names(alloc: Global, expr: &Expr, out: &mut String) -> Result<(), NoMemo
     requires { HasShape [] (expr_tree expr.now) ShapeTree.names }
 {
     let env = Env::new(alloc);
-    let value = eval(alloc, expr, &env);
+    let value = evaluated(alloc, expr, &env);
     tell_result(alloc, value, out)
 }
 

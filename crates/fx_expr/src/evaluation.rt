@@ -21,50 +21,8 @@ use std::sync::ledger::Ledger;
 
 /// The value of an expression, or its fault. The parts of an operator are taken from left to right and the first fault
 /// is the answer; `and`, `or` and a choice leave out what they need not know. The expression is well shaped where the
-/// bound words have the shapes of their values.
-pub fn eval(alloc: Global, expr: &Expr, env: &Env) -> Result<Value, EvalFault>
-    requires { IsWellShaped env.now (expr_tree expr.now) }
-    ensures { Gives tree_of result (eval_of env.now (expr_tree expr.now)) }
-{
-    match expr {
-        Expr::Str(text) => Ok(Value::Str(text.copy(alloc)?)),
-        Expr::Int(n) => Ok(Value::Int(*n)),
-        Expr::Bool(b) => Ok(Value::Bool(*b)),
-        Expr::Empty => Ok(Value::Names(TextSet::new(alloc))),
-        Expr::Var(word) => bound_value(alloc, word, env),
-        Expr::Bin(op, a, b) => match eval(alloc, a, env) {
-            Err(fault) => Err(fault),
-            Ok(first) => match decides(*op, &first) {
-                Some(decided) => Ok(Value::Bool(decided)),
-                None => match eval(alloc, b, env) {
-                    Err(fault) => Err(fault),
-                    Ok(second) => apply_two(alloc, *op, &first, &second),
-                },
-            },
-        },
-        Expr::Un(op, a) => match eval(alloc, a, env) {
-            Err(fault) => Err(fault),
-            Ok(value) => apply_one(alloc, *op, value),
-        },
-        Expr::Choose(test, a, b) => match eval(alloc, test, env) {
-            Err(fault) => Err(fault),
-            Ok(value) => {
-                if truth(&value) {
-                    eval(alloc, a, env)
-                } else {
-                    eval(alloc, b, env)
-                }
-            }
-        },
-        Expr::Only(a, glob) => match eval(alloc, a, env) {
-            Err(fault) => Err(fault),
-            Ok(value) => Ok(Value::Names(into_names(value).only(alloc, glob.as_slice())?)),
-        },
-    }
-}
-
-/// `eval` that counts itself as one step, however large the expression is.
-pub fn eval_counted<L: Ledger>(
+/// bound words have the shapes of their values. It counts as one step, however large the expression is.
+pub fn eval<L: Ledger>(
     alloc: Global,
     expr: &Expr,
     env: &Env,
@@ -75,7 +33,48 @@ pub fn eval_counted<L: Ledger>(
     ensures tick { steps.new ≡ steps.old + 1 }
 {
     steps.tick();
-    eval(alloc, expr, env)
+    evaluated(alloc, expr, env)
+}
+
+fn evaluated(alloc: Global, expr: &Expr, env: &Env) -> Result<Value, EvalFault>
+    requires { IsWellShaped env.now (expr_tree expr.now) }
+    ensures { Gives tree_of result (eval_of env.now (expr_tree expr.now)) }
+{
+    match expr {
+        Expr::Str(text) => Ok(Value::Str(text.copy(alloc)?)),
+        Expr::Int(n) => Ok(Value::Int(*n)),
+        Expr::Bool(b) => Ok(Value::Bool(*b)),
+        Expr::Empty => Ok(Value::Names(TextSet::new(alloc))),
+        Expr::Var(word) => bound_value(alloc, word, env),
+        Expr::Bin(op, a, b) => match evaluated(alloc, a, env) {
+            Err(fault) => Err(fault),
+            Ok(first) => match decides(*op, &first) {
+                Some(decided) => Ok(Value::Bool(decided)),
+                None => match evaluated(alloc, b, env) {
+                    Err(fault) => Err(fault),
+                    Ok(second) => apply_two(alloc, *op, &first, &second),
+                },
+            },
+        },
+        Expr::Un(op, a) => match evaluated(alloc, a, env) {
+            Err(fault) => Err(fault),
+            Ok(value) => apply_one(alloc, *op, value),
+        },
+        Expr::Choose(test, a, b) => match evaluated(alloc, test, env) {
+            Err(fault) => Err(fault),
+            Ok(value) => {
+                if truth(&value) {
+                    evaluated(alloc, a, env)
+                } else {
+                    evaluated(alloc, b, env)
+                }
+            }
+        },
+        Expr::Only(a, glob) => match evaluated(alloc, a, env) {
+            Err(fault) => Err(fault),
+            Ok(value) => Ok(Value::Names(into_names(value).only(alloc, glob.as_slice())?)),
+        },
+    }
 }
 
 fn bound_value(alloc: Global, word: &Word, env: &Env) -> Result<Value, EvalFault>

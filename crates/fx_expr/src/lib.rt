@@ -20,7 +20,7 @@ mod value;
 mod word;
 
 pub use env::Env;
-pub use evaluation::{a_value_has_its_expressions_shape, eval, eval_counted};
+pub use evaluation::{a_value_has_its_expressions_shape, eval};
 pub use expr::{BinOp, Expr, UnOp};
 pub use fault::{EvalFault, ExprFault};
 pub use glob::matches;

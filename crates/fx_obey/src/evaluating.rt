@@ -8,7 +8,7 @@ ghost use Rattle.fx_spec.specs.Move as move;
 ghost use Rattle.fx_obey.specs.Leaving.{OrStops, part};
 
 use crate::leave::Leave;
-use fx_expr::{Env, EvalFault, Expr, TextSet, Value, eval};
+use fx_expr::{Env, EvalFault, Expr, TextSet, Value};
 use fx_spec::{End, Refusal};
 use fx_view::Stop;
 use std::alloc::Global;
@@ -24,7 +24,7 @@ pub(crate) fn evaluated(
     ensures { OrStops number tree_of
         (move.evaluated (eval_of variables.now (expr_tree expr.now))) result }
 {
-    match eval(alloc, expr, variables) {
+    match fx_rules::evaluated(alloc, expr, variables) {
         Ok(value) => Ok(value),
         Err(EvalFault::Fault(fault)) => Err(Leave::Over(End::Stopped {
             command: number,

@@ -1,5 +1,6 @@
 //! The description that a text stands for.
-ghost use Rattle.std.specs.Prelude.{IfOk, IfErr};
+ghost use Rattle.std.specs.Prelude.{◌≡◌, IfOk, IfErr};
+ghost use Rattle.fx_spec.specs.SpecTree.{SpecTree};
 ghost use Rattle.fx_show.specs.Described.{Describes, IsUndescribed};
 
 use crate::fault::DescriptionFault;
@@ -12,6 +13,8 @@ use std::alloc::Global;
 /// is refused: its length, its tokens, its form, its names and shapes.
 pub fn description_of(alloc: Global, text: &[u8]) -> Result<Checked, DescriptionFault>
     ensures read { IfOk result (λ spec. Describes text.now spec) }
+    ensures only { IfOk result (λ spec. (other : SpecTree)
+        → Describes text.now other → other ≡ spec) }
     ensures refused { IfErr result (IsUndescribed text.now) }
 {
     let spec = parse(alloc, text)?;

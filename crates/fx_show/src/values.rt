@@ -1,5 +1,5 @@
 //! What `show` prints.
-ghost use Rattle.std.specs.Prelude.{◌≡◌, ◌++◌, [], IfOk, Some, None};
+ghost use Rattle.std.specs.Prelude.{◌≡◌, ◌++◌, ◌<◌, [], IfOk, Some, None};
 ghost use Rattle.std.specs.FinMap.{get};
 ghost use Rattle.std.specs.Option.{option_map};
 ghost use Rattle.fx_store.specs.Rule.{answer};
@@ -9,7 +9,7 @@ ghost use Rattle.fx_walk.specs.Places.{place_tree, value_at as rule_at};
 ghost use Rattle.fx_show.specs.Shown as print;
 ghost use Rattle.fx_show.specs.Shown.{root_value};
 
-use fx_base::NoMemory;
+use fx_base::{NoMemory, Steps};
 use fx_expr::{Env, Value};
 use fx_report::value_line;
 use fx_spec::{Checked, Place};
@@ -17,14 +17,20 @@ use fx_store::{Filestore, LongText, Path};
 use fx_view::{Overlay, Stop, Whole};
 use fx_walk::value;
 use std::alloc::Global;
+use std::marker::Brand;
+use std::sync::ledger::{Blank, Ledger};
 
 /// The value at a place of a filestore of which nothing is read yet.
-fn value_at(
+fn value_at<L: Ledger>(
     alloc: Global,
     reader: &mut Whole,
     overlay: &Overlay,
     place: &Place,
+    blank: Blank,
 ) -> Result<Option<Value>, NoMemory>
+    requires name { blank.name ≡ L.name }
+    requires parts { blank.parts ≡ L.parts }
+    requires some { 0 < L.parts }
     requires described { IsDescribedPlace (place_tree place.now) }
     requires unread { reader.old.reads ≡ [] }
     requires unchanged { overlay.now ≡ [] }
@@ -32,7 +38,8 @@ fn value_at(
         answer (get reader.old.store.now.nodes) (rule_at (place_tree place.now))
         ≡ option_map tree_of value) }
 {
-    match value(alloc, reader, overlay, place) {
+    let mut steps = Steps::<L>::open(blank);
+    match value(alloc, reader, overlay, place, &mut steps) {
         Ok(value) => Ok(value),
         Err(Stop::NoMemory) => Err(NoMemory),
         Err(Stop::Needs(_)) => unreachable!(),
@@ -52,7 +59,7 @@ fn value_of(alloc: Global, spec: &Checked, store: &Filestore) -> Result<Option<V
         env: &env,
         spec: spec.spec(),
     };
-    value_at(alloc, &mut reader, &overlay, &place)
+    value_at::<Brand>(alloc, &mut reader, &overlay, &place, Blank::new(1))
 }
 
 /// The lines of a value.

@@ -12,7 +12,7 @@ ghost use Rattle.fx_rules.specs.Halts.{split};
 ghost use Rattle.fx_zip.specs.Telling.{Says, set_answer, given};
 
 use fx_base::Steps;
-use fx_expr::{Env, EvalFault, Expr, TextSet, Value, eval_counted};
+use fx_expr::{Env, EvalFault, Expr, TextSet, Value, eval};
 use fx_rules::Halt;
 use fx_spec::Refusal;
 use fx_store::{Path, PathFault};
@@ -32,7 +32,7 @@ pub(crate) fn evaluate<L: Ledger>(
         (Some (evaluated (eval_of env.now (expr_tree expr.now)))) (split result) }
     ensures tick { steps.new ≡ steps.old + 1 }
 {
-    match eval_counted(alloc, expr, env, steps) {
+    match eval(alloc, expr, env, steps) {
         Ok(value) => Ok(value),
         Err(EvalFault::Fault(fault)) => Err(Halt::Refused(Refusal::Expr(fault))),
         Err(EvalFault::NoMemory) => Err(Halt::Stopped(Stop::NoMemory)),
@@ -51,7 +51,7 @@ pub(crate) fn set_of<L: Ledger>(
         (Some (set_answer (eval_of env.now (expr_tree expr.now)))) (split result) }
     ensures tick { steps.new ≡ steps.old + 1 }
 {
-    match eval_counted(alloc, expr, env, steps) {
+    match eval(alloc, expr, env, steps) {
         Ok(value) => Ok(into_names(alloc, value)),
         Err(EvalFault::Fault(fault)) => Err(Halt::Refused(Refusal::Expr(fault))),
         Err(EvalFault::NoMemory) => Err(Halt::Stopped(Stop::NoMemory)),
@@ -71,7 +71,7 @@ pub(crate) fn inner_path<L: Ledger>(
         (Some (describe.focus_path path.now (eval_of env.now (expr_tree expr.now)))) (split result) }
     ensures tick { steps.new ≡ steps.old + 1 }
 {
-    match eval_counted(alloc, expr, env, steps) {
+    match eval(alloc, expr, env, steps) {
         Ok(value) => extended(alloc, path, &value),
         Err(EvalFault::Fault(fault)) => Err(Halt::Refused(Refusal::Expr(fault))),
         Err(EvalFault::NoMemory) => Err(Halt::Stopped(Stop::NoMemory)),

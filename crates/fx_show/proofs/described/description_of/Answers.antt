@@ -1,3 +1,4 @@
+use Rattle.std.proofs.Common.{sym, ◌∙◌}
 use Rattle.fx_spec.specs.Views.{spec_tree}
 use Rattle.fx_show.specs.Described.{IsUndescribed}
 use Rattle.fx_show.specs.Faults.{of_check}
@@ -9,3 +10,6 @@ returns-in_err-checked-clause-refused c =
     let fault = c.in_err-checked.field-0.0 in
     handed (IsUndescribed c.args.text.now) c.from_residual-in_err-checked.result (of_check fault) c.from_residual-in_err-checked.ensures.1
     (not_checked c.args.text.now (spec_tree c.in_ok-spec.spec) fault c.in_ok-spec.ensures.ok (λ other is. (c.in_ok-spec.ensures.only other is).0) c.in_err-checked.ensures)
+
+pub returns-clause-only : goal.returns-clause-only
+returns-clause-only c = λ other is. sym (c.in_ok-spec.ensures.only other is.read).0 ∙ sym c.in_ok-checked.ensures.0

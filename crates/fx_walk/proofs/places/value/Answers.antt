@@ -1,7 +1,7 @@
 use Rattle.fx_view.specs.Own.{own_at}
 use Rattle.fx_walk.specs.Places.{place_tree, value_at}
 use Rattle.fx_walk.proofs.Forms.{before_all}
-use Rattle.fx_walk.proofs.places.value_of.Goals as goal
+use Rattle.fx_walk.proofs.places.value.Goals as goal
 
 pub returns-in_err-env : goal.returns-in_err-env
 returns-in_err-env g c = record {
