@@ -1,4 +1,4 @@
-ghost use Rattle.std.specs.Prelude.{◌≡◌, [], IfOk, IfErr, IfSome, None, MatchOption, length, ◌↔◌, ◌≤◌};
+ghost use Rattle.std.specs.Prelude.{◌≡◌, [], IfOk, IfErr, OnOk, IfSome, None, MatchOption, length, ◌↔◌, ◌≤◌};
 ghost use Rattle.std.specs.FinMap.{get};
 ghost use Rattle.fx_spec.specs.Bases.{base_tree};
 ghost use Rattle.fx_machine.specs.Explained.{IsExplained};
@@ -12,6 +12,7 @@ use fx_base::NoMemory;
 use fx_machine::{Attempt, Entry};
 use fx_spec::Base;
 use fx_store::{Filestore, Node, Path};
+use fx_view::Reads;
 use indexmap::IndexMap;
 use std::alloc::Global;
 use std::marker::Model;
@@ -51,6 +52,13 @@ pub enum Settle {
         attempt: Attempt,
     },
     NoMemory(Attempt),
+}
+
+/// A settled attempt: the number of its entry, and what it had read.
+#[derive(Drop)]
+pub struct Settled {
+    pub entry: u64,
+    pub reads: Reads,
 }
 
 impl Board {
@@ -131,6 +139,25 @@ impl Board {
         ensures fresh { IfOk result (λ i. IsFreshReads self.old.base self.old.order attempt.reads) }
         ensures refused { IfErr result (RefusedAs self.old self.new attempt) }
     {
+        let settled = self.settle_keeping_reads(alloc, attempt)?;
+        Ok(settled.entry)
+    }
+
+    /// Settles an attempt as `settle` does, and hands out what it had read, for the caller to drop when it has time.
+    pub fn settle_keeping_reads(
+        &mut self,
+        alloc: Global,
+        attempt: Attempt,
+    ) -> Result<Settled, Settle>
+        requires explained { IsExplained self.old.base attempt }
+        requires next { attempt.txn ≡ next_number self.old.order attempt.shell }
+        requires reads { AreTrueReads self.old.base self.old.order attempt.reads }
+        ensures reads { IfOk result (λ s. s.reads ≡ attempt.reads) }
+        ensures entry { IfOk result (λ s. s.entry ≡ length self.old.order) }
+        ensures settled { OnOk result (self.new ≡ settled self.old attempt.shell attempt.txn) }
+        ensures fresh { OnOk result (IsFreshReads self.old.base self.old.order attempt.reads) }
+        ensures refused { IfErr result (RefusedAs self.old self.new attempt) }
+    {
         let (path, entry) = match stale(&self.index, &attempt.reads) {
             None => return self.add(alloc, attempt),
             Some(named) => named,
@@ -146,14 +173,15 @@ impl Board {
     }
 
     /// Adds an attempt that no entry stands in the way of.
-    fn add(&mut self, alloc: Global, attempt: Attempt) -> Result<u64, Settle>
+    fn add(&mut self, alloc: Global, attempt: Attempt) -> Result<Settled, Settle>
         requires explained { IsExplained self.old.base attempt }
         requires next { attempt.txn ≡ next_number self.old.order attempt.shell }
         requires reads { AreTrueReads self.old.base self.old.order attempt.reads }
         requires fresh { IsFreshReads self.old.base self.old.order attempt.reads }
-        ensures entry { IfOk result (λ i. i ≡ length self.old.order) }
-        ensures settled { IfOk result (λ i. self.new ≡ settled self.old attempt.shell attempt.txn) }
-        ensures fresh { IfOk result (λ i. IsFreshReads self.old.base self.old.order attempt.reads) }
+        ensures reads { IfOk result (λ s. s.reads ≡ attempt.reads) }
+        ensures entry { IfOk result (λ s. s.entry ≡ length self.old.order) }
+        ensures settled { OnOk result (self.new ≡ settled self.old attempt.shell attempt.txn) }
+        ensures fresh { OnOk result (IsFreshReads self.old.base self.old.order attempt.reads) }
         ensures refused { IfErr result (RefusedAs self.old self.new attempt) }
     {
         let entry = self.entries.len() as u64;
@@ -167,7 +195,10 @@ impl Board {
             Ok(grown) => {
                 self.store.apply(grown.changes);
                 note(&mut self.index, grown.keys, entry);
-                Ok(entry)
+                Ok(Settled {
+                    entry,
+                    reads: grown.reads,
+                })
             }
             Err(attempt) => Err(Settle::NoMemory(attempt)),
         }

@@ -8,14 +8,17 @@ ghost use Rattle.fx_board.specs.Growing.{entry_of};
 use fx_base::NoMemory;
 use fx_machine::{Attempt, Entry};
 use fx_store::{Changes, Filestore, Path, Paths};
+use fx_view::Reads;
 use indexmap::IndexMap;
 use std::alloc::Global;
 
-/// The changes of an attempt whose entry was added, and the keys for the index: the paths that they change.
+/// The changes of an attempt whose entry was added, and the keys for the index: the paths that they change; and what the
+/// attempt had read.
 #[derive(Drop)]
 pub(crate) struct Grown {
     pub changes: Changes,
     pub keys: Vec<Path>,
+    pub reads: Reads,
 }
 
 /// The paths that changes change, for an entry and for the index.
@@ -25,8 +28,8 @@ struct Changed {
     keys: Vec<Path>,
 }
 
-/// Adds the attempt's entry, and makes room in the filestore and in the index for its changes, which are handed out. A
-/// refusal hands the attempt back, and adds no entry.
+/// Adds the attempt's entry, and makes room in the filestore and in the index for its changes, which are handed out
+/// with its reads. A refusal hands the attempt back, and adds no entry.
 pub(crate) fn grow(
     alloc: Global,
     entries: &mut Vec<Entry>,
@@ -36,6 +39,7 @@ pub(crate) fn grow(
 ) -> Result<Grown, Attempt>
     ensures changes { IfOk result (λ grown. grown.changes ≡ attempt.changes) }
     ensures keys { IfOk result (λ grown. grown.keys.items ≡ changed_paths attempt.changes) }
+    ensures reads { IfOk result (λ grown. grown.reads ≡ attempt.reads) }
     ensures entry { OnOk result (entries.new.items ≡ entries.old.items ++ entry_of attempt ∷ []) }
     ensures places { OnOk result (HavePlaces store.new.places attempt.changes) }
     ensures room { IfOk result (λ grown. length grown.keys.items ≤ spare index.new) }
@@ -94,11 +98,13 @@ fn keys_of(alloc: Global, changes: &Changes) -> Result<Vec<Path>, NoMemory>
     Ok(keys)
 }
 
-/// Adds the attempt's entry, which changed these paths, and hands out its changes with the keys; or hands the attempt back.
+/// Adds the attempt's entry, which changed these paths, and hands out its changes and reads with the keys; or hands the
+/// attempt back.
 fn add_entry(entries: &mut Vec<Entry>, changed: Changed, attempt: Attempt) -> Result<Grown, Attempt>
     requires { changed.paths ≡ changed_paths attempt.changes }
     ensures changes { IfOk result (λ grown. grown.changes ≡ attempt.changes) }
     ensures keys { IfOk result (λ grown. grown.keys.items ≡ changed.keys.items) }
+    ensures reads { IfOk result (λ grown. grown.reads ≡ attempt.reads) }
     ensures entry { OnOk result (entries.new.items ≡ entries.old.items ++ entry_of attempt ∷ []) }
     ensures back { IfErr result (λ back. back ≡ attempt) }
     ensures same { OnErr result (entries.new.items ≡ entries.old.items) }
@@ -120,7 +126,11 @@ fn add_entry(entries: &mut Vec<Entry>, changed: Changed, attempt: Attempt) -> Re
         end,
     };
     match entries.push(entry) {
-        Ok(()) => Ok(Grown { changes, keys }),
+        Ok(()) => Ok(Grown {
+            changes,
+            keys,
+            reads,
+        }),
         Err(refused) => Err(Attempt {
             shell,
             txn,

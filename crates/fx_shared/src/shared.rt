@@ -1,4 +1,5 @@
 ghost use Rattle.std.specs.Prelude.{◌≡◌, ◌<◌, ◌+◌, None, Some, IfOk, IfErr, OnErr, All};
+ghost use Rattle.std.specs.Result.{result_map_both};
 ghost use Rattle.fx_turn.specs.Histories.{Begins};
 ghost use Rattle.fx_turn.specs.Views.{maker_of, parted, newcomer, joining, joins};
 ghost use Rattle.fx_turn.specs.Seats.{view};
@@ -10,7 +11,7 @@ ghost use Rattle.fx_shared.specs.Passes.{HasBase, HasLegal, AreTrueFor, HasSeenM
 ghost use Rattle.fx_shared.specs.Shared.{IsPassOf, IsReadyPass};
 
 use fx_base::NoMemory;
-use fx_board::{Board, Settle};
+use fx_board::{Board, Settle, Settled};
 use fx_machine::Attempt;
 use fx_spec::Base;
 use fx_store::{Node, Path};
@@ -79,7 +80,7 @@ impl Shared {
 
     /// Settles an attempt of the pass's next transaction: it becomes the next entry, whose number is answered; or a
     /// conflict is answered, exactly where some entry has changed a read path at or after its look. The attempt needs to be
-    /// explained, and its reads need to be true for the pass.
+    /// explained, and its reads need to be true for the pass. They are dropped after the turn.
     pub fn settle<R: Wait>(
         &self,
         rt: &R,
@@ -99,10 +100,10 @@ impl Shared {
         ensures refused { IfErr result (IsRefused (view pass.new) attempt) }
     {
         let mut board = self.turn.take(rt, pass);
-        let answer = board.settle(alloc, attempt);
+        let answer = board.settle_keeping_reads(alloc, attempt);
         let _entries = board.len();
         self.turn.give(pass, board);
-        answer
+        entry_of(answer)
     }
 
     /// Takes in a pass. The maker has then seen the longer of what both had seen, which begins with the other.
@@ -131,5 +132,15 @@ impl Shared {
         let board = turn.close(maker);
         let _entries = board.len();
         board
+    }
+}
+
+/// The number of the entry of a settled attempt. What the attempt had read is dropped.
+fn entry_of(answer: Result<Settled, Settle>) -> Result<u64, Settle>
+    ensures { result ≡ result_map_both (λ settled. settled.entry) (λ refusal. refusal) answer }
+{
+    match answer {
+        Ok(settled) => Ok(settled.entry),
+        Err(refusal) => Err(refusal),
     }
 }

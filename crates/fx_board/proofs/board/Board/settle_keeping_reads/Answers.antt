@@ -1,6 +1,6 @@
 use Rattle.std.proofs.Common.{refl, sym}
 use Rattle.fx_board.proofs.Settling.{fresh_now, named_now}
-use Rattle.fx_board.proofs.board.Board.settle.Goals as goal
+use Rattle.fx_board.proofs.board.Board.settle_keeping_reads.Goals as goal
 
 pub add-requires-clause-fresh : goal.add-requires-clause-fresh
 add-requires-clause-fresh c = fresh_now _ _ _ _ c.self.invariant c.args.attempt c.args.self.now c.self.view_is (sym c.in-None.ensures.least)
