@@ -2,6 +2,16 @@
 #![tactic(auto)]
 
 #[cfg(test)]
+mod bases;
+#[cfg(test)]
+mod crowds;
+#[cfg(test)]
 mod gates;
+#[cfg(test)]
+mod held;
+#[cfg(test)]
+mod holds;
+#[cfg(test)]
+mod runs;
 #[cfg(test)]
 mod turns;

@@ -1,0 +1,107 @@
+//! What a run begins with, from texts.
+use fx_base::NoMemory;
+use fx_check::check;
+use fx_folder::load;
+use fx_outside::{HostKind, HostText, MemoryHost};
+use fx_scripts::{ScriptFault, script_of};
+use fx_spec::{Base, Checked, Plan, Spec};
+use fx_spec_parse::parse;
+use fx_store::Filestore;
+use std::alloc::Global;
+use std::sync::Arc;
+use std::test::*;
+
+/// The folder on the host.
+const FOLDER: &str = "in";
+
+/// How many transactions are taken to stand before each script, which so has no more than 1,000.
+const BEFORE: u32 = 99_000;
+
+/// A description, and the files of a folder: the path of each on the host, below the folder, and its text.
+#[derive(Clone, Copy, Debug)]
+pub struct Ground {
+    pub description: &'static str,
+    pub files: &'static [(&'static str, &'static str)],
+}
+
+fn host_text(alloc: Global, text: &str) -> Result<HostText, NoMemory> {
+    Ok(HostText::from_string(String::from_str(alloc, text)?))
+}
+
+/// Puts the folder, where nothing stands.
+fn put_folder(alloc: Global, host: &mut MemoryHost) -> Result<(), NoMemory> {
+    let path = host_text(alloc, FOLDER)?;
+    if host.is_free(alloc, &path)? {
+        host.put(alloc, &path, HostKind::Folder, b"")?;
+    }
+    Ok(())
+}
+
+/// Puts a file, where nothing stands and a folder stands above.
+fn put_file(alloc: Global, host: &mut MemoryHost, path: &str, text: &str) -> Result<(), NoMemory> {
+    let path = host_text(alloc, path)?;
+    if host.is_free(alloc, &path)? {
+        host.put(alloc, &path, HostKind::File, text.as_bytes())?;
+    }
+    Ok(())
+}
+
+fn host_of(alloc: Global, ground: &Ground) -> Result<MemoryHost, NoMemory> {
+    let mut host = MemoryHost::new(alloc);
+    put_folder(alloc, &mut host)?;
+    for (path, text) in ground.files {
+        put_file(alloc, &mut host, path, text)?;
+    }
+    Ok(host)
+}
+
+/// The folder of some files; an empty one where it can't be loaded.
+fn store_of(alloc: Global, ground: &Ground) -> Result<Filestore, NoMemory> {
+    let mut host = host_of(alloc, ground)?;
+    let folder = host_text(alloc, FOLDER)?;
+    match load(alloc, &mut host, &folder) {
+        Ok(store) => Ok(store),
+        Err(_) => Filestore::new(alloc),
+    }
+}
+
+/// The description of a text, and that of a file where it is refused.
+fn description_of(alloc: Global, text: &str) -> Checked {
+    match parse(alloc, text.as_bytes()) {
+        Ok(spec) => check(alloc, spec).unwrap_or(Checked::of(Spec::File)),
+        Err(_) => Checked::of(Spec::File),
+    }
+}
+
+/// The scripts of some texts, up to the most that a run may have.
+fn plan_of(alloc: Global, texts: &[&str]) -> Result<Plan, ScriptFault> {
+    let mut plan = Plan::new(alloc);
+    for text in texts {
+        if plan.len() >= 64 {
+            break;
+        }
+        let script = script_of(alloc, text.as_bytes(), BEFORE)?;
+        match plan.push(alloc, script) {
+            Ok(()) => {}
+            Err(_) => return Err(ScriptFault::NoMemory),
+        }
+    }
+    Ok(plan)
+}
+
+/// What a run of a plan begins with.
+fn gathered(alloc: Global, ground: &Ground, plan: Plan) -> Result<Arc<Base>, NoMemory> {
+    let loaded = store_of(alloc, ground)?;
+    let base = Base {
+        description: description_of(alloc, ground.description),
+        plan,
+        loaded,
+    };
+    Ok(Arc::new(alloc, base)?)
+}
+
+/// What a run of scripts begins with.
+pub fn base_of(alloc: Global, ground: &Ground, scripts: &[&str]) -> Result<Arc<Base>, Fail> {
+    let plan = plan_of(alloc, scripts)?;
+    Ok(gathered(alloc, ground, plan)?)
+}

@@ -1,0 +1,28 @@
+//! As many shells as there may be, all at one file.
+use crate::bases::{Ground, base_of};
+use crate::runs::run;
+use fx_outside::OpenGate;
+use std::test::*;
+
+const GROUND: Ground = Ground {
+    description: "(\"n\" :: file)",
+    files: &[("in/n", "0")],
+};
+
+/// Counts to three.
+const COUNTER: &str = "\
+txn { down fetch v : str store(text((int(v) + 1))) }
+txn { down fetch v : str store(text((int(v) + 1))) }
+txn { down fetch v : str store(text((int(v) + 1))) }
+";
+
+const SCRIPTS: [&str; 64] = [COUNTER; 64];
+
+#[test]
+fn sixty_four_shells_count_together(rt: HostRuntime) -> Result<(), Fail> {
+    let base = base_of(rt.alloc(), &GROUND, &SCRIPTS)?;
+    let ran = run(&rt, rt.alloc(), base, &OpenGate)?;
+    assert!(rt; ran.printed().starts_with("forest report 1\nentries 192\n"));
+    assert_eq!(rt; ran.text_at(rt.alloc(), "/n")?.as_str(), "192");
+    Ok(())
+}
