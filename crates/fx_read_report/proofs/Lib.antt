@@ -1,0 +1,11 @@
+pub mod NameBytes
+pub mod PartLaws
+pub mod LineLaws
+pub mod Tokens
+pub mod Feeds
+pub mod Advances
+pub mod Completes
+pub mod Texts
+pub mod Printing
+pub mod Taking
+pub mod Reporting

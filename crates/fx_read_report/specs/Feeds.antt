@@ -1,0 +1,12 @@
+-- Where the first line of bytes ends.
+use Rattle.std.specs.Prelude.{◌≡◌, ℕ, ◌+◌, ◌<◌, List, ◌∷◌, ◌++◌, length, take, drop, Option, Some, None}
+use Rattle.fx_read_report.specs.Form.{LacksFeed}
+
+pub record IsFeedAt (bytes : List ℕ) (i : ℕ) : Type 0 where
+  pub within : i < length bytes
+  pub before : LacksFeed (take i bytes)
+  pub parts : bytes ≡ take i bytes ++ 10 ∷ drop (i + 1) bytes
+
+abbrev pub FindsFeed : List ℕ → Option ℕ → Type 0
+FindsFeed bytes None = LacksFeed bytes
+FindsFeed bytes (Some i) = IsFeedAt bytes i

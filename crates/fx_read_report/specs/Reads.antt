@@ -1,0 +1,101 @@
+-- How the parts of a line are read.
+use Rattle.std.specs.Prelude.{ℕ, ◌^◌, Bool, cond, List, [], ◌∷◌, nat_eq, nat_lt, bytes_eq, Option, Some, None, Result, Ok, Err, codes}
+use Rattle.std.specs.Option.{option_map, option_and_then}
+use Rattle.fx_expr.specs.declared.fault.ExprFault.TheVariants as fault
+use Rattle.fx_store.specs.declared.name.PathFault.{PathFault}
+use Rattle.fx_store.specs.Faults.{read_path}
+use Rattle.fx_spec.specs.declared.refusal.Refusal.{Refusal}
+use Rattle.fx_spec.specs.declared.refusal.Refusal.TheVariants as refusal
+use Rattle.fx_spec.specs.declared.refusal.End.{End}
+use Rattle.fx_spec.specs.declared.refusal.End.TheVariants as end
+use Rattle.fx_machine.specs.declared.retry.Retry.{Retry}
+use Rattle.fx_read_words.specs.Numbers.{after, leading_number}
+use Rattle.fx_read_words.specs.Quotes.{unquoted}
+use Rattle.fx_read_report.specs.Lines.{Line, entry, retry}
+
+-- the number behind words, and what stands behind it
+unfoldable pub field_at : List ℕ → List ℕ → Option (ℕ × List ℕ)
+field_at words bytes = option_and_then leading_number (after words bytes)
+
+-- the same for a number of 32 bits
+unfoldable pub small_at : List ℕ → List ℕ → Option (ℕ × List ℕ)
+small_at words bytes = option_and_then (λ r. cond (nat_lt r.0 (2 ^ 32)) (Some r) None) (field_at words bytes)
+
+abbrev pub alone : Option (ℕ × List ℕ) → Option ℕ
+alone None = None
+alone (Some (n, [])) = Some n
+alone (Some (n, b ∷ rest)) = None
+
+-- the number behind words, with nothing behind it
+unfoldable pub last_at : List ℕ → List ℕ → Option ℕ
+last_at words bytes = alone (field_at words bytes)
+
+abbrev pub path_or_none : Result (List (List ℕ)) PathFault → Option (List (List ℕ))
+path_or_none (Ok path) = Some path
+path_or_none (Err f) = None
+
+abbrev pub path_alone : Option (List ℕ × List ℕ) → Option (List (List ℕ))
+path_alone None = None
+path_alone (Some (text, [])) = path_or_none (read_path text)
+path_alone (Some (text, b ∷ rest)) = None
+
+-- the path of a quote, with nothing behind it
+unfoldable pub path_at : List ℕ → Option (List (List ℕ))
+path_at bytes = path_alone (unquoted bytes)
+
+-- the refusals that carry nothing, by their numbers
+abbrev pub plain_of : ℕ → Option Refusal
+plain_of n =
+    cond (nat_eq n 1) (Some refusal.NoStep) (cond (nat_eq n 2) (Some refusal.NoElement) (cond (nat_eq n 3) (Some refusal.NoPlace) (cond (nat_eq n 4) (Some refusal.Lacks) (cond (nat_eq n 5) (Some refusal.WrongForm) (cond (nat_eq n 7) (Some refusal.TooDeep) (cond (nat_eq n 8) (Some refusal.BadName) (cond (nat_eq n 9) (Some refusal.NoDefault) (cond (nat_eq n 11) (Some refusal.Absent) (cond (nat_eq n 12) (Some refusal.Exists) None)))))))))
+
+abbrev pub plain_name : Refusal → List ℕ
+plain_name refusal.NoStep = codes "NoStep"
+plain_name refusal.NoElement = codes "NoElement"
+plain_name refusal.NoPlace = codes "NoPlace"
+plain_name refusal.Lacks = codes "Lacks"
+plain_name refusal.WrongForm = codes "WrongForm"
+plain_name (refusal.Blocked path) = []
+plain_name refusal.TooDeep = codes "TooDeep"
+plain_name refusal.BadName = codes "BadName"
+plain_name refusal.NoDefault = codes "NoDefault"
+plain_name (refusal.Expr f) = []
+plain_name refusal.Absent = codes "Absent"
+plain_name refusal.Exists = codes "Exists"
+
+abbrev pub when_named : List ℕ → Option Refusal → Option Refusal
+when_named name None = None
+when_named name (Some r) = cond (bytes_eq name (plain_name r)) (Some r) None
+
+-- the refusal of this number and name, if it carries nothing
+unfoldable pub plain_at : ℕ → List ℕ → Option Refusal
+plain_at n name = when_named name (plain_of n)
+
+-- the refusal of an expression's fault
+unfoldable pub fault_at : List ℕ → Option Refusal
+fault_at name =
+    cond (bytes_eq name (codes "Expr TooLong")) (Some (refusal.Expr fault.TooLong)) (cond (bytes_eq name (codes "Expr Overflow")) (Some (refusal.Expr fault.Overflow)) (cond (bytes_eq name (codes "Expr NotNumber")) (Some (refusal.Expr fault.NotNumber)) None))
+
+unfoldable pub blocked_at : List ℕ → Option Refusal
+blocked_at name = option_map refusal.Blocked (option_and_then path_at (after (codes "Blocked ") name))
+
+-- the refusal of this number and name
+unfoldable pub refusal_at : ℕ → List ℕ → Option Refusal
+refusal_at n name = cond (nat_eq n 6) (blocked_at name) (cond (nat_eq n 10) (fault_at name) (plain_at n name))
+
+-- where a transaction stopped
+unfoldable pub stop_at : List ℕ → Option End
+stop_at bytes =
+    option_and_then (λ c. option_and_then (λ n. option_and_then (λ name. option_map (λ r. end.Stopped c.0 r) (refusal_at n.0 name)) (after (codes " ") n.1)) (field_at (codes " ") c.1)) (small_at (codes "stopped ") bytes)
+
+unfoldable pub end_at : List ℕ → Option End
+end_at bytes = cond (bytes_eq bytes (codes "done")) (Some end.Done) (cond (bytes_eq bytes (codes "aborted")) (Some end.Aborted) (stop_at bytes))
+
+-- the line of an entry
+unfoldable pub entry_at : List ℕ → Option Line
+entry_at text =
+    option_and_then (λ i. option_and_then (λ k. option_and_then (λ j. option_and_then (λ rest. option_map (λ e. entry i.0 k.0 j.0 e) (end_at rest)) (after (codes " ") j.1)) (small_at (codes " txn ") k.1)) (small_at (codes " shell ") i.1)) (field_at (codes "entry ") text)
+
+-- the line of a retry
+unfoldable pub retry_at : List ℕ → Option Line
+retry_at text =
+    option_and_then (λ k. option_and_then (λ j. option_and_then (λ i. option_and_then (λ rest. option_map (λ p. retry (record { shell = k.0; txn = j.0; entry = i.0; path = p })) (path_at rest)) (after (codes " path ") i.1)) (field_at (codes " entry ") j.1)) (small_at (codes " txn ") k.1)) (small_at (codes "retry shell ") text)

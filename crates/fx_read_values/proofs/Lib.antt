@@ -1,0 +1,5 @@
+pub mod Pieces
+pub mod Cancels
+pub mod Finds
+pub mod Loops
+pub mod Trees
