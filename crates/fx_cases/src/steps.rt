@@ -27,8 +27,8 @@ fn run_words(alloc: Global, scripts: &str) -> Result<Words, NoMemory> {
 /// What a run of the scripts begins with: the description at `spec`, the folder at `in`, and the scripts.
 pub fn base_of(alloc: Global, stage: &mut Stage, scripts: &str) -> Result<Arc<Base>, Status> {
     let words = run_words(alloc, scripts)?;
-    match job_of(&words) {
-        Some(Job::Run(job)) => read_base(alloc, &job, &mut stage.host),
+    match job_of(alloc, &words) {
+        Ok(Job::Run(job)) => read_base(alloc, &job, &mut stage.host),
         _ => Err(Status::Usage),
     }
 }

@@ -13,7 +13,8 @@ use fx_base::NoMemory;
 use fx_store::{Bytes, Change, Changes, Filestore, LinkText, Name, Names, Node, Path, PathFault};
 use std::alloc::Global;
 
-const PROJECTS: u32 = 16;
+/// How many projects there are.
+pub const PROJECTS: u32 = 16;
 
 const NOTES: u32 = 8;
 
@@ -60,6 +61,16 @@ fn below(alloc: Global, dir: &Path, entry: &[u8]) -> Result<Path, NoMemory>
         Err(PathFault::BadName) => unreachable!(),
         Err(PathFault::TooDeep) => unreachable!(),
     }
+}
+
+/// The path of an entry of a project's directory.
+pub fn project_entry(alloc: Global, number: u32, entry: &[u8]) -> Result<Path, NoMemory>
+    requires number { number < PROJECTS }
+    requires entry { IsName entry.now }
+    ensures { IfOk result (λ path. path ≡ project number ∷ entry.now ∷ []) }
+{
+    let dir = below(alloc, &Path::root(alloc), &project(number))?;
+    below(alloc, &dir, entry)
 }
 
 /// Adds what stands at a path.

@@ -7,3 +7,4 @@ mod files;
 mod lines;
 
 pub use case::{Generated, generate};
+pub use files::{PROJECTS, project_entry};

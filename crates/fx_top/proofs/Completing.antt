@@ -1,5 +1,5 @@
 -- With fit inputs and no fault of host or sink a run is done, or memory runs out.
-use Rattle.std.proofs.Common.{◌≡◌, ◌⊎◌, inl, inr, ℕ, ◌+◌, length, subst, Bool, true, false, cond, List, [], ◌∷◌, ◌++◌, Option, Some, None, Ok, Err, IfSome, IsSomeAnd, refl, sym, ap, ◌∙◌}
+use Rattle.std.proofs.Common.{◌≡◌, ◌⊎◌, inl, inr, ℕ, ◌+◌, length, subst, Bool, true, false, cond, List, [], ◌∷◌, ◌++◌, Option, Some, None, Ok, Err, IfSome, IsSomeAnd, refl, sym, ap, ◌∙◌, arith}
 use Rattle.std.specs.FinMap.{get}
 use Rattle.std.specs.Option.{option_map_or}
 use Rattle.fx_base.specs.Causes.{Rose}
@@ -17,15 +17,20 @@ use Rattle.fx_spec.specs.CommandTree.{CommandTree}
 use Rattle.fx_command.specs.declared.status.Status.{Status}
 use Rattle.fx_command.specs.declared.status.TextFault.{TextFault}
 use Rattle.fx_command.specs.declared.status.Status.TheVariants as status
+use Rattle.fx_gen_command.specs.Rows.{gen_making}
+use Rattle.fx_large.specs.Rows.{large_making}
+use Rattle.fx_making.specs.Making.{Making, MakingRow}
+use Rattle.fx_making.specs.Out.{IsProperOut}
+use Rattle.fx_making.proofs.Makings.{making_completes, making_no_memory}
+use Rattle.fx_making.proofs.Outs.{two, not_taken, can_write}
 use Rattle.fx_show.specs.Rows.{ShowRow}
 use Rattle.fx_show.specs.Shows.{IsProperShow}
 use Rattle.fx_show.proofs.Completing.{show_completes}
-use Rattle.fx_top.specs.Rows.{Row, RunRow, CannotSave, IsProperRun, FitsOut, Completes}
+use Rattle.fx_command.proofs.Told.{if_some_map, same, some_unit}
+use Rattle.fx_top.proofs.Ending.{no_memory}
+use Rattle.fx_top.specs.Rows.{AsksFitPaths, Row, RunRow, CannotSave, IsProperRun, Completes}
 use Rattle.fx_top.specs.Inputs.{HasTexts, HasInputs, CannotRead, IsFirstRefused, HasScript, HasNoScript, HasScripts, StopsAtScript, LacksFile}
-use Rattle.fx_words.specs.Job.{Job, Run, Show, RunJob, ShowJob}
-
-two : (b : Bool) → b ≡ true → b ≡ false → ⊥
-two b is isnt = let both : true ≡ false = sym is ∙ isnt in cc
+use Rattle.fx_words.specs.Job.{Job, Run, Show, Gen, Large, RunJob, ShowJob}
 
 -- scripts that are all read are not stopped at
 not_stopped : (stops : Tree → List ℕ → ℕ → Type 0) (t : Tree) (before : ℕ) (paths : List (List ℕ)) (plan : List (List (List CommandTree))) → ((path : List ℕ) (before : ℕ) (txns : List (List CommandTree)) → HasScript t path before txns → stops t path before → ⊥) → HasScripts t before paths plan → (i : ℕ) → StopsAtScript stops t before paths i → ⊥
@@ -49,43 +54,8 @@ can_read t j has (inl spec) = two (is_file_at t j.spec) has.0.0.1.file spec
 can_read t j has (inr (inl scripts)) = not_stopped LacksFile t 0 j.scripts has.0.1.0 (λ path before txns read lacks. two (is_file_at t path) read.file lacks) has.0.1.1 scripts.1.0 scripts.1.1
 can_read t j has (inr (inr folder)) = two (is_folder_at t j.folder) has.1.1.0 folder.1
 
-folder_kind : (k : HostKind) → is_folder_kind k ≡ true → k ≡ kind.Folder
-folder_kind kind.File is = cc
-folder_kind kind.Folder is = refl
-folder_kind kind.Other is = cc
-
-abbrev is_folder_of : Option Entry → Bool
-is_folder_of o = option_map_or (λ e. is_folder_kind e.kind) o false
-
-kind_there : (o : Option Entry) (e : Entry) → o ≡ Some e → is_folder_of o ≡ true → e.kind ≡ kind.Folder
-kind_there o e there is = folder_kind e.kind (sym (ap is_folder_of there) ∙ is)
-
-none_there : (o : Option Entry) → o ≡ None → is_folder_of o ≡ true → ⊥
-none_there o none is = two (is_folder_of o) is (ap is_folder_of none)
-
-none_some : {A : Type 0} (o : Option A) (x : A) → o ≡ None → o ≡ Some x → ⊥
-none_some o x none some = let both : None ≡ Some x = sym none ∙ some in cc
-
-not_taken : (t : Tree) (path : List ℕ) (there : Bool) → IsReady t path there → IsTaken t path → ⊥
-not_taken t path true ready (e, at, inl other) = other (kind_there (entry_at t path) e at ready.0)
-not_taken t path true ready (e, at, inr (name, inside, is)) = none_some (get t (parts path ++ name ∷ [])) inside (ready.1 name) is
-not_taken t path false ready (e, at, why) = none_some (entry_at t path) e ready.1 at
-
-unfit_none : (b : Bool) (o : Option Entry) → b ≡ false → cond b o None ≡ None
-unfit_none true o is = cc
-unfit_none false o is = refl
-
-not_unfit : (t : Tree) (path : List ℕ) (there : Bool) → IsReady t path there → is_fit path ≡ false → ⊥
-not_unfit t path true ready unfit = none_there (entry_at t path) (unfit_none (is_fit path) (get t (parts path)) unfit) ready.0
-not_unfit t path false ready unfit = two (is_fit path) ready.0 unfit
-
-not_lacking : (t : Tree) (path : List ℕ) (there : Bool) → IsReady t path there → FitsOut t path there → IsReady t path false → has_folder t (above (parts path)) ≡ false → ⊥
-not_lacking t path true ready fits absent lacks = none_there (entry_at t path) absent.1 ready.0
-not_lacking t path false ready fits absent lacks = two (has_folder t (above (parts path))) fits lacks
-
 can_save : (t : Tree) (j : RunJob) → IsProperRun t j → CannotSave t j → ⊥
-can_save t j proper (inputs, inl unfit) = not_unfit t j.out proper.there proper.free unfit
-can_save t j proper (inputs, inr lacks) = not_lacking t j.out proper.there proper.free proper.above lacks.0 lacks.1
+can_save t j proper cannot = can_write t j.out proper.there proper.free proper.above cannot.1
 
 abbrev Ends : Status → Type 0
 Ends st = (st ≡ status.Done) ⊎ (st ≡ status.NoMemory)
@@ -116,14 +86,43 @@ told_show_row : (j : ShowJob) (host host' : HostView) (sink sink' : SinkView) (s
 told_show_row j host host' sink sink' st row None is = tt
 told_show_row j host host' sink sink' st row (Some t) is = λ proper none quiet. show_completes j t host host' sink sink' st is proper none quiet row
 
+told_making_row : {A : Type 0} (m : Making A) (host host' : HostView) (sink sink' : SinkView) (st : Status) → MakingRow m host host' sink sink' st → (o : Option Tree) → host.told ≡ o → IfSome o (λ t. IsProperOut t m.out → (Rose host.faults host'.faults → ⊥) → (Rose sink.faults sink'.faults → ⊥) → Ends st)
+told_making_row m host host' sink sink' st row None is = tt
+told_making_row m host host' sink sink' st row (Some t) is = λ proper none quiet. making_completes m t host host' sink sink' st is proper none quiet row
+
 pub completes : (j : Job) (host host' : HostView) (sink sink' : SinkView) (st : Status) → Row j host host' sink sink' st → Completes j host host' sink sink' st
 completes (Run j) host host' sink sink' st row = told_row j host host' sink sink' st row host.told refl
 completes (Show j) host host' sink sink' st row = told_show_row j host host' sink sink' st row host.told refl
+completes (Gen j) host host' sink sink' st row = told_making_row (gen_making j.number j.out) host host' sink sink' st row host.told refl
+completes (Large j) host host' sink sink' st row = told_making_row (large_making j.number j.out) host host' sink sink' st row host.told refl
 
 -- a command does not end as words without a form do
 not_usage : (j : Job) (host host' : HostView) (sink sink' : SinkView) → Row j host host' sink sink' status.Usage → ⊥
 not_usage (Run j) host host' sink sink' row = row
 not_usage (Show j) host host' sink sink' row = row
+not_usage (Gen j) host host' sink sink' row = row
+not_usage (Large j) host host' sink sink' row = row
 
 pub row_usage : (j : Job) (host host' : HostView) (sink sink' : SinkView) (st : Status) → Row j host host' sink sink' st → st ≡ status.Usage → ⊥
 row_usage j host host' sink sink' st row is = not_usage j host host' sink sink' (subst (λ st. Row j host host' sink sink' st) is row)
+
+-- ---- words that want of memory keeps from being read
+
+pub unread_row : (j : Job) (host : HostView) (sink : SinkView) → Row j host host sink sink status.NoMemory
+unread_row (Run j) host sink = no_memory j host host (record { same = refl; later = omega arith }) sink
+unread_row (Show j) host sink = same host host sink (record { same = refl; later = omega arith })
+unread_row (Gen j) host sink = making_no_memory (gen_making j.number j.out) host host (record { same = refl; later = omega arith }) sink
+unread_row (Large j) host sink = making_no_memory (large_making j.number j.out) host host (record { same = refl; later = omega arith }) sink
+
+pub unread_fit : (j : Job) (host : HostView) → AsksFitPaths j host host
+unread_fit (Run j) host = λ fit. refl
+unread_fit (Show j) host = λ fit. refl
+unread_fit (Gen j) host = λ fit. refl
+unread_fit (Large j) host = λ fit. refl
+
+pub unread_completes : (j : Job) (host : HostView) (sink : SinkView) → Completes j host host sink sink status.NoMemory
+unread_completes j host sink = if_some_map (λ _. Unit {0}) _ host.told (λ t _ proper calm dry. inr refl) (some_unit host.told)
+
+pub whatever : {A : Type 0} (P : A → Type 0) (o : Option A) → ((x : A) → P x) → IfSome o P
+whatever P None each = tt
+whatever P (Some x) each = each x

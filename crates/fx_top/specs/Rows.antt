@@ -3,16 +3,20 @@ use Rattle.std.specs.Prelude.{◌≡◌, ◌⊎◌, ◌&&◌, ℕ, Bool, true, f
 use Rattle.std.specs.List.{list_all}
 use Rattle.fx_base.specs.Causes.{Rose}
 use Rattle.fx_store.specs.Whole.{Nodes}
-use Rattle.fx_outside.specs.Host.{HostView, ReadsOnly}
-use Rattle.fx_outside.specs.Path.{parts, is_fit, above}
+use Rattle.fx_outside.specs.Host.{HostView, AsksFit}
+use Rattle.fx_outside.specs.Path.{parts, is_fit}
 use Rattle.fx_outside.specs.Sink.{SinkView}
-use Rattle.fx_outside.specs.Tree.{Tree, has_folder}
+use Rattle.fx_outside.specs.Tree.{Tree}
 use Rattle.fx_folder.specs.Folder.{IfTold, IsReady, IsTaken, IsSaved, IsPartlySaved}
 use Rattle.fx_folder.specs.Loads.{IsRefused}
-use Rattle.fx_words.specs.Job.{Job, Run, Show, RunJob}
+use Rattle.fx_words.specs.Job.{Job, Run, Show, Gen, Large, RunJob}
 use Rattle.fx_command.specs.declared.status.Status.{Status}
 use Rattle.fx_command.specs.declared.status.Status.TheVariants as status
 use Rattle.fx_command.specs.Left.{IsSame, Grows}
+use Rattle.fx_gen_command.specs.Rows.{gen_making}
+use Rattle.fx_large.specs.Rows.{large_making}
+use Rattle.fx_making.specs.Making.{MakingRow}
+use Rattle.fx_making.specs.Out.{CannotWrite, FitsOut, IsProperOut}
 use Rattle.fx_show.specs.Rows.{ShowRow, ShowAsksFit}
 use Rattle.fx_show.specs.Shows.{IsProperShow}
 use Rattle.fx_top.specs.Inputs.{HasTexts, HasInputs, CannotRead, IsFirstRefused}
@@ -54,7 +58,7 @@ MayHoldPart j t t' = (t' ≡ t) ⊎ IsPartThere t t' j
 
 -- OUT is unfit, or nothing stands there and no folder above
 abbrev pub CannotSave : Tree → RunJob → Type 0
-CannotSave t j = HasInputs t j × ((is_fit j.out ≡ false) ⊎ (IsReady t j.out false × (has_folder t (above (parts j.out)) ≡ false)))
+CannotSave t j = HasInputs t j × CannotWrite t j.out
 
 -- OUT was not written whole, and nothing is printed
 pub record IsUnsaved (j : RunJob) (host host' : HostView) (sink sink' : SinkView) : Type 0 where
@@ -83,6 +87,8 @@ RunRow j host host' sink sink' status.NoMemory = (sink' ≡ sink) × IfTold host
 abbrev pub Row : Job → HostView → HostView → SinkView → SinkView → Status → Type 0
 Row (Run j) host host' sink sink' st = RunRow j host host' sink sink' st
 Row (Show j) host host' sink sink' st = ShowRow j host host' sink sink' st
+Row (Gen j) host host' sink sink' st = MakingRow (gen_making j.number j.out) host host' sink sink' st
+Row (Large j) host host' sink sink' st = MakingRow (large_making j.number j.out) host host' sink sink' st
 
 -- a stage that only reads ends a run so, whatever the sink
 abbrev pub EndsAs : RunJob → HostView → HostView → Status → Type 0
@@ -103,11 +109,8 @@ RunAsksFit j host host' = has_fit_paths j ≡ true → host'.unfit ≡ host.unfi
 abbrev pub AsksFitPaths : Job → HostView → HostView → Type 0
 AsksFitPaths (Run j) host host' = RunAsksFit j host host'
 AsksFitPaths (Show j) host host' = ShowAsksFit j host host'
-
--- where OUT has to be made, a folder stands above it
-abbrev pub FitsOut : Tree → List ℕ → Bool → Type 0
-FitsOut t path true = Unit {0}
-FitsOut t path false = has_folder t (above (parts path)) ≡ true
+AsksFitPaths (Gen j) host host' = AsksFit j.out host host'
+AsksFitPaths (Large j) host host' = AsksFit j.out host host'
 
 -- texts that stand for a description and scripts, a folder that loads, and an OUT that is an empty folder or can be made
 pub record IsProperRun (t : Tree) (j : RunJob) : Type 0 where
@@ -119,6 +122,8 @@ pub record IsProperRun (t : Tree) (j : RunJob) : Type 0 where
 abbrev pub IsProper : Tree → Job → Type 0
 IsProper t (Run j) = IsProperRun t j
 IsProper t (Show j) = IsProperShow t j
+IsProper t (Gen j) = IsProperOut t j.out
+IsProper t (Large j) = IsProperOut t j.out
 
 -- with fit inputs and no fault of the host or the sink all is done, or memory runs out
 abbrev pub Completes : Job → HostView → HostView → SinkView → SinkView → Status → Type 0

@@ -1,5 +1,5 @@
 //! The top call.
-ghost use Rattle.std.specs.Prelude.{◌≡◌, ◌↔◌, None, IfSome};
+ghost use Rattle.std.specs.Prelude.{◌≡◌, ◌⊎◌, None, IfSome};
 ghost use Rattle.fx_words.specs.Job.{job_of};
 ghost use Rattle.fx_words.specs.JobOf.{asked_job, IsAnyJob};
 ghost use Rattle.fx_top.specs.Rows.{Row, AsksFitPaths, Completes};
@@ -8,9 +8,11 @@ ghost use Rattle.fx_command.specs.StatusOf.{status_of};
 
 use crate::run::run;
 use fx_command::Status;
+use fx_gen_command::write_generated;
+use fx_large::run_generated;
 use fx_outside::{Gate, Host, Sink, Words};
 use fx_show::show;
-use fx_words::{Job, job_of};
+use fx_words::{Job, WordsFault, job_of};
 use std::alloc::Global;
 use std::sync::Wait;
 use std::thread::Threads;
@@ -32,6 +34,8 @@ fn run_job<R: Threads + Wait + Sync, H: Host, S: Sink, G: Gate + Sync>(
     match job {
         Job::Run(job) => run(rt, alloc, job, host, out, gate),
         Job::Show(job) => show(alloc, job, host, out),
+        Job::Gen(job) => write_generated(alloc, job.number, job.out, host, out),
+        Job::Large(job) => run_generated(rt, alloc, job.number, job.out, host, out, gate),
     }
 }
 
@@ -56,8 +60,10 @@ pub fn top<R: Threads + Wait + Sync, H: Host, S: Sink, G: Gate + Sync>(
     out: &mut S,
     gate: &G,
 ) -> Status
-    // The words have no command's form.
-    ensures usage { (result ≡ Status.Usage) ↔ (job_of words.now ≡ None) }
+    // The words have no command's form, as far as memory serves to read them.
+    ensures usage { result ≡ Status.Usage → job_of words.now ≡ None }
+    ensures refused { job_of words.now ≡ None
+        → (result ≡ Status.Usage) ⊎ (result ≡ Status.NoMemory) }
     ensures idle { job_of words.now ≡ None
         → IsIdle (H.view host.old) (H.view host.new) (S.view out.old) (S.view out.new) }
 
@@ -73,8 +79,9 @@ pub fn top<R: Threads + Wait + Sync, H: Host, S: Sink, G: Gate + Sync>(
     ensures complete { IfSome (job_of words.now) (λ j.
         Completes j (H.view host.old) (H.view host.new) (S.view out.old) (S.view out.new) result) }
 {
-    match job_of(words) {
-        Some(job) => status_of(run_job(rt, alloc, &job, host, out, gate)),
-        None => Status::Usage,
+    match job_of(alloc, words) {
+        Ok(job) => status_of(run_job(rt, alloc, &job, host, out, gate)),
+        Err(WordsFault::Usage) => Status::Usage,
+        Err(WordsFault::NoMemory) => Status::NoMemory,
     }
 }

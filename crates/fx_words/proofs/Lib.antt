@@ -1,4 +1,6 @@
 pub mod Decimals
 pub mod Numbered
+pub mod Numbers
 pub mod Lists
+pub mod Asked
 pub mod Below

@@ -1,10 +1,12 @@
 -- A list from a place on, and tests of all its elements.
-use Rattle.std.proofs.Common.{◌≡◌, ℕ, zero, suc, ◌+◌, ◌<◌, ◌≤◌, Bool, true, false, cond, ◌&&◌, List, [], ◌∷◌, ◌++◌, length, drop, map, get_or, Option, Some, None, refl, sym, ap, ◌∙◌, arith}
+use Rattle.std.proofs.Common.{◌≡◌, ℕ, zero, suc, ◌+◌, ◌<◌, ◌≤◌, Bool, true, false, cond, ◌&&◌, List, [], ◌∷◌, ◌++◌, length, drop, map, get_or, Option, Some, None, refl, sym, ap, ◌∙◌, arith, append-nil, append_assoc}
 use Rattle.std.specs.Prelude.{is_some, codes}
 use Rattle.std.specs.List.{slice_get, list_all, slice_split}
 use Rattle.std.specs.Option.{option_map, option_and_then}
 use Rattle.std.specs.Str.{bytes_eq}
 use Rattle.std.proofs.lemmas.List.{map-append}
+use Rattle.std.specs.Borrow.{Bor}
+use Rattle.fx_command_line.specs.WordsOf.{texts_of}
 use Rattle.fx_words.specs.Job.{is_plain, shell_named, shells_named, schedule_of, is_comma}
 
 pub drop_there : {X : Type 0} (xs : List X) (i : ℕ) (x : X) → Some x ≡ slice_get xs i → drop i xs ≡ x ∷ drop (i + 1) xs
@@ -94,3 +96,17 @@ are_shells count text e isnt =
 
 pub schedule_is : (count : ℕ) (text ks : List ℕ) → bytes_eq text (codes "none") ≡ false → shells_named count (slice_split is_comma text) ≡ Some ks → schedule_of count text ≡ Some ks
 schedule_is count text ks isnt e = ap (λ b. cond b (Some []) (shells_named count (slice_split is_comma text))) isnt ∙ e
+
+-- one more text of the words
+pub texts_more : (texts : List (Bor (List ℕ))) (text : Bor (List ℕ)) (words : List (List ℕ)) (i : ℕ) (w : List ℕ) → texts_of texts ++ drop i words ≡ words → text.now ≡ w → Some w ≡ slice_get words i
+    → texts_of (texts ++ text ∷ []) ++ drop (i + 1) words ≡ words
+texts_more texts text words i w so_far same there =
+    ap (λ ts. ts ++ drop (i + 1) words) (map-append (λ (t : Bor (List ℕ)). t.now) texts (text ∷ []))
+    ∙ append_assoc (texts_of texts) (text.now ∷ []) (drop (i + 1) words)
+    ∙ ap (λ t. texts_of texts ++ t ∷ drop (i + 1) words) same
+    ∙ ap (λ rest. texts_of texts ++ rest) (sym (drop_there words i w there))
+    ∙ so_far
+
+pub texts_all : (texts : List (Bor (List ℕ))) (words : List (List ℕ)) (i : ℕ) → texts_of texts ++ drop i words ≡ words → length words ≤ i → texts_of texts ≡ words
+texts_all texts words i so_far past =
+    sym (append-nil (texts_of texts)) ∙ ap (λ rest. texts_of texts ++ rest) (sym (drop_past words i past)) ∙ so_far

@@ -1,9 +1,11 @@
 -- The words of the command line, without the program's name, and what they ask for.
-use Rattle.std.specs.Prelude.{ℕ, zero, suc, ◌+◌, Bool, true, false, cond, not, ◌&&◌, ◌==◌, List, [], ◌∷◌, length, Option, Some, None, codes, nat_le, nat_lt}
+use Rattle.std.specs.Prelude.{ℕ, zero, suc, ◌+◌, ◌^◌, Bool, cond, ◌&&◌, ◌==◌, List, [], ◌∷◌, length, Option, Some, None, codes, nat_lt}
 use Rattle.std.specs.Fmt.{decimal}
 use Rattle.std.specs.List.{list_all, slice_split}
 use Rattle.std.specs.Option.{option_map, option_and_then}
 use Rattle.std.specs.Str.{bytes_eq}
+use Rattle.std.specs.Str.Parse.{digits_value}
+pub use Rattle.fx_command_line.specs.Forms.{is_count, is_plain}
 
 -- a thread for each script, or by a schedule of shells
 pub data Mode : Type 0 where
@@ -23,15 +25,17 @@ pub record ShowJob : Type 0 where
   pub spec : List ℕ
   pub folder : List ℕ
 
+-- what is generated from a number into `out`
+pub record GenJob : Type 0 where
+  pub number : ℕ
+  pub out : List ℕ
+
 -- what the words ask for
 pub data Job : Type 0 where
   Run : RunJob → Job
   Show : ShowJob → Job
-
--- a word may be an argument: it is not empty and does not begin with `-`
-abbrev pub is_plain : List ℕ → Bool
-is_plain [] = false
-is_plain (b ∷ rest) = not (b == 45)
+  Gen : GenJob → Job
+  Large : GenJob → Job
 
 -- the least number from `k` on, of so many, whose decimal text this is
 abbrev pub numbered : ℕ → ℕ → List ℕ → Option ℕ
@@ -56,10 +60,6 @@ schedule_of count text = cond (bytes_eq text (codes "none")) (Some []) (shells_n
 abbrev pub are_plain : List (List ℕ) → Bool
 are_plain words = list_all is_plain words
 
--- 1 to 64 scripts
-abbrev pub is_count : ℕ → Bool
-is_count n = nat_le 1 n && nat_le n 64
-
 abbrev pub run_job : List (List ℕ) → Option RunJob
 run_job (spec ∷ folder ∷ out ∷ scripts) = cond (is_count (length scripts)) (Some (record { spec = spec; folder = folder; out = out; scripts = scripts; mode = Plain })) None
 run_job _ = None
@@ -74,12 +74,26 @@ abbrev pub show_job : List (List ℕ) → Option ShowJob
 show_job (spec ∷ folder ∷ []) = Some (record { spec = spec; folder = folder })
 show_job _ = None
 
+-- the number whose decimal text this is, if it is below 2 ^ 32
+abbrev pub number_of : List ℕ → Option ℕ
+number_of text =
+    let number = digits_value 10 text in
+    cond (bytes_eq (decimal number) text && nat_lt number (2 ^ 32)) (Some number) None
+
+abbrev pub gen_job : List (List ℕ) → Option GenJob
+gen_job (number ∷ out ∷ []) =
+    let job : ℕ → GenJob = λ n. record { number = n; out = out } in
+    option_map job (number_of number)
+gen_job _ = None
+
 -- the command that a word names, with its arguments
 abbrev pub named_job : List ℕ → List (List ℕ) → Option Job
 named_job command arguments =
     cond (bytes_eq command (codes "run")) (option_map Run (run_job arguments))
     (cond (bytes_eq command (codes "trace")) (option_map Run (trace_job arguments))
-    (cond (bytes_eq command (codes "show")) (option_map Show (show_job arguments)) None))
+    (cond (bytes_eq command (codes "show")) (option_map Show (show_job arguments))
+    (cond (bytes_eq command (codes "gen")) (option_map Gen (gen_job arguments))
+    (cond (bytes_eq command (codes "large")) (option_map Large (gen_job arguments)) None))))
 
 -- the command that the words ask for, if they have a command's form
 abbrev pub job_of : List (List ℕ) → Option Job

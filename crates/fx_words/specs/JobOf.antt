@@ -1,11 +1,12 @@
 -- What the program's own commands stand for.
-use Rattle.std.specs.Prelude.{◌≡◌, ℕ, ◌+◌, ◌≤◌, true, List, [], drop, length, Option, Some, None, is_some}
+use Rattle.std.specs.Prelude.{◌≡◌, ℕ, ◌≤◌, true, List, [], drop, length, Option, Some, None, is_some}
 use Rattle.std.specs.Option.{unwrap_or, option_map}
 use Rattle.fx_words.specs.declared.job.Job as every
 use Rattle.fx_words.specs.declared.job.Job.TheVariants as any
 use Rattle.fx_words.specs.declared.job.RunJob as code
 use Rattle.fx_words.specs.declared.job.ShowJob as code_show
-use Rattle.fx_words.specs.Job.{Job, Run, Show, RunJob, ShowJob, Mode, Plain, Scheduled, schedule_of, first_place}
+use Rattle.fx_words.specs.declared.job.GenJob as code_gen
+use Rattle.fx_words.specs.Job.{Job, Run, Show, Gen, Large, RunJob, ShowJob, GenJob, Mode, Plain, Scheduled, schedule_of, first_place}
 
 abbrev pub scripts_in : code.RunJob → List (List ℕ)
 scripts_in j = drop j.first j.words.now
@@ -35,10 +36,17 @@ pub record IsJob (j : code.RunJob) : Type 0 where
 abbrev pub asked_show : code_show.ShowJob → ShowJob
 asked_show j = record { spec = j.spec.now; folder = j.folder.now }
 
+abbrev pub asked_gen : code_gen.GenJob → GenJob
+asked_gen j = record { number = j.number; out = j.out.now }
+
 abbrev pub asked_job : every.Job → Job
 asked_job (any.Run j) = Run (asked j)
 asked_job (any.Show j) = Show (asked_show j)
+asked_job (any.Gen j) = Gen (asked_gen j)
+asked_job (any.Large j) = Large (asked_gen j)
 
 abbrev pub IsAnyJob : every.Job → Type 0
 IsAnyJob (any.Run j) = IsJob j
 IsAnyJob (any.Show j) = Unit {0}
+IsAnyJob (any.Gen j) = Unit {0}
+IsAnyJob (any.Large j) = Unit {0}

@@ -1,7 +1,9 @@
-//! The decimal texts of small numbers.
+//! The decimal texts of numbers.
 ghost use Rattle.std.specs.Prelude.{◌≡◌, ◌<◌, ◌≤◌, bytes_eq};
 ghost use Rattle.std.specs.Fmt.{decimal};
 ghost use Rattle.fx_words.specs.Job as job;
+
+use itoa::Buffer;
 
 /// Whether a text is the decimal text of a number below 100.
 fn is_decimal(number: u32, text: &[u8]) -> bool
@@ -27,4 +29,16 @@ pub(crate) fn shell_named(count: u32, text: &[u8]) -> Option<u32>
         }
     }
     None
+}
+
+/// The number whose decimal text this is, if a `u32` holds it.
+pub(crate) fn number_of(text: &str) -> Option<u32>
+    ensures { result ≡ job.number_of text.now }
+{
+    let number: u32 = text.parse().ok()?;
+    let mut buffer = Buffer::new();
+    if buffer.format(number) != text {
+        return None;
+    }
+    Some(number)
 }

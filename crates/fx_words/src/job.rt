@@ -1,9 +1,13 @@
-ghost use Rattle.std.specs.Prelude.{◌≡◌, ◌+◌, ◌≤◌, ◌<◌, IfOk, IfSome, Some, slice_get, option_copied, option_map, length, drop, bytes_eq};
+ghost use Rattle.std.specs.Prelude.{◌≡◌, ◌+◌, ◌≤◌, ◌<◌, IfOk, IfSome, Some, None, Err, true, slice_get, option_copied, option_map, length, drop};
+ghost use Rattle.fx_command_line.specs.Forms.{has_form};
+ghost use Rattle.fx_command_line.specs.WordsOf.{texts_of, words_of};
 ghost use Rattle.fx_words.specs.Job as job;
-ghost use Rattle.fx_words.specs.JobOf.{asked, asked_show, asked_job, IsJob, IsAnyJob};
+ghost use Rattle.fx_words.specs.JobOf.{asked, asked_show, asked_gen, asked_job, IsJob, IsAnyJob};
 
+use crate::decimal::number_of;
 use crate::schedule::{is_schedule, read_schedule};
 use fx_base::NoMemory;
+use fx_command_line::{Form, WordsFault, read_words};
 use fx_outside::{HostText, Words};
 use std::alloc::Global;
 
@@ -12,6 +16,8 @@ use std::alloc::Global;
 pub enum Job<'a> {
     Run(RunJob<'a>),
     Show(ShowJob<'a>),
+    Gen(GenJob<'a>),
+    Large(GenJob<'a>),
 }
 
 /// The arguments of `run SPEC FOLDER OUT SCRIPT...`, or of `trace SPEC FOLDER OUT SCHEDULE SCRIPT...`, which alone has a
@@ -33,6 +39,13 @@ pub struct ShowJob<'a> {
     pub folder: &'a HostText,
 }
 
+/// The arguments of `gen NUMBER OUT`, and of `large NUMBER OUT`.
+#[derive(Clone, Copy)]
+pub struct GenJob<'a> {
+    pub number: u32,
+    pub out: &'a HostText,
+}
+
 /// Whether a word may be an argument: it is not empty and does not begin with `-`.
 fn is_plain(word: &HostText) -> bool
     ensures { result ≡ job.is_plain word.now }
@@ -43,11 +56,11 @@ fn is_plain(word: &HostText) -> bool
     }
 }
 
-/// Whether each word after the command may be an argument.
+/// Whether each word may be an argument.
 fn are_plain(words: &Words) -> bool
-    ensures { result ≡ job.are_plain (drop 1 words.now) }
+    ensures { result ≡ job.are_plain words.now }
 {
-    for i in 1..words.len() {
+    for i in 0..words.len() {
         match words.at(i) {
             Some(word) => {
                 if !is_plain(word) {
@@ -60,20 +73,27 @@ fn are_plain(words: &Words) -> bool
     true
 }
 
-fn names(command: &HostText, name: &str) -> bool
-    ensures { result ≡ bytes_eq command.now name.now }
+/// The texts of the words.
+fn texts(alloc: Global, words: &Words) -> Result<Vec<&str>, NoMemory>
+    ensures { IfOk result (λ texts. texts_of texts.items ≡ words.now) }
 {
-    command.as_str() == name
+    let mut texts = Vec::new(alloc);
+    for i in 0..words.len() {
+        match words.at(i) {
+            Some(word) => texts.push(word.as_str())?,
+            None => unreachable!(),
+        }
+    }
+    Ok(texts)
 }
 
-/// The arguments of `run`, if there are as many as it takes.
+/// The arguments of `run`.
 fn run_job(words: &Words) -> Option<RunJob<'_>>
+    requires some { 5 ≤ length words.now }
+    requires few { length words.now ≤ 68 }
     ensures asked { option_map asked result ≡ job.run_job (drop 1 words.now) }
     ensures job { IfSome result IsJob }
 {
-    if words.len() < 5 || words.len() > 68 {
-        return None;
-    }
     let spec = words.at(1)?;
     let folder = words.at(2)?;
     let out = words.at(3)?;
@@ -87,20 +107,20 @@ fn run_job(words: &Words) -> Option<RunJob<'_>>
     })
 }
 
-/// The arguments of `trace`, if there are as many as it takes and the schedule can be read.
-fn trace_job(words: &Words) -> Option<RunJob<'_>>
+/// The arguments of `trace`, if the schedule can be read.
+fn trace_job<'a>(words: &'a Words, shells: &str) -> Option<RunJob<'a>>
+    requires some { 6 ≤ length words.now }
+    requires few { length words.now ≤ 69 }
+    requires shells { slice_get words.now 4 ≡ Some shells.now }
     ensures asked { option_map asked result ≡ job.trace_job (drop 1 words.now) }
     ensures job { IfSome result IsJob }
 {
-    if words.len() < 6 || words.len() > 69 {
-        return None;
-    }
     let spec = words.at(1)?;
     let folder = words.at(2)?;
     let out = words.at(3)?;
     let schedule = words.at(4)?;
     let count = (words.len() - 5) as u32;
-    if !is_schedule(count, schedule.as_str().as_bytes()) {
+    if !is_schedule(count, shells.as_bytes()) {
         return None;
     }
     Some(RunJob {
@@ -113,38 +133,60 @@ fn trace_job(words: &Words) -> Option<RunJob<'_>>
     })
 }
 
-/// The arguments of `show`, if there are as many as it takes.
+/// The arguments of `show`.
 fn show_job(words: &Words) -> Option<ShowJob<'_>>
+    requires { length words.now ≡ 3 }
     ensures { option_map asked_show result ≡ job.show_job (drop 1 words.now) }
 {
-    if words.len() != 3 {
-        return None;
-    }
     let spec = words.at(1)?;
     let folder = words.at(2)?;
     Some(ShowJob { spec, folder })
 }
 
-/// The command that the words ask for; none exactly where they have no command's form, or a number of the schedule is not
-/// below the number of scripts.
-pub fn job_of(words: &Words) -> Option<Job<'_>>
+/// The arguments of `gen` or of `large`, if the number can be read.
+fn gen_job<'a>(words: &'a Words, number: &str) -> Option<GenJob<'a>>
+    requires length { length words.now ≡ 3 }
+    requires number { slice_get words.now 1 ≡ Some number.now }
+    ensures { option_map asked_gen result ≡ job.gen_job (drop 1 words.now) }
+{
+    let out = words.at(2)?;
+    let number = number_of(number)?;
+    Some(GenJob { number, out })
+}
+
+/// What the words ask for, whose form is this; none where a schedule or a number can't be read.
+fn job_in<'a>(words: &'a Words, form: &Form) -> Option<Job<'a>>
+    requires plain { job.are_plain words.now ≡ true }
+    requires form { has_form words.now ≡ true }
+    requires words { words_of form.now ≡ words.now }
     ensures asked { option_map asked_job result ≡ job.job_of words.now }
     ensures job { IfSome result IsAnyJob }
 {
-    let command = words.at(0)?;
+    match form {
+        Form::Run(_) => Some(Job::Run(run_job(words)?)),
+        Form::Trace(form) => Some(Job::Run(trace_job(words, form.schedule)?)),
+        Form::Show(_) => Some(Job::Show(show_job(words)?)),
+        Form::Gen(form) => Some(Job::Gen(gen_job(words, form.number)?)),
+        Form::Large(form) => Some(Job::Large(gen_job(words, form.number)?)),
+    }
+}
+
+/// What the words ask for, as far as memory serves. They have no usage exactly where they have no command's form, or a
+/// number of the schedule is not below the number of scripts.
+pub fn job_of(alloc: Global, words: &Words) -> Result<Job<'_>, WordsFault>
+    ensures asked { IfOk result (λ j. job.job_of words.now ≡ Some (asked_job j)) }
+    ensures job { IfOk result IsAnyJob }
+    ensures usage { result ≡ Err WordsFault.Usage → job.job_of words.now ≡ None }
+{
     if !are_plain(words) {
-        return None;
+        return Err(WordsFault::Usage);
     }
-    if names(command, "run") {
-        return Some(Job::Run(run_job(words)?));
+    let texts = texts(alloc, words)?;
+    let form = read_words(alloc, texts.as_slice())?;
+    match job_in(words, &form) {
+        Some(job) => Ok(job),
+        None => Err(WordsFault::Usage),
     }
-    if names(command, "trace") {
-        return Some(Job::Run(trace_job(words)?));
-    }
-    if names(command, "show") {
-        return Some(Job::Show(show_job(words)?));
-    }
-    None
 }
 
 impl<'a> RunJob<'a> {

@@ -5,4 +5,5 @@ mod decimal;
 mod job;
 mod schedule;
 
-pub use job::{Job, RunJob, ShowJob, job_of};
+pub use fx_command_line::WordsFault;
+pub use job::{GenJob, Job, RunJob, ShowJob, job_of};

@@ -1,4 +1,4 @@
-use Rattle.std.proofs.Common.{sym, ap, ◌∙◌, arith}
+use Rattle.std.proofs.Common.{sym, ap, ◌∙◌}
 use Rattle.std.specs.Str.{bytes_eq}
 use Rattle.fx_words.proofs.Decimals.{one_digit, both_digits}
 use Rattle.fx_words.proofs.decimal.is_decimal.Goals as goal

@@ -1,4 +1,4 @@
-use Rattle.std.proofs.Common.{◌≡◌, ◌-◌, sym, ap, ◌∙◌, arith}
+use Rattle.std.proofs.Common.{sym, ◌∙◌, arith}
 use Rattle.fx_words.proofs.Numbered.{numbered_here, numbered_on, numbered_none}
 use Rattle.fx_words.proofs.decimal.shell_named.Goals as goal
 

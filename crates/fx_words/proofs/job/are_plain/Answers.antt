@@ -1,4 +1,4 @@
-use Rattle.std.proofs.Common.{◌≡◌, sym, ◌∙◌, arith, refl}
+use Rattle.std.proofs.Common.{sym, ◌∙◌, arith}
 use Rattle.fx_words.proofs.Lists.{not_plain, plain_on, plain_past, is_there}
 use Rattle.fx_words.proofs.job.are_plain.Goals as goal
 

@@ -1,4 +1,4 @@
-use Rattle.std.proofs.Common.{◌≡◌, false, true, sym, ap, ◌∙◌, rules, None}
+use Rattle.std.proofs.Common.{ap, ◌∙◌, rules}
 use borrow.Author.Tests.{tests}
 use Rattle.std.specs.Prelude.{is_some}
 use Rattle.std.specs.List.{slice_split}

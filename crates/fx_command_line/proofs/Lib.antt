@@ -1,0 +1,5 @@
+pub mod Found
+pub mod Leaves
+pub mod Taken
+pub mod Walks
+pub mod Whole

@@ -1,0 +1,4 @@
+pub mod Forms
+pub mod Matched
+pub mod Parser
+pub mod WordsOf

@@ -1,0 +1,11 @@
+//! The words of the command line, read by `clap`: which command they name, with its arguments.
+#![tactic(auto)]
+
+mod fault;
+mod form;
+mod parser;
+mod reading;
+
+pub use fault::WordsFault;
+pub use form::{Form, GenForm, Places, RunForm, ShowForm, TraceForm};
+pub use reading::read_words;

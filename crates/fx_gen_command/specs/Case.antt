@@ -1,0 +1,71 @@
+-- A case as a folder: which entries stand for it in a host's tree once it is written, and which after a refusal.
+use Rattle.std.specs.Prelude.{◌≡◌, ◌⊎◌, ℕ, ◌+◌, cond, bytes_eq, List, [], ◌∷◌, ◌++◌, codes, Option, Some, None, option_map}
+use Rattle.std.specs.FinMap.{get, find}
+use Rattle.std.specs.Fmt.{decimal}
+use Rattle.fx_store.specs.Whole.{Nodes}
+use Rattle.fx_outside.specs.Listing.{name_cmp}
+use Rattle.fx_outside.specs.Path.{Parts}
+use Rattle.fx_outside.specs.Tree.{Tree, Entry, file, folder}
+use Rattle.fx_folder.specs.Deep.{folder_entry}
+use Rattle.fx_folder.specs.Folder.{IsFrontOf}
+use Rattle.fx_folder.specs.Places.{rest_of}
+use Rattle.fx_gen.specs.Notes.{nodes}
+use Rattle.fx_gen.specs.Scripts.{description, scripts}
+use Rattle.fx_gen.specs.declared.case.Generated.{Generated}
+
+-- the text of a description, those of the scripts, and a filestore
+pub record Case : Type 0 where
+  pub description : List ℕ
+  pub scripts : List (List ℕ)
+  pub nodes : Nodes
+
+-- the case of a number
+abbrev pub case_of : ℕ → Case
+case_of number = record { description = description; scripts = scripts number; nodes = nodes number }
+
+abbrev pub case_in : Generated → Case
+case_in g = record { description = g.description; scripts = g.scripts; nodes = g.store.nodes }
+
+-- a text with its name
+abbrev pub Named : Type 0
+Named = List ℕ × List ℕ
+
+-- a script is named by its number
+abbrev pub script_name : ℕ → List ℕ
+script_name k = codes "s" ++ decimal k
+
+abbrev pub scripts_from : ℕ → List (List ℕ) → List Named
+scripts_from k [] = []
+scripts_from k (text ∷ texts) = (script_name k, text) ∷ scripts_from (k + 1) texts
+
+-- the description is `spec`, and the scripts are `s0`, `s1` and so on
+abbrev pub texts : Case → List Named
+texts c = (codes "spec", c.description) ∷ scripts_from 0 c.scripts
+
+-- a text is a file, with nothing below
+abbrev pub text_entry : List Named → List ℕ → Parts → Option Entry
+text_entry named name [] = option_map file (find name_cmp name named)
+text_entry named name (below ∷ names) = None
+
+-- what stands in the folder of a case: the folder of the filestore as `in`, and the texts
+abbrev pub case_entry : Case → Parts → Option Entry
+case_entry c [] = Some folder
+case_entry c (name ∷ names) = cond (bytes_eq name (codes "in")) (folder_entry c.nodes names) (text_entry (texts c) name names)
+
+abbrev pub case_entry_or : Option Entry → Case → Option Parts → Option Entry
+case_entry_or outside c None = outside
+case_entry_or outside c (Some path) = case_entry c path
+
+-- the new tree has the folder of the case at these parts, and is the old one elsewhere
+abbrev pub IsWritten : Tree → Tree → Parts → Case → Type 0
+IsWritten tree tree' at c = (q : Parts) → get tree' q ≡ case_entry_or (get tree q) c (rest_of at q)
+
+-- the new tree has a part of that folder at these parts, and is the old one elsewhere; the file last begun may hold a prefix
+-- of its bytes
+pub record IsPartOfCase (tree tree' : Tree) (at : Parts) (c : Case) (last : Parts) : Type 0 where
+  pub outside : (q : Parts) → rest_of at q ≡ None → get tree' q ≡ get tree q
+  pub inside : (path : Parts) (e : Entry) → get tree' (at ++ path) ≡ Some e
+      → (whole : Entry) × (case_entry c path ≡ Some whole) × ((e ≡ whole) ⊎ ((path ≡ last) × IsFrontOf e whole))
+
+abbrev pub IsPartlyWritten : Tree → Tree → Parts → Case → Type 0
+IsPartlyWritten tree tree' at c = (tree' ≡ tree) ⊎ ((last : Parts) × IsPartOfCase tree tree' at c last)

@@ -1,0 +1,127 @@
+//! The base of a number.
+ghost use Rattle.std.specs.Prelude.{◌≡◌, ◌+◌, ◌≤◌, ◌<◌, ℕ, IfOk, OnOk};
+ghost use Rattle.fx_spec.specs.Bases.{base_tree};
+ghost use Rattle.fx_gen.specs.Scripts.{description, script_of};
+ghost use Rattle.fx_gen_laws.specs.Trees.{description_tree, script_tree};
+ghost use Rattle.fx_large.specs.Base.{generated_base, AreGenerated, IsPlanOf, IsReading};
+ghost use Rattle.fx_spec.specs.WellShaped.{IsScript};
+
+use fx_base::NoMemory;
+use fx_expr::Texts;
+use fx_gen::{Generated, generate};
+use fx_scripts::{ScriptFault, script_of};
+use fx_show::{DescriptionFault, description_of};
+use fx_spec::{Base, Checked, Plan, Script};
+use std::alloc::Global;
+use std::sync::Arc;
+
+/// How many scripts a case has, and how many transactions each of them.
+const SCRIPTS: u32 = 8;
+
+const TXNS: u32 = 200;
+
+/// The description for which the generated text stands.
+fn description(alloc: Global, text: &[u8]) -> Result<Checked, NoMemory>
+    requires { text.now ≡ description }
+    ensures { IfOk result (λ spec. spec ≡ description_tree) }
+{
+    match description_of(alloc, text) {
+        Ok(spec) => Ok(spec),
+        Err(fault) => Err(no_memory(fault)),
+    }
+}
+
+/// What is left of a fault where the text is refused for no cause.
+fn no_memory(fault: DescriptionFault) -> NoMemory
+    requires { fault ≡ DescriptionFault.NoMemory }
+{
+    NoMemory
+}
+
+/// The script for which a generated text stands.
+fn script(alloc: Global, text: &[u8], before: u32) -> Result<Script, NoMemory>
+    requires text { (number : ℕ) × (k : ℕ) × (k < 8) × (text.now ≡ script_of number k) }
+    requires few { before ≤ 1400 }
+    ensures script { IfOk result (λ script. (number k : ℕ) → k < 8 → text.now ≡ script_of number k
+        → script ≡ script_tree number k) }
+    ensures shaped { IfOk result IsScript }
+{
+    match script_of(alloc, text, before) {
+        Ok(script) => Ok(script),
+        Err(fault) => Err(no_memory_for(fault)),
+    }
+}
+
+fn no_memory_for(fault: ScriptFault) -> NoMemory
+    requires { fault ≡ ScriptFault.NoMemory }
+{
+    NoMemory
+}
+
+/// Adds the script of a number to a plan that has those before it.
+fn add_script(alloc: Global, plan: &mut Plan, texts: &Texts, k: u32) -> Result<(), NoMemory>
+    requires generated { AreGenerated texts.now }
+    requires small { k < 8 }
+    requires before { IsReading texts.now k plan.old }
+    ensures { OnOk result (IsReading texts.now (k + 1) plan.new) }
+{
+    let text = match texts.at(u64::from(k)) {
+        Some(text) => text,
+        None => unreachable!(),
+    };
+    let script = script(alloc, text.as_slice(), TXNS * k)?;
+    match plan.push(alloc, script) {
+        Ok(()) => Ok(()),
+        Err((script, _)) => {
+            let_go(script);
+            Err(NoMemory)
+        }
+    }
+}
+
+fn let_go(_script: Script) {}
+
+/// The plan for which generated texts stand.
+fn plan(alloc: Global, texts: &Texts) -> Result<Plan, NoMemory>
+    requires { AreGenerated texts.now }
+    ensures { IfOk result (IsPlanOf texts.now 8) }
+{
+    let mut plan = Plan::new(alloc);
+    'scripts: for k in 0..SCRIPTS {
+        add_script(alloc, &mut plan, texts, k)?;
+    }
+    Ok(plan)
+}
+
+/// The description and the plan of a case.
+fn read(alloc: Global, case: &Generated) -> Result<(Checked, Plan), NoMemory>
+    requires description { case.now.description ≡ description }
+    requires scripts { AreGenerated case.now.scripts }
+    ensures description { IfOk result (λ r. r.0 ≡ description_tree) }
+    ensures plan { IfOk result (λ r. IsPlanOf case.now.scripts 8 r.1) }
+{
+    let description = description(alloc, case.description.as_slice())?;
+    let plan = plan(alloc, &case.scripts)?;
+    Ok((description, plan))
+}
+
+/// A description, a plan and the filestore of a case together.
+fn gathered(texts: (Checked, Plan), case: Generated) -> Base
+    ensures { result ≡ record { description = texts.0; plan = texts.1; loaded = case.store } }
+{
+    let (description, plan) = texts;
+    Base {
+        description,
+        plan,
+        loaded: case.store,
+    }
+}
+
+/// The base of a number.
+pub(crate) fn base(alloc: Global, number: u32) -> Result<Arc<Base>, NoMemory>
+    ensures { IfOk result (λ base. base_tree base.value ≡ generated_base number) }
+{
+    let case = generate(alloc, number)?;
+    let texts = read(alloc, &case)?;
+    Ok(Arc::new(alloc, gathered(texts, case))?)
+}

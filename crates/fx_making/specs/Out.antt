@@ -1,0 +1,34 @@
+-- Where a command may write: what stands at OUT, and above it.
+use Rattle.std.specs.Prelude.{◌≡◌, ◌⊎◌, ℕ, Bool, true, false, List, IfSome, ⊤}
+use Rattle.fx_outside.specs.Path.{parts, is_fit, above}
+use Rattle.fx_outside.specs.Tree.{Tree, has_folder}
+use Rattle.fx_outside.specs.Host.{HostView, HasFailed}
+use Rattle.fx_folder.specs.Folder.{IsReady, IsTaken}
+use Rattle.fx_command.specs.declared.status.Status.{Status}
+use Rattle.fx_command.specs.declared.status.Status.TheVariants as status
+
+-- OUT is unfit, or nothing stands there and no folder above
+abbrev pub CannotWrite : Tree → List ℕ → Type 0
+CannotWrite t out = (is_fit out ≡ false) ⊎ (IsReady t out false × (has_folder t (above (parts out)) ≡ false))
+
+-- where OUT has to be made, a folder stands above it
+abbrev pub FitsOut : Tree → List ℕ → Bool → Type 0
+FitsOut t path true = Unit {0}
+FitsOut t path false = has_folder t (above (parts path)) ≡ true
+
+-- OUT is an empty folder, or can be made
+pub record IsProperOut (t : Tree) (out : List ℕ) : Type 0 where
+  pub there : Bool
+  pub free : IsReady t out there
+  pub above : FitsOut t out there
+
+-- why a command ends that finds OUT not ready
+abbrev pub IsUnready : List ℕ → HostView → HostView → Status → Type 0
+IsUnready out host host' status.Done = ⊥
+IsUnready out host host' status.Usage = ⊥
+IsUnready out host host' (status.TextRefused word cause) = ⊥
+IsUnready out host host' (status.FolderRefused cause) = ⊥
+IsUnready out host host' status.ReadFault = ⊥
+IsUnready out host host' status.NotEmpty = IfSome host.told (λ t. IsTaken t out)
+IsUnready out host host' status.WriteFault = HasFailed (λ _. is_fit out) host host'
+IsUnready out host host' status.NoMemory = ⊤

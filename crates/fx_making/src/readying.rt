@@ -1,0 +1,22 @@
+//! The stage that sees whether OUT can be written.
+ghost use Rattle.std.specs.Prelude.{IfOk, IfErr, IfSome};
+ghost use Rattle.fx_outside.specs.Host.{ReadsOnly, AsksFit};
+ghost use Rattle.fx_folder.specs.Folder.{IsReady};
+ghost use Rattle.fx_making.specs.Out.{IsUnready};
+
+use fx_command::Status;
+use fx_folder::ready;
+use fx_outside::{Host, HostText};
+use std::alloc::Global;
+
+/// Sees that OUT can be written: whether an empty folder stands there already.
+pub fn ready_out<H: Host>(alloc: Global, path: &HostText, host: &mut H) -> Result<bool, Status>
+    ensures ready { IfOk result (λ there.
+        IfSome (H.view host.old).told (λ t. IsReady t path.now there)) }
+    ensures same { ReadsOnly (H.view host.old) (H.view host.new) }
+    ensures fit { AsksFit path.now (H.view host.old) (H.view host.new) }
+    ensures unready { IfErr result (IsUnready path.now (H.view host.old) (H.view host.new)) }
+{
+    let there = ready(alloc, host, path)?;
+    Ok(there)
+}
