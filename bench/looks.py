@@ -1,63 +1,65 @@
-#!/usr/bin/env python3
-"""Measures one transaction that looks many times. A description names one file today, so the looks are those of attempts:
-after each one another shell stores at the file, and the transaction starts again.
-
-usage: looks.py [LOOKS..]      how many looks; 500, 1,000 and 2,000 where none is given
+"""One transaction that looks many times. Under `trace` it starts again at each look, since steps are handed out one by one;
+under `run` a worker goes on where it is. And one transaction that has to start again, since another shell stores at the file
+that it reads after each of its looks.
 """
+
 import os
 import sys
 import tempfile
 
 import measure
 
-LOOK_COUNTS = [500, 1_000, 2_000]
+SIZES = [500, 1_000, 2_000]
+REPEATS = 3
+LISTED = '<l : ("list" :: file), {(n :: file) | n in lines(l)}>\n'
+THROUGH = "txn { into next fetch all : names into each n in (all) { down fetch x : str up try end next } }\n"
 READER = "txn{down fetch x : str print(x)}\n"
 STORES = ['txn{down store("1")}\n', 'txn{down store("2")}\n']
 ROUND = ["0", "1", "1", "0"]
 
 
-def written(scratch, name, text):
-    path = os.path.join(scratch, name)
-    with open(path, "w") as file:
-        file.write(text)
-    return path
+def listed_files(path, count):
+    """A file that lists the others."""
+    os.mkdir(path)
+    names = [f"f{i:05}" for i in range(count)]
+    measure.write(path, "list", "".join(f"{name}\n" for name in names))
+    for name in names:
+        measure.write(path, name, "0")
 
 
-def traced(count):
+def looking(kind, schedule, script, count):
+    """A line of a transaction over so many listed files."""
+    with tempfile.TemporaryDirectory() as scratch:
+        folder = os.path.join(scratch, "in")
+        listed_files(folder, count)
+        spec = measure.write(scratch, "spec", LISTED)
+        command = "trace" if schedule else "run"
+        words_of = lambda out, shell: [measure.program(), command, spec, folder, out, *schedule, shell]
+        ran, seconds, more, _ = measure.beyond(scratch, words_of, "txn { }\n", script, REPEATS)
+    if b"\nentry 0 shell 0 txn 0 done\n" not in ran.out:
+        sys.exit(f"the transaction was refused: {ran.out[-200:]!r}")
+    return measure.Line(kind, count, seconds, ran.peak_kib, more=more)
+
+
+def started_again(count):
     with tempfile.TemporaryDirectory() as scratch:
         folder = os.path.join(scratch, "in")
         os.mkdir(folder)
-        written(folder, "a", "0")
-        spec = written(scratch, "spec", '("a" :: file)\n')
-        reader = written(scratch, "reader", READER)
-        writer = written(scratch, "writer", "".join(STORES[i % 2] for i in range(count - 1)))
+        measure.write(folder, "a", "0")
+        spec = measure.write(scratch, "spec", '("a" :: file)\n')
+        reader = measure.write(scratch, "reader", READER)
+        writer = measure.write(scratch, "writer", "".join(STORES[i % 2] for i in range(count - 1)))
         schedule = ",".join(ROUND * (count - 1))
-        out = os.path.join(scratch, "out")
-        return measure.run([measure.program(), "trace", spec, folder, out, schedule, reader, writer], scratch)
-
-
-def check(run, count):
-    if run.status != 0:
-        sys.exit(f"status {run.status}: {run.err.decode(errors='replace')}")
-    looks = sum(line.startswith(b"look 0 ") for line in run.out.splitlines())
+        ran = measure.done([measure.program(), "trace", spec, folder, os.path.join(scratch, "out"), schedule, reader, writer], scratch)
+    looks = sum(line.startswith(b"look 0 ") for line in ran.out.splitlines())
     if looks != count:
         sys.exit(f"the transaction looked {looks} times, not {count}")
+    return measure.Line("trace: attempts of one transaction", count, ran.seconds, ran.peak_kib)
 
 
-def main():
-    table = measure.Table(
-        "txforest trace, one transaction that looks many times, as it starts again after each store of another shell",
-        ["looks", "s", "peak MiB", "bytes printed", "longer", "per size"],
-        len("looks") + 3,
-    )
-    before = None
-    for count in measure.sizes(sys.argv[1:], LOOK_COUNTS):
-        run = traced(count)
-        check(run, count)
-        now = (count, run.seconds)
-        grown = measure.growth(now, before)
-        table.add([f"{count}", f"{run.seconds:.3f}", f"{run.peak_kib // 1024}", f"{len(run.out)}", *grown])
-        before = now
-
-
-main()
+def lines(sizes):
+    for count in sizes or SIZES:
+        yield looking("trace: looks of one transaction", ["none"], THROUGH, count)
+    yield looking("run: looks of one transaction", [], THROUGH, max(sizes or SIZES))
+    for count in sizes or SIZES:
+        yield started_again(count)

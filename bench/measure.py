@@ -1,12 +1,17 @@
-#!/usr/bin/env python3
-"""Runs a command once and measures it: seconds of wall clock, its own seconds of processor (those of the system left
-out), peak memory in KiB, status and its two outputs. The peak is at least that of the script that measures, some 13 MiB.
+"""What the benches share: a command that is run once and measured, and the table of what was measured.
+
+Measured are seconds of wall clock, the command's own seconds of processor (those of the system left out), peak memory in
+KiB, status and its two outputs. The peak is at least that of the script that measures, some 13 MiB.
 """
+
 import os
 import shutil
 import subprocess
 import sys
 import time
+from dataclasses import dataclass
+
+KIB_OF_MIB = 1024
 
 
 class Run:
@@ -33,18 +38,34 @@ def run(words, scratch):
         return Run(seconds, usage.ru_utime, usage.ru_maxrss, child.returncode, out.read(), err.read())
 
 
-def best(scratch, make_words, repeats):
-    """The fastest of some runs, each into a folder of its own, and the last of these folders."""
-    fastest = None
-    for i in range(repeats):
-        out = os.path.join(scratch, f"out{i}")
-        shutil.rmtree(out, ignore_errors=True)
-        ran = run(make_words(out), scratch)
-        if ran.status != 0:
-            sys.exit(f"status {ran.status}: {ran.err.decode(errors='replace')}")
-        if fastest is None or ran.seconds < fastest.seconds:
-            fastest = ran
-    return fastest, out
+def done(words, scratch):
+    """Runs the words, and ends the bench where their status is not 0."""
+    ran = run(words, scratch)
+    if ran.status != 0:
+        sys.exit(f"status {ran.status}: {ran.err.decode(errors='replace')}")
+    return ran
+
+
+def best(scratch, makers, repeats):
+    """Of each command the fastest of some runs, and the folder that its last run made. The commands take turns, so that a
+    machine that is busy for a while slows all of them.
+    """
+    fastest, outs = [None for _ in makers], [os.path.join(scratch, f"out{i}") for i in range(len(makers))]
+    for _ in range(repeats):
+        for i, (words_of, out) in enumerate(zip(makers, outs)):
+            shutil.rmtree(out, ignore_errors=True)
+            ran = done(words_of(out), scratch)
+            if fastest[i] is None or ran.seconds < fastest[i].seconds:
+                fastest[i] = ran
+    return list(zip(fastest, outs))
+
+
+def beyond(scratch, words_of, none, script, repeats):
+    """A run of a script, its seconds without those of a script that does nothing, and a word on these."""
+    texts = [write(scratch, name, text) for name, text in (("none", none), ("some", script))]
+    makers = [lambda out, shell=shell: words_of(out, shell) for shell in texts]
+    (idle, _), (ran, out) = best(scratch, makers, repeats)
+    return ran, max(ran.seconds - idle.seconds, 0.001), f"load and save, {idle.seconds:.3f} s, left out", out
 
 
 def check_same(folder, out):
@@ -53,31 +74,61 @@ def check_same(folder, out):
         sys.exit("the folder that was written differs from the one that was read")
 
 
-def growth(after, before):
-    """How many times more seconds, and per how many times more input; 1 is linear. Both are pairs of size and seconds."""
-    if before is None:
-        return ["", ""]
-    longer = after[1] / before[1]
-    return [f"{longer:.1f}", f"{longer * before[0] / after[0]:.2f}"]
-
-
-class Table:
-    """Prints each row as soon as it is measured."""
-
-    def __init__(self, title, head, first_width):
-        self.widths = [first_width] + [max(len(word), 8) for word in head[1:]]
-        print(title)
-        self.add(head)
-
-    def add(self, row):
-        print("  " + "  ".join(cell.rjust(width) for cell, width in zip(row, self.widths)), flush=True)
-
-
 def program():
-    """The program that run.sh and trace.sh built, by the name that they pass."""
+    """The program that all.sh built."""
     return os.environ["TXFOREST"]
 
 
-def sizes(words, default):
-    """The sizes to measure: those of the command line, else the default ones."""
-    return [int(word) for word in words] if words else default
+def write(folder, name, text):
+    """A file of a folder, and its path."""
+    path = os.path.join(folder, name)
+    with open(path, "w") as file:
+        file.write(text)
+    return path
+
+
+@dataclass
+class Line:
+    """A line of the table. Lines of one kind that follow each other are told by their growth."""
+
+    kind: str
+    size: int
+    seconds: float
+    peak_kib: int
+    peer: str = ""
+    peer_seconds: float | None = None
+    more: str = ""
+
+
+HEAD = ["", "size", "s", "peak MiB", "per size", "peer s", "ratio", "peer"]
+WIDTHS = [46, 8, 8, 8, 8, 8, 6, 0]
+
+
+def growth(after, before):
+    """How many times more seconds, per how many times more input; 1 is linear."""
+    if before is None or before.kind != after.kind or before.size == after.size:
+        return ""
+    return f"{after.seconds / before.seconds * before.size / after.size:.2f}"
+
+
+def cells(line, before):
+    peer = ["", "", line.more]
+    if line.peer_seconds is not None:
+        more = f"{line.peer}; {line.more}" if line.more else line.peer
+        peer = [f"{line.peer_seconds:.3f}", f"{line.seconds / line.peer_seconds:.2f}", more]
+    kind = line.kind if before is None or before.kind != line.kind else ""
+    return [kind, f"{line.size:,}", f"{line.seconds:.3f}", f"{line.peak_kib // KIB_OF_MIB}", growth(line, before), *peer]
+
+
+def row(words):
+    kind, *numbers, peer = [word.ljust(width) if i == 0 else word.rjust(width) for i, (word, width) in enumerate(zip(words, WIDTHS))]
+    print("  ".join([kind, *numbers, peer]).rstrip(), flush=True)
+
+
+def print_table(lines):
+    """Prints each line as soon as it is measured."""
+    row(HEAD)
+    before = None
+    for line in lines:
+        row(cells(line, before))
+        before = line

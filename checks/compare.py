@@ -5,7 +5,7 @@ usage: compare.py PROGRAM [SEED] [COUNT]
 Each case is a random folder with links, a description, up to three scripts and a schedule: `show`, `trace` and `run` have
 to print, write and refuse what the model says. Of `run` the order and the retries are those that it prints: the answers
 and OUT are those of its transactions run whole in that order. Some texts are broken before, so that refusals are compared
-too. Prints how many cases there were of each kind, and ends with 1 at the first difference, which it tells.
+too. Then four cases from numbers: what `gen` writes, and what `large` leaves and prints. Prints how many cases there were of each kind, and ends with 1 at the first difference, which it tells.
 """
 
 import os
@@ -298,6 +298,23 @@ def compare(room, maker, counts):
     counts["retries of runs"] += len(retries)
 
 
+def compare_generated(room, number, counts):
+    """The case of a number, as `gen` writes it, and as `large` leaves it and sums it up."""
+    description, scripts, store = model.generated(number)
+    expect("gen", run(["gen", f"{number}", "case"], room), (0, "generated\n", ""))
+    texts = {"spec": description, **{f"s{k}": text for k, text in enumerate(scripts)}}
+    expect("what gen writes", sorted(os.listdir(os.path.join(room, "case"))), sorted([*texts, "in"]))
+    for name, text in texts.items():
+        with open(os.path.join(room, "case", name), encoding="ascii") as it:
+            expect(name, it.read(), text)
+    expect("the folder of gen", model.saved(os.path.join(room, "case", "in")), model.folder_of(store))
+    txns = [txn for text in scripts for txn in model.read_script(text.encode())]
+    _, last = model.whole_run(model.read_description(description.encode()), txns, store)
+    expect("large", run(["large", f"{number}", "last"], room), (0, model.summed(last, len(txns)), ""))
+    expect("the folder of large", model.saved(os.path.join(room, "last")), model.folder_of(last))
+    counts["cases from numbers"] += 1
+
+
 counts = Counter()
 for case in range(SEED, SEED + COUNT):
     with tempfile.TemporaryDirectory(prefix="compare-") as room:
@@ -308,6 +325,12 @@ for case in range(SEED, SEED + COUNT):
             shutil.rmtree(kept, ignore_errors=True)
             shutil.copytree(room, kept)
             sys.exit(f"case {case}, kept in {kept}: {different}")
+for number in [0, 7, 2**32 - 1, random.Random(SEED).randrange(2**32)]:
+    with tempfile.TemporaryDirectory(prefix="compare-") as room:
+        try:
+            compare_generated(room, number, counts)
+        except Different as different:
+            sys.exit(f"the case of {number}: {different}")
 for what, n in sorted(counts.items()):
     print(f"{n:7} {what}")
 print(f"{COUNT:7} cases, the same in both")

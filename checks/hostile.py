@@ -346,8 +346,27 @@ def machine():
         stage.run({DONE, FOLDER}, meanwhile=stopping)
 
 
+def generated():
+    """Cases from numbers at their limits and one beyond, into places that are free, taken and missing."""
+    for command in ("gen", "large"):
+        for number in ("0", "7", "4294967295"):
+            with Stage() as stage:
+                stage.run({DONE}, [command, number, "out"])
+        for number in ("4294967296", "99999999999999999999", "007", "00", "+7", "-7", "7 ", " 7", "0x7", "7.0", "", "seven"):
+            with Stage() as stage:
+                stage.run({USAGE}, [command, number, "out"])
+        for line in ([command], [command, "7"], [command, "7", "out", "more"], [command, "out", "7"], [command, "7", ""], [command, "7", "-o"]):
+            with Stage() as stage:
+                stage.run({USAGE}, line)
+        for out, allowed in (("in", {TAKEN}), ("spec", {TAKEN}), ("gone/out", {WRITE}), ("/dev/null", {TAKEN}), ("spec/out", {WRITE})):
+            with Stage() as stage:
+                stage.run(allowed, [command, "7", out])
+        with Stage() as stage, open("/dev/full", "wb") as full:
+            stage.run({WRITE}, [command, "7", "out"], stdout=full)
+
+
 tries = 0
-for part in (words, broken_texts, limits, tables, strange_entries, outputs, places, machine):
+for part in (words, broken_texts, limits, tables, strange_entries, outputs, places, machine, generated):
     first = tries
     try:
         part()

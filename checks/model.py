@@ -1219,3 +1219,55 @@ def folder_of(store):
             found[p] = ("dir", frozenset(m for m in n[1] if store[(*p, m)][0] != "link"))
     table = table_of(store)
     return {**found, (TABLE,): ("file", table)} if table else found
+
+
+# ---- cases from numbers
+
+DESCRIPTION = (
+    '<c : ("config" :: file), <t : {(p :: <n : ("count" :: file), <l : ("log" :: dir), ("notes" :: dir)>>) | p in lines(c)},'
+    ' ("current" :: link)>>\n'
+)
+COUNTS = 'txn { into next into to("p%02d") down into down fetch n : str store(text((int(n) + 1))) }\n'
+LOGS = 'txn { into next into to("p%02d") down into next into down fetch l : names store((l union one("s%dt%d"))) }\n'
+
+
+def generated(number):
+    """The case of a number: its description, its eight scripts and its filestore."""
+    x = number
+
+    def draw(m):
+        nonlocal x
+        x = (x * 1_664_525 + 1_013_904_223) % 2**32
+        return x // 65_536 % m
+
+    projects = [b"p%02d" % i for i in range(16)]
+    store = {
+        (): ("dir", frozenset([b"config", b"current", *projects])),
+        (b"config",): ("file", b"".join(p + b"\n" for p in projects)),
+        (b"current",): ("link", projects[draw(16)]),
+    }
+    notes = [b"n%d" % i for i in range(8)]
+    for p in projects:
+        store[(p,)] = ("dir", frozenset([b"count", b"log", b"notes"]))
+        store[(p, b"count")] = ("file", b"0")
+        store[(p, b"log")] = ("dir", frozenset())
+        store[(p, b"notes")] = ("dir", frozenset(notes))
+        for n in notes:
+            length = 1 + draw(64)
+            store[(p, b"notes", n)] = ("file", bytes([ord("a") + draw(26)]) * length)
+    scripts = []
+    for k in range(8):
+        lines = []
+        for j in range(200):
+            project, kind = draw(16), draw(4)
+            lines.append(LOGS % (project, k, j) if kind == 3 else COUNTS % project)
+        scripts.append("".join(lines))
+    return DESCRIPTION, scripts, store
+
+
+def summed(store, transactions):
+    """What `large` prints of a last filestore, where all transactions are done."""
+    projects = [(b"p%02d" % i,) for i in range(16)]
+    counted = sum(int(store[(*p, b"count")][1]) for p in projects)
+    logged = sum(len(store[(*p, b"log")][1]) for p in projects)
+    return f"transactions {transactions}\ndone {transactions}\ncounted {counted}\nlogged {logged}\nnodes {len(store)}\n"

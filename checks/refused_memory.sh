@@ -1,33 +1,12 @@
 #!/usr/bin/env bash
-# Runs three inputs, unproved, again and again: each time another allocation fails, another read or write fails, or another
-# one moves a single byte. Each run has to give what the run without a fault gives, or end with a status of its own; `rt
-# try` counts a run that faults, hangs, or ends with the same status and other output. It is no part of the gate, and ends
-# with the first status that is not 0.
+# Builds the program and runs it on small inputs again and again, each time with another call for memory, for a thread or to
+# the system that goes wrong (faults.c, which goes before the C library; `rt try --fail-alloc` knows memory alone, and builds
+# anew for each call). Its last line is the number of runs; it ends with 1 at the first that is not as it should be. It wants
+# a C compiler, and is no part of the gate.
 set -eu
 top=$(cd "$(dirname "$0")/.." && pwd)
+program=$("$top/bench/build.sh")
 fresh=$(mktemp -d)
 trap 'rm -rf "$fresh"' EXIT
-cd "$top/crates/txforest"
-
-printf '("a" :: file)' >"$fresh/one"
-printf 'hi' >"$fresh/a"
-printf 'txn { down fetch x : str print(x) }' >"$fresh/reader"
-printf '<x : ("x" :: file), ("y" :: file)>' >"$fresh/two"
-printf '1' >"$fresh/x"
-printf '1' >"$fresh/y"
-printf 'txn { into down fetch a : str up next down store((a ++ "0")) print(a) }' >"$fresh/first"
-printf 'txn { into next down fetch b : str up prev down store((b ++ "0")) print(b) }' >"$fresh/second"
-
-one=(--data spec="$fresh/one" --data in/a="$fresh/a" --data script="$fresh/reader")
-two=(--data spec="$fresh/two" --data in/x="$fresh/x" --data in/y="$fresh/y" --data first="$fresh/first" --data second="$fresh/second")
-
-try() { # WHAT FAULT ARGUMENTS..
-    echo "== $1, $2 1.."
-    rt try "$2" 1.. "${@:3}" | tail -n 1
-}
-
-for fault in --fail-alloc --fail-io --short-io; do
-    try "one script" "$fault" "${one[@]}" -- run spec in out script
-    try "a schedule of two" "$fault" "${two[@]}" -- trace spec in out 0,0,1,1,0,1 first second
-    try "two scripts on threads" "$fault" "${two[@]}" -- run spec in out first second
-done
+${CC:-cc} -O2 -Wall -shared -fPIC -o "$fresh/faults.so" "$top/checks/faults.c" -ldl
+python3 -B "$top/checks/faults.py" "$program" "$fresh/faults.so"

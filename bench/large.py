@@ -1,0 +1,51 @@
+"""`txforest large`: 1,600 counts and appends by 8 shells over a tree of 16 projects, generated from a number, against SQLite
+doing the same ones.
+"""
+
+import os
+import sys
+import tempfile
+
+import measure
+from threads import beside_sqlite
+
+NUMBER = 7
+PROJECTS, NOTES, SHELLS, TRANSACTIONS = 16, 8, 8, 200
+LOGS = 3
+
+
+def draws(number):
+    while True:
+        number = (number * 1_664_525 + 1_013_904_223) % 2**32
+        yield number // 65_536
+
+
+def shells_of(number):
+    """The steps of each shell, as docs/FORMATS.md has the generator."""
+    drawn = draws(number)
+    for _ in range(1 + 2 * PROJECTS * NOTES):
+        next(drawn)
+
+    def step(shell, i):
+        project, kind = next(drawn) % PROJECTS, next(drawn) % 4
+        return project, f"s{shell}t{i}" if kind == LOGS else None
+
+    return [[step(shell, i) for i in range(TRANSACTIONS)] for shell in range(SHELLS)]
+
+
+def wanted(shells):
+    steps = [text for steps in shells for _, text in steps]
+    logged = sum(text is not None for text in steps)
+    counts = {"transactions": len(steps), "done": len(steps), "counted": len(steps) - logged, "logged": logged}
+    return "".join(f"{word} {n}\n" for word, n in (counts | {"nodes": 3 + 12 * PROJECTS + logged}).items()).encode()
+
+
+def lines(sizes):
+    for number in sizes or [NUMBER]:
+        with tempfile.TemporaryDirectory() as scratch:
+            run = measure.done([measure.program(), "large", f"{number}", os.path.join(scratch, "out")], scratch)
+        shells = shells_of(number)
+        if run.out != wanted(shells):
+            sys.exit(f"large {number} prints {run.out!r}")
+        more = f"{SHELLS * TRANSACTIONS / run.seconds:,.0f} a second"
+        yield from beside_sqlite(f"large {number}: counts and appends, 8 shells", run, more, PROJECTS, shells)

@@ -1,0 +1,51 @@
+"""Walks and edits of one transaction where there are many names: moves from element to element of a comprehension over
+50,000 names, and names that are added one by one to a directory of 50,000.
+"""
+
+import os
+import sys
+import tempfile
+
+import measure
+from names import empty_files
+
+SIZES = [500, 1_000, 2_000]
+ADDED = [500, 2_000]
+NAMES = 50_000
+MOVE_REPEATS = 5
+LISTED = '<l : ("list" :: file), {(n :: file) | n in lines(l)}>\n'
+
+
+def walked(scratch, spec, commands, repeats):
+    """A run of a transaction of these commands over the folder `in`, as `measure.beyond` tells it."""
+    spec = measure.write(scratch, "spec", spec)
+    words_of = lambda out, shell: [measure.program(), "run", spec, os.path.join(scratch, "in"), out, shell]
+    ran, seconds, more, out = measure.beyond(scratch, words_of, "txn { }\n", f"txn {{ {commands} }}\n", repeats)
+    if b"\nentry 0 shell 0 txn 0 done\n" not in ran.out:
+        sys.exit(f"the transaction was refused: {ran.out[:200]!r}")
+    return ran, seconds, more, out
+
+
+def moves(count):
+    with tempfile.TemporaryDirectory() as scratch:
+        folder = os.path.join(scratch, "in")
+        os.mkdir(folder)
+        measure.write(folder, "list", "".join(f"f{i:05}\n" for i in range(NAMES)))
+        ran, seconds, more, _ = walked(scratch, LISTED, "into next into " + "next " * count, MOVE_REPEATS)
+    return measure.Line(f"run: `next` among {NAMES:,} names", count, seconds, ran.peak_kib, more=more)
+
+
+def additions(count):
+    with tempfile.TemporaryDirectory() as scratch:
+        empty_files(os.path.join(scratch, "in"), NAMES)
+        added = "".join(f"a{i:04}\\n" for i in range(count))
+        commands = f'fetch d : names each n in (lines("{added}")) {{ set d = (d union one(n)) store(d) }}'
+        ran, seconds, more, out = walked(scratch, "dir\n", commands, 1)
+        if len(os.listdir(out)) != NAMES + count:
+            sys.exit("not every name was added")
+    return measure.Line(f"run: names added to {NAMES:,} one by one", count, seconds, ran.peak_kib, more=more)
+
+
+def lines(sizes):
+    yield from (moves(count) for count in sizes or SIZES)
+    yield from (additions(count) for count in sizes or ADDED)

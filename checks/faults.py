@@ -1,0 +1,188 @@
+"""Runs the built program on small inputs again and again, each time with another call for memory, for a thread or to the
+system that goes wrong.
+
+usage: faults.py PROGRAM LIBRARY
+
+LIBRARY is faults.c, built. Each run has to end by itself, with a status that such a fault may give: then it prints what the
+run without a fault prints and leaves the same folder, or it prints a front of that and leaves a part of it, and FOLDER is as
+before. Prints for each input and kind of fault how many calls were counted and how many of them were made to go wrong, and
+ends with 1 at the first run that is not so.
+"""
+
+import os
+import signal
+import subprocess
+import sys
+import tempfile
+
+PROGRAM, LIBRARY = (os.path.abspath(word) for word in sys.argv[1:])
+SECONDS = 120
+MOST = 1_000
+
+DONE, READ, WRITE, MEMORY = 0, 5, 7, 8
+LINES = {DONE: b"", READ: b"txforest: read fault\n", WRITE: b"txforest: write fault\n", MEMORY: b"txforest: out of memory\n"}
+
+# The statuses that may come where one call goes wrong.
+KINDS = {
+    "memory": {DONE, MEMORY},
+    "thread": {DONE},
+    "read": {READ, WRITE},
+    "write": {WRITE},
+    "interrupt": {DONE},
+    "short": {DONE},
+}
+
+FILES = {
+    "one": '("a" :: file)',
+    "reader": "txn { down fetch x : str print(x) }",
+    "two": '<x : ("x" :: file), ("y" :: file)>',
+    "first": 'txn { into down fetch a : str up next down store((a ++ "0")) print(a) }',
+    "second": 'txn { into next down fetch b : str up prev down store((b ++ "0")) print(b) }',
+    "deep": '<d : dir, (("current" ++ "/n") :: file)>',
+    "adds": 'txn { into next down fetch n : str store(text((int(n) + 1))) top into fetch d : names store((d union one("new"))) print(n) }',
+    "in1/a": "hi",
+    "in2/x": "1",
+    "in2/y": "1",
+    "in3/r/one/n": "41",
+    "in3/r/two/n": "7\n",
+    "in3/empty": "",
+    "in3/.forest-links": "/current -> r/one\n/r/last -> two\n",
+}
+
+INPUTS = {
+    "run, one script": ["run", "one", "in1", "out", "reader"],
+    "trace, two scripts": ["trace", "two", "in2", "out", "0,0,1,1,0,1", "first", "second"],
+    "run, two scripts on threads": ["run", "two", "in2", "out", "first", "second"],
+    "run, folders and links": ["run", "deep", "in3", "out", "adds"],
+    "show, folders and links": ["show", "deep", "in3"],
+    "gen": ["gen", "7", "out"],
+    "large": ["large", "7", "out"],
+}
+ORDERS = ["0,0,0,0", "1,1,1,1"]
+
+
+class Wrong(Exception):
+    """A run that did not go as it should."""
+
+
+def tree(folder):
+    """Everything below a folder: None for a folder, else the bytes."""
+    found = {}
+    for at, folders, files in os.walk(folder):
+        for name in folders:
+            found[os.path.relpath(os.path.join(at, name), folder)] = None
+        for name in files:
+            with open(os.path.join(at, name), "rb") as it:
+                found[os.path.relpath(os.path.join(at, name), folder)] = it.read()
+    return found
+
+
+def is_part(part, whole):
+    """Whether all that stands in a tree stands in the other, of its files maybe a front."""
+    return all(
+        path in whole and (bytes_ is None) == (whole[path] is None) and (bytes_ is None or whole[path].startswith(bytes_))
+        for path, bytes_ in part.items()
+    )
+
+
+def answers(printed):
+    """What is printed of entries: neither events nor retries, which differ by how threads meet."""
+    lines = printed.splitlines(True)
+    begin = next((i for i, line in enumerate(lines) if line.startswith(b"forest report")), 0)
+    return b"".join(line for line in lines[begin:] if not line.startswith(b"retr"))
+
+
+class Stage:
+    """A folder with all inputs."""
+
+    def __init__(self):
+        self.room = tempfile.TemporaryDirectory(prefix="faults-")
+        self.top = self.room.name
+        for name, text in FILES.items():
+            path = os.path.join(self.top, name)
+            os.makedirs(os.path.dirname(path), exist_ok=True)
+            with open(path, "w") as it:
+                it.write(text)
+
+    def run(self, words, kind, at):
+        """One run: status, what is printed, the line on standard error, what stands at OUT, and how many calls were counted."""
+        subprocess.run(["rm", "-rf", f"{self.top}/out", f"{self.top}/count"], check=True)
+        given = {"LD_PRELOAD": LIBRARY, "FAULT_KIND": kind, "FAULT_AT": f"{at}", "FAULT_COUNT": f"{self.top}/count"}
+        try:
+            ran = subprocess.run([PROGRAM, *words], cwd=self.top, stdin=subprocess.DEVNULL, capture_output=True, env=given, timeout=SECONDS)
+        except subprocess.TimeoutExpired:
+            raise Wrong(f"it did not end within {SECONDS} s") from None
+        if ran.returncode < 0:
+            raise Wrong(f"ended by {signal.Signals(-ran.returncode).name}")
+        try:
+            with open(f"{self.top}/count") as it:
+                counted = int(it.read())
+        except OSError:
+            raise Wrong("it does not tell how many calls it counted") from None
+        out = tree(f"{self.top}/out") if os.path.isdir(f"{self.top}/out") else None
+        return ran.returncode, ran.stdout, ran.stderr, out, counted
+
+
+def check(ran, kind, wholes):
+    """Compares a run with those without a fault, of which there is one for each order of the scripts."""
+    status, printed, line, out, _ = ran
+    if status not in KINDS[kind] or line != LINES[status]:
+        raise Wrong(f"status {status} with {line!r}")
+    if status == DONE:
+        if all((answers(printed), out) != (answers(whole), tree_) for whole, tree_ in wholes):
+            raise Wrong(f"status 0, and it prints {printed!r} and leaves {out}")
+        return
+    if out is not None and not any(is_part(out, tree_ or {}) for _, tree_ in wholes):
+        raise Wrong(f"status {status}, and OUT is no part of the folder: {out}")
+    if status == READ and out is not None or status in (READ, MEMORY) and printed:
+        raise Wrong(f"status {status}, and something is printed or written")
+    if printed and all(out != tree_ or not answers(whole).startswith(answers(printed)) for whole, tree_ in wholes):
+        raise Wrong(f"status {status}, printed is {printed!r}, and OUT {out}")
+
+
+def wholes_of(stage, words):
+    """The runs without a fault."""
+    lines = [words]
+    if words[0] == "run" and len(words) > 5:
+        lines = [["trace", *words[1:4], order, *words[4:]] for order in ORDERS]
+    wholes = [stage.run(line, "", 0) for line in lines]
+    for status, _, line, _, _ in wholes:
+        if status != DONE:
+            raise Wrong(f"without a fault: status {status} with {line!r}")
+    return [(printed, out) for _, printed, _, out, _ in wholes]
+
+
+def swept(stage, words, kind, wholes):
+    """Lets calls go wrong, each in a run of its own: all of them, or so many at even distances. How many were counted, tried."""
+    *_, counted = stage.run(words, kind, 0)
+    tried = range(1, counted + 1) if counted <= MOST else sorted({1 + i * (counted - 1) // (MOST - 1) for i in range(MOST)})
+    for at in tried:
+        try:
+            check(stage.run(words, kind, at), kind, wholes)
+        except Wrong as wrong:
+            raise Wrong(f"call {at} of {counted}: {wrong}") from None
+    return counted, len(tried)
+
+
+def main():
+    stage = Stage()
+    given = {name: tree(f"{stage.top}/{name}") for name in ("in1", "in2", "in3")}
+    runs = 0
+    for name, words in INPUTS.items():
+        if stage.run(words, "", 0)[0] == 2:
+            print(f"{name}: the program has no such command")
+            continue
+        wholes = wholes_of(stage, words)
+        for kind in KINDS:
+            try:
+                counted, tried = swept(stage, words, kind, wholes)
+            except Wrong as wrong:
+                sys.exit(f"{name}, {kind}: {wrong}")
+            if given != {folder: tree(f"{stage.top}/{folder}") for folder in given}:
+                sys.exit(f"{name}, {kind}: FOLDER changed")
+            runs += tried
+            print(f"{name}, {kind}: {tried} of {counted} calls", flush=True)
+    print(f"{runs} runs, each with an allowed status, and what was printed and left as it should be")
+
+
+main()
