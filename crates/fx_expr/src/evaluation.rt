@@ -46,34 +46,25 @@ fn evaluated(alloc: Global, expr: &Expr, env: &Env) -> Result<Value, EvalFault>
         Expr::Bool(b) => Ok(Value::Bool(*b)),
         Expr::Empty => Ok(Value::Names(TextSet::new(alloc))),
         Expr::Var(word) => bound_value(alloc, word, env),
-        Expr::Bin(op, a, b) => match evaluated(alloc, a, env) {
-            Err(fault) => Err(fault),
-            Ok(first) => match decides(*op, &first) {
+        Expr::Bin(op, a, b) => {
+            let first = evaluated(alloc, a, env)?;
+            match decides(*op, &first) {
                 Some(decided) => Ok(Value::Bool(decided)),
-                None => match evaluated(alloc, b, env) {
-                    Err(fault) => Err(fault),
-                    Ok(second) => apply_two(alloc, *op, &first, &second),
-                },
-            },
-        },
-        Expr::Un(op, a) => match evaluated(alloc, a, env) {
-            Err(fault) => Err(fault),
-            Ok(value) => apply_one(alloc, *op, value),
-        },
-        Expr::Choose(test, a, b) => match evaluated(alloc, test, env) {
-            Err(fault) => Err(fault),
-            Ok(value) => {
-                if truth(&value) {
-                    evaluated(alloc, a, env)
-                } else {
-                    evaluated(alloc, b, env)
-                }
+                None => apply_two(alloc, *op, &first, &evaluated(alloc, b, env)?),
             }
-        },
-        Expr::Only(a, glob) => match evaluated(alloc, a, env) {
-            Err(fault) => Err(fault),
-            Ok(value) => Ok(Value::Names(into_names(value).only(alloc, glob.as_slice())?)),
-        },
+        }
+        Expr::Un(op, a) => apply_one(alloc, *op, evaluated(alloc, a, env)?),
+        Expr::Choose(test, a, b) => {
+            if truth(&evaluated(alloc, test, env)?) {
+                evaluated(alloc, a, env)
+            } else {
+                evaluated(alloc, b, env)
+            }
+        }
+        Expr::Only(a, glob) => {
+            let names = into_names(evaluated(alloc, a, env)?);
+            Ok(Value::Names(names.only(alloc, glob.as_slice())?))
+        }
     }
 }
 
