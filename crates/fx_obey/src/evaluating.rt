@@ -45,10 +45,7 @@ pub(crate) fn truth_of(
     ensures { OrStops number (λ b. b)
         (part eval.truth_in (move.evaluated (eval_of variables.now (expr_tree expr.now)))) result }
 {
-    match evaluated(alloc, number, expr, variables) {
-        Ok(value) => Ok(truth_in(value)),
-        Err(leave) => Err(leave),
-    }
+    Ok(truth_in(evaluated(alloc, number, expr, variables)?))
 }
 
 /// The set that the expression gives.
@@ -62,10 +59,8 @@ pub(crate) fn names_of(
     ensures { OrStops number (λ s. s)
         (part eval.names_in (move.evaluated (eval_of variables.now (expr_tree expr.now)))) result }
 {
-    match evaluated(alloc, number, expr, variables) {
-        Ok(value) => Ok(names_in(alloc, value)),
-        Err(leave) => Err(leave),
-    }
+    let value = evaluated(alloc, number, expr, variables)?;
+    Ok(names_in(alloc, value))
 }
 
 fn truth_in(value: Value) -> bool

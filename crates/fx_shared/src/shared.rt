@@ -139,8 +139,5 @@ impl Shared {
 fn entry_of(answer: Result<Settled, Settle>) -> Result<u64, Settle>
     ensures { result ≡ result_map_both (λ settled. settled.entry) (λ refusal. refusal) answer }
 {
-    match answer {
-        Ok(settled) => Ok(settled.entry),
-        Err(refusal) => Err(refusal),
-    }
+    Ok(answer?.entry)
 }
