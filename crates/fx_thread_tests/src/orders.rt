@@ -72,8 +72,10 @@ fn shells_of(alloc: Global, report: &str) -> Result<Vec<u32>, NoMemory> {
 /// Whether a run has left the entries and the filestore of a world.
 fn has_left(alloc: Global, ran: &Ran, world: &World) -> Result<bool, NoMemory> {
     let printed = report(alloc, world.board(), &Retries::new(alloc))?;
-    Ok(entry_lines(ran.printed()) == entry_lines(text_of(&printed))
-        && are_same(ran.store(), world.board().store()))
+    Ok(
+        entry_lines(ran.printed()) == entry_lines(text_of(&printed))
+            && are_same(ran.store(), world.board().store()),
+    )
 }
 
 /// Whether a run has left what its transactions leave that are run whole in the order that it printed.
