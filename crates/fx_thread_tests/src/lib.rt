@@ -12,6 +12,12 @@ mod held;
 #[cfg(test)]
 mod holds;
 #[cfg(test)]
+mod orders;
+#[cfg(test)]
+mod replays;
+#[cfg(test)]
 mod runs;
+#[cfg(test)]
+mod stores;
 #[cfg(test)]
 mod turns;

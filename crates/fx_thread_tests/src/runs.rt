@@ -4,7 +4,7 @@ use fx_board::Board;
 use fx_outside::Gate;
 use fx_report::report;
 use fx_spec::Base;
-use fx_store::{LongText, Node, Path};
+use fx_store::{Filestore, LongText, Node, Path};
 use fx_workers::run_all;
 use std::alloc::Global;
 use std::sync::{Arc, Wait};
@@ -29,6 +29,11 @@ pub fn run<R: Threads + Wait + Sync, G: Gate + Sync>(
     Ok(Ran { board, printed })
 }
 
+/// A printed text; an empty one where it is no UTF-8.
+pub fn text_of(printed: &LongText) -> &str {
+    std::str::from_utf8(printed.as_slice()).unwrap_or("")
+}
+
 /// The bytes of a file of a log; none where none stands.
 pub fn bytes_at<'a>(board: &'a Board, path: &Path) -> &'a [u8] {
     match board.store().get(path) {
@@ -48,7 +53,12 @@ pub fn text_at(alloc: Global, board: &Board, path: &str) -> Result<String, NoMem
 
 impl Ran {
     pub fn printed(&self) -> &str {
-        std::str::from_utf8(self.printed.as_slice()).unwrap_or("")
+        text_of(&self.printed)
+    }
+
+    /// The filestore at the end.
+    pub fn store(&self) -> &Filestore {
+        self.board.store()
     }
 
     /// The text of a file at the end; an empty one where none stands.
