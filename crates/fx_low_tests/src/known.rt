@@ -151,13 +151,18 @@ fn landing(
     resolve(alloc, &mut reader, own, &path, follow)
 }
 
+/// Whether the path of a case lands where the case says.
+fn is_as_told(alloc: Global, own: &Overlay, case: &Case) -> Result<bool, AllocError> {
+    let (target, at, follow, want) = *case;
+    let words = told(alloc, landing(alloc, own, target, at, follow))?;
+    Ok(words.as_slice() == want)
+}
+
 #[test]
 fn paths_land_over_what_is_known(rt: HostRuntime) -> Result<(), Fail> {
-    let alloc = rt.alloc();
-    let own = Overlay::new(alloc);
-    for (target, at, follow, want) in CASES {
-        let words = told(alloc, landing(alloc, &own, target, at, *follow))?;
-        assert_eq!(rt; words.as_slice(), *want, "at {at:?}");
+    let own = Overlay::new(rt.alloc());
+    for case in CASES {
+        assert!(rt; is_as_told(rt.alloc(), &own, case)?, "of {case:?}");
     }
     Ok(())
 }
@@ -174,15 +179,23 @@ fn put_all(alloc: Global, own: &mut Overlay) -> Result<(), NoMemory> {
     put(alloc, own, b"/d", None)
 }
 
-#[test]
-fn own_changes_stand_on_top(rt: HostRuntime) -> Result<(), Fail> {
-    let alloc = rt.alloc();
+fn some_changes(alloc: Global) -> Result<Overlay, NoMemory> {
     let mut own = Overlay::new(alloc);
     put_all(alloc, &mut own)?;
-    let through = told(alloc, landing(alloc, &own, b"f", b"/l", true))?;
-    assert_eq!(rt; through.as_slice(), b"at /gone".as_slice());
-    let absent = told(alloc, landing(alloc, &own, b"d", b"/l", true))?;
-    assert_eq!(rt; absent.as_slice(), b"absent  /d".as_slice());
+    Ok(own)
+}
+
+const CASES_OVER_CHANGES: &[Case] = &[
+    (b"f", b"/l", true, b"at /gone"),
+    (b"d", b"/l", true, b"absent  /d"),
+];
+
+#[test]
+fn own_changes_stand_on_top(rt: HostRuntime) -> Result<(), Fail> {
+    let own = some_changes(rt.alloc())?;
+    for case in CASES_OVER_CHANGES {
+        assert!(rt; is_as_told(rt.alloc(), &own, case)?, "of {case:?}");
+    }
     Ok(())
 }
 
@@ -240,22 +253,25 @@ fn net(alloc: Global, reads: &Reads) -> Result<Changes, NoMemory> {
     own.changes(alloc, reads)
 }
 
-fn first_path(alloc: Global, changes: &Changes) -> Result<Vec<u8>, AllocError> {
+fn net_of(alloc: Global, target: &[u8]) -> Result<Changes, NoMemory> {
+    let reads = some_reads(alloc, target)?;
+    net(alloc, &reads)
+}
+
+/// Whether the first change is at a path.
+fn is_first(alloc: Global, changes: &Changes, path: &[u8]) -> Result<bool, AllocError> {
     let mut text = Vec::new(alloc);
     if let Some(change) = changes.at(0) {
         add_path(&mut text, &change.path)?;
     }
-    Ok(text)
+    Ok(text.as_slice() == path)
 }
 
 #[test]
 fn changes_are_what_differs(rt: HostRuntime) -> Result<(), Fail> {
-    let alloc = rt.alloc();
-    let reads = some_reads(alloc, b"gone")?;
-    let changes = net(alloc, &reads)?;
+    let changes = net_of(rt.alloc(), b"gone")?;
     assert_eq!(rt; changes.len(), 2);
-    let first = first_path(alloc, &changes)?;
-    assert_eq!(rt; first.as_slice(), b"/f".as_slice());
+    assert!(rt; is_first(rt.alloc(), &changes, b"/f")?);
     Ok(())
 }
 
@@ -283,19 +299,36 @@ fn is_seen<R: Reader>(alloc: Global, reader: &mut R, path: &Path) -> bool {
     }
 }
 
+/// Whether a path has been read, and whether a node is seen there.
+fn standing(alloc: Global, reader: &mut Known, text: &[u8]) -> Result<(bool, bool), NoMemory> {
+    let path = path(alloc, text)?;
+    let is_read = !is_unread(alloc, reader, &path);
+    Ok((is_read, is_seen(alloc, reader, &path)))
+}
+
+/// A path, whether it has been read, and whether a node is seen there.
+const KNOWN: &[(&[u8], (bool, bool))] = &[
+    (b"/gone", (true, false)),
+    (b"/other", (false, false)),
+    (b"/d", (true, true)),
+];
+
+/// How many paths have been read, and how many where these were taken.
+fn counts(alloc: Global, reader: &mut Known) -> (u64, u64) {
+    let reads = reader.take_reads(alloc);
+    (reads.len(), reader.take_reads(alloc).len())
+}
+
 #[test]
 fn what_is_known_is_read_and_taken(rt: HostRuntime) -> Result<(), Fail> {
-    let alloc = rt.alloc();
-    let gone = path(alloc, b"/gone")?;
-    let other = path(alloc, b"/other")?;
-    let there = path(alloc, b"/d")?;
-    let mut reader = Known::new(some_reads(alloc, b"d")?);
-    assert!(rt; !is_unread(alloc, &mut reader, &gone));
-    assert!(rt; is_unread(alloc, &mut reader, &other));
-    assert!(rt; is_seen(alloc, &mut reader, &there));
-    assert!(rt; !is_seen(alloc, &mut reader, &gone));
-    let reads = reader.take_reads(alloc);
-    assert_eq!(rt; reads.len(), 4);
-    assert_eq!(rt; reader.take_reads(alloc).len(), 0);
+    let mut reader = Known::new(some_reads(rt.alloc(), b"d")?);
+    for (path, want) in KNOWN {
+        assert_eq!(rt;
+            standing(rt.alloc(), &mut reader, path)?,
+            *want,
+            "at {path:?}"
+        );
+    }
+    assert_eq!(rt; counts(rt.alloc(), &mut reader), (4, 0));
     Ok(())
 }

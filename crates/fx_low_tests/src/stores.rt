@@ -91,17 +91,37 @@ fn size_of(node: Option<&Node>) -> u64 {
     }
 }
 
+/// How many places there are, the sizes of the root and of what stands at a path, and whether there is a second place and
+/// a third.
+fn counts(alloc: Global, store: &Filestore, path: &Path) -> (u64, u64, u64, bool, bool) {
+    let root = size_of(store.get(&Path::root(alloc)));
+    (
+        store.places(),
+        root,
+        size_of(store.get(path)),
+        store.at(1).is_some(),
+        store.at(2).is_some(),
+    )
+}
+
+fn one_file_at(alloc: Global, name: &[u8]) -> Result<Filestore, NoMemory> {
+    match Name::read(alloc, name) {
+        Ok(name) => one_file(alloc, name),
+        Err(_) => Err(NoMemory),
+    }
+}
+
 #[test]
 fn a_filestore_is_made_and_copied(rt: HostRuntime) -> Result<(), Fail> {
-    assert_eq!(rt; Filestore::new(rt.alloc())?.places(), 1);
-    let name = Name::read(rt.alloc(), b"a").ok().ok_or("a name")?;
-    let store = one_file(rt.alloc(), name)?;
-    assert_eq!(rt; store.places(), 2);
     let path = Path::read(rt.alloc(), b"/a").ok().ok_or("a path")?;
-    assert_eq!(rt; size_of(store.get(&path)), 1);
-    assert_eq!(rt; size_of(store.get(&Path::root(rt.alloc()))), 1);
-    assert!(rt; store.at(1).is_some());
-    assert!(rt; store.at(2).is_none());
+    let store = one_file_at(rt.alloc(), b"a")?;
+    assert_eq!(rt; counts(rt.alloc(), &store, &path), (2, 1, 1, true, false));
+    Ok(())
+}
+
+#[test]
+fn an_empty_filestore_has_a_root(rt: HostRuntime) -> Result<(), Fail> {
+    assert_eq!(rt; Filestore::new(rt.alloc())?.places(), 1);
     Ok(())
 }
 
