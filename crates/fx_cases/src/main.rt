@@ -5,11 +5,8 @@
 
 mod answers;
 mod messages;
-mod outside;
 mod runs;
-mod stage;
-mod steps;
-mod telling;
+mod schedules;
 mod threads;
 mod tries;
 
