@@ -24,7 +24,7 @@ pub enum Detail {
     Whole,
     /// Each entry, and how many bytes each file has.
     Sizes,
-    /// How many lines would be told of the whole, and their checksum.
+    /// How many bytes would be told of the whole, and their checksum.
     Sum,
     Nothing,
 }
@@ -211,7 +211,7 @@ pub fn tell_tree(
     tell_entries(alloc, host, Files::Bytes, path, out)
 }
 
-/// Tells how many lines would be told of the entry at a path and of all below it, and their checksum.
+/// Tells how many bytes would be told of the entry at a path and of all below it, and their checksum.
 fn tell_sum(
     alloc: Global,
     host: &mut MemoryHost,
@@ -220,9 +220,9 @@ fn tell_sum(
 ) -> Result<(), NoMemory> {
     let mut told = String::new(alloc);
     tell_tree(alloc, host, path, &mut told)?;
-    let count = told.as_str().lines().count();
-    let sum = checksum(told.as_str().as_bytes());
-    writeln!(out, "> {path}: {count} lines, checksum {sum:08x}")?;
+    let bytes = told.as_str().as_bytes();
+    let sum = checksum(bytes);
+    writeln!(out, "> {path}: {} bytes, checksum {sum:08x}", bytes.len())?;
     Ok(())
 }
 
