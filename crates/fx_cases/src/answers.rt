@@ -1,10 +1,12 @@
 //! The lines of cases, and what each gives.
 
+use crate::changes::tell_changes;
 use crate::messages::tell_message;
+use crate::rooms::tell_rooms;
 use crate::runs::tell_run;
 use crate::schedules::tell_schedules;
 use crate::threads::tell_threads;
-use crate::tries::{tell_changes, tell_faults, tell_rooms};
+use crate::tries::tell_faults;
 use fx_base::NoMemory;
 use fx_hosts::{tell_list, tell_make_dir, tell_read, tell_standing, tell_write_new, tell_writes};
 use fx_outside::HostKind;

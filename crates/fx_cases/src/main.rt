@@ -4,7 +4,9 @@
 #![tactic(auto)]
 
 mod answers;
+mod changes;
 mod messages;
+mod rooms;
 mod runs;
 mod schedules;
 mod threads;
