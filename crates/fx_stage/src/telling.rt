@@ -68,7 +68,7 @@ fn add_piece(
     path: &HostText,
     bytes: &mut Vec<u8>,
 ) -> Result<usize, HostFault> {
-    let mut buffer = [0u8; 256];
+    let mut buffer = [0u8; 1024];
     let from = bytes.len() as u64;
     let count = match host.read(alloc, path, from, &mut buffer) {
         Ok(count) => count,
