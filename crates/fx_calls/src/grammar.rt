@@ -3,9 +3,9 @@
 use fx_base::NoMemory;
 use fx_command::{Status, TextFault};
 use fx_lex::{LexFault, Spanned, Token, Tokens, lex};
+use fx_message::Message;
 use fx_outside::{HostText, Words};
 use fx_parse::{TEXT_LIMIT, parse_expr, parse_shape};
-use fx_program::Message;
 use fx_scripts::{ScriptFault, script_of};
 use fx_show::{DescriptionFault, description_of};
 use fx_telling::{add_bytes, tell, unescaped};

@@ -1,17 +1,17 @@
 //! The lines of cases, and what each gives.
 
+use crate::changes::tell_changes;
 use crate::messages::tell_message;
-use crate::outside::{
-    tell_list, tell_make_dir, tell_read, tell_standing, tell_write_new, tell_writes,
-};
-use crate::runs::{tell_run, words_of};
-use crate::stage::Stage;
-use crate::steps::{tell_attempt, tell_steps};
-use crate::telling::tell_tree;
+use crate::rooms::tell_rooms;
+use crate::runs::tell_run;
+use crate::schedules::tell_schedules;
 use crate::threads::tell_threads;
-use crate::tries::{tell_faults, tell_schedules};
+use crate::tries::tell_faults;
 use fx_base::NoMemory;
+use fx_hosts::{tell_list, tell_make_dir, tell_read, tell_standing, tell_write_new, tell_writes};
 use fx_outside::HostKind;
+use fx_stage::{Stage, tell_tree, words_of};
+use fx_steps::{tell_attempt, tell_steps};
 use fx_telling::{number, split_word, tell};
 use std::alloc::Global;
 use std::sync::Wait;
@@ -28,6 +28,7 @@ enum Setting {
     Fail,
     FailWrite,
     Room,
+    Tell,
 }
 
 /// What a line runs.
@@ -35,6 +36,8 @@ enum Setting {
 enum Trial {
     Top,
     Faults,
+    Changes,
+    Rooms,
     Schedules,
     Threads,
     Tree,
@@ -73,8 +76,11 @@ const VERBS: &[(&str, Verb)] = &[
     ("fail", Verb::Set(Setting::Fail)),
     ("fail-write", Verb::Set(Setting::FailWrite)),
     ("room", Verb::Set(Setting::Room)),
+    ("tell", Verb::Set(Setting::Tell)),
     ("top", Verb::Try(Trial::Top)),
     ("faults", Verb::Try(Trial::Faults)),
+    ("changes", Verb::Try(Trial::Changes)),
+    ("rooms", Verb::Try(Trial::Rooms)),
     ("schedules", Verb::Try(Trial::Schedules)),
     ("threads", Verb::Try(Trial::Threads)),
     ("tree", Verb::Try(Trial::Tree)),
@@ -120,6 +126,7 @@ fn set_up(
         Setting::Fail => stage.host.fail(alloc, u64::from(number(rest)))?,
         Setting::FailWrite => stage.fail_write(u64::from(number(rest)))?,
         Setting::Room => stage.set_room(u64::from(number(rest))),
+        Setting::Tell => stage.set_detail(rest),
         _ => {
             if !put(alloc, stage, setting, rest)? {
                 return tell(out, "not free");
@@ -138,7 +145,8 @@ fn run<R: Threads + Wait + Sync>(
 ) -> Result<(), NoMemory> {
     let words = words_of(alloc, rest)?;
     let mut sink = stage.fresh_sink(alloc)?;
-    tell_run(rt, alloc, &words, &mut stage.host, &mut sink, out)
+    let detail = stage.detail;
+    tell_run(rt, alloc, &words, &mut stage.host, &mut sink, detail, out)
 }
 
 fn try_out<R: Threads + Wait + Sync>(
@@ -152,6 +160,8 @@ fn try_out<R: Threads + Wait + Sync>(
     match trial {
         Trial::Top => run(rt, alloc, stage, rest, out),
         Trial::Faults => tell_faults(rt, alloc, stage, rest, out),
+        Trial::Changes => tell_changes(rt, alloc, stage, rest, out),
+        Trial::Rooms => tell_rooms(rt, alloc, stage, rest, out),
         Trial::Schedules => tell_schedules(rt, alloc, stage, out),
         Trial::Threads => tell_threads(rt, alloc, stage, rest, out),
         Trial::Tree => tell_tree(alloc, &mut stage.host, rest, out),

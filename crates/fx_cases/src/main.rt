@@ -4,12 +4,11 @@
 #![tactic(auto)]
 
 mod answers;
+mod changes;
 mod messages;
-mod outside;
+mod rooms;
 mod runs;
-mod stage;
-mod steps;
-mod telling;
+mod schedules;
 mod threads;
 mod tries;
 

@@ -1,13 +1,12 @@
 //! The lines on standard error of statuses that are made of parts, in place of a run's.
 
-use crate::stage::host_text;
-use crate::telling::tell_status;
 use fx_base::NoMemory;
+use fx_command::{Status, TextFault};
 use fx_expr::{Shape, Word};
 use fx_folder::FolderCause;
 use fx_outside::{HostText, Words};
+use fx_stage::{host_text, tell_status};
 use fx_telling::{number, split_word, unescaped};
-use fx_top::status::{Status, TextFault};
 use std::alloc::Global;
 
 /// The words of the command line: one with a letter that is not ASCII and a line feed, and one with a backslash.

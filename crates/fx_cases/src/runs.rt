@@ -1,9 +1,8 @@
 //! Runs of the top call over a host and a sink in memory.
 
-use crate::stage::host_text;
-use crate::telling::{tell_status, tell_tree};
 use fx_base::NoMemory;
 use fx_outside::{MemoryHost, MemorySink, OpenGate, Words};
+use fx_stage::{Detail, tell_left, tell_status};
 use fx_telling::tell_bytes;
 use fx_top::status::Status;
 use fx_top::top::top;
@@ -23,18 +22,6 @@ fn status_of<R: Threads + Wait + Sync>(
     sink: &mut MemorySink,
 ) -> Status {
     top(rt, alloc, words, host, sink, &OpenGate)
-}
-
-/// The words of a line between its spaces; none in an empty line.
-pub fn words_of(alloc: Global, line: &str) -> Result<Words, NoMemory> {
-    let mut words = Words::new(alloc);
-    if line.is_empty() {
-        return Ok(words);
-    }
-    for word in line.split(' ') {
-        words.add(alloc, host_text(alloc, word)?)?;
-    }
-    Ok(words)
 }
 
 /// Runs a command, and tells its status and its line on standard error.
@@ -57,9 +44,10 @@ pub fn tell_run<R: Threads + Wait + Sync>(
     words: &Words,
     host: &mut MemoryHost,
     sink: &mut MemorySink,
+    detail: Detail,
     out: &mut String,
 ) -> Result<(), NoMemory> {
     tell_end(rt, alloc, words, host, sink, out)?;
     tell_bytes(out, sink.written())?;
-    tell_tree(alloc, host, OUT, out)
+    tell_left(alloc, host, detail, OUT, out)
 }

@@ -1,9 +1,7 @@
 //! Runs on threads, whose order is free. Each is compared with its own transactions, run whole, one after another in the
 //! order that it prints.
-use crate::runs::{OUT, tell_end, words_of};
-use crate::stage::{Stage, host_text};
-use crate::steps::base_of;
-use crate::telling::tell_tree;
+
+use crate::runs::{OUT, tell_end};
 use fx_base::NoMemory;
 use fx_board::{Event, Retries};
 use fx_folder::{SaveFault, ready, save};
@@ -11,6 +9,8 @@ use fx_outside::{HostText, MemoryHost, Words};
 use fx_report::report;
 use fx_sched::World;
 use fx_spec::Base;
+use fx_stage::{Stage, host_text, tell_tree, words_of};
+use fx_steps::base_of;
 use fx_store::{Filestore, LongText};
 use fx_telling::{number, split_word, tell, tell_bytes};
 use std::alloc::Global;

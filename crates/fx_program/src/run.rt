@@ -3,9 +3,9 @@ ghost use Rattle.std.specs.Prelude.{◌≡◌};
 ghost use Rattle.std.specs.Process.{exit_status};
 ghost use Rattle.fx_command.specs.Codes.{status_code};
 
-use crate::Message;
 use fx_base::NoMemory;
 use fx_disk::{Disk, Output};
+use fx_message::Message;
 use fx_outside::{HostText, OpenGate, Words};
 use fx_top::status::Status;
 use fx_top::top::top;

@@ -1,13 +1,33 @@
 //! What is told of statuses and trees. Each line of it begins with `> `.
 
 use crate::stage::host_text;
+use crate::sums::checksum;
 use fx_base::NoMemory;
+use fx_command::Status;
+use fx_message::Message;
 use fx_outside::{Host, HostFault, HostKind, HostText, Listing, MemoryHost, Standing, Words};
-use fx_program::Message;
 use fx_telling::{tell, tell_bytes};
-use fx_top::status::Status;
 use std::alloc::Global;
 use std::fmt::Write;
+
+/// What is told of a file.
+#[derive(Clone, Copy)]
+enum Files {
+    Bytes,
+    Sizes,
+}
+
+/// How much is told of a tree.
+#[derive(Clone, Copy)]
+pub enum Detail {
+    /// Each entry, and the bytes of each file.
+    Whole,
+    /// Each entry, and how many bytes each file has.
+    Sizes,
+    /// How many bytes would be told of the whole, and their checksum.
+    Sum,
+    Nothing,
+}
 
 /// The most entries that are told of a tree.
 const ENTRY_LIMIT: usize = 10_000;
@@ -48,7 +68,7 @@ fn add_piece(
     path: &HostText,
     bytes: &mut Vec<u8>,
 ) -> Result<usize, HostFault> {
-    let mut buffer = [0u8; 64];
+    let mut buffer = [0u8; 1024];
     let from = bytes.len() as u64;
     let count = match host.read(alloc, path, from, &mut buffer) {
         Ok(count) => count,
@@ -69,7 +89,8 @@ fn bytes_at(alloc: Global, host: &mut MemoryHost, path: &HostText) -> Result<Vec
     Ok(bytes)
 }
 
-fn tell_file(
+/// Tells a file's path and its bytes.
+fn tell_bytes_of(
     alloc: Global,
     host: &mut MemoryHost,
     path: &HostText,
@@ -79,6 +100,33 @@ fn tell_file(
     match bytes_at(alloc, host, path) {
         Ok(bytes) => tell_bytes(out, &bytes),
         Err(_) => tell(out, "Failed"),
+    }
+}
+
+/// Tells a file's path and how many bytes it has.
+fn tell_size_of(
+    alloc: Global,
+    host: &mut MemoryHost,
+    path: &HostText,
+    out: &mut String,
+) -> Result<(), NoMemory> {
+    match bytes_at(alloc, host, path) {
+        Ok(bytes) => writeln!(out, "> {} {}", path.as_str(), bytes.len())?,
+        Err(_) => writeln!(out, "> {} Failed", path.as_str())?,
+    }
+    Ok(())
+}
+
+fn tell_file(
+    alloc: Global,
+    host: &mut MemoryHost,
+    files: Files,
+    path: &HostText,
+    out: &mut String,
+) -> Result<(), NoMemory> {
+    match files {
+        Files::Bytes => tell_bytes_of(alloc, host, path, out),
+        Files::Sizes => tell_size_of(alloc, host, path, out),
     }
 }
 
@@ -116,12 +164,13 @@ fn tell_folder_at(
 fn tell_entry(
     alloc: Global,
     host: &mut MemoryHost,
+    files: Files,
     path: &HostText,
     left: &mut Vec<HostText>,
     out: &mut String,
 ) -> Result<(), NoMemory> {
     match standing(alloc, host, path) {
-        Ok(Standing::Is(HostKind::File)) => tell_file(alloc, host, path, out),
+        Ok(Standing::Is(HostKind::File)) => tell_file(alloc, host, files, path, out),
         Ok(Standing::Is(HostKind::Folder)) => tell_folder_at(alloc, host, path, left, out),
         Ok(Standing::Is(HostKind::Other)) => {
             writeln!(out, "> other {}", path.as_str())?;
@@ -135,10 +184,11 @@ fn tell_entry(
     }
 }
 
-/// Tells the entry at a path and all below it.
-pub fn tell_tree(
+/// Tells the entry at a path and all below it, of files what is asked for.
+fn tell_entries(
     alloc: Global,
     host: &mut MemoryHost,
+    files: Files,
     path: &str,
     out: &mut String,
 ) -> Result<(), NoMemory> {
@@ -146,7 +196,48 @@ pub fn tell_tree(
     left.push(host_text(alloc, path)?)?;
     for _ in 0..ENTRY_LIMIT {
         let Some(path) = left.pop() else { break };
-        tell_entry(alloc, host, &path, &mut left, out)?;
+        tell_entry(alloc, host, files, &path, &mut left, out)?;
     }
     Ok(())
+}
+
+/// Tells the entry at a path and all below it.
+pub fn tell_tree(
+    alloc: Global,
+    host: &mut MemoryHost,
+    path: &str,
+    out: &mut String,
+) -> Result<(), NoMemory> {
+    tell_entries(alloc, host, Files::Bytes, path, out)
+}
+
+/// Tells how many bytes would be told of the entry at a path and of all below it, and their checksum.
+fn tell_sum(
+    alloc: Global,
+    host: &mut MemoryHost,
+    path: &str,
+    out: &mut String,
+) -> Result<(), NoMemory> {
+    let mut told = String::new(alloc);
+    tell_tree(alloc, host, path, &mut told)?;
+    let bytes = told.as_str().as_bytes();
+    let sum = checksum(bytes);
+    writeln!(out, "> {path}: {} bytes, checksum {sum:08x}", bytes.len())?;
+    Ok(())
+}
+
+/// Tells what stands at a path, in so much detail.
+pub fn tell_left(
+    alloc: Global,
+    host: &mut MemoryHost,
+    detail: Detail,
+    path: &str,
+    out: &mut String,
+) -> Result<(), NoMemory> {
+    match detail {
+        Detail::Whole => tell_entries(alloc, host, Files::Bytes, path, out),
+        Detail::Sizes => tell_entries(alloc, host, Files::Sizes, path, out),
+        Detail::Sum => tell_sum(alloc, host, path, out),
+        Detail::Nothing => Ok(()),
+    }
 }

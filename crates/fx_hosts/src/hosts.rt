@@ -1,8 +1,8 @@
 //! Calls on the host and the sink in memory.
 
-use crate::stage::{Stage, host_text};
 use fx_base::NoMemory;
 use fx_outside::{Host, HostFault, Listing, MemorySink, Sink};
+use fx_stage::{Stage, host_text};
 use fx_telling::{tell, tell_bytes, unescaped};
 use std::alloc::Global;
 use std::fmt::Write;
@@ -12,6 +12,7 @@ fn tell_fault(out: &mut String, fault: HostFault) -> Result<(), NoMemory> {
     Ok(())
 }
 
+/// Tells what stands at a path.
 pub fn tell_standing(
     alloc: Global,
     stage: &mut Stage,
@@ -39,6 +40,7 @@ fn tell_listing(out: &mut String, names: &Listing) -> Result<(), NoMemory> {
     Ok(())
 }
 
+/// Tells what a folder holds.
 pub fn tell_list(
     alloc: Global,
     stage: &mut Stage,
@@ -78,6 +80,7 @@ fn tell_done(out: &mut String, done: Result<(), HostFault>) -> Result<(), NoMemo
     }
 }
 
+/// Makes a folder, and tells whether that was done.
 pub fn tell_make_dir(
     alloc: Global,
     stage: &mut Stage,
@@ -89,6 +92,7 @@ pub fn tell_make_dir(
     tell_done(out, done)
 }
 
+/// Writes a new file, and tells whether that was done.
 pub fn tell_write_new(
     alloc: Global,
     stage: &mut Stage,

@@ -1,17 +1,17 @@
 //! Single transactions and single steps of shells, over the texts and the folder of a stage.
-use crate::runs::words_of;
-use crate::stage::Stage;
+
 use fx_base::NoMemory;
 use fx_board::{Attempt, Board, Event, Events};
+use fx_command::Status;
 use fx_outside::Words;
 use fx_report::event_lines;
 use fx_run::run;
 use fx_sched::World;
 use fx_spec::{Base, End};
+use fx_stage::{Stage, words_of};
 use fx_store::{Node, Path};
 use fx_telling::{split_word, tell, tell_bytes, unescaped};
 use fx_top::reading::read_base;
-use fx_top::status::Status;
 use fx_view::{Known, Reads, Stop};
 use fx_words::{Job, job_of};
 use std::alloc::Global;

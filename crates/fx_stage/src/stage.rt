@@ -1,5 +1,6 @@
 //! What a case sets up: a host, the calls on it that are to fail, and the sink that a run prints to.
 
+use crate::telling::Detail;
 use fx_base::NoMemory;
 use fx_outside::{HostKind, HostText, MemoryHost, MemorySink};
 use fx_telling::unescaped;
@@ -22,12 +23,16 @@ struct Placed {
 /// The stage of a case. The host is kept from one line to the next, and a sink is made anew for each run.
 #[derive(Drop)]
 pub struct Stage {
+    /// The host of all lines of the case.
     pub host: MemoryHost,
+    /// How much is told of what a run leaves.
+    pub detail: Detail,
     placed: Vec<Placed>,
     room: u64,
     failing_writes: Vec<u64>,
 }
 
+/// A text as hosts take one.
 pub fn host_text(alloc: Global, text: &str) -> Result<HostText, NoMemory> {
     Ok(HostText::from_string(String::from_str(alloc, text)?))
 }
@@ -52,11 +57,21 @@ fn put(
     Ok(true)
 }
 
+fn detail_of(name: &str) -> Detail {
+    match name {
+        "sizes" => Detail::Sizes,
+        "sum" => Detail::Sum,
+        "nothing" => Detail::Nothing,
+        _ => Detail::Whole,
+    }
+}
+
 impl Stage {
     /// An empty tree, and nothing that fails.
     pub fn new(alloc: Global) -> Stage {
         Stage {
             host: MemoryHost::new(alloc),
+            detail: Detail::Whole,
             placed: Vec::new(alloc),
             room: ROOM,
             failing_writes: Vec::new(alloc),
@@ -84,8 +99,14 @@ impl Stage {
         self.put(alloc, path, HostKind::File, line.as_str())
     }
 
+    /// Has each further sink take so many bytes.
     pub fn set_room(&mut self, room: u64) {
         self.room = room.min(ROOM_LIMIT);
+    }
+
+    /// Has what a run leaves be told in the detail of this name.
+    pub fn set_detail(&mut self, name: &str) {
+        self.detail = detail_of(name);
     }
 
     /// Has a write of each further sink fail.
@@ -118,7 +139,12 @@ impl Stage {
 
     /// An empty sink.
     pub fn fresh_sink(&self, alloc: Global) -> Result<MemorySink, NoMemory> {
-        let mut sink = MemorySink::new(alloc, self.room)?;
+        self.sink_of(alloc, self.room)
+    }
+
+    /// An empty sink that takes so many bytes.
+    pub fn sink_of(&self, alloc: Global, room: u64) -> Result<MemorySink, NoMemory> {
+        let mut sink = MemorySink::new(alloc, room.min(ROOM_LIMIT))?;
         for call in &self.failing_writes {
             sink.fail(alloc, *call)?;
         }

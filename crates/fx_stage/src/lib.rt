@@ -1,0 +1,11 @@
+//! The stage on which a case plays, a host and sinks in memory, and what is told of trees and statuses.
+#![tactic(auto)]
+
+mod stage;
+mod sums;
+mod telling;
+mod words;
+
+pub use stage::{Stage, host_text};
+pub use telling::{Detail, tell_left, tell_status, tell_tree};
+pub use words::words_of;
