@@ -71,12 +71,10 @@ fn attempt<R: Wait>(
     }
 }
 
-/// The number of the next transaction after a refusal at this one.
-fn after(refusal: Settle, txn: u32) -> Result<u32, NoMemory>
-    ensures { IfOk result (λ next. next ≡ txn) }
-{
+/// Drops a refusal, which leaves a conflict, or the want of memory.
+fn dropped(refusal: Settle) -> Result<(), NoMemory> {
     match refusal {
-        Settle::Conflict { .. } => Ok(txn),
+        Settle::Conflict { .. } => Ok(()),
         Settle::NoMemory(_) => Err(NoMemory),
     }
 }
@@ -97,7 +95,10 @@ fn settle<R: Wait>(team: &Team<'_, R>, pass: &mut Pass, attempt: Attempt) -> Res
     let txn = attempt.txn;
     match team.shared.settle(team.rt, team.alloc, pass, attempt) {
         Ok(_) => Ok(txn + 1),
-        Err(refusal) => after(refusal, txn),
+        Err(refusal) => {
+            dropped(refusal)?;
+            Ok(txn)
+        }
     }
 }
 
