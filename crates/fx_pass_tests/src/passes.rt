@@ -11,7 +11,6 @@ ghost use Rattle.fx_pass_tests.specs.Workings.{HasRun, IsAt, IsFresh};
 use crate::bases::counts;
 use crate::meeting::Meeting;
 use fx_base::NoMemory;
-use fx_board::Board;
 use fx_machine::Attempt;
 use fx_outside::OpenGate;
 use fx_shared::{Pass, Settle, Shared};
@@ -154,27 +153,25 @@ fn both<R: Threads + Wait + Sync>(
 ) -> Result<(Working, Working), NoMemory>
     requires first { IsFresh (base_tree team.now.base.now.value) team.now.shared.now first }
     requires second { IsFresh (base_tree team.now.base.now.value) team.now.shared.now second }
-    ensures first { IfOk result (λ w. IsReadyPass team.now.shared.now w.0.pass) }
-    ensures second { IfOk result (λ w. IsReadyPass team.now.shared.now w.1.pass) }
 {
     let (first, second) = thread::join(
         team.rt,
         move || -> Result<Working, NoMemory>
             requires { IsFresh (base_tree team.now.base.now.value) team.now.shared.now first }
-            ensures { IfOk result (λ w. IsReadyPass team.entry.now.shared.now w.pass) }
         { work(team, first) },
         move || -> Result<Working, NoMemory>
             requires { IsFresh (base_tree team.now.base.now.value) team.now.shared.now second }
-            ensures { IfOk result (λ w. IsReadyPass team.entry.now.shared.now w.pass) }
         { work(team, second) },
     );
     Ok((first?, second?))
 }
 
-/// A log that two threads have shared, and whether an attempt was refused.
+/// What a third pass sees where two threads have shared a log: what stands at a path, and how many entries there are. And
+/// whether an attempt was refused.
 #[derive(Drop)]
 struct Met {
-    board: Board,
+    node: Option<Node>,
+    entries: u64,
     refused: bool,
 }
 
@@ -183,6 +180,7 @@ fn meet<R: Threads + Wait + Sync>(
     rt: &R,
     alloc: Global,
     base: &Arc<Base>,
+    path: &Path,
 ) -> Result<Met, NoMemory> {
     let (shared, mut maker) = Shared::new(alloc, Arc::try_clone(base)?)?;
     let meeting = Meeting::new();
@@ -195,62 +193,31 @@ fn meet<R: Threads + Wait + Sync>(
     };
     let first = shared.pass(&mut maker);
     let second = shared.pass(&mut maker);
+    let mut third = shared.pass(&mut maker);
     let (first, second) = both(&team, first, second)?;
     let refused = first.refused | second.refused;
-    shared.join(&mut maker, first.pass);
-    shared.join(&mut maker, second.pass);
+    let (node, entries) = shared.look(rt, alloc, &mut third, path)?;
     Ok(Met {
-        board: shared.close(maker),
+        node,
+        entries,
         refused,
     })
 }
 
-/// Whether an entry is the transaction of a shell.
-fn is_entry_of(board: &Board, i: u64, shell: u32, txn: u32) -> bool {
-    match board.entry(i) {
-        Some(entry) => entry.shell == shell && entry.txn == txn,
-        None => false,
-    }
-}
-
-/// The number of the entry that a transaction of a shell is.
-fn place_of(board: &Board, shell: u32, txn: u32) -> Option<u64> {
-    for i in 0..board.len() {
-        if is_entry_of(board, i, shell, txn) {
-            return Some(i);
-        }
-    }
-    None
-}
-
-/// Whether there are two places, one before the other.
-fn is_before(one: Option<u64>, other: Option<u64>) -> bool {
-    match (one, other) {
-        (Some(one), Some(other)) => one < other,
-        _ => false,
-    }
-}
-
-/// The bytes of a file of a log; none where none stands.
-fn bytes_at<'a>(board: &'a Board, path: &Path) -> &'a [u8] {
-    match board.store().get(path) {
+/// The bytes of a file; none of another node.
+fn bytes_of(node: &Option<Node>) -> &[u8] {
+    match node {
         Some(Node::File(bytes)) => bytes.as_slice(),
         _ => b"",
     }
 }
 
 /// What is wrong with what two threads have left; an empty text where nothing is.
-fn fault_of(met: &Met, path: &Path) -> &'static str {
-    if met.board.len() != 3 {
+fn fault_of(met: &Met) -> &'static str {
+    if met.entries != 3 {
         return "there are not three entries";
     }
-    if !is_before(place_of(&met.board, 0, 0), place_of(&met.board, 0, 1)) {
-        return "the first shell's entries are not in its order";
-    }
-    if place_of(&met.board, 1, 0).is_none() {
-        return "the second shell has no entry";
-    }
-    if bytes_at(&met.board, path) != b"3".as_slice() {
+    if bytes_of(&met.node) != b"3".as_slice() {
         return "the file does not have what three counts make";
     }
     if !met.refused {
@@ -267,8 +234,8 @@ fn first_fault<R: Threads + Wait + Sync>(
     path: &Path,
 ) -> Result<&'static str, NoMemory> {
     for _ in 0..MEETINGS {
-        let met = meet(rt, alloc, base)?;
-        let fault = fault_of(&met, path);
+        let met = meet(rt, alloc, base, path)?;
+        let fault = fault_of(&met);
         if !fault.is_empty() {
             return Ok(fault);
         }

@@ -35,8 +35,3 @@ join-first-requires-send-F g c κs within =
 pub join-first-requires-send-A : goal.join-first-requires-send-A
 join-first-requires-send-A g c κs within = search (sendable, crosses, Working-send) depth 40
 
-pub returns-clause-first : goal.returns-clause-first
-returns-clause-first g c = subst (λ r. IfOk r (λ w. IsReadyPass c.args.team.now.shared.now w.pass)) c.in_ok-first.was c.join-first.ensures.first
-
-pub returns-clause-second : goal.returns-clause-second
-returns-clause-second g c = subst (λ r. IfOk r (λ w. IsReadyPass c.args.team.now.shared.now w.pass)) c.in_ok-second.was c.join-first.ensures.second

@@ -13,3 +13,8 @@ pub both-requires-clause-second : goal.both-requires-clause-second
 both-requires-clause-second g c κs within =
     let based = ap (λ v. v.base) c.in_ok-shared.ensures.view ∙ ap (λ base. Some (base_tree base)) c.in_ok-try_clone.ensures in
     fresh (base_tree c.args.base.now.value) c.in_ok-shared.shared (view c.pass-first.new.maker) c.pass-second.result c.pass-second.ensures.pass.1 (ap (λ v. v.base) c.pass-first.ensures.maker ∙ based) c.pass-second.ensures.new
+
+pub look-requires : goal.look-requires
+look-requires g c =
+    let based = ap (λ v. v.base) c.in_ok-shared.ensures.view ∙ ap (λ base. Some (base_tree base)) c.in_ok-try_clone.ensures in
+    (fresh (base_tree c.args.base.now.value) c.in_ok-shared.shared (view c.pass-second.new.maker) c.pass-third.result c.pass-third.ensures.pass.1 (ap (λ v. v.base) c.pass-second.ensures.maker ∙ ap (λ v. v.base) c.pass-first.ensures.maker ∙ based) c.pass-third.ensures.new).ready
