@@ -2,7 +2,6 @@ use denote.Param.Send.{IsSend, IsSync, struct_sync, sendable}
 use denote.RattleType.{RattleType}
 use denote.Ref.{NamedLft}
 use denote.Struct.Declared.{shape}
-use Rattle.std.proofs.Common.{IfOk, subst}
 use Rattle.std.proofs.Crossing.{crosses}
 use Rattle.atomic_table.proofs.shared.Seat.TheSendSync.{the_send as table_seat}
 use Rattle.atomic_table.proofs.shared.Shared.TheSendSync.{the_sync as table_shared}
@@ -10,7 +9,6 @@ use Rattle.atomic_table.proofs.send_lease.SendLease.TheSendSync.{the_sync as tab
 use Rattle.fx_spec.proofs.Crosses.{Base-send, Base-sync}
 use Rattle.fx_board.proofs.Crosses.{Board-send}
 use Rattle.fx_shared.specs.contracts.shared.Shared as shared
-use Rattle.fx_shared.specs.Shared.{IsReadyPass}
 use Rattle.fx_pass_tests.specs.contracts.meeting.Meeting as meeting
 use Rattle.fx_pass_tests.specs.contracts.passes.Team as team
 use Rattle.fx_pass_tests.specs.contracts.passes.Working as working
@@ -34,4 +32,3 @@ join-first-requires-send-F g c κs within =
 
 pub join-first-requires-send-A : goal.join-first-requires-send-A
 join-first-requires-send-A g c κs within = search (sendable, crosses, Working-send) depth 40
-
