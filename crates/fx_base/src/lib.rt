@@ -1,10 +1,12 @@
-//! What every crate of the project shares: the one answer for want of memory, and the words of contracts that more than
-//! one crate cites.
+//! What every crate of the project shares: the one answer for want of memory, and the limits and the words of contracts
+//! that more than one crate cites.
 #![tactic(auto)]
 
+mod limits;
 mod list;
 mod steps;
 
+pub use limits::{SOURCE_LIMIT, TXN_LIMIT};
 pub use list::Listed;
 use std::alloc::{AllocError, AllocFailed};
 use std::error::Error;

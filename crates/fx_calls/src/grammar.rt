@@ -1,19 +1,16 @@
 //! Tokens, expressions, shapes, descriptions and scripts.
 
-use fx_base::NoMemory;
+use fx_base::{NoMemory, SOURCE_LIMIT, TXN_LIMIT};
 use fx_command::{Status, TextFault};
 use fx_lex::{LexFault, Spanned, Token, Tokens, lex};
 use fx_message::Message;
 use fx_outside::{HostText, Words};
-use fx_parse::{TEXT_LIMIT, parse_expr, parse_shape};
+use fx_parse::{parse_expr, parse_shape};
 use fx_scripts::{ScriptFault, script_of};
 use fx_show::{DescriptionFault, description_of};
 use fx_telling::{add_bytes, tell, unescaped};
 use std::alloc::Global;
 use std::fmt::Write;
-
-/// The most transactions of the scripts before a script.
-const TXN_LIMIT: u32 = 100_000;
 
 /// What a text is read as.
 #[derive(Clone, Copy)]
@@ -28,7 +25,7 @@ pub enum Form {
 
 /// The tokens of a text; none where it is too large.
 fn tokens_of(alloc: Global, bytes: &[u8]) -> Result<Tokens, LexFault> {
-    let short = bytes.len() <= TEXT_LIMIT;
+    let short = bytes.len() <= SOURCE_LIMIT;
     if short {
         lex(alloc, bytes)
     } else {
@@ -191,7 +188,7 @@ pub fn tell_script(
     out: &mut String,
 ) -> Result<(), NoMemory> {
     let bytes = unescaped(alloc, text)?;
-    match script_of(alloc, &bytes, before.min(TXN_LIMIT)) {
+    match script_of(alloc, &bytes, before.min(TXN_LIMIT as u32)) {
         Ok(_) => tell(out, "read"),
         Err(ScriptFault::Refused(cause)) => tell_cause(alloc, cause, out),
         Err(ScriptFault::NoMemory) => Err(NoMemory),

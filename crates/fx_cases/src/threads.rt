@@ -3,93 +3,26 @@
 
 use crate::runs::{OUT, tell_end};
 use fx_base::NoMemory;
-use fx_board::{Event, Retries};
+use fx_board::Retries;
 use fx_folder::{SaveFault, ready, save};
 use fx_outside::{HostText, MemoryHost, Words};
+use fx_replay::{entry_lines, replayed, shells_of};
 use fx_report::report;
 use fx_sched::World;
-use fx_spec::Base;
 use fx_stage::{Stage, host_text, tell_tree, words_of};
 use fx_steps::base_of;
 use fx_store::{Filestore, LongText};
 use fx_telling::{number, split_word, tell, tell_bytes};
 use std::alloc::Global;
 use std::fmt::Write;
-use std::sync::{Arc, Wait};
+use std::sync::Wait;
 use std::thread::Threads;
-
-/// The most steps of a shell up to its next settle.
-const STEP_LIMIT: u32 = 100_000;
 
 /// What a run has left: the lines of its report before those of its retries, and its folder.
 #[derive(Drop, PartialEq)]
 struct Left {
     entries: String,
     folder: String,
-}
-
-/// The lines of a report before those of its retries.
-fn entry_lines(report: &str) -> &str {
-    match report.split_once("\nretries ") {
-        Some((entries, _)) => entries,
-        None => report,
-    }
-}
-
-/// The shell of a line `entry I shell K ..`.
-fn shell_of(line: &str) -> Option<u32> {
-    let mut words = line.split(' ');
-    if words.next()? != "entry" {
-        return None;
-    }
-    words.nth(2)?.parse::<u32>().ok()
-}
-
-/// The shells of the entries of a report, in order.
-fn shells_of(alloc: Global, entries: &str) -> Result<Vec<u32>, NoMemory> {
-    let mut shells = Vec::new(alloc);
-    for line in entries.lines() {
-        if let Some(shell) = shell_of(line) {
-            shells.push(shell)?;
-        }
-    }
-    Ok(shells)
-}
-
-fn is_settled(event: &Event) -> bool {
-    match event {
-        Event::Settled { .. } => true,
-        Event::Look { .. } => false,
-        Event::Conflict { .. } => false,
-    }
-}
-
-/// A step of a shell, and whether its transaction goes on.
-fn steps_on(alloc: Global, world: &mut World, shell: u32) -> Result<bool, NoMemory> {
-    if shell >= world.board().base().plan.len() {
-        return Ok(false);
-    }
-    match world.step(alloc, shell)? {
-        Some(event) => Ok(!is_settled(&event)),
-        None => Ok(false),
-    }
-}
-
-/// A shell's next transaction, run whole.
-fn settle_next(alloc: Global, world: &mut World, shell: u32) -> Result<(), NoMemory> {
-    for _ in 0..STEP_LIMIT {
-        if !steps_on(alloc, world, shell)? {
-            break;
-        }
-    }
-    Ok(())
-}
-
-fn settle_all(alloc: Global, world: &mut World, shells: &[u32]) -> Result<(), NoMemory> {
-    for shell in shells {
-        settle_next(alloc, world, *shell)?;
-    }
-    Ok(())
 }
 
 /// Saves a filestore at OUT of a host.
@@ -134,13 +67,6 @@ fn left_by(alloc: Global, world: &World) -> Result<Left, NoMemory> {
     Ok(Left { entries, folder })
 }
 
-/// What the transactions of a base leave that are run whole in an order.
-fn left_in_order(alloc: Global, base: Arc<Base>, shells: &[u32]) -> Result<Left, NoMemory> {
-    let mut world = World::new(alloc, base)?;
-    settle_all(alloc, &mut world, shells)?;
-    left_by(alloc, &world)
-}
-
 /// What a run leaves, on a fresh stage.
 fn left_of<R: Threads + Wait + Sync>(
     rt: &R,
@@ -167,7 +93,7 @@ fn is_as_printed(
 ) -> Result<bool, NoMemory> {
     let shells = shells_of(alloc, left.entries.as_str())?;
     match base_of(alloc, stage, scripts) {
-        Ok(base) => Ok(left_in_order(alloc, base, &shells)? == *left),
+        Ok(base) => Ok(left_by(alloc, &replayed(alloc, &base, &shells)?)? == *left),
         Err(_) => Ok(false),
     }
 }

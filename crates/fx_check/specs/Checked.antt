@@ -1,6 +1,7 @@
 -- The shape of a description's value, or its first fault, and the first fault of transactions: of a focus the text comes first, of a comprehension the set, then
 -- the name, then the part; of a pair the first part, then the name, then the second.
 use Rattle.std.specs.Prelude.{ℕ, ◌+◌, nat_le, cond, List, [], ◌∷◌, length, Option, Some, None, Ok, Err}
+use Rattle.fx_base.specs.Limits.{txn_limit}
 use Rattle.fx_expr.specs.Bindings.{bind, bound}
 use Rattle.fx_expr.specs.ExprTree.{ExprTree}
 use Rattle.fx_expr.specs.ShapeTree.{ShapeTree}
@@ -77,4 +78,4 @@ checked_txns (t ∷ ts) = checked_block [] (block t) >>= λ _. checked_txns ts >
 
 -- a script after so many transactions: there may be 100,000 together, which is looked at first of all
 abbrev pub checked_script : ℕ → List (List CommandTree) → OrFault (List (List CommandTree))
-checked_script before txns = cond (nat_le (before + length txns) 100000) (checked_txns txns) (Err Fault.too_many)
+checked_script before txns = cond (nat_le (before + length txns) txn_limit) (checked_txns txns) (Err Fault.too_many)

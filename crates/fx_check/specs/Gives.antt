@@ -1,5 +1,6 @@
 -- What a call of the program says of a check of the definitions.
 use Rattle.std.specs.Prelude.{◌≡◌, ℕ, ◌+◌, ◌<◌, ◌≤◌, ◌^◌, List, [], length, All, Result, Ok, Err}
+use Rattle.fx_base.specs.Limits.{txn_limit}
 use Rattle.fx_expr.specs.Views.{shape_tree}
 use Rattle.fx_check.specs.declared.fault.CheckFault.{CheckFault}
 use Rattle.fx_check.specs.declared.fault.CheckFault.TheVariants as check
@@ -35,5 +36,5 @@ pub record IsSmall (commands : List CommandTree) : Type 0 where
 
 -- the transactions themselves where they are well shaped and not too many, or their first fault
 abbrev pub IsScriptAnswer : ℕ → List (List CommandTree) → Result (List (List CommandTree)) CheckFault → Type 0
-IsScriptAnswer before txns (Ok found) = (found ≡ txns) × All (λ t. IsBlock [] (block t)) txns × (before + length txns ≤ 100000)
+IsScriptAnswer before txns (Ok found) = (found ≡ txns) × All (λ t. IsBlock [] (block t)) txns × (before + length txns ≤ txn_limit)
 IsScriptAnswer before txns (Err fault) = IsFault fault (checked_script before txns)

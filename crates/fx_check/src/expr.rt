@@ -172,13 +172,8 @@ fn one_shape(alloc: Global, op: UnOp, found: Shape) -> Result<Shape, CheckFault>
 fn given(part: Result<Shape, CheckFault>, shape: Shape) -> Result<Shape, CheckFault>
     ensures { (o : OrFault ShapeTree) → Gives shape_tree part o → Gives shape_tree result (followed_by (shape_tree shape) o) }
 {
-    match part {
-        Ok(found) => {
-            let_go(Some(found));
-            Ok(shape)
-        }
-        Err(fault) => Err(fault),
-    }
+    let_go(Some(part?));
+    Ok(shape)
 }
 
 fn is_pair(shape: &Shape) -> bool

@@ -13,5 +13,5 @@ pub use laws::{
     a_checked_block_is_well_shaped, a_checked_description_is_well_shaped,
     a_shaped_expression_has_its_shape, checked_transactions_are_well_shaped,
 };
-pub use script::{TXN_LIMIT, check_script};
+pub use script::check_script;
 pub use spec::check;

@@ -1,5 +1,6 @@
 //! The check of transactions.
 ghost use Rattle.std.specs.Prelude.{◌≡◌, ◌≤◌, All};
+ghost use Rattle.fx_base.specs.Limits.{txn_limit};
 ghost use Rattle.fx_expr.specs.Views.{expr_tree, shape_tree};
 ghost use Rattle.fx_spec.specs.CommandTree.{CommandTree, block};
 ghost use Rattle.fx_spec.specs.Views.{act_tree, command_tree};
@@ -10,12 +11,10 @@ use crate::expr::{needed, shape_of};
 use crate::fault::CheckFault;
 use crate::scope::{Scope, let_go};
 use crate::spec::check_shape;
+use fx_base::TXN_LIMIT;
 use fx_expr::{Expr, Shape, Word};
 use fx_spec::{Act, Command, Commands, Script, Txns};
 use std::alloc::Global;
-
-/// The most transactions that all scripts of a run may have together.
-pub const TXN_LIMIT: u64 = 100_000;
 
 /// An act's own expression.
 fn check_act(alloc: Global, scope: &Scope, act: &Act) -> Result<(), CheckFault>
@@ -165,7 +164,7 @@ fn check_txns(alloc: Global, txns: &Txns) -> Result<(), CheckFault>
 
 /// Well-shaped transactions, or their first fault; too many together with those before are refused first of all.
 pub fn check_script(alloc: Global, txns: Txns, before: u32) -> Result<Script, CheckFault>
-    requires few { before ≤ 100000 }
+    requires few { before ≤ txn_limit }
     requires small { All IsSmall txns }
     ensures { IsScriptAnswer before txns result }
 {

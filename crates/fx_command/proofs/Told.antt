@@ -1,7 +1,5 @@
--- What the rows of the tables of statuses are made of: errors that a `?` hands on, told trees, and reads before a row.
-use Rattle.std.proofs.Common.{◌≡◌, ◌⊎◌, inl, inr, ℕ, Bool, true, false, ◌&&◌, List, ◌++◌, take, Option, Some, None, Result, Ok, Err, IfSome, IfErr, IsSomeAnd, refl, sym, ◌∙◌, subst}
-use Rattle.std.specs.Result.{IsErrAnd}
-use Rattle.std.proofs.lemmas.Result.{err_from_is_err_and}
+-- What the rows of the tables of statuses are made of: told trees, and reads before a row.
+use Rattle.std.proofs.Common.{◌≡◌, ◌⊎◌, inl, inr, ℕ, Bool, true, false, ◌&&◌, List, ◌++◌, take, Option, Some, None, IfSome, IsSomeAnd, refl, sym, subst}
 use Rattle.fx_base.specs.Causes.{Rose}
 use Rattle.fx_outside.specs.Host.{HostView, ReadsOnly}
 use Rattle.fx_outside.specs.Sink.{SinkView}
@@ -9,15 +7,6 @@ use Rattle.fx_outside.specs.Tree.{Tree}
 use Rattle.fx_outside.proofs.Views.{reads_then, rose_back}
 use Rattle.fx_folder.specs.Folder.{IfTold}
 use Rattle.fx_command.specs.Left.{IsSame, Grows}
-
--- an error that a `?` hands on
-pub err_of : {X E : Type 0} (r : Result X E) (e : E) → IsErrAnd r (λ d. d ≡ e) → r ≡ Err e
-err_of {X = X} {E = E} r e is =
-    let err = err_from_is_err_and r is in
-    err.1 ∙ subst (λ d. ◌≡◌ {A = Result X E} (Err err.0) (Err d)) err.2 refl
-
-pub if_err_of : {X E : Type 0} (P : E → Type 0) (r : Result X E) (e : E) → IsErrAnd r (λ d. d ≡ e) → P e → IfErr r P
-if_err_of P r e is holds = subst (λ r. IfErr r P) (sym (err_of r e is)) holds
 
 -- words on a told tree
 pub if_some_map : {A : Type 0} (P Q : A → Type 0) (o : Option A) → ((x : A) → P x → Q x) → IfSome o P → IfSome o Q

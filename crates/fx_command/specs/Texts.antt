@@ -1,5 +1,6 @@
 -- The texts of a description and of a script, as a told tree holds them.
 use Rattle.std.specs.Prelude.{◌≡◌, ℕ, ◌≤◌, ◌<◌, true, List, length, take}
+use Rattle.fx_base.specs.Limits.{source_limit}
 use Rattle.fx_outside.specs.Tree.{Tree, is_file_at, bytes_at}
 
 -- bytes from the front of the file at a path
@@ -13,4 +14,4 @@ pub record IsReadAt (tree : Tree) (path text : List ℕ) : Type 0 where
   pub file : is_file_at tree path ≡ true
   pub front : text ≡ take (length text) (bytes_at tree path)
   pub within : length text ≤ length (bytes_at tree path)
-  pub whole : length text ≤ 65536 → text ≡ bytes_at tree path
+  pub whole : length text ≤ source_limit → text ≡ bytes_at tree path

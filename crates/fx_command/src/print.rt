@@ -22,10 +22,8 @@ pub fn print_all<S: Sink>(out: &mut S, bytes: &[u8]) -> Result<(), SinkFailed>
 {
     let mut rest = bytes;
     'writing: while !rest.is_empty() {
-        match out.write(rest) {
-            Ok(count) => rest = after(rest, count),
-            Err(failed) => return Err(failed),
-        }
+        let count = out.write(rest)?;
+        rest = after(rest, count);
     }
     Ok(())
 }

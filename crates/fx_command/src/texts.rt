@@ -5,12 +5,9 @@ ghost use Rattle.fx_outside.specs.Host.{ReadsAt, ReadsOnly, AsksFit, HasFailed};
 ghost use Rattle.fx_outside.specs.declared.kind.HostFault.TheVariants.{Failed};
 ghost use Rattle.fx_command.specs.Texts.{IsReadAt};
 
-use fx_base::NoMemory;
+use fx_base::{NoMemory, SOURCE_LIMIT};
 use fx_outside::{Host, HostFault, HostText};
 use std::alloc::Global;
-
-/// The most bytes of the text of a description or of a script.
-const TEXT_LIMIT: usize = 65_536;
 
 /// How many bytes are asked for at a time.
 const PIECE: usize = 8_192;
@@ -39,14 +36,8 @@ fn read_piece<H: Host>(
     ensures failed { IfErr result (λ fault. fault ≡ Failed
         → HasFailed (λ tree. is_file_at tree path.now) (H.view host.old) (H.view host.new)) }
 {
-    let mut piece = match buffer(alloc) {
-        Ok(piece) => piece,
-        Err(NoMemory) => return Err(HostFault::NoMemory),
-    };
-    let count = match host.read(alloc, path, from, &mut piece) {
-        Ok(count) => count,
-        Err(fault) => return Err(fault),
-    };
+    let mut piece = buffer(alloc)?;
+    let count = host.read(alloc, path, from, &mut piece)?;
     piece.truncate(count);
     Ok(piece)
 }
@@ -66,18 +57,12 @@ pub fn read_text<H: Host>(
         → HasFailed (λ tree. is_file_at tree path.now) (H.view host.old) (H.view host.new)) }
 {
     let mut text = Vec::new(alloc);
-    'reading: while text.len() <= TEXT_LIMIT {
-        let piece = match read_piece(alloc, host, path, text.len() as u64) {
-            Ok(piece) => piece,
-            Err(fault) => return Err(fault),
-        };
+    'reading: while text.len() <= SOURCE_LIMIT {
+        let piece = read_piece(alloc, host, path, text.len() as u64)?;
         if piece.is_empty() {
             return Ok(text);
         }
-        match text.extend_from_slice(&piece) {
-            Ok(()) => {}
-            Err(_) => return Err(HostFault::NoMemory),
-        }
+        text.extend_from_slice(&piece)?;
     }
     Ok(text)
 }

@@ -19,7 +19,7 @@ use Rattle.fx_view.specs.Own.{own_at, put_own, put_all, AreRead}
 use Rattle.fx_view.specs.OwnList.{OwnList}
 use Rattle.fx_view.specs.Reads.{known_of}
 use Rattle.fx_view.proofs.Calls.{consults_by}
-use Rattle.fx_view.proofs.Errors.{err_of}
+use Rattle.fx_base.proofs.Errors.{err_of}
 use Rattle.fx_view.proofs.Owning.{own_at-put, read_more, read_put}
 use Rattle.fx_view.proofs.Rules.{found_answer}
 use Rattle.fx_rules.specs.declared.halt.Halt.{Halt}

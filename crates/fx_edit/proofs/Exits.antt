@@ -8,7 +8,7 @@ use Rattle.fx_view.specs.declared.reader.Stop.{Stop}
 use Rattle.fx_view.specs.declared.reader.Stop.TheVariants as stop
 use Rattle.fx_view.specs.Follows.{GoesBy}
 use Rattle.fx_view.specs.Meaning.{Meaning}
-use Rattle.fx_view.proofs.Errors.{err_of}
+use Rattle.fx_base.proofs.Errors.{err_of}
 use Rattle.fx_view.proofs.Rulings.{by_refused, by_stop, by_same, by_then_refused}
 use Rattle.fx_rules.specs.declared.halt.Halt.{Halt}
 use Rattle.fx_rules.specs.declared.halt.Halt.TheVariants as halt

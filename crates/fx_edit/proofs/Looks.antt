@@ -10,7 +10,7 @@ use Rattle.fx_view.specs.declared.reader.Stop.{Stop}
 use Rattle.fx_view.specs.Follows.{GoesBy, Consults}
 use Rattle.fx_view.specs.Meaning.{Meaning}
 use Rattle.fx_view.proofs.Courses.{Goes, goes_on, goes_stop, goes_end}
-use Rattle.fx_view.proofs.Errors.{err_of}
+use Rattle.fx_base.proofs.Errors.{err_of}
 use Rattle.fx_view.proofs.Lists.{drop_at}
 use Rattle.fx_edit.specs.Rules.{looking}
 

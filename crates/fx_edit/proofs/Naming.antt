@@ -14,7 +14,7 @@ use Rattle.fx_expr.specs.Sets.{IsAscending}
 use Rattle.fx_spec.specs.declared.refusal.Refusal.{Refusal}
 use Rattle.fx_spec.specs.Edit.{names_node}
 use Rattle.fx_spec.specs.Move.{Answered}
-use Rattle.fx_view.proofs.Errors.{err_of}
+use Rattle.fx_base.proofs.Errors.{err_of}
 use Rattle.fx_rules.specs.declared.halt.Halt.{Halt}
 use Rattle.fx_rules.specs.declared.halt.Halt.TheVariants as halt
 use Rattle.fx_edit.specs.Values.{name_read, Tells}

@@ -1,7 +1,6 @@
 -- The lines of a table, read one after another.
 use Rattle.std.proofs.Common.{◌≡◌, ℕ, zero, suc, ◌+◌, ◌-◌, ◌<◌, ◌≤◌, ◌==◌, Bool, true, false, not, cond, ◌||◌, List, [], ◌∷◌, ◌++◌, map, length, take, drop, get_or, All, IsTrue, Option, Some, None, Result, Ok, Err, IfOk, option_map, refl, sym, ◌∙◌, ap, subst, arith, append_assoc, append-nil, length-append}
-use Rattle.std.specs.Prelude.{nat_lt, bytes_eq, codes, IsErrAnd}
-use Rattle.std.proofs.lemmas.Result.{err_from_is_err_and}
+use Rattle.std.specs.Prelude.{nat_lt, bytes_eq, codes}
 use Rattle.std.specs.declared.cmp.Ordering.TheVariants.{Less}
 use Rattle.std.specs.List.{AllByRecursion, slice_split}
 use Rattle.std.proofs.lemmas.List.Splits.{slice_split_none, slice_split_at, length-slice_split}
@@ -147,9 +146,6 @@ is_no_arrow a b r same is holds = ap (bytes_eq a) (sym same) ∙ not_true (bytes
 
 pub is_arrow : (a b : List ℕ) (r : Bool) → b ≡ codes "->" → r ≡ not (bytes_eq a b) → r ≡ false → bytes_eq a (codes "->") ≡ true
 is_arrow a b r same is fails = ap (bytes_eq a) (sym same) ∙ not_false (bytes_eq a b) (sym is ∙ fails)
-
-pub err_of : {X E : Type 0} (r : Result X E) (e : E) → IsErrAnd r (λ d. d ≡ e) → r ≡ Err e
-err_of r e h = let p = err_from_is_err_and r h in p.1 ∙ ap (λ d. Err d) p.2
 
 -- ---- one link more
 

@@ -62,10 +62,8 @@ pub(crate) fn with_table<H: Host>(
     ensures same { ReadsOnly (H.view host.old) (H.view host.new) }
     ensures fit { AsksFit folder.now (H.view host.old) (H.view host.new) }
 {
-    match read_text(alloc, host, folder, kind, buf) {
-        Ok(text) => joined(alloc, walked, &text),
-        Err(fault) => Err(fault),
-    }
+    let text = read_text(alloc, host, folder, kind, buf)?;
+    joined(alloc, walked, &text)
 }
 
 /// What was walked, with the links of a table's text.
@@ -82,10 +80,8 @@ fn joined(alloc: Global, walked: Walked, text: &[u8]) -> Result<Vec<Change>, Loa
         bytes: left,
     };
     let found = Changes::from_vec(found);
-    match read_links(alloc, text, &found, room) {
-        Ok(links) => Ok(merged(alloc, found.into_vec(), links)?),
-        Err(fault) => Err(fault),
-    }
+    let links = read_links(alloc, text, &found, room)?;
+    Ok(merged(alloc, found.into_vec(), links)?)
 }
 
 /// The text of a folder's table, which is of this kind.

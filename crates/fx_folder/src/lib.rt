@@ -24,4 +24,4 @@ pub use linked::read_table;
 pub use links::write_table;
 pub use loading::load;
 pub use readying::ready;
-pub use saving::save;
+pub use saving::{make_folder, save, write_file};

@@ -25,10 +25,8 @@ pub fn read_table(alloc: Global, text: &[u8], store: &Filestore) -> Result<Chang
         links: text.len() as u64,
         bytes: text.len() as u64,
     };
-    match read_links(alloc, text, store, room) {
-        Ok(links) => Ok(changes_by(alloc, store, links)?),
-        Err(fault) => Err(fault),
-    }
+    let links = read_links(alloc, text, store, room)?;
+    Ok(changes_by(alloc, store, links)?)
 }
 
 /// The changes that make links.

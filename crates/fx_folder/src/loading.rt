@@ -61,10 +61,8 @@ fn load_folder<H: Host>(
 {
     let names = host.list(alloc, folder)?;
     let mut buf = buffer(alloc, CHUNK)?;
-    match find_all(alloc, host, folder, &names, &mut buf) {
-        Ok(found) => Ok(filestore_of(alloc, found)?),
-        Err(fault) => Err(fault),
-    }
+    let found = find_all(alloc, host, folder, &names, &mut buf)?;
+    Ok(filestore_of(alloc, found)?)
 }
 
 /// Everything in a folder that has this listing, with the links of its table.
@@ -87,10 +85,7 @@ fn find_all<H: Host>(
     ensures fit { AsksFit folder.now (H.view host.old) (H.view host.new) }
 {
     let table = table_kind(alloc, names)?;
-    let walked = match walk(alloc, host, folder, names, buf) {
-        Ok(walked) => walked,
-        Err(fault) => return Err(fault),
-    };
+    let walked = walk(alloc, host, folder, names, buf)?;
     match table {
         Some(kind) => with_table(alloc, host, folder, kind, walked, buf),
         None => Ok(all_of(walked)),

@@ -48,8 +48,8 @@ pub fn save<H: Host>(
     add_table(alloc, host, folder, &table)
 }
 
-/// Makes the folder, unless it is there.
-fn make_folder<H: Host>(
+/// Makes the folder, unless it is there: the first step of what makes one.
+pub fn make_folder<H: Host>(
     alloc: Global,
     host: &mut H,
     folder: &HostText,
@@ -174,7 +174,8 @@ fn write_folder<H: Host>(alloc: Global, host: &mut H, place: &HostText) -> Resul
     }
 }
 
-fn write_file<H: Host>(
+/// Writes a file where nothing stands.
+pub fn write_file<H: Host>(
     alloc: Global,
     host: &mut H,
     place: &HostText,

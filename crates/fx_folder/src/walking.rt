@@ -59,10 +59,8 @@ pub(crate) fn walk<H: Host>(
     let mut found = Vec::new(alloc);
     let node = Some(Node::Dir(Names::new(alloc)));
     found.push(Change { path: root, node })?;
-    match walk_items(alloc, host, folder, &mut found, &mut todo, buf) {
-        Ok(left) => Ok(Walked { found, left }),
-        Err(fault) => Err(fault),
-    }
+    let left = walk_items(alloc, host, folder, &mut found, &mut todo, buf)?;
+    Ok(Walked { found, left })
 }
 
 /// Walks what is left, and gives how many bytes may still be loaded.
@@ -91,10 +89,7 @@ fn walk_items<H: Host>(
 {
     let mut left = MAX_BYTES;
     'walking: while let Some(item) = todo.pop() {
-        match walk_item(alloc, host, folder, &item, found, todo, left, buf) {
-            Ok(rest) => left = rest,
-            Err(fault) => return Err(fault),
-        }
+        left = walk_item(alloc, host, folder, &item, found, todo, left, buf)?;
     }
     Ok(left)
 }
@@ -128,14 +123,10 @@ fn walk_item<H: Host>(
     ensures fit { AsksFit folder.now (H.view host.old) (H.view host.new) }
 {
     let nodes = found.len() as u64;
-    match enter(alloc, host, folder, item, todo, nodes, left, buf) {
-        Ok(change) => {
-            let rest = left - size_of(&change);
-            found.push(change)?;
-            Ok(rest)
-        }
-        Err(fault) => Err(fault),
-    }
+    let change = enter(alloc, host, folder, item, todo, nodes, left, buf)?;
+    let rest = left - size_of(&change);
+    found.push(change)?;
+    Ok(rest)
 }
 
 /// What an item is loaded as, where so many nodes come before it and so many bytes may still be loaded. The entries of a
@@ -166,10 +157,7 @@ fn enter<H: Host>(
     ensures fit { AsksFit folder.now (H.view host.old) (H.view host.new) }
 {
     let text = text_of(alloc, item)?;
-    let path = match entry_path(alloc, item, &text, nodes) {
-        Ok(path) => path,
-        Err(fault) => return Err(fault),
-    };
+    let path = entry_path(alloc, item, &text, nodes)?;
     match item.kind {
         HostKind::File => enter_file(alloc, host, folder, &text, path, left, buf),
         HostKind::Folder => enter_folder(alloc, host, folder, &text, path, todo),
@@ -201,16 +189,12 @@ fn enter_file<H: Host>(
     ensures same { ReadsOnly (H.view host.old) (H.view host.new) }
     ensures fit { AsksFit (path_below folder.now text.now) (H.view host.old) (H.view host.new) }
 {
-    match read_file(alloc, host, folder, text, left, buf) {
-        Ok(bytes) => {
-            prove!(bytes.as_slice().len() <= 1_048_576);
-            Ok(Change {
-                path,
-                node: Some(Node::File(bytes)),
-            })
-        }
-        Err(fault) => Err(fault),
-    }
+    let bytes = read_file(alloc, host, folder, text, left, buf)?;
+    prove!(bytes.as_slice().len() <= 1_048_576);
+    Ok(Change {
+        path,
+        node: Some(Node::File(bytes)),
+    })
 }
 
 /// The folder at a text below the folder, whose entries become items.

@@ -2,6 +2,7 @@
 ghost use Rattle.std.specs.Prelude.{◌≡◌, ◌==◌, ◌<◌, ◌≤◌, ◌+◌, ◌*◌, ◌++◌, [], length, map, IfOk, OnOk};
 ghost use Rattle.std.specs.Fmt.{decimal};
 ghost use Rattle.std.specs.List.{flat_map, range_with_len};
+ghost use Rattle.fx_base.specs.Limits.{source_limit};
 ghost use Rattle.fx_gen.specs.Draws.{after};
 ghost use Rattle.fx_gen.specs.Notes.{two_digits};
 ghost use Rattle.fx_gen.specs.Scripts.{front, tag, count_line, log_line, txn_line, kind_of, script_of, logging_of};
@@ -123,7 +124,7 @@ pub(crate) fn script_text(
     requires few { logging.old ≤ TXNS * script }
     requires logging { logging.old ≡ logging_of draws.old.number (TXNS * script) }
     ensures text { IfOk result (λ text. text.items ≡ script_of draws.old.number script) }
-    ensures short { IfOk result (λ text. length text.items ≤ 65536) }
+    ensures short { IfOk result (λ text. length text.items ≤ source_limit) }
     ensures made { OnOk result (draws.new ≡ after (2 * TXNS) draws.old) }
     ensures few { OnOk result (logging.new ≤ TXNS * script + TXNS) }
     ensures logging { OnOk result

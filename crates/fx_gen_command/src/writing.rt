@@ -8,14 +8,14 @@ ghost use Rattle.fx_outside.specs.Tree.{is_free_at, file};
 ghost use Rattle.fx_folder.specs.declared.fault.SaveFault.TheVariants.{WriteFault, NotEmpty};
 ghost use Rattle.fx_folder.specs.Reads.{path_below};
 ghost use Rattle.fx_folder.specs.Folder.{IsReady, IfTold, SaveCause};
-ghost use Rattle.fx_folder.specs.Written.{with_folder, MadePart, IsOpen, with_entry, WrotePart, HasEntries};
+ghost use Rattle.fx_folder.specs.Written.{IsOpen, with_entry, WrotePart, HasEntries};
 ghost use Rattle.fx_gen_command.specs.Case.{case_in, script_name, IsWritten, IsPartlyWritten};
 ghost use Rattle.fx_gen_command.specs.Wrote.{text_nodes, WroteTexts};
 
 use fx_base::NoMemory;
-use fx_folder::{SaveFault, save};
+use fx_folder::{SaveFault, make_folder, save, write_file};
 use fx_gen::Generated;
-use fx_outside::{Host, HostFault, HostText};
+use fx_outside::{Host, HostText};
 use std::alloc::Global;
 
 /// How many scripts a case has at most.
@@ -43,32 +43,6 @@ pub(crate) fn write_case<H: Host>(
     write_texts(alloc, host, path, case)?;
     let inside = place_below(alloc, path, "in")?;
     save(alloc, host, &inside, false, &case.store)
-}
-
-/// Makes the folder, unless it is there.
-fn make_folder<H: Host>(
-    alloc: Global,
-    host: &mut H,
-    folder: &HostText,
-    there: bool,
-) -> Result<(), SaveFault>
-    requires ready { IfSome (H.view host.old).told (λ t. IsReady t folder.now there) }
-    ensures made { OnOk result (IfTold (H.view host.old).told (H.view host.new).told
-        (λ t t'. t' ≡ with_folder t (parts folder.now) there)) }
-    ensures partly { OnErr result (IfTold (H.view host.old).told (H.view host.new).told
-        (λ t t'. MadePart t t' (parts folder.now) there)) }
-    ensures fault { IfErr result (SaveCause folder.now there (H.view host.old) (H.view host.new)) }
-    ensures later { (H.view host.old).faults ≤ (H.view host.new).faults }
-    ensures fit { AsksFit folder.now (H.view host.old) (H.view host.new) }
-{
-    if there {
-        return Ok(());
-    }
-    match host.make_dir(alloc, folder) {
-        Ok(()) => Ok(()),
-        Err(HostFault::Failed) => Err(SaveFault::WriteFault),
-        Err(HostFault::NoMemory) => Err(SaveFault::NoMemory),
-    }
 }
 
 /// Writes the texts of a case into an empty folder.
@@ -124,31 +98,6 @@ fn write_text<H: Host>(
 {
     let place = place_below(alloc, folder, name)?;
     write_file(alloc, host, &place, text)
-}
-
-/// Writes a file where nothing stands.
-fn write_file<H: Host>(
-    alloc: Global,
-    host: &mut H,
-    place: &HostText,
-    bytes: &[u8],
-) -> Result<(), SaveFault>
-    requires { IfSome (H.view host.old).told (λ t. is_free_at t place.now ≡ true) }
-    ensures written { OnOk result (IfTold (H.view host.old).told (H.view host.new).told
-        (λ t t'. t' ≡ with_entry t (parts place.now) (Some (file bytes.now)))) }
-    ensures partly { OnErr result (IfTold (H.view host.old).told (H.view host.new).told
-        (λ t t'. WrotePart t t' (parts place.now) (Some (file bytes.now)))) }
-    ensures fault { result ≡ Err WriteFault
-        → Rose (H.view host.old).faults (H.view host.new).faults }
-    ensures free { result ≡ Err NotEmpty → ⊥ }
-    ensures later { (H.view host.old).faults ≤ (H.view host.new).faults }
-    ensures fit { AsksFit place.now (H.view host.old) (H.view host.new) }
-{
-    match host.write_new(alloc, place, bytes) {
-        Ok(()) => Ok(()),
-        Err(HostFault::Failed) => Err(SaveFault::WriteFault),
-        Err(HostFault::NoMemory) => Err(SaveFault::NoMemory),
-    }
 }
 
 /// The name of a script's file.

@@ -1,5 +1,6 @@
 -- Why a text is not one whole tree, and where.
 use Rattle.std.specs.Prelude.{◌≡◌, ◌<◌, ◌≤◌, ◌⊎◌, ℕ, true, List, [], ◌∷◌, ◌++◌, length}
+use Rattle.fx_base.specs.Limits.{source_limit}
 use Rattle.fx_lex.specs.declared.token.Token.{Token}
 use Rattle.fx_lex.specs.declared.token.Spanned.{Spanned}
 use Rattle.fx_lex.specs.Reading.{AreTokensOf, IsBadAt}
@@ -34,7 +35,7 @@ module _ {Tree : Type 0} (g : Grammar Tree) where
 
   -- the tokens of the text go wrong in this way with so many left, the first of which stands at the place
   pub record GoesWrong (Wrong : List Token → ℕ → Type 0) (text : List ℕ) (place : ℕ) : Type 0 where
-    pub short : length text ≤ 65536
+    pub short : length text ≤ source_limit
     pub spanned : List Spanned
     pub tokens : AreTokensOf text spanned
     pub left : ℕ
@@ -44,8 +45,8 @@ module _ {Tree : Type 0} (g : Grammar Tree) where
   -- A refusal of a text that is to be one tree and nothing else: it is longer than 65,536 bytes; or it has no tokens, and
   -- this is the first place where none begins; or this is the place where its tokens go wrong first. Or memory ran out.
   abbrev pub IsRefused : List ℕ → ParseFault → Type 0
-  IsRefused text fault.TooLarge = 65536 < length text
-  IsRefused text (fault.BadToken place) = (length text ≤ 65536) × IsBadAt text place
+  IsRefused text fault.TooLarge = source_limit < length text
+  IsRefused text (fault.BadToken place) = (length text ≤ source_limit) × IsBadAt text place
   IsRefused text (fault.Unexpected place) = GoesWrong IsMisplaced text place
   IsRefused text (fault.TooNested place) = GoesWrong (IsTooNested g 1) text place
   IsRefused text fault.NoMemory = Unit {0}

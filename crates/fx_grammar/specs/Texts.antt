@@ -1,5 +1,6 @@
 -- What the text of a description and of a script stands for.
 use Rattle.std.specs.Prelude.{◌≡◌, ℕ, ◌≤◌, true, List, length, All}
+use Rattle.fx_base.specs.Limits.{source_limit}
 use Rattle.fx_lex.specs.declared.token.Token.{Token}
 use Rattle.fx_lex.specs.declared.token.Spanned.{Spanned}
 use Rattle.fx_lex.specs.Reading.{AreTokensOf}
@@ -16,7 +17,7 @@ HasTokens text tokens = (spanned : List Spanned) × AreTokensOf text spanned × 
 -- a text of at most 65,536 bytes stands for a description: its tokens are those of the description, which is nested at
 -- most 64 deep and has no kept word for a name
 pub record IsDescription (text : List ℕ) (spec : SpecTree) : Type 0 where
-  pub short : length text ≤ 65536
+  pub short : length text ≤ source_limit
   pub tokens : HasTokens text (spec_tokens spec)
   pub names : spec_names spec ≡ true
   pub nested : spec_levels spec ≤ 64
@@ -28,6 +29,6 @@ pub record IsTxn (commands : List CommandTree) : Type 0 where
 
 -- a text of at most 65,536 bytes stands for a script: its tokens are those of the transactions
 pub record IsScript (text : List ℕ) (txns : List (List CommandTree)) : Type 0 where
-  pub short : length text ≤ 65536
+  pub short : length text ≤ source_limit
   pub tokens : HasTokens text (script_tokens txns)
   pub each : All IsTxn txns

@@ -1,4 +1,5 @@
 ghost use Rattle.std.specs.Prelude.{◌≡◌, ℕ, ◌≤◌, ◌⊎◌, List, length, IfOk, IfErr, IsErrAnd};
+ghost use Rattle.fx_base.specs.Limits.{source_limit};
 ghost use Rattle.fx_lex.specs.declared.token.Spanned.{Spanned};
 ghost use Rattle.fx_lex.specs.Reading.{AreTokensOf, IsBadAt, IsFaultOf};
 ghost use Rattle.fx_lex.specs.Laws.{TokensAreUnique, BadPlaceIsUnique, TokensExcludeBadPlace};
@@ -8,12 +9,12 @@ use crate::scan::{Found, found_at};
 use crate::token::{LexFault, Spanned};
 use std::alloc::Global;
 
-/// The tokens of a text of at most 65,536 bytes, each with its span. Blanks and comments separate them, and at each
+/// The tokens of a text of at most [`SOURCE_LIMIT`](fx_base::SOURCE_LIMIT) bytes, each with its span. Blanks and comments separate them, and at each
 /// other place the longest token is taken. A run of digits is one number, and a run of word bytes that begins with a
 /// letter or `_` is one word: a number that is too large or has a leading zero, and a word that is too long, are
 /// refused at their first byte, and a string without its end, or with a wrong item, at its opening quote. One pass.
 pub fn lex(alloc: Global, text: &[u8]) -> Result<Tokens, LexFault>
-    requires { length text.now ≤ 65536 }
+    requires { length text.now ≤ source_limit }
     ensures tokens { IfOk result (λ t. AreTokensOf text.now t.spanned) }
     ensures length { IfOk result (λ t. t.text_len ≡ length text.now) }
     ensures fault { IfErr result (IsFaultOf text.now) }

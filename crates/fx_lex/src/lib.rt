@@ -11,5 +11,5 @@ mod string;
 mod token;
 
 pub use lexer::{lex, one_reading};
-pub use list::{TOKEN_LIMIT, Tokens};
+pub use list::Tokens;
 pub use token::{LexFault, Mark, Spanned, Token};

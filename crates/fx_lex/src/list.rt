@@ -1,11 +1,9 @@
 ghost use Rattle.std.specs.Prelude.{◌≡◌, ◌≤◌, length, slice_get};
 ghost use Rattle.std.specs.Option.{option_copied};
+ghost use Rattle.fx_base.specs.Limits.{source_limit};
 
 use crate::token::Spanned;
 use std::marker::Model;
-
-/// The most tokens that a text of at most so many bytes can have.
-pub const TOKEN_LIMIT: usize = 65_536;
 
 /// The tokens of a text in order, each with its span, and the length of the text. Contracts see both. Only
 /// [`lex`](crate::lex) makes one.
@@ -17,27 +15,28 @@ pub struct Tokens {
 
 impl Model for Tokens {
     ghost use Rattle.std.specs.Prelude.{◌≤◌, length};
+    ghost use Rattle.fx_base.specs.Limits.{source_limit};
     ghost use Rattle.fx_lex.specs.TokenList.{TokenList};
 
     ghost Value = { TokenList };
 
     ghost view = { λ t. record { spanned = t.items.items; text_len = t.text_len } };
 
-    ghost invariant = { λ t. length t.items.items ≤ 65536 };
+    ghost invariant = { λ t. length t.items.items ≤ source_limit };
 }
 
 impl Tokens {
     pub(crate) fn of(items: Vec<Spanned>, text_len: u32) -> Tokens
-        requires { length items.items ≤ 65536 }
+        requires { length items.items ≤ source_limit }
         ensures { result ≡ record { spanned = items.items; text_len = text_len } }
     {
         Tokens { items, text_len }
     }
 
-    /// How many tokens there are: at most [`TOKEN_LIMIT`].
+    /// How many tokens there are: at most [`SOURCE_LIMIT`](fx_base::SOURCE_LIMIT).
     pub fn len(&self) -> u64
         ensures value { result ≡ length self.now.spanned }
-        ensures limit { length self.now.spanned ≤ 65536 }
+        ensures limit { length self.now.spanned ≤ source_limit }
     {
         self.items.len() as u64
     }
@@ -52,7 +51,7 @@ impl Tokens {
     /// All tokens in order.
     pub fn as_slice(&self) -> &[Spanned]
         ensures value { result.now ≡ self.now.spanned }
-        ensures limit { length self.now.spanned ≤ 65536 }
+        ensures limit { length self.now.spanned ≤ source_limit }
     {
         self.items.as_slice()
     }

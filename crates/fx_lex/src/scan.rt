@@ -1,4 +1,5 @@
 ghost use Rattle.std.specs.Prelude.{◌≡◌, ◌≤◌, ◌<◌, true, length, IfOk, slice_index};
+ghost use Rattle.fx_base.specs.Limits.{source_limit};
 ghost use Rattle.fx_expr.specs.Bytes.{has_word_start};
 ghost use Rattle.fx_lex.specs.Spelling.{is_digit};
 ghost use Rattle.fx_lex.specs.Kinds.{byte_kind};
@@ -68,7 +69,7 @@ fn mark_at(bytes: &[u8]) -> Found
 /// What stands at the front: a gap, the longest token, or neither.
 pub(crate) fn found_at(alloc: Global, bytes: &[u8]) -> Result<Found, NoMemory>
     requires some { 0 < length bytes.now }
-    requires short { length bytes.now ≤ 65536 }
+    requires short { length bytes.now ≤ source_limit }
     ensures { IfOk result (IsFoundAt bytes.now) }
 {
     let first = bytes[0];

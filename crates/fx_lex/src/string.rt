@@ -1,5 +1,6 @@
 ghost use Rattle.std.specs.Prelude.{◌≡◌, ◌<◌, ◌≤◌, length, IfOk, SomeIff, slice_index};
 ghost use Rattle.std.specs.Char.{digit_value};
+ghost use Rattle.fx_base.specs.Limits.{source_limit};
 ghost use Rattle.fx_lex.specs.Spelling.{Plain, Escaped, is_item, item_value};
 ghost use Rattle.fx_lex.specs.Found.{IsFoundAt};
 ghost use Rattle.fx_lex.specs.Items.{first_item, escaped_item, hex_item};
@@ -86,7 +87,7 @@ fn first_item(bytes: &[u8]) -> Option<(u8, usize)>
 pub(crate) fn string_at(alloc: Global, bytes: &[u8]) -> Result<Found, NoMemory>
     requires some { 0 < length bytes.now }
     requires quote { slice_index bytes.now 0 ≡ 34 }
-    requires short { length bytes.now ≤ 65536 }
+    requires short { length bytes.now ≤ source_limit }
     ensures { IfOk result (IsFoundAt bytes.now) }
 {
     let mut value = Vec::new(alloc);

@@ -85,13 +85,10 @@ pub fn ask<L: Ledger>(
             .zip
             .whole(alloc, &mut walk.reader, &walk.overlay, shape, steps),
         Question::Validate => {
-            match walk
+            let valid = walk
                 .zip
-                .validate(alloc, &mut walk.reader, &walk.overlay, steps)
-            {
-                Ok(valid) => Ok(Value::Bool(valid)),
-                Err(halt) => Err(halt),
-            }
+                .validate(alloc, &mut walk.reader, &walk.overlay, steps)?;
+            Ok(Value::Bool(valid))
         }
     }
 }
@@ -117,12 +114,9 @@ pub fn edit_by<L: Ledger>(
     requires ready { IsReady walk.old }
     ensures ready { IfOk (split result) (λ _. IsReady walk.new) }
 {
-    match walk.zip.find(alloc, &mut walk.reader, &walk.overlay, steps) {
-        Ok(()) => {
-            let done = edit_here(alloc, walk, edit, value);
-            walk.zip.stored();
-            done
-        }
-        Err(halt) => Err(halt),
-    }
+    walk.zip
+        .find(alloc, &mut walk.reader, &walk.overlay, steps)?;
+    let done = edit_here(alloc, walk, edit, value);
+    walk.zip.stored();
+    done
 }

@@ -1,10 +1,10 @@
 //! Texts, paths, shapes, values and nodes, as the lines of cases spell them.
 
 use crate::verbs::Put;
-use fx_base::NoMemory;
+use fx_base::{NoMemory, SOURCE_LIMIT};
 use fx_expr::{Shape, TEXT_LIMIT, Text, TextSet, Value};
 use fx_lex::{LexFault, Tokens, lex};
-use fx_parse::{TEXT_LIMIT as TOKENS_LIMIT, parse_shape};
+use fx_parse::parse_shape;
 use fx_store::{Bytes, LinkText, Name, Names, Node, Path};
 use fx_telling::{integer, split_word, unescaped};
 use std::alloc::Global;
@@ -27,7 +27,7 @@ pub fn path_of(alloc: Global, spelled: &str) -> Result<Path, NoMemory> {
 
 /// The tokens of a text; none where it is too large.
 fn tokens_of(alloc: Global, bytes: &[u8]) -> Result<Tokens, LexFault> {
-    let short = bytes.len() <= TOKENS_LIMIT;
+    let short = bytes.len() <= SOURCE_LIMIT;
     if short {
         lex(alloc, bytes)
     } else {

@@ -11,7 +11,7 @@ use Rattle.fx_view.specs.declared.reader.Stop.TheVariants as stop
 use Rattle.fx_view.specs.Follows.{GoesBy}
 use Rattle.fx_view.specs.Meaning.{Meaning}
 use Rattle.fx_view.specs.Own.{no_own, own_at}
-use Rattle.fx_view.proofs.Errors.{err_of}
+use Rattle.fx_base.proofs.Errors.{err_of}
 use Rattle.fx_view.proofs.Rulings.{by_answer, by_refused, by_same, by_then, by_stop, by_then_answer, by_then_refused}
 use Rattle.fx_act.specs.declared.walk.Walk.{Walk}
 use Rattle.fx_obey.specs.declared.leave.Leave.{Leave}

@@ -5,7 +5,7 @@ use Rattle.fx_spec.specs.Move.{Answered}
 use Rattle.fx_spec.specs.Task.{Task, Ends}
 use Rattle.fx_spec.specs.Transaction.{Standing, Flow, On, Over, or_stop}
 use Rattle.fx_view.specs.declared.reader.Stop.TheVariants as stop
-use Rattle.fx_view.proofs.Errors.{err_of}
+use Rattle.fx_base.proofs.Errors.{err_of}
 use Rattle.fx_obey.specs.declared.leave.Leave.{Leave}
 use Rattle.fx_obey.specs.declared.leave.Leave.TheVariants as leave
 use Rattle.fx_obey.specs.declared.work.Work.{Work}

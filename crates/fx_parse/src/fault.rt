@@ -1,3 +1,4 @@
+use fx_lex::LexFault;
 use std::error::Error;
 use std::fmt;
 
@@ -33,3 +34,17 @@ impl fmt::Display for ParseFault {
 }
 
 impl Error for ParseFault {}
+
+impl From<LexFault> for ParseFault {
+    ghost use Rattle.std.specs.Prelude.{◌≡◌};
+    ghost use Rattle.fx_parse.specs.Faults.{of_lex};
+
+    ghost from_gives = { λ fault refused. refused ≡ of_lex fault };
+
+    fn from(fault: LexFault) -> ParseFault {
+        match fault {
+            LexFault::BadToken(place) => ParseFault::BadToken(place),
+            LexFault::NoMemory => ParseFault::NoMemory,
+        }
+    }
+}

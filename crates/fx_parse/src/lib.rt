@@ -18,7 +18,7 @@ pub use expr::expr_at;
 pub use fault::ParseFault;
 pub use keyword::{KEYWORDS, Keyword, keyword_of};
 pub use laws::{one_place, one_reading};
-pub use parse::{LEVEL_LIMIT, TEXT_LIMIT, fault_at, parse_expr, parse_shape};
+pub use parse::{LEVEL_LIMIT, fault_at, parse_expr, parse_shape};
 pub use shape::shape_at;
 pub use sign::{Sign, behind, name_at};
 pub use stop::Stop;

@@ -13,9 +13,6 @@ use fx_expr::{Expr, Shape};
 use fx_lex::{Spanned, Tokens};
 use std::alloc::Global;
 
-/// The most bytes that a text may have.
-pub const TEXT_LIMIT: usize = 65_536;
-
 /// The deepest level at which a form may stand.
 pub const LEVEL_LIMIT: u32 = 64;
 

@@ -1,3 +1,2 @@
-mod Plans
 mod Attempts
 mod Passing

@@ -8,11 +8,11 @@ ghost use Rattle.fx_shared.specs.Passes.{HasBase, AreTrueFor};
 ghost use Rattle.fx_shared.specs.Shared.{IsReadyPass};
 ghost use Rattle.fx_pass_tests.specs.Workings.{HasRun, IsAt, IsFresh};
 
-use crate::bases::counts;
 use crate::meeting::Meeting;
 use fx_base::NoMemory;
 use fx_machine::Attempt;
 use fx_outside::OpenGate;
+use fx_replay::{Ground, base_of};
 use fx_shared::{Pass, Settle, Shared};
 use fx_spec::Base;
 use fx_store::{Node, Path};
@@ -23,6 +23,19 @@ use std::sync::{Arc, Wait};
 use std::test::*;
 use std::thread;
 use std::thread::Threads;
+
+/// A file with a number.
+const GROUND: Ground = Ground {
+    description: "(\"n\" :: file)",
+    files: &[("in/n", "0")],
+};
+
+/// Three counts together: two of the first shell, and one of the second.
+const SCRIPTS: [&str; 2] = [
+    "txn { down fetch v : str store(text((int(v) + 1))) } \
+     txn { down fetch v : str store(text((int(v) + 1))) }",
+    "txn { down fetch v : str store(text((int(v) + 1))) }",
+];
 
 /// How many attempts a thread makes at most. Each but its own two at most is refused for an entry of the other's.
 const TRIES: u32 = 8;
@@ -245,7 +258,7 @@ fn first_fault<R: Threads + Wait + Sync>(
 
 #[test]
 fn two_threads_count_to_three(rt: HostRuntime) -> Result<(), Fail> {
-    let base = counts(rt.alloc())?;
+    let base = base_of(rt.alloc(), &GROUND, &SCRIPTS)?;
     let path = Path::read(rt.alloc(), b"/n").ok().ok_or("a path")?;
     assert_eq!(rt; first_fault(&rt, rt.alloc(), &base, &path)?, "");
     Ok(())

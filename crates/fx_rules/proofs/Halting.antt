@@ -8,7 +8,7 @@ use Rattle.fx_view.specs.declared.reader.Stop.{Stop}
 use Rattle.fx_view.specs.Meaning.{Meaning}
 use Rattle.fx_view.specs.Follows.{Follows}
 use Rattle.fx_view.proofs.Calls.{follows_stop, follows_then_answer}
-use Rattle.fx_view.proofs.Errors.{err_of}
+use Rattle.fx_base.proofs.Errors.{err_of}
 use Rattle.fx_rules.specs.declared.halt.Halt.{Halt}
 use Rattle.fx_rules.specs.declared.halt.Halt.TheVariants as halt
 use Rattle.fx_rules.specs.Answering.{answered}

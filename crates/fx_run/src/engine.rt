@@ -7,7 +7,6 @@ ghost use Rattle.fx_run.specs.Finishing.{Finishes};
 ghost use Rattle.fx_run.specs.Running.{ReadsFit, Attempted, StoppedAt};
 
 use crate::finishing::finish;
-use fx_base::NoMemory;
 use fx_machine::Attempt;
 use fx_obey::pursue;
 use fx_spec::{Base, Commands, Plan};
@@ -41,14 +40,8 @@ fn attempt<R: Reader>(
     ensures { Finishes R.meaning base.now.value.description commands.now shell txn
         reader.old reader.new result }
 {
-    let ran = match pursue(alloc, reader, base, commands) {
-        Ok(ran) => ran,
-        Err(stop) => return Err(stop),
-    };
-    let finished = match finish(alloc, reader, ran) {
-        Ok(finished) => finished,
-        Err(NoMemory) => return Err(Stop::NoMemory),
-    };
+    let ran = pursue(alloc, reader, base, commands)?;
+    let finished = finish(alloc, reader, ran)?;
     Ok(Attempt {
         shell,
         txn,

@@ -66,10 +66,7 @@ fn copied<R: Reader>(alloc: Global, reader: &mut R, overlay: &Overlay) -> Result
             Some((path, _)) => path,
             None => unreachable!(),
         };
-        let node = match read_again(alloc, reader, path) {
-            Ok(node) => node,
-            Err(NoMemory) => return Err(NoMemory),
-        };
+        let node = read_again(alloc, reader, path)?;
         keep(alloc, &mut kept, path, node)?;
     }
     Ok(kept)
@@ -82,10 +79,7 @@ fn done<R: Reader>(alloc: Global, reader: &mut R, overlay: Overlay) -> Result<Ch
     ensures net { IfOk result (λ changes.
         IsNet overlay (R.meaning.reads reader.old) changes × IsChanges changes) }
 {
-    let reads = match copied(alloc, reader, &overlay) {
-        Ok(reads) => reads,
-        Err(NoMemory) => return Err(NoMemory),
-    };
+    let reads = copied(alloc, reader, &overlay)?;
     let changes = overlay.changes(alloc, &reads)?;
     Ok(changes)
 }
@@ -131,12 +125,10 @@ pub(crate) fn finish<R: Reader>(
     let Work { walk, outputs, .. } = work;
     let Walk { overlay, .. } = walk;
     let end = end_of(over);
-    match changes_of(alloc, reader, &end, overlay) {
-        Ok(changes) => Ok(Finished {
-            changes,
-            outputs,
-            end,
-        }),
-        Err(NoMemory) => Err(NoMemory),
-    }
+    let changes = changes_of(alloc, reader, &end, overlay)?;
+    Ok(Finished {
+        changes,
+        outputs,
+        end,
+    })
 }

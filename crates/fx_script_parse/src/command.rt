@@ -59,10 +59,7 @@ fn many_at(alloc: Global, left: u32, tokens: &[Spanned]) -> Result<(Commands, &[
         if let Some(behind) = closed(rest) {
             return Ok((commands, behind));
         }
-        match added_at(alloc, left, &mut commands, rest) {
-            Ok(behind) => rest = behind,
-            Err(stop) => return Err(stop),
-        }
+        rest = added_at(alloc, left, &mut commands, rest)?;
     }
     Err(Stop::Unexpected(rest.len()))
 }

@@ -45,10 +45,7 @@ pub(crate) fn script_of(alloc: Global, tokens: &[Spanned]) -> Result<Txns, Stop>
         if rest.is_empty() {
             return Ok(txns);
         }
-        match txn_added_at(alloc, &mut txns, rest) {
-            Ok(behind) => rest = behind,
-            Err(stop) => return Err(stop),
-        }
+        rest = txn_added_at(alloc, &mut txns, rest)?;
     }
     if rest.is_empty() {
         return Ok(txns);

@@ -1,9 +1,7 @@
 -- The cause for which a script's text is refused, from the faults of its parser and of its check.
-use Rattle.std.proofs.Common.{◌≡◌, ◌≤◌, ◌+◌, ◌∙◌, ℕ, cond, List, [], Result, Ok, Err, IfErr, length, refl, sym, ap, subst, arith}
+use Rattle.std.proofs.Common.{◌≡◌, ◌≤◌, ◌+◌, ◌∙◌, ℕ, cond, List, [], Ok, Err, length, sym, ap, arith}
 use Rattle.std.specs.Prelude.{All}
-use Rattle.std.specs.Result.{IsErrAnd}
 use Rattle.std.proofs.lemmas.Bool.{le-leb}
-use Rattle.std.proofs.lemmas.Result.{err_from_is_err_and}
 use Rattle.fx_check.specs.declared.fault.CheckFault.{CheckFault}
 use Rattle.fx_check.specs.declared.fault.CheckFault.TheVariants as check
 use Rattle.fx_check.specs.Checked.{checked_txns, checked_script}
@@ -71,9 +69,3 @@ are_small text txns is few = λ k d within. record { nested = (is.each k d withi
 
 pub are_shaped : (txns : Txns) → All IsSmall txns → All (λ t. IsBlock [] (block t)) txns → IsScript txns
 are_shaped txns small shapes = λ k d within. record { shapes = shapes k d within; nested = (small k d within).nested; few = (small k d within).few }
-
-pub handed : {X E : Type 0} (P : E → Type 0) (r : Result X E) (e : E) → IsErrAnd r (λ d. d ≡ e) → P e → IfErr r P
-handed {X = X} {E = E} P r e is holds =
-    let err = err_from_is_err_and r is in
-    let whole : r ≡ Err e = err.1 ∙ subst (λ d. ◌≡◌ {A = Result X E} (Err err.0) (Err d)) err.2 refl in
-    subst (λ r. IfErr r P) (sym whole) holds

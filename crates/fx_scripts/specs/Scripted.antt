@@ -1,5 +1,6 @@
 -- What the text of a script stands for, and why it stands for none.
 use Rattle.std.specs.Prelude.{◌≡◌, ◌+◌, ◌≤◌, ℕ, List, [], length, All, Err}
+use Rattle.fx_base.specs.Limits.{txn_limit}
 use Rattle.fx_check.specs.Checked.{checked_script}
 use Rattle.fx_check.specs.Faults.{Fault}
 use Rattle.fx_expr.specs.Views.{shape_tree}
@@ -18,7 +19,7 @@ use Rattle.fx_command.specs.declared.status.TextFault.TheVariants as fault
 pub record Scripts (text : List ℕ) (before : ℕ) (txns : List (List CommandTree)) : Type 0 where
   pub read : texts.IsScript text txns
   pub shapes : All (λ t. IsBlock [] (block t)) txns
-  pub few : before + length txns ≤ 100000
+  pub few : before + length txns ≤ txn_limit
 
 -- the text stands for transactions whose first fault is this one
 pub record HasFault (text : List ℕ) (before : ℕ) (first : Fault) : Type 0 where

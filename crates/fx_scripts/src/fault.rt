@@ -1,5 +1,6 @@
 //! Why the text of a script is refused.
 
+use fx_base::NoMemory;
 use fx_check::CheckFault;
 use fx_command::TextFault;
 use fx_parse::ParseFault;
@@ -10,6 +11,17 @@ pub enum ScriptFault {
     /// It is refused for this cause.
     Refused(TextFault),
     NoMemory,
+}
+
+impl From<NoMemory> for ScriptFault {
+    ghost use Rattle.std.specs.Prelude.{◌≡◌};
+    ghost use Rattle.fx_scripts.specs.declared.fault.ScriptFault.TheVariants.{NoMemory};
+
+    ghost from_gives = { λ _ fault. fault ≡ NoMemory };
+
+    fn from(_: NoMemory) -> ScriptFault {
+        ScriptFault::NoMemory
+    }
 }
 
 impl From<ParseFault> for ScriptFault {

@@ -1,7 +1,5 @@
 -- The cause for which a text is refused, from the faults of its parser and of its check.
-use Rattle.std.proofs.Common.{◌≡◌, ◌∙◌, ℕ, List, [], Result, Ok, Err, IfErr, refl, sym, ap, subst}
-use Rattle.std.specs.Result.{IsErrAnd}
-use Rattle.std.proofs.lemmas.Result.{err_from_is_err_and}
+use Rattle.std.proofs.Common.{◌≡◌, ◌∙◌, ℕ, List, [], Ok, Err, sym, ap}
 use Rattle.fx_check.specs.declared.fault.CheckFault.{CheckFault}
 use Rattle.fx_check.specs.declared.fault.CheckFault.TheVariants as check
 use Rattle.fx_check.specs.Checked.{checked}
@@ -54,10 +52,3 @@ not_checked text spec (check.TypeDiffers a b) read only found =
 not_checked text spec (check.Repeated word) read only found = faulty text spec (fault.Repeated word) (Fault.repeated word) only found (record { spec = spec; read = read; found = found })
 not_checked text spec check.TooMany read only found = faulty text spec fault.TooMany Fault.too_many only found (record { spec = spec; read = read; found = found })
 not_checked text spec check.NoMemory read only found = tt
-
--- an error that a `?` hands on
-pub handed : {X E : Type 0} (P : E → Type 0) (r : Result X E) (e : E) → IsErrAnd r (λ d. d ≡ e) → P e → IfErr r P
-handed {X = X} {E = E} P r e is holds =
-    let err = err_from_is_err_and r is in
-    let whole : r ≡ Err e = err.1 ∙ subst (λ d. ◌≡◌ {A = Result X E} (Err err.0) (Err d)) err.2 refl in
-    subst (λ r. IfErr r P) (sym whole) holds

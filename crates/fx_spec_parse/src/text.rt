@@ -9,8 +9,9 @@ ghost use Rattle.fx_spec.specs.Views.{spec_tree};
 ghost use Rattle.fx_spec_parse.specs.Reader.{read_whole};
 
 use crate::form::spec_at;
-use fx_lex::{LexFault, Spanned, lex};
-use fx_parse::{LEVEL_LIMIT, ParseFault, Stop, TEXT_LIMIT, fault_at, first_of};
+use fx_base::SOURCE_LIMIT;
+use fx_lex::{Spanned, lex};
+use fx_parse::{LEVEL_LIMIT, ParseFault, Stop, fault_at, first_of};
 use fx_spec::Spec;
 use std::alloc::Global;
 
@@ -26,7 +27,7 @@ fn whole_of(alloc: Global, tokens: &[Spanned]) -> Result<Spec, Stop>
     }
 }
 
-/// The description that a text of at most [`TEXT_LIMIT`] bytes is, with no form of a level above [`LEVEL_LIMIT`]. A
+/// The description that a text of at most [`SOURCE_LIMIT`] bytes is, with no form of a level above [`LEVEL_LIMIT`]. A
 /// refusal names the first byte that begins no token; else the first token with which the tokens so far begin no
 /// description, or that begins a form of level 65, whichever comes first.
 pub fn parse(alloc: Global, text: &[u8]) -> Result<Spec, ParseFault>
@@ -35,14 +36,10 @@ pub fn parse(alloc: Global, text: &[u8]) -> Result<Spec, ParseFault>
         IfOk result (λ s. spec_tree s ≡ t) × IfErr result (λ e. e ≡ ParseFault.NoMemory) }
     ensures fault { IfErr result (IsRefused descriptions text.now) }
 {
-    if text.len() > TEXT_LIMIT {
+    if text.len() > SOURCE_LIMIT {
         return Err(ParseFault::TooLarge);
     }
-    let tokens = match lex(alloc, text) {
-        Ok(tokens) => tokens,
-        Err(LexFault::BadToken(place)) => return Err(ParseFault::BadToken(place)),
-        Err(LexFault::NoMemory) => return Err(ParseFault::NoMemory),
-    };
+    let tokens = lex(alloc, text)?;
     match whole_of(alloc, tokens.as_slice()) {
         Ok(spec) => Ok(spec),
         Err(stop) => Err(fault_at(&tokens, stop)),

@@ -1,7 +1,7 @@
 //! As many shells as there may be, all at one file.
-use crate::bases::{Ground, base_of};
 use crate::runs::run;
 use fx_outside::OpenGate;
+use fx_replay::{Ground, base_of};
 use std::test::*;
 
 const GROUND: Ground = Ground {

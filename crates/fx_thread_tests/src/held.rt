@@ -1,8 +1,8 @@
 //! Two scripts of which each reads what the other one writes, with a gate that makes their order.
-use crate::bases::{Ground, base_of};
 use crate::holds::{Hold, Holds, Place};
 use crate::runs::run;
 use fx_outside::Moment;
+use fx_replay::{Ground, base_of};
 use std::test::*;
 
 /// Both files hold `1`.

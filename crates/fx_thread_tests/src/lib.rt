@@ -2,8 +2,6 @@
 #![tactic(auto)]
 
 #[cfg(test)]
-mod bases;
-#[cfg(test)]
 mod crowds;
 #[cfg(test)]
 mod gates;
@@ -13,8 +11,6 @@ mod held;
 mod holds;
 #[cfg(test)]
 mod orders;
-#[cfg(test)]
-mod replays;
 #[cfg(test)]
 mod runs;
 #[cfg(test)]

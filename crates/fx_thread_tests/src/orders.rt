@@ -1,12 +1,11 @@
 //! Runs of three shells, whose order is free. Each is compared with its own transactions, run whole, one after another in
 //! the order that it prints.
-use crate::bases::{Ground, base_of};
-use crate::replays::replayed;
 use crate::runs::{Ran, run, text_of};
 use crate::stores::are_same;
 use fx_base::NoMemory;
 use fx_machine::Retries;
 use fx_outside::{Gate, Moment};
+use fx_replay::{Ground, base_of, entry_lines, replayed, shells_of};
 use fx_report::report;
 use fx_sched::World;
 use fx_spec::Base;
@@ -16,7 +15,7 @@ use std::test::*;
 use std::thread;
 use std::thread::Threads;
 
-/// How often each test runs its scripts.
+/// How often the scripts of a play are run.
 const RUNS: u64 = 250;
 
 /// A gate at which each of three shells yields up to four times, so many as the number of the run says.
@@ -39,34 +38,6 @@ impl Gate for Delays {
             thread::yield_now();
         }
     }
-}
-
-/// The lines of a report before those of its retries.
-fn entry_lines(report: &str) -> &str {
-    match report.split_once("\nretries ") {
-        Some((entries, _)) => entries,
-        None => report,
-    }
-}
-
-/// The shell of a line `entry I shell K ..`.
-fn shell_of(line: &str) -> Option<u32> {
-    let mut words = line.split(' ');
-    if words.next()? != "entry" {
-        return None;
-    }
-    words.nth(2)?.parse::<u32>().ok()
-}
-
-/// The shells of the entries of a report, in order.
-fn shells_of(alloc: Global, report: &str) -> Result<Vec<u32>, NoMemory> {
-    let mut shells = Vec::new(alloc);
-    for line in report.lines() {
-        if let Some(shell) = shell_of(line) {
-            shells.push(shell)?;
-        }
-    }
-    Ok(shells)
 }
 
 /// Whether a run has left the entries and the filestore of a world.
@@ -113,94 +84,88 @@ fn first_wrong_report<R: Threads + Wait + Sync>(
     Ok(String::new(alloc))
 }
 
-/// One file, to which each shell adds letters.
-const ONE_FILE: Ground = Ground {
-    description: "(\"n\" :: file)",
-    files: &[("in/n", "")],
-};
+/// A tree, and the scripts of three shells on it.
+#[derive(Clone, Copy, Debug)]
+struct Play {
+    ground: Ground,
+    scripts: [&'static str; 3],
+}
 
-const LETTERS: [&str; 3] = [
-    "txn { down fetch v : str store((v ++ \"a\")) print(v) } \
-     txn { down fetch v : str store((v ++ \"b\")) print(v) }",
-    "txn { down fetch v : str store((v ++ \"c\")) print(v) } \
-     txn { down fetch v : str store((v ++ \"d\")) print(v) }",
-    "txn { down fetch v : str store((v ++ \"e\")) print(v) } \
-     txn { down fetch v : str store((v ++ \"f\")) print(v) }",
-];
+/// One file, to which each shell adds letters.
+const LETTERS: Play = Play {
+    ground: Ground {
+        description: "(\"n\" :: file)",
+        files: &[("in/n", "")],
+    },
+    scripts: [
+        "txn { down fetch v : str store((v ++ \"a\")) print(v) } \
+         txn { down fetch v : str store((v ++ \"b\")) print(v) }",
+        "txn { down fetch v : str store((v ++ \"c\")) print(v) } \
+         txn { down fetch v : str store((v ++ \"d\")) print(v) }",
+        "txn { down fetch v : str store((v ++ \"e\")) print(v) } \
+         txn { down fetch v : str store((v ++ \"f\")) print(v) }",
+    ],
+};
 
 /// Three files in a ring: each shell reads one and writes the next.
-const RING: Ground = Ground {
-    description: "<x : (\"x\" :: file), <y : (\"y\" :: file), (\"z\" :: file)>>",
-    files: &[("in/x", "1"), ("in/y", "2"), ("in/z", "3")],
+const NEIGHBOURS: Play = Play {
+    ground: Ground {
+        description: "<x : (\"x\" :: file), <y : (\"y\" :: file), (\"z\" :: file)>>",
+        files: &[("in/x", "1"), ("in/y", "2"), ("in/z", "3")],
+    },
+    scripts: [
+        "txn { into down fetch v : str up next into down store((v ++ \"0\")) print(v) } \
+         txn { into down fetch v : str print(v) store((v ++ \"5\")) }",
+        "txn { into next into down fetch v : str up next down store((v ++ \"1\")) print(v) } \
+         txn { value all : pair(str, pair(str, str)) print(all) }",
+        "txn { into next into next down fetch v : str top into down store((v ++ \"2\")) print(v) } \
+         txn { into next into next down fetch v : str print(v) if ((size(v) < 3)) { abort } else { } \
+         store(\"\") }",
+    ],
 };
-
-const NEIGHBOURS: [&str; 3] = [
-    "txn { into down fetch v : str up next into down store((v ++ \"0\")) print(v) } \
-     txn { into down fetch v : str print(v) store((v ++ \"5\")) }",
-    "txn { into next into down fetch v : str up next down store((v ++ \"1\")) print(v) } \
-     txn { value all : pair(str, pair(str, str)) print(all) }",
-    "txn { into next into next down fetch v : str top into down store((v ++ \"2\")) print(v) } \
-     txn { into next into next down fetch v : str print(v) if ((size(v) < 3)) { abort } else { } \
-     store(\"\") }",
-];
 
 /// A list of names, and a file for each of them.
-const LISTED: Ground = Ground {
-    description: "<l : (\"list\" :: file), {(n :: file) | n in lines(l)}>",
-    files: &[("in/list", "a\nb\n"), ("in/a", "1"), ("in/b", "2")],
+const LISTERS: Play = Play {
+    ground: Ground {
+        description: "<l : (\"list\" :: file), {(n :: file) | n in lines(l)}>",
+        files: &[("in/list", "a\nb\n"), ("in/a", "1"), ("in/b", "2")],
+    },
+    scripts: [
+        "txn { into down fetch l : str store((l ++ \"c\\n\")) up next to(\"c\") down store(\"3\") } \
+         txn { value all : pair(str, table(str)) print(all) }",
+        "txn { into next fetch s : names let t = \"\" \
+         each n in (s) { to(n) down fetch v : str set t = (t ++ v) store(t) up out } print(t) } \
+         txn { into next to(\"c\") down fetch v : str print(v) }",
+        "txn { into down store(\"b\\n\") up next into next } \
+         txn { into next to(\"b\") down try e remove print(e) up top into down store(\"a\\n\") }",
+    ],
 };
-
-const LISTERS: [&str; 3] = [
-    "txn { into down fetch l : str store((l ++ \"c\\n\")) up next to(\"c\") down store(\"3\") } \
-     txn { value all : pair(str, table(str)) print(all) }",
-    "txn { into next fetch s : names let t = \"\" \
-     each n in (s) { to(n) down fetch v : str set t = (t ++ v) store(t) up out } print(t) } \
-     txn { into next to(\"c\") down fetch v : str print(v) }",
-    "txn { into down store(\"b\\n\") up next into next } \
-     txn { into next to(\"b\") down try e remove print(e) up top into down store(\"a\\n\") }",
-];
 
 /// A directory, and a file for each of its names.
-const DIRECTORY: Ground = Ground {
-    description: "(\"d\" :: <s : dir, {(n :: file) | n in s}>)",
-    files: &[],
+const MAKERS: Play = Play {
+    ground: Ground {
+        description: "(\"d\" :: <s : dir, {(n :: file) | n in s}>)",
+        files: &[],
+    },
+    scripts: [
+        "txn { down into store(one(\"k\")) next to(\"k\") down store(\"1\") } \
+         txn { down into fetch s : names store((s union one(\"m\"))) print(s) }",
+        "txn { down validate there print(there) if (there) { into next fetch s : names print(s) \
+         each n in (s) { to(n) down store(n) up out } } else { into store(one(\"l\")) } } \
+         txn { down into fetch s : names store((s minus one(\"k\"))) print(s) }",
+        "txn { down into fetch s : names print(s) next into down fetch v : str print(v) \
+         store((v ++ \"!\")) } \
+         txn { down try e remove print(e) }",
+    ],
 };
 
-const MAKERS: [&str; 3] = [
-    "txn { down into store(one(\"k\")) next to(\"k\") down store(\"1\") } \
-     txn { down into fetch s : names store((s union one(\"m\"))) print(s) }",
-    "txn { down validate there print(there) if (there) { into next fetch s : names print(s) \
-     each n in (s) { to(n) down store(n) up out } } else { into store(one(\"l\")) } } \
-     txn { down into fetch s : names store((s minus one(\"k\"))) print(s) }",
-    "txn { down into fetch s : names print(s) next into down fetch v : str print(v) \
-     store((v ++ \"!\")) } \
-     txn { down try e remove print(e) }",
-];
+const PLAYS: [Play; 4] = [LETTERS, NEIGHBOURS, LISTERS, MAKERS];
 
 #[test]
-fn letters_are_added_in_the_printed_order(rt: HostRuntime) -> Result<(), Fail> {
-    let base = base_of(rt.alloc(), &ONE_FILE, &LETTERS)?;
-    assert_eq!(rt; first_wrong_report(&rt, rt.alloc(), &base)?.as_str(), "");
-    Ok(())
-}
-
-#[test]
-fn neighbours_write_in_the_printed_order(rt: HostRuntime) -> Result<(), Fail> {
-    let base = base_of(rt.alloc(), &RING, &NEIGHBOURS)?;
-    assert_eq!(rt; first_wrong_report(&rt, rt.alloc(), &base)?.as_str(), "");
-    Ok(())
-}
-
-#[test]
-fn a_list_changes_in_the_printed_order(rt: HostRuntime) -> Result<(), Fail> {
-    let base = base_of(rt.alloc(), &LISTED, &LISTERS)?;
-    assert_eq!(rt; first_wrong_report(&rt, rt.alloc(), &base)?.as_str(), "");
-    Ok(())
-}
-
-#[test]
-fn a_directory_changes_in_the_printed_order(rt: HostRuntime) -> Result<(), Fail> {
-    let base = base_of(rt.alloc(), &DIRECTORY, &MAKERS)?;
-    assert_eq!(rt; first_wrong_report(&rt, rt.alloc(), &base)?.as_str(), "");
+fn shells_leave_what_the_printed_order_says(rt: HostRuntime) -> Result<(), Fail> {
+    for play in &PLAYS {
+        let base = base_of(rt.alloc(), &play.ground, &play.scripts)?;
+        assert_eq!(rt; first_wrong_report(&rt, rt.alloc(), &base)?.as_str(), "");
+    }
     Ok(())
 }

@@ -1,5 +1,6 @@
 //! The scripts of a run, read from the host.
 ghost use Rattle.std.specs.Prelude.{◌≡◌, ◌+◌, ◌≤◌, IfOk, IfErr, IfSome, length};
+ghost use Rattle.fx_base.specs.Limits.{txn_limit};
 ghost use Rattle.fx_outside.specs.Host.{ReadsOnly, AsksFit};
 ghost use Rattle.fx_spec.specs.WellShaped.{IsScript};
 ghost use Rattle.fx_words.specs.JobOf.{asked, IsJob};
@@ -81,10 +82,10 @@ fn read_script_at<H: Host>(
     path: &HostText,
     before: u32,
 ) -> Result<Script, ScriptUnread>
-    requires { before ≤ 100000 }
+    requires { before ≤ txn_limit }
     ensures read { IfOk result (λ script.
         IfSome (H.view host.old).told (λ t. GoesOn t path.now before script)) }
-    ensures few { IfOk result (λ script. before + length script ≤ 100000) }
+    ensures few { IfOk result (λ script. before + length script ≤ txn_limit) }
     ensures shaped { IfOk result IsScript }
     ensures same { ReadsOnly (H.view host.old) (H.view host.new) }
     ensures fit { AsksFit path.now (H.view host.old) (H.view host.new) }

@@ -1,4 +1,3 @@
-pub mod Errors
 pub mod Lookups
 pub mod Growing
 pub mod Rules

@@ -22,7 +22,7 @@ use Rattle.fx_view.specs.Follows.{Follows}
 use Rattle.fx_view.specs.Meaning.{Meaning}
 use Rattle.fx_view.proofs.Calls.{follows_refused, follows_same}
 use Rattle.fx_view.proofs.Courses.{goes_on, goes_stop, goes_end}
-use Rattle.fx_view.proofs.Errors.{err_of}
+use Rattle.fx_base.proofs.Errors.{err_of}
 use Rattle.fx_view.proofs.Lists.{drop_at}
 use Rattle.fx_walk.specs.Given.{tabled}
 

@@ -12,7 +12,7 @@ use Rattle.fx_spec.specs.Place.{Step, First, Elem, Address, lead}
 use Rattle.fx_spec.specs.SpecTree.{SpecTree}
 use Rattle.fx_view.specs.declared.reader.Stop.{Stop}
 use Rattle.fx_view.specs.declared.reader.Stop.TheVariants as stop
-use Rattle.fx_view.proofs.Errors.{err_of}
+use Rattle.fx_base.proofs.Errors.{err_of}
 use Rattle.fx_rules.specs.declared.halt.Halt.{Halt}
 use Rattle.fx_rules.specs.declared.halt.Halt.TheVariants as halt
 use Rattle.fx_rules.specs.Answering.{answered}

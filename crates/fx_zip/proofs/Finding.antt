@@ -11,7 +11,7 @@ use Rattle.fx_view.specs.Follows.{Follows}
 use Rattle.fx_view.specs.Meaning.{Meaning}
 use Rattle.fx_view.specs.Reads.{known_of}
 use Rattle.fx_view.proofs.Calls.{follows_then_answer, follows_stop}
-use Rattle.fx_view.proofs.Errors.{err_of}
+use Rattle.fx_base.proofs.Errors.{err_of}
 use Rattle.fx_rules.specs.declared.halt.Halt.{Halt}
 use Rattle.fx_rules.specs.declared.halt.Halt.TheVariants as halt
 use Rattle.fx_rules.specs.Answering.{answered}

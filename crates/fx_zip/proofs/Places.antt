@@ -19,7 +19,7 @@ use Rattle.fx_view.specs.Follows.{Follows}
 use Rattle.fx_view.specs.Meaning.{Meaning}
 use Rattle.fx_view.specs.Reads.{known_of, Agrees}
 use Rattle.fx_view.proofs.Calls.{agrees_by, follows_then, follows_same}
-use Rattle.fx_view.proofs.Errors.{err_of}
+use Rattle.fx_base.proofs.Errors.{err_of}
 use Rattle.fx_view.proofs.Rules.{found_answer}
 use Rattle.fx_rules.specs.declared.halt.Halt.{Halt}
 use Rattle.fx_rules.specs.declared.halt.Halt.TheVariants as halt

@@ -14,10 +14,10 @@ pub merged-requires-clause-found : goal.merged-requires-clause-found
 merged-requires-clause-found c = subst (λ l. l ≡ changes_of (mapped_of l)) (sym (c.into_vec.ensures.changes ∙ c.from_vec-found.ensures)) (found_shaped c.args.walked.found.items c.requires).set
 
 pub merged-requires-clause-links : goal.merged-requires-clause-links
-merged-requires-clause-links c = links_make c.args.walked.found.items c.requires c.in-Ok.links (subst (λ l. AreLinks (standing_by l) c.in-Ok.links) c.from_vec-found.ensures c.in-Ok.ensures.read.are)
+merged-requires-clause-links c = links_make c.args.walked.found.items c.requires c.in_ok-links.links (subst (λ l. AreLinks (standing_by l) c.in_ok-links.links) c.from_vec-found.ensures c.in_ok-links.ensures.read.are)
 
 pub merged-requires-clause-merge : goal.merged-requires-clause-merge
-merged-requires-clause-merge c = subst (λ l. CanMerge (mapped_of l) (links_in c.in-Ok.links)) (sym (c.into_vec.ensures.changes ∙ c.from_vec-found.ensures)) (can_merge c.args.walked.found.items c.requires c.in-Ok.links (subst (λ l. AreLinks (standing_by l) c.in-Ok.links) c.from_vec-found.ensures c.in-Ok.ensures.read.are))
+merged-requires-clause-merge c = subst (λ l. CanMerge (mapped_of l) (links_in c.in_ok-links.links)) (sym (c.into_vec.ensures.changes ∙ c.from_vec-found.ensures)) (can_merge c.args.walked.found.items c.requires c.in_ok-links.links (subst (λ l. AreLinks (standing_by l) c.in_ok-links.links) c.from_vec-found.ensures c.in_ok-links.ensures.read.are))
 
-pub returns-in_ok-merged-in-Ok-clause-shaped : goal.returns-in_ok-merged-in-Ok-clause-shaped
-returns-in_ok-merged-in-Ok-clause-shaped c = joined_shaped c.args.walked.found.items c.requires c.in-Ok.links (subst (λ l. AreLinks (standing_by l) c.in-Ok.links) c.from_vec-found.ensures c.in-Ok.ensures.read.are) c.in_ok-merged-in-Ok.field-0.items (c.in_ok-merged-in-Ok.ensures ∙ ap (λ l. changes_of (with_links (mapped_of l) (links_in c.in-Ok.links))) (c.into_vec.ensures.changes ∙ c.from_vec-found.ensures))
+pub returns-clause-shaped : goal.returns-clause-shaped
+returns-clause-shaped c = joined_shaped c.args.walked.found.items c.requires c.in_ok-links.links (subst (λ l. AreLinks (standing_by l) c.in_ok-links.links) c.from_vec-found.ensures c.in_ok-links.ensures.read.are) c.in_ok-merged.field-0.items (c.in_ok-merged.ensures ∙ ap (λ l. changes_of (with_links (mapped_of l) (links_in c.in_ok-links.links))) (c.into_vec.ensures.changes ∙ c.from_vec-found.ensures))

@@ -1,5 +1,6 @@
 use Rattle.std.proofs.Common.{refl}
-use Rattle.fx_folder.proofs.Lining.{err_of, rest_is, reading_none, reading_more, reading_end, reading_stops}
+use Rattle.fx_base.proofs.Errors.{err_of}
+use Rattle.fx_folder.proofs.Lining.{rest_is, reading_none, reading_more, reading_end, reading_stops}
 use Rattle.fx_folder.proofs.lines.read_links.Goals as goal
 
 pub reading-init : goal.reading-init

@@ -5,31 +5,31 @@ use Rattle.fx_folder.proofs.Places.{passed_of, on_ok, on_ok_then, file_there, fo
 use Rattle.fx_folder.proofs.walking.enter.Goals as goal
 
 pub enter_file-requires-clause-file : goal.enter_file-requires-clause-file
-enter_file-requires-clause-file g c = file_there (g.H.Host.view c.args.host.now).told c.args.folder.now c.in_ok-text.text c.in-Ok.path c.args.item.now c.requires.there (passed_of c.args.folder.now c.in_ok-text.text c.in-Ok.path c.args.item.now c.in_ok-text.ensures c.in-Ok.ensures.path.1 c.in-Ok.ensures.names) c.in-File.is
+enter_file-requires-clause-file g c = file_there (g.H.Host.view c.args.host.now).told c.args.folder.now c.in_ok-text.text c.in_ok-path.path c.args.item.now c.requires.there (passed_of c.args.folder.now c.in_ok-text.text c.in_ok-path.path c.args.item.now c.in_ok-text.ensures c.in_ok-path.ensures.path.1 c.in_ok-path.ensures.names) c.in-File.is
 
 pub returns-in-File-clause-answer : goal.returns-in-File-clause-answer
-returns-in-File-clause-answer g c = file_told (g.H.Host.view c.args.host.now).told c.args.folder.now c.in_ok-text.text c.in-Ok.path c.args.nodes c.args.left c.args.item.now c.enter_file.result c.requires.there c.in-Ok.ensures.path.0 (passed_of c.args.folder.now c.in_ok-text.text c.in-Ok.path c.args.item.now c.in_ok-text.ensures c.in-Ok.ensures.path.1 c.in-Ok.ensures.names) c.in-File.is c.enter_file.ensures.answer
+returns-in-File-clause-answer g c = file_told (g.H.Host.view c.args.host.now).told c.args.folder.now c.in_ok-text.text c.in_ok-path.path c.args.nodes c.args.left c.args.item.now c.enter_file.result c.requires.there c.in_ok-path.ensures.path.0 (passed_of c.args.folder.now c.in_ok-text.text c.in_ok-path.path c.args.item.now c.in_ok-text.ensures c.in_ok-path.ensures.path.1 c.in_ok-path.ensures.names) c.in-File.is c.enter_file.ensures.answer
 
 pub returns-in-File-clause-entered : goal.returns-in-File-clause-entered
 returns-in-File-clause-entered g c = on_ok c.enter_file.result _ (entered_file (g.H.Host.view c.args.host.now).told (g.met.H.Host.whole c.args.host.now) c.args.folder.now c.args.item.now c.args.todo.now.items c.args.todo.now.items c.requires.there c.in-File.is refl)
 
 pub returns-in-File-clause-fit : goal.returns-in-File-clause-fit
-returns-in-File-clause-fit g c = λ fit. c.enter_file.ensures.fit (fit_of_text c.args.folder.now c.in_ok-text.text c.in-Ok.path c.in-Ok.ensures.names (text_is c.in_ok-text.text c.in-Ok.path _ c.in_ok-text.ensures c.in-Ok.ensures.path.1) fit)
+returns-in-File-clause-fit g c = λ fit. c.enter_file.ensures.fit (fit_of_text c.args.folder.now c.in_ok-text.text c.in_ok-path.path c.in_ok-path.ensures.names (text_is c.in_ok-text.text c.in_ok-path.path _ c.in_ok-text.ensures c.in_ok-path.ensures.path.1) fit)
 
 pub enter_folder-requires : goal.enter_folder-requires
-enter_folder-requires g c = record { folder = folder_there (g.H.Host.view c.args.host.now).told c.args.folder.now c.in_ok-text.text c.in-Ok.path c.args.item.now c.requires.there (passed_of c.args.folder.now c.in_ok-text.text c.in-Ok.path c.args.item.now c.in_ok-text.ensures c.in-Ok.ensures.path.1 c.in-Ok.ensures.names) c.in-Folder.is }
+enter_folder-requires g c = record { folder = folder_there (g.H.Host.view c.args.host.now).told c.args.folder.now c.in_ok-text.text c.in_ok-path.path c.args.item.now c.requires.there (passed_of c.args.folder.now c.in_ok-text.text c.in_ok-path.path c.args.item.now c.in_ok-text.ensures c.in_ok-path.ensures.path.1 c.in_ok-path.ensures.names) c.in-Folder.is }
 
 pub returns-in-Folder-clause-answer : goal.returns-in-Folder-clause-answer
-returns-in-Folder-clause-answer g c = folder_result (g.H.Host.view c.args.host.now).told (g.met.H.Host.whole c.args.host.now) c.args.folder.now c.in_ok-text.text c.in-Ok.path c.args.nodes c.args.left c.args.item.now c.enter_folder.result c.requires.there c.in-Ok.ensures.path.0 (passed_of c.args.folder.now c.in_ok-text.text c.in-Ok.path c.args.item.now c.in_ok-text.ensures c.in-Ok.ensures.path.1 c.in-Ok.ensures.names) c.in-Folder.is c.enter_folder.ensures.change c.enter_folder.ensures.cause
+returns-in-Folder-clause-answer g c = folder_result (g.H.Host.view c.args.host.now).told (g.met.H.Host.whole c.args.host.now) c.args.folder.now c.in_ok-text.text c.in_ok-path.path c.args.nodes c.args.left c.args.item.now c.enter_folder.result c.requires.there c.in_ok-path.ensures.path.0 (passed_of c.args.folder.now c.in_ok-text.text c.in_ok-path.path c.args.item.now c.in_ok-text.ensures c.in_ok-path.ensures.path.1 c.in_ok-path.ensures.names) c.in-Folder.is c.enter_folder.ensures.change c.enter_folder.ensures.cause
 
 pub returns-in-Folder-clause-entered : goal.returns-in-Folder-clause-entered
-returns-in-Folder-clause-entered g c = on_ok_then c.enter_folder.result _ _ (λ a. entered_folder (g.H.Host.view c.args.host.now).told (g.met.H.Host.whole c.args.host.now) c.args.folder.now c.in_ok-text.text c.in-Ok.path c.args.item.now a.0 c.args.todo.now.items _ (passed_of c.args.folder.now c.in_ok-text.text c.in-Ok.path c.args.item.now c.in_ok-text.ensures c.in-Ok.ensures.path.1 c.in-Ok.ensures.names) a.1 a.2) c.enter_folder.ensures.todo
+returns-in-Folder-clause-entered g c = on_ok_then c.enter_folder.result _ _ (λ a. entered_folder (g.H.Host.view c.args.host.now).told (g.met.H.Host.whole c.args.host.now) c.args.folder.now c.in_ok-text.text c.in_ok-path.path c.args.item.now a.0 c.args.todo.now.items _ (passed_of c.args.folder.now c.in_ok-text.text c.in_ok-path.path c.args.item.now c.in_ok-text.ensures c.in_ok-path.ensures.path.1 c.in_ok-path.ensures.names) a.1 a.2) c.enter_folder.ensures.todo
 
 pub returns-in-Folder-clause-fit : goal.returns-in-Folder-clause-fit
-returns-in-Folder-clause-fit g c = λ fit. c.enter_folder.ensures.fit (fit_of_text c.args.folder.now c.in_ok-text.text c.in-Ok.path c.in-Ok.ensures.names (text_is c.in_ok-text.text c.in-Ok.path _ c.in_ok-text.ensures c.in-Ok.ensures.path.1) fit)
+returns-in-Folder-clause-fit g c = λ fit. c.enter_folder.ensures.fit (fit_of_text c.args.folder.now c.in_ok-text.text c.in_ok-path.path c.in_ok-path.ensures.names (text_is c.in_ok-text.text c.in_ok-path.path _ c.in_ok-text.ensures c.in_ok-path.ensures.path.1) fit)
 
 pub returns-in-File-clause-found : goal.returns-in-File-clause-found
-returns-in-File-clause-found g c = file_found c.args.item.now c.args.todo.now.items c.in-Ok.path c.enter_file.result c.in-Ok.ensures.names c.in-Ok.ensures.path.1 c.enter_file.ensures.found
+returns-in-File-clause-found g c = file_found c.args.item.now c.args.todo.now.items c.in_ok-path.path c.enter_file.result c.in_ok-path.ensures.names c.in_ok-path.ensures.path.1 c.enter_file.ensures.found
 
 pub returns-in-Folder-clause-found : goal.returns-in-Folder-clause-found
-returns-in-Folder-clause-found g c = folder_found (g.H.Host.view c.args.host.now).told (path_below c.args.folder.now c.in_ok-text.text) c.args.item.now c.args.todo.now.items c.enter_folder.new.todo.items c.in-Ok.path c.enter_folder.result c.in-Ok.ensures.names c.in-Ok.ensures.path.1 c.enter_folder.ensures.change c.enter_folder.ensures.todo
+returns-in-Folder-clause-found g c = folder_found (g.H.Host.view c.args.host.now).told (path_below c.args.folder.now c.in_ok-text.text) c.args.item.now c.args.todo.now.items c.enter_folder.new.todo.items c.in_ok-path.path c.enter_folder.result c.in_ok-path.ensures.names c.in_ok-path.ensures.path.1 c.enter_folder.ensures.change c.enter_folder.ensures.todo

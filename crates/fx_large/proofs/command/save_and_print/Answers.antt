@@ -3,7 +3,7 @@ use Rattle.fx_outside.specs.Path.{parts}
 use Rattle.fx_folder.specs.Folder.{IsPartlySaved}
 use Rattle.fx_spec.specs.Order.{state}
 use Rattle.fx_command.specs.StatusOf.{status_of, save_status}
-use Rattle.fx_command.proofs.Told.{err_of}
+use Rattle.fx_base.proofs.Errors.{err_of}
 use Rattle.fx_making.specs.Making.{MakingRow}
 use Rattle.fx_making.proofs.Makings.{making_coming, making_part, making_not_saved, making_not_printed, making_done}
 use Rattle.fx_large.specs.Base.{generated_base}

@@ -10,4 +10,4 @@ read_again-requires g c =
 pub copying-preserved : goal.copying-preserved
 copying-preserved g c =
     let r = g.R.Reader in
-    copying_on r.meaning c.args.overlay.now c.args.reader.now c.copying.i (c.in-Some.path.now, c.in-Some.field-0-1.now) c.copying.kept c.keep.new.kept c.in-Ok.node c.copying.reader c.read_again.new.reader (sym c.in-Some.ensures.change) c.in-Ok.ensures.node c.read_again.ensures.kept c.in_ok-keep.ensures c.copying.invariant
+    copying_on r.meaning c.args.overlay.now c.args.reader.now c.copying.i (c.in-Some.path.now, c.in-Some.field-0-1.now) c.copying.kept c.keep.new.kept c.in_ok-node.node c.copying.reader c.read_again.new.reader (sym c.in-Some.ensures.change) c.in_ok-node.ensures.node c.read_again.ensures.kept c.in_ok-keep.ensures c.copying.invariant

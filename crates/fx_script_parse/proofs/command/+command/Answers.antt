@@ -1,6 +1,7 @@
 use Rattle.std.proofs.Common.{◌≡◌, ◌+◌, ◌-◌, suc, Err, None, Some, length, sym, ap, ◌∙◌, subst, arith}
 use Rattle.std.specs.Option.{option_map}
 use Rattle.std.proofs.lemmas.List.{length-map}
+use Rattle.fx_base.proofs.Errors.{err_of}
 use Rattle.fx_spec.specs.Views.{command_tree}
 use Rattle.fx_parse.specs.Stuck.{Unexpected, TooNested, Gives, Stops}
 use Rattle.fx_parse.specs.Reader.{kinds}
@@ -36,17 +37,18 @@ many_at-returns-in-Some t c =
     let found : closed (kinds c.loop-i.rest.now) ≡ Some (kinds c.in-Some.behind.now) = sym c.closed.ensures ∙ ap (option_map (λ r. kinds r.now)) c.in-Some.is in
     c.loop-i.invariant ∙ items_closed (read_command c.args.left) (length c.args.tokens.now) c.loop-i._i (length c.args.tokens.now - (c.loop-i._i + 1)) more c.loop-i.commands (kinds c.loop-i.rest.now) (kinds c.in-Some.behind.now) found
 
-pub many_at-returns-in-Err : goal.many_at-returns-in-Err
-many_at-returns-in-Err t c =
+pub many_at-returns-in_err-rest : goal.many_at-returns-in_err-rest
+many_at-returns-in_err-rest t c =
     let more : length c.args.tokens.now - c.loop-i._i ≡ suc (length c.args.tokens.now - (c.loop-i._i + 1)) = omega arith in
     let none : closed (kinds c.loop-i.rest.now) ≡ None = sym c.closed.ensures ∙ ap (option_map (λ r. kinds r.now)) c.in_default.is in
-    subst (λ r. Stops c.in-Err.stop r) (sym c.loop-i.invariant) (items_stops (read_command c.args.left) (length c.args.tokens.now) c.loop-i._i (length c.args.tokens.now - (c.loop-i._i + 1)) more c.loop-i.commands (kinds c.loop-i.rest.now) c.in-Err.stop none c.in-Err.ensures)
+    rw (err_of c.from_residual.result c.in_err-rest.field-0.0 c.from_residual.ensures.1)
+    (subst (λ r. Stops c.in_err-rest.field-0.0 r) (sym c.loop-i.invariant) (items_stops (read_command c.args.left) (length c.args.tokens.now) c.loop-i._i (length c.args.tokens.now - (c.loop-i._i + 1)) more c.loop-i.commands (kinds c.loop-i.rest.now) c.in_err-rest.field-0.0 none c.in_err-rest.ensures))
 
 pub many_at-loop-i-preserved : goal.many_at-loop-i-preserved
 many_at-loop-i-preserved t c =
     let more : length c.args.tokens.now - c.loop-i._i ≡ suc (length c.args.tokens.now - (c.loop-i._i + 1)) = omega arith in
     let none : closed (kinds c.loop-i.rest.now) ≡ None = sym c.closed.ensures ∙ ap (option_map (λ r. kinds r.now)) c.in_default.is in
-    c.loop-i.invariant ∙ items_more (read_command c.args.left) (length c.args.tokens.now) c.loop-i._i (length c.args.tokens.now - (c.loop-i._i + 1)) more c.loop-i.commands (kinds c.loop-i.rest.now) c.added_at.new.commands (kinds c.in-Ok.behind.now) none c.in-Ok.ensures
+    c.loop-i.invariant ∙ items_more (read_command c.args.left) (length c.args.tokens.now) c.loop-i._i (length c.args.tokens.now - (c.loop-i._i + 1)) more c.loop-i.commands (kinds c.loop-i.rest.now) c.added_at.new.commands (kinds c.in_ok-rest.rest.now) none c.in_ok-rest.ensures
 
 pub many_at-returns : goal.many_at-returns
 many_at-returns t c =

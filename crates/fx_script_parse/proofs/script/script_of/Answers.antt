@@ -1,5 +1,6 @@
 use Rattle.std.proofs.Common.{◌≡◌, ◌+◌, ◌-◌, suc, length, sym, ap, ◌∙◌, subst, arith}
 use Rattle.std.proofs.lemmas.List.{length-map}
+use Rattle.fx_base.proofs.Errors.{err_of}
 use Rattle.fx_parse.specs.Reader.{kinds}
 use Rattle.fx_parse.specs.Stuck.{Stops}
 use Rattle.fx_script_parse.specs.Reader.{txns_at}
@@ -15,15 +16,16 @@ pub returns-then-is_empty : goal.returns-then-is_empty
 returns-then-is_empty c =
     c.loop-i.invariant ∙ txns_done (length c.args.tokens.now - c.loop-i._i) c.loop-i.txns c.loop-i.rest.now (sym c.is_empty.ensures ∙ c.if-is_empty.true)
 
-pub returns-in-Err : goal.returns-in-Err
-returns-in-Err c =
+pub returns-in_err-rest : goal.returns-in_err-rest
+returns-in_err-rest c =
     let more : length c.args.tokens.now - c.loop-i._i ≡ suc (length c.args.tokens.now - (c.loop-i._i + 1)) = omega arith in
-    subst (λ r. Stops c.in-Err.stop r) (sym c.loop-i.invariant) (txns_stops (length c.args.tokens.now) c.loop-i._i (length c.args.tokens.now - (c.loop-i._i + 1)) more c.loop-i.txns c.loop-i.rest.now c.in-Err.stop (sym c.is_empty.ensures ∙ c.if-is_empty.false) c.in-Err.ensures)
+    rw (err_of c.from_residual.result c.in_err-rest.field-0.0 c.from_residual.ensures.1)
+    (subst (λ r. Stops c.in_err-rest.field-0.0 r) (sym c.loop-i.invariant) (txns_stops (length c.args.tokens.now) c.loop-i._i (length c.args.tokens.now - (c.loop-i._i + 1)) more c.loop-i.txns c.loop-i.rest.now c.in_err-rest.field-0.0 (sym c.is_empty.ensures ∙ c.if-is_empty.false) c.in_err-rest.ensures))
 
 pub loop-i-preserved : goal.loop-i-preserved
 loop-i-preserved c =
     let more : length c.args.tokens.now - c.loop-i._i ≡ suc (length c.args.tokens.now - (c.loop-i._i + 1)) = omega arith in
-    c.loop-i.invariant ∙ txns_more (length c.args.tokens.now) c.loop-i._i (length c.args.tokens.now - (c.loop-i._i + 1)) more c.loop-i.txns c.loop-i.rest.now c.txn_added_at.new.txns (kinds c.in-Ok.behind.now) (sym c.is_empty.ensures ∙ c.if-is_empty.false) c.in-Ok.ensures
+    c.loop-i.invariant ∙ txns_more (length c.args.tokens.now) c.loop-i._i (length c.args.tokens.now - (c.loop-i._i + 1)) more c.loop-i.txns c.loop-i.rest.now c.txn_added_at.new.txns (kinds c.in_ok-rest.rest.now) (sym c.is_empty.ensures ∙ c.if-is_empty.false) c.in_ok-rest.ensures
 
 pub returns-then-is_empty-2 : goal.returns-then-is_empty-2
 returns-then-is_empty-2 c =

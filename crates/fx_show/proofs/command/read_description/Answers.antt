@@ -1,6 +1,6 @@
 use Rattle.std.proofs.Common.{IfSome, sym, subst}
 use Rattle.fx_command.specs.Texts.{IsReadAt}
-use Rattle.fx_command.proofs.Told.{if_err_of}
+use Rattle.fx_base.proofs.Errors.{if_err_of}
 use Rattle.fx_words.specs.JobOf.{asked_show}
 use Rattle.fx_show.specs.Faults.{status_of_fault}
 use Rattle.fx_show.specs.Rows.{ShowEndsAs}

@@ -1,6 +1,6 @@
 use Rattle.std.proofs.Common.{◌≡◌, ◌++◌, ℕ, take, Some, IfSome, sym, subst}
 use Rattle.fx_command.specs.StatusOf.{status_of}
-use Rattle.fx_command.proofs.Told.{err_of}
+use Rattle.fx_base.proofs.Errors.{err_of}
 use Rattle.fx_words.specs.JobOf.{asked_show}
 use Rattle.fx_show.specs.Rows.{ShowRow}
 use Rattle.fx_show.proofs.Showing.{show_done, show_unprinted}

@@ -1,42 +1,50 @@
 use Rattle.std.proofs.Common.{◌≡◌, ◌≤◌, length, Ok, sym, ap, ◌∙◌, subst, arith}
-use Rattle.fx_lex.specs.declared.token.LexFault.TheVariants as lexed
+use Rattle.fx_base.specs.Limits.{source_limit}
+use Rattle.fx_base.proofs.Errors.{err_of, if_err_of}
+use Rattle.fx_parse.specs.Faults.{of_lex}
 use Rattle.fx_parse.specs.Reader.{kinds}
 use Rattle.fx_parse.specs.Stuck.{Stops}
 use Rattle.fx_spec.specs.Views.{spec_tree}
 use Rattle.fx_grammar.specs.Grammars.{descriptions}
 use Rattle.fx_grammar.specs.Refused.{IsRefused}
+use Rattle.fx_grammar.proofs.Unlexed.{unlexed}
 use Rattle.fx_spec_parse.specs.Reader.{read_whole}
 use Rattle.fx_spec_parse.proofs.Texts.{described, refused, read_again, same_whole, stop_only}
 use Rattle.fx_spec_parse.proofs.text.parse.Goals as goal
 
-pub returns-in-Err-BadToken-clause-only : goal.returns-in-Err-BadToken-clause-only
-returns-in-Err-BadToken-clause-only c = λ t d.
-    let memory : c.in-Err-BadToken.field-0 ≡ lexed.NoMemory = (c.in-Err-BadToken.ensures.given d.tokens.0 d.tokens.1).1 in
-    let bad = c.in-Err-BadToken.field-0-is in
-    (tt, cc)
+pub returns-in_err-tokens-clause-only : goal.returns-in_err-tokens-clause-only
+returns-in_err-tokens-clause-only c =
+    rw (err_of c.from_residual.result (of_lex c.in_err-tokens.field-0.0) c.from_residual.ensures.1)
+    (λ t d. (tt, ap of_lex (c.in_err-tokens.ensures.given d.tokens.0 d.tokens.1).1))
 
-read_ok : (c : goal.After-drop-tokens-inside) → read_whole (kinds c.in-Ok.tokens.spanned) ≡ Ok (spec_tree c.in-Ok-whole_of.spec)
-read_ok c = ap (λ l. read_whole (kinds l)) (sym c.as_slice.ensures.value) ∙ c.in-Ok-whole_of.ensures
+pub returns-in_err-tokens-clause-fault : goal.returns-in_err-tokens-clause-fault
+returns-in_err-tokens-clause-fault c =
+    let short : length c.args.text.now ≤ source_limit = omega (arith, c.if-text-gt-SOURCE_LIMIT.false) in
+    if_err_of (IsRefused descriptions c.args.text.now) c.from_residual.result (of_lex c.in_err-tokens.field-0.0) c.from_residual.ensures.1
+    (unlexed descriptions c.args.text.now c.in_err-tokens.field-0.0 short c.in_err-tokens.ensures.fault)
 
-pub returns-in-Ok-whole_of-clause-ok : goal.returns-in-Ok-whole_of-clause-ok
-returns-in-Ok-whole_of-clause-ok c =
-    let short : length c.args.text.now ≤ 65536 = omega (arith, c.if-text-gt-TEXT_LIMIT.false) in
-    described c.args.text.now c.in-Ok.tokens short c.in-Ok.ensures.tokens (spec_tree c.in-Ok-whole_of.spec) (read_ok c)
+read_ok : (c : goal.After-drop-tokens-inside) → read_whole (kinds c.in_ok-tokens.tokens.spanned) ≡ Ok (spec_tree c.in-Ok.spec)
+read_ok c = ap (λ l. read_whole (kinds l)) (sym c.as_slice.ensures.value) ∙ c.in-Ok.ensures
 
-pub returns-in-Ok-whole_of-clause-only : goal.returns-in-Ok-whole_of-clause-only
-returns-in-Ok-whole_of-clause-only c = λ t d.
-    let again = read_again c.args.text.now c.in-Ok.tokens t (λ spanned tokens. (c.in-Ok.ensures.given spanned tokens).0) d in
-    (same_whole (spec_tree c.in-Ok-whole_of.spec) t (sym (read_ok c) ∙ again), tt)
+pub returns-in-Ok-clause-ok : goal.returns-in-Ok-clause-ok
+returns-in-Ok-clause-ok c =
+    let short : length c.args.text.now ≤ source_limit = omega (arith, c.if-text-gt-SOURCE_LIMIT.false) in
+    described c.args.text.now c.in_ok-tokens.tokens short c.in_ok-tokens.ensures.tokens (spec_tree c.in-Ok.spec) (read_ok c)
 
-stopped : (c : goal.After-drop-tokens-inside-2) → Stops c.in-Err.stop (read_whole (kinds c.in-Ok.tokens.spanned))
+pub returns-in-Ok-clause-only : goal.returns-in-Ok-clause-only
+returns-in-Ok-clause-only c = λ t d.
+    let again = read_again c.args.text.now c.in_ok-tokens.tokens t (λ spanned tokens. (c.in_ok-tokens.ensures.given spanned tokens).0) d in
+    (same_whole (spec_tree c.in-Ok.spec) t (sym (read_ok c) ∙ again), tt)
+
+stopped : (c : goal.After-drop-tokens-inside-2) → Stops c.in-Err.stop (read_whole (kinds c.in_ok-tokens.tokens.spanned))
 stopped c = subst (λ l. Stops c.in-Err.stop (read_whole (kinds l))) c.as_slice.ensures.value c.in-Err.ensures
 
 pub returns-clause-only : goal.returns-clause-only
 returns-clause-only c = λ t d.
-    let again = read_again c.args.text.now c.in-Ok.tokens t (λ spanned tokens. (c.in-Ok.ensures.given spanned tokens).0) d in
-    (tt, c.fault_at.ensures ∙ stop_only c.in-Ok.tokens c.in-Err.stop (kinds c.in-Ok.tokens.spanned) t (stopped c) again)
+    let again = read_again c.args.text.now c.in_ok-tokens.tokens t (λ spanned tokens. (c.in_ok-tokens.ensures.given spanned tokens).0) d in
+    (tt, c.fault_at.ensures ∙ stop_only c.in_ok-tokens.tokens c.in-Err.stop (kinds c.in_ok-tokens.tokens.spanned) t (stopped c) again)
 
 pub returns-clause-fault : goal.returns-clause-fault
 returns-clause-fault c =
-    let short : length c.args.text.now ≤ 65536 = omega (arith, c.if-text-gt-TEXT_LIMIT.false) in
-    subst (λ f. IsRefused descriptions c.args.text.now f) (sym c.fault_at.ensures) (refused c.args.text.now c.in-Ok.tokens short c.in-Ok.ensures.tokens c.in-Ok.ensures.length c.in-Err.stop (stopped c))
+    let short : length c.args.text.now ≤ source_limit = omega (arith, c.if-text-gt-SOURCE_LIMIT.false) in
+    subst (λ f. IsRefused descriptions c.args.text.now f) (sym c.fault_at.ensures) (refused c.args.text.now c.in_ok-tokens.tokens short c.in_ok-tokens.ensures.tokens c.in_ok-tokens.ensures.length c.in-Err.stop (stopped c))

@@ -1,6 +1,6 @@
 use Rattle.std.proofs.Common.{IfSome, sym, subst}
 use Rattle.fx_command.specs.Texts.{IsReadAt}
-use Rattle.fx_command.proofs.Told.{if_err_of}
+use Rattle.fx_base.proofs.Errors.{if_err_of}
 use Rattle.fx_top.specs.Answers.{ScriptCause}
 use Rattle.fx_top.specs.Unread.{of_host, of_script}
 use Rattle.fx_top.proofs.Scripts.{script_read, script_refused, script_unread}

@@ -3,7 +3,7 @@ use Rattle.fx_outside.proofs.Views.{reads_then}
 use Rattle.fx_spec.specs.Bases.{base_tree}
 use Rattle.fx_words.specs.JobOf.{asked}
 use Rattle.fx_top.specs.Rows.{EndsAs}
-use Rattle.fx_command.proofs.Told.{if_err_of}
+use Rattle.fx_base.proofs.Errors.{if_err_of}
 use Rattle.fx_top.proofs.Ending.{ends_back}
 use Rattle.fx_top.proofs.Stages.{whole_base}
 use Rattle.fx_top.proofs.reading.read_base.Goals as goal

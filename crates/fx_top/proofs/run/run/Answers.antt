@@ -4,7 +4,7 @@ use Rattle.fx_words.specs.JobOf.{asked}
 use Rattle.fx_top.specs.Answers.{last_of}
 use Rattle.fx_top.specs.Rows.{RunRow}
 use Rattle.fx_command.specs.StatusOf.{status_of}
-use Rattle.fx_command.proofs.Told.{err_of}
+use Rattle.fx_base.proofs.Errors.{err_of}
 use Rattle.fx_top.proofs.Ending.{ends_back}
 use Rattle.fx_top.proofs.Stages.{inputs_read, can_save}
 use Rattle.fx_top.proofs.run.run.Goals as goal

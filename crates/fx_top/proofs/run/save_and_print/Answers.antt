@@ -4,7 +4,7 @@ use Rattle.fx_words.specs.JobOf.{asked}
 use Rattle.fx_top.specs.Answers.{last_of}
 use Rattle.fx_top.specs.Rows.{RunRow}
 use Rattle.fx_command.specs.StatusOf.{status_of, save_status}
-use Rattle.fx_command.proofs.Told.{err_of}
+use Rattle.fx_base.proofs.Errors.{err_of}
 use Rattle.fx_top.proofs.Ending.{not_saved, not_printed, all_done}
 use Rattle.fx_top.proofs.run.save_and_print.Goals as goal
 

@@ -1,6 +1,6 @@
 use Rattle.fx_view.specs.Own.{own_at}
 use Rattle.fx_view.specs.Walks.{rule_at}
-use Rattle.fx_view.proofs.Errors.{err_of}
+use Rattle.fx_base.proofs.Errors.{err_of}
 use Rattle.fx_view.proofs.Stepping.{steps_after_look, look_stops, look_refused}
 use Rattle.fx_view.proofs.resolving.look_into.Goals as goal
 

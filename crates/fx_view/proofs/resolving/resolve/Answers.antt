@@ -1,7 +1,7 @@
 use Rattle.std.proofs.Common.{Ok, Err}
 use Rattle.fx_view.specs.Own.{own_at}
 use Rattle.fx_view.specs.Walks.{rule_of}
-use Rattle.fx_view.proofs.Errors.{err_of}
+use Rattle.fx_base.proofs.Errors.{err_of}
 use Rattle.fx_view.proofs.Stepping.{steps_landed, steps_on}
 use Rattle.fx_view.proofs.resolving.resolve.Goals as goal
 

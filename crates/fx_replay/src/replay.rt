@@ -7,7 +7,7 @@ use std::alloc::Global;
 use std::sync::Arc;
 
 /// The most steps of a shell up to its next settle.
-const STEP_LIMIT: u32 = 10_000;
+const STEP_LIMIT: u32 = 100_000;
 
 fn is_settled(event: &Event) -> bool {
     match event {

@@ -1,7 +1,7 @@
 use Rattle.std.proofs.Common.{◌*◌, ◌≤◌, length, sym, subst, arith}
 use Rattle.std.specs.List.{sum_by}
-use Rattle.fx_thread_tests.proofs.Plans.{fits, stay_few}
-use Rattle.fx_thread_tests.proofs.bases.plan_of.Goals as goal
+use Rattle.fx_replay.proofs.Plans.{fits, stay_few}
+use Rattle.fx_replay.proofs.ground.plan_of.Goals as goal
 
 pub push-requires : goal.push-requires
 push-requires c =

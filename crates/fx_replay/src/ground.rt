@@ -9,7 +9,6 @@ use fx_spec_parse::parse;
 use fx_store::Filestore;
 use std::alloc::Global;
 use std::sync::Arc;
-use std::test::*;
 
 /// The folder on the host.
 const FOLDER: &str = "in";
@@ -100,8 +99,9 @@ fn gathered(alloc: Global, ground: &Ground, plan: Plan) -> Result<Arc<Base>, NoM
     Ok(Arc::new(alloc, base)?)
 }
 
-/// What a run of scripts begins with.
-pub fn base_of(alloc: Global, ground: &Ground, scripts: &[&str]) -> Result<Arc<Base>, Fail> {
+/// What a run of scripts begins with. A script that is refused refuses the whole; a description that is refused stands for
+/// that of a file, and a folder that can't be loaded for an empty one.
+pub fn base_of(alloc: Global, ground: &Ground, scripts: &[&str]) -> Result<Arc<Base>, ScriptFault> {
     let plan = plan_of(alloc, scripts)?;
     Ok(gathered(alloc, ground, plan)?)
 }
