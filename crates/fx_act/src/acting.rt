@@ -34,7 +34,8 @@ impl Walk {
             self.old.zip }
         requires shaped { HasAct variables.now (act_tree act.now) }
         ensures acts { Acts R.meaning self.old self.new reader.old reader.new
-            (effect self.old.zip.root self.old.zip.address variables.now (act_tree act.now)) result }
+            (effect self.old.zip.root self.old.zip.address variables.now
+            (act_tree act.now)) result }
     {
         self.act_by::<R, Brand>(alloc, reader, variables, act, Blank::new(1))
     }
@@ -54,7 +55,8 @@ impl Walk {
             self.old.zip }
         requires shaped { HasAct variables.now (act_tree act.now) }
         ensures acts { Acts R.meaning self.old self.new reader.old reader.new
-            (effect self.old.zip.root self.old.zip.address variables.now (act_tree act.now)) result }
+            (effect self.old.zip.root self.old.zip.address variables.now
+            (act_tree act.now)) result }
     {
         let mut steps = Steps::<L>::open(blank);
         self.act_counted(alloc, reader, variables, act, &mut steps)
@@ -73,7 +75,8 @@ impl Walk {
             self.old.zip }
         requires shaped { HasAct variables.now (act_tree act.now) }
         ensures acts { Acts R.meaning self.old self.new reader.old reader.new
-            (effect self.old.zip.root self.old.zip.address variables.now (act_tree act.now)) result }
+            (effect self.old.zip.root self.old.zip.address variables.now
+            (act_tree act.now)) result }
     {
         match act {
             Act::Into => self.zip.go_into(alloc, reader, &self.overlay, steps),

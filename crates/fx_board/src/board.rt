@@ -8,7 +8,7 @@ ghost use Rattle.fx_board.specs.Board.{IsLog, IsEntry, NeverChanged, IsLastChang
 
 use crate::growing::grow;
 use crate::index::{last, note, stale};
-use fx_base::NoMemory;
+use fx_base::{NoMemory, SHELL_LIMIT};
 use fx_machine::{Attempt, Entry};
 use fx_spec::Base;
 use fx_store::{Filestore, Node, Path};
@@ -66,7 +66,7 @@ impl Board {
     pub fn new(alloc: Global, base: Arc<Base>) -> Result<Board, NoMemory>
         ensures { IfOk result (λ b. b ≡ started (base_tree base.value)) }
     {
-        prove!(base.plan.len() <= 64);
+        prove!(base.plan.len() <= SHELL_LIMIT);
         let store = base.loaded.copy(alloc)?;
         Ok(Board {
             base,
@@ -121,7 +121,8 @@ impl Board {
 
     /// The last entry that changed a path; None exactly where none did.
     pub fn last_change(&self, path: &Path) -> Option<u64>
-        ensures { MatchOption result (NeverChanged self.now path.now) (IsLastChange self.now path.now) }
+        ensures { MatchOption result (NeverChanged self.now path.now)
+            (IsLastChange self.now path.now) }
     {
         last(&self.index, path)
     }

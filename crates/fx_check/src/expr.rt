@@ -170,7 +170,8 @@ fn one_shape(alloc: Global, op: UnOp, found: Shape) -> Result<Shape, CheckFault>
 
 /// This shape, where the part has the shape that is needed.
 fn given(part: Result<Shape, CheckFault>, shape: Shape) -> Result<Shape, CheckFault>
-    ensures { (o : OrFault ShapeTree) → Gives shape_tree part o → Gives shape_tree result (followed_by (shape_tree shape) o) }
+    ensures { (o : OrFault ShapeTree) → Gives shape_tree part o
+        → Gives shape_tree result (followed_by (shape_tree shape) o) }
 {
     let_go(Some(part?));
     Ok(shape)

@@ -99,7 +99,8 @@ impl Scope {
 }
 
 fn newest<'a>(bindings: &'a [(Word, Shape)], word: &Word) -> Option<&'a Shape>
-    ensures { option_map (λ shape. shape_tree shape.now) result ≡ bound (map entry_shape bindings.now) word.now }
+    ensures { option_map (λ shape. shape_tree shape.now) result
+        ≡ bound (map entry_shape bindings.now) word.now }
 {
     let mut i = bindings.len();
     while i > 0 {

@@ -41,7 +41,8 @@ fn check_binding(
     word: &Word,
     expr: &Expr,
 ) -> Result<(), CheckFault>
-    ensures { Gives (λ _. scope.new) result (checked_command scope.old (CommandTree.bind word.now (expr_tree expr.now))) }
+    ensures { Gives (λ _. scope.new) result
+        (checked_command scope.old (CommandTree.bind word.now (expr_tree expr.now))) }
 {
     let found = shape_of(alloc, expr, scope)?;
     scope.bind(alloc, word, found)
@@ -54,7 +55,8 @@ fn check_assignment(
     word: &Word,
     expr: &Expr,
 ) -> Result<(), CheckFault>
-    ensures { Gives (λ _. scope.now) result (checked_command scope.now (CommandTree.assign word.now (expr_tree expr.now))) }
+    ensures { Gives (λ _. scope.now) result
+        (checked_command scope.now (CommandTree.assign word.now (expr_tree expr.now))) }
 {
     let found = shape_of(alloc, expr, scope)?;
     assign(alloc, scope, word, found)
@@ -77,7 +79,8 @@ fn assign(alloc: Global, scope: &Scope, word: &Word, found: Shape) -> Result<(),
 
 /// Binds the name of an attempted act to an integer.
 fn check_attempt(alloc: Global, scope: &mut Scope, word: &Word, act: &Act) -> Result<(), CheckFault>
-    ensures { Gives (λ _. scope.new) result (checked_command scope.old (CommandTree.attempt word.now (act_tree act.now))) }
+    ensures { Gives (λ _. scope.new) result
+        (checked_command scope.old (CommandTree.attempt word.now (act_tree act.now))) }
 {
     check_act(alloc, scope, act)?;
     scope.bind(alloc, word, Shape::Int)

@@ -24,7 +24,8 @@ pub(crate) fn check_shape(
     expected: Shape,
     expr: &Expr,
 ) -> Result<Shape, CheckFault>
-    ensures { Gives shape_tree result (shaped_as scope.now (shape_tree expected) (expr_tree expr.now)) }
+    ensures { Gives shape_tree result
+        (shaped_as scope.now (shape_tree expected) (expr_tree expr.now)) }
 {
     match shape_of(alloc, expr, scope) {
         Ok(found) => needed(expected, found),
@@ -38,9 +39,11 @@ pub(crate) fn check_shape(
 /// The shape of a pair, whose first part's shape is that of the newest name, which is taken off.
 fn pair_shape(alloc: Global, scope: &mut Scope, second: Shape) -> Result<Shape, CheckFault>
     requires { 0 < length scope.old }
-    ensures shape { (around : Scope) (word : List ℕ) (first : ShapeTree) → scope.old ≡ bind around word first
+    ensures shape { (around : Scope) (word : List ℕ) (first : ShapeTree)
+        → scope.old ≡ bind around word first
         → Gives shape_tree result (Ok (ShapeTree.pair first (shape_tree second))) }
-    ensures around { (around : Scope) (word : List ℕ) (first : ShapeTree) → scope.old ≡ bind around word first → OnOk result (scope.new ≡ around) }
+    ensures around { (around : Scope) (word : List ℕ) (first : ShapeTree)
+        → scope.old ≡ bind around word first → OnOk result (scope.new ≡ around) }
 {
     let Some(first) = scope.unbind() else {
         unreachable!()

@@ -1,6 +1,7 @@
 -- The forms of the commands: a name, and as many arguments as the command takes.
 use Rattle.std.specs.Prelude.{ℕ, Bool, true, false, cond, not, ◌&&◌, ◌==◌, List, [], ◌∷◌, length, codes, nat_le}
 use Rattle.std.specs.Str.{bytes_eq}
+use Rattle.fx_base.specs.Limits.{shell_limit}
 
 -- a word may be an argument: it is not empty and does not begin with `-`
 abbrev pub is_plain : List ℕ → Bool
@@ -9,7 +10,7 @@ is_plain (b ∷ rest) = not (b == 45)
 
 -- 1 to 64 scripts
 abbrev pub is_count : ℕ → Bool
-is_count n = nat_le 1 n && nat_le n 64
+is_count n = nat_le 1 n && nat_le n shell_limit
 
 -- SPEC FOLDER OUT SCRIPT...
 abbrev pub are_of_run : List (List ℕ) → Bool

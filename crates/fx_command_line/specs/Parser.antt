@@ -4,6 +4,7 @@ use Rattle.clap.specs.Words.{App, Rule, Shape, app_of, new_rule}
 use Rattle.clap.specs.declared.builder.command.Command.{Command}
 use Rattle.clap.specs.declared.builder.command.Command.TheViews.{out-Command as fields_of}
 use Rattle.clap.specs.Simple.{new_shape}
+use Rattle.fx_base.specs.Limits.{shell_limit}
 
 -- an argument of one text
 abbrev pub text : List ℕ → Rule
@@ -11,7 +12,7 @@ text id = record (new_rule id) { required = true }
 
 -- an argument of 1 to 64 texts
 abbrev pub texts : List ℕ → Rule
-texts id = record (text id) { range = Some (record { start_inclusive = 1; end_inclusive = 64 }) }
+texts id = record (text id) { range = Some (record { start_inclusive = 1; end_inclusive = shell_limit }) }
 
 abbrev pub command : List ℕ → List Rule → Shape
 command name arguments = record (new_shape name) { rules = arguments }

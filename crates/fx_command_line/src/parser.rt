@@ -5,7 +5,11 @@ ghost use Rattle.fx_command_line.specs.Parser as parser;
 ghost use Rattle.fx_command_line.specs.Parser.{IsTold};
 
 use clap::{Arg, Command};
+use fx_base::SHELL_LIMIT;
 use std::alloc::{AllocError, Global};
+
+/// The most scripts that a command takes.
+const SCRIPT_LIMIT: usize = SHELL_LIMIT as usize;
 
 /// An argument of one text.
 fn text<'a>(alloc: Global, id: &'a str) -> Arg<'a>
@@ -20,7 +24,9 @@ fn texts<'a>(alloc: Global, id: &'a str) -> Arg<'a>
     ensures rule { rule_of result ≡ parser.texts id.entry.now }
     ensures local { result.global ≡ false }
 {
-    Arg::new(alloc, id).required(true).num_args(1..=64)
+    Arg::new(alloc, id)
+        .required(true)
+        .num_args(1..=SCRIPT_LIMIT)
 }
 
 /// A command of two arguments.

@@ -27,7 +27,8 @@ fn places<'a>(found: &ArgMatches<'a>) -> Option<Places<'a>>
 fn matches_of<'a>(alloc: Global, words: &'a [&'a str]) -> Result<ArgMatches<'a>, WordsFault>
     requires { list_all is_plain (texts_of words.now) ≡ true }
     ensures form { IfOk result (λ m. has_form (texts_of words.entry.now) ≡ true) }
-    ensures words { IfOk result (λ m. words_in (subcommand_rows_of m) ≡ Some (texts_of words.entry.now)) }
+    ensures words { IfOk result
+        (λ m. words_in (subcommand_rows_of m) ≡ Some (texts_of words.entry.now)) }
     ensures usage { result ≡ Err WordsFault.Usage → has_form (texts_of words.entry.now) ≡ false }
 {
     let program = program(alloc)?;
@@ -69,7 +70,8 @@ fn form_of<'a>(alloc: Global, matches: &ArgMatches<'a>) -> Result<Option<Form<'a
 
 /// The form of a command of two arguments.
 fn short_form<'a>(name: &str, found: &ArgMatches<'a>) -> Option<Form<'a>>
-    ensures { option_map words_of result ≡ matched.short_in name.now (rows_of (found_of found.now)) }
+    ensures { option_map words_of result
+        ≡ matched.short_in name.now (rows_of (found_of found.now)) }
 {
     if name == "show" {
         return Some(Form::Show(show_form(found)?));

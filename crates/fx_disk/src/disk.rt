@@ -192,7 +192,8 @@ impl<R: Files + AllocGlobal + Clone + Drop> Host for Disk<R> {
         ensures few { IfOk result (λ names. len names ≤ MOST_ENTRIES) }
         ensures same { ReadsOnly (silent self.old.faults self.old.unfit)
             (silent self.new.faults self.new.unfit) }
-        ensures cause { HasCause (λ t. is_folder_at t path.now) (silent self.old.faults self.old.unfit)
+        ensures cause { HasCause (λ t. is_folder_at t path.now)
+            (silent self.old.faults self.old.unfit)
             (silent self.new.faults self.new.unfit) result }
         ensures unfit { CountsUnfit path.now (silent self.old.faults self.old.unfit)
             (silent self.new.faults self.new.unfit) }

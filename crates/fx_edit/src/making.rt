@@ -142,7 +142,8 @@ fn add_next(
 ) -> Result<Path, NoMemory>
     requires within { i < length names.now }
     requires short { length path.now < 64 }
-    ensures { IfOk result (λ more. IsNextMade names.now i node.now path.now more edits.old edits.new) }
+    ensures { IfOk result
+        (λ more. IsNextMade names.now i node.now path.now more edits.old edits.new) }
 {
     // The next place fits.
     prove!(i < names.len());

@@ -156,7 +156,8 @@ fn name_of(alloc: Global, text: &Text) -> Result<Name, Halt>
 
 /// The empty node of a form, or that it has none.
 pub(crate) fn bare_node(alloc: Global, form: &Spec) -> Result<Node, Halt>
-    ensures { Tells (λ n. n) (needed refusal.NoDefault (edit.bare_node (spec_tree form.now))) result }
+    ensures { Tells (λ n. n)
+        (needed refusal.NoDefault (edit.bare_node (spec_tree form.now))) result }
 {
     match bare(alloc, form) {
         Some(node) => Ok(node),

@@ -128,7 +128,8 @@ fn newest(bindings: &[(Word, Value)], word: &Word) -> Option<usize>
 
 fn put(bindings: &mut Vec<(Word, Value)>, i: usize, value: Value)
     requires { i < length bindings.old.items }
-    ensures { (word : List ℕ) (before : Value) → slice_get bindings.old.items i ≡ Some (word, before)
+    ensures { (word : List ℕ) (before : Value)
+        → slice_get bindings.old.items i ≡ Some (word, before)
         → bindings.new.items ≡ slice_set bindings.old.items i (word, value) }
 {
     bindings[i].1 = value;

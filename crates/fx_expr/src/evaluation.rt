@@ -81,5 +81,7 @@ fn bound_value(alloc: Global, word: &Word, env: &Env) -> Result<Value, EvalFault
 /// A value of an expression has the expression's shape, wherever the bound words have theirs: so evaluation never meets
 /// a value of another shape.
 pub fn a_value_has_its_expressions_shape()
-    ensures { (g : List (List ℕ × ShapeTree)) (env : List (List ℕ × Tree)) (e : ExprTree) (s : ShapeTree) → BindingsHave env g → HasShape g e s → IfOk (eval_of env e) (λ v. ValueHas v s) }
+    ensures { (g : List (List ℕ × ShapeTree)) (env : List (List ℕ × Tree)) (e : ExprTree)
+        (s : ShapeTree) → BindingsHave env g → HasShape g e s
+        → IfOk (eval_of env e) (λ v. ValueHas v s) }
 {}

@@ -29,7 +29,8 @@ fn split_lines(alloc: Global, text: &[u8]) -> Result<Vec<Text>, NoMemory>
 
 fn add_piece(alloc: Global, found: &mut Vec<Text>, piece: &[u8]) -> Result<(), NoMemory>
     requires { IsText piece.now }
-    ensures { OnOk result (found.new.items ≡ found.old.items ++ cond (nat_lt 0 (length piece.now)) (piece.now ∷ []) []) }
+    ensures { OnOk result (found.new.items ≡ found.old.items
+        ++ cond (nat_lt 0 (length piece.now)) (piece.now ∷ []) []) }
 {
     if piece.is_empty() {
         return Ok(());

@@ -13,7 +13,8 @@ use std::str;
 
 // The integer that a text spells: an optional `-` and digits, and then an optional line feed.
 pub(crate) fn read_integer(text: &[u8]) -> Result<i64, ExprFault>
-    ensures { MatchResult result (λ n. read_integer text.now ≡ Ok (Tree.int n)) (λ fault. read_integer text.now ≡ Err fault) }
+    ensures { MatchResult result (λ n. read_integer text.now ≡ Ok (Tree.int n))
+        (λ fault. read_integer text.now ≡ Err fault) }
 {
     match read_numeral(without_line_feed(text)) {
         Some(n) => Ok(n),
@@ -36,7 +37,8 @@ fn without_line_feed(text: &[u8]) -> &[u8]
 }
 
 fn read_numeral(numeral: &[u8]) -> Option<i64>
-    ensures { MatchOption result (spells_64 numeral.now ≡ false) (λ n. (spells_64 numeral.now ≡ true) × (numeral_value numeral.now ≡ n)) }
+    ensures { MatchOption result (spells_64 numeral.now ≡ false)
+        (λ n. (spells_64 numeral.now ≡ true) × (numeral_value numeral.now ≡ n)) }
 {
     if begins_with_plus(numeral) {
         return None;

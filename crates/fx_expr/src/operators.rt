@@ -136,7 +136,8 @@ fn unite(alloc: Global, first: &TextSet, second: &TextSet) -> Result<Value, Eval
 }
 
 fn lessen(alloc: Global, first: &TextSet, second: &TextSet) -> Result<Value, EvalFault>
-    ensures { Gives tree_of result (two BinOp.Without (Tree.names first.now) (Tree.names second.now)) }
+    ensures { Gives tree_of result
+        (two BinOp.Without (Tree.names first.now) (Tree.names second.now)) }
 {
     Ok(Value::Names(first.without(alloc, second)?))
 }

@@ -70,7 +70,8 @@ pub(crate) fn with_table<H: Host>(
 fn joined(alloc: Global, walked: Walked, text: &[u8]) -> Result<Vec<Change>, LoadFault>
     requires { AreFound walked.found.items }
     ensures shaped { IfOk result (λ all. AreShaped all.items) }
-    ensures joined { IfOk result (λ all. IsJoined walked.found.items walked.left text.now all.items) }
+    ensures joined { IfOk result
+        (λ all. IsJoined walked.found.items walked.left text.now all.items) }
     ensures cause { IfErr result (LinesCause (standing_by walked.found.items)
         (room_behind walked.found.items walked.left) text.now) }
 {
@@ -96,7 +97,8 @@ fn read_text<H: Host>(
     requires folder { IfSome (H.view host.old).told (λ tree. is_folder_at tree folder.now ≡ true) }
     requires table { IfSome (H.view host.old).told (λ tree. HasTable tree (parts folder.now) kind) }
     ensures answer { IfSome (H.view host.old).told (λ tree.
-        AnswersText (text_of kind (bytes_at tree (path_below folder.now table_name))) (items_in result)) }
+        AnswersText (text_of kind (bytes_at tree (path_below folder.now table_name)))
+        (items_in result)) }
     ensures fault { result ≡ Err ReadFault
         → Rose (H.view host.old).faults (H.view host.new).faults }
     ensures same { ReadsOnly (H.view host.old) (H.view host.new) }
@@ -119,7 +121,8 @@ fn read_table_file<H: Host>(
     requires file { IfSome (H.view host.old).told (λ tree.
         is_file_at tree (path_below folder.now table_name) ≡ true) }
     ensures answer { IfSome (H.view host.old).told (λ tree. AnswersText
-        (text_of HostKind.File (bytes_at tree (path_below folder.now table_name))) (items_in result)) }
+        (text_of HostKind.File (bytes_at tree (path_below folder.now table_name)))
+        (items_in result)) }
     ensures fault { result ≡ Err ReadFault
         → Rose (H.view host.old).faults (H.view host.new).faults }
     ensures same { ReadsOnly (H.view host.old) (H.view host.new) }

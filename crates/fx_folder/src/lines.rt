@@ -63,7 +63,8 @@ fn next_link<G: Ground>(
     requires { AreLinks (G.store ground.now) links.old }
     ensures read { IfOk result
         (ReadsNext (G.store ground.now) room.old text.now links.old links.new room.new) }
-    ensures cause { IfErr result (StopsNext (G.store ground.now) room.old text.now number links.old) }
+    ensures cause { IfErr result
+        (StopsNext (G.store ground.now) room.old text.now number links.old) }
 {
     let Some(end) = place_in(text, b'\n') else {
         return Err(LoadFault::Refused(FolderCause::BadTable(number)));

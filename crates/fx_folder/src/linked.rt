@@ -43,7 +43,8 @@ fn changes_by(alloc: Global, store: &Filestore, links: Changes) -> Result<Change
 
 /// Each path of a filestore, with a directory without names or an empty file.
 fn bare_nodes(alloc: Global, store: &Filestore) -> Result<Vec<Change>, NoMemory>
-    ensures bare { IfOk result (λ all. all.items ≡ changes_of (map bare (entries store.now.nodes))) }
+    ensures bare { IfOk result
+        (λ all. all.items ≡ changes_of (map bare (entries store.now.nodes))) }
     ensures whole { IsWhole (get store.now.nodes) }
 {
     let mut descent = Descent::new(alloc, store)?;

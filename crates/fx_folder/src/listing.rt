@@ -79,7 +79,8 @@ fn names_at(alloc: Global, found: &[Change], i: usize, dir: &Path) -> Result<Nam
 /// Adds the name of a path that stands directly in a directory.
 fn add_child(alloc: Global, dir: &Path, path: &Path, names: &mut Vec<Name>) -> Result<(), NoMemory>
     requires { is_some (rest_of dir.now path.now) ≡ true }
-    ensures { OnOk result (names.new.items ≡ names.old.items ++ cons_option (name_in dir.now path.now) []) }
+    ensures { OnOk result
+        (names.new.items ≡ names.old.items ++ cons_option (name_in dir.now path.now) []) }
 {
     if path.len() != dir.len() + 1 {
         return Ok(());

@@ -52,7 +52,8 @@ fn move_before(rest: &mut Vec<Change>, path: &Path, all: &mut Vec<Change>) -> Re
 /// Moves all links that are left.
 fn move_rest(rest: &mut Vec<Change>, all: &mut Vec<Change>) -> Result<(), NoMemory>
     requires { MakeLinks rest.old.items }
-    ensures { OnOk result (all.new.items ≡ all.old.items ++ map link_change (pending rest.old.items)) }
+    ensures { OnOk result
+        (all.new.items ≡ all.old.items ++ map link_change (pending rest.old.items)) }
 {
     'moving: while let Some(next) = rest.pop() {
         all.push(next)?;

@@ -38,7 +38,8 @@ fn first_byte(text: &[u8]) -> Option<(u8, usize)>
 }
 
 fn escaped_byte(high: u8, low: u8) -> Option<(u8, usize)>
-    ensures { result ≡ option_map (λ b. record { 0 = b; 1 = 3 }) (escaped (digit_value high) (digit_value low)) }
+    ensures { result ≡ option_map (λ b. record { 0 = b; 1 = 3 })
+        (escaped (digit_value high) (digit_value low)) }
 {
     let high = digit_value(high)?;
     let low = digit_value(low)?;

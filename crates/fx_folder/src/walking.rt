@@ -46,7 +46,8 @@ pub(crate) fn walk<H: Host>(
     requires room { 0 < length buf.old }
     requires told { IfSome (H.view host.old).told (λ tree.
         (is_folder_at tree folder.now ≡ true) × Lists tree (parts folder.now) names.now) }
-    ensures answer { IfSome (H.view host.old).told (λ tree. AnswersWalk tree (parts folder.now) result) }
+    ensures answer { IfSome (H.view host.old).told
+        (λ tree. AnswersWalk tree (parts folder.now) result) }
     ensures found { IfOk result (λ walked. AreFound walked.found.items) }
     ensures fault { result ≡ Err ReadFault
         → Rose (H.view host.old).faults (H.view host.new).faults }
@@ -179,7 +180,8 @@ fn enter_file<H: Host>(
 ) -> Result<Change, LoadFault>
     requires room { 0 < length buf.old }
     requires text { 47 ∷ text.now ≡ place_of path }
-    requires file { IfSome (H.view host.old).told (λ tree. is_file_at tree (path_below folder.now text.now) ≡ true) }
+    requires file { IfSome (H.view host.old).told
+        (λ tree. is_file_at tree (path_below folder.now text.now) ≡ true) }
     ensures answer { IfSome (H.view host.old).told (λ tree.
         AnswersFile left path (bytes_at tree (path_below folder.now text.now)) result) }
     ensures found { IfOk result (λ change. (change.path ≡ path) × IsFoundNode change.node) }
@@ -208,8 +210,10 @@ fn enter_folder<H: Host>(
 ) -> Result<Change, LoadFault>
     requires folder { IfSome (H.view host.old).told (λ tree.
         is_folder_at tree (path_below folder.now text.now) ≡ true) }
-    ensures change { IfOk result (λ change. change ≡ record { path = path; node = Some (Node.Dir []) }) }
-    ensures todo { OnOk result (AddsItems (H.view host.old).told (path_below folder.now text.now) path
+    ensures change { IfOk result
+        (λ change. change ≡ record { path = path; node = Some (Node.Dir []) }) }
+    ensures todo { OnOk result
+        (AddsItems (H.view host.old).told (path_below folder.now text.now) path
         todo.old.items todo.new.items) }
     ensures cause { IfErr result IsNoRefusal }
     ensures fault { result ≡ Err ReadFault
@@ -233,7 +237,8 @@ fn add_items(
     names: &Listing,
     todo: &mut Vec<Item>,
 ) -> Result<(), NoMemory>
-    ensures { OnOk result (todo.new.items ≡ todo.old.items ++ items_of parent.now (entries names.now)) }
+    ensures { OnOk result
+        (todo.new.items ≡ todo.old.items ++ items_of parent.now (entries names.now)) }
 {
     for i in (0..names.len()).rev() {
         let Some((name, kind)) = names.at(i) else {

@@ -96,7 +96,8 @@ fn add_file(
     requires room { length dir.now < 64 }
     requires short { length bytes.items ≤ 1048576 }
     ensures { OnOk result
-        (changes.new.items ≡ changes.old.items ++ made (dir.now ++ entry.now ∷ [], Node.File bytes.items) ∷ []) }
+        (changes.new.items ≡ changes.old.items
+        ++ made (dir.now ++ entry.now ∷ [], Node.File bytes.items) ∷ []) }
 {
     let path = below(alloc, dir, entry)?;
     add(changes, path, Node::File(Bytes::from_vec(bytes)))
@@ -224,7 +225,8 @@ fn add_parts(alloc: Global, changes: &mut Vec<Change>, dir: &Path) -> Result<(),
     requires { length dir.now < 64 }
     ensures { OnOk result
         (changes.new.items
-        ≡ changes.old.items ++ made (dir.now, Node.Dir (codes "count" ∷ codes "log" ∷ codes "notes" ∷ []))
+        ≡ changes.old.items
+        ++ made (dir.now, Node.Dir (codes "count" ∷ codes "log" ∷ codes "notes" ∷ []))
         ∷ made (dir.now ++ codes "count" ∷ [], Node.File (codes "0"))
         ∷ made (dir.now ++ codes "log" ∷ [], Node.Dir []) ∷ []) }
 {

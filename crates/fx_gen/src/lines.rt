@@ -97,8 +97,10 @@ fn add_txn(out: &mut Vec<u8>, draws: &mut Draws, script: u32, place: u32) -> Res
     requires script { script < SCRIPTS }
     requires place { place < TXNS }
     requires made { draws.old.made ≡ 257 + 2 * (TXNS * script + place) }
-    ensures line { OnOk result (out.new.items ≡ out.old.items ++ txn_line draws.old.number script place) }
-    ensures logs { IfOk result (λ logs. logs ≡ (kind_of draws.old.number (TXNS * script + place) == 3)) }
+    ensures line { OnOk result
+        (out.new.items ≡ out.old.items ++ txn_line draws.old.number script place) }
+    ensures logs { IfOk result
+        (λ logs. logs ≡ (kind_of draws.old.number (TXNS * script + place) == 3)) }
     ensures made { draws.new ≡ after 2 draws.old }
     ensures short { OnOk result (length out.new.items ≤ length out.old.items + LINE) }
 {

@@ -27,9 +27,11 @@ fn value_of(digits: &[u8]) -> Option<u64>
 /// The number that digits spell; None exactly where a digit follows a `0` at the front, or the number is above the limit.
 pub(crate) fn number_of(digits: &[u8]) -> Option<i64>
     requires { IsDigitRun digits.now }
-    ensures some { IfSome result (λ n. HasNoLeadingZero digits.now × (digits_value digits.now ≤ number_limit)
+    ensures some { IfSome result
+        (λ n. HasNoLeadingZero digits.now × (digits_value digits.now ≤ number_limit)
         × (n ≡ pos (digits_value digits.now))) }
-    ensures none { IfNone result (HasNoLeadingZero digits.now → digits_value digits.now ≤ number_limit → ⊥) }
+    ensures none { IfNone result
+        (HasNoLeadingZero digits.now → digits_value digits.now ≤ number_limit → ⊥) }
 {
     if digits.len() > 1 && digits[0] == b'0' {
         return None;

@@ -26,7 +26,8 @@ pub trait Host {
     fn list(&mut self, alloc: Global, path: &HostText) -> Result<Listing, HostFault>
         ensures answer { IfOk result (TellsNames (view self.old) path.now) }
         ensures same { ReadsOnly (view self.old) (view self.new) }
-        ensures cause { HasCause (λ t. is_folder_at t path.now) (view self.old) (view self.new) result }
+        ensures cause { HasCause (λ t. is_folder_at t path.now) (view self.old)
+            (view self.new) result }
         ensures unfit { CountsUnfit path.now (view self.old) (view self.new) };
 
     /// Reads bytes of a file from a place on into the front of a buffer; 0 means the end of the file.
@@ -41,24 +42,29 @@ pub trait Host {
         ensures bound { IfOk result (λ n. n ≤ length buf.new) }
         ensures answer { IfOk result (TellsBytes (view self.old) path.now from buf.new) }
         ensures same { ReadsOnly (view self.old) (view self.new) }
-        ensures cause { HasCause (λ t. is_file_at t path.now) (view self.old) (view self.new) result }
+        ensures cause { HasCause (λ t. is_file_at t path.now) (view self.old)
+            (view self.new) result }
         ensures unfit { CountsUnfit path.now (view self.old) (view self.new) };
 
     /// Makes an empty folder where nothing stands. After `Failed` it may be there or not.
     fn make_dir(&mut self, alloc: Global, path: &HostText) -> Result<(), HostFault>
         ensures made { OnOk result (Adds path.now folder (view self.old) (view self.new)) }
-        ensures failed { result ≡ Err Failed → MayAdd path.now folder (view self.old) (view self.new) }
+        ensures failed { result ≡ Err Failed
+            → MayAdd path.now folder (view self.old) (view self.new) }
         ensures memory { result ≡ Err NoMemory → IsAsTold (view self.old) (view self.new) }
-        ensures cause { HasCause (λ t. is_free_at t path.now) (view self.old) (view self.new) result }
+        ensures cause { HasCause (λ t. is_free_at t path.now) (view self.old)
+            (view self.new) result }
         ensures unfit { CountsUnfit path.now (view self.old) (view self.new) };
 
     /// Writes a file where nothing stands. After `Failed` it may be missing or hold a prefix of the bytes.
     fn write_new(&mut self, alloc: Global, path: &HostText, bytes: &[u8]) -> Result<(), HostFault>
-        ensures written { OnOk result (Adds path.now (file bytes.now) (view self.old) (view self.new)) }
+        ensures written { OnOk result
+            (Adds path.now (file bytes.now) (view self.old) (view self.new)) }
         ensures failed { result ≡ Err Failed
             → MayHoldPrefix path.now bytes.now (view self.old) (view self.new) }
         ensures memory { result ≡ Err NoMemory → IsAsTold (view self.old) (view self.new) }
-        ensures cause { HasCause (λ t. is_free_at t path.now) (view self.old) (view self.new) result }
+        ensures cause { HasCause (λ t. is_free_at t path.now) (view self.old)
+            (view self.new) result }
         ensures unfit { CountsUnfit path.now (view self.old) (view self.new) };
 
     /// In a told tree every entry stands in a folder, under parts that can name it.

@@ -61,7 +61,8 @@ impl MemoryHost {
         requires free { is_free_at (host_tree self.old) path.now ≡ true }
         requires bytes { is_file_kind kind ≡ false → bytes.now ≡ [] }
         ensures added { OnOk result (host_tree self.new
-            ≡ insert (host_tree self.old) (parts path.now) (record { kind = kind; bytes = bytes.now })) }
+            ≡ insert (host_tree self.old) (parts path.now)
+            (record { kind = kind; bytes = bytes.now })) }
         ensures same { OnErr result (host_tree self.new ≡ host_tree self.old) }
         ensures calls { host_calls self.new ≡ host_calls self.old }
         ensures unfit { host_unfit self.new ≡ host_unfit self.old }
@@ -77,7 +78,8 @@ impl MemoryHost {
 
     /// Has the call of a number, counted from 0 over all calls of `Host`, fail.
     pub fn fail(&mut self, _alloc: Global, call: u64) -> Result<(), fx_base::NoMemory>
-        ensures added { OnOk result (host_calls self.new ≡ with_failing (host_calls self.old) call) }
+        ensures added { OnOk result
+            (host_calls self.new ≡ with_failing (host_calls self.old) call) }
         ensures same { OnErr result (host_calls self.new ≡ host_calls self.old) }
         ensures tree { host_tree self.new ≡ host_tree self.old }
         ensures unfit { host_unfit self.new ≡ host_unfit self.old }
@@ -122,7 +124,8 @@ impl Host for MemoryHost {
     fn standing(&mut self, alloc: Global, path: &HostText) -> Result<Standing, HostFault>
         ensures answer { IfOk result (TellsStanding (host_view self.old) path.now) }
         ensures same { ReadsOnly (host_view self.old) (host_view self.new) }
-        ensures cause { HasCause (λ _. is_fit path.now) (host_view self.old) (host_view self.new) result }
+        ensures cause { HasCause (λ _. is_fit path.now) (host_view self.old)
+            (host_view self.new) result }
         ensures unfit { CountsUnfit path.now (host_view self.old) (host_view self.new) }
         ensures plan { FollowsPlan (host_calls self.old) (host_calls self.new)
             (is_fit path.now) Failed result }
@@ -144,7 +147,8 @@ impl Host for MemoryHost {
     fn list(&mut self, alloc: Global, path: &HostText) -> Result<Listing, HostFault>
         ensures answer { IfOk result (TellsNames (host_view self.old) path.now) }
         ensures same { ReadsOnly (host_view self.old) (host_view self.new) }
-        ensures cause { HasCause (λ t. is_folder_at t path.now) (host_view self.old) (host_view self.new) result }
+        ensures cause { HasCause (λ t. is_folder_at t path.now) (host_view self.old)
+            (host_view self.new) result }
         ensures unfit { CountsUnfit path.now (host_view self.old) (host_view self.new) }
         ensures plan { FollowsPlan (host_calls self.old) (host_calls self.new)
             (is_folder_at (host_tree self.old) path.now) Failed result }
@@ -174,7 +178,8 @@ impl Host for MemoryHost {
         ensures bound { IfOk result (λ n. n ≤ length buf.new) }
         ensures answer { IfOk result (TellsBytes (host_view self.old) path.now from buf.new) }
         ensures same { ReadsOnly (host_view self.old) (host_view self.new) }
-        ensures cause { HasCause (λ t. is_file_at t path.now) (host_view self.old) (host_view self.new) result }
+        ensures cause { HasCause (λ t. is_file_at t path.now) (host_view self.old)
+            (host_view self.new) result }
         ensures unfit { CountsUnfit path.now (host_view self.old) (host_view self.new) }
         ensures plan { FollowsPlan (host_calls self.old) (host_calls self.new)
             (is_file_at (host_tree self.old) path.now) Failed result }
@@ -194,11 +199,14 @@ impl Host for MemoryHost {
     }
 
     fn make_dir(&mut self, alloc: Global, path: &HostText) -> Result<(), HostFault>
-        ensures made { OnOk result (Adds path.now folder (host_view self.old) (host_view self.new)) }
+        ensures made { OnOk result
+            (Adds path.now folder (host_view self.old) (host_view self.new)) }
         ensures failed { result ≡ Err Failed
             → MayAdd path.now folder (host_view self.old) (host_view self.new) }
-        ensures memory { result ≡ Err NoMemory → IsAsTold (host_view self.old) (host_view self.new) }
-        ensures cause { HasCause (λ t. is_free_at t path.now) (host_view self.old) (host_view self.new) result }
+        ensures memory { result ≡ Err NoMemory
+            → IsAsTold (host_view self.old) (host_view self.new) }
+        ensures cause { HasCause (λ t. is_free_at t path.now) (host_view self.old)
+            (host_view self.new) result }
         ensures unfit { CountsUnfit path.now (host_view self.old) (host_view self.new) }
         ensures plan { FollowsPlan (host_calls self.old) (host_calls self.new)
             (is_free_at (host_tree self.old) path.now) Failed result }
@@ -223,8 +231,10 @@ impl Host for MemoryHost {
             (Adds path.now (file bytes.now) (host_view self.old) (host_view self.new)) }
         ensures failed { result ≡ Err Failed
             → MayHoldPrefix path.now bytes.now (host_view self.old) (host_view self.new) }
-        ensures memory { result ≡ Err NoMemory → IsAsTold (host_view self.old) (host_view self.new) }
-        ensures cause { HasCause (λ t. is_free_at t path.now) (host_view self.old) (host_view self.new) result }
+        ensures memory { result ≡ Err NoMemory
+            → IsAsTold (host_view self.old) (host_view self.new) }
+        ensures cause { HasCause (λ t. is_free_at t path.now) (host_view self.old)
+            (host_view self.new) result }
         ensures unfit { CountsUnfit path.now (host_view self.old) (host_view self.new) }
         ensures plan { FollowsPlan (host_calls self.old) (host_calls self.new)
             (is_free_at (host_tree self.old) path.now) Failed result }

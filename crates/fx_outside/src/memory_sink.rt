@@ -51,7 +51,8 @@ impl MemorySink {
 
     /// Has the call of a number, counted from 0 over all calls of `write`, fail.
     pub fn fail(&mut self, _alloc: Global, call: u64) -> Result<(), NoMemory>
-        ensures added { OnOk result (sink_calls self.new ≡ with_failing (sink_calls self.old) call) }
+        ensures added { OnOk result
+            (sink_calls self.new ≡ with_failing (sink_calls self.old) call) }
         ensures same { OnErr result (sink_calls self.new ≡ sink_calls self.old) }
         ensures bytes { sink_bytes self.new ≡ sink_bytes self.old }
         ensures room { sink_room self.new ≡ sink_room self.old }

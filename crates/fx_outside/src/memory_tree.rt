@@ -79,7 +79,8 @@ pub fn is_free(alloc: Global, tree: &Entries, names: &Parts) -> Result<bool, NoM
 
 /// Adds an entry. A refusal changes nothing.
 pub fn add(tree: &mut Entries, names: Parts, kind: HostKind, bytes: Vec<u8>) -> Result<(), NoMemory>
-    ensures added { OnOk result (tree_of tree.new.entries ≡ insert (tree_of tree.old.entries) names (record { kind = kind; bytes = bytes.items })) }
+    ensures added { OnOk result (tree_of tree.new.entries
+        ≡ insert (tree_of tree.old.entries) names (record { kind = kind; bytes = bytes.items })) }
     ensures same { OnErr result (tree_of tree.new.entries ≡ tree_of tree.old.entries) }
 {
     tree.insert(names, Stored { kind, bytes })?;
@@ -91,7 +92,8 @@ pub fn read_at(tree: &Entries, names: &Parts, from: u64, buf: &mut [u8]) -> usiz
     requires there { IsSome (get (tree_of tree.now.entries) names.now) }
     requires room { 0 < length buf.old }
     ensures bound { result ≤ length buf.new }
-    ensures read { IfSome (get (tree_of tree.now.entries) names.now) (λ e. ReadsAt e.bytes from result buf.new) }
+    ensures read { IfSome (get (tree_of tree.now.entries) names.now)
+        (λ e. ReadsAt e.bytes from result buf.new) }
 {
     match tree.get(names) {
         None => unreachable!(),

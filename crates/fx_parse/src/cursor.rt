@@ -11,7 +11,8 @@ use std::alloc::Global;
 
 /// The first token and those behind it; None exactly where there is none.
 pub fn first_of<'a>(tokens: &'a [Spanned]) -> Option<(&'a Token, &'a [Spanned])>
-    ensures { MatchOption result (kinds tokens.now ≡ []) (λ x. kinds tokens.now ≡ x.0.now ∷ kinds x.1.now) }
+    ensures { MatchOption result (kinds tokens.now ≡ [])
+        (λ x. kinds tokens.now ≡ x.0.now ∷ kinds x.1.now) }
 {
     match tokens {
         [first, rest @ ..] => Some((&first.token, rest)),
@@ -97,7 +98,8 @@ pub(crate) fn glob_at(alloc: Global, tokens: &[Spanned]) -> Result<(Text, &[Span
 
 /// An operator between two parts or before a glob, and what follows.
 pub(crate) fn operator_at(tokens: &[Spanned]) -> Result<(Operator, &[Spanned]), Stop>
-    ensures { Gives (λ x. (operator_middle x.0, kinds x.1.now)) result (middle_at (kinds tokens.now)) }
+    ensures { Gives (λ x. (operator_middle x.0, kinds x.1.now)) result
+        (middle_at (kinds tokens.now)) }
 {
     match first_of(tokens) {
         Some((first, rest)) => match operator_of(first) {

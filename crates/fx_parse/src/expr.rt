@@ -42,7 +42,9 @@ fn second_at(
     operator: Operator,
     tokens: &[Spanned],
 ) -> Result<(Expr, &[Spanned]), Stop>
-    ensures { Gives (λ x. (expr_tree x.0, kinds x.1.now)) result (second_at (read_expr left) (expr_tree first) (operator_middle operator) (kinds tokens.now)) }
+    ensures { Gives (λ x. (expr_tree x.0, kinds x.1.now)) result
+        (second_at (read_expr left) (expr_tree first) (operator_middle operator)
+        (kinds tokens.now)) }
 {
     match operator {
         Operator::Binary(op) => {
@@ -66,7 +68,8 @@ fn second_at(
 #[cycle(expr)]
 #[tactic(auto, unfolding(crate::specs::Reader::bracket_at))]
 fn bracket_at(alloc: Global, left: u32, tokens: &[Spanned]) -> Result<(Expr, &[Spanned]), Stop>
-    ensures { Gives (λ x. (expr_tree x.0, kinds x.1.now)) result (bracket_at (read_expr left) (kinds tokens.now)) }
+    ensures { Gives (λ x. (expr_tree x.0, kinds x.1.now)) result
+        (bracket_at (read_expr left) (kinds tokens.now)) }
 {
     let (first, rest) = expr_at(alloc, left, tokens)?;
     let (operator, rest) = operator_at(rest)?;
@@ -82,7 +85,8 @@ fn before_at(
     op: UnOp,
     tokens: &[Spanned],
 ) -> Result<(Expr, &[Spanned]), Stop>
-    ensures { Gives (λ x. (expr_tree x.0, kinds x.1.now)) result (before_at (read_expr left) op (kinds tokens.now)) }
+    ensures { Gives (λ x. (expr_tree x.0, kinds x.1.now)) result
+        (before_at (read_expr left) op (kinds tokens.now)) }
 {
     let rest = opened(tokens)?;
     let (inner, rest) = expr_at(alloc, left, rest)?;
@@ -94,7 +98,8 @@ fn before_at(
 #[cycle(expr)]
 #[tactic(auto, unfolding(crate::specs::Reader::choice_at))]
 fn choice_at(alloc: Global, left: u32, tokens: &[Spanned]) -> Result<(Expr, &[Spanned]), Stop>
-    ensures { Gives (λ x. (expr_tree x.0, kinds x.1.now)) result (choice_at (read_expr left) (kinds tokens.now)) }
+    ensures { Gives (λ x. (expr_tree x.0, kinds x.1.now)) result
+        (choice_at (read_expr left) (kinds tokens.now)) }
 {
     let rest = opened(tokens)?;
     let (test, rest) = expr_at(alloc, left, rest)?;
@@ -122,7 +127,8 @@ fn form_at(
     start: Start,
     tokens: &[Spanned],
 ) -> Result<(Expr, &[Spanned]), Stop>
-    ensures { Gives (λ x. (expr_tree x.0, kinds x.1.now)) result (form_at (read_expr left) (start_head start) (kinds tokens.now)) }
+    ensures { Gives (λ x. (expr_tree x.0, kinds x.1.now)) result
+        (form_at (read_expr left) (start_head start) (kinds tokens.now)) }
 {
     match start {
         Start::Leaf(expr) => Ok((expr, tokens)),
@@ -136,7 +142,8 @@ fn form_at(
 /// The expression at the front, with so many levels left, and what follows it.
 #[cycle(expr)]
 pub fn expr_at(alloc: Global, left: u32, tokens: &[Spanned]) -> Result<(Expr, &[Spanned]), Stop>
-    ensures { Gives (λ x. (expr_tree x.0, kinds x.1.now)) result (read_expr left (kinds tokens.now)) }
+    ensures { Gives (λ x. (expr_tree x.0, kinds x.1.now)) result
+        (read_expr left (kinds tokens.now)) }
 {
     let Some((first, rest)) = first_of(tokens) else {
         return Err(Stop::Unexpected(0));

@@ -57,7 +57,8 @@ pub fn parse_expr(
     requires { 1 ≤ depth }
     ensures found { IfOk result (λ x. IsReadAt exprs depth tokens.now from (expr_tree x.0) x.1) }
     ensures only { (t : ExprTree) (next : ℕ) → IsReadAt exprs depth tokens.now from t next →
-        IfOk result (λ x. (expr_tree x.0 ≡ t) × (x.1 ≡ next)) × IfErr result (λ e. e ≡ ParseFault.NoMemory) }
+        IfOk result (λ x. (expr_tree x.0 ≡ t) × (x.1 ≡ next))
+        × IfErr result (λ e. e ≡ ParseFault.NoMemory) }
     ensures fault { IfErr result (IsParseFault exprs depth tokens.now from) }
 {
     let all = tokens.as_slice();
@@ -78,7 +79,8 @@ pub fn parse_shape(
     requires { 1 ≤ depth }
     ensures found { IfOk result (λ x. IsReadAt shapes depth tokens.now from (shape_tree x.0) x.1) }
     ensures only { (t : ShapeTree) (next : ℕ) → IsReadAt shapes depth tokens.now from t next →
-        IfOk result (λ x. (shape_tree x.0 ≡ t) × (x.1 ≡ next)) × IfErr result (λ e. e ≡ ParseFault.NoMemory) }
+        IfOk result (λ x. (shape_tree x.0 ≡ t) × (x.1 ≡ next))
+        × IfErr result (λ e. e ≡ ParseFault.NoMemory) }
     ensures fault { IfErr result (IsParseFault shapes depth tokens.now from) }
 {
     let all = tokens.as_slice();

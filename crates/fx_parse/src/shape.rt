@@ -22,7 +22,8 @@ fn boxed_shape(alloc: Global, shape: Shape) -> Result<Box<Shape>, NoMemory>
 #[cycle(shape)]
 #[tactic(auto, unfolding(crate::specs::ShapeReader::pair_at))]
 fn pair_at(alloc: Global, left: u32, tokens: &[Spanned]) -> Result<(Shape, &[Spanned]), Stop>
-    ensures { Gives (λ x. (shape_tree x.0, kinds x.1.now)) result (pair_at (read_shape left) (kinds tokens.now)) }
+    ensures { Gives (λ x. (shape_tree x.0, kinds x.1.now)) result
+        (pair_at (read_shape left) (kinds tokens.now)) }
 {
     let rest = opened(tokens)?;
     let (first, rest) = shape_at(alloc, left, rest)?;
@@ -39,7 +40,8 @@ fn pair_at(alloc: Global, left: u32, tokens: &[Spanned]) -> Result<(Shape, &[Spa
 #[cycle(shape)]
 #[tactic(auto, unfolding(crate::specs::ShapeReader::opt_at))]
 fn opt_at(alloc: Global, left: u32, tokens: &[Spanned]) -> Result<(Shape, &[Spanned]), Stop>
-    ensures { Gives (λ x. (shape_tree x.0, kinds x.1.now)) result (opt_at (read_shape left) (kinds tokens.now)) }
+    ensures { Gives (λ x. (shape_tree x.0, kinds x.1.now)) result
+        (opt_at (read_shape left) (kinds tokens.now)) }
 {
     let rest = opened(tokens)?;
     let (inner, rest) = shape_at(alloc, left, rest)?;
@@ -51,7 +53,8 @@ fn opt_at(alloc: Global, left: u32, tokens: &[Spanned]) -> Result<(Shape, &[Span
 #[cycle(shape)]
 #[tactic(auto, unfolding(crate::specs::ShapeReader::table_at))]
 fn table_at(alloc: Global, left: u32, tokens: &[Spanned]) -> Result<(Shape, &[Spanned]), Stop>
-    ensures { Gives (λ x. (shape_tree x.0, kinds x.1.now)) result (table_at (read_shape left) (kinds tokens.now)) }
+    ensures { Gives (λ x. (shape_tree x.0, kinds x.1.now)) result
+        (table_at (read_shape left) (kinds tokens.now)) }
 {
     let rest = opened(tokens)?;
     let (inner, rest) = shape_at(alloc, left, rest)?;
@@ -68,7 +71,8 @@ fn shape_form_at(
     start: ShapeStart,
     tokens: &[Spanned],
 ) -> Result<(Shape, &[Spanned]), Stop>
-    ensures { Gives (λ x. (shape_tree x.0, kinds x.1.now)) result (shape_form_at (read_shape left) start (kinds tokens.now)) }
+    ensures { Gives (λ x. (shape_tree x.0, kinds x.1.now)) result
+        (shape_form_at (read_shape left) start (kinds tokens.now)) }
 {
     match start {
         ShapeStart::Str => Ok((Shape::Str, tokens)),
@@ -85,7 +89,8 @@ fn shape_form_at(
 /// The shape at the front, with so many levels left, and what follows it.
 #[cycle(shape)]
 pub fn shape_at(alloc: Global, left: u32, tokens: &[Spanned]) -> Result<(Shape, &[Spanned]), Stop>
-    ensures { Gives (λ x. (shape_tree x.0, kinds x.1.now)) result (read_shape left (kinds tokens.now)) }
+    ensures { Gives (λ x. (shape_tree x.0, kinds x.1.now)) result
+        (read_shape left (kinds tokens.now)) }
 {
     let Some((first, rest)) = first_of(tokens) else {
         return Err(Stop::Unexpected(0));

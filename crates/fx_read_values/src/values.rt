@@ -74,7 +74,8 @@ fn text(alloc: Global, bytes: &[u8]) -> Result<Option<(Text, &[u8])>, NoMemory>
 
 fn text_value(alloc: Global, bytes: &[u8]) -> Result<Option<(Value, &[u8])>, NoMemory>
     requires { kind_at bytes.now ≡ Kind.Text }
-    ensures { IfOk result (λ found. (levels : ℕ) → FindsValue (suc levels) bytes.now (value_found found)) }
+    ensures { IfOk result
+        (λ found. (levels : ℕ) → FindsValue (suc levels) bytes.now (value_found found)) }
 {
     match text(alloc, bytes)? {
         Some((text, rest)) => Ok(Some((Value::Str(text), rest))),
@@ -154,7 +155,8 @@ fn text_before(alloc: Global, bytes: &[u8]) -> Result<Option<(Text, &[u8])>, NoM
 
 /// The texts of a set, up to its closing brace.
 fn texts(alloc: Global, bytes: &[u8]) -> Result<Option<(Vec<Text>, &[u8])>, NoMemory>
-    ensures { IfOk result (λ found. FindsTexts bytes.now (option_map (λ r. (r.0.items, r.1.now)) found)) }
+    ensures { IfOk result
+        (λ found. FindsTexts bytes.now (option_map (λ r. (r.0.items, r.1.now)) found)) }
 {
     let mut texts = Vec::new(alloc);
     let mut rest = bytes;
@@ -190,7 +192,8 @@ fn is_ascending(texts: &[Text]) -> bool
 
 fn names_value(alloc: Global, bytes: &[u8]) -> Result<Option<(Value, &[u8])>, NoMemory>
     requires { kind_at bytes.now ≡ Kind.Names }
-    ensures { IfOk result (λ found. (levels : ℕ) → FindsValue (suc levels) bytes.now (value_found found)) }
+    ensures { IfOk result
+        (λ found. (levels : ℕ) → FindsValue (suc levels) bytes.now (value_found found)) }
 {
     let Some(inner) = after(bytes, b"{") else {
         return Ok(None);
@@ -281,7 +284,8 @@ fn some_value(alloc: Global, bytes: &[u8], levels: u32) -> Result<Option<(Value,
 /// The row at the front. No digit stands behind it, but a comma or the closing bracket.
 #[cycle(value)]
 fn row(alloc: Global, bytes: &[u8], levels: u32) -> Result<Option<(Text, Value, &[u8])>, NoMemory>
-    ensures { IfOk result (λ found. FindsRow levels bytes.now (option_map (λ r. ((r.0, tree_of r.1), r.2.now)) found)) }
+    ensures { IfOk result (λ found.
+        FindsRow levels bytes.now (option_map (λ r. ((r.0, tree_of r.1), r.2.now)) found)) }
 {
     let Some((key, rest)) = text(alloc, bytes)? else {
         return Ok(None);
@@ -350,7 +354,8 @@ fn table_value(alloc: Global, bytes: &[u8], levels: u32) -> Result<Option<(Value
 /// The value whose printed form the bytes are: `None` where they are that of no value. It nests at most
 /// [`VALUE_LEVELS`] deep, itself counted, its texts have at most [`TEXT_LIMIT`] bytes, and its sets and tables ascend.
 pub fn read_value(alloc: Global, bytes: &[u8]) -> Result<Option<Value>, NoMemory>
-    ensures { IfOk result (λ found. IsWholeValue VALUE_LEVELS bytes.now (option_map tree_of found)) }
+    ensures { IfOk result
+        (λ found. IsWholeValue VALUE_LEVELS bytes.now (option_map tree_of found)) }
 {
     match value(alloc, bytes, VALUE_LEVELS)? {
         Some((value, rest)) => {

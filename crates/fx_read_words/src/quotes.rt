@@ -133,7 +133,8 @@ fn next_step(place: Place, byte: u8) -> Step
 
 /// The bytes that are spelled up to the closing mark, and what stands behind it.
 fn scanned(alloc: Global, bytes: &[u8]) -> Result<Option<(Vec<u8>, &[u8])>, NoMemory>
-    ensures { IfOk result (λ read. option_map (λ r. (r.0.items, r.1.now)) read ≡ scan Place.Plain bytes.now) }
+    ensures { IfOk result
+        (λ read. option_map (λ r. (r.0.items, r.1.now)) read ≡ scan Place.Plain bytes.now) }
 {
     let mut text = Vec::new(alloc);
     let mut place = Place::Plain;
@@ -154,7 +155,8 @@ fn scanned(alloc: Global, bytes: &[u8]) -> Result<Option<(Vec<u8>, &[u8])>, NoMe
 /// The bytes between quotation marks at the front, and what stands behind them.
 #[tactic(auto, unfolding(crate::specs::Quotes::unquoted))]
 pub fn unquoted(alloc: Global, bytes: &[u8]) -> Result<Option<(Vec<u8>, &[u8])>, NoMemory>
-    ensures { IfOk result (λ read. option_map (λ r. (r.0.items, r.1.now)) read ≡ unquoted bytes.now) }
+    ensures { IfOk result
+        (λ read. option_map (λ r. (r.0.items, r.1.now)) read ≡ unquoted bytes.now) }
 {
     match bytes.split_first() {
         Some((b'"', rest)) => scanned(alloc, rest),

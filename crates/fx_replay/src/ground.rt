@@ -1,5 +1,5 @@
 //! What a run begins with, from texts.
-use fx_base::NoMemory;
+use fx_base::{NoMemory, SHELL_LIMIT};
 use fx_check::check;
 use fx_folder::load;
 use fx_outside::{HostKind, HostText, MemoryHost};
@@ -76,7 +76,7 @@ fn description_of(alloc: Global, text: &str) -> Checked {
 fn plan_of(alloc: Global, texts: &[&str]) -> Result<Plan, ScriptFault> {
     let mut plan = Plan::new(alloc);
     for text in texts {
-        if plan.len() >= 64 {
+        if plan.len() >= SHELL_LIMIT {
             break;
         }
         let script = script_of(alloc, text.as_bytes(), BEFORE)?;

@@ -26,7 +26,8 @@ fn add_field(out: &mut Vec<u8>, words: &[u8], number: u64) -> Result<(), NoMemor
 
 /// Adds a line of words and a number.
 fn add_count_line(out: &mut Vec<u8>, words: &[u8], count: u64) -> Result<(), NoMemory>
-    ensures { OnOk result (out.new.items ≡ out.old.items ++ report.line (report.field words.now count)) }
+    ensures { OnOk result
+        (out.new.items ≡ out.old.items ++ report.line (report.field words.now count)) }
 {
     add_field(out, words, count)?;
     add_bytes(out, b"\n")
@@ -68,7 +69,8 @@ fn add_refusal(out: &mut Vec<u8>, refusal: &Refusal) -> Result<(), NoMemory>
 }
 
 fn add_stop(out: &mut Vec<u8>, command: u32, refusal: &Refusal) -> Result<(), NoMemory>
-    ensures { OnOk result (out.new.items ≡ out.old.items ++ report.end_text (End.Stopped command refusal.now)) }
+    ensures { OnOk result
+        (out.new.items ≡ out.old.items ++ report.end_text (End.Stopped command refusal.now)) }
 {
     add_field(out, b"stopped ", u64::from(command))?;
     add_field(out, b" ", u64::from(refusal.number()))?;
@@ -93,7 +95,8 @@ fn add_entry_line(
     txn: u32,
     end: &End,
 ) -> Result<(), NoMemory>
-    ensures { OnOk result (out.new.items ≡ out.old.items ++ report.entry_line number shell txn end.now) }
+    ensures { OnOk result
+        (out.new.items ≡ out.old.items ++ report.entry_line number shell txn end.now) }
 {
     add_field(out, b"entry ", number)?;
     add_field(out, b" shell ", u64::from(shell))?;
@@ -114,7 +117,8 @@ fn add_print_line(out: &mut Vec<u8>, value: &Value) -> Result<(), NoMemory>
 }
 
 fn add_print_lines(out: &mut Vec<u8>, outputs: &Values) -> Result<(), NoMemory>
-    ensures { OnOk result (out.new.items ≡ out.old.items ++ flat_map report.print_line outputs.now) }
+    ensures { OnOk result
+        (out.new.items ≡ out.old.items ++ flat_map report.print_line outputs.now) }
 {
     for i in 0..outputs.len() {
         if let Some(value) = outputs.at(i) {
@@ -134,14 +138,16 @@ fn add_entry(out: &mut Vec<u8>, number: u64, entry: &PrintedEntry) -> Result<(),
 
 #[tactic(auto, unfolding(crate::specs::Report::entry_text))]
 fn add_settled(out: &mut Vec<u8>, number: u64, entry: &Entry) -> Result<(), NoMemory>
-    ensures { OnOk result (out.new.items ≡ out.old.items ++ report.entry_text number (whole.printed entry.now)) }
+    ensures { OnOk result
+        (out.new.items ≡ out.old.items ++ report.entry_text number (whole.printed entry.now)) }
 {
     add_entry_line(out, number, entry.shell, entry.txn, &entry.end)?;
     add_print_lines(out, &entry.outputs)
 }
 
 fn add_log(out: &mut Vec<u8>, board: &Board) -> Result<(), NoMemory>
-    ensures { OnOk result (out.new.items ≡ out.old.items ++ report.entries_text 0 (whole.entries_of board.now.base board.now.order)) }
+    ensures { OnOk result (out.new.items ≡ out.old.items
+        ++ report.entries_text 0 (whole.entries_of board.now.base board.now.order)) }
 {
     for i in 0..board.len() {
         if let Some(entry) = board.entry(i) {
@@ -173,7 +179,8 @@ fn add_retry(out: &mut Vec<u8>, retry: &Retry) -> Result<(), NoMemory>
 }
 
 fn add_retries(out: &mut Vec<u8>, retries: &Retries) -> Result<(), NoMemory>
-    ensures { OnOk result (out.new.items ≡ out.old.items ++ flat_map report.retry_line retries.now) }
+    ensures { OnOk result
+        (out.new.items ≡ out.old.items ++ flat_map report.retry_line retries.now) }
 {
     for retry in retries {
         add_retry(out, retry)?;
@@ -183,7 +190,8 @@ fn add_retries(out: &mut Vec<u8>, retries: &Retries) -> Result<(), NoMemory>
 
 /// Adds what a report begins with.
 fn add_head(out: &mut Vec<u8>, entries: u64) -> Result<(), NoMemory>
-    ensures { OnOk result (out.new.items ≡ out.old.items ++ report.line (codes "forest report 1") ++ report.line (report.field (codes "entries ") entries)) }
+    ensures { OnOk result (out.new.items ≡ out.old.items ++ report.line (codes "forest report 1")
+        ++ report.line (report.field (codes "entries ") entries)) }
 {
     add_bytes(out, b"forest report 1\n")?;
     add_count_line(out, b"entries ", entries)
@@ -191,7 +199,8 @@ fn add_head(out: &mut Vec<u8>, entries: u64) -> Result<(), NoMemory>
 
 /// Adds what a report has after its entries.
 fn add_tail(out: &mut Vec<u8>, retries: &Retries) -> Result<(), NoMemory>
-    ensures { OnOk result (out.new.items ≡ out.old.items ++ report.line (report.field (codes "retries ") (length retries.now))
+    ensures { OnOk result (out.new.items ≡ out.old.items
+        ++ report.line (report.field (codes "retries ") (length retries.now))
         ++ flat_map report.retry_line retries.now ++ report.line (codes "end")) }
 {
     add_count_line(out, b"retries ", retries.len() as u64)?;
@@ -228,7 +237,8 @@ pub fn report(alloc: Global, board: &Board, retries: &Retries) -> Result<LongTex
 }
 
 fn add_look(out: &mut Vec<u8>, shell: u32, path: &Path, position: u64) -> Result<(), NoMemory>
-    ensures { OnOk result (out.new.items ≡ out.old.items ++ told.look_line shell path.now position) }
+    ensures { OnOk result
+        (out.new.items ≡ out.old.items ++ told.look_line shell path.now position) }
 {
     add_field(out, b"look ", u64::from(shell))?;
     add_bytes(out, b" ")?;
@@ -248,7 +258,8 @@ fn add_settling(out: &mut Vec<u8>, shell: u32, entry: u64) -> Result<(), NoMemor
 }
 
 fn add_conflict(out: &mut Vec<u8>, shell: u32, entry: u64, path: &Path) -> Result<(), NoMemory>
-    ensures { OnOk result (out.new.items ≡ out.old.items ++ told.conflict_line shell entry path.now) }
+    ensures { OnOk result
+        (out.new.items ≡ out.old.items ++ told.conflict_line shell entry path.now) }
 {
     add_field(out, b"conflict ", u64::from(shell))?;
     add_field(out, b" ", entry)?;

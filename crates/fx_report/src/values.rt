@@ -37,7 +37,8 @@ fn add_comma(out: &mut Vec<u8>, i: u64) -> Result<(), NoMemory>
 }
 
 fn add_name(out: &mut Vec<u8>, i: u64, name: &Text) -> Result<(), NoMemory>
-    ensures { OnOk result (out.new.items ≡ out.old.items ++ ((if i == 0 then [] else comma) ++ quote name.now)) }
+    ensures { OnOk result
+        (out.new.items ≡ out.old.items ++ ((if i == 0 then [] else comma) ++ quote name.now)) }
 {
     add_comma(out, i)?;
     add_quote(out, name.as_slice())
@@ -98,7 +99,8 @@ pub(crate) fn add_value(out: &mut Vec<u8>, value: &Value) -> Result<(), NoMemory
 fn add_rows(out: &mut Vec<u8>, keys: &TextSet, values: &[Value]) -> Result<(), NoMemory>
     requires { length values.now ≡ length keys.now }
     ensures { OnOk result
-        (out.new.items ≡ out.old.items ++ join_by row_text comma (zip keys.now (map tree_of values.now))) }
+        (out.new.items ≡ out.old.items
+        ++ join_by row_text comma (zip keys.now (map tree_of values.now))) }
 {
     for (i, value) in values.iter().enumerate() {
         if let Some(key) = keys.at(i as u64) {
@@ -112,7 +114,8 @@ fn add_rows(out: &mut Vec<u8>, keys: &TextSet, values: &[Value]) -> Result<(), N
 fn add_row(out: &mut Vec<u8>, i: u64, key: &Text, value: &Value) -> Result<(), NoMemory>
     ensures { OnOk result
         (out.new.items
-        ≡ out.old.items ++ ((if i == 0 then [] else comma) ++ row_text (key.now, tree_of value.now))) }
+        ≡ out.old.items ++
+        ((if i == 0 then [] else comma) ++ row_text (key.now, tree_of value.now))) }
 {
     add_name(out, i, key)?;
     add_bytes(out, b" = ")?;

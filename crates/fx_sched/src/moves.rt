@@ -61,8 +61,11 @@ fn settle(alloc: Global, board: &mut Board, attempt: Attempt) -> Result<(Shell, 
     requires next { attempt.txn ≡ next_number board.old.order attempt.shell }
     requires reads { AreTrueReads board.old.base board.old.order attempt.reads }
     requires room { attempt.txn + 1 < 2 ^ 32 }
-    ensures ok { IfOk result (λ r. Moved board.old board.new attempt.shell (record { reads = attempt.reads; next = attempt.txn }) r.1 r.0) }
-    ensures err { IfErr result (λ s. (s ≡ record { reads = attempt.reads; next = attempt.txn }) × (board.new ≡ board.old)) }
+    ensures ok { IfOk result
+        (λ r. Moved board.old board.new attempt.shell
+        (record { reads = attempt.reads; next = attempt.txn }) r.1 r.0) }
+    ensures err { IfErr result (λ s. (s ≡ record { reads = attempt.reads; next = attempt.txn })
+        × (board.new ≡ board.old)) }
 {
     let shell = attempt.shell;
     let next = attempt.txn;

@@ -84,7 +84,9 @@ pub(crate) fn take_rounds(alloc: Global, recording: &mut Recording) -> Result<()
 /// Each shell has one turn.
 fn take_round(alloc: Global, recording: &mut Recording) -> Result<(), NoMemory>
     requires { IsRecording recording.old }
-    ensures { IfOk result (λ _. HadTurns recording.old (first_numbers (length recording.old.world.base.plan)) recording.new) }
+    ensures { IfOk result
+        (λ _. HadTurns recording.old
+        (first_numbers (length recording.old.world.base.plan)) recording.new) }
 {
     for shell in 0..recording.world.count() {
         take_turn(alloc, recording, shell)?;

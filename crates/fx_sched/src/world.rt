@@ -106,7 +106,8 @@ impl World {
     /// Whether some shell has a transaction left.
     pub(crate) fn has_left(&self) -> bool
         ensures some { result ≡ true → SomeLeft self.now }
-        ensures none { result ≡ false → (k : ℕ) → has_left self.now.base self.now.machine k ≡ false }
+        ensures none { result ≡ false → (k : ℕ)
+            → has_left self.now.base self.now.machine k ≡ false }
     {
         for shell in 0..self.count() {
             if self.is_left(shell) {
@@ -122,7 +123,8 @@ impl World {
         requires { shell < length self.old.base.plan }
         ensures event { IfOk result (Stepped self.old shell self.new) }
         ensures lower { IfOk result (λ event. IfSome event
-            (λ _. IsLower (measure self.new.base self.new.machine) (measure self.old.base self.old.machine))) }
+            (λ _. IsLower (measure self.new.base self.new.machine)
+            (measure self.old.base self.old.machine))) }
         ensures err { OnErr result (self.new ≡ self.old) }
     {
         step_shell(alloc, &self.base, &mut self.board, &mut self.shells, shell)
@@ -153,9 +155,11 @@ fn step_shell(
     requires world { IsWorldOver base.now.value board.old shells.old }
     requires shell { shell < length board.old.base.plan }
     ensures world { IsWorldOver base.now.value board.new shells.new }
-    ensures event { IfOk result (Stepped (running_of board.old shells.old) shell (running_of board.new shells.new)) }
+    ensures event { IfOk result
+        (Stepped (running_of board.old shells.old) shell (running_of board.new shells.new)) }
     ensures lower { IfOk result (λ event. IfSome event
-        (λ _. IsLower (measure board.new.base (machine_of board.new.order shells.new)) (measure board.old.base (machine_of board.old.order shells.old)))) }
+        (λ _. IsLower (measure board.new.base (machine_of board.new.order shells.new))
+        (measure board.old.base (machine_of board.old.order shells.old)))) }
     ensures err { OnErr result (running_of board.new shells.new ≡ running_of board.old shells.old) }
 {
     let count = base.plan.count(shell);

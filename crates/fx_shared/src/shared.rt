@@ -1,5 +1,6 @@
 ghost use Rattle.std.specs.Prelude.{◌≡◌, ◌<◌, ◌+◌, None, Some, IfOk, IfErr, OnErr, All};
 ghost use Rattle.std.specs.Result.{result_map_both};
+ghost use Rattle.fx_base.specs.Limits.{shell_limit};
 ghost use Rattle.fx_turn.specs.Histories.{Begins};
 ghost use Rattle.fx_turn.specs.Views.{maker_of, parted, newcomer, joining, joins};
 ghost use Rattle.fx_turn.specs.Seats.{view};
@@ -49,7 +50,7 @@ impl Shared {
     pub fn pass(&self, maker: &mut Pass) -> Pass
         requires pass { IsPassOf self.now maker.old }
         requires maker { (view maker.old).number ≡ None }
-        requires room { (view maker.old).splits < 64 }
+        requires room { (view maker.old).splits < shell_limit }
         ensures pass { IsPassOf self.now maker.new × IsPassOf self.now result }
         ensures maker { view maker.new ≡ parted (view maker.old) }
         ensures new { view result ≡ newcomer (view maker.old) }

@@ -48,7 +48,8 @@ fn value_at<L: Ledger>(
 
 /// The value of a root description on a filestore; `None` where it has none.
 fn value_of(alloc: Global, spec: &Checked, store: &Filestore) -> Result<Option<Value>, NoMemory>
-    ensures { IfOk result (λ value. root_value (get store.now.nodes) spec.now ≡ option_map tree_of value) }
+    ensures { IfOk result
+        (λ value. root_value (get store.now.nodes) spec.now ≡ option_map tree_of value) }
 {
     let mut reader = Whole::new(alloc, store);
     let overlay = Overlay::new(alloc);

@@ -92,7 +92,8 @@ impl Changes {
 
     /// Whether a path is greater than that of each of these, so that a change of it may be added.
     pub fn is_next(&self, path: &Path) -> bool
-        ensures { IsTrue result ↔ IsStrictlySortedBy path_cmp (changed_paths self.now ++ path.now ∷ []) }
+        ensures { IsTrue result
+            ↔ IsStrictlySortedBy path_cmp (changed_paths self.now ++ path.now ∷ []) }
     {
         match self.changes.last() {
             Some(last) => last.path.compare(path).is_lt(),

@@ -128,7 +128,8 @@ fn make_places(
     ensures places { OnOk result (HavePlaces (keys table.new) changes.now) }
     ensures nodes { nodes_of table.new.entries ≡ nodes_of table.old.entries }
     ensures kept { KeepsPlaces (keys table.old) (keys table.new) }
-    ensures unique { IsUnique (eq_by_cmp path_cmp) table.old → IsUnique (eq_by_cmp path_cmp) table.new }
+    ensures unique { IsUnique (eq_by_cmp path_cmp) table.old
+        → IsUnique (eq_by_cmp path_cmp) table.new }
 {
     for change in changes {
         make_place(alloc, table, change)?;
@@ -142,10 +143,12 @@ fn make_place(
     table: &mut IndexMap<Path, Option<Node>>,
     change: &Change,
 ) -> Result<(), NoMemory>
-    ensures place { OnOk result (IsSome change.now.node → IsTrue (has_path (keys table.new) change.now.path)) }
+    ensures place { OnOk result
+        (IsSome change.now.node → IsTrue (has_path (keys table.new) change.now.path)) }
     ensures nodes { nodes_of table.new.entries ≡ nodes_of table.old.entries }
     ensures kept { KeepsPlaces (keys table.old) (keys table.new) }
-    ensures unique { IsUnique (eq_by_cmp path_cmp) table.old → IsUnique (eq_by_cmp path_cmp) table.new }
+    ensures unique { IsUnique (eq_by_cmp path_cmp) table.old
+        → IsUnique (eq_by_cmp path_cmp) table.new }
 {
     if change.node.is_none() {
         return Ok(());
@@ -160,7 +163,8 @@ fn make_place(
 
 fn put_all(table: &mut IndexMap<Path, Option<Node>>, changes: Vec<Change>)
     requires { HavePlaces (keys table.old) changes.items }
-    ensures nodes { nodes_of table.new.entries ≡ over_nodes (nodes_of table.old.entries) changes.items }
+    ensures nodes { nodes_of table.new.entries
+        ≡ over_nodes (nodes_of table.old.entries) changes.items }
     ensures places { keys table.new ≡ keys table.old }
 {
     for change in changes {
@@ -171,7 +175,8 @@ fn put_all(table: &mut IndexMap<Path, Option<Node>>, changes: Vec<Change>)
 /// Sets what stands at a path. Where it has no place, nothing stands there before and after.
 fn put(table: &mut IndexMap<Path, Option<Node>>, change: Change)
     requires { IsSome change.node → IsTrue (has_path (keys table.old) change.path) }
-    ensures nodes { nodes_of table.new.entries ≡ set_node (nodes_of table.old.entries) change.path change.node }
+    ensures nodes { nodes_of table.new.entries
+        ≡ set_node (nodes_of table.old.entries) change.path change.node }
     ensures places { keys table.new ≡ keys table.old }
 {
     let Change { path, node } = change;

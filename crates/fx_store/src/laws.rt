@@ -14,7 +14,8 @@ pub fn a_rule_depends_on_what_it_asked<T>()
 /// A rule that is followed over what is known of some paths finds what it answers at each filestore that agrees with that;
 /// or it needs the first path that it consults there and of which nothing is known.
 pub fn following_a_rule_finds_its_answer<T>()
-    ensures { (known own : Known) (rule : Ask T) (S : Store) → AgreesWith known S → FollowedAt known own rule S (follow known own rule) }
+    ensures { (known own : Known) (rule : Ask T) (S : Store) → AgreesWith known S
+        → FollowedAt known own rule S (follow known own rule) }
 {}
 
 /// A path lands where the rules of resolution, taken one by one, lead from the root.

@@ -22,7 +22,8 @@ fn add(out: &mut Vec<u8>, words: &[u8], digits: &str) -> Result<(), NoMemory>
 /// Adds the lines of the transactions.
 fn add_transactions(out: &mut Vec<u8>, transactions: u64, done: u64) -> Result<(), NoMemory>
     ensures { OnOk result (out.new.items
-        ≡ out.old.items ++ codes "transactions " ++ decimal transactions ++ codes "\ndone " ++ decimal done) }
+        ≡ out.old.items ++ codes "transactions " ++ decimal transactions
+        ++ codes "\ndone " ++ decimal done) }
 {
     let alloc = *out.allocator();
     add(out, b"transactions ", &transactions.to_string(alloc)?)?;

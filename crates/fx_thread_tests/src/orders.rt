@@ -119,8 +119,8 @@ const NEIGHBOURS: Play = Play {
         "txn { into next into down fetch v : str up next down store((v ++ \"1\")) print(v) } \
          txn { value all : pair(str, pair(str, str)) print(all) }",
         "txn { into next into next down fetch v : str top into down store((v ++ \"2\")) print(v) } \
-         txn { into next into next down fetch v : str print(v) if ((size(v) < 3)) { abort } else { } \
-         store(\"\") }",
+         txn { into next into next down fetch v : str print(v) \
+         if ((size(v) < 3)) { abort } else { } store(\"\") }",
     ],
 };
 
@@ -131,7 +131,8 @@ const LISTERS: Play = Play {
         files: &[("in/list", "a\nb\n"), ("in/a", "1"), ("in/b", "2")],
     },
     scripts: [
-        "txn { into down fetch l : str store((l ++ \"c\\n\")) up next to(\"c\") down store(\"3\") } \
+        "txn { into down fetch l : str store((l ++ \"c\\n\")) \
+         up next to(\"c\") down store(\"3\") } \
          txn { value all : pair(str, table(str)) print(all) }",
         "txn { into next fetch s : names let t = \"\" \
          each n in (s) { to(n) down fetch v : str set t = (t ++ v) store(t) up out } print(t) } \

@@ -1,6 +1,7 @@
 //! Seats of one turn in threads.
 ghost use Rattle.std.specs.Prelude.{◌≡◌, ◌+◌, ◌<◌, ◌≤◌, ℕ, length, None, IfOk, slice_index_or, vec_len};
 ghost use Rattle.std.specs.List.{All};
+ghost use Rattle.fx_base.specs.Limits.{shell_limit};
 ghost use Rattle.fx_turn.specs.Views.{joins};
 ghost use Rattle.fx_turn.specs.Seats.{view, IsSeatOf, IsReady};
 
@@ -134,10 +135,11 @@ fn split_all(
 ) -> Result<Vec<Seat<Ledger>>, AllocError>
     requires turn { IsSeatOf turn.now maker.old }
     requires maker { (view maker.old).number ≡ None }
-    requires room { (view maker.old).splits + count ≤ 64 }
+    requires room { (view maker.old).splits + count ≤ shell_limit }
     ensures turn { IsSeatOf turn.now maker.new × ((view maker.new).number ≡ None) }
     ensures joins { joins (view maker.new) ≡ joins (view maker.old) }
-    ensures seats { IfOk result (λ v. All (IsReady turn.now) v.items × (vec_len v ≡ count) × ((view maker.new).splits ≡ (view maker.old).splits + count)) }
+    ensures seats { IfOk result (λ v. All (IsReady turn.now) v.items × (vec_len v ≡ count)
+        × ((view maker.new).splits ≡ (view maker.old).splits + count)) }
 {
     let mut seats = Vec::new(alloc);
     for _ in 0..count {
@@ -167,7 +169,8 @@ fn append_in_threads<R: Threads + Wait + Sync>(
 ) -> Result<Vec<Seat<Ledger>>, AllocError>
     requires { All (IsReady turn.now) seats.items }
     ensures all { IfOk result (λ v. length v.items ≡ length seats.items) }
-    ensures ready { IfOk result (λ v. (k : ℕ) (d : _) → k < length seats.items → IsReady turn.now (slice_index_or v.items k d)) }
+    ensures ready { IfOk result (λ v. (k : ℕ) (d : _) → k < length seats.items
+        → IsReady turn.now (slice_index_or v.items k d)) }
 {
     thread::map_vec(
         rt,
@@ -188,7 +191,8 @@ fn hold_up_in_threads<R: Threads + Wait + Sync>(
 ) -> Result<Vec<Seat<Ledger>>, AllocError>
     requires { All (IsReady turn.now) seats.items }
     ensures all { IfOk result (λ v. length v.items ≡ length seats.items) }
-    ensures ready { IfOk result (λ v. (k : ℕ) (d : _) → k < length seats.items → IsReady turn.now (slice_index_or v.items k d)) }
+    ensures ready { IfOk result (λ v. (k : ℕ) (d : _) → k < length seats.items
+        → IsReady turn.now (slice_index_or v.items k d)) }
 {
     thread::map_vec(
         rt,
@@ -226,7 +230,7 @@ fn crowd<R: Threads + Wait + Sync>(
     count: u64,
     turns: u32,
 ) -> Result<Ledger, AllocError>
-    requires { count ≤ 64 }
+    requires { count ≤ shell_limit }
 {
     let ledger = Ledger {
         name: 7,

@@ -89,7 +89,8 @@ fn read_script_at<H: Host>(
     ensures shaped { IfOk result IsScript }
     ensures same { ReadsOnly (H.view host.old) (H.view host.new) }
     ensures fit { AsksFit path.now (H.view host.old) (H.view host.new) }
-    ensures unread { IfErr result (ScriptCause path.now before (H.view host.old) (H.view host.new)) }
+    ensures unread { IfErr result
+        (ScriptCause path.now before (H.view host.old) (H.view host.new)) }
 {
     let text = read_text(alloc, host, path)?;
     let script = script_of(alloc, &text, before)?;
@@ -104,7 +105,8 @@ pub fn read_plan<H: Host>(alloc: Global, job: &RunJob, host: &mut H) -> Result<P
     ensures count { IfOk result (λ plan. length plan ≡ length (asked job.now).scripts) }
     ensures same { ReadsOnly (H.view host.old) (H.view host.new) }
     ensures fit { AsksAllFit (asked job.now).scripts (H.view host.old) (H.view host.new) }
-    ensures unread { IfErr result (UnreadCause (asked job.now) (H.view host.old) (H.view host.new)) }
+    ensures unread { IfErr result
+        (UnreadCause (asked job.now) (H.view host.old) (H.view host.new)) }
 {
     let mut plan = Plan::new(alloc);
     let mut before = 0;

@@ -4,6 +4,7 @@ use Rattle.std.specs.List.{All, sum_by}
 use mathlib.Core.Option.{Option as Maybe, none, some}
 use lib.ListN.{get_elem?}
 use Rattle.atomic_table.specs.Table.{State}
+use Rattle.fx_base.specs.Limits.{shell_limit}
 use Rattle.fx_turn.specs.declared.view.View.{View}
 use Rattle.fx_turn.specs.Histories.{Begins, count, own}
 use Rattle.fx_turn.specs.Views.{IsNumbered}
@@ -66,6 +67,6 @@ pub record Ordered {K O I : Type 0} (base : K → O) (history : K → List I) (s
   pub away : held ≡ 1 → (home ≡ none) × ((v : View O I) × (get_elem? s.views holder ≡ some v) × (v.live ≡ true) × (v.in_turn ≡ true))
   pub each : (id : ℕ) (v : View O I) → get_elem? s.views id ≡ some v → v.live ≡ true → Knows shell origin log held holder splits joined place id v
   pub unmade : (n : ℕ) → splits ≤ n → count shell n log ≡ 0
-  pub few : splits ≤ 64
+  pub few : splits ≤ shell_limit
   pub counts : sum_by weight s.views + length joined ≡ splits
   pub ended : All (λ (j : ℕ × ℕ). (j.0 < splits) × (count shell j.0 log ≡ j.1)) joined

@@ -2,6 +2,7 @@
 ghost use Rattle.std.specs.Prelude.{◌≡◌, ◌<◌, [], ◌∷◌, true, None, Some, IfOk, IfErr, MatchOption, All};
 ghost use Rattle.std.specs.Slots.{IsFull, slots_items, slots_len};
 ghost use Rattle.atomic_table.specs.Table.{Final, Seen};
+ghost use Rattle.fx_base.specs.Limits.{shell_limit};
 ghost use Rattle.fx_turn.specs.Histories.{Begins, own, count};
 ghost use Rattle.fx_turn.specs.Views.{maker_of, parted, newcomer, taking, giving, joining, joins};
 ghost use Rattle.fx_turn.specs.Plays.{Fits};
@@ -28,7 +29,8 @@ fn unwrapped<K: Kept>(mut slots: Vec<Option<K>>) -> K
 /// The table with the value at home, and the maker's place.
 pub(crate) fn open<K: Kept>(alloc: Global, kept: K) -> Result<(Board<K>, Place<K>), (K, NoMemory)>
     requires { K.history kept ≡ [] }
-    ensures ok { IfOk result (λ t. (t.0.shared.table_id.words ≡ 2) × (t.0.shared.table_id.slots ≡ 1) × (t.1.table_id ≡ t.0.shared.table_id) × (t.1.me ≡ (maker_of (K.base kept), []))) }
+    ensures ok { IfOk result (λ t. (t.0.shared.table_id.words ≡ 2) × (t.0.shared.table_id.slots ≡ 1)
+        × (t.1.table_id ≡ t.0.shared.table_id) × (t.1.me ≡ (maker_of (K.base kept), []))) }
     ensures err { IfErr result (λ e. e.0 ≡ kept) }
 {
     let about = Snapshot::of(&kept);
@@ -46,9 +48,11 @@ pub(crate) fn open<K: Kept>(alloc: Global, kept: K) -> Result<(Board<K>, Place<K
 pub(crate) fn part<K: Kept>(top: &Top<K>, maker: &mut Place<K>) -> Place<K>
     requires table { IsPlaceOf top.now.table_id maker.old }
     requires maker { (maker.old.me.0.live ≡ true) × (maker.old.me.0.number ≡ None) }
-    requires room { maker.old.me.0.splits < 64 }
-    ensures maker { IsSamePlace maker.old maker.new × (maker.new.me ≡ (parted maker.old.me.0, maker.old.me.1)) }
-    ensures new { (result.table_id ≡ maker.old.table_id) × (result.me ≡ (newcomer maker.old.me.0, [])) }
+    requires room { maker.old.me.0.splits < shell_limit }
+    ensures maker { IsSamePlace maker.old maker.new
+        × (maker.new.me ≡ (parted maker.old.me.0, maker.old.me.1)) }
+    ensures new { (result.table_id ≡ maker.old.table_id)
+        × (result.me ≡ (newcomer maker.old.me.0, [])) }
     ensures none { own K.shell result.me.0.number result.me.0.seen ≡ 0 }
 {
     let mut place = top.split_seat::<Part>(maker);
@@ -61,7 +65,9 @@ fn try_hold<K: Kept>(top: &Top<K>, place: &mut Place<K>) -> Option<K>
     requires table { IsPlaceOf top.now.table_id place.old }
     requires idle { IsIdle place.old.me }
     ensures same { IsSamePlace place.old place.new }
-    ensures taken { MatchOption result (place.new.me ≡ place.old.me) (λ k. (place.new.me ≡ (taking place.old.me.0 (K.history k), (0, None) ∷ [])) × Fits K.base K.history K.shell place.old.me.0 k) }
+    ensures taken { MatchOption result (place.new.me ≡ place.old.me)
+        (λ k. (place.new.me ≡ (taking place.old.me.0 (K.history k), (0, None) ∷ []))
+        × Fits K.base K.history K.shell place.old.me.0 k) }
 {
     if top.compare_exchange::<Try<K>>(place, 0, 0, 1) == 0 {
         Some(top.exchange(place, 0, None).unwrap())
@@ -111,7 +117,8 @@ pub(crate) fn take_in<K: Kept>(top: &Top<K>, maker: &mut Place<K>, place: Place<
     requires idle { IsIdle place.me }
     ensures same { IsSamePlace maker.old maker.new }
     ensures joined { maker.new.me ≡ (joining maker.old.me.0 place.me.0, maker.old.me.1) }
-    ensures seen { Begins maker.old.me.0.seen maker.new.me.0.seen × Begins place.me.0.seen maker.new.me.0.seen }
+    ensures seen { Begins maker.old.me.0.seen maker.new.me.0.seen
+        × Begins place.me.0.seen maker.new.me.0.seen }
 {
     top.join_seat::<Note>(maker, place);
     top.load::<Learn<K>>(maker, 0);
@@ -122,7 +129,8 @@ fn end<K: Kept>(board: Board<K>, maker: Place<K>) -> Closed<Option<K>, Global>
     requires { IsPlaceOf board.shared.table_id maker }
     ensures words { IsFull result.words }
     ensures slots { IsFull result.slots × (slots_len result.slots ≡ 1) }
-    ensures last { Final (Seen (Ordered K.base K.history K.shell) maker.id maker.me.0) (slots_items result.words) (slots_items result.slots) }
+    ensures last { Final (Seen (Ordered K.base K.history K.shell) maker.id maker.me.0)
+        (slots_items result.words) (slots_items result.slots) }
 {
     board.close_with(maker)
 }

@@ -21,6 +21,7 @@ pub struct Turn<K: Kept> {
 
 impl<K: Kept> Turn<K> {
     ghost use Rattle.std.specs.Prelude.{◌≡◌, ◌<◌, [], true, false, None, Some, IfOk, IfErr, All};
+    ghost use Rattle.fx_base.specs.Limits.{shell_limit};
     ghost use Rattle.fx_turn.specs.Histories.{Begins, count};
     ghost use Rattle.fx_turn.specs.Views.{maker_of, parted, newcomer, taking, giving, joining, joins, IsNumbered};
     ghost use Rattle.fx_turn.specs.Plays.{Fits};
@@ -46,7 +47,7 @@ impl<K: Kept> Turn<K> {
     pub fn split(&self, maker: &mut Seat<K>) -> Seat<K>
         requires turn { IsSeatOf self.now maker.old }
         requires maker { (view maker.old).number ≡ None }
-        requires room { (view maker.old).splits < 64 }
+        requires room { (view maker.old).splits < shell_limit }
         ensures turn { IsSeatOf self.now maker.new × IsSeatOf self.now result }
         ensures maker { view maker.new ≡ parted (view maker.old) }
         ensures new { view result ≡ newcomer (view maker.old) }
@@ -95,7 +96,8 @@ impl<K: Kept> Turn<K> {
         requires idle { (view seat).in_turn ≡ false }
         ensures turn { IsSeatOf self.now maker.new }
         ensures maker { view maker.new ≡ joining (view maker.old) (view seat) }
-        ensures seen { Begins (view maker.old).seen (view maker.new).seen × Begins (view seat).seen (view maker.new).seen }
+        ensures seen { Begins (view maker.old).seen (view maker.new).seen
+            × Begins (view seat).seen (view maker.new).seen }
     {
         let Seat {
             place,

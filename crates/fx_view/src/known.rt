@@ -22,7 +22,11 @@ impl Known {
 }
 
 impl Reader for Known {
-    ghost meaning = { record { reads = λ k. k.reads; complete = λ _. false; vouches = λ start now reads. reads ≡ start.reads } };
+    ghost meaning = { record {
+      reads = λ k. k.reads;
+      complete = λ _. false;
+      vouches = λ start now reads. reads ≡ start.reads;
+    } };
 
     fn read(&mut self, alloc: Global, path: &Path) -> Result<Option<Node>, Stop> {
         match self.reads.get(path) {

@@ -17,7 +17,8 @@ pub fn look<R: Reader>(
     overlay: &Overlay,
     path: &Path,
 ) -> Result<Option<Node>, Stop>
-    ensures follows { Consults R.meaning (λ n. n) (own_at overlay.now) reader.old reader.new (rule.look path.now) result }
+    ensures follows { Consults R.meaning (λ n. n) (own_at overlay.now) reader.old reader.new
+        (rule.look path.now) result }
 {
     let node = reader.read(alloc, path)?;
     match overlay.get(path) {

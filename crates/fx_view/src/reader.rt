@@ -54,18 +54,22 @@ pub trait Reader {
     /// missing. `Needs` comes only from a reader that is not complete, names the path, and only where it was not read.
     /// After a refusal the reads are as before.
     fn read(&mut self, alloc: Global, path: &Path) -> Result<Option<Node>, Stop>
-        ensures read { IfOk result (IsReadOf (meaning.reads self.old) (meaning.reads self.new) path.now) }
+        ensures read { IfOk result
+            (IsReadOf (meaning.reads self.old) (meaning.reads self.new) path.now) }
         ensures stop { OnErr result (meaning.reads self.new ≡ meaning.reads self.old) }
-        ensures needs { IfErr result (NeedsIt (meaning.complete self.old) (meaning.reads self.old) path.now) }
+        ensures needs { IfErr result
+            (NeedsIt (meaning.complete self.old) (meaning.reads self.old) path.now) }
         ensures complete { meaning.complete self.new ≡ meaning.complete self.old }
-        ensures vouched { (start : Self) → meaning.vouches start self.old (meaning.reads self.old) → meaning.vouches start self.new (meaning.reads self.new) };
+        ensures vouched { (start : Self) → meaning.vouches start self.old (meaning.reads self.old)
+            → meaning.vouches start self.new (meaning.reads self.new) };
 
     /// The reads; the reader then has none.
     fn take_reads(&mut self, alloc: Global) -> Reads
         ensures taken { result ≡ meaning.reads self.old }
         ensures none { meaning.reads self.new ≡ [] }
         ensures complete { meaning.complete self.new ≡ meaning.complete self.old }
-        ensures vouched { (start : Self) → meaning.vouches start self.old (meaning.reads self.old) → meaning.vouches start self.new result };
+        ensures vouched { (start : Self) → meaning.vouches start self.old (meaning.reads self.old)
+            → meaning.vouches start self.new result };
 
     ghost begins: { (reader : Self) → meaning.vouches reader reader (meaning.reads reader) };
 }

@@ -24,7 +24,8 @@ pub fn resolve<R: Reader>(
     path: &Path,
     follow: bool,
 ) -> Result<Landing, Stop>
-    ensures follows { Consults R.meaning (λ l. l) (own_at overlay.now) reader.old reader.new (rule.resolve path.now follow) result }
+    ensures follows { Consults R.meaning (λ l. l) (own_at overlay.now) reader.old reader.new
+        (rule.resolve path.now follow) result }
 {
     let mut walk = start(alloc, path, follow)?;
     loop {
@@ -42,7 +43,8 @@ fn step<R: Reader>(
     overlay: &Overlay,
     walk: &mut Walk,
 ) -> Result<Option<Landing>, Stop>
-    ensures rule { (n : ℕ) → StepsFrom R.meaning (own_at overlay.now) (reader.old, n) (reader.new, n) (rule_of walk.old) walk.new result }
+    ensures rule { (n : ℕ) → StepsFrom R.meaning (own_at overlay.now) (reader.old, n)
+        (reader.new, n) (rule_of walk.old) walk.new result }
     ensures left { IfOk result (λ landing. IfNone landing (left walk.new < left walk.old)) }
 {
     match advance(alloc, walk)? {
@@ -62,7 +64,8 @@ fn look_into<R: Reader>(
     path: Path,
 ) -> Result<Option<Landing>, Stop>
     requires { path ≡ walk.old.here /ₚ name }
-    ensures rule { (n : ℕ) → StepsFrom R.meaning (own_at overlay.now) (reader.old, n) (reader.new, n) (Look path (rule_at walk.old name)) walk.new result }
+    ensures rule { (n : ℕ) → StepsFrom R.meaning (own_at overlay.now) (reader.old, n)
+        (reader.new, n) (Look path (rule_at walk.old name)) walk.new result }
     ensures left { IfOk result (λ landing. IfNone landing (left walk.new ≤ left walk.old)) }
 {
     let node = look(alloc, reader, overlay, &path)?;

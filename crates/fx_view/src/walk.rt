@@ -92,7 +92,8 @@ pub(crate) fn arrive(
     node: Option<Node>,
 ) -> Result<Option<Landing>, NoMemory>
     requires { path ≡ walk.old.here /ₚ name }
-    ensures rule { IfOk result (λ landing. rule_at walk.old name node ≡ rule_after walk.new landing) }
+    ensures rule { IfOk result
+        (λ landing. rule_at walk.old name node ≡ rule_after walk.new landing) }
     ensures left { IfOk result (λ landing. IfNone landing (left walk.new ≤ left walk.old)) }
 {
     match node {
@@ -126,7 +127,8 @@ fn at_link(
     path: Path,
     text: LinkText,
 ) -> Result<Option<Landing>, NoMemory>
-    ensures rule { IfOk result (λ landing. rule_linked walk.old path text ≡ rule_after walk.new landing) }
+    ensures rule { IfOk result
+        (λ landing. rule_linked walk.old path text ≡ rule_after walk.new landing) }
     ensures left { IfOk result (λ landing. IfNone landing (left walk.new ≤ left walk.old)) }
 {
     if !goes_along(walk) {

@@ -32,7 +32,12 @@ impl<'a> Whole<'a> {
 }
 
 impl Reader for Whole<'_> {
-    ghost meaning = { record { reads = λ w. w.reads; complete = λ _. true; vouches = λ start now reads. Agrees start.reads (get start.store.now.nodes) → (now.store.now.nodes ≡ start.store.now.nodes) × Agrees reads (get now.store.now.nodes) } };
+    ghost meaning = { record {
+      reads = λ w. w.reads;
+      complete = λ _. true;
+      vouches = λ start now reads. Agrees start.reads (get start.store.now.nodes) →
+          (now.store.now.nodes ≡ start.store.now.nodes) × Agrees reads (get now.store.now.nodes);
+    } };
 
     fn read(&mut self, alloc: Global, path: &Path) -> Result<Option<Node>, Stop> {
         if let Some((node, _)) = self.reads.get(path) {

@@ -1,6 +1,7 @@
 -- What the program's own commands stand for.
 use Rattle.std.specs.Prelude.{◌≡◌, ℕ, ◌≤◌, true, List, [], drop, length, Option, Some, None, is_some}
 use Rattle.std.specs.Option.{unwrap_or, option_map}
+use Rattle.fx_base.specs.Limits.{shell_limit}
 use Rattle.fx_words.specs.declared.job.Job as every
 use Rattle.fx_words.specs.declared.job.Job.TheVariants as any
 use Rattle.fx_words.specs.declared.job.RunJob as code
@@ -30,7 +31,7 @@ IsScheduleOf count (Some schedule) = is_some (schedule_of count schedule) ≡ tr
 pub record IsJob (j : code.RunJob) : Type 0 where
   pub first : j.first ≡ first_place (asked j).mode
   pub some : 1 ≤ length (scripts_in j)
-  pub few : length (scripts_in j) ≤ 64
+  pub few : length (scripts_in j) ≤ shell_limit
   pub schedule : IsScheduleOf (length (scripts_in j)) (schedule_text j)
 
 abbrev pub asked_show : code_show.ShowJob → ShowJob

@@ -1,6 +1,7 @@
 //! The decimal texts of numbers.
 ghost use Rattle.std.specs.Prelude.{◌≡◌, ◌<◌, ◌≤◌, bytes_eq};
 ghost use Rattle.std.specs.Fmt.{decimal};
+ghost use Rattle.fx_base.specs.Limits.{shell_limit};
 ghost use Rattle.fx_words.specs.Job as job;
 
 use itoa::Buffer;
@@ -20,7 +21,7 @@ fn is_decimal(number: u32, text: &[u8]) -> bool
 
 /// The shell that a text names, of so many shells.
 pub(crate) fn shell_named(count: u32, text: &[u8]) -> Option<u32>
-    requires { count ≤ 64 }
+    requires { count ≤ shell_limit }
     ensures { result ≡ job.shell_named count text.now }
 {
     for k in 0..count {

@@ -1,4 +1,5 @@
 ghost use Rattle.std.specs.Prelude.{◌≡◌, ◌+◌, ◌≤◌, ◌<◌, IfOk, IfSome, Some, None, Err, true, slice_get, option_copied, option_map, length, drop};
+ghost use Rattle.fx_base.specs.Limits.{shell_limit};
 ghost use Rattle.fx_command_line.specs.Forms.{has_form};
 ghost use Rattle.fx_command_line.specs.WordsOf.{texts_of, words_of};
 ghost use Rattle.fx_words.specs.Job as job;
@@ -195,7 +196,7 @@ impl<'a> RunJob<'a> {
         requires { IsJob self.now }
         ensures count { result ≡ length (asked self.now).scripts }
         ensures some { 1 ≤ result }
-        ensures few { result ≤ 64 }
+        ensures few { result ≤ shell_limit }
     {
         (self.words.len() - self.first) as u32
     }

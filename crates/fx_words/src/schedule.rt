@@ -1,6 +1,7 @@
 //! Schedules of shells.
 ghost use Rattle.std.specs.Prelude.{◌≡◌, ◌≤◌, true, Some, IfOk, is_some};
 ghost use Rattle.std.specs.List.{list_all, slice_split};
+ghost use Rattle.fx_base.specs.Limits.{shell_limit};
 ghost use Rattle.fx_words.specs.Job as job;
 ghost use Rattle.fx_words.specs.Job.{is_comma};
 
@@ -15,7 +16,7 @@ fn is_comma(byte: &u8) -> bool
 }
 
 fn names_shell(count: u32, text: &[u8]) -> bool
-    requires { count ≤ 64 }
+    requires { count ≤ shell_limit }
     ensures { result ≡ is_some (job.shell_named count text.now) }
 {
     shell_named(count, text).is_some()
@@ -23,8 +24,9 @@ fn names_shell(count: u32, text: &[u8]) -> bool
 
 /// Whether each part between commas names a shell.
 fn are_shells(count: u32, text: &[u8]) -> bool
-    requires { count ≤ 64 }
-    ensures { result ≡ list_all (λ part. is_some (job.shell_named count part)) (slice_split is_comma text.now) }
+    requires { count ≤ shell_limit }
+    ensures { result ≡ list_all (λ part. is_some (job.shell_named count part))
+        (slice_split is_comma text.now) }
 {
     text.split(|b| is_comma(b))
         .all(|part| names_shell(count, part))
@@ -32,7 +34,7 @@ fn are_shells(count: u32, text: &[u8]) -> bool
 
 /// Whether a text is a schedule of so many shells.
 pub(crate) fn is_schedule(count: u32, text: &[u8]) -> bool
-    requires { count ≤ 64 }
+    requires { count ≤ shell_limit }
     ensures { result ≡ is_some (job.schedule_of count text.now) }
 {
     if text == b"none".as_slice() {
@@ -43,9 +45,11 @@ pub(crate) fn is_schedule(count: u32, text: &[u8]) -> bool
 
 /// The shells that the parts between commas name.
 fn shells_of(alloc: Global, count: u32, text: &[u8]) -> Result<Vec<u32>, NoMemory>
-    requires count { count ≤ 64 }
-    requires shells { list_all (λ part. is_some (job.shell_named count part)) (slice_split is_comma text.now) ≡ true }
-    ensures { IfOk result (λ shells. job.shells_named count (slice_split is_comma text.now) ≡ Some shells.items) }
+    requires count { count ≤ shell_limit }
+    requires shells { list_all (λ part. is_some (job.shell_named count part))
+        (slice_split is_comma text.now) ≡ true }
+    ensures { IfOk result
+        (λ shells. job.shells_named count (slice_split is_comma text.now) ≡ Some shells.items) }
 {
     let mut shells = Vec::new(alloc);
     for part in text.split(|b| is_comma(b)) {
@@ -59,7 +63,7 @@ fn shells_of(alloc: Global, count: u32, text: &[u8]) -> Result<Vec<u32>, NoMemor
 
 /// The shells of a schedule, in order.
 pub(crate) fn read_schedule(alloc: Global, count: u32, text: &[u8]) -> Result<Vec<u32>, NoMemory>
-    requires count { count ≤ 64 }
+    requires count { count ≤ shell_limit }
     requires schedule { is_some (job.schedule_of count text.now) ≡ true }
     ensures { IfOk result (λ shells. job.schedule_of count text.now ≡ Some shells.items) }
 {

@@ -58,7 +58,8 @@ pub(crate) fn work_all<R: Threads + Wait + Sync, G: Gate + Sync>(
         passes,
         &|pass: Pass| -> Result<Worker, NoMemory>
             requires { IsFresh (base_of crew.now) crew.now.shared.now pass }
-            ensures { IfOk result (IsDoneBy (base_of crew.entry.now) crew.entry.now.shared.now pass) }
+            ensures { IfOk result
+                (IsDoneBy (base_of crew.entry.now) crew.entry.now.shared.now pass) }
         { work(crew, pass) },
     )
 }

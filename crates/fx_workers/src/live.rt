@@ -127,5 +127,6 @@ impl<R: Wait, G: Gate> Reader for Live<'_, R, G> {
         taken
     }
 
-    ghost begins = { λ reader. (refl, begins_to_vouch (view reader.pass) reader.reads reader.true_reads) };
+    ghost begins = { λ reader.
+        (refl, begins_to_vouch (view reader.pass) reader.reads reader.true_reads) };
 }

@@ -36,7 +36,8 @@ impl Zip {
         shape: &Shape,
         steps: &mut Steps<L>,
     ) -> Result<Value, Halt>
-        requires fresh { IsFresh (known_of (R.meaning.reads reader.old)) (own_at overlay.now) self.old }
+        requires fresh { IsFresh (known_of (R.meaning.reads reader.old))
+            (own_at overlay.now) self.old }
         ensures asks { Asks R.meaning tree_of (own_at overlay.now) self.old self.new
             (reader.old, steps.old) (reader.new, steps.new)
             (at_place self.old.root self.old.address (fetch_at (shape_tree shape.now)))
@@ -57,7 +58,8 @@ impl Zip {
         shape: &Shape,
         steps: &mut Steps<L>,
     ) -> Result<Value, Halt>
-        requires fresh { IsFresh (known_of (R.meaning.reads reader.old)) (own_at overlay.now) self.old }
+        requires fresh { IsFresh (known_of (R.meaning.reads reader.old))
+            (own_at overlay.now) self.old }
         ensures asks { Asks R.meaning tree_of (own_at overlay.now) self.old self.new
             (reader.old, steps.old) (reader.new, steps.new)
             (at_place self.old.root self.old.address (whole_at (shape_tree shape.now)))
@@ -76,7 +78,8 @@ impl Zip {
         overlay: &Overlay,
         steps: &mut Steps<L>,
     ) -> Result<bool, Halt>
-        requires fresh { IsFresh (known_of (R.meaning.reads reader.old)) (own_at overlay.now) self.old }
+        requires fresh { IsFresh (known_of (R.meaning.reads reader.old))
+            (own_at overlay.now) self.old }
         ensures asks { Asks R.meaning (λ b. Tree.bool b) (own_at overlay.now) self.old self.new
             (reader.old, steps.old) (reader.new, steps.new)
             (at_place self.old.root self.old.address validate_at)
@@ -97,7 +100,8 @@ impl Zip {
         shape: &Shape,
         steps: &mut Steps<L>,
     ) -> Result<Value, Halt>
-        requires stands { Stands (known_of (R.meaning.reads reader.old)) (own_at overlay.now) self.old }
+        requires stands { Stands (known_of (R.meaning.reads reader.old))
+            (own_at overlay.now) self.old }
         ensures same { self.new ≡ self.old }
         ensures follows { Follows R.meaning (answered tree_of) (own_at overlay.now)
             (reader.old, steps.old) (reader.new, steps.new)
@@ -127,7 +131,8 @@ impl Zip {
         shape: &Shape,
         steps: &mut Steps<L>,
     ) -> Result<Value, Halt>
-        requires stands { Stands (known_of (R.meaning.reads reader.old)) (own_at overlay.now) self.old }
+        requires stands { Stands (known_of (R.meaning.reads reader.old))
+            (own_at overlay.now) self.old }
         ensures same { self.new ≡ self.old }
         ensures follows { Follows R.meaning (answered tree_of) (own_at overlay.now)
             (reader.old, steps.old) (reader.new, steps.new)
@@ -156,7 +161,8 @@ impl Zip {
         overlay: &Overlay,
         steps: &mut Steps<L>,
     ) -> Result<bool, Halt>
-        requires stands { Stands (known_of (R.meaning.reads reader.old)) (own_at overlay.now) self.old }
+        requires stands { Stands (known_of (R.meaning.reads reader.old))
+            (own_at overlay.now) self.old }
         ensures same { self.new ≡ self.old }
         ensures follows { Follows R.meaning (answered (λ b. Tree.bool b)) (own_at overlay.now)
             (reader.old, steps.old) (reader.new, steps.new)

@@ -68,7 +68,8 @@ pub(crate) fn inner_path<L: Ledger>(
 ) -> Result<Path, Halt>
     requires { IsWellShaped env.now (expr_tree expr.now) }
     ensures path { Says (answered (λ q. q))
-        (Some (describe.focus_path path.now (eval_of env.now (expr_tree expr.now)))) (split result) }
+        (Some (describe.focus_path path.now (eval_of env.now (expr_tree expr.now))))
+        (split result) }
     ensures tick { steps.new ≡ steps.old + 1 }
 {
     match eval(alloc, expr, env, steps) {

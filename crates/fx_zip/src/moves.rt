@@ -24,11 +24,13 @@ impl Zip {
         overlay: &Overlay,
         steps: &mut Steps<L>,
     ) -> Result<(), Halt>
-        requires fresh { IsFresh (known_of (R.meaning.reads reader.old)) (own_at overlay.now) self.old }
+        requires fresh { IsFresh (known_of (R.meaning.reads reader.old))
+            (own_at overlay.now) self.old }
         ensures moves { Moves R.meaning (own_at overlay.now) self.old self.new
             (reader.old, steps.old) (reader.new, steps.new)
             (from_place self.old.root self.old.address move.go_down)
-            (place_evals self.old (λ at. move.go_down self.old.address at.path at.env at.spec)) result }
+            (place_evals self.old
+            (λ at. move.go_down self.old.address at.path at.env at.spec)) result }
     {
         self.find(alloc, reader, overlay, steps)?;
         let entry = down(alloc, self.path(), self.env(), self.spec(), steps)?;
@@ -44,7 +46,8 @@ impl Zip {
         text: &Text,
         steps: &mut Steps<L>,
     ) -> Result<(), Halt>
-        requires fresh { IsFresh (known_of (R.meaning.reads reader.old)) (own_at overlay.now) self.old }
+        requires fresh { IsFresh (known_of (R.meaning.reads reader.old))
+            (own_at overlay.now) self.old }
         ensures moves { Moves R.meaning (own_at overlay.now) self.old self.new
             (reader.old, steps.old) (reader.new, steps.new)
             (from_place self.old.root self.old.address (move.go_to text.now))
@@ -64,11 +67,13 @@ impl Zip {
         overlay: &Overlay,
         steps: &mut Steps<L>,
     ) -> Result<(), Halt>
-        requires fresh { IsFresh (known_of (R.meaning.reads reader.old)) (own_at overlay.now) self.old }
+        requires fresh { IsFresh (known_of (R.meaning.reads reader.old))
+            (own_at overlay.now) self.old }
         ensures moves { Moves R.meaning (own_at overlay.now) self.old self.new
             (reader.old, steps.old) (reader.new, steps.new)
             (from_place self.old.root self.old.address move.go_into)
-            (place_evals self.old (λ at. move.go_into self.old.address at.path at.env at.spec)) result }
+            (place_evals self.old
+            (λ at. move.go_into self.old.address at.path at.env at.spec)) result }
     {
         self.find(alloc, reader, overlay, steps)?;
         let entry = into(

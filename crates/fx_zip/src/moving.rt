@@ -88,7 +88,8 @@ pub(crate) fn into<R: Reader, L: Ledger>(
     requires described { HasScope env.now (spec_tree spec.now) }
     ensures enters { Enters R.meaning (own_at overlay.now)
         (λ a. move.go_into a path.now env.now (spec_tree spec.now))
-        path.now env.now (spec_tree spec.now) (reader.old, steps.old) (reader.new, steps.new) result }
+        path.now env.now (spec_tree spec.now) (reader.old, steps.old)
+        (reader.new, steps.new) result }
 {
     match comp_of(spec) {
         Some((_, name, set)) => least(alloc, path, env, name, set, steps),
@@ -102,7 +103,8 @@ pub(crate) fn into<R: Reader, L: Ledger>(
 fn first(alloc: Global, path: &Path, spec: &Spec) -> Result<Entry, Halt>
     requires no_comp { IsNoComp (spec_tree spec.now) }
     requires no_option { IsNoOption (spec_tree spec.now) }
-    ensures enters { (env : Bindings) (n : ℕ) → EntersAt (λ a. move.go_into a path.now env (spec_tree spec.now))
+    ensures enters { (env : Bindings) (n : ℕ)
+        → EntersAt (λ a. move.go_into a path.now env (spec_tree spec.now))
         path.now env (spec_tree spec.now) n n result }
 {
     match pair_of(spec) {
@@ -138,7 +140,8 @@ fn inside<R: Reader>(
     overlay: &Overlay,
     path: &Path,
 ) -> Result<Entry, Halt>
-    ensures enters { (env : Bindings) (part : SpecTree) (n : ℕ) → Enters R.meaning (own_at overlay.now)
+    ensures enters { (env : Bindings) (part : SpecTree) (n : ℕ)
+        → Enters R.meaning (own_at overlay.now)
         (λ a. move.go_into a path.now env (SpecTree.opt part))
         path.now env (SpecTree.opt part) (reader.old, n) (reader.new, n) result }
 {

@@ -59,7 +59,8 @@ fn focus_part(spec: &Spec) -> &Spec
 }
 
 fn row_part(spec: &Spec) -> &Spec
-    ensures { (text : List ℕ) → spec_tree result.now ≡ parts.child (place.Elem text) (spec_tree spec.now) }
+    ensures { (text : List ℕ)
+        → spec_tree result.now ≡ parts.child (place.Elem text) (spec_tree spec.now) }
 {
     match comp_of(spec) {
         Some((part, _, _)) => part,
@@ -80,7 +81,8 @@ pub(crate) fn part<'a>(root: &'a Spec, steps: &[Step]) -> &'a Spec
 
 /// The part to which all steps but the last one lead.
 pub(crate) fn part_around<'a>(root: &'a Spec, steps: &[Step]) -> &'a Spec
-    ensures { spec_tree result.now ≡ parts.part (spec_tree root.now) (drop 1 (turned step_tree steps.now)) }
+    ensures { spec_tree result.now
+        ≡ parts.part (spec_tree root.now) (drop 1 (turned step_tree steps.now)) }
 {
     match steps.split_last() {
         Some((_, front)) => part(root, front),

@@ -32,7 +32,8 @@ impl Zip {
         overlay: &Overlay,
         steps: &mut Steps<L>,
     ) -> Result<(), Halt>
-        requires fresh { IsFresh (known_of (R.meaning.reads reader.old)) (own_at overlay.now) self.old }
+        requires fresh { IsFresh (known_of (R.meaning.reads reader.old))
+            (own_at overlay.now) self.old }
         ensures { Finds R.meaning (own_at overlay.now) self.old self.new
             (reader.old, steps.old) (reader.new, steps.new) result }
     {
@@ -52,7 +53,8 @@ impl Zip {
         overlay: &Overlay,
         steps: &mut Steps<L>,
     ) -> Result<Place<'_>, Halt>
-        requires fresh { IsFresh (known_of (R.meaning.reads reader.old)) (own_at overlay.now) self.old }
+        requires fresh { IsFresh (known_of (R.meaning.reads reader.old))
+            (own_at overlay.now) self.old }
         ensures follows { Follows R.meaning (answered place_tree) (own_at overlay.now)
             (reader.old, steps.old) (reader.new, steps.new)
             (place_needed self.old.root self.old.address) (split result) }
@@ -70,7 +72,8 @@ impl Zip {
         overlay: &Overlay,
         steps: &mut Steps<L>,
     ) -> Result<bool, Stop>
-        requires fresh { IsFresh (known_of (R.meaning.reads reader.old)) (own_at overlay.now) self.old }
+        requires fresh { IsFresh (known_of (R.meaning.reads reader.old))
+            (own_at overlay.now) self.old }
         requires unsettled { is_settled self.old ≡ false }
         ensures settles { Settles R.meaning (own_at overlay.now) self.old self.new
             (reader.old, steps.old) (reader.new, steps.new) result }
@@ -92,7 +95,8 @@ impl Zip {
         overlay: &Overlay,
         steps: &mut Steps<L>,
     ) -> Result<Option<Spot>, Stop>
-        requires fresh { IsFresh (known_of (R.meaning.reads reader.old)) (own_at overlay.now) self.old }
+        requires fresh { IsFresh (known_of (R.meaning.reads reader.old))
+            (own_at overlay.now) self.old }
         requires unsettled { is_settled self.old ≡ false }
         ensures same { self.new ≡ self.old }
         ensures leads { LeadsNext R.meaning (own_at overlay.now) self.old

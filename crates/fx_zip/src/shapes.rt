@@ -23,7 +23,8 @@ pub(crate) fn has_fetch_shape(spec: &Spec, shape: &Shape) -> bool
 
 /// Whether the value of a description has the shape.
 pub(crate) fn has_value_shape(spec: &Spec, shape: &Shape) -> bool
-    ensures { result ≡ move.same_shape (move.value_shape (spec_tree spec.now)) (shape_tree shape.now) }
+    ensures { result ≡ move.same_shape (move.value_shape (spec_tree spec.now))
+        (shape_tree shape.now) }
 {
     match spec {
         Spec::File | Spec::Link => is_str(shape),

@@ -39,7 +39,8 @@ impl Zip {
         overlay: &Overlay,
         steps: &mut Steps<L>,
     ) -> Result<(), Halt>
-        requires fresh { IsFresh (known_of (R.meaning.reads reader.old)) (own_at overlay.now) self.old }
+        requires fresh { IsFresh (known_of (R.meaning.reads reader.old))
+            (own_at overlay.now) self.old }
         ensures moves { Moves R.meaning (own_at overlay.now) self.old self.new
             (reader.old, steps.old) (reader.new, steps.new)
             (move.go_next self.old.root self.old.address)
@@ -61,7 +62,8 @@ impl Zip {
         overlay: &Overlay,
         steps: &mut Steps<L>,
     ) -> Result<(), Halt>
-        requires fresh { IsFresh (known_of (R.meaning.reads reader.old)) (own_at overlay.now) self.old }
+        requires fresh { IsFresh (known_of (R.meaning.reads reader.old))
+            (own_at overlay.now) self.old }
         ensures moves { Moves R.meaning (own_at overlay.now) self.old self.new
             (reader.old, steps.old) (reader.new, steps.new)
             (move.go_prev self.old.root self.old.address) (λ S. 0) result }
@@ -84,7 +86,8 @@ impl Zip {
         overlay: &Overlay,
         steps: &mut Steps<L>,
     ) -> Result<(), Halt>
-        requires stands { Stands (known_of (R.meaning.reads reader.old)) (own_at overlay.now) self.old }
+        requires stands { Stands (known_of (R.meaning.reads reader.old))
+            (own_at overlay.now) self.old }
         requires first { last_step self.old.address ≡ Some place.First }
         ensures turns { Turns R.meaning (own_at overlay.now) self.old self.new
             (reader.old, steps.old) (reader.new, steps.new)
@@ -111,7 +114,8 @@ impl Zip {
         overlay: &Overlay,
         steps: &mut Steps<L>,
     ) -> Result<Option<Spot>, Stop>
-        requires stands { Stands (known_of (R.meaning.reads reader.old)) (own_at overlay.now) self.old }
+        requires stands { Stands (known_of (R.meaning.reads reader.old))
+            (own_at overlay.now) self.old }
         requires first { last_step self.old.address ≡ Some place.First }
         ensures same { self.new ≡ self.old }
         ensures leads { FirstLeads R.meaning (own_at overlay.now) self.old
@@ -168,7 +172,8 @@ impl Zip {
     /// From a second part to the first.
     fn to_first(&mut self, alloc: Global) -> Result<(), Halt>
         requires second { last_step self.old.address ≡ Some place.Second }
-        ensures { (known own : Known) → Stands known own self.old → Turned known own self.old self.new
+        ensures { (known own : Known) → Stands known own self.old
+            → Turned known own self.old self.new
             (prev_at self.old.root self.old.address (here self.old)) result }
     {
         let path = self.outer_path().copy(alloc)?;
@@ -183,7 +188,8 @@ impl Zip {
 
     /// From an element to the next greater one.
     fn to_greater(&mut self, alloc: Global) -> Result<(), Halt>
-        ensures { (known own : Known) → Stands known own self.old → Turned known own self.old self.new
+        ensures { (known own : Known) → Stands known own self.old
+            → Turned known own self.old self.new
             (beside self.old.root least_above self.old.address) result }
     {
         let entry = self.greater(alloc)?;
@@ -192,7 +198,8 @@ impl Zip {
 
     /// From an element to the next smaller one.
     fn to_smaller(&mut self, alloc: Global) -> Result<(), Halt>
-        ensures { (known own : Known) → Stands known own self.old → Turned known own self.old self.new
+        ensures { (known own : Known) → Stands known own self.old
+            → Turned known own self.old self.new
             (beside self.old.root greatest_below self.old.address) result }
     {
         let entry = self.smaller(alloc)?;
@@ -223,7 +230,8 @@ impl Zip {
     fn other(&self, alloc: Global, set: &TextSet, choice: Option<&Text>) -> Result<Entry, Halt>
         ensures { MatchOption (comp_name (part self.now.root (drop 1 self.now.address)))
             (Unit {0})
-            (λ x. Chooses (path_of (drop 1 self.now.frames)) x set.now (option_copied choice.entry) result) }
+            (λ x. Chooses (path_of (drop 1 self.now.frames)) x set.now
+            (option_copied choice.entry) result) }
     {
         match comp_of(self.around()) {
             Some((_, name, _)) => chosen(alloc, self.outer_path(), name, set, choice),

@@ -99,7 +99,8 @@ impl Zip {
         ensures root { self.new.root ≡ self.old.root }
         ensures address { answered (λ _. self.new.address) result ≡ go_out self.old.address }
         ensures refused { OnErr result (self.new ≡ self.old) }
-        ensures fresh { (known own : Known) → IsFresh known own self.old → IsFresh known own self.new }
+        ensures fresh { (known own : Known) → IsFresh known own self.old
+            → IsFresh known own self.new }
     {
         match self.last() {
             Some(Step::First) | Some(Step::Second) | Some(Step::Inside) | Some(Step::Elem(_)) => {
@@ -115,7 +116,8 @@ impl Zip {
         ensures root { self.new.root ≡ self.old.root }
         ensures address { answered (λ _. self.new.address) result ≡ go_up self.old.address }
         ensures refused { OnErr result (self.new ≡ self.old) }
-        ensures fresh { (known own : Known) → IsFresh known own self.old → IsFresh known own self.new }
+        ensures fresh { (known own : Known) → IsFresh known own self.old
+            → IsFresh known own self.new }
     {
         match self.last() {
             Some(Step::Down) => {
@@ -336,13 +338,15 @@ fn unbind_last(env: &mut Env, steps: &[Step])
 }
 
 fn as_many(frames: &[Frame], steps: &[Step]) -> bool
-    ensures { result ≡ nat_eq (length (turned (λ f. f) frames.now)) (length (turned step_tree steps.now)) }
+    ensures { result ≡ nat_eq (length (turned (λ f. f) frames.now))
+        (length (turned step_tree steps.now)) }
 {
     frames.len() == steps.len()
 }
 
 fn last_step_of(steps: &[Step]) -> Option<&Step>
-    ensures { option_map (λ step. step_tree step.now) result ≡ last_step (turned step_tree steps.now) }
+    ensures { option_map (λ step. step_tree step.now) result
+        ≡ last_step (turned step_tree steps.now) }
 {
     match steps.split_last() {
         Some((step, _)) => Some(step),
