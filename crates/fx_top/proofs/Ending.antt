@@ -29,7 +29,8 @@ use Rattle.fx_show.specs.declared.fault.DescriptionFault.{DescriptionFault}
 use Rattle.fx_show.specs.declared.fault.DescriptionFault.TheVariants as description
 use Rattle.fx_show.proofs.Showing.{refused_whole}
 use Rattle.fx_spec.specs.SpecTree.{SpecTree}
-use Rattle.fx_command.proofs.Told.{err_of, if_err_of, if_some_map, if_some_both, some_and, if_told_same, if_told_map, some_unit, same, grows_front, grows_all, cause_back, told_back, some_back, same_back, left_true, right_true}
+use Rattle.fx_base.proofs.Errors.{err_of, if_err_of}
+use Rattle.fx_command.proofs.Told.{if_some_map, if_some_both, some_and, if_told_same, if_told_map, some_unit, same, grows_front, grows_all, cause_back, told_back, some_back, same_back, left_true, right_true}
 use Rattle.fx_top.specs.Answers.{IsAnswered, UnreadCause}
 use Rattle.fx_top.specs.Inputs.{HasSpec, HasNoSpec, HasSomeSpec, HasTexts, HasInputs, CannotRead, IsFirstRefused}
 use Rattle.fx_top.specs.Outcome.{IsOutcome}
