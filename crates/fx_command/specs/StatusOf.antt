@@ -1,7 +1,7 @@
 -- The status with which a command ends, and those of the faults that end it.
 use Rattle.std.specs.Prelude.{Result, Ok, Err}
-use Rattle.fx_folder.specs.declared.fault.LoadFault.{LoadFault}
-use Rattle.fx_folder.specs.declared.fault.LoadFault.TheVariants as load
+use Rattle.fx_table.specs.declared.fault.LoadFault.{LoadFault}
+use Rattle.fx_table.specs.declared.fault.LoadFault.TheVariants as load
 use Rattle.fx_folder.specs.declared.fault.SaveFault.{SaveFault}
 use Rattle.fx_folder.specs.declared.fault.SaveFault.TheVariants as save
 use Rattle.fx_outside.specs.declared.kind.HostFault.{HostFault}

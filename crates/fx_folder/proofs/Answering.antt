@@ -3,9 +3,9 @@ use Rattle.std.proofs.Common.{◌≡◌, ◌⊎◌, inl, inr, ℕ, Bool, true, f
 use Rattle.fx_store.specs.declared.filestore.Filestore.{Filestore}
 use Rattle.fx_outside.specs.Host.{HostView, HasFailed}
 use Rattle.fx_outside.specs.Tree.{Tree, is_folder_at}
-use Rattle.fx_folder.specs.declared.fault.FolderCause.{FolderCause}
-use Rattle.fx_folder.specs.declared.fault.LoadFault.{LoadFault}
-use Rattle.fx_folder.specs.declared.fault.LoadFault.TheVariants.{Refused, ReadFault, NoMemory}
+use Rattle.fx_table.specs.declared.fault.FolderCause.{FolderCause}
+use Rattle.fx_table.specs.declared.fault.LoadFault.{LoadFault}
+use Rattle.fx_table.specs.declared.fault.LoadFault.TheVariants.{Refused, ReadFault, NoMemory}
 use Rattle.fx_folder.specs.Loads.{loads, Loads, IsRefused, LoadCause, AnswersAs}
 
 no_fault : {A : Type 0} (s : A) → (◌≡◌ {A = Result A LoadFault} (Ok s) (Err ReadFault)) ⊎ (◌≡◌ {A = Result A LoadFault} (Ok s) (Err NoMemory)) → ⊥

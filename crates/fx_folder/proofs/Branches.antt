@@ -19,16 +19,13 @@ use Rattle.fx_outside.specs.Tree.{Tree, Entry, IsWhole, Lists}
 use Rattle.fx_outside.proofs.Sorted.{both, first, second, is_less, less_test}
 use Rattle.fx_outside.proofs.Trees.{name_total, name_same, parts_total, parts_same, true_test}
 use Rattle.fx_folder.specs.declared.walking.Item.{Item}
-use Rattle.fx_folder.specs.Folder.{rest_of}
+use Rattle.fx_table.specs.Places.{rest_of}
 use Rattle.fx_folder.specs.Deep.{Held, inside, held_below, all_below, walked, is_table}
 use Rattle.fx_folder.specs.Walks.{item, items_of, item_path, in_table, bytes_in, held_of, behind, branch, ahead, IsThere, AreThere}
-use Rattle.fx_folder.proofs.Filled.{rest_append, rest_is, none_below, none_in}
+use Rattle.fx_folder.proofs.Filled.{none_below, none_in}
+use Rattle.fx_table.proofs.Rests.{same_front, rest_append, rest_is}
 
 -- ---- what stands below a folder is sorted, and found by its names
-
-pub same_front : (P a b : Parts) → parts_cmp (P ++ a) (P ++ b) ≡ parts_cmp a b
-same_front [] a b = refl
-same_front (x ∷ P) a b = ap (λ r. ordering_then r (parts_cmp (P ++ a) (P ++ b))) (tied_itself name_total x) ∙ same_front P a b
 
 abbrev below_as : Option Parts → Entry → Option Held
 below_as o e = option_map (λ names. (names, e)) (option_and_then inside o)

@@ -16,10 +16,11 @@ use Rattle.fx_store.specs.declared.node.Node.TheVariants.{File, Dir, Link}
 use Rattle.fx_store.specs.Names.{path_cmp}
 use Rattle.fx_store.specs.Orders.{path_eq_same}
 use Rattle.fx_folder.specs.Places.{host_entry}
-use Rattle.fx_folder.specs.Table.{TableLink, link_at}
-use Rattle.fx_folder.specs.Deep.{Held, Mapped, all_bytes}
+use Rattle.fx_table.specs.Table.{TableLink, link_at}
+use Rattle.fx_folder.specs.Deep.{Held, all_bytes}
+use Rattle.fx_table.specs.Listed.{Mapped}
 use Rattle.fx_folder.specs.LoadLaws.{size_of, sizes_of}
-use Rattle.fx_folder.proofs.Shapes.{found}
+use Rattle.fx_table.proofs.Shapes.{found}
 
 abbrev Paths : Type 0
 Paths = List (List ℕ)

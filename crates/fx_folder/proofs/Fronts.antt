@@ -17,17 +17,18 @@ use Rattle.fx_store.specs.Names.{name_cmp, path_cmp, is_name, IsName}
 use Rattle.fx_store.specs.Whole.{Nodes, IsWhole, lists}
 use Rattle.fx_outside.specs.Path.{Parts, parts, parts_cmp, above, is_fit}
 use Rattle.fx_outside.specs.Tree as tree
-use Rattle.fx_outside.specs.Tree.{Tree, Entry, file, folder, has_folder, is_folder_kind, is_free, is_free_at}
+use Rattle.fx_outside.specs.Tree.{Tree, Entry, folder, has_folder, is_folder_kind, is_free, is_free_at}
 use Rattle.fx_outside.proofs.Sorted.{both, first, second, is_less, less_test}
 use Rattle.fx_outside.proofs.Trees.{parts_total}
-use Rattle.fx_folder.specs.Places.{host_entry, rest_of}
-use Rattle.fx_folder.specs.Loads.{table_name}
-use Rattle.fx_folder.specs.Table.{links_of}
+use Rattle.fx_folder.specs.Places.{host_entry}
+use Rattle.fx_table.specs.Places.{rest_of, table_name}
+use Rattle.fx_table.specs.Table.{links_of}
 use Rattle.fx_folder.specs.Deep.{folder_entry, is_table_place, table_entry}
 use Rattle.fx_folder.specs.Folder.{IsReady, IsSaved, IsPartOf, IsPartlySaved, IsFrontOf, entry_or, is_written_before}
 use Rattle.fx_folder.specs.Written.{with_folder, MadePart, IsOpen, with_entry, WrotePart, HasEntries, WroteFront}
-use Rattle.fx_folder.proofs.Filled.{same_front, rest_is, parts_is, no_rest, not_at, above_pushed, beside_folder, opens}
-use Rattle.fx_folder.proofs.Descents.{find_append, root_first}
+use Rattle.fx_folder.proofs.Filled.{above_pushed, beside_folder, opens}
+use Rattle.fx_table.proofs.Rests.{same_front, rest_is, parts_is, no_rest, not_at}
+use Rattle.fx_table.proofs.Descents.{find_append, root_first}
 
 abbrev Path : Type 0
 Path = List (List ℕ)

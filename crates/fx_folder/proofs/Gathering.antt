@@ -1,5 +1,5 @@
 -- What was walked, with the links of the table, is what the definition of loading gives.
-use Rattle.std.proofs.Common.{◌≡◌, ◌⊎◌, inl, inr, ℕ, suc, ◌+◌, ◌-◌, ◌<◌, ◌≤◌, Bool, true, false, cond, ◌&&◌, ◌||◌, List, [], ◌∷◌, ◌++◌, map, length, Option, Some, None, Result, Ok, Err, IfOk, IfErr, IfSome, is_some, is_none, option_map, All, refl, sym, ◌∙◌, ap, subst, arith}
+use Rattle.std.proofs.Common.{◌≡◌, ◌⊎◌, inl, inr, ℕ, suc, ◌+◌, ◌-◌, ◌<◌, ◌≤◌, Bool, true, false, cond, ◌&&◌, ◌||◌, List, [], ◌∷◌, ◌++◌, map, length, Option, Some, None, Result, Ok, Err, IfOk, IfErr, IfSome, is_some, option_map, All, refl, sym, ◌∙◌, ap, subst, arith}
 use Rattle.std.specs.Prelude.{nat_lt, unwrap_or}
 use Rattle.std.specs.Option.{option_or, option_map_or}
 use Rattle.std.specs.Ordering.{eq_by_cmp}
@@ -8,7 +8,6 @@ use Rattle.std.specs.List.Sorted.{IsStrictlySortedBy}
 use Rattle.std.specs.Map.{keys_of}
 use Rattle.std.specs.FinMap.{get, find, put, from_entries}
 use Rattle.std.proofs.lemmas.Bool.Decides.{nat_tests}
-use Rattle.std.proofs.lemmas.List.Elements.{All-head, All-tail}
 use Rattle.fx_outside.specs.declared.kind.HostKind.{HostKind}
 use Rattle.fx_outside.specs.declared.kind.HostKind.TheVariants as kind
 use Rattle.fx_outside.specs.Path.{Parts, parts}
@@ -29,30 +28,32 @@ use Rattle.fx_store.specs.Changes.{IsChanges, changed_paths, change_at}
 use Rattle.fx_store.specs.Names.{path_cmp, IsPath}
 use Rattle.fx_store.specs.Orders.{path_eq_same}
 use Rattle.fx_store.specs.Whole.{Store}
-use Rattle.fx_folder.specs.declared.fault.FolderCause.{FolderCause}
-use Rattle.fx_folder.specs.declared.fault.FolderCause.TheVariants.{BadName, Strange, TooLarge, BadTable}
-use Rattle.fx_folder.specs.declared.fault.LoadFault.{LoadFault}
-use Rattle.fx_folder.specs.declared.fault.LoadFault.TheVariants.{Refused, ReadFault, NoMemory}
+use Rattle.fx_table.specs.declared.fault.FolderCause.{FolderCause}
+use Rattle.fx_table.specs.declared.fault.FolderCause.TheVariants.{BadName, Strange, TooLarge, BadTable}
+use Rattle.fx_table.specs.declared.fault.LoadFault.{LoadFault}
+use Rattle.fx_table.specs.declared.fault.LoadFault.TheVariants.{Refused, ReadFault, NoMemory}
 use Rattle.fx_folder.specs.declared.walking.Walked.{Walked}
-use Rattle.fx_folder.specs.Deep.{Held, Mapped, all_below, walked, table_in, all_bytes, first_refused, refused_entry, node_of_kind, unlisted, listed, with_links, place_of, most_in_table, unless_bad, read_links, table_file_links, linked, with_table, unless_refused, loaded, as_nodes}
+use Rattle.fx_folder.specs.Deep.{Held, all_below, walked, table_in, all_bytes, first_refused, refused_entry, node_of_kind, unlisted, most_in_table, unless_bad, read_links, table_file_links, linked, with_table, unless_refused, loaded, as_nodes}
+use Rattle.fx_table.specs.Listed.{Mapped, listed, with_links}
+use Rattle.fx_table.specs.Places.{place_of, table_name}
 use Rattle.fx_folder.specs.Grown.{IsFoundNode, HasDir, IsFound, AreFound}
-use Rattle.fx_folder.specs.Limits.{most_nodes, most_bytes, table_name}
-use Rattle.fx_folder.specs.LoadLaws.{IsOfBytes, AreOfBytes}
-use Rattle.fx_folder.specs.Lines.{link_change, link_in, links_in, standing_by, AreLinks, texts_of, is_over, ReadsAll, LinesCause}
-use Rattle.fx_folder.specs.Mapped.{mapped_of, node_or_dir}
-use Rattle.fx_folder.specs.Merges.{MakeLinks, CanMerge}
+use Rattle.fx_folder.specs.Limits.{most_nodes, most_bytes}
+use Rattle.fx_table.specs.Shaped.{IsOfBytes, AreOfBytes, IsLeaf, IsShaped, change_of, changes_of, AreShaped}
+use Rattle.fx_table.specs.Lines.{links_in, standing_by, AreLinks, texts_of, is_over, ReadsAll, LinesCause}
+use Rattle.fx_table.specs.Mapped.{mapped_of, node_or_dir}
+use Rattle.fx_table.specs.Merges.{MakeLinks, CanMerge}
 use Rattle.fx_folder.specs.RefusalLaws.{exceed_limits, IsLineCause}
-use Rattle.fx_folder.specs.Shaped.{IsLeaf, IsShaped, change_of, changes_of, AreShaped}
-use Rattle.fx_folder.specs.Table.{TableLink, IsTable, is_dir, read_table}
+use Rattle.fx_table.specs.Table.{TableLink, IsTable, read_table}
 use Rattle.fx_folder.specs.Tables.{ReadsWhole, text_of, AnswersText, room_behind, IsJoined, AnswersFound, HasTable, items_in}
 use Rattle.fx_folder.specs.Walks.{found_as, AnswersWalk}
 use Rattle.fx_folder.proofs.Branches.{find_below}
-use Rattle.fx_folder.proofs.Linking.{IsLinked, CanStand, links_made, find_linked}
-use Rattle.fx_folder.proofs.Making.{set_at}
-use Rattle.fx_folder.proofs.Naming.{mapped_changes}
+use Rattle.fx_table.proofs.Linking.{IsLinked, CanStand, links_made, find_linked, apart_from}
+use Rattle.fx_table.proofs.Mixing.{made_links}
+use Rattle.fx_table.proofs.Making.{set_at}
+use Rattle.fx_table.proofs.Naming.{mapped_changes}
 use Rattle.fx_folder.proofs.Refusals.{same_first, fits_all}
-use Rattle.fx_folder.proofs.Shapes.{found}
-use Rattle.fx_folder.proofs.TableLines.{tables_are_read}
+use Rattle.fx_table.proofs.Shapes.{found}
+use Rattle.fx_table.proofs.TableLines.{tables_are_read}
 use Rattle.fx_folder.proofs.TableRefusals.{lines_refused, same_many}
 
 -- ---- what was found has a shape
@@ -156,32 +157,6 @@ module _ (cs : List Change) (are : AreFound cs) where
   is_linked = record { sorted = sorted_test path_cmp es are.ascending; shape = shape; dirs = λ q. refl }
 
 -- ---- links that are a table can be merged
-
-free_of : (o p : Option Node) → (is_dir p && is_none o) ≡ true → o ≡ None
-free_of None p e = refl
-free_of (Some node) p e = absurd (by (is_dir p) e)
-  where
-    by : (b : Bool) → (b && false) ≡ true → ⊥
-    by true e = cc
-    by false e = cc
-
-pub apart_from : (S : Store) (fs : List Mapped) (ls : List TableLink) → ((q : Parts) → S q ≡ found fs q) → All (CanStand S) ls → AllByRecursion (λ (l : TableLink). find path_cmp l.path fs ≡ None) ls
-apart_from S fs [] same all = tt
-apart_from S fs (l ∷ ls) same all = (sym (same l.path) ∙ free_of (S l.path) _ (All-head (CanStand S) l ls all), apart_from S fs ls same (All-tail (CanStand S) l ls all))
-
-pub made_links : (cs : List Change) → cs ≡ map link_change (links_in cs) → MakeLinks cs
-made_links cs is = by cs is
-  where
-    tail_of : List Change → List Change
-    tail_of [] = []
-    tail_of (c ∷ cs) = cs
-
-    head_is : (c d : Change) (cs ds : List Change) → c ∷ cs ≡ d ∷ ds → c ≡ d
-    head_is c d cs ds e = cc
-
-    by : (cs : List Change) → cs ≡ map link_change (links_in cs) → MakeLinks cs
-    by [] is = tt
-    by (c ∷ cs) is = (head_is c (link_change (link_in c)) cs (map link_change (links_in cs)) is, by cs (ap tail_of is))
 
 module _ (cs : List Change) (are : AreFound cs) (links : List Change) (linked : AreLinks (standing_by cs) links) where
   abbrev S : Store

@@ -20,17 +20,16 @@ use Rattle.fx_store.specs.declared.node.Node.TheVariants.{Dir}
 use Rattle.fx_store.specs.declared.changes.Change.{Change}
 use Rattle.fx_store.specs.Names.{path_cmp, IsPath, IsName}
 use Rattle.fx_folder.specs.declared.walking.Item.{Item}
-use Rattle.fx_folder.specs.Places.{rest_of}
-use Rattle.fx_folder.specs.Deep.{Mapped}
-use Rattle.fx_folder.specs.Mapped.{mapped_of, node_or_dir}
-use Rattle.fx_folder.specs.Table.{is_dir}
-use Rattle.fx_folder.specs.declared.fault.LoadFault.{LoadFault}
+use Rattle.fx_table.specs.Places.{rest_of}
+use Rattle.fx_table.specs.Listed.{Mapped}
+use Rattle.fx_table.specs.Mapped.{mapped_of, node_or_dir}
+use Rattle.fx_table.specs.Table.{is_dir}
+use Rattle.fx_table.specs.declared.fault.LoadFault.{LoadFault}
 use Rattle.fx_folder.specs.Walks.{item, item_path, items_of, in_table, root_found, AddsItems}
 use Rattle.fx_outside.specs.Tree.{Tree}
 use Rattle.fx_folder.specs.Grown.{IsFoundNode, HasDir, IsFound, AreFound, paths_ahead, IsGrown, Finds}
-use Rattle.fx_folder.proofs.Branches.{same_front}
-use Rattle.fx_folder.proofs.Filled.{rest_is, parts_is}
-use Rattle.fx_folder.proofs.Shapes.{above_pushed}
+use Rattle.fx_table.proofs.Rests.{same_front, rest_is, parts_is}
+use Rattle.fx_table.proofs.Shapes.{above_pushed}
 use Rattle.fx_folder.proofs.Ways.{root_pushed}
 
 abbrev Less_ : Parts → Parts → Type 0

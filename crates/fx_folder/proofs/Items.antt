@@ -11,8 +11,7 @@ use Rattle.fx_outside.specs.declared.kind.HostKind.{HostKind}
 use Rattle.fx_outside.specs.Path.{Parts}
 use Rattle.fx_store.specs.Names.{is_name, IsName, IsPath}
 use Rattle.fx_folder.specs.declared.walking.Item.{Item}
-use Rattle.fx_folder.specs.Limits.{table_name}
-use Rattle.fx_folder.specs.Deep.{place_of}
+use Rattle.fx_table.specs.Places.{table_name, place_of}
 use Rattle.fx_folder.specs.Walks.{in_table, item, items_of}
 
 reserved : is_name table_name ≡ false

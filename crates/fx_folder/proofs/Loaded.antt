@@ -22,15 +22,18 @@ use Rattle.fx_store.specs.Names.{path_cmp, is_name, IsName, IsPath}
 use Rattle.fx_store.specs.Orders.{path_total, path_eq_same}
 use Rattle.fx_store.specs.Whole.{Store, Nodes}
 use Rattle.fx_store.proofs.Stores.{IsWhole-same}
-use Rattle.fx_folder.specs.declared.fault.FolderCause.{FolderCause}
-use Rattle.fx_folder.specs.declared.fault.FolderCause.TheVariants.{BadTable}
-use Rattle.fx_folder.specs.Loads.{table_name, most_nodes, most_in_file, most_bytes}
-use Rattle.fx_folder.specs.Table.{TableLink, IsLink, is_dir, read_table}
-use Rattle.fx_folder.specs.Deep.{Held, Mapped, all_below, walked, table_in, last_name, refused_kind, refused_bytes, refused_entry, first_refused, node_of_kind, unlisted, with_links, listed, unless_bad, are_too_many, links_before, read_links, table_file_links, table_links, linked, all_bytes, with_table, unless_refused, as_nodes}
-use Rattle.fx_folder.specs.LoadLaws.{IsOfBytes, AreOfBytes, LoadsAreWhole}
-use Rattle.fx_folder.proofs.TableLines.{read_texts_are_tables}
-use Rattle.fx_folder.proofs.Shapes.{found, IsLeaf, listed_whole, above_pushed, find_listed, relisted}
-use Rattle.fx_folder.proofs.Linking.{IsLinked, CanStand, links_made}
+use Rattle.fx_table.specs.declared.fault.FolderCause.{FolderCause}
+use Rattle.fx_table.specs.declared.fault.FolderCause.TheVariants.{BadTable}
+use Rattle.fx_folder.specs.Loads.{most_nodes, most_in_file, most_bytes}
+use Rattle.fx_table.specs.Places.{table_name}
+use Rattle.fx_table.specs.Table.{TableLink, IsLink, is_dir, read_table, links_before}
+use Rattle.fx_folder.specs.Deep.{Held, all_below, walked, table_in, last_name, refused_kind, refused_bytes, refused_entry, first_refused, node_of_kind, unlisted, unless_bad, are_too_many, read_links, table_file_links, table_links, linked, all_bytes, with_table, unless_refused, as_nodes}
+use Rattle.fx_table.specs.Listed.{Mapped, with_links, listed}
+use Rattle.fx_folder.specs.LoadLaws.{LoadsAreWhole}
+use Rattle.fx_table.specs.Shaped.{IsOfBytes, AreOfBytes}
+use Rattle.fx_table.proofs.TableLines.{read_texts_are_tables}
+use Rattle.fx_table.proofs.Shapes.{found, IsLeaf, listed_whole, above_pushed, find_listed, relisted}
+use Rattle.fx_table.proofs.Linking.{IsLinked, CanStand, links_made}
 use Rattle.fx_folder.proofs.Walked.{below_sorted, below_root, find_walked_below}
 
 abbrev Paths : Type 0

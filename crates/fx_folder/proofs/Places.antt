@@ -17,13 +17,14 @@ use Rattle.fx_store.specs.declared.node.Node.TheVariants.{File, Dir}
 use Rattle.fx_store.specs.declared.changes.Change.{Change}
 use Rattle.fx_store.specs.Names.{IsName, IsPath, is_name}
 use Rattle.fx_folder.specs.declared.walking.Item.{Item}
-use Rattle.fx_folder.specs.declared.fault.FolderCause.{FolderCause}
-use Rattle.fx_folder.specs.declared.fault.FolderCause.TheVariants.{Strange, TooLarge}
-use Rattle.fx_folder.specs.declared.fault.LoadFault.{LoadFault}
-use Rattle.fx_folder.specs.declared.fault.LoadFault.TheVariants.{Refused, ReadFault, NoMemory}
+use Rattle.fx_table.specs.declared.fault.FolderCause.{FolderCause}
+use Rattle.fx_table.specs.declared.fault.FolderCause.TheVariants.{Strange, TooLarge}
+use Rattle.fx_table.specs.declared.fault.LoadFault.{LoadFault}
+use Rattle.fx_table.specs.declared.fault.LoadFault.TheVariants.{Refused, ReadFault, NoMemory}
 use Rattle.fx_folder.specs.Limits.{most_nodes, most_in_file}
 use Rattle.fx_folder.specs.Reads.{path_below, place, refused_size, ReadsFile}
-use Rattle.fx_folder.specs.Deep.{all_below, walked, place_of, last_name, refused_kind, refused_bytes, refused_entry, node_of_kind}
+use Rattle.fx_folder.specs.Deep.{all_below, walked, last_name, refused_kind, refused_bytes, refused_entry, node_of_kind}
+use Rattle.fx_table.specs.Places.{place_of}
 use Rattle.fx_folder.specs.Walks.{item_path, items_of, bytes_in, held_of, behind, ahead, IsThere, IsEntered, AnswersEntry, AnswersFile, PassesPath, refused_path, IsNoRefusal, size_of}
 use Rattle.fx_folder.proofs.Texts.{parts_below, fit_below}
 use Rattle.fx_folder.proofs.Below.{folder_fit}

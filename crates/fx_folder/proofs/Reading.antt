@@ -8,7 +8,7 @@ use Rattle.fx_outside.specs.Tree.{Tree, Entry, bytes_at}
 use Rattle.fx_outside.specs.Host.{ReadsAt}
 use Rattle.fx_folder.specs.Limits.{most_in_file}
 use Rattle.fx_folder.specs.Reads.{refused_size, place}
-use Rattle.fx_folder.specs.declared.fault.FolderCause.TheVariants.{TooLarge}
+use Rattle.fx_table.specs.declared.fault.FolderCause.TheVariants.{TooLarge}
 
 -- a call that suits the told tree does not fail for the tree's sake
 pub suited : (told : Option Tree) (suits : Tree → Bool) → IfSome told (λ t. suits t ≡ true) → IsSomeAnd told (λ t. suits t ≡ false) → ⊥

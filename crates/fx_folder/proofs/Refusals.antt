@@ -21,11 +21,12 @@ use Rattle.fx_outside.proofs.Trees.{parts_total, parts_same}
 use Rattle.fx_store.specs.Names.{is_name}
 use Rattle.fx_store.specs.Orders.{path_eq_same}
 use Rattle.fx_store.specs.Whole.{Store}
-use Rattle.fx_folder.specs.declared.fault.FolderCause.{FolderCause}
-use Rattle.fx_folder.specs.declared.fault.FolderCause.TheVariants.{BadName, Strange, TooLarge}
-use Rattle.fx_folder.specs.Loads.{table_name, most_nodes, most_in_file, most_bytes}
-use Rattle.fx_folder.specs.Table.{TableLink}
-use Rattle.fx_folder.specs.Deep.{Held, all_below, table_in, place_of, last_name, all_bytes, refused_kind, refused_bytes, refused_entry, first_refused, unlisted, table_links, linked, unless_refused, as_nodes, deep_loads}
+use Rattle.fx_table.specs.declared.fault.FolderCause.{FolderCause}
+use Rattle.fx_table.specs.declared.fault.FolderCause.TheVariants.{BadName, Strange, TooLarge}
+use Rattle.fx_folder.specs.Loads.{most_nodes, most_in_file, most_bytes}
+use Rattle.fx_table.specs.Places.{table_name, place_of}
+use Rattle.fx_table.specs.Table.{TableLink}
+use Rattle.fx_folder.specs.Deep.{Held, all_below, table_in, last_name, all_bytes, refused_kind, refused_bytes, refused_entry, first_refused, unlisted, table_links, linked, unless_refused, as_nodes, deep_loads}
 use Rattle.fx_folder.specs.RefusalLaws.{Stands, all_standing, is_one_too_many, is_too_much, is_strange, where_so, cause_of, IsFirstCause, HasNoCause, IsTableCause, EntriesAreListed, FirstCausesAreTold}
 use Rattle.fx_folder.proofs.Counted.{none_behind}
 use Rattle.fx_folder.proofs.TableRefusals.{IsCauseOf, table_is, table_refused}

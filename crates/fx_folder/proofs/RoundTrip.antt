@@ -24,18 +24,20 @@ use Rattle.fx_store.specs.Names.{name_cmp, path_cmp, has, is_name, IsName}
 use Rattle.fx_store.specs.Orders.{name_total, name_same, path_total, path_same}
 use Rattle.fx_store.specs.Resolve.{parent}
 use Rattle.fx_store.specs.Whole.{Store, Nodes, IsWhole, IsNode, lists}
-use Rattle.fx_folder.specs.declared.fault.FolderCause.{FolderCause}
-use Rattle.fx_folder.specs.declared.fault.FolderCause.TheVariants.{TooLarge}
+use Rattle.fx_table.specs.declared.fault.FolderCause.{FolderCause}
+use Rattle.fx_table.specs.declared.fault.FolderCause.TheVariants.{TooLarge}
 use Rattle.fx_folder.specs.Places.{host_entry}
-use Rattle.fx_folder.specs.Loads.{table_name, most_nodes, most_in_file, most_bytes}
-use Rattle.fx_folder.specs.Table.{TableLink, IsTable, links_of, is_dir, can_stand, table_text, read_table}
-use Rattle.fx_folder.specs.TableLaws.{but_no_link, unlinked}
-use Rattle.fx_folder.specs.Deep.{Held, Mapped, all_below, walked, table_in, last_name, place_of, refused_kind, refused_entry, first_refused, unlisted, with_links, names_below, listed, read_links, most_in_table, table_links, linked, all_bytes, with_table, unless_refused, as_nodes, deep_loads, table_entry, is_table_place, HasFolderOf}
+use Rattle.fx_folder.specs.Loads.{most_nodes, most_in_file, most_bytes}
+use Rattle.fx_table.specs.Places.{table_name, place_of}
+use Rattle.fx_table.specs.Table.{TableLink, IsTable, links_of, is_dir, can_stand, table_text, read_table}
+use Rattle.fx_table.specs.TableLaws.{but_no_link, unlinked}
+use Rattle.fx_folder.specs.Deep.{Held, all_below, walked, table_in, last_name, refused_kind, refused_entry, first_refused, unlisted, read_links, most_in_table, table_links, linked, all_bytes, with_table, unless_refused, as_nodes, deep_loads, table_entry, is_table_place, HasFolderOf}
+use Rattle.fx_table.specs.Listed.{Mapped, with_links, names_below, listed}
 use Rattle.fx_folder.specs.LoadLaws.{IsWithinLimits, FoldersAreLoaded}
-use Rattle.fx_folder.proofs.TableLines.{tables_are_read}
-use Rattle.fx_folder.proofs.TableLinks.{AreFound, all_found, links_are_tables}
-use Rattle.fx_folder.proofs.Shapes.{found, relisted, find_listed, has_below, names_ascend}
-use Rattle.fx_folder.proofs.Linking.{find_linked}
+use Rattle.fx_table.proofs.TableLines.{tables_are_read}
+use Rattle.fx_table.proofs.TableLinks.{AreFound, all_found, links_are_tables}
+use Rattle.fx_table.proofs.Shapes.{found, relisted, find_listed, has_below, names_ascend}
+use Rattle.fx_table.proofs.Linking.{find_linked}
 use Rattle.fx_folder.proofs.Walked.{below_sorted, below_root, find_all_below, find_walked_below}
 use Rattle.fx_folder.proofs.Loaded.{IsAccepted, node_of, find_unlisted, unlisted_sorted}
 use Rattle.fx_folder.proofs.Counted.{none_behind, none_again, rest_sorted, has_root, held_of, find_held, no_root_held, held_sorted, links_in, texts_of, more_bytes, counted, sum_held}

@@ -7,16 +7,17 @@ use Rattle.fx_outside.specs.declared.kind.HostKind.{HostKind}
 use Rattle.fx_outside.specs.declared.kind.HostKind.TheVariants as kind
 use Rattle.fx_outside.specs.Tree.{Entry}
 use Rattle.fx_store.specs.Whole.{Store}
-use Rattle.fx_folder.specs.declared.fault.FolderCause.{FolderCause}
-use Rattle.fx_folder.specs.declared.fault.FolderCause.TheVariants.{TooLarge, BadTable}
-use Rattle.fx_folder.specs.Loads.{table_name, most_nodes, most_bytes}
-use Rattle.fx_folder.specs.Table.{TableLink, table_text, read_table}
-use Rattle.fx_folder.specs.TableLaws.{IsFirstBadLine}
+use Rattle.fx_table.specs.declared.fault.FolderCause.{FolderCause}
+use Rattle.fx_table.specs.declared.fault.FolderCause.TheVariants.{TooLarge, BadTable}
+use Rattle.fx_folder.specs.Loads.{most_nodes, most_bytes}
+use Rattle.fx_table.specs.Places.{table_name, place_of}
+use Rattle.fx_table.specs.Table.{TableLink, table_text, read_table}
+use Rattle.fx_table.specs.TableLaws.{IsFirstBadLine, BeginsWith}
 use Rattle.fx_folder.specs.Deep as deep
-use Rattle.fx_folder.specs.Deep.{Held, place_of, all_bytes, most_in_table, links_before, unless_bad, limited, read_links, table_file_links, table_links}
-use Rattle.fx_folder.specs.RefusalLaws.{exceed_limits, BeginsWith, HasTooManyLinks, HasBadLine, IsLineCause, IsFileCause}
-use Rattle.fx_folder.proofs.TableLines.{read_texts_are_tables, bad_lines_are_first}
-use Rattle.fx_folder.proofs.TableFronts.{before_end, links_before_is, before_bad, none_bad, one_bad}
+use Rattle.fx_folder.specs.Deep.{Held, all_bytes, most_in_table, unless_bad, limited, read_links, table_file_links, table_links}
+use Rattle.fx_folder.specs.RefusalLaws.{exceed_limits, HasTooManyLinks, HasBadLine, IsLineCause, IsFileCause}
+use Rattle.fx_table.proofs.TableLines.{read_texts_are_tables, bad_lines_are_first}
+use Rattle.fx_table.proofs.TableFronts.{before_end, links_before_is, before_bad, none_bad, one_bad}
 
 abbrev too_large : FolderCause
 too_large = TooLarge (place_of (table_name ∷ []))

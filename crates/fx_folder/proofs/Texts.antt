@@ -12,8 +12,7 @@ use Rattle.fx_store.specs.Names.{IsName, is_name, is_slash, is_nul, is_reserved}
 use Rattle.fx_outside.specs.Path.{Parts, parts, is_fit, is_fit_part}
 use Rattle.std.proofs.lemmas.List.Elements.{All-head, All-tail}
 use Rattle.fx_folder.specs.Reads.{path_below}
-use Rattle.fx_folder.specs.Loads.{table_name}
-use Rattle.fx_folder.specs.Deep.{place_of}
+use Rattle.fx_table.specs.Places.{table_name, place_of}
 
 left : (a b : Bool) → (a && b) ≡ true → a ≡ true
 left true b e = refl

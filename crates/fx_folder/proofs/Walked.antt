@@ -15,8 +15,7 @@ use Rattle.fx_outside.specs.Path.{Parts, parts_cmp}
 use Rattle.fx_outside.specs.Tree.{Tree, Entry}
 use Rattle.fx_outside.proofs.Sorted.{both, first, second, is_less, less_test}
 use Rattle.fx_outside.proofs.Trees.{name_total, name_same, parts_same, true_test}
-use Rattle.fx_folder.specs.Places.{rest_of}
-use Rattle.fx_folder.specs.Loads.{table_name}
+use Rattle.fx_table.specs.Places.{rest_of, table_name}
 use Rattle.fx_folder.specs.Deep.{Held, inside, held_below, all_below, walked}
 
 -- ---- names behind those of a folder

@@ -10,9 +10,9 @@ use Rattle.fx_store.specs.declared.node.Node.TheVariants.{Dir}
 use Rattle.fx_store.specs.declared.changes.Change.{Change}
 use Rattle.fx_folder.specs.declared.walking.Item.{Item}
 use Rattle.fx_folder.specs.declared.walking.Walked.{Walked}
-use Rattle.fx_folder.specs.declared.fault.FolderCause.{FolderCause}
-use Rattle.fx_folder.specs.declared.fault.LoadFault.{LoadFault}
-use Rattle.fx_folder.specs.declared.fault.LoadFault.TheVariants.{Refused, ReadFault, NoMemory}
+use Rattle.fx_table.specs.declared.fault.FolderCause.{FolderCause}
+use Rattle.fx_table.specs.declared.fault.LoadFault.{LoadFault}
+use Rattle.fx_table.specs.declared.fault.LoadFault.TheVariants.{Refused, ReadFault, NoMemory}
 use Rattle.fx_folder.specs.Limits.{most_bytes}
 use Rattle.fx_folder.specs.Deep.{Held, all_below, walked, all_bytes, first_refused, refused_entry}
 use Rattle.fx_folder.specs.Walks.{item_path, items_of, in_table, held_of, behind, ahead, IsThere, found_as, root_found, IsOnWay, IsEntered, AnswersEntry, AnswersWalk, WalkCause, size_of}

@@ -10,17 +10,17 @@ use Rattle.fx_outside.specs.Path.{Parts, parts}
 use Rattle.fx_outside.specs.Host.{HostView, AsksFit}
 use Rattle.fx_outside.proofs.Views.{fit_then}
 use Rattle.fx_outside.specs.Tree as tree
-use Rattle.fx_outside.specs.Tree.{Tree, Entry, file, folder, is_free_at, told_with}
+use Rattle.fx_outside.specs.Tree.{Tree, Entry, file, is_free_at}
 use Rattle.fx_folder.specs.Places.{host_entry}
-use Rattle.fx_folder.specs.Loads.{table_name}
+use Rattle.fx_table.specs.Places.{table_name, place_of}
 use Rattle.fx_folder.specs.Reads.{path_below}
-use Rattle.fx_folder.specs.Table.{TableLink, line_of, links_of, table_text}
-use Rattle.fx_folder.specs.Deep.{place_of, table_entry}
+use Rattle.fx_table.specs.Table.{TableLink, line_of, links_of, table_text}
+use Rattle.fx_folder.specs.Deep.{table_entry}
 use Rattle.fx_folder.specs.Folder.{IfTold, IsSaved, IsPartlySaved, IsReady}
-use Rattle.fx_folder.specs.Remaining.{ComesNext, IsLeftBelow}
+use Rattle.fx_table.specs.Remaining.{ComesNext, IsLeftBelow}
 use Rattle.fx_folder.specs.Written.{with_folder, MadePart, IsOpen, with_entry, WrotePart, HasEntries, WroteFront, file_unless_empty}
 use Rattle.fx_folder.proofs.Filled.{opens}
-use Rattle.fx_folder.proofs.Descents.{find_append, root_first}
+use Rattle.fx_table.proofs.Descents.{find_append, root_first}
 use Rattle.fx_folder.proofs.Fronts.{begins, adds, fresh, from_old, next_free, table_free, all_saved, refused_front, refused_table, refused_folder}
 use Rattle.fx_folder.proofs.Texts.{parts_place, fit_place, parts_table, fit_table}
 

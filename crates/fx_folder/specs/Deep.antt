@@ -1,23 +1,24 @@
 -- What a folder of any depth is loaded as, links included, or why it is refused; and the folder of a filestore.
-use Rattle.std.specs.Prelude.{◌≡◌, ℕ, ◌+◌, ◌-◌, Bool, false, nat_le, nat_lt, cond, not, ◌||◌, ◌&&◌, List, [], ◌∷◌, ◌++◌, map, length, take, slice_index_or, bytes_eq, Option, Some, None, Result, Ok, Err}
+use Rattle.std.specs.Prelude.{◌≡◌, ℕ, ◌+◌, ◌-◌, Bool, false, nat_le, nat_lt, cond, not, ◌||◌, ◌&&◌, List, [], ◌∷◌, ◌++◌, map, length, slice_index_or, bytes_eq, Option, Some, None, Result, Ok, Err}
 use Rattle.std.specs.Option.{option_or, option_map, option_and_then}
-use Rattle.std.specs.List.{flat_map, filter_map, filter, slice_split, sum_by}
-use Rattle.std.specs.FinMap.{entries, get, find, put, from_entries}
+use Rattle.std.specs.List.{filter_map, filter, sum_by}
+use Rattle.std.specs.FinMap.{entries, get, find, from_entries}
 use Rattle.fx_outside.specs.declared.kind.HostKind.{HostKind}
 use Rattle.fx_outside.specs.declared.kind.HostKind.TheVariants as kind
 use Rattle.std.specs.Cmp.Lexicographic.{slice_cmp}
 use Rattle.fx_outside.specs.Listing.{name_cmp}
-use Rattle.fx_outside.specs.Path.{Parts, name_in}
+use Rattle.fx_outside.specs.Path.{Parts}
 use Rattle.fx_outside.specs.Tree.{Tree, Entry, file}
 use Rattle.fx_store.specs.declared.node.Node.{Node}
-use Rattle.fx_store.specs.declared.node.Node.TheVariants.{File, Dir, Link}
+use Rattle.fx_store.specs.declared.node.Node.TheVariants.{File, Dir}
 use Rattle.fx_store.specs.Names.{is_name, path_cmp}
 use Rattle.fx_store.specs.Whole.{Store, Nodes}
-use Rattle.fx_folder.specs.declared.fault.FolderCause.{FolderCause}
-use Rattle.fx_folder.specs.declared.fault.FolderCause.TheVariants.{BadName, Strange, TooLarge, BadTable}
-use Rattle.fx_folder.specs.Limits.{most_nodes, most_in_file, most_bytes, table_name}
-use Rattle.fx_folder.specs.Places.{host_entry, rest_of}
-use Rattle.fx_folder.specs.Table.{TableLink, is_feed, read_table, table_text, links_of}
+use Rattle.fx_table.specs.declared.fault.FolderCause.{FolderCause}
+use Rattle.fx_table.specs.declared.fault.FolderCause.TheVariants.{BadName, Strange, TooLarge, BadTable}
+use Rattle.fx_folder.specs.Limits.{most_nodes, most_in_file, most_bytes}
+use Rattle.fx_table.specs.Places.{table_name, rest_of}
+use Rattle.fx_folder.specs.Places.{host_entry}
+use Rattle.fx_table.specs.Table.{TableLink, read_table, table_text, links_of}
 
 -- an entry, with the names that lead to it from a folder
 abbrev pub Held : Type 0
@@ -47,10 +48,6 @@ walked hs = filter (λ h. not (is_table h)) hs
 -- the table itself
 abbrev pub table_in : List Held → Option Entry
 table_in hs = find (slice_cmp name_cmp) (table_name ∷ []) hs
-
--- where an entry stands, as refusals tell it
-abbrev pub place_of : Parts → List ℕ
-place_of names = flat_map (λ name. 47 ∷ name) names
 
 abbrev pub last_name : Parts → List ℕ
 last_name names = slice_index_or names (length names - 1) []
@@ -85,39 +82,9 @@ node_of_kind kind.File bytes = File bytes
 node_of_kind kind.Folder bytes = Dir []
 node_of_kind kind.Other bytes = File bytes
 
--- a path with its node
-abbrev pub Mapped : Type 0
-Mapped = List (List ℕ) × Node
-
 -- the root, and files and directories with no names listed yet
 abbrev pub unlisted : List Held → List Mapped
 unlisted hs = ([], Dir []) ∷ map (λ (h : Held). (h.0, node_of_kind h.1.kind h.1.bytes)) hs
-
--- each link in its place
-abbrev pub with_links : List Mapped → List TableLink → List Mapped
-with_links es [] = es
-with_links es (link ∷ links) = with_links (put path_cmp link.path (Link link.text) es) links
-
--- the names that stand directly in a directory
-abbrev pub names_below : List Mapped → List (List ℕ) → List (List ℕ)
-names_below es path = filter_map (λ (e : Mapped). name_in path e.0) es
-
-abbrev pub with_names : List Mapped → Mapped → Mapped
-with_names es (path, File bytes) = (path, File bytes)
-with_names es (path, Dir names) = (path, Dir (names_below es path))
-with_names es (path, Link text) = (path, Link text)
-
--- each directory lists the names that stand directly in it
-abbrev pub listed : List Mapped → List Mapped
-listed es = map (with_names es) es
-
-abbrev pub links_or_none : Result (List TableLink) ℕ → List TableLink
-links_or_none (Ok links) = links
-links_or_none (Err number) = []
-
--- the links of the lines before a bad one
-abbrev pub links_before : Store → List ℕ → ℕ → List TableLink
-links_before S text number = links_or_none (read_table S (flat_map (λ line. line ++ 10 ∷ []) (take (number - 1) (slice_split is_feed text))))
 
 abbrev pub most_in_table : ℕ
 most_in_table = 33554432

@@ -3,8 +3,8 @@ use Rattle.std.specs.Prelude.{◌≡◌, ℕ, List, [], ◌∷◌, ◌++◌, cod
 use Rattle.fx_outside.specs.declared.kind.HostKind.TheVariants.{Other}
 use Rattle.fx_outside.specs.Tree.{Entry, file, folder}
 use Rattle.fx_store.specs.declared.node.Node.TheVariants.{File, Dir, Link}
-use Rattle.fx_folder.specs.declared.fault.FolderCause.TheVariants.{BadName, Strange, BadTable}
-use Rattle.fx_folder.specs.Loads.{table_name}
+use Rattle.fx_table.specs.declared.fault.FolderCause.TheVariants.{BadName, Strange, BadTable}
+use Rattle.fx_table.specs.Places.{table_name}
 use Rattle.fx_folder.specs.Deep.{Held, loaded}
 
 abbrev pub strange : Entry

@@ -1,14 +1,8 @@
--- What a fault of the host is to a caller that loads or saves.
+-- What a fault of the host is to a caller that saves.
 use Rattle.fx_outside.specs.declared.kind.HostFault.{HostFault}
 use Rattle.fx_outside.specs.declared.kind.HostFault.TheVariants.{Failed, NoMemory}
-use Rattle.fx_folder.specs.declared.fault.LoadFault.{LoadFault}
-use Rattle.fx_folder.specs.declared.fault.LoadFault.TheVariants.{ReadFault, NoMemory as MemoryToLoad}
 use Rattle.fx_folder.specs.declared.fault.SaveFault.{SaveFault}
 use Rattle.fx_folder.specs.declared.fault.SaveFault.TheVariants.{WriteFault, NoMemory as MemoryToSave}
-
-abbrev pub load_fault : HostFault → LoadFault
-load_fault Failed = ReadFault
-load_fault NoMemory = MemoryToLoad
 
 abbrev pub save_fault : HostFault → SaveFault
 save_fault Failed = WriteFault

@@ -1,5 +1,5 @@
--- How much is loaded of a folder, and what its table file is called.
-use Rattle.std.specs.Prelude.{ℕ, List, codes}
+-- How much is loaded of a folder.
+use Rattle.std.specs.Prelude.{ℕ}
 
 -- how many nodes a loaded filestore has, the root among them, and how many bytes a file and all files
 abbrev pub most_nodes : ℕ
@@ -10,7 +10,3 @@ most_in_file = 1048576
 
 abbrev pub most_bytes : ℕ
 most_bytes = 67108864
-
--- the file in which a folder keeps its links
-abbrev pub table_name : List ℕ
-table_name = codes ".forest-links"

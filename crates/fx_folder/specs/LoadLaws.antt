@@ -1,24 +1,16 @@
 -- What a folder is loaded as: a whole filestore, and from the folder of a filestore within the limits that filestore.
-use Rattle.std.specs.Prelude.{◌≡◌, ◌<◌, ◌≤◌, ℕ, List, length, sum_by, All, IfSome, ⊤, Ok}
+use Rattle.std.specs.Prelude.{◌≡◌, ◌≤◌, ℕ, List, length, sum_by, Ok}
 use Rattle.std.specs.FinMap.{get, len, entries}
 use Rattle.fx_outside.specs.Path.{Parts}
 use Rattle.fx_outside.specs.Tree as host
 use Rattle.fx_outside.specs.Tree.{Tree}
 use Rattle.fx_store.specs.declared.node.Node.{Node}
 use Rattle.fx_store.specs.declared.node.Node.TheVariants.{File, Dir, Link}
-use Rattle.fx_store.specs.Whole.{Store, Nodes, IsWhole}
+use Rattle.fx_store.specs.Whole.{Nodes, IsWhole}
 use Rattle.fx_folder.specs.Loads.{most_nodes, most_bytes}
-use Rattle.fx_folder.specs.Table.{table_text, links_of}
-use Rattle.fx_folder.specs.Deep.{Mapped, most_in_table, deep_loads, HasFolderOf}
-
--- what a file holds is bytes
-abbrev pub IsOfBytes : Node → Type 0
-IsOfBytes (File bytes) = All (λ b. b < 256) bytes
-IsOfBytes (Dir names) = ⊤
-IsOfBytes (Link text) = ⊤
-
-abbrev pub AreOfBytes : Store → Type 0
-AreOfBytes S = (path : List (List ℕ)) → IfSome (S path) IsOfBytes
+use Rattle.fx_table.specs.Table.{table_text, links_of}
+use Rattle.fx_folder.specs.Deep.{most_in_table, deep_loads, HasFolderOf}
+use Rattle.fx_table.specs.Listed.{Mapped}
 
 -- what a folder of a whole tree is loaded as is a whole filestore; a tree of numbers that are no bytes is loaded too, so that
 -- they are bytes is asked of what was loaded

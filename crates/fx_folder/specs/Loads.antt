@@ -5,10 +5,10 @@ use Rattle.fx_outside.specs.Path.{parts}
 use Rattle.fx_outside.specs.Tree.{Tree, is_folder_at}
 use Rattle.fx_store.specs.declared.filestore.Filestore.{Filestore}
 use Rattle.fx_store.specs.Whole.{Nodes}
-use Rattle.fx_folder.specs.declared.fault.FolderCause.{FolderCause}
-use Rattle.fx_folder.specs.declared.fault.LoadFault.{LoadFault}
-use Rattle.fx_folder.specs.declared.fault.LoadFault.TheVariants.{Refused, ReadFault, NoMemory}
-pub use Rattle.fx_folder.specs.Limits.{most_nodes, most_in_file, most_bytes, table_name}
+use Rattle.fx_table.specs.declared.fault.FolderCause.{FolderCause}
+use Rattle.fx_table.specs.declared.fault.LoadFault.{LoadFault}
+use Rattle.fx_table.specs.declared.fault.LoadFault.TheVariants.{Refused, ReadFault, NoMemory}
+pub use Rattle.fx_folder.specs.Limits.{most_nodes, most_in_file, most_bytes}
 use Rattle.fx_folder.specs.Deep.{deep_loads}
 
 -- the filestore that the folder at a path stands for, or the first refusal

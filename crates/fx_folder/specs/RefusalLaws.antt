@@ -15,12 +15,13 @@ use Rattle.fx_outside.specs.Tree.{Tree, Entry}
 use Rattle.fx_store.specs.declared.limits.TheConstants.{MAX_PATH_NAMES}
 use Rattle.fx_store.specs.Names.{path_cmp, is_name}
 use Rattle.fx_store.specs.Whole.{Store}
-use Rattle.fx_folder.specs.declared.fault.FolderCause.{FolderCause}
-use Rattle.fx_folder.specs.declared.fault.FolderCause.TheVariants.{BadName, Strange, TooLarge, BadTable}
-use Rattle.fx_folder.specs.Loads.{table_name, most_nodes, most_in_file, most_bytes}
-use Rattle.fx_folder.specs.Table.{TableLink, IsTable, table_text}
-use Rattle.fx_folder.specs.TableLaws.{IsFirstBadLine}
-use Rattle.fx_folder.specs.Deep.{Held, all_below, walked, place_of, last_name, all_bytes, unlisted, most_in_table, deep_loads}
+use Rattle.fx_table.specs.declared.fault.FolderCause.{FolderCause}
+use Rattle.fx_table.specs.declared.fault.FolderCause.TheVariants.{BadName, Strange, TooLarge, BadTable}
+use Rattle.fx_folder.specs.Loads.{most_nodes, most_in_file, most_bytes}
+use Rattle.fx_table.specs.Places.{table_name, place_of}
+use Rattle.fx_table.specs.Table.{TableLink}
+use Rattle.fx_table.specs.TableLaws.{IsFirstBadLine}
+use Rattle.fx_folder.specs.Deep.{Held, all_below, walked, last_name, all_bytes, unlisted, most_in_table, deep_loads}
 
 -- an entry stands at these names below the folder, and neither is the table nor stands in it
 abbrev pub Stands : Tree → Parts → Parts → Entry → Type 0
@@ -86,12 +87,6 @@ HasNoCause tree folder = (names : Parts) (e : Entry) → Stands tree folder name
 -- with the root, all entries and these links there are too many nodes, or too many bytes in the files and link texts
 abbrev pub exceed_limits : List Held → List TableLink → Bool
 exceed_limits all links = nat_lt most_nodes (length all + 1 + length links) || nat_lt most_bytes (all_bytes all + sum_by (λ (l : TableLink). length l.text) links)
-
--- lines at the front of a text are a table
-pub record BeginsWith (S : Store) (text : List ℕ) (links : List TableLink) : Type 0 where
-  pub rest : List ℕ
-  pub parts : text ≡ table_text links ++ rest
-  pub table : IsTable S links
 
 -- lines at the front are a table whose last links are too many
 pub record HasTooManyLinks (S : Store) (all : List Held) (text : List ℕ) : Type 0 where

@@ -7,16 +7,18 @@ use Rattle.fx_outside.specs.declared.kind.HostKind.TheVariants as kind
 use Rattle.fx_outside.specs.Path.{Parts}
 use Rattle.fx_outside.specs.Tree.{Tree}
 use Rattle.fx_store.specs.declared.changes.Change.{Change}
-use Rattle.fx_folder.specs.declared.fault.FolderCause.{FolderCause}
-use Rattle.fx_folder.specs.declared.fault.FolderCause.TheVariants.{Strange, TooLarge}
-use Rattle.fx_folder.specs.declared.fault.LoadFault.{LoadFault}
-use Rattle.fx_folder.specs.declared.fault.LoadFault.TheVariants.{Refused, ReadFault, NoMemory}
-use Rattle.fx_folder.specs.declared.lines.Room.{Room}
-use Rattle.fx_folder.specs.Deep.{all_below, listed, loaded, most_in_table, place_of, with_links}
-use Rattle.fx_folder.specs.Limits.{most_nodes, table_name}
-use Rattle.fx_folder.specs.Lines.{links_in, standing_by, ReadsAll}
-use Rattle.fx_folder.specs.Mapped.{mapped_of}
-use Rattle.fx_folder.specs.Shaped.{changes_of}
+use Rattle.fx_table.specs.declared.fault.FolderCause.{FolderCause}
+use Rattle.fx_table.specs.declared.fault.FolderCause.TheVariants.{Strange, TooLarge}
+use Rattle.fx_table.specs.declared.fault.LoadFault.{LoadFault}
+use Rattle.fx_table.specs.declared.fault.LoadFault.TheVariants.{Refused, ReadFault, NoMemory}
+use Rattle.fx_table.specs.declared.lines.Room.{Room}
+use Rattle.fx_folder.specs.Deep.{all_below, loaded, most_in_table}
+use Rattle.fx_table.specs.Listed.{listed, with_links}
+use Rattle.fx_table.specs.Places.{place_of, table_name}
+use Rattle.fx_folder.specs.Limits.{most_nodes}
+use Rattle.fx_table.specs.Lines.{links_in, standing_by, ReadsAll}
+use Rattle.fx_table.specs.Mapped.{mapped_of}
+use Rattle.fx_table.specs.Shaped.{changes_of}
 
 -- the contents of a file, if they are not more than the limit
 abbrev pub ReadsWhole : ℕ → List ℕ → Option (List ℕ) → Type 0

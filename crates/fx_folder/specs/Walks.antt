@@ -13,12 +13,13 @@ use Rattle.fx_store.specs.declared.path.Path.{Path}
 use Rattle.fx_store.specs.Names.{is_name}
 use Rattle.fx_folder.specs.declared.walking.Item.{Item}
 use Rattle.fx_folder.specs.declared.walking.Walked.{Walked}
-use Rattle.fx_folder.specs.declared.fault.FolderCause.{FolderCause}
-use Rattle.fx_folder.specs.declared.fault.FolderCause.TheVariants.{BadName, TooLarge}
-use Rattle.fx_folder.specs.declared.fault.LoadFault.{LoadFault}
-use Rattle.fx_folder.specs.declared.fault.LoadFault.TheVariants.{Refused, ReadFault, NoMemory}
-use Rattle.fx_folder.specs.Limits.{most_nodes, most_bytes, table_name}
-use Rattle.fx_folder.specs.Deep.{Held, all_below, walked, all_bytes, first_refused, refused_entry, refused_bytes, node_of_kind, place_of, last_name}
+use Rattle.fx_table.specs.declared.fault.FolderCause.{FolderCause}
+use Rattle.fx_table.specs.declared.fault.FolderCause.TheVariants.{BadName, TooLarge}
+use Rattle.fx_table.specs.declared.fault.LoadFault.{LoadFault}
+use Rattle.fx_table.specs.declared.fault.LoadFault.TheVariants.{Refused, ReadFault, NoMemory}
+use Rattle.fx_folder.specs.Limits.{most_nodes, most_bytes}
+use Rattle.fx_table.specs.Places.{table_name, place_of}
+use Rattle.fx_folder.specs.Deep.{Held, all_below, walked, all_bytes, first_refused, refused_entry, refused_bytes, node_of_kind, last_name}
 
 -- the names that lead to an item from the folder
 abbrev pub item_path : Item → Parts

@@ -2,14 +2,13 @@
 use Rattle.std.specs.Prelude.{◌≡◌, ◌⊎◌, ℕ, Bool, true, cond, List, [], ◌∷◌, ◌++◌, IsSome, Option, Some, None}
 use Rattle.std.specs.FinMap.{get, insert, find, entries}
 use Rattle.fx_store.specs.declared.node.Node.{Node}
-use Rattle.fx_store.specs.declared.node.Node.TheVariants.{File, Dir, Link}
 use Rattle.fx_store.specs.Names.{path_cmp}
 use Rattle.fx_store.specs.Whole.{Nodes}
 use Rattle.fx_outside.specs.Path.{Parts, parts, is_fit}
 use Rattle.fx_outside.specs.Tree.{Tree, Entry, file, folder}
-use Rattle.fx_folder.specs.Places.{host_entry, rest_of}
+use Rattle.fx_folder.specs.Places.{host_entry}
+use Rattle.fx_table.specs.Places.{rest_of}
 use Rattle.fx_folder.specs.Folder.{IsFrontOf}
-use Rattle.fx_folder.specs.Table.{line_of}
 
 -- the tree with the folder itself, which is made where it is not there
 abbrev pub with_folder : Tree → Parts → Bool → Tree
@@ -39,13 +38,6 @@ WrotePart tree tree' place entry =
 abbrev pub file_unless_empty : List ℕ → Option Entry
 file_unless_empty [] = None
 file_unless_empty (b ∷ text) = Some (file (b ∷ text))
-
--- the line of a link in the table, where one stands at the path
-abbrev pub line_at : List (List ℕ) → Option Node → List ℕ
-line_at path None = []
-line_at path (Some (File bytes)) = []
-line_at path (Some (Dir names)) = []
-line_at path (Some (Link text)) = line_of (record { path = path; text = text }) ++ 10 ∷ []
 
 -- the new tree has the entries of these nodes at these parts and below, and is the old one elsewhere
 pub record HasEntries (tree tree' : Tree) (at : Parts) (nodes : List (List (List ℕ) × Node)) : Type 0 where

@@ -4,13 +4,13 @@ ghost use Rattle.std.specs.FinMap.{get, from_entries};
 ghost use Rattle.fx_store.specs.Changes.{IsChanges};
 ghost use Rattle.fx_store.specs.Filestore.{root_only};
 ghost use Rattle.fx_store.specs.Whole.{IsWhole, over, over_nodes};
-ghost use Rattle.fx_folder.specs.Deep.{listed};
-ghost use Rattle.fx_folder.specs.Mapped.{mapped_of};
-ghost use Rattle.fx_folder.specs.Shaped.{AreShaped};
+ghost use Rattle.fx_table.specs.Listed.{listed};
+ghost use Rattle.fx_table.specs.Mapped.{mapped_of};
+ghost use Rattle.fx_table.specs.Shaped.{AreShaped};
 
-use crate::listing::list_names;
 use fx_base::NoMemory;
 use fx_store::{Change, Changes, Filestore};
+use fx_table::list_names;
 use std::alloc::Global;
 
 /// The filestore of files, directories and links, whose directories are to list them.

@@ -5,24 +5,22 @@ ghost use Rattle.fx_base.specs.Causes.{Rose};
 ghost use Rattle.fx_outside.specs.Host.{ReadsOnly, AsksFit};
 ghost use Rattle.fx_outside.specs.Path.{parts};
 ghost use Rattle.fx_outside.specs.Tree.{is_folder_at, is_file_at, bytes_at};
-ghost use Rattle.fx_folder.specs.declared.fault.LoadFault.TheVariants.{ReadFault};
+ghost use Rattle.fx_table.specs.declared.fault.LoadFault.TheVariants.{ReadFault};
 ghost use Rattle.fx_folder.specs.Grown.{AreFound};
-ghost use Rattle.fx_folder.specs.Limits.{table_name};
-ghost use Rattle.fx_folder.specs.Lines.{standing_by, LinesCause};
+ghost use Rattle.fx_table.specs.Places.{table_name};
+ghost use Rattle.fx_table.specs.Lines.{standing_by, LinesCause};
 ghost use Rattle.fx_folder.specs.Reads.{path_below};
-ghost use Rattle.fx_folder.specs.Shaped.{AreShaped};
+ghost use Rattle.fx_table.specs.Shaped.{AreShaped};
 ghost use Rattle.fx_folder.specs.Tables.{ReadsWhole, text_of, AnswersText, AnswersFound, HasTable, IsJoined, room_behind, items_in};
 ghost use Rattle.fx_folder.specs.Walks.{AnswersWalk};
 
-use crate::lines::{Room, read_links, table_place};
 use crate::loading::{MAX_NODES, TABLE, read_whole};
-use crate::merging::merged;
 use crate::saving::table_below;
 use crate::walking::Walked;
-use crate::{FolderCause, LoadFault};
 use fx_base::NoMemory;
 use fx_outside::{Host, HostKind, HostText, Listing};
 use fx_store::{Change, Changes};
+use fx_table::{FolderCause, LoadFault, Room, merged, read_links, table_place};
 use std::alloc::Global;
 
 /// The most bytes of a table.

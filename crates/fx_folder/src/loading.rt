@@ -5,18 +5,18 @@ ghost use Rattle.fx_outside.specs.Path.{parts};
 ghost use Rattle.fx_outside.specs.Tree.{Lists, is_folder_at, is_file_at, bytes_at};
 ghost use Rattle.fx_outside.specs.Host.{ReadsOnly, AsksFit, HasFailed};
 ghost use Rattle.fx_outside.specs.declared.kind.HostFault.TheVariants.{Failed};
-ghost use Rattle.fx_folder.specs.declared.fault.LoadFault.TheVariants.{ReadFault, NoMemory};
+ghost use Rattle.fx_table.specs.declared.fault.LoadFault.TheVariants.{ReadFault, NoMemory};
 ghost use Rattle.fx_folder.specs.Tables.{ReadsWhole, AnswersFound, items_in};
 ghost use Rattle.fx_folder.specs.Loads.{loads, Loads, LoadCause, AnswersAs};
 ghost use Rattle.fx_folder.specs.Reads.{path_below, place, ReadsFile};
-ghost use Rattle.fx_folder.specs.Shaped.{AreShaped};
+ghost use Rattle.fx_table.specs.Shaped.{AreShaped};
 
 use crate::building::filestore_of;
 use crate::joining::{table_kind, with_table};
 use crate::walking::{Walked, walk};
-use crate::{FolderCause, LoadFault};
 use fx_outside::{Host, HostFault, HostText, Listing};
 use fx_store::{Bytes, Change, Filestore};
+use fx_table::{FolderCause, LoadFault};
 use std::alloc::{AllocError, Global};
 
 /// The most nodes of a loaded filestore, its root among them.

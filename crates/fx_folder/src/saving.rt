@@ -8,19 +8,17 @@ ghost use Rattle.fx_outside.specs.Path.{parts};
 ghost use Rattle.fx_outside.specs.Host.{AsksFit, HasFailed, CountsUnfit};
 ghost use Rattle.fx_outside.specs.Tree.{is_free_at, file, folder};
 ghost use Rattle.fx_folder.specs.declared.fault.SaveFault.TheVariants.{WriteFault, NotEmpty};
-ghost use Rattle.fx_folder.specs.Deep.{place_of};
-ghost use Rattle.fx_folder.specs.Loads.{table_name};
+ghost use Rattle.fx_table.specs.Places.{place_of, table_name};
 ghost use Rattle.fx_folder.specs.Reads.{path_below};
 ghost use Rattle.fx_folder.specs.Places.{host_entry};
 ghost use Rattle.fx_folder.specs.Folder.{IsReady, IfTold, Saves, SavesPart, SaveCause};
 ghost use Rattle.fx_folder.specs.Written.{with_folder, MadePart, IsOpen, with_entry, WrotePart, HasEntries, WroteFront, file_unless_empty};
 
 use crate::SaveFault;
-use crate::descent::Descent;
-use crate::links::write_table;
 use fx_base::NoMemory;
 use fx_outside::{Host, HostFault, HostText};
 use fx_store::{Filestore, LongText, Name, Node, Path};
+use fx_table::{Descent, write_table};
 use std::alloc::Global;
 
 /// Writes a filestore as a folder: the folder itself, unless an empty one is there, then directories and files in the order

@@ -6,17 +6,17 @@ ghost use Rattle.fx_outside.specs.Path.{parts};
 ghost use Rattle.fx_outside.specs.Tree.{Lists, is_folder_at, is_file_at, bytes_at};
 ghost use Rattle.fx_outside.specs.Host.{ReadsOnly, AsksFit};
 ghost use Rattle.fx_store.specs.Names.{IsPath};
-ghost use Rattle.fx_folder.specs.declared.fault.LoadFault.TheVariants.{ReadFault};
-ghost use Rattle.fx_folder.specs.Deep.{place_of};
+ghost use Rattle.fx_table.specs.declared.fault.LoadFault.TheVariants.{ReadFault};
+ghost use Rattle.fx_table.specs.Places.{place_of};
 ghost use Rattle.fx_folder.specs.Grown.{IsFoundNode, AreFound, IsGrown, Finds};
 ghost use Rattle.fx_folder.specs.Walks.{item_path, items_of, in_table, held_of, AnswersEntry, IsThere, IsEntered, IsOnWay, AnswersWalk, WalkCause, IsNoRefusal, AddsItems, PassesPath, AnswersFile, size_of};
 ghost use Rattle.fx_folder.specs.Reads.{path_below};
 
 use crate::loading::{MAX_BYTES, MAX_NODES, TABLE, below_folder, path_below, read_file};
-use crate::{FolderCause, LoadFault};
 use fx_base::NoMemory;
 use fx_outside::{Host, HostKind, HostText, Listing};
 use fx_store::{Change, Name, Names, Node, Path, PathFault};
+use fx_table::{FolderCause, LoadFault};
 use std::alloc::{AllocError, Global};
 
 /// An entry that is still to be walked: the path of its folder, its name and its kind.

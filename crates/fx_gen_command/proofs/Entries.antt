@@ -15,9 +15,10 @@ use Rattle.fx_outside.specs.Tree.{Tree, Entry, file}
 use Rattle.fx_outside.proofs.Trees.{name_total}
 use Rattle.fx_folder.specs.Deep.{folder_entry}
 use Rattle.fx_folder.specs.Folder.{IsSaved, IsPartlySaved, IsFrontOf, entry_or}
-use Rattle.fx_folder.specs.Places.{host_entry, rest_of}
+use Rattle.fx_folder.specs.Places.{host_entry}
+use Rattle.fx_table.specs.Places.{rest_of}
 use Rattle.fx_folder.specs.Written.{HasEntries}
-use Rattle.fx_folder.proofs.Filled.{name_is, rest_is}
+use Rattle.fx_table.proofs.Rests.{name_is, rest_is}
 use Rattle.fx_gen_command.specs.Case.{Case, Named, texts, scripts_from, text_entry, case_entry, case_entry_or, IsWritten, IsPartOfCase, IsPartlyWritten}
 use Rattle.fx_gen_command.specs.Wrote.{file_of, text_nodes}
 

@@ -11,7 +11,7 @@ use Rattle.std.proofs.lemmas.Option.{slice_get_within, slice_get-get_or, get_or_
 use Rattle.std.proofs.Math.Seq.{take-suc}
 use Rattle.fx_store.specs.declared.node.Node.TheVariants.{File}
 use Rattle.fx_store.specs.Names.{IsName, is_name, path_cmp}
-use Rattle.fx_folder.proofs.Filled.{parts_is}
+use Rattle.fx_table.proofs.Rests.{parts_is}
 use Rattle.fx_gen.specs.Scripts.{scripts, scripts_to as generated_to}
 use Rattle.fx_gen.proofs.Placing.{each_below}
 use Rattle.fx_gen_command.specs.Case.{Case, scripts_from, script_name}

@@ -22,8 +22,9 @@ use Rattle.fx_folder.specs.Folder.{IfTold, IsReady, IsSaved, IsPartlySaved, IsFr
 use Rattle.fx_folder.specs.Places.{host_entry}
 use Rattle.fx_folder.specs.Reads.{path_below}
 use Rattle.fx_folder.specs.Written.{with_folder, MadePart, IsOpen, with_entry, WrotePart, HasEntries}
-use Rattle.fx_folder.proofs.Descents.{find_append}
-use Rattle.fx_folder.proofs.Filled.{above_pushed, same_front, parts_is, no_rest, opens}
+use Rattle.fx_table.proofs.Descents.{find_append}
+use Rattle.fx_folder.proofs.Filled.{above_pushed, opens}
+use Rattle.fx_table.proofs.Rests.{same_front, parts_is, no_rest}
 use Rattle.fx_folder.proofs.Fronts.{begins, adds, from_old, has_it}
 use Rattle.fx_folder.proofs.Texts.{parts_below, fit_below}
 use Rattle.fx_folder.proofs.Writes.{told_then}

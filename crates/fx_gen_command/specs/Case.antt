@@ -8,7 +8,7 @@ use Rattle.fx_outside.specs.Path.{Parts}
 use Rattle.fx_outside.specs.Tree.{Tree, Entry, file, folder}
 use Rattle.fx_folder.specs.Deep.{folder_entry}
 use Rattle.fx_folder.specs.Folder.{IsFrontOf}
-use Rattle.fx_folder.specs.Places.{rest_of}
+use Rattle.fx_table.specs.Places.{rest_of}
 use Rattle.fx_gen.specs.Notes.{nodes}
 use Rattle.fx_gen.specs.Scripts.{description, scripts}
 use Rattle.fx_gen.specs.declared.case.Generated.{Generated}

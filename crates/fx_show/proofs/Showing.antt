@@ -11,8 +11,8 @@ use Rattle.fx_outside.specs.Sink.{SinkView}
 use Rattle.fx_outside.specs.Tree.{Tree, is_file_at, bytes_at, is_folder_at}
 use Rattle.fx_outside.proofs.Views.{reads_then}
 use Rattle.fx_folder.specs.Loads.{Loads, LoadCause}
-use Rattle.fx_folder.specs.declared.fault.LoadFault.{LoadFault}
-use Rattle.fx_folder.specs.declared.fault.LoadFault.TheVariants as load
+use Rattle.fx_table.specs.declared.fault.LoadFault.{LoadFault}
+use Rattle.fx_table.specs.declared.fault.LoadFault.TheVariants as load
 use Rattle.fx_grammar.specs.Texts as texts
 use Rattle.fx_spec.specs.SpecTree.{SpecTree}
 use Rattle.fx_show.specs.declared.fault.DescriptionFault.{DescriptionFault}

@@ -11,7 +11,7 @@ use Rattle.fx_outside.specs.Path.{parts, is_fit, above}
 use Rattle.fx_outside.specs.Tree.{Tree, Entry, entry_at, is_file_at, is_folder_at, is_folder_kind, has_folder}
 use Rattle.fx_folder.specs.Folder.{IsReady, IsTaken}
 use Rattle.fx_folder.specs.Loads.{Loads, IsRefused}
-use Rattle.fx_folder.specs.declared.fault.FolderCause.{FolderCause}
+use Rattle.fx_table.specs.declared.fault.FolderCause.{FolderCause}
 use Rattle.fx_store.specs.Whole.{Nodes}
 use Rattle.fx_spec.specs.CommandTree.{CommandTree}
 use Rattle.fx_command.specs.declared.status.Status.{Status}

@@ -12,8 +12,8 @@ use Rattle.fx_outside.specs.Tree.{Tree, has_folder, is_file_at, is_folder_at}
 use Rattle.fx_outside.proofs.Views.{reads_then, rose_back}
 use Rattle.fx_folder.specs.Folder.{IfTold, IsReady, IsTaken, IsSaved, ReadyCause, Saves, SavesPart, SaveCause, LacksFolder}
 use Rattle.fx_folder.specs.Loads.{LoadCause}
-use Rattle.fx_folder.specs.declared.fault.LoadFault.{LoadFault}
-use Rattle.fx_folder.specs.declared.fault.LoadFault.TheVariants as load
+use Rattle.fx_table.specs.declared.fault.LoadFault.{LoadFault}
+use Rattle.fx_table.specs.declared.fault.LoadFault.TheVariants as load
 use Rattle.fx_folder.specs.declared.fault.SaveFault.{SaveFault}
 use Rattle.fx_folder.specs.declared.fault.SaveFault.TheVariants as save
 use Rattle.fx_top.specs.declared.inputs.Unread.{Unread}

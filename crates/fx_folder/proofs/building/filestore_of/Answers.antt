@@ -1,4 +1,4 @@
-use Rattle.fx_folder.proofs.Making.{name_sets, ascends, makes_whole, built}
+use Rattle.fx_table.proofs.Making.{name_sets, ascends, makes_whole, built}
 use Rattle.fx_folder.proofs.building.filestore_of.Goals as goal
 
 pub list_names-requires-clause-sets : goal.list_names-requires-clause-sets

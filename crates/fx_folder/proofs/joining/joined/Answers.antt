@@ -1,9 +1,9 @@
 use Rattle.std.proofs.Common.{◌≡◌, sym, ap, subst, ◌∙◌}
-use Rattle.fx_folder.specs.Deep.{with_links}
-use Rattle.fx_folder.specs.Mapped.{mapped_of}
-use Rattle.fx_folder.specs.Lines.{links_in, standing_by, AreLinks}
-use Rattle.fx_folder.specs.Merges.{CanMerge}
-use Rattle.fx_folder.specs.Shaped.{changes_of}
+use Rattle.fx_table.specs.Listed.{with_links}
+use Rattle.fx_table.specs.Mapped.{mapped_of}
+use Rattle.fx_table.specs.Lines.{links_in, standing_by, AreLinks}
+use Rattle.fx_table.specs.Merges.{CanMerge}
+use Rattle.fx_table.specs.Shaped.{changes_of}
 use Rattle.fx_folder.proofs.Gathering.{found_shaped, found_changes, links_make, can_merge, joined_shaped}
 use Rattle.fx_folder.proofs.joining.joined.Goals as goal
 

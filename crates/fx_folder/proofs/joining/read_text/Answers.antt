@@ -1,4 +1,4 @@
-use Rattle.fx_folder.specs.Limits.{table_name}
+use Rattle.fx_table.specs.Places.{table_name}
 use Rattle.fx_folder.specs.Reads.{path_below}
 use Rattle.fx_folder.proofs.Gathering.{table_file, text_of_file}
 use Rattle.fx_folder.proofs.Texts.{fit_table}

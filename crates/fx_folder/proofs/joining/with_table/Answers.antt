@@ -1,5 +1,5 @@
 use Rattle.std.proofs.Common.{IfOk, IfErr, subst}
-use Rattle.fx_folder.specs.Lines.{standing_by, LinesCause}
+use Rattle.fx_table.specs.Lines.{standing_by, LinesCause}
 use Rattle.fx_folder.specs.Tables.{IsJoined, room_behind}
 use Rattle.fx_base.proofs.Errors.{err_of}
 use Rattle.fx_folder.proofs.Gathering.{joined_told, unread_told}

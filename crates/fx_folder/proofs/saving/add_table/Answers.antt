@@ -1,7 +1,7 @@
 use Rattle.std.proofs.Common.{◌≡◌, ◌<◌, ◌∷◌, [], ◌++◌, true, length, Some, ap, sym, subst, ◌∙◌, arith}
 use Rattle.fx_outside.specs.Path.{parts, is_fit}
 use Rattle.fx_outside.specs.Tree.{file}
-use Rattle.fx_folder.specs.Loads.{table_name}
+use Rattle.fx_table.specs.Places.{table_name}
 use Rattle.fx_folder.specs.Written.{file_unless_empty}
 use Rattle.fx_folder.proofs.Texts.{parts_table, fit_table}
 use Rattle.fx_folder.proofs.Writes.{wrote_at, part_at, unless_empty}

@@ -1,5 +1,5 @@
 use Rattle.std.proofs.Common.{◌<◌, length, sym, arith, append_assoc}
-use Rattle.fx_folder.proofs.TableTexts.{next_is_there, place_next}
+use Rattle.fx_table.proofs.TableTexts.{next_is_there, place_next}
 use Rattle.fx_folder.proofs.saving.place_below.Goals as goal
 use Rattle.fx_folder.proofs.saving.place_below.Goals.{in-Some+in_ok-add_name, in_default}
 

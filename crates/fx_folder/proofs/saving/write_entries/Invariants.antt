@@ -1,11 +1,12 @@
 use Rattle.std.proofs.Common.{length}
-use Rattle.fx_folder.specs.Remaining.{left_of, AreLevels}
+use Rattle.fx_table.specs.Remaining.{left_of, AreLevels}
+use Rattle.fx_table.specs.Entered.{levels_of}
 use Rattle.fx_folder.proofs.Writes.{IsWriting}
 use Rattle.fx_folder.proofs.saving.write_entries.Given as goal
 
 abbrev pub decreases-writing : goal.decreases-writing
-decreases-writing g l = length (left_of l.store.nodes l.descent.levels.items)
+decreases-writing g l = length (left_of l.store.nodes (levels_of l.descent))
 
 abbrev pub invariant-writing : goal.invariant-writing
-invariant-writing g l = AreLevels l.store.nodes l.descent.levels.items
-    × IsWriting (g.H.Host.view l.initial.host) (g.H.Host.view l.host) l.folder l.store.nodes (left_of l.store.nodes l.descent.levels.items)
+invariant-writing g l = AreLevels l.store.nodes (levels_of l.descent)
+    × IsWriting (g.H.Host.view l.initial.host) (g.H.Host.view l.host) l.folder l.store.nodes (left_of l.store.nodes (levels_of l.descent))

@@ -1,6 +1,0 @@
-use Rattle.fx_folder.proofs.Descents.{starts}
-use Rattle.fx_folder.proofs.descent.Descent.new.Goals as goal
-
-pub returns-clause-left : goal.returns-clause-left
-returns-clause-left c =
-    starts c.args.store.now.nodes c.enter-2.ensures.whole c.enter-2.new.levels.items (rw (c.root.ensures, c.new-levels.ensures.items) at c.in_ok-enter.ensures.left)

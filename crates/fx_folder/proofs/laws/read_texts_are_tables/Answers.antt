@@ -1,5 +1,0 @@
-use Rattle.fx_folder.proofs.TableLines.{read_texts_are_tables}
-use Rattle.fx_folder.proofs.laws.read_texts_are_tables.Goals as goal
-
-pub returns : goal.returns
-returns c = read_texts_are_tables

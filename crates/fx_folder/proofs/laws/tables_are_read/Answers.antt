@@ -1,5 +1,0 @@
-use Rattle.fx_folder.proofs.TableLines.{tables_are_read}
-use Rattle.fx_folder.proofs.laws.tables_are_read.Goals as goal
-
-pub returns : goal.returns
-returns c = tables_are_read

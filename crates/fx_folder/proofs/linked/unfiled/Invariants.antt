@@ -1,6 +1,0 @@
-use Rattle.std.proofs.Common.{◌≡◌}
-use Rattle.fx_folder.specs.Linked.{unfiled}
-use Rattle.fx_folder.proofs.linked.unfiled.Given as goal
-
-abbrev pub invariant-loop-change : goal.invariant-loop-change
-invariant-loop-change l = l.kept.items ≡ unfiled l.yielded

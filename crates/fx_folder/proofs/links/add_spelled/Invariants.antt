@@ -1,6 +1,0 @@
-use Rattle.std.proofs.Common.{◌≡◌, ◌++◌, take}
-use Rattle.fx_folder.specs.TableSpelling.{spelling}
-use Rattle.fx_folder.proofs.links.add_spelled.Given as goal
-
-abbrev pub invariant-loop-byte : goal.invariant-loop-byte
-invariant-loop-byte l = l.text.items ≡ l.fn.text.items ++ spelling (take l.byte-index l.bytes)

@@ -1,7 +1,0 @@
-use Rattle.std.proofs.Common.{◌≡◌}
-use Rattle.fx_folder.specs.Mapped.{mapped_of}
-use Rattle.fx_folder.proofs.Naming.{part_listed}
-use Rattle.fx_folder.proofs.listing.list_names.Given as goal
-
-abbrev pub invariant-loop-i : goal.invariant-loop-i
-invariant-loop-i l = l.found.items ≡ part_listed (mapped_of l.fn.found.items) l.i

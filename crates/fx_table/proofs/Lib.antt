@@ -1,0 +1,19 @@
+pub mod Behind
+pub mod Descents
+pub mod Gives
+pub mod Lining
+pub mod Linking
+pub mod Making
+pub mod Mixing
+pub mod Naming
+pub mod Reaching
+pub mod Rests
+pub mod Searching
+pub mod Shapes
+mod TableExamples
+pub mod TableFronts
+pub mod TableLines
+pub mod TableLinks
+pub mod TableSpelling
+pub mod TableTexts
+pub mod Unspelled

@@ -1,0 +1,126 @@
+-- A search among changes in the order of their paths, and the path above another.
+use Rattle.std.proofs.Common.{◌≡◌, ℕ, zero, suc, ◌+◌, ◌-◌, ◌<◌, ◌≤◌, cond, T, List, [], ◌∷◌, ◌++◌, map, length, take, get_or, Option, Some, None, Result, Ok, Err, refl, sym, ◌∙◌, ap, subst, arith, append-nil, length-take}
+use Rattle.std.specs.Prelude.{unwrap_or}
+use Rattle.std.specs.declared.cmp.Ordering.TheVariants.{Less, Equal, Greater}
+use Rattle.std.specs.Ordering.{eq_by_cmp, ordering_index}
+use Rattle.std.specs.List.{slice_get}
+use Rattle.std.specs.List.Sorted.{IsStrictlySortedBy, IsNonDecreasingBy}
+use Rattle.std.specs.Map.{keys_of}
+use Rattle.std.specs.FinMap.{find, is_sorted}
+use Rattle.std.proofs.lemmas.Grind.{flat_map-append}
+use Rattle.fx_outside.proofs.Sorted.{sorted_test, rises, find_at, find_gap}
+use Rattle.fx_store.specs.declared.name.PathFault.{PathFault}
+use Rattle.fx_store.specs.declared.node.Node.{Node}
+use Rattle.fx_store.specs.declared.changes.Change.{Change}
+use Rattle.fx_store.specs.Changes.{IsChanges, changed_paths, change_at}
+use Rattle.fx_store.specs.Faults.{read_path}
+use Rattle.fx_store.specs.Names.{path_cmp, path_text, IsPath, IsName}
+use Rattle.fx_store.specs.Orders.{path_total, path_same}
+use Rattle.fx_store.specs.Resolve.{parent}
+use Rattle.fx_table.specs.Places.{place_of}
+use Rattle.fx_table.specs.Lines.{standing_by}
+use Rattle.fx_table.proofs.TableLines.{read_path_text}
+
+abbrev Paths : Type 0
+Paths = List (List ℕ)
+
+abbrev pair : Change → Paths × Option Node
+pair c = (c.path, c.node)
+
+abbrev pairs : List Change → List (Paths × Option Node)
+pairs cs = map pair cs
+
+get_pair : (cs : List Change) (i : ℕ) (d : Change) → get_or (pairs cs) i (pair d) ≡ pair (get_or cs i d)
+get_pair [] i d = refl
+get_pair (c ∷ cs) zero d = refl
+get_pair (c ∷ cs) (suc i) d = get_pair cs i d
+
+length_pairs : (cs : List Change) → length (pairs cs) ≡ length cs
+length_pairs [] = refl
+length_pairs (c ∷ cs) = ap suc (length_pairs cs)
+
+find_pairs : (cs : List Change) (q : Paths) → find path_cmp q (pairs cs) ≡ change_at cs q
+find_pairs [] q = refl
+find_pairs (c ∷ cs) q = ap (λ r. cond (eq_by_cmp path_cmp q c.path) (Some c.node) r) (find_pairs cs q)
+
+keys_pairs : (cs : List Change) → keys_of (pairs cs) ≡ changed_paths cs
+keys_pairs [] = refl
+keys_pairs (c ∷ cs) = ap (λ l. c.path ∷ l) (keys_pairs cs)
+
+sorted_pairs : (cs : List Change) → IsChanges cs → T (is_sorted path_cmp (pairs cs))
+sorted_pairs cs up = sorted_test path_cmp (pairs cs) (subst (IsStrictlySortedBy path_cmp) (sym (keys_pairs cs)) up)
+
+pub search_rises : (cs : List Change) (q : Paths) → IsChanges cs → IsNonDecreasingBy (λ (c : Change). ordering_index (path_cmp c.path q)) cs
+search_rises cs q up i j d le lt =
+    let r = rises path_total (pairs cs) q (sorted_pairs cs up) i j (pair d) le (omega (arith, length_pairs cs, lt)) in
+    let a : ordering_index (path_cmp (get_or (pairs cs) i (pair d)).0 q) ≡ ordering_index (path_cmp (get_or cs i d).path q) = ap (λ (x : Paths × Option Node). ordering_index (path_cmp x.0 q)) (get_pair cs i d) in
+    let b : ordering_index (path_cmp (get_or (pairs cs) j (pair d)).0 q) ≡ ordering_index (path_cmp (get_or cs j d).path q) = ap (λ (x : Paths × Option Node). ordering_index (path_cmp x.0 q)) (get_pair cs j d) in
+    omega (arith, r, a, b)
+
+found_change : (cs : List Change) (i : ℕ) (q : Paths) (x : Change) → IsChanges cs → i < length cs → path_cmp (get_or cs i x).path q ≡ Equal → (get_or cs i x).node ≡ standing_by cs q
+found_change cs i q x up lt tied =
+    let at = find_at path_total path_same (pairs cs) i q (pair x) (sorted_pairs cs up) (omega (arith, length_pairs cs, lt)) (subst (λ (p : Paths × Option Node). path_cmp p.0 q ≡ Equal) (sym (get_pair cs i x)) tied) in
+    sym (ap (λ o. unwrap_or o None) (sym (find_pairs cs q) ∙ (at ∙ ap (λ (p : Paths × Option Node). Some p.1) (get_pair cs i x))))
+
+absent_change : (cs : List Change) (i : ℕ) (q : Paths) → IsChanges cs → ((j : ℕ) (d : Change) → j < i → path_cmp (get_or cs j d).path q ≡ Less) → ((j : ℕ) (d : Change) → i ≤ j → j < length cs → path_cmp (get_or cs j d).path q ≡ Greater) → None ≡ standing_by cs q
+absent_change cs i q up before after =
+    sym (ap (λ o. unwrap_or o None) (sym (find_pairs cs q) ∙ find_gap path_total (pairs cs) i q (sorted_pairs cs up)
+    (λ j d lt. subst (λ (p : Paths × Option Node). path_cmp p.0 q ≡ Less) (sym (get_pair cs j (record { path = d.0; node = d.1 }))) (before j (record { path = d.0; node = d.1 }) lt))
+    (λ j d le lt. subst (λ (p : Paths × Option Node). path_cmp p.0 q ≡ Greater) (sym (get_pair cs j (record { path = d.0; node = d.1 }))) (after j (record { path = d.0; node = d.1 }) le (omega (arith, length_pairs cs, lt))))))
+
+pub found_in : (changes cs : List Change) (i : ℕ) (q : Paths) (x : Change) (o : Option Node) → cs ≡ changes → IsChanges changes → i < length cs → path_cmp (get_or cs i x).path q ≡ Equal → o ≡ (get_or cs i x).node → o ≡ standing_by changes q
+found_in changes cs i q x o same up lt tied is = is ∙ (found_change cs i q x (subst IsChanges (sym same) up) lt tied ∙ ap (λ l. standing_by l q) same)
+
+pub rises_in : (changes cs : List Change) (q : Paths) → cs ≡ changes → IsChanges changes → IsNonDecreasingBy (λ (c : Change). ordering_index (path_cmp c.path q)) cs
+rises_in changes cs q same up = search_rises cs q (subst IsChanges (sym same) up)
+
+pub absent_in : (changes cs : List Change) (i : ℕ) (q : Paths) → cs ≡ changes → IsChanges changes → ((j : ℕ) (d : Change) → j < i → path_cmp (get_or cs j d).path q ≡ Less) → ((j : ℕ) (d : Change) → i ≤ j → j < length cs → path_cmp (get_or cs j d).path q ≡ Greater) → None ≡ standing_by changes q
+absent_in changes cs i q same up before after = absent_change cs i q (subst IsChanges (sym same) up) before after ∙ ap (λ l. standing_by l q) same
+
+-- ---- the path above
+
+pub text_none : (p : Paths) (text : List ℕ) → text ≡ [] → text ≡ place_of (take 0 p)
+text_none [] text none = none
+text_none (n ∷ p) text none = none
+
+take_at : (xs : Paths) (i : ℕ) (x : List ℕ) → slice_get xs i ≡ Some x → take (i + 1) xs ≡ take i xs ++ x ∷ []
+take_at [] i x is = cc
+take_at (y ∷ xs) zero x is = let same : y ≡ x = cc in ap (λ z. z ∷ []) same
+take_at (y ∷ xs) (suc i) x is = let one : suc i + 1 ≡ suc (i + 1) = omega arith in ap (λ n. take n (y ∷ xs)) one ∙ ap (λ l. y ∷ l) (take_at xs i x is)
+
+pub text_more : (p : Paths) (i : ℕ) (n old new : List ℕ) → Some n ≡ slice_get p i → old ≡ place_of (take i p) → new ≡ old ++ 47 ∷ n → new ≡ place_of (take (i + 1) p)
+text_more p i n old new is so more =
+    more ∙ (ap (λ t. t ++ 47 ∷ n) so ∙ (ap (λ t. place_of (take i p) ++ t) (sym (append-nil (47 ∷ n))) ∙ (sym (flat_map-append (λ name. 47 ∷ name) (take i p) (n ∷ [])) ∙ ap place_of (sym (take_at p i n (sym is))))))
+
+front : (p : Paths) (k : ℕ) → IsPath p → IsPath (take k p)
+front p k path = record { names = λ i d lt. names i d lt; short = omega (arith, length-take k p, path.short) }
+  where
+    get_take : (xs : Paths) (m i : ℕ) (d : List ℕ) → i < length (take m xs) → get_or (take m xs) i d ≡ get_or xs i d
+    get_take [] zero i d lt = refl
+    get_take [] (suc m) i d lt = refl
+    get_take (x ∷ xs) zero i d lt = absurd (omega arith)
+    get_take (x ∷ xs) (suc m) zero d lt = refl
+    get_take (x ∷ xs) (suc m) (suc i) d lt = get_take xs m i d (omega arith)
+
+    names : (i : ℕ) (d : List ℕ) → i < length (take k p) → IsName (get_or (take k p) i d)
+    names i d lt = subst IsName (sym (get_take p k i d lt)) (path.names i d (omega (arith, length-take k p, lt)))
+
+text_is : (p : Paths) → 0 < length p → path_text p ≡ place_of p
+text_is [] some = absurd (omega arith)
+text_is (n ∷ p) some = refl
+
+pub parent_read : (p : Paths) (text : List ℕ) (i : ℕ) → IsPath p → 1 < length p → i ≡ length p - 1 → text ≡ place_of (take i p) → read_path text ≡ Ok (parent p)
+parent_read p text i path many end is =
+    let k = length p - 1 in
+    ap read_path (is ∙ (ap (λ n. place_of (take n p)) end ∙ sym (text_is (take k p) (omega (arith, length-take k p, many))))) ∙ read_path_text (take k p) (front p k path)
+
+pub root_above : (p : Paths) → length p ≤ 1 → [] ≡ parent p
+root_above [] le = refl
+root_above (n ∷ []) le = refl
+root_above (n ∷ m ∷ p) le = absurd (omega arith)
+
+pub not_fault : (r : Result Paths PathFault) (q : Paths) (f : PathFault) → r ≡ Ok q → r ≡ Err f → ⊥
+not_fault r q f a b = let e : ◌≡◌ {A = Result Paths PathFault} (Ok q) (Err f) = sym a ∙ b in cc
+
+pub read_ok : (r : Result Paths PathFault) (p q : Paths) → r ≡ Ok q → r ≡ Ok p → p ≡ q
+read_ok r p q a b = let e : ◌≡◌ {A = Result Paths PathFault} (Ok p) (Ok q) = sym b ∙ a in cc

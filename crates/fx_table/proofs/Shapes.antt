@@ -1,0 +1,187 @@
+-- Paths with nodes, whose directories are given the names that stand in them, are a whole filestore.
+use Rattle.std.proofs.Common.{◌≡◌, inl, inr, ℕ, suc, ◌-◌, Bool, true, false, cond, ◌||◌, List, [], ◌∷◌, ◌++◌, map, length, take, Option, Some, None, is_some, IfSome, All, refl, sym, ◌∙◌, ap, subst, arith, length-append}
+use Rattle.std.specs.declared.cmp.Ordering.TheVariants.{Less}
+use Rattle.std.specs.Ordering.{is_eq, eq_by_cmp}
+use Rattle.std.specs.Cmp.{tied_itself}
+use Rattle.std.specs.Option.{option_map}
+use Rattle.std.specs.List.{AllByRecursion, cons_option}
+use Rattle.std.specs.List.Sorted.{IsStrictlySortedBy}
+use Rattle.std.specs.Map.{keys_of}
+use Rattle.std.specs.FinMap.{find}
+use Rattle.std.proofs.lemmas.Bool.{cases_Bool, false≢true}
+use Rattle.std.proofs.lemmas.List.Elements.{All-nil, All-cons, All-head, All-tail}
+use Rattle.fx_outside.specs.Path.{name_in}
+use Rattle.fx_outside.proofs.Trees.{parts_same, true_test, in_folder_cmp, name_in_folder, name_in_pushed}
+use Rattle.fx_store.specs.declared.node.Node.{Node}
+use Rattle.fx_store.specs.declared.node.Node.TheVariants.{File, Dir, Link}
+use Rattle.fx_store.specs.Names.{name_cmp, path_cmp, has, IsName, IsPath}
+use Rattle.fx_store.specs.Orders.{name_total, path_eq_same}
+use Rattle.fx_store.specs.Whole.{Store, IsWhole, IsNode, lists}
+use Rattle.fx_store.proofs.Stores.{IsWhole-same}
+use Rattle.fx_table.specs.Table.{is_dir}
+use Rattle.fx_table.specs.Listed.{Mapped, names_below, with_names, listed}
+use Rattle.fx_table.specs.Shaped.{IsOfBytes, AreOfBytes}
+pub use Rattle.fx_table.specs.Shaped.{IsLeaf, IsShaped}
+
+abbrev Paths : Type 0
+Paths = List (List ℕ)
+
+-- what stands at each path of a list
+abbrev pub found : List Mapped → Store
+found es path = find path_cmp path es
+
+-- the path above one with a name more
+pub above_pushed : (path : Paths) (name : List ℕ) → take (length (path ++ name ∷ []) - 1) (path ++ name ∷ []) ≡ path
+above_pushed [] name = refl
+above_pushed (x ∷ []) name = refl
+above_pushed (x ∷ y ∷ path) name =
+    let one : length (x ∷ y ∷ path ++ name ∷ []) - 1 ≡ suc (length (y ∷ path ++ name ∷ []) - 1) = omega arith in
+    ap (λ n. take n (x ∷ y ∷ path ++ name ∷ [])) one ∙ ap (λ l. x ∷ l) (above_pushed (y ∷ path) name)
+
+-- ---- the names below a directory
+
+some_or : (b x : Bool) (v : Node) (o : Option Node) → x ≡ is_some o → (b || x) ≡ is_some (cond b (Some v) o)
+some_or true x v o e = refl
+some_or false x v o e = e
+
+-- a directory is given a name exactly where something stands at the name
+pub has_below : (es : List Mapped) (path : Paths) (name : List ℕ) → has (names_below es path) name ≡ is_some (found es (path ++ name ∷ []))
+has_below [] path name = refl
+has_below (e ∷ es) path name =
+    let rest = has_below es path name in
+    elim (name_in path e.0) as (λ o. name_in path e.0 ≡ o → has (cons_option o (names_below es path)) name ≡ is_some (cond (eq_by_cmp path_cmp (path ++ name ∷ []) e.0) (Some e.1) (found es (path ++ name ∷ [])))) [
+      | None ↦ λ is. elim (cases_Bool (eq_by_cmp path_cmp (path ++ name ∷ []) e.0)) [
+        | inl holds ↦
+            let same : path ++ name ∷ [] ≡ e.0 = parts_same _ _ (true_test _ (sym holds)) in
+            let there = name_in_pushed path name in
+            let none : name_in path (path ++ name ∷ []) ≡ None = subst (λ p. name_in path p ≡ None) (sym same) is in
+            cc
+        | inr fails ↦ rest ∙ ap (λ b. is_some (cond b (Some e.1) (found es (path ++ name ∷ [])))) (sym fails)
+      ]
+      | Some other ↦ λ is.
+          let tied : eq_by_cmp path_cmp (path ++ name ∷ []) e.0 ≡ eq_by_cmp name_cmp name other = ap (λ p. eq_by_cmp path_cmp (path ++ name ∷ []) p) (name_in_folder path e.0 other is) ∙ ap is_eq (in_folder_cmp path name other) in
+          some_or (eq_by_cmp name_cmp name other) (has (names_below es path) name) e.1 (found es (path ++ name ∷ [])) rest
+          ∙ ap (λ b. is_some (cond b (Some e.1) (found es (path ++ name ∷ [])))) (sym tied)
+    ] refl
+
+names_after : (path : Paths) (name : List ℕ) (es : List Mapped) → AllByRecursion (λ p. path_cmp (path ++ name ∷ []) p ≡ Less) (keys_of es) → AllByRecursion (λ n. name_cmp name n ≡ Less) (names_below es path)
+names_after path name [] all = tt
+names_after path name (e ∷ es) all =
+    let rest = names_after path name es all.1 in
+    elim (name_in path e.0) as (λ o. name_in path e.0 ≡ o → AllByRecursion (λ n. name_cmp name n ≡ Less) (cons_option o (names_below es path))) [
+      | None ↦ λ is. rest
+      | Some other ↦ λ is. (sym (in_folder_cmp path name other) ∙ subst (λ p. path_cmp (path ++ name ∷ []) p ≡ Less) (name_in_folder path e.0 other is) all.0, rest)
+    ] refl
+
+-- they come in order where the paths do
+pub names_ascend : (path : Paths) (es : List Mapped) → IsStrictlySortedBy path_cmp (keys_of es) → IsStrictlySortedBy name_cmp (names_below es path)
+unfolding IsStrictlySortedBy
+names_ascend path [] up = tt
+names_ascend path (e ∷ es) up =
+    let rest = names_ascend path es up.1 in
+    elim (name_in path e.0) as (λ o. name_in path e.0 ≡ o → IsStrictlySortedBy name_cmp (cons_option o (names_below es path))) [
+      | None ↦ λ is. rest
+      | Some name ↦ λ is. (names_after path name es (subst (λ p. AllByRecursion (λ q. path_cmp p q ≡ Less) (keys_of es)) (name_in_folder path e.0 name is) up.0), rest)
+    ] refl
+
+or_true : (a b : Bool) → b ≡ true → (a || b) ≡ true
+or_true true b e = refl
+or_true false b e = e
+
+has_first : (n : List ℕ) (ns : List (List ℕ)) → has (n ∷ ns) n ≡ true
+has_first n ns = ap (λ b. b || has ns n) (ap is_eq (tied_itself name_total n))
+
+all_names : (ns : List (List ℕ)) → ((n : List ℕ) → has ns n ≡ true → IsName n) → All IsName ns
+all_names [] each = All-nil IsName
+all_names (n ∷ ns) each = All-cons IsName n ns (each n (has_first n ns)) (all_names ns (λ m h. each m (or_true (eq_by_cmp name_cmp m n) (has ns m) h)))
+
+no_names : (ns : List (List ℕ)) → ((n : List ℕ) → has ns n ≡ true → ⊥) → ns ≡ []
+no_names [] never = refl
+no_names (n ∷ ns) never = absurd (never n (has_first n ns))
+
+-- ---- a shape of a filestore
+
+last_name : (path : Paths) (name : List ℕ) → All IsName (path ++ name ∷ []) → IsName name
+last_name [] name all = All-head IsName name [] all
+last_name (n ∷ path) name all = last_name path name (All-tail IsName n (path ++ name ∷ []) all)
+
+-- ---- each directory lists the names below it
+
+abbrev pub relisted : List Mapped → Paths → Node → Node
+relisted es path (File bytes) = File bytes
+relisted es path (Dir names) = Dir (names_below es path)
+relisted es path (Link text) = Link text
+
+with_relisted : (es : List Mapped) (p : Paths) (node : Node) → with_names es (p, node) ≡ (p, relisted es p node)
+with_relisted es p (File bytes) = refl
+with_relisted es p (Dir names) = refl
+with_relisted es p (Link text) = refl
+
+pub find_listed : (es fs : List Mapped) (q : Paths) → found (map (with_names es) fs) q ≡ option_map (relisted es q) (found fs q)
+find_listed es [] q = refl
+find_listed es ((p, node) ∷ fs) q =
+    ap (λ (m : Mapped). cond (eq_by_cmp path_cmp q m.0) (Some m.1) (found (map (with_names es) fs) q)) (with_relisted es p node)
+    ∙ elim (cases_Bool (eq_by_cmp path_cmp q p)) [
+      | inl same ↦
+          ap (λ b. cond b (Some (relisted es p node)) (found (map (with_names es) fs) q)) same
+          ∙ ap (λ r. Some (relisted es r node)) (sym (path_eq_same q p same))
+          ∙ ap (λ b. option_map (relisted es q) (cond b (Some node) (found fs q))) (sym same)
+      | inr other ↦
+          ap (λ b. cond b (Some (relisted es p node)) (found (map (with_names es) fs) q)) other
+          ∙ find_listed es fs q
+          ∙ ap (λ b. option_map (relisted es q) (cond b (Some node) (found fs q))) (sym other)
+    ]
+
+some_map : (f : Node → Node) (o : Option Node) → is_some (option_map f o) ≡ is_some o
+some_map f None = refl
+some_map f (Some x) = refl
+
+never_some : (b : Bool) → (b ≡ true → false ≡ true) → b ≡ false
+never_some true never = absurd (false≢true (never refl))
+never_some false never = refl
+
+module _ (es : List Mapped) (up : IsStrictlySortedBy path_cmp (keys_of es)) (shape : IsShaped (found es)) (bytes : AreOfBytes (found es)) where
+  abbrev after : Store
+  after path = option_map (relisted es path) (found es path)
+
+  root_lists : (o : Option Node) → is_dir o ≡ true → (names : List (List ℕ)) × (option_map (relisted es []) o ≡ Some (Dir names))
+  root_lists None e = absurd (false≢true e)
+  root_lists (Some (File bs)) e = absurd (false≢true e)
+  root_lists (Some (Dir names)) e = (names_below es [], refl)
+  root_lists (Some (Link text)) e = absurd (false≢true e)
+
+  lists_what_is_there : (path : Paths) (name : List ℕ) (o : Option Node) → (is_some (found es (path ++ name ∷ [])) ≡ true → is_dir o ≡ true) → is_some (found es (path ++ name ∷ [])) ≡ lists (option_map (relisted es path) o) name
+  lists_what_is_there path name None above = never_some _ above
+  lists_what_is_there path name (Some (File bs)) above = never_some _ above
+  lists_what_is_there path name (Some (Dir names)) above = sym (has_below es path name)
+  lists_what_is_there path name (Some (Link text)) above = never_some _ above
+
+  path_below : (path : Paths) (name : List ℕ) → has (names_below es path) name ≡ true → IsPath (path ++ name ∷ [])
+  path_below path name h = shape.paths (path ++ name ∷ []) (sym (has_below es path name) ∙ h)
+
+  pub is_set : (path : Paths) → IsNode path (Dir (names_below es path))
+  is_set path = (
+    record {
+      names = all_names (names_below es path) (λ n h. last_name path n (path_below path n h).names);
+      ascending = names_ascend path es up;
+    },
+    λ long. no_names (names_below es path) (λ n h. let short = (path_below path n h).short in omega (arith, length-append path (n ∷ []))),
+  )
+
+  node_within : (path : Paths) (o : Option Node) → IfSome o IsLeaf → IfSome o IsOfBytes → IfSome (option_map (relisted es path) o) (IsNode path)
+  node_within path None leaf held = tt
+  node_within path (Some (File bs)) leaf held = record { short = leaf; bytes = held }
+  node_within path (Some (Dir names)) leaf held = is_set path
+  node_within path (Some (Link text)) leaf held = leaf
+
+  is_whole : IsWhole after
+  is_whole = record {
+    root = root_lists (found es []) shape.root;
+    listed = λ path name. some_map (relisted es (path ++ name ∷ [])) (found es (path ++ name ∷ [])) ∙ lists_what_is_there path name (found es path) (shape.above path name);
+    paths = λ path some. shape.paths path (sym (some_map (relisted es path) (found es path)) ∙ some);
+    nodes = λ path. node_within path (found es path) (shape.leaves path) (bytes path);
+  }
+
+  -- the filestore is whole
+  pub listed_whole : IsWhole (found (listed es))
+  listed_whole = IsWhole-same after (found (listed es)) (λ q. sym (find_listed es es q)) is_whole

@@ -1,0 +1,474 @@
+-- The lines of a table are read back, and no other text is read.
+use Rattle.std.proofs.Common.{◌≡◌, ℕ, ◌+◌, ◌/◌, ◌%◌, ◌<◌, ◌≤◌, inl, inr, ltb, Bool, true, false, cond, ◌&&◌, IsTrue, List, [], ◌∷◌, ◌++◌, length, length-append, codes, map, refl, sym, ap, subst, ◌∙◌, arith, Option, Some, None, Result, Ok, Err, append_assoc, All}
+use Rattle.std.specs.Prelude.{bytes_eq, is_ok, is_some, nat_lt}
+use Rattle.std.specs.Str.{is_utf8}
+use Rattle.std.specs.Ordering.{is_lt}
+use Rattle.std.specs.declared.cmp.Ordering.{Ordering}
+use Rattle.std.specs.declared.cmp.Ordering.TheVariants.{Less, Equal, Greater}
+use Rattle.std.specs.List.{flat_map, filter_map, slice_split, join_with_byte, AllByRecursion, cons_option, onto_first}
+use Rattle.std.specs.List.Sorted.{IsStrictlySortedBy}
+use Rattle.std.proofs.lemmas.Bool.{false≢true}
+use Rattle.std.proofs.lemmas.Bool.Decides.{nat_tests}
+use Rattle.std.proofs.lemmas.Slice.Eq.{bytes_eq-Decides}
+use Rattle.std.proofs.lemmas.Str.{IsUtf8-from_is_utf8}
+use Rattle.std.proofs.lemmas.List.Elements.{All-nil, All-cons, All-head, All-tail, All-append, All-weaker}
+use Rattle.std.proofs.lemmas.List.Splits.{slice_split_none, slice_split_at, length-slice_split, join_with_byte-slice_split}
+use lib.Utf8.{scalar, scalars, scalar_cases, encode, encodes}
+use Rattle.fx_store.specs.declared.name.PathFault.{PathFault}
+use Rattle.fx_store.specs.declared.name.PathFault.TheVariants.{BadName, TooDeep}
+use Rattle.fx_store.specs.Names.{is_name, IsName, IsPath, IsLinkText, path_cmp, path_text, has_link_form, components}
+use Rattle.fx_store.specs.Orders.{path_total}
+use Rattle.fx_store.specs.Faults.{read_path, read_link}
+use Rattle.fx_store.specs.Whole.{Store}
+use Rattle.fx_store.proofs.SpellingLaws.{path_texts_read}
+use Rattle.fx_table.specs.TableSpelling.{spelling, unspelled}
+use Rattle.fx_table.specs.Table.{TableLink, line_of, table_text, linked, link_of, read_parts, is_space, read_line, can_stand, next_link, with_first, read_on, read_lines, is_feed, read_table, IsLink, IsTableBehind, IsTable}
+use Rattle.fx_table.specs.TableLaws.{Spells, IsFirstBadLine}
+use Rattle.fx_table.proofs.TableSpelling.{true_or_false, spelling_read, read_spelling, spelling_visible}
+
+-- ---- the bytes of names
+
+abbrev IsByte : ℕ → Type 0
+IsByte b = b < 256
+
+pub first_passes : (a b : Bool) → (a && b) ≡ true → a ≡ true
+first_passes true b e = refl
+first_passes false b e = e
+
+pub second_passes : (a b : Bool) → (a && b) ≡ true → b ≡ true
+second_passes true b e = e
+second_passes false b e = absurd (false≢true e)
+
+small : (c : ℕ) → scalar c ≡ true → c < 1114112
+small c h = elim (scalar_cases c h) [ inl low ↦ omega arith | inr high ↦ omega arith ]
+
+below : (c n : ℕ) → ltb c n ≡ true → c < n
+below c n h = grind (arith, nat_tests)
+
+one : (a : ℕ) → a < 256 → All IsByte (a ∷ [])
+one a p = All-cons IsByte a [] p (All-nil IsByte)
+
+two : (a b : ℕ) → a < 256 → b < 256 → All IsByte (a ∷ b ∷ [])
+two a b p q = All-cons IsByte a (b ∷ []) p (one b q)
+
+encode_bytes : (c : ℕ) → scalar c ≡ true → All IsByte (encode c)
+unfolding encode
+encode_bytes c h = elim (true_or_false (ltb c 128)) [
+  | inl e ↦ let low : c < 256 = omega (arith, below c 128 e) in rw e (one c low)
+  | inr e ↦ elim (true_or_false (ltb c 2048)) [
+    | inl f ↦ let low : 192 + c / 64 < 256 = omega (arith, below c 2048 f) in rw (e, f) (two (192 + c / 64) (128 + c % 64) low (omega arith))
+    | inr f ↦ elim (true_or_false (ltb c 65536)) [
+      | inl g ↦
+          let low : 224 + c / 4096 < 256 = omega (arith, below c 65536 g) in
+          rw (e, f, g) (All-cons IsByte (224 + c / 4096) ((128 + c / 64 % 64) ∷ (128 + c % 64) ∷ []) low (two (128 + c / 64 % 64) (128 + c % 64) (omega arith) (omega arith)))
+      | inr g ↦
+          let low : 240 + c / 262144 < 256 = omega (arith, small c h) in
+          rw (e, f, g)
+          (All-append IsByte ((240 + c / 262144) ∷ (128 + c / 4096 % 64) ∷ []) ((128 + c / 64 % 64) ∷ (128 + c % 64) ∷ [])
+          (two (240 + c / 262144) (128 + c / 4096 % 64) low (omega arith)) (two (128 + c / 64 % 64) (128 + c % 64) (omega arith) (omega arith)))
+    ]
+  ]
+]
+
+encodes_bytes : (cs : List ℕ) → scalars cs ≡ true → All IsByte (encodes cs)
+encodes_bytes [] h = All-nil IsByte
+encodes_bytes (c ∷ cs) h =
+    All-append IsByte (encode c) (encodes cs) (encode_bytes c (first_passes (scalar c) (scalars cs) h)) (encodes_bytes cs (second_passes (scalar c) (scalars cs) h))
+
+utf8_bytes : (bs : List ℕ) → is_utf8 bs ≡ true → All IsByte bs
+utf8_bytes bs h = let text = IsUtf8-from_is_utf8 bs h in subst (All IsByte) text.1.1 (encodes_bytes text.0 text.1.0)
+
+name_bytes : (n : List ℕ) → IsName n → All IsByte n
+unfolding is_name
+name_bytes n h = utf8_bytes n (second_passes _ (is_utf8 n) h)
+
+names_bytes : (ns : List (List ℕ)) → All IsName ns → All IsByte (flat_map (λ n. 47 ∷ n) ns)
+names_bytes [] all = All-nil IsByte
+names_bytes (n ∷ ns) all =
+    All-cons IsByte 47 (n ++ flat_map (λ n. 47 ∷ n) ns) (omega arith)
+    (All-append IsByte n (flat_map (λ n. 47 ∷ n) ns) (name_bytes n (All-head IsName n ns all)) (names_bytes ns (All-tail IsName n ns all)))
+
+path_bytes : (p : List (List ℕ)) → All IsName p → All IsByte (path_text p)
+path_bytes [] all = All-cons IsByte 47 [] (omega arith) (All-nil IsByte)
+path_bytes (n ∷ ns) all = names_bytes (n ∷ ns) all
+
+-- ---- paths and link texts
+
+few : {A : Type 0} (n : ℕ) (x : Result A PathFault) (f : PathFault) → n ≤ 64 → cond (nat_lt 64 n) (Err f) x ≡ x
+few n x f h = grind (arith, nat_tests)
+
+pub read_path_text : (p : List (List ℕ)) → IsPath p → read_path (path_text p) ≡ Ok p
+read_path_text p path = (path_texts_read (path_text p) p).reads (record { names = path.names; spelled = refl }) ∙ few (length p) (Ok p) TooDeep path.short
+
+chosen_ok : {A : Type 0} (b : Bool) (x : Result A PathFault) (f : PathFault) (a : A) → cond b x (Err f) ≡ Ok a → (b ≡ true) × (x ≡ Ok a)
+chosen_ok true x f a e = (refl, e)
+chosen_ok false x f a e = absurd (false≢true (ap is_ok e))
+
+spared_ok : {A : Type 0} (b : Bool) (x : A) (f : PathFault) (a : A) → cond b (Err f) (Ok x) ≡ Ok a → (b ≡ false) × (x ≡ a)
+spared_ok true x f a e = absurd (false≢true (ap is_ok e))
+spared_ok false x f a e = (refl, cc)
+
+not_many : (n : ℕ) → nat_lt 64 n ≡ false → n ≤ 64
+not_many n h = grind (arith, nat_tests)
+
+path_of_read : (text : List ℕ) (p : List (List ℕ)) → read_path text ≡ Ok p → (path_text p ≡ text) × IsPath p
+path_of_read text p e =
+    let law = path_texts_read text p in
+    let spells = law.spells e in
+    let deep = spared_ok (nat_lt 64 (length p)) p TooDeep p (sym (law.reads spells) ∙ e) in
+    (spells.spelled, record { names = spells.names; short = not_many (length p) deep.0 })
+
+read_link_text : (text : List ℕ) → IsLinkText text → read_link text ≡ Ok text
+read_link_text text link =
+    ap (λ b. cond b (cond (nat_lt 64 (length (components text))) (Err TooDeep) (Ok text)) (Err BadName)) link.form
+    ∙ few (length (components text)) (Ok text) TooDeep link.short
+
+link_of_read : (text link : List ℕ) → All IsByte text → read_link text ≡ Ok link → (link ≡ text) × IsLinkText link
+link_of_read text link bytes e =
+    let form = chosen_ok (has_link_form text) (cond (nat_lt 64 (length (components text))) (Err TooDeep) (Ok text)) BadName link e in
+    let deep = spared_ok (nat_lt 64 (length (components text))) text TooDeep link form.1 in
+    (sym deep.1, subst IsLinkText deep.1 (record { form = form.0; short = not_many (length (components text)) deep.0; bytes = bytes }))
+
+-- ---- a line
+
+no_space : (bs : List ℕ) → All (λ b. is_space b ≡ false) (spelling bs)
+no_space bs = All-weaker (λ b. 33 ≤ b) (λ b. is_space b ≡ false) (λ b h. grind (arith, nat_tests)) (spelling bs) (spelling_visible bs)
+
+arrow_has_none : All (λ b. is_space b ≡ false) (codes "->")
+arrow_has_none = All-cons (λ b. is_space b ≡ false) 45 (62 ∷ []) refl (All-cons (λ b. is_space b ≡ false) 62 [] refl (All-nil (λ b. is_space b ≡ false)))
+
+line_parts : (l : TableLink) → slice_split is_space (line_of l) ≡ spelling (path_text l.path) ∷ codes "->" ∷ spelling l.text ∷ []
+line_parts l =
+    slice_split_at is_space (spelling (path_text l.path)) 32 (codes "-> " ++ spelling l.text) (no_space (path_text l.path)) refl
+    ∙ ap (λ ps. spelling (path_text l.path) ∷ ps)
+    (slice_split_at is_space (codes "->") 32 (spelling l.text) arrow_has_none refl
+    ∙ ap (λ ps. codes "->" ∷ ps) (slice_split_none is_space (spelling l.text) (no_space l.text)))
+
+pub line_read : (l : TableLink) → IsLink l → read_line (line_of l) ≡ Some l
+line_read l link =
+    ap read_parts (line_parts l)
+    ∙ (ap (λ p. link_of p (unspelled (spelling l.text))) (spelling_read (path_text l.path) (path_bytes l.path link.path.names))
+    ∙ (ap (link_of (Some (path_text l.path))) (spelling_read l.text link.text.bytes)
+    ∙ (ap (λ p. linked p (read_link l.text)) (read_path_text l.path link.path) ∙ ap (linked (Ok l.path)) (read_link_text l.text link.text))))
+
+-- the line of a link within its limits
+pub record IsLineOf (line : List ℕ) (l : TableLink) : Type 0 where
+  pub spelled : line ≡ line_of l
+  pub link : IsLink l
+
+linked_is : (p t : List ℕ) (x : Result (List (List ℕ)) PathFault) (y : Result (List ℕ) PathFault) (l : TableLink) → All IsByte t → read_path p ≡ x → read_link t ≡ y → linked x y ≡ Some l
+    → (path_text l.path ≡ p) × (l.text ≡ t) × IsLink l
+linked_is p t (Ok path) (Ok text) l bytes e f is =
+    let here = path_of_read p path e in
+    let there = link_of_read t text bytes f in
+    let same : ◌≡◌ {A = TableLink} (record { path = path; text = text }) l = cc in
+    subst (λ (k : TableLink). (path_text k.path ≡ p) × (k.text ≡ t) × IsLink k) same (here.0, there.0, record { path = here.1; text = there.1 })
+linked_is p t (Ok path) (Err fault) l bytes e f is = absurd (false≢true (ap is_some is))
+linked_is p t (Err fault) y l bytes e f is = absurd (false≢true (ap is_some is))
+
+link_of_is : (a b : List ℕ) (p t : Option (List ℕ)) (l : TableLink) → unspelled a ≡ p → unspelled b ≡ t → link_of p t ≡ Some l
+    → (spelling (path_text l.path) ≡ a) × (spelling l.text ≡ b) × IsLink l
+link_of_is a b (Some p) (Some t) l e f is =
+    let path = read_spelling a p e in
+    let text = read_spelling b t f in
+    let both = linked_is p t (read_path p) (read_link t) l text.bytes refl refl is in
+    (ap spelling both.0 ∙ path.spelled, ap spelling both.1 ∙ text.spelled, both.2)
+link_of_is a b (Some p) None l e f is = absurd (false≢true (ap is_some is))
+link_of_is a b None t l e f is = absurd (false≢true (ap is_some is))
+
+chosen_some : {A : Type 0} (b : Bool) (x : Option A) (a : A) → cond b x None ≡ Some a → (b ≡ true) × (x ≡ Some a)
+chosen_some true x a e = (refl, e)
+chosen_some false x a e = absurd (false≢true (ap is_some e))
+
+parts_are : (parts : List (List ℕ)) (l : TableLink) → read_parts parts ≡ Some l → IsLineOf (join_with_byte 32 parts) l
+parts_are [] l is = absurd (false≢true (ap is_some is))
+parts_are (a ∷ []) l is = absurd (false≢true (ap is_some is))
+parts_are (a ∷ b ∷ []) l is = absurd (false≢true (ap is_some is))
+parts_are (a ∷ arrow ∷ b ∷ []) l is =
+    let both = chosen_some (bytes_eq arrow (codes "->")) (link_of (unspelled a) (unspelled b)) l is in
+    let mark = (bytes_eq-Decides arrow (codes "->")).0 both.0 in
+    let found = link_of_is a b (unspelled a) (unspelled b) l refl refl both.1 in
+    record { spelled = ap (λ m. a ++ 32 ∷ (m ++ 32 ∷ b)) mark ∙ (ap (λ p. p ++ (codes " -> " ++ b)) (sym found.0) ∙ ap (λ t. spelling (path_text l.path) ++ (codes " -> " ++ t)) (sym found.1)); link = found.2 }
+parts_are (a ∷ b ∷ c ∷ d ∷ more) l is = absurd (false≢true (ap is_some is))
+
+pub line_is : (line : List ℕ) (l : TableLink) → read_line line ≡ Some l → IsLineOf line l
+line_is line l is = subst (λ t. IsLineOf t l) (join_with_byte-slice_split 32 line) (parts_are (slice_split is_space line) l is)
+
+-- ---- a table
+
+feedless : (bs : List ℕ) → All (λ b. is_feed b ≡ false) (spelling bs)
+feedless bs = All-weaker (λ b. 33 ≤ b) (λ b. is_feed b ≡ false) (λ b h. grind (arith, nat_tests)) (spelling bs) (spelling_visible bs)
+
+arrow_feedless : All (λ b. is_feed b ≡ false) (codes " -> ")
+arrow_feedless =
+    All-cons (λ b. is_feed b ≡ false) 32 (45 ∷ 62 ∷ 32 ∷ []) refl
+    (All-cons (λ b. is_feed b ≡ false) 45 (62 ∷ 32 ∷ []) refl (All-cons (λ b. is_feed b ≡ false) 62 (32 ∷ []) refl (All-cons (λ b. is_feed b ≡ false) 32 [] refl (All-nil (λ b. is_feed b ≡ false)))))
+
+pub line_feedless : (l : TableLink) → All (λ b. is_feed b ≡ false) (line_of l)
+line_feedless l =
+    All-append (λ b. is_feed b ≡ false) (spelling (path_text l.path)) (codes " -> " ++ spelling l.text) (feedless (path_text l.path))
+    (All-append (λ b. is_feed b ≡ false) (codes " -> ") (spelling l.text) arrow_feedless (feedless l.text))
+
+-- the first line, and those behind it
+pub first_line : (l : TableLink) (text : List ℕ) → slice_split is_feed ((line_of l ++ 10 ∷ []) ++ text) ≡ line_of l ∷ slice_split is_feed text
+first_line l text = ap (slice_split is_feed) (append_assoc (line_of l) (10 ∷ []) text) ∙ slice_split_at is_feed (line_of l) 10 text (line_feedless l) refl
+
+pub some_line : (text : List ℕ) → 0 < length (slice_split is_feed text)
+some_line text = omega (arith, length-slice_split is_feed text)
+
+-- a line with its line feed
+read_more : (S : Store) (before : List (List ℕ)) (number : ℕ) (line : List ℕ) (lines : List (List ℕ)) → 0 < length lines
+    → read_lines S before number (line ∷ lines) ≡ read_on number (next_link S before (read_line line)) (λ link. read_lines S link.path (number + 1) lines)
+read_more S before number line [] some = absurd (omega arith)
+read_more S before number [] (next ∷ lines) some = refl
+read_more S before number (b ∷ line) (next ∷ lines) some = refl
+
+both_pass : (a b : Bool) → a ≡ true → b ≡ true → (a && b) ≡ true
+both_pass a b e f = rw (e, f) refl
+
+-- the first link of a table and the others
+first_stands : (S : Store) (before : List (List ℕ)) (l : TableLink) (ls : List TableLink) → IsTableBehind S before (l ∷ ls) → next_link S before (Some l) ≡ Some l
+unfolding IsStrictlySortedBy
+first_stands S before l ls t =
+    ap (λ b. cond b (Some l) None)
+    (both_pass (is_lt (path_cmp before l.path)) (can_stand S l.path) (ap is_lt t.ascending.0.0) (All-head (λ (l : TableLink). IsTrue (can_stand S l.path)) l ls t.stand))
+
+others_stand : (S : Store) (before : List (List ℕ)) (l : TableLink) (ls : List TableLink) → IsTableBehind S before (l ∷ ls) → IsTableBehind S l.path ls
+unfolding IsStrictlySortedBy
+others_stand S before l ls t =
+    record { valid = All-tail IsLink l ls t.valid; stand = All-tail (λ (l : TableLink). IsTrue (can_stand S l.path)) l ls t.stand; ascending = t.ascending.1 }
+
+table_read : (S : Store) (before : List (List ℕ)) (number : ℕ) (ls : List TableLink) → IsTableBehind S before ls → read_lines S before number (slice_split is_feed (table_text ls)) ≡ Ok ls
+table_read S before number [] t = refl
+table_read S before number (l ∷ ls) t =
+    ap (read_lines S before number) (first_line l (table_text ls))
+    ∙ (read_more S before number (line_of l) (slice_split is_feed (table_text ls)) (some_line (table_text ls))
+    ∙ (ap (λ o. read_on number (next_link S before o) (λ link. read_lines S link.path (number + 1) (slice_split is_feed (table_text ls)))) (line_read l (All-head IsLink l ls t.valid))
+    ∙ (ap (λ o. read_on number o (λ link. read_lines S link.path (number + 1) (slice_split is_feed (table_text ls)))) (first_stands S before l ls t)
+    ∙ ap (with_first l) (table_read S l.path (number + 1) ls (others_stand S before l ls t)))))
+
+pub tables_are_read : (S : Store) (links : List TableLink) → IsTable S links → read_table S (table_text links) ≡ Ok links
+tables_are_read S links t = table_read S [] 1 links t
+
+-- ---- a text that is read
+
+less : (r : Ordering) → is_lt r ≡ true → r ≡ Less
+less Less e = refl
+less Equal e = absurd (false≢true e)
+less Greater e = absurd (false≢true e)
+
+-- the link follows the line of a path
+record Follows (S : Store) (before : List (List ℕ)) (o : Option TableLink) (l : TableLink) : Type 0 where
+  was : o ≡ Some l
+  above : path_cmp before l.path ≡ Less
+  stands : IsTrue (can_stand S l.path)
+
+next_is : (S : Store) (before : List (List ℕ)) (o : Option TableLink) (l : TableLink) → next_link S before o ≡ Some l → Follows S before o l
+next_is S before None l e = absurd (false≢true (ap is_some e))
+next_is S before (Some k) l e =
+    let both = chosen_some (is_lt (path_cmp before k.path) && can_stand S k.path) (Some k) l e in
+    let same : k ≡ l = cc in
+    subst (Follows S before (Some k)) same
+    (record {
+      was = refl;
+      above = less (path_cmp before k.path) (first_passes (is_lt (path_cmp before k.path)) (can_stand S k.path) both.0);
+      stands = second_passes (is_lt (path_cmp before k.path)) (can_stand S k.path) both.0;
+    })
+
+-- a path below the first of an ascending list is below all of it
+below_rest : (p q : List (List ℕ)) (ps : List (List (List ℕ))) → path_cmp p q ≡ Less → AllByRecursion (λ r. path_cmp q r ≡ Less) ps → AllByRecursion (λ r. path_cmp p r ≡ Less) ps
+below_rest p q [] e all = tt
+below_rest p q (r ∷ ps) e all = (path_total.trans p q r e all.0, below_rest p q ps e all.1)
+
+no_links : (S : Store) (before : List (List ℕ)) → IsTableBehind S before []
+unfolding IsStrictlySortedBy
+no_links S before = record { valid = All-nil IsLink; stand = All-nil (λ (l : TableLink). IsTrue (can_stand S l.path)); ascending = (tt, tt) }
+
+one_more : (S : Store) (before : List (List ℕ)) (o : Option TableLink) (l : TableLink) (ls : List TableLink) → IsLink l → Follows S before o l → IsTableBehind S l.path ls → IsTableBehind S before (l ∷ ls)
+unfolding IsStrictlySortedBy
+one_more S before o l ls link f t =
+    record {
+      valid = All-cons IsLink l ls link t.valid;
+      stand = All-cons (λ (l : TableLink). IsTrue (can_stand S l.path)) l ls f.stands t.stand;
+      ascending = ((f.above, below_rest before l.path (map (λ (l : TableLink). l.path) ls) f.above t.ascending.0), t.ascending);
+    }
+
+-- the text is that of a table behind a path
+record SpellsBehind (S : Store) (before : List (List ℕ)) (text : List ℕ) (ls : List TableLink) : Type 0 where
+  spelled : text ≡ table_text ls
+  table : IsTableBehind S before ls
+
+nothing_read : (S : Store) (before : List (List ℕ)) (ls : List TableLink) → ◌≡◌ {A = Result (List TableLink) ℕ} (Ok []) (Ok ls) → SpellsBehind S before [] ls
+nothing_read S before ls e = let same : [] ≡ ls = cc in subst (SpellsBehind S before []) same (record { spelled = refl; table = no_links S before })
+
+first_ok : (l : TableLink) (r : Result (List TableLink) ℕ) (ls : List TableLink) → with_first l r ≡ Ok ls → (later : List TableLink) × (r ≡ Ok later) × (l ∷ later ≡ ls)
+first_ok l (Ok later) ls e = (later, refl, cc)
+first_ok l (Err n) ls e = absurd (false≢true (ap is_ok e))
+
+-- what is read behind a line that gives a link
+record GoesOn (o : Option TableLink) (further : TableLink → Result (List TableLink) ℕ) (ls : List TableLink) : Type 0 where
+  link : TableLink
+  later : List TableLink
+  found : o ≡ Some link
+  rest : further link ≡ Ok later
+  whole : link ∷ later ≡ ls
+
+goes_on : (n : ℕ) (o : Option TableLink) (further : TableLink → Result (List TableLink) ℕ) (ls : List TableLink) → read_on n o further ≡ Ok ls → GoesOn o further ls
+goes_on n None further ls e = absurd (false≢true (ap is_ok e))
+goes_on n (Some l) further ls e = let both = first_ok l (further l) ls e in record { link = l; later = both.0; found = refl; rest = both.1; whole = both.2 }
+
+longer : (S : Store) (before : List (List ℕ)) (line text : List ℕ) (l : TableLink) (ls : List TableLink) → next_link S before (read_line line) ≡ Some l → SpellsBehind S l.path text ls → SpellsBehind S before (line ++ 10 ∷ text) (l ∷ ls)
+longer S before line text l ls e s =
+    let follows = next_is S before (read_line line) l e in
+    let here = line_is line l follows.was in
+    record {
+      spelled = ap (λ t. t ++ 10 ∷ text) here.spelled ∙ (ap (λ t. line_of l ++ 10 ∷ t) s.spelled ∙ sym (append_assoc (line_of l) (10 ∷ []) (table_text ls)));
+      table = one_more S before (read_line line) l ls here.link follows s.table;
+    }
+
+read_is : (S : Store) (before : List (List ℕ)) (number : ℕ) (lines : List (List ℕ)) (ls : List TableLink) → read_lines S before number lines ≡ Ok ls → SpellsBehind S before (join_with_byte 10 lines) ls
+read_is S before number [] ls e = nothing_read S before ls e
+read_is S before number ([] ∷ []) ls e = nothing_read S before ls e
+read_is S before number ((b ∷ line) ∷ []) ls e = absurd (false≢true (ap is_ok e))
+read_is S before number (line ∷ next ∷ lines) ls e =
+    let on = goes_on number (next_link S before (read_line line)) (λ link. read_lines S link.path (number + 1) (next ∷ lines)) ls (sym (read_more S before number line (next ∷ lines) (omega arith)) ∙ e) in
+    subst (SpellsBehind S before (line ++ 10 ∷ join_with_byte 10 (next ∷ lines))) on.whole
+    (longer S before line (join_with_byte 10 (next ∷ lines)) on.link on.later on.found (read_is S on.link.path (number + 1) (next ∷ lines) on.later on.rest))
+
+pub read_texts_are_tables : (S : Store) (text : List ℕ) (links : List TableLink) → read_table S text ≡ Ok links → Spells S text links
+read_texts_are_tables S text links e =
+    let all = read_is S [] 1 (slice_split is_feed text) links e in
+    record { spelled = sym (join_with_byte-slice_split 10 text) ∙ all.spelled; table = all.table }
+
+-- ---- different links
+
+lines_read : (ls : List TableLink) → All IsLink ls → filter_map read_line (slice_split is_feed (table_text ls)) ≡ ls
+lines_read [] all = refl
+lines_read (l ∷ ls) all =
+    ap (filter_map read_line) (first_line l (table_text ls))
+    ∙ (ap (λ o. cons_option o (filter_map read_line (slice_split is_feed (table_text ls)))) (line_read l (All-head IsLink l ls all))
+    ∙ ap (λ ks. l ∷ ks) (lines_read ls (All-tail IsLink l ls all)))
+
+pub tables_are_readable : (links others : List TableLink) → All IsLink links → All IsLink others → table_text links ≡ table_text others → links ≡ others
+tables_are_readable links others p q e = sym (lines_read links p) ∙ (ap (λ t. filter_map read_line (slice_split is_feed t)) e ∙ lines_read others q)
+
+-- ---- the first bad line
+
+-- each piece of a text that is cut at its line feeds has none
+abbrev pub Feedless : List ℕ → Type 0
+Feedless line = All (λ b. is_feed b ≡ false) line
+
+feedless_first : (b : ℕ) (lines : List (List ℕ)) → is_feed b ≡ false → All Feedless lines → All Feedless (onto_first b lines)
+feedless_first b [] e all = All-cons Feedless (b ∷ []) [] (All-cons (λ b. is_feed b ≡ false) b [] e (All-nil (λ b. is_feed b ≡ false))) (All-nil Feedless)
+feedless_first b (line ∷ lines) e all =
+    All-cons Feedless (b ∷ line) lines (All-cons (λ b. is_feed b ≡ false) b line e (All-head Feedless line lines all)) (All-tail Feedless line lines all)
+
+feedless_by : (t : Bool) (b : ℕ) (lines : List (List ℕ)) → is_feed b ≡ t → All Feedless lines → All Feedless (cond t ([] ∷ lines) (onto_first b lines))
+feedless_by true b lines e all = All-cons Feedless [] lines (All-nil (λ b. is_feed b ≡ false)) all
+feedless_by false b lines e all = feedless_first b lines e all
+
+pieces_feedless : (text : List ℕ) → All Feedless (slice_split is_feed text)
+pieces_feedless [] = All-cons Feedless [] [] (All-nil (λ b. is_feed b ≡ false)) (All-nil Feedless)
+pieces_feedless (b ∷ text) = feedless_by (is_feed b) b (slice_split is_feed text) refl (pieces_feedless text)
+
+-- behind a path, no table of so many lines has one line more of the text
+record StopsBehind (S : Store) (before : List (List ℕ)) (number : ℕ) (text : List ℕ) (n : ℕ) : Type 0 where
+  links : List TableLink
+  rest : List ℕ
+  parts : text ≡ table_text links ++ rest
+  table : IsTableBehind S before links
+  place : n ≡ length links + number
+  some : rest ≡ [] → ⊥
+  stops : (l : TableLink) (later : List ℕ) → rest ≡ line_of l ++ 10 ∷ later → IsTableBehind S before (links ++ l ∷ []) → ⊥
+
+abbrev head_or : List (List ℕ) → List ℕ
+head_or [] = []
+head_or (line ∷ lines) = line
+
+cut : (l : TableLink) (later : List ℕ) → slice_split is_feed (line_of l ++ 10 ∷ later) ≡ line_of l ∷ slice_split is_feed later
+cut l later = slice_split_at is_feed (line_of l) 10 later (line_feedless l) refl
+
+-- the first line of a text is one alone
+pub same_line : (line text : List ℕ) (l : TableLink) (later : List ℕ) → Feedless line → line ++ 10 ∷ text ≡ line_of l ++ 10 ∷ later → line ≡ line_of l
+same_line line text l later none e =
+    ap head_or (sym (slice_split_at is_feed line 10 text none refl) ∙ (ap (slice_split is_feed) e ∙ cut l later))
+
+pub no_feed : (line : List ℕ) (l : TableLink) (later : List ℕ) → Feedless line → line ≡ line_of l ++ 10 ∷ later → ⊥
+no_feed line l later none e =
+    let lines : line ∷ [] ≡ line_of l ∷ slice_split is_feed later = sym (slice_split_none is_feed line none) ∙ (ap (slice_split is_feed) e ∙ cut l later) in
+    let some = some_line later in
+    let count : 1 ≡ 1 + length (slice_split is_feed later) = ap length lines ∙ omega arith in
+    omega arith
+
+-- a line that lacks its line feed
+lacks_feed : (S : Store) (before : List (List ℕ)) (number b n : ℕ) (line : List ℕ) → Feedless (b ∷ line) → number ≡ n → StopsBehind S before number (b ∷ line) n
+lacks_feed S before number b n line none e =
+    record {
+      links = [];
+      rest = b ∷ line;
+      parts = refl;
+      table = no_links S before;
+      place = omega (arith, e);
+      some = λ (e : b ∷ line ≡ []). cc;
+      stops = λ l later e t. no_feed (b ∷ line) l later none e;
+    }
+
+not_empty : (line text : List ℕ) → line ++ 10 ∷ text ≡ [] → ⊥
+not_empty line text e = let long : length (line ++ 10 ∷ text) ≡ 0 = ap length e in omega (arith, length-append line (10 ∷ text))
+
+-- a line that gives no link which can follow
+gives_none : (S : Store) (before : List (List ℕ)) (number n : ℕ) (line text : List ℕ) → Feedless line → next_link S before (read_line line) ≡ None → number ≡ n → StopsBehind S before number (line ++ 10 ∷ text) n
+gives_none S before number n line text none e same =
+    record {
+      links = [];
+      rest = line ++ 10 ∷ text;
+      parts = refl;
+      table = no_links S before;
+      place = omega (arith, same);
+      some = λ f. not_empty line text f;
+      stops = λ l later f t.
+          let here = same_line line text l later none f in
+          let read : read_line line ≡ Some l = ap read_line here ∙ line_read l (All-head IsLink l [] t.valid) in
+          false≢true (ap is_some (sym e ∙ (ap (next_link S before) read ∙ first_stands S before l [] t)));
+    }
+
+first_err : (l : TableLink) (r : Result (List TableLink) ℕ) (n : ℕ) → with_first l r ≡ Err n → r ≡ Err n
+first_err l (Ok later) n e = absurd (false≢true (sym (ap is_ok e)))
+first_err l (Err m) n e = cc
+
+-- a line that gives a link, and a bad one behind it
+stops_later : (S : Store) (before : List (List ℕ)) (number n : ℕ) (line text : List ℕ) (l : TableLink) → next_link S before (read_line line) ≡ Some l → StopsBehind S l.path (number + 1) text n → StopsBehind S before number (line ++ 10 ∷ text) n
+stops_later S before number n line text l e s =
+    let follows = next_is S before (read_line line) l e in
+    let here = line_is line l follows.was in
+    record {
+      links = l ∷ s.links;
+      rest = s.rest;
+      parts =
+          ap (λ t. t ++ 10 ∷ text) here.spelled
+          ∙ (ap (λ t. line_of l ++ 10 ∷ t) s.parts
+          ∙ (sym (append_assoc (line_of l) (10 ∷ []) (table_text s.links ++ s.rest)) ∙ sym (append_assoc (line_of l ++ 10 ∷ []) (table_text s.links) s.rest)));
+      table = one_more S before (read_line line) l s.links here.link follows s.table;
+      place = omega (arith, s.place);
+      some = s.some;
+      stops = λ k later f t. s.stops k later f (others_stand S before l (s.links ++ k ∷ []) t);
+    }
+
+stops_by : (S : Store) (before : List (List ℕ)) (number n : ℕ) (line text : List ℕ) (o : Option TableLink) (further : TableLink → Result (List TableLink) ℕ) → Feedless line → next_link S before (read_line line) ≡ o
+    → ((l : TableLink) → further l ≡ Err n → StopsBehind S l.path (number + 1) text n) → read_on number o further ≡ Err n → StopsBehind S before number (line ++ 10 ∷ text) n
+stops_by S before number n line text None further none is later e = gives_none S before number n line text none is cc
+stops_by S before number n line text (Some l) further none is later e = stops_later S before number n line text l is (later l (first_err l (further l) n e))
+
+bad_is : (S : Store) (before : List (List ℕ)) (number n : ℕ) (lines : List (List ℕ)) → All Feedless lines → read_lines S before number lines ≡ Err n → StopsBehind S before number (join_with_byte 10 lines) n
+bad_is S before number n [] all e = absurd (false≢true (sym (ap is_ok e)))
+bad_is S before number n ([] ∷ []) all e = absurd (false≢true (sym (ap is_ok e)))
+bad_is S before number n ((b ∷ line) ∷ []) all e = lacks_feed S before number b n line (All-head Feedless (b ∷ line) [] all) cc
+bad_is S before number n (line ∷ next ∷ lines) all e =
+    stops_by S before number n line (join_with_byte 10 (next ∷ lines)) (next_link S before (read_line line)) (λ link. read_lines S link.path (number + 1) (next ∷ lines))
+    (All-head Feedless line (next ∷ lines) all) refl (λ l f. bad_is S l.path (number + 1) n (next ∷ lines) (All-tail Feedless line (next ∷ lines) all) f)
+    (sym (read_more S before number line (next ∷ lines) (omega arith)) ∙ e)
+
+pub bad_lines_are_first : (S : Store) (text : List ℕ) (number : ℕ) → read_table S text ≡ Err number → IsFirstBadLine S text number
+bad_lines_are_first S text number e =
+    let s = bad_is S [] 1 number (slice_split is_feed text) (pieces_feedless text) e in
+    record { links = s.links; rest = s.rest; parts = sym (join_with_byte-slice_split 10 text) ∙ s.parts; table = s.table; place = s.place; some = s.some; stops = s.stops }

@@ -1,0 +1,5 @@
+use Rattle.fx_table.proofs.TableLines.{read_texts_are_tables}
+use Rattle.fx_table.proofs.laws.read_texts_are_tables.Goals as goal
+
+pub returns : goal.returns
+returns c = read_texts_are_tables

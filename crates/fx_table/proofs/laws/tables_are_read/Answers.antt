@@ -1,0 +1,5 @@
+use Rattle.fx_table.proofs.TableLines.{tables_are_read}
+use Rattle.fx_table.proofs.laws.tables_are_read.Goals as goal
+
+pub returns : goal.returns
+returns c = tables_are_read

@@ -1,0 +1,13 @@
+use Rattle.std.proofs.Common.{◌≡◌, ◌++◌, map, length}
+use Rattle.fx_table.specs.Lines.{link_change}
+use Rattle.fx_table.specs.Merges.{MakeLinks, pending}
+use Rattle.fx_table.proofs.merging.move_rest.Given as goal
+
+abbrev pub invariant-moving : goal.invariant-moving
+invariant-moving l = record {
+  made : MakeLinks l.rest.items;
+  moved : l.fn.all.items ++ map link_change (pending l.fn.rest.items) ≡ l.all.items ++ map link_change (pending l.rest.items);
+}
+
+abbrev pub decreases-moving : goal.decreases-moving
+decreases-moving l = length l.rest.items

@@ -1,0 +1,15 @@
+pub mod Entered
+pub mod Faults
+pub mod Lines
+pub mod Linked
+pub mod Listed
+pub mod Mapped
+pub mod Merges
+pub mod Places
+pub mod Remaining
+pub mod Shaped
+pub mod Table
+pub mod TableExamples
+pub mod TableLaws
+pub mod TableSpelling
+pub mod Unspells

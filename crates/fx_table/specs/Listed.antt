@@ -1,0 +1,31 @@
+-- Paths with their nodes: links among them, and directories that list what stands in them.
+use Rattle.std.specs.Prelude.{ℕ, List, [], ◌∷◌, map}
+use Rattle.std.specs.List.{filter_map}
+use Rattle.std.specs.FinMap.{put}
+use Rattle.fx_outside.specs.Path.{name_in}
+use Rattle.fx_store.specs.declared.node.Node.{Node}
+use Rattle.fx_store.specs.declared.node.Node.TheVariants.{File, Dir, Link}
+use Rattle.fx_store.specs.Names.{path_cmp}
+use Rattle.fx_table.specs.Table.{TableLink}
+
+-- a path with its node
+abbrev pub Mapped : Type 0
+Mapped = List (List ℕ) × Node
+
+-- each link in its place
+abbrev pub with_links : List Mapped → List TableLink → List Mapped
+with_links es [] = es
+with_links es (link ∷ links) = with_links (put path_cmp link.path (Link link.text) es) links
+
+-- the names that stand directly in a directory
+abbrev pub names_below : List Mapped → List (List ℕ) → List (List ℕ)
+names_below es path = filter_map (λ (e : Mapped). name_in path e.0) es
+
+abbrev pub with_names : List Mapped → Mapped → Mapped
+with_names es (path, File bytes) = (path, File bytes)
+with_names es (path, Dir names) = (path, Dir (names_below es path))
+with_names es (path, Link text) = (path, Link text)
+
+-- each directory lists the names that stand directly in it
+abbrev pub listed : List Mapped → List Mapped
+listed es = map (with_names es) es

@@ -1,0 +1,55 @@
+-- What a walk over a filestore in the order of paths still has to come to.
+use Rattle.std.specs.Prelude.{◌≡◌, ◌<◌, ℕ, is_some, List, [], ◌∷◌, ◌++◌, length, drop, Option, Some, None}
+use Rattle.std.specs.List.{AllByRecursion, filter, flat_map, slice_get}
+use Rattle.std.specs.FinMap.{entries, get}
+use Rattle.fx_store.specs.declared.node.Node.{Node}
+use Rattle.fx_store.specs.declared.node.Node.TheVariants.{File, Dir, Link}
+use Rattle.fx_store.specs.Whole.{Nodes}
+use Rattle.fx_table.specs.declared.descent.Level.{Level}
+use Rattle.fx_table.specs.Places.{rest_of}
+
+-- what stands at a path and below
+abbrev pub from_path : Nodes → List (List ℕ) → List (List (List ℕ) × Node)
+from_path nodes path = filter (λ e. is_some (rest_of path e.0)) (entries nodes)
+
+-- what stands at the entries of these names of a directory, and below
+abbrev pub from_names : Nodes → List (List ℕ) → List (List ℕ) → List (List (List ℕ) × Node)
+from_names nodes path names = flat_map (λ name. from_path nodes (path ++ name ∷ [])) names
+
+-- the names that a directory lists
+abbrev pub names_in : Option Node → List (List ℕ)
+names_in None = []
+names_in (Some (File bytes)) = []
+names_in (Some (Dir names)) = names
+names_in (Some (Link text)) = []
+
+-- what is left below directories that were entered, of which the last comes first
+abbrev pub left_of : Nodes → List Level → List (List (List ℕ) × Node)
+left_of nodes [] = []
+left_of nodes (level ∷ levels) = left_of nodes levels ++ from_names nodes level.path (drop level.next level.names)
+
+-- a directory of the filestore, of whose names one comes next
+pub record IsLevel (nodes : Nodes) (level : Level) : Type 0 where
+  pub directory : get nodes level.path ≡ Some (Dir level.names)
+  pub more : level.next < length level.names
+
+abbrev pub AreLevels : Nodes → List Level → Type 0
+AreLevels nodes levels = AllByRecursion (IsLevel nodes) levels
+
+-- the path of the directory's next name
+abbrev pub IsNextOf : Level → List (List ℕ) → Type 0
+IsNextOf level path = (name : List ℕ) × (slice_get level.names level.next ≡ Some name) × (path ≡ level.path ++ name ∷ [])
+
+-- a directory is gone into from its first name on, if it lists one
+abbrev pub Enters : List Level → List (List ℕ) → List (List ℕ) → List Level → Type 0
+Enters old path [] new = new ≡ old
+Enters old path (name ∷ names) new = new ≡ old ++ record { path = path; names = name ∷ names; next = 0 } ∷ []
+
+-- the path is the first of those that were left, and the others are left
+abbrev pub ComesNext : Nodes → List (List (List ℕ) × Node) → List (List (List ℕ) × Node) → Option (List (List ℕ)) → Type 0
+ComesNext nodes old new None = old ≡ []
+ComesNext nodes old new (Some path) = (node : Node) × (get nodes path ≡ Some node) × (old ≡ (path, node) ∷ new)
+
+-- all but the root is left
+abbrev pub IsLeftBelow : Nodes → List (List (List ℕ) × Node) → Type 0
+IsLeftBelow nodes left = (names : List (List ℕ)) × (get nodes [] ≡ Some (Dir names)) × (entries nodes ≡ ([], Dir names) ∷ left)

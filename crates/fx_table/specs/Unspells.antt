@@ -1,0 +1,39 @@
+-- What spelled texts give: their first byte, a path, a link text, a link.
+use Rattle.std.specs.Prelude.{◌≡◌, ◌<◌, ◌≤◌, ℕ, List, length, drop, Option, Some, None, Result, Ok, Err}
+use Rattle.std.specs.Option.{option_map}
+use Rattle.fx_store.specs.declared.name.PathFault.{PathFault}
+use Rattle.fx_store.specs.declared.path.Path.{Path}
+use Rattle.fx_store.specs.declared.link.LinkText.{LinkText}
+use Rattle.fx_store.specs.Faults.{read_path, read_link}
+use Rattle.fx_table.specs.Table.{TableLink, link_of}
+use Rattle.fx_table.specs.TableSpelling.{onto, unspelled}
+
+-- a byte, and the characters behind those that spell it
+pub record GoesOn (text : List ℕ) (byte count : ℕ) : Type 0 where
+  pub some : 0 < count
+  pub within : count ≤ length text
+  pub is : unspelled text ≡ onto (Some byte) (unspelled (drop count text))
+
+-- the text spells bytes of which this is the first, or no bytes
+abbrev pub IsFirst : List ℕ → Option (ℕ × ℕ) → Type 0
+IsFirst text None = unspelled text ≡ None
+IsFirst text (Some first) = GoesOn text first.0 first.1
+
+abbrev pub result_ok : {A : Type 0} → Result A PathFault → Option A
+result_ok (Ok a) = Some a
+result_ok (Err fault) = None
+
+-- what was read of bytes, if they could be read
+abbrev pub read_of : {A : Type 0} → (List ℕ → Result A PathFault) → Option (List ℕ) → Option A
+read_of read None = None
+read_of read (Some bytes) = result_ok (read bytes)
+
+abbrev pub GivesPath : Option (List ℕ) → Option Path → Type 0
+GivesPath bytes path = path ≡ read_of read_path bytes
+
+abbrev pub GivesText : Option (List ℕ) → Option LinkText → Type 0
+GivesText bytes text = text ≡ read_of read_link bytes
+
+-- the link of two unspelled texts
+abbrev pub GivesLink : Option (List ℕ) → Option (List ℕ) → Option (Path × LinkText) → Type 0
+GivesLink path text link = link ≡ option_map (λ (l : TableLink). (l.path, l.text)) (link_of path text)

@@ -1,0 +1,145 @@
+//! A walk over a filestore in the order of paths, from directory to directory over what each lists.
+ghost use Rattle.std.specs.Prelude.{◌≡◌, ◌<◌, ◌++◌, suc, Some, ◌∷◌, [], length, drop, IfOk, OnOk, IsSome};
+ghost use Rattle.std.specs.FinMap.{get};
+ghost use Rattle.fx_store.specs.Whole.{Nodes, IsWhole};
+ghost use Rattle.fx_table.specs.Remaining.{Enters, IsNextOf, IsLevel, AreLevels, left_of, from_names, names_in, ComesNext, IsLeftBelow};
+
+use fx_base::NoMemory;
+use fx_store::{Filestore, Names, Node, Path, PathFault};
+use std::alloc::Global;
+
+/// A directory, and which of its names comes next.
+#[derive(Drop)]
+struct Level {
+    path: Path,
+    names: Names,
+    next: u64,
+}
+
+/// A walk over all that stands below the root of a filestore. What stands in a directory comes just after it.
+#[derive(Drop)]
+pub struct Descent {
+    levels: Vec<Level>,
+}
+
+impl Descent {
+    pub fn new(alloc: Global, store: &Filestore) -> Result<Descent, NoMemory>
+        ensures whole { IsWhole (get store.now.nodes) }
+        ensures levels { IfOk result (λ d. AreLevels store.now.nodes d.levels.items) }
+        ensures left { IfOk result (λ d.
+            IsLeftBelow store.now.nodes (left_of store.now.nodes d.levels.items)) }
+    {
+        let mut levels = Vec::new(alloc);
+        enter(alloc, &mut levels, &Path::root(alloc), store)?;
+        Ok(Descent { levels })
+    }
+
+    /// The next path, unless there is none left.
+    pub fn next(&mut self, alloc: Global, store: &Filestore) -> Result<Option<Path>, NoMemory>
+        requires whole { IsWhole (get store.now.nodes) }
+        requires levels { AreLevels store.now.nodes self.old.levels.items }
+        ensures levels { OnOk result (AreLevels store.now.nodes self.new.levels.items) }
+        ensures next { IfOk result (ComesNext store.now.nodes
+            (left_of store.now.nodes self.old.levels.items)
+            (left_of store.now.nodes self.new.levels.items)) }
+    {
+        match self.levels.pop() {
+            Some(level) => Ok(Some(step(alloc, &mut self.levels, level, store)?)),
+            None => Ok(None),
+        }
+    }
+}
+
+/// The next path of the directory last entered, of which what is left below stays to be walked.
+fn step(
+    alloc: Global,
+    levels: &mut Vec<Level>,
+    level: Level,
+    store: &Filestore,
+) -> Result<Path, NoMemory>
+    requires whole { IsWhole (get store.now.nodes) }
+    requires level { IsLevel store.now.nodes level }
+    requires levels { AreLevels store.now.nodes levels.old.items }
+    ensures levels { OnOk result (AreLevels store.now.nodes levels.new.items) }
+    ensures next { IfOk result (λ path. ComesNext store.now.nodes
+        (left_of store.now.nodes (levels.old.items ++ level ∷ []))
+        (left_of store.now.nodes levels.new.items) (Some path)) }
+{
+    let path = child(alloc, &level)?;
+    go_on(levels, level)?;
+    enter(alloc, levels, &path, store)?;
+    Ok(path)
+}
+
+/// The path of a directory's next name.
+fn child(alloc: Global, level: &Level) -> Result<Path, NoMemory>
+    requires room { length level.now.path < 64 }
+    requires more { level.now.next < length level.now.names }
+    ensures { IfOk result (IsNextOf level.now) }
+{
+    let Some(name) = level.names.at(level.next) else {
+        unreachable!()
+    };
+    match level.path.join(alloc, name) {
+        Ok(path) => Ok(path),
+        Err(PathFault::NoMemory) => Err(NoMemory),
+        Err(PathFault::BadName) => unreachable!(),
+        Err(PathFault::TooDeep) => unreachable!(),
+    }
+}
+
+/// Goes back to a directory behind its next name, unless that was its last.
+fn go_on(levels: &mut Vec<Level>, mut level: Level) -> Result<(), NoMemory>
+    requires { level.next < length level.names }
+    ensures levels { (nodes : Nodes) → OnOk result (IsLevel nodes level
+        → AreLevels nodes levels.old.items → AreLevels nodes levels.new.items) }
+    ensures left { (nodes : Nodes) → OnOk result (left_of nodes levels.new.items
+        ≡ from_names nodes level.path (drop (suc level.next) level.names)
+        ++ left_of nodes levels.old.items) }
+{
+    let count = level.names.len();
+    level.next += 1;
+    if level.next >= count {
+        return Ok(());
+    }
+    levels.push(level)?;
+    Ok(())
+}
+
+/// Enters what stands at a path, if it is a directory that lists something.
+fn enter(
+    alloc: Global,
+    levels: &mut Vec<Level>,
+    path: &Path,
+    store: &Filestore,
+) -> Result<(), NoMemory>
+    ensures levels { OnOk result (AreLevels store.now.nodes levels.old.items
+        → AreLevels store.now.nodes levels.new.items) }
+    ensures left { OnOk result (left_of store.now.nodes levels.new.items
+        ≡ from_names store.now.nodes path.now (names_in (get store.now.nodes path.now))
+        ++ left_of store.now.nodes levels.old.items) }
+    ensures whole { IsWhole (get store.now.nodes) }
+{
+    match store.get(path) {
+        Some(Node::Dir(names)) => push(alloc, levels, path, names),
+        Some(Node::File(_)) => Ok(()),
+        Some(Node::Link(_)) => Ok(()),
+        None => Ok(()),
+    }
+}
+
+/// Goes into a directory that lists something.
+fn push(alloc: Global, levels: &mut Vec<Level>, path: &Path, names: &Names) -> Result<(), NoMemory>
+    ensures { OnOk result (Enters levels.old.items path.now names.now levels.new.items) }
+{
+    if names.len() == 0 {
+        return Ok(());
+    }
+    let level = Level {
+        path: path.copy(alloc)?,
+        names: names.copy(alloc)?,
+        next: 0,
+    };
+    levels.push(level)?;
+    Ok(())
+}
