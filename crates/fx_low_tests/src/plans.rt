@@ -1,7 +1,6 @@
 use fx_base::NoMemory;
 use fx_spec::{Command, Commands, Plan, Script, Txn, Txns};
 use std::alloc::Global;
-use std::test::Fail;
 
 /// A plan of one script, which has one transaction.
 fn one_script(alloc: Global) -> Result<Plan, NoMemory> {
@@ -26,28 +25,33 @@ fn counts(plan: &Plan) -> (u32, u32, bool, bool) {
     )
 }
 
-#[test]
-fn a_plan_counts_its_transactions(rt: HostRuntime) -> Result<(), Fail> {
-    let plan = one_script(rt.alloc())?;
-    assert_eq!(rt; plan.len(), 1);
-    assert_eq!(rt; counts(&plan), (1, 0, true, false));
-    assert!(rt; plan.txn(0, 1).is_none());
-    Ok(())
+/// How many scripts there are, their counts, and whether the first has a second transaction.
+fn plan_told(alloc: Global) -> Result<(u32, (u32, u32, bool, bool), bool), NoMemory> {
+    let plan = one_script(alloc)?;
+    Ok((plan.len(), counts(&plan), plan.txn(0, 1).is_some()))
 }
 
 #[test]
-fn commands_are_counted(rt: HostRuntime) -> Result<(), Fail> {
-    let mut commands = Commands::new(rt.alloc());
-    commands.add(rt.alloc(), Command::Abort)?;
-    assert_eq!(rt; commands.len(), 1);
-    Ok(())
+fn a_plan_counts_its_transactions(rt: HostRuntime) {
+    let counts = (1, 0, true, false);
+    assert_eq!(rt; plan_told(rt.alloc()), Ok((1, counts, false)));
+}
+
+fn commands_told(alloc: Global) -> Result<u64, NoMemory> {
+    let mut commands = Commands::new(alloc);
+    commands.add(alloc, Command::Abort)?;
+    Ok(commands.len())
+}
+
+fn txns_told(alloc: Global) -> Result<u64, NoMemory> {
+    let mut txns = Txns::new(alloc);
+    let commands = Commands::new(alloc);
+    txns.add(alloc, Txn { commands })?;
+    Ok(txns.len())
 }
 
 #[test]
-fn transactions_are_counted(rt: HostRuntime) -> Result<(), Fail> {
-    let mut txns = Txns::new(rt.alloc());
-    let commands = Commands::new(rt.alloc());
-    txns.add(rt.alloc(), Txn { commands })?;
-    assert_eq!(rt; txns.len(), 1);
-    Ok(())
+fn commands_and_transactions_are_counted(rt: HostRuntime) {
+    assert_eq!(rt; commands_told(rt.alloc()), Ok(1));
+    assert_eq!(rt; txns_told(rt.alloc()), Ok(1));
 }

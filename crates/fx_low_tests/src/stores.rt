@@ -4,7 +4,6 @@ use fx_store::{
     Path, Paths,
 };
 use std::alloc::Global;
-use std::test::Fail;
 
 fn some_bytes(alloc: Global) -> Result<Bytes, NoMemory> {
     let mut bytes = Bytes::new(alloc);
@@ -18,16 +17,33 @@ fn some_text(alloc: Global) -> Result<LongText, NoMemory> {
     Ok(text)
 }
 
+/// Whether the bytes are those that were added, and how many a clone has.
+fn bytes_told(alloc: Global) -> Result<(bool, u64), NoMemory> {
+    let bytes = some_bytes(alloc)?;
+    let added = bytes.as_slice() == b"h".as_slice();
+    Ok((added, bytes.clone()?.len()))
+}
+
+fn text_told(alloc: Global) -> Result<bool, NoMemory> {
+    Ok(some_text(alloc)?.as_slice() == b"h".as_slice())
+}
+
 #[test]
-fn bytes_are_added(rt: HostRuntime) -> Result<(), Fail> {
-    assert_eq!(rt; some_bytes(rt.alloc())?.as_slice(), b"h".as_slice());
-    assert_eq!(rt; some_text(rt.alloc())?.as_slice(), b"h".as_slice());
-    Ok(())
+fn bytes_are_added(rt: HostRuntime) {
+    assert_eq!(rt; bytes_told(rt.alloc()), Ok((true, 1)));
+    assert_eq!(rt; text_told(rt.alloc()), Ok(true));
+}
+
+fn some_name(alloc: Global) -> Result<Name, NoMemory> {
+    match Name::read(alloc, b"a") {
+        Ok(name) => Ok(name),
+        Err(_) => Err(NoMemory),
+    }
 }
 
 fn some_names(alloc: Global, name: &Name) -> Result<Names, NoMemory> {
-    let mut names = Names::new(alloc);
     let copy = name.copy(alloc)?;
+    let mut names = Names::new(alloc);
     if names.is_next(&copy) {
         names.add(alloc, copy)?;
     }
@@ -35,144 +51,200 @@ fn some_names(alloc: Global, name: &Name) -> Result<Names, NoMemory> {
 }
 
 fn some_list(alloc: Global, name: &Name) -> Result<NameList, NoMemory> {
+    let copy = name.copy(alloc)?;
     let mut names = NameList::new(alloc);
-    names.add(alloc, name.copy(alloc)?)?;
+    names.add(alloc, copy)?;
     names.copy(alloc)
 }
 
+/// Whether a clone of a name is the name, whether a set of names has it, and how many a clone of the set has.
+fn names_told(alloc: Global) -> Result<(bool, bool, u64), NoMemory> {
+    let name = some_name(alloc)?;
+    let same = name.clone()? == name;
+    let names = some_names(alloc, &name)?;
+    Ok((same, names.has(&name), names.clone()?.len()))
+}
+
+fn list_told(alloc: Global) -> Result<u64, NoMemory> {
+    let name = some_name(alloc)?;
+    Ok(some_list(alloc, &name)?.len())
+}
+
 #[test]
-fn names_are_added(rt: HostRuntime) -> Result<(), Fail> {
-    let name = Name::read(rt.alloc(), b"a").ok().ok_or("a name")?;
-    assert!(rt; some_names(rt.alloc(), &name)?.has(&name));
-    assert_eq!(rt; some_list(rt.alloc(), &name)?.len(), 1);
-    Ok(())
+fn names_are_added(rt: HostRuntime) {
+    assert_eq!(rt; names_told(rt.alloc()), Ok((true, true, 1)));
+    assert_eq!(rt; list_told(rt.alloc()), Ok(1));
 }
 
 fn some_paths(alloc: Global, path: &Path) -> Result<Paths, NoMemory> {
-    let mut paths = Paths::new(alloc);
     let copy = path.copy(alloc)?;
+    let mut paths = Paths::new(alloc);
     if paths.is_next(&copy) {
         paths.add(alloc, copy)?;
     }
     paths.copy(alloc)
 }
 
-fn some_changes(alloc: Global, path: Path) -> Result<Changes, NoMemory> {
+fn one_change(alloc: Global, path: Path, node: Option<Node>) -> Result<Changes, NoMemory> {
     let mut changes = Changes::new(alloc);
     if changes.is_next(&path) {
-        changes.add(alloc, Change { path, node: None })?;
+        changes.add(alloc, Change { path, node })?;
     }
-    changes.copy(alloc)
+    Ok(changes)
+}
+
+/// How many names a clone of the root has, and whether a set of paths has the root.
+fn paths_told(alloc: Global) -> Result<(u32, bool), NoMemory> {
+    let root = Path::root(alloc);
+    let names = root.clone()?.len();
+    Ok((names, some_paths(alloc, &root)?.has(&root)))
+}
+
+fn changes_told(alloc: Global) -> Result<u64, NoMemory> {
+    let changes = one_change(alloc, Path::root(alloc), None)?;
+    Ok(changes.copy(alloc)?.len())
 }
 
 #[test]
-fn paths_and_changes_are_added(rt: HostRuntime) -> Result<(), Fail> {
-    let root = Path::root(rt.alloc());
-    assert!(rt; some_paths(rt.alloc(), &root)?.has(&root));
-    assert_eq!(rt; some_changes(rt.alloc(), root)?.len(), 1);
-    Ok(())
+fn paths_and_changes_are_added(rt: HostRuntime) {
+    assert_eq!(rt; paths_told(rt.alloc()), Ok((0, true)));
+    assert_eq!(rt; changes_told(rt.alloc()), Ok(1));
 }
 
-fn one_file(alloc: Global, name: Name) -> Result<Filestore, NoMemory> {
-    let mut files = Files::new(alloc);
+fn some_files(alloc: Global) -> Result<Files, NoMemory> {
     let bytes = some_bytes(alloc)?;
+    let name = some_name(alloc)?;
+    let mut files = Files::new(alloc);
     if files.is_next(&name) {
         files.add(alloc, name, bytes)?;
     }
-    Filestore::flat(alloc, files)?.copy(alloc)
+    Ok(files)
+}
+
+fn one_file(alloc: Global) -> Result<Filestore, NoMemory> {
+    let files = some_files(alloc)?;
+    Filestore::flat(alloc, files)
+}
+
+fn copied_store(alloc: Global) -> Result<Filestore, NoMemory> {
+    let store = one_file(alloc)?;
+    store.copy(alloc)
+}
+
+fn some_path(alloc: Global) -> Result<Path, NoMemory> {
+    match Path::read(alloc, b"/a") {
+        Ok(path) => Ok(path),
+        Err(_) => Err(NoMemory),
+    }
 }
 
 fn size_of(node: Option<&Node>) -> u64 {
     match node {
         Some(Node::File(bytes)) => bytes.len(),
         Some(Node::Dir(names)) => names.len(),
-        Some(Node::Link(_)) => 0,
-        None => 0,
+        _ => 0,
     }
 }
 
-/// How many places there are, the sizes of the root and of what stands at a path, and whether there is a second place and
-/// a third.
-fn counts(alloc: Global, store: &Filestore, path: &Path) -> (u64, u64, u64, bool, bool) {
-    let root = size_of(store.get(&Path::root(alloc)));
+/// How many places there are, the sizes of what stands at two paths, and whether there is a second place and a third.
+fn counts(store: &Filestore, root: &Path, path: &Path) -> (u64, u64, u64, bool, bool) {
     (
         store.places(),
-        root,
+        size_of(store.get(root)),
         size_of(store.get(path)),
         store.at(1).is_some(),
         store.at(2).is_some(),
     )
 }
 
-fn one_file_at(alloc: Global, name: &[u8]) -> Result<Filestore, NoMemory> {
-    match Name::read(alloc, name) {
-        Ok(name) => one_file(alloc, name),
+fn store_told(alloc: Global) -> Result<(u64, u64, u64, bool, bool), NoMemory> {
+    let path = some_path(alloc)?;
+    let root = Path::root(alloc);
+    let store = copied_store(alloc)?;
+    Ok(counts(&store, &root, &path))
+}
+
+#[test]
+fn a_filestore_is_made_and_copied(rt: HostRuntime) {
+    assert_eq!(rt; store_told(rt.alloc()), Ok((2, 1, 1, true, false)));
+}
+
+fn reserved(alloc: Global, changes: &Changes) -> Result<Filestore, NoMemory> {
+    let mut store = Filestore::new(alloc)?;
+    store.reserve(alloc, changes)?;
+    Ok(store)
+}
+
+/// How many places there are, and whether something stands at the path.
+fn places_of(alloc: Global, changes: &Changes, path: &Path) -> Result<(u64, bool), NoMemory> {
+    let store = reserved(alloc, changes)?;
+    Ok((store.places(), store.get(path).is_some()))
+}
+
+/// The same where a place is reserved for each change: none, and a directory.
+fn places_told(alloc: Global) -> Result<[(u64, bool); 2], NoMemory> {
+    let path = some_path(alloc)?;
+    let node = Some(Node::Dir(Names::new(alloc)));
+    let changes = one_change(alloc, path.copy(alloc)?, node)?;
+    Ok([
+        places_of(alloc, &Changes::new(alloc), &path)?,
+        places_of(alloc, &changes, &path)?,
+    ])
+}
+
+#[test]
+fn places_are_reserved(rt: HostRuntime) {
+    assert_eq!(rt; places_told(rt.alloc()), Ok([(1, false), (2, false)]));
+}
+
+fn some_link(alloc: Global) -> Result<LinkText, NoMemory> {
+    match LinkText::read(alloc, b"b") {
+        Ok(text) => Ok(text),
         Err(_) => Err(NoMemory),
     }
 }
 
-#[test]
-fn a_filestore_is_made_and_copied(rt: HostRuntime) -> Result<(), Fail> {
-    let path = Path::read(rt.alloc(), b"/a").ok().ok_or("a path")?;
-    let store = one_file_at(rt.alloc(), b"a")?;
-    assert_eq!(rt; counts(rt.alloc(), &store, &path), (2, 1, 1, true, false));
-    Ok(())
+/// Whether a clone of a link's text is as the text.
+fn link_told(alloc: Global) -> Result<bool, NoMemory> {
+    let text = some_link(alloc)?;
+    Ok(text.clone()?.as_slice() == b"b".as_slice())
 }
 
-#[test]
-fn an_empty_filestore_has_a_root(rt: HostRuntime) -> Result<(), Fail> {
-    assert_eq!(rt; Filestore::new(rt.alloc())?.places(), 1);
-    Ok(())
-}
-
-fn with_a_place(alloc: Global, path: Path) -> Result<Filestore, NoMemory> {
-    let mut store = Filestore::new(alloc)?;
-    let mut changes = Changes::new(alloc);
-    let node = Some(Node::Dir(Names::new(alloc)));
-    if changes.is_next(&path) {
-        changes.add(alloc, Change { path, node })?;
-    }
-    store.reserve(alloc, &changes)?;
-    Ok(store)
-}
-
-#[test]
-fn places_are_reserved(rt: HostRuntime) -> Result<(), Fail> {
-    let path = Path::read(rt.alloc(), b"/a").ok().ok_or("a path")?;
-    let store = with_a_place(rt.alloc(), path.copy(rt.alloc())?)?;
-    assert_eq!(rt; store.places(), 2);
-    assert!(rt; store.get(&path).is_none());
-    Ok(())
-}
-
-fn copied_change(alloc: Global, text: &LinkText) -> Result<Change, NoMemory> {
+fn copied_node(alloc: Global) -> Result<Node, NoMemory> {
+    let text = some_link(alloc)?;
     let node = Node::Link(text.copy(alloc)?);
-    let change = Change {
-        path: Path::root(alloc),
-        node: Some(node.copy(alloc)?),
-    };
+    node.copy(alloc)
+}
+
+fn copied_change(alloc: Global) -> Result<Change, NoMemory> {
+    let node = Some(copied_node(alloc)?);
+    let path = Path::root(alloc);
+    let change = Change { path, node };
     change.copy(alloc)
 }
 
-#[test]
-fn links_and_changes_are_copied(rt: HostRuntime) -> Result<(), Fail> {
-    let text = LinkText::read(rt.alloc(), b"b").ok().ok_or("a link text")?;
-    let change = copied_change(rt.alloc(), &text)?;
-    assert_eq!(rt; change.path.len(), 0);
-    assert!(rt; matches!(change.node, Some(Node::Link(_))));
-    Ok(())
+fn is_link(node: &Option<Node>) -> bool {
+    matches!(node, Some(Node::Link(_)))
+}
+
+/// Whether a clone of a clone of the change's node is a link.
+fn is_cloned_link(change: &Change) -> Result<bool, NoMemory> {
+    let clone = change.clone()?;
+    Ok(is_link(&clone.node.clone()?))
+}
+
+/// How many names the path of a change has, whether its node is a link, and whether a clone's is one.
+fn change_told(alloc: Global) -> Result<(u32, bool, bool), NoMemory> {
+    let change = copied_change(alloc)?;
+    Ok((
+        change.path.len(),
+        is_link(&change.node),
+        is_cloned_link(&change)?,
+    ))
 }
 
 #[test]
-fn copies_are_clones(rt: HostRuntime) -> Result<(), Fail> {
-    let name = Name::read(rt.alloc(), b"a").ok().ok_or("a name")?;
-    let text = LinkText::read(rt.alloc(), b"b").ok().ok_or("a link text")?;
-    assert_eq!(rt; name.clone()?.as_slice(), b"a".as_slice());
-    assert_eq!(rt; some_bytes(rt.alloc())?.clone()?.len(), 1);
-    assert_eq!(rt; some_names(rt.alloc(), &name)?.clone()?.len(), 1);
-    assert_eq!(rt; Path::root(rt.alloc()).clone()?.len(), 0);
-    assert_eq!(rt; text.clone()?.as_slice(), b"b".as_slice());
-    let change = copied_change(rt.alloc(), &text)?.clone()?;
-    assert_eq!(rt; size_of(change.node.clone()?.as_ref()), 0);
-    Ok(())
+fn links_and_changes_are_copied(rt: HostRuntime) {
+    assert_eq!(rt; link_told(rt.alloc()), Ok(true));
+    assert_eq!(rt; change_told(rt.alloc()), Ok((0, true, true)));
 }

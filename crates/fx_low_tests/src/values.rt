@@ -62,12 +62,25 @@ fn copies_are_made_with_ample_memory(rt: HostRuntime) {
     assert_eq!(rt; copied_expression(alloc), Ok(9));
 }
 
-// What `x1` is bound to in an environment that binds it to 1 and then to 2.
+fn bind(alloc: Global, env: &mut Env, word: &Word, n: i64) -> Result<(), NoMemory> {
+    let word = word.copy(alloc)?;
+    env.add(alloc, (word, Value::Int(n)))?;
+    Ok(())
+}
+
+/// An environment that binds a name to 1 and then to 2.
+fn bound_twice(alloc: Global, word: &Word) -> Result<Env, NoMemory> {
+    let mut env = Env::new(alloc);
+    for n in [1, 2] {
+        bind(alloc, &mut env, word, n)?;
+    }
+    Ok(env)
+}
+
+/// What the name is bound to.
 fn newest_value(alloc: Global) -> Result<i64, NoMemory> {
     let word = Word::from_vec(Vec::from_slice(alloc, b"x1")?);
-    let mut env = Env::new(alloc);
-    env.add(alloc, (word.copy(alloc)?, Value::Int(1)))?;
-    env.add(alloc, (word.copy(alloc)?, Value::Int(2)))?;
+    let env = bound_twice(alloc, &word)?;
     match env.get(&word) {
         Some(Value::Int(n)) => Ok(*n),
         _ => Err(NoMemory),

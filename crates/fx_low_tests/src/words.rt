@@ -1,26 +1,53 @@
+use fx_base::NoMemory;
 use fx_outside::{HostKind, HostText, Listing, Words};
 use std::alloc::Global;
-use std::test::Fail;
 
-fn text(alloc: Global, bytes: &str) -> Result<HostText, Fail> {
+fn text(alloc: Global, bytes: &str) -> Result<HostText, NoMemory> {
     Ok(HostText::from_string(String::from_str(alloc, bytes)?))
 }
 
-#[test]
-fn lists_of_texts_are_made(rt: HostRuntime) -> Result<(), Fail> {
-    let alloc = rt.alloc();
+fn one_word(alloc: Global) -> Result<Words, NoMemory> {
     let mut words = Words::new(alloc);
-    words.add(alloc, text(alloc, "run")?.copy(alloc)?)?;
-    assert_eq!(rt; words.len(), 1);
-    assert_eq!(rt; words.at(0).map(|w| w.as_str()), Some("run"));
+    let word = text(alloc, "run")?;
+    words.add(alloc, word.copy(alloc)?)?;
+    Ok(words)
+}
+
+/// How many words there are, and whether the first is the one added.
+fn words_told(alloc: Global) -> Result<(u64, bool), NoMemory> {
+    let words = one_word(alloc)?;
+    Ok((words.len(), words.at(0).map(|w| w.as_str()) == Some("run")))
+}
+
+#[test]
+fn words_are_listed(rt: HostRuntime) {
+    assert_eq!(rt; words_told(rt.alloc()), Ok((1, true)));
+}
+
+fn add_file(alloc: Global, names: &mut Listing, name: &str) -> Result<(), NoMemory> {
+    let name = text(alloc, name)?;
+    if names.can_add(&name) {
+        names.add(alloc, name, HostKind::File)?;
+    }
+    Ok(())
+}
+
+fn two_files(alloc: Global) -> Result<Listing, NoMemory> {
     let mut names = Listing::new(alloc);
     for name in ["a", "b", "a"] {
-        let name = text(alloc, name)?;
-        if names.can_add(&name) {
-            names.add(alloc, name, HostKind::File)?;
-        }
+        add_file(alloc, &mut names, name)?;
     }
-    assert_eq!(rt; names.len(), 2);
-    assert_eq!(rt; names.get(&text(alloc, "c")?).copied(), None);
-    Ok(())
+    Ok(names)
+}
+
+/// How many names there are, and whether one that was not added is there.
+fn names_told(alloc: Global) -> Result<(u64, bool), NoMemory> {
+    let names = two_files(alloc)?;
+    let other = text(alloc, "c")?;
+    Ok((names.len(), names.get(&other).is_some()))
+}
+
+#[test]
+fn names_are_listed_once(rt: HostRuntime) {
+    assert_eq!(rt; names_told(rt.alloc()), Ok((2, false)));
 }

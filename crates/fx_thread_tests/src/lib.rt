@@ -1,4 +1,4 @@
-//! Tests of what threads share. The library is empty.
+//! Tests of runs on threads. The library is empty.
 #![tactic(auto)]
 
 #[cfg(test)]
@@ -15,5 +15,3 @@ mod orders;
 mod runs;
 #[cfg(test)]
 mod stores;
-#[cfg(test)]
-mod turns;

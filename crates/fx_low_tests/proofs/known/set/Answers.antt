@@ -6,4 +6,4 @@ use Rattle.fx_low_tests.proofs.known.set.Goals as goal
 
 pub returns : goal.returns
 returns c =
-    subst (λ (own : OwnList). AreRead own c.args.reads.now) (sym c.in_ok-put.ensures.ok) (AreRead-put c.args.own.now c.args.reads.now c.args.path c.args.node c.requires (ap is_some (sym c.in-Some.ensures.read)))
+    subst (λ (own : OwnList). AreRead own c.args.reads.now) (sym c.in_ok-put.ensures.ok) (AreRead-put c.args.own.now c.args.reads.now c.in_ok-path.path c.in_ok-node.node c.requires (ap is_some (sym c.in-Some.ensures.read)))

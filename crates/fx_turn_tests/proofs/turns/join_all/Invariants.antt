@@ -2,7 +2,7 @@ use Rattle.std.proofs.Common.{◌≡◌, ◌+◌, None, vec_len}
 use Rattle.std.specs.List.{All}
 use Rattle.fx_turn.specs.Views.{joins}
 use Rattle.fx_turn.specs.Seats.{view, IsSeatOf, IsReady}
-use Rattle.fx_thread_tests.proofs.turns.join_all.Given as goal
+use Rattle.fx_turn_tests.proofs.turns.join_all.Given as goal
 
 abbrev pub invariant-loop-seat : goal.invariant-loop-seat
 invariant-loop-seat l = record {

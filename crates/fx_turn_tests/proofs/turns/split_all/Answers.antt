@@ -3,7 +3,7 @@ use Rattle.std.specs.List.{All}
 use Rattle.std.proofs.lemmas.List.Elements.{All-push}
 use Rattle.fx_turn.specs.Views.{joins}
 use Rattle.fx_turn.specs.Seats.{IsReady}
-use Rattle.fx_thread_tests.proofs.turns.split_all.Goals as goal
+use Rattle.fx_turn_tests.proofs.turns.split_all.Goals as goal
 
 pub loop-preserved : goal.loop-preserved
 loop-preserved c =

@@ -1,6 +1,6 @@
 use Rattle.std.proofs.Common.{IfOk}
 use Rattle.std.specs.Prelude.{Result, Ok, Err}
-use Rattle.fx_thread_tests.proofs.turns.hold_up_in_threads.Goals as goal
+use Rattle.fx_turn_tests.proofs.turns.obey_in_threads.Goals as goal
 
 module _ {E X : Type 0} (P Q : X → Type 0) (f : (x : X) → P x → Q x) where
   mapped : (r : Result X E) → IfOk r P → IfOk r Q

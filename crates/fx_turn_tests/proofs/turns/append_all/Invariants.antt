@@ -1,5 +1,5 @@
 use Rattle.fx_turn.specs.Seats.{IsReady}
-use Rattle.fx_thread_tests.proofs.turns.append_all.Given as goal
+use Rattle.fx_turn_tests.proofs.turns.append_all.Given as goal
 
 abbrev pub invariant-loop : goal.invariant-loop
 invariant-loop g l = IsReady l.turn l.seat

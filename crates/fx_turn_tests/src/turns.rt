@@ -2,7 +2,7 @@
 ghost use Rattle.std.specs.Prelude.{◌≡◌, ◌+◌, ◌<◌, ◌≤◌, ℕ, length, None, IfOk, slice_index_or, vec_len};
 ghost use Rattle.std.specs.List.{All};
 ghost use Rattle.fx_base.specs.Limits.{shell_limit};
-ghost use Rattle.fx_turn.specs.Views.{joins};
+ghost use Rattle.fx_turn.specs.Views.{joins, maker_of};
 ghost use Rattle.fx_turn.specs.Seats.{view, IsSeatOf, IsReady};
 
 use fx_turn::{Kept, Seat, Turn};
@@ -54,11 +54,25 @@ const LOOKS: u64 = 20_000_000;
 /// How often a thread yields while it keeps the other from its turn.
 const YIELDS: u64 = 200_000;
 
-/// What two threads tell each other: that the first is in its turn, and that the second is about to wait for one.
+/// What each seat does: so many turns, or one, for which the first seat keeps the second waiting. Two threads tell each
+/// other that the first is in its turn, and that the second is about to wait for one.
 #[derive(Drop)]
-struct Signs {
+struct Task {
+    turns: u32,
+    late: bool,
     taken: AtomicU64,
     waits: AtomicU64,
+}
+
+impl Task {
+    fn new(turns: u32, late: bool) -> Task {
+        Task {
+            turns,
+            late,
+            taken: AtomicU64::new(0),
+            waits: AtomicU64::new(0),
+        }
+    }
 }
 
 // Yields until a sign is there, and not for ever.
@@ -78,13 +92,13 @@ fn pass_time() {
 }
 
 // A turn that lasts until the other thread has waited for one for a while.
-fn append_late<R: Wait>(rt: &R, turn: &Turn<Ledger>, seat: &mut Seat<Ledger>, signs: &Signs)
+fn append_late<R: Wait>(rt: &R, turn: &Turn<Ledger>, seat: &mut Seat<Ledger>, task: &Task)
     requires { IsReady turn.now seat.old }
     ensures { IsReady turn.now seat.new }
 {
     let mut ledger = turn.take(rt, seat);
-    signs.taken.store(1, Ordering::SeqCst);
-    wait_for(&signs.waits);
+    task.taken.store(1, Ordering::SeqCst);
+    wait_for(&task.waits);
     pass_time();
     if let Some(number) = seat.number() {
         let _ = ledger.entries.push(number);
@@ -97,16 +111,16 @@ fn append_held_up<R: Wait>(
     rt: &R,
     turn: &Turn<Ledger>,
     mut seat: Seat<Ledger>,
-    signs: &Signs,
+    task: &Task,
 ) -> Seat<Ledger>
     requires { IsReady turn.now seat }
     ensures { IsReady turn.now result }
 {
     if seat.number() == Some(0) {
-        append_late(rt, turn, &mut seat, signs);
+        append_late(rt, turn, &mut seat, task);
     } else {
-        wait_for(&signs.taken);
-        signs.waits.store(1, Ordering::SeqCst);
+        wait_for(&task.taken);
+        task.waits.store(1, Ordering::SeqCst);
         append(rt, turn, &mut seat);
     }
     seat
@@ -125,6 +139,16 @@ fn append_all<R: Wait>(
         append(rt, turn, &mut seat);
     }
     seat
+}
+
+fn obey<R: Wait>(rt: &R, turn: &Turn<Ledger>, seat: Seat<Ledger>, task: &Task) -> Seat<Ledger>
+    requires { IsReady turn.now seat }
+    ensures { IsReady turn.now result }
+{
+    if task.late {
+        return append_held_up(rt, turn, seat, task);
+    }
+    append_all(rt, turn, seat, task.turns)
 }
 
 fn split_all(
@@ -161,11 +185,11 @@ fn join_all(turn: &Turn<Ledger>, maker: &mut Seat<Ledger>, mut seats: Vec<Seat<L
 }
 
 // Each seat in a thread of its own; where none can be started, the caller's thread does its work.
-fn append_in_threads<R: Threads + Wait + Sync>(
+fn obey_in_threads<R: Threads + Wait + Sync>(
     rt: &R,
     turn: &Turn<Ledger>,
     seats: Vec<Seat<Ledger>>,
-    turns: u32,
+    task: &Task,
 ) -> Result<Vec<Seat<Ledger>>, AllocError>
     requires { All (IsReady turn.now) seats.items }
     ensures all { IfOk result (λ v. length v.items ≡ length seats.items) }
@@ -178,117 +202,101 @@ fn append_in_threads<R: Threads + Wait + Sync>(
         &|seat: Seat<Ledger>| -> Seat<Ledger>
             requires { IsReady turn.now seat }
             ensures { IsReady turn.entry.now result }
-        { append_all(rt, turn, seat, turns) },
+        { obey(rt, turn, seat, task) },
     )
 }
 
-// The same with each seat held up.
-fn hold_up_in_threads<R: Threads + Wait + Sync>(
-    rt: &R,
-    turn: &Turn<Ledger>,
-    seats: Vec<Seat<Ledger>>,
-    signs: &Signs,
-) -> Result<Vec<Seat<Ledger>>, AllocError>
-    requires { All (IsReady turn.now) seats.items }
-    ensures all { IfOk result (λ v. length v.items ≡ length seats.items) }
-    ensures ready { IfOk result (λ v. (k : ℕ) (d : _) → k < length seats.items
-        → IsReady turn.now (slice_index_or v.items k d)) }
+// A turn over a list of no entries, and its maker.
+fn new_turn(alloc: Global, name: u32) -> Result<(Turn<Ledger>, Seat<Ledger>), AllocError>
+    ensures { IfOk result (λ t. IsSeatOf t.0 t.1 × (view t.1 ≡ maker_of name)) }
 {
-    thread::map_vec(
-        rt,
-        seats,
-        &|seat: Seat<Ledger>| -> Seat<Ledger>
-            requires { IsReady turn.now seat }
-            ensures { IsReady turn.entry.now result }
-        { append_held_up(rt, turn, seat, signs) },
-    )
+    let entries = Vec::new(alloc);
+    match Turn::new(alloc, Ledger { name, entries }) {
+        Ok(made) => Ok(made),
+        Err(_) => Err(AllocError),
+    }
 }
 
-// Has one thread wait for its turn while the other keeps it, and answers the value with both entries.
-fn held_up<R: Threads + Wait + Sync>(rt: &R, alloc: Global) -> Result<Ledger, AllocError> {
-    let ledger = Ledger {
-        name: 7,
-        entries: Vec::new(alloc),
-    };
-    let signs = Signs {
-        taken: AtomicU64::new(0),
-        waits: AtomicU64::new(0),
-    };
-    let Ok((turn, mut maker)) = Turn::new(alloc, ledger) else {
-        return Err(AllocError);
-    };
-    let seats = split_all(alloc, &turn, &mut maker, 2)?;
-    let seats = hold_up_in_threads(rt, &turn, seats, &signs)?;
-    join_all(&turn, &mut maker, seats);
-    Ok(turn.close(maker))
-}
-
-// Has `count` threads append by turns, and answers the value with all entries.
+// Has so many threads do a task, and answers the list with all entries.
 fn crowd<R: Threads + Wait + Sync>(
     rt: &R,
     alloc: Global,
     count: u64,
-    turns: u32,
+    task: &Task,
 ) -> Result<Ledger, AllocError>
     requires { count ≤ shell_limit }
 {
-    let ledger = Ledger {
-        name: 7,
-        entries: Vec::new(alloc),
-    };
-    let Ok((turn, mut maker)) = Turn::new(alloc, ledger) else {
-        return Err(AllocError);
-    };
+    let (turn, mut maker) = new_turn(alloc, 7)?;
     let seats = split_all(alloc, &turn, &mut maker, count)?;
-    let seats = append_in_threads(rt, &turn, seats, turns)?;
+    let seats = obey_in_threads(rt, &turn, seats, task)?;
     join_all(&turn, &mut maker, seats);
     Ok(turn.close(maker))
 }
 
+fn entries_of(ledger: &Ledger, number: u32) -> usize {
+    ledger.entries.iter().filter(|n| **n == number).count()
+}
+
+// Whether each of the first seats has made so many entries.
+fn are_even(ledger: &Ledger, seats: u32, each: usize) -> bool {
+    for number in 0..seats {
+        if entries_of(ledger, number) != each {
+            return false;
+        }
+    }
+    true
+}
+
+// The name of the list, how many entries it has, and whether each seat has made so many of them.
+fn told<R: Threads + Wait + Sync>(
+    rt: &R,
+    alloc: Global,
+    seats: u32,
+    each: usize,
+    task: &Task,
+) -> Result<(u32, usize, bool), AllocError>
+    requires { seats ≤ shell_limit }
+{
+    let ledger = crowd(rt, alloc, u64::from(seats), task)?;
+    Ok((
+        ledger.name,
+        ledger.entries.len(),
+        are_even(&ledger, seats, each),
+    ))
+}
+
 #[test]
 fn two_threads_take_turns(rt: HostRuntime) -> Result<(), Fail> {
-    let Ledger { name, entries } = crowd(&rt, rt.alloc(), 2, 300)?;
-    assert_eq!(rt; name, 7);
-    for number in 0..2 {
-        assert_eq!(rt; entries.iter().filter(|n| **n == number).count(), 300);
-    }
-    assert_eq!(rt; entries.len(), 600);
+    let task = Task::new(300, false);
+    assert_eq!(rt; told(&rt, rt.alloc(), 2, 300, &task)?, (7, 600, true));
     Ok(())
 }
 
 #[test]
 fn sixty_four_threads_take_a_thousand_turns_each(rt: HostRuntime) -> Result<(), Fail> {
-    let Ledger { name: _, entries } = crowd(&rt, rt.alloc(), 64, 1000)?;
-    for number in 0..64 {
-        assert_eq!(rt; entries.iter().filter(|n| **n == number).count(), 1000);
-    }
-    assert_eq!(rt; entries.len(), 64_000);
+    let task = Task::new(1000, false);
+    assert_eq!(rt; told(&rt, rt.alloc(), 64, 1000, &task)?, (7, 64_000, true));
     Ok(())
 }
 
 #[test]
 fn a_thread_that_was_held_up_tries_again(rt: HostRuntime) -> Result<(), Fail> {
-    let Ledger { name: _, entries } = held_up(&rt, rt.alloc())?;
-    for number in 0..2 {
-        assert_eq!(rt; entries.iter().filter(|n| **n == number).count(), 1);
-    }
-    assert_eq!(rt; entries.len(), 2);
+    let task = Task::new(1, true);
+    assert_eq!(rt; told(&rt, rt.alloc(), 2, 1, &task)?, (7, 2, true));
     Ok(())
+}
+
+// The number of a maker, of its first two seats, and of the maker then.
+fn numbers(alloc: Global) -> Result<[Option<u32>; 4], AllocError> {
+    let (turn, mut maker) = new_turn(alloc, 1)?;
+    let before = maker.number();
+    let first = turn.split(&mut maker).number();
+    let second = turn.split(&mut maker).number();
+    Ok([before, first, second, maker.number()])
 }
 
 #[test]
 fn seats_are_numbered_in_order(rt: HostRuntime) -> Result<(), Fail> {
-    let ledger = Ledger {
-        name: 1,
-        entries: Vec::new(rt.alloc()),
-    };
-    let Ok((turn, mut maker)) = Turn::new(rt.alloc(), ledger) else {
-        return Err(Fail::from(AllocError));
-    };
-    assert_eq!(rt; maker.number(), None);
-    let first = turn.split(&mut maker);
-    let second = turn.split(&mut maker);
-    assert!(rt; first.number() == Some(0) && second.number() == Some(1));
-    assert!(rt; maker.number().is_none());
+    assert_eq!(rt; numbers(rt.alloc())?, [None, Some(0), Some(1), None]);
     Ok(())
 }

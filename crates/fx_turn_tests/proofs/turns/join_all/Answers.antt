@@ -2,7 +2,7 @@ use Rattle.std.proofs.Common.{Some, ap, ◌∙◌, arith}
 use Rattle.std.proofs.lemmas.List.Elements.{All-pop}
 use Rattle.fx_turn.specs.Views.{joins}
 use Rattle.fx_turn.specs.Seats.{IsReady}
-use Rattle.fx_thread_tests.proofs.turns.join_all.Goals as goal
+use Rattle.fx_turn_tests.proofs.turns.join_all.Goals as goal
 
 pub loop-seat-preserved : goal.loop-seat-preserved
 loop-seat-preserved c =
