@@ -1,21 +1,13 @@
 //! The lines of cases, and what each gives.
 
-use crate::changes::tell_changes;
-use crate::messages::tell_message;
-use crate::rooms::tell_rooms;
-use crate::runs::tell_run;
-use crate::schedules::tell_schedules;
-use crate::threads::tell_threads;
-use crate::tries::tell_faults;
 use fx_base::NoMemory;
-use fx_hosts::{tell_list, tell_make_dir, tell_read, tell_standing, tell_write_new, tell_writes};
+use fx_hosts::{Call, tell_call, tell_message};
 use fx_outside::HostKind;
-use fx_stage::{Stage, tell_tree, words_of};
-use fx_steps::{tell_attempt, tell_steps};
-use fx_telling::{number, split_word, tell};
+use fx_stage::{Program, Stage, tell_tree};
+use fx_steps::{tell_attempt, tell_steps, tell_threads};
+use fx_telling::{Case, number, split_word, tell};
+use fx_trials::{tell_changes, tell_faults, tell_rooms, tell_schedules, tell_top};
 use std::alloc::Global;
-use std::sync::Wait;
-use std::thread::Threads;
 
 /// What a line sets up.
 #[derive(Clone, Copy)]
@@ -43,17 +35,6 @@ enum Trial {
     Tree,
     Attempt,
     Steps,
-}
-
-/// A call on the host or the sink.
-#[derive(Clone, Copy)]
-enum Call {
-    Standing,
-    List,
-    Read,
-    MakeDir,
-    WriteNew,
-    Writes,
 }
 
 #[derive(Clone, Copy)]
@@ -136,21 +117,8 @@ fn set_up(
     Ok(())
 }
 
-fn run<R: Threads + Wait + Sync>(
-    rt: &R,
-    alloc: Global,
-    stage: &mut Stage,
-    rest: &str,
-    out: &mut String,
-) -> Result<(), NoMemory> {
-    let words = words_of(alloc, rest)?;
-    let mut sink = stage.fresh_sink(alloc)?;
-    let detail = stage.detail;
-    tell_run(rt, alloc, &words, &mut stage.host, &mut sink, detail, out)
-}
-
-fn try_out<R: Threads + Wait + Sync>(
-    rt: &R,
+fn try_out<P: Program>(
+    program: &P,
     alloc: Global,
     stage: &mut Stage,
     trial: Trial,
@@ -158,80 +126,35 @@ fn try_out<R: Threads + Wait + Sync>(
     out: &mut String,
 ) -> Result<(), NoMemory> {
     match trial {
-        Trial::Top => run(rt, alloc, stage, rest, out),
-        Trial::Faults => tell_faults(rt, alloc, stage, rest, out),
-        Trial::Changes => tell_changes(rt, alloc, stage, rest, out),
-        Trial::Rooms => tell_rooms(rt, alloc, stage, rest, out),
-        Trial::Schedules => tell_schedules(rt, alloc, stage, out),
-        Trial::Threads => tell_threads(rt, alloc, stage, rest, out),
+        Trial::Top => tell_top(program, alloc, stage, rest, out),
+        Trial::Faults => tell_faults(program, alloc, stage, rest, out),
+        Trial::Changes => tell_changes(program, alloc, stage, rest, out),
+        Trial::Rooms => tell_rooms(program, alloc, stage, rest, out),
+        Trial::Schedules => tell_schedules(program, alloc, stage, out),
+        Trial::Threads => tell_threads(program, alloc, stage, rest, out),
         Trial::Tree => tell_tree(alloc, &mut stage.host, rest, out),
-        Trial::Attempt => tell_attempt(alloc, stage, rest, out),
-        Trial::Steps => tell_steps(alloc, stage, rest, out),
+        Trial::Attempt => tell_attempt(program, alloc, stage, rest, out),
+        Trial::Steps => tell_steps(program, alloc, stage, rest, out),
     }
 }
 
-fn call_out(
-    alloc: Global,
-    stage: &mut Stage,
-    call: Call,
-    rest: &str,
-    out: &mut String,
-) -> Result<(), NoMemory> {
-    let (path, text) = split_word(rest);
-    match call {
-        Call::Standing => tell_standing(alloc, stage, rest, out),
-        Call::List => tell_list(alloc, stage, rest, out),
-        Call::Read => tell_read(alloc, stage, path, u64::from(number(text)), out),
-        Call::MakeDir => tell_make_dir(alloc, stage, rest, out),
-        Call::WriteNew => tell_write_new(alloc, stage, path, text, out),
-        Call::Writes => tell_writes(alloc, stage, rest, out),
-    }
+/// What is tried, and the stage of a case.
+#[derive(Drop)]
+pub struct Tried<'a, P> {
+    pub program: &'a P,
+    pub stage: &'a mut Stage,
 }
 
-/// Adds what a line gives, in lines that begin with `>`.
-fn answer<R: Threads + Wait + Sync>(
-    rt: &R,
-    alloc: Global,
-    stage: &mut Stage,
-    line: &str,
-    out: &mut String,
-) -> Result<(), NoMemory> {
-    let (word, rest) = split_word(line);
-    match verb_of(word) {
-        None => tell(out, "no such word"),
-        Some(Verb::Note) => Ok(()),
-        Some(Verb::Set(setting)) => set_up(alloc, stage, setting, rest, out),
-        Some(Verb::Try(trial)) => try_out(rt, alloc, stage, trial, rest, out),
-        Some(Verb::Call(call)) => call_out(alloc, stage, call, rest, out),
-        Some(Verb::Message) => tell_message(alloc, rest, out),
-    }
-}
-
-/// Adds a line and what it gives.
-fn add_answered<R: Threads + Wait + Sync>(
-    rt: &R,
-    alloc: Global,
-    stage: &mut Stage,
-    line: &str,
-    out: &mut String,
-) -> Result<(), NoMemory> {
-    out.push_str(line)?;
-    out.push('\n')?;
-    answer(rt, alloc, stage, line, out)
-}
-
-/// The lines that begin with no `>`, each with what it gives.
-pub fn answered<R: Threads + Wait + Sync>(
-    rt: &R,
-    alloc: Global,
-    cases: &str,
-) -> Result<String, NoMemory> {
-    let mut out = String::new(alloc);
-    let mut stage = Stage::new(alloc);
-    for line in cases.lines() {
-        if !line.starts_with('>') {
-            add_answered(rt, alloc, &mut stage, line, &mut out)?;
+impl<P: Program> Case for Tried<'_, P> {
+    fn answer(&mut self, alloc: Global, line: &str, out: &mut String) -> Result<(), NoMemory> {
+        let (word, rest) = split_word(line);
+        match verb_of(word) {
+            None => tell(out, "no such word"),
+            Some(Verb::Note) => Ok(()),
+            Some(Verb::Set(setting)) => set_up(alloc, self.stage, setting, rest, out),
+            Some(Verb::Try(trial)) => try_out(self.program, alloc, self.stage, trial, rest, out),
+            Some(Verb::Call(call)) => tell_call(alloc, self.stage, call, rest, out),
+            Some(Verb::Message) => tell_message(alloc, rest, out),
         }
     }
-    Ok(out)
 }

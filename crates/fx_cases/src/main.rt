@@ -4,23 +4,27 @@
 #![tactic(auto)]
 
 mod answers;
-mod changes;
-mod messages;
-mod rooms;
-mod runs;
-mod schedules;
-mod threads;
-mod tries;
+mod program;
 
-use answers::answered;
+use answers::Tried;
+use fx_stage::Stage;
+use fx_telling::add_answers;
+use program::Top;
 use std::io;
 use std::io::ErrorKind;
 
 fn main(rt: HostRuntime) -> io::Result<()> {
     let alloc = rt.alloc();
     let cases = io::read_to_string(alloc, rt.reader())?;
-    match answered(&rt, alloc, cases.as_str()) {
-        Ok(answers) => rt.print(answers),
+    let mut answers = String::new(alloc);
+    let mut stage = Stage::new(alloc);
+    let top = Top { rt: &rt };
+    let mut tried = Tried {
+        program: &top,
+        stage: &mut stage,
+    };
+    match add_answers(alloc, &mut tried, cases.as_str(), &mut answers) {
+        Ok(()) => rt.print(answers),
         Err(fx_base::NoMemory) => Err(io::Error::from(ErrorKind::OutOfMemory)),
     }
 }

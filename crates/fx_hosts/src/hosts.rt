@@ -1,11 +1,22 @@
 //! Calls on the host and the sink in memory.
 
 use fx_base::NoMemory;
-use fx_outside::{Host, HostFault, Listing, MemorySink, Sink};
+use fx_outside::{Host, HostFault, HostText, Listing, MemoryHost, MemorySink, Sink};
 use fx_stage::{Stage, host_text};
-use fx_telling::{tell, tell_bytes, unescaped};
+use fx_telling::{number, split_word, tell, tell_bytes, unescaped};
 use std::alloc::Global;
 use std::fmt::Write;
+
+/// A call on the host or the sink.
+#[derive(Clone, Copy)]
+pub enum Call {
+    Standing,
+    List,
+    Read,
+    MakeDir,
+    WriteNew,
+    Writes,
+}
 
 fn tell_fault(out: &mut String, fault: HostFault) -> Result<(), NoMemory> {
     writeln!(out, "> {fault:?}")?;
@@ -13,14 +24,13 @@ fn tell_fault(out: &mut String, fault: HostFault) -> Result<(), NoMemory> {
 }
 
 /// Tells what stands at a path.
-pub fn tell_standing(
+fn tell_standing(
     alloc: Global,
-    stage: &mut Stage,
-    path: &str,
+    host: &mut MemoryHost,
+    path: &HostText,
     out: &mut String,
 ) -> Result<(), NoMemory> {
-    let path = host_text(alloc, path)?;
-    match stage.host.standing(alloc, &path) {
+    match host.standing(alloc, path) {
         Ok(standing) => {
             writeln!(out, "> {standing:?}")?;
             Ok(())
@@ -41,30 +51,28 @@ fn tell_listing(out: &mut String, names: &Listing) -> Result<(), NoMemory> {
 }
 
 /// Tells what a folder holds.
-pub fn tell_list(
+fn tell_list(
     alloc: Global,
-    stage: &mut Stage,
-    path: &str,
+    host: &mut MemoryHost,
+    path: &HostText,
     out: &mut String,
 ) -> Result<(), NoMemory> {
-    let path = host_text(alloc, path)?;
-    match stage.host.list(alloc, &path) {
+    match host.list(alloc, path) {
         Ok(names) => tell_listing(out, &names),
         Err(fault) => tell_fault(out, fault),
     }
 }
 
 /// Tells the bytes of a file from a place on, at most four.
-pub fn tell_read(
+fn tell_read(
     alloc: Global,
-    stage: &mut Stage,
-    path: &str,
+    host: &mut MemoryHost,
+    path: &HostText,
     from: u64,
     out: &mut String,
 ) -> Result<(), NoMemory> {
-    let path = host_text(alloc, path)?;
     let mut buffer = [0u8; 4];
-    match stage.host.read(alloc, &path, from, &mut buffer) {
+    match host.read(alloc, path, from, &mut buffer) {
         Ok(count) => {
             writeln!(out, "> {count}")?;
             tell_bytes(out, &buffer[..count])
@@ -80,29 +88,16 @@ fn tell_done(out: &mut String, done: Result<(), HostFault>) -> Result<(), NoMemo
     }
 }
 
-/// Makes a folder, and tells whether that was done.
-pub fn tell_make_dir(
-    alloc: Global,
-    stage: &mut Stage,
-    path: &str,
-    out: &mut String,
-) -> Result<(), NoMemory> {
-    let path = host_text(alloc, path)?;
-    let done = stage.host.make_dir(alloc, &path);
-    tell_done(out, done)
-}
-
 /// Writes a new file, and tells whether that was done.
-pub fn tell_write_new(
+fn tell_write_new(
     alloc: Global,
-    stage: &mut Stage,
-    path: &str,
+    host: &mut MemoryHost,
+    path: &HostText,
     text: &str,
     out: &mut String,
 ) -> Result<(), NoMemory> {
-    let path = host_text(alloc, path)?;
     let bytes = unescaped(alloc, text)?;
-    let done = stage.host.write_new(alloc, &path, &bytes);
+    let done = host.write_new(alloc, path, &bytes);
     tell_done(out, done)
 }
 
@@ -119,7 +114,7 @@ fn tell_write(out: &mut String, sink: &mut MemorySink, piece: &str) -> Result<()
 }
 
 /// Tells what a fresh sink takes of each piece, and then all that it took.
-pub fn tell_writes(
+fn tell_writes(
     alloc: Global,
     stage: &Stage,
     pieces: &str,
@@ -130,4 +125,61 @@ pub fn tell_writes(
         tell_write(out, &mut sink, piece)?;
     }
     tell_bytes(out, sink.written())
+}
+
+/// Tells what a call on a host gives at a path.
+fn tell_on(
+    alloc: Global,
+    host: &mut MemoryHost,
+    call: Call,
+    path: &HostText,
+    text: &str,
+    out: &mut String,
+) -> Result<(), NoMemory> {
+    match call {
+        Call::Standing => tell_standing(alloc, host, path, out),
+        Call::List => tell_list(alloc, host, path, out),
+        Call::Read => tell_read(alloc, host, path, u64::from(number(text)), out),
+        Call::MakeDir => {
+            let done = host.make_dir(alloc, path);
+            tell_done(out, done)
+        }
+        Call::WriteNew => tell_write_new(alloc, host, path, text, out),
+        Call::Writes => Ok(()),
+    }
+}
+
+/// The path of a call, and what stands behind it.
+fn parts(call: Call, rest: &str) -> (&str, &str) {
+    match call {
+        Call::Read => split_word(rest),
+        Call::WriteNew => split_word(rest),
+        _ => (rest, ""),
+    }
+}
+
+fn tell_at(
+    alloc: Global,
+    host: &mut MemoryHost,
+    call: Call,
+    rest: &str,
+    out: &mut String,
+) -> Result<(), NoMemory> {
+    let (path, text) = parts(call, rest);
+    let path = host_text(alloc, path)?;
+    tell_on(alloc, host, call, &path, text, out)
+}
+
+/// Tells what a call gives.
+pub fn tell_call(
+    alloc: Global,
+    stage: &mut Stage,
+    call: Call,
+    rest: &str,
+    out: &mut String,
+) -> Result<(), NoMemory> {
+    match call {
+        Call::Writes => tell_writes(alloc, stage, rest, out),
+        _ => tell_at(alloc, &mut stage.host, call, rest, out),
+    }
 }

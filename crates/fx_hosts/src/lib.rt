@@ -1,6 +1,8 @@
-//! Cases of calls on the host and the sink in memory.
+//! Cases of calls on the host and the sink in memory, and of statuses that are made of parts, in place of a run's.
 #![tactic(auto)]
 
 mod hosts;
+mod messages;
 
-pub use hosts::{tell_list, tell_make_dir, tell_read, tell_standing, tell_write_new, tell_writes};
+pub use hosts::{Call, tell_call};
+pub use messages::tell_message;

@@ -1,27 +1,16 @@
 //! The commands at a zipper, as the lines of cases name them.
-ghost use Rattle.std.specs.Prelude.{◌≡◌, IfOk, Ok};
+ghost use Rattle.std.specs.Prelude.{IfOk};
 ghost use Rattle.fx_rules.specs.Halts.{split};
 ghost use Rattle.fx_moves.specs.Ready.{IsReady};
 
 use crate::verbs::{Edit, Move, Question};
 use crate::walk::Walk;
-use fx_base::{NoMemory, Steps};
+use fx_base::Steps;
 use fx_expr::{Shape, Text, Value};
 use fx_rules::Halt;
 use fx_spec::Refusal;
 use std::alloc::Global;
 use std::sync::ledger::Ledger;
-
-/// An answer or a refusal. A reader of a whole filestore needs no path, so that it stops for want of memory alone.
-pub fn refused_or<T: Drop>(result_of: Result<T, Halt>) -> Result<Result<T, Refusal>, NoMemory>
-    ensures { IfOk result (λ answer. split result_of ≡ Ok answer) }
-{
-    match result_of {
-        Ok(value) => Ok(Ok(value)),
-        Err(Halt::Refused(refusal)) => Ok(Err(refusal)),
-        Err(Halt::Stopped(_)) => Err(NoMemory),
-    }
-}
 
 fn as_halt(result_of: Result<(), Refusal>) -> Result<(), Halt> {
     match result_of {

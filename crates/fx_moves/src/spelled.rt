@@ -52,10 +52,12 @@ pub fn shape_of(alloc: Global, spelled: &str) -> Result<Shape, NoMemory> {
     }
 }
 
-/// Adds the text of a part between commas, of which an empty one is none.
-fn add_text(alloc: Global, texts: &mut Vec<Text>, part: &str) -> Result<(), NoMemory> {
-    if !part.is_empty() {
-        texts.push(text_of(alloc, part)?)?;
+/// Adds the texts between commas, of which an empty one is none.
+fn add_texts(alloc: Global, texts: &mut Vec<Text>, spelled: &str) -> Result<(), NoMemory> {
+    for part in spelled.split(',') {
+        if !part.is_empty() {
+            texts.push(text_of(alloc, part)?)?;
+        }
     }
     Ok(())
 }
@@ -63,9 +65,7 @@ fn add_text(alloc: Global, texts: &mut Vec<Text>, part: &str) -> Result<(), NoMe
 /// The set of the texts between commas.
 fn set_of(alloc: Global, spelled: &str) -> Result<TextSet, NoMemory> {
     let mut texts = Vec::new(alloc);
-    for part in spelled.split(',') {
-        add_text(alloc, &mut texts, part)?;
-    }
+    add_texts(alloc, &mut texts, spelled)?;
     TextSet::from_texts(alloc, texts)
 }
 
@@ -80,20 +80,19 @@ pub fn value_of(alloc: Global, spelled: &str) -> Result<Value, NoMemory> {
     }
 }
 
-/// The directory with a name more, where the part is one that can stand behind those there.
-fn add_name(alloc: Global, names: Names, part: &str) -> Result<Names, NoMemory> {
-    let bytes = unescaped(alloc, part)?;
-    match Name::read(alloc, &bytes) {
-        Ok(name) => names.with(alloc, &name),
-        Err(_) => Ok(names),
+/// Adds a name to a directory, where the bytes are one.
+fn add_name(alloc: Global, names: &mut Names, bytes: &[u8]) -> Result<(), NoMemory> {
+    if let Ok(name) = Name::read(alloc, bytes) {
+        *names = names.with(alloc, &name)?;
     }
+    Ok(())
 }
 
 /// The names between commas.
 fn names_of(alloc: Global, spelled: &str) -> Result<Names, NoMemory> {
     let mut names = Names::new(alloc);
     for part in spelled.split(',') {
-        names = add_name(alloc, names, part)?;
+        add_name(alloc, &mut names, &unescaped(alloc, part)?)?;
     }
     Ok(names)
 }

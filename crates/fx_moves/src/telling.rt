@@ -1,8 +1,11 @@
 //! What is told of answers, refusals, places, reads and own changes.
+ghost use Rattle.std.specs.Prelude.{IfOk, IsOk};
+ghost use Rattle.fx_rules.specs.Halts.{split};
 
 use fx_base::NoMemory;
 use fx_expr::{Env, Value, Word};
 use fx_report::value_line;
+use fx_rules::Halt;
 use fx_spec::{Place, Refusal};
 use fx_store::{Names, Node, Path};
 use fx_telling::{add_bytes, tell, tell_bytes};
@@ -38,32 +41,44 @@ fn tell_blocked(out: &mut String, path: &Path) -> Result<(), NoMemory> {
     Ok(())
 }
 
+fn name_of(refusal: &Refusal) -> &'static str {
+    match refusal {
+        Refusal::NoStep => "NoStep",
+        Refusal::NoElement => "NoElement",
+        Refusal::NoPlace => "NoPlace",
+        Refusal::Lacks => "Lacks",
+        Refusal::WrongForm => "WrongForm",
+        Refusal::Blocked(_) => "Blocked",
+        Refusal::TooDeep => "TooDeep",
+        Refusal::BadName => "BadName",
+        Refusal::NoDefault => "NoDefault",
+        Refusal::Expr(_) => "Expr",
+        Refusal::Absent => "Absent",
+        Refusal::Exists => "Exists",
+    }
+}
+
 /// Tells the name of a refusal, with the path or the fault that it has.
 pub fn tell_refusal(out: &mut String, refusal: &Refusal) -> Result<(), NoMemory> {
     match refusal {
-        Refusal::NoStep => tell(out, "NoStep"),
-        Refusal::NoElement => tell(out, "NoElement"),
-        Refusal::NoPlace => tell(out, "NoPlace"),
-        Refusal::Lacks => tell(out, "Lacks"),
-        Refusal::WrongForm => tell(out, "WrongForm"),
         Refusal::Blocked(path) => tell_blocked(out, path),
-        Refusal::TooDeep => tell(out, "TooDeep"),
-        Refusal::BadName => tell(out, "BadName"),
-        Refusal::NoDefault => tell(out, "NoDefault"),
         Refusal::Expr(fault) => {
             writeln!(out, "> Expr {fault:?}")?;
             Ok(())
         }
-        Refusal::Absent => tell(out, "Absent"),
-        Refusal::Exists => tell(out, "Exists"),
+        _ => tell(out, name_of(refusal)),
     }
 }
 
-/// Tells that a command is done, or its refusal.
-pub fn tell_done(out: &mut String, answer: &Result<(), Refusal>) -> Result<(), NoMemory> {
+/// Tells that a command is done, or its refusal. A reader of a whole filestore needs no path, so that it stops for want of
+/// memory alone.
+pub fn tell_done(out: &mut String, answer: Result<(), Halt>) -> Result<(), NoMemory>
+    ensures { IfOk result (λ _. IsOk (split answer)) }
+{
     match answer {
         Ok(()) => tell(out, "done"),
-        Err(refusal) => tell_refusal(out, refusal),
+        Err(Halt::Refused(refusal)) => tell_refusal(out, &refusal),
+        Err(Halt::Stopped(_)) => Err(NoMemory),
     }
 }
 
@@ -76,11 +91,14 @@ fn tell_value(alloc: Global, out: &mut String, value: &Value) -> Result<(), NoMe
 pub fn tell_answer(
     alloc: Global,
     out: &mut String,
-    answer: &Result<Value, Refusal>,
-) -> Result<(), NoMemory> {
+    answer: Result<Value, Halt>,
+) -> Result<(), NoMemory>
+    ensures { IfOk result (λ _. IsOk (split answer)) }
+{
     match answer {
-        Ok(value) => tell_value(alloc, out, value),
-        Err(refusal) => tell_refusal(out, refusal),
+        Ok(value) => tell_value(alloc, out, &value),
+        Err(Halt::Refused(refusal)) => tell_refusal(out, &refusal),
+        Err(Halt::Stopped(_)) => Err(NoMemory),
     }
 }
 

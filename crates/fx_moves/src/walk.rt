@@ -1,15 +1,16 @@
 //! A zipper that goes through the commands of a case.
-ghost use Rattle.std.specs.Prelude.{◌≡◌, ◌<◌, IfOk};
+ghost use Rattle.std.specs.Prelude.{◌≡◌, ◌<◌, IfOk, IsOk};
 ghost use Rattle.fx_rules.specs.Halts.{split};
 ghost use Rattle.fx_moves.specs.Ready.{IsReady};
 
-use crate::acts::{ask, edit_by, move_by, refused_or};
+use crate::acts::{ask, edit_by, move_by};
 use crate::spelled::{node_of, path_of, shape_of, text_of, value_of};
 use crate::telling::{tell_answer, tell_done, tell_own, tell_place, tell_reads, tell_refusal};
 use crate::verbs::{Edit, Move, Put, Question, Verb, verb_of};
 use fx_base::{NoMemory, Steps};
 use fx_rules::Halt;
-use fx_spec::{Base, Refusal};
+use fx_spec::Base;
+use fx_store::Path;
 use fx_telling::split_word;
 use fx_view::{Overlay, Reader, Whole};
 use fx_zip::Zip;
@@ -37,8 +38,8 @@ fn tell_move<L: Ledger>(
     ensures { IfOk result (λ _. IsReady walk.new) }
 {
     let text = text_of(alloc, spelled)?;
-    let answer = refused_or(move_by(alloc, walk, act, &text, steps))?;
-    tell_done(out, &answer)
+    let answer = move_by(alloc, walk, act, &text, steps);
+    tell_done(out, answer)
 }
 
 fn tell_question<L: Ledger>(
@@ -53,8 +54,8 @@ fn tell_question<L: Ledger>(
     ensures { IfOk result (λ _. IsReady walk.new) }
 {
     let shape = shape_of(alloc, spelled)?;
-    let answer = refused_or(ask(alloc, walk, question, &shape, steps))?;
-    tell_answer(alloc, out, &answer)
+    let answer = ask(alloc, walk, question, &shape, steps);
+    tell_answer(alloc, out, answer)
 }
 
 fn tell_edit<L: Ledger>(
@@ -69,34 +70,44 @@ fn tell_edit<L: Ledger>(
     ensures { IfOk result (λ _. IsReady walk.new) }
 {
     let value = value_of(alloc, spelled)?;
-    let answer = refused_or(edit_by(alloc, walk, edit, &value, steps))?;
-    tell_done(out, &answer)
+    let answer = edit_by(alloc, walk, edit, &value, steps);
+    tell_done(out, answer)
 }
 
-/// Reads a path.
-fn read(alloc: Global, walk: &mut Walk, spelled: &str) -> Result<(), NoMemory> {
+/// Reads a path, and says whether that was done.
+fn is_read(alloc: Global, reader: &mut Whole, path: &Path) -> bool {
+    reader.read(alloc, path).is_ok()
+}
+
+fn read(alloc: Global, reader: &mut Whole, spelled: &str) -> Result<(), NoMemory> {
     let path = path_of(alloc, spelled)?;
-    match walk.reader.read(alloc, &path) {
-        Ok(_) => Ok(()),
-        Err(_) => Err(NoMemory),
+    if is_read(alloc, reader, &path) {
+        Ok(())
+    } else {
+        Err(NoMemory)
     }
 }
 
 /// Puts an own change at a path.
-fn change(alloc: Global, walk: &mut Walk, put: Put, spelled: &str) -> Result<(), NoMemory> {
-    let (path, text) = split_word(spelled);
-    let node = node_of(alloc, put, text)?;
+fn change(
+    alloc: Global,
+    overlay: &mut Overlay,
+    put: Put,
+    path: &str,
+    text: &str,
+) -> Result<(), NoMemory> {
     let path = path_of(alloc, path)?;
-    walk.overlay.put(alloc, path, node)
+    let node = node_of(alloc, put, text)?;
+    overlay.put(alloc, path, node)
 }
 
 /// Reads a path, puts an own change there, and says so to the zipper.
 fn put_by(alloc: Global, walk: &mut Walk, put: Put, spelled: &str) -> Result<(), NoMemory>
     ensures { IfOk result (λ _. IsReady walk.new) }
 {
-    let (path, _) = split_word(spelled);
-    read(alloc, walk, path)?;
-    change(alloc, walk, put, spelled)?;
+    let (path, text) = split_word(spelled);
+    read(alloc, &mut walk.reader, path)?;
+    change(alloc, &mut walk.overlay, put, path, text)?;
     walk.zip.stored();
     Ok(())
 }
@@ -112,12 +123,15 @@ fn find<L: Ledger>(alloc: Global, walk: &mut Walk, steps: &mut Steps<L>) -> Resu
 fn tell_standing(
     alloc: Global,
     walk: &Walk,
-    answer: &Result<(), Refusal>,
+    answer: Result<(), Halt>,
     out: &mut String,
-) -> Result<(), NoMemory> {
+) -> Result<(), NoMemory>
+    ensures { IfOk result (λ _. IsOk (split answer)) }
+{
     match answer {
         Ok(()) => tell_place(alloc, out, &walk.zip.here()),
-        Err(refusal) => tell_refusal(out, refusal),
+        Err(Halt::Refused(refusal)) => tell_refusal(out, &refusal),
+        Err(Halt::Stopped(_)) => Err(NoMemory),
     }
 }
 
@@ -130,8 +144,8 @@ fn tell_found<L: Ledger>(
     requires { IsReady walk.old }
     ensures { IfOk result (λ _. IsReady walk.new) }
 {
-    let answer = refused_or(find(alloc, walk, steps))?;
-    tell_standing(alloc, walk, &answer, out)
+    let answer = find(alloc, walk, steps);
+    tell_standing(alloc, walk, answer, out)
 }
 
 /// Does what a line says, and tells what it gives.
@@ -175,6 +189,23 @@ fn walk_over(alloc: Global, base: &Arc<Base>) -> Result<Walk<'_>, NoMemory>
     })
 }
 
+/// Adds lines, each command with what it gives.
+fn add_lines<L: Ledger>(
+    alloc: Global,
+    walk: &mut Walk,
+    lines: &str,
+    steps: &mut Steps<L>,
+    out: &mut String,
+) -> Result<(), NoMemory>
+    requires { IsReady walk.old }
+{
+    'commands: for line in lines.lines() {
+        add_line(out, line)?;
+        obey(alloc, walk, line, steps, out)?;
+    }
+    Ok(())
+}
+
 /// Adds the lines of a case, each command with what it gives. The case is no `&str`, so that a caller can pick the counter.
 pub fn add_walk<L: Ledger>(
     alloc: Global,
@@ -189,9 +220,5 @@ pub fn add_walk<L: Ledger>(
 {
     let mut steps = Steps::<L>::open(blank);
     let mut walk = walk_over(alloc, base)?;
-    'commands: for line in case.as_str().lines() {
-        add_line(out, line)?;
-        obey(alloc, &mut walk, line, &mut steps, out)?;
-    }
-    Ok(())
+    add_lines(alloc, &mut walk, case.as_str(), &mut steps, out)
 }

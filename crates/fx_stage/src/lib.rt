@@ -1,11 +1,14 @@
-//! The stage on which a case plays, a host and sinks in memory, and what is told of trees and statuses.
+//! The stage on which a case plays, a host and sinks in memory, the program that is tried there, and what is told of trees and
+//! statuses.
 #![tactic(auto)]
 
+mod program;
 mod stage;
 mod sums;
 mod telling;
 mod words;
 
+pub use program::{OUT, Program, run_quietly, tell_end};
 pub use stage::{Stage, host_text};
 pub use telling::{Detail, tell_left, tell_status, tell_tree};
 pub use words::words_of;

@@ -3,35 +3,17 @@
 use fx_base::NoMemory;
 use fx_board::{Attempt, Board, Event, Events};
 use fx_command::Status;
-use fx_outside::Words;
 use fx_report::event_lines;
 use fx_run::run;
 use fx_sched::World;
 use fx_spec::{Base, End};
-use fx_stage::{Stage, words_of};
+use fx_stage::{Program, Stage};
 use fx_store::{Node, Path};
 use fx_telling::{split_word, tell, tell_bytes, unescaped};
-use fx_top::reading::read_base;
 use fx_view::{Known, Reads, Stop};
-use fx_words::{Job, job_of};
 use std::alloc::Global;
 use std::fmt::Write;
 use std::sync::Arc;
-
-/// The words of a run of the scripts.
-fn run_words(alloc: Global, scripts: &str) -> Result<Words, NoMemory> {
-    let line = format!(in alloc; "trace spec in out 0 {scripts}")?;
-    words_of(alloc, line.as_str())
-}
-
-/// What a run of the scripts begins with: the description at `spec`, the folder at `in`, and the scripts.
-pub fn base_of(alloc: Global, stage: &mut Stage, scripts: &str) -> Result<Arc<Base>, Status> {
-    let words = run_words(alloc, scripts)?;
-    match job_of(alloc, &words) {
-        Ok(Job::Run(job)) => read_base(alloc, &job, &mut stage.host),
-        _ => Err(Status::Usage),
-    }
-}
 
 fn tell_refused(out: &mut String, status: &Status) -> Result<(), NoMemory> {
     let code = status.code();
@@ -85,13 +67,14 @@ fn tell_first(alloc: Global, base: &Arc<Base>, out: &mut String) -> Result<(), N
 }
 
 /// Tells the attempt of the first transaction of a script, where nothing was read yet.
-pub fn tell_attempt(
+pub fn tell_attempt<P: Program>(
+    program: &P,
     alloc: Global,
     stage: &mut Stage,
     script: &str,
     out: &mut String,
 ) -> Result<(), NoMemory> {
-    match base_of(alloc, stage, script) {
+    match program.base(alloc, stage, script) {
         Ok(base) => tell_first(alloc, &base, out),
         Err(status) => tell_refused(out, &status),
     }
@@ -232,7 +215,8 @@ fn tell_from(
 
 /// Tells the events of the turns between commas, and then the log, with what stands at the paths between commas: a line is
 /// turns, paths and scripts.
-pub fn tell_steps(
+pub fn tell_steps<P: Program>(
+    program: &P,
     alloc: Global,
     stage: &mut Stage,
     line: &str,
@@ -240,7 +224,7 @@ pub fn tell_steps(
 ) -> Result<(), NoMemory> {
     let (turns, more) = split_word(line);
     let (paths, scripts) = split_word(more);
-    match base_of(alloc, stage, scripts) {
+    match program.base(alloc, stage, scripts) {
         Ok(base) => tell_from(alloc, base, turns, paths, out),
         Err(status) => tell_refused(out, &status),
     }

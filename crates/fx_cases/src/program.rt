@@ -1,0 +1,45 @@
+//! The top call, as the program that is tried.
+
+use fx_base::NoMemory;
+use fx_outside::{MemoryHost, MemorySink, OpenGate, Words};
+use fx_spec::Base;
+use fx_stage::{Program, Stage, words_of};
+use fx_top::reading::read_base;
+use fx_top::status::Status;
+use fx_top::top::top;
+use fx_words::{Job, job_of};
+use std::alloc::Global;
+use std::sync::{Arc, Wait};
+use std::thread::Threads;
+
+/// The top call, with the threads and the waiting of a runtime.
+#[derive(Drop)]
+pub struct Top<'a, R> {
+    pub rt: &'a R,
+}
+
+/// The words of a run of the scripts.
+fn run_words(alloc: Global, scripts: &str) -> Result<Words, NoMemory> {
+    let line = format!(in alloc; "trace spec in out 0 {scripts}")?;
+    words_of(alloc, line.as_str())
+}
+
+impl<R: Threads + Wait + Sync> Program for Top<'_, R> {
+    fn run(
+        &self,
+        alloc: Global,
+        words: &Words,
+        host: &mut MemoryHost,
+        sink: &mut MemorySink,
+    ) -> Status {
+        top(self.rt, alloc, words, host, sink, &OpenGate)
+    }
+
+    fn base(&self, alloc: Global, stage: &mut Stage, scripts: &str) -> Result<Arc<Base>, Status> {
+        let words = run_words(alloc, scripts)?;
+        match job_of(alloc, &words) {
+            Ok(Job::Run(job)) => read_base(alloc, &job, &mut stage.host),
+            _ => Err(Status::Usage),
+        }
+    }
+}
