@@ -14,6 +14,7 @@ use Rattle.fx_outside.specs.Path.{Parts, parts, parts_cmp, above, is_fit, is_fit
 use Rattle.fx_outside.specs.Tree as tree
 use Rattle.fx_outside.specs.Tree.{Tree, Entry, folder, has_folder, entry_at, is_folder_kind, is_file_kind}
 use Rattle.fx_outside.proofs.Trees.{parts_total}
+use Rattle.fx_table.proofs.Rests.{longer}
 use Rattle.fx_folder.specs.Folder.{IsReady}
 use Rattle.fx_folder.specs.Written.{with_folder, IsOpen}
 

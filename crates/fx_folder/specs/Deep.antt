@@ -16,9 +16,10 @@ use Rattle.fx_store.specs.Whole.{Store, Nodes}
 use Rattle.fx_table.specs.declared.fault.FolderCause.{FolderCause}
 use Rattle.fx_table.specs.declared.fault.FolderCause.TheVariants.{BadName, Strange, TooLarge, BadTable}
 use Rattle.fx_folder.specs.Limits.{most_nodes, most_in_file, most_bytes}
-use Rattle.fx_table.specs.Places.{table_name, rest_of}
+use Rattle.fx_table.specs.Listed.{Mapped, with_links, listed}
+use Rattle.fx_table.specs.Places.{table_name, place_of, rest_of}
 use Rattle.fx_folder.specs.Places.{host_entry}
-use Rattle.fx_table.specs.Table.{TableLink, read_table, table_text, links_of}
+use Rattle.fx_table.specs.Table.{TableLink, read_table, table_text, links_of, links_before}
 
 -- an entry, with the names that lead to it from a folder
 abbrev pub Held : Type 0

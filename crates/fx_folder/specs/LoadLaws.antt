@@ -11,6 +11,7 @@ use Rattle.fx_folder.specs.Loads.{most_nodes, most_bytes}
 use Rattle.fx_table.specs.Table.{table_text, links_of}
 use Rattle.fx_folder.specs.Deep.{most_in_table, deep_loads, HasFolderOf}
 use Rattle.fx_table.specs.Listed.{Mapped}
+use Rattle.fx_table.specs.Shaped.{AreOfBytes}
 
 -- what a folder of a whole tree is loaded as is a whole filestore; a tree of numbers that are no bytes is loaded too, so that
 -- they are bytes is asked of what was loaded

@@ -20,7 +20,7 @@ use Rattle.fx_table.specs.declared.fault.FolderCause.TheVariants.{BadName, Stran
 use Rattle.fx_folder.specs.Loads.{most_nodes, most_in_file, most_bytes}
 use Rattle.fx_table.specs.Places.{table_name, place_of}
 use Rattle.fx_table.specs.Table.{TableLink}
-use Rattle.fx_table.specs.TableLaws.{IsFirstBadLine}
+use Rattle.fx_table.specs.TableLaws.{IsFirstBadLine, BeginsWith}
 use Rattle.fx_folder.specs.Deep.{Held, all_below, walked, last_name, all_bytes, unlisted, most_in_table, deep_loads}
 
 -- an entry stands at these names below the folder, and neither is the table nor stands in it
