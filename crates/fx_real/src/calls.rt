@@ -1,10 +1,11 @@
 //! Calls on the machine's files as a host.
 
-use crate::telling::{tell, tell_bytes};
+use fx_base::NoMemory;
 use fx_disk::Disk;
 use fx_outside::{Host, HostFault, HostText, Listing};
+use fx_telling::{tell, tell_bytes};
 use std::alloc::Global;
-use std::io;
+use std::fmt::Write;
 
 /// A call on the host.
 #[derive(Clone, Copy)]
@@ -17,11 +18,11 @@ pub enum Call {
     WriteNew,
 }
 
-fn host_text(rt: &HostRuntime, text: &str) -> io::Result<HostText> {
-    Ok(HostText::from_string(String::from_str(rt.alloc(), text)?))
+fn host_text(alloc: Global, text: &str) -> Result<HostText, NoMemory> {
+    Ok(HostText::from_string(String::from_str(alloc, text)?))
 }
 
-fn tell_fault(out: &mut String, fault: HostFault, faults: u64) -> io::Result<()> {
+fn tell_fault(out: &mut String, fault: HostFault, faults: u64) -> Result<(), NoMemory> {
     writeln!(out, "> {fault:?}, faults {faults}")?;
     Ok(())
 }
@@ -31,7 +32,7 @@ fn tell_standing(
     disk: &mut Disk<HostRuntime>,
     path: &HostText,
     out: &mut String,
-) -> io::Result<()> {
+) -> Result<(), NoMemory> {
     match disk.standing(alloc, path) {
         Ok(standing) => {
             writeln!(out, "> {standing:?}")?;
@@ -41,7 +42,7 @@ fn tell_standing(
     }
 }
 
-fn tell_listing(out: &mut String, names: &Listing) -> io::Result<()> {
+fn tell_listing(out: &mut String, names: &Listing) -> Result<(), NoMemory> {
     for i in 0..names.len() {
         if let Some((name, kind)) = names.at(i) {
             writeln!(out, "> {} {kind:?}", name.as_str())?;
@@ -55,7 +56,7 @@ fn tell_list(
     disk: &mut Disk<HostRuntime>,
     path: &HostText,
     out: &mut String,
-) -> io::Result<()> {
+) -> Result<(), NoMemory> {
     match disk.list(alloc, path) {
         Ok(names) => tell_listing(out, &names),
         Err(fault) => tell_fault(out, fault, disk.faults()),
@@ -69,7 +70,7 @@ fn tell_read(
     path: &HostText,
     from: u64,
     out: &mut String,
-) -> io::Result<()> {
+) -> Result<(), NoMemory> {
     let mut buffer = [0u8; 4];
     match disk.read(alloc, path, from, &mut buffer) {
         Ok(count) => {
@@ -80,7 +81,7 @@ fn tell_read(
     }
 }
 
-fn tell_done(out: &mut String, done: Result<(), HostFault>, faults: u64) -> io::Result<()> {
+fn tell_done(out: &mut String, done: Result<(), HostFault>, faults: u64) -> Result<(), NoMemory> {
     match done {
         Ok(()) => tell(out, "done"),
         Err(fault) => tell_fault(out, fault, faults),
@@ -94,7 +95,7 @@ fn tell_on(
     path: &HostText,
     text: &str,
     out: &mut String,
-) -> io::Result<()> {
+) -> Result<(), NoMemory> {
     match call {
         Call::Standing => tell_standing(alloc, disk, path, out),
         Call::List => tell_list(alloc, disk, path, out),
@@ -117,8 +118,8 @@ pub fn tell_call(
     path: &str,
     text: &str,
     out: &mut String,
-) -> io::Result<()> {
-    let path = host_text(rt, path)?;
+) -> Result<(), NoMemory> {
+    let path = host_text(rt.alloc(), path)?;
     let mut disk = Disk::new(rt.clone()?);
     tell_on(rt.alloc(), &mut disk, call, &path, text, out)
 }

@@ -1,8 +1,12 @@
 //! The lines of cases, and what each gives.
 
 use crate::calls::{Call, tell_call};
-use crate::run::{Printer, tell_run};
-use crate::telling::{tell, tell_tree};
+use crate::run::tell_run;
+use crate::stage::Stage;
+use crate::telling::tell_tree;
+use fx_base::NoMemory;
+use fx_telling::{Case, number, split_word, tell};
+use std::alloc::Global;
 use std::fs::{self, File};
 use std::io::{self, PipeReader, Write};
 use std::os::fd::AsRawFd;
@@ -60,23 +64,19 @@ fn verb_of(word: &str) -> Option<Verb> {
 
 /// What the lines before have set up for the next runs.
 #[derive(Drop)]
-struct Before {
+pub struct Before {
     /// A pipe that is read at the word `PIPE`.
-    pipe: Option<PipeReader>,
-    printer: Printer,
+    pub pipe: Option<PipeReader>,
+    /// The most bytes that the output of a run takes.
+    pub room: u64,
 }
 
-/// The first word of a line, and what stands behind the space behind it.
-fn split_word(line: &str) -> (&str, &str) {
-    match line.split_once(' ') {
-        Some(parts) => parts,
-        None => (line, ""),
-    }
-}
-
-/// The number that a text spells, and 0 where it spells none.
-fn number(text: &str) -> u64 {
-    text.parse::<u64>().unwrap_or(0)
+/// What runs the cases.
+#[derive(Drop)]
+pub struct Cases<'a, T> {
+    pub rt: &'a HostRuntime,
+    pub threads: &'a T,
+    pub before: &'a mut Before,
 }
 
 /// A pipe that holds a text and then ends.
@@ -101,92 +101,79 @@ fn put(rt: &HostRuntime, setting: Setting, path: &str, text: &str) -> io::Result
     }
 }
 
-fn set_up(rt: &HostRuntime, setting: Setting, rest: &str, before: &mut Before) -> io::Result<()> {
+fn set(rt: &HostRuntime, setting: Setting, rest: &str, before: &mut Before) -> io::Result<()> {
     let (path, text) = split_word(rest);
     match setting {
         Setting::Pipe => before.pipe = Some(pipe_of(rt, rest)?),
-        Setting::Room => before.printer = Printer { room: number(rest) },
+        Setting::Room => before.room = u64::from(number(rest)),
         _ => put(rt, setting, path, text)?,
     }
     Ok(())
 }
 
-fn call_on(rt: &HostRuntime, call: Call, rest: &str, out: &mut String) -> io::Result<()> {
+fn set_up(
+    rt: &HostRuntime,
+    setting: Setting,
+    rest: &str,
+    before: &mut Before,
+    out: &mut String,
+) -> Result<(), NoMemory> {
+    if set(rt, setting, rest, before).is_err() {
+        return tell(out, "not set up");
+    }
+    Ok(())
+}
+
+fn call_on(rt: &HostRuntime, call: Call, rest: &str, out: &mut String) -> Result<(), NoMemory> {
     let (path, text) = split_word(rest);
     tell_call(rt, call, path, text, out)
 }
 
-fn read_at(rt: &HostRuntime, rest: &str, out: &mut String) -> io::Result<()> {
+fn read_at(rt: &HostRuntime, rest: &str, out: &mut String) -> Result<(), NoMemory> {
     let (path, from) = split_word(rest);
-    tell_call(rt, Call::Read(number(from)), path, "", out)
+    tell_call(rt, Call::Read(u64::from(number(from))), path, "", out)
 }
 
-/// Runs the program, with the pipe at the word `PIPE`.
+/// The words, with the path of the pipe at the word `PIPE`.
+fn words_of(rt: &HostRuntime, words: &str, pipe: &Option<PipeReader>) -> Result<String, NoMemory> {
+    match pipe {
+        None => Ok(String::from_str(rt.alloc(), words)?),
+        Some(pipe) => {
+            let path = format!(in rt.alloc(); "/dev/fd/{}", pipe.as_raw_fd())?;
+            Ok(words.replace(rt.alloc(), "PIPE", path.as_str())?)
+        }
+    }
+}
+
+/// Runs the program.
 fn run<T: Clone + Threads + Wait + Sync>(
     rt: &HostRuntime,
     threads: &T,
     words: &str,
     before: &Before,
     out: &mut String,
-) -> io::Result<()> {
-    match &before.pipe {
-        None => tell_run(rt, threads, words, before.printer, out),
-        Some(pipe) => {
-            let path = format!(in rt.alloc(); "/dev/fd/{}", pipe.as_raw_fd())?;
-            let words = words.replace(rt.alloc(), "PIPE", path.as_str())?;
-            tell_run(rt, threads, words.as_str(), before.printer, out)
-        }
-    }
-}
-
-/// Adds what a line gives.
-fn answer<T: Clone + Threads + Wait + Sync>(
-    rt: &HostRuntime,
-    threads: &T,
-    line: &str,
-    before: &mut Before,
-    out: &mut String,
-) -> io::Result<()> {
-    let (word, rest) = split_word(line);
-    match verb_of(word) {
-        None => tell(out, "no such word"),
-        Some(Verb::Note) => Ok(()),
-        Some(Verb::Set(setting)) => set_up(rt, setting, rest, before),
-        Some(Verb::Call(call)) => call_on(rt, call, rest, out),
-        Some(Verb::Read) => read_at(rt, rest, out),
-        Some(Verb::Run) => run(rt, threads, rest, before, out),
-        Some(Verb::Tree) => tell_tree(rt, rest, out),
-    }
-}
-
-/// Adds a line and what it gives.
-fn add_answered<T: Clone + Threads + Wait + Sync>(
-    rt: &HostRuntime,
-    threads: &T,
-    line: &str,
-    before: &mut Before,
-    out: &mut String,
-) -> io::Result<()> {
-    out.push_str(line)?;
-    out.push('\n')?;
-    answer(rt, threads, line, before, out)
-}
-
-/// The lines that begin with no `>`, each with what it gives.
-pub fn answered<T: Clone + Threads + Wait + Sync>(
-    rt: &HostRuntime,
-    threads: &T,
-    cases: &str,
-) -> io::Result<String> {
-    let mut out = String::new(rt.alloc());
-    let mut before = Before {
-        pipe: None,
-        printer: Printer { room: u64::MAX },
+) -> Result<(), NoMemory> {
+    let words = words_of(rt, words, &before.pipe)?;
+    let stage = Stage {
+        rt,
+        threads,
+        words: words.as_str(),
+        room: before.room,
     };
-    for line in cases.lines() {
-        if !line.starts_with('>') {
-            add_answered(rt, threads, line, &mut before, &mut out)?;
+    tell_run(&stage, out)
+}
+
+impl<T: Clone + Threads + Wait + Sync> Case for Cases<'_, T> {
+    fn answer(&mut self, _alloc: Global, line: &str, out: &mut String) -> Result<(), NoMemory> {
+        let (word, rest) = split_word(line);
+        match verb_of(word) {
+            None => tell(out, "no such word"),
+            Some(Verb::Note) => Ok(()),
+            Some(Verb::Set(setting)) => set_up(self.rt, setting, rest, self.before, out),
+            Some(Verb::Call(call)) => call_on(self.rt, call, rest, out),
+            Some(Verb::Read) => read_at(self.rt, rest, out),
+            Some(Verb::Run) => run(self.rt, self.threads, rest, self.before, out),
+            Some(Verb::Tree) => tell_tree(self.rt, rest, out),
         }
     }
-    Ok(out)
 }

@@ -10,11 +10,26 @@ mod run;
 mod stage;
 mod telling;
 
-use cases::answered;
+use cases::{Before, Cases};
+use fx_telling::add_answers;
 use std::io;
+use std::io::ErrorKind;
 
 fn main(rt: HostRuntime) -> io::Result<()> {
-    let cases = io::read_to_string(rt.alloc(), rt.reader())?;
-    let answers = answered(&rt, &rt, cases.as_str())?;
-    rt.print(answers)
+    let alloc = rt.alloc();
+    let cases = io::read_to_string(alloc, rt.reader())?;
+    let mut answers = String::new(alloc);
+    let mut before = Before {
+        pipe: None,
+        room: u64::MAX,
+    };
+    let mut all = Cases {
+        rt: &rt,
+        threads: &rt,
+        before: &mut before,
+    };
+    match add_answers(alloc, &mut all, cases.as_str(), &mut answers) {
+        Ok(()) => rt.print(answers),
+        Err(fx_base::NoMemory) => Err(io::Error::from(ErrorKind::OutOfMemory)),
+    }
 }

@@ -1,20 +1,16 @@
 //! Runs of the program.
 
 use crate::stage::{PRINTED, SAID, Stage};
-use crate::telling::{tell_bytes, tell_said};
+use crate::telling::tell_text;
+use fx_base::NoMemory;
 use fx_program::program;
+use fx_telling::tell;
+use std::fmt::Write;
 use std::fs::{self, File};
 use std::io;
 use std::process::{ExitCode, Termination};
 use std::sync::Wait;
 use std::thread::Threads;
-
-/// Where the output of a run goes.
-#[derive(Clone, Copy)]
-pub struct Printer {
-    /// The most bytes that it takes.
-    pub room: u64,
-}
 
 /// The number of a code.
 fn number_of(code: ExitCode) -> u8 {
@@ -33,23 +29,36 @@ fn clear(rt: &HostRuntime) -> io::Result<()> {
     Ok(())
 }
 
+/// The number of the program's code.
+fn code_of<T: Clone + Threads + Wait + Sync>(stage: &Stage<T>) -> u8 {
+    number_of(program(stage).report(stage))
+}
+
+fn tell_lines(said: &str, out: &mut String) -> Result<(), NoMemory> {
+    for line in said.lines() {
+        writeln!(out, "> said {line}")?;
+    }
+    Ok(())
+}
+
+/// Tells the lines that were said on standard error.
+fn tell_said(rt: &HostRuntime, out: &mut String) -> Result<(), NoMemory> {
+    match fs::read_to_string(rt, SAID) {
+        Ok(said) => tell_lines(said.as_str(), out),
+        Err(_) => tell(out, "not read"),
+    }
+}
+
 /// Runs the program, and tells its code, what it printed, and its lines on standard error.
 pub fn tell_run<T: Clone + Threads + Wait + Sync>(
-    rt: &HostRuntime,
-    threads: &T,
-    words: &str,
-    printer: Printer,
+    stage: &Stage<T>,
     out: &mut String,
-) -> io::Result<()> {
-    clear(rt)?;
-    let stage = Stage {
-        rt,
-        threads,
-        words,
-        room: printer.room,
-    };
-    let number = number_of(program(&stage).report(&stage));
+) -> Result<(), NoMemory> {
+    if clear(stage.rt).is_err() {
+        return tell(out, "not cleared");
+    }
+    let number = code_of(stage);
     writeln!(out, "> status {number}")?;
-    tell_bytes(out, &fs::read(rt, PRINTED)?)?;
-    tell_said(out, fs::read_to_string(rt, SAID)?.as_str())
+    tell_text(stage.rt, PRINTED, out)?;
+    tell_said(stage.rt, out)
 }

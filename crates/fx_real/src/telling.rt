@@ -1,53 +1,25 @@
-//! What is told of bytes and trees. Each line of it begins with `> `.
+//! What is told of files and trees. Each line of it begins with `> `.
 
-use std::alloc::AllocError;
+use fx_base::NoMemory;
+use fx_telling::{tell, tell_bytes};
+use std::fmt::Write;
 use std::fs::{self, DirEntry, FileType};
 use std::io::{self, ErrorKind};
 
 /// The most entries that are told of a tree.
 const ENTRY_LIMIT: usize = 10_000;
 
-/// Tells a line.
-pub fn tell(out: &mut String, line: &str) -> io::Result<()> {
-    writeln!(out, "> {line}")?;
-    Ok(())
-}
-
-/// Adds a byte of a text with lines, in hexadecimal where it is none that is printed.
-fn add_byte(out: &mut String, byte: u8) -> Result<(), AllocError> {
-    match byte {
-        b'\n' | b' '..=b'~' => out.push(char::from(byte)),
-        _ => write!(out, "\\x{byte:02x}"),
+/// Tells the lines of a file.
+pub fn tell_text(rt: &HostRuntime, path: &str, out: &mut String) -> Result<(), NoMemory> {
+    match fs::read(rt, path) {
+        Ok(bytes) => tell_bytes(out, &bytes),
+        Err(_) => tell(out, "not read"),
     }
 }
 
-/// Tells the lines of a text, with a backslash where it does not end its last line.
-pub fn tell_bytes(out: &mut String, bytes: &[u8]) -> io::Result<()> {
-    let mut begins = true;
-    for byte in bytes {
-        if begins {
-            out.push_str("> ")?;
-        }
-        begins = *byte == b'\n';
-        add_byte(out, *byte)?;
-    }
-    if !begins {
-        out.push_str("\\\n")?;
-    }
-    Ok(())
-}
-
-/// Tells the lines that were said on standard error.
-pub fn tell_said(out: &mut String, said: &str) -> io::Result<()> {
-    for line in said.lines() {
-        writeln!(out, "> said {line}")?;
-    }
-    Ok(())
-}
-
-fn tell_file(rt: &HostRuntime, path: &str, out: &mut String) -> io::Result<()> {
+fn tell_file(rt: &HostRuntime, path: &str, out: &mut String) -> Result<(), NoMemory> {
     tell(out, path)?;
-    tell_bytes(out, &fs::read(rt, path)?)
+    tell_text(rt, path, out)
 }
 
 /// Adds the path of an entry.
@@ -56,18 +28,18 @@ fn add_path(
     folder: &str,
     entry: &DirEntry,
     paths: &mut Vec<String>,
-) -> io::Result<()> {
+) -> Result<(), NoMemory> {
     paths.push(format!(in rt.alloc(); "{folder}/{}", entry.file_name())?)?;
     Ok(())
 }
 
-/// Adds the paths of what a folder holds, the last first.
+/// Adds the paths of what a folder holds.
 fn add_paths(rt: &HostRuntime, folder: &str, left: &mut Vec<String>) -> io::Result<()> {
-    let begin = left.len();
     for entry in fs::read_dir(rt, folder)? {
-        add_path(rt, folder, &entry?, left)?;
+        if add_path(rt, folder, &entry?, left).is_err() {
+            return Err(io::Error::from(ErrorKind::OutOfMemory));
+        }
     }
-    sort_last_first(left, begin);
     Ok(())
 }
 
@@ -78,21 +50,44 @@ fn sort_last_first(paths: &mut Vec<String>, begin: usize) {
     }
 }
 
+/// Tells a folder, and adds the paths of what it holds, the last first.
+fn tell_folder(
+    rt: &HostRuntime,
+    path: &str,
+    left: &mut Vec<String>,
+    out: &mut String,
+) -> Result<(), NoMemory> {
+    writeln!(out, "> {path}/")?;
+    let begin = left.len();
+    if add_paths(rt, path, left).is_err() {
+        return tell(out, "not listed");
+    }
+    sort_last_first(left, begin);
+    Ok(())
+}
+
 fn tell_kind(
     rt: &HostRuntime,
     path: &str,
     kind: FileType,
     left: &mut Vec<String>,
     out: &mut String,
-) -> io::Result<()> {
+) -> Result<(), NoMemory> {
     if kind.is_file() {
-        tell_file(rt, path, out)
-    } else if kind.is_dir() {
-        writeln!(out, "> {path}/")?;
-        add_paths(rt, path, left)
-    } else {
-        writeln!(out, "> other {path}")?;
-        Ok(())
+        return tell_file(rt, path, out);
+    }
+    if kind.is_dir() {
+        return tell_folder(rt, path, left, out);
+    }
+    writeln!(out, "> other {path}")?;
+    Ok(())
+}
+
+/// What kind of entry stands at a path, or why that is not known.
+fn kind_at(rt: &HostRuntime, path: &str) -> Result<FileType, ErrorKind> {
+    match fs::symlink_metadata(rt, path) {
+        Ok(metadata) => Ok(metadata.file_type()),
+        Err(error) => Err(error.kind()),
     }
 }
 
@@ -102,19 +97,19 @@ fn tell_entry(
     path: &str,
     left: &mut Vec<String>,
     out: &mut String,
-) -> io::Result<()> {
-    match fs::symlink_metadata(rt, path) {
-        Ok(metadata) => tell_kind(rt, path, metadata.file_type(), left, out),
-        Err(error) if error.kind() == ErrorKind::NotFound => {
+) -> Result<(), NoMemory> {
+    match kind_at(rt, path) {
+        Ok(kind) => tell_kind(rt, path, kind, left, out),
+        Err(ErrorKind::NotFound) => {
             writeln!(out, "> no {path}")?;
             Ok(())
         }
-        Err(error) => Err(error),
+        Err(_) => tell(out, "not seen"),
     }
 }
 
 /// Tells the entry at a path and all below it.
-pub fn tell_tree(rt: &HostRuntime, path: &str, out: &mut String) -> io::Result<()> {
+pub fn tell_tree(rt: &HostRuntime, path: &str, out: &mut String) -> Result<(), NoMemory> {
     let mut left = Vec::new(rt.alloc());
     left.push(String::from_str(rt.alloc(), path)?)?;
     for _ in 0..ENTRY_LIMIT {
