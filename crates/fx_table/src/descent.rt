@@ -23,6 +23,7 @@ pub struct Descent {
 }
 
 impl Descent {
+    /// The walk from the root on.
     pub fn new(alloc: Global, store: &Filestore) -> Result<Descent, NoMemory>
         ensures whole { IsWhole (get store.now.nodes) }
         ensures levels { IfOk result (λ d. AreLevels store.now.nodes d.levels.items) }
