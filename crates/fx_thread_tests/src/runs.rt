@@ -70,6 +70,14 @@ fn has_texts(alloc: Global, ran: &Ran, texts: &[(&str, &str)]) -> bool {
     true
 }
 
+/// What a run printed, where each of the files has its text at the end.
+fn told(alloc: Global, ran: &Ran, texts: &[(&str, &str)]) -> Result<String, NoMemory> {
+    if has_texts(alloc, ran, texts) {
+        return Ok(String::from_str(alloc, ran.printed())?);
+    }
+    Ok(String::from_str(alloc, "a file has another text")?)
+}
+
 /// Runs all scripts of a base, and answers what is printed, where each of the files has its text at the end.
 pub fn printed_with<R: Threads + Wait + Sync, G: Gate + Sync>(
     rt: &R,
@@ -79,10 +87,5 @@ pub fn printed_with<R: Threads + Wait + Sync, G: Gate + Sync>(
     texts: &[(&str, &str)],
 ) -> Result<String, NoMemory> {
     let ran = run(rt, alloc, base, gate)?;
-    let told = if has_texts(alloc, &ran, texts) {
-        ran.printed()
-    } else {
-        "a file has another text"
-    };
-    Ok(String::from_str(alloc, told)?)
+    told(alloc, &ran, texts)
 }
