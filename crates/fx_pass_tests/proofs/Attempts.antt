@@ -1,5 +1,5 @@
 -- What an attempt over live looks says.
-use Rattle.std.proofs.Common.{◌≡◌, ℕ, [], subst}
+use Rattle.std.proofs.Common.{◌≡◌, ℕ, subst}
 use Rattle.fx_view.specs.ReadList.{ReadList}
 use Rattle.fx_spec.specs.Order.{BaseTree}
 use Rattle.fx_machine.specs.declared.attempt.Attempt.{Attempt}

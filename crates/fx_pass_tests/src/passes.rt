@@ -139,10 +139,9 @@ fn advance<R: Wait>(team: &Team<'_, R>, shell: u32, working: Working) -> Result<
     })
 }
 
-/// Settles the transactions of the pass's script, one after another.
-fn work<R: Wait>(team: &Team<'_, R>, pass: Pass) -> Result<Working, NoMemory>
+/// Settles the transactions of the pass's script, one after another, and answers whether an attempt was refused.
+fn work<R: Wait>(team: &Team<'_, R>, pass: Pass) -> Result<bool, NoMemory>
     requires { IsFresh (base_tree team.now.base.now.value) team.now.shared.now pass }
-    ensures { IfOk result (λ w. IsReadyPass team.now.shared.now w.pass) }
 {
     let Some(shell) = pass.number() else {
         unreachable!()
@@ -155,46 +154,60 @@ fn work<R: Wait>(team: &Team<'_, R>, pass: Pass) -> Result<Working, NoMemory>
     for _ in 0..TRIES {
         working = advance(team, shell, working)?;
     }
-    Ok(working)
+    Ok(working.refused)
 }
 
-/// Each pass in a thread of its own.
+/// Each pass in a thread of its own. Answers whether an attempt was refused.
 fn both<R: Threads + Wait + Sync>(
     team: &Team<'_, R>,
     first: Pass,
     second: Pass,
-) -> Result<(Working, Working), NoMemory>
+) -> Result<bool, NoMemory>
     requires first { IsFresh (base_tree team.now.base.now.value) team.now.shared.now first }
     requires second { IsFresh (base_tree team.now.base.now.value) team.now.shared.now second }
 {
     let (first, second) = thread::join(
         team.rt,
-        move || -> Result<Working, NoMemory>
+        move || -> Result<bool, NoMemory>
             requires { IsFresh (base_tree team.now.base.now.value) team.now.shared.now first }
         { work(team, first) },
-        move || -> Result<Working, NoMemory>
+        move || -> Result<bool, NoMemory>
             requires { IsFresh (base_tree team.now.base.now.value) team.now.shared.now second }
         { work(team, second) },
     );
-    Ok((first?, second?))
+    Ok(first? | second?)
 }
 
-/// What a third pass sees where two threads have shared a log: what stands at a path, and how many entries there are. And
-/// whether an attempt was refused.
-#[derive(Drop)]
-struct Met {
-    node: Option<Node>,
-    entries: u64,
-    refused: bool,
+/// The bytes of a file; none of another node.
+fn bytes_of(node: &Option<Node>) -> &[u8] {
+    match node {
+        Some(Node::File(bytes)) => bytes.as_slice(),
+        _ => b"",
+    }
 }
 
-/// Has two threads work over a new log.
+/// What is wrong with what two threads have left: the file, the entries, and whether an attempt was refused. An empty text
+/// where nothing is.
+fn fault_of(node: &Option<Node>, entries: u64, refused: bool) -> &'static str {
+    if entries != 3 {
+        return "there are not three entries";
+    }
+    if bytes_of(node) != b"3".as_slice() {
+        return "the file does not have what three counts make";
+    }
+    if !refused {
+        return "no attempt was refused";
+    }
+    ""
+}
+
+/// Has two threads work over a new log, and answers what is wrong with what a third pass then sees.
 fn meet<R: Threads + Wait + Sync>(
     rt: &R,
     alloc: Global,
     base: &Arc<Base>,
     path: &Path,
-) -> Result<Met, NoMemory> {
+) -> Result<&'static str, NoMemory> {
     let (shared, mut maker) = Shared::new(alloc, Arc::try_clone(base)?)?;
     let meeting = Meeting::new();
     let team = Team {
@@ -207,36 +220,9 @@ fn meet<R: Threads + Wait + Sync>(
     let first = shared.pass(&mut maker);
     let second = shared.pass(&mut maker);
     let mut third = shared.pass(&mut maker);
-    let (first, second) = both(&team, first, second)?;
-    let refused = first.refused | second.refused;
+    let refused = both(&team, first, second)?;
     let (node, entries) = shared.look(rt, alloc, &mut third, path)?;
-    Ok(Met {
-        node,
-        entries,
-        refused,
-    })
-}
-
-/// The bytes of a file; none of another node.
-fn bytes_of(node: &Option<Node>) -> &[u8] {
-    match node {
-        Some(Node::File(bytes)) => bytes.as_slice(),
-        _ => b"",
-    }
-}
-
-/// What is wrong with what two threads have left; an empty text where nothing is.
-fn fault_of(met: &Met) -> &'static str {
-    if met.entries != 3 {
-        return "there are not three entries";
-    }
-    if bytes_of(&met.node) != b"3".as_slice() {
-        return "the file does not have what three counts make";
-    }
-    if !met.refused {
-        return "no attempt was refused";
-    }
-    ""
+    Ok(fault_of(&node, entries, refused))
 }
 
 /// What is wrong with the first meeting with a fault; an empty text where none has one.
@@ -247,8 +233,7 @@ fn first_fault<R: Threads + Wait + Sync>(
     path: &Path,
 ) -> Result<&'static str, NoMemory> {
     for _ in 0..MEETINGS {
-        let met = meet(rt, alloc, base, path)?;
-        let fault = fault_of(&met);
+        let fault = meet(rt, alloc, base, path)?;
         if !fault.is_empty() {
             return Ok(fault);
         }

@@ -1,5 +1,5 @@
 //! As many shells as there may be, all at one file.
-use crate::runs::run;
+use crate::runs::printed_with;
 use fx_outside::OpenGate;
 use fx_replay::{Ground, base_of};
 use std::test::*;
@@ -21,8 +21,7 @@ const SCRIPTS: [&str; 64] = [COUNTER; 64];
 #[test]
 fn sixty_four_shells_count_together(rt: HostRuntime) -> Result<(), Fail> {
     let base = base_of(rt.alloc(), &GROUND, &SCRIPTS)?;
-    let ran = run(&rt, rt.alloc(), base, &OpenGate)?;
-    assert!(rt; ran.printed().starts_with("forest report 1\nentries 192\n"));
-    assert_eq!(rt; ran.text_at(rt.alloc(), "/n")?.as_str(), "192");
+    let printed = printed_with(&rt, rt.alloc(), base, &OpenGate, &[("/n", "192")])?;
+    assert!(rt; printed.starts_with("forest report 1\nentries 192\n"));
     Ok(())
 }

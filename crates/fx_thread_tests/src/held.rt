@@ -1,6 +1,6 @@
 //! Two scripts of which each reads what the other one writes, with a gate that makes their order.
 use crate::holds::{Hold, Holds, Place};
-use crate::runs::run;
+use crate::runs::printed_with;
 use fx_outside::Moment;
 use fx_replay::{Ground, base_of};
 use std::test::*;
@@ -54,11 +54,10 @@ fn a_shell_that_settles_late_starts_again(rt: HostRuntime) -> Result<(), Fail> {
         ),
         second: Hold::new(place(0, Moment::BeforeSettle), place(1, Moment::Settled)),
     };
-    let ran = run(&rt, rt.alloc(), base, &gate)?;
+    let texts = [("/x", "10"), ("/y", "100")];
+    let printed = printed_with(&rt, rt.alloc(), base, &gate, &texts)?;
     assert!(rt; !gate.first.is_late() && !gate.second.is_late());
-    assert_eq!(rt; ran.printed(), SECOND_SHELL_FIRST);
-    assert_eq!(rt; ran.text_at(rt.alloc(), "/x")?.as_str(), "10");
-    assert_eq!(rt; ran.text_at(rt.alloc(), "/y")?.as_str(), "100");
+    assert_eq!(rt; printed.as_str(), SECOND_SHELL_FIRST);
     Ok(())
 }
 
@@ -66,10 +65,9 @@ fn a_shell_that_settles_late_starts_again(rt: HostRuntime) -> Result<(), Fail> {
 fn a_shell_that_looks_late_meets_no_conflict(rt: HostRuntime) -> Result<(), Fail> {
     let base = base_of(rt.alloc(), &GROUND, &SCRIPTS)?;
     let gate = Hold::new(place(1, Moment::BeforeLook), place(0, Moment::Settled));
-    let ran = run(&rt, rt.alloc(), base, &gate)?;
+    let texts = [("/x", "100"), ("/y", "10")];
+    let printed = printed_with(&rt, rt.alloc(), base, &gate, &texts)?;
     assert!(rt; !gate.is_late());
-    assert_eq!(rt; ran.printed(), FIRST_SHELL_FIRST);
-    assert_eq!(rt; ran.text_at(rt.alloc(), "/x")?.as_str(), "100");
-    assert_eq!(rt; ran.text_at(rt.alloc(), "/y")?.as_str(), "10");
+    assert_eq!(rt; printed.as_str(), FIRST_SHELL_FIRST);
     Ok(())
 }

@@ -56,6 +56,14 @@ fn is_as_printed(alloc: Global, base: &Arc<Base>, ran: &Ran) -> Result<bool, NoM
     has_left(alloc, ran, &world)
 }
 
+/// What a run printed, where it has not left what its printed order says.
+fn told_wrong(alloc: Global, base: &Arc<Base>, ran: &Ran) -> Result<Option<String>, NoMemory> {
+    if is_as_printed(alloc, base, ran)? {
+        return Ok(None);
+    }
+    Ok(Some(String::from_str(alloc, ran.printed())?))
+}
+
 /// Runs the scripts once, and answers what was printed if that is not as the printed order says.
 fn wrong_report<R: Threads + Wait + Sync>(
     rt: &R,
@@ -64,10 +72,7 @@ fn wrong_report<R: Threads + Wait + Sync>(
     number: u64,
 ) -> Result<Option<String>, NoMemory> {
     let ran = run(rt, alloc, Arc::try_clone(base)?, &Delays { run: number })?;
-    if is_as_printed(alloc, base, &ran)? {
-        return Ok(None);
-    }
-    Ok(Some(String::from_str(alloc, ran.printed())?))
+    told_wrong(alloc, base, &ran)
 }
 
 /// What the first run prints that is not as its order says; an empty text where each run is.

@@ -34,23 +34,6 @@ pub fn text_of(printed: &LongText) -> &str {
     std::str::from_utf8(printed.as_slice()).unwrap_or("")
 }
 
-/// The bytes of a file of a log; none where none stands.
-pub fn bytes_at<'a>(board: &'a Board, path: &Path) -> &'a [u8] {
-    match board.store().get(path) {
-        Some(Node::File(bytes)) => bytes.as_slice(),
-        _ => b"",
-    }
-}
-
-/// The text of a file of a log; an empty one where none stands.
-pub fn text_at(alloc: Global, board: &Board, path: &str) -> Result<String, NoMemory> {
-    let Ok(path) = Path::read(alloc, path.as_bytes()) else {
-        return Ok(String::new(alloc));
-    };
-    let text = std::str::from_utf8(bytes_at(board, &path)).unwrap_or("");
-    Ok(String::from_str(alloc, text)?)
-}
-
 impl Ran {
     pub fn printed(&self) -> &str {
         text_of(&self.printed)
@@ -61,8 +44,48 @@ impl Ran {
         self.board.store()
     }
 
-    /// The text of a file at the end; an empty one where none stands.
-    pub fn text_at(&self, alloc: Global, path: &str) -> Result<String, NoMemory> {
-        text_at(alloc, &self.board, path)
+    /// Whether a file has this text at the end.
+    fn has(&self, path: &Path, text: &str) -> bool {
+        match self.board.store().get(path) {
+            Some(Node::File(bytes)) => bytes.as_slice() == text.as_bytes(),
+            _ => false,
+        }
     }
+}
+
+fn has_text(alloc: Global, ran: &Ran, path: &str, text: &str) -> bool {
+    match Path::read(alloc, path.as_bytes()) {
+        Ok(path) => ran.has(&path, text),
+        Err(_) => false,
+    }
+}
+
+/// Whether each of the files has its text at the end.
+fn has_texts(alloc: Global, ran: &Ran, texts: &[(&str, &str)]) -> bool {
+    for (path, text) in texts {
+        if !has_text(alloc, ran, path, text) {
+            return false;
+        }
+    }
+    true
+}
+
+/// What a run printed, where each of the files has its text at the end.
+fn told(alloc: Global, ran: &Ran, texts: &[(&str, &str)]) -> Result<String, NoMemory> {
+    if has_texts(alloc, ran, texts) {
+        return Ok(String::from_str(alloc, ran.printed())?);
+    }
+    Ok(String::from_str(alloc, "a file has another text")?)
+}
+
+/// Runs all scripts of a base, and answers what is printed, where each of the files has its text at the end.
+pub fn printed_with<R: Threads + Wait + Sync, G: Gate + Sync>(
+    rt: &R,
+    alloc: Global,
+    base: Arc<Base>,
+    gate: &G,
+    texts: &[(&str, &str)],
+) -> Result<String, NoMemory> {
+    let ran = run(rt, alloc, base, gate)?;
+    told(alloc, &ran, texts)
 }

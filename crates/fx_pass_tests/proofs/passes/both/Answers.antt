@@ -1,4 +1,4 @@
-use denote.Param.Send.{IsSend, IsSync, struct_sync, sendable}
+use denote.Param.Send.{IsSync, struct_sync, sendable}
 use denote.RattleType.{RattleType}
 use denote.Ref.{NamedLft}
 use denote.Struct.Declared.{shape}
@@ -11,11 +11,7 @@ use Rattle.fx_board.proofs.Crosses.{Board-send}
 use Rattle.fx_shared.specs.contracts.shared.Shared as shared
 use Rattle.fx_pass_tests.specs.contracts.meeting.Meeting as meeting
 use Rattle.fx_pass_tests.specs.contracts.passes.Team as team
-use Rattle.fx_pass_tests.specs.contracts.passes.Working as working
 use Rattle.fx_pass_tests.proofs.passes.both.Goals as goal
-
-Working-send : IsSend (working.the_field).row
-Working-send = search (sendable, crosses, Board-send, table_seat) depth 40
 
 Shared-sync : IsSync (shared.the_field).row
 Shared-sync = search (sendable, crosses, Board-send, table_shared, table_lease) depth 40
@@ -29,6 +25,3 @@ Team-sync a R r = struct_sync (shape (team.the_type a R)) (search (sendable, r) 
 pub join-first-requires-send-F : goal.join-first-requires-send-F
 join-first-requires-send-F g c κs within =
     let team = λ (a : NamedLft). Team-sync a _ c.type_bounds.sync-R in search (sendable, crosses, Board-send, table_seat, team) depth 40
-
-pub join-first-requires-send-A : goal.join-first-requires-send-A
-join-first-requires-send-A g c κs within = search (sendable, crosses, Working-send) depth 40
