@@ -9,7 +9,7 @@ mod program;
 use answers::Tried;
 use fx_stage::Stage;
 use fx_telling::add_answers;
-use program::Top;
+use program::top_on;
 use std::io;
 use std::io::ErrorKind;
 
@@ -18,7 +18,7 @@ fn main(rt: HostRuntime) -> io::Result<()> {
     let cases = io::read_to_string(alloc, rt.reader())?;
     let mut answers = String::new(alloc);
     let mut stage = Stage::new(alloc);
-    let top = Top { rt: &rt };
+    let top = top_on(&rt);
     let mut tried = Tried {
         program: &top,
         stage: &mut stage,

@@ -9,13 +9,31 @@ use fx_top::status::Status;
 use fx_top::top::top;
 use fx_words::{Job, job_of};
 use std::alloc::Global;
+use std::marker::PhantomData;
 use std::sync::{Arc, Wait};
 use std::thread::Threads;
 
-/// The top call, with the threads and the waiting of a runtime.
+/// The threads and the waiting of a runtime.
 #[derive(Drop)]
-pub struct Top<'a, R> {
-    pub rt: &'a R,
+pub struct Handles<R> {
+    pub of: PhantomData<R>,
+}
+
+impl<R: Threads> Threads for Handles<R> {}
+
+impl<R: Wait> Wait for Handles<R> {}
+
+/// The top call, on the threads of a runtime.
+#[derive(Drop)]
+pub struct Top<R> {
+    pub handles: Handles<R>,
+}
+
+/// The top call, on the threads of this runtime.
+pub fn top_on<R: Threads + Wait + Sync>(_rt: &R) -> Top<R> {
+    Top {
+        handles: Handles { of: PhantomData },
+    }
 }
 
 /// The words of a run of the scripts.
@@ -24,7 +42,7 @@ fn run_words(alloc: Global, scripts: &str) -> Result<Words, NoMemory> {
     words_of(alloc, line.as_str())
 }
 
-impl<R: Threads + Wait + Sync> Program for Top<'_, R> {
+impl<R: Threads + Wait + Sync> Program for Top<R> {
     fn run(
         &self,
         alloc: Global,
@@ -32,7 +50,7 @@ impl<R: Threads + Wait + Sync> Program for Top<'_, R> {
         host: &mut MemoryHost,
         sink: &mut MemorySink,
     ) -> Status {
-        top(self.rt, alloc, words, host, sink, &OpenGate)
+        top(&self.handles, alloc, words, host, sink, &OpenGate)
     }
 
     fn base(&self, alloc: Global, stage: &mut Stage, scripts: &str) -> Result<Arc<Base>, Status> {

@@ -10,8 +10,7 @@ mod run;
 mod stage;
 mod telling;
 
-use cases::{Before, Cases};
-use fx_telling::add_answers;
+use cases::{Before, add_answers};
 use std::io;
 use std::io::ErrorKind;
 
@@ -23,12 +22,7 @@ fn main(rt: HostRuntime) -> io::Result<()> {
         pipe: None,
         room: u64::MAX,
     };
-    let mut all = Cases {
-        rt: &rt,
-        threads: &rt,
-        before: &mut before,
-    };
-    match add_answers(alloc, &mut all, cases.as_str(), &mut answers) {
+    match add_answers(&rt, &rt, cases.as_str(), &mut before, &mut answers) {
         Ok(()) => rt.print(answers),
         Err(fx_base::NoMemory) => Err(io::Error::from(ErrorKind::OutOfMemory)),
     }
