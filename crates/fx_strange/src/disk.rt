@@ -1,13 +1,13 @@
 //! Files that are slow, and folders that tell strange names.
 
 use fx_disk::Disk;
-use fx_outside::{Host, HostFault, HostText};
-use std::alloc::{AllocError, Allocator, Global};
+use fx_outside::{Host, HostText};
+use std::alloc::{Allocator, Global};
 use std::fs::{File, Metadata, OpenFile, OpenOptions};
 use std::io::{self, Cursor, ErrorKind, Read, Seek, SeekFrom, Write};
 use std::rt::Files;
 
-fn host_text(alloc: Global, text: &str) -> Result<HostText, AllocError> {
+fn host_text(alloc: Global, text: &str) -> io::Result<HostText> {
     Ok(HostText::from_string(String::from_str(alloc, text)?))
 }
 
@@ -72,13 +72,13 @@ impl OpenFile for Slow {
 }
 
 /// The machine's files, slow, where each folder tells these names, with a 0 behind each.
-#[derive(Clone, Copy)]
-struct Strange<'a> {
-    rt: &'a HostRuntime,
+#[derive(Clone, Drop)]
+struct Strange {
+    rt: HostRuntime,
     names: [u8; 4],
 }
 
-impl Alloc for Strange<'_> {
+impl Alloc for Strange {
     type A = Global;
 
     fn alloc(&self) -> Global {
@@ -86,7 +86,7 @@ impl Alloc for Strange<'_> {
     }
 }
 
-impl Files for Strange<'_> {
+impl Files for Strange {
     type File = Slow;
 
     type Dir = Cursor<[u8; 4]>;
@@ -136,35 +136,27 @@ impl Files for Strange<'_> {
     }
 }
 
-/// Tells what a new file at a path gives.
-fn tell_new<R: Files + AllocGlobal + Clone + Drop>(
+/// Tells what a new empty file at a path gives.
+fn tell_new(
     alloc: Global,
-    disk: &mut Disk<R>,
+    disk: &mut Disk<HostRuntime>,
     path: &str,
-    text: &[u8],
     out: &mut String,
-) -> Result<(), AllocError> {
-    let at = host_text(alloc, path)?;
-    let done = disk.write_new(alloc, &at, text);
-    writeln!(out, "write-new {path}: {done:?}")
+) -> io::Result<()> {
+    let path = host_text(alloc, path)?;
+    let done = disk.write_new(alloc, &path, b"");
+    writeln!(out, "write-new {}: {done:?}", path.as_str())?;
+    Ok(())
 }
 
 /// Makes the folder `g` of two files.
-fn tell_making(
-    alloc: Global,
-    disk: &mut Disk<HostRuntime>,
-    folder: &HostText,
-    out: &mut String,
-) -> Result<(), AllocError> {
+fn tell_making(rt: &HostRuntime, folder: &HostText, out: &mut String) -> io::Result<()> {
+    let alloc = rt.alloc();
+    let mut disk = Disk::new(rt.clone()?);
     let done = disk.make_dir(alloc, folder);
     writeln!(out, "make-dir {}: {done:?}", folder.as_str())?;
-    tell_new(alloc, disk, "g/a", b"", out)?;
-    tell_new(alloc, disk, "g/b", b"", out)
-}
-
-/// Why a folder is not listed.
-fn list_fault(alloc: Global, disk: &mut Disk<Strange>, folder: &HostText) -> Option<HostFault> {
-    disk.list(alloc, folder).err()
+    tell_new(alloc, &mut disk, "g/a", out)?;
+    tell_new(alloc, &mut disk, "g/b", out)
 }
 
 /// Tells how a folder is not listed where it tells these names.
@@ -173,26 +165,24 @@ fn tell_list(
     folder: &HostText,
     names: [u8; 4],
     out: &mut String,
-) -> Result<(), AllocError> {
-    let mut strange = Disk::new(Strange { rt, names });
-    let fault = list_fault(rt.alloc(), &mut strange, folder);
+) -> io::Result<()> {
+    let mut strange = Disk::new(Strange {
+        rt: rt.clone()?,
+        names,
+    });
+    let fault = strange.list(rt.alloc(), folder).err();
     let faults = strange.faults();
-    writeln!(out, "list {names:?}: fault {fault:?}, faults {faults}")
-}
-
-fn tell_made(rt: &HostRuntime, folder: &HostText, out: &mut String) -> io::Result<()> {
-    let mut disk = Disk::new(rt.clone()?);
-    Ok(tell_making(rt.alloc(), &mut disk, folder, out)?)
+    writeln!(out, "list {names:?}: fault {fault:?}, faults {faults}")?;
+    Ok(())
 }
 
 /// Tells the listings of a folder where each name stands once, where one is not UTF-8, and where one stands twice.
 pub fn tell_lists(rt: &HostRuntime, out: &mut String) -> io::Result<()> {
     let folder = host_text(rt.alloc(), "g")?;
-    tell_made(rt, &folder, out)?;
+    tell_making(rt, &folder, out)?;
     tell_list(rt, &folder, *b"a\0b\0", out)?;
     tell_list(rt, &folder, *b"a\0\xff\0", out)?;
-    tell_list(rt, &folder, *b"a\0a\0", out)?;
-    Ok(())
+    tell_list(rt, &folder, *b"a\0a\0", out)
 }
 
 /// Tells how many bytes are read from a place on, and the first of them.
@@ -202,7 +192,7 @@ fn tell_read(
     path: &HostText,
     from: u64,
     out: &mut String,
-) -> Result<(), AllocError> {
+) -> io::Result<()> {
     let mut buf = [0u8; 4];
     let count = disk.read(alloc, path, from, &mut buf);
     let first = buf[0];
@@ -210,7 +200,8 @@ fn tell_read(
     writeln!(
         out,
         "read from {from}: {count:?}, first {first}, faults {faults}"
-    )
+    )?;
+    Ok(())
 }
 
 /// Reads on, at the end, and from the front again. A read from elsewhere needs a seek.
@@ -219,23 +210,34 @@ fn tell_reads(
     disk: &mut Disk<Strange>,
     path: &HostText,
     out: &mut String,
-) -> Result<(), AllocError> {
+) -> io::Result<()> {
     for from in [0, 4, 5, 0, 1] {
         tell_read(alloc, disk, path, from, out)?;
     }
     Ok(())
 }
 
-fn tell_on(alloc: Global, disk: &mut Disk<Strange>, out: &mut String) -> Result<(), AllocError> {
-    tell_new(alloc, disk, "slow", b"hello", out)?;
+fn tell_write(
+    alloc: Global,
+    disk: &mut Disk<Strange>,
+    path: &HostText,
+    out: &mut String,
+) -> io::Result<()> {
+    let done = disk.write_new(alloc, path, b"hello");
+    writeln!(out, "write-new {}: {done:?}", path.as_str())?;
+    Ok(())
+}
+
+fn tell_on(alloc: Global, disk: &mut Disk<Strange>, out: &mut String) -> io::Result<()> {
     let path = host_text(alloc, "slow")?;
+    tell_write(alloc, disk, &path, out)?;
     tell_reads(alloc, disk, &path, out)
 }
 
 /// Tells what a write and reads give where each is interrupted, and nothing can be sought.
-pub fn tell_slow(rt: &HostRuntime, out: &mut String) -> Result<(), AllocError> {
+pub fn tell_slow(rt: &HostRuntime, out: &mut String) -> io::Result<()> {
     let mut disk = Disk::new(Strange {
-        rt,
+        rt: rt.clone()?,
         names: *b"a\0b\0",
     });
     tell_on(rt.alloc(), &mut disk, out)

@@ -15,9 +15,8 @@ fn tell_all(rt: &HostRuntime, out: &mut String) -> io::Result<()> {
     tell_slow(rt, out)?;
     tell_taken(rt, out)?;
     tell_lost(rt, out)?;
-    tell_stalled("stalled at 0", 0, out)?;
-    tell_stalled("stalled at 3", 3, out)?;
-    Ok(())
+    tell_stalled(0, out)?;
+    tell_stalled(3, out)
 }
 
 fn main(rt: HostRuntime) -> io::Result<()> {

@@ -2,7 +2,6 @@
 
 use fx_disk::Output;
 use fx_outside::Sink;
-use std::alloc::AllocError;
 use std::cell::Cell;
 use std::fmt::Display;
 use std::fs::File;
@@ -59,43 +58,37 @@ impl Print for Stalled {
     }
 }
 
-/// Tells what is taken of a line that goes to an output of this name.
-fn tell_output<P: Print>(
-    name: &str,
-    to: &P,
-    line: &[u8],
-    out: &mut String,
-) -> Result<(), AllocError> {
-    let mut output = Output::new(to);
-    let taken = output.write(line);
-    let faults = output.faults();
-    writeln!(out, "{name}: {taken:?}, faults {faults}")
-}
-
 /// Tells what is taken of a line that goes to the standard output.
-pub fn tell_taken(rt: &HostRuntime, out: &mut String) -> Result<(), AllocError> {
-    tell_output("standard output", rt, b"taken\n", out)
-}
-
-/// A new file, opened so that it can't be written.
-fn read_only(rt: &HostRuntime) -> io::Result<File> {
-    File::create_new(rt, "read-only")?;
-    File::open(rt, "read-only")
+pub fn tell_taken(rt: &HostRuntime, out: &mut String) -> io::Result<()> {
+    let mut output = Output::new(rt);
+    let taken = output.write(b"taken\n");
+    let faults = output.faults();
+    writeln!(out, "standard output: {taken:?}, faults {faults}")?;
+    Ok(())
 }
 
 /// Tells what is taken of a line that goes to a file which can't be written.
 pub fn tell_lost(rt: &HostRuntime, out: &mut String) -> io::Result<()> {
+    File::create_new(rt, "read-only")?;
     let device = Device {
-        file: read_only(rt)?,
+        file: File::open(rt, "read-only")?,
     };
-    Ok(tell_output("read-only", &device, b"lost\n", out)?)
+    let mut output = Output::new(&device);
+    let taken = output.write(b"lost\n");
+    let faults = output.faults();
+    writeln!(out, "read-only: {taken:?}, faults {faults}")?;
+    Ok(())
 }
 
 /// Tells what is taken of a line where the first call is interrupted and each takes so many bytes.
-pub fn tell_stalled(name: &str, count: usize, out: &mut String) -> Result<(), AllocError> {
+pub fn tell_stalled(count: usize, out: &mut String) -> io::Result<()> {
     let stalled = Stalled {
         is_begun: Cell::new(false),
         count,
     };
-    tell_output(name, &stalled, b"part\n", out)
+    let mut output = Output::new(&stalled);
+    let taken = output.write(b"part\n");
+    let faults = output.faults();
+    writeln!(out, "stalled at {count}: {taken:?}, faults {faults}")?;
+    Ok(())
 }
