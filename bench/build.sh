@@ -5,9 +5,4 @@ if [ -n "${TXFOREST:-}" ]; then
     echo "$TXFOREST"
     exit
 fi
-top=$(cd "$(dirname "$0")/.." && pwd)
-fresh=$(mktemp -d)
-trap 'rm -rf "$fresh"' EXIT
-cd "$top/crates/txforest"
-rt run -- run "$top/examples/first/description" "$top/examples/first/folder" "$fresh/out" "$top/examples/first/script" >&2
-echo "$PWD/out/txforest"
+exec python3 -B "$(dirname "$0")/build.py"

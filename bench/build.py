@@ -1,0 +1,100 @@
+"""Proves the program and the crates below it, side by side, by a gate of their own that stands beside the repository, and prints the path of the
+executable. With no change since, nothing is proved again.
+"""
+
+import hashlib
+import os
+import shutil
+import subprocess
+import sys
+
+TOP = os.path.dirname(os.path.dirname(os.path.realpath(__file__)))
+ROOM = os.path.join(os.environ.get("XDG_CACHE_HOME") or os.path.expanduser("~/.cache"), "txforest")
+PROGRAM = os.path.join(ROOM, "crates", "txforest", "out", "txforest")
+LEFT_OUT = ("out", "must-fail")
+
+
+def read(path):
+    with open(path, "rb") as file:
+        return file.read()
+
+
+def write(path, content):
+    with open(path, "wb") as file:
+        file.write(content)
+
+
+def crate_lines():
+    """The lines of crates.txt, by the crates that they name."""
+    lines = [line for line in read(os.path.join(TOP, "crates.txt")).decode().splitlines() if line and not line.startswith("#")]
+    return {line.split(":")[0].split()[0]: line for line in lines}
+
+
+def needed(name, lines):
+    """A crate and all below it."""
+    found = {name}
+    for below in lines[name].split(":")[1].split():
+        if below in lines:
+            found |= needed(below, lines)
+    return found
+
+
+def files_of(crate):
+    for at, folders, names in os.walk(os.path.join(TOP, "crates", crate)):
+        folders[:] = sorted(it for it in folders if it not in LEFT_OUT)
+        for name in sorted(names):
+            yield os.path.relpath(os.path.join(at, name), TOP)
+
+
+def contents():
+    """What the gate is run on: paths with what they hold."""
+    lines = crate_lines()
+    crates = sorted(needed("txforest", lines))
+    found = {"crates.txt": "".join(lines[it] + "\n" for it in crates).encode(), "HANDLES": read(os.path.join(TOP, "HANDLES"))}
+    for crate in crates:
+        found.update((path, read(os.path.join(TOP, path))) for path in files_of(crate))
+    return found
+
+
+def state_of(files):
+    kit = subprocess.run(["rt", "version"], capture_output=True, check=True).stdout
+    state = hashlib.sha256(kit)
+    for path, content in files.items():
+        state.update(f"{path} {len(content)}\n".encode() + content)
+    return state.hexdigest().encode()
+
+
+def lay_out(files):
+    shutil.rmtree(ROOM, ignore_errors=True)
+    for path, content in files.items():
+        to = os.path.join(ROOM, path)
+        os.makedirs(os.path.dirname(to), exist_ok=True)
+        write(to, content)
+    subprocess.run(["git", "init", "-q", ROOM], check=True)
+
+
+def prove(count):
+    """Runs the gate, and tells each crate as it is proved."""
+    done = 0
+    with open(os.path.join(ROOM, "log"), "w") as log:
+        ran = subprocess.Popen(["rt", "ci"], cwd=ROOM, stdout=subprocess.PIPE, stderr=subprocess.STDOUT, text=True, errors="replace")
+        for line in ran.stdout:
+            log.write(line)
+            if line.startswith("rt: ") and line.endswith(" proved\n"):
+                done += 1
+                print(f"{done} of {count} crates: {line.split()[1]} is proved", file=sys.stderr, flush=True)
+    if ran.wait():
+        sys.exit(f"not proved: {ROOM}/log says why")
+
+
+def main():
+    files = contents()
+    state, kept = state_of(files), os.path.join(ROOM, "state")
+    if not (os.path.isfile(kept) and os.path.isfile(PROGRAM) and read(kept) == state):
+        lay_out(files)
+        prove(files["crates.txt"].count(b"\n"))
+        write(kept, state)
+    print(PROGRAM)
+
+
+main()
