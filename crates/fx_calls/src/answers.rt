@@ -12,6 +12,7 @@ enum Lower {
     Join,
     Compare,
     Read(grammar::Form),
+    Description,
     Script,
     Level,
     Valued(values::Form),
@@ -46,12 +47,9 @@ const VERBS: &[(&str, Verb)] = &[
         "token-count",
         Verb::Lower(Lower::Read(grammar::Form::Count)),
     ),
-    ("expr", Verb::Lower(Lower::Read(grammar::Form::Expr))),
+    ("expr", Verb::Lower(Lower::Read(grammar::Form::Expr(0, 1)))),
     ("shape", Verb::Lower(Lower::Read(grammar::Form::Shape))),
-    (
-        "description",
-        Verb::Lower(Lower::Read(grammar::Form::Description)),
-    ),
+    ("description", Verb::Lower(Lower::Description)),
     ("script", Verb::Lower(Lower::Script)),
     ("level", Verb::Lower(Lower::Level)),
     ("text", Verb::Lower(Lower::Valued(values::Form::Text))),
@@ -92,8 +90,16 @@ fn call_lower(alloc: Global, lower: Lower, rest: &str, out: &mut String) -> Resu
         Lower::Join => names::tell_joined(alloc, first, text, out),
         Lower::Compare => names::tell_order(alloc, first, text, out),
         Lower::Read(form) => grammar::tell_form(alloc, form, rest, out),
+        Lower::Description => grammar::tell_description(alloc, rest, out),
         Lower::Script => grammar::tell_script(alloc, number(first), text, out),
-        Lower::Level => grammar::tell_level(alloc, number(first), number(text), out),
+        Lower::Level => {
+            grammar::tell_form(
+                alloc,
+                grammar::Form::Expr(number(first), number(text)),
+                "x",
+                out,
+            )
+        }
         Lower::Valued(form) => values::tell_form(alloc, form, rest, out),
         Lower::Minus => values::tell_minus(
             alloc,

@@ -5,7 +5,7 @@ use fx_command::{Status, TextFault};
 use fx_lex::{LexFault, Spanned, Token, Tokens, lex};
 use fx_message::Message;
 use fx_outside::{HostText, Words};
-use fx_parse::{parse_expr, parse_shape};
+use fx_parse::{ParseFault, parse_expr, parse_shape};
 use fx_scripts::{ScriptFault, script_of};
 use fx_show::{DescriptionFault, description_of};
 use fx_telling::{add_bytes, tell, unescaped};
@@ -18,9 +18,9 @@ pub enum Form {
     Tokens,
     /// A number of tokens and the length of the text.
     Count,
-    Expr,
+    /// The expression at this token, at this level.
+    Expr(u32, u32),
     Shape,
-    Description,
 }
 
 /// The tokens of a text; none where it is too large.
@@ -71,48 +71,39 @@ fn tell_bad(out: &mut String, fault: LexFault) -> Result<(), NoMemory> {
     Ok(())
 }
 
-fn tell_tokens(alloc: Global, bytes: &[u8], out: &mut String) -> Result<(), NoMemory> {
-    match tokens_of(alloc, bytes) {
-        Ok(tokens) => {
-            for i in 0..tokens.len() {
-                if let Some(spanned) = tokens.at(i) {
-                    tell_token(out, spanned)?;
-                }
-            }
-            Ok(())
+fn tell_tokens(tokens: &Tokens, out: &mut String) -> Result<(), NoMemory> {
+    for i in 0..tokens.len() {
+        if let Some(spanned) = tokens.at(i) {
+            tell_token(out, spanned)?;
         }
-        Err(fault) => tell_bad(out, fault),
     }
+    Ok(())
 }
 
-fn tell_count(alloc: Global, bytes: &[u8], out: &mut String) -> Result<(), NoMemory> {
-    match tokens_of(alloc, bytes) {
-        Ok(tokens) => {
-            let count = tokens.len();
-            let text_len = tokens.text_len();
-            writeln!(out, "> {count} in {text_len}")?;
-            Ok(())
-        }
-        Err(fault) => tell_bad(out, fault),
-    }
+fn tell_count(tokens: &Tokens, out: &mut String) -> Result<(), NoMemory> {
+    let count = tokens.len();
+    let text_len = tokens.text_len();
+    writeln!(out, "> {count} in {text_len}")?;
+    Ok(())
 }
 
-/// Tells up to which token the expression at a token goes.
-fn tell_expr_at(
-    alloc: Global,
-    tokens: &Tokens,
-    from: u32,
-    depth: u32,
-    out: &mut String,
-) -> Result<(), NoMemory> {
+/// Up to which token the expression at a token goes.
+fn end_of(alloc: Global, tokens: &Tokens, from: u32, depth: u32) -> Result<u32, ParseFault> {
     match parse_expr(alloc, tokens, from, depth.max(1)) {
-        Ok((_, next)) => writeln!(out, "> up to {next}")?,
+        Ok((_, next)) => Ok(next),
+        Err(fault) => Err(fault),
+    }
+}
+
+fn tell_end(end: Result<u32, ParseFault>, out: &mut String) -> Result<(), NoMemory> {
+    match end {
+        Ok(next) => writeln!(out, "> up to {next}")?,
         Err(fault) => writeln!(out, "> {fault:?}")?,
     }
     Ok(())
 }
 
-fn tell_shape_at(alloc: Global, tokens: &Tokens, out: &mut String) -> Result<(), NoMemory> {
+fn tell_shape(alloc: Global, tokens: &Tokens, out: &mut String) -> Result<(), NoMemory> {
     match parse_shape(alloc, tokens, 0, 1) {
         Ok((shape, next)) => writeln!(out, "> {shape:?} up to {next}")?,
         Err(fault) => writeln!(out, "> {fault:?}")?,
@@ -120,17 +111,17 @@ fn tell_shape_at(alloc: Global, tokens: &Tokens, out: &mut String) -> Result<(),
     Ok(())
 }
 
-fn tell_expr(alloc: Global, bytes: &[u8], out: &mut String) -> Result<(), NoMemory> {
-    match tokens_of(alloc, bytes) {
-        Ok(tokens) => tell_expr_at(alloc, &tokens, 0, 1, out),
-        Err(fault) => tell_bad(out, fault),
-    }
-}
-
-fn tell_shape(alloc: Global, bytes: &[u8], out: &mut String) -> Result<(), NoMemory> {
-    match tokens_of(alloc, bytes) {
-        Ok(tokens) => tell_shape_at(alloc, &tokens, out),
-        Err(fault) => tell_bad(out, fault),
+fn tell_parsed(
+    alloc: Global,
+    form: Form,
+    tokens: &Tokens,
+    out: &mut String,
+) -> Result<(), NoMemory> {
+    match form {
+        Form::Tokens => tell_tokens(tokens, out),
+        Form::Count => tell_count(tokens, out),
+        Form::Expr(from, depth) => tell_end(end_of(alloc, tokens, from, depth), out),
+        Form::Shape => tell_shape(alloc, tokens, out),
     }
 }
 
@@ -144,40 +135,63 @@ fn text_words(alloc: Global) -> Result<Words, NoMemory> {
     Ok(words)
 }
 
-/// Tells the cause for which a text is refused, as the line on standard error tells it behind the file.
-fn tell_cause(alloc: Global, cause: TextFault, out: &mut String) -> Result<(), NoMemory> {
-    let words = text_words(alloc)?;
-    let status = Status::TextRefused { word: 0, cause };
-    let Some(message) = Message::of(&words, &status) else {
-        return Ok(());
-    };
-    let line = format!(in alloc; "{message}")?;
-    tell(
-        out,
-        line.as_str()
-            .strip_prefix("txforest: text: ")
-            .unwrap_or_default(),
-    )
+/// Adds the line on standard error of a status.
+fn add_message(line: &mut String, words: &Words, status: &Status) -> Result<(), NoMemory> {
+    if let Some(message) = Message::of(words, status) {
+        write!(line, "{message}")?;
+    }
+    Ok(())
 }
 
-fn tell_description(alloc: Global, bytes: &[u8], out: &mut String) -> Result<(), NoMemory> {
+/// Tells the line on standard error of a refused text, behind the file.
+fn tell_message(alloc: Global, status: &Status, out: &mut String) -> Result<(), NoMemory> {
+    let words = text_words(alloc)?;
+    let mut line = String::new(alloc);
+    add_message(&mut line, &words, status)?;
+    let behind = line.as_str().strip_prefix("txforest: text: ");
+    tell(out, behind.unwrap_or_default())
+}
+
+/// The cause for which a text is no description, where it is none.
+fn description_cause(alloc: Global, bytes: &[u8]) -> Result<Option<TextFault>, NoMemory> {
     match description_of(alloc, bytes) {
-        Ok(_) => tell(out, "read"),
-        Err(DescriptionFault::Refused(cause)) => tell_cause(alloc, cause, out),
+        Ok(_) => Ok(None),
+        Err(DescriptionFault::Refused(cause)) => Ok(Some(cause)),
         Err(DescriptionFault::NoMemory) => Err(NoMemory),
+    }
+}
+
+/// The cause for which a text is no script behind so many transactions, where it is none.
+fn script_cause(alloc: Global, before: u32, bytes: &[u8]) -> Result<Option<TextFault>, NoMemory> {
+    match script_of(alloc, bytes, before.min(TXN_LIMIT as u32)) {
+        Ok(_) => Ok(None),
+        Err(ScriptFault::Refused(cause)) => Ok(Some(cause)),
+        Err(ScriptFault::NoMemory) => Err(NoMemory),
+    }
+}
+
+/// Tells that a text is read, or the cause for which it is refused.
+fn tell_cause(alloc: Global, cause: Option<TextFault>, out: &mut String) -> Result<(), NoMemory> {
+    match cause {
+        None => tell(out, "read"),
+        Some(cause) => tell_message(alloc, &Status::TextRefused { word: 0, cause }, out),
     }
 }
 
 /// Tells what a text is read as.
 pub fn tell_form(alloc: Global, form: Form, text: &str, out: &mut String) -> Result<(), NoMemory> {
     let bytes = unescaped(alloc, text)?;
-    match form {
-        Form::Tokens => tell_tokens(alloc, &bytes, out),
-        Form::Count => tell_count(alloc, &bytes, out),
-        Form::Expr => tell_expr(alloc, &bytes, out),
-        Form::Shape => tell_shape(alloc, &bytes, out),
-        Form::Description => tell_description(alloc, &bytes, out),
+    match tokens_of(alloc, &bytes) {
+        Ok(tokens) => tell_parsed(alloc, form, &tokens, out),
+        Err(fault) => tell_bad(out, fault),
     }
+}
+
+/// Tells whether a text is a description, or the cause for which it is refused.
+pub fn tell_description(alloc: Global, text: &str, out: &mut String) -> Result<(), NoMemory> {
+    let bytes = unescaped(alloc, text)?;
+    let cause = description_cause(alloc, &bytes)?;
+    tell_cause(alloc, cause, out)
 }
 
 /// Tells whether a text is a script behind so many transactions, or the cause for which it is refused.
@@ -188,17 +202,6 @@ pub fn tell_script(
     out: &mut String,
 ) -> Result<(), NoMemory> {
     let bytes = unescaped(alloc, text)?;
-    match script_of(alloc, &bytes, before.min(TXN_LIMIT as u32)) {
-        Ok(_) => tell(out, "read"),
-        Err(ScriptFault::Refused(cause)) => tell_cause(alloc, cause, out),
-        Err(ScriptFault::NoMemory) => Err(NoMemory),
-    }
-}
-
-/// Tells the expression of the text `x` from a token on, at a level.
-pub fn tell_level(alloc: Global, from: u32, depth: u32, out: &mut String) -> Result<(), NoMemory> {
-    match tokens_of(alloc, b"x") {
-        Ok(tokens) => tell_expr_at(alloc, &tokens, from, depth, out),
-        Err(fault) => tell_bad(out, fault),
-    }
+    let cause = script_cause(alloc, before, &bytes)?;
+    tell_cause(alloc, cause, out)
 }

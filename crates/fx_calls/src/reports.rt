@@ -64,10 +64,12 @@ fn path_of(alloc: Global, text: &str) -> Result<Path, NoMemory> {
 
 /// What is printed: one text, or nothing where it is empty.
 fn outputs_of(alloc: Global, output: &str) -> Result<Values, NoMemory> {
-    let mut outputs = Values::new(alloc);
-    if !output.is_empty() {
-        outputs.add(alloc, Value::Str(text(alloc, output)?))?;
+    if output.is_empty() {
+        return Ok(Values::new(alloc));
     }
+    let value = Value::Str(text(alloc, output)?);
+    let mut outputs = Values::new(alloc);
+    outputs.add(alloc, value)?;
     Ok(outputs)
 }
 
