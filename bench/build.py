@@ -32,10 +32,12 @@ def crate_lines():
 
 def needed(name, lines):
     """A crate and all below it."""
-    found = {name}
-    for below in lines[name].split(":")[1].split():
-        if below in lines:
-            found |= needed(below, lines)
+    found, left = set(), [name]
+    while left:
+        crate = left.pop()
+        if crate in lines and crate not in found:
+            found.add(crate)
+            left += lines[crate].split(":")[1].split()
     return found
 
 
