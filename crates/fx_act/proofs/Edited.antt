@@ -91,8 +91,8 @@ module _ {R : Type 0} (m : Meaning R) (old : Walk) (mid : ZipTree) (was then : R
         record {
           taken = (goes_mapped m (λ (u : Unit {0}). Err f) (own_at old.overlay) was.0 now rule edits (Ok tt) (goes_on (λ (u : Unit {0}). Err f) (Ok tt) goes), finds.address, h.made.1);
           fresh =
-              subst (λ o. IsFresh (known_of (m.reads now)) (own_at o) mid) (sym h.made.1)
-              (fresh_grows (known_of (m.reads then.0)) (own_at old.overlay) mid (known_of (m.reads now)) (known_grows m (λ (u : Unit {0}). Err f) (own_at old.overlay) then.0 now (rest at) (Ok tt) goes) finds.fresh);
+              subst (λ o. IsFresh (m.reads now) (own_at o) mid) (sym h.made.1)
+              (fresh_grows (m.reads then.0) (own_at old.overlay) mid (m.reads now) (known_grows m (λ (u : Unit {0}). Err f) (own_at old.overlay) then.0 now (rest at) (Ok tt) goes) finds.fresh);
           root = finds.root;
           read = λ read. h.read (read_then read);
         }
@@ -109,7 +109,7 @@ module _ {R : Type 0} (m : Meaning R) (old : Walk) (mid : ZipTree) (was then : R
     failed_acts e r is h = subst (Acts m old (walk_of mid own) was.0 now (editing rule)) (sym (err_of r e is)) (failed e h)
 
     -- it is made
-    pub edited_acts : (z : ZipTree) → z.root ≡ mid.root → z.address ≡ mid.address → IsFresh (known_of (m.reads now)) (own_at own) z → Edits m old.overlay own then.0 now (rest at) (Ok tt) → Acts m old (walk_of z own) was.0 now (editing rule) (Ok tt)
+    pub edited_acts : (z : ZipTree) → z.root ≡ mid.root → z.address ≡ mid.address → IsFresh (m.reads now) (own_at own) z → Edits m old.overlay own then.0 now (rest at) (Ok tt) → Acts m old (walk_of z own) was.0 now (editing rule) (Ok tt)
     edited_acts z root address fresh h = record {
       taken =
           (txn.Changes h.made.0, goes_mapped m (λ (u : Unit {0}). Ok h.made.0) (own_at old.overlay) was.0 now rule edits (Ok tt) (goes_on (λ (u : Unit {0}). Ok h.made.0) (Ok tt) (h.made.1 0).goes), (address ∙ finds.address, h.made.2));

@@ -1,5 +1,5 @@
 -- Calls that go by a rule, and what they say of a rule that changes its answer.
-use Rattle.std.proofs.Common.{Result, Ok, Err, refl}
+use Rattle.std.proofs.Common.{◌≡◌, ◌++◌, Result, Ok, Err, refl}
 use Rattle.std.specs.Prelude.{IfOk}
 use Rattle.fx_store.specs.Rule.{Known, Ask, Answer, ◌>>=◌}
 use Rattle.fx_view.specs.declared.reader.Stop.{Stop}
@@ -9,6 +9,7 @@ use Rattle.fx_view.specs.Meaning.{Meaning}
 use Rattle.fx_view.specs.Own.{AreRead}
 use Rattle.fx_view.specs.OwnList.{OwnList}
 use Rattle.fx_view.specs.Reads.{known_of}
+use Rattle.fx_view.specs.ReadList.{ReadList}
 use Rattle.fx_view.proofs.Calls.{went_by}
 use Rattle.fx_view.proofs.Going.{Went-grows}
 use Rattle.fx_view.proofs.Growing.{Grows}
@@ -31,8 +32,8 @@ parted_always (Err (halt.Stopped why)) P h = tt
 
 module _ {R A X : Type 0} (m : Meaning R) (view : X → A) (own : Known) (old new : R) (rule : Ask A) where
   -- the reader has gone on
-  pub known_grows : (r : Result X Stop) → GoesBy m view own old new rule r → Grows (known_of (m.reads old)) (known_of (m.reads new))
-  known_grows r h = Went-grows m old new (walked (known_of (m.reads new)) own rule) (went_by m view own old new rule r h)
+  pub known_grows : (r : Result X Stop) → GoesBy m view own old new rule r → (more : ReadList) × (m.reads new ≡ m.reads old ++ more)
+  known_grows r h = let went = went_by m view own old new rule r h in (went.more, went.kept)
 
   pub read_on : (r : Result X Stop) → GoesBy m view own old new rule r → (kept : OwnList) → AreRead kept (m.reads old) → AreRead kept (m.reads new)
   read_on r h kept read = let went = went_by m view own old new rule r h in read_more kept (m.reads old) (m.reads new) went.more went.kept read

@@ -52,7 +52,7 @@ module _ {R : Type 0} (m : Meaning R) where
   pub moves_acts : (old : Walk) (z : ZipTree) (was now : R × ℕ) (rule : Ask (Answered Address)) (evals : Store → ℕ) (r : Result (Unit {0}) Halt) → Moves m (own_at old.overlay) old.zip z was now rule evals r → Acts m old (moved old z) was.0 now.0 (moving rule) r
   moves_acts old z was now rule evals r h = record {
     taken = moves_taken old z was.0 now.0 rule r h.follows.goes h.refused;
-    fresh = parted_as r (IsFresh (known_of (m.reads now.0)) (own_at old.overlay) z) h.fresh;
+    fresh = parted_as r (IsFresh (m.reads now.0) (own_at old.overlay) z) h.fresh;
     root = h.root;
     read = λ read. parted_always r (AreRead old.overlay (m.reads now.0)) (read_on m (answered (λ (u : Unit {0}). z.address)) (own_at old.overlay) was.0 now.0 rule (split r) h.follows.goes old.overlay read);
   }
@@ -60,7 +60,7 @@ module _ {R : Type 0} (m : Meaning R) where
   -- ---- a move that reads nothing
 
   module _ (old : Walk) (now : R) (told : Answered Address) where
-    pub told_acts : (z : ZipTree) → Ok z.address ≡ told → z.root ≡ old.zip.root → IsFresh (known_of (m.reads now)) (own_at old.overlay) z → Acts m old (moved old z) now now (moving (Answer told)) (Ok tt)
+    pub told_acts : (z : ZipTree) → Ok z.address ≡ told → z.root ≡ old.zip.root → IsFresh (m.reads now) (own_at old.overlay) z → Acts m old (moved old z) now now (moving (Answer told)) (Ok tt)
     told_acts z is root fresh = record {
       taken = (txn.Moves z.address, by_answer m (λ (u : Unit {0}). Ok (txn.Moves z.address)) (own_at old.overlay) now (moves told) tt (ap moves (sym is)), (refl, refl));
       fresh = fresh;
@@ -68,7 +68,7 @@ module _ {R : Type 0} (m : Meaning R) where
       read = λ read. read;
     }
 
-    refused_acts : (f : Refusal) → Err f ≡ told → IsFresh (known_of (m.reads now)) (own_at old.overlay) old.zip → Acts m old (moved old old.zip) now now (moving (Answer told)) (Err (halt.Refused f))
+    refused_acts : (f : Refusal) → Err f ≡ told → IsFresh (m.reads now) (own_at old.overlay) old.zip → Acts m old (moved old old.zip) now now (moving (Answer told)) (Err (halt.Refused f))
     refused_acts f is fresh = record {
       taken = (by_answer m (λ (u : Unit {0}). Err f) (own_at old.overlay) now (moves told) tt (ap moves (sym is)), refl, refl);
       fresh = fresh;
@@ -76,14 +76,14 @@ module _ {R : Type 0} (m : Meaning R) where
       read = λ read. read;
     }
 
-    pub told_refused : (z : ZipTree) (f : Refusal) (r : Result (Unit {0}) Halt) → IsErrAnd r (λ h. h ≡ halt.Refused f) → Err f ≡ told → z ≡ old.zip → IsFresh (known_of (m.reads now)) (own_at old.overlay) old.zip → Acts m old (moved old z) now now (moving (Answer told)) r
+    pub told_refused : (z : ZipTree) (f : Refusal) (r : Result (Unit {0}) Halt) → IsErrAnd r (λ h. h ≡ halt.Refused f) → Err f ≡ told → z ≡ old.zip → IsFresh (m.reads now) (own_at old.overlay) old.zip → Acts m old (moved old z) now now (moving (Answer told)) r
     told_refused z f r is same stays fresh =
         subst (λ (z : ZipTree). Acts m old (moved old z) now now (moving (Answer told)) r) (sym stays)
         (subst (Acts m old (moved old old.zip) now now (moving (Answer told))) (sym (err_of r (halt.Refused f) is)) (refused_acts f same fresh))
 
   -- ---- an expression that has no value
 
-  module _ (old : Walk) (now : R) (fresh : IsFresh (known_of (m.reads now)) (own_at old.overlay) old.zip) (rule : Ask (Answered Effect)) where
+  module _ (old : Walk) (now : R) (fresh : IsFresh (m.reads now) (own_at old.overlay) old.zip) (rule : Ask (Answered Effect)) where
     pub faulty_acts : (f : Refusal) → rule ≡ Answer (Err f) → Acts m old old now now rule (Err (halt.Refused f))
     faulty_acts f is = record {
       taken = (by_same m (λ (u : Unit {0}). Err f) (own_at old.overlay) now now (Answer (Err f)) rule (Ok tt) (sym is) (by_answer m (λ (u : Unit {0}). Err f) (own_at old.overlay) now (Err f) tt refl), refl, refl);
@@ -100,7 +100,7 @@ module _ {R : Type 0} (m : Meaning R) where
       read = λ read. tt;
     }
 
-  module _ (old : Walk) (now : R) (fresh : IsFresh (known_of (m.reads now)) (own_at old.overlay) old.zip) (told : Answered Tree) (rule : Answered Tree → Ask (Answered Effect)) (faults : (f : Refusal) → rule (Err f) ≡ Answer (Err f)) where
+  module _ (old : Walk) (now : R) (fresh : IsFresh (m.reads now) (own_at old.overlay) old.zip) (told : Answered Tree) (rule : Answered Tree → Ask (Answered Effect)) (faults : (f : Refusal) → rule (Err f) ≡ Answer (Err f)) where
     unevaluated : {X : Type 0} (view : X → Tree) (e : Halt) → Tells view told (Err e) → Acts m old old now now (rule told) (Err e)
     unevaluated view (halt.Refused f) is = subst (λ (t : Answered Tree). Acts m old old now now (rule t) (Err (halt.Refused f))) (sym is) (faulty_acts old now fresh (rule (Err f)) f (faults f))
     unevaluated view (halt.Stopped why) is = subst (λ why. Acts m old old now now (rule told) (Err (halt.Stopped why))) (sym is) (memory_acts old now fresh (rule told))

@@ -42,7 +42,7 @@ IsTaken m old new was now rule (Err (halt.Stopped why)) =
 pub record Acts {R : Type 0} (m : Meaning R) (old new : Walk) (was now : R) (rule : Ask (Answered Effect)) (result : Result (Unit {0}) Halt) : Type 0 where
   pub taken : IsTaken m old new was now rule result
   -- the zipper is fresh over what is known then, unless the call stops
-  pub fresh : IfOk (parted result) (λ _. IsFresh (known_of (m.reads now)) (own_at new.overlay) new.zip)
+  pub fresh : IfOk (parted result) (λ _. IsFresh (m.reads now) (own_at new.overlay) new.zip)
   pub root : new.zip.root ≡ old.zip.root
   -- where each path of the own changes was read before, each was after, unless the call stops
   pub read : AreRead old.overlay (m.reads was) → IfOk (parted result) (λ _. AreRead new.overlay (m.reads now))

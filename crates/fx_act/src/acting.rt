@@ -5,7 +5,6 @@ ghost use Rattle.fx_spec.specs.CommandTree.{ActTree};
 ghost use Rattle.fx_spec.specs.Transaction.{effect};
 ghost use Rattle.fx_spec.specs.Views.{act_tree};
 ghost use Rattle.fx_view.specs.Own.{own_at};
-ghost use Rattle.fx_view.specs.Reads.{known_of};
 ghost use Rattle.fx_zip.specs.Fresh.{IsFresh};
 ghost use Rattle.fx_act.specs.Acts.{Acts, HasAct};
 
@@ -30,7 +29,7 @@ impl Walk {
         variables: &Env,
         act: &Act,
     ) -> Result<(), Halt>
-        requires fresh { IsFresh (known_of (R.meaning.reads reader.old)) (own_at self.old.overlay)
+        requires fresh { IsFresh (R.meaning.reads reader.old) (own_at self.old.overlay)
             self.old.zip }
         requires shaped { HasAct variables.now (act_tree act.now) }
         ensures acts { Acts R.meaning self.old self.new reader.old reader.new
@@ -51,7 +50,7 @@ impl Walk {
         requires name { blank.name ≡ L.name }
         requires parts { blank.parts ≡ L.parts }
         requires some { 0 < L.parts }
-        requires fresh { IsFresh (known_of (R.meaning.reads reader.old)) (own_at self.old.overlay)
+        requires fresh { IsFresh (R.meaning.reads reader.old) (own_at self.old.overlay)
             self.old.zip }
         requires shaped { HasAct variables.now (act_tree act.now) }
         ensures acts { Acts R.meaning self.old self.new reader.old reader.new
@@ -71,7 +70,7 @@ impl Walk {
         act: &Act,
         steps: &mut Steps<L>,
     ) -> Result<(), Halt>
-        requires fresh { IsFresh (known_of (R.meaning.reads reader.old)) (own_at self.old.overlay)
+        requires fresh { IsFresh (R.meaning.reads reader.old) (own_at self.old.overlay)
             self.old.zip }
         requires shaped { HasAct variables.now (act_tree act.now) }
         ensures acts { Acts R.meaning self.old self.new reader.old reader.new
@@ -105,7 +104,7 @@ impl Walk {
         text: &Expr,
         steps: &mut Steps<L>,
     ) -> Result<(), Halt>
-        requires fresh { IsFresh (known_of (R.meaning.reads reader.old)) (own_at self.old.overlay)
+        requires fresh { IsFresh (R.meaning.reads reader.old) (own_at self.old.overlay)
             self.old.zip }
         requires shaped { HasAct variables.now (ActTree.to (expr_tree text.now)) }
         ensures acts { Acts R.meaning self.old self.new reader.old reader.new

@@ -5,7 +5,6 @@ ghost use Rattle.fx_spec.specs.Edit as edit;
 ghost use Rattle.fx_spec.specs.Move.{at_place};
 ghost use Rattle.fx_spec.specs.Transaction.{effect, editing};
 ghost use Rattle.fx_view.specs.Own.{own_at};
-ghost use Rattle.fx_view.specs.Reads.{known_of};
 ghost use Rattle.fx_zip.specs.Fresh.{IsFresh};
 ghost use Rattle.fx_act.specs.Acts.{Acts, HasAct};
 
@@ -29,7 +28,7 @@ impl Walk {
         value: &Expr,
         steps: &mut Steps<L>,
     ) -> Result<(), Halt>
-        requires fresh { IsFresh (known_of (R.meaning.reads reader.old)) (own_at self.old.overlay)
+        requires fresh { IsFresh (R.meaning.reads reader.old) (own_at self.old.overlay)
             self.old.zip }
         requires shaped { HasAct variables.now (ActTree.store (expr_tree value.now)) }
         ensures acts { Acts R.meaning self.old self.new reader.old reader.new
@@ -47,7 +46,7 @@ impl Walk {
         value: &Value,
         steps: &mut Steps<L>,
     ) -> Result<(), Halt>
-        requires fresh { IsFresh (known_of (R.meaning.reads reader.old)) (own_at self.old.overlay)
+        requires fresh { IsFresh (R.meaning.reads reader.old) (own_at self.old.overlay)
             self.old.zip }
         ensures acts { Acts R.meaning self.old self.new reader.old reader.new
             (editing (at_place self.old.zip.root self.old.zip.address
@@ -66,7 +65,7 @@ impl Walk {
         reader: &mut R,
         steps: &mut Steps<L>,
     ) -> Result<(), Halt>
-        requires fresh { IsFresh (known_of (R.meaning.reads reader.old)) (own_at self.old.overlay)
+        requires fresh { IsFresh (R.meaning.reads reader.old) (own_at self.old.overlay)
             self.old.zip }
         ensures acts { Acts R.meaning self.old self.new reader.old reader.new
             (editing (at_place self.old.zip.root self.old.zip.address edit.create_at)) result }
@@ -84,7 +83,7 @@ impl Walk {
         reader: &mut R,
         steps: &mut Steps<L>,
     ) -> Result<(), Halt>
-        requires fresh { IsFresh (known_of (R.meaning.reads reader.old)) (own_at self.old.overlay)
+        requires fresh { IsFresh (R.meaning.reads reader.old) (own_at self.old.overlay)
             self.old.zip }
         ensures acts { Acts R.meaning self.old self.new reader.old reader.new
             (editing (at_place self.old.zip.root self.old.zip.address edit.remove_at)) result }

@@ -1,6 +1,7 @@
 //! Where a transaction walks.
 ghost use Rattle.std.specs.Prelude.{◌≡◌, []};
 ghost use Rattle.fx_store.specs.Rule.{Known};
+ghost use Rattle.fx_view.specs.ReadList.{ReadList};
 ghost use Rattle.fx_zip.specs.Fresh.{IsFresh};
 
 use fx_spec::Base;
@@ -22,7 +23,7 @@ impl Walk {
         ensures root { result.zip.root ≡ base.value.description }
         ensures address { result.zip.address ≡ [] }
         ensures overlay { result.overlay ≡ [] }
-        ensures fresh { (known own : Known) → IsFresh known own result.zip }
+        ensures fresh { (reads : ReadList) (own : Known) → IsFresh reads own result.zip }
     {
         Walk {
             zip: Zip::new(alloc, base),

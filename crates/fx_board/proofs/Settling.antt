@@ -50,22 +50,22 @@ Path = List (List ℕ)
 same_is : (a b : Option Node) → same_node a b ≡ true → a ≡ b
 same_is None None e = refl
 same_is None (Some b) e = absurd (false≢true e)
-same_is (Some (File a)) None e = absurd (false≢true e)
+same_is (Some (File a exec)) None e = absurd (false≢true e)
 same_is (Some (Dir a)) None e = absurd (false≢true e)
 same_is (Some (Link a)) None e = absurd (false≢true e)
-same_is (Some (File a)) (Some (File b)) e = ap (λ bytes. Some (File bytes)) ((bytes_eq-Decides a b).0 e)
-same_is (Some (File a)) (Some (Dir b)) e = absurd (false≢true e)
-same_is (Some (File a)) (Some (Link b)) e = absurd (false≢true e)
-same_is (Some (Dir a)) (Some (File b)) e = absurd (false≢true e)
+same_is (Some (File a exec)) (Some (File b exec2)) e = ap (λ bytes. Some (File bytes false)) ((bytes_eq-Decides a b).0 e)
+same_is (Some (File a exec)) (Some (Dir b)) e = absurd (false≢true e)
+same_is (Some (File a exec)) (Some (Link b)) e = absurd (false≢true e)
+same_is (Some (Dir a)) (Some (File b exec)) e = absurd (false≢true e)
 same_is (Some (Dir a)) (Some (Dir b)) e = ap (λ names. Some (Dir names)) ((slice_eq-Decides bytes_eq-Decides a b (pointwise bytes_eq a b) refl).0 e)
 same_is (Some (Dir a)) (Some (Link b)) e = absurd (false≢true e)
-same_is (Some (Link a)) (Some (File b)) e = absurd (false≢true e)
+same_is (Some (Link a)) (Some (File b exec)) e = absurd (false≢true e)
 same_is (Some (Link a)) (Some (Dir b)) e = absurd (false≢true e)
 same_is (Some (Link a)) (Some (Link b)) e = ap (λ text. Some (Link text)) ((bytes_eq-Decides a b).0 e)
 
 same_itself : (a : Option Node) → same_node a a ≡ true
 same_itself None = refl
-same_itself (Some (File a)) = (bytes_eq-Decides a a).1 refl
+same_itself (Some (File a exec)) = (bytes_eq-Decides a a).1 refl
 same_itself (Some (Dir a)) = (slice_eq-Decides bytes_eq-Decides a a (pointwise bytes_eq a a) refl).1 refl
 same_itself (Some (Link a)) = (bytes_eq-Decides a a).1 refl
 
@@ -84,6 +84,12 @@ stays_through base o path position (suc more) none =
     stays_through base o path position more (λ entry le lt. none entry le (omega (arith, lt)))
     ∙ (same_unless (get (state base o (position + more)) path) (get (state base o (suc (position + more))) path) (none (position + more) (omega arith) (omega arith))
     ∙ ap (λ n. get (state base o n) path) (omega arith))
+
+-- where no entry from some position on changes a path, what stood there stands there now
+pub stands_now : (base : BaseTree) (o : List Turn) (path : Path) (position : ℕ) → position ≤ length o → ((entry : ℕ) → position ≤ entry → Changes base o entry path → ⊥) → get (state base o position) path ≡ get (state base o (length o)) path
+stands_now base o path position le none =
+    let all : position + (length o - position) ≡ length o = omega (arith, le) in
+    stays_through base o path position (length o - position) (λ entry since lt changes. none entry since changes) ∙ ap (λ n. get (state base o n) path) all
 
 -- true reads that are not stale agree with the last state
 pub agrees_now : (base : BaseTree) (o : List Turn) (reads : ReadList) → AreTrueReads base o reads → IsFreshReads base o reads → Agrees reads (get (state base o (length o)))

@@ -83,6 +83,13 @@ impl Board {
         &self.base
     }
 
+    /// The base, to be shared.
+    pub fn shared_base(&self) -> &Arc<Base>
+        ensures { base_tree result.now.value ≡ self.now.base }
+    {
+        &self.base
+    }
+
     /// The number of entries.
     pub fn len(&self) -> u64
         ensures len { result ≡ length self.now.order }

@@ -6,6 +6,7 @@ mod fault;
 mod laws;
 mod scope;
 mod script;
+mod settling;
 mod spec;
 
 pub use fault::CheckFault;

@@ -11,6 +11,7 @@ ghost use Rattle.fx_spec.specs.WellShaped.{Scope};
 
 use crate::expr::{boxed, needed, shape_of};
 use crate::fault::CheckFault;
+use crate::settling::settled;
 use crate::scope::{Scope, let_go};
 use fx_base::NoMemory;
 use fx_expr::{Expr, Shape, Word};
@@ -62,7 +63,7 @@ fn value_shape(alloc: Global, scope: &mut Scope, spec: &Spec) -> Result<Shape, C
         Spec::File | Spec::Link => Ok(Shape::Str),
         Spec::Dir => Ok(Shape::Names),
         Spec::Focus(text, part) => {
-            let_go(Some(check_shape(alloc, scope, Shape::Str, text)?));
+            let_go(Some(check_shape(alloc, scope, Shape::Str, text.expr())?));
             value_shape(alloc, scope, part)
         }
         Spec::Pair(word, first, second) => {
@@ -72,7 +73,7 @@ fn value_shape(alloc: Global, scope: &mut Scope, spec: &Spec) -> Result<Shape, C
             pair_shape(alloc, scope, shape)
         }
         Spec::Comp(part, word, set) => {
-            let_go(Some(check_shape(alloc, scope, Shape::Names, set)?));
+            let_go(Some(check_shape(alloc, scope, Shape::Names, set.expr())?));
             scope.bind(alloc, word, Shape::Str)?;
             let shape = value_shape(alloc, scope, part)?;
             let_go(scope.unbind());
@@ -82,7 +83,7 @@ fn value_shape(alloc: Global, scope: &mut Scope, spec: &Spec) -> Result<Shape, C
             let shape = value_shape(alloc, scope, part)?;
             Ok(Shape::Opt(boxed(alloc, shape)?))
         }
-        Spec::Pred(test) => check_shape(alloc, scope, Shape::Bool, test),
+        Spec::Pred(test) => check_shape(alloc, scope, Shape::Bool, test.expr()),
     }
 }
 
@@ -95,7 +96,7 @@ pub fn check(alloc: Global, spec: Spec) -> Result<Checked, CheckFault>
     match value_shape(alloc, &mut scope, &spec) {
         Ok(shape) => {
             let_go(Some(shape));
-            Ok(Checked::of(spec))
+            Ok(Checked::of(settled(alloc, spec)?))
         }
         Err(fault) => {
             let_go_spec(spec);

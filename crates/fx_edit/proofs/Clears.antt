@@ -1,5 +1,5 @@
 -- Removals, and entries of a directory with new names, as calls go by their rules.
-use Rattle.std.proofs.Common.{◌≡◌, ℕ, ◌≤◌, List, [], ◌∷◌, ◌++◌, length, Option, Some, None, Result, Ok, Err, refl, sym, ap, ◌∙◌}
+use Rattle.std.proofs.Common.{◌≡◌, ℕ, ◌≤◌, List, [], ◌∷◌, ◌++◌, length, Option, Some, None, Result, Ok, Err, refl, sym, ap, ◌∙◌, false}
 use Rattle.std.specs.Prelude.{IsErrAnd}
 use Rattle.fx_store.specs.declared.node.Node.{Node}
 use Rattle.fx_store.specs.declared.node.Node.TheVariants.{File}
@@ -64,10 +64,10 @@ module _ {R : Type 0} (m : Meaning R) (own : Known) (old : R) (before : List Cha
 
   module _ (q : Path) where
     abbrev file : Ask (List Change)
-    file = Look q (λ node. Answer (set_to q (File []) ∷ []))
+    file = Look q (λ node. Answer (set_to q (File [] false) ∷ []))
 
     abbrev with_file : Option Node → Ask (List Change)
-    with_file found = Answer (before ++ set_to q (File []) ∷ [])
+    with_file found = Answer (before ++ set_to q (File [] false) ∷ [])
 
     module _ (p : Path) (same : p ≡ q) (mid : R) where
       abbrev Looks : Result (Option Node) Stop → Type 0
@@ -82,7 +82,7 @@ module _ {R : Type 0} (m : Meaning R) (own : Known) (old : R) (before : List Cha
       pub file_tires : (after : List Change) (r : Result (Unit {0}) Stop) (n : Option Node) → IsErrAnd r (λ d. d ≡ stop.NoMemory) → Looks (Ok n) → Adds mid after file r
       file_tires after r n is first = tires_by m (λ (u : Unit {0}). after) own old r (λ n. n) mid (look q) with_file n is (moved (Ok n) first)
 
-      pub file_added : (after : List Change) (bytes : List ℕ) (n : Option Node) → bytes ≡ [] → after ≡ before ++ set_to p (File bytes) ∷ [] → Looks (Ok n) → Adds mid after file (Ok tt)
+      pub file_added : (after : List Change) (bytes : List ℕ) (n : Option Node) → bytes ≡ [] → after ≡ before ++ set_to p (File bytes false) ∷ [] → Looks (Ok n) → Adds mid after file (Ok tt)
       file_added after bytes n none added first =
           by_then_answer m (λ n. n) (λ (u : Unit {0}). after) own old mid (look q) with_file n tt (moved (Ok n) first)
-          (ap (λ (cs : List Change). Answer cs) (sym (added ∙ (λ i. before ++ set_to (same i) (File (none i)) ∷ []))))
+          (ap (λ (cs : List Change). Answer cs) (sym (added ∙ (λ i. before ++ set_to (same i) (File (none i) false) ∷ []))))

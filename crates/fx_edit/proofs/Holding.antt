@@ -17,7 +17,7 @@ use Rattle.fx_spec.specs.declared.refusal.Refusal.{Refusal}
 use Rattle.fx_spec.specs.Edit.{is_content, is_storable, form_node, stored_node, names_node, link_node}
 use Rattle.fx_spec.specs.Move.{Answered}
 use Rattle.fx_spec.specs.SpecTree.{SpecTree}
-use Rattle.fx_edit.specs.Values.{text_of, texts_of}
+use Rattle.fx_edit.specs.Values.{text_of, texts_of, flag_of}
 
 -- ---- a text within its limits, and a set in order
 
@@ -46,15 +46,36 @@ module _ (form : SpecTree) (v : Tree) where
       at true = e
       at false = refl
 
-no_text : (v : Tree) → text_of v ≡ None → (form_node SpecTree.file v ≡ Err Refusal.WrongForm) × (form_node SpecTree.link v ≡ Err Refusal.WrongForm)
+no_text : (v : Tree) → text_of v ≡ None → form_node SpecTree.link v ≡ Err Refusal.WrongForm
 no_text (Tree.str t) e = cc
-no_text (Tree.int n) e = (refl, refl)
-no_text (Tree.bool b) e = (refl, refl)
-no_text (Tree.names ts) e = (refl, refl)
-no_text (Tree.pair a b) e = (refl, refl)
-no_text Tree.nothing e = (refl, refl)
-no_text (Tree.some a) e = (refl, refl)
-no_text (Tree.table rows) e = (refl, refl)
+no_text (Tree.int n) e = refl
+no_text (Tree.bool b) e = refl
+no_text (Tree.names ts) e = refl
+no_text (Tree.pair a b) e = refl
+no_text Tree.nothing e = refl
+no_text (Tree.some a) e = refl
+no_text (Tree.table rows) e = refl
+
+no_flag : (v : Tree) → text_of v ≡ None → flag_of v ≡ None → form_node SpecTree.file v ≡ Err Refusal.WrongForm
+no_flag (Tree.str t) e f = cc
+no_flag (Tree.int n) e f = refl
+no_flag (Tree.bool b) e f = cc
+no_flag (Tree.names ts) e f = refl
+no_flag (Tree.pair a b) e f = refl
+no_flag Tree.nothing e f = refl
+no_flag (Tree.some a) e f = refl
+no_flag (Tree.table rows) e f = refl
+
+-- a truth value at a file
+pub flag_told : (v : Tree) (b : Bool) → flag_of v ≡ Some b → stored_node SpecTree.file v ≡ Ok (File [] b)
+flag_told (Tree.str t) b e = cc
+flag_told (Tree.int n) b e = cc
+flag_told (Tree.bool a) b e = let same : a ≡ b = cc in ap (λ (b : Bool). Ok (File [] b)) same
+flag_told (Tree.names ts) b e = cc
+flag_told (Tree.pair x y) b e = cc
+flag_told Tree.nothing b e = cc
+flag_told (Tree.some a) b e = cc
+flag_told (Tree.table rows) b e = cc
 
 no_texts : (v : Tree) → texts_of v ≡ None → form_node SpecTree.dir v ≡ Err Refusal.WrongForm
 no_texts (Tree.str t) e = refl
@@ -66,11 +87,11 @@ no_texts Tree.nothing e = refl
 no_texts (Tree.some a) e = refl
 no_texts (Tree.table rows) e = refl
 
-pub file-wrong : (v : Tree) → text_of v ≡ None → stored_node SpecTree.file v ≡ Err Refusal.WrongForm
-file-wrong v e = wrong SpecTree.file v (no_text v e).0
+pub file-wrong : (v : Tree) → text_of v ≡ None → flag_of v ≡ None → stored_node SpecTree.file v ≡ Err Refusal.WrongForm
+file-wrong v e f = wrong SpecTree.file v (no_flag v e f)
 
 pub link-wrong : (v : Tree) → text_of v ≡ None → stored_node SpecTree.link v ≡ Err Refusal.WrongForm
-link-wrong v e = wrong SpecTree.link v (no_text v e).1
+link-wrong v e = wrong SpecTree.link v (no_text v e)
 
 pub dir-wrong : (v : Tree) → texts_of v ≡ None → stored_node SpecTree.dir v ≡ Err Refusal.WrongForm
 dir-wrong v e = wrong SpecTree.dir v (no_texts v e)
@@ -106,9 +127,9 @@ texts-stored ts up = ap (λ b. cond b (names_node ts) (Err Refusal.WrongForm)) (
 
 -- ---- what calls tell of them
 
-pub file_told : (v : Tree) (t bytes : List ℕ) → text_of v ≡ Some t → (bytes ≡ t) × IsContent t → stored_node SpecTree.file v ≡ Ok (File bytes)
+pub file_told : (v : Tree) (t bytes : List ℕ) → text_of v ≡ Some t → (bytes ≡ t) × IsContent t → stored_node SpecTree.file v ≡ Ok (File bytes false)
 file_told v t bytes is held =
-    ap (stored_node SpecTree.file) (text_is v t is) ∙ (text-stored SpecTree.file t held.1 ∙ ap (λ (b : List ℕ). Ok (File b)) (sym held.0))
+    ap (stored_node SpecTree.file) (text_is v t is) ∙ (text-stored SpecTree.file t held.1 ∙ ap (λ (b : List ℕ). Ok (File b false)) (sym held.0))
 
 pub dir_told : (v : Tree) (ts : List (List ℕ)) → texts_of v ≡ Some ts → IsAscending ts → stored_node SpecTree.dir v ≡ names_node ts
 dir_told v ts is up = ap (stored_node SpecTree.dir) (texts_are v ts is) ∙ texts-stored ts up

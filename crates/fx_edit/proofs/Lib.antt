@@ -7,7 +7,7 @@ pub mod Holding
 pub mod Looks
 pub mod Clears
 pub mod Deep
-pub mod Taken
+pub mod Relists
 pub mod Edited
 pub mod Removes
 pub mod Naming

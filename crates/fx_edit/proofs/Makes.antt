@@ -60,12 +60,12 @@ not_deep : (here : Path) (names : List (List ℕ)) (node : Node) → length here
 not_deep here names node short = let f : nat_lt 64 (length here + length names) ≡ false = grind (arith, nat_tests) in ap (λ b. cond b true (lacks_room (here ++ names) node)) f
 
 room_under : (q : Path) (node : Node) → length q < 64 → lacks_room q node ≡ false
-room_under q (File bytes) short = refl
+room_under q (File bytes exec) short = refl
 room_under q (Dir names) short = let f : is_full q ≡ false = grind (arith, nat_tests) in ap (λ b. b && nat_lt 0 (length names)) f
 room_under q (Link text) short = refl
 
 room_at : (q : Path) (node : Node) → 64 ≤ length q → lacks_room q node ≡ lists_some node
-room_at q (File bytes) full = refl
+room_at q (File bytes exec) full = refl
 room_at q (Dir names) full = let t : is_full q ≡ true = grind (arith, nat_tests) in ap (λ b. b && nat_lt 0 (length names)) t
 room_at q (Link text) full = refl
 
@@ -132,7 +132,7 @@ module _ (names : List (List ℕ)) (i : ℕ) (node : Node) where
 -- ---- the files that a new directory lists
 
 abbrev pub file_at : Path → List ℕ → Change
-file_at path n = set_to (path /ₚ n) (File [])
+file_at path n = set_to (path /ₚ n) (File [] false)
 
 pub files_next : (path : Path) (names : List (List ℕ)) (begun so_far longer : List Change) (i : ℕ) (n : List ℕ) → slice_get names i ≡ Some n → longer ≡ so_far ++ file_at path n ∷ []
     → so_far ++ map (file_at path) (drop i names) ≡ begun ++ map (file_at path) names → longer ++ map (file_at path) (drop (i + 1) names) ≡ begun ++ map (file_at path) names

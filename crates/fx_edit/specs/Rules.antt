@@ -1,11 +1,13 @@
 -- Parts of the rules of edits, as the code goes through them.
-use Rattle.std.specs.Prelude.{◌≡◌, ℕ, ◌+◌, false, List, [], ◌∷◌, ◌++◌, drop, slice_get, length, ◌-◌, ◌<◌, Option, Some, None, Ok}
+use Rattle.std.specs.Prelude.{◌≡◌, ℕ, ◌+◌, Bool, true, false, cond, List, [], ◌∷◌, ◌++◌, drop, slice_get, length, ◌-◌, ◌<◌, Option, Some, None, Ok}
 use Rattle.fx_store.specs.declared.node.Node.{Node}
-use Rattle.fx_store.specs.declared.node.Node.TheVariants.{Dir}
+use Rattle.fx_store.specs.declared.node.Node.TheVariants.{File, Dir}
 use Rattle.fx_store.specs.declared.changes.Change.{Change}
 use Rattle.fx_store.specs.Changes.{changed_paths}
 use Rattle.fx_store.specs.Resolve.{◌/ₚ◌, parent, resolve}
 use Rattle.fx_store.specs.Rule.{Ask, Answer, Look, look_all, ◌>>=◌}
+use Rattle.fx_store.specs.Names.{has}
+use Rattle.fx_expr.specs.Merges.{IsLeastOf}
 use Rattle.fx_expr.specs.Sets.{with_text}
 use Rattle.fx_spec.specs.Edit.{set_to, removed, names_of, entries, clear, children, without_name, follows_last, store_landed, create_landed, remove_landed}
 use Rattle.fx_spec.specs.Move.{Answered}
@@ -69,11 +71,34 @@ removing path name =
     Look (parent path) (λ above. Answer (names_of above)) >>= λ names. adding (set_to (parent path) (Dir (without_name name names)) ∷ []) (clear path)
 
 -- the edits at a path, by where it lands
-abbrev pub store_there : List (List ℕ) → Node → Ask (Answered (List Change))
-store_there path node = resolve path (follows_last node) >>= store_landed path node
+abbrev pub store_there : Bool → List (List ℕ) → Node → Ask (Answered (List Change))
+store_there flag path node = resolve path (follows_last node) >>= store_landed flag path node
 
 abbrev pub create_there : List (List ℕ) → Node → Ask (Answered (List Change))
 create_there path node = resolve path false >>= create_landed path node
 
 abbrev pub remove_there : List (List ℕ) → Ask (Answered (List Change))
 remove_there path = resolve path false >>= remove_landed path
+
+-- the names of a set without its first, where that is the one that is gone through
+abbrev pub left_of : Bool → List (List ℕ) → List (List ℕ)
+left_of true names = drop 1 names
+left_of false names = names
+
+-- what is done at a name, by whether the old names have it and whether the new ones do
+abbrev pub change_of : List (List ℕ) → List ℕ → Bool → Bool → Ask (List Change)
+change_of q n old new =
+    let added = Look (q /ₚ n) (λ node. Answer (set_to (q /ₚ n) (File []) ∷ [])) in
+    let dropped = clear (q /ₚ n) in
+    cond new (cond old (Answer []) added) dropped
+
+-- whether the set has the name is known: it is the set's first, or none of it
+abbrev pub IsFirst : Bool → List (List ℕ) → List ℕ → Type 0
+IsFirst true names n = names ≡ n ∷ drop 1 names
+IsFirst false names n = has names n ≡ false
+
+-- the name is the least of two sets, and each has it or not
+pub record IsNext (a b : List (List ℕ)) (n : List ℕ) (x y : Bool) : Type 0 where
+  pub least : IsLeastOf a b n (left_of x a) (left_of y b)
+  pub first : IsFirst x a n
+  pub second : IsFirst y b n

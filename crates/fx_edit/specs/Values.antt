@@ -1,5 +1,5 @@
 -- What a value holds for a node, and what calls say that make one.
-use Rattle.std.specs.Prelude.{◌≡◌, ℕ, cond, List, Option, Some, None, Result, Ok, Err}
+use Rattle.std.specs.Prelude.{◌≡◌, ℕ, Bool, cond, List, Option, Some, None, Result, Ok, Err}
 use Rattle.fx_store.specs.Names.{is_name}
 use Rattle.fx_expr.specs.Tree.{Tree}
 use Rattle.fx_spec.specs.declared.refusal.Refusal.{Refusal}
@@ -12,6 +12,11 @@ use Rattle.fx_rules.specs.declared.halt.Halt.TheVariants as halt
 abbrev pub text_of : Tree → Option (List ℕ)
 text_of (Tree.str text) = Some text
 text_of _ = None
+
+-- the truth value that a value is
+abbrev pub flag_of : Tree → Option Bool
+flag_of (Tree.bool b) = Some b
+flag_of _ = None
 
 -- the set that a value is
 abbrev pub texts_of : Tree → Option (List (List ℕ))

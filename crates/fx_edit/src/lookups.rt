@@ -43,7 +43,7 @@ fn listed(alloc: Global, node: Option<Node>) -> Option<Names>
 {
     match node {
         Some(Node::Dir(names)) => Some(names),
-        Some(Node::File(_)) => Some(Names::new(alloc)),
+        Some(Node::File { .. }) => Some(Names::new(alloc)),
         Some(Node::Link(_)) => Some(Names::new(alloc)),
         None => None,
     }
@@ -54,7 +54,7 @@ pub(crate) fn names_in(alloc: Global, node: Option<Node>) -> Names
 {
     match node {
         Some(Node::Dir(names)) => names,
-        Some(Node::File(_)) => Names::new(alloc),
+        Some(Node::File { .. }) => Names::new(alloc),
         Some(Node::Link(_)) => Names::new(alloc),
         None => Names::new(alloc),
     }

@@ -13,11 +13,12 @@ ghost use Rattle.fx_edit.specs.Rules.{made_in, made_node, made_along, made_all, 
 
 use crate::edits::Edits;
 use crate::lookups::{name_at, names_at};
+use crate::nodes::empty_file;
 use crate::paths::below;
 use fx_base::NoMemory;
 use fx_rules::Halt;
 use fx_spec::Refusal;
-use fx_store::{Bytes, Name, NameList, Names, Node, Path};
+use fx_store::{Name, NameList, Names, Node, Path};
 use fx_view::{Overlay, Reader, Stop};
 use std::alloc::Global;
 
@@ -67,7 +68,7 @@ fn lists_some(node: &Node) -> bool
 {
     match node {
         Node::Dir(names) => names.len() > 0,
-        Node::File(_) => false,
+        Node::File { .. } => false,
         Node::Link(_) => false,
     }
 }
@@ -180,7 +181,7 @@ fn add_children(alloc: Global, edits: &mut Edits, path: &Path, node: &Node) -> R
 {
     match node {
         Node::Dir(names) => add_files(alloc, edits, path, names),
-        Node::File(_) => Ok(()),
+        Node::File { .. } => Ok(()),
         Node::Link(_) => Ok(()),
     }
 }
@@ -188,11 +189,11 @@ fn add_children(alloc: Global, edits: &mut Edits, path: &Path, node: &Node) -> R
 fn add_files(alloc: Global, edits: &mut Edits, path: &Path, names: &Names) -> Result<(), NoMemory>
     requires { edit.lacks_room path.now (Dir names.now) ≡ false }
     ensures { OnOk result (edits.new ≡ edits.old
-        ++ map (λ n. edit.set_to (path.now /ₚ n) (File [])) names.now) }
+        ++ map (λ n. edit.set_to (path.now /ₚ n) (File [] false)) names.now) }
 {
     for i in 0..names.len() {
         let name = name_at(names, i);
-        edits.set(below(alloc, path, name)?, Node::File(Bytes::new(alloc)))?;
+        edits.set(below(alloc, path, name)?, empty_file(alloc))?;
     }
     Ok(())
 }

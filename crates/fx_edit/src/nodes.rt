@@ -1,7 +1,7 @@
 //! The node that a value makes at a form, and the empty node of a form.
-ghost use Rattle.std.specs.Prelude.{◌≡◌, ◌<◌, Some, length, slice_get, IfOk};
+ghost use Rattle.std.specs.Prelude.{◌≡◌, ◌<◌, Some, None, [], false, length, slice_get, IfOk};
 ghost use Rattle.std.specs.Option.{option_copied};
-ghost use Rattle.fx_store.specs.declared.node.Node.TheVariants.{Dir};
+ghost use Rattle.fx_store.specs.declared.node.Node.TheVariants.{File, Dir};
 ghost use Rattle.fx_store.specs.Names.{IsContent};
 ghost use Rattle.fx_expr.specs.Sets.{IsAscending};
 ghost use Rattle.fx_expr.specs.Tree.{Tree};
@@ -11,7 +11,7 @@ ghost use Rattle.fx_spec.specs.Move.{needed};
 ghost use Rattle.fx_spec.specs.SpecTree.{SpecTree};
 ghost use Rattle.fx_spec.specs.Views.{spec_tree};
 ghost use Rattle.fx_spec.specs.declared.refusal.Refusal.TheVariants as refusal;
-ghost use Rattle.fx_edit.specs.Values.{text_of, texts_of, name_read, Tells};
+ghost use Rattle.fx_edit.specs.Values.{text_of, texts_of, flag_of, name_read, Tells};
 
 use fx_base::NoMemory;
 use fx_expr::{Text, TextSet, Value};
@@ -41,8 +41,67 @@ fn file_node(alloc: Global, value: &Value) -> Result<Node, Halt>
     ensures { Tells (λ n. n) (edit.stored_node SpecTree.file (tree_of value.now)) result }
 {
     match text_in(value) {
-        Some(text) => Ok(Node::File(content(alloc, text)?)),
+        Some(text) => Ok(Node::File {
+            bytes: content(alloc, text)?,
+            exec: false,
+        }),
+        None => flag_node(alloc, value),
+    }
+}
+
+/// An empty file with the flag that a value is.
+fn flag_node(alloc: Global, value: &Value) -> Result<Node, Halt>
+    requires { text_of (tree_of value.now) ≡ None }
+    ensures { Tells (λ n. n) (edit.stored_node SpecTree.file (tree_of value.now)) result }
+{
+    match flag_in(value) {
+        Some(exec) => Ok(Node::File {
+            bytes: Bytes::new(alloc),
+            exec,
+        }),
         None => Err(Halt::Refused(Refusal::WrongForm)),
+    }
+}
+
+/// An empty file that is not to be run.
+pub(crate) fn empty_file(alloc: Global) -> Node
+    ensures { result ≡ File [] false }
+{
+    Node::File {
+        bytes: Bytes::new(alloc),
+        exec: false,
+    }
+}
+
+/// The truth value that a value is.
+fn flag_in(value: &Value) -> Option<bool>
+    ensures { result ≡ flag_of (tree_of value.now) }
+{
+    match value {
+        Value::Bool(b) => Some(*b),
+        Value::Str(_)
+        | Value::Int(_)
+        | Value::Names(_)
+        | Value::Pair(_, _)
+        | Value::Nothing
+        | Value::Some(_)
+        | Value::Table(_) => None,
+    }
+}
+
+/// Whether a value is a file's flag.
+pub(crate) fn is_flag(value: &Value) -> bool
+    ensures { result ≡ edit.is_flag (tree_of value.now) }
+{
+    match value {
+        Value::Bool(_) => true,
+        Value::Str(_)
+        | Value::Int(_)
+        | Value::Names(_)
+        | Value::Pair(_, _)
+        | Value::Nothing
+        | Value::Some(_)
+        | Value::Table(_) => false,
     }
 }
 
@@ -170,7 +229,7 @@ fn bare(alloc: Global, form: &Spec) -> Option<Node>
     ensures { result ≡ edit.bare_node (spec_tree form.now) }
 {
     match form {
-        Spec::File => Some(Node::File(Bytes::new(alloc))),
+        Spec::File => Some(empty_file(alloc)),
         Spec::Dir => Some(Node::Dir(Names::new(alloc))),
         Spec::Pair(_, first, _) => bare(alloc, first),
         Spec::Opt(part) => bare(alloc, part),

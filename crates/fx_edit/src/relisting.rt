@@ -1,23 +1,24 @@
 //! A directory that lists other names from now on.
-ghost use Rattle.std.specs.Prelude.{◌≡◌, ◌++◌, ◌∷◌, [], true, false, IfOk, OnOk};
+ghost use Rattle.std.specs.Prelude.{◌≡◌, ◌<◌, ◌+◌, ◌^◌, ◌++◌, ◌∷◌, List, ℕ, [], true, false, drop, length, IfOk, MatchOption};
 ghost use Rattle.fx_store.specs.declared.node.Node.TheVariants.{File, Dir};
-ghost use Rattle.fx_store.specs.Names.{has};
+ghost use Rattle.fx_store.specs.Names.{IsNameSet};
 ghost use Rattle.fx_store.specs.Resolve.{◌/ₚ◌};
 ghost use Rattle.fx_store.specs.Rule as rule;
 ghost use Rattle.fx_expr.specs.Sets.{set_of};
 ghost use Rattle.fx_spec.specs.Edit as edit;
 ghost use Rattle.fx_view.specs.Follows.{GoesBy};
 ghost use Rattle.fx_view.specs.Own.{own_at};
-ghost use Rattle.fx_edit.specs.Rules.{adding};
+ghost use Rattle.fx_edit.specs.Rules.{adding, change_of, left_of, IsNext};
 
 use crate::clearing::clear_entry;
 use crate::edits::Edits;
-use crate::lookups::name_at;
+use crate::nodes::empty_file;
 use crate::paths::below;
 use fx_base::NoMemory;
-use fx_store::{Bytes, Name, Names, Node, Path};
+use fx_store::{Name, Names, Node, Path};
 use fx_view::{Overlay, Reader, Stop, look};
 use std::alloc::Global;
+use std::cmp::Ordering;
 
 /// A directory's path, the names that it lists, and those that it is to list.
 #[derive(Drop)]
@@ -42,8 +43,7 @@ pub(crate) fn relisted<R: Reader>(
         (set_of (list.now.old ++ list.now.new)))) result }
 {
     let mut edits = relisting(alloc, list)?;
-    let names = both(alloc, &list.old, &list.new)?;
-    change_entries(alloc, reader, overlay, list, names.as_slice(), &mut edits)?;
+    change_entries(alloc, reader, overlay, list, &mut edits)?;
     Ok(edits)
 }
 
@@ -55,65 +55,82 @@ fn relisting(alloc: Global, list: &Relist) -> Result<Edits, NoMemory>
     Edits::of(alloc, path, Node::Dir(list.new.copy(alloc)?))
 }
 
-/// The names of both sets, each once and in ascending order.
-fn both(alloc: Global, old: &Names, new: &Names) -> Result<Vec<Name>, NoMemory>
-    ensures { IfOk result (λ names. names.items ≡ set_of (old.now ++ new.now)) }
-{
-    let mut names = Vec::new(alloc);
-    add_names(alloc, &mut names, old)?;
-    add_names(alloc, &mut names, new)?;
-    names.sort()?;
-    names.dedup();
-    Ok(names)
-}
-
-/// Adds the names of a set at the end.
-fn add_names(alloc: Global, names: &mut Vec<Name>, set: &Names) -> Result<(), NoMemory>
-    ensures { OnOk result (names.new.items ≡ names.old.items ++ set.now) }
-{
-    for i in 0..set.len() {
-        names.push(name_at(set, i).copy(alloc)?)?;
-    }
-    Ok(())
-}
-
-/// Adds the changes of these entries.
+/// Adds the changes of the entries, in ascending order: both sets of names are gone through side by side.
 fn change_entries<R: Reader>(
     alloc: Global,
     reader: &mut R,
     overlay: &Overlay,
     list: &Relist,
-    names: &[Name],
     edits: &mut Edits,
 ) -> Result<(), Stop>
     requires { edit.lacks_room list.now.path (Dir list.now.new) ≡ false }
     ensures { GoesBy R.meaning (λ u. edits.new) (own_at overlay.now) reader.old reader.new
         (adding edits.old (edit.entries (edit.entry list.now.path list.now.old list.now.new)
-        names.now)) result }
+        (set_of (list.now.old ++ list.now.new)))) result }
 {
-    for i in 0..names.len() {
-        change_entry(alloc, reader, overlay, list, &names[i], edits)?;
+    let (_olds, _news) = (list.old.len(), list.new.len());
+    let mut i: u64 = 0;
+    let mut j: u64 = 0;
+    while let Some((name, in_old, in_new)) = next_name(&list.old, i, &list.new, j) {
+        change_entry(alloc, reader, overlay, list, name, in_old, in_new, edits)?;
+        i = after(i, in_old);
+        j = after(j, in_new);
     }
     Ok(())
 }
 
-/// Adds the changes of one entry: one that stays is not touched.
+/// The place after one that was gone through.
+#[tactic(auto, using(crate::proofs::Relists::after_place))]
+fn after(i: u64, there: bool) -> u64
+    requires { there ≡ true → i + 1 < 2 ^ 64 }
+    ensures { (names : List (List ℕ)) → drop result names ≡ left_of there (drop i names) }
+{
+    if there { i + 1 } else { i }
+}
+
+/// The least name of two sets from some places on, and whether each has it.
+fn next_name<'a>(
+    old: &'a Names,
+    i: u64,
+    new: &'a Names,
+    j: u64,
+) -> Option<(&'a Name, bool, bool)>
+    ensures next { MatchOption result (set_of (drop i old.now ++ drop j new.now) ≡ [])
+        (λ r. IsNext (drop i old.now) (drop j new.now) r.0.now r.1 r.2) }
+    ensures sets { IsNameSet old.now × IsNameSet new.now }
+{
+    match (old.at(i), new.at(j)) {
+        (None, None) => None,
+        (Some(name), None) => Some((name, true, false)),
+        (None, Some(name)) => Some((name, false, true)),
+        (Some(name), Some(other)) => match name.cmp(other) {
+            Ordering::Less => Some((name, true, false)),
+            Ordering::Equal => Some((name, true, true)),
+            Ordering::Greater => Some((other, false, true)),
+        },
+    }
+}
+
+/// Adds the changes of one entry, by whether the old and the new names have it: one that stays is not touched.
 fn change_entry<R: Reader>(
     alloc: Global,
     reader: &mut R,
     overlay: &Overlay,
     list: &Relist,
     name: &Name,
+    in_old: bool,
+    in_new: bool,
     edits: &mut Edits,
 ) -> Result<(), Stop>
-    requires { edit.lacks_room list.now.path (Dir list.now.new) ≡ false }
+    requires room { edit.lacks_room list.now.path (Dir list.now.new) ≡ false }
+    requires new { in_new ≡ true → 0 < length list.now.new }
     ensures { GoesBy R.meaning (λ u. edits.new) (own_at overlay.now) reader.old reader.new
-        (adding edits.old (edit.entry list.now.path list.now.old list.now.new name.now)) result }
+        (adding edits.old (change_of list.now.path name.now in_old in_new)) result }
 {
-    if !list.new.has(name) {
+    if !in_new {
         return clear_entry(alloc, reader, overlay, &list.path, name, edits);
     }
-    if list.old.has(name) {
+    if in_old {
         return Ok(());
     }
     add_file(alloc, reader, overlay, list, name, edits)
@@ -129,14 +146,14 @@ fn add_file<R: Reader>(
     edits: &mut Edits,
 ) -> Result<(), Stop>
     requires room { edit.lacks_room list.now.path (Dir list.now.new) ≡ false }
-    requires new { has list.now.new name.now ≡ true }
+    requires new { 0 < length list.now.new }
     ensures { GoesBy R.meaning (λ u. edits.new) (own_at overlay.now) reader.old reader.new
         (adding edits.old (rule.Look (list.now.path /ₚ name.now)
-        (λ node. rule.Answer (edit.set_to (list.now.path /ₚ name.now) (File []) ∷ [])))) result }
+        (λ node. rule.Answer (edit.set_to (list.now.path /ₚ name.now) (File [] false) ∷ [])))) result }
 {
     let path = below(alloc, &list.path, name)?;
     let_go(look(alloc, reader, overlay, &path)?);
-    edits.set(path, Node::File(Bytes::new(alloc)))?;
+    edits.set(path, empty_file(alloc))?;
     Ok(())
 }
 

@@ -1,6 +1,6 @@
 //! `store`: a value becomes the content of the node where a place's path lands.
 ghost use Rattle.std.specs.Prelude.{◌≡◌, ◌∷◌, [], IfOk};
-ghost use Rattle.fx_store.specs.declared.node.Node.TheVariants.{Dir};
+ghost use Rattle.fx_store.specs.declared.node.Node.TheVariants.{File, Dir};
 ghost use Rattle.fx_store.specs.Rule as rule;
 ghost use Rattle.fx_expr.specs.Views.{tree_of};
 ghost use Rattle.fx_rules.specs.Answering.{answered};
@@ -10,18 +10,18 @@ ghost use Rattle.fx_view.specs.Follows.{GoesBy};
 ghost use Rattle.fx_view.specs.Own.{own_at};
 ghost use Rattle.fx_walk.specs.Places.{place_tree};
 ghost use Rattle.fx_edit.specs.Edits as says;
-ghost use Rattle.fx_edit.specs.Kinds.{is_file, is_dir, is_link, is_alike};
+ghost use Rattle.fx_edit.specs.Kinds.{is_file, is_dir, is_link, is_alike, old_file};
 ghost use Rattle.fx_edit.specs.Rules.{store_there};
 
 use crate::edits::Edits;
 use crate::lookups::names_in;
 use crate::making::make;
-use crate::nodes::stored_node;
+use crate::nodes::{is_flag, stored_node};
 use crate::relisting::{Relist, relisted};
 use fx_expr::Value;
 use fx_rules::Halt;
 use fx_spec::{Place, Refusal};
-use fx_store::{Landing, Names, Node, Path};
+use fx_store::{Bytes, Landing, Names, Node, Path};
 use fx_view::{Overlay, Reader, Stop, look, resolve};
 use std::alloc::Global;
 
@@ -57,7 +57,7 @@ fn stored<R: Reader>(
         (edit.store_at (tree_of value.now) (place_tree place.now)) (split result) }
 {
     let node = stored_node(alloc, place.spec, value)?;
-    store_node(alloc, reader, overlay, place.path, node)
+    store_node(alloc, reader, overlay, place.path, is_flag(value), node)
 }
 
 /// The changes of a store of a node at a path.
@@ -66,20 +66,21 @@ fn store_node<R: Reader>(
     reader: &mut R,
     overlay: &Overlay,
     path: &Path,
+    flag: bool,
     node: Node,
 ) -> Result<Edits, Halt>
     ensures { GoesBy R.meaning (answered (λ e. e)) (own_at overlay.now) reader.old reader.new
-        (store_there path.now node) (split result) }
+        (store_there flag path.now node) (split result) }
 {
     let landing = resolve(alloc, reader, overlay, path, follows_last(&node))?;
-    store_landed(alloc, reader, overlay, path, landing, node)
+    store_landed(alloc, reader, overlay, path, flag, landing, node)
 }
 
 fn follows_last(node: &Node) -> bool
     ensures { result ≡ edit.follows_last node.now }
 {
     match node {
-        Node::File(_) => true,
+        Node::File { .. } => true,
         Node::Dir(_) => true,
         Node::Link(_) => false,
     }
@@ -91,14 +92,15 @@ fn store_landed<R: Reader>(
     reader: &mut R,
     overlay: &Overlay,
     path: &Path,
+    flag: bool,
     landing: Landing,
     node: Node,
 ) -> Result<Edits, Halt>
     ensures { GoesBy R.meaning (answered (λ e. e)) (own_at overlay.now) reader.old reader.new
-        (edit.store_landed path.now node landing) (split result) }
+        (edit.store_landed flag path.now node landing) (split result) }
 {
     match landing {
-        Landing::At(at) => replace(alloc, reader, overlay, at, node),
+        Landing::At(at) => replace(alloc, reader, overlay, at, flag, node),
         Landing::Absent(here, names) => make(alloc, reader, overlay, &here, &names, &node),
         Landing::Blocked(at) => Err(Halt::Refused(Refusal::Blocked(at))),
         Landing::TooManyLinks => Err(Halt::Refused(Refusal::Blocked(path.copy(alloc)?))),
@@ -111,13 +113,14 @@ fn replace<R: Reader>(
     reader: &mut R,
     overlay: &Overlay,
     path: Path,
+    flag: bool,
     node: Node,
 ) -> Result<Edits, Halt>
     ensures { GoesBy R.meaning (answered (λ e. e)) (own_at overlay.now) reader.old reader.new
-        (rule.Look path (edit.replaced path node)) (split result) }
+        (rule.Look path (edit.replaced flag path node)) (split result) }
 {
     let found = look(alloc, reader, overlay, &path)?;
-    replaced(alloc, reader, overlay, path, node, found)
+    replaced(alloc, reader, overlay, path, flag, node, found)
 }
 
 /// The same, where this was found: a node of the same kind alone is replaced.
@@ -126,17 +129,21 @@ fn replaced<R: Reader>(
     reader: &mut R,
     overlay: &Overlay,
     path: Path,
+    flag: bool,
     node: Node,
     found: Option<Node>,
 ) -> Result<Edits, Halt>
     ensures { GoesBy R.meaning (answered (λ e. e)) (own_at overlay.now) reader.old reader.new
-        (edit.replaced path node found) (split result) }
+        (edit.replaced flag path node found) (split result) }
 {
     if !is_alike(&node, &found) {
         return Err(Halt::Refused(Refusal::Blocked(path)));
     }
     match node {
-        Node::File(bytes) => Ok(Edits::of(alloc, path, Node::File(bytes))?),
+        Node::File { bytes, exec } => {
+            let file = renewed(alloc, flag, bytes, exec, found);
+            Ok(Edits::of(alloc, path, file)?)
+        }
         Node::Link(text) => Ok(Edits::of(alloc, path, Node::Link(text))?),
         Node::Dir(new) => {
             let old = names_in(alloc, found);
@@ -172,11 +179,37 @@ fn lacks_room(path: &Path, names: &Names) -> bool
     names.len() > 0
 }
 
+/// The file that was found, with this flag, or else with these bytes.
+fn renewed(alloc: Global, flag: bool, bytes: Bytes, exec: bool, found: Option<Node>) -> Node
+    ensures { result ≡ edit.renewed flag (File bytes exec) (old_file found) }
+{
+    let (old, was) = file_in(alloc, found);
+    if flag {
+        let_go(bytes);
+        Node::File { bytes: old, exec }
+    } else {
+        let_go(old);
+        Node::File { bytes, exec: was }
+    }
+}
+
+/// The bytes and the flag of a file.
+fn file_in(alloc: Global, found: Option<Node>) -> (Bytes, bool)
+    ensures { File result.0 result.1 ≡ old_file found }
+{
+    match found {
+        Some(Node::File { bytes, exec }) => (bytes, exec),
+        Some(Node::Dir(_)) | Some(Node::Link(_)) | None => (Bytes::new(alloc), false),
+    }
+}
+
+fn let_go(_: Bytes) {}
+
 fn is_alike(node: &Node, found: &Option<Node>) -> bool
     ensures { result ≡ is_alike node.now found.now }
 {
     match node {
-        Node::File(_) => is_file(found),
+        Node::File { .. } => is_file(found),
         Node::Dir(_) => is_dir(found),
         Node::Link(_) => is_link(found),
     }
@@ -186,7 +219,7 @@ fn is_file(found: &Option<Node>) -> bool
     ensures { result ≡ is_file found.now }
 {
     match found {
-        Some(Node::File(_)) => true,
+        Some(Node::File { .. }) => true,
         Some(Node::Dir(_)) => false,
         Some(Node::Link(_)) => false,
         None => false,
@@ -197,7 +230,7 @@ fn is_dir(found: &Option<Node>) -> bool
     ensures { result ≡ is_dir found.now }
 {
     match found {
-        Some(Node::File(_)) => false,
+        Some(Node::File { .. }) => false,
         Some(Node::Dir(_)) => true,
         Some(Node::Link(_)) => false,
         None => false,
@@ -208,7 +241,7 @@ fn is_link(found: &Option<Node>) -> bool
     ensures { result ≡ is_link found.now }
 {
     match found {
-        Some(Node::File(_)) => false,
+        Some(Node::File { .. }) => false,
         Some(Node::Dir(_)) => false,
         Some(Node::Link(_)) => true,
         None => false,

@@ -6,6 +6,7 @@ use Rattle.fx_expr.specs.contracts.word.Word as word
 use Rattle.fx_expr.specs.contracts.set.TextSet as text_set
 use Rattle.fx_expr.specs.contracts.shape.Shape as shape
 use Rattle.fx_expr.specs.contracts.expr.Expr as expr
+use Rattle.fx_expr.specs.contracts.formula.Formula as formula
 use Rattle.fx_expr.specs.contracts.value.Value as value
 use Rattle.fx_expr.specs.contracts.lists.Values as values
 use Rattle.fx_expr.proofs.shape.Shape.TheLaws.TheKnot.{send-Shape, sync-Shape}
@@ -53,3 +54,9 @@ Values-send = search (sendable, crosses, Value-send) depth 40
 
 pub Values-sync : IsSync (values.the_field).row
 Values-sync = search (sendable, crosses, Value-sync) depth 40
+
+pub Formula-send : IsSend (formula.the_field).row
+Formula-send = search (sendable, crosses, Expr-send, Value-send) depth 40
+
+pub Formula-sync : IsSync (formula.the_field).row
+Formula-sync = search (sendable, crosses, Expr-sync, Value-sync) depth 40

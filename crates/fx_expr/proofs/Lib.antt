@@ -1,5 +1,6 @@
 pub mod Bound
 pub mod Canon
+pub mod Closing
 pub mod Globbing
 pub mod Merging
 pub mod Nearest

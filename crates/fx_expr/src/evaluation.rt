@@ -36,7 +36,7 @@ pub fn eval<L: Ledger>(
     evaluated(alloc, expr, env)
 }
 
-fn evaluated(alloc: Global, expr: &Expr, env: &Env) -> Result<Value, EvalFault>
+pub(crate) fn evaluated(alloc: Global, expr: &Expr, env: &Env) -> Result<Value, EvalFault>
     requires { IsWellShaped env.now (expr_tree expr.now) }
     ensures { Gives tree_of result (eval_of env.now (expr_tree expr.now)) }
 {

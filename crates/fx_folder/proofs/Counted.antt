@@ -88,28 +88,28 @@ find_held ((m ∷ s, node) ∷ es) up n r = by node (find_held es (rest_sorted (
     ]
 
     by : (node : Node) → find path_cmp (n ∷ r) (held_of es) ≡ host_entry (found es (n ∷ r)) → (eq_by_cmp path_cmp (n ∷ r) (m ∷ s) ≡ true → found es (n ∷ r) ≡ None) → find path_cmp (n ∷ r) (held_of ((m ∷ s, node) ∷ es)) ≡ host_entry (cond (eq_by_cmp path_cmp (n ∷ r) (m ∷ s)) (Some node) (found es (n ∷ r)))
-    by (File bytes) rest again = shown _ (File bytes) refl rest
+    by (File bytes exec) rest again = shown _ (File bytes exec) refl rest
     by (Dir names) rest again = shown _ (Dir names) refl rest
     by (Link text) rest again = hidden text rest again
 
 pub no_root_held : (es : List Mapped) → find path_cmp [] (held_of es) ≡ None
 no_root_held [] = refl
 no_root_held (([], node) ∷ es) = no_root_held es
-no_root_held ((n ∷ r, File bytes) ∷ es) = no_root_held es
+no_root_held ((n ∷ r, File bytes exec) ∷ es) = no_root_held es
 no_root_held ((n ∷ r, Dir names) ∷ es) = no_root_held es
 no_root_held ((n ∷ r, Link text) ∷ es) = no_root_held es
 
 below_held : (k : Paths) (es : List Mapped) → T (below_all path_cmp k es) → T (below_all path_cmp k (held_of es))
 below_held k [] h = tt
 below_held k (([], node) ∷ es) h = below_held k es (second (is_lt (path_cmp k [])) _ h)
-below_held k ((n ∷ r, File bytes) ∷ es) h = both (is_lt (path_cmp k (n ∷ r))) _ (first (is_lt (path_cmp k (n ∷ r))) _ h) (below_held k es (second (is_lt (path_cmp k (n ∷ r))) _ h))
+below_held k ((n ∷ r, File bytes exec) ∷ es) h = both (is_lt (path_cmp k (n ∷ r))) _ (first (is_lt (path_cmp k (n ∷ r))) _ h) (below_held k es (second (is_lt (path_cmp k (n ∷ r))) _ h))
 below_held k ((n ∷ r, Dir names) ∷ es) h = both (is_lt (path_cmp k (n ∷ r))) _ (first (is_lt (path_cmp k (n ∷ r))) _ h) (below_held k es (second (is_lt (path_cmp k (n ∷ r))) _ h))
 below_held k ((n ∷ r, Link text) ∷ es) h = below_held k es (second (is_lt (path_cmp k (n ∷ r))) _ h)
 
 pub held_sorted : (es : List Mapped) → T (is_sorted path_cmp es) → T (is_sorted path_cmp (held_of es))
 held_sorted [] up = tt
 held_sorted (([], node) ∷ es) up = held_sorted es (rest_sorted [] node es up)
-held_sorted ((n ∷ r, File bytes) ∷ es) up = both (below_all path_cmp (n ∷ r) (held_of es)) _ (below_held (n ∷ r) es (first (below_all path_cmp (n ∷ r) es) _ up)) (held_sorted es (rest_sorted (n ∷ r) (File bytes) es up))
+held_sorted ((n ∷ r, File bytes exec) ∷ es) up = both (below_all path_cmp (n ∷ r) (held_of es)) _ (below_held (n ∷ r) es (first (below_all path_cmp (n ∷ r) es) _ up)) (held_sorted es (rest_sorted (n ∷ r) (File bytes exec) es up))
 held_sorted ((n ∷ r, Dir names) ∷ es) up = both (below_all path_cmp (n ∷ r) (held_of es)) _ (below_held (n ∷ r) es (first (below_all path_cmp (n ∷ r) es) _ up)) (held_sorted es (rest_sorted (n ∷ r) (Dir names) es up))
 held_sorted ((n ∷ r, Link text) ∷ es) up = held_sorted es (rest_sorted (n ∷ r) (Link text) es up)
 
@@ -124,10 +124,10 @@ texts_of links = sum_by (λ (l : TableLink). length l.text) links
 -- what the root adds to each
 pub count_held : (es : List Mapped) → length (held_of es) + length (links_in es) ≤ length es
 count_held [] = omega arith
-count_held (([], File bytes) ∷ es) = let rest = count_held es in omega arith
+count_held (([], File bytes exec) ∷ es) = let rest = count_held es in omega arith
 count_held (([], Dir names) ∷ es) = let rest = count_held es in omega arith
 count_held (([], Link text) ∷ es) = let rest = count_held es in omega arith
-count_held ((n ∷ r, File bytes) ∷ es) = let rest = count_held es in omega arith
+count_held ((n ∷ r, File bytes exec) ∷ es) = let rest = count_held es in omega arith
 count_held ((n ∷ r, Dir names) ∷ es) = let rest = count_held es in omega arith
 count_held ((n ∷ r, Link text) ∷ es) = let rest = count_held es in omega arith
 
@@ -142,16 +142,16 @@ more_sizes e es = sum_by-cons (λ (x : Mapped). size_of x.1) e es
 
 pub sum_held : (es : List Mapped) → all_bytes (held_of es) + texts_of (links_in es) ≤ sizes_of es
 sum_held [] = omega arith
-sum_held (([], File bytes) ∷ es) = let rest = sum_held es in let all = more_sizes ([], File bytes) es in omega arith
+sum_held (([], File bytes exec) ∷ es) = let rest = sum_held es in let all = more_sizes ([], File bytes exec) es in omega arith
 sum_held (([], Dir names) ∷ es) = let rest = sum_held es in let all = more_sizes ([], Dir names) es in omega arith
 sum_held (([], Link text) ∷ es) =
     let rest = sum_held es in
     let all = more_sizes ([], Link text) es in
     let link = more_texts (record { path = []; text = text }) (links_in es) in
     omega arith
-sum_held ((n ∷ r, File bytes) ∷ es) =
+sum_held ((n ∷ r, File bytes false) ∷ es) =
     let rest = sum_held es in
-    let all = more_sizes (n ∷ r, File bytes) es in
+    let all = more_sizes (n ∷ r, File bytes false) es in
     let held = more_bytes (n ∷ r, file bytes) (held_of es) in
     omega arith
 sum_held ((n ∷ r, Dir names) ∷ es) =

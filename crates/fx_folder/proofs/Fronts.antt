@@ -421,7 +421,7 @@ last_of x (y ∷ ys) = let l = last_of y ys in (x ∷ l.0, l.1, ap (λ r. x ∷ 
 
 listing : (o : Option Node) (n : List ℕ) → lists o n ≡ true → (names : List (List ℕ)) × (o ≡ Some (Dir names))
 listing None n e = cc
-listing (Some (File bytes)) n e = cc
+listing (Some (File bytes exec)) n e = cc
 listing (Some (Dir names)) n e = (names, refl)
 listing (Some (Link text)) n e = cc
 

@@ -108,13 +108,13 @@ module _ (cs : List Change) (are : AreFound cs) where
 
   leaf_of : (o : Option Node) → IsFoundNode o → IfSome o IsLeaf
   leaf_of None is = tt
-  leaf_of (Some (File bytes)) is = is.short
+  leaf_of (Some (File bytes exec)) is = is.short
   leaf_of (Some (Dir names)) is = tt
   leaf_of (Some (Link text)) is = absurd is
 
   bytes_of : (o : Option Node) → IsFoundNode o → IfSome o IsOfBytes
   bytes_of None is = tt
-  bytes_of (Some (File bytes)) is = is.bytes
+  bytes_of (Some (File bytes exec)) is = is.bytes
   bytes_of (Some (Dir names)) is = tt
   bytes_of (Some (Link text)) is = tt
 

@@ -288,7 +288,7 @@ was_loaded hs table nodes e = by (first_refused 1 most_bytes hs) (table_links (l
 
 bytes_listed : (es : List Mapped) (q : Paths) (o : Option Node) → IfSome (option_map (relisted es q) o) IsOfBytes → IfSome o IsOfBytes
 bytes_listed es q None h = tt
-bytes_listed es q (Some (File bytes)) h = h
+bytes_listed es q (Some (File bytes exec)) h = h
 bytes_listed es q (Some (Dir names)) h = tt
 bytes_listed es q (Some (Link text)) h = tt
 

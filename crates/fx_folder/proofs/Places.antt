@@ -148,9 +148,9 @@ size_is left text p bytes is =
     ap (λ b. cond b (Some (TooLarge (place text))) None) (sym (sizes left most_in_file (length bytes)))
     ∙ ap (λ l. cond (nat_lt most_in_file (length bytes) || nat_lt left (length bytes)) (Some (TooLarge l)) None) is
 
-pub file_answer : (told : Option Tree) (path : List ℕ) (left : ℕ) (text : List ℕ) (p : Parts) (bytes : List ℕ) → 47 ∷ text ≡ place_of p → IfSome told (λ t. ReadsFile left text (bytes_at t path) (Ok bytes)) → IfSome told (λ t. AnswersFile left p (bytes_at t path) (Ok (record { path = p; node = Some (File bytes) })))
+pub file_answer : (told : Option Tree) (path : List ℕ) (left : ℕ) (text : List ℕ) (p : Parts) (bytes : List ℕ) → 47 ∷ text ≡ place_of p → IfSome told (λ t. ReadsFile left text (bytes_at t path) (Ok bytes)) → IfSome told (λ t. AnswersFile left p (bytes_at t path) (Ok (record { path = p; node = Some (File bytes false) })))
 file_answer None path left text p bytes is reads = tt
-file_answer (Some t) path left text p bytes is reads = (sym (size_is left text p (bytes_at t path) is) ∙ reads.0, ap (λ b. record { path = p; node = Some (File b) }) reads.1)
+file_answer (Some t) path left text p bytes is reads = (sym (size_is left text p (bytes_at t path) is) ∙ reads.0, ap (λ b. record { path = p; node = Some (File b false) }) reads.1)
 
 pub file_refusal : (told : Option Tree) (path : List ℕ) (left : ℕ) (text : List ℕ) (p : Parts) (fault : LoadFault) → 47 ∷ text ≡ place_of p → IfSome told (λ t. ReadsFile left text (bytes_at t path) (Err fault)) → IfSome told (λ t. AnswersFile left p (bytes_at t path) (Err fault))
 file_refusal None path left text p fault is reads = tt

@@ -121,7 +121,7 @@ reads nodes left S (l ∷ ls) table small few fits =
 
 link_or : Option Node → Option Node → Option Node
 link_or None o = o
-link_or (Some (File bytes)) o = o
+link_or (Some (File bytes exec)) o = o
 link_or (Some (Dir names)) o = o
 link_or (Some (Link text)) o = Some (Link text)
 
@@ -142,7 +142,7 @@ placed text false f o again = refl
 find_with : (es : List Mapped) → T (is_sorted path_cmp es) → (ms : List Mapped) (q : Paths) → found (with_links ms (links_in es)) q ≡ link_or (found es q) (found ms q)
 unfolding link_or
 find_with [] up ms q = refl
-find_with ((p, File bytes) ∷ es) up ms q = find_with es (rest_sorted p (File bytes) es up) ms q ∙ passed (File bytes) (eq_by_cmp path_cmp q p) (found es q) (found ms q) (λ o. refl) (none_again p (File bytes) es up q)
+find_with ((p, File bytes exec) ∷ es) up ms q = find_with es (rest_sorted p (File bytes exec) es up) ms q ∙ passed (File bytes exec) (eq_by_cmp path_cmp q p) (found es q) (found ms q) (λ o. refl) (none_again p (File bytes exec) es up q)
 find_with ((p, Dir names) ∷ es) up ms q = find_with es (rest_sorted p (Dir names) es up) ms q ∙ passed (Dir names) (eq_by_cmp path_cmp q p) (found es q) (found ms q) (λ o. refl) (none_again p (Dir names) es up q)
 find_with ((p, Link text) ∷ es) up ms q =
     find_with es (rest_sorted p (Link text) es up) (put path_cmp p (Link text) ms) q
@@ -156,14 +156,14 @@ with_sorted (link ∷ links) ms up = with_sorted links (put path_cmp link.path (
 -- ---- nodes whose names are not listed yet
 
 erased : Node → Node
-erased (File bytes) = File bytes
+erased (File bytes exec) = File bytes exec
 erased (Dir names) = Dir []
 erased (Link text) = Link text
 
 erased_dir : (o : Option Node) → is_dir (option_map erased o) ≡ is_dir o
 unfolding erased
 erased_dir None = refl
-erased_dir (Some (File bytes)) = refl
+erased_dir (Some (File bytes exec)) = refl
 erased_dir (Some (Dir names)) = refl
 erased_dir (Some (Link text)) = refl
 
@@ -178,14 +178,14 @@ erased_some (Some node) = refl
 entry_erased : (o : Option Node) → option_map node_of (host_entry o) ≡ option_map erased (but_no_link o)
 unfolding erased
 entry_erased None = refl
-entry_erased (Some (File bytes)) = refl
+entry_erased (Some (File bytes exec)) = refl
 entry_erased (Some (Dir names)) = refl
 entry_erased (Some (Link text)) = refl
 
 with_erased : (o : Option Node) → link_or o (option_map erased (but_no_link o)) ≡ option_map erased o
 unfolding erased link_or
 with_erased None = refl
-with_erased (Some (File bytes)) = refl
+with_erased (Some (File bytes exec)) = refl
 with_erased (Some (Dir names)) = refl
 with_erased (Some (Link text)) = refl
 
@@ -258,7 +258,7 @@ module _ (tree : Tree) (P : Paths) (nodes : Nodes) (whole : IsWhole (get nodes))
   relist : (q : Paths) (o : Option Node) → get nodes q ≡ o → option_map (relisted ws q) (option_map erased o) ≡ o
   unfolding erased
   relist q None is = refl
-  relist q (Some (File bytes)) is = refl
+  relist q (Some (File bytes exec)) is = refl
   relist q (Some (Link text)) is = refl
   relist q (Some (Dir names)) is =
       let node : IsNode q (Dir names) = subst (λ o. IfSome o (IsNode q)) is (whole.nodes q) in
@@ -272,9 +272,9 @@ module _ (tree : Tree) (P : Paths) (nodes : Nodes) (whole : IsWhole (get nodes))
   -- ---- nothing is refused
 
   accepted : (p : Paths) (node : Node) (e : Entry) → get nodes p ≡ Some node → host_entry (Some node) ≡ Some e → 0 < length p → IsAccepted p e
-  accepted p (File bytes) e is shows some =
+  accepted p (File bytes false) e is shows some =
       let path = whole.paths p (ap is_some is) in
-      let node : IsNode p (File bytes) = subst (λ o. IfSome o (IsNode p)) is (whole.nodes p) in
+      let node : IsNode p (File bytes false) = subst (λ o. IfSome o (IsNode p)) is (whole.nodes p) in
       let same : file bytes ≡ e = cc in
       subst (IsAccepted p) same (record { named = path.names (length p - 1) [] (omega arith); short = path.short; known = λ k. cc; small = node.short })
   accepted p (Dir names) e is shows some =
@@ -286,7 +286,7 @@ module _ (tree : Tree) (P : Paths) (nodes : Nodes) (whole : IsWhole (get nodes))
   all_accepted : (es : List Mapped) → AreFound es (entries nodes) → AreAccepted (held_of es)
   all_accepted [] there = tt
   all_accepted (([], node) ∷ es) there = all_accepted es there.1
-  all_accepted ((n ∷ r, File bytes) ∷ es) there = (accepted (n ∷ r) (File bytes) (file bytes) (get-entries nodes (n ∷ r) ∙ there.0) refl (omega arith), all_accepted es there.1)
+  all_accepted ((n ∷ r, File bytes exec) ∷ es) there = (accepted (n ∷ r) (File bytes exec) (file bytes) (get-entries nodes (n ∷ r) ∙ there.0) refl (omega arith), all_accepted es there.1)
   all_accepted ((n ∷ r, Dir names) ∷ es) there = (accepted (n ∷ r) (Dir names) folder (get-entries nodes (n ∷ r) ∙ there.0) refl (omega arith), all_accepted es there.1)
   all_accepted ((n ∷ r, Link text) ∷ es) there = all_accepted es there.1
 

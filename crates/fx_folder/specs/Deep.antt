@@ -79,9 +79,9 @@ first_refused nodes left (h ∷ hs) = option_or (refused_entry nodes left h) (fi
 
 -- a file, or a directory whose names are still to be listed
 abbrev pub node_of_kind : HostKind → List ℕ → Node
-node_of_kind kind.File bytes = File bytes
+node_of_kind kind.File bytes = File bytes false
 node_of_kind kind.Folder bytes = Dir []
-node_of_kind kind.Other bytes = File bytes
+node_of_kind kind.Other bytes = File bytes false
 
 -- the root, and files and directories with no names listed yet
 abbrev pub unlisted : List Held → List Mapped

@@ -23,9 +23,9 @@ line text = text ++ 10 ∷ []
 pub record DeepExamples : Type 0 where
   pub nothing : loaded [] ≡ Ok (([], Dir []) ∷ [])
   pub files : loaded (with_between [])
-      ≡ Ok (([], Dir (codes "a" ∷ codes "d" ∷ [])) ∷ (codes "a" ∷ [], File (codes "1")) ∷ (codes "d" ∷ [], Dir (codes "f" ∷ [])) ∷ (codes "d" ∷ codes "f" ∷ [], File (codes "hi")) ∷ [])
+      ≡ Ok (([], Dir (codes "a" ∷ codes "d" ∷ [])) ∷ (codes "a" ∷ [], File (codes "1") false) ∷ (codes "d" ∷ [], Dir (codes "f" ∷ [])) ∷ (codes "d" ∷ codes "f" ∷ [], File (codes "hi") false) ∷ [])
   pub links : loaded (table (line (codes "/b -> a") ++ line (codes "/d/up -> /")) ∷ with_between [])
-      ≡ Ok (([], Dir (codes "a" ∷ codes "b" ∷ codes "d" ∷ [])) ∷ (codes "a" ∷ [], File (codes "1")) ∷ (codes "b" ∷ [], Link (codes "a")) ∷ (codes "d" ∷ [], Dir (codes "f" ∷ codes "up" ∷ [])) ∷ (codes "d" ∷ codes "f" ∷ [], File (codes "hi")) ∷ (codes "d" ∷ codes "up" ∷ [], Link (codes "/")) ∷ [])
+      ≡ Ok (([], Dir (codes "a" ∷ codes "b" ∷ codes "d" ∷ [])) ∷ (codes "a" ∷ [], File (codes "1") false) ∷ (codes "b" ∷ [], Link (codes "a")) ∷ (codes "d" ∷ [], Dir (codes "f" ∷ codes "up" ∷ [])) ∷ (codes "d" ∷ codes "f" ∷ [], File (codes "hi") false) ∷ (codes "d" ∷ codes "up" ∷ [], Link (codes "/")) ∷ [])
   pub bad_line : loaded (table (line (codes "/b -> a") ++ line (codes "/a -> d")) ∷ with_between []) ≡ Err (BadTable 2)
   pub table_folder : loaded ((table_name ∷ [], folder) ∷ (table_name ∷ codes "x" ∷ [], file []) ∷ with_between []) ≡ Err (Strange (codes "/.forest-links"))
   pub deep_table : loaded (with_between ((codes "b" ∷ [], folder) ∷ (codes "b" ∷ table_name ∷ [], file []) ∷ [])) ≡ Err (BadName (codes "/b/.forest-links"))

@@ -20,7 +20,7 @@ use Rattle.fx_folder.specs.Walks.{item_path, items_of}
 -- a file within its limit, or a directory that lists no names yet
 abbrev pub IsFoundNode : Option Node → Type 0
 IsFoundNode None = ⊥
-IsFoundNode (Some (File bytes)) = IsContent bytes
+IsFoundNode (Some (File bytes exec)) = IsContent bytes
 IsFoundNode (Some (Dir names)) = names ≡ []
 IsFoundNode (Some (Link text)) = ⊥
 

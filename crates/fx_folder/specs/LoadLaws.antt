@@ -20,7 +20,7 @@ LoadsAreWhole = (tree : Tree) → host.IsWhole tree → (folder : Parts) (nodes 
 
 -- the bytes of a node that are counted: those of a file and those of a link's text
 abbrev pub size_of : Node → ℕ
-size_of (File bytes) = length bytes
+size_of (File bytes exec) = length bytes
 size_of (Dir names) = 0
 size_of (Link text) = length text
 

@@ -7,6 +7,6 @@ use Rattle.fx_outside.specs.Tree.{Entry, file, folder}
 -- a file and a directory are entries of the host; links stand in a table
 abbrev pub host_entry : Option Node → Option Entry
 host_entry None = None
-host_entry (Some (File bytes)) = Some (file bytes)
+host_entry (Some (File bytes exec)) = Some (file bytes)
 host_entry (Some (Dir names)) = Some folder
 host_entry (Some (Link text)) = None

@@ -86,7 +86,7 @@ pub record IsOnWay (tree : Tree) (at : Parts) (found : List Change) (left : ℕ)
 -- how many bytes a change puts into a file
 abbrev pub node_size : Option Node → ℕ
 node_size None = 0
-node_size (Some (File bytes)) = length bytes
+node_size (Some (File bytes exec)) = length bytes
 node_size (Some (Dir names)) = 0
 node_size (Some (Link text)) = 0
 
@@ -142,7 +142,7 @@ PassesPath nodes names (Err NoMemory) = ⊤
 
 -- the file with the bytes, or the refusal that is due
 abbrev pub AnswersFile : ℕ → Parts → List ℕ → Result Change LoadFault → Type 0
-AnswersFile left names bytes (Ok change) = (refused_bytes left names bytes ≡ None) × (change ≡ record { path = names; node = Some (File bytes) })
+AnswersFile left names bytes (Ok change) = (refused_bytes left names bytes ≡ None) × (change ≡ record { path = names; node = Some (File bytes false) })
 AnswersFile left names bytes (Err (Refused cause)) = refused_bytes left names bytes ≡ Some cause
 AnswersFile left names bytes (Err ReadFault) = ⊤
 AnswersFile left names bytes (Err NoMemory) = ⊤

@@ -148,7 +148,7 @@ fn write_node<H: Host>(
 {
     match node {
         Node::Dir(_) => write_folder(alloc, host, place),
-        Node::File(bytes) => write_file(alloc, host, place, bytes.as_slice()),
+        Node::File { bytes, .. } => write_file(alloc, host, place, bytes.as_slice()),
         Node::Link(_) => Ok(()),
     }
 }

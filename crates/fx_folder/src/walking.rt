@@ -195,7 +195,7 @@ fn enter_file<H: Host>(
     prove!(bytes.as_slice().len() <= 1_048_576);
     Ok(Change {
         path,
-        node: Some(Node::File(bytes)),
+        node: Some(Node::File { bytes, exec: false }),
     })
 }
 
@@ -335,7 +335,7 @@ fn size_of(change: &Change) -> u64
     ensures { result ≡ size_of change.now }
 {
     match &change.node {
-        Some(Node::File(bytes)) => bytes.len(),
+        Some(Node::File { bytes, .. }) => bytes.len(),
         Some(Node::Dir(_)) => 0,
         Some(Node::Link(_)) => 0,
         None => 0,

@@ -149,7 +149,7 @@ abbrev dir_entry : ℕ → Placed
 dir_entry p = (project p ∷ [], Dir (codes "count" ∷ codes "log" ∷ codes "notes" ∷ []))
 
 abbrev count_entry : ℕ → Placed
-count_entry p = (project p ∷ codes "count" ∷ [], File (codes "0"))
+count_entry p = (project p ∷ codes "count" ∷ [], File (codes "0") false)
 
 abbrev log_entry : ℕ → Placed
 log_entry p = (project p ∷ codes "log" ∷ [], Dir [])
@@ -173,7 +173,7 @@ abbrev root_entry : Placed
 root_entry = ([], Dir (codes "config" ∷ codes "current" ∷ projects))
 
 abbrev config_entry : Placed
-config_entry = (codes "config" ∷ [], File config)
+config_entry = (codes "config" ∷ [], File config false)
 
 abbrev current_entry : ℕ → Placed
 current_entry number = (codes "current" ∷ [], Link (linked number))
@@ -237,16 +237,16 @@ changes_more number n =
     ∙ ap (map made) (sym (append_assoc (placed_top number) (flat_map (placed_project number) (range_with_len 0 n)) (placed_project number n)))
     ∙ map-append made (placed_top number ++ flat_map (placed_project number) (range_with_len 0 n)) (placed_project number n)
 
-pub changes_none : (number : ℕ) → changes_to number 0 ≡ made ([], Dir (codes "config" ∷ codes "current" ∷ projects)) ∷ made (codes "config" ∷ [], File config) ∷ made (codes "current" ∷ [], Link (linked number)) ∷ []
+pub changes_none : (number : ℕ) → changes_to number 0 ≡ made ([], Dir (codes "config" ∷ codes "current" ∷ projects)) ∷ made (codes "config" ∷ [], File config false) ∷ made (codes "current" ∷ [], Link (linked number)) ∷ []
 unfolding changes_to
 changes_none number = refl
 
 -- the notes of a project behind its other parts
-pub project_made : (cs : List Change) (number p : ℕ) (dir notes : List (List ℕ)) → dir ≡ project p ∷ [] → notes ≡ project p ∷ codes "notes" ∷ [] → (cs ++ made (dir, Dir (codes "count" ∷ codes "log" ∷ codes "notes" ∷ [])) ∷ made (dir ++ codes "count" ∷ [], File (codes "0")) ∷ made (dir ++ codes "log" ∷ [], Dir []) ∷ []) ++ made (notes, Dir note_names) ∷ note_changes_to number p 8 ≡ cs ++ project_changes number p
+pub project_made : (cs : List Change) (number p : ℕ) (dir notes : List (List ℕ)) → dir ≡ project p ∷ [] → notes ≡ project p ∷ codes "notes" ∷ [] → (cs ++ made (dir, Dir (codes "count" ∷ codes "log" ∷ codes "notes" ∷ [])) ∷ made (dir ++ codes "count" ∷ [], File (codes "0") false) ∷ made (dir ++ codes "log" ∷ [], Dir []) ∷ []) ++ made (notes, Dir note_names) ∷ note_changes_to number p 8 ≡ cs ++ project_changes number p
 unfolding project_changes note_changes_to
 project_made cs number p dir notes d n =
-    ap (λ x. (cs ++ made (x, Dir (codes "count" ∷ codes "log" ∷ codes "notes" ∷ [])) ∷ made (x ++ codes "count" ∷ [], File (codes "0")) ∷ made (x ++ codes "log" ∷ [], Dir []) ∷ []) ++ made (notes, Dir note_names) ∷ note_changes_to number p 8) d
-    ∙ ap (λ x. (cs ++ made (project p ∷ [], Dir (codes "count" ∷ codes "log" ∷ codes "notes" ∷ [])) ∷ made (project p ∷ codes "count" ∷ [], File (codes "0")) ∷ made (project p ∷ codes "log" ∷ [], Dir []) ∷ []) ++ made (x, Dir note_names) ∷ note_changes_to number p 8) n
+    ap (λ x. (cs ++ made (x, Dir (codes "count" ∷ codes "log" ∷ codes "notes" ∷ [])) ∷ made (x ++ codes "count" ∷ [], File (codes "0") false) ∷ made (x ++ codes "log" ∷ [], Dir []) ∷ []) ++ made (notes, Dir note_names) ∷ note_changes_to number p 8) d
+    ∙ ap (λ x. (cs ++ made (project p ∷ [], Dir (codes "count" ∷ codes "log" ∷ codes "notes" ∷ [])) ∷ made (project p ∷ codes "count" ∷ [], File (codes "0") false) ∷ made (project p ∷ codes "log" ∷ [], Dir []) ∷ []) ++ made (x, Dir note_names) ∷ note_changes_to number p 8) n
     ∙ append_assoc cs (made (dir_entry p) ∷ made (count_entry p) ∷ made (log_entry p) ∷ []) (made (notes_entry p) ∷ note_changes_to number p 8)
 
 pub notes_none : (number p : ℕ) → note_changes_to number p 0 ≡ []
@@ -260,12 +260,12 @@ notes_more cs c number p n =
     ∙ ap (λ l. cs ++ c ∷ l) (sym (ap (map made) (map_more (placed_note number p) n) ∙ map-append made (map (placed_note number p) (range_with_len 0 n)) (placed_note number p n ∷ [])))
 
 -- the root and its two entries
-pub top_made : (cs : List Change) (number : ℕ) (current : List (List ℕ)) (names : List (List ℕ)) (bytes text : List ℕ) → current ≡ codes "current" ∷ [] → names ≡ codes "config" ∷ codes "current" ∷ projects → bytes ≡ config → text ≡ linked number → ((cs ++ made ([], Dir names) ∷ []) ++ made (codes "config" ∷ [], File bytes) ∷ []) ++ made (current, Link text) ∷ [] ≡ cs ++ changes_to number 0
+pub top_made : (cs : List Change) (number : ℕ) (current : List (List ℕ)) (names : List (List ℕ)) (bytes text : List ℕ) → current ≡ codes "current" ∷ [] → names ≡ codes "config" ∷ codes "current" ∷ projects → bytes ≡ config → text ≡ linked number → ((cs ++ made ([], Dir names) ∷ []) ++ made (codes "config" ∷ [], File bytes false) ∷ []) ++ made (current, Link text) ∷ [] ≡ cs ++ changes_to number 0
 unfolding changes_to
 top_made cs number current names bytes text at named listed leads =
-    append_assoc (cs ++ made ([], Dir names) ∷ []) (made (codes "config" ∷ [], File bytes) ∷ []) (made (current, Link text) ∷ [])
-    ∙ append_assoc cs (made ([], Dir names) ∷ []) (made (codes "config" ∷ [], File bytes) ∷ made (current, Link text) ∷ [])
-    ∙ (λ i. cs ++ made ([], Dir (named i)) ∷ made (codes "config" ∷ [], File (listed i)) ∷ made (at i, Link (leads i)) ∷ [])
+    append_assoc (cs ++ made ([], Dir names) ∷ []) (made (codes "config" ∷ [], File bytes false) ∷ []) (made (current, Link text) ∷ [])
+    ∙ append_assoc cs (made ([], Dir names) ∷ []) (made (codes "config" ∷ [], File bytes false) ∷ made (current, Link text) ∷ [])
+    ∙ (λ i. cs ++ made ([], Dir (named i)) ∷ made (codes "config" ∷ [], File (listed i) false) ∷ made (at i, Link (leads i)) ∷ [])
 
 -- the text of the link is read
 not_true : (b : Bool) → not b ≡ true → b ≡ false

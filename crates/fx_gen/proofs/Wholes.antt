@@ -97,7 +97,7 @@ abbrev pub are_there : List Placed → Path → List (List ℕ) → Bool
 are_there es p names = list_all (λ n. is_some (store_of es (p ++ n ∷ []))) names
 
 abbrev pub lists_all : List Placed → Placed → Bool
-lists_all es (p, File bytes) = true
+lists_all es (p, File bytes exec) = true
 lists_all es (p, Dir names) = are_there es p names
 lists_all es (p, Link text) = true
 
@@ -128,7 +128,7 @@ module _ (es : List Placed) (t : IsTested es) where
     where
       by : (o : Option Node) → store_of es p ≡ o → lists o name ≡ true → is_some (store_of es (p ++ name ∷ [])) ≡ true
       by None is h = absurd (false≢true h)
-      by (Some (File bytes)) is h = absurd (false≢true h)
+      by (Some (File bytes exec)) is h = absurd (false≢true h)
       by (Some (Dir names)) is h = named (λ n. is_some (store_of es (p ++ n ∷ []))) names name (tested (lists_all es) es t.lists p (Dir names) is) h
       by (Some (Link text)) is h = absurd (false≢true h)
 

@@ -42,16 +42,16 @@ abbrev pub Placed : Type 0
 Placed = List (List ℕ) × Node
 
 abbrev pub placed_note : ℕ → ℕ → ℕ → Placed
-placed_note number p n = (project p ∷ codes "notes" ∷ note_name n ∷ [], File (note number p n))
+placed_note number p n = (project p ∷ codes "notes" ∷ note_name n ∷ [], File (note number p n) false)
 
 abbrev pub placed_project : ℕ → ℕ → List Placed
 placed_project number p =
-    (project p ∷ [], Dir (codes "count" ∷ codes "log" ∷ codes "notes" ∷ [])) ∷ (project p ∷ codes "count" ∷ [], File (codes "0")) ∷ (project p ∷ codes "log" ∷ [], Dir []) ∷ (project p ∷ codes "notes" ∷ [], Dir note_names) ∷
+    (project p ∷ [], Dir (codes "count" ∷ codes "log" ∷ codes "notes" ∷ [])) ∷ (project p ∷ codes "count" ∷ [], File (codes "0") false) ∷ (project p ∷ codes "log" ∷ [], Dir []) ∷ (project p ∷ codes "notes" ∷ [], Dir note_names) ∷
     map (placed_note number p) (range_with_len 0 8)
 
 abbrev pub placed_top : ℕ → List Placed
 placed_top number =
-    ([], Dir (codes "config" ∷ codes "current" ∷ projects)) ∷ (codes "config" ∷ [], File config) ∷ (codes "current" ∷ [], Link (linked number)) ∷ []
+    ([], Dir (codes "config" ∷ codes "current" ∷ projects)) ∷ (codes "config" ∷ [], File config false) ∷ (codes "current" ∷ [], Link (linked number)) ∷ []
 
 -- what stands in the root, and in the first projects, in order of path
 abbrev pub placed_to : ℕ → ℕ → List Placed

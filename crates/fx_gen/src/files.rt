@@ -100,7 +100,7 @@ fn add_file(
         ++ made (dir.now ++ entry.now ∷ [], Node.File bytes.items) ∷ []) }
 {
     let path = below(alloc, dir, entry)?;
-    add(changes, path, Node::File(Bytes::from_vec(bytes)))
+    add(changes, path, Node::File { bytes: Bytes::from_vec(bytes), exec: false })
 }
 
 /// Adds a name at the end of a list.

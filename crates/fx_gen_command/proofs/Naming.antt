@@ -71,7 +71,7 @@ no_earlier i k (text ∷ texts) before small =
 pub script_fresh : (c : Case) (i : ℕ) → i < 10 → i ≤ length c.scripts → find path_cmp (script_name i ∷ []) (text_nodes (scripts_to i c)) ≡ None
 script_fresh c i small there =
     let other = apart (script_name i ∷ []) (codes "spec" ∷ []) (not_spec i small) in
-    ap (λ b. cond b (Some (File c.description)) (find path_cmp (script_name i ∷ []) (map file_of (scripts_from 0 (take i c.scripts))))) other
+    ap (λ b. cond b (Some (File c false.description)) (find path_cmp (script_name i ∷ []) (map file_of (scripts_from 0 (take i c.scripts))))) other
     ∙ no_earlier i 0 (take i c.scripts) (omega (arith, length-take-le i c.scripts there)) (omega (arith, small))
 
 -- a generated case has eight scripts
@@ -92,7 +92,7 @@ take_more texts i text is =
     let next : i + 1 ≡ suc i = omega arith in
     ap (λ n. take n texts) next ∙ take-suc texts i [] (slice_get_within texts i text is) ∙ ap (λ x. take i texts ++ x ∷ []) (get_or_from_slice_get texts i text [] is)
 
-pub one_more : (c : Case) (i : ℕ) (text : List ℕ) → slice_get c.scripts i ≡ Some text → text_nodes (scripts_to (i + 1) c) ≡ text_nodes (scripts_to i c) ++ (script_name i ∷ [], File text) ∷ []
+pub one_more : (c : Case) (i : ℕ) (text : List ℕ) → slice_get c.scripts i ≡ Some text → text_nodes (scripts_to (i + 1) c) ≡ text_nodes (scripts_to i c) ++ (script_name i ∷ [], File text false) ∷ []
 one_more c i text is =
     let within = slice_get_within c.scripts i text is in
     let front = take i c.scripts in

@@ -85,7 +85,7 @@ spec_written old now path c open_ later fit wrote = record {
       told_then old.told old.told now.told (λ t t'. IsOpen t path × (t' ≡ t)) (λ t t'. t' ≡ with_entry t (parts path ++ codes "spec" ∷ []) (Some (file c.description))) (λ t t'. HasEntries t t' (parts path) (text_nodes (scripts_to 0 c)))
       (told_open old.told (λ t. IsOpen t path) (λ t t'. IsOpen t path × (t' ≡ t)) open_ (λ t is. (is, refl))) wrote
       (λ t u v at is added.
-      adds t u v (parts path) (([], Dir []) ∷ []) (codes "spec" ∷ []) (File c.description) (subst (λ x. HasEntries t x (parts path) (([], Dir []) ∷ [])) (sym is.1) (begins t path [] is.0)) refl added);
+      adds t u v (parts path) (([], Dir []) ∷ []) (codes "spec" ∷ []) (File c false.description) (subst (λ x. HasEntries t x (parts path) (([], Dir []) ∷ [])) (sym is.1) (begins t path [] is.0)) refl added);
 }
 
 pub script_free : (old now : HostView) (path : List ℕ) (c : Case) (i : ℕ) → IfSome old.told (λ t. IsOpen t path) → IsWriting old now path c i → i < 10 → i ≤ length c.scripts → IfSome now.told (λ t. is_free_at t (path_below path (script_name i)) ≡ true)
@@ -101,7 +101,7 @@ script_written old now then path c i text was small is there later fit wrote = r
       told_then old.told now.told then.told (λ t t'. HasEntries t t' (parts path) (text_nodes (scripts_to i c))) (λ t t'. t' ≡ with_entry t (parts path ++ script_name i ∷ []) (Some (file text))) (λ t t'. HasEntries t t' (parts path) (text_nodes (scripts_to (i + 1) c))) was.stands wrote
       (λ t u v at has added.
       subst (λ es. HasEntries t v (parts path) es) (sym (one_more c i text is))
-      (adds t u v (parts path) (text_nodes (scripts_to i c)) (script_name i ∷ []) (File text) has (script_fresh c i small there) added));
+      (adds t u v (parts path) (text_nodes (scripts_to i c)) (script_name i ∷ []) (File text false) has (script_fresh c i small there) added));
 }
 
 pub texts_written : (old now : HostView) (path : List ℕ) (c : Case) (i : ℕ) → i ≡ length c.scripts → IsWriting old now path c i → IfTold old.told now.told (λ t t'. HasEntries t t' (parts path) (text_nodes c))
@@ -117,11 +117,11 @@ spec_stops old now path c open_ wrote =
     (told_open old.told (λ t. IsOpen t path) (λ t t'. IsOpen t path × (t' ≡ t)) open_ (λ t is. (is, refl))) wrote
     (λ t u v at is part. record {
       done = ([], Dir []) ∷ [];
-      left = (codes "spec" ∷ [], File c.description) ∷ _;
+      left = (codes "spec" ∷ [], File c false.description) ∷ _;
       split = refl;
       before = u;
       written = subst (λ x. HasEntries t x (parts path) (([], Dir []) ∷ [])) (sym is.1) (begins t path [] is.0);
-      begun = inr (record { path = codes "spec" ∷ []; node = File c.description; rest = _; next = refl; fresh = refl; part = part });
+      begun = inr (record { path = codes "spec" ∷ []; node = File c false.description; rest = _; next = refl; fresh = refl; part = part });
     })
 
 pub stops_before : (old now : HostView) (path : List ℕ) (c : Case) (i : ℕ) → IsWriting old now path c i → IfTold old.told now.told (λ t t'. WroteTexts t t' (parts path) c)
@@ -141,11 +141,11 @@ stops_in old now then path c i text was small is there wrote =
     told_then old.told now.told then.told (λ t t'. HasEntries t t' (parts path) (text_nodes (scripts_to i c))) (λ t t'. WrotePart t t' (parts path ++ script_name i ∷ []) (Some (file text))) (λ t t'. WroteTexts t t' (parts path) c) was.stands wrote
     (λ t u v at has part. record {
       done = text_nodes (scripts_to i c);
-      left = (script_name i ∷ [], File text) ∷ (texts_split c (i + 1)).0;
-      split = (texts_split c (i + 1)).1 ∙ ap (λ es. es ++ (texts_split c (i + 1)).0) (one_more c i text is) ∙ append_assoc (text_nodes (scripts_to i c)) ((script_name i ∷ [], File text) ∷ []) (texts_split c (i + 1)).0;
+      left = (script_name i ∷ [], File text false) ∷ (texts_split c (i + 1)).0;
+      split = (texts_split c (i + 1)).1 ∙ ap (λ es. es ++ (texts_split c (i + 1)).0) (one_more c i text is) ∙ append_assoc (text_nodes (scripts_to i c)) ((script_name i ∷ [], File text false) ∷ []) (texts_split c (i + 1)).0;
       before = u;
       written = has;
-      begun = inr (record { path = script_name i ∷ []; node = File text; rest = (texts_split c (i + 1)).0; next = refl; fresh = script_fresh c i small there; part = part });
+      begun = inr (record { path = script_name i ∷ []; node = File text false; rest = (texts_split c (i + 1)).0; next = refl; fresh = script_fresh c i small there; part = part });
     })
 
 -- what is there after such a stop is a part of the case's folder

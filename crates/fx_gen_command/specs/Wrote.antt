@@ -14,7 +14,7 @@ abbrev pub Mapped : Type 0
 Mapped = List (List ℕ) × Node
 
 abbrev pub file_of : Named → Mapped
-file_of named = (named.0 ∷ [], File named.1)
+file_of named = (named.0 ∷ [], File named.1 false)
 
 -- the folder itself and the texts, each at its path below the folder
 abbrev pub text_nodes : Case → List Mapped

@@ -44,8 +44,8 @@ content_passes : (bytes : List ℕ) → length bytes ≤ 1048576 → All (λ b. 
 content_passes bytes short all =
     both (nat_le (length bytes) 1048576) (list_all (λ b. nat_lt b 256) bytes) (le-leb (length bytes) 1048576 short) (each_passes (λ b. b < 256) (λ b. nat_lt b 256) (λ b l. lt-ltb b 256 l) bytes all)
 
-file_stored : (bytes : List ℕ) → IsContent bytes → stored_node SpecTree.file (Tree.str bytes) ≡ Ok (File bytes)
-file_stored bytes ok = ap (λ b. cond b (Ok (File bytes)) (Err Refusal.WrongForm)) (content_passes bytes ok.short ok.bytes)
+file_stored : (bytes : List ℕ) → IsContent bytes → stored_node SpecTree.file (Tree.str bytes) ≡ Ok (File bytes false)
+file_stored bytes ok = ap (λ b. cond b (Ok (File bytes false)) (Err Refusal.WrongForm)) (content_passes bytes ok.short ok.bytes)
 
 dir_stored : (names : List (List ℕ)) → IsNameSet names → stored_node SpecTree.dir (Tree.names names) ≡ Ok (Dir names)
 dir_stored names ok =
@@ -81,8 +81,8 @@ node_ok S whole q node e = subst (λ n. IfSome n (IsNode q)) e (whole.nodes q)
 by_form : (S : Store) → IsWhole S → (at : PlaceTree) (v : Tree) (spec : SpecTree) → at.spec ≡ spec → has_content spec ≡ true → answer S (fetched at.path at.env spec) ≡ Ok v → (q : List (List ℕ)) × (node : Node) × (S q ≡ Some node) × (answer S (store_at v at) ≡ Ok (set_to q node ∷ []))
 by_form S whole at v SpecTree.file is form e =
     let c : (q : List (List ℕ)) × (lands S at.path true ≡ At q) × (file_value (S q) ≡ Some v) = content_there S file_value true at.path v e in
-    let t : (bytes : List ℕ) × (v ≡ Tree.str bytes) × (S c.0 ≡ Some (File bytes)) = file_there (S c.0) v c.2 in
-    accepted S whole at v (File t.0) c.0 (record { stores = (λ i. stored_node (is i) (t.1 i)) ∙ file_stored t.0 (node_ok S whole c.0 (File t.0) t.2); lands = c.1; stands = t.2 })
+    let t : (bytes : List ℕ) × (v ≡ Tree.str bytes) × (S c.0 ≡ Some (File bytes false)) = file_there (S c.0) v c.2 in
+    accepted S whole at v (File t.0 exec) c.0 (record { stores = (λ i. stored_node (is i) (t.1 i)) ∙ file_stored t.0 (node_ok S whole c.0 (File t.0 exec) t.2); lands = c.1; stands = t.2 })
 by_form S whole at v SpecTree.dir is form e =
     let c : (q : List (List ℕ)) × (lands S at.path true ≡ At q) × (dir_value (S q) ≡ Some v) = content_there S dir_value true at.path v e in
     let t : (names : List (List ℕ)) × (v ≡ Tree.names names) × (S c.0 ≡ Some (Dir names)) = dir_there (S c.0) v c.2 in

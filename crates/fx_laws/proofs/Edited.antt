@@ -45,20 +45,20 @@ module _ (S : Store) (q old new : Path) (fresh : List ℕ → Node) where
       at None e = refl
       at (Some t) e = absurd (not_within (t, rest_is q r t e))
 
-module _ (S T : Store) (q old new : Path) (names : IsNameSet new) (is : (r : Path) → T r ≡ relisted S q old new (λ n. File []) r) where
+module _ (S T : Store) (q old new : Path) (names : IsNameSet new) (is : (r : Path) → T r ≡ relisted S q old new (λ n. File [] false) r) where
   is_relisted : IsRelisted S T q old new
   is_relisted = record {
     ascending = names;
-    lists = is q ∙ at_dir S q old new (λ n. File []);
-    added = λ n h g. is (q /ₚ n) ∙ below_dir S q old new (λ n. File []) (n ∷ []) ∙ rw (h, g);
-    dropped = λ n rest h. is (q ++ n ∷ rest) ∙ below_dir S q old new (λ n. File []) (n ∷ rest) ∙ rw h;
-    stays = λ n rest h g. is (q ++ n ∷ rest) ∙ below_dir S q old new (λ n. File []) (n ∷ rest) ∙ rw (h, g);
-    others = λ r not_within. is r ∙ away S q old new (λ n. File []) r not_within;
+    lists = is q ∙ at_dir S q old new (λ n. File [] false);
+    added = λ n h g. is (q /ₚ n) ∙ below_dir S q old new (λ n. File [] false) (n ∷ []) ∙ rw (h, g);
+    dropped = λ n rest h. is (q ++ n ∷ rest) ∙ below_dir S q old new (λ n. File [] false) (n ∷ rest) ∙ rw h;
+    stays = λ n rest h g. is (q ++ n ∷ rest) ∙ below_dir S q old new (λ n. File [] false) (n ∷ rest) ∙ rw (h, g);
+    others = λ r not_within. is r ∙ away S q old new (λ n. File [] false) r not_within;
   }
 
 -- ---- a removal
 
-module _ (S T : Store) (q old : Path) (whole : IsWhole S) (some : 0 < length q) (dir : S (parent q) ≡ Some (Dir old)) (is : (r : Path) → T r ≡ relisted S (parent q) old (without_name (last_name q) old) (λ n. File []) r) where
+module _ (S T : Store) (q old : Path) (whole : IsWhole S) (some : 0 < length q) (dir : S (parent q) ≡ Some (Dir old)) (is : (r : Path) → T r ≡ relisted S (parent q) old (without_name (last_name q) old) (λ n. File [] false) r) where
   abbrev up : Path
   up = parent q
 
@@ -72,18 +72,18 @@ module _ (S T : Store) (q old : Path) (whole : IsWhole S) (some : 0 < length q) 
   split rest = ap (λ p. p ++ rest) (ends_in q some) ∙ append_assoc up (n ∷ []) rest
 
   gone_below : (rest : Path) → T (up ++ n ∷ rest) ≡ None
-  gone_below rest = is (up ++ n ∷ rest) ∙ below_dir S up old new (λ n. File []) (n ∷ rest) ∙ rw (without_own n old)
+  gone_below rest = is (up ++ n ∷ rest) ∙ below_dir S up old new (λ n. File [] false) (n ∷ rest) ∙ rw (without_own n old)
 
   others_stay : (r : Path) → r ≢ up → (IsWithin q r → ⊥) → T r ≡ S r
   others_stay r not_up not_within = is r ∙ at (rest_of up r) refl
     where
-      stays : (m : List ℕ) (rest : Path) → r ≡ up ++ m ∷ rest → (b : Bool) → eq_by_cmp name_cmp m n ≡ b → relist_at S old new (λ n. File []) r (Some (m ∷ rest)) ≡ S r
+      stays : (m : List ℕ) (rest : Path) → r ≡ up ++ m ∷ rest → (b : Bool) → eq_by_cmp name_cmp m n ≡ b → relist_at S old new (λ n. File [] false) r (Some (m ∷ rest)) ≡ S r
       stays m rest there true e = absurd (not_within (rest, there ∙ ap (λ k. up ++ k ∷ rest) (eq_names m n e) ∙ sym (split rest)))
       stays m rest there false e =
-          subst (λ p. relist_at S old new (λ n. File []) p (Some (m ∷ rest)) ≡ S p) (sym there)
-          (sym (kept_target S up old new (λ n. File []) (can_remove S up n old whole dir) m rest (without_other n m old e)))
+          subst (λ p. relist_at S old new (λ n. File [] false) p (Some (m ∷ rest)) ≡ S p) (sym there)
+          (sym (kept_target S up old new (λ n. File [] false) (can_remove S up n old whole dir) m rest (without_other n m old e)))
 
-      at : (o : Option Path) → rest_of up r ≡ o → relist_at S old new (λ n. File []) r o ≡ S r
+      at : (o : Option Path) → rest_of up r ≡ o → relist_at S old new (λ n. File [] false) r o ≡ S r
       at None e = refl
       at (Some []) e = absurd (not_up (rest_is up r [] e ∙ append-nil up))
       at (Some (m ∷ rest)) e = stays m rest (rest_is up r (m ∷ rest) e) (eq_by_cmp name_cmp m n) refl
@@ -91,7 +91,7 @@ module _ (S T : Store) (q old : Path) (whole : IsWhole S) (some : 0 < length q) 
   is_without : IsWithout S T q
   is_without = record {
     gone = λ rest. ap T (split rest) ∙ gone_below rest;
-    above = λ names e. let same : names ≡ old = listed names (sym e ∙ dir) in is up ∙ at_dir S up old new (λ n. File []) ∙ ap (λ ns. Some (Dir (without_name n ns))) (sym same);
+    above = λ names e. let same : names ≡ old = listed names (sym e ∙ dir) in is up ∙ at_dir S up old new (λ n. File [] false) ∙ ap (λ ns. Some (Dir (without_name n ns))) (sym same);
     others = others_stay;
   }
     where
@@ -105,7 +105,7 @@ removals_remove S whole at cs e =
     go : (l : Landing) → lands S at.path false ≡ l → IsTrueOf S l → answer S (remove_landed at.path l) ≡ Ok cs → (q : Path) × ((lands S at.path false ≡ At q) × IsWithout S (over S cs) q)
     go (At q) is there f =
         let w = remove_is S whole q there cs f in
-        let relists : (r : Path) → over S cs r ≡ relisted S (parent q) w.1.0 (without_name (last_name q) w.1.0) (λ n. File []) r =
+        let relists : (r : Path) → over S cs r ≡ relisted S (parent q) w.1.0 (without_name (last_name q) w.1.0) (λ n. File [] false) r =
         λ r. ap (λ cs. over S cs r) (sym w.1.1.1) ∙ removal_relists S (parent q) (last_name q) w.1.0 whole w.1.1.0 r in
         (q, (is, is_without S (over S cs) q w.1.0 whole w.0 w.1.1.0 relists))
     go (Absent here names) is there f = cc
@@ -125,7 +125,7 @@ stores_relist S whole at v new q stores landed cs e =
 
     go : (x : Option Node) → S q ≡ x → answer S (replaced q (Dir new) x) ≡ Ok cs → (old : Path) × ((S q ≡ Some (Dir old)) × IsRelisted S (over S cs) q old new)
     go None is f = cc
-    go (Some (File b)) is f = cc
+    go (Some (File b exec)) is f = cc
     go (Some (Link t)) is f = cc
     go (Some (Dir old)) is f =
         let w = unless-ok (lacks_room q (Dir new)) S (new_names q old new) cs f in
@@ -133,12 +133,12 @@ stores_relist S whole at v new q stores landed cs e =
 
 -- ---- a node that is made
 
-files_away : (U : Store) (q names r : Path) → ((k : List ℕ) → r ≢ q /ₚ k) → over U (map (λ n. set_to (q /ₚ n) (File [])) names) r ≡ U r
+files_away : (U : Store) (q names r : Path) → ((k : List ℕ) → r ≢ q /ₚ k) → over U (map (λ n. set_to (q /ₚ n) (File [] false)) names) r ≡ U r
 files_away U q [] r apart = refl
-files_away U q (k ∷ names) r apart = files_away (update U (set_to (q /ₚ k) (File []))) q names r apart ∙ update_away U (set_to (q /ₚ k) (File [])) r (apart k)
+files_away U q (k ∷ names) r apart = files_away (update U (set_to (q /ₚ k) (File [] false))) q names r apart ∙ update_away U (set_to (q /ₚ k) (File [] false)) r (apart k)
 
 children_away : (U : Store) (q : Path) (node : Node) (r : Path) → ((k : List ℕ) → r ≢ q /ₚ k) → over U (children q node) r ≡ U r
-children_away U q (File bytes) r apart = refl
+children_away U q (File bytes exec) r apart = refl
 children_away U q (Dir names) r apart = files_away U q names r apart
 children_away U q (Link text) r apart = refl
 

@@ -18,16 +18,16 @@ use Rattle.fx_laws.proofs.Left.{leaves_kept, same_stores}
 pub each_reads_and_writes : EachReadsAndWrites
 unfolding is_utf8 chars encode is_name resolve value place clear transaction
 each_reads_and_writes = record {
-  first = record { does = record { outputs = refl; end = refl; way = refl; kept = refl }; leaves = leaves_kept (two_files) (x_to_y) (store_of (with_files (codes "1") (codes "1"))) (store_of (with_files (codes "1") (codes "10"))) (set_to (codes "y" ∷ []) (File (codes "10")) ∷ []) refl (same_stores (with_files (codes "1") (codes "1")) (with_files (codes "1") (codes "10")) (set_to (codes "y" ∷ []) (File (codes "10")) ∷ []) (refl, (refl, (refl, tt))) (refl, (refl, (refl, tt))) (refl, tt)) };
-  second = record { does = record { outputs = refl; end = refl; way = refl; kept = refl }; leaves = leaves_kept (two_files) (y_to_x) (store_of (with_files (codes "1") (codes "1"))) (store_of (with_files (codes "10") (codes "1"))) (set_to (codes "x" ∷ []) (File (codes "10")) ∷ []) refl (same_stores (with_files (codes "1") (codes "1")) (with_files (codes "10") (codes "1")) (set_to (codes "x" ∷ []) (File (codes "10")) ∷ []) (refl, (refl, (refl, tt))) (refl, (refl, (refl, tt))) (refl, tt)) };
-  again = record { does = record { outputs = refl; end = refl; way = refl; kept = refl }; leaves = leaves_kept (two_files) (y_to_x) (store_of (with_files (codes "1") (codes "10"))) (store_of (with_files (codes "100") (codes "10"))) (set_to (codes "x" ∷ []) (File (codes "100")) ∷ []) refl (same_stores (with_files (codes "1") (codes "10")) (with_files (codes "100") (codes "10")) (set_to (codes "x" ∷ []) (File (codes "100")) ∷ []) (refl, (refl, (refl, tt))) (refl, (refl, (refl, tt))) (refl, tt)) };
+  first = record { does = record { outputs = refl; end = refl; way = refl; kept = refl }; leaves = leaves_kept (two_files) (x_to_y) (store_of (with_files (codes "1") (codes "1"))) (store_of (with_files (codes "1") (codes "10"))) (set_to (codes "y" ∷ []) (File (codes "10") false) ∷ []) refl (same_stores (with_files (codes "1") (codes "1")) (with_files (codes "1") (codes "10")) (set_to (codes "y" ∷ []) (File (codes "10") false) ∷ []) (refl, (refl, (refl, tt))) (refl, (refl, (refl, tt))) (refl, tt)) };
+  second = record { does = record { outputs = refl; end = refl; way = refl; kept = refl }; leaves = leaves_kept (two_files) (y_to_x) (store_of (with_files (codes "1") (codes "1"))) (store_of (with_files (codes "10") (codes "1"))) (set_to (codes "x" ∷ []) (File (codes "10") false) ∷ []) refl (same_stores (with_files (codes "1") (codes "1")) (with_files (codes "10") (codes "1")) (set_to (codes "x" ∷ []) (File (codes "10") false) ∷ []) (refl, (refl, (refl, tt))) (refl, (refl, (refl, tt))) (refl, tt)) };
+  again = record { does = record { outputs = refl; end = refl; way = refl; kept = refl }; leaves = leaves_kept (two_files) (y_to_x) (store_of (with_files (codes "1") (codes "10"))) (store_of (with_files (codes "100") (codes "10"))) (set_to (codes "x" ∷ []) (File (codes "100") false) ∷ []) refl (same_stores (with_files (codes "1") (codes "10")) (with_files (codes "100") (codes "10")) (set_to (codes "x" ∷ []) (File (codes "100") false) ∷ []) (refl, (refl, (refl, tt))) (refl, (refl, (refl, tt))) (refl, tt)) };
 }
 
 pub names_are_added : NamesAreAdded
 unfolding is_utf8 chars encode is_name resolve value place clear transaction
 names_are_added = record {
   counted = record { outputs = refl; end = refl; way = refl; kept = refl };
-  added = record { does = record { outputs = refl; end = refl; way = refl; kept = refl }; leaves = leaves_kept (text_files) (add_text) (store_of (one_text)) (store_of (two_texts)) (set_to [] (Dir (codes "a.txt" ∷ codes "b.txt" ∷ [])) ∷ set_to (codes "b.txt" ∷ []) (File []) ∷ []) refl (same_stores (one_text) (two_texts) (set_to [] (Dir (codes "a.txt" ∷ codes "b.txt" ∷ [])) ∷ set_to (codes "b.txt" ∷ []) (File []) ∷ []) (refl, (refl, tt)) (refl, (refl, (refl, tt))) (refl, (refl, tt))) };
+  added = record { does = record { outputs = refl; end = refl; way = refl; kept = refl }; leaves = leaves_kept (text_files) (add_text) (store_of (one_text)) (store_of (two_texts)) (set_to [] (Dir (codes "a.txt" ∷ codes "b.txt" ∷ [])) ∷ set_to (codes "b.txt" ∷ []) (File [] false) ∷ []) refl (same_stores (one_text) (two_texts) (set_to [] (Dir (codes "a.txt" ∷ codes "b.txt" ∷ [])) ∷ set_to (codes "b.txt" ∷ []) (File [] false) ∷ []) (refl, (refl, tt)) (refl, (refl, (refl, tt))) (refl, (refl, tt))) };
   again = record { outputs = refl; end = refl; way = refl; kept = refl };
 }
 
@@ -43,7 +43,7 @@ pub entry_is_made : EntryIsMade
 unfolding is_utf8 chars encode is_name resolve value place clear transaction
 entry_is_made = record {
   missing = record { outputs = refl; end = refl; way = refl; kept = refl };
-  made = record { does = record { outputs = refl; end = refl; way = refl; kept = refl }; leaves = leaves_kept (maybe_file) (down ∷ create ∷ []) (store_of (nothing_there)) (store_of (with_entry)) (set_to [] (Dir (codes "m" ∷ [])) ∷ set_to (codes "m" ∷ []) (File []) ∷ []) refl (same_stores (nothing_there) (with_entry) (set_to [] (Dir (codes "m" ∷ [])) ∷ set_to (codes "m" ∷ []) (File []) ∷ []) (refl, tt) (refl, (refl, tt)) (refl, (refl, tt))) };
+  made = record { does = record { outputs = refl; end = refl; way = refl; kept = refl }; leaves = leaves_kept (maybe_file) (down ∷ create ∷ []) (store_of (nothing_there)) (store_of (with_entry)) (set_to [] (Dir (codes "m" ∷ [])) ∷ set_to (codes "m" ∷ []) (File [] false) ∷ []) refl (same_stores (nothing_there) (with_entry) (set_to [] (Dir (codes "m" ∷ [])) ∷ set_to (codes "m" ∷ []) (File [] false) ∷ []) (refl, tt) (refl, (refl, tt)) (refl, (refl, tt))) };
   again = record { outputs = refl; end = refl; way = refl; kept = refl };
 }
 

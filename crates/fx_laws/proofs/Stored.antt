@@ -63,7 +63,7 @@ or_first false b e = absurd (true≢false (sym e))
 
 -- a directory that lists the same names has no entry that changes
 entry_none : (S : Store) (q names : List (List ℕ)) (n : List ℕ) → has names n ≡ true → answer S (entry q names names n) ≡ []
-entry_none S q names n e = ap (λ b. answer S (cond b (cond b (Answer []) (Look (q /ₚ n) (λ node. Answer (set_to (q /ₚ n) (File []) ∷ [])))) (clear (q /ₚ n)))) e
+entry_none S q names n e = ap (λ b. answer S (cond b (cond b (Answer []) (Look (q /ₚ n) (λ node. Answer (set_to (q /ₚ n) (File [] false) ∷ [])))) (clear (q /ₚ n)))) e
 
 entries_none : (S : Store) (q names ns : List (List ℕ)) → ((n : List ℕ) → has ns n ≡ true → has names n ≡ true) → answer S (entries (entry q names names) ns) ≡ []
 entries_none S q names [] h = refl
@@ -82,12 +82,12 @@ same_names S q names =
 
 -- the node is replaced by itself
 replaced_same : (S : Store) (q : List (List ℕ)) (node : Node) → lacks_room q node ≡ false → answer S (replaced q node (Some node)) ≡ Ok (set_to q node ∷ [])
-replaced_same S q (File bytes) room = refl
+replaced_same S q (File bytes exec) room = refl
 replaced_same S q (Link text) room = refl
 replaced_same S q (Dir names) room = ap (λ b. answer S (unless_deep b (new_names q names names))) room ∙ same_names S q names
 
 replaced_deep : (S : Store) (q : List (List ℕ)) (node : Node) → lacks_room q node ≡ true → answer S (replaced q node (Some node)) ≡ Err Refusal.TooDeep
-replaced_deep S q (File bytes) deep = absurd (true≢false (sym deep))
+replaced_deep S q (File bytes exec) deep = absurd (true≢false (sym deep))
 replaced_deep S q (Link text) deep = absurd (true≢false (sym deep))
 replaced_deep S q (Dir names) deep = ap (λ b. answer S (unless_deep b (new_names q names names))) deep
 
@@ -110,7 +110,7 @@ same_content_changes_nothing S at v node q held changes e = by (lacks_room q nod
         subst (λ cs. Same S (over S cs)) same (set_same S q node held.stands)
 
 has_room : (q : List (List ℕ)) (node : Node) → length q ≤ 64 → IsNode q node → lacks_room q node ≡ false
-has_room q (File bytes) short ok = refl
+has_room q (File bytes exec) short ok = refl
 has_room q (Link text) short ok = refl
 has_room q (Dir names) short ok = by (nat_lt 63 (length q)) refl
   where
@@ -202,21 +202,21 @@ pub content_there : (S : Store) (held : Option Node → Option Tree) (follow : B
 content_there S held follow p v e =
     landed_there S held (lands S p follow) v (sym (answer-bind S (resolve p follow) (landed_value held)) ∙ needed_some (answer S (content held follow p)) v (sym (answer-bind S (content held follow p) (λ v. Answer (needed Refusal.Lacks v))) ∙ e))
 
-pub file_there : (n : Option Node) (v : Tree) → file_value n ≡ Some v → (bytes : List ℕ) × (v ≡ Tree.str bytes) × (n ≡ Some (File bytes))
+pub file_there : (n : Option Node) (v : Tree) → file_value n ≡ Some v → (bytes : List ℕ) × (v ≡ Tree.str bytes) × (n ≡ Some (File bytes false))
 file_there None v e = absurd (cc)
-file_there (Some (File bytes)) v e = (bytes, (let same : v ≡ Tree.str bytes = cc in same), refl)
+file_there (Some (File bytes exec)) v e = (bytes, (let same : v ≡ Tree.str bytes = cc in same), refl)
 file_there (Some (Dir names)) v e = absurd (cc)
 file_there (Some (Link text)) v e = absurd (cc)
 
 pub dir_there : (n : Option Node) (v : Tree) → dir_value n ≡ Some v → (names : List (List ℕ)) × (v ≡ Tree.names names) × (n ≡ Some (Dir names))
 dir_there None v e = absurd (cc)
-dir_there (Some (File bytes)) v e = absurd (cc)
+dir_there (Some (File bytes exec)) v e = absurd (cc)
 dir_there (Some (Dir names)) v e = (names, (let same : v ≡ Tree.names names = cc in same), refl)
 dir_there (Some (Link text)) v e = absurd (cc)
 
 pub link_there : (n : Option Node) (v : Tree) → link_value n ≡ Some v → (text : List ℕ) × (v ≡ Tree.str text) × (n ≡ Some (Link text))
 link_there None v e = absurd (cc)
-link_there (Some (File bytes)) v e = absurd (cc)
+link_there (Some (File bytes exec)) v e = absurd (cc)
 link_there (Some (Dir names)) v e = absurd (cc)
 link_there (Some (Link text)) v e = (text, (let same : v ≡ Tree.str text = cc in same), refl)
 
@@ -229,8 +229,8 @@ one_node : (b : Bool) (made node : Node) (f : Refusal) → ◌≡◌ {A = Answer
 one_node true made node f e = cc
 one_node false made node f e = absurd (cc)
 
-file_node : (bytes : List ℕ) (node : Node) → stored_node SpecTree.file (Tree.str bytes) ≡ Ok node → node ≡ File bytes
-file_node bytes node e = one_node (is_storable (Tree.str bytes)) (File bytes) node Refusal.WrongForm e
+file_node : (bytes : List ℕ) (node : Node) → stored_node SpecTree.file (Tree.str bytes) ≡ Ok node → node ≡ File bytes false
+file_node bytes node e = one_node (is_storable (Tree.str bytes)) (File bytes false) node Refusal.WrongForm e
 
 dir_node : (names : List (List ℕ)) (node : Node) → stored_node SpecTree.dir (Tree.names names) ≡ Ok node → node ≡ Dir names
 dir_node names node e = at (is_storable (Tree.names names)) e
@@ -269,8 +269,8 @@ held_of S at v node made q e same l n = record { stores = e; lands = ap (λ (m :
 fetched_held : (S : Store) (at : PlaceTree) (v : Tree) (node : Node) (spec : SpecTree) → at.spec ≡ spec → stored_node spec v ≡ Ok node → answer S (fetched at.path at.env spec) ≡ Ok v → (q : List (List ℕ)) × IsHeld S at v node q
 fetched_held S at v node SpecTree.file is e f =
     let c : (q : List (List ℕ)) × (lands S at.path true ≡ At q) × (file_value (S q) ≡ Some v) = content_there S file_value true at.path v f in
-    let t : (bytes : List ℕ) × (v ≡ Tree.str bytes) × (S c.0 ≡ Some (File bytes)) = file_there (S c.0) v c.2 in
-    (c.0, held_of S at v node (File t.0) c.0 (ap (λ s. stored_node s v) is ∙ e) (file_node t.0 node (ap (stored_node SpecTree.file) (sym t.1) ∙ e)) c.1 t.2)
+    let t : (bytes : List ℕ) × (v ≡ Tree.str bytes) × (S c.0 ≡ Some (File bytes false)) = file_there (S c.0) v c.2 in
+    (c.0, held_of S at v node (File t.0 false) c.0 (ap (λ s. stored_node s v) is ∙ e) (file_node t.0 node (ap (stored_node SpecTree.file) (sym t.1) ∙ e)) c.1 t.2)
 fetched_held S at v node SpecTree.dir is e f =
     let c : (q : List (List ℕ)) × (lands S at.path true ≡ At q) × (dir_value (S q) ≡ Some v) = content_there S dir_value true at.path v f in
     let t : (names : List (List ℕ)) × (v ≡ Tree.names names) × (S c.0 ≡ Some (Dir names)) = dir_there (S c.0) v c.2 in

@@ -30,7 +30,7 @@ pub record IsWithout (S T : Store) (q : List (List ℕ)) : Type 0 where
 pub record IsRelisted (S T : Store) (q old new : List (List ℕ)) : Type 0 where
   pub ascending : IsNameSet new
   pub lists : T q ≡ Some (Dir new)
-  pub added : (n : List ℕ) → has new n ≡ true → has old n ≡ false → T (q /ₚ n) ≡ Some (File [])
+  pub added : (n : List ℕ) → has new n ≡ true → has old n ≡ false → T (q /ₚ n) ≡ Some (File [] false)
   pub dropped : (n : List ℕ) (rest : List (List ℕ)) → has new n ≡ false → T (q ++ n ∷ rest) ≡ None
   pub stays : (n : List ℕ) (rest : List (List ℕ)) → has new n ≡ true → has old n ≡ true → T (q ++ n ∷ rest) ≡ S (q ++ n ∷ rest)
   pub others : (r : List (List ℕ)) → (IsWithin q r → ⊥) → T r ≡ S r

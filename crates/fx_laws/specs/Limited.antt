@@ -30,7 +30,7 @@ chain before (n ∷ names) = (n ∷ [], Link before) ∷ chain n names
 
 -- the file `f`, a chain of links to it, and other entries
 abbrev pub with_chain : List (List ℕ) → List (List (List ℕ) × Node) → Store
-with_chain names others = store_of (([], Dir (codes "f" ∷ names)) ∷ (codes "f" ∷ [], File (codes "x")) ∷ others)
+with_chain names others = store_of (([], Dir (codes "f" ∷ names)) ∷ (codes "f" ∷ [], File (codes "x") false) ∷ others)
 
 -- 41 links, one after another
 abbrev pub long_chain : Store
@@ -88,7 +88,7 @@ deep_files = SpecTree.pair (codes "x") (SpecTree.focus (text (deep_text 64)) (Sp
 
 -- directories, each in the one above it, and a file in the last one
 abbrev pub nested_file : List Change
-nested_file = map (λ p. set_to p (Dir (codes "a" ∷ []))) (deeper 0 64) ++ set_to (deep 64) (File []) ∷ []
+nested_file = map (λ p. set_to p (Dir (codes "a" ∷ []))) (deeper 0 64) ++ set_to (deep 64) (File [] false) ∷ []
 
 -- the file and all directories above it are made; each of their paths is consulted
 abbrev pub MakesDeepFile : Type 0

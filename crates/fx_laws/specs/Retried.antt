@@ -24,7 +24,7 @@ two_files = SpecTree.pair (codes "x") (file_at (codes "x")) (file_at (codes "y")
 
 -- with these bytes
 abbrev pub with_files : List ℕ → List ℕ → Entries
-with_files x y = ([], Dir (codes "x" ∷ codes "y" ∷ [])) ∷ (codes "x" ∷ [], File x) ∷ (codes "y" ∷ [], File y) ∷ []
+with_files x y = ([], Dir (codes "x" ∷ codes "y" ∷ [])) ∷ (codes "x" ∷ [], File x false) ∷ (codes "y" ∷ [], File y false) ∷ []
 
 -- the bytes of the first file with a `0`, stored in the second one
 abbrev pub x_to_y : List CommandTree
@@ -36,9 +36,9 @@ y_to_x = into ∷ next ∷ down ∷ fetch_text (codes "b") ∷ up ∷ prev ∷ d
 
 -- each consults both files; the second one's answer differs once the first one has written
 pub record EachReadsAndWrites : Type 0 where
-  pub first : Commits two_files (with_files (codes "1") (codes "1")) x_to_y (texts (codes "1" ∷ [])) ((codes "x" ∷ []) ∷ (codes "y" ∷ []) ∷ []) (set_to (codes "y" ∷ []) (File (codes "10")) ∷ []) (with_files (codes "1") (codes "10"))
-  pub second : Commits two_files (with_files (codes "1") (codes "1")) y_to_x (texts (codes "1" ∷ [])) ((codes "x" ∷ []) ∷ (codes "y" ∷ []) ∷ []) (set_to (codes "x" ∷ []) (File (codes "10")) ∷ []) (with_files (codes "10") (codes "1"))
-  pub again : Commits two_files (with_files (codes "1") (codes "10")) y_to_x (texts (codes "10" ∷ [])) ((codes "x" ∷ []) ∷ (codes "y" ∷ []) ∷ []) (set_to (codes "x" ∷ []) (File (codes "100")) ∷ []) (with_files (codes "100") (codes "10"))
+  pub first : Commits two_files (with_files (codes "1") (codes "1")) x_to_y (texts (codes "1" ∷ [])) ((codes "x" ∷ []) ∷ (codes "y" ∷ []) ∷ []) (set_to (codes "y" ∷ []) (File (codes "10") false) ∷ []) (with_files (codes "1") (codes "10"))
+  pub second : Commits two_files (with_files (codes "1") (codes "1")) y_to_x (texts (codes "1" ∷ [])) ((codes "x" ∷ []) ∷ (codes "y" ∷ []) ∷ []) (set_to (codes "x" ∷ []) (File (codes "10") false) ∷ []) (with_files (codes "10") (codes "1"))
+  pub again : Commits two_files (with_files (codes "1") (codes "10")) y_to_x (texts (codes "10" ∷ [])) ((codes "x" ∷ []) ∷ (codes "y" ∷ []) ∷ []) (set_to (codes "x" ∷ []) (File (codes "100") false) ∷ []) (with_files (codes "100") (codes "10"))
 
 -- ---- a directory, whose names are counted and added to
 
@@ -48,11 +48,11 @@ text_files = SpecTree.pair (codes "d") SpecTree.dir (files_of (ExprTree.only (va
 
 -- one such file
 abbrev pub one_text : Entries
-one_text = ([], Dir (codes "a.txt" ∷ [])) ∷ (codes "a.txt" ∷ [], File (codes "A")) ∷ []
+one_text = ([], Dir (codes "a.txt" ∷ [])) ∷ (codes "a.txt" ∷ [], File (codes "A") false) ∷ []
 
 -- two of them
 abbrev pub two_texts : Entries
-two_texts = ([], Dir (codes "a.txt" ∷ codes "b.txt" ∷ [])) ∷ (codes "a.txt" ∷ [], File (codes "A")) ∷ (codes "b.txt" ∷ [], File []) ∷ []
+two_texts = ([], Dir (codes "a.txt" ∷ codes "b.txt" ∷ [])) ∷ (codes "a.txt" ∷ [], File (codes "A") false) ∷ (codes "b.txt" ∷ [], File [] false) ∷ []
 
 -- how many they are
 abbrev pub count_texts : List CommandTree
@@ -65,7 +65,7 @@ add_text = into ∷ fetch_names (codes "d") ∷ store (union (var (codes "d")) (
 -- the directory alone is consulted for the count; who adds a name changes the directory and makes an empty file
 pub record NamesAreAdded : Type 0 where
   pub counted : Does text_files (store_of one_text) count_texts (numbers (1 ∷ [])) End.Done ([] ∷ []) []
-  pub added : Commits text_files one_text add_text [] ([] ∷ (codes "b.txt" ∷ []) ∷ []) (set_to [] (Dir (codes "a.txt" ∷ codes "b.txt" ∷ [])) ∷ set_to (codes "b.txt" ∷ []) (File []) ∷ []) two_texts
+  pub added : Commits text_files one_text add_text [] ([] ∷ (codes "b.txt" ∷ []) ∷ []) (set_to [] (Dir (codes "a.txt" ∷ codes "b.txt" ∷ [])) ∷ set_to (codes "b.txt" ∷ []) (File [] false) ∷ []) two_texts
   pub again : Does text_files (store_of two_texts) count_texts (numbers (2 ∷ [])) End.Done ([] ∷ []) []
 
 -- ---- a link, which is read through and turned to another directory
@@ -77,8 +77,8 @@ through_link = SpecTree.pair (codes "l") (SpecTree.focus (text (codes "cur")) Sp
 -- the directories `p` and `q` with a file each, and the link with this text
 abbrev pub with_current : List ℕ → Entries
 with_current current =
-    ([], Dir (codes "cur" ∷ codes "p" ∷ codes "q" ∷ [])) ∷ (codes "cur" ∷ [], Link current) ∷ (codes "p" ∷ [], Dir (codes "f" ∷ [])) ∷ (codes "p" ∷ codes "f" ∷ [], File (codes "P")) ∷
-    (codes "q" ∷ [], Dir (codes "f" ∷ [])) ∷ (codes "q" ∷ codes "f" ∷ [], File (codes "Q")) ∷ []
+    ([], Dir (codes "cur" ∷ codes "p" ∷ codes "q" ∷ [])) ∷ (codes "cur" ∷ [], Link current) ∷ (codes "p" ∷ [], Dir (codes "f" ∷ [])) ∷ (codes "p" ∷ codes "f" ∷ [], File (codes "P") false) ∷
+    (codes "q" ∷ [], Dir (codes "f" ∷ [])) ∷ (codes "q" ∷ codes "f" ∷ [], File (codes "Q") false) ∷ []
 
 -- the file, read through the link
 abbrev pub read_through : List CommandTree
@@ -106,7 +106,7 @@ nothing_there = ([], Dir []) ∷ []
 
 -- an empty file `m`
 abbrev pub with_entry : Entries
-with_entry = ([], Dir (codes "m" ∷ [])) ∷ (codes "m" ∷ [], File []) ∷ []
+with_entry = ([], Dir (codes "m" ∷ [])) ∷ (codes "m" ∷ [], File [] false) ∷ []
 
 -- whether the file is there
 abbrev pub is_there : List CommandTree
@@ -115,7 +115,7 @@ is_there = down ∷ CommandTree.fetch (codes "b") ShapeTree.bool ∷ show (codes
 -- the missing entry is consulted too
 pub record EntryIsMade : Type 0 where
   pub missing : Does maybe_file (store_of nothing_there) is_there (Tree.bool false ∷ []) End.Done ((codes "m" ∷ []) ∷ []) []
-  pub made : Commits maybe_file nothing_there (down ∷ create ∷ []) [] ((codes "m" ∷ []) ∷ [] ∷ []) (set_to [] (Dir (codes "m" ∷ [])) ∷ set_to (codes "m" ∷ []) (File []) ∷ []) with_entry
+  pub made : Commits maybe_file nothing_there (down ∷ create ∷ []) [] ((codes "m" ∷ []) ∷ [] ∷ []) (set_to [] (Dir (codes "m" ∷ [])) ∷ set_to (codes "m" ∷ []) (File [] false) ∷ []) with_entry
   pub again : Does maybe_file (store_of with_entry) is_there (Tree.bool true ∷ []) End.Done ((codes "m" ∷ []) ∷ []) []
 
 -- ---- an element, which is read and removed
@@ -126,7 +126,7 @@ all_files = SpecTree.pair (codes "d") SpecTree.dir (files_of (var (codes "d")))
 
 -- one file
 abbrev pub one_file : Entries
-one_file = ([], Dir (codes "a" ∷ [])) ∷ (codes "a" ∷ [], File (codes "1")) ∷ []
+one_file = ([], Dir (codes "a" ∷ [])) ∷ (codes "a" ∷ [], File (codes "1") false) ∷ []
 
 -- the directory as it was before the removal, and the file as it is after it
 abbrev pub half_removed : Entries

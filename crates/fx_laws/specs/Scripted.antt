@@ -18,11 +18,11 @@ use Rattle.fx_laws.specs.Retried.{all_files, text_files, nothing_there}
 
 -- two files
 abbrev pub a_and_b : Entries
-a_and_b = ([], Dir (codes "a" ∷ codes "b" ∷ [])) ∷ (codes "a" ∷ [], File (codes "1")) ∷ (codes "b" ∷ [], File (codes "2")) ∷ []
+a_and_b = ([], Dir (codes "a" ∷ codes "b" ∷ [])) ∷ (codes "a" ∷ [], File (codes "1") false) ∷ (codes "b" ∷ [], File (codes "2") false) ∷ []
 
 -- the second one of them
 abbrev pub b_alone : Entries
-b_alone = ([], Dir (codes "b" ∷ [])) ∷ (codes "b" ∷ [], File (codes "2")) ∷ []
+b_alone = ([], Dir (codes "b" ∷ [])) ∷ (codes "b" ∷ [], File (codes "2") false) ∷ []
 
 -- an address whose element has gone leads to no place: no move that needs the place goes on, and the others go back
 abbrev pub LeavesNoPlace : Type 0
@@ -35,26 +35,26 @@ LeavesNoPlace =
 -- a file in a directory in a directory, and the file `g`
 abbrev pub nested_and_g : Entries
 nested_and_g =
-    ([], Dir (codes "d" ∷ codes "g" ∷ [])) ∷ (codes "d" ∷ [], Dir (codes "e" ∷ [])) ∷ (codes "d" ∷ codes "e" ∷ [], Dir (codes "f" ∷ [])) ∷ (codes "d" ∷ codes "e" ∷ codes "f" ∷ [], File (codes "1")) ∷
-    (codes "g" ∷ [], File (codes "2")) ∷ []
+    ([], Dir (codes "d" ∷ codes "g" ∷ [])) ∷ (codes "d" ∷ [], Dir (codes "e" ∷ [])) ∷ (codes "d" ∷ codes "e" ∷ [], Dir (codes "f" ∷ [])) ∷ (codes "d" ∷ codes "e" ∷ codes "f" ∷ [], File (codes "1") false) ∷
+    (codes "g" ∷ [], File (codes "2") false) ∷ []
 
 -- the file `g` as it was, and an empty file `h`
 abbrev pub g_and_h : Entries
-g_and_h = ([], Dir (codes "g" ∷ codes "h" ∷ [])) ∷ (codes "g" ∷ [], File (codes "2")) ∷ (codes "h" ∷ [], File []) ∷ []
+g_and_h = ([], Dir (codes "g" ∷ codes "h" ∷ [])) ∷ (codes "g" ∷ [], File (codes "2") false) ∷ (codes "h" ∷ [], File [] false) ∷ []
 
 -- a dropped name goes with all below it, a new one is an empty file, and one that stays is not touched
 abbrev pub DropsSubtree : Type 0
 DropsSubtree =
     Commits SpecTree.dir nested_and_g (store (union (one (codes "g")) (one (codes "h"))) ∷ []) []
     ([] ∷ (codes "d" ∷ []) ∷ (codes "d" ∷ codes "e" ∷ []) ∷ (codes "d" ∷ codes "e" ∷ codes "f" ∷ []) ∷ (codes "h" ∷ []) ∷ [])
-    (set_to [] (Dir (codes "g" ∷ codes "h" ∷ [])) ∷ removed (codes "d" ∷ []) ∷ removed (codes "d" ∷ codes "e" ∷ []) ∷ removed (codes "d" ∷ codes "e" ∷ codes "f" ∷ []) ∷ set_to (codes "h" ∷ []) (File []) ∷ [])
+    (set_to [] (Dir (codes "g" ∷ codes "h" ∷ [])) ∷ removed (codes "d" ∷ []) ∷ removed (codes "d" ∷ codes "e" ∷ []) ∷ removed (codes "d" ∷ codes "e" ∷ codes "f" ∷ []) ∷ set_to (codes "h" ∷ []) (File [] false) ∷ [])
     g_and_h
 
 -- the chosen files of a directory, one after another in a loop
 abbrev pub JoinsChosenFiles : Type 0
 JoinsChosenFiles =
     Does text_files
-    (store_of (([], Dir (codes "a.txt" ∷ codes "b.txt" ∷ codes "c" ∷ [])) ∷ (codes "a.txt" ∷ [], File (codes "A")) ∷ (codes "b.txt" ∷ [], File (codes "B")) ∷ (codes "c" ∷ [], File (codes "C")) ∷ []))
+    (store_of (([], Dir (codes "a.txt" ∷ codes "b.txt" ∷ codes "c" ∷ [])) ∷ (codes "a.txt" ∷ [], File (codes "A") false) ∷ (codes "b.txt" ∷ [], File (codes "B") false) ∷ (codes "c" ∷ [], File (codes "C") false) ∷ []))
     (into ∷ next ∷ fetch_names (codes "s") ∷ CommandTree.bind (codes "t") (text []) ∷
     CommandTree.each (codes "n") (var (codes "s")) (block (
     to (var (codes "n")) ∷ down ∷ fetch_text (codes "v") ∷ CommandTree.assign (codes "t") (join (var (codes "t")) (var (codes "v"))) ∷ up ∷ out ∷ [])) ∷

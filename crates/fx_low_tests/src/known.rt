@@ -50,7 +50,7 @@ fn link(alloc: Global, text: &[u8]) -> Result<Node, NoMemory> {
 fn file(alloc: Global, byte: u8) -> Result<Node, NoMemory> {
     let mut bytes = Bytes::new(alloc);
     bytes.add(alloc, byte)?;
-    Ok(Node::File(bytes))
+    Ok(Node::File { bytes, exec: false })
 }
 
 fn node_of(alloc: Global, kind: Kind) -> Result<Option<Node>, NoMemory> {

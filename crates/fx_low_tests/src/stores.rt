@@ -140,7 +140,7 @@ fn some_path(alloc: Global) -> Result<Path, NoMemory> {
 
 fn size_of(node: Option<&Node>) -> u64 {
     match node {
-        Some(Node::File(bytes)) => bytes.len(),
+        Some(Node::File { bytes, .. }) => bytes.len(),
         Some(Node::Dir(names)) => names.len(),
         _ => 0,
     }

@@ -42,22 +42,22 @@ none_at test (suc n) h =
 pub same_is : (a b : Option Node) → same_node a b ≡ true → a ≡ b
 same_is None None e = refl
 same_is None (Some b) e = absurd (false≢true e)
-same_is (Some (File a)) None e = absurd (false≢true e)
+same_is (Some (File a exec)) None e = absurd (false≢true e)
 same_is (Some (Dir a)) None e = absurd (false≢true e)
 same_is (Some (Link a)) None e = absurd (false≢true e)
-same_is (Some (File a)) (Some (File b)) e = ap (λ bytes. Some (File bytes)) ((bytes_eq-Decides a b).0 e)
-same_is (Some (File a)) (Some (Dir b)) e = absurd (false≢true e)
-same_is (Some (File a)) (Some (Link b)) e = absurd (false≢true e)
-same_is (Some (Dir a)) (Some (File b)) e = absurd (false≢true e)
+same_is (Some (File a exec)) (Some (File b exec2)) e = ap (λ bytes. Some (File bytes false)) ((bytes_eq-Decides a b).0 e)
+same_is (Some (File a exec)) (Some (Dir b)) e = absurd (false≢true e)
+same_is (Some (File a exec)) (Some (Link b)) e = absurd (false≢true e)
+same_is (Some (Dir a)) (Some (File b exec)) e = absurd (false≢true e)
 same_is (Some (Dir a)) (Some (Dir b)) e = ap (λ names. Some (Dir names)) ((slice_eq-Decides bytes_eq-Decides a b (pointwise bytes_eq a b) refl).0 e)
 same_is (Some (Dir a)) (Some (Link b)) e = absurd (false≢true e)
-same_is (Some (Link a)) (Some (File b)) e = absurd (false≢true e)
+same_is (Some (Link a)) (Some (File b exec)) e = absurd (false≢true e)
 same_is (Some (Link a)) (Some (Dir b)) e = absurd (false≢true e)
 same_is (Some (Link a)) (Some (Link b)) e = ap (λ text. Some (Link text)) ((bytes_eq-Decides a b).0 e)
 
 pub same_itself : (a : Option Node) → same_node a a ≡ true
 same_itself None = refl
-same_itself (Some (File a)) = (bytes_eq-Decides a a).1 refl
+same_itself (Some (File a exec)) = (bytes_eq-Decides a a).1 refl
 same_itself (Some (Dir a)) = (slice_eq-Decides bytes_eq-Decides a a (same_node (Some (Dir a)) (Some (Dir a))) refl).1 refl
 same_itself (Some (Link a)) = (bytes_eq-Decides a a).1 refl
 

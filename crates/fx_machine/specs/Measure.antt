@@ -12,7 +12,7 @@ use Rattle.fx_machine.specs.Machine.{Machine, Look, looks_of, next_txn}
 
 abbrev pub same_node : Option Node → Option Node → Bool
 same_node None None = true
-same_node (Some (File a)) (Some (File b)) = bytes_eq a b
+same_node (Some (File a exec)) (Some (File b exec2)) = bytes_eq a b
 same_node (Some (Dir a)) (Some (Dir b)) = pointwise (pointwise nat_eq) a b
 same_node (Some (Link a)) (Some (Link b)) = bytes_eq a b
 same_node _ _ = false

@@ -100,7 +100,7 @@ fn names_of(alloc: Global, spelled: &str) -> Result<Names, NoMemory> {
 fn file_of(alloc: Global, spelled: &str) -> Result<Node, NoMemory> {
     let mut bytes = unescaped(alloc, spelled)?;
     bytes.truncate(TEXT_LIMIT);
-    Ok(Node::File(Bytes::from_vec(bytes)))
+    Ok(Node::File { bytes: Bytes::from_vec(bytes), exec: false })
 }
 
 /// The link of a text; none where it is no link's text.

@@ -159,7 +159,7 @@ fn add_text(out: &mut String, kind: &str, bytes: &[u8]) -> Result<(), NoMemory> 
 
 fn add_node(out: &mut String, node: &Option<Node>) -> Result<(), NoMemory> {
     match node {
-        Some(Node::File(bytes)) => add_text(out, " file", bytes.as_slice()),
+        Some(Node::File { bytes, .. }) => add_text(out, " file", bytes.as_slice()),
         Some(Node::Dir(names)) => {
             out.push_str(" dir")?;
             add_names(out, names)

@@ -1,4 +1,5 @@
 pub mod KeywordLaws
+pub mod Lengths
 pub mod Machine
 pub mod Places
 pub mod ExprMachine

@@ -67,6 +67,10 @@ keywords =
     Txn ∷ Into ∷ To ∷ Next ∷ Prev ∷ Out ∷ Down ∷ Up ∷ Top ∷ Let ∷ Set ∷ Fetch ∷ Value ∷
     Validate ∷ Print ∷ Store ∷ Create ∷ Remove ∷ Try ∷ Each ∷ Abort ∷ Str ∷ Bool ∷ Names ∷ Pair ∷ Table ∷ []
 
+-- the one of these words that bytes are
+abbrev pub found_in : List Keyword → List ℕ → Option Keyword
+found_in words word = find (λ keyword. pointwise nat_eq (keyword_bytes keyword) word) words
+
 -- the kept word that bytes are
 abbrev pub keyword_of : List ℕ → Option Keyword
-keyword_of word = find (λ keyword. pointwise nat_eq (keyword_bytes keyword) word) keywords
+keyword_of word = found_in keywords word

@@ -1,5 +1,5 @@
 ghost use Rattle.std.specs.Prelude.{◌≡◌};
-ghost use Rattle.fx_parse.specs.Keywords.{keyword_bytes, keyword_of};
+ghost use Rattle.fx_parse.specs.Keywords.{found_in, keyword_bytes, keyword_of};
 
 /// A word that the language keeps for itself, so that it names nothing.
 #[derive(Clone, Copy, Debug, PartialEq, Eq, Hash)]
@@ -114,6 +114,74 @@ pub const KEYWORDS: [Keyword; 52] = [
     Keyword::Table,
 ];
 
+// The kept words of two to five bytes, and the longer ones.
+const OF_TWO: [Keyword; 5] = [
+    Keyword::In,
+    Keyword::If,
+    Keyword::Or,
+    Keyword::To,
+    Keyword::Up,
+];
+
+const OF_THREE: [Keyword; 13] = [
+    Keyword::Dir,
+    Keyword::Opt,
+    Keyword::And,
+    Keyword::Not,
+    Keyword::One,
+    Keyword::Int,
+    Keyword::Txn,
+    Keyword::Out,
+    Keyword::Top,
+    Keyword::Let,
+    Keyword::Set,
+    Keyword::Try,
+    Keyword::Str,
+];
+
+const OF_FOUR: [Keyword; 16] = [
+    Keyword::File,
+    Keyword::Link,
+    Keyword::Pred,
+    Keyword::Only,
+    Keyword::Else,
+    Keyword::Size,
+    Keyword::Text,
+    Keyword::Keys,
+    Keyword::True,
+    Keyword::Into,
+    Keyword::Next,
+    Keyword::Prev,
+    Keyword::Down,
+    Keyword::Each,
+    Keyword::Bool,
+    Keyword::Pair,
+];
+
+const OF_FIVE: [Keyword; 13] = [
+    Keyword::Union,
+    Keyword::Minus,
+    Keyword::Lines,
+    Keyword::First,
+    Keyword::False,
+    Keyword::Empty,
+    Keyword::Fetch,
+    Keyword::Value,
+    Keyword::Print,
+    Keyword::Store,
+    Keyword::Abort,
+    Keyword::Names,
+    Keyword::Table,
+];
+
+const LONGER: [Keyword; 5] = [
+    Keyword::Second,
+    Keyword::Present,
+    Keyword::Validate,
+    Keyword::Create,
+    Keyword::Remove,
+];
+
 impl Keyword {
     /// The word in bytes.
     pub fn bytes(self) -> &'static [u8]
@@ -176,11 +244,26 @@ impl Keyword {
     }
 }
 
-/// The kept word that these bytes are; None exactly where they are none.
+/// The kept word that these bytes are; None exactly where they are none. Only words of their length are tried.
 pub fn keyword_of(word: &[u8]) -> Option<Keyword>
     ensures { result ≡ keyword_of word.now }
 {
-    KEYWORDS
+    let len = word.len();
+    match len {
+        2 => found(&OF_TWO, word),
+        3 => found(&OF_THREE, word),
+        4 => found(&OF_FOUR, word),
+        5 => found(&OF_FIVE, word),
+        6..=8 => found(&LONGER, word),
+        _ => None,
+    }
+}
+
+// The one of these words that the bytes are.
+fn found(keywords: &[Keyword], word: &[u8]) -> Option<Keyword>
+    ensures { result ≡ found_in keywords.now word.now }
+{
+    keywords
         .iter()
         .copied()
         .find(|keyword| keyword.bytes() == word)

@@ -181,7 +181,7 @@ fn both<R: Threads + Wait + Sync>(
 /// The bytes of a file; none of another node.
 fn bytes_of(node: &Option<Node>) -> &[u8] {
     match node {
-        Some(Node::File(bytes)) => bytes.as_slice(),
+        Some(Node::File { bytes, .. }) => bytes.as_slice(),
         _ => b"",
     }
 }

@@ -23,8 +23,9 @@ use Rattle.fx_obey.specs.Course.{pursued, came_of}
 use Rattle.fx_obey.specs.Pursuing.{Came}
 use Rattle.fx_obey.specs.Works.{flow_by}
 use Rattle.fx_run.specs.Finishing.{KeepsAll, IsFinished, IsAttempt, Finishes}
-use Rattle.fx_run.specs.Running.{ReadsFit, Attempted, KeepsOn, StoppedAt}
+use Rattle.fx_run.specs.Running.{ReadsFit, Foretells, Attempted, KeepsOn, StoppedAt}
 use Rattle.fx_run.proofs.Explaining.{explained, next_needed, unread_needed, fit_again}
+use Rattle.fx_run.proofs.Foretelling.{foretells}
 
 outputs_by : (w : Work) (o : Option End) → flow_outputs (flow_by w o) ≡ w.outputs
 outputs_by w None = refl
@@ -44,6 +45,7 @@ module _ {R : Type 0} (m : Meaning R) (root : SpecTree) (t : List CommandTree) (
         more = follows.1.more;
         kept = follows.1.kept;
         walked = follows.1.only;
+        order = follows.1.order;
         read = read;
         changes = finished.kept;
         outputs = finished.outputs ∙ sym (outputs_by ran.work ran.over);
@@ -70,6 +72,10 @@ module _ {R : Type 0} (m : Meaning R) (base : BaseTree) (shell txn : ℕ) (t : L
   pub run_attempted : (r : Result Attempt Stop) → Finishes m base.description t shell txn old new r → IfOk r (Attempted m old new shell txn)
   run_attempted (Ok a) is = record { whose = is.whose; number = is.number; more = is.more; kept = is.kept; none = is.none; same = is.same; vouched = is.vouched }
   run_attempted (Err why) is = tt
+
+  pub run_foretold : (r : Result Attempt Stop) → Finishes m base.description t shell txn old new r → IfOk r (λ a. Foretells base (shell, txn) (m.reads old) a.reads)
+  run_foretold (Ok a) is = foretells base (shell, txn) t planned (m.reads old) is.more a.reads is.kept is.came is.found is.order
+  run_foretold (Err why) is = tt
 
   keeps_on : (paths : List (List (List ℕ))) → Went m old new paths → KeepsOn m old new
   keeps_on paths went = record { more = went.more; kept = went.kept; same = went.same; vouched = went.vouched }

@@ -99,7 +99,7 @@ module _ (root : SpecTree) (t : List CommandTree) (reads : ReadList) (S : Store)
         let on = needs_asked (known_of reads) no_own S agrees (pursued root t) q needs in
         (on.0, sym (pursued_asked S [] (transaction root t)) ∙ on.1)
 
-    needs_way : first_unknown (known_of reads) (way root t S) ≡ Some q
+    pub needs_way : first_unknown (known_of reads) (way root t S) ≡ Some q
     needs_way =
         first-once (known_of reads) (consulted S (transaction root t))
         ∙ (ap (first_unknown (known_of reads)) (sym (pursued_asked S [] (transaction root t))) ∙ needs_first (known_of reads) no_own S agrees (pursued root t) q needs)

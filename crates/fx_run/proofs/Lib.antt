@@ -1,6 +1,7 @@
 pub mod Ways
 pub mod Stable
 pub mod Explaining
+pub mod Foretelling
 pub mod Copies
 pub mod Planned
 pub mod Attempts

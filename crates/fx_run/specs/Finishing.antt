@@ -6,7 +6,7 @@ use Rattle.fx_spec.specs.SpecTree.{SpecTree}
 use Rattle.fx_spec.specs.CommandTree.{CommandTree}
 use Rattle.fx_spec.specs.Transaction.{Flow, flow_end, flow_outputs}
 use Rattle.fx_view.specs.declared.reader.Stop.{Stop}
-use Rattle.fx_view.specs.Follows.{GoesBy, walked}
+use Rattle.fx_view.specs.Follows.{GoesBy, InOrder, walked}
 use Rattle.fx_store.specs.declared.node.Node.{Node}
 use Rattle.fx_view.specs.OwnList.{OwnList}
 use Rattle.fx_view.specs.Meaning.{Meaning}
@@ -44,7 +44,7 @@ pub record IsFinished (r : Ran) (reads : ReadList) (f : Finished) : Type 0 where
   pub outputs : f.outputs ≡ r.work.outputs
   pub end : f.end ≡ end_of r
 
--- the attempt holds the reads at the end, which are those of before and some that were walked; its own changes were read
+-- the attempt holds the reads at the end, which are those of before and some that were walked, in order; its own changes were read
 pub record IsAttempt {R : Type 0} (m : Meaning R) (root : SpecTree) (t : List CommandTree) (shell txn : ℕ) (old new : R) (a : Attempt) : Type 0 where
   pub whose : a.shell ≡ shell
   pub number : a.txn ≡ txn
@@ -52,6 +52,7 @@ pub record IsAttempt {R : Type 0} (m : Meaning R) (root : SpecTree) (t : List Co
   pub found : follow (known_of a.reads) no_own (pursued root t) ≡ Found came
   pub more : ReadList
   pub kept : a.reads ≡ m.reads old ++ more
+  pub order : InOrder (m.reads old) more (walked (known_of a.reads) no_own (pursued root t))
   pub walked : All (Contains (walked (known_of a.reads) no_own (pursued root t))) (keys_of more)
   pub read : AreRead came.own a.reads
   pub changes : AreKept (flow_end came.end) came.own a.reads a.changes

@@ -4,7 +4,7 @@ ghost use Rattle.fx_spec.specs.Plans.{txn_of};
 ghost use Rattle.fx_spec.specs.WellShaped.{IsTransaction};
 ghost use Rattle.fx_machine.specs.Explained.{IsExplained};
 ghost use Rattle.fx_run.specs.Finishing.{Finishes};
-ghost use Rattle.fx_run.specs.Running.{ReadsFit, Attempted, StoppedAt};
+ghost use Rattle.fx_run.specs.Running.{ReadsFit, Foretells, Attempted, StoppedAt};
 
 use crate::finishing::finish;
 use fx_machine::Attempt;
@@ -54,7 +54,7 @@ fn attempt<R: Reader>(
 
 /// Runs a transaction of the plan over what the reader reads. The reader's reads, on each whole filestore that agrees with
 /// them, need to be of paths that the transaction consults there; no reads are. The attempt holds the reads that the reader
-/// had at the end, and the reader then has none. After `Needs` the reads with the needed path are such again.
+/// had at the end, in the order in which the transaction came to their paths, and the reader then has none. After `Needs` the reads with the needed path are such again.
 pub fn run<R: Reader>(
     alloc: Global,
     base: &Arc<Base>,
@@ -66,6 +66,8 @@ pub fn run<R: Reader>(
     requires fit { ReadsFit (base_tree base.now.value) (shell, txn) (R.meaning.reads reader.old) }
     ensures explained { IfOk result (IsExplained (base_tree base.now.value)) }
     ensures attempted { IfOk result (Attempted R.meaning reader.old reader.new shell txn) }
+    ensures foretold { IfOk result (λ a. Foretells (base_tree base.now.value) (shell, txn)
+        (R.meaning.reads reader.old) a.reads) }
     ensures stopped { IfErr result
         (StoppedAt R.meaning (base_tree base.now.value) (shell, txn) reader.old reader.new) }
 {

@@ -1,4 +1,5 @@
 pub mod Looks
+pub mod Shells
 pub mod Worlds
 pub mod Counts
 pub mod Records

@@ -27,11 +27,8 @@ use Rattle.fx_machine.specs.Machine.{position_at, first_unseen, AgreesAt, HasSee
 use Rattle.fx_machine.specs.Passes.{AreTrueReads}
 use Rattle.fx_run.specs.Running.{IsNeeded, ReadsFit}
 use Rattle.fx_board.specs.Board.{IsFreshReads, IsStaleRead}
-use Rattle.fx_sched.specs.World.{looks_in}
-use Rattle.fx_board.specs.Log.{Log}
-use Rattle.fx_machine.specs.declared.event.Event.{Event}
-use Rattle.fx_sched.specs.declared.world.Shell.{Shell}
-use Rattle.fx_sched.specs.Moves.{AllRead, Moved}
+use Rattle.fx_sched.specs.Shells.{looks_in}
+use Rattle.fx_sched.specs.Moves.{AllRead}
 
 abbrev Path : Type 0
 Path = List (List ℕ)
@@ -125,7 +122,7 @@ once_more reads path read once none =
     subst (IsDistinct (eq_by_cmp path_cmp)) (sym (map-append (λ (r : Path × Read). r.0) reads ((path, read) ∷ []))) (IsDistinct-push (eq_by_cmp_equiv path_total) (keys_of reads) path once (unread_key reads path none))
 
 -- a read is one of those before, or the new one
-read_more_cases : (reads : ReadList) (path : Path) (read : Read) (q : Path) (r : Read) → read_at (reads ++ (path, read) ∷ []) q ≡ Some r → (read_at reads q ≡ Some r) ⊎ ((q ≡ path) × (read ≡ r))
+pub read_more_cases : (reads : ReadList) (path : Path) (read : Read) (q : Path) (r : Read) → read_at (reads ++ (path, read) ∷ []) q ≡ Some r → (read_at reads q ≡ Some r) ⊎ ((q ≡ path) × (read ≡ r))
 read_more_cases [] path read q r e = go (eq_by_cmp path_cmp q path) refl e
   where
     go : (b : Bool) → eq_by_cmp path_cmp q path ≡ b → cond b (Some read) None ≡ Some r → (read_at [] q ≡ Some r) ⊎ ((q ≡ path) × (read ≡ r))
@@ -153,23 +150,3 @@ true_longer base o more reads true_reads path node position e =
     let h = true_reads path node position e in
     (omega (arith, h.0, length-append o more), h.1 ∙ sym (ap (λ (m : Nodes). get m path) (state-front base o more position h.0)))
 
--- ---- the same of equal things
-
-pub fits_as : (base base' : BaseTree) (turn : Turn) (reads reads' : ReadList) → base ≡ base' → reads ≡ reads' → ReadsFit base turn reads → ReadsFit base' turn reads'
-fits_as base base' turn reads reads' b r h = subst (λ b. ReadsFit b turn reads') b (subst (ReadsFit base turn) r h)
-
-abbrev pub shell_with : ReadList → ℕ → Shell
-shell_with reads next = record { reads = reads; next = next }
-
-pub shell_is : (s : Shell) (reads : ReadList) (next : ℕ) → reads ≡ s.reads → next ≡ s.next → shell_with reads next ≡ s
-shell_is s reads next r n = ap (λ reads. shell_with reads next) r ∙ ap (shell_with s.reads) n
-
-pub moved_as : (old new : Log) (n n' : ℕ) (s s' : Shell) (result : Result (Shell × Event) Shell) → n ≡ n' → s ≡ s' → IfOk result (λ r. Moved old new n s r.1 r.0) → IfOk result (λ r. Moved old new n' s' r.1 r.0)
-moved_as old new n n' s s' result e f h = subst (λ n. IfOk result (λ r. Moved old new n s' r.1 r.0)) e (subst (λ s. IfOk result (λ r. Moved old new n s r.1 r.0)) f h)
-
-pub refused_as : (old new : Log) (s s' : Shell) (result : Result (Shell × Event) Shell) → s ≡ s' → IfErr result (λ t. (t ≡ s) × (new ≡ old)) → IfErr result (λ t. (t ≡ s') × (new ≡ old))
-refused_as old new s s' result e h = subst (λ s. IfErr result (λ t. (t ≡ s) × (new ≡ old))) e h
-
-pub refused_alone : (log : Log) (s s' : Shell) (result : Result (Shell × Event) Shell) → s ≡ s' → IfErr result (λ t. t ≡ s) → IfErr result (λ t. (t ≡ s') × (log ≡ log))
-refused_alone log s s' (Ok r) e h = tt
-refused_alone log s s' (Err t) e h = (h ∙ e, refl)

@@ -5,7 +5,6 @@ use Rattle.std.proofs.lemmas.Bool.{cases_lt}
 use Rattle.std.proofs.lemmas.List.{take_more, append-nil, map-set, length-map, length-set, get_or_past}
 use Rattle.std.proofs.lemmas.List.Elements.{Contains-append_cases, Contains-append_left, Contains-append_right}
 use Rattle.std.proofs.lemmas.Option.{slice_get_cases}
-use Rattle.fx_spec.specs.declared.base.Base.{Base}
 use Rattle.fx_spec.specs.Plans.{script_of, count_of}
 use Rattle.fx_spec.specs.Order.{BaseTree, first_numbers}
 use Rattle.fx_machine.specs.declared.event.Event.{Event}
@@ -20,20 +19,20 @@ use Rattle.fx_machine.proofs.Weight.{weight, weight_falls}
 use Rattle.fx_board.specs.Log.{Log}
 use Rattle.fx_sched.specs.declared.recording.Retried.{Retried}
 use Rattle.fx_sched.specs.declared.recording.Recording.{Recording}
-use Rattle.fx_sched.specs.declared.world.Shell.{Shell}
+use Rattle.fx_sched.specs.declared.shell.Shell.{Shell}
 use Rattle.fx_sched.specs.Left.{SomeLeft}
 use Rattle.fx_sched.specs.Recorded.{lists_of, noted, IsRecording, HadTurns, HadRounds}
 use Rattle.fx_sched.specs.Running.{Running}
-use Rattle.fx_sched.specs.World.{running_of, IsWorldOver, began, Leads}
+use Rattle.fx_sched.specs.World.{running_of, IsWorld, began, Leads}
 use Rattle.fx_sched.proofs.Counts.{settled_by, next_counts, some_within, more_is_left, noted_conflicts}
 use Rattle.fx_sched.proofs.Worlds.{run_more, shell_at}
 
 -- ---- what a world answers
 
-pub next_of : (base : Base) (log : Log) (shells : List Shell) (running : Running) (number : ℕ) (s : Shell) → IsWorldOver base log shells → running_of log shells ≡ running → number < length running.base.plan → s ≡ get_or shells number s → s.next ≡ next_number running.machine.order number
-next_of base log shells running number s whole view h e =
+pub next_of : (log : Log) (shells : List Shell) (running : Running) (number : ℕ) (s : Shell) → IsWorld log shells → running_of log shells ≡ running → number < length running.base.plan → s ≡ get_or shells number s → s.next ≡ next_number running.machine.order number
+next_of log shells running number s whole view h e =
     let within : number < length log.base.plan = subst (λ (r : Running). number < length r.base.plan) (sym view) h in
-    (whole.world.each number s (shell_at base log shells number s whole within ∙ ap (λ s. Some s) (sym e))).next ∙ ap (λ (r : Running). next_number r.machine.order number) view
+    (whole.each number s (shell_at log shells number s whole within ∙ ap (λ s. Some s) (sym e))).next ∙ ap (λ (r : Running). next_number r.machine.order number) view
 
 pub left_is : (running : Running) (number next count : ℕ) → next ≡ next_number running.machine.order number → count ≡ count_of running.base.plan number → nat_lt next count ≡ has_left running.base running.machine number
 left_is running number next count n c =

@@ -1,4 +1,6 @@
 pub mod Running
+pub mod Present
+pub mod Shells
 pub mod World
 pub mod Traced
 pub mod Moves

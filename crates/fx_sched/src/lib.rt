@@ -2,8 +2,10 @@
 #![tactic(auto)]
 
 mod moves;
+mod present;
 mod recording;
 mod schedule;
+mod shell;
 mod world;
 
 pub use schedule::{Traced, run_schedule};

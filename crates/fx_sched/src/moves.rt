@@ -1,82 +1,177 @@
 //! One step of one shell over a log.
-ghost use Rattle.std.specs.Prelude.{◌≡◌, ◌<◌, ◌+◌, ◌^◌, true, IfOk, IfErr, None, IsSome};
-ghost use Rattle.fx_spec.specs.Bases.{base_tree};
+ghost use Rattle.std.specs.Prelude.{◌≡◌, ◌<◌, ◌≤◌, ◌+◌, ◌^◌, true, IfOk, OnErr, OnOk, IsSome, length};
 ghost use Rattle.fx_spec.specs.Plans.{txn_of};
-ghost use Rattle.fx_view.specs.Reads.{read_at};
-ghost use Rattle.fx_machine.specs.Explained.{IsExplained};
-ghost use Rattle.fx_machine.specs.Machine.{next_number};
-ghost use Rattle.fx_machine.specs.Passes.{AreTrueReads};
-ghost use Rattle.fx_run.specs.Running.{IsNeeded};
-ghost use Rattle.fx_sched.specs.World.{IsShell};
-ghost use Rattle.fx_sched.specs.Moves.{Moved, FitsWith};
+ghost use Rattle.fx_sched.specs.Shells.{IsShell, IsReady, HasLooksOf};
+ghost use Rattle.fx_sched.specs.Moves.{Moved};
 
-use crate::world::Shell;
+use crate::present::Present;
+use crate::shell::{Plan, Shell};
+use fx_base::NoMemory;
 use fx_board::{Board, Event, Settle};
 use fx_machine::Attempt;
-use fx_spec::Base;
-use fx_store::{Node, Path};
-use fx_view::{Known, Reads, Stop};
+use fx_view::{Reads, Stop};
 use std::alloc::Global;
-use std::sync::Arc;
+use std::mem;
 
-/// Runs the shell's next transaction over what it has read: it settles, or starts again, or looks at one more path. A
-/// refusal hands the shell back.
+/// The shell's next transaction looks at one more path, or it settles, or it starts again. It goes by the shell's plan, which is
+/// made anew where what it reads next is not what stands there now. A refusal leaves the log and the looks.
 pub(crate) fn advance(
     alloc: Global,
-    base: &Arc<Base>,
     board: &mut Board,
     number: u32,
-    shell: Shell,
-) -> Result<(Shell, Event), Shell>
-    requires base { base_tree base.now.value ≡ board.old.base }
-    requires shell { IsShell board.old number shell }
-    requires left { IsSome (txn_of board.old.base.plan (number, shell.next)) }
-    requires room { shell.next + 1 < 2 ^ 32 }
-    ensures ok { IfOk result (λ r. Moved board.old board.new number shell r.1 r.0) }
-    ensures err { IfErr result (λ s. (s ≡ shell) × (board.new ≡ board.old)) }
+    shell: &mut Shell,
+) -> Result<Event, NoMemory>
+    requires shell { IsShell board.old number shell.old }
+    requires left { IsSome (txn_of board.old.base.plan (number, shell.old.next)) }
+    requires room { shell.old.next + 1 < 2 ^ 32 }
+    ensures shell { IsShell board.new number shell.new }
+    ensures ok { IfOk result (λ event. Moved board.old board.new number shell.old event shell.new) }
+    ensures log { OnErr result (board.new ≡ board.old) }
+    ensures looks { OnErr result (HasLooksOf shell.old shell.new) }
 {
-    let Shell { reads, next } = shell;
-    let mut known = Known::new(reads);
-    match fx_run::run(alloc, base, number, next, &mut known) {
-        Ok(attempt) => settle(alloc, board, attempt),
-        Err(Stop::Needs(path)) => look(
-            alloc,
-            board,
-            number,
-            Shell {
-                reads: known.reads,
-                next,
-            },
-            path,
-        ),
-        Err(Stop::NoMemory) => Err(Shell {
-            reads: known.reads,
-            next,
-        }),
+    make_ready(alloc, board, number, shell)?;
+    if shell.looked < shell.reads.len() {
+        look(alloc, board, number, shell)
+    } else {
+        settle(alloc, board, number, shell)
     }
 }
 
-fn settle(alloc: Global, board: &mut Board, attempt: Attempt) -> Result<(Shell, Event), Shell>
-    requires explained { IsExplained board.old.base attempt }
-    requires next { attempt.txn ≡ next_number board.old.order attempt.shell }
-    requires reads { AreTrueReads board.old.base board.old.order attempt.reads }
-    requires room { attempt.txn + 1 < 2 ^ 32 }
-    ensures ok { IfOk result
-        (λ r. Moved board.old board.new attempt.shell
-        (record { reads = attempt.reads; next = attempt.txn }) r.1 r.0) }
-    ensures err { IfErr result (λ s. (s ≡ record { reads = attempt.reads; next = attempt.txn })
-        × (board.new ≡ board.old)) }
+/// Sees to it that the shell has a plan, and that what this reads next stands there now.
+fn make_ready(
+    alloc: Global,
+    board: &Board,
+    number: u32,
+    shell: &mut Shell,
+) -> Result<(), NoMemory>
+    requires shell { IsShell board.now number shell.old }
+    requires left { IsSome (txn_of board.now.base.plan (number, shell.old.next)) }
+    ensures shell { IsShell board.now number shell.new }
+    ensures looks { HasLooksOf shell.old shell.new }
+    ensures ready { OnOk result (IsReady board.now shell.new) }
 {
-    let shell = attempt.shell;
-    let next = attempt.txn;
+    if is_ready(board, number, shell) {
+        return Ok(());
+    }
+    plan(alloc, board, number, shell)
+}
+
+/// Whether the shell has a plan, and what it reads next has not been changed since it was made.
+fn is_ready(board: &Board, number: u32, shell: &Shell) -> bool
+    requires { IsShell board.now number shell.now }
+    ensures { result ≡ true → IsReady board.now shell.now }
+{
+    let Some(plan) = &shell.plan else {
+        return false;
+    };
+    let Some((path, _)) = shell.reads.at(shell.looked) else {
+        return true;
+    };
+    match board.last_change(path) {
+        None => true,
+        Some(entry) => entry < plan.made,
+    }
+}
+
+/// Runs the shell's next transaction over its looks and what stands in the log, and keeps what it comes to.
+fn plan(alloc: Global, board: &Board, number: u32, shell: &mut Shell) -> Result<(), NoMemory>
+    requires shell { IsShell board.now number shell.old }
+    requires left { IsSome (txn_of board.now.base.plan (number, shell.old.next)) }
+    ensures shell { IsShell board.now number shell.new }
+    ensures looks { HasLooksOf shell.old shell.new }
+    ensures ready { OnOk result (IsReady board.now shell.new) }
+{
+    let mut reads = mem::replace(&mut shell.reads, Reads::new(alloc));
+    reads.truncate(shell.looked);
+    shell.plan = None;
+    let mut present = Present::new(board, reads);
+    match fx_run::run(alloc, board.shared_base(), number, shell.next, &mut present) {
+        Ok(attempt) => {
+            let Attempt {
+                reads,
+                changes,
+                outputs,
+                end,
+                ..
+            } = attempt;
+            let _reads = reads.len();
+            shell.reads = reads;
+            shell.plan = Some(Plan {
+                made: board.len(),
+                changes,
+                outputs,
+                end,
+            });
+            Ok(())
+        }
+        Err(Stop::Needs(_)) => unreachable!(),
+        Err(Stop::NoMemory) => {
+            shell.reads = present.reads;
+            Err(NoMemory)
+        }
+    }
+}
+
+/// Looks at the path that the plan reads next.
+fn look(alloc: Global, board: &Board, number: u32, shell: &mut Shell) -> Result<Event, NoMemory>
+    requires shell { IsShell board.now number shell.old }
+    requires ready { IsReady board.now shell.old }
+    requires more { shell.old.looked < length shell.old.reads }
+    ensures shell { IsShell board.now number shell.new }
+    ensures ok { IfOk result (λ event. Moved board.now board.now number shell.old event shell.new) }
+    ensures err { OnErr result (shell.new ≡ shell.old) }
+{
+    let Some((path, _)) = shell.reads.at(shell.looked) else {
+        unreachable!()
+    };
+    let path = path.copy(alloc)?;
+    let _reads = shell.reads.len();
+    let position = board.len();
+    shell.reads.place(shell.looked, position);
+    shell.looked += 1;
+    Ok(Event::Look {
+        shell: number,
+        path,
+        position,
+    })
+}
+
+/// Settles what the transaction comes to by the plan, whose reads are all looks.
+fn settle(
+    alloc: Global,
+    board: &mut Board,
+    number: u32,
+    shell: &mut Shell,
+) -> Result<Event, NoMemory>
+    requires shell { IsShell board.old number shell.old }
+    requires ready { IsReady board.old shell.old }
+    requires all { length shell.old.reads ≤ shell.old.looked }
+    requires room { shell.old.next + 1 < 2 ^ 32 }
+    ensures shell { IsShell board.new number shell.new }
+    ensures ok { IfOk result (λ event. Moved board.old board.new number shell.old event shell.new) }
+    ensures log { OnErr result (board.new ≡ board.old) }
+    ensures looks { OnErr result (HasLooksOf shell.old shell.new) }
+{
+    let Some(plan) = mem::replace(&mut shell.plan, None) else {
+        unreachable!()
+    };
+    let attempt = Attempt {
+        shell: number,
+        txn: shell.next,
+        reads: mem::replace(&mut shell.reads, Reads::new(alloc)),
+        changes: plan.changes,
+        outputs: plan.outputs,
+        end: plan.end,
+    };
     match board.settle(alloc, attempt) {
-        Ok(entry) => Ok((
-            Shell {
-                reads: Reads::new(alloc),
-                next: next + 1,
-            },
-            Event::Settled { shell, entry },
-        )),
+        Ok(entry) => {
+            shell.looked = 0;
+            shell.next += 1;
+            Ok(Event::Settled {
+                shell: number,
+                entry,
+            })
+        }
         Err(
             Settle::Conflict {
                 entry,
@@ -85,52 +180,16 @@ fn settle(alloc: Global, board: &mut Board, attempt: Attempt) -> Result<(Shell, 
             },
         ) => {
             drop(attempt);
-            Ok((
-                Shell {
-                    reads: Reads::new(alloc),
-                    next,
-                },
-                Event::Conflict { shell, entry, path },
-            ))
-        }
-        Err(Settle::NoMemory(attempt)) => Err(Shell {
-            reads: attempt.reads,
-            next,
-        }),
-    }
-}
-
-fn look(
-    alloc: Global,
-    board: &Board,
-    number: u32,
-    mut shell: Shell,
-    path: Path,
-) -> Result<(Shell, Event), Shell>
-    requires unread { read_at shell.reads path ≡ None }
-    requires next { IsNeeded board.now.base (number, shell.next) shell.reads path }
-    requires fit { FitsWith board.now.base (number, shell.next) shell.reads path }
-    ensures ok { IfOk result (λ r. Moved board.now board.now number shell r.1 r.0) }
-    ensures err { IfErr result (λ s. s ≡ shell) }
-{
-    let Ok((node, position)) = board.look(alloc, &path) else {
-        return Err(shell);
-    };
-    let Ok(copy) = path.copy(alloc) else {
-        let_go(node);
-        return Err(shell);
-    };
-    match shell.reads.add(alloc, copy, node, position) {
-        Ok(()) => Ok((
-            shell,
-            Event::Look {
+            shell.looked = 0;
+            Ok(Event::Conflict {
                 shell: number,
+                entry,
                 path,
-                position,
-            },
-        )),
-        Err(_) => Err(shell),
+            })
+        }
+        Err(Settle::NoMemory(attempt)) => {
+            shell.reads = attempt.reads;
+            Err(NoMemory)
+        }
     }
 }
-
-fn let_go(_: Option<Node>) {}

@@ -3,30 +3,22 @@ ghost use Rattle.fx_spec.specs.Bases.{base_tree};
 ghost use Rattle.fx_machine.specs.Machine.{next_number};
 ghost use Rattle.fx_machine.specs.Measure.{measure, IsLower, has_left};
 ghost use Rattle.fx_sched.specs.Left.{SomeLeft};
-ghost use Rattle.fx_sched.specs.World.{began, Stepped, IsWorldOver, new_shell, machine_of, running_of};
+ghost use Rattle.fx_sched.specs.World.{began, Stepped, IsWorld, new_shell, machine_of, running_of};
 
 use crate::moves::advance;
+use crate::shell::Shell;
 use fx_base::NoMemory;
 use fx_board::{Board, Event};
 use fx_spec::Base;
 use fx_view::Reads;
 use std::alloc::Global;
 use std::marker::Model;
-use std::mem;
 use std::sync::Arc;
-
-/// What a shell has read for its next transaction, and the number of that transaction.
-#[derive(Drop)]
-pub struct Shell {
-    pub reads: Reads,
-    pub next: u32,
-}
 
 /// A log and what each shell of its plan has looked at since it began its next transaction. Contracts see the base and the
 /// machine's state.
 #[derive(Drop)]
 pub struct World {
-    base: Arc<Base>,
     board: Board,
     shells: Vec<Shell>,
 }
@@ -38,11 +30,11 @@ impl Model for World {
 
     ghost coded = { running_code };
 
-    ghost use Rattle.fx_sched.specs.World.{running_of, IsWorldOver};
+    ghost use Rattle.fx_sched.specs.World.{running_of, IsWorld};
 
     ghost view = { λ w. running_of w.board w.shells.items };
 
-    ghost invariant = { λ w. IsWorldOver w.base.value w.board w.shells.items };
+    ghost invariant = { λ w. IsWorld w.board w.shells.items };
 }
 
 impl World {
@@ -51,12 +43,8 @@ impl World {
         ensures { IfOk result (λ w. w ≡ began (base_tree base.value)) }
     {
         let shells = new_shells(alloc, base.plan.len())?;
-        let board = Board::new(alloc, Arc::try_clone(&base)?)?;
-        Ok(World {
-            base,
-            board,
-            shells,
-        })
+        let board = Board::new(alloc, base)?;
+        Ok(World { board, shells })
     }
 
     /// The log.
@@ -70,12 +58,7 @@ impl World {
     pub(crate) fn into_board(self) -> Board
         ensures { (result.base ≡ self.base) × (result.order ≡ self.machine.order) }
     {
-        let World {
-            base,
-            board,
-            shells,
-        } = self;
-        drop(base);
+        let World { board, shells } = self;
         drop(shells);
         board
     }
@@ -84,7 +67,7 @@ impl World {
     pub(crate) fn count(&self) -> u32
         ensures { result ≡ length self.now.base.plan }
     {
-        self.base.plan.len()
+        self.board.base().plan.len()
     }
 
     /// The number of the next transaction of a shell of the plan.
@@ -100,7 +83,7 @@ impl World {
         requires { shell < length self.now.base.plan }
         ensures { result ≡ has_left self.now.base self.now.machine shell }
     {
-        self.next(shell) < self.base.plan.count(shell)
+        self.next(shell) < self.board.base().plan.count(shell)
     }
 
     /// Whether some shell has a transaction left.
@@ -127,7 +110,7 @@ impl World {
             (measure self.old.base self.old.machine))) }
         ensures err { OnErr result (self.new ≡ self.old) }
     {
-        step_shell(alloc, &self.base, &mut self.board, &mut self.shells, shell)
+        step_shell(alloc, &mut self.board, &mut self.shells, shell)
     }
 }
 
@@ -137,8 +120,10 @@ fn new_shells(alloc: Global, count: u32) -> Result<Vec<Shell>, NoMemory>
     let mut shells = Vec::new(alloc);
     for _shell in 0..count {
         shells.push(Shell {
-            reads: Reads::new(alloc),
             next: 0,
+            looked: 0,
+            reads: Reads::new(alloc),
+            plan: None,
         })?;
     }
     Ok(shells)
@@ -147,14 +132,13 @@ fn new_shells(alloc: Global, count: u32) -> Result<Vec<Shell>, NoMemory>
 /// A step of one shell, over the parts of a world.
 fn step_shell(
     alloc: Global,
-    base: &Arc<Base>,
     board: &mut Board,
     shells: &mut [Shell],
     shell: u32,
 ) -> Result<Option<Event>, NoMemory>
-    requires world { IsWorldOver base.now.value board.old shells.old }
+    requires world { IsWorld board.old shells.old }
     requires shell { shell < length board.old.base.plan }
-    ensures world { IsWorldOver base.now.value board.new shells.new }
+    ensures world { IsWorld board.new shells.new }
     ensures event { IfOk result
         (Stepped (running_of board.old shells.old) shell (running_of board.new shells.new)) }
     ensures lower { IfOk result (λ event. IfSome event
@@ -162,25 +146,11 @@ fn step_shell(
         (measure board.old.base (machine_of board.old.order shells.old)))) }
     ensures err { OnErr result (running_of board.new shells.new ≡ running_of board.old shells.old) }
 {
-    let count = base.plan.count(shell);
+    let count = board.base().plan.count(shell);
     let slot = &mut shells[shell as usize];
-    let next = slot.next;
-    if count <= next {
+    if count <= slot.next {
         return Ok(None);
     }
-    let begun = Shell {
-        reads: Reads::new(alloc),
-        next,
-    };
-    let old = mem::replace(slot, begun);
-    match advance(alloc, base, board, shell, old) {
-        Ok((new, event)) => {
-            *slot = new;
-            Ok(Some(event))
-        }
-        Err(old) => {
-            *slot = old;
-            Err(NoMemory)
-        }
-    }
+    let event = advance(alloc, board, shell, slot)?;
+    Ok(Some(event))
 }

@@ -2,7 +2,7 @@
 use denote.Param.Send.{IsSend, IsSync, sendable}
 use Rattle.std.proofs.Crossing.{crosses}
 use Rattle.fx_store.proofs.Crosses.{Path-send, Path-sync, Filestore-send, Filestore-sync}
-use Rattle.fx_expr.proofs.Crosses.{Expr-send, Expr-sync, Word-send, Word-sync, Shape-send, Shape-sync}
+use Rattle.fx_expr.proofs.Crosses.{Expr-send, Expr-sync, Formula-send, Formula-sync, Word-send, Word-sync, Shape-send, Shape-sync}
 use Rattle.fx_spec.specs.contracts.spec.Spec as spec
 use Rattle.fx_spec.specs.contracts.checked.Checked as checked
 use Rattle.fx_spec.specs.contracts.command.Act as act
@@ -18,10 +18,10 @@ use Rattle.fx_spec.proofs.spec.Spec.TheLaws.TheKnot.{send-Spec, sync-Spec}
 use Rattle.fx_spec.proofs.command.Commands.TheLaws.TheKnot.{send-Commands, sync-Commands}
 
 pub Spec-send : IsSend (spec.the_field).row
-Spec-send = search (sendable, crosses, send-Spec, Expr-send, Word-send) depth 40
+Spec-send = search (sendable, crosses, send-Spec, Formula-send, Word-send) depth 40
 
 pub Spec-sync : IsSync (spec.the_field).row
-Spec-sync = search (sendable, crosses, sync-Spec, Expr-sync, Word-sync) depth 40
+Spec-sync = search (sendable, crosses, sync-Spec, Formula-sync, Word-sync) depth 40
 
 pub Checked-send : IsSend (checked.the_field).row
 Checked-send = search (sendable, crosses, Spec-send) depth 40

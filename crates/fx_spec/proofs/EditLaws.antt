@@ -17,7 +17,7 @@ use Rattle.fx_store.specs.Names.{is_slash, is_name, IsName, IsPath, IsNameSet, I
 use Rattle.fx_store.specs.Landings.{Resolves, arrived, stays, rises, lacks, enters, ends_at_file, stops_at_file, ends_at_link, follows, tires, IsTrueOf}
 use Rattle.fx_store.specs.Resolve.{Component, CurDir, ParentDir, Normal, component_of, components_of, names_only, absent, ◌/ₚ◌, is_full, resolve, lands}
 use Rattle.fx_store.specs.Rule.{Ask, Answer, answer, ◌>>=◌}
-use Rattle.fx_store.specs.Whole.{Store, IsWhole, IsNode, over}
+use Rattle.fx_store.specs.Whole.{Store, IsWhole, IsNode, lists, over}
 use Rattle.fx_store.proofs.Asks.{answer-bind}
 use Rattle.fx_store.proofs.Relisted.{eq_names}
 use Rattle.fx_store.proofs.Landings.{lands_by_the_rules, landings_are_true}
@@ -31,7 +31,7 @@ use Rattle.fx_spec.specs.SpecTree.{SpecTree}
 use Rattle.fx_spec.specs.Describe.{Bindings, with_some, exists, extension, focus_path, value}
 use Rattle.fx_spec.specs.Place.{Step, First, Second, Inside, Down, Elem, PlaceTree, placed, where_true, has_element, at_path, lead, place}
 use Rattle.fx_spec.specs.Move.{Answered, unrefused, needed}
-use Rattle.fx_spec.specs.Edit.{set_to, replaced, lacks_room, unless_deep, is_too_deep, new_names, make, store_landed, names_node, link_node, form_node, is_content, is_storable, stored_node, follows_last, store_at, bare_node, create_landed, create_at, remove_landed}
+use Rattle.fx_spec.specs.Edit.{set_to, replaced, lacks_room, unless_deep, is_too_deep, new_names, renewed, is_flag, make, store_landed, names_node, link_node, form_node, is_content, is_storable, stored_node, follows_last, store_at, bare_node, create_landed, create_at, remove_landed}
 use Rattle.fx_spec.specs.Laws.{KeepsWhole, EditsKeepWhole, PlacesHavePaths}
 use Rattle.fx_spec.proofs.EditsWhole.{IsWhole-put}
 use Rattle.fx_spec.proofs.EditsKeep.{same_ok, new_names_keep, remove_keeps}
@@ -203,7 +203,7 @@ all_names (n ∷ names) ok = All-cons IsName n names ok.0 (all_names names ok.1)
 
 -- a node within its limits wherever it stands
 abbrev pub NodeOk : Node → Type 0
-NodeOk (File bytes) = IsContent bytes
+NodeOk (File bytes exec) = IsContent bytes
 NodeOk (Dir names) = IsNameSet names
 NodeOk (Link text) = IsLinkText text
 
@@ -253,7 +253,8 @@ ascending_ok : (names : List (List ℕ)) → pointwise (pointwise nat_eq) (set_o
 ascending_ok names e = subst IsAscending (same_lists (set_of names) names e) (ascending_set names)
 
 form_node_ok : (spec : SpecTree) (v : Tree) → is_storable v ≡ true → (node : Node) → form_node spec v ≡ Ok node → NodeOk node
-form_node_ok SpecTree.file (Tree.str bytes) ok node e = subst NodeOk (same_ok (File bytes) node e) (content_ok bytes ok)
+form_node_ok SpecTree.file (Tree.str bytes) ok node e = subst NodeOk (same_ok (File bytes false) node e) (content_ok bytes ok)
+form_node_ok SpecTree.file (Tree.bool exec) ok node e = subst NodeOk (same_ok (File [] exec) node e) (record { short = omega arith; bytes = All-nil _ })
 form_node_ok SpecTree.dir (Tree.names names) ok node e = names_node_ok names (ascending_ok names ok) node e
 form_node_ok SpecTree.link (Tree.str text) ok node e = link_node_ok text (content_ok text ok) node e
 form_node_ok _ v ok node e = cc
@@ -280,26 +281,39 @@ unless-ok true S rule cs e = cc
 unless-ok false S rule cs e = (refl, e)
 
 -- the content of a node that is there
-replaced_keeps : (S : Store) → IsWhole S → (q : List (List ℕ)) (node : Node) → NodeOk node → (x : Option Node) → S q ≡ x → (cs : List Change) → answer S (replaced q node x) ≡ Ok cs → IsWhole (over S cs)
-replaced_keeps S whole q (File bytes) ok (Some (File old)) there cs e =
-    subst (λ cs. IsWhole (over S cs)) (same_ok (set_to q (File bytes) ∷ []) cs e) (
-    IsWhole-put S q (File old) (File bytes) whole there (λ names f. file_no_dir old names f) (λ n. refl) (record { childless = λ n. refl; limits = ok }))
+renewed_ok : (flag : Bool) (bytes old : List ℕ) (exec was : Bool) → IsContent bytes → IsContent old → NodeOk (renewed flag (File bytes exec) (File old was))
+renewed_ok true bytes old exec was new h = h
+renewed_ok false bytes old exec was new h = new
+
+renewed_node : (flag : Bool) (q : List (List ℕ)) (bytes old : List ℕ) (exec was : Bool) → IsContent bytes → IsContent old → IsNode q (renewed flag (File bytes exec) (File old was))
+renewed_node true q bytes old exec was new h = h
+renewed_node false q bytes old exec was new h = new
+
+renewed_childless : (flag : Bool) (bytes old : List ℕ) (exec was : Bool) (n : List ℕ) → lists (Some (renewed flag (File bytes exec) (File old was))) n ≡ false
+renewed_childless true bytes old exec was n = refl
+renewed_childless false bytes old exec was n = refl
+
+replaced_keeps : (S : Store) → IsWhole S → (flag : Bool) (q : List (List ℕ)) (node : Node) → NodeOk node → (x : Option Node) → S q ≡ x → (cs : List Change) → answer S (replaced flag q node x) ≡ Ok cs → IsWhole (over S cs)
+replaced_keeps S whole flag q (File bytes exec) ok (Some (File old was)) there cs e =
+    let held : IsContent old = subst (λ o. IfSome o (IsNode q)) there (whole.nodes q) in
+    subst (λ cs. IsWhole (over S cs)) (same_ok (set_to q (renewed flag (File bytes exec) (File old was)) ∷ []) cs e) (
+    IsWhole-put S q (File old was) (renewed flag (File bytes exec) (File old was)) whole there (λ names f. file_no_dir names f) (λ n. refl) (record { childless = λ n. renewed_childless flag bytes old exec was n; limits = renewed_node flag q bytes old exec was ok held }))
   where
-    file_no_dir : (old : List ℕ) (names : List (List ℕ)) → File old ≡ Dir names → ⊥
-    file_no_dir old names f = cc
-replaced_keeps S whole q (Link text) ok (Some (Link old)) there cs e =
+    file_no_dir : (names : List (List ℕ)) → File old was ≡ Dir names → ⊥
+    file_no_dir names f = cc
+replaced_keeps S whole flag q (Link text) ok (Some (Link old)) there cs e =
     subst (λ cs. IsWhole (over S cs)) (same_ok (set_to q (Link text) ∷ []) cs e) (
     IsWhole-put S q (Link old) (Link text) whole there (λ names f. link_no_dir old names f) (λ n. refl) (record { childless = λ n. refl; limits = ok }))
   where
     link_no_dir : (old : List ℕ) (names : List (List ℕ)) → Link old ≡ Dir names → ⊥
     link_no_dir old names f = cc
-replaced_keeps S whole q (Dir names) ok (Some (Dir old)) there cs e =
+replaced_keeps S whole flag q (Dir names) ok (Some (Dir old)) there cs e =
     let w : (lacks_room q (Dir names) ≡ false) × (answer S (new_names q old names) ≡ Ok cs) = unless-ok (lacks_room q (Dir names)) S (new_names q old names) cs e in
     new_names_keep S q old names whole there ok (λ full. has_room q names w.0 full) cs w.1
-replaced_keeps S whole q node ok x there cs e = cc
+replaced_keeps S whole flag q node ok x there cs e = cc
 
 can_make : (q : List (List ℕ)) (node : Node) → NodeOk node → lacks_room q node ≡ false → CanMake q node
-can_make q (File bytes) ok e = ok
+can_make q (File bytes exec) ok e = ok
 can_make q (Dir names) ok e = (ok, λ full. has_room q names e full)
 can_make q (Link text) ok e = ok
 
@@ -318,11 +332,11 @@ absent_keeps S whole here (n ∷ names) node ok true_of valid cs e =
     let room : (length here + length (n ∷ names) ≤ 64) × (lacks_room (here ++ n ∷ names) node ≡ false) = not_too_deep here (n ∷ names) node w.0 in
     make_keeps S here n names node whole true_of.0.0 true_of.0.1 true_of.1 (all_names (n ∷ names) valid) (omega (arith, room.0)) (can_make (here ++ n ∷ names) node ok room.1) cs w.1
 
-store_landed_keeps : (S : Store) → IsWhole S → (p : List (List ℕ)) (node : Node) → NodeOk node → (l : Landing) → IsTrueOf S l → HasNames l → KeepsWhole S (store_landed p node l)
-store_landed_keeps S whole p node ok (At q) true_of names cs e = replaced_keeps S whole q node ok (S q) refl cs e
-store_landed_keeps S whole p node ok (Absent here names) true_of valid cs e = absent_keeps S whole here names node ok true_of valid cs e
-store_landed_keeps S whole p node ok (Blocked q) true_of names cs e = cc
-store_landed_keeps S whole p node ok TooManyLinks true_of names cs e = cc
+store_landed_keeps : (S : Store) → IsWhole S → (flag : Bool) (p : List (List ℕ)) (node : Node) → NodeOk node → (l : Landing) → IsTrueOf S l → HasNames l → KeepsWhole S (store_landed flag p node l)
+store_landed_keeps S whole flag p node ok (At q) true_of names cs e = replaced_keeps S whole flag q node ok (S q) refl cs e
+store_landed_keeps S whole flag p node ok (Absent here names) true_of valid cs e = absent_keeps S whole here names node ok true_of valid cs e
+store_landed_keeps S whole flag p node ok (Blocked q) true_of names cs e = cc
+store_landed_keeps S whole flag p node ok TooManyLinks true_of names cs e = cc
 
 create_landed_keeps : (S : Store) → IsWhole S → (p : List (List ℕ)) (node : Node) → NodeOk node → (l : Landing) → IsTrueOf S l → HasNames l → KeepsWhole S (create_landed p node l)
 create_landed_keeps S whole p node ok (At q) true_of names cs e = cc
@@ -337,7 +351,7 @@ remove_landed_keeps S whole p (Blocked q) true_of cs e = cc
 remove_landed_keeps S whole p TooManyLinks true_of cs e = cc
 
 bare_node_ok : (spec : SpecTree) (node : Node) → needed Refusal.NoDefault (bare_node spec) ≡ Ok node → NodeOk node
-bare_node_ok SpecTree.file node e = subst NodeOk (same_ok (File []) node e) (record { short = omega arith; bytes = All-nil _ })
+bare_node_ok SpecTree.file node e = subst NodeOk (same_ok (File [] false) node e) (record { short = omega arith; bytes = All-nil _ })
 bare_node_ok SpecTree.dir node e = subst NodeOk (same_ok (Dir []) node e) (record { names = All-nil _; ascending = ascending_set [] })
 bare_node_ok (SpecTree.pair x a b) node e = bare_node_ok a node e
 bare_node_ok (SpecTree.opt s) node e = bare_node_ok s node e
@@ -346,11 +360,11 @@ bare_node_ok _ node e = cc
 store_keeps : (S : Store) → IsWhole S → (at : PlaceTree) → IsPath at.path → (v : Tree) → KeepsWhole S (store_at v at)
 store_keeps S whole at ok v cs e = go (stored_node at.spec v) refl e
   where
-    go : (x : Answered Node) → stored_node at.spec v ≡ x → answer S (unrefused (λ node. resolve at.path (follows_last node) >>= store_landed at.path node) x) ≡ Ok cs → IsWhole (over S cs)
+    go : (x : Answered Node) → stored_node at.spec v ≡ x → answer S (unrefused (λ node. resolve at.path (follows_last node) >>= store_landed (is_flag v) at.path node) x) ≡ Ok cs → IsWhole (over S cs)
     go (Err f) g h = cc
     go (Ok node) g h =
-        store_landed_keeps S whole at.path node (stored_node_ok at.spec v node g) (lands S at.path (follows_last node)) (landings_are_true S whole at.path (follows_last node)) (landing_names S whole at.path (follows_last node) ok)
-        cs (sym (answer-bind S (resolve at.path (follows_last node)) (store_landed at.path node)) ∙ h)
+        store_landed_keeps S whole (is_flag v) at.path node (stored_node_ok at.spec v node g) (lands S at.path (follows_last node)) (landings_are_true S whole at.path (follows_last node)) (landing_names S whole at.path (follows_last node) ok)
+        cs (sym (answer-bind S (resolve at.path (follows_last node)) (store_landed (is_flag v) at.path node)) ∙ h)
 
 create_keeps : (S : Store) → IsWhole S → (at : PlaceTree) → IsPath at.path → KeepsWhole S (create_at at)
 create_keeps S whole at ok cs e = go (needed Refusal.NoDefault (bare_node at.spec)) refl e

@@ -13,7 +13,7 @@ use Rattle.fx_store.specs.Rule.{Ask, Answer, Look, Tick, Known, Found, seen, if_
 use Rattle.fx_expr.specs.Sets.{set_of, with_text}
 use Rattle.fx_expr.specs.Tree.{Tree}
 use Rattle.fx_spec.specs.declared.refusal.Refusal.{Refusal}
-use Rattle.fx_spec.specs.Edit.{set_to, removed, names_of, clear_all, cleared, clear_levels, clear, entry, entries, new_names, lacks_room, unless_deep, replaced, made, make, is_too_deep, store_landed, stored_node, follows_last, store_at, bare_node, create_landed, create_at, last_name, without_name, remove_entry, remove_landed, remove_at}
+use Rattle.fx_spec.specs.Edit.{renewed, is_flag, set_to, removed, names_of, clear_all, cleared, clear_levels, clear, entry, entries, new_names, lacks_room, unless_deep, replaced, made, make, is_too_deep, store_landed, stored_node, follows_last, store_at, bare_node, create_landed, create_at, last_name, without_name, remove_entry, remove_landed, remove_at}
 use Rattle.fx_spec.specs.EditLooks.{EditsLookAtChanges}
 use Rattle.fx_spec.specs.Move.{Answered, unrefused, needed}
 use Rattle.fx_spec.specs.Place.{PlaceTree}
@@ -98,9 +98,9 @@ module _ (known own : Known) where
   entry_known : (q : Path) (old new : List (List ℕ)) (n : List ℕ) → Gives (entry q old new n) AreKnown
   entry_known q old new n = by (has new n) (has old n)
     where
-      by : (a b : Bool) → Gives (cond a (cond b (Answer []) (Look (q /ₚ n) (λ node. Answer (set_to (q /ₚ n) (File []) ∷ [])))) (clear (q /ₚ n))) AreKnown
+      by : (a b : Bool) → Gives (cond a (cond b (Answer []) (Look (q /ₚ n) (λ node. Answer (set_to (q /ₚ n) (File [] false) ∷ [])))) (clear (q /ₚ n))) AreKnown
       by true true = gives_changes [] tt
-      by true false = gives_look (q /ₚ n) (λ node. Answer (set_to (q /ₚ n) (File []) ∷ [])) AreKnown (λ node is. gives_changes (set_to (q /ₚ n) (File []) ∷ []) (is, tt))
+      by true false = gives_look (q /ₚ n) (λ node. Answer (set_to (q /ₚ n) (File [] false) ∷ [])) AreKnown (λ node is. gives_changes (set_to (q /ₚ n) (File [] false) ∷ []) (is, tt))
       by false b = clear_known (q /ₚ n)
 
   entries_known : (change : List ℕ → Ask (List Change)) (names : List (List ℕ)) → ((n : List ℕ) → Gives (change n) AreKnown) → Gives (entries change names) AreKnown
@@ -119,19 +119,19 @@ module _ (known own : Known) where
 
   -- ---- stores
 
-  replaced_known : (q : Path) (node : Node) (found : Option Node) → IsSome (known q) → Gives (replaced q node found) AreKnownOf
-  replaced_known q (File bytes) (Some (File old)) is = gives_ok (set_to q (File bytes) ∷ []) (is, tt)
-  replaced_known q (File bytes) (Some (Dir old)) is = gives_refusal (Refusal.Blocked q)
-  replaced_known q (File bytes) (Some (Link old)) is = gives_refusal (Refusal.Blocked q)
-  replaced_known q (File bytes) None is = gives_refusal (Refusal.Blocked q)
-  replaced_known q (Dir names) (Some (File old)) is = gives_refusal (Refusal.Blocked q)
-  replaced_known q (Dir names) (Some (Dir old)) is = unless_deep_known (lacks_room q (Dir names)) (new_names q old names) (new_names_known q old names is)
-  replaced_known q (Dir names) (Some (Link old)) is = gives_refusal (Refusal.Blocked q)
-  replaced_known q (Dir names) None is = gives_refusal (Refusal.Blocked q)
-  replaced_known q (Link text) (Some (File old)) is = gives_refusal (Refusal.Blocked q)
-  replaced_known q (Link text) (Some (Dir old)) is = gives_refusal (Refusal.Blocked q)
-  replaced_known q (Link text) (Some (Link old)) is = gives_ok (set_to q (Link text) ∷ []) (is, tt)
-  replaced_known q (Link text) None is = gives_refusal (Refusal.Blocked q)
+  replaced_known : (flag : Bool) (q : Path) (node : Node) (found : Option Node) → IsSome (known q) → Gives (replaced flag q node found) AreKnownOf
+  replaced_known flag q (File bytes exec) (Some (File old exec2)) is = gives_ok (set_to q (renewed flag (File bytes exec) (File old exec2)) ∷ []) (is, tt)
+  replaced_known flag q (File bytes exec) (Some (Dir old)) is = gives_refusal (Refusal.Blocked q)
+  replaced_known flag q (File bytes exec) (Some (Link old)) is = gives_refusal (Refusal.Blocked q)
+  replaced_known flag q (File bytes exec) None is = gives_refusal (Refusal.Blocked q)
+  replaced_known flag q (Dir names) (Some (File old exec)) is = gives_refusal (Refusal.Blocked q)
+  replaced_known flag q (Dir names) (Some (Dir old)) is = unless_deep_known (lacks_room q (Dir names)) (new_names q old names) (new_names_known q old names is)
+  replaced_known flag q (Dir names) (Some (Link old)) is = gives_refusal (Refusal.Blocked q)
+  replaced_known flag q (Dir names) None is = gives_refusal (Refusal.Blocked q)
+  replaced_known flag q (Link text) (Some (File old exec)) is = gives_refusal (Refusal.Blocked q)
+  replaced_known flag q (Link text) (Some (Dir old)) is = gives_refusal (Refusal.Blocked q)
+  replaced_known flag q (Link text) (Some (Link old)) is = gives_ok (set_to q (Link text) ∷ []) (is, tt)
+  replaced_known flag q (Link text) None is = gives_refusal (Refusal.Blocked q)
 
   look_all_known : {A : Type 0} (ps : List Path) (rule : Ask A) (Q : A → Type 0) → (AllKnown known ps → Gives rule Q) → Gives (look_all ps rule) Q
   look_all_known [] rule Q given = given tt
@@ -144,11 +144,11 @@ module _ (known own : Known) where
       gives_look here (λ found. look_all (changed_paths changes) (Answer (Ok (set_to here (Dir (with_text n (names_of found))) ∷ changes)))) AreKnownOf (λ found is.
       look_all_known (changed_paths changes) (Answer (Ok (set_to here (Dir (with_text n (names_of found))) ∷ changes))) AreKnownOf (λ all. gives_ok (set_to here (Dir (with_text n (names_of found))) ∷ changes) (is, all)))
 
-  store_landed_known : (p : Path) (node : Node) (landing : Landing) → Gives (store_landed p node landing) AreKnownOf
-  store_landed_known p node (At q) = gives_look q (replaced q node) AreKnownOf (λ found is. replaced_known q node found is)
-  store_landed_known p node (Absent here names) = unless_deep_known (is_too_deep here names node) (make here names node) (make_known here names node)
-  store_landed_known p node (Blocked q) = gives_refusal (Refusal.Blocked q)
-  store_landed_known p node TooManyLinks = gives_refusal (Refusal.Blocked p)
+  store_landed_known : (flag : Bool) (p : Path) (node : Node) (landing : Landing) → Gives (store_landed flag p node landing) AreKnownOf
+  store_landed_known flag p node (At q) = gives_look q (replaced flag q node) AreKnownOf (λ found is. replaced_known flag q node found is)
+  store_landed_known flag p node (Absent here names) = unless_deep_known (is_too_deep here names node) (make here names node) (make_known here names node)
+  store_landed_known flag p node (Blocked q) = gives_refusal (Refusal.Blocked q)
+  store_landed_known flag p node TooManyLinks = gives_refusal (Refusal.Blocked p)
 
   create_landed_known : (p : Path) (node : Node) (landing : Landing) → Gives (create_landed p node landing) AreKnownOf
   create_landed_known p node (At q) = gives_refusal Refusal.Exists
@@ -167,7 +167,7 @@ module _ (known own : Known) where
 
   store_known : (v : Tree) (at : PlaceTree) → Gives (store_at v at) AreKnownOf
   store_known v at =
-      unrefused_known (λ node. resolve at.path (follows_last node) >>= store_landed at.path node) (stored_node at.spec v) (λ node. landed (resolve at.path (follows_last node)) (store_landed at.path node) (store_landed_known at.path node))
+      unrefused_known (λ node. resolve at.path (follows_last node) >>= store_landed (is_flag v) at.path node) (stored_node at.spec v) (λ node. landed (resolve at.path (follows_last node)) (store_landed (is_flag v) at.path node) (store_landed_known (is_flag v) at.path node))
 
   create_known : (at : PlaceTree) → Gives (create_at at) AreKnownOf
   create_known at =

@@ -84,7 +84,7 @@ in_each f (m ∷ names) n r h g = list_any-append (eq_by_cmp path_cmp r) (f m) (
 
 listed_names : (x : Option Node) (n : List ℕ) → lists x n ≡ true → (node : Node) × (x ≡ Some node) × (has (names_of (Some node)) n ≡ true)
 listed_names None n h = absurd (true≢false (sym h))
-listed_names (Some (File b)) n h = absurd (true≢false (sym h))
+listed_names (Some (File b exec)) n h = absurd (true≢false (sym h))
 listed_names (Some (Dir names)) n h = (Dir names, refl, h)
 listed_names (Some (Link t)) n h = absurd (true≢false (sym h))
 

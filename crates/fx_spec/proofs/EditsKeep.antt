@@ -29,7 +29,7 @@ use Rattle.fx_spec.proofs.EditsClear.{has-set_of, gone_target, gone_away}
 pub same_ok : {A : Type 0} (a b : A) → ◌≡◌ {A = Answered A} (Ok a) (Ok b) → a ≡ b
 same_ok a b e = cc
 
-pub empty_file : (path : List (List ℕ)) → IsLeaf path (File [])
+pub empty_file : (path : List (List ℕ)) → IsLeaf path (File [] false)
 empty_file path = record { childless = λ n. refl; limits = record { short = omega arith; bytes = All-nil _ } }
 
 ascending_none : IsAscending []
@@ -53,44 +53,44 @@ neither : (a b : Bool) → (a || b) ≡ false → b ≡ a
 neither true b e = absurd (true≢false e)
 neither false b e = e
 
-module _ (S : Store) (q old new : List (List ℕ)) (can : CanRelist S q old new (λ n. File [])) where
+module _ (S : Store) (q old new : List (List ℕ)) (can : CanRelist S q old new (λ n. File [] false)) where
   abbrev target : List ℕ → List (List ℕ) → Option Node
-  target n rest = relist_at S old new (λ n. File []) (q ++ n ∷ rest) (Some (n ∷ rest))
+  target n rest = relist_at S old new (λ n. File [] false) (q ++ n ∷ rest) (Some (n ∷ rest))
 
-  entry-brings : Brings S q old new (λ n. File []) can (λ n. answer S (entry q old new n)) (set_of (old ++ new))
+  entry-brings : Brings S q old new (λ n. File [] false) can (λ n. answer S (entry q old new n)) (set_of (old ++ new))
   entry-brings = record {
     own = λ n rest U h ok. own n rest U ok (has new n) (has old n) refl refl;
     other = λ n r U away. other n r U away (has new n) (has old n);
-    kept = λ n rest h. kept_target S q old new (λ n. File []) can n rest (neither (has old n) (has new n) (sym (list_any-append (eq_by_cmp name_cmp n) old new) ∙ sym (has-set_of (old ++ new) n) ∙ h));
+    kept = λ n rest h. kept_target S q old new (λ n. File [] false) can n rest (neither (has old n) (has new n) (sym (list_any-append (eq_by_cmp name_cmp n) old new) ∙ sym (has-set_of (old ++ new) n) ∙ h));
   }
     where
       own : (n : List ℕ) (rest : List (List ℕ)) (U : Store) → (U (q ++ n ∷ rest) ≡ S (q ++ n ∷ rest)) ⊎ (U (q ++ n ∷ rest) ≡ target n rest) → (a b : Bool) → has new n ≡ a → has old n ≡ b
-          → over U (answer S (cond a (cond b (Answer []) (Look (q /ₚ n) (λ node. Answer (set_to (q /ₚ n) (File []) ∷ [])))) (clear (q /ₚ n)))) (q ++ n ∷ rest) ≡ target n rest
-      own n rest U (inl g) true true e f = g ∙ kept_target S q old new (λ n. File []) can n rest (e ∙ sym f)
+          → over U (answer S (cond a (cond b (Answer []) (Look (q /ₚ n) (λ node. Answer (set_to (q /ₚ n) (File [] false) ∷ [])))) (clear (q /ₚ n)))) (q ++ n ∷ rest) ≡ target n rest
+      own n rest U (inl g) true true e f = g ∙ kept_target S q old new (λ n. File [] false) can n rest (e ∙ sym f)
       own n rest U (inr g) true true e f = g
-      own n rest U ok true false e f = made_target S q old new (λ n. File []) can n rest U e f ok
-      own n rest U ok false b e f = gone_target S q old new (λ n. File []) can n rest U e ok
+      own n rest U ok true false e f = made_target S q old new (λ n. File [] false) can n rest U e f ok
+      own n rest U ok false b e f = gone_target S q old new (λ n. File [] false) can n rest U e ok
 
       other : (n : List ℕ) (r : List (List ℕ)) (U : Store) → ((rest : List (List ℕ)) → r ≢ q ++ n ∷ rest) → (a b : Bool)
-          → over U (answer S (cond a (cond b (Answer []) (Look (q /ₚ n) (λ node. Answer (set_to (q /ₚ n) (File []) ∷ [])))) (clear (q /ₚ n)))) r ≡ U r
+          → over U (answer S (cond a (cond b (Answer []) (Look (q /ₚ n) (λ node. Answer (set_to (q /ₚ n) (File [] false) ∷ [])))) (clear (q /ₚ n)))) r ≡ U r
       other n r U away true true = refl
-      other n r U away true false = made_away S q old new (λ n. File []) can n r U away
-      other n r U away false b = gone_away S q old new (λ n. File []) can n r U away
+      other n r U away true false = made_away S q old new (λ n. File [] false) can n r U away
+      other n r U away false b = gone_away S q old new (λ n. File [] false) can n r U away
 
 pub new_names_keep : (S : Store) (q old new : List (List ℕ)) → IsWhole S → S q ≡ Some (Dir old) → IsNameSet new → (length q ≡ 64 → new ≡ []) → (cs : List Change) → answer S (new_names q old new) ≡ Ok cs → IsWhole (over S cs)
 new_names_keep S q old new whole e names room cs ok =
-    let can : CanRelist S q old new (λ n. File []) = record { whole = whole; dir = e; names = names; room = room; leaves = λ n h. empty_file (q /ₚ n) } in
+    let can : CanRelist S q old new (λ n. File [] false) = record { whole = whole; dir = e; names = names; room = room; leaves = λ n h. empty_file (q /ₚ n) } in
     let is : answer S (new_names q old new) ≡ Ok (set_to q (Dir new) ∷ changes_of (λ n. answer S (entry q old new n)) (set_of (old ++ new))) =
     answer-bind S (entries (entry q old new) (set_of (old ++ new))) (λ below. Answer (Ok (set_to q (Dir new) ∷ below))) ∙ ap (λ below. Ok (set_to q (Dir new) ∷ below)) (entries-is S (entry q old new) (set_of (old ++ new))) in
-    subst (λ cs. IsWhole (over S cs)) (same_ok _ _ (sym is ∙ ok)) (IsWhole-brought S q old new (λ n. File []) can (λ n. answer S (entry q old new n)) (set_of (old ++ new)) (entry-brings S q old new can))
+    subst (λ cs. IsWhole (over S cs)) (same_ok _ _ (sym is ∙ ok)) (IsWhole-brought S q old new (λ n. File [] false) can (λ n. answer S (entry q old new n)) (set_of (old ++ new)) (entry-brings S q old new can))
 
 -- and the filestore is as before, but that the directory lists the new names
-pub new_names_relist : (S : Store) (q old new : List (List ℕ)) → IsWhole S → S q ≡ Some (Dir old) → IsNameSet new → (length q ≡ 64 → new ≡ []) → (cs : List Change) → answer S (new_names q old new) ≡ Ok cs → (r : List (List ℕ)) → over S cs r ≡ relisted S q old new (λ n. File []) r
+pub new_names_relist : (S : Store) (q old new : List (List ℕ)) → IsWhole S → S q ≡ Some (Dir old) → IsNameSet new → (length q ≡ 64 → new ≡ []) → (cs : List Change) → answer S (new_names q old new) ≡ Ok cs → (r : List (List ℕ)) → over S cs r ≡ relisted S q old new (λ n. File [] false) r
 new_names_relist S q old new whole e names room cs ok r =
-    let can : CanRelist S q old new (λ n. File []) = record { whole = whole; dir = e; names = names; room = room; leaves = λ n h. empty_file (q /ₚ n) } in
+    let can : CanRelist S q old new (λ n. File [] false) = record { whole = whole; dir = e; names = names; room = room; leaves = λ n h. empty_file (q /ₚ n) } in
     let is : answer S (new_names q old new) ≡ Ok (set_to q (Dir new) ∷ changes_of (λ n. answer S (entry q old new n)) (set_of (old ++ new))) =
     answer-bind S (entries (entry q old new) (set_of (old ++ new))) (λ below. Answer (Ok (set_to q (Dir new) ∷ below))) ∙ ap (λ below. Ok (set_to q (Dir new) ∷ below)) (entries-is S (entry q old new) (set_of (old ++ new))) in
-    ap (λ cs. over S cs r) (sym (same_ok _ _ (sym is ∙ ok))) ∙ relisting S q old new (λ n. File []) can (λ n. answer S (entry q old new n)) (set_of (old ++ new)) (entry-brings S q old new can) r (rest_of q r) refl
+    ap (λ cs. over S cs r) (sym (same_ok _ _ (sym is ∙ ok))) ∙ relisting S q old new (λ n. File [] false) can (λ n. answer S (entry q old new n)) (set_of (old ++ new)) (entry-brings S q old new can) r (rest_of q r) refl
 
 -- ---------------------------------------------------------------------------------------------------- a removed entry
 
@@ -134,7 +134,7 @@ ends_in q l =
     sym (take-length q) ∙ ap (λ k. take k q) (sym n) ∙ take-suc q (length q - 1) [] (omega (arith, l))
 
 module _ (S : Store) (up : List (List ℕ)) (n : List ℕ) (old : List (List ℕ)) (whole : IsWhole S) (e : S up ≡ Some (Dir old)) where
-  pub can_remove : CanRelist S up old (without_name n old) (λ m. File [])
+  pub can_remove : CanRelist S up old (without_name n old) (λ m. File [] false)
   can_remove =
       let listing = dir_node S whole up old e in
       record {
@@ -145,11 +145,11 @@ module _ (S : Store) (up : List (List ℕ)) (n : List ℕ) (old : List (List ℕ
         leaves = λ m h. empty_file (up /ₚ m);
       }
 
-  removal_brings : Brings S up old (without_name n old) (λ m. File []) can_remove (λ m. answer S (clear (up /ₚ m))) (n ∷ [])
+  removal_brings : Brings S up old (without_name n old) (λ m. File [] false) can_remove (λ m. answer S (clear (up /ₚ m))) (n ∷ [])
   removal_brings = record {
-    own = λ m rest U h ok. gone_target S up old (without_name n old) (λ m. File []) can_remove m rest U (subst (λ k. has (without_name n old) k ≡ false) (sym (one_has n m h)) (without_own n old)) ok;
-    other = λ m r U away. gone_away S up old (without_name n old) (λ m. File []) can_remove m r U away;
-    kept = λ m rest h. kept_target S up old (without_name n old) (λ m. File []) can_remove m rest (without_other n m old (one_lacks n m h));
+    own = λ m rest U h ok. gone_target S up old (without_name n old) (λ m. File [] false) can_remove m rest U (subst (λ k. has (without_name n old) k ≡ false) (sym (one_has n m h)) (without_own n old)) ok;
+    other = λ m r U away. gone_away S up old (without_name n old) (λ m. File [] false) can_remove m r U away;
+    kept = λ m rest h. kept_target S up old (without_name n old) (λ m. File [] false) can_remove m rest (without_other n m old (one_lacks n m h));
   }
 
   abbrev removal : List Change
@@ -158,17 +158,17 @@ module _ (S : Store) (up : List (List ℕ)) (n : List ℕ) (old : List (List ℕ
   removed_whole : IsWhole (over S removal)
   removed_whole =
       subst (λ cs. IsWhole (over S (set_to up (Dir (without_name n old)) ∷ cs))) (append-nil (answer S (clear (up /ₚ n)))) (
-      IsWhole-brought S up old (without_name n old) (λ m. File []) can_remove (λ m. answer S (clear (up /ₚ m))) (n ∷ []) removal_brings)
+      IsWhole-brought S up old (without_name n old) (λ m. File [] false) can_remove (λ m. answer S (clear (up /ₚ m))) (n ∷ []) removal_brings)
 
   -- the filestore is as before, but that the directory lists the name no more
-  pub removal_relists : (r : List (List ℕ)) → over S removal r ≡ relisted S up old (without_name n old) (λ m. File []) r
+  pub removal_relists : (r : List (List ℕ)) → over S removal r ≡ relisted S up old (without_name n old) (λ m. File [] false) r
   removal_relists r =
       ap (λ cs. over S (set_to up (Dir (without_name n old)) ∷ cs) r) (sym (append-nil (answer S (clear (up /ₚ n)))))
-      ∙ relisting S up old (without_name n old) (λ m. File []) can_remove (λ m. answer S (clear (up /ₚ m))) (n ∷ []) removal_brings r (rest_of up r) refl
+      ∙ relisting S up old (without_name n old) (λ m. File [] false) can_remove (λ m. answer S (clear (up /ₚ m))) (n ∷ []) removal_brings r (rest_of up r) refl
 
 pub listed_dir : (x : Option Node) (n : List ℕ) → lists x n ≡ true → (names : List (List ℕ)) × (x ≡ Some (Dir names))
 listed_dir None n h = absurd (true≢false (sym h))
-listed_dir (Some (File b)) n h = absurd (true≢false (sym h))
+listed_dir (Some (File b exec)) n h = absurd (true≢false (sym h))
 listed_dir (Some (Dir names)) n h = (names, refl)
 listed_dir (Some (Link t)) n h = absurd (true≢false (sym h))
 

@@ -73,27 +73,27 @@ module _ (S : Store) (here : List (List ℕ)) (n : List ℕ) (old : List (List �
   IsWhole-added = IsWhole-brought S here old (with_text n old) (λ m. node) adding (λ m. set_to (here /ₚ m) node ∷ []) (n ∷ []) added-brings
 
 -- the files of a new directory
-children-are : (q : List (List ℕ)) (names : List (List ℕ)) → changes_of (λ n. set_to (q /ₚ n) (File []) ∷ []) names ≡ children q (Dir names)
+children-are : (q : List (List ℕ)) (names : List (List ℕ)) → changes_of (λ n. set_to (q /ₚ n) (File [] false) ∷ []) names ≡ children q (Dir names)
 children-are q [] = refl
-children-are q (n ∷ names) = ap (λ cs. set_to (q /ₚ n) (File []) ∷ cs) (children-are q names)
+children-are q (n ∷ names) = ap (λ cs. set_to (q /ₚ n) (File [] false) ∷ cs) (children-are q names)
 
 module _ (S : Store) (q names : List (List ℕ)) (whole : IsWhole S) (dir : S q ≡ Some (Dir [])) (set : IsNameSet names) (room : length q ≡ 64 → names ≡ []) where
-  filling : CanRelist S q [] names (λ n. File [])
+  filling : CanRelist S q [] names (λ n. File [] false)
   filling = record { whole = whole; dir = dir; names = set; room = room; leaves = λ n h. empty_file (q /ₚ n) }
 
-  filled-brings : Brings S q [] names (λ n. File []) filling (λ n. set_to (q /ₚ n) (File []) ∷ []) names
+  filled-brings : Brings S q [] names (λ n. File [] false) filling (λ n. set_to (q /ₚ n) (File [] false) ∷ []) names
   filled-brings = record {
-    own = λ n rest U h ok. made_target S q [] names (λ n. File []) filling n rest U h refl ok;
-    other = λ n r U away. made_away S q [] names (λ n. File []) filling n r U away;
-    kept = λ n rest h. kept_target S q [] names (λ n. File []) filling n rest h;
+    own = λ n rest U h ok. made_target S q [] names (λ n. File [] false) filling n rest U h refl ok;
+    other = λ n r U away. made_away S q [] names (λ n. File [] false) filling n r U away;
+    kept = λ n rest h. kept_target S q [] names (λ n. File [] false) filling n rest h;
   }
 
   pub IsWhole-filled : IsWhole (over S (set_to q (Dir names) ∷ children q (Dir names)))
-  IsWhole-filled = subst (λ cs. IsWhole (over S (set_to q (Dir names) ∷ cs))) (children-are q names) (IsWhole-brought S q [] names (λ n. File []) filling (λ n. set_to (q /ₚ n) (File []) ∷ []) names filled-brings)
+  IsWhole-filled = subst (λ cs. IsWhole (over S (set_to q (Dir names) ∷ cs))) (children-are q names) (IsWhole-brought S q [] names (λ n. File [] false) filling (λ n. set_to (q /ₚ n) (File [] false) ∷ []) names filled-brings)
 
 -- a node that can be made at a path
 abbrev pub CanMake : List (List ℕ) → Node → Type 0
-CanMake q (File bytes) = IsContent bytes
+CanMake q (File bytes exec) = IsContent bytes
 CanMake q (Dir names) = IsNameSet names × (length q ≡ 64 → names ≡ [])
 CanMake q (Link text) = IsLinkText text
 
@@ -102,8 +102,8 @@ length_more here n = omega (arith, length-append here (n ∷ []))
 
 pub made_keeps : (names : List (List ℕ)) (S : Store) (here : List (List ℕ)) (n : List ℕ) (old : List (List ℕ)) (node : Node) → IsWhole S → S here ≡ Some (Dir old) → has old n ≡ false → IsName n → All IsName names → length here + suc (length names) ≤ 64
     → CanMake (here ++ n ∷ names) node → IsWhole (over S (set_to here (Dir (with_text n old)) ∷ made here n names node))
-made_keeps [] S here n old (File bytes) whole dir lacks name names short can =
-    IsWhole-added S here n old (File bytes) whole dir lacks name (omega (arith, short)) (λ path. record { childless = λ m. refl; limits = can })
+made_keeps [] S here n old (File bytes exec) whole dir lacks name names short can =
+    IsWhole-added S here n old (File bytes exec) whole dir lacks name (omega (arith, short)) (λ path. record { childless = λ m. refl; limits = can })
 made_keeps [] S here n old (Link text) whole dir lacks name names short can =
     IsWhole-added S here n old (Link text) whole dir lacks name (omega (arith, short)) (λ path. record { childless = λ m. refl; limits = can })
 made_keeps [] S here n old (Dir inside) whole dir lacks name names short can =

@@ -64,19 +64,19 @@ content_has S held follow p s h = subst (Has s) (sym (answer-bind S (resolve p f
 
 file_has : (n : Option Node) → Has ShapeTree.str (file_value n)
 file_has None = tt
-file_has (Some (File bytes)) = refl
+file_has (Some (File bytes exec)) = refl
 file_has (Some (Dir names)) = tt
 file_has (Some (Link text)) = tt
 
 dir_has : (n : Option Node) → Has ShapeTree.names (dir_value n)
 dir_has None = tt
-dir_has (Some (File bytes)) = tt
+dir_has (Some (File bytes exec)) = tt
 dir_has (Some (Dir names)) = refl
 dir_has (Some (Link text)) = tt
 
 link_has : (n : Option Node) → Has ShapeTree.str (link_value n)
 link_has None = tt
-link_has (Some (File bytes)) = tt
+link_has (Some (File bytes exec)) = tt
 link_has (Some (Dir names)) = tt
 link_has (Some (Link text)) = refl
 

@@ -28,7 +28,7 @@ with_some next (Some a) = next a
 
 -- what a file, a directory and a link hold
 abbrev pub file_value : Option Node → Option Tree
-file_value (Some (File bytes)) = Some (Tree.str bytes)
+file_value (Some (File bytes exec)) = Some (Tree.str bytes)
 file_value _ = None
 
 abbrev pub dir_value : Option Node → Option Tree

@@ -55,7 +55,7 @@ clear q = clear_levels (65 - length q) q
 -- removed with all below, and one that stays is not touched
 abbrev pub entry : List (List ℕ) → List (List ℕ) → List (List ℕ) → List ℕ → Ask (List Change)
 entry q old new n =
-    let added = Look (q /ₚ n) (λ node. Answer (set_to (q /ₚ n) (File []) ∷ [])) in
+    let added = Look (q /ₚ n) (λ node. Answer (set_to (q /ₚ n) (File [] false) ∷ [])) in
     let dropped = clear (q /ₚ n) in
     cond (has new n) (cond (has old n) (Answer []) added) dropped
 
@@ -70,7 +70,7 @@ new_names q old new =
 
 -- no names are stored below a path of 64 names
 abbrev pub lacks_room : List (List ℕ) → Node → Bool
-lacks_room q (File bytes) = false
+lacks_room q (File bytes exec) = false
 lacks_room q (Dir names) = is_full q && nat_lt 0 (length names)
 lacks_room q (Link text) = false
 
@@ -78,17 +78,23 @@ abbrev pub unless_deep : Bool → Ask (Answered (List Change)) → Ask (Answered
 unless_deep true rule = Answer (Err Refusal.TooDeep)
 unless_deep false rule = rule
 
--- the content of the node landed at, replaced by that of the same kind
-abbrev pub replaced : List (List ℕ) → Node → Option Node → Ask (Answered (List Change))
-replaced q (File bytes) (Some (File old)) = Answer (Ok (set_to q (File bytes) ∷ []))
-replaced q (Link text) (Some (Link old)) = Answer (Ok (set_to q (Link text) ∷ []))
-replaced q (Dir names) (Some (Dir old)) = unless_deep (lacks_room q (Dir names)) (new_names q old names)
-replaced q node found = Answer (Err (Refusal.Blocked q))
+-- a file of which the flag alone is replaced, or the bytes alone
+abbrev pub renewed : Bool → Node → Node → Node
+renewed true (File bytes exec) (File old was) = File old exec
+renewed false (File bytes exec) (File old was) = File bytes was
+renewed flag node old = node
+
+-- the content of the node landed at, replaced by that of the same kind; of a file the flag alone, or the bytes alone
+abbrev pub replaced : Bool → List (List ℕ) → Node → Option Node → Ask (Answered (List Change))
+replaced flag q (File bytes exec) (Some (File old was)) = Answer (Ok (set_to q (renewed flag (File bytes exec) (File old was)) ∷ []))
+replaced flag q (Link text) (Some (Link old)) = Answer (Ok (set_to q (Link text) ∷ []))
+replaced flag q (Dir names) (Some (Dir old)) = unless_deep (lacks_room q (Dir names)) (new_names q old names)
+replaced flag q node found = Answer (Err (Refusal.Blocked q))
 
 -- the empty files of a new directory
 abbrev pub children : List (List ℕ) → Node → List Change
-children q (File bytes) = []
-children q (Dir names) = map (λ n. set_to (q /ₚ n) (File [])) names
+children q (File bytes exec) = []
+children q (Dir names) = map (λ n. set_to (q /ₚ n) (File [] false)) names
 children q (Link text) = []
 
 -- the missing directories on the way, and the node with the files that it lists
@@ -108,11 +114,11 @@ abbrev pub is_too_deep : List (List ℕ) → List (List ℕ) → Node → Bool
 is_too_deep here names node = cond (nat_lt 64 (length here + length names)) true (lacks_room (here ++ names) node)
 
 -- a store by where the path lands; `p` is the place's path
-abbrev pub store_landed : List (List ℕ) → Node → Landing → Ask (Answered (List Change))
-store_landed p node (At q) = Look q (replaced q node)
-store_landed p node (Absent here names) = unless_deep (is_too_deep here names node) (make here names node)
-store_landed p node (Blocked q) = Answer (Err (Refusal.Blocked q))
-store_landed p node TooManyLinks = Answer (Err (Refusal.Blocked p))
+abbrev pub store_landed : Bool → List (List ℕ) → Node → Landing → Ask (Answered (List Change))
+store_landed flag p node (At q) = Look q (replaced flag q node)
+store_landed flag p node (Absent here names) = unless_deep (is_too_deep here names node) (make here names node)
+store_landed flag p node (Blocked q) = Answer (Err (Refusal.Blocked q))
+store_landed flag p node TooManyLinks = Answer (Err (Refusal.Blocked p))
 
 -- the node that a value makes at a form
 abbrev pub names_node : List (List ℕ) → Answered Node
@@ -125,7 +131,8 @@ link_node (Err TooDeep) = Err Refusal.TooDeep
 link_node (Err NoMemory) = Err Refusal.BadName
 
 abbrev pub form_node : SpecTree → Tree → Answered Node
-form_node SpecTree.file (Tree.str bytes) = Ok (File bytes)
+form_node SpecTree.file (Tree.str bytes) = Ok (File bytes false)
+form_node SpecTree.file (Tree.bool exec) = Ok (File [] exec)
 form_node SpecTree.dir (Tree.names names) = names_node names
 form_node SpecTree.link (Tree.str text) = link_node (read_link text)
 form_node _ v = Err Refusal.WrongForm
@@ -144,17 +151,22 @@ stored_node form v = cond (is_storable v) (form_node form v) (Err Refusal.WrongF
 
 -- the last link is followed for a file or directory
 abbrev pub follows_last : Node → Bool
-follows_last (File bytes) = true
+follows_last (File bytes exec) = true
 follows_last (Dir names) = true
 follows_last (Link text) = false
 
+-- whether a value is a file's flag
+abbrev pub is_flag : Tree → Bool
+is_flag (Tree.bool exec) = true
+is_flag _ = false
+
 -- `store`: the value becomes the content of the node where the place's path lands
 abbrev pub store_at : Tree → PlaceTree → Ask (Answered (List Change))
-store_at v at = unrefused (λ node. resolve at.path (follows_last node) >>= store_landed at.path node) (stored_node at.spec v)
+store_at v at = unrefused (λ node. resolve at.path (follows_last node) >>= store_landed (is_flag v) at.path node) (stored_node at.spec v)
 
 -- the empty node of a description's bare form: that of an option's part, of a pair's first part, of a file or a directory
 abbrev pub bare_node : SpecTree → Option Node
-bare_node SpecTree.file = Some (File [])
+bare_node SpecTree.file = Some (File [] false)
 bare_node SpecTree.dir = Some (Dir [])
 bare_node SpecTree.link = None
 bare_node (SpecTree.focus e s) = None

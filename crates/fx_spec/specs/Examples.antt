@@ -1,5 +1,5 @@
 -- Worked transactions on small filestores.
-use Rattle.std.specs.Prelude.{◌≡◌, ℕ, List, [], ◌∷◌, codes}
+use Rattle.std.specs.Prelude.{◌≡◌, ℕ, false, List, [], ◌∷◌, codes}
 use Rattle.fx_store.specs.declared.node.Node.TheVariants.{File, Dir}
 use Rattle.fx_store.specs.declared.changes.Change.{Change}
 use Rattle.fx_store.specs.Examples.{store_of}
@@ -33,7 +33,7 @@ abbrev pub a_file : SpecTree
 a_file = SpecTree.focus (text (codes "a")) SpecTree.file
 
 abbrev pub with_a : List ℕ → Store
-with_a bytes = store_of (([], Dir (codes "a" ∷ [])) ∷ (codes "a" ∷ [], File bytes) ∷ [])
+with_a bytes = store_of (([], Dir (codes "a" ∷ [])) ∷ (codes "a" ∷ [], File bytes false) ∷ [])
 
 abbrev pub fetch_and_print : List CommandTree
 fetch_and_print = go ActTree.down ∷ CommandTree.fetch (codes "x") ShapeTree.str ∷ CommandTree.print (ExprTree.var (codes "x")) ∷ []
@@ -56,23 +56,23 @@ StoreAtRoot =
 -- a directory's store drops an entry with all below it, and makes an empty file
 abbrev pub StoresNames : Type 0
 StoresNames =
-    Does SpecTree.dir (store_of (([], Dir (codes "d" ∷ codes "g" ∷ [])) ∷ (codes "d" ∷ [], Dir (codes "e" ∷ [])) ∷ (codes "d" ∷ codes "e" ∷ [], File (codes "1")) ∷ (codes "g" ∷ [], File (codes "2")) ∷ []))
+    Does SpecTree.dir (store_of (([], Dir (codes "d" ∷ codes "g" ∷ [])) ∷ (codes "d" ∷ [], Dir (codes "e" ∷ [])) ∷ (codes "d" ∷ codes "e" ∷ [], File (codes "1") false) ∷ (codes "g" ∷ [], File (codes "2") false) ∷ []))
     (go (ActTree.store (ExprTree.bin BinOp.Union (ExprTree.un UnOp.One (text (codes "g"))) (ExprTree.un UnOp.One (text (codes "h"))))) ∷ []) [] End.Done
     ([] ∷ (codes "d" ∷ []) ∷ (codes "d" ∷ codes "e" ∷ []) ∷ (codes "h" ∷ []) ∷ [])
-    (set_to [] (Dir (codes "g" ∷ codes "h" ∷ [])) ∷ removed (codes "d" ∷ []) ∷ removed (codes "d" ∷ codes "e" ∷ []) ∷ set_to (codes "h" ∷ []) (File []) ∷ [])
+    (set_to [] (Dir (codes "g" ∷ codes "h" ∷ [])) ∷ removed (codes "d" ∷ []) ∷ removed (codes "d" ∷ codes "e" ∷ []) ∷ set_to (codes "h" ∷ []) (File [] false) ∷ [])
 
 -- the file that is made at a missing entry
 abbrev pub CreatesEntry : Type 0
 CreatesEntry =
     Does (SpecTree.focus (text (codes "m")) (SpecTree.opt SpecTree.file)) (store_of (([], Dir []) ∷ [])) (go ActTree.down ∷ go ActTree.create ∷ []) [] End.Done
-    ((codes "m" ∷ []) ∷ [] ∷ []) (set_to [] (Dir (codes "m" ∷ [])) ∷ set_to (codes "m" ∷ []) (File []) ∷ [])
+    ((codes "m" ∷ []) ∷ [] ∷ []) (set_to [] (Dir (codes "m" ∷ [])) ∷ set_to (codes "m" ∷ []) (File [] false) ∷ [])
 
 -- every element of a directory's set, fetched and joined
 abbrev pub JoinsFiles : Type 0
 JoinsFiles =
     Does
     (SpecTree.pair (codes "d") SpecTree.dir (SpecTree.comp (SpecTree.focus (ExprTree.var (codes "n")) SpecTree.file) (codes "n") (ExprTree.var (codes "d"))))
-    (store_of (([], Dir (codes "a" ∷ codes "b" ∷ [])) ∷ (codes "a" ∷ [], File (codes "A")) ∷ (codes "b" ∷ [], File (codes "B")) ∷ []))
+    (store_of (([], Dir (codes "a" ∷ codes "b" ∷ [])) ∷ (codes "a" ∷ [], File (codes "A") false) ∷ (codes "b" ∷ [], File (codes "B") false) ∷ []))
     (go ActTree.into ∷ go ActTree.next ∷ CommandTree.fetch (codes "s") ShapeTree.names ∷ CommandTree.bind (codes "t") (text []) ∷
     CommandTree.each (codes "n") (ExprTree.var (codes "s")) (block (
     go (ActTree.to (ExprTree.var (codes "n"))) ∷ go ActTree.down ∷ CommandTree.fetch (codes "v") ShapeTree.str ∷

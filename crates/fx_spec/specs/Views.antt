@@ -12,11 +12,11 @@ abbrev pub spec_step : Spec-F SpecTree → SpecTree
 spec_step Spec-F.File = SpecTree.file
 spec_step Spec-F.Dir = SpecTree.dir
 spec_step Spec-F.Link = SpecTree.link
-spec_step (Spec-F.Focus e s) = SpecTree.focus (expr_tree e) s.value
+spec_step (Spec-F.Focus e s) = SpecTree.focus e s.value
 spec_step (Spec-F.Pair x a b) = SpecTree.pair x a.value b.value
-spec_step (Spec-F.Comp s x e) = SpecTree.comp s.value x (expr_tree e)
+spec_step (Spec-F.Comp s x e) = SpecTree.comp s.value x e
 spec_step (Spec-F.Opt s) = SpecTree.opt s.value
-spec_step (Spec-F.Pred e) = SpecTree.pred (expr_tree e)
+spec_step (Spec-F.Pred e) = SpecTree.pred e
 
 abbrev pub spec_tree : Spec → SpecTree
 spec_tree = fold-Spec SpecTree spec_step

@@ -1,4 +1,4 @@
-use fx_expr::{Expr, Word};
+use fx_expr::{Formula, Word};
 
 /// A description of what stands at a path.
 #[derive(Debug, Drop)]
@@ -7,13 +7,13 @@ pub enum Spec {
     Dir,
     Link,
     /// The part at the path that goes on by the text of the expression.
-    Focus(Expr, Box<Spec>),
+    Focus(Formula, Box<Spec>),
     /// Two parts of one path; the second sees the value of the first under the name.
     Pair(Word, Box<Spec>, Box<Spec>),
     /// The part once for each element of a set, under the name.
-    Comp(Box<Spec>, Word, Expr),
+    Comp(Box<Spec>, Word, Formula),
     /// The part, where the entry exists.
     Opt(Box<Spec>),
     /// Whether the expression is true; there is no value where it is false.
-    Pred(Expr),
+    Pred(Formula),
 }

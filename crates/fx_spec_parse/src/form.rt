@@ -6,6 +6,7 @@ ghost use Rattle.fx_spec_parse.specs.Reader.{read_spec, focus_at, pair_at, comp_
 
 use crate::start::{Start, is_nothing, start_of};
 use fx_base::NoMemory;
+use fx_expr::Formula;
 use fx_lex::Spanned;
 use fx_parse::{Sign, Stop, behind, expr_at, first_of, name_at};
 use fx_spec::Spec;
@@ -38,7 +39,7 @@ fn focus_at(alloc: Global, left: u32, tokens: &[Spanned]) -> Result<(Spec, &[Spa
     let rest = behind(rest, Sign::ColonColon)?;
     let (part, rest) = part_at(alloc, left, rest)?;
     let rest = behind(rest, Sign::RightParen)?;
-    Ok((Spec::Focus(expr, part), rest))
+    Ok((Spec::Focus(Formula::of(expr), part), rest))
 }
 
 /// What follows `<`: `NAME : spec , spec >`.
@@ -70,7 +71,7 @@ fn comp_at(alloc: Global, left: u32, tokens: &[Spanned]) -> Result<(Spec, &[Span
     let rest = behind(rest, Sign::In)?;
     let (set, rest) = expr_at(alloc, left, rest)?;
     let rest = behind(rest, Sign::RightBrace)?;
-    Ok((Spec::Comp(part, name, set), rest))
+    Ok((Spec::Comp(part, name, Formula::of(set)), rest))
 }
 
 /// What follows `opt`: `( spec )`.
@@ -95,7 +96,7 @@ fn pred_at(alloc: Global, left: u32, tokens: &[Spanned]) -> Result<(Spec, &[Span
     let rest = behind(tokens, Sign::LeftParen)?;
     let (test, rest) = expr_at(alloc, left, rest)?;
     let rest = behind(rest, Sign::RightParen)?;
-    Ok((Spec::Pred(test), rest))
+    Ok((Spec::Pred(Formula::of(test)), rest))
 }
 
 /// What follows the first token of a description.

@@ -140,7 +140,7 @@ fn tell_entries(board: &Board, out: &mut String) -> Result<(), NoMemory> {
 
 fn kind_of(node: &Option<Node>) -> &'static str {
     match node {
-        Some(Node::File(_)) => "a file",
+        Some(Node::File { .. }) => "a file",
         Some(Node::Dir(_)) => "a directory",
         Some(Node::Link(_)) => "a link",
         None => "nothing",

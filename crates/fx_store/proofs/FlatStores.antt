@@ -12,6 +12,7 @@ use Rattle.std.specs.FinMap.{get}
 use Rattle.std.proofs.lemmas.Bool.{false≢true}
 use Rattle.std.proofs.lemmas.List.Elements.{All-nil, All-cons, All-head, All-tail}
 use Rattle.std.proofs.lemmas.Map.Entries.{All-lookup}
+use Rattle.fx_store.specs.declared.node.Node.{Node}
 use Rattle.fx_store.specs.declared.node.Node.TheVariants.{File, Dir}
 use Rattle.fx_store.specs.Names.{name_cmp, path_cmp, has, IsName, IsPath, IsContent}
 use Rattle.fx_store.specs.Orders.{name_same}
@@ -23,6 +24,9 @@ use Rattle.fx_store.proofs.Overlays.{over-change_at}
 use Rattle.fx_store.proofs.Stores.{IsWhole-same}
 use Rattle.fx_store.proofs.WholeStores.{IsPath-root, get-root_only}
 
+abbrev plain : List ℕ → Node
+plain bytes = File bytes false
+
 abbrev File_ : Type 0
 File_ = List ℕ × List ℕ
 
@@ -33,7 +37,7 @@ content_of files name = lookup (eq_by_cmp name_cmp name) files
 -- what stands at each path
 abbrev at : List File_ → Store
 at files [] = Some (Dir (keys_of files))
-at files (n ∷ []) = option_map File (content_of files n)
+at files (n ∷ []) = option_map plain (content_of files n)
 at files (n ∷ m ∷ path) = None
 
 -- ---- the changes make it
@@ -66,19 +70,19 @@ pub IsChanges-flat : (files : List File_) → IsStrictlySortedBy name_cmp (keys_
 unfolding IsStrictlySortedBy
 IsChanges-flat files up = (above_root files, files_ascend files up)
 
-change_file : (files : List File_) (n : List ℕ) → change_at (map file_change files) (n ∷ []) ≡ option_map (λ b. Some (File b)) (content_of files n)
+change_file : (files : List File_) (n : List ℕ) → change_at (map file_change files) (n ∷ []) ≡ option_map (λ b. Some (File b false)) (content_of files n)
 change_file [] n = refl
 change_file (f ∷ files) n = step (eq_by_cmp name_cmp n f.0) (ap is_eq (then_equal (name_cmp n f.0))) (change_file files n)
   where
-    step : (b : Bool) → eq_by_cmp path_cmp (n ∷ []) (f.0 ∷ []) ≡ b → change_at (map file_change files) (n ∷ []) ≡ option_map (λ b. Some (File b)) (content_of files n) → change_at (map file_change (f ∷ files)) (n ∷ []) ≡ option_map (λ b. Some (File b)) (cond b (Some f.1) (content_of files n))
-    step true e rest = ap (λ b. cond b (Some (Some (File f.1))) (change_at (map file_change files) (n ∷ []))) e
-    step false e rest = ap (λ b. cond b (Some (Some (File f.1))) (change_at (map file_change files) (n ∷ []))) e ∙ rest
+    step : (b : Bool) → eq_by_cmp path_cmp (n ∷ []) (f.0 ∷ []) ≡ b → change_at (map file_change files) (n ∷ []) ≡ option_map (λ b. Some (File b false)) (content_of files n) → change_at (map file_change (f ∷ files)) (n ∷ []) ≡ option_map (λ b. Some (File b false)) (cond b (Some f.1) (content_of files n))
+    step true e rest = ap (λ b. cond b (Some (Some (File f.1 false))) (change_at (map file_change files) (n ∷ []))) e
+    step false e rest = ap (λ b. cond b (Some (Some (File f.1 false))) (change_at (map file_change files) (n ∷ []))) e ∙ rest
 
 change_below : (files : List File_) (n m : List ℕ) (path : List (List ℕ)) → change_at (map file_change files) (n ∷ m ∷ path) ≡ None
 change_below [] n m path = refl
-change_below (f ∷ files) n m path = ap (λ b. cond b (Some (Some (File f.1))) (change_at (map file_change files) (n ∷ m ∷ path))) (then_greater (name_cmp n f.0)) ∙ change_below files n m path
+change_below (f ∷ files) n m path = ap (λ b. cond b (Some (Some (File f.1 false))) (change_at (map file_change files) (n ∷ m ∷ path))) (then_greater (name_cmp n f.0)) ∙ change_below files n m path
 
-found_file : (r : Option (List ℕ)) → unwrap_or (option_map (λ b. Some (File b)) r) None ≡ option_map File r
+found_file : (r : Option (List ℕ)) → unwrap_or (option_map (λ b. Some (File b false)) r) None ≡ option_map plain r
 found_file None = refl
 found_file (Some b) = refl
 
@@ -91,15 +95,15 @@ flat_is files up (n ∷ m ∷ path) =
 
 -- ---- and it is whole
 
-is_some-content : (files : List File_) (n : List ℕ) → is_some (option_map File (content_of files n)) ≡ has (keys_of files) n
+is_some-content : (files : List File_) (n : List ℕ) → is_some (option_map plain (content_of files n)) ≡ has (keys_of files) n
 is_some-content [] n = refl
 is_some-content (f ∷ files) n = step (eq_by_cmp name_cmp n f.0) (is_some-content files n)
   where
-    step : (b : Bool) → is_some (option_map File (content_of files n)) ≡ has (keys_of files) n → is_some (option_map File (cond b (Some f.1) (content_of files n))) ≡ (b || has (keys_of files) n)
+    step : (b : Bool) → is_some (option_map plain (content_of files n)) ≡ has (keys_of files) n → is_some (option_map plain (cond b (Some f.1) (content_of files n))) ≡ (b || has (keys_of files) n)
     step true rest = refl
     step false rest = rest
 
-no_lists : (r : Option (List ℕ)) (name : List ℕ) → false ≡ lists (option_map File r) name
+no_lists : (r : Option (List ℕ)) (name : List ℕ) → false ≡ lists (option_map plain r) name
 no_lists None name = refl
 no_lists (Some b) name = refl
 
@@ -124,7 +128,7 @@ at_paths files good (n ∷ []) h = record {
 }
 at_paths files good (n ∷ m ∷ path) h = absurd (false≢true h)
 
-file_node : (path : List (List ℕ)) (r : Option (List ℕ)) → IfSome r IsContent → IfSome (option_map File r) (IsNode path)
+file_node : (path : List (List ℕ)) (r : Option (List ℕ)) → IfSome r IsContent → IfSome (option_map plain r) (IsNode path)
 file_node path None h = tt
 file_node path (Some b) h = h
 

@@ -40,7 +40,7 @@ not_full S whole here n node e = at (is_full here) refl
 -- what lists a name is a directory
 listing_is_dir : (x : Option Node) (n : List ℕ) → lists x n ≡ true → (names : List (List ℕ)) × (x ≡ Some (Dir names))
 listing_is_dir None n e = cc
-listing_is_dir (Some (File b)) n e = cc
+listing_is_dir (Some (File b exec)) n e = cc
 listing_is_dir (Some (Dir names)) n e = (names, refl)
 listing_is_dir (Some (Link t)) n e = cc
 
@@ -76,8 +76,8 @@ module _ (S : Store) (follow : Bool) (whole : IsWhole S) where
   named_at : (links : ℕ) (on : Walk) → StepsAlong links on → (here : List (List ℕ)) (n : List ℕ) (rest : List Component) (inside : Ask Landing) → Resolves S follow links (here /ₚ n) rest (answer S inside)
       → (x : Option Node) → S (here /ₚ n) ≡ x → Resolves S follow links here (Normal n ∷ rest) (answer S (at_name follow here n rest inside on x))
   named_at links on step here n rest inside h None e = lacks e
-  named_at links on step here n [] inside h (Some (File b)) e = ends_at_file e
-  named_at links on step here n (c ∷ rest) inside h (Some (File b)) e = stops_at_file e
+  named_at links on step here n [] inside h (Some (File b exec)) e = ends_at_file e
+  named_at links on step here n (c ∷ rest) inside h (Some (File b exec)) e = stops_at_file e
   named_at links on step here n rest inside h (Some (Dir names)) e = enters e h
   named_at links on step here n rest inside h (Some (Link text)) e = at (goes_along follow rest) refl
     where
@@ -118,8 +118,8 @@ module _ (S : Store) (follow : Bool) (whole : IsWhole S) where
   only (rises r) = only r
   only (lacks {links} {here} {n} {rest} e) = same_missing links here n rest e
   only (enters {links} {here} {n} {rest} {names} e r) = same_named links here n rest (Dir names) e ∙ only r
-  only (ends_at_file {links} {here} {n} {bytes} e) = same_named links here n [] (File bytes) e
-  only (stops_at_file {links} {here} {n} {bytes} {c} {rest} e) = same_named links here n (c ∷ rest) (File bytes) e
+  only (ends_at_file {links} {here} {n} {bytes} {exec} e) = same_named links here n [] (File bytes exec) e
+  only (stops_at_file {links} {here} {n} {bytes} {exec} {c} {rest} e) = same_named links here n (c ∷ rest) (File bytes exec) e
   only (ends_at_link {links} {here} {n} {text} {rest} e g) = same_named links here n rest (Link text) e ∙ rw g
   only (follows {links} {here} {n} {text} {rest} e g r) = same_named (suc links) here n rest (Link text) e ∙ rw g (only r)
   only (tires {here} {n} {text} {rest} e g) = same_named zero here n rest (Link text) e ∙ rw g

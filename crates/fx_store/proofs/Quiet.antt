@@ -19,7 +19,7 @@ ticks-walk S on follow none here (Normal n ∷ rest) = at (is_full here) (looked
 
     looked : (o : Option Node) → ticks S (walk on follow (here /ₚ n) rest) ≡ 0 → ticks S (at_name follow here n rest (walk on follow (here /ₚ n) rest) on o) ≡ 0
     looked None h = refl
-    looked (Some (File bytes)) h = refl
+    looked (Some (File bytes exec)) h = refl
     looked (Some (Dir names)) h = h
     looked (Some (Link text)) h = linked (goes_along follow rest) (here /ₚ n) (on (start here text) (components_of text ++ rest)) (none (start here text) (components_of text ++ rest))
 

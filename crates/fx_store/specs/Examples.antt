@@ -16,7 +16,7 @@ store_of (e ∷ es) path = cond (eq_by_cmp path_cmp path e.0) (Some e.1) (store_
 -- an empty directory `d`, an empty file `f` and a link `l`
 abbrev pub with_link : List ℕ → Store
 with_link text =
-    store_of (([], Dir (codes "d" ∷ codes "f" ∷ codes "l" ∷ [])) ∷ (codes "d" ∷ [], Dir []) ∷ (codes "f" ∷ [], File []) ∷ (codes "l" ∷ [], Link text) ∷ [])
+    store_of (([], Dir (codes "d" ∷ codes "f" ∷ codes "l" ∷ [])) ∷ (codes "d" ∷ [], Dir []) ∷ (codes "f" ∷ [], File [] false) ∷ (codes "l" ∷ [], Link text) ∷ [])
 
 pub record ResolveExamples : Type 0 where
   pub through_link : lands (with_link (codes "d/..")) (codes "l" ∷ codes "f" ∷ []) true ≡ At (codes "f" ∷ [])

@@ -1,5 +1,5 @@
 -- A folder with files alone: a filestore of its root and one entry for each file.
-use Rattle.std.specs.Prelude.{ℕ, List, ◌∷◌, [], map, All, Some}
+use Rattle.std.specs.Prelude.{ℕ, List, false, ◌∷◌, [], map, All, Some}
 use Rattle.std.specs.Map.{keys_of}
 use Rattle.fx_store.specs.declared.node.Node.TheVariants.{File, Dir}
 use Rattle.fx_store.specs.declared.changes.Change.{Change}
@@ -14,7 +14,7 @@ pub record IsFiles (files : List (List ℕ × List ℕ)) : Type 0 where
 
 -- the change that makes one file in the root
 abbrev pub file_change : List ℕ × List ℕ → Change
-file_change f = record { path = f.0 ∷ []; node = Some (File f.1) }
+file_change f = record { path = f.0 ∷ []; node = Some (File f.1 false) }
 
 -- the root lists the names, and each file is made
 abbrev pub flat_changes : List (List ℕ × List ℕ) → List Change

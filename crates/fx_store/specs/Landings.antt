@@ -15,8 +15,8 @@ pub data Resolves (S : Store) (follow : Bool) : ℕ → List (List ℕ) → List
   rises : {links : ℕ} {here : List (List ℕ)} {rest : List Component} {l : Landing} → Resolves S follow links (parent here) rest l → Resolves S follow links here (ParentDir ∷ rest) l
   lacks : {links : ℕ} {here : List (List ℕ)} {n : List ℕ} {rest : List Component} → S (here /ₚ n) ≡ None → Resolves S follow links here (Normal n ∷ rest) (missing here n rest)
   enters : {links : ℕ} {here : List (List ℕ)} {n : List ℕ} {rest : List Component} {names : List (List ℕ)} {l : Landing} → S (here /ₚ n) ≡ Some (Dir names) → Resolves S follow links (here /ₚ n) rest l → Resolves S follow links here (Normal n ∷ rest) l
-  ends_at_file : {links : ℕ} {here : List (List ℕ)} {n bytes : List ℕ} → S (here /ₚ n) ≡ Some (File bytes) → Resolves S follow links here (Normal n ∷ []) (At (here /ₚ n))
-  stops_at_file : {links : ℕ} {here : List (List ℕ)} {n bytes : List ℕ} {c : Component} {rest : List Component} → S (here /ₚ n) ≡ Some (File bytes) → Resolves S follow links here (Normal n ∷ c ∷ rest) (Blocked (here /ₚ n))
+  ends_at_file : {links : ℕ} {here : List (List ℕ)} {n bytes : List ℕ} {exec : Bool} → S (here /ₚ n) ≡ Some (File bytes exec) → Resolves S follow links here (Normal n ∷ []) (At (here /ₚ n))
+  stops_at_file : {links : ℕ} {here : List (List ℕ)} {n bytes : List ℕ} {exec : Bool} {c : Component} {rest : List Component} → S (here /ₚ n) ≡ Some (File bytes exec) → Resolves S follow links here (Normal n ∷ c ∷ rest) (Blocked (here /ₚ n))
   ends_at_link : {links : ℕ} {here : List (List ℕ)} {n text : List ℕ} {rest : List Component} → S (here /ₚ n) ≡ Some (Link text) → goes_along follow rest ≡ false → Resolves S follow links here (Normal n ∷ rest) (At (here /ₚ n))
   follows : {links : ℕ} {here : List (List ℕ)} {n text : List ℕ} {rest : List Component} {l : Landing} → S (here /ₚ n) ≡ Some (Link text) → goes_along follow rest ≡ true → Resolves S follow links (start here text) (components_of text ++ rest) l → Resolves S follow (suc links) here (Normal n ∷ rest) l
   tires : {here : List (List ℕ)} {n text : List ℕ} {rest : List Component} → S (here /ₚ n) ≡ Some (Link text) → goes_along follow rest ≡ true → Resolves S follow zero here (Normal n ∷ rest) TooManyLinks

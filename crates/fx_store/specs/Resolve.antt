@@ -74,7 +74,7 @@ Walk = List (List ℕ) → List Component → Ask Landing
 -- the step at a name: by what is there, with the walk inside it, and the walk along a link
 abbrev pub at_name : Bool → List (List ℕ) → List ℕ → List Component → Ask Landing → Walk → Option Node → Ask Landing
 at_name follow here n rest inside along None = Answer (missing here n rest)
-at_name follow here n rest inside along (Some (File bytes)) = Answer (at_file (here /ₚ n) rest)
+at_name follow here n rest inside along (Some (File bytes exec)) = Answer (at_file (here /ₚ n) rest)
 at_name follow here n rest inside along (Some (Dir names)) = inside
 at_name follow here n rest inside along (Some (Link text)) =
     at_link (goes_along follow rest) (here /ₚ n) (along (start here text) (components_of text ++ rest))

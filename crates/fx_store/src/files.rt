@@ -110,7 +110,7 @@ fn add_files(
         let path = Path::child(alloc, name)?;
         changes.push(Change {
             path,
-            node: Some(Node::File(bytes)),
+            node: Some(Node::File { bytes, exec: false }),
         })?;
     }
     Ok(())

@@ -8,10 +8,11 @@ use crate::path::Path;
 use fx_base::NoMemory;
 use std::alloc::{AllocError, Global};
 
-/// What stands at a path: a file with its bytes, a directory with its names, or a link with its text.
+/// What stands at a path: a file with its bytes and a flag, a directory with its names, or a link with its text.
 #[derive(Debug, Drop)]
 pub enum Node {
-    File(Bytes),
+    /// With its bytes, and whether it is to be run.
+    File { bytes: Bytes, exec: bool },
     Dir(Names),
     Link(LinkText),
 }
@@ -21,7 +22,10 @@ impl Node {
         ensures { IfOk result (λ n. n ≡ self.now) }
     {
         match self {
-            Node::File(bytes) => Ok(Node::File(bytes.copy(alloc)?)),
+            Node::File { bytes, exec } => Ok(Node::File {
+                bytes: bytes.copy(alloc)?,
+                exec: *exec,
+            }),
             Node::Dir(names) => Ok(Node::Dir(names.copy(alloc)?)),
             Node::Link(text) => Ok(Node::Link(text.copy(alloc)?)),
         }
@@ -33,7 +37,10 @@ impl Clone for Node {
 
     fn clone(&self) -> Result<Node, AllocError> {
         match self {
-            Node::File(bytes) => Ok(Node::File(bytes.clone()?)),
+            Node::File { bytes, exec } => Ok(Node::File {
+                bytes: bytes.clone()?,
+                exec: *exec,
+            }),
             Node::Dir(names) => Ok(Node::Dir(names.clone()?)),
             Node::Link(text) => Ok(Node::Link(text.clone()?)),
         }

@@ -39,14 +39,14 @@ integer_or_zero (Err fault) = pos 0
 -- what a count adds, if it is a file
 abbrev pub counted_at : Option Node → ℤ
 counted_at None = pos 0
-counted_at (Some (File bytes)) = integer_or_zero (read_integer bytes)
+counted_at (Some (File bytes exec)) = integer_or_zero (read_integer bytes)
 counted_at (Some (Dir names)) = pos 0
 counted_at (Some (Link text)) = pos 0
 
 -- how many names a log has, if it is a directory
 abbrev pub logged_at : Option Node → ℕ
 logged_at None = 0
-logged_at (Some (File bytes)) = 0
+logged_at (Some (File bytes exec)) = 0
 logged_at (Some (Dir names)) = length names
 logged_at (Some (Link text)) = 0
 

@@ -53,7 +53,7 @@ fn counted_at(alloc: Global, store: &Filestore, path: &Path) -> Result<i64, NoMe
     ensures { IfOk result (λ n. n ≡ counted_at (get store.now.nodes path.now)) }
 {
     match store.get(path) {
-        Some(Node::File(bytes)) => {
+        Some(Node::File { bytes, .. }) => {
             let text = Vec::from_slice(alloc, bytes.as_slice())?;
             integer_by::<Brand>(alloc, Text::from_vec(text), Blank::new(1))
         }
@@ -69,7 +69,7 @@ fn logged_at(store: &Filestore, path: &Path) -> u64
 {
     match store.get(path) {
         Some(Node::Dir(names)) => names.len(),
-        Some(Node::File(_)) => 0,
+        Some(Node::File { .. }) => 0,
         Some(Node::Link(_)) => 0,
         None => 0,
     }

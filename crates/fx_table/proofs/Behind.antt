@@ -78,7 +78,7 @@ passed_over (a ∷ p) (b ∷ q) (c ∷ r) pq none qr = by (name_cmp a b) (name_c
         ap (λ o. cond (is_eq o) (rest_of p r) None) ac
         ∙ ih (ap (λ x. ordering_then x (parts_cmp p q)) (sym ab) ∙ pq) (ap (λ o. cond (is_eq o) (rest_of p q) None) (sym ab) ∙ none) (ap (λ x. ordering_then x (parts_cmp q r)) (sym bc) ∙ qr)
 
-none_named : (p r : Parts) → rest_of p r ≡ None → name_in p r ≡ None
+pub none_named : (p r : Parts) → rest_of p r ≡ None → name_in p r ≡ None
 none_named p r none = no_name p r λ n is. let wrong : None ≡ Some (n ∷ []) = sym none ∙ (ap (rest_of p) is ∙ rest_append p (n ∷ [])) in cc
 
 none_behind : (p q : Parts) (es : List Mapped) → parts_cmp p q ≡ Less → rest_of p q ≡ None → AllByRecursion (λ k. path_cmp q k ≡ Less) (keys_of es) → names_below es p ≡ []

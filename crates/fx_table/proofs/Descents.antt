@@ -144,7 +144,7 @@ none_beyond S whole path none (n ∷ r) =
 
 lists_in : (o : Option Node) (m : List ℕ) → lists o m ≡ has (names_in o) m
 lists_in None m = refl
-lists_in (Some (File bytes)) m = refl
+lists_in (Some (File bytes exec)) m = refl
 lists_in (Some (Dir names)) m = refl
 lists_in (Some (Link text)) m = refl
 
@@ -232,7 +232,7 @@ all_under nodes p (n ∷ ns) =
 
 in_order : (p : Path) (node : Node) → IsNode p node → IsStrictlySortedBy name_cmp (names_in (Some node))
 unfolding IsStrictlySortedBy
-in_order p (File bytes) is = tt
+in_order p (File bytes exec) is = tt
 in_order p (Dir names) is = is.0.ascending
 in_order p (Link text) is = tt
 

@@ -6,6 +6,7 @@ pub mod Linking
 pub mod Making
 pub mod Mixing
 pub mod Naming
+pub mod Parents
 pub mod Reaching
 pub mod Rests
 pub mod Searching

@@ -60,7 +60,7 @@ root_listed es root = ap is_dir (find_listed es es []) ∙ by (found es []) root
   where
     by : (o : Option Node) → is_dir o ≡ true → is_dir (option_map (relisted es []) o) ≡ true
     by None e = e
-    by (Some (File bytes)) e = e
+    by (Some (File bytes exec)) e = e
     by (Some (Dir names)) e = e
     by (Some (Link text)) e = e
 

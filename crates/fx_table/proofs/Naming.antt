@@ -28,7 +28,7 @@ mapped_len [] = refl
 mapped_len (c ∷ found) = ap suc (mapped_len found)
 
 pub same_key : (es : List Mapped) (e : Mapped) → (with_names es e).0 ≡ e.0
-same_key es (p, File bytes) = refl
+same_key es (p, File bytes exec) = refl
 same_key es (p, Dir names) = refl
 same_key es (p, Link text) = refl
 
@@ -45,7 +45,7 @@ pub same_names : (es fs : List Mapped) (p : Parts) → keys_of es ≡ keys_of fs
 same_names es fs p same = names_named es p ∙ (ap (named p) same ∙ sym (names_named fs p))
 
 same_with : (es fs : List Mapped) (e : Mapped) → keys_of es ≡ keys_of fs → with_names es e ≡ with_names fs e
-same_with es fs (p, File bytes) same = refl
+same_with es fs (p, File bytes exec) same = refl
 same_with es fs (p, Dir names) same = ap (λ ns. (p, Dir ns)) (same_names es fs p same)
 same_with es fs (p, Link text) same = refl
 
@@ -58,7 +58,7 @@ mixed_keys es [] (suc i) = refl
 mixed_keys es (x ∷ xs) zero = refl
 mixed_keys es (x ∷ xs) (suc i) = ap (λ l. (with_names es x).0 ∷ l) (mixed_keys es xs i) ∙ ap (λ k. k ∷ keys_of xs) (same_key es x)
 
-part_keys : (es : List Mapped) (i : ℕ) → keys_of (mapped_of (part_listed es i)) ≡ keys_of es
+pub part_keys : (es : List Mapped) (i : ℕ) → keys_of (mapped_of (part_listed es i)) ≡ keys_of es
 part_keys es i = ap keys_of (mapped_changes (mixed es es i)) ∙ mixed_keys es es i
 
 pub part_sets : (es : List Mapped) (i : ℕ) (found : List Change) → found ≡ part_listed es i → HaveNameSets es → HaveNameSets (mapped_of found)
@@ -143,7 +143,7 @@ set_same (y ∷ xs) (suc i) x is = ap (λ l. y ∷ l) (set_same xs i x is)
 
 -- what is no directory stays
 pub lists_none : (old : List Change) (i : ℕ) (x : Change) → slice_get old i ≡ Some x → is_dir x.node ≡ false → ListsAt old i old
-lists_none old i x is never (p, File bytes) at = set_same old i (change_of (p, File bytes)) at
+lists_none old i x is never (p, File bytes exec) at = set_same old i (change_of (p, File bytes exec)) at
 lists_none old i x is never (p, Dir names) at =
     let same : x ≡ change_of (p, Dir names) = same_Some x (change_of (p, Dir names)) (sym is ∙ at) in
     absurd (false≢true (sym never ∙ ap (λ (c : Change). is_dir c.node) same))
@@ -153,7 +153,7 @@ pub lists_dir : (old : List Change) (i : ℕ) (x : Change) (q : Parts) (names : 
 lists_dir old i x q names node is dir here new are (p, n) at = by n (same_Some x (change_of (p, n)) (sym is ∙ at))
   where
     by : (n : Node) → x ≡ change_of (p, n) → set old i (record { path = q; node = node }) ≡ set old i (change_of (with_names (mapped_of old) (p, n)))
-    by (File bytes) same = absurd (false≢true (sym (ap (λ (c : Change). is_dir c.node) same) ∙ dir))
+    by (File bytes exec) same = absurd (false≢true (sym (ap (λ (c : Change). is_dir c.node) same) ∙ dir))
     by (Dir old_names) same =
         let path : x.path ≡ p = ap (λ (c : Change). c.path) same in
         ap (λ r. set old i (record { path = r; node = node })) (here ∙ path)

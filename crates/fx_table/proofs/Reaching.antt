@@ -186,19 +186,19 @@ module _ (nodes : Nodes) (whole : IsWhole (get nodes)) where
 
   dir_lists : (o : Option Node) (name : List ℕ) → lists o name ≡ true → is_dir o ≡ true
   dir_lists None name e = e
-  dir_lists (Some (File bytes)) name e = e
+  dir_lists (Some (File bytes exec)) name e = e
   dir_lists (Some (Dir names)) name e = refl
   dir_lists (Some (Link text)) name e = e
 
   leaf_of : (p : Parts) (o : Option Node) → IfSome o (IsNode p) → IfSome o IsLeaf
   leaf_of p None is = tt
-  leaf_of p (Some (File bytes)) is = is.short
+  leaf_of p (Some (File bytes exec)) is = is.short
   leaf_of p (Some (Dir names)) is = tt
   leaf_of p (Some (Link text)) is = is
 
   bytes_of : (p : Parts) (o : Option Node) → IfSome o (IsNode p) → IfSome o IsOfBytes
   bytes_of p None is = tt
-  bytes_of p (Some (File bytes)) is = is.bytes
+  bytes_of p (Some (File bytes exec)) is = is.bytes
   bytes_of p (Some (Dir names)) is = tt
   bytes_of p (Some (Link text)) is = tt
 
@@ -291,7 +291,7 @@ module _ (nodes : Nodes) (whole : IsWhole (get nodes)) where
     plain : (q : Parts) (o : Option Node) → unwrap_or (keep (option_map Some (option_map (relisted B q) (option_map bare_node o)))) o ≡ option_map (relisted E q) o
     unfolding keep
     plain q None = refl
-    plain q (Some (File content)) = refl
+    plain q (Some (File content exec)) = refl
     plain q (Some (Dir names)) = ap (λ ns. Some (Dir ns)) (same_names B E q keys)
     plain q (Some (Link text)) = refl
 

@@ -108,12 +108,12 @@ last_name (n ∷ path) name all = last_name path name (All-tail IsName n (path +
 -- ---- each directory lists the names below it
 
 abbrev pub relisted : List Mapped → Paths → Node → Node
-relisted es path (File bytes) = File bytes
+relisted es path (File bytes exec) = File bytes exec
 relisted es path (Dir names) = Dir (names_below es path)
 relisted es path (Link text) = Link text
 
 with_relisted : (es : List Mapped) (p : Paths) (node : Node) → with_names es (p, node) ≡ (p, relisted es p node)
-with_relisted es p (File bytes) = refl
+with_relisted es p (File bytes exec) = refl
 with_relisted es p (Dir names) = refl
 with_relisted es p (Link text) = refl
 
@@ -146,13 +146,13 @@ module _ (es : List Mapped) (up : IsStrictlySortedBy path_cmp (keys_of es)) (sha
 
   root_lists : (o : Option Node) → is_dir o ≡ true → (names : List (List ℕ)) × (option_map (relisted es []) o ≡ Some (Dir names))
   root_lists None e = absurd (false≢true e)
-  root_lists (Some (File bs)) e = absurd (false≢true e)
+  root_lists (Some (File bs exec)) e = absurd (false≢true e)
   root_lists (Some (Dir names)) e = (names_below es [], refl)
   root_lists (Some (Link text)) e = absurd (false≢true e)
 
   lists_what_is_there : (path : Paths) (name : List ℕ) (o : Option Node) → (is_some (found es (path ++ name ∷ [])) ≡ true → is_dir o ≡ true) → is_some (found es (path ++ name ∷ [])) ≡ lists (option_map (relisted es path) o) name
   lists_what_is_there path name None above = never_some _ above
-  lists_what_is_there path name (Some (File bs)) above = never_some _ above
+  lists_what_is_there path name (Some (File bs exec)) above = never_some _ above
   lists_what_is_there path name (Some (Dir names)) above = sym (has_below es path name)
   lists_what_is_there path name (Some (Link text)) above = never_some _ above
 
@@ -170,7 +170,7 @@ module _ (es : List Mapped) (up : IsStrictlySortedBy path_cmp (keys_of es)) (sha
 
   node_within : (path : Paths) (o : Option Node) → IfSome o IsLeaf → IfSome o IsOfBytes → IfSome (option_map (relisted es path) o) (IsNode path)
   node_within path None leaf held = tt
-  node_within path (Some (File bs)) leaf held = record { short = leaf; bytes = held }
+  node_within path (Some (File bs exec)) leaf held = record { short = leaf; bytes = held }
   node_within path (Some (Dir names)) leaf held = is_set path
   node_within path (Some (Link text)) leaf held = leaf
 

@@ -52,7 +52,7 @@ last_off p some =
 
 dir_lists : (o : Option Node) (name : List ℕ) → lists o name ≡ true → is_dir (but_no_link o) ≡ true
 dir_lists None name e = absurd (false≢true e)
-dir_lists (Some (File bytes)) name e = absurd (false≢true e)
+dir_lists (Some (File bytes exec)) name e = absurd (false≢true e)
 dir_lists (Some (Dir names)) name e = refl
 dir_lists (Some (Link text)) name e = absurd (false≢true e)
 
@@ -80,14 +80,14 @@ paths_of ls = map (λ (l : TableLink). l.path) ls
 -- what holds of all paths holds of those of the links
 all_kept : (P : Paths → Type 0) (es : List (Paths × Node)) → AllByRecursion P (keys_of es) → AllByRecursion P (paths_of (filter_map link_at es))
 all_kept P [] all = tt
-all_kept P ((p, File bytes) ∷ es) all = all_kept P es all.1
+all_kept P ((p, File bytes exec) ∷ es) all = all_kept P es all.1
 all_kept P ((p, Dir names) ∷ es) all = all_kept P es all.1
 all_kept P ((p, Link text) ∷ es) all = (all.0, all_kept P es all.1)
 
 sorted_kept : (es : List (Paths × Node)) → IsStrictlySortedBy path_cmp (keys_of es) → IsStrictlySortedBy path_cmp (paths_of (filter_map link_at es))
 unfolding IsStrictlySortedBy
 sorted_kept [] up = tt
-sorted_kept ((p, File bytes) ∷ es) up = sorted_kept es up.1
+sorted_kept ((p, File bytes exec) ∷ es) up = sorted_kept es up.1
 sorted_kept ((p, Dir names) ∷ es) up = sorted_kept es up.1
 sorted_kept ((p, Link text) ∷ es) up = (all_kept (λ q. path_cmp p q ≡ Less) es up.0, sorted_kept es up.1)
 
@@ -107,7 +107,7 @@ record AreLinks (S : Store) (ls : List TableLink) : Type 0 where
 module _ (nodes : Nodes) (whole : IsWhole (get nodes)) where
   are_links : (es : List (Paths × Node)) → AreFound es (entries nodes) → AreLinks (get nodes) (filter_map link_at es)
   are_links [] found = record { valid = All-nil IsLink; stand = All-nil (CanStand (unlinked (get nodes))); below = tt }
-  are_links ((p, File bytes) ∷ es) found = are_links es found.1
+  are_links ((p, File bytes exec) ∷ es) found = are_links es found.1
   are_links ((p, Dir names) ∷ es) found = are_links es found.1
   are_links ((p, Link text) ∷ es) found =
       let here : get nodes p ≡ Some (Link text) = get-entries nodes p ∙ found.0 in

@@ -2,6 +2,7 @@ pub mod Entered
 pub mod Faults
 pub mod Lines
 pub mod Linked
+pub mod Lists
 pub mod Listed
 pub mod Mapped
 pub mod Merges

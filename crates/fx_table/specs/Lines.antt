@@ -24,7 +24,7 @@ link_change link = record { path = link.path; node = Some (Link link.text) }
 
 abbrev pub text_in : Option Node → List ℕ
 text_in None = []
-text_in (Some (File bytes)) = []
+text_in (Some (File bytes exec)) = []
 text_in (Some (Dir names)) = []
 text_in (Some (Link text)) = text
 

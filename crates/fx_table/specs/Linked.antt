@@ -34,9 +34,9 @@ TableCause nodes text NoMemory = ⊤
 
 -- a node without what it holds: a directory without names, or an empty file
 abbrev pub bare_node : Node → Node
-bare_node (File bytes) = File []
+bare_node (File bytes exec) = File [] false
 bare_node (Dir names) = Dir []
-bare_node (Link text) = File []
+bare_node (Link text) = File [] false
 
 abbrev pub bare : Mapped → Mapped
 bare (path, node) = (path, bare_node node)
@@ -48,7 +48,7 @@ AddsBare nodes path old new = (node : Node) × (get nodes path ≡ Some node) ×
 -- the change makes no file
 abbrev pub makes_no_file : Option Node → Bool
 makes_no_file None = true
-makes_no_file (Some (File bytes)) = false
+makes_no_file (Some (File bytes exec)) = false
 makes_no_file (Some (Dir names)) = true
 makes_no_file (Some (Link text)) = true
 

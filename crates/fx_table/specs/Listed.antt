@@ -22,7 +22,7 @@ abbrev pub names_below : List Mapped → List (List ℕ) → List (List ℕ)
 names_below es path = filter_map (λ (e : Mapped). name_in path e.0) es
 
 abbrev pub with_names : List Mapped → Mapped → Mapped
-with_names es (path, File bytes) = (path, File bytes)
+with_names es (path, File bytes exec) = (path, File bytes exec)
 with_names es (path, Dir names) = (path, Dir (names_below es path))
 with_names es (path, Link text) = (path, Link text)
 

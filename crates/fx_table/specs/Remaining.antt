@@ -19,7 +19,7 @@ from_names nodes path names = flat_map (λ name. from_path nodes (path ++ name �
 -- the names that a directory lists
 abbrev pub names_in : Option Node → List (List ℕ)
 names_in None = []
-names_in (Some (File bytes)) = []
+names_in (Some (File bytes exec)) = []
 names_in (Some (Dir names)) = names
 names_in (Some (Link text)) = []
 

@@ -17,13 +17,13 @@ use Rattle.fx_table.specs.Table.{is_dir}
 
 -- within the limits, whichever bytes a file holds
 abbrev pub IsLeaf : Node → Type 0
-IsLeaf (File bytes) = length bytes ≤ MAX_FILE_BYTES
+IsLeaf (File bytes exec) = length bytes ≤ MAX_FILE_BYTES
 IsLeaf (Dir names) = ⊤
 IsLeaf (Link text) = IsLinkText text
 
 -- what a file holds is bytes
 abbrev pub IsOfBytes : Node → Type 0
-IsOfBytes (File bytes) = All (λ b. b < 256) bytes
+IsOfBytes (File bytes exec) = All (λ b. b < 256) bytes
 IsOfBytes (Dir names) = ⊤
 IsOfBytes (Link text) = ⊤
 

@@ -29,12 +29,12 @@ table_text links = flat_map (λ l. line_of l ++ 10 ∷ []) links
 -- the line of a link in the table, where one stands at the path
 abbrev pub line_at : List (List ℕ) → Option Node → List ℕ
 line_at path None = []
-line_at path (Some (File bytes)) = []
+line_at path (Some (File bytes exec)) = []
 line_at path (Some (Dir names)) = []
 line_at path (Some (Link text)) = line_of (record { path = path; text = text }) ++ 10 ∷ []
 
 abbrev pub link_at : List (List ℕ) × Node → Option TableLink
-link_at (path, File bytes) = None
+link_at (path, File bytes exec) = None
 link_at (path, Dir names) = None
 link_at (path, Link text) = Some (record { path = path; text = text })
 
@@ -70,7 +70,7 @@ read_line line = read_parts (slice_split is_space line)
 
 abbrev pub is_dir : Option Node → Bool
 is_dir None = false
-is_dir (Some (File bytes)) = false
+is_dir (Some (File bytes exec)) = false
 is_dir (Some (Dir names)) = true
 is_dir (Some (Link text)) = false
 

@@ -43,7 +43,7 @@ BadLinesAreFirst = (S : Store) (text : List ℕ) (number : ℕ) → read_table S
 
 abbrev pub but_no_link : Option Node → Option Node
 but_no_link None = None
-but_no_link (Some (File bytes)) = Some (File bytes)
+but_no_link (Some (File bytes exec)) = Some (File bytes exec)
 but_no_link (Some (Dir names)) = Some (Dir names)
 but_no_link (Some (Link text)) = None
 

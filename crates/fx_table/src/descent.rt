@@ -123,7 +123,7 @@ fn enter(
 {
     match store.get(path) {
         Some(Node::Dir(names)) => push(alloc, levels, path, names),
-        Some(Node::File(_)) => Ok(()),
+        Some(Node::File { .. }) => Ok(()),
         Some(Node::Link(_)) => Ok(()),
         None => Ok(()),
     }

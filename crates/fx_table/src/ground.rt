@@ -56,7 +56,7 @@ fn is_dir(node: Option<&Node>) -> bool
 {
     match node {
         Some(Node::Dir(_)) => true,
-        Some(Node::File(_)) => false,
+        Some(Node::File { .. }) => false,
         Some(Node::Link(_)) => false,
         None => false,
     }

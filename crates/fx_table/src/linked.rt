@@ -71,8 +71,8 @@ fn add_bare(
 {
     let node = match store.get(&path) {
         Some(Node::Dir(_)) => Node::Dir(Names::new(alloc)),
-        Some(Node::File(_)) => Node::File(Bytes::new(alloc)),
-        Some(Node::Link(_)) => Node::File(Bytes::new(alloc)),
+        Some(Node::File { .. }) => Node::File { bytes: Bytes::new(alloc), exec: false },
+        Some(Node::Link(_)) => Node::File { bytes: Bytes::new(alloc), exec: false },
         None => unreachable!(),
     };
     all.push(Change {
@@ -107,7 +107,7 @@ fn makes_no_file(change: &Change) -> bool
     ensures { result ≡ makes_no_file change.now.node }
 {
     match &change.node {
-        Some(Node::File(_)) => false,
+        Some(Node::File { .. }) => false,
         Some(Node::Dir(_)) => true,
         Some(Node::Link(_)) => true,
         None => true,

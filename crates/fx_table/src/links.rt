@@ -33,7 +33,7 @@ fn add_entry(text: &mut Vec<u8>, path: &Path, store: &Filestore) -> Result<(), N
 {
     match store.get(path) {
         Some(Node::Link(link)) => add_line(text, path, link),
-        Some(Node::File(_)) => Ok(()),
+        Some(Node::File { .. }) => Ok(()),
         Some(Node::Dir(_)) => Ok(()),
         None => Ok(()),
     }

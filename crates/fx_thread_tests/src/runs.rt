@@ -47,7 +47,7 @@ impl Ran {
     /// Whether a file has this text at the end.
     fn has(&self, path: &Path, text: &str) -> bool {
         match self.board.store().get(path) {
-            Some(Node::File(bytes)) => bytes.as_slice() == text.as_bytes(),
+            Some(Node::File { bytes, .. }) => bytes.as_slice() == text.as_bytes(),
             _ => false,
         }
     }

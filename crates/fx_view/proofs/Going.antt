@@ -5,8 +5,10 @@ use Rattle.std.proofs.lemmas.List.{append-nil}
 use Rattle.std.proofs.lemmas.List.Elements.{All-nil, All-append, All-weaker, Contains-append_left, Contains-append_right}
 use Rattle.fx_view.specs.Meaning.{Meaning}
 use Rattle.fx_view.specs.Reads.{known_of}
-use Rattle.fx_view.specs.Follows.{Went}
+use Rattle.fx_store.specs.Rule.{AllKnown}
+use Rattle.fx_view.specs.Follows.{Went, InOrder}
 use Rattle.fx_view.proofs.Growing.{Grows, Grows-reads}
+use Rattle.fx_view.proofs.Ordering.{InOrder-front, InOrder-then}
 
 abbrev Path : Type 0
 Path = List (List ℕ)
@@ -19,7 +21,7 @@ module _ {R : Type 0} (m : Meaning R) where
   -- the reader keeps what it has
   pub Went-kept : (old new : R) (paths : List Path) → m.reads new ≡ m.reads old → m.complete new ≡ m.complete old → ((start : R) → m.vouches start old (m.reads old) → m.vouches start new (m.reads new)) → Went m old new paths
   Went-kept old new paths kept same vouched =
-      record { more = []; kept = kept ∙ sym (append-nil (m.reads old)); only = All-nil (Contains paths); same = same; vouched = vouched }
+      record { more = []; kept = kept ∙ sym (append-nil (m.reads old)); only = All-nil (Contains paths); order = tt; same = same; vouched = vouched }
 
   pub Went-none : (old : R) (paths : List Path) → Went m old old paths
   Went-none old paths = Went-kept old old paths refl refl (λ start v. v)
@@ -27,19 +29,22 @@ module _ {R : Type 0} (m : Meaning R) where
   -- and goes on with what it has
   pub Went-kept_on : (old mid new : R) (paths : List Path) → m.reads new ≡ m.reads mid → m.complete new ≡ m.complete mid → ((start : R) → m.vouches start mid (m.reads mid) → m.vouches start new (m.reads new)) → Went m old mid paths → Went m old new paths
   Went-kept_on old mid new paths kept same vouched went =
-      record { more = went.more; kept = kept ∙ went.kept; only = went.only; same = same ∙ went.same; vouched = λ start v. vouched start (went.vouched start v) }
-
-  pub Went-wider : (old new : R) (ps qs : List Path) → ((p : Path) → Contains ps p → Contains qs p) → Went m old new ps → Went m old new qs
-  Went-wider old new ps qs within went =
-      record { more = went.more; kept = went.kept; only = All-weaker (Contains ps) (Contains qs) within (keys_of went.more) went.only; same = went.same; vouched = went.vouched }
+      record { more = went.more; kept = kept ∙ went.kept; only = went.only; order = went.order; same = same ∙ went.same; vouched = λ start v. vouched start (went.vouched start v) }
 
   -- over a front of the paths
   pub Went-front : (old new : R) (ps rest qs : List Path) → qs ≡ ps ++ rest → Went m old new ps → Went m old new qs
-  Went-front old new ps rest qs e went =
-      subst (Went m old new) (sym e) (Went-wider old new ps (ps ++ rest) (λ p h. Contains-append_left ps rest p h) went)
+  Went-front old new ps rest qs e went = subst (Went m old new) (sym e) (record {
+    more = went.more;
+    kept = went.kept;
+    only = All-weaker (Contains ps) (Contains (ps ++ rest)) (λ p h. Contains-append_left ps rest p h) (keys_of went.more) went.only;
+    order = InOrder-front (m.reads old) went.more ps rest went.order;
+    same = went.same;
+    vouched = went.vouched;
+  })
 
-  pub Went-then : (old mid new : R) (ps qs : List Path) → Went m old mid ps → Went m mid new qs → Went m old new (ps ++ qs)
-  Went-then old mid new ps qs first next = record {
+  -- on from there, where all of the first paths are read
+  pub Went-then : (old mid new : R) (ps qs : List Path) → AllKnown (known_of (m.reads mid)) ps → Went m old mid ps → Went m mid new qs → Went m old new (ps ++ qs)
+  Went-then old mid new ps qs known first next = record {
     more = first.more ++ next.more;
     kept = next.kept ∙ (ap (λ rs. rs ++ next.more) first.kept ∙ append_assoc (m.reads old) first.more next.more);
     only =
@@ -47,6 +52,9 @@ module _ {R : Type 0} (m : Meaning R) where
         (All-append (Contains (ps ++ qs)) (keys_of first.more) (keys_of next.more)
         (All-weaker (Contains ps) (Contains (ps ++ qs)) (λ p h. Contains-append_left ps qs p h) (keys_of first.more) first.only)
         (All-weaker (Contains qs) (Contains (ps ++ qs)) (λ p h. Contains-append_right ps qs p h) (keys_of next.more) next.only));
+    order =
+        InOrder-then (m.reads old) first.more next.more ps qs (subst (λ rs. AllKnown (known_of rs) ps) first.kept known) first.order
+        (subst (λ rs. InOrder rs next.more qs) first.kept next.order);
     same = next.same ∙ first.same;
     vouched = λ start v. next.vouched start (first.vouched start v);
   }

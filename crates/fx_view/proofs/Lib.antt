@@ -1,6 +1,7 @@
 pub mod Lookups
 pub mod Growing
 pub mod Rules
+pub mod Ordering
 pub mod Going
 pub mod Rulings
 pub mod Calls

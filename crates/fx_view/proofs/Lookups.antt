@@ -1,13 +1,16 @@
 -- Look-ups by path: what the tables answer is what the definitions say.
-use Rattle.std.proofs.Common.{◌≡◌, ℕ, Bool, true, false, cond, List, [], ◌∷◌, ◌++◌, Option, Some, None, refl, ap}
-use Rattle.std.specs.Map.{lookup}
+use Rattle.std.proofs.Common.{◌≡◌, ℕ, zero, suc, ◌+◌, not, Bool, true, false, cond, List, [], ◌∷◌, ◌++◌, length, take, map, slice_get, Option, Some, None, is_some, refl, sym, ap, subst, ◌∙◌, arith, take_all}
+use Rattle.std.specs.Prelude.{position, nat_lt}
+use Rattle.std.specs.List.{IsDistinct, position_or_len}
+use Rattle.std.specs.Map.{lookup, keys_of}
+use Rattle.std.proofs.lemmas.Option.{none-some, same_Some}
 use Rattle.std.specs.Ordering.{eq_by_cmp}
 use Rattle.indexmap.specs.IndexMap.{insert_entry}
 use Rattle.fx_store.specs.declared.node.Node.{Node}
 use Rattle.fx_store.specs.Names.{path_cmp}
 use Rattle.fx_view.specs.ReadList.{ReadList}
 use Rattle.fx_view.specs.OwnList.{OwnList}
-use Rattle.fx_view.specs.Reads.{read_at}
+use Rattle.fx_view.specs.Reads.{read_at, placed, IsReads}
 use Rattle.fx_view.specs.Own.{own_at, put_own}
 
 abbrev Path : Type 0
@@ -34,3 +37,55 @@ insert-new (e ∷ es) path read none = first (eq_by_cmp path_cmp path e.0) none 
     first : (b : Bool) → cond b (Some e.1) (read_at es path) ≡ None → (read_at es path ≡ None → insert_entry (eq_by_cmp path_cmp) es path read ≡ es ++ (path, read) ∷ []) → cond b ((e.0, read) ∷ es) (e ∷ insert_entry (eq_by_cmp path_cmp) es path read) ≡ e ∷ (es ++ (path, read) ∷ [])
     first true found rest = cc
     first false found rest = ap (λ es. e ∷ es) (rest found)
+
+-- ---- a read at another position
+
+abbrev Read : Type 0
+Read = Option Node × ℕ
+
+-- the entries with w as the value at an index, as a table writes it
+abbrev pub written : {K X : Type 0} → List (K × X) → ℕ → X → List (K × X)
+written [] i w = []
+written (e ∷ es) zero w = (e.0, w) ∷ es
+written (e ∷ es) (suc i) w = e ∷ written es i w
+
+pub placed_is : (reads : ReadList) (i : ℕ) (read : Read) (position : ℕ) → slice_get (map (λ (e : Path × Read). e.1) reads) i ≡ Some read → written reads i (read.0, position) ≡ placed i position reads
+placed_is [] i read position is = refl
+placed_is (e ∷ es) zero read position is = ap (λ (r : Read). (e.0, (r.0, position)) ∷ es) (sym (same_Some e.1 read is))
+placed_is (e ∷ es) (suc i) read position is = ap (λ es. e ∷ es) (placed_is es i read position is)
+
+pub placed_keys : (reads : ReadList) (i position : ℕ) → keys_of (placed i position reads) ≡ keys_of reads
+placed_keys [] i position = refl
+placed_keys (e ∷ es) zero position = refl
+placed_keys (e ∷ es) (suc i) position = ap (λ ks. e.0 ∷ ks) (placed_keys es i position)
+
+pub placed_once : (reads : ReadList) (i position : ℕ) → IsReads reads → IsReads (placed i position reads)
+placed_once reads i position once = subst (IsDistinct (eq_by_cmp path_cmp)) (sym (placed_keys reads i position)) once
+
+-- ---- the reads before a path's
+
+before_place : (test : Path → Bool) (reads : ReadList) → lookup test (take (position_or_len test (keys_of reads)) reads) ≡ None
+before_place test [] = refl
+before_place test (e ∷ es) = at (test e.0) refl (before_place test es)
+  where
+    at : (b : Bool) → test e.0 ≡ b → lookup test (take (position_or_len test (keys_of es)) es) ≡ None → lookup test (take (cond (not b) (1 + position_or_len test (keys_of es)) 0) (e ∷ es)) ≡ None
+    at true is rest = refl
+    at false is rest =
+        let one : 1 + position_or_len test (keys_of es) ≡ suc (position_or_len test (keys_of es)) = omega arith in
+        ap (λ k. lookup test (take k (e ∷ es))) one ∙ ap (λ b. cond b (Some e.1) (lookup test (take (position_or_len test (keys_of es)) es))) is ∙ rest
+
+pub place_some : (reads : ReadList) (path : Path) (i : ℕ) → position (eq_by_cmp path_cmp path) (keys_of reads) ≡ Some i → read_at (take i reads) path ≡ None
+place_some reads path i is = at (nat_lt (position_or_len (eq_by_cmp path_cmp path) (keys_of reads)) (length (keys_of reads))) is
+  where
+    at : (b : Bool) → cond b (Some (position_or_len (eq_by_cmp path_cmp path) (keys_of reads))) None ≡ Some i → read_at (take i reads) path ≡ None
+    at true e =
+        let same : position_or_len (eq_by_cmp path_cmp path) (keys_of reads) ≡ i = cc in
+        ap (λ i. read_at (take i reads) path) (sym same) ∙ sym (lookup-read_at (take (position_or_len (eq_by_cmp path_cmp path) (keys_of reads)) reads) path) ∙ before_place (eq_by_cmp path_cmp path) reads
+    at false e = absurd (cc)
+
+pub place_none : (reads : ReadList) (path : Path) (n : ℕ) → is_some (lookup (eq_by_cmp path_cmp path) reads) ≡ false → n ≡ length reads → read_at (take n reads) path ≡ None
+place_none reads path n gone all = ap (λ rs. read_at rs path) (take_all n reads (omega (arith, all))) ∙ sym (lookup-read_at reads path) ∙ no_some (lookup (eq_by_cmp path_cmp path) reads) gone
+  where
+    no_some : (o : Option (Option Node × ℕ)) → is_some o ≡ false → o ≡ None
+    no_some None e = refl
+    no_some (Some x) e = absurd (cc)

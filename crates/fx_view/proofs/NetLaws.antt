@@ -43,14 +43,25 @@ under : {X Y : Type 0} (f : X → Y) (a b : X) → (f a ≡ f b → a ≡ b) →
 under f a b back (inl e) = inl (ap f e)
 under f a b back (inr n) = inr (λ e. n (back e))
 
+flag_or : (a b : Bool) → (a ≡ b) ⊎ (a ≡ b → ⊥)
+flag_or true true = inl refl
+flag_or true false = inr (λ e. cc)
+flag_or false true = inr (λ e. cc)
+flag_or false false = inl refl
+
+file_or : (a b : List ℕ) (exec was : Bool) → (a ≡ b) ⊎ (a ≡ b → ⊥) → (exec ≡ was) ⊎ (exec ≡ was → ⊥) → (File a exec ≡ File b was) ⊎ (File a exec ≡ File b was → ⊥)
+file_or a b exec was (inl e) (inl f) = inl (λ i. File (e i) (f i))
+file_or a b exec was (inr n) f = inr (λ e. n (let same : a ≡ b = cc in same))
+file_or a b exec was e (inr n) = inr (λ e. n (let same : exec ≡ was = cc in same))
+
 pub node_or : (a b : Node) → (a ≡ b) ⊎ (a ≡ b → ⊥)
-node_or (File a) (File b) = under (λ (x : List ℕ). File x) a b (λ e. cc) (bytes_or a b)
-node_or (File a) (Dir b) = inr (λ e. cc)
-node_or (File a) (Link b) = inr (λ e. cc)
-node_or (Dir a) (File b) = inr (λ e. cc)
+node_or (File a exec) (File b was) = file_or a b exec was (bytes_or a b) (flag_or exec was)
+node_or (File a exec) (Dir b) = inr (λ e. cc)
+node_or (File a exec) (Link b) = inr (λ e. cc)
+node_or (Dir a) (File b exec) = inr (λ e. cc)
 node_or (Dir a) (Dir b) = under (λ (x : List (List ℕ)). Dir x) a b (λ e. cc) (names_or a b)
 node_or (Dir a) (Link b) = inr (λ e. cc)
-node_or (Link a) (File b) = inr (λ e. cc)
+node_or (Link a) (File b exec) = inr (λ e. cc)
 node_or (Link a) (Dir b) = inr (λ e. cc)
 node_or (Link a) (Link b) = under (λ (x : List ℕ). Link x) a b (λ e. cc) (bytes_or a b)
 

@@ -1,5 +1,5 @@
 -- Rules followed over what is known: one after another, over more reads, and against a filestore that agrees.
-use Rattle.std.proofs.Common.{◌≡◌, ℕ, List, [], ◌∷◌, ◌++◌, Option, Some, None, is_some, IsSome, refl, ap, ◌∙◌, sym, subst}
+use Rattle.std.proofs.Common.{◌≡◌, ℕ, cond, List, [], ◌∷◌, ◌++◌, Option, Some, None, is_some, IsSome, refl, ap, ◌∙◌, sym, subst}
 use Rattle.fx_store.specs.declared.node.Node.{Node}
 use Rattle.fx_store.specs.Whole.{Store}
 use Rattle.fx_store.specs.Rule.{Known, Ask, Answer, Look, Tick, answer, asked, ticks, ◌>>=◌, look_all, Found, Needs, seen, if_known, follow, AgreesWith, FollowedAt, AllKnown, changed, first_unknown}
@@ -97,6 +97,28 @@ module _ {A : Type 0} (known more own : Known) (grows : Grows known more) where
           → walked_on p (more p) (λ n. walked more own (next (seen (own p) n))) ≡ walked_on p k (λ n. walked known own (next (seen (own p) n)))
       step None at e rest = cc
       step (Some n) at e rest = ap (λ k. walked_on p k (λ n. walked more own (next (seen (own p) n)))) (grows.keeps p n at) ∙ ap (λ ps. p ∷ ps) (rest n e)
+
+-- ---- over fewer reads
+
+-- where an answer was found, and less is known, the rule needs the first path that it consulted and of which nothing is known
+pub follow_less : {A : Type 0} (less known own : Known) → Grows less known → (rule : Ask A) (a : A) (q : Path) → follow known own rule ≡ Found a → first_unknown less (walked known own rule) ≡ Some q → follow less own rule ≡ Needs q
+follow_less less known own grows (Answer b) a q e first = cc
+follow_less less known own grows (Tick rule) a q e first = follow_less less known own grows rule a q e first
+follow_less {A} less known own grows (Look p next) a q e first = step (known p) refl e first (λ n. follow_less less known own grows (next (seen (own p) n)) a q)
+  where
+    at : (n : Option Node) → known p ≡ Some n → (k : Option (Option Node)) → less p ≡ k → cond (is_some k) (first_unknown less (walked known own (next (seen (own p) n)))) (Some p) ≡ Some q
+        → (first_unknown less (walked known own (next (seen (own p) n))) ≡ Some q → follow less own (next (seen (own p) n)) ≡ Needs q)
+        → if_known p k (λ n. follow less own (next (seen (own p) n))) ≡ Needs q
+    at n is None under first rest = let same : p ≡ q = cc in ap (λ p. Needs p) same
+    at n is (Some m) under first rest =
+        let same : m ≡ n = (let both : Some m ≡ Some n = sym (grows.keeps p m under) ∙ is in cc) in
+        ap (λ m. follow less own (next (seen (own p) m))) same ∙ rest first
+
+    step : (k : Option (Option Node)) → known p ≡ k → if_known p k (λ n. follow known own (next (seen (own p) n))) ≡ Found a → first_unknown less (walked_on p k (λ n. walked known own (next (seen (own p) n)))) ≡ Some q
+        → ((n : Option Node) → follow known own (next (seen (own p) n)) ≡ Found a → first_unknown less (walked known own (next (seen (own p) n))) ≡ Some q → follow less own (next (seen (own p) n)) ≡ Needs q)
+        → follow less own (Look p next) ≡ Needs q
+    step None is e first rest = cc
+    step (Some n) is e first rest = at n is (less p) refl first (rest n e)
 
 -- what a rule consults over what is known is known
 pub walked_known : {A : Type 0} (known own : Known) (rule : Ask A) → AllKnown known (walked known own rule)

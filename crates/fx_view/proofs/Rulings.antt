@@ -11,7 +11,8 @@ use Rattle.fx_view.specs.Reads.{known_of, read_at}
 use Rattle.fx_view.specs.Answers.{IsReadOf, NeedsIt}
 use Rattle.fx_view.specs.Follows.{walked, walked_on, Went, GoesBy}
 use Rattle.fx_view.proofs.Growing.{known_by_read, unknown_by_read, read_at-last}
-use Rattle.fx_view.proofs.Rules.{follow-bind, follow-bind_needs, walked-bind, walked-bind_needs, walked-bind_front, found_more, walked_more, follow_own, walked_own}
+use Rattle.fx_view.proofs.Rules.{follow-bind, follow-bind_needs, walked-bind, walked-bind_needs, walked-bind_front, found_more, walked_more, walked_known, follow_own, walked_own}
+use Rattle.fx_view.proofs.Ordering.{InOrder-one}
 use Rattle.fx_view.proofs.Going.{Went-kept, Went-none, Went-front, Went-then, Went-grows}
 
 abbrev Path : Type 0
@@ -44,7 +45,7 @@ module _ {R : Type 0} (m : Meaning R) where
         let same = walked_more (known_of (m.reads mid)) (known_of (m.reads new)) own grows rule (view x) first.0 in (
           found,
           subst (Went m old new) (ap (λ ps. ps ++ walked (known_of (m.reads new)) own (f (view x))) (sym same) ∙ sym (walked-bind (known_of (m.reads new)) own rule f (view x) found))
-              (Went-then m old mid new (walked (known_of (m.reads mid)) own rule) (walked (known_of (m.reads new)) own (f (view x))) first.1 went),
+              (Went-then m old mid new (walked (known_of (m.reads mid)) own rule) (walked (known_of (m.reads new)) own (f (view x))) (walked_known (known_of (m.reads mid)) own rule) first.1 went),
         )
 
     -- a call that follows the one rule, and then one that follows the next
@@ -100,7 +101,7 @@ module _ {R : Type 0} (m : Meaning R) where
         (known_by_read (m.reads new) path under before.0 (ap (λ rs. read_at rs path) before.2 ∙ before.1), Went-kept m old new (path ∷ []) before.2 same vouched)
     read_known under (inr added) = (
       known_by_read (m.reads new) path under added.0 (ap (λ rs. read_at rs path) added.2 ∙ read_at-last (m.reads old) path (under, added.0) added.1),
-      record { more = (path, (under, added.0)) ∷ []; kept = added.2; only = All-contains_itself (path ∷ []); same = same; vouched = vouched },
+      record { more = (path, (under, added.0)) ∷ []; kept = added.2; only = All-contains_itself (path ∷ []); order = InOrder-one (m.reads old) path (under, added.0) added.1; same = same; vouched = vouched },
     )
 
     went_look : (under : Option Node) → IsReadOf (m.reads old) (m.reads new) path under → Went m old new (walked (known_of (m.reads new)) own (look path))

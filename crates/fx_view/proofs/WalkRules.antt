@@ -113,9 +113,9 @@ unfolding rule_at
 rule_at-none w n o l e is = ap (at_name w.follow w.here n (way w.rest.items) (walk (along w.links w.follow) w.follow (w.here /ₚ n) (way w.rest.items)) (along w.links w.follow)) e ∙ ap (λ l. Answer l) (sym is)
 
 module _ (w : Walk) (n : List ℕ) (path : Path) (is : path ≡ w.here /ₚ n) (o : Option Node) where
-  pub rule_at-file : (bytes : List ℕ) (l : Landing) → o ≡ Some (File bytes) → l ≡ rule.at_file path (way w.rest.items) → rule_at w n o ≡ Answer l
+  pub rule_at-file : (bytes : List ℕ) (exec : Bool) (l : Landing) → o ≡ Some (File bytes exec) → l ≡ rule.at_file path (way w.rest.items) → rule_at w n o ≡ Answer l
   unfolding rule_at
-  rule_at-file bytes l e lands =
+  rule_at-file bytes exec l e lands =
       ap (at_name w.follow w.here n (way w.rest.items) (walk (along w.links w.follow) w.follow (w.here /ₚ n) (way w.rest.items)) (along w.links w.follow)) e
       ∙ (ap (λ p. Answer (rule.at_file p (way w.rest.items))) (sym is) ∙ ap (λ l. Answer l) (sym lands))
 

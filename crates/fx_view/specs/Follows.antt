@@ -1,8 +1,8 @@
 -- What a call says that follows a rule through a reader.
-use Rattle.std.specs.Prelude.{◌≡◌, ℕ, ◌+◌, ◌≤◌, false, List, [], ◌∷◌, ◌++◌, All, Contains, Option, Some, None, Result, Ok, Err}
+use Rattle.std.specs.Prelude.{◌≡◌, ℕ, ◌+◌, ◌≤◌, false, List, [], ◌∷◌, ◌++◌, All, Contains, Option, Some, None, Result, Ok, Err, ⊤}
 use Rattle.std.specs.Map.{keys_of}
 use Rattle.fx_store.specs.declared.node.Node.{Node}
-use Rattle.fx_store.specs.Rule.{Ask, Answer, Look, Tick, Known, Found, Needs, seen, follow, ticks, changed}
+use Rattle.fx_store.specs.Rule.{Ask, Answer, Look, Tick, Known, Found, Needs, seen, follow, first_unknown, ticks, changed}
 use Rattle.fx_store.specs.Whole.{Store}
 use Rattle.fx_view.specs.declared.reader.Stop.{Stop}
 use Rattle.fx_view.specs.declared.reader.Stop.TheVariants as stop
@@ -20,12 +20,18 @@ walked known own (Answer a) = []
 walked known own (Look p next) = walked_on p (known p) λ n. walked known own (next (seen (own p) n))
 walked known own (Tick rule) = walked known own rule
 
--- the reader has gone on: it has its earlier reads, what it has read besides is among these paths, it is as complete as
--- before, and it still vouches
+-- after the old reads, each of these was in its turn of the first of the paths that was not read yet
+abbrev pub InOrder : ReadList → ReadList → List (List (List ℕ)) → Type 0
+InOrder old [] paths = ⊤
+InOrder old (read ∷ more) paths = (first_unknown (known_of old) paths ≡ Some read.0) × InOrder (old ++ read ∷ []) more paths
+
+-- the reader has gone on: it has its earlier reads, what it has read besides is among these paths, in their order, it is as
+-- complete as before, and it still vouches
 pub record Went {R : Type 0} (m : Meaning R) (old new : R) (paths : List (List (List ℕ))) : Type 0 where
   pub more : ReadList
   pub kept : m.reads new ≡ m.reads old ++ more
   pub only : All (Contains paths) (keys_of more)
+  pub order : InOrder (m.reads old) more paths
   pub same : m.complete new ≡ m.complete old
   pub vouched : (start : R) → m.vouches start old (m.reads old) → m.vouches start new (m.reads new)
 

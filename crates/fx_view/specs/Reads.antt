@@ -1,5 +1,5 @@
 -- Reads: what was read at a path.
-use Rattle.std.specs.Prelude.{ℕ, cond, List, [], ◌∷◌, Option, Some, None, IsSome}
+use Rattle.std.specs.Prelude.{ℕ, zero, suc, cond, List, [], ◌∷◌, map, Option, Some, None, IsSome}
 use Rattle.std.specs.List.{IsDistinct}
 use Rattle.std.specs.Map.{keys_of}
 use Rattle.std.specs.Option.{option_map}
@@ -8,6 +8,7 @@ use Rattle.fx_store.specs.declared.node.Node.{Node}
 use Rattle.fx_store.specs.Names.{path_cmp}
 use Rattle.fx_store.specs.Rule.{Known, AgreesWith}
 use Rattle.fx_store.specs.Whole.{Store}
+use Rattle.fx_view.specs.OwnList.{OwnList}
 use Rattle.fx_view.specs.ReadList.{ReadList}
 
 -- each path once
@@ -22,6 +23,16 @@ read_at (e ∷ es) path = cond (eq_by_cmp path_cmp path e.0) (Some e.1) (read_at
 -- what is known by the reads
 abbrev pub known_of : ReadList → Known
 known_of reads path = option_map (λ r. r.0) (read_at reads path)
+
+-- the reads, where the look of the one at `i` has this position
+abbrev pub placed : ℕ → ℕ → ReadList → ReadList
+placed i position [] = []
+placed zero position (e ∷ es) = (e.0, (e.1.0, position)) ∷ es
+placed (suc i) position (e ∷ es) = e ∷ placed i position es
+
+-- the reads without the positions of their looks
+abbrev pub nodes_in : ReadList → OwnList
+nodes_in reads = map (λ r. (r.0, r.1.0)) reads
 
 -- something was read at the path
 abbrev pub IsRead : ReadList → List (List ℕ) → Type 0

@@ -63,6 +63,10 @@ pub trait Reader {
         ensures vouched { (start : Self) → meaning.vouches start self.old (meaning.reads self.old)
             → meaning.vouches start self.new (meaning.reads self.new) };
 
+    /// What was read.
+    fn reads(&self) -> &Reads
+        ensures { result.now ≡ meaning.reads self.now };
+
     /// The reads; the reader then has none.
     fn take_reads(&mut self, alloc: Global) -> Reads
         ensures taken { result ≡ meaning.reads self.old }

@@ -1,7 +1,7 @@
 //! What was read of a filestore.
-ghost use Rattle.std.specs.Prelude.{◌≡◌, ◌++◌, ◌∷◌, [], None, length, slice_get, OnOk, OnErr, option_copied, option_map};
+ghost use Rattle.std.specs.Prelude.{◌≡◌, ◌<◌, ◌++◌, ◌∷◌, [], None, length, take, slice_get, OnOk, OnErr, option_copied, option_map};
 ghost use Rattle.std.specs.Map.Iter.{deref_pair};
-ghost use Rattle.fx_view.specs.Reads.{IsReads, read_at};
+ghost use Rattle.fx_view.specs.Reads.{IsReads, read_at, placed};
 
 use fx_base::NoMemory;
 use fx_store::{Node, Path};
@@ -62,6 +62,28 @@ impl Reads {
         self.table.get(path)
     }
 
+    /// Only the first reads are left, so many at most.
+    pub fn truncate(&mut self, len: u64)
+        ensures { self.new ≡ take len self.old }
+    {
+        self.table.truncate(len as usize);
+    }
+
+    /// The look of the read at `i` has this position from now on.
+    pub fn place(&mut self, i: u64, position: u64)
+        requires { i < length self.old }
+        ensures { self.new ≡ placed i position self.old }
+    {
+        self.table[i as usize].1 = position;
+    }
+
+    /// How many reads come before the path's; all of them where it was not read.
+    pub fn count_before(&self, path: &Path) -> u64
+        ensures { read_at (take result self.now) path.now ≡ None }
+    {
+        count_before_in(&self.table, path)
+    }
+
     /// Adds what was read at a path that is new. A refusal changes nothing.
     pub fn add(
         &mut self,
@@ -76,6 +98,15 @@ impl Reads {
     {
         let_go(self.table.insert(path, (node, position))?);
         Ok(())
+    }
+}
+
+fn count_before_in(table: &IndexMap<Path, (Option<Node>, u64)>, path: &Path) -> u64
+    ensures { read_at (take result table.now.entries) path.now ≡ None }
+{
+    match table.get_index_of(path) {
+        Some(i) => i as u64,
+        None => table.len() as u64,
     }
 }
 

@@ -21,17 +21,26 @@ fn is_same_node(a: &Node, b: &Node) -> bool
     ensures { IsTrue result ↔ (a.now ≡ b.now) }
 {
     match a {
-        Node::File(bytes) => is_file(b, bytes),
+        Node::File { bytes, exec } => is_file(b, bytes, *exec),
         Node::Dir(names) => is_dir(b, names),
         Node::Link(text) => is_link(b, text),
     }
 }
 
-fn is_file(node: &Node, bytes: &Bytes) -> bool
-    ensures { IsTrue result ↔ (File bytes.now ≡ node.now) }
+fn is_file(node: &Node, bytes: &Bytes, exec: bool) -> bool
+    ensures { IsTrue result ↔ (File bytes.now exec ≡ node.now) }
 {
     match node {
-        Node::File(other) => bytes.as_slice() == other.as_slice(),
+        Node::File {
+            bytes: other,
+            exec: flag,
+        } => {
+            if exec == *flag {
+                bytes.as_slice() == other.as_slice()
+            } else {
+                false
+            }
+        }
         Node::Dir(_) => false,
         Node::Link(_) => false,
     }
@@ -41,7 +50,7 @@ fn is_dir(node: &Node, names: &Names) -> bool
     ensures { IsTrue result ↔ (Dir names.now ≡ node.now) }
 {
     match node {
-        Node::File(_) => false,
+        Node::File { .. } => false,
         Node::Dir(other) => are_same_names(names, other),
         Node::Link(_) => false,
     }
@@ -51,7 +60,7 @@ fn is_link(node: &Node, text: &LinkText) -> bool
     ensures { IsTrue result ↔ (Link text.now ≡ node.now) }
 {
     match node {
-        Node::File(_) => false,
+        Node::File { .. } => false,
         Node::Dir(_) => false,
         Node::Link(other) => text.as_slice() == other.as_slice(),
     }

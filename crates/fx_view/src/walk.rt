@@ -98,7 +98,7 @@ pub(crate) fn arrive(
 {
     match node {
         None => Ok(Some(missing(alloc, walk, name)?)),
-        Some(Node::File(bytes)) => {
+        Some(Node::File { bytes, exec: _ }) => {
             drop(bytes);
             Ok(Some(at_file(walk, path)))
         }

@@ -1,5 +1,6 @@
 -- Moves from a first part to the second, and to another element.
-use Rattle.std.proofs.Common.{◌≡◌, ℕ, true, false, List, [], ◌∷◌, drop, Option, Some, None, option_map, Result, Ok, Err, refl, sym, ap, ◌∙◌, subst}
+use Rattle.fx_view.specs.ReadList.{ReadList}
+use Rattle.std.proofs.Common.{◌≡◌, ℕ, true, false, List, [], ◌∷◌, drop, Option, Some, None, option_map, Result, Ok, Err, refl, sym, ap, ◌∙◌, subst, length, take}
 use Rattle.std.specs.Prelude.{IfOk, IsErrAnd}
 use Rattle.std.specs.Option.{IfSome}
 use Rattle.fx_store.specs.Rule.{Known, Found, follow, answer, ticks}
@@ -41,19 +42,19 @@ first_pair known own p env at (SpecTree.comp s x e) found = absurd (cc)
 first_pair known own p env at (SpecTree.opt s) found = absurd (cc)
 first_pair known own p env at (SpecTree.pred e) found = absurd (cc)
 
-pair_around : (known own : Known) (root : SpecTree) (a : Address) (fs : List Frame) (env : Bindings) → last_step a ≡ Some First → AreFound known own root a fs env → IsPair (part root (drop 1 a))
+pair_around : (known : ReadList) (own : Known) (root : SpecTree) (a : Address) (fs : List Frame) (env : Bindings) → last_step a ≡ Some First → AreFound known own root a fs env → IsPair (part root (drop 1 a))
 pair_around known own root [] fs env e found = absurd (cc)
 pair_around known own root (Second ∷ a) fs env e found = absurd (cc)
 pair_around known own root (Inside ∷ a) fs env e found = absurd (cc)
 pair_around known own root (Down ∷ a) fs env e found = absurd (cc)
 pair_around known own root (Elem t ∷ a) fs env e found = absurd (cc)
 pair_around known own root (First ∷ a) [] env e found = absurd found
-pair_around known own root (First ∷ a) (g ∷ fs) env e found = first_pair known own (path_of fs) env (placed g.path env (child First (part root a))) (part root a) found.0
+pair_around known own root (First ∷ a) (g ∷ fs) env e found = first_pair (known_of (take g.reads known)) own (path_of fs) env (placed g.path env (child First (part root a))) (part root a) found.0
 
 not_pair : (s : SpecTree) → IsPair s → IsNoPair s → ⊥
 not_pair s (is_pair x a b form) none = subst IsNoPair form none
 
-module _ (known own : Known) (z : ZipTree) (stands : Stands known own z) (first : last_step z.address ≡ Some First) (s : SpecTree) (around : s ≡ part z.root (drop 1 z.address)) where
+module _ (known : ReadList) (own : Known) (z : ZipTree) (stands : Stands known own z) (first : last_step z.address ≡ Some First) (s : SpecTree) (around : s ≡ part z.root (drop 1 z.address)) where
   -- around a first part there is a pair
   pub no_pair_around : IsNoPair s → ⊥
   no_pair_around none = not_pair (part z.root (drop 1 z.address)) (pair_around known own z.root z.address z.frames z.env first stands.found) (subst IsNoPair around none)
@@ -66,7 +67,7 @@ module _ (known own : Known) (z : ZipTree) (stands : Stands known own z) (first 
         subst (λ e. HasScope e a) (sym bound) (subst (HasScope z.env) is (stands_scope known own z d stands))
 
     pub first_leads_on : {R : Type 0} (m : Meaning R) (was now : R × ℕ) (r : Result (Option Spot) Stop) (p : List (List ℕ)) (env : Bindings) → p ≡ path_of (drop 1 z.frames) → env ≡ z.env
-        → Follows m (option_map bound_value) own was now (value p env a) r → IfOk r (λ o. IfSome o (λ spot. BindsValue p x (bound_value spot) spot)) → FirstLeads m own z was now r
+        → Follows m (option_map bound_value) own was now (value p env a) r → IfOk r (λ o. IfSome o (λ spot. BindsValue p x (bound_value spot) spot × (spot.frame.reads ≡ length (m.reads now.0)))) → FirstLeads m own z was now r
     first_leads_on m was now r p env path bound follows spot = record {
       name = x;
       first = a;
@@ -75,10 +76,10 @@ module _ (known own : Known) (z : ZipTree) (stands : Stands known own z) (first 
       follows =
           subst (λ q. Follows m (option_map bound_value) own was now (value q z.env a) r) path
           (subst (λ e. Follows m (option_map bound_value) own was now (value p e a) r) bound follows);
-      spot = subst (λ q. IfOk r (λ o. IfSome o (λ spot. BindsValue q x (bound_value spot) spot))) path spot;
+      spot = subst (λ q. IfOk r (λ o. IfSome o (λ spot. BindsValue q x (bound_value spot) spot × (spot.frame.reads ≡ length (m.reads now.0))))) path spot;
     }
 
-module _ {R : Type 0} (m : Meaning R) (own : Known) (z : ZipTree) (was now : R × ℕ) (stands : Stands (known_of (m.reads was.0)) own z) (first : last_step z.address ≡ Some First) (mid : ZipTree) (same : mid ≡ z) where
+module _ {R : Type 0} (m : Meaning R) (own : Known) (z : ZipTree) (was now : R × ℕ) (stands : Stands (m.reads was.0) own z) (first : last_step z.address ≡ Some First) (mid : ZipTree) (same : mid ≡ z) where
   abbrev SecondTo : ZipTree → Result (Unit {0}) Halt → Type 0
   SecondTo new r = Turns m own z new was now (next_at z.root z.address (here z)) (next_evals z.address (here z)) r
 
@@ -163,21 +164,21 @@ module _ {R : Type 0} (m : Meaning R) (own : Known) (old mid : ZipTree) (was the
       (subst (λ a. Turns m own mid new then now (next_at old.root a (here mid)) (next_evals a (here mid)) r) finds.address
       (subst (λ root. Turns m own mid new then now (next_at root mid.address (here mid)) (next_evals mid.address (here mid)) r) finds.root turns))
 
-  pub moved_greater : is_first (last_step mid.address) ≡ false → Turned (known_of (m.reads then.0)) own mid new (beside mid.root least_above mid.address) r → Moves m own old new was then (go_next old.root old.address) (sideways_evals old old.address) r
+  pub moved_greater : is_first (last_step mid.address) ≡ false → Turned (m.reads then.0) own mid new (beside mid.root least_above mid.address) r → Moves m own old new was then (go_next old.root old.address) (sideways_evals old old.address) r
   moved_greater other turned =
       moved_next then
       (turned_turns m own mid new then.0 then.1 (next_at mid.root mid.address (here mid)) (next_evals mid.address (here mid)) r
-      (subst (λ rule. Turned (known_of (m.reads then.0)) own mid new rule r) (next_other mid.root mid.address (here mid) other) turned))
+      (subst (λ rule. Turned (m.reads then.0) own mid new rule r) (next_other mid.root mid.address (here mid) other) turned))
 
-  moved_prev : Turned (known_of (m.reads then.0)) own mid new (prev_at mid.root mid.address (here mid)) r → Moves m own old new was then (go_prev old.root old.address) (λ S. 0) r
+  moved_prev : Turned (m.reads then.0) own mid new (prev_at mid.root mid.address (here mid)) r → Moves m own old new was then (go_prev old.root old.address) (λ S. 0) r
   moved_prev turned =
       moves_on m own old mid was then finds new then (prev_at old.root old.address) (go_prev old.root old.address) (prev_rule old.root old.address) (λ S. 0) (λ S. 0) (λ S is. refl) r
       (subst (λ a. Turns m own mid new then then (prev_at old.root a (here mid)) (λ S. 0) r) finds.address
       (subst (λ root. Turns m own mid new then then (prev_at root mid.address (here mid)) (λ S. 0) r) finds.root
       (turned_turns m own mid new then.0 then.1 (prev_at mid.root mid.address (here mid)) (λ S. 0) r turned)))
 
-  pub moved_first : Turned (known_of (m.reads then.0)) own mid new (prev_at mid.root mid.address (here mid)) r → Moves m own old new was then (go_prev old.root old.address) (λ S. 0) r
+  pub moved_first : Turned (m.reads then.0) own mid new (prev_at mid.root mid.address (here mid)) r → Moves m own old new was then (go_prev old.root old.address) (λ S. 0) r
   moved_first = moved_prev
 
-  pub moved_smaller : is_second (last_step mid.address) ≡ false → Turned (known_of (m.reads then.0)) own mid new (beside mid.root greatest_below mid.address) r → Moves m own old new was then (go_prev old.root old.address) (λ S. 0) r
-  moved_smaller other turned = moved_prev (subst (λ rule. Turned (known_of (m.reads then.0)) own mid new rule r) (prev_other mid.root mid.address (here mid) other) turned)
+  pub moved_smaller : is_second (last_step mid.address) ≡ false → Turned (m.reads then.0) own mid new (beside mid.root greatest_below mid.address) r → Moves m own old new was then (go_prev old.root old.address) (λ S. 0) r
+  moved_smaller other turned = moved_prev (subst (λ rule. Turned (m.reads then.0) own mid new rule r) (prev_other mid.root mid.address (here mid) other) turned)

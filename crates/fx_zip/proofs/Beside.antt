@@ -1,4 +1,5 @@
 -- Moves from a step to one beside it.
+use Rattle.fx_view.specs.ReadList.{ReadList}
 use Rattle.std.proofs.Common.{◌≡◌, ℕ, ◌-◌, true, cond, List, [], ◌∷◌, length, drop, take, Option, Some, None, is_some, option_map, Result, Ok, Err, refl, sym, ap, ◌∙◌, subst, arith}
 use Rattle.std.specs.Prelude.{IsErrAnd, IfOk, MatchOption}
 use Rattle.fx_store.specs.Rule.{Known, Ask, Answer, Found, follow, ticks, changed, ◌>>=◌}
@@ -29,7 +30,7 @@ use Rattle.fx_zip.specs.declared.frame.Entry.{Entry}
 use Rattle.fx_zip.specs.declared.frame.Frame.{Frame}
 use Rattle.fx_zip.specs.declared.frame.Spot.{Spot}
 use Rattle.fx_zip.specs.Calls.{OnRefused, SaysFound, Turns, Turned, Besides, beside, next_at, prev_at, next_evals}
-use Rattle.fx_zip.specs.Fresh.{around, around_last, HasSet, IsHeld, AreFound, IsFresh, Stands, IsNoElement, last_step, last_set, left}
+use Rattle.fx_zip.specs.Fresh.{around, around_last, HasSet, IsHeld, AreFound, Stands, IsNoElement, last_step, last_set, left}
 use Rattle.fx_zip.specs.Parts.{child, part, comp_name}
 use Rattle.fx_zip.specs.Spots.{bound_value, Leads, LeadsFrom, Chooses, BindsValue, entered}
 use Rattle.fx_zip.specs.Steps.{step_tree}
@@ -37,8 +38,12 @@ use Rattle.fx_zip.specs.Telling.{Says, set_answer}
 use Rattle.fx_zip.specs.Trees.{ZipTree, path_of, here}
 use Rattle.fx_zip.proofs.Entering.{leads_at, leads_step}
 use Rattle.fx_zip.proofs.Leads.{first_leads, element_leads, grown_is, front_last}
-use Rattle.fx_zip.proofs.Standing.{found_place, stands_fresh, stands_grows, stands_settled, stands_left, stands_entered, left_settled, is_true}
+use Rattle.fx_zip.proofs.Standing.{found_place, stands_grows, stands_settled, stands_left, stands_entered, left_settled}
 use Rattle.fx_zip.proofs.Telling.{follows_grows, found_follows}
+
+all_taken : {A : Type 0} (xs : List A) → take (length xs) xs ≡ xs
+all_taken [] = refl
+all_taken (x ∷ xs) = ap (λ xs. x ∷ xs) (all_taken xs)
 
 says_found : {A X : Type 0} (known own : Known) (view : X → A) (rule : Ask A) (o : A) (r : Result X Stop) → follow known own rule ≡ Found o → Says view (Some o) r → SaysFound known own view rule r
 says_found known own view rule o (Ok x) e h = let same : o ≡ view x = cc in e ∙ ap (λ a. Found a) same
@@ -84,19 +89,19 @@ chosen_is a f (Err g) set h = absurd (cc)
 at_found : {B : Type 0} (known own : Known) (root : SpecTree) (a : Address) (rest : PlaceTree → Ask (Answered B)) (at : PlaceTree) → follow known own (place root a) ≡ Found (Some at) → follow known own (at_place root a rest) ≡ follow known own (rest at)
 at_found known own root a rest at e = follow-bind known own (place root a) (λ at. unrefused rest (needed Refusal.NoPlace at)) (Some at) e
 
-module _ (known own : Known) (root : SpecTree) (f : List ℕ → List (List ℕ) → Option (List ℕ)) where
+module _ (known : ReadList) (own : Known) (root : SpecTree) (f : List ℕ → List (List ℕ) → Option (List ℕ)) where
   abbrev rest_of : Address → List ℕ → PlaceTree → Ask (Answered Address)
   rest_of a t above = another a (f t) above.path above.env above.spec
 
   -- another element of the comprehension around
-  other_found : (a : Address) (fs : List Frame) (env : Bindings) (t : List ℕ) (set : List (List ℕ)) → AreFound known own root a fs env → InSet known own (path_of fs) env t (placed (path_of fs) env (part root a)) set (part root a)
-      → follow known own (beside root f (Elem t ∷ a)) ≡ Found (element a (f t set))
+  other_found : (a : Address) (fs : List Frame) (env : Bindings) (t : List ℕ) (set : List (List ℕ)) → AreFound known own root a fs env → InSet (known_of known) own (path_of fs) env t (placed (path_of fs) env (part root a)) set (part root a)
+      → follow (known_of known) own (beside root f (Elem t ∷ a)) ≡ Found (element a (f t set))
   other_found a fs env t set found (in_set d x e form answer) =
-      at_found known own root a (rest_of a t) (placed (path_of fs) env (part root a)) (found_place known own root a fs env found)
-      ∙ ap (λ s. follow known own (another a (f t) (path_of fs) env s)) form
+      at_found (known_of known) own root a (rest_of a t) (placed (path_of fs) env (part root a)) (found_place known own root a fs env found)
+      ∙ ap (λ s. follow (known_of known) own (another a (f t) (path_of fs) env s)) form
       ∙ ap (λ o. Found o) (chosen_is a (f t) (eval_of env e) set answer)
 
-  leads_other : (a : Address) (fs : List Frame) (env : Bindings) (t : List ℕ) (set : List (List ℕ)) → InSet known own (path_of fs) env t (placed (path_of fs) env (part root a)) set (part root a) → ((u : List ℕ) → f t set ≡ Some u → has_text u set ≡ true)
+  leads_other : (a : Address) (fs : List Frame) (env : Bindings) (t : List ℕ) (set : List (List ℕ)) → InSet (known_of known) own (path_of fs) env t (placed (path_of fs) env (part root a)) set (part root a) → ((u : List ℕ) → f t set ≡ Some u → has_text u set ≡ true)
       → (choice : Option (List ℕ)) → choice ≡ f t set → (r : Result Entry Halt) → MatchOption (comp_name (part root a)) (Unit {0}) (λ x. Chooses (path_of fs) x set choice r) → IfOk r (λ e. Leads known own (step_tree e.step) (path_of fs) env (part root a) e.spot)
   leads_other a fs env t set inside member choice same (Err h) chooses = tt
   leads_other a fs env t set (in_set d x e form answer) member choice same (Ok entry) chooses =
@@ -109,29 +114,29 @@ module _ (known own : Known) (root : SpecTree) (f : List ℕ → List (List ℕ)
           leads_step known own (Elem u) (step_tree entry.step) (path_of fs) env (part root a) entry.spot is.0
           (leads_at known own (Elem u) (path_of fs) env (part root a) 0 1 entry.spot (element_leads (path_of fs) env u (part root a) d x e form 0 1 refl set entry.spot answer (member u (sym same)) is.1))
 
-  says_other : (a : Address) (fs : List Frame) (env : Bindings) (t : List ℕ) (set : List (List ℕ)) → AreFound known own root a fs env → InSet known own (path_of fs) env t (placed (path_of fs) env (part root a)) set (part root a)
+  says_other : (a : Address) (fs : List Frame) (env : Bindings) (t : List ℕ) (set : List (List ℕ)) → AreFound known own root a fs env → InSet (known_of known) own (path_of fs) env t (placed (path_of fs) env (part root a)) set (part root a)
       → (choice : Option (List ℕ)) → choice ≡ f t set → (r : Result Entry Halt) → MatchOption (comp_name (part root a)) (Unit {0}) (λ x. Chooses (path_of fs) x set choice r)
-      → SaysFound known own (answered (λ e. step_tree e.step ∷ a)) (beside root f (Elem t ∷ a)) (split r)
+      → SaysFound (known_of known) own (answered (λ e. step_tree e.step ∷ a)) (beside root f (Elem t ∷ a)) (split r)
   says_other a fs env t set found (in_set d x e form answer) choice same r chooses =
       let c : Chooses (path_of fs) x set choice r = subst (λ s. MatchOption (comp_name s) (Unit {0}) (λ x. Chooses (path_of fs) x set choice r)) form chooses in
-      says_found known own (answered (λ e. step_tree e.step ∷ a)) (beside root f (Elem t ∷ a)) (element a choice) (split r)
+      says_found (known_of known) own (answered (λ e. step_tree e.step ∷ a)) (beside root f (Elem t ∷ a)) (element a choice) (split r)
       (other_found a fs env t set found (in_set d x e form answer) ∙ ap (λ c. Found (element a c)) (sym same)) (c.says a)
 
   -- over the address and the frames of a zipper
   module _ (t : List ℕ) (set : List (List ℕ)) (member : (u : List ℕ) → f t set ≡ Some u → has_text u set ≡ true) (choice : Option (List ℕ)) (same : choice ≡ f t set) (r : Result Entry Halt) where
     abbrev Both : Address → List Frame → Bindings → Type 0
-    Both a fs env = SaysFound known own (answered (λ e. step_tree e.step ∷ drop 1 a)) (beside root f a) (split r) × IfOk r (λ e. Leads known own (step_tree e.step) (path_of (drop 1 fs)) (around_last a env) (part root (drop 1 a)) e.spot)
+    Both a fs env = SaysFound (known_of known) own (answered (λ e. step_tree e.step ∷ drop 1 a)) (beside root f a) (split r) × IfOk r (λ e. Leads known own (step_tree e.step) (path_of (drop 1 fs)) (around_last a env) (part root (drop 1 a)) e.spot)
 
     both_of : (step : Step) (a : Address) (g : Frame) (fs : List Frame) (env : Bindings) → step ≡ Elem t → g.set ≡ Some set → AreFound known own root (step ∷ a) (g ∷ fs) env → MatchOption (comp_name (part root a)) (Unit {0}) (λ x. Chooses (path_of fs) x set choice r) → Both (step ∷ a) (g ∷ fs) env
     both_of step a g fs env is held found chooses =
         let found' : AreFound known own root (Elem t ∷ a) (g ∷ fs) env = subst (λ s. AreFound known own root (s ∷ a) (g ∷ fs) env) is found in
-        let inside' : InSet known own (path_of fs) (around (Elem t) env) t (placed g.path env (child (Elem t) (part root a))) set (part root a) =
-        element_in known own (path_of fs) (around (Elem t) env) t (placed g.path env (child (Elem t) (part root a))) set (part root a) g.set found'.0 held found'.1 in
-        let inside : InSet known own (path_of fs) (around (Elem t) env) t (placed (path_of fs) (around (Elem t) env) (part root a)) set (part root a) = set_of inside' in
+        let inside' : InSet (known_of (take g.reads known)) own (path_of fs) (around (Elem t) env) t (placed g.path env (child (Elem t) (part root a))) set (part root a) =
+        element_in (known_of (take g.reads known)) own (path_of fs) (around (Elem t) env) t (placed g.path env (child (Elem t) (part root a))) set (part root a) g.set found'.0 held found'.1 in
+        let inside : InSet (known_of known) own (path_of fs) (around (Elem t) env) t (placed (path_of fs) (around (Elem t) env) (part root a)) set (part root a) = set_of inside' in
         subst (λ s. Both (s ∷ a) (g ∷ fs) env) (sym is)
         (says_other a fs (around (Elem t) env) t set found'.2 inside choice same r chooses, leads_other a fs (around (Elem t) env) t set inside member choice same r chooses)
       where
-        set_of : {at other : PlaceTree} → InSet known own (path_of fs) (around (Elem t) env) t at set (part root a) → InSet known own (path_of fs) (around (Elem t) env) t other set (part root a)
+        set_of : {at other : PlaceTree} → InSet (known_of (take g.reads known)) own (path_of fs) (around (Elem t) env) t at set (part root a) → InSet (known_of known) own (path_of fs) (around (Elem t) env) t other set (part root a)
         set_of (in_set d x e form answer) = in_set d x e form answer
 
     both : (a : Address) (fs : List Frame) (env : Bindings) → last_step a ≡ Some (Elem t) → last_set fs ≡ Some set → AreFound known own root a fs env → MatchOption (comp_name (part root (drop 1 a))) (Unit {0}) (λ x. Chooses (path_of (drop 1 fs)) x set choice r) → Both a fs env
@@ -140,11 +145,11 @@ module _ (known own : Known) (root : SpecTree) (f : List ℕ → List (List ℕ)
     both (step ∷ a) (g ∷ fs) env e held found chooses = both_of step a g fs env (cc) held found chooses
 
 -- what leads from the zipper without its last step
-leads_left : (known own : Known) (z : ZipTree) → Stands known own z → (r : Result Entry Halt) → IfOk r (λ e. Leads known own (step_tree e.step) (path_of (drop 1 z.frames)) (around_last z.address z.env) (part z.root (drop 1 z.address)) e.spot) → IfOk r (λ e. LeadsFrom known own (left z) e)
+leads_left : (known : ReadList) (own : Known) (z : ZipTree) → Stands known own z → (r : Result Entry Halt) → IfOk r (λ e. Leads known own (step_tree e.step) (path_of (drop 1 z.frames)) (around_last z.address z.env) (part z.root (drop 1 z.address)) e.spot) → IfOk r (λ e. LeadsFrom known own (left z) e)
 leads_left known own z stands r h =
-    subst (λ (w : ZipTree). IfOk r (λ e. LeadsFrom known own w e)) (sym (left_settled z (is_true (length z.frames) (length z.address) (stands_settled known own z stands)))) h
+    subst (λ (w : ZipTree). IfOk r (λ e. LeadsFrom known own w e)) (sym (left_settled z (stands_settled known own z stands))) h
 
-module _ (known own : Known) (z : ZipTree) (stands : Stands known own z) where
+module _ (known : ReadList) (own : Known) (z : ZipTree) (stands : Stands known own z) where
   pub besides : (f : List ℕ → List (List ℕ) → Option (List ℕ)) (t : List ℕ) (set : List (List ℕ)) → ((u : List ℕ) → f t set ≡ Some u → has_text u set ≡ true) → (choice : Option (List ℕ)) → choice ≡ f t set → (r : Result Entry Halt) → last_step z.address ≡ Some (Elem t) → last_set z.frames ≡ Some set
       → MatchOption (comp_name (part z.root (drop 1 z.address))) (Unit {0}) (λ x. Chooses (path_of (drop 1 z.frames)) x set choice r) → Besides known own z (beside z.root f z.address) r
   besides f t set member choice same r step held chooses =
@@ -159,10 +164,10 @@ module _ (known own : Known) (z : ZipTree) (stands : Stands known own z) where
   none_beside f (Down ∷ a) fs env none found = refl
   none_beside f (Elem t ∷ a) [] env none found = absurd found
   none_beside f (Elem t ∷ a) (g ∷ fs) env none found =
-      absurd (no_element known own (path_of fs) (around (Elem t) env) t (placed g.path env (child (Elem t) (part z.root a))) [] (part z.root a) found.0 (subst (λ s. IsHeld (Elem t) s (around (Elem t) env) (part z.root a)) (none t refl) found.1))
+      absurd (no_element (known_of (take g.reads known)) own (path_of fs) (around (Elem t) env) t (placed g.path env (child (Elem t) (part z.root a))) [] (part z.root a) found.0 (subst (λ s. IsHeld (Elem t) s (around (Elem t) env) (part z.root a)) (none t refl) found.1))
 
   pub none_besides : (f : List ℕ → List (List ℕ) → Option (List ℕ)) → IsNoElement z → Besides known own z (beside z.root f z.address) (Err (halt.Refused Refusal.NoStep))
-  none_besides f none = record { says = ap (follow known own) (none_beside f z.address z.frames z.env none stands.found); leads = tt }
+  none_besides f none = record { says = ap (follow (known_of known) own) (none_beside f z.address z.frames z.env none stands.found); leads = tt }
 
   -- ---- the step is replaced
 
@@ -170,27 +175,27 @@ module _ (known own : Known) (z : ZipTree) (stands : Stands known own z) where
     pub replaced : (e : Entry) (new : ZipTree) → Besides known own z rule (Ok e) → new ≡ entered (left z) (step_tree e.step) e.spot → Turned known own z new rule (Ok tt)
     replaced e new h same = subst (λ w. Turned known own z w rule (Ok tt)) (sym same) (record {
       says = h.says;
-      fresh = stands_fresh known own (entered (left z) (step_tree e.step) e.spot) (stands_entered known own (left z) (step_tree e.step) e.spot (stands_left known own z stands) h.leads);
+      stands = stands_entered known own (left z) (step_tree e.step) e.spot (stands_left known own z stands) h.leads;
       root = refl;
       refused = tt;
     })
 
     pub replace_memory : (new : ZipTree) (r : Result (Unit {0}) Halt) → new.root ≡ z.root → IsErrAnd r (λ h. h ≡ halt.Stopped stop.NoMemory) → Turned known own z new rule r
-    replace_memory new r root none = subst (Turned known own z new rule) (sym (err_of r (halt.Stopped stop.NoMemory) none)) (record { says = tt; fresh = tt; root = root; refused = tt })
+    replace_memory new r root none = subst (Turned known own z new rule) (sym (err_of r (halt.Stopped stop.NoMemory) none)) (record { says = tt; stands = tt; root = root; refused = tt })
 
     none_turned : (h : Halt) → Besides known own z rule (Err h) → Turned known own z z rule (Err h)
-    none_turned (halt.Refused f) b = record { says = b.says; fresh = stands_fresh known own z stands; root = refl; refused = refl }
-    none_turned (halt.Stopped stop.NoMemory) b = record { says = tt; fresh = tt; root = refl; refused = tt }
+    none_turned (halt.Refused f) b = record { says = b.says; stands = stands; root = refl; refused = refl }
+    none_turned (halt.Stopped stop.NoMemory) b = record { says = tt; stands = tt; root = refl; refused = tt }
     none_turned (halt.Stopped (stop.Needs p)) b = absurd b.says
 
     pub none_replaced : (h : Halt) (r : Result (Unit {0}) Halt) → IsErrAnd r (λ d. d ≡ h) → Besides known own z rule (Err h) → Turned known own z z rule r
     none_replaced h r none b = subst (Turned known own z z rule) (sym (err_of r h none)) (none_turned h b)
 
 -- a call that consults nothing
-pub turned_turns : {R : Type 0} (m : Meaning R) (own : Known) (old new : ZipTree) (r : R) (n : ℕ) (rule : Ask (Answered Address)) (evals : Store → ℕ) (result : Result (Unit {0}) Halt) → Turned (known_of (m.reads r)) own old new rule result → Turns m own old new (r, n) (r, n) rule evals result
+pub turned_turns : {R : Type 0} (m : Meaning R) (own : Known) (old new : ZipTree) (r : R) (n : ℕ) (rule : Ask (Answered Address)) (evals : Store → ℕ) (result : Result (Unit {0}) Halt) → Turned (m.reads r) own old new rule result → Turns m own old new (r, n) (r, n) rule evals result
 turned_turns m own old new r n rule evals result h = record {
   follows = found_follows m own (answered (λ _. new.address)) r n rule (split result) h.says;
-  fresh = h.fresh;
+  stands = h.stands;
   root = h.root;
   refused = h.refused;
   most = λ S agrees. omega arith;
@@ -211,13 +216,13 @@ second_pair known own p env at (SpecTree.comp s x e) found = absurd (cc)
 second_pair known own p env at (SpecTree.opt s) found = absurd (cc)
 second_pair known own p env at (SpecTree.pred e) found = absurd (cc)
 
-module _ (known own : Known) (root : SpecTree) (entry : Entry) (step : step_tree entry.step ≡ First) (bound : entry.spot.bound ≡ None) where
+module _ (known : ReadList) (own : Known) (root : SpecTree) (entry : Entry) (step : step_tree entry.step ≡ First) (bound : entry.spot.bound ≡ None) where
   first_from : (p : List (List ℕ)) (env : Bindings) (s : SpecTree) → entry.spot.frame.path ≡ p → IsPair s → Leads known own (step_tree entry.step) p env s entry.spot
   first_from p env s path (is_pair x a b form) =
       leads_step known own First (step_tree entry.step) p env s entry.spot step (leads_at known own First p env s 0 0 entry.spot (first_leads p env s x a b 0 entry.spot form path bound))
 
   first_both : (a : Address) (fs : List Frame) (env : Bindings) (at : PlaceTree) → last_step a ≡ Some Second → entry.spot.frame.path ≡ path_of (drop 1 fs) → AreFound known own root a fs env
-      → (follow known own (prev_at root a at) ≡ Found (Ok (step_tree entry.step ∷ drop 1 a))) × Leads known own (step_tree entry.step) (path_of (drop 1 fs)) (around_last a env) (part root (drop 1 a)) entry.spot
+      → (follow (known_of known) own (prev_at root a at) ≡ Found (Ok (step_tree entry.step ∷ drop 1 a))) × Leads known own (step_tree entry.step) (path_of (drop 1 fs)) (around_last a env) (part root (drop 1 a)) entry.spot
   first_both [] fs env at e path found = absurd (cc)
   first_both (First ∷ a) fs env at e path found = absurd (cc)
   first_both (Inside ∷ a) fs env at e path found = absurd (cc)
@@ -226,27 +231,31 @@ module _ (known own : Known) (root : SpecTree) (entry : Entry) (step : step_tree
   first_both (Second ∷ a) [] env at e path found = absurd found
   first_both (Second ∷ a) (g ∷ fs) env at e path found = (
     ap (λ s. Found (Ok (s ∷ a))) (sym step),
-    first_from (path_of fs) (around Second env) (part root a) path (second_pair known own (path_of fs) (around Second env) (placed g.path env (child Second (part root a))) (part root a) found.0),
+    first_from (path_of fs) (around Second env) (part root a) path (second_pair (known_of (take g.reads known)) own (path_of fs) (around Second env) (placed g.path env (child Second (part root a))) (part root a) found.0),
   )
 
-pub first_besides : (known own : Known) (z : ZipTree) → Stands known own z → (entry : Entry) → step_tree entry.step ≡ First → entry.spot.bound ≡ None → last_step z.address ≡ Some Second → entry.spot.frame.path ≡ path_of (drop 1 z.frames) → Besides known own z (prev_at z.root z.address (here z)) (Ok entry)
+pub first_besides : (known : ReadList) (own : Known) (z : ZipTree) → Stands known own z → (entry : Entry) → step_tree entry.step ≡ First → entry.spot.bound ≡ None → last_step z.address ≡ Some Second → entry.spot.frame.path ≡ path_of (drop 1 z.frames) → Besides known own z (prev_at z.root z.address (here z)) (Ok entry)
 first_besides known own z stands entry step bound second path =
     let b = first_both known own z.root entry step bound z.address z.frames z.env (here z) second path stands.found in
     record { says = b.0; leads = leads_left known own z stands (Ok entry) b.1 }
 
 -- ---- from a first part to the second
 
-pub leads_second : (known own : Known) (p : List (List ℕ)) (env : Bindings) (s : SpecTree) (x : List ℕ) (a b : SpecTree) (spot : Spot) → s ≡ SpecTree.pair x a b → follow known own (value p env a) ≡ Found (Some (bound_value spot)) → BindsValue p x (bound_value spot) spot → Leads known own Second p env s spot
+-- what is found by all reads, as many as the frame tells
+pub by_all : {A : Type 0} (reads : ReadList) (spot : Spot) (own : Known) (rule : Ask A) (a : A) → spot.frame.reads ≡ length reads → follow (known_of reads) own rule ≡ Found a → follow (known_of (take spot.frame.reads reads)) own rule ≡ Found a
+by_all reads spot own rule a all h = ap (λ rs. follow (known_of rs) own rule) (ap (λ k. take k reads) all ∙ all_taken reads) ∙ h
+
+pub leads_second : (known : ReadList) (own : Known) (p : List (List ℕ)) (env : Bindings) (s : SpecTree) (x : List ℕ) (a b : SpecTree) (spot : Spot) → s ≡ SpecTree.pair x a b → follow (known_of (take spot.frame.reads known)) own (value p env a) ≡ Found (Some (bound_value spot)) → BindsValue p x (bound_value spot) spot → Leads known own Second p env s spot
 leads_second known own p env s x a b spot form found binds =
     subst (λ s. Leads known own Second p env s spot) (sym form)
     (record {
       found =
-          follow-bind known own (value p env a) (λ v. Answer (option_map (λ v. placed p (bind env x v) b) v)) (Some (bound_value spot)) found
+          follow-bind (known_of (take spot.frame.reads known)) own (value p env a) (λ v. Answer (option_map (λ v. placed p (bind env x v) b) v)) (Some (bound_value spot)) found
           ∙ (λ i. Found (Some (placed (sym binds.path i) (sym (grown_is env spot.bound (x, bound_value spot) binds.bound) i) b)));
       fits = record { held = tt; back = ap (λ g. take (length g - 1) g) (grown_is env spot.bound (x, bound_value spot) binds.bound) ∙ front_last env (x, bound_value spot) };
     })
 
-pub first_at : (known own : Known) (root : SpecTree) (a : Address) (fs : List Frame) (env : Bindings) (x : List ℕ) (l r : SpecTree) → last_step a ≡ Some First → part root (drop 1 a) ≡ SpecTree.pair x l r → AreFound known own root a fs env
+pub first_at : (known : ReadList) (own : Known) (root : SpecTree) (a : Address) (fs : List Frame) (env : Bindings) (x : List ℕ) (l r : SpecTree) → last_step a ≡ Some First → part root (drop 1 a) ≡ SpecTree.pair x l r → AreFound known own root a fs env
     → (placed (path_of fs) env (part root a) ≡ placed (path_of (drop 1 fs)) env l) × (around_last a env ≡ env) × (a ≡ First ∷ drop 1 a)
 first_at known own root [] fs env x l r e form found = absurd (cc)
 first_at known own root (Second ∷ a) fs env x l r e form found = absurd (cc)
@@ -255,11 +264,11 @@ first_at known own root (Down ∷ a) fs env x l r e form found = absurd (cc)
 first_at known own root (Elem t ∷ a) fs env x l r e form found = absurd (cc)
 first_at known own root (First ∷ a) [] env x l r e form found = absurd found
 first_at known own root (First ∷ a) (g ∷ fs) env x l r e form found =
-    let led : Found (Some (placed (path_of fs) env l)) ≡ Found (Some (placed g.path env (child First (part root a)))) = ap (λ s. follow known own (lead First (path_of fs) env s)) (sym form) ∙ found.0 in
+    let led : Found (Some (placed (path_of fs) env l)) ≡ Found (Some (placed g.path env (child First (part root a)))) = ap (λ s. follow (known_of (take g.reads known)) own (lead First (path_of fs) env s)) (sym form) ∙ found.0 in
     let same : placed (path_of fs) env l ≡ placed g.path env (child First (part root a)) = cc in
     (sym same, refl, refl)
 
-module _ {R : Type 0} (m : Meaning R) (own : Known) (z : ZipTree) (was now : R × ℕ) (stands : Stands (known_of (m.reads was.0)) own z) (first : last_step z.address ≡ Some First) (x : List ℕ) (a b : SpecTree) (form : part z.root (drop 1 z.address) ≡ SpecTree.pair x a b) where
+module _ {R : Type 0} (m : Meaning R) (own : Known) (z : ZipTree) (was now : R × ℕ) (stands : Stands (m.reads was.0) own z) (first : last_step z.address ≡ Some First) (x : List ℕ) (a b : SpecTree) (form : part z.root (drop 1 z.address) ≡ SpecTree.pair x a b) where
   abbrev Value : Ask (Option Tree)
   Value = value (path_of (drop 1 z.frames)) z.env a
 
@@ -270,7 +279,7 @@ module _ {R : Type 0} (m : Meaning R) (own : Known) (z : ZipTree) (was now : R �
   ToSecond new r = Turns m own z new was now (next_at z.root z.address (here z)) (next_evals z.address (here z)) r
 
   at_first : (here z ≡ placed (path_of (drop 1 z.frames)) z.env a) × (around_last z.address z.env ≡ z.env) × (z.address ≡ First ∷ drop 1 z.address)
-  at_first = first_at (known_of (m.reads was.0)) own z.root z.address z.frames z.env x a b first form stands.found
+  at_first = first_at (m.reads was.0) own z.root z.address z.frames z.env x a b first form stands.found
 
   rule_is : (Value >>= then_second) ≡ next_at z.root z.address (here z)
   rule_is = sym (ap (λ (w : Address). next_at z.root w (here z)) at_first.2 ∙ ap (λ (w : PlaceTree). next_at z.root (First ∷ drop 1 z.address) w) at_first.0)
@@ -281,32 +290,31 @@ module _ {R : Type 0} (m : Meaning R) (own : Known) (z : ZipTree) (was now : R �
   abbrev First_ : Result (Option Spot) Stop → Type 0
   First_ r = Follows m (option_map bound_value) own was now Value r
 
-  turns_by : (new : ZipTree) (r : Result (Unit {0}) Halt) (o : Result (Option Spot) Stop) → First_ o → new.root ≡ z.root → OnRefused r (new.address ≡ z.address) → IfOk (split r) (λ _. IsFresh (known_of (m.reads now.0)) own new) → Follows m (answered (λ _. new.address)) own was now (Value >>= then_second) (split r) → ToSecond new r
-  turns_by new r o h root refused fresh follows = record {
+  turns_by : (new : ZipTree) (r : Result (Unit {0}) Halt) (o : Result (Option Spot) Stop) → First_ o → new.root ≡ z.root → OnRefused r (new.address ≡ z.address) → IfOk (split r) (λ _. Stands (m.reads now.0) own new) → Follows m (answered (λ _. new.address)) own was now (Value >>= then_second) (split r) → ToSecond new r
+  turns_by new r o h root refused stands follows = record {
     follows = follows_same m (answered (λ _. new.address)) own was now (Value >>= then_second) (next_at z.root z.address (here z)) (split r) rule_is follows;
-    fresh = fresh;
+    stands = stands;
     root = root;
     refused = refused;
     most = λ S agrees. let most = h.most S agrees in let is = evals_is (changed own S) in omega (arith, most, is);
   }
 
-  stands_now : (o : Result (Option Spot) Stop) → First_ o → Stands (known_of (m.reads now.0)) own z
-  stands_now o h = stands_grows (known_of (m.reads was.0)) own z (known_of (m.reads now.0)) (follows_grows m own (option_map bound_value) was now Value o h) stands
+  stands_now : (o : Result (Option Spot) Stop) → First_ o → Stands (m.reads now.0) own z
+  stands_now o h = stands_grows (m.reads was.0) own z (m.reads now.0) (follows_grows m own (option_map bound_value) was now Value o h) stands
 
-  second_from : (spot : Spot) → First_ (Ok (Some spot)) → BindsValue (path_of (drop 1 z.frames)) x (bound_value spot) spot → Leads (known_of (m.reads now.0)) own Second (path_of (left z).frames) (left z).env (part (left z).root (left z).address) spot
+  second_from : (spot : Spot) → First_ (Ok (Some spot)) → (BindsValue (path_of (drop 1 z.frames)) x (bound_value spot) spot × (spot.frame.reads ≡ length (m.reads now.0))) → Leads (m.reads now.0) own Second (path_of (left z).frames) (left z).env (part (left z).root (left z).address) spot
   second_from spot h binds =
-      let leads : Leads (known_of (m.reads now.0)) own Second (path_of (drop 1 z.frames)) z.env (part z.root (drop 1 z.address)) spot =
-      leads_second (known_of (m.reads now.0)) own (path_of (drop 1 z.frames)) z.env (part z.root (drop 1 z.address)) x a b spot form h.goes.0 binds in
-      let around : Leads (known_of (m.reads now.0)) own Second (path_of (drop 1 z.frames)) (around_last z.address z.env) (part z.root (drop 1 z.address)) spot =
-      subst (λ e. Leads (known_of (m.reads now.0)) own Second (path_of (drop 1 z.frames)) e (part z.root (drop 1 z.address)) spot) (sym at_first.1) leads in
-      subst (λ (w : ZipTree). Leads (known_of (m.reads now.0)) own Second (path_of w.frames) w.env (part w.root w.address) spot)
-      (sym (left_settled z (is_true (length z.frames) (length z.address) (stands_settled (known_of (m.reads was.0)) own z stands)))) around
+      let leads : Leads (m.reads now.0) own Second (path_of (drop 1 z.frames)) z.env (part z.root (drop 1 z.address)) spot =
+      leads_second (m.reads now.0) own (path_of (drop 1 z.frames)) z.env (part z.root (drop 1 z.address)) x a b spot form (by_all (m.reads now.0) spot own (value (path_of (drop 1 z.frames)) z.env a) (Some (bound_value spot)) binds.1 h.goes.0) binds.0 in
+      let around : Leads (m.reads now.0) own Second (path_of (drop 1 z.frames)) (around_last z.address z.env) (part z.root (drop 1 z.address)) spot =
+      subst (λ e. Leads (m.reads now.0) own Second (path_of (drop 1 z.frames)) e (part z.root (drop 1 z.address)) spot) (sym at_first.1) leads in
+      subst (λ (w : ZipTree). Leads (m.reads now.0) own Second (path_of w.frames) w.env (part w.root w.address) spot)
+      (sym (left_settled z (stands_settled (m.reads was.0) own z stands))) around
 
-  pub second_turns : (spot : Spot) (new : ZipTree) → First_ (Ok (Some spot)) → BindsValue (path_of (drop 1 z.frames)) x (bound_value spot) spot → new ≡ entered (left z) Second spot → ToSecond new (Ok tt)
+  pub second_turns : (spot : Spot) (new : ZipTree) → First_ (Ok (Some spot)) → (BindsValue (path_of (drop 1 z.frames)) x (bound_value spot) spot × (spot.frame.reads ≡ length (m.reads now.0))) → new ≡ entered (left z) Second spot → ToSecond new (Ok tt)
   second_turns spot new h binds same = subst (λ w. ToSecond w (Ok tt)) (sym same) (
       turns_by (entered (left z) Second spot) (Ok tt) (Ok (Some spot)) h refl tt
-      (stands_fresh (known_of (m.reads now.0)) own (entered (left z) Second spot)
-      (stands_entered (known_of (m.reads now.0)) own (left z) Second spot (stands_left (known_of (m.reads now.0)) own z (stands_now (Ok (Some spot)) h)) (second_from spot h binds)))
+      (stands_entered (m.reads now.0) own (left z) Second spot (stands_left (m.reads now.0) own z (stands_now (Ok (Some spot)) h)) (second_from spot h binds))
       (follows_then_answer m (option_map bound_value) (answered (λ _. Second ∷ drop 1 z.address)) own was now Value then_second (Some spot) (Ok tt) h refl))
 
   pub second_memory : (o : Option Spot) (new : ZipTree) (r : Result (Unit {0}) Halt) → First_ (Ok o) → new.root ≡ z.root → IsErrAnd r (λ d. d ≡ halt.Stopped stop.NoMemory) → ToSecond new r
@@ -316,7 +324,7 @@ module _ {R : Type 0} (m : Meaning R) (own : Known) (z : ZipTree) (was now : R �
 
   pub second_none : First_ (Ok None) → ToSecond z (Err (halt.Refused Refusal.Lacks))
   second_none h =
-      turns_by z (Err (halt.Refused Refusal.Lacks)) (Ok None) h refl refl (stands_fresh (known_of (m.reads now.0)) own z (stands_now (Ok None) h))
+      turns_by z (Err (halt.Refused Refusal.Lacks)) (Ok None) h refl refl (stands_now (Ok None) h)
       (follows_then_answer m (option_map bound_value) (answered (λ _. z.address)) own was now Value then_second None (Err Refusal.Lacks) h refl)
 
   pub second_stop : (why : Stop) (r : Result (Unit {0}) Halt) → First_ (Err why) → IsErrAnd r (λ d. d ≡ halt.Stopped why) → ToSecond z r

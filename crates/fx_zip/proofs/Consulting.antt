@@ -1,9 +1,9 @@
 -- Steps that consult the filestore: inside an entry, and to a second part.
-use Rattle.std.proofs.Common.{◌≡◌, ℕ, Bool, true, false, cond, List, [], ◌∷◌, ◌||◌, Option, Some, None, option_map, Result, Ok, Err, refl, sym, ap, ◌∙◌, subst}
+use Rattle.std.proofs.Common.{◌≡◌, ℕ, Bool, true, false, cond, List, [], ◌∷◌, length, ◌||◌, Option, Some, None, option_map, Result, Ok, Err, refl, sym, ap, ◌∙◌, subst}
 use Rattle.std.specs.Prelude.{IsErrAnd, IfOk, nat_eq}
 use Rattle.std.specs.Cmp.Lexicographic.{pointwise}
 use Rattle.std.specs.Option.{IfSome}
-use Rattle.fx_store.specs.Rule.{Known, Ask, Answer}
+use Rattle.fx_store.specs.Rule.{Known, Ask, Answer, ◌>>=◌}
 use Rattle.fx_expr.specs.Bindings.{bind}
 use Rattle.fx_expr.specs.Sets.{has_text, least}
 use Rattle.fx_expr.specs.Tree.{Tree}
@@ -27,7 +27,7 @@ use Rattle.fx_zip.specs.declared.frame.Entry.{Entry}
 use Rattle.fx_zip.specs.declared.frame.Spot.{Spot}
 use Rattle.fx_zip.specs.Spots.{grown, spot_place, LeadsTo, Enters, BindsValue, bound_value}
 use Rattle.fx_zip.specs.Steps.{step_tree}
-use Rattle.fx_zip.proofs.Beside.{leads_second}
+use Rattle.fx_zip.proofs.Beside.{leads_second, by_all}
 use Rattle.fx_zip.proofs.Entering.{leads_step}
 use Rattle.fx_zip.proofs.Leads.{grown_is}
 
@@ -72,13 +72,19 @@ module _ {R : Type 0} (m : Meaning R) (own : Known) (p : List (List ℕ)) (env :
       spot = tt;
     }))
 
-    pub inside_leads : (there : Bool) (spot : Spot) → there ≡ true → spot.frame.path ≡ p → spot.bound ≡ None → There (Ok there) → LeadsInside (Ok (Some spot))
-    inside_leads there spot held path bound h = leads_form (Ok (Some spot)) (record {
-      follows =
-          follows_then_answer m (λ b. b) (option_map (spot_place env d)) own old new (exists p) in_place there (Some spot) h
-          (ap in_place held ∙ (λ i. Answer (Some (placed (sym path i) (grown env (sym bound i)) d))));
-      spot = record { held = tt; back = ap (grown env) bound };
+    pub inside_leads : (there : Bool) (spot : Spot) → there ≡ true → spot.frame.path ≡ p → spot.bound ≡ None → spot.frame.reads ≡ length (m.reads new.0) → There (Ok there) → LeadsInside (Ok (Some spot))
+    inside_leads there spot held path bound all h = leads_form (Ok (Some spot)) (record {
+      follows = at_place;
+      spot = record {
+        found = by_all (m.reads new.0) spot own (exists p >>= in_place) (Some (spot_place env d spot)) all at_place.goes.0;
+        fits = record { held = tt; back = ap (grown env) bound };
+      };
     })
+      where
+        at_place : Follows m (option_map (spot_place env d)) own old new (exists p >>= in_place) (Ok (Some spot))
+        at_place =
+            follows_then_answer m (λ b. b) (option_map (spot_place env d)) own old new (exists p) in_place there (Some spot) h
+            (ap in_place held ∙ (λ i. Answer (Some (placed (sym path i) (grown env (sym bound i)) d))))
 
     pub inside_none : (there : Bool) → there ≡ false → There (Ok there) → LeadsInside (Ok None)
     inside_none there gone h = leads_form (Ok None) (record {
@@ -111,14 +117,14 @@ module _ {R : Type 0} (m : Meaning R) (own : Known) (p : List (List ℕ)) (env :
       leads = tt;
     }
 
-    pub entry_inside : (there : Bool) (entry : Entry) → there ≡ true → step_tree entry.step ≡ Inside → entry.spot.frame.path ≡ p → entry.spot.bound ≡ None → There (Ok there) → EntersInside (Ok entry)
-    entry_inside there entry held step path bound h =
-        let led = inside_leads (SpecTree.opt d) d refl there entry.spot held path bound h in
+    pub entry_inside : (there : Bool) (entry : Entry) → there ≡ true → step_tree entry.step ≡ Inside → entry.spot.frame.path ≡ p → entry.spot.bound ≡ None → entry.spot.frame.reads ≡ length (m.reads new.0) → There (Ok there) → EntersInside (Ok entry)
+    entry_inside there entry held step path bound all h =
+        let led = inside_leads (SpecTree.opt d) d refl there entry.spot held path bound all h in
         record {
           follows = λ a.
               follows_then_answer m (λ b. b) (answered (λ e. step_tree e.step ∷ a)) own old new (exists p) (then_inside a) there (Ok entry) h
               (ap (then_inside a) held ∙ (λ i. Answer (Ok (sym step i ∷ a))));
-          leads = leads_step (known_of (m.reads new.0)) own Inside (step_tree entry.step) p env (SpecTree.opt d) entry.spot step (record { found = led.follows.goes.0; fits = led.spot });
+          leads = leads_step (m.reads new.0) own Inside (step_tree entry.step) p env (SpecTree.opt d) entry.spot step led.spot;
         }
 
   -- ---- to a second part
@@ -127,17 +133,17 @@ module _ {R : Type 0} (m : Meaning R) (own : Known) (p : List (List ℕ)) (env :
     abbrev then_pair : Option Tree → Ask (Option PlaceTree)
     then_pair v = Answer (option_map (λ v. placed p (bind env x v) b) v)
 
-    at_pair : (r : Result (Option Spot) Stop) → Follows m (option_map bound_value) own old new (value p env a) r → IfOk r (λ o. IfSome o (λ spot. BindsValue p x (bound_value spot) spot)) → LeadsTo m own Second p env (SpecTree.pair x a b) old new r
+    at_pair : (r : Result (Option Spot) Stop) → Follows m (option_map bound_value) own old new (value p env a) r → IfOk r (λ o. IfSome o (λ spot. BindsValue p x (bound_value spot) spot × (spot.frame.reads ≡ length (m.reads new.0)))) → LeadsTo m own Second p env (SpecTree.pair x a b) old new r
     at_pair (Err why) h binds = record { follows = follows_stop m (option_map bound_value) (option_map (spot_place env b)) own old new (value p env a) then_pair why h; spot = tt }
     at_pair (Ok None) h binds = record { follows = follows_then_answer m (option_map bound_value) (option_map (spot_place env b)) own old new (value p env a) then_pair None None h refl; spot = tt }
     at_pair (Ok (Some spot)) h binds =
-        let leads = leads_second (known_of (m.reads new.0)) own p env (SpecTree.pair x a b) x a b spot refl h.goes.0 binds in
+        let leads = leads_second (m.reads new.0) own p env (SpecTree.pair x a b) x a b spot refl (by_all (m.reads new.0) spot own (value p env a) (Some (bound_value spot)) binds.1 h.goes.0) binds.0 in
         record {
           follows =
               follows_then_answer m (option_map bound_value) (option_map (spot_place env b)) own old new (value p env a) then_pair (Some spot) (Some spot) h
-              (λ i. Answer (Some (placed (sym binds.path i) (sym (grown_is env spot.bound (x, bound_value spot) binds.bound) i) b)));
-          spot = leads.fits;
+              (λ i. Answer (Some (placed (sym binds.0.path i) (sym (grown_is env spot.bound (x, bound_value spot) binds.0.bound) i) b)));
+          spot = leads;
         }
 
-    pub second_leads : (r : Result (Option Spot) Stop) → Follows m (option_map bound_value) own old new (value p env a) r → IfOk r (λ o. IfSome o (λ spot. BindsValue p x (bound_value spot) spot)) → LeadsTo m own Second p env s old new r
+    pub second_leads : (r : Result (Option Spot) Stop) → Follows m (option_map bound_value) own old new (value p env a) r → IfOk r (λ o. IfSome o (λ spot. BindsValue p x (bound_value spot) spot × (spot.frame.reads ≡ length (m.reads new.0)))) → LeadsTo m own Second p env s old new r
     second_leads r h binds = subst (λ s. LeadsTo m own Second p env s old new r) (sym form) (at_pair r h binds)

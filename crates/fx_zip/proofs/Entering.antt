@@ -1,5 +1,6 @@
 -- Where moves lead from a place, form by form.
-use Rattle.std.proofs.Common.{◌≡◌, ℕ, ◌+◌, ◌≤◌, true, List, [], ◌∷◌, Option, Some, None, Result, Ok, Err, refl, sym, ap, ◌∙◌, subst, arith}
+use Rattle.fx_view.specs.ReadList.{ReadList}
+use Rattle.std.proofs.Common.{◌≡◌, ℕ, ◌+◌, ◌≤◌, true, List, [], ◌∷◌, take, Option, Some, None, Result, Ok, Err, refl, sym, ap, ◌∙◌, subst, arith}
 use Rattle.std.specs.Prelude.{IsErrAnd, IfOk}
 use Rattle.fx_store.specs.Rule.{Known, Ask, Answer, Tick}
 use Rattle.fx_expr.specs.Eval.{Outcome, eval_of, names_in}
@@ -24,13 +25,14 @@ use Rattle.fx_zip.specs.Spots.{Leads, LeadsAt, EntersAt, Chooses}
 use Rattle.fx_zip.specs.Steps.{step_tree}
 use Rattle.fx_zip.specs.Telling.{told, costs, Says, set_answer}
 use Rattle.fx_zip.proofs.Leads.{first_leads, element_leads}
+use Rattle.fx_view.specs.Reads.{known_of}
 use Rattle.fx_zip.proofs.Telling.{told_found}
 
-pub leads_at : (known own : Known) (step : Step) (p : List (List ℕ)) (env : Bindings) (s : SpecTree) (was now : ℕ) (spot : Spot) → LeadsAt step p env s was now (Ok (Some spot)) → Leads known own step p env s spot
-leads_at known own step p env s was now spot h = record { found = told_found known own (lead step p env s) _ h.tells.says; fits = h.spot }
+pub leads_at : (known : ReadList) (own : Known) (step : Step) (p : List (List ℕ)) (env : Bindings) (s : SpecTree) (was now : ℕ) (spot : Spot) → LeadsAt step p env s was now (Ok (Some spot)) → Leads known own step p env s spot
+leads_at known own step p env s was now spot h = record { found = told_found (known_of (take spot.frame.reads known)) own (lead step p env s) _ h.tells.says; fits = h.spot }
 
 -- the step of an entry, spelled in another way
-pub leads_step : (known own : Known) (step other : Step) (p : List (List ℕ)) (env : Bindings) (s : SpecTree) (spot : Spot) → other ≡ step → Leads known own step p env s spot → Leads known own other p env s spot
+pub leads_step : (known : ReadList) (own : Known) (step other : Step) (p : List (List ℕ)) (env : Bindings) (s : SpecTree) (spot : Spot) → other ≡ step → Leads known own step p env s spot → Leads known own other p env s spot
 leads_step known own step other p env s spot e h = subst (λ t. Leads known own t p env s spot) (sym e) h
 
 module _ (p : List (List ℕ)) (env : Bindings) (rule : Address → Ask (Answered Address)) (s : SpecTree) where
@@ -53,12 +55,12 @@ module _ (p : List (List ℕ)) (env : Bindings) (rule : Address → Ask (Answere
       at (halt.Stopped stop.NoMemory) says = record { tells = λ a. record { says = tt; most = cost a }; leads = λ known own. tt }
       at (halt.Stopped (stop.Needs q)) says = absurd says
 
-  -- none step from the form
+  -- no step from the form
   pub enters_none : ((a : Address) → rule a ≡ Answer (Err Refusal.NoStep)) → (n : ℕ) → At n n (Err (halt.Refused Refusal.NoStep))
   enters_none is n = record { tells = λ a. record { says = ap told (is a); most = omega arith }; leads = λ known own. tt }
 
   -- the chosen element of a comprehension's set
-  module _ (d : SpecTree) (x : List ℕ) (e : ExprTree) (form : s ≡ SpecTree.comp d x e) (f : List (List ℕ) → Option (List ℕ)) (is : (a : Address) → rule a ≡ Tick (Answer (chosen a f (eval_of env e)))) (was now : ℕ) (one : now ≡ was + 1) where
+  module _ (d : SpecTree) (x : List ℕ) (e : ExprTree) (form : s ≡ SpecTree.comp d x e) (f : List (List ℕ) → Option (List ℕ)) (is : (a : Address) → rule a ≡ Tick (Answer (chosen a f (eval_of env e)))) (was now : ℕ) (one : now ≤ was + 1) where
     chosen_is : (o : Outcome) (a : Address) (set : List (List ℕ)) → set_answer o ≡ Ok set → chosen a f o ≡ element a (f set)
     chosen_is (Ok v) a set h = let same : names_in v ≡ set = cc in ap (λ set. element a (f set)) same
     chosen_is (Err g) a set h = absurd (cc)
@@ -86,13 +88,13 @@ module _ (p : List (List ℕ)) (env : Bindings) (rule : Address → Ask (Answere
       said choice same a r h =
           subst (λ (o : Option (Answered Address)). Says (answered (λ (e : Entry). step_tree e.step ∷ a)) o r) (ap (λ c. Some (element a c)) same ∙ ap Some (sym (chosen_is (eval_of env e) a set answer)) ∙ sym (ap told (is a))) h
 
-      led : (choice : Option (List ℕ)) → choice ≡ f set → (r : Result Entry Halt) → Chooses p x set choice r → (known own : Known) → IfOk r (λ e. Leads known own (step_tree e.step) p env s e.spot)
+      led : (choice : Option (List ℕ)) → choice ≡ f set → (r : Result Entry Halt) → Chooses p x set choice r → (known : ReadList) (own : Known) → IfOk r (λ e. Leads known own (step_tree e.step) p env s e.spot)
       led choice same (Err h) chooses known own = tt
       led None same (Ok entry) chooses known own = let says : ◌≡◌ {A = Option (Answered Address)} (Some (Err Refusal.NoElement)) (Some (Ok (step_tree entry.step ∷ []))) = chooses.says [] in absurd (cc)
       led (Some t) same (Ok entry) chooses known own =
           let at = chooses.spot t refl in
           leads_step known own (Elem t) (step_tree entry.step) p env s entry.spot at.0
-          (leads_at known own (Elem t) p env s was now entry.spot (element_leads p env t s d x e form was now one set entry.spot answer (member t (sym same)) at.1))
+          (leads_at known own (Elem t) p env s 0 1 entry.spot (element_leads p env t s d x e form 0 1 refl set entry.spot answer (member t (sym same)) at.1))
 
       pub chosen_enters : (choice : Option (List ℕ)) → choice ≡ f set → (r : Result Entry Halt) → Chooses p x set choice r → At was now r
       chosen_enters choice same r chooses = record {

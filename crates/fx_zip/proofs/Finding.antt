@@ -32,7 +32,7 @@ pub record Finding {R : Type 0} (m : Meaning R) (own : Known) (first : ZipTree) 
   pub quiet : is_settled first ≡ true → (now ≡ start) × (is_settled z ≡ true)
 
 module _ {R : Type 0} (m : Meaning R) (own : Known) (first : ZipTree) (start : R × ℕ) where
-  pub finding_first : IsFresh (known_of (m.reads start.0)) own first → Finding m own first start start first
+  pub finding_first : IsFresh (m.reads start.0) own first → Finding m own first start start first
   finding_first h = record { settling = settling_first m own start first h; root = refl; address = refl; quiet = λ e. (refl, e) }
 
   module _ (now : R × ℕ) (z : ZipTree) (f : Finding m own first start now z) where
@@ -46,7 +46,7 @@ module _ {R : Type 0} (m : Meaning R) (own : Known) (first : ZipTree) (start : R
     pub found_all : is_settled z ≡ true → Finds m own first z start now (Ok tt)
     found_all settled =
         let fresh = settling_fresh m own start now z f.settling in
-        let stands = fresh_stands (known_of (m.reads now.0)) own z fresh settled in
+        let stands = fresh_stands (m.reads now.0) own z fresh settled in
         let kept : f.settling.kept ≡ z.address = kept_all f.settling.ahead f.settling.kept f.settling.whole (same_length settled) in
         let there : PlaceOr m own z.root start now z.address (Ok (Some (here z))) = subst (λ a. PlaceOr m own z.root start now a (Ok (Some (placed (path_of z.frames) z.env (part z.root a))))) kept f.settling.so_far in
         let at_first = place_first now (Ok (Some (here z))) there in
@@ -54,6 +54,8 @@ module _ {R : Type 0} (m : Meaning R) (own : Known) (first : ZipTree) (start : R
           follows = follows_then_answer m (λ at. at) (answered (λ _. here z)) own start now (place first.root first.address) (λ at. Answer (needed Refusal.NoPlace at)) (Some (here z)) (Ok tt) at_first refl;
           stands = stands;
           fresh = fresh;
+          settled = settled;
+          kept = λ _. settled;
           root = f.root;
           address = f.address;
           most = all_most (Ok (Some (here z))) at_first;
@@ -61,9 +63,9 @@ module _ {R : Type 0} (m : Meaning R) (own : Known) (first : ZipTree) (start : R
       where
         same_length : is_settled z ≡ true → length f.settling.kept ≡ length z.address
         same_length e =
-            let stands = fresh_stands (known_of (m.reads now.0)) own z (settling_fresh m own start now z f.settling) e in
-            let kept = found_length (known_of (m.reads now.0)) own z.root f.settling.kept z.frames z.env f.settling.found in
-            let all = found_length (known_of (m.reads now.0)) own z.root z.address z.frames z.env stands.found in
+            let stands = fresh_stands (m.reads now.0) own z (settling_fresh m own start now z f.settling) e in
+            let kept = found_length (m.reads now.0) own z.root f.settling.kept z.frames z.env f.settling.found in
+            let all = found_length (m.reads now.0) own z.root z.address z.frames z.env stands.found in
             omega (arith, kept, all)
 
         kept_all : (ahead kept : Address) → z.address ≡ ahead ++ kept → length kept ≡ length z.address → kept ≡ z.address
@@ -81,7 +83,7 @@ module _ {R : Type 0} (m : Meaning R) (own : Known) (first : ZipTree) (start : R
       -- fewer steps have no frame
       pub finding_smaller : (more : Bool) → more ≡ true → Settles m own z new now then (Ok more) → length new.address - length new.frames < length z.address - length z.frames
       finding_smaller more goes h =
-          let few = few_frames (known_of (m.reads now.0)) own z (settling_fresh m own start now z f.settling) unsettled in
+          let few = few_frames (m.reads now.0) own z (settling_fresh m own start now z f.settling) unsettled in
           let same = ap length h.address in
           let one = h.more goes in
           omega (arith, few, same, one)
@@ -115,6 +117,8 @@ module _ {R : Type 0} (m : Meaning R) (own : Known) (first : ZipTree) (start : R
             follows = follows_then_answer m (λ at. at) (answered (λ _. here new)) own start then (place first.root first.address) (λ at. Answer (needed Refusal.NoPlace at)) None (Err Refusal.NoPlace) at_first refl;
             stands = tt;
             fresh = none.1;
+            settled = tt;
+            kept = λ e. absurd (not_first e);
             root = h.root ∙ f.root;
             address = h.address ∙ f.address;
             most = stop_most (Ok None) at_first;
@@ -127,6 +131,8 @@ module _ {R : Type 0} (m : Meaning R) (own : Known) (first : ZipTree) (start : R
             follows = follows_stop m (λ at. at) (answered (λ _. here new)) own start then (place first.root first.address) (λ at. Answer (needed Refusal.NoPlace at)) why at_first;
             stands = tt;
             fresh = tt;
+            settled = tt;
+            kept = λ e. absurd (not_first e);
             root = h.root ∙ f.root;
             address = h.address ∙ f.address;
             most = stop_most (Err why) at_first;

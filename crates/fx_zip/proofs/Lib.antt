@@ -12,3 +12,5 @@ pub mod Finding
 pub mod Chosen
 pub mod Around
 pub mod Questions
+pub mod Worked
+pub mod Lasting

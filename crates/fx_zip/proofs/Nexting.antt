@@ -1,4 +1,5 @@
 -- The first step that has no frame, and the zipper with one frame more.
+use Rattle.fx_view.specs.ReadList.{ReadList}
 use Rattle.std.proofs.Common.{◌≡◌, ℕ, ◌<◌, Bool, true, false, List, [], ◌∷◌, ◌++◌, length, take, get_or, Option, Some, None, Result, Ok, Err, refl, sym, ap, ◌∙◌, subst, arith, append_assoc, length-append}
 use Rattle.std.specs.Prelude.{slice_get, IsErrAnd, nat_eq}
 use Rattle.std.proofs.lemmas.Option.{slice_get_read}
@@ -29,7 +30,7 @@ use Rattle.fx_zip.proofs.Turning.{length-turned, same_ends}
 is_apart : (m n : ℕ) → nat_eq m n ≡ false → m ≡ n → ⊥
 is_apart m n e same = grind (arith, nat_tests)
 
-module _ (known own : Known) (z : ZipTree) (fresh : IsFresh known own z) where
+module _ (known : ReadList) (own : Known) (z : ZipTree) (fresh : IsFresh known own z) where
   frames_kept : length z.frames ≡ length fresh.kept
   frames_kept = found_length known own z.root fresh.kept z.frames z.env fresh.found
 
@@ -88,7 +89,7 @@ module _ {R : Type 0} (m : Meaning R) (own : Known) (old : ZipTree) (was now : R
   module _ (r : Result (Option Spot) Stop) (h : LeadsNext m own old was now r) (start : R × ℕ) (at : IsSettling m own start was old) where
     is_next : IsNext at.ahead at.kept h.step h.kept
     is_next =
-        let kept = found_length (known_of (m.reads was.0)) own old.root at.kept old.frames old.env at.found in
+        let kept = found_length (m.reads was.0) own old.root at.kept old.frames old.env at.found in
         let same = same_ends at.ahead (h.ahead ++ h.step ∷ []) at.kept h.kept (sym at.whole ∙ h.whole ∙ sym (append_assoc h.ahead (h.step ∷ []) h.kept)) (sym kept ∙ sym h.long) in
         record { front = h.ahead; is = same.0; behind = same.1 }
 

@@ -1,5 +1,6 @@
 -- Moves and questions: the place is found, and then the rule is followed from there.
-use Rattle.std.proofs.Common.{◌≡◌, ℕ, ◌+◌, ◌≤◌, List, [], ◌∷◌, Some, Result, Ok, Err, refl, sym, ap, ◌∙◌, subst, arith}
+use Rattle.fx_view.specs.ReadList.{ReadList}
+use Rattle.std.proofs.Common.{◌≡◌, ℕ, ◌+◌, ◌≤◌, List, [], ◌∷◌, Option, Some, Result, Ok, Err, refl, sym, ap, ◌∙◌, subst, arith}
 use Rattle.std.specs.Prelude.{IfOk, IsErrAnd}
 use Rattle.fx_store.specs.Rule.{Known, Ask, Answer, answer, ticks, changed, ◌>>=◌}
 use Rattle.fx_store.specs.Whole.{Store}
@@ -28,12 +29,12 @@ use Rattle.fx_rules.specs.Halts.{split}
 use Rattle.fx_rules.proofs.Halting.{step_halt}
 use Rattle.fx_zip.specs.declared.frame.Entry.{Entry}
 use Rattle.fx_zip.specs.Calls.{OnRefused, place_needed, place_evals, Evaluates, Finds, Moves, Turns, Asks}
-use Rattle.fx_zip.specs.Fresh.{IsFresh, Stands}
+use Rattle.fx_zip.specs.Fresh.{IsSetOf, IsFresh, Stands}
 use Rattle.fx_zip.specs.Parts.{part}
 use Rattle.fx_zip.specs.Spots.{Enters, entered}
 use Rattle.fx_zip.specs.Steps.{step_tree}
-use Rattle.fx_zip.specs.Trees.{ZipTree, path_of, here}
-use Rattle.fx_zip.proofs.Standing.{stands_fresh, stands_grows, stands_here, stands_entered, stands_scope, fresh_grows}
+use Rattle.fx_zip.specs.Trees.{ZipTree, IsSettled, path_of, here}
+use Rattle.fx_zip.proofs.Standing.{stands_fresh, stands_settled, stands_grows, stands_here, stands_entered, stands_scope, fresh_grows}
 use Rattle.fx_zip.proofs.Telling.{follows_grows, follows_memory, follows_as}
 
 at_place_is : {B : Type 0} (root : SpecTree) (a : Address) (rest : PlaceTree → Ask (Answered B)) → (place_needed root a >>= unrefused rest) ≡ at_place root a rest
@@ -48,6 +49,24 @@ always_refused : {X : Type 0} (r : Result X Halt) (p : Type 0) → p → OnRefus
 always_refused (Ok x) p h = tt
 always_refused (Err (halt.Refused refusal)) p h = h
 always_refused (Err (halt.Stopped why)) p h = tt
+
+unless_stopped : {X : Type 0} (r : Result X Halt) (p q : Type 0) → (p → q) → IfOk (split r) (λ _. p) → IfOk (split r) (λ _. q)
+unless_stopped (Ok x) p q f h = f h
+unless_stopped (Err (halt.Refused refusal)) p q f h = f h
+unless_stopped (Err (halt.Stopped why)) p q f h = tt
+
+if_accepted : {X : Type 0} (r : Result X Halt) (p q : Type 0) → (p → q) → IfOk (split r) (λ _. p) → IfOk r (λ _. q)
+if_accepted (Ok x) p q f h = f h
+if_accepted (Err why) p q f h = tt
+
+if_refused : {X : Type 0} (r : Result X Halt) (p q : Type 0) → (p → q) → IfOk (split r) (λ _. p) → OnRefused r q
+if_refused (Ok x) p q f h = tt
+if_refused (Err (halt.Refused refusal)) p q f h = f h
+if_refused (Err (halt.Stopped why)) p q f h = tt
+
+always_ok : {X : Type 0} (r : Result X Halt) (p : Type 0) → p → IfOk r (λ _. p)
+always_ok (Ok x) p h = h
+always_ok (Err why) p h = tt
 
 always : {X : Type 0} (r : Result X Stop) (p : Type 0) → p → IfOk r (λ _. p)
 always (Ok x) p h = h
@@ -72,7 +91,9 @@ module _ {R : Type 0} (m : Meaning R) (own : Known) where
     unfound_asks : Asks {X = Y} m view own old mid was now (at_place old.root old.address rest) evals (Err e)
     unfound_asks = record {
       follows = unfound_follows;
-      fresh = fresh_err (Unit {0}) Y e (IsFresh (known_of (m.reads now.0)) own mid) finds.fresh;
+      fresh = fresh_err (Unit {0}) Y e (IsFresh (m.reads now.0) own mid) finds.fresh;
+      settled = tt;
+      kept = finds.kept;
       root = finds.root;
       address = finds.address;
       most = unfound_most;
@@ -86,6 +107,8 @@ module _ {R : Type 0} (m : Meaning R) (own : Known) where
     unfound_moves e finds = record {
       follows = follows_same m (answered (λ _. mid.address)) own was now (at_place old.root old.address rest) rule (split (Err e)) same (unfound_follows (λ _. mid.address) old mid was now rest evals e finds);
       fresh = finds.fresh;
+      settled = tt;
+      kept = always_refused {X = Unit {0}} (Err e) (IsSettled old → IsSettled mid) finds.kept;
       root = finds.root;
       refused = always_refused {X = Unit {0}} (Err e) (mid.address ≡ old.address) finds.address;
       most = unfound_most {Y = Unit {0}} (λ _. mid.address) old mid was now rest evals e finds;
@@ -100,7 +123,7 @@ module _ {R : Type 0} (m : Meaning R) (own : Known) where
     -- at each filestore that agrees the place is that one
     here_at : (S : Store) → Agrees (m.reads then.0) S → answer (changed own S) (place old.root old.address) ≡ Some (here mid)
     here_at S agrees =
-        let is = found_answer (known_of (m.reads then.0)) own S agrees (place mid.root mid.address) (Some (here mid)) (stands_here (known_of (m.reads then.0)) own mid finds.stands) in
+        let is = found_answer (known_of (m.reads then.0)) own S agrees (place mid.root mid.address) (Some (here mid)) (stands_here (m.reads then.0) own mid finds.stands) in
         let same : place old.root old.address ≡ place mid.root mid.address = ap (λ root. place root old.address) (sym finds.root) ∙ ap (place mid.root) (sym finds.address) in
         ap (answer (changed own S)) same ∙ is
 
@@ -122,7 +145,9 @@ module _ {R : Type 0} (m : Meaning R) (own : Known) where
         → (r : Result (Unit {0}) Halt) → Turns m own mid new then now (rest (here mid)) evals_here r → Moves m own old new was now rule evals r
     moves_on new now rest rule same evals_here evals counted r turns = record {
       follows = follows_same m (answered (λ _. new.address)) own was now (at_place old.root old.address rest) rule (split r) same (found_next (λ _. new.address) rest now (split r) turns.follows);
-      fresh = turns.fresh;
+      fresh = unless_stopped r (Stands (m.reads now.0) own new) (IsFresh (m.reads now.0) own new) (stands_fresh (m.reads now.0) own new) turns.stands;
+      settled = if_accepted r (Stands (m.reads now.0) own new) (IsSettled new) (stands_settled (m.reads now.0) own new) turns.stands;
+      kept = if_refused r (Stands (m.reads now.0) own new) (IsSettled old → IsSettled new) (λ h _. stands_settled (m.reads now.0) own new h) turns.stands;
       root = turns.root ∙ finds.root;
       refused = refused_as r (new.address ≡ mid.address) (new.address ≡ old.address) (λ e. e ∙ finds.address) turns.refused;
       most = found_most (λ _. new.address) rest now (split r) turns.follows evals_here evals turns.most counted;
@@ -135,10 +160,12 @@ module _ {R : Type 0} (m : Meaning R) (own : Known) where
     pub asks_on : {B Y : Type 0} (view : Y → B) (rest : PlaceTree → Ask (Answered B)) (new : ZipTree) (now : R × ℕ) (r : Result Y Halt) → new ≡ mid → Follows m (answered view) own then now (rest (here mid)) (split r)
         → Asks m view own old new was now (at_place old.root old.address rest) (place_evals old rest) r
     asks_on view rest new now r same next =
-        let fresh = fresh_grows (known_of (m.reads then.0)) own mid (known_of (m.reads now.0)) (follows_grows m own (answered view) then now (rest (here mid)) (split r) next) (stands_fresh (known_of (m.reads then.0)) own mid finds.stands) in
+        let fresh = fresh_grows (m.reads then.0) own mid (m.reads now.0) (follows_grows m own (answered view) then now (rest (here mid)) (split r) next) (stands_fresh (m.reads then.0) own mid finds.stands) in
         record {
           follows = found_next view rest now (split r) next;
-          fresh = always (split r) (IsFresh (known_of (m.reads now.0)) own new) (subst (IsFresh (known_of (m.reads now.0)) own) (sym same) fresh);
+          fresh = always (split r) (IsFresh (m.reads now.0) own new) (subst (IsFresh (m.reads now.0) own) (sym same) fresh);
+          settled = always_ok r (IsSettled new) (subst IsSettled (sym same) finds.settled);
+          kept = λ _. subst IsSettled (sym same) finds.settled;
           root = ap (λ (z : ZipTree). z.root) same ∙ finds.root;
           address = ap (λ (z : ZipTree). z.address) same ∙ finds.address;
           most = found_most view rest now (split r) next (λ S. ticks S (rest (here mid))) (place_evals old rest) next.most (counted_here rest);
@@ -146,21 +173,21 @@ module _ {R : Type 0} (m : Meaning R) (own : Known) where
 
   -- ---- entries
 
-  module _ (mid : ZipTree) (was now : R × ℕ) (stands : Stands (known_of (m.reads was.0)) own mid) (rule : Address → Ask (Answered Address)) where
+  module _ (mid : ZipTree) (was now : R × ℕ) (stands : Stands (m.reads was.0) own mid) (rule : Address → Ask (Answered Address)) where
     abbrev EntersHere : Result Entry Halt → Type 0
     EntersHere r = Enters m own rule (path_of mid.frames) mid.env (part mid.root mid.address) was now r
 
     abbrev TurnsHere : ZipTree → Result (Unit {0}) Halt → Type 0
     TurnsHere new r = Turns m own mid new was now (rule mid.address) (λ S. ticks S (rule mid.address)) r
 
-    grows_here : (r : Result Entry Halt) → EntersHere r → Stands (known_of (m.reads now.0)) own mid
-    grows_here r h = stands_grows (known_of (m.reads was.0)) own mid (known_of (m.reads now.0)) (follows_grows m own (answered (λ e. step_tree e.step ∷ mid.address)) was now (rule mid.address) (split r) (h.follows mid.address)) stands
+    grows_here : (r : Result Entry Halt) → EntersHere r → Stands (m.reads now.0) own mid
+    grows_here r h = stands_grows (m.reads was.0) own mid (m.reads now.0) (follows_grows m own (answered (λ e. step_tree e.step ∷ mid.address)) was now (rule mid.address) (split r) (h.follows mid.address)) stands
 
     -- the step is added
     pub enter_turns : (e : Entry) (new : ZipTree) → EntersHere (Ok e) → new ≡ entered mid (step_tree e.step) e.spot → TurnsHere new (Ok tt)
     enter_turns e new h same = subst (λ z. TurnsHere z (Ok tt)) (sym same) (record {
       follows = follows_as m own (answered (λ e. step_tree e.step ∷ mid.address)) was now (rule mid.address) (answered (λ _. step_tree e.step ∷ mid.address)) (Ok e) (Ok tt) refl (h.follows mid.address);
-      fresh = stands_fresh (known_of (m.reads now.0)) own (entered mid (step_tree e.step) e.spot) (stands_entered (known_of (m.reads now.0)) own mid (step_tree e.step) e.spot (grows_here (Ok e) h) h.leads);
+      stands = stands_entered (m.reads now.0) own mid (step_tree e.step) e.spot (grows_here (Ok e) h) h.leads;
       root = refl;
       refused = tt;
       most = (h.follows mid.address).most;
@@ -170,7 +197,7 @@ module _ {R : Type 0} (m : Meaning R) (own : Known) where
     pub enter_memory : (e : Result Entry Halt) (new : ZipTree) (r : Result (Unit {0}) Halt) → EntersHere e → new.root ≡ mid.root → IsErrAnd r (λ h. h ≡ halt.Stopped stop.NoMemory) → TurnsHere new r
     enter_memory e new r h root is = subst (TurnsHere new) (sym (err_of r (halt.Stopped stop.NoMemory) is)) (record {
       follows = follows_memory m own (answered (λ e. step_tree e.step ∷ mid.address)) was now (rule mid.address) (answered (λ _. new.address)) (split e) (h.follows mid.address);
-      fresh = tt;
+      stands = tt;
       root = root;
       refused = tt;
       most = (h.follows mid.address).most;
@@ -180,21 +207,21 @@ module _ {R : Type 0} (m : Meaning R) (own : Known) where
     none_turns : (e : Halt) → EntersHere (Err e) → TurnsHere mid (Err e)
     none_turns (halt.Refused f) h = record {
       follows = follows_as m own (answered (λ e. step_tree e.step ∷ mid.address)) was now (rule mid.address) (answered (λ _. mid.address)) (Err f) (Err f) refl (h.follows mid.address);
-      fresh = stands_fresh (known_of (m.reads now.0)) own mid (grows_here (Err (halt.Refused f)) h);
+      stands = grows_here (Err (halt.Refused f)) h;
       root = refl;
       refused = refl;
       most = (h.follows mid.address).most;
     }
     none_turns (halt.Stopped stop.NoMemory) h = record {
       follows = follows_memory m own (answered (λ e. step_tree e.step ∷ mid.address)) was now (rule mid.address) (answered (λ _. mid.address)) (Err stop.NoMemory) (h.follows mid.address);
-      fresh = tt;
+      stands = tt;
       root = refl;
       refused = tt;
       most = (h.follows mid.address).most;
     }
     none_turns (halt.Stopped (stop.Needs p)) h = record {
       follows = record { goes = (h.follows mid.address).goes; most = (h.follows mid.address).most };
-      fresh = tt;
+      stands = tt;
       root = refl;
       refused = tt;
       most = (h.follows mid.address).most;
@@ -208,7 +235,11 @@ module _ {R : Type 0} (m : Meaning R) (own : Known) where
 scope_as : (env e : Bindings) (s t : SpecTree) → env ≡ e → s ≡ t → HasScope e t → HasScope env s
 scope_as env e s t same is h = subst (λ v. HasScope v s) (sym same) (subst (HasScope e) (sym is) h)
 
-module _ (known own : Known) (z : ZipTree) (p : List (List ℕ)) (env : Bindings) (s : SpecTree) (path : p ≡ path_of z.frames) (bound : env ≡ z.env) (form : s ≡ part z.root z.address) where
+-- the set that is kept there
+pub kept_here : (known : ReadList) (own : Known) (z : ZipTree) (env : Bindings) (s : SpecTree) (set : Option (List (List ℕ))) → env ≡ z.env → s ≡ part z.root z.address → set ≡ z.set → Stands known own z → IsSetOf set env s
+kept_here known own z env s set bound form is stands = subst (λ o. IsSetOf o env s) (sym is) (subst (λ e. IsSetOf z.set e s) (sym bound) (subst (IsSetOf z.set z.env) (sym form) stands.set))
+
+module _ (known : ReadList) (own : Known) (z : ZipTree) (p : List (List ℕ)) (env : Bindings) (s : SpecTree) (path : p ≡ path_of z.frames) (bound : env ≡ z.env) (form : s ≡ part z.root z.address) where
   pub here_scope : IsDescription [] z.root → Stands known own z → HasScope env s
   here_scope d stands = scope_as env z.env s (part z.root z.address) bound form (stands_scope known own z d stands)
 

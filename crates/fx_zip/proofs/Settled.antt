@@ -64,9 +64,9 @@ module _ {R : Type 0} (m : Meaning R) (own : Known) (start was now : R × ℕ) (
   behind_leads : (r : Result (Option Spot) Stop) → LeadsOn r → LeadsTo m own step (path_of z.frames) z.env (part z.root at.kept) was now r
   behind_leads r h = subst (λ a. LeadsTo m own step (path_of z.frames) z.env (part z.root a) was now r) (sym next.behind) h
 
-  grown_now : (r : Result (Option Spot) Stop) → LeadsOn r → AreFound (known_of (m.reads now.0)) own z.root at.kept z.frames z.env
+  grown_now : (r : Result (Option Spot) Stop) → LeadsOn r → AreFound (m.reads now.0) own z.root at.kept z.frames z.env
   grown_now r h =
-      found_grows (known_of (m.reads was.0)) own z.root (known_of (m.reads now.0))
+      found_grows (m.reads was.0) own z.root (m.reads now.0)
       (follows_grows m own (option_map (spot_place z.env (child step (part z.root before)))) was now (lead step (path_of z.frames) z.env (part z.root before)) r h.follows) at.kept z.frames z.env at.found
 
   whole_now : z.address ≡ next.front ++ (step ∷ at.kept)
@@ -82,8 +82,9 @@ module _ {R : Type 0} (m : Meaning R) (own : Known) (start was now : R × ℕ) (
         kept = step ∷ at.kept;
         whole = whole_now;
         found =
-            found_entered (known_of (m.reads now.0)) own z.root at.kept z.frames z.env step spot (grown_now (Ok (Some spot)) h)
-            (record { found = leads.follows.goes.0; fits = leads.spot });
+            found_entered (m.reads now.0) own z.root at.kept z.frames z.env step spot (grown_now (Ok (Some spot)) h)
+            leads.spot;
+        set = tt;
         so_far =
             follows_then m (λ at. at) (λ at. at) own start was (place z.root at.kept) (with_some λ at. lead step at.path at.env at.spec) now (Some (placed (path_of z.frames) z.env (part z.root at.kept)))
             (Ok (Some (placed spot.frame.path (grown z.env spot.bound) (child step (part z.root at.kept))))) at.so_far
@@ -96,12 +97,12 @@ module _ {R : Type 0} (m : Meaning R) (own : Known) (start was now : R × ℕ) (
       follows_then m (λ at. at) (λ at. at) own start was (place z.root at.kept) (with_some λ at. lead step at.path at.env at.spec) now (Some (placed (path_of z.frames) z.env (part z.root at.kept))) r at.so_far h
 
   -- there is none
-  pub settles_none : LeadsOn (Ok None) → PlaceOr m own z.root start now z.address (Ok None) × IsFresh (known_of (m.reads now.0)) own z
+  pub settles_none : LeadsOn (Ok None) → PlaceOr m own z.root start now z.address (Ok None) × IsFresh (m.reads now.0) own z
   settles_none h =
       let leads = behind_leads (Ok None) h in
       let at_step = place_on (Ok None) (follows_as m own (option_map (spot_place z.env (child step (part z.root at.kept)))) was now (lead step (path_of z.frames) z.env (part z.root at.kept)) (λ at. at) None None refl leads.follows) in (
         subst (λ a. PlaceOr m own z.root start now a (Ok None)) (sym whole_now) (none_above m own z.root start now next.front (step ∷ at.kept) at_step),
-        record { ahead = at.ahead; kept = at.kept; whole = at.whole; found = grown_now (Ok None) h },
+        record { ahead = at.ahead; kept = at.kept; whole = at.whole; found = grown_now (Ok None) h; set = at.set },
       )
 
   -- the search for it stops
@@ -121,17 +122,18 @@ module _ {R : Type 0} (m : Meaning R) (own : Known) (start was now : R × ℕ) (
       subst (λ a. PlaceOr m own z.root start now a (Err stop.NoMemory)) (sym whole_now) (stop_above m own z.root start now next.front (step ∷ at.kept) stop.NoMemory (place_on (Err stop.NoMemory) stopped))
 
 -- at the start nothing was found yet but what the frames say
-pub settling_first : {R : Type 0} (m : Meaning R) (own : Known) (start : R × ℕ) (z : ZipTree) → IsFresh (known_of (m.reads start.0)) own z → IsSettling m own start start z
+pub settling_first : {R : Type 0} (m : Meaning R) (own : Known) (start : R × ℕ) (z : ZipTree) → IsFresh (m.reads start.0) own z → IsSettling m own start start z
 settling_first m own start z h = record {
   ahead = h.ahead;
   kept = h.kept;
   whole = h.whole;
   found = h.found;
+  set = h.set;
   so_far = record {
-    goes = (found_place (known_of (m.reads start.0)) own z.root h.kept z.frames z.env h.found, Went-none m start.0 (walked (known_of (m.reads start.0)) own (place z.root h.kept)));
+    goes = (found_place (m.reads start.0) own z.root h.kept z.frames z.env h.found, Went-none m start.0 (walked (known_of (m.reads start.0)) own (place z.root h.kept)));
     most = λ S agrees. omega arith;
   };
 }
 
-pub settling_fresh : {R : Type 0} (m : Meaning R) (own : Known) (start now : R × ℕ) (z : ZipTree) → IsSettling m own start now z → IsFresh (known_of (m.reads now.0)) own z
-settling_fresh m own start now z h = record { ahead = h.ahead; kept = h.kept; whole = h.whole; found = h.found }
+pub settling_fresh : {R : Type 0} (m : Meaning R) (own : Known) (start now : R × ℕ) (z : ZipTree) → IsSettling m own start now z → IsFresh (m.reads now.0) own z
+settling_fresh m own start now z h = record { ahead = h.ahead; kept = h.kept; whole = h.whole; found = h.found; set = h.set }

@@ -1,5 +1,5 @@
 -- Calls that consult nothing, and what follows from a rule that was followed.
-use Rattle.std.proofs.Common.{◌≡◌, ℕ, ◌≤◌, List, ◌∷◌, Option, Some, Result, Ok, Err, ap, ◌∙◌, arith}
+use Rattle.std.proofs.Common.{◌≡◌, ℕ, ◌≤◌, List, ◌∷◌, ◌++◌, take, Option, Some, None, Result, Ok, Err, ap, ◌∙◌, arith}
 use Rattle.fx_store.specs.Rule.{Known, Ask, Answer, Look, Tick, Found, follow, ticks, changed, ◌>>=◌}
 use Rattle.fx_store.specs.Whole.{Store}
 use Rattle.fx_spec.specs.Move.{Answered}
@@ -11,6 +11,9 @@ use Rattle.fx_view.specs.declared.reader.Stop.TheVariants as stop
 use Rattle.fx_view.specs.Follows.{Follows, GoesBy, walked}
 use Rattle.fx_view.specs.Meaning.{Meaning}
 use Rattle.fx_view.specs.Reads.{known_of}
+use Rattle.fx_view.specs.ReadList.{ReadList}
+use Rattle.std.specs.Prelude.{IfOk}
+use Rattle.std.specs.Option.{IfSome}
 use Rattle.fx_view.proofs.Calls.{went_by, follows_stop, follows_then_answer}
 use Rattle.fx_view.proofs.Going.{Went-none, Went-grows}
 use Rattle.fx_view.proofs.Growing.{Grows}
@@ -20,7 +23,7 @@ use Rattle.fx_rules.specs.Halts.{split}
 use Rattle.fx_zip.specs.declared.frame.Entry.{Entry}
 use Rattle.fx_zip.specs.declared.frame.Spot.{Spot}
 use Rattle.fx_zip.specs.Calls.{SaysFound}
-use Rattle.fx_zip.specs.Spots.{LeadsTo, LeadsAt, Enters, EntersAt}
+use Rattle.fx_zip.specs.Spots.{Leads, LeadsTo, LeadsAt, Enters, EntersAt}
 use Rattle.fx_zip.specs.Steps.{step_tree}
 use Rattle.fx_zip.specs.Telling.{told, costs, Says, Tells}
 
@@ -57,8 +60,8 @@ module _ {R : Type 0} (m : Meaning R) (own : Known) where
 
   module _ {A X : Type 0} (view : X → A) (old new : R × ℕ) (rule : Ask A) where
     -- what was known stays known
-    pub follows_grows : (result : Result X Stop) → Follows m view own old new rule result → Grows (known_of (m.reads old.0)) (known_of (m.reads new.0))
-    follows_grows result h = Went-grows m old.0 new.0 (walked (known_of (m.reads new.0)) own rule) (went_by m view own old.0 new.0 rule result h.goes)
+    pub follows_grows : (result : Result X Stop) → Follows m view own old new rule result → (more : ReadList) × (m.reads new.0 ≡ m.reads old.0 ++ more)
+    follows_grows result h = let went = went_by m view own old.0 new.0 rule result h.goes in (went.more, went.kept)
 
     -- the answer, and then memory is refused
     pub follows_memory : {Y : Type 0} (then_view : Y → A) (result : Result X Stop) → Follows m view own old new rule result → Follows {A = A} {X = Y} m then_view own old new rule (Err stop.NoMemory)
@@ -73,11 +76,16 @@ module _ {R : Type 0} (m : Meaning R) (own : Known) where
     follows_mapped then_view f (Ok x) same h = follows_then_answer m view then_view own old new rule (λ a. Answer (f a)) x x h (ap Answer (same x))
     follows_mapped then_view f (Err why) same h = follows_stop m view then_view own old new rule (λ a. Answer (f a)) why h
 
+  spots_of : (step : Step) (p : List (List ℕ)) (env : Bindings) (spec : SpecTree) (r : R) (was now : ℕ) (result : Result (Option Spot) Stop) → LeadsAt step p env spec was now result → IfOk result (λ o. IfSome o (Leads (m.reads r) own step p env spec))
+  spots_of step p env spec r was now (Err why) h = tt
+  spots_of step p env spec r was now (Ok None) h = tt
+  spots_of step p env spec r was now (Ok (Some spot)) h = record { found = told_found (known_of (take spot.frame.reads (m.reads r))) own (lead step p env spec) _ h.tells.says; fits = h.spot }
+
   pub leads_of : (step : Step) (p : List (List ℕ)) (env : Bindings) (spec : SpecTree) (r : R) (was now : ℕ) (result : Result (Option Spot) Stop) → LeadsAt step p env spec was now result → LeadsTo m own step p env spec (r, was) (r, now) result
-  leads_of step p env spec r was now result h = record { follows = tells_follows _ r was now (lead step p env spec) result h.tells; spot = h.spot }
+  leads_of step p env spec r was now result h = record { follows = tells_follows _ r was now (lead step p env spec) result h.tells; spot = spots_of step p env spec r was now result h }
 
   pub enters_of : (rule : Address → Ask (Answered Address)) (p : List (List ℕ)) (env : Bindings) (spec : SpecTree) (r : R) (was now : ℕ) (result : Result Entry Halt) → EntersAt rule p env spec was now result → Enters m own rule p env spec (r, was) (r, now) result
   enters_of rule p env spec r was now result h = record {
     follows = λ a. tells_follows (answered (λ e. step_tree e.step ∷ a)) r was now (rule a) (split result) (h.tells a);
-    leads = h.leads (known_of (m.reads r)) own;
+    leads = h.leads (m.reads r) own;
   }

@@ -1,6 +1,8 @@
 -- Lists with the last first.
-use Rattle.std.proofs.Common.{◌≡◌, ℕ, ◌+◌, ◌<◌, List, [], ◌∷◌, ◌++◌, length, take, drop, true, false, Option, Some, None, refl, sym, ap, ◌∙◌, append_assoc, arith, length-append}
-use Rattle.std.specs.Prelude.{slice_get, IsSome}
+use Rattle.std.proofs.Common.{◌≡◌, ℕ, zero, suc, ◌+◌, ◌-◌, ◌<◌, ◌≤◌, List, [], ◌∷◌, ◌++◌, length, take, drop, true, false, Option, Some, None, refl, sym, ap, ◌∙◌, append_assoc, arith, length-append, length-drop}
+use Rattle.std.specs.Prelude.{slice_get, IsSome, MatchOption}
+use Rattle.fx_zip.specs.declared.frame.Frame.{Frame}
+use Rattle.fx_zip.specs.Fresh.{last_set}
 use Rattle.std.specs.Option.{option_to_list}
 use Rattle.std.proofs.lemmas.List.{take-append-drop}
 use Rattle.fx_view.proofs.Lists.{drop_at}
@@ -19,6 +21,9 @@ module _ {A B : Type 0} (f : A → B) where
   onto-front others (x ∷ xs) =
       onto-front (f x ∷ others) xs ∙ sym (append_assoc (turned f xs) (f x ∷ []) others) ∙ ap (λ ys. ys ++ others) (sym (onto-front (f x ∷ []) xs))
 
+  pub turned_both : (xs ys : List A) → turned f (xs ++ ys) ≡ turned f ys ++ turned f xs
+  turned_both xs ys = onto-append [] xs ys ∙ onto-front (turned f xs) ys
+
   pub length-turned : (xs : List A) → length (turned f xs) ≡ length xs
   length-turned [] = refl
   length-turned (x ∷ xs) =
@@ -34,6 +39,20 @@ module _ {A B : Type 0} (f : A → B) where
       ∙ ap (turned_onto f (turned f (take n xs))) (drop_at xs n x is)
       ∙ onto-front (f x ∷ turned f (take n xs)) (drop (n + 1) xs)
       ∙ sym (append_assoc (turned f (drop (n + 1) xs)) (f x ∷ []) (turned f (take n xs)))
+
+-- the first ones are the last of those turned
+module _ {A B : Type 0} (f : A → B) where
+  drop_front : (xs ys : List B) (n : ℕ) → n ≡ length xs → drop n (xs ++ ys) ≡ ys
+  drop_front [] ys n e = ap (λ n. drop n ys) e
+  drop_front (x ∷ xs) ys zero e = absurd (omega (arith, e))
+  drop_front (x ∷ xs) ys (suc n) e = drop_front xs ys n (omega (arith, e))
+
+  pub turned_take : (xs : List A) (n : ℕ) → n ≤ length xs → turned f (take n xs) ≡ drop (length xs - n) (turned f xs)
+  turned_take xs n few =
+      let whole : turned f xs ≡ turned f (drop n xs) ++ turned f (take n xs) = ap (turned f) (sym (take-append-drop n xs)) ∙ turned_both f (take n xs) (drop n xs) in
+      let left = length-drop n xs in
+      let long = length-turned f (drop n xs) in
+      sym (ap (drop (length xs - n)) whole ∙ drop_front (turned f (drop n xs)) (turned f (take n xs)) (length xs - n) (omega (arith, left, long)))
 
 -- two lists with ends of one length
 pub same_ends : {A : Type 0} (a b k l : List A) → a ++ k ≡ b ++ l → length k ≡ length l → (a ≡ b) × (k ≡ l)
@@ -52,3 +71,9 @@ popped f old new (Some x) items some = sym (ap (λ xs. drop 1 (turned f xs)) ite
 popped f [] [] None items some = refl
 popped f [] (y ∷ new) None items some = absurd (cc)
 popped f (x ∷ old) new None items some = let more : false ≡ true = some (omega arith) in absurd (cc)
+
+-- the set in the one that was taken off
+pub popped_set : (old new : List Frame) (r : Option Frame) → old ≡ new ++ option_to_list r → (0 < length old → IsSome r) → (set : Option (List (List ℕ))) → MatchOption r (set ≡ None) (λ f. set ≡ f.set) → set ≡ last_set (turned (λ f. f) old)
+popped_set old new (Some x) items some set h = h ∙ sym (ap (λ xs. last_set (turned (λ f. f) xs)) items ∙ ap last_set (turned-last (λ f. f) new x))
+popped_set [] new None items some set h = h
+popped_set (x ∷ old) new None items some set h = let more : false ≡ true = some (omega arith) in absurd (cc)

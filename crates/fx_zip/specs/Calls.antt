@@ -1,4 +1,5 @@
 -- What the calls of a zipper say.
+use Rattle.fx_view.specs.ReadList.{ReadList}
 use Rattle.std.specs.Prelude.{◌≡◌, ℕ, ◌+◌, ◌≤◌, Bool, true, false, cond, List, ◌∷◌, ◌++◌, length, drop, Option, Some, None, is_some, Result, Ok, Err, IfOk}
 use Rattle.fx_store.specs.Rule.{Known, Ask, Answer, ◌>>=◌, Found, follow, answer, ticks, changed}
 use Rattle.fx_store.specs.Whole.{Store}
@@ -20,11 +21,11 @@ use Rattle.fx_rules.specs.declared.halt.Halt.TheVariants as halt
 use Rattle.fx_rules.specs.Answering.{answered}
 use Rattle.fx_rules.specs.Halts.{split}
 use Rattle.fx_zip.specs.declared.frame.Entry.{Entry}
-use Rattle.fx_zip.specs.Fresh.{AreFound, IsFresh, Stands, left}
+use Rattle.fx_zip.specs.Fresh.{IsSetOf, AreFound, IsFresh, Stands, left}
 use Rattle.fx_zip.specs.Parts.{part}
 use Rattle.fx_zip.specs.Spots.{LeadsFrom}
 use Rattle.fx_zip.specs.Steps.{step_tree}
-use Rattle.fx_zip.specs.Trees.{ZipTree, is_settled, path_of, here}
+use Rattle.fx_zip.specs.Trees.{ZipTree, is_settled, IsSettled, path_of, here}
 
 -- what holds where the rules refuse a call
 abbrev pub OnRefused : {X : Type 0} → Result X Halt → Type 0 → Type 0
@@ -54,27 +55,34 @@ abbrev pub Evaluates : {R : Type 0} → Meaning R → Known → ZipTree → R ×
 Evaluates m own z was now evals =
     (S : Store) → Agrees (m.reads now.0) S → now.1 ≤ was.1 + (settling_evals z (changed own S) + evals (changed own S))
 
--- the zipper finds its place, or there is none
+-- the zipper finds its place, and each step has its frame then, or there is none
 pub record Finds {R : Type 0} (m : Meaning R) (own : Known) (old new : ZipTree) (was now : R × ℕ) (result : Result (Unit {0}) Halt) : Type 0 where
   pub follows : Follows m (answered (λ _. here new)) own was now (place_needed old.root old.address) (split result)
-  pub stands : IfOk result (λ _. Stands (known_of (m.reads now.0)) own new)
-  pub fresh : IfOk (split result) (λ _. IsFresh (known_of (m.reads now.0)) own new)
+  pub stands : IfOk result (λ _. Stands (m.reads now.0) own new)
+  pub fresh : IfOk (split result) (λ _. IsFresh (m.reads now.0) own new)
+  pub settled : IfOk result (λ _. IsSettled new)
+  pub kept : IsSettled old → IsSettled new
   pub root : new.root ≡ old.root
   pub address : new.address ≡ old.address
   pub most : Evaluates m own old was now (λ S. 0)
 
--- the zipper moves to the address that the rule answers, or stays where it is
+-- the zipper moves to the address that the rule answers, where each step has its frame, or stays where it is, with the frames
+-- that it had
 pub record Moves {R : Type 0} (m : Meaning R) (own : Known) (old new : ZipTree) (was now : R × ℕ) (rule : Ask (Answered Address)) (evals : Store → ℕ) (result : Result (Unit {0}) Halt) : Type 0 where
   pub follows : Follows m (answered (λ _. new.address)) own was now rule (split result)
-  pub fresh : IfOk (split result) (λ _. IsFresh (known_of (m.reads now.0)) own new)
+  pub fresh : IfOk (split result) (λ _. IsFresh (m.reads now.0) own new)
+  pub settled : IfOk result (λ _. IsSettled new)
+  pub kept : OnRefused result (IsSettled old → IsSettled new)
   pub root : new.root ≡ old.root
   pub refused : OnRefused result (new.address ≡ old.address)
   pub most : Evaluates m own old was now evals
 
--- the zipper answers what the rule answers, and stays
+-- the zipper answers what the rule answers, and stays, where each step has its frame then
 pub record Asks {R A X : Type 0} (m : Meaning R) (view : X → A) (own : Known) (old new : ZipTree) (was now : R × ℕ) (rule : Ask (Answered A)) (evals : Store → ℕ) (result : Result X Halt) : Type 0 where
   pub follows : Follows m (answered view) own was now rule (split result)
-  pub fresh : IfOk (split result) (λ _. IsFresh (known_of (m.reads now.0)) own new)
+  pub fresh : IfOk (split result) (λ _. IsFresh (m.reads now.0) own new)
+  pub settled : IfOk result (λ _. IsSettled new)
+  pub kept : IsSettled old → IsSettled new
   pub root : new.root ≡ old.root
   pub address : new.address ≡ old.address
   pub most : Evaluates m own old was now evals
@@ -82,7 +90,7 @@ pub record Asks {R A X : Type 0} (m : Meaning R) (view : X → A) (own : Known) 
 -- the zipper stands, and moves to the address that the rule answers, or stays where it is
 pub record Turns {R : Type 0} (m : Meaning R) (own : Known) (old new : ZipTree) (was now : R × ℕ) (rule : Ask (Answered Address)) (evals : Store → ℕ) (result : Result (Unit {0}) Halt) : Type 0 where
   pub follows : Follows m (answered (λ _. new.address)) own was now rule (split result)
-  pub fresh : IfOk (split result) (λ _. IsFresh (known_of (m.reads now.0)) own new)
+  pub stands : IfOk (split result) (λ _. Stands (m.reads now.0) own new)
   pub root : new.root ≡ old.root
   pub refused : OnRefused result (new.address ≡ old.address)
   pub most : (S : Store) → Agrees (m.reads now.0) S → now.1 ≤ was.1 + evals (changed own S)
@@ -94,16 +102,16 @@ SaysFound known own view rule (Err stop.NoMemory) = Unit {0}
 SaysFound known own view rule (Err (stop.Needs p)) = ⊥
 
 -- the same as `Turns`, where nothing is consulted
-pub record Turned (known own : Known) (old new : ZipTree) (rule : Ask (Answered Address)) (result : Result (Unit {0}) Halt) : Type 0 where
-  pub says : SaysFound known own (answered (λ _. new.address)) rule (split result)
-  pub fresh : IfOk (split result) (λ _. IsFresh known own new)
+pub record Turned (reads : ReadList) (own : Known) (old new : ZipTree) (rule : Ask (Answered Address)) (result : Result (Unit {0}) Halt) : Type 0 where
+  pub says : SaysFound (known_of reads) own (answered (λ _. new.address)) rule (split result)
+  pub stands : IfOk (split result) (λ _. Stands reads own new)
   pub root : new.root ≡ old.root
   pub refused : OnRefused result (new.address ≡ old.address)
 
 -- the entry of another step in place of the last one
-pub record Besides (known own : Known) (z : ZipTree) (rule : Ask (Answered Address)) (result : Result Entry Halt) : Type 0 where
-  pub says : SaysFound known own (answered (λ e. step_tree e.step ∷ drop 1 z.address)) rule (split result)
-  pub leads : IfOk result (λ e. LeadsFrom known own (left z) e)
+pub record Besides (reads : ReadList) (own : Known) (z : ZipTree) (rule : Ask (Answered Address)) (result : Result Entry Halt) : Type 0 where
+  pub says : SaysFound (known_of reads) own (answered (λ e. step_tree e.step ∷ drop 1 z.address)) rule (split result)
+  pub leads : IfOk result (λ e. LeadsFrom reads own (left z) e)
 
 -- to another element of the comprehension around the place
 abbrev pub beside : SpecTree → (List ℕ → List (List ℕ) → Option (List ℕ)) → Address → Ask (Answered Address)
@@ -130,14 +138,15 @@ pub record IsSettling {R : Type 0} (m : Meaning R) (own : Known) (start now : R 
   pub ahead : Address
   pub kept : Address
   pub whole : z.address ≡ ahead ++ kept
-  pub found : AreFound (known_of (m.reads now.0)) own z.root kept z.frames z.env
+  pub found : AreFound (m.reads now.0) own z.root kept z.frames z.env
+  pub set : IsSetOf z.set z.env (part z.root z.address)
   pub so_far : Follows {A = Option PlaceTree} {X = Option PlaceTree} m (λ at. at) own start now (place z.root kept) (Ok (Some (placed (path_of z.frames) z.env (part z.root kept))))
 
 -- one frame more, or no place at the address
 abbrev pub SettlesTo : {R : Type 0} → Meaning R → Known → R × ℕ → R × ℕ → ZipTree → ZipTree → Result Bool Stop → Type 0
 SettlesTo m own start now old new (Ok true) = IsSettling m own start now new
 SettlesTo m own start now old new (Ok false) =
-    Follows {A = Option PlaceTree} {X = Option PlaceTree} m (λ at. at) own start now (place old.root old.address) (Ok None) × IsFresh (known_of (m.reads now.0)) own new
+    Follows {A = Option PlaceTree} {X = Option PlaceTree} m (λ at. at) own start now (place old.root old.address) (Ok None) × IsFresh (m.reads now.0) own new
 SettlesTo m own start now old new (Err why) =
     Follows {A = Option PlaceTree} {X = Option PlaceTree} m (λ at. at) own start now (place old.root old.address) (Err why)
 

@@ -1,5 +1,7 @@
 -- A zipper whose frames are those of the places that its steps have over what is known, with the own changes on top.
-use Rattle.std.specs.Prelude.{◌≡◌, ℕ, ◌-◌, Bool, true, false, cond, List, [], ◌∷◌, ◌++◌, length, take, drop, Option, Some, None, Ok}
+use Rattle.fx_view.specs.ReadList.{ReadList}
+use Rattle.fx_view.specs.Reads.{known_of}
+use Rattle.std.specs.Prelude.{◌≡◌, ℕ, ◌-◌, Bool, true, false, cond, List, [], ◌∷◌, ◌++◌, length, take, drop, Option, Some, None, Ok, ◌&&◌, nat_le, IsSome}
 use Rattle.fx_store.specs.Rule.{Known, Found, follow}
 use Rattle.fx_expr.specs.Eval.{Outcome, eval_of}
 use Rattle.fx_spec.specs.Describe.{Bindings}
@@ -25,48 +27,34 @@ abbrev pub IsHeld : Step → Option (List (List ℕ)) → Bindings → SpecTree 
 IsHeld (Elem t) set env (SpecTree.comp s x e) = HasSet set (eval_of env e)
 IsHeld _ set env spec = Unit {0}
 
--- each step leads from the frame before it to its own
-abbrev pub AreFound : Known → Known → SpecTree → Address → List Frame → Bindings → Type 0
-AreFound known own root [] [] env = env ≡ []
-AreFound known own root [] (f ∷ fs) env = ⊥
-AreFound known own root (step ∷ above) [] env = ⊥
-AreFound known own root (step ∷ above) (f ∷ fs) env =
-    (follow known own (lead step (path_of fs) (around step env) (part root above)) ≡ Found (Some (placed f.path env (child step (part root above)))))
+-- a set that is kept at a comprehension is its set
+abbrev pub IsSetOf : Option (List (List ℕ)) → Bindings → SpecTree → Type 0
+IsSetOf None env spec = Unit {0}
+IsSetOf (Some set) env (SpecTree.comp s x e) = set_answer (eval_of env e) ≡ Ok set
+IsSetOf (Some set) env spec = Unit {0}
+
+-- each step leads from the frame before it to its own, by what the first reads say, as many as the frame tells
+abbrev pub AreFound : ReadList → Known → SpecTree → Address → List Frame → Bindings → Type 0
+AreFound reads own root [] [] env = env ≡ []
+AreFound reads own root [] (f ∷ fs) env = ⊥
+AreFound reads own root (step ∷ above) [] env = ⊥
+AreFound reads own root (step ∷ above) (f ∷ fs) env =
+    (follow (known_of (take f.reads reads)) own (lead step (path_of fs) (around step env) (part root above)) ≡ Found (Some (placed f.path env (child step (part root above)))))
     × IsHeld step f.set (around step env) (part root above)
-    × AreFound known own root above fs (around step env)
+    × AreFound reads own root above fs (around step env)
 
 -- the frames are those of the first steps; those of the others are not kept
-pub record IsFresh (known own : Known) (z : ZipTree) : Type 0 where
+pub record IsFresh (reads : ReadList) (own : Known) (z : ZipTree) : Type 0 where
   pub ahead : Address
   pub kept : Address
   pub whole : z.address ≡ ahead ++ kept
-  pub found : AreFound known own z.root kept z.frames z.env
+  pub found : AreFound reads own z.root kept z.frames z.env
+  pub set : IsSetOf z.set z.env (part z.root z.address)
 
 -- they are those of all steps
-pub record Stands (known own : Known) (z : ZipTree) : Type 0 where
-  pub found : AreFound known own z.root z.address z.frames z.env
-
-abbrev pub around_last : Address → Bindings → Bindings
-around_last [] env = env
-around_last (step ∷ above) env = around step env
-
--- without the last step's frame
-abbrev pub unframed : ZipTree → ZipTree
-unframed z = record { root = z.root; address = z.address; frames = drop 1 z.frames; env = around_last z.address z.env }
-
--- without any frame
-abbrev pub unkept : ZipTree → ZipTree
-unkept z = record { root = z.root; address = z.address; frames = []; env = [] }
-
--- back by one step
-abbrev pub left : ZipTree → ZipTree
-left z =
-    record {
-      root = z.root;
-      address = drop 1 z.address;
-      frames = cond (is_settled z) (drop 1 z.frames) z.frames;
-      env = cond (is_settled z) (around_last z.address z.env) z.env;
-    }
+pub record Stands (reads : ReadList) (own : Known) (z : ZipTree) : Type 0 where
+  pub found : AreFound reads own z.root z.address z.frames z.env
+  pub set : IsSetOf z.set z.env (part z.root z.address)
 
 abbrev pub last_step : Address → Option Step
 last_step [] = None
@@ -81,10 +69,58 @@ abbrev pub is_second : Option Step → Bool
 is_second (Some Second) = true
 is_second _ = false
 
+abbrev pub is_element : Option Step → Bool
+is_element (Some (Elem t)) = true
+is_element _ = false
+
 abbrev pub last_set : List Frame → Option (List (List ℕ))
 last_set [] = None
 last_set (f ∷ fs) = f.set
 
+-- at an element, the set around it, which its frame keeps
+abbrev pub set_behind : ZipTree → Option (List (List ℕ))
+set_behind z = cond (is_element (last_step z.address)) (last_set z.frames) None
+
+abbrev pub around_last : Address → Bindings → Bindings
+around_last [] env = env
+around_last (step ∷ above) env = around step env
+
+-- without the last step's frame
+abbrev pub unframed : ZipTree → ZipTree
+unframed z = record { root = z.root; address = z.address; frames = drop 1 z.frames; env = around_last z.address z.env; set = set_behind z }
+
+-- without any frame
+abbrev pub unkept : ZipTree → ZipTree
+unkept z = record { root = z.root; address = z.address; frames = []; env = []; set = None }
+
+-- back by one step
+abbrev pub left : ZipTree → ZipTree
+left z =
+    record {
+      root = z.root;
+      address = drop 1 z.address;
+      frames = cond (is_settled z) (drop 1 z.frames) z.frames;
+      env = cond (is_settled z) (around_last z.address z.env) z.env;
+      set = cond (is_settled z) (set_behind z) None;
+    }
+
 -- the zipper does not stand at an element whose set is kept
 abbrev pub IsNoElement : ZipTree → Type 0
 IsNoElement z = (t : List ℕ) → last_step z.address ≡ Some (Elem t) → last_set z.frames ≡ None
+
+-- the one has the same own changes as the other wherever something was read
+abbrev pub SameOver : ReadList → Known → Known → Type 0
+SameOver reads own now = (p : List (List ℕ)) → IsSome (known_of reads p) → own p ≡ now p
+
+-- each frame's place is told by as many reads at most
+abbrev pub are_told : ℕ → List Frame → Bool
+are_told n [] = true
+are_told n (f ∷ fs) = nat_le f.reads n && are_told n fs
+
+-- the names bound before the last of so many steps
+abbrev pub around_frame : Address → List Frame → Bindings → Bindings
+around_frame a fs env = around_last (drop (length a - length fs) a) env
+
+-- without the last frame
+abbrev pub shorter : ZipTree → ZipTree
+shorter z = record { root = z.root; address = z.address; frames = drop 1 z.frames; env = around_frame z.address z.frames z.env; set = None }

@@ -6,3 +6,4 @@ pub mod Telling
 pub mod Fresh
 pub mod Spots
 pub mod Calls
+pub mod Worked

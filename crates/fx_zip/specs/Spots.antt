@@ -1,5 +1,6 @@
 -- Where a step leads, and the zipper that has gone there.
-use Rattle.std.specs.Prelude.{◌≡◌, ℕ, List, [], ◌∷◌, ◌++◌, length, drop, Option, Some, None, Result, IfOk}
+use Rattle.fx_view.specs.ReadList.{ReadList}
+use Rattle.std.specs.Prelude.{◌≡◌, ℕ, List, [], ◌∷◌, ◌++◌, length, drop, take, Option, Some, None, Result, IfOk}
 use Rattle.std.specs.Option.{IfSome, option_map, unwrap_or}
 use Rattle.fx_store.specs.Rule.{Known, Ask, Found, follow}
 use Rattle.fx_expr.specs.Tree.{Tree}
@@ -39,17 +40,17 @@ pub record IsSpot (step : Step) (env : Bindings) (spec : SpecTree) (spot : Spot)
   pub back : around step (grown env spot.bound) ≡ env
 
 -- the step leads from a place to the spot
-pub record Leads (known own : Known) (step : Step) (p : List (List ℕ)) (env : Bindings) (spec : SpecTree) (spot : Spot) : Type 0 where
-  pub found : follow known own (lead step p env spec) ≡ Found (Some (spot_place env (child step spec) spot))
+pub record Leads (reads : ReadList) (own : Known) (step : Step) (p : List (List ℕ)) (env : Bindings) (spec : SpecTree) (spot : Spot) : Type 0 where
+  pub found : follow (known_of (take spot.frame.reads reads)) own (lead step p env spec) ≡ Found (Some (spot_place env (child step spec) spot))
   pub fits : IsSpot step env spec spot
 
 -- one frame more
 abbrev pub kept_too : ZipTree → Spot → ZipTree
-kept_too z spot = record { root = z.root; address = z.address; frames = spot.frame ∷ z.frames; env = grown z.env spot.bound }
+kept_too z spot = record { root = z.root; address = z.address; frames = spot.frame ∷ z.frames; env = grown z.env spot.bound; set = None }
 
 -- one step more, with its frame
 abbrev pub entered : ZipTree → Step → Spot → ZipTree
-entered z step spot = record { root = z.root; address = step ∷ z.address; frames = spot.frame ∷ z.frames; env = grown z.env spot.bound }
+entered z step spot = record { root = z.root; address = step ∷ z.address; frames = spot.frame ∷ z.frames; env = grown z.env spot.bound; set = None }
 
 -- a spot at the path that binds the name to the text, with the set
 pub record BindsText (p : List (List ℕ)) (x t : List ℕ) (set : List (List ℕ)) (spot : Spot) : Type 0 where
@@ -69,7 +70,7 @@ bound_value spot = unwrap_or (option_map (λ b. tree_of b.1) spot.bound) Tree.no
 -- the call answers the spot to which the step leads, where it leads to one
 pub record LeadsTo {R : Type 0} (m : Meaning R) (own : Known) (step : Step) (p : List (List ℕ)) (env : Bindings) (spec : SpecTree) (was now : R × ℕ) (result : Result (Option Spot) Stop) : Type 0 where
   pub follows : Follows m (option_map (spot_place env (child step spec))) own was now (lead step p env spec) result
-  pub spot : IfOk result (λ o. IfSome o (IsSpot step env spec))
+  pub spot : IfOk result (λ o. IfSome o (Leads (m.reads now.0) own step p env spec))
 
 -- the same of the first step that has no frame
 pub record LeadsNext {R : Type 0} (m : Meaning R) (own : Known) (z : ZipTree) (was now : R × ℕ) (result : Result (Option Spot) Stop) : Type 0 where
@@ -92,17 +93,17 @@ pub record FirstLeads {R : Type 0} (m : Meaning R) (own : Known) (z : ZipTree) (
   pub second : SpecTree
   pub form : part z.root (drop 1 z.address) ≡ SpecTree.pair name first second
   pub follows : Follows m (option_map bound_value) own was now (value (path_of (drop 1 z.frames)) z.env first) result
-  pub spot : IfOk result (λ o. IfSome o (λ spot. BindsValue (path_of (drop 1 z.frames)) name (bound_value spot) spot))
+  pub spot : IfOk result (λ o. IfSome o (λ spot. BindsValue (path_of (drop 1 z.frames)) name (bound_value spot) spot × (spot.frame.reads ≡ length (m.reads now.0))))
 
 -- the call answers the entry of the step that the rule of a move adds
 pub record Enters {R : Type 0} (m : Meaning R) (own : Known) (rule : Address → Ask (Answered Address)) (p : List (List ℕ)) (env : Bindings) (spec : SpecTree) (was now : R × ℕ) (result : Result Entry Halt) : Type 0 where
   pub follows : (a : Address) → Follows m (answered (λ e. step_tree e.step ∷ a)) own was now (rule a) (split result)
-  pub leads : IfOk result (λ e. Leads (known_of (m.reads now.0)) own (step_tree e.step) p env spec e.spot)
+  pub leads : IfOk result (λ e. Leads (m.reads now.0) own (step_tree e.step) p env spec e.spot)
 
 -- and consults nothing
 pub record EntersAt (rule : Address → Ask (Answered Address)) (p : List (List ℕ)) (env : Bindings) (spec : SpecTree) (was now : ℕ) (result : Result Entry Halt) : Type 0 where
   pub tells : (a : Address) → Tells (answered (λ e. step_tree e.step ∷ a)) was now (rule a) (split result)
-  pub leads : (known own : Known) → IfOk result (λ e. Leads known own (step_tree e.step) p env spec e.spot)
+  pub leads : (reads : ReadList) (own : Known) → IfOk result (λ e. Leads reads own (step_tree e.step) p env spec e.spot)
 
 -- the call answers the entry of the chosen element, where there is one
 pub record Chooses (p : List (List ℕ)) (x : List ℕ) (set : List (List ℕ)) (choice : Option (List ℕ)) (result : Result Entry Halt) : Type 0 where
@@ -110,5 +111,5 @@ pub record Chooses (p : List (List ℕ)) (x : List ℕ) (set : List (List ℕ)) 
   pub spot : IfOk result (λ e. (t : List ℕ) → choice ≡ Some t → (step_tree e.step ≡ Elem t) × BindsText p x t set e.spot)
 
 -- the entry's step leads from the place at which a zipper stands
-abbrev pub LeadsFrom : Known → Known → ZipTree → Entry → Type 0
-LeadsFrom known own z e = Leads known own (step_tree e.step) (path_of z.frames) z.env (part z.root z.address) e.spot
+abbrev pub LeadsFrom : ReadList → Known → ZipTree → Entry → Type 0
+LeadsFrom reads own z e = Leads reads own (step_tree e.step) (path_of z.frames) z.env (part z.root z.address) e.spot

@@ -1,6 +1,6 @@
 -- What contracts see of a zipper.
-use Rattle.std.specs.Prelude.{◌≡◌, ℕ, zero, suc, Bool, List, [], ◌∷◌, length, nat_eq, refl}
-use Rattle.std.specs.Coded.{Coded, code_by, coded×, coded_ℕ, coded_list}
+use Rattle.std.specs.Prelude.{◌≡◌, ℕ, zero, suc, Bool, true, List, [], ◌∷◌, length, Option, nat_eq, refl}
+use Rattle.std.specs.Coded.{Coded, code_by, coded×, coded_ℕ, coded_list, coded_option}
 use Rattle.fx_expr.specs.Codes.{coded_bytes, coded_bindings}
 use Rattle.fx_spec.specs.Codes.{coded_spec}
 use Rattle.fx_spec.specs.Describe.{Bindings}
@@ -10,13 +10,14 @@ use Rattle.fx_zip.specs.contracts.frame.Frame as frame
 use Rattle.fx_zip.specs.declared.frame.Frame.{Frame}
 use Rattle.fx_zip.specs.Parts.{part}
 
--- the root description, the address, the frames of its first steps, both with the last first, and the names bound at the last
--- frame
+-- the root description, the address, the frames of its first steps, both with the last first, the names bound at the last
+-- frame, and the set of the comprehension at which the zipper stands, where it's kept
 pub record ZipTree : Type 0 where
   pub root : SpecTree
   pub address : Address
   pub frames : List Frame
   pub env : Bindings
+  pub set : Option (List (List ℕ))
 
 -- the path of the last frame, or the root path
 abbrev pub path_of : List Frame → List (List ℕ)
@@ -28,7 +29,7 @@ abbrev pub is_settled : ZipTree → Bool
 is_settled z = nat_eq (length z.frames) (length z.address)
 
 abbrev pub IsSettled : ZipTree → Type 0
-IsSettled z = length z.frames ≡ length z.address
+IsSettled z = is_settled z ≡ true
 
 -- the place at which a settled zipper stands
 abbrev pub here : ZipTree → PlaceTree
@@ -66,5 +67,6 @@ coded_step = code_by (ℕ × List ℕ) (coded× coded_ℕ coded_bytes) (λ s. (s
 
 abbrev pub coded_zip : Coded ZipTree
 coded_zip =
-    code_by (SpecTree × (Address × (List Frame × Bindings))) (coded× coded_spec (coded× (coded_list coded_step) (coded× (coded_list frame.the_row.coded) coded_bindings)))
-    (λ z. (z.root, (z.address, (z.frames, z.env)))) (λ p. record { root = p.0; address = p.1.0; frames = p.1.1.0; env = p.1.1.1 }) (λ _. refl)
+    code_by (SpecTree × (Address × (List Frame × (Bindings × Option (List (List ℕ))))))
+    (coded× coded_spec (coded× (coded_list coded_step) (coded× (coded_list frame.the_row.coded) (coded× coded_bindings (coded_option (coded_list coded_bytes))))))
+    (λ z. (z.root, (z.address, (z.frames, (z.env, z.set))))) (λ p. record { root = p.0; address = p.1.0; frames = p.1.1.0; env = p.1.1.1.0; set = p.1.1.1.1 }) (λ _. refl)

@@ -9,7 +9,6 @@ ghost use Rattle.fx_spec.specs.Move.{at_place, fetch_at, whole_at, validate_at};
 ghost use Rattle.fx_spec.specs.WellShaped.{IsDescription};
 ghost use Rattle.fx_view.specs.Follows.{Follows};
 ghost use Rattle.fx_view.specs.Own.{own_at};
-ghost use Rattle.fx_view.specs.Reads.{known_of};
 ghost use Rattle.fx_zip.specs.Calls.{Asks, place_evals};
 ghost use Rattle.fx_zip.specs.Fresh.{IsFresh, Stands};
 ghost use Rattle.fx_zip.specs.Trees.{here};
@@ -36,7 +35,7 @@ impl Zip {
         shape: &Shape,
         steps: &mut Steps<L>,
     ) -> Result<Value, Halt>
-        requires fresh { IsFresh (known_of (R.meaning.reads reader.old))
+        requires fresh { IsFresh (R.meaning.reads reader.old)
             (own_at overlay.now) self.old }
         ensures asks { Asks R.meaning tree_of (own_at overlay.now) self.old self.new
             (reader.old, steps.old) (reader.new, steps.new)
@@ -58,7 +57,7 @@ impl Zip {
         shape: &Shape,
         steps: &mut Steps<L>,
     ) -> Result<Value, Halt>
-        requires fresh { IsFresh (known_of (R.meaning.reads reader.old))
+        requires fresh { IsFresh (R.meaning.reads reader.old)
             (own_at overlay.now) self.old }
         ensures asks { Asks R.meaning tree_of (own_at overlay.now) self.old self.new
             (reader.old, steps.old) (reader.new, steps.new)
@@ -78,7 +77,7 @@ impl Zip {
         overlay: &Overlay,
         steps: &mut Steps<L>,
     ) -> Result<bool, Halt>
-        requires fresh { IsFresh (known_of (R.meaning.reads reader.old))
+        requires fresh { IsFresh (R.meaning.reads reader.old)
             (own_at overlay.now) self.old }
         ensures asks { Asks R.meaning (λ b. Tree.bool b) (own_at overlay.now) self.old self.new
             (reader.old, steps.old) (reader.new, steps.new)
@@ -100,7 +99,7 @@ impl Zip {
         shape: &Shape,
         steps: &mut Steps<L>,
     ) -> Result<Value, Halt>
-        requires stands { Stands (known_of (R.meaning.reads reader.old))
+        requires stands { Stands (R.meaning.reads reader.old)
             (own_at overlay.now) self.old }
         ensures same { self.new ≡ self.old }
         ensures follows { Follows R.meaning (answered tree_of) (own_at overlay.now)
@@ -131,7 +130,7 @@ impl Zip {
         shape: &Shape,
         steps: &mut Steps<L>,
     ) -> Result<Value, Halt>
-        requires stands { Stands (known_of (R.meaning.reads reader.old))
+        requires stands { Stands (R.meaning.reads reader.old)
             (own_at overlay.now) self.old }
         ensures same { self.new ≡ self.old }
         ensures follows { Follows R.meaning (answered tree_of) (own_at overlay.now)
@@ -161,7 +160,7 @@ impl Zip {
         overlay: &Overlay,
         steps: &mut Steps<L>,
     ) -> Result<bool, Halt>
-        requires stands { Stands (known_of (R.meaning.reads reader.old))
+        requires stands { Stands (R.meaning.reads reader.old)
             (own_at overlay.now) self.old }
         ensures same { self.new ≡ self.old }
         ensures follows { Follows R.meaning (answered (λ b. Tree.bool b)) (own_at overlay.now)

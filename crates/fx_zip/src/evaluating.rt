@@ -1,9 +1,10 @@
 //! What expressions of a description give, with their faults.
-ghost use Rattle.std.specs.Prelude.{◌≡◌, ◌+◌, Some};
+ghost use Rattle.std.specs.Prelude.{◌≡◌, ◌+◌, ◌≤◌, List, ℕ, Ok, Some};
+ghost use Rattle.std.specs.Option.{option_copied};
 ghost use Rattle.fx_expr.specs.Eval as eval;
 ghost use Rattle.fx_expr.specs.Eval.{eval_of};
 ghost use Rattle.fx_expr.specs.Shapes.{IsWellShaped};
-ghost use Rattle.fx_expr.specs.Views.{expr_tree, tree_of};
+ghost use Rattle.fx_expr.specs.Views.{tree_of};
 ghost use Rattle.fx_store.specs.Faults as paths;
 ghost use Rattle.fx_spec.specs.Describe as describe;
 ghost use Rattle.fx_spec.specs.Move.{evaluated};
@@ -12,7 +13,7 @@ ghost use Rattle.fx_rules.specs.Halts.{split};
 ghost use Rattle.fx_zip.specs.Telling.{Says, set_answer, given};
 
 use fx_base::Steps;
-use fx_expr::{Env, EvalFault, Expr, TextSet, Value, eval};
+use fx_expr::{Env, EvalFault, Formula, TextSet, Value};
 use fx_rules::Halt;
 use fx_spec::Refusal;
 use fx_store::{Path, PathFault};
@@ -24,15 +25,15 @@ use std::sync::ledger::Ledger;
 pub(crate) fn evaluate<L: Ledger>(
     alloc: Global,
     env: &Env,
-    expr: &Expr,
+    formula: &Formula,
     steps: &mut Steps<L>,
 ) -> Result<Value, Halt>
-    requires { IsWellShaped env.now (expr_tree expr.now) }
+    requires { IsWellShaped env.now formula.now }
     ensures value { Says (answered tree_of)
-        (Some (evaluated (eval_of env.now (expr_tree expr.now)))) (split result) }
+        (Some (evaluated (eval_of env.now formula.now))) (split result) }
     ensures tick { steps.new ≡ steps.old + 1 }
 {
-    match eval(alloc, expr, env, steps) {
+    match formula.eval(alloc, env, steps) {
         Ok(value) => Ok(value),
         Err(EvalFault::Fault(fault)) => Err(Halt::Refused(Refusal::Expr(fault))),
         Err(EvalFault::NoMemory) => Err(Halt::Stopped(Stop::NoMemory)),
@@ -43,18 +44,39 @@ pub(crate) fn evaluate<L: Ledger>(
 pub(crate) fn set_of<L: Ledger>(
     alloc: Global,
     env: &Env,
-    expr: &Expr,
+    formula: &Formula,
     steps: &mut Steps<L>,
 ) -> Result<TextSet, Halt>
-    requires { IsWellShaped env.now (expr_tree expr.now) }
+    requires { IsWellShaped env.now formula.now }
     ensures set { Says (answered (λ set. set))
-        (Some (set_answer (eval_of env.now (expr_tree expr.now)))) (split result) }
+        (Some (set_answer (eval_of env.now formula.now))) (split result) }
     ensures tick { steps.new ≡ steps.old + 1 }
 {
-    match eval(alloc, expr, env, steps) {
+    match formula.eval(alloc, env, steps) {
         Ok(value) => Ok(into_names(alloc, value)),
         Err(EvalFault::Fault(fault)) => Err(Halt::Refused(Refusal::Expr(fault))),
         Err(EvalFault::NoMemory) => Err(Halt::Stopped(Stop::NoMemory)),
+    }
+}
+
+/// The set of a comprehension: the one that is kept, or else its expression's value.
+pub(crate) fn set_again<L: Ledger>(
+    alloc: Global,
+    kept: Option<&TextSet>,
+    env: &Env,
+    expr: &Expr,
+    steps: &mut Steps<L>,
+) -> Result<TextSet, Halt>
+    requires shaped { IsWellShaped env.now (expr_tree expr.now) }
+    requires kept { (set : List (List ℕ)) → option_copied kept ≡ Some set
+        → set_answer (eval_of env.now (expr_tree expr.now)) ≡ Ok set }
+    ensures set { Says (answered (λ set. set))
+        (Some (set_answer (eval_of env.now (expr_tree expr.now)))) (split result) }
+    ensures tick { steps.new ≤ steps.old + 1 }
+{
+    match kept {
+        Some(set) => Ok(set.copy(alloc)?),
+        None => set_of(alloc, env, expr, steps),
     }
 }
 
@@ -63,16 +85,16 @@ pub(crate) fn inner_path<L: Ledger>(
     alloc: Global,
     path: &Path,
     env: &Env,
-    expr: &Expr,
+    formula: &Formula,
     steps: &mut Steps<L>,
 ) -> Result<Path, Halt>
-    requires { IsWellShaped env.now (expr_tree expr.now) }
+    requires { IsWellShaped env.now formula.now }
     ensures path { Says (answered (λ q. q))
-        (Some (describe.focus_path path.now (eval_of env.now (expr_tree expr.now))))
+        (Some (describe.focus_path path.now (eval_of env.now formula.now)))
         (split result) }
     ensures tick { steps.new ≡ steps.old + 1 }
 {
-    match eval(alloc, expr, env, steps) {
+    match formula.eval(alloc, env, steps) {
         Ok(value) => extended(alloc, path, &value),
         Err(EvalFault::Fault(fault)) => Err(Halt::Refused(Refusal::Expr(fault))),
         Err(EvalFault::NoMemory) => Err(Halt::Stopped(Stop::NoMemory)),

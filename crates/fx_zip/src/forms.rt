@@ -1,11 +1,10 @@
 //! The parts of a description of a form.
 ghost use Rattle.std.specs.Prelude.{◌≡◌, MatchOption};
-ghost use Rattle.fx_expr.specs.Views.{expr_tree};
 ghost use Rattle.fx_spec.specs.SpecTree.{SpecTree};
 ghost use Rattle.fx_spec.specs.Views.{spec_tree};
 ghost use Rattle.fx_zip.specs.Parts.{IsNoPair, IsNoComp, IsNoFocus, IsNoOption};
 
-use fx_expr::{Expr, Word};
+use fx_expr::{Formula, Word};
 use fx_spec::Spec;
 
 /// The name and the parts of a pair.
@@ -21,9 +20,9 @@ pub(crate) fn pair_of(spec: &Spec) -> Option<(&Word, &Spec, &Spec)>
 }
 
 /// The part, the name and the set of a comprehension.
-pub(crate) fn comp_of(spec: &Spec) -> Option<(&Spec, &Word, &Expr)>
+pub(crate) fn comp_of(spec: &Spec) -> Option<(&Spec, &Word, &Formula)>
     ensures { MatchOption result (IsNoComp (spec_tree spec.now)) (λ r.
-        spec_tree spec.now ≡ SpecTree.comp (spec_tree r.0.now) r.1.now (expr_tree r.2.now)) }
+        spec_tree spec.now ≡ SpecTree.comp (spec_tree r.0.now) r.1.now r.2.now) }
 {
     match spec {
         Spec::Comp(part, name, set) => Some((part, name, set)),
@@ -33,9 +32,9 @@ pub(crate) fn comp_of(spec: &Spec) -> Option<(&Spec, &Word, &Expr)>
 }
 
 /// The text and the part of a focus.
-pub(crate) fn focus_of(spec: &Spec) -> Option<(&Expr, &Spec)>
+pub(crate) fn focus_of(spec: &Spec) -> Option<(&Formula, &Spec)>
     ensures { MatchOption result (IsNoFocus (spec_tree spec.now)) (λ r.
-        spec_tree spec.now ≡ SpecTree.focus (expr_tree r.0.now) (spec_tree r.1.now)) }
+        spec_tree spec.now ≡ SpecTree.focus r.0.now (spec_tree r.1.now)) }
 {
     match spec {
         Spec::Focus(text, part) => Some((text, part)),

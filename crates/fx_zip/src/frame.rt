@@ -10,11 +10,13 @@ use fx_expr::{Text, TextSet, Value, Word};
 use fx_store::Path;
 use std::alloc::Global;
 
-/// The path to which a step leads and, at an element, the set of the comprehension around it.
+/// The path to which a step leads; at an element, the set of the comprehension around it; and the number of the reader's
+/// first reads by which the place is known.
 #[derive(Drop)]
 pub struct Frame {
     pub path: Path,
     pub set: Option<TextSet>,
+    pub reads: u64,
 }
 
 /// A frame, and the name that its step binds.
@@ -32,12 +34,17 @@ pub struct Entry {
 }
 
 /// The spot at a path, for a step that binds nothing.
-pub(crate) fn spot_at(path: Path) -> Spot
+pub(crate) fn spot_at(path: Path, reads: u64) -> Spot
     ensures path { result.frame.path ≡ path }
+    ensures reads { result.frame.reads ≡ reads }
     ensures bound { result.bound ≡ None }
 {
     Spot {
-        frame: Frame { path, set: None },
+        frame: Frame {
+            path,
+            set: None,
+            reads,
+        },
         bound: None,
     }
 }
@@ -60,6 +67,7 @@ pub(crate) fn element_spot(
         frame: Frame {
             path,
             set: Some(set),
+            reads: 0,
         },
         bound: Some((word, Value::Str(text))),
     })
@@ -71,13 +79,19 @@ pub(crate) fn second_spot(
     path: &Path,
     name: &Word,
     value: Value,
+    reads: u64,
 ) -> Result<Spot, NoMemory>
-    ensures { IfOk result (BindsValue path.now name.now (tree_of value)) }
+    ensures binds { IfOk result (BindsValue path.now name.now (tree_of value)) }
+    ensures reads { IfOk result (λ spot. spot.frame.reads ≡ reads) }
 {
     let path = path.copy(alloc)?;
     let word = name.copy(alloc)?;
     Ok(Spot {
-        frame: Frame { path, set: None },
+        frame: Frame {
+            path,
+            set: None,
+            reads,
+        },
         bound: Some((word, value)),
     })
 }

@@ -1,5 +1,5 @@
 //! Where a step leads from a place.
-ghost use Rattle.std.specs.Prelude.{◌≡◌, ℕ, false, true, IfOk, MatchOption};
+ghost use Rattle.std.specs.Prelude.{◌≡◌, ℕ, false, true, length, IfOk, MatchOption};
 ghost use Rattle.std.specs.Option.{IfSome, option_map};
 ghost use Rattle.fx_expr.specs.Sets.{has_text};
 ghost use Rattle.fx_expr.specs.Views.{tree_of};
@@ -55,7 +55,7 @@ fn first(alloc: Global, path: &Path, spec: &Spec) -> Result<Option<Spot>, Stop>
         → LeadsAt place.First path.now env (spec_tree spec.now) n n result }
 {
     match pair_of(spec) {
-        Some(_) => Ok(Some(spot_at(path.copy(alloc)?))),
+        Some(_) => Ok(Some(spot_at(path.copy(alloc)?, 0))),
         None => Ok(None),
     }
 }
@@ -99,10 +99,11 @@ pub(crate) fn after_first<R: Reader, L: Ledger>(
         (reader.old, steps.old) (reader.new, steps.new)
         (value path.now env.old (spec_tree first.now)) result }
     ensures spot { IfOk result (λ o. IfSome o (λ spot.
-        BindsValue path.now name.now (bound_value spot) spot)) }
+        BindsValue path.now name.now (bound_value spot) spot
+        × (spot.frame.reads ≡ length (R.meaning.reads reader.new)))) }
 {
     match value_in(alloc, reader, overlay, path, env, first, steps)? {
-        Some(value) => Ok(Some(second_spot(alloc, path, name, value)?)),
+        Some(value) => Ok(Some(second_spot(alloc, path, name, value, reader.reads().len())?)),
         None => Ok(None),
     }
 }
@@ -120,7 +121,7 @@ fn inside<R: Reader>(
     match option_of(spec) {
         Some(_) => {
             if exists(alloc, reader, overlay, path)? {
-                Ok(Some(spot_at(path.copy(alloc)?)))
+                Ok(Some(spot_at(path.copy(alloc)?, reader.reads().len())))
             } else {
                 Ok(None)
             }
@@ -142,7 +143,7 @@ fn down<L: Ledger>(
 {
     match focus_of(spec) {
         Some((text, _)) => match if_given(inner_path(alloc, path, env, text, steps))? {
-            Some(inner) => Ok(Some(spot_at(inner))),
+            Some(inner) => Ok(Some(spot_at(inner, 0))),
             None => Ok(None),
         },
         None => Ok(None),

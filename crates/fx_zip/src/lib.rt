@@ -7,6 +7,7 @@ mod evaluating;
 mod fetching;
 mod forms;
 mod frame;
+pub mod laws;
 mod leading;
 mod moves;
 mod moving;

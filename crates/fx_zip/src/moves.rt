@@ -2,7 +2,6 @@
 ghost use Rattle.fx_spec.specs.Move as move;
 ghost use Rattle.fx_spec.specs.Transaction.{from_place};
 ghost use Rattle.fx_view.specs.Own.{own_at};
-ghost use Rattle.fx_view.specs.Reads.{known_of};
 ghost use Rattle.fx_zip.specs.Calls.{Moves, place_evals, sideways_evals};
 ghost use Rattle.fx_zip.specs.Fresh.{IsFresh};
 
@@ -24,7 +23,7 @@ impl Zip {
         overlay: &Overlay,
         steps: &mut Steps<L>,
     ) -> Result<(), Halt>
-        requires fresh { IsFresh (known_of (R.meaning.reads reader.old))
+        requires fresh { IsFresh (R.meaning.reads reader.old)
             (own_at overlay.now) self.old }
         ensures moves { Moves R.meaning (own_at overlay.now) self.old self.new
             (reader.old, steps.old) (reader.new, steps.new)
@@ -46,7 +45,7 @@ impl Zip {
         text: &Text,
         steps: &mut Steps<L>,
     ) -> Result<(), Halt>
-        requires fresh { IsFresh (known_of (R.meaning.reads reader.old))
+        requires fresh { IsFresh (R.meaning.reads reader.old)
             (own_at overlay.now) self.old }
         ensures moves { Moves R.meaning (own_at overlay.now) self.old self.new
             (reader.old, steps.old) (reader.new, steps.new)
@@ -55,7 +54,15 @@ impl Zip {
             move.go_to text.now self.old.address at.path at.env at.spec)) result }
     {
         self.find(alloc, reader, overlay, steps)?;
-        let entry = to(alloc, self.path(), self.env(), self.spec(), text, steps)?;
+        let entry = to(
+            alloc,
+            self.path(),
+            self.env(),
+            self.spec(),
+            self.kept(),
+            text,
+            steps,
+        )?;
         Ok(self.enter(alloc, entry)?)
     }
 
@@ -67,7 +74,7 @@ impl Zip {
         overlay: &Overlay,
         steps: &mut Steps<L>,
     ) -> Result<(), Halt>
-        requires fresh { IsFresh (known_of (R.meaning.reads reader.old))
+        requires fresh { IsFresh (R.meaning.reads reader.old)
             (own_at overlay.now) self.old }
         ensures moves { Moves R.meaning (own_at overlay.now) self.old self.new
             (reader.old, steps.old) (reader.new, steps.new)
@@ -83,6 +90,7 @@ impl Zip {
             self.path(),
             self.env(),
             self.spec(),
+            self.kept(),
             steps,
         )?;
         Ok(self.enter(alloc, entry)?)

@@ -1,8 +1,8 @@
 //! Where a move leads from a place.
-ghost use Rattle.std.specs.Prelude.{◌≡◌, List, ℕ, IfOk};
+ghost use Rattle.std.specs.Prelude.{◌≡◌, List, ℕ, IfOk, Ok, Some};
 ghost use Rattle.std.specs.Option.{option_copied};
+ghost use Rattle.fx_expr.specs.Eval.{eval_of};
 ghost use Rattle.fx_expr.specs.Shapes.{IsWellShaped};
-ghost use Rattle.fx_expr.specs.Views.{expr_tree};
 ghost use Rattle.fx_spec.specs.Describe.{Bindings};
 ghost use Rattle.fx_spec.specs.Move as move;
 ghost use Rattle.fx_spec.specs.Place as place;
@@ -10,16 +10,18 @@ ghost use Rattle.fx_spec.specs.SpecTree.{SpecTree};
 ghost use Rattle.fx_spec.specs.Views.{spec_tree};
 ghost use Rattle.fx_view.specs.Own.{own_at};
 ghost use Rattle.fx_walk.specs.Scopes.{HasScope};
+ghost use Rattle.fx_zip.specs.Fresh.{IsSetOf};
+ghost use Rattle.fx_zip.specs.Telling.{set_answer};
 ghost use Rattle.fx_zip.specs.Spots.{Enters, EntersAt, Chooses, BindsText};
 ghost use Rattle.fx_zip.specs.Parts.{IsNoComp, IsNoOption};
 ghost use Rattle.fx_zip.specs.Steps.{step_tree};
 
-use crate::evaluating::{inner_path, set_of};
+use crate::evaluating::{inner_path, set_again};
 use crate::forms::{comp_of, focus_of, option_of, pair_of};
 use crate::frame::{Entry, element_spot, spot_at};
 use crate::step::Step;
 use fx_base::{NoMemory, Steps};
-use fx_expr::{Env, Expr, Text, TextSet, Word};
+use fx_expr::{Env, Formula, Text, TextSet, Word};
 use fx_rules::Halt;
 use fx_spec::{Refusal, Spec};
 use fx_store::Path;
@@ -45,7 +47,7 @@ pub(crate) fn down<L: Ledger>(
             let inner = inner_path(alloc, path, env, text, steps)?;
             Ok(Entry {
                 step: Step::Down,
-                spot: spot_at(inner),
+                spot: spot_at(inner, 0),
             })
         }
         None => Err(Halt::Refused(Refusal::NoStep)),
@@ -58,16 +60,18 @@ pub(crate) fn to<L: Ledger>(
     path: &Path,
     env: &Env,
     spec: &Spec,
+    kept: Option<&TextSet>,
     text: &Text,
     steps: &mut Steps<L>,
 ) -> Result<Entry, Halt>
     requires described { HasScope env.now (spec_tree spec.now) }
+    requires kept { IsSetOf (option_copied kept) env.now (spec_tree spec.now) }
     ensures enters { EntersAt (λ a. move.go_to text.now a path.now env.now (spec_tree spec.now))
         path.now env.now (spec_tree spec.now) steps.old steps.new result }
 {
     match comp_of(spec) {
         Some((_, name, set)) => {
-            let set = set_of(alloc, env, set, steps)?;
+            let set = set_again(alloc, kept, env, set, steps)?;
             let choice = this_if(text, set.has(text));
             chosen(alloc, path, name, &set, choice)
         }
@@ -83,16 +87,18 @@ pub(crate) fn into<R: Reader, L: Ledger>(
     path: &Path,
     env: &Env,
     spec: &Spec,
+    kept: Option<&TextSet>,
     steps: &mut Steps<L>,
 ) -> Result<Entry, Halt>
     requires described { HasScope env.now (spec_tree spec.now) }
+    requires kept { IsSetOf (option_copied kept) env.now (spec_tree spec.now) }
     ensures enters { Enters R.meaning (own_at overlay.now)
         (λ a. move.go_into a path.now env.now (spec_tree spec.now))
         path.now env.now (spec_tree spec.now) (reader.old, steps.old)
         (reader.new, steps.new) result }
 {
     match comp_of(spec) {
-        Some((_, name, set)) => least(alloc, path, env, name, set, steps),
+        Some((_, name, set)) => least(alloc, path, env, name, set, kept, steps),
         None => match option_of(spec) {
             Some(_) => inside(alloc, reader, overlay, path),
             None => first(alloc, path, spec),
@@ -110,7 +116,7 @@ fn first(alloc: Global, path: &Path, spec: &Spec) -> Result<Entry, Halt>
     match pair_of(spec) {
         Some(_) => Ok(Entry {
             step: Step::First,
-            spot: spot_at(path.copy(alloc)?),
+            spot: spot_at(path.copy(alloc)?, 0),
         }),
         None => Err(Halt::Refused(Refusal::NoStep)),
     }
@@ -121,16 +127,19 @@ fn least<L: Ledger>(
     path: &Path,
     env: &Env,
     name: &Word,
-    set: &Expr,
+    set: &Formula,
+    kept: Option<&TextSet>,
     steps: &mut Steps<L>,
 ) -> Result<Entry, Halt>
-    requires shaped { IsWellShaped env.now (expr_tree set.now) }
+    requires shaped { IsWellShaped env.now set.now }
+    requires kept { (known : List (List ℕ)) → option_copied kept ≡ Some known
+        → set_answer (eval_of env.now set.now) ≡ Ok known }
     ensures enters { (part : SpecTree) → EntersAt
-        (λ a. move.go_into a path.now env.now (SpecTree.comp part name.now (expr_tree set.now)))
-        path.now env.now (SpecTree.comp part name.now (expr_tree set.now))
+        (λ a. move.go_into a path.now env.now (SpecTree.comp part name.now set.now))
+        path.now env.now (SpecTree.comp part name.now set.now)
         steps.old steps.new result }
 {
-    let set = set_of(alloc, env, set, steps)?;
+    let set = set_again(alloc, kept, env, set, steps)?;
     chosen(alloc, path, name, &set, set.first())
 }
 
@@ -148,7 +157,7 @@ fn inside<R: Reader>(
     if exists(alloc, reader, overlay, path)? {
         Ok(Entry {
             step: Step::Inside,
-            spot: spot_at(path.copy(alloc)?),
+            spot: spot_at(path.copy(alloc)?, reader.reads().len()),
         })
     } else {
         Err(Halt::Refused(Refusal::Lacks))

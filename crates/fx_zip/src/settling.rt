@@ -5,9 +5,8 @@ ghost use Rattle.fx_rules.specs.Answering.{answered};
 ghost use Rattle.fx_rules.specs.Halts.{split};
 ghost use Rattle.fx_view.specs.Follows.{Follows};
 ghost use Rattle.fx_view.specs.Own.{own_at};
-ghost use Rattle.fx_view.specs.Reads.{known_of};
 ghost use Rattle.fx_walk.specs.Places.{place_tree};
-ghost use Rattle.fx_zip.specs.Calls.{Finds, Settles, place_needed};
+ghost use Rattle.fx_zip.specs.Calls.{Finds, Settles, Evaluates, place_needed};
 ghost use Rattle.fx_zip.specs.Fresh.{IsFresh};
 ghost use Rattle.fx_zip.specs.Spots.{LeadsNext};
 ghost use Rattle.fx_zip.specs.Trees.{is_settled};
@@ -32,7 +31,7 @@ impl Zip {
         overlay: &Overlay,
         steps: &mut Steps<L>,
     ) -> Result<(), Halt>
-        requires fresh { IsFresh (known_of (R.meaning.reads reader.old))
+        requires fresh { IsFresh (R.meaning.reads reader.old)
             (own_at overlay.now) self.old }
         ensures { Finds R.meaning (own_at overlay.now) self.old self.new
             (reader.old, steps.old) (reader.new, steps.new) result }
@@ -53,12 +52,14 @@ impl Zip {
         overlay: &Overlay,
         steps: &mut Steps<L>,
     ) -> Result<Place<'_>, Halt>
-        requires fresh { IsFresh (known_of (R.meaning.reads reader.old))
+        requires fresh { IsFresh (R.meaning.reads reader.old)
             (own_at overlay.now) self.old }
         ensures follows { Follows R.meaning (answered place_tree) (own_at overlay.now)
             (reader.old, steps.old) (reader.new, steps.new)
             (place_needed self.old.root self.old.address) (split result) }
         ensures described { IfOk result (λ place. IsDescribedPlace (place_tree place)) }
+        ensures most { Evaluates R.meaning (own_at overlay.now) self.old
+            (reader.old, steps.old) (reader.new, steps.new) (λ S. 0) }
     {
         self.find(alloc, reader, overlay, steps)?;
         Ok(self.here())
@@ -72,7 +73,7 @@ impl Zip {
         overlay: &Overlay,
         steps: &mut Steps<L>,
     ) -> Result<bool, Stop>
-        requires fresh { IsFresh (known_of (R.meaning.reads reader.old))
+        requires fresh { IsFresh (R.meaning.reads reader.old)
             (own_at overlay.now) self.old }
         requires unsettled { is_settled self.old ≡ false }
         ensures settles { Settles R.meaning (own_at overlay.now) self.old self.new
@@ -95,7 +96,7 @@ impl Zip {
         overlay: &Overlay,
         steps: &mut Steps<L>,
     ) -> Result<Option<Spot>, Stop>
-        requires fresh { IsFresh (known_of (R.meaning.reads reader.old))
+        requires fresh { IsFresh (R.meaning.reads reader.old)
             (own_at overlay.now) self.old }
         requires unsettled { is_settled self.old ≡ false }
         ensures same { self.new ≡ self.old }

@@ -6,7 +6,7 @@ ghost use Rattle.fx_spec.specs.Move as move;
 ghost use Rattle.fx_spec.specs.Place as place;
 ghost use Rattle.fx_store.specs.Rule.{Known};
 ghost use Rattle.fx_view.specs.Own.{own_at};
-ghost use Rattle.fx_view.specs.Reads.{known_of};
+ghost use Rattle.fx_view.specs.ReadList.{ReadList};
 ghost use Rattle.fx_zip.specs.Calls.{Moves, Turns, Turned, Besides};
 ghost use Rattle.fx_zip.specs.Calls.{sideways_evals, next_at, prev_at, next_evals, beside};
 ghost use Rattle.fx_zip.specs.Fresh.{IsFresh, Stands, IsNoElement, last_step, last_set, is_first, is_second};
@@ -39,7 +39,7 @@ impl Zip {
         overlay: &Overlay,
         steps: &mut Steps<L>,
     ) -> Result<(), Halt>
-        requires fresh { IsFresh (known_of (R.meaning.reads reader.old))
+        requires fresh { IsFresh (R.meaning.reads reader.old)
             (own_at overlay.now) self.old }
         ensures moves { Moves R.meaning (own_at overlay.now) self.old self.new
             (reader.old, steps.old) (reader.new, steps.new)
@@ -62,7 +62,7 @@ impl Zip {
         overlay: &Overlay,
         steps: &mut Steps<L>,
     ) -> Result<(), Halt>
-        requires fresh { IsFresh (known_of (R.meaning.reads reader.old))
+        requires fresh { IsFresh (R.meaning.reads reader.old)
             (own_at overlay.now) self.old }
         ensures moves { Moves R.meaning (own_at overlay.now) self.old self.new
             (reader.old, steps.old) (reader.new, steps.new)
@@ -86,7 +86,7 @@ impl Zip {
         overlay: &Overlay,
         steps: &mut Steps<L>,
     ) -> Result<(), Halt>
-        requires stands { Stands (known_of (R.meaning.reads reader.old))
+        requires stands { Stands (R.meaning.reads reader.old)
             (own_at overlay.now) self.old }
         requires first { last_step self.old.address ≡ Some place.First }
         ensures turns { Turns R.meaning (own_at overlay.now) self.old self.new
@@ -114,7 +114,7 @@ impl Zip {
         overlay: &Overlay,
         steps: &mut Steps<L>,
     ) -> Result<Option<Spot>, Stop>
-        requires stands { Stands (known_of (R.meaning.reads reader.old))
+        requires stands { Stands (R.meaning.reads reader.old)
             (own_at overlay.now) self.old }
         requires first { last_step self.old.address ≡ Some place.First }
         ensures same { self.new ≡ self.old }
@@ -172,8 +172,8 @@ impl Zip {
     /// From a second part to the first.
     fn to_first(&mut self, alloc: Global) -> Result<(), Halt>
         requires second { last_step self.old.address ≡ Some place.Second }
-        ensures { (known own : Known) → Stands known own self.old
-            → Turned known own self.old self.new
+        ensures { (reads : ReadList) (own : Known) → Stands reads own self.old
+            → Turned reads own self.old self.new
             (prev_at self.old.root self.old.address (here self.old)) result }
     {
         let path = self.outer_path().copy(alloc)?;
@@ -181,15 +181,15 @@ impl Zip {
             alloc,
             Entry {
                 step: Step::First,
-                spot: spot_at(path),
+                spot: spot_at(path, 0),
             },
         )?)
     }
 
     /// From an element to the next greater one.
     fn to_greater(&mut self, alloc: Global) -> Result<(), Halt>
-        ensures { (known own : Known) → Stands known own self.old
-            → Turned known own self.old self.new
+        ensures { (reads : ReadList) (own : Known) → Stands reads own self.old
+            → Turned reads own self.old self.new
             (beside self.old.root least_above self.old.address) result }
     {
         let entry = self.greater(alloc)?;
@@ -198,8 +198,8 @@ impl Zip {
 
     /// From an element to the next smaller one.
     fn to_smaller(&mut self, alloc: Global) -> Result<(), Halt>
-        ensures { (known own : Known) → Stands known own self.old
-            → Turned known own self.old self.new
+        ensures { (reads : ReadList) (own : Known) → Stands reads own self.old
+            → Turned reads own self.old self.new
             (beside self.old.root greatest_below self.old.address) result }
     {
         let entry = self.smaller(alloc)?;
@@ -207,7 +207,7 @@ impl Zip {
     }
 
     fn greater(&self, alloc: Global) -> Result<Entry, Halt>
-        ensures { (known own : Known) → Stands known own self.now → Besides known own self.now
+        ensures { (reads : ReadList) (own : Known) → Stands reads own self.now → Besides reads own self.now
             (beside self.now.root least_above self.now.address) result }
     {
         match self.element() {
@@ -217,7 +217,7 @@ impl Zip {
     }
 
     fn smaller(&self, alloc: Global) -> Result<Entry, Halt>
-        ensures { (known own : Known) → Stands known own self.now → Besides known own self.now
+        ensures { (reads : ReadList) (own : Known) → Stands reads own self.now → Besides reads own self.now
             (beside self.now.root greatest_below self.now.address) result }
     {
         match self.element() {

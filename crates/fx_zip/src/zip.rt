@@ -1,14 +1,15 @@
 //! The zipper: its steps, its frames, and the names that they bind.
-ghost use Rattle.std.specs.Prelude.{◌≡◌, ◌-◌, ◌∷◌, [], IfOk, OnErr, drop, length, nat_eq, take};
-ghost use Rattle.std.specs.Option.{option_map};
+ghost use Rattle.std.specs.Prelude.{◌≡◌, ◌-◌, ◌∷◌, [], IfOk, OnErr, MatchOption, None, cond, drop, length, nat_eq, take};
+ghost use Rattle.std.specs.Option.{option_copied, option_map};
 ghost use Rattle.fx_spec.specs.Views.{spec_tree};
 ghost use Rattle.fx_spec.specs.WellShaped.{IsDescription};
 ghost use Rattle.fx_walk.specs.Places.{place_tree};
-ghost use Rattle.fx_zip.specs.Fresh.{around, around_last, left, unframed, unkept, last_step, last_set};
+ghost use Rattle.fx_view.specs.ReadList.{ReadList};
+ghost use Rattle.fx_zip.specs.Fresh.{around, around_last, left, unframed, unkept, last_step, last_set, is_element, shorter, are_told, SameOver};
 ghost use Rattle.fx_zip.specs.Parts as parts;
 ghost use Rattle.fx_zip.specs.Spots.{entered, kept_too, grown};
 ghost use Rattle.fx_zip.specs.Steps.{step_tree, turned};
-ghost use Rattle.fx_zip.specs.Trees.{here, is_settled, path_of};
+ghost use Rattle.fx_zip.specs.Trees.{here, is_settled, IsSettled, path_of};
 
 use crate::frame::{Entry, Frame, Spot};
 use crate::part::{part, part_around};
@@ -36,6 +37,8 @@ pub struct Zip {
     pub(crate) frames: Vec<Frame>,
     /// What the frames' steps bind.
     pub(crate) env: Env,
+    /// The set of the comprehension at which the zipper stands, since an element of it was left.
+    pub(crate) set: Option<TextSet>,
 }
 
 impl Model for Zip {
@@ -64,7 +67,7 @@ impl Zip {
     pub fn new(alloc: Global, base: Arc<Base>) -> Zip
         ensures root { result.root ≡ base.value.description }
         ensures address { result.address ≡ [] }
-        ensures fresh { (known own : Known) → IsFresh known own result }
+        ensures fresh { (reads : ReadList) (own : Known) → IsFresh reads own result }
     {
         Zip {
             base,
@@ -72,6 +75,7 @@ impl Zip {
             steps: Vec::new(alloc),
             frames: Vec::new(alloc),
             env: Env::new(alloc),
+            set: None,
         }
     }
 
@@ -79,7 +83,7 @@ impl Zip {
     pub fn go_top(&mut self)
         ensures root { self.new.root ≡ self.old.root }
         ensures address { self.new.address ≡ [] }
-        ensures fresh { (known own : Known) → IsFresh known own self.new }
+        ensures fresh { (reads : ReadList) (own : Known) → IsFresh reads own self.new }
     {
         self.forget();
         self.steps.truncate(0);
@@ -89,9 +93,22 @@ impl Zip {
     pub fn stored(&mut self)
         ensures root { self.new.root ≡ self.old.root }
         ensures address { self.new.address ≡ self.old.address }
-        ensures fresh { (known own : Known) → IsFresh known own self.new }
+        ensures fresh { (reads : ReadList) (own : Known) → IsFresh reads own self.new }
     {
         self.forget();
+    }
+
+    /// After own changes at none of the paths of the first reads, so many: forgets the frames from the first on whose place
+    /// more reads tell. It takes no memory.
+    pub fn edited(&mut self, untouched: u64)
+        ensures root { self.new.root ≡ self.old.root }
+        ensures address { self.new.address ≡ self.old.address }
+        ensures fresh { (reads : ReadList) (own now : Known) → SameOver (take untouched reads) own now
+            → IsFresh reads own self.old → IsFresh reads now self.new }
+    {
+        'dropping: while !self.is_told(untouched) {
+            self.shorten();
+        }
     }
 
     /// Back from a part, an element or an entry.
@@ -99,8 +116,9 @@ impl Zip {
         ensures root { self.new.root ≡ self.old.root }
         ensures address { answered (λ _. self.new.address) result ≡ go_out self.old.address }
         ensures refused { OnErr result (self.new ≡ self.old) }
-        ensures fresh { (known own : Known) → IsFresh known own self.old
-            → IsFresh known own self.new }
+        ensures fresh { (reads : ReadList) (own : Known) → IsFresh reads own self.old
+            → IsFresh reads own self.new }
+        ensures settled { IsSettled self.old → IsSettled self.new }
     {
         match self.last() {
             Some(Step::First) | Some(Step::Second) | Some(Step::Inside) | Some(Step::Elem(_)) => {
@@ -116,8 +134,9 @@ impl Zip {
         ensures root { self.new.root ≡ self.old.root }
         ensures address { answered (λ _. self.new.address) result ≡ go_up self.old.address }
         ensures refused { OnErr result (self.new ≡ self.old) }
-        ensures fresh { (known own : Known) → IsFresh known own self.old
-            → IsFresh known own self.new }
+        ensures fresh { (reads : ReadList) (own : Known) → IsFresh reads own self.old
+            → IsFresh reads own self.new }
+        ensures settled { IsSettled self.old → IsSettled self.new }
     {
         match self.last() {
             Some(Step::Down) => {
@@ -134,7 +153,7 @@ impl Zip {
     /// The place at which the zipper stands, once it was found.
     pub fn here(&self) -> Place<'_>
         ensures place { place_tree result ≡ here self.now }
-        ensures described { (known own : Known) → Stands known own self.now
+        ensures described { (reads : ReadList) (own : Known) → Stands reads own self.now
             → IsDescribedPlace (place_tree result) }
     {
         Place {
@@ -187,6 +206,13 @@ impl Zip {
         held_set(self.frames.as_slice())
     }
 
+    /// The set of the comprehension at which the zipper stands, where it's kept.
+    pub(crate) fn kept(&self) -> Option<&TextSet>
+        ensures { option_copied result ≡ self.now.set }
+    {
+        self.set.as_ref()
+    }
+
     pub(crate) fn last(&self) -> Option<&Step>
         ensures { option_map (λ step. step_tree step.now) result ≡ last_step self.now.address }
     {
@@ -235,6 +261,7 @@ impl Zip {
         ensures address { self.new.address ≡ self.old.address }
     {
         push_frame(&mut self.frames, spot.frame)?;
+        self.set = None;
         bind(alloc, &mut self.env, spot.bound)
     }
 
@@ -244,6 +271,7 @@ impl Zip {
     {
         self.frames.truncate(0);
         self.env.cut(0);
+        self.set = None;
     }
 
     /// Takes off the last step, and its frame where it has one.
@@ -252,6 +280,8 @@ impl Zip {
     {
         if self.is_settled() {
             self.drop_frame();
+        } else {
+            self.set = None;
         }
         self.drop_step();
     }
@@ -259,8 +289,25 @@ impl Zip {
     fn drop_frame(&mut self)
         ensures { self.new ≡ unframed self.old }
     {
+        let at_element = is_element(self.last());
         unbind_last(&mut self.env, self.steps.as_slice());
+        self.set = set_if(at_element, pop_frame(&mut self.frames));
+    }
+
+    /// Whether each frame's place is told by as many reads at most.
+    fn is_told(&self, reads: u64) -> bool
+        ensures { result ≡ are_told reads self.now.frames }
+    {
+        are_told(self.frames.as_slice(), reads)
+    }
+
+    /// Takes off the last frame, whatever its step.
+    fn shorten(&mut self)
+        ensures { self.new ≡ shorter self.old }
+    {
+        unbind_at(&mut self.env, self.steps.as_slice(), self.frames.len());
         pop_frame(&mut self.frames);
+        self.set = None;
     }
 
     fn drop_step(&mut self)
@@ -337,6 +384,30 @@ fn unbind_last(env: &mut Env, steps: &[Step])
     }
 }
 
+/// Gives back the name that the step before a place binds.
+fn unbind_at(env: &mut Env, steps: &[Step], place: usize)
+    ensures { env.new ≡ around_last
+        (drop (length steps.now - place) (turned step_tree steps.now)) env.old }
+{
+    if place <= steps.len() {
+        unbind_last(env, &steps[..place]);
+    } else {
+        unbind_last(env, steps);
+    }
+}
+
+/// Whether each frame's place is told by as many reads at most.
+fn are_told(frames: &[Frame], reads: u64) -> bool
+    ensures { result ≡ are_told reads (turned (λ f. f) frames.now) }
+{
+    for frame in frames {
+        if frame.reads > reads {
+            return false;
+        }
+    }
+    true
+}
+
 fn as_many(frames: &[Frame], steps: &[Step]) -> bool
     ensures { result ≡ nat_eq (length (turned (λ f. f) frames.now))
         (length (turned step_tree steps.now)) }
@@ -377,13 +448,46 @@ fn pop_step(steps: &mut Vec<Step>)
     let_go_step(last);
 }
 
-fn pop_frame(frames: &mut Vec<Frame>)
-    ensures { turned (λ f. f) frames.new.items ≡ drop 1 (turned (λ f. f) frames.old.items) }
+/// Takes off the last frame, and answers the set that it keeps.
+fn pop_frame(frames: &mut Vec<Frame>) -> Option<TextSet>
+    ensures frames { turned (λ f. f) frames.new.items
+        ≡ drop 1 (turned (λ f. f) frames.old.items) }
+    ensures set { result ≡ last_set (turned (λ f. f) frames.old.items) }
 {
     let last = frames.pop();
-    let_go_frame(last);
+    set_in(last)
+}
+
+fn set_in(last: Option<Frame>) -> Option<TextSet>
+    ensures { MatchOption last (result ≡ None) (λ f. result ≡ f.set) }
+{
+    match last {
+        Some(frame) => set_of(frame),
+        None => None,
+    }
+}
+
+fn set_of(frame: Frame) -> Option<TextSet>
+    ensures { result ≡ frame.set }
+{
+    let Frame { path: _, set, reads: _ } = frame;
+    set
+}
+
+fn set_if(holds: bool, set: Option<TextSet>) -> Option<TextSet>
+    ensures { result ≡ cond holds set None }
+{
+    if holds { set } else { None }
+}
+
+fn is_element(step: Option<&Step>) -> bool
+    ensures { result ≡ is_element (option_map (λ step. step_tree step.now) step.entry) }
+{
+    match step {
+        Some(Step::Elem(_)) => true,
+        Some(Step::First) | Some(Step::Second) | Some(Step::Inside) | Some(Step::Down) => false,
+        None => false,
+    }
 }
 
 fn let_go_step(_: Option<Step>) {}
-
-fn let_go_frame(_: Option<Frame>) {}

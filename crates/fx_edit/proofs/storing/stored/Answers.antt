@@ -1,3 +1,8 @@
+use Rattle.std.proofs.Common.{Bool, List, subst}
+use Rattle.fx_store.specs.declared.changes.Change.{Change}
+use Rattle.fx_rules.specs.Answering.{answered}
+use Rattle.fx_view.specs.Follows.{GoesBy}
+use Rattle.fx_edit.specs.Rules.{store_there}
 use Rattle.fx_store.specs.declared.node.Node.{Node}
 use Rattle.fx_store.specs.Resolve.{resolve}
 use Rattle.fx_store.specs.Rule.{◌>>=◌}
@@ -11,8 +16,9 @@ use Rattle.fx_edit.proofs.storing.stored.Goals as goal
 
 pub returns-in_err-node : goal.returns-in_err-node
 returns-in_err-node g c =
-    told_halts g.R.Reader.meaning (own_at c.args.overlay.now) c.args.reader.now (λ (n : Node). n) (edit.stored_node (spec_tree c.args.place.now.spec.now) (tree_of c.args.value.now)) (λ node. resolve c.args.place.now.path.now (edit.follows_last node) >>= edit.store_landed c.args.place.now.path.now node) c.from_residual.result c.in_err-node.field-0.0 c.from_residual.ensures.1 c.in_err-node.ensures
+    told_halts g.R.Reader.meaning (own_at c.args.overlay.now) c.args.reader.now (λ (n : Node). n) (edit.stored_node (spec_tree c.args.place.now.spec.now) (tree_of c.args.value.now)) (λ node. resolve c.args.place.now.path.now (edit.follows_last node) >>= edit.store_landed (edit.is_flag (tree_of c.args.value.now)) c.args.place.now.path.now node) c.from_residual.result c.in_err-node.field-0.0 c.from_residual.ensures.1 c.in_err-node.ensures
 
 pub returns : goal.returns
 returns g c =
-    told_goes g.R.Reader.meaning (own_at c.args.overlay.now) c.args.reader.now (λ (n : Node). n) (edit.stored_node (spec_tree c.args.place.now.spec.now) (tree_of c.args.value.now)) (λ node. resolve c.args.place.now.path.now (edit.follows_last node) >>= edit.store_landed c.args.place.now.path.now node) c.store_node.new.reader c.in_ok-node.node (split c.store_node.result) c.in_ok-node.ensures c.store_node.ensures
+    told_goes g.R.Reader.meaning (own_at c.args.overlay.now) c.args.reader.now (λ (n : Node). n) (edit.stored_node (spec_tree c.args.place.now.spec.now) (tree_of c.args.value.now)) (λ node. resolve c.args.place.now.path.now (edit.follows_last node) >>= edit.store_landed (edit.is_flag (tree_of c.args.value.now)) c.args.place.now.path.now node) c.store_node.new.reader c.in_ok-node.node (split c.store_node.result) c.in_ok-node.ensures
+    (subst (λ (flag : Bool). GoesBy g.R.Reader.meaning (answered (λ (e : List Change). e)) (own_at c.args.overlay.now) c.args.reader.now c.store_node.new.reader (store_there flag c.args.place.now.path.now c.in_ok-node.node) (split c.store_node.result)) c.is_flag.ensures c.store_node.ensures)

@@ -1,25 +1,14 @@
-use Rattle.std.proofs.Common.{◌≡◌, ◌++◌, ◌∷◌, [], refl, ◌∙◌, sym, ap, subst}
-use Rattle.std.specs.FinMap.{get}
-use Rattle.fx_view.specs.ReadList.{ReadList}
-use Rattle.fx_run.specs.Running.{ReadsFit}
-use Rattle.fx_board.specs.Board.{last_state}
-use Rattle.fx_sched.proofs.Looks.{shell_with}
+use Rattle.std.proofs.Common.{refl, sym, subst}
+use Rattle.fx_store.specs.Names.{IsPath}
+use Rattle.fx_sched.proofs.Shells.{looked_as, has_looked_as}
 use Rattle.fx_sched.proofs.moves.look.Goals as goal
 
-pub returns-in-Ok-add-clause-ok : goal.returns-in-Ok-add-clause-ok
-returns-in-Ok-add-clause-ok c =
-    let added : c.add.new.self ≡ c.args.shell.reads ++ (c.args.path, (c.in-Ok.node, c.in-Ok.position)) ∷ [] =
-    c.in-Ok-add.ensures.ok ∙ ap (λ path. c.args.shell.reads ++ (path, (c.in-Ok.node, c.in-Ok.position)) ∷ []) c.in-Ok-copy.ensures.copied in
-    let node : c.in-Ok.node ≡ get (last_state c.args.board.now) c.args.path = rw c.in-Ok.node-is at c.in-Ok.ensures.node in
-    let position = rw c.in-Ok.position-is at c.in-Ok.ensures.position in (
-      refl,
-      record {
-        log = refl;
-        valid = c.in-Ok-copy.ensures.path;
-        unread = c.requires.unread;
-        next = c.requires.next;
-        now = position;
-        shell = ap (λ reads. shell_with reads c.args.shell.next) (added ∙ ap (λ node. c.args.shell.reads ++ (c.args.path, (node, c.in-Ok.position)) ∷ []) node);
-        fit = subst (λ (r : ReadList). ReadsFit c.args.board.now.base (c.args.number, c.args.shell.next) r) (sym added) (c.requires.fit c.in-Ok.node c.in-Ok.position);
-      },
-    )
+pub returns-clause-shell : goal.returns-clause-shell
+returns-clause-shell c =
+    looked_as c.args.board.now c.args.number c.args.shell.now (c.in-Some.path.now, c.in-Some.field-0-1.now) c.len-position.result c.place.new.self c.requires.shell c.requires.ready (sym c.in-Some.ensures.read) c.len-position.ensures.len c.place.ensures
+
+pub returns-clause-ok : goal.returns-clause-ok
+returns-clause-ok c = (
+  refl,
+  has_looked_as c.args.board.now c.args.number c.args.shell.now (c.in-Some.path.now, c.in-Some.field-0-1.now) c.in_ok-path.path c.len-position.result c.place.new.self c.requires.shell c.requires.ready (sym c.in-Some.ensures.read) c.in_ok-path.ensures.copied c.len-position.ensures.len (subst IsPath (sym c.in_ok-path.ensures.copied) c.in_ok-path.ensures.path) c.place.ensures,
+)

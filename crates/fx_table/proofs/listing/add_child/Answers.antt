@@ -1,10 +1,18 @@
-use Rattle.std.proofs.Common.{[], ◌++◌, ◌∷◌, ap, sym, ◌∙◌, arith}
-use Rattle.std.specs.List.{cons_option, slice_get}
-use Rattle.fx_table.proofs.Behind.{named_child}
+use Rattle.std.proofs.Common.{map, arith}
+use Rattle.std.specs.Map.{keys_of}
+use Rattle.fx_table.specs.Lists.{items_of}
+use Rattle.fx_table.specs.Mapped.{mapped_of}
+use Rattle.fx_table.proofs.Parents.{folder_within, child_long, child_added, none_added}
 use Rattle.fx_table.proofs.listing.add_child.Goals as goal
 
-pub returns : goal.returns
-returns c =
-    c.in_ok-push.ensures.items
-    ∙ (ap (λ n. c.args.names.now.items ++ n ∷ []) c.in_ok-copy.ensures.copied
-    ∙ ap (λ o. c.args.names.now.items ++ cons_option o []) (sym (named_child c.args.dir.now c.args.path.now c.in-Some.name.now c.requires (omega (arith, c.len.ensures, c.len-2.ensures, c.if-len.false)) (c.in-Some.ensures.name ∙ ap (slice_get c.args.path.now) c.len-3.ensures.len))))
+pub add_name-requires-clause-within : goal.add_name-requires-clause-within
+add_name-requires-clause-within c = omega (arith, c.requires.len, folder_within c.args.found.now c.in-Some.i c.args.path.now c.in-Some.ensures)
+
+pub add_name-requires-clause-long : goal.add_name-requires-clause-long
+add_name-requires-clause-long c = child_long (keys_of (mapped_of c.args.found.now)) c.in-Some.i c.args.path.now c.in-Some.ensures
+
+pub returns-in_ok-add_name-in-Some : goal.returns-in_ok-add_name-in-Some
+returns-in_ok-add_name-in-Some c = child_added (keys_of (mapped_of c.args.found.now)) c.args.path.now (map items_of c.args.lists.now.items) (map items_of c.add_name.new.lists.items) c.in-Some.i c.requires.sorted c.in-Some.ensures c.in_ok-add_name-in-Some.ensures
+
+pub returns-in-None : goal.returns-in-None
+returns-in-None c = none_added (keys_of (mapped_of c.args.found.now)) c.args.path.now (map items_of c.args.lists.now.items) c.in-None.ensures

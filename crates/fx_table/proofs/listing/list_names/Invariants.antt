@@ -1,7 +1,12 @@
-use Rattle.std.proofs.Common.{◌≡◌}
+use Rattle.std.proofs.Common.{◌≡◌, map, drop}
+use Rattle.std.specs.Map.{keys_of}
+use Rattle.fx_table.specs.Listed.{names_below}
+use Rattle.fx_table.specs.Lists.{items_of}
 use Rattle.fx_table.specs.Mapped.{mapped_of}
 use Rattle.fx_table.proofs.Naming.{part_listed}
 use Rattle.fx_table.proofs.listing.list_names.Given as goal
 
 abbrev pub invariant-loop-i : goal.invariant-loop-i
-invariant-loop-i l = l.found.items ≡ part_listed (mapped_of l.fn.found.items) l.i
+invariant-loop-i l =
+    let es = mapped_of l.fn.found.items in
+    (l.found.items ≡ part_listed es l.i) × (drop l.i (map items_of l.lists.items) ≡ drop l.i (map (names_below es) (keys_of es)))

@@ -12,7 +12,7 @@ returns-in-None-clause-rule c = rule_at-none c.args.walk.now c.args.name c.args.
 
 pub returns-in-Some-File-clause-rule : goal.returns-in-Some-File-clause-rule
 returns-in-Some-File-clause-rule c =
-    rule_at-file c.args.walk.now c.args.name c.args.path c.requires c.args.node c.in-Some-File.bytes _ (c.in-Some-File.is ∙ ap Some c.in-Some-File.field-0-is) c.at_file.ensures
+    rule_at-file c.args.walk.now c.args.name c.args.path c.requires c.args.node c.in-Some-File.bytes c.in-Some-File.field-0-1 _ (c.in-Some-File.is ∙ ap Some c.in-Some-File.field-0-is) c.at_file.ensures
 
 pub returns-in-Some-Dir-clause-rule : goal.returns-in-Some-Dir-clause-rule
 returns-in-Some-Dir-clause-rule c =

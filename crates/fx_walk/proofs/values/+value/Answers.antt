@@ -1,7 +1,7 @@
 use Rattle.std.proofs.Common.{◌≡◌, Ok, ◌++◌, ◌∷◌, [], ◌+◌, length, Some, None, refl, sym, ap, subst, ◌∙◌, rules, arith, length-append}
 use Rattle.fx_expr.specs.Bindings.{bind}
 use Rattle.fx_expr.specs.Tree.{Tree}
-use Rattle.fx_expr.specs.Views.{expr_tree, tree_of}
+use Rattle.fx_expr.specs.Views.{tree_of}
 use Rattle.fx_expr.specs.declared.value.Value as values
 use Rattle.fx_expr.specs.declared.value.Value.TheVariants.{Nothing}
 use Rattle.fx_spec.specs.Describe.{Bindings, value}
@@ -37,15 +37,15 @@ value_in-returns-in-Link-clause-follows g t c =
 
 pub value_in-focus_in-requires : goal.value_in-focus_in-requires
 value_in-focus_in-requires g t c =
-    let tree : spec_tree c.args.spec.now ≡ SpecTree.focus (expr_tree c.in-Focus.text) (spec_tree c.deref.result.now) = search (rules, the_lemmas) in
-    let described : HasScope c.args.env.now (SpecTree.focus (expr_tree c.in-Focus.text) (spec_tree c.deref.result.now)) = subst (HasScope c.args.env.now) tree c.requires.described in
+    let tree : spec_tree c.args.spec.now ≡ SpecTree.focus c.in-Focus.text (spec_tree c.deref.result.now) = search (rules, the_lemmas) in
+    let described : HasScope c.args.env.now (SpecTree.focus c.in-Focus.text (spec_tree c.deref.result.now)) = subst (HasScope c.args.env.now) tree c.requires.described in
     let smaller : size (spec_tree c.args.spec.now) ≡ 1 + size (spec_tree c.deref.result.now) = ap size tree in
     search rules
 
 pub value_in-returns-in-Focus-clause-follows : goal.value_in-returns-in-Focus-clause-follows
 value_in-returns-in-Focus-clause-follows g t c =
-    let tree : spec_tree c.args.spec.now ≡ SpecTree.focus (expr_tree c.in-Focus.text) (spec_tree c.deref.result.now) = search (rules, the_lemmas) in
-    of_tree g.R.Reader.meaning (own_at c.args.overlay.now) c.args.path.now c.args.env.now (c.args.reader.now, c.args.steps.now) (c.focus_in.new.reader, c.focus_in.new.steps) c.focus_in.result (spec_tree c.args.spec.now) (SpecTree.focus (expr_tree c.in-Focus.text) (spec_tree c.deref.result.now)) tree c.focus_in.ensures.follows
+    let tree : spec_tree c.args.spec.now ≡ SpecTree.focus c.in-Focus.text (spec_tree c.deref.result.now) = search (rules, the_lemmas) in
+    of_tree g.R.Reader.meaning (own_at c.args.overlay.now) c.args.path.now c.args.env.now (c.args.reader.now, c.args.steps.now) (c.focus_in.new.reader, c.focus_in.new.steps) c.focus_in.result (spec_tree c.args.spec.now) (SpecTree.focus c.in-Focus.text (spec_tree c.deref.result.now)) tree c.focus_in.ensures.follows
 
 pub value_in-pair_in-requires : goal.value_in-pair_in-requires
 value_in-pair_in-requires g t c =
@@ -61,15 +61,15 @@ value_in-returns-in-Pair-clause-follows g t c =
 
 pub value_in-table_in-requires : goal.value_in-table_in-requires
 value_in-table_in-requires g t c =
-    let tree : spec_tree c.args.spec.now ≡ SpecTree.comp (spec_tree c.deref-in-Comp.result.now) c.in-Comp.name (expr_tree c.in-Comp.set) = search (rules, the_lemmas) in
-    let described : HasScope c.args.env.now (SpecTree.comp (spec_tree c.deref-in-Comp.result.now) c.in-Comp.name (expr_tree c.in-Comp.set)) = subst (HasScope c.args.env.now) tree c.requires.described in
+    let tree : spec_tree c.args.spec.now ≡ SpecTree.comp (spec_tree c.deref-in-Comp.result.now) c.in-Comp.name c.in-Comp.set = search (rules, the_lemmas) in
+    let described : HasScope c.args.env.now (SpecTree.comp (spec_tree c.deref-in-Comp.result.now) c.in-Comp.name c.in-Comp.set) = subst (HasScope c.args.env.now) tree c.requires.described in
     let smaller : size (spec_tree c.args.spec.now) ≡ 1 + size (spec_tree c.deref-in-Comp.result.now) = ap size tree in
     search rules
 
 pub value_in-returns-in-Comp-clause-follows : goal.value_in-returns-in-Comp-clause-follows
 value_in-returns-in-Comp-clause-follows g t c =
-    let tree : spec_tree c.args.spec.now ≡ SpecTree.comp (spec_tree c.deref-in-Comp.result.now) c.in-Comp.name (expr_tree c.in-Comp.set) = search (rules, the_lemmas) in
-    of_tree g.R.Reader.meaning (own_at c.args.overlay.now) c.args.path.now c.args.env.now (c.args.reader.now, c.args.steps.now) (c.table_in.new.reader, c.table_in.new.steps) c.table_in.result (spec_tree c.args.spec.now) (SpecTree.comp (spec_tree c.deref-in-Comp.result.now) c.in-Comp.name (expr_tree c.in-Comp.set)) tree c.table_in.ensures.follows
+    let tree : spec_tree c.args.spec.now ≡ SpecTree.comp (spec_tree c.deref-in-Comp.result.now) c.in-Comp.name c.in-Comp.set = search (rules, the_lemmas) in
+    of_tree g.R.Reader.meaning (own_at c.args.overlay.now) c.args.path.now c.args.env.now (c.args.reader.now, c.args.steps.now) (c.table_in.new.reader, c.table_in.new.steps) c.table_in.result (spec_tree c.args.spec.now) (SpecTree.comp (spec_tree c.deref-in-Comp.result.now) c.in-Comp.name c.in-Comp.set) tree c.table_in.ensures.follows
 
 pub value_in-option_in-requires : goal.value_in-option_in-requires
 value_in-option_in-requires g t c =
@@ -85,41 +85,41 @@ value_in-returns-in-Opt-clause-follows g t c =
 
 pub value_in-truth_of-requires : goal.value_in-truth_of-requires
 value_in-truth_of-requires g t c =
-    let tree : spec_tree c.args.spec.now ≡ SpecTree.pred (expr_tree c.in-Pred.test) = search (rules, the_lemmas) in
-    pred_test c.args.env.now (expr_tree c.in-Pred.test) (subst (HasScope c.args.env.now) tree c.requires.described)
+    let tree : spec_tree c.args.spec.now ≡ SpecTree.pred c.in-Pred.test = search (rules, the_lemmas) in
+    pred_test c.args.env.now c.in-Pred.test (subst (HasScope c.args.env.now) tree c.requires.described)
 
 pub value_in-returns-in_err-truth_of-in-Pred-clause-follows : goal.value_in-returns-in_err-truth_of-in-Pred-clause-follows
 value_in-returns-in_err-truth_of-in-Pred-clause-follows g t c =
-    let tree : spec_tree c.args.spec.now ≡ SpecTree.pred (expr_tree c.in-Pred.test) = search (rules, the_lemmas) in
-    of_tree g.R.Reader.meaning (own_at c.args.overlay.now) c.args.path.now c.args.env.now (c.args.reader.now, c.args.steps.now) (c.args.reader.now, c.truth_of.new.steps) c.from_residual.result (spec_tree c.args.spec.now) (SpecTree.pred (expr_tree c.in-Pred.test)) tree
-    (pred_refused g.R.Reader.meaning (own_at c.args.overlay.now) c.args.path.now c.args.env.now c.args.reader.now c.args.steps.now c.truth_of.new.steps c.in_err-truth_of-in-Pred.ensures.tick (expr_tree c.in-Pred.test) c.from_residual.result c.from_residual.ensures.1)
+    let tree : spec_tree c.args.spec.now ≡ SpecTree.pred c.in-Pred.test = search (rules, the_lemmas) in
+    of_tree g.R.Reader.meaning (own_at c.args.overlay.now) c.args.path.now c.args.env.now (c.args.reader.now, c.args.steps.now) (c.args.reader.now, c.truth_of.new.steps) c.from_residual.result (spec_tree c.args.spec.now) (SpecTree.pred c.in-Pred.test) tree
+    (pred_refused g.R.Reader.meaning (own_at c.args.overlay.now) c.args.path.now c.args.env.now c.args.reader.now c.args.steps.now c.truth_of.new.steps c.in_err-truth_of-in-Pred.ensures.tick c.in-Pred.test c.from_residual.result c.from_residual.ensures.1)
 
 pub value_in-returns-in_ok-truth_of-in-Pred-clause-follows : goal.value_in-returns-in_ok-truth_of-in-Pred-clause-follows
 value_in-returns-in_ok-truth_of-in-Pred-clause-follows g t c =
-    let tree : spec_tree c.args.spec.now ≡ SpecTree.pred (expr_tree c.in-Pred.test) = search (rules, the_lemmas) in
-    of_tree g.R.Reader.meaning (own_at c.args.overlay.now) c.args.path.now c.args.env.now (c.args.reader.now, c.args.steps.now) (c.args.reader.now, c.truth_of.new.steps) (Ok c.in_ok-truth_of-in-Pred.field-0) (spec_tree c.args.spec.now) (SpecTree.pred (expr_tree c.in-Pred.test)) tree
-    (pred_answers g.R.Reader.meaning (own_at c.args.overlay.now) c.args.path.now c.args.env.now c.args.reader.now c.args.steps.now c.truth_of.new.steps c.in_ok-truth_of-in-Pred.ensures.tick (expr_tree c.in-Pred.test) c.in_ok-truth_of-in-Pred.field-0 c.in_ok-truth_of-in-Pred.ensures.truth)
+    let tree : spec_tree c.args.spec.now ≡ SpecTree.pred c.in-Pred.test = search (rules, the_lemmas) in
+    of_tree g.R.Reader.meaning (own_at c.args.overlay.now) c.args.path.now c.args.env.now (c.args.reader.now, c.args.steps.now) (c.args.reader.now, c.truth_of.new.steps) (Ok c.in_ok-truth_of-in-Pred.field-0) (spec_tree c.args.spec.now) (SpecTree.pred c.in-Pred.test) tree
+    (pred_answers g.R.Reader.meaning (own_at c.args.overlay.now) c.args.path.now c.args.env.now c.args.reader.now c.args.steps.now c.truth_of.new.steps c.in_ok-truth_of-in-Pred.ensures.tick c.in-Pred.test c.in_ok-truth_of-in-Pred.field-0 c.in_ok-truth_of-in-Pred.ensures.truth)
 
 pub focus_in-inner_path-requires : goal.focus_in-inner_path-requires
-focus_in-inner_path-requires g t c = focus_text c.args.env.now (expr_tree c.args.text.now) (spec_tree c.args.part.now) c.requires.described
+focus_in-inner_path-requires g t c = focus_text c.args.env.now c.args.text.now (spec_tree c.args.part.now) c.requires.described
 
 pub focus_in-returns-in_err-inner-clause-follows : goal.focus_in-returns-in_err-inner-clause-follows
 focus_in-returns-in_err-inner-clause-follows g t c =
-    focus_refused g.R.Reader.meaning (own_at c.args.overlay.now) c.args.path.now c.args.env.now c.args.reader.now c.args.steps.now c.inner_path.new.steps c.in_err-inner.ensures.tick (expr_tree c.args.text.now) (spec_tree c.args.part.now) c.from_residual.result c.from_residual.ensures.1
+    focus_refused g.R.Reader.meaning (own_at c.args.overlay.now) c.args.path.now c.args.env.now c.args.reader.now c.args.steps.now c.inner_path.new.steps c.in_err-inner.ensures.tick c.args.text.now (spec_tree c.args.part.now) c.from_residual.result c.from_residual.ensures.1
 
 pub focus_in-value_in-requires : goal.focus_in-value_in-requires
 focus_in-value_in-requires g t c =
-    let part : HasScope c.args.env.now (spec_tree c.args.part.now) = focus_part c.args.env.now (expr_tree c.args.text.now) (spec_tree c.args.part.now) c.requires.described in
+    let part : HasScope c.args.env.now (spec_tree c.args.part.now) = focus_part c.args.env.now c.args.text.now (spec_tree c.args.part.now) c.requires.described in
     search rules
 
 pub focus_in-returns-in-Some-clause-follows : goal.focus_in-returns-in-Some-clause-follows
 focus_in-returns-in-Some-clause-follows g t c =
-    focus_follows g.R.Reader.meaning (own_at c.args.overlay.now) c.args.path.now c.args.env.now c.args.reader.now c.args.steps.now c.inner_path.new.steps c.in_ok-inner.ensures.tick (expr_tree c.args.text.now) (spec_tree c.args.part.now) c.in-Some.inner (c.value_in.new.reader, c.value_in.new.steps) c.value_in.result
+    focus_follows g.R.Reader.meaning (own_at c.args.overlay.now) c.args.path.now c.args.env.now c.args.reader.now c.args.steps.now c.inner_path.new.steps c.in_ok-inner.ensures.tick c.args.text.now (spec_tree c.args.part.now) c.in-Some.inner (c.value_in.new.reader, c.value_in.new.steps) c.value_in.result
     (sym c.in-Some.is ∙ c.in_ok-inner.ensures.path) c.value_in.ensures.follows
 
 pub focus_in-returns-in-None-clause-follows : goal.focus_in-returns-in-None-clause-follows
 focus_in-returns-in-None-clause-follows g t c =
-    focus_none g.R.Reader.meaning (own_at c.args.overlay.now) c.args.path.now c.args.env.now c.args.reader.now c.args.steps.now c.inner_path.new.steps c.in_ok-inner.ensures.tick (expr_tree c.args.text.now) (spec_tree c.args.part.now) (sym c.in-None.is ∙ c.in_ok-inner.ensures.path)
+    focus_none g.R.Reader.meaning (own_at c.args.overlay.now) c.args.path.now c.args.env.now c.args.reader.now c.args.steps.now c.inner_path.new.steps c.in_ok-inner.ensures.tick c.args.text.now (spec_tree c.args.part.now) (sym c.in-None.is ∙ c.in_ok-inner.ensures.path)
 
 pub pair_in-value_in-requires : goal.pair_in-value_in-requires
 pair_in-value_in-requires g t c =
@@ -178,25 +178,25 @@ second_in-returns-clause-follows g t c =
     c.in_ok-bind_value.ensures.bound c.value_in-second.ensures.follows)
 
 pub table_in-set_of-requires : goal.table_in-set_of-requires
-table_in-set_of-requires g t c = comp_set c.args.env.now (spec_tree c.args.part.now) c.args.name.now (expr_tree c.args.set.now) c.requires.described
+table_in-set_of-requires g t c = comp_set c.args.env.now (spec_tree c.args.part.now) c.args.name.now c.args.set.now c.requires.described
 
 pub table_in-returns-in_err-set-clause-follows : goal.table_in-returns-in_err-set-clause-follows
 table_in-returns-in_err-set-clause-follows g t c =
-    table_refused g.R.Reader.meaning (own_at c.args.overlay.now) c.args.path.now c.args.env.now c.args.reader.now c.args.steps.now c.set_of.new.steps c.in_err-set.ensures.tick (spec_tree c.args.part.now) c.args.name.now (expr_tree c.args.set.now) c.from_residual.result c.from_residual.ensures.1
+    table_refused g.R.Reader.meaning (own_at c.args.overlay.now) c.args.path.now c.args.env.now c.args.reader.now c.args.steps.now c.set_of.new.steps c.in_err-set.ensures.tick (spec_tree c.args.part.now) c.args.name.now c.args.set.now c.from_residual.result c.from_residual.ensures.1
 
 pub table_in-rows_in-requires : goal.table_in-rows_in-requires
 table_in-rows_in-requires g t c =
-    let part : HasTextScope c.args.env.now c.args.name.now (spec_tree c.args.part.now) = comp_part c.args.env.now (spec_tree c.args.part.now) c.args.name.now (expr_tree c.args.set.now) c.requires.described in
+    let part : HasTextScope c.args.env.now c.args.name.now (spec_tree c.args.part.now) = comp_part c.args.env.now (spec_tree c.args.part.now) c.args.name.now c.args.set.now c.requires.described in
     search rules
 
 pub table_in-returns-in-Some-clause-follows : goal.table_in-returns-in-Some-clause-follows
 table_in-returns-in-Some-clause-follows g t c =
-    table_follows g.R.Reader.meaning (own_at c.args.overlay.now) c.args.path.now c.args.env.now c.args.reader.now c.args.steps.now c.set_of.new.steps c.in_ok-set.ensures.tick (spec_tree c.args.part.now) c.args.name.now (expr_tree c.args.set.now) c.in-Some.set (c.rows_in.new.reader, c.rows_in.new.steps) c.rows_in.result
+    table_follows g.R.Reader.meaning (own_at c.args.overlay.now) c.args.path.now c.args.env.now c.args.reader.now c.args.steps.now c.set_of.new.steps c.in_ok-set.ensures.tick (spec_tree c.args.part.now) c.args.name.now c.args.set.now c.in-Some.set (c.rows_in.new.reader, c.rows_in.new.steps) c.rows_in.result
     (sym c.in-Some.is ∙ c.in_ok-set.ensures.set) c.rows_in.ensures.follows
 
 pub table_in-returns-in-None-clause-follows : goal.table_in-returns-in-None-clause-follows
 table_in-returns-in-None-clause-follows g t c =
-    table_none g.R.Reader.meaning (own_at c.args.overlay.now) c.args.path.now c.args.env.now c.args.reader.now c.args.steps.now c.set_of.new.steps c.in_ok-set.ensures.tick (spec_tree c.args.part.now) c.args.name.now (expr_tree c.args.set.now) (sym c.in-None.is ∙ c.in_ok-set.ensures.set)
+    table_none g.R.Reader.meaning (own_at c.args.overlay.now) c.args.path.now c.args.env.now c.args.reader.now c.args.steps.now c.set_of.new.steps c.in_ok-set.ensures.tick (spec_tree c.args.part.now) c.args.name.now c.args.set.now (sym c.in-None.is ∙ c.in_ok-set.ensures.set)
 
 pub rows_in-loop-i-init : goal.rows_in-loop-i-init
 rows_in-loop-i-init g t c = at_first g.R.Reader.meaning (own_at c.args.overlay.now) c.args.path.now c.args.env.now c.args.name.now (spec_tree c.args.part.now) c.args.set.now (c.args.reader.now, c.args.steps.now) c.new-values.result.items c.new-values.ensures.items

@@ -1,7 +1,7 @@
 use Rattle.std.proofs.Common.{◌≡◌, Ok, Err, refl, sym, ap, rules}
 use Rattle.fx_store.specs.Rule.{Answer}
 use Rattle.fx_expr.specs.Eval.{eval_of}
-use Rattle.fx_expr.specs.Views.{expr_tree, tree_of}
+use Rattle.fx_expr.specs.Views.{tree_of}
 use Rattle.fx_spec.specs.declared.refusal.Refusal.{Refusal}
 use Rattle.fx_spec.specs.declared.spec.Spec.{the_lemmas}
 use Rattle.fx_spec.specs.Move.{fetched}
@@ -32,18 +32,18 @@ returns-in-Link-clause-follows g c =
 
 pub returns-in-Focus-clause-follows : goal.returns-in-Focus-clause-follows
 returns-in-Focus-clause-follows g c =
-    let tree : spec_tree c.args.spec.now ≡ SpecTree.focus (expr_tree c.in-Focus.text) (spec_tree c.in-Focus.field-1.value) = search (rules, the_lemmas) in
-    evaluated_follows g.R.Reader.meaning (own_at c.args.overlay.now) c.args.reader.now c.args.steps.now c.evaluate.new.steps (eval_of c.args.env.now (expr_tree c.in-Focus.text)) (fetched c.args.path.now c.args.env.now (spec_tree c.args.spec.now)) c.evaluate.result (ap (fetched c.args.path.now c.args.env.now) tree) c.evaluate.ensures.value c.evaluate.ensures.tick
+    let tree : spec_tree c.args.spec.now ≡ SpecTree.focus c.in-Focus.text (spec_tree c.in-Focus.field-1.value) = search (rules, the_lemmas) in
+    evaluated_follows g.R.Reader.meaning (own_at c.args.overlay.now) c.args.reader.now c.args.steps.now c.evaluate.new.steps (eval_of c.args.env.now c.in-Focus.text) (fetched c.args.path.now c.args.env.now (spec_tree c.args.spec.now)) c.evaluate.result (ap (fetched c.args.path.now c.args.env.now) tree) c.evaluate.ensures.value c.evaluate.ensures.tick
 
 pub returns-in-Comp-clause-follows : goal.returns-in-Comp-clause-follows
 returns-in-Comp-clause-follows g c =
-    let tree : spec_tree c.args.spec.now ≡ SpecTree.comp (spec_tree c.in-Comp.field-0.value) c.in-Comp.field-1 (expr_tree c.in-Comp.set) = search (rules, the_lemmas) in
-    evaluated_follows g.R.Reader.meaning (own_at c.args.overlay.now) c.args.reader.now c.args.steps.now c.evaluate-in-Comp.new.steps (eval_of c.args.env.now (expr_tree c.in-Comp.set)) (fetched c.args.path.now c.args.env.now (spec_tree c.args.spec.now)) c.evaluate-in-Comp.result (ap (fetched c.args.path.now c.args.env.now) tree) c.evaluate-in-Comp.ensures.value c.evaluate-in-Comp.ensures.tick
+    let tree : spec_tree c.args.spec.now ≡ SpecTree.comp (spec_tree c.in-Comp.field-0.value) c.in-Comp.field-1 c.in-Comp.set = search (rules, the_lemmas) in
+    evaluated_follows g.R.Reader.meaning (own_at c.args.overlay.now) c.args.reader.now c.args.steps.now c.evaluate-in-Comp.new.steps (eval_of c.args.env.now c.in-Comp.set) (fetched c.args.path.now c.args.env.now (spec_tree c.args.spec.now)) c.evaluate-in-Comp.result (ap (fetched c.args.path.now c.args.env.now) tree) c.evaluate-in-Comp.ensures.value c.evaluate-in-Comp.ensures.tick
 
 pub returns-in-Pred-clause-follows : goal.returns-in-Pred-clause-follows
 returns-in-Pred-clause-follows g c =
-    let tree : spec_tree c.args.spec.now ≡ SpecTree.pred (expr_tree c.in-Pred.test) = search (rules, the_lemmas) in
-    evaluated_follows g.R.Reader.meaning (own_at c.args.overlay.now) c.args.reader.now c.args.steps.now c.evaluate-in-Pred.new.steps (eval_of c.args.env.now (expr_tree c.in-Pred.test)) (fetched c.args.path.now c.args.env.now (spec_tree c.args.spec.now)) c.evaluate-in-Pred.result (ap (fetched c.args.path.now c.args.env.now) tree) c.evaluate-in-Pred.ensures.value c.evaluate-in-Pred.ensures.tick
+    let tree : spec_tree c.args.spec.now ≡ SpecTree.pred c.in-Pred.test = search (rules, the_lemmas) in
+    evaluated_follows g.R.Reader.meaning (own_at c.args.overlay.now) c.args.reader.now c.args.steps.now c.evaluate-in-Pred.new.steps (eval_of c.args.env.now c.in-Pred.test) (fetched c.args.path.now c.args.env.now (spec_tree c.args.spec.now)) c.evaluate-in-Pred.result (ap (fetched c.args.path.now c.args.env.now) tree) c.evaluate-in-Pred.ensures.value c.evaluate-in-Pred.ensures.tick
 
 pub returns-in-Opt-clause-follows : goal.returns-in-Opt-clause-follows
 returns-in-Opt-clause-follows g c =

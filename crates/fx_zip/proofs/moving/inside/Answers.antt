@@ -1,3 +1,4 @@
+use Rattle.std.proofs.Common.{length, ap}
 use Rattle.std.proofs.Common.{refl, ◌∙◌}
 use Rattle.fx_view.specs.Own.{own_at}
 use Rattle.fx_zip.proofs.Consulting.{entry_stops, entry_memory, entry_inside, entry_lacks}
@@ -18,7 +19,7 @@ returns-in_err-copy g c = record {
 pub returns-in_ok-copy : goal.returns-in_ok-copy
 returns-in_ok-copy g c = record {
   enters = λ env part n.
-      entry_inside g.R.Reader.meaning (own_at c.args.overlay.now) c.args.path.now env (c.args.reader.now, n) (c.exists.new.reader, n) part c.in_ok-exists.field-0 _ c.if-branch.true refl (c.spot_at.ensures.path ∙ c.in_ok-copy.ensures.copied) c.spot_at.ensures.bound (c.in_ok-exists.ensures.follows n);
+      entry_inside g.R.Reader.meaning (own_at c.args.overlay.now) c.args.path.now env (c.args.reader.now, n) (c.exists.new.reader, n) part c.in_ok-exists.field-0 _ c.if-branch.true refl (c.spot_at.ensures.path ∙ c.in_ok-copy.ensures.copied) c.spot_at.ensures.bound (c.spot_at.ensures.reads ∙ c.len.ensures.len ∙ ap length c.reads.ensures) (c.in_ok-exists.ensures.follows n);
 }
 
 pub returns-else-branch : goal.returns-else-branch

@@ -2,7 +2,6 @@ use Rattle.std.proofs.Common.{◌≡◌, Ok, refl}
 use Rattle.std.specs.Option.{option_copied}
 use Rattle.fx_expr.specs.Eval.{eval_of}
 use Rattle.fx_expr.specs.Sets.{least}
-use Rattle.fx_expr.specs.Views.{expr_tree}
 use Rattle.fx_spec.specs.Move.{go_into}
 use Rattle.fx_spec.specs.SpecTree.{SpecTree}
 use Rattle.fx_zip.specs.Telling.{set_answer}
@@ -13,6 +12,6 @@ use Rattle.fx_zip.proofs.moving.least.Goals as goal
 pub returns : goal.returns
 returns g c = record {
   enters = λ part.
-      let set : set_answer (eval_of c.args.env.now (expr_tree c.args.set.now)) ≡ Ok c.in_ok-set.set = cc (c.in_ok-set.ensures.set) in
-      chosen_enters c.args.path.now c.args.env.now (λ a. go_into a c.args.path.now c.args.env.now (SpecTree.comp part c.args.name.now (expr_tree c.args.set.now))) (SpecTree.comp part c.args.name.now (expr_tree c.args.set.now)) part c.args.name.now (expr_tree c.args.set.now) refl least (λ a. refl) c.args.steps.now c.set_of.new.steps c.in_ok-set.ensures.tick c.in_ok-set.set set (has_least c.in_ok-set.set) (option_copied c.first.result) c.first.ensures c.chosen.result c.chosen.ensures;
+      let set : set_answer (eval_of c.args.env.now c.args.set.now) ≡ Ok c.in_ok-set.set = cc (c.in_ok-set.ensures.set) in
+      chosen_enters c.args.path.now c.args.env.now (λ a. go_into a c.args.path.now c.args.env.now (SpecTree.comp part c.args.name.now c.args.set.now)) (SpecTree.comp part c.args.name.now c.args.set.now) part c.args.name.now c.args.set.now refl least (λ a. refl) c.args.steps.now c.set_again.new.steps c.in_ok-set.ensures.tick c.in_ok-set.set set (has_least c.in_ok-set.set) (option_copied c.first.result) c.first.ensures c.chosen.result c.chosen.ensures;
 }

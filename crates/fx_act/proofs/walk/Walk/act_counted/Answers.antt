@@ -46,7 +46,7 @@ pub returns-in_ok-go_out-in-Out : goal.returns-in_ok-go_out-in-Out
 returns-in_ok-go_out-in-Out g c = record {
   acts =
       acts_of g.R.Reader.meaning c.args.self.now (moved c.args.self.now c.go_out.new.self) c.args.reader.now c.args.reader.now c.args.variables.now (act_tree c.args.act.now) ActTree.out (Ok tt) (ap act_tree c.in-Out.is)
-      (told_acts g.R.Reader.meaning c.args.self.now c.args.reader.now (go_out c.args.self.now.zip.address) c.go_out.new.self c.in_ok-go_out-in-Out.ensures.address c.in_ok-go_out-in-Out.ensures.root (c.in_ok-go_out-in-Out.ensures.fresh (known_of (g.R.Reader.meaning.reads c.args.reader.now)) (own_at c.args.self.now.overlay) c.requires.fresh));
+      (told_acts g.R.Reader.meaning c.args.self.now c.args.reader.now (go_out c.args.self.now.zip.address) c.go_out.new.self c.in_ok-go_out-in-Out.ensures.address c.in_ok-go_out-in-Out.ensures.root (c.in_ok-go_out-in-Out.ensures.fresh (g.R.Reader.meaning.reads c.args.reader.now) (own_at c.args.self.now.overlay) c.requires.fresh));
 }
 
 pub returns-in_err-go_up-in-Up : goal.returns-in_err-go_up-in-Up
@@ -60,12 +60,12 @@ pub returns-in_ok-go_up-in-Up : goal.returns-in_ok-go_up-in-Up
 returns-in_ok-go_up-in-Up g c = record {
   acts =
       acts_of g.R.Reader.meaning c.args.self.now (moved c.args.self.now c.go_up.new.self) c.args.reader.now c.args.reader.now c.args.variables.now (act_tree c.args.act.now) ActTree.up (Ok tt) (ap act_tree c.in-Up.is)
-      (told_acts g.R.Reader.meaning c.args.self.now c.args.reader.now (go_up c.args.self.now.zip.address) c.go_up.new.self c.in_ok-go_up-in-Up.ensures.address c.in_ok-go_up-in-Up.ensures.root (c.in_ok-go_up-in-Up.ensures.fresh (known_of (g.R.Reader.meaning.reads c.args.reader.now)) (own_at c.args.self.now.overlay) c.requires.fresh));
+      (told_acts g.R.Reader.meaning c.args.self.now c.args.reader.now (go_up c.args.self.now.zip.address) c.go_up.new.self c.in_ok-go_up-in-Up.ensures.address c.in_ok-go_up-in-Up.ensures.root (c.in_ok-go_up-in-Up.ensures.fresh (g.R.Reader.meaning.reads c.args.reader.now) (own_at c.args.self.now.overlay) c.requires.fresh));
 }
 
 pub returns-in-Top : goal.returns-in-Top
 returns-in-Top g c = record {
   acts =
       acts_of g.R.Reader.meaning c.args.self.now (moved c.args.self.now c.go_top.new.self) c.args.reader.now c.args.reader.now c.args.variables.now (act_tree c.args.act.now) ActTree.top (Ok tt) (ap act_tree c.in-Top.is)
-      (told_acts g.R.Reader.meaning c.args.self.now c.args.reader.now (Ok []) c.go_top.new.self (ap (λ a. Ok a) c.go_top.ensures.address) c.go_top.ensures.root (c.go_top.ensures.fresh (known_of (g.R.Reader.meaning.reads c.args.reader.now)) (own_at c.args.self.now.overlay)));
+      (told_acts g.R.Reader.meaning c.args.self.now c.args.reader.now (Ok []) c.go_top.new.self (ap (λ a. Ok a) c.go_top.ensures.address) c.go_top.ensures.root (c.go_top.ensures.fresh (g.R.Reader.meaning.reads c.args.reader.now) (own_at c.args.self.now.overlay)));
 }

@@ -20,5 +20,5 @@ pub returns : goal.returns
 returns g c = record {
   acts =
       edited_acts g.R.Reader.meaning c.args.self.now c.find.new.self (c.args.reader.now, c.args.steps.now) (c.find.new.reader, c.find.new.steps) edit.create_at c.in_ok-find.ensures c.create.new.reader c.create.new.overlay (place_tree c.here.result) c.here.ensures.place c.stored.new.self c.stored.ensures.root c.stored.ensures.address
-      (c.stored.ensures.fresh (known_of (g.R.Reader.meaning.reads c.create.new.reader)) (own_at c.create.new.overlay)) c.in_ok-create.ensures;
+      (c.stored.ensures.fresh (g.R.Reader.meaning.reads c.create.new.reader) (own_at c.create.new.overlay)) c.in_ok-create.ensures;
 }

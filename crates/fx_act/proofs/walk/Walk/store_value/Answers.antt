@@ -21,5 +21,5 @@ pub returns : goal.returns
 returns g c = record {
   acts =
       edited_acts g.R.Reader.meaning c.args.self.now c.find.new.self (c.args.reader.now, c.args.steps.now) (c.find.new.reader, c.find.new.steps) (edit.store_at (tree_of c.args.value.now)) c.in_ok-find.ensures c.store.new.reader c.store.new.overlay (place_tree c.here.result) c.here.ensures.place c.stored.new.self c.stored.ensures.root c.stored.ensures.address
-      (c.stored.ensures.fresh (known_of (g.R.Reader.meaning.reads c.store.new.reader)) (own_at c.store.new.overlay)) c.in_ok-store.ensures;
+      (c.stored.ensures.fresh (g.R.Reader.meaning.reads c.store.new.reader) (own_at c.store.new.overlay)) c.in_ok-store.ensures;
 }

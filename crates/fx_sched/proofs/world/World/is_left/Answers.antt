@@ -8,4 +8,4 @@ use Rattle.fx_sched.proofs.world.World.is_left.Goals as goal
 pub returns : goal.returns
 returns c =
     left_is c.args.self.now c.args.shell c.next.result c.count.result c.next.ensures
-    (count_is c.self.inside.base.value c.self.inside.board c.self.inside.shells.items c.deref.result.now c.args.shell c.count.result c.self.invariant c.deref.ensures c.count.ensures ∙ ap (λ (r : Running). count_of r.base.plan c.args.shell) c.self.view_is)
+    (count_is c.self.inside.board c.base.result.now c.args.shell c.count.result c.base.ensures.base c.count.ensures ∙ ap (λ (r : Running). count_of r.base.plan c.args.shell) c.self.view_is)

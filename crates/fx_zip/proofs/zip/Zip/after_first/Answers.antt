@@ -18,21 +18,21 @@ after_first-requires g c =
     let rooted : spec_tree c.spec.result.now ≡ c.args.self.now.root = search rules in
     let around : spec_tree c.part_around-around.result.now ≡ part c.args.self.now.root (drop 1 c.args.self.now.address) = c.part_around-around.ensures ∙ ap (λ (xs : List Step). part (spec_tree c.spec.result.now) (drop 1 (turned step_tree xs))) c.as_slice-2.ensures.value ∙ ap (λ r. part r (drop 1 (turned step_tree c.self.inside.steps.items))) rooted ∙ ap (λ (z : ZipTree). part c.args.self.now.root (drop 1 z.address)) c.self.view_is in
     let described : IsDescription [] c.args.self.now.root = subst (IsDescription []) rooted (subst (IsDescription []) (sym c.spec.ensures.tree) c.spec.ensures.checked.shapes) in
-    record { described = first_scope (known_of (g.R.Reader.meaning.reads c.args.reader.now)) (own_at c.args.overlay.now) c.args.self.now c.requires.stands c.requires.first (spec_tree c.part_around-around.result.now) around _ _ _ c.in-Some.ensures described c.self.inside.env (ap (λ (z : ZipTree). z.env) c.self.view_is) }
+    record { described = first_scope (g.R.Reader.meaning.reads c.args.reader.now) (own_at c.args.overlay.now) c.args.self.now c.requires.stands c.requires.first (spec_tree c.part_around-around.result.now) around _ _ _ c.in-Some.ensures described c.self.inside.env (ap (λ (z : ZipTree). z.env) c.self.view_is) }
 
 pub returns-in-Some-clause-leads : goal.returns-in-Some-clause-leads
 returns-in-Some-clause-leads g c =
     let rooted : spec_tree c.spec.result.now ≡ c.args.self.now.root = search rules in
     let around : spec_tree c.part_around-around.result.now ≡ part c.args.self.now.root (drop 1 c.args.self.now.address) = c.part_around-around.ensures ∙ ap (λ (xs : List Step). part (spec_tree c.spec.result.now) (drop 1 (turned step_tree xs))) c.as_slice-2.ensures.value ∙ ap (λ r. part r (drop 1 (turned step_tree c.self.inside.steps.items))) rooted ∙ ap (λ (z : ZipTree). part c.args.self.now.root (drop 1 z.address)) c.self.view_is in
     let path : c.path_around-path.result.now ≡ path_of (drop 1 c.args.self.now.frames) = c.path_around-path.ensures ∙ ap (λ (fs : List Frame). path_of (drop 1 (turned (λ f. f) fs))) c.as_slice.ensures.value ∙ ap (λ (z : ZipTree). path_of (drop 1 z.frames)) c.self.view_is in
-    first_leads_on (known_of (g.R.Reader.meaning.reads c.args.reader.now)) (own_at c.args.overlay.now) c.args.self.now c.requires.stands c.requires.first (spec_tree c.part_around-around.result.now) around _ _ _ c.in-Some.ensures g.R.Reader.meaning (c.args.reader.now, c.args.steps.now) (c.after_first.new.reader, c.after_first.new.steps) c.after_first.result c.path_around-path.result.now c.self.inside.env path (ap (λ (z : ZipTree). z.env) c.self.view_is) c.after_first.ensures.follows c.after_first.ensures.spot
+    first_leads_on (g.R.Reader.meaning.reads c.args.reader.now) (own_at c.args.overlay.now) c.args.self.now c.requires.stands c.requires.first (spec_tree c.part_around-around.result.now) around _ _ _ c.in-Some.ensures g.R.Reader.meaning (c.args.reader.now, c.args.steps.now) (c.after_first.new.reader, c.after_first.new.steps) c.after_first.result c.path_around-path.result.now c.self.inside.env path (ap (λ (z : ZipTree). z.env) c.self.view_is) c.after_first.ensures.follows c.after_first.ensures.spot
 
 pub returns-in-Some-clause-same : goal.returns-in-Some-clause-same
 returns-in-Some-clause-same g c =
-    ap (λ (e : Bindings). zip_tree (record { base = c.self.inside.base; top = c.self.inside.top; steps = c.self.inside.steps; frames = c.self.inside.frames; env = e })) c.after_first.ensures.env ∙ c.self.view_is
+    ap (λ (e : Bindings). zip_tree (record { base = c.self.inside.base; top = c.self.inside.top; steps = c.self.inside.steps; frames = c.self.inside.frames; env = e; set = c.self.inside.set })) c.after_first.ensures.env ∙ c.self.view_is
 
 pub returns-in-None-clause-leads : goal.returns-in-None-clause-leads
 returns-in-None-clause-leads g c =
     let rooted : spec_tree c.spec.result.now ≡ c.args.self.now.root = search rules in
     let around : spec_tree c.part_around-around.result.now ≡ part c.args.self.now.root (drop 1 c.args.self.now.address) = c.part_around-around.ensures ∙ ap (λ (xs : List Step). part (spec_tree c.spec.result.now) (drop 1 (turned step_tree xs))) c.as_slice-2.ensures.value ∙ ap (λ r. part r (drop 1 (turned step_tree c.self.inside.steps.items))) rooted ∙ ap (λ (z : ZipTree). part c.args.self.now.root (drop 1 z.address)) c.self.view_is in
-    absurd (no_pair_around (known_of (g.R.Reader.meaning.reads c.args.reader.now)) (own_at c.args.overlay.now) c.args.self.now c.requires.stands c.requires.first (spec_tree c.part_around-around.result.now) around c.in-None.ensures)
+    absurd (no_pair_around (g.R.Reader.meaning.reads c.args.reader.now) (own_at c.args.overlay.now) c.args.self.now c.requires.stands c.requires.first (spec_tree c.part_around-around.result.now) around c.in-None.ensures)

@@ -22,7 +22,7 @@ fetch_at-requires g c =
     let form : spec_tree c.part-spec.result.now ≡ part c.args.self.now.root c.args.self.now.address = c.part-spec.ensures ∙ ap (λ (xs : List Step). part (spec_tree c.spec.result.now) (turned step_tree xs)) c.as_slice-2.ensures.value ∙ ap (λ r. part r (turned step_tree c.self.inside.steps.items)) rooted ∙ ap (λ (z : ZipTree). part c.args.self.now.root z.address) c.self.view_is in
     let at : c.last_path-path.result.now ≡ path_of c.args.self.now.frames = c.last_path-path.ensures ∙ ap (λ (fs : List Frame). path_of (turned (λ f. f) fs)) c.as_slice.ensures.value ∙ ap (λ (z : ZipTree). path_of z.frames) c.self.view_is in
     let described : IsDescription [] c.args.self.now.root = subst (IsDescription []) rooted (subst (IsDescription []) (sym c.spec.ensures.tree) c.spec.ensures.checked.shapes) in
-    record { described = here_scope (known_of (g.R.Reader.meaning.reads c.args.reader.now)) (own_at c.args.overlay.now) c.args.self.now c.last_path-path.result.now c.self.inside.env (spec_tree c.part-spec.result.now) at (ap (λ (z : ZipTree). z.env) c.self.view_is) form described c.requires.stands }
+    record { described = here_scope (g.R.Reader.meaning.reads c.args.reader.now) (own_at c.args.overlay.now) c.args.self.now c.last_path-path.result.now c.self.inside.env (spec_tree c.part-spec.result.now) at (ap (λ (z : ZipTree). z.env) c.self.view_is) form described c.requires.stands }
 
 pub returns-clause-follows : goal.returns-clause-follows
 returns-clause-follows g c =
@@ -33,7 +33,7 @@ returns-clause-follows g c =
 
 pub returns-clause-same : goal.returns-clause-same
 returns-clause-same g c =
-    ap (λ (e : Bindings). zip_tree (record { base = c.self.inside.base; top = c.self.inside.top; steps = c.self.inside.steps; frames = c.self.inside.frames; env = e })) c.fetch_at.ensures.env ∙ c.self.view_is
+    ap (λ (e : Bindings). zip_tree (record { base = c.self.inside.base; top = c.self.inside.top; steps = c.self.inside.steps; frames = c.self.inside.frames; env = e; set = c.self.inside.set })) c.fetch_at.ensures.env ∙ c.self.view_is
 
 pub returns-clause-described : goal.returns-clause-described
 returns-clause-described g c =

@@ -20,4 +20,4 @@ pub returns-then-is_at_first : goal.returns-then-is_at_first
 returns-then-is_at_first g c = record { moves = moved_next g.R.Reader.meaning (own_at c.args.overlay.now) c.args.self.now c.find.new.self (c.args.reader.now, c.args.steps.now) (c.find.new.reader, c.find.new.steps) c.in_ok-find.ensures c.to_second.new.self c.to_second.result (c.to_second.new.reader, c.to_second.new.steps) c.to_second.ensures.turns }
 
 pub returns-else-is_at_first : goal.returns-else-is_at_first
-returns-else-is_at_first g c = record { moves = moved_greater g.R.Reader.meaning (own_at c.args.overlay.now) c.args.self.now c.find.new.self (c.args.reader.now, c.args.steps.now) (c.find.new.reader, c.find.new.steps) c.in_ok-find.ensures c.to_greater.new.self c.to_greater.result (sym c.is_at_first.ensures ∙ c.if-is_at_first.false) (c.to_greater.ensures (known_of (g.R.Reader.meaning.reads c.find.new.reader)) (own_at c.args.overlay.now) c.in_ok-find.ensures.stands) }
+returns-else-is_at_first g c = record { moves = moved_greater g.R.Reader.meaning (own_at c.args.overlay.now) c.args.self.now c.find.new.self (c.args.reader.now, c.args.steps.now) (c.find.new.reader, c.find.new.steps) c.in_ok-find.ensures c.to_greater.new.self c.to_greater.result (sym c.is_at_first.ensures ∙ c.if-is_at_first.false) (c.to_greater.ensures (g.R.Reader.meaning.reads c.find.new.reader) (own_at c.args.overlay.now) c.in_ok-find.ensures.stands) }

@@ -17,7 +17,7 @@ pub to_first-requires : goal.to_first-requires
 to_first-requires g c = record { second = (second_of_true _ (sym c.is_at_second.ensures ∙ c.if-is_at_second.true)) }
 
 pub returns-then-is_at_second : goal.returns-then-is_at_second
-returns-then-is_at_second g c = record { moves = moved_first g.R.Reader.meaning (own_at c.args.overlay.now) c.args.self.now c.find.new.self (c.args.reader.now, c.args.steps.now) (c.find.new.reader, c.find.new.steps) c.in_ok-find.ensures c.to_first.new.self c.to_first.result (c.to_first.ensures (known_of (g.R.Reader.meaning.reads c.find.new.reader)) (own_at c.args.overlay.now) c.in_ok-find.ensures.stands) }
+returns-then-is_at_second g c = record { moves = moved_first g.R.Reader.meaning (own_at c.args.overlay.now) c.args.self.now c.find.new.self (c.args.reader.now, c.args.steps.now) (c.find.new.reader, c.find.new.steps) c.in_ok-find.ensures c.to_first.new.self c.to_first.result (c.to_first.ensures (g.R.Reader.meaning.reads c.find.new.reader) (own_at c.args.overlay.now) c.in_ok-find.ensures.stands) }
 
 pub returns-else-is_at_second : goal.returns-else-is_at_second
-returns-else-is_at_second g c = record { moves = moved_smaller g.R.Reader.meaning (own_at c.args.overlay.now) c.args.self.now c.find.new.self (c.args.reader.now, c.args.steps.now) (c.find.new.reader, c.find.new.steps) c.in_ok-find.ensures c.to_smaller.new.self c.to_smaller.result (sym c.is_at_second.ensures ∙ c.if-is_at_second.false) (c.to_smaller.ensures (known_of (g.R.Reader.meaning.reads c.find.new.reader)) (own_at c.args.overlay.now) c.in_ok-find.ensures.stands) }
+returns-else-is_at_second g c = record { moves = moved_smaller g.R.Reader.meaning (own_at c.args.overlay.now) c.args.self.now c.find.new.self (c.args.reader.now, c.args.steps.now) (c.find.new.reader, c.find.new.steps) c.in_ok-find.ensures c.to_smaller.new.self c.to_smaller.result (sym c.is_at_second.ensures ∙ c.if-is_at_second.false) (c.to_smaller.ensures (g.R.Reader.meaning.reads c.find.new.reader) (own_at c.args.overlay.now) c.in_ok-find.ensures.stands) }

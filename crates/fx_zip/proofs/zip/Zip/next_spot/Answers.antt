@@ -16,7 +16,7 @@ use Rattle.fx_zip.proofs.zip.Zip.next_spot.Goals as goal
 pub slice_bounds-part-end : goal.slice_bounds-part-end
 slice_bounds-part-end g c =
     let long : c.len-done.result ≡ length c.self.inside.frames.items = omega (arith, c.self.inside.frames.ok.0, c.len-done.ensures) in
-    let few = few_here (known_of (g.R.Reader.meaning.reads c.args.reader.now)) (own_at c.args.overlay.now) c.args.self.now c.requires.fresh c.requires.unsettled c.self.inside.steps.items c.self.inside.frames.items (ap (λ (z : ZipTree). z.address) c.self.view_is) (ap (λ (z : ZipTree). z.frames) c.self.view_is) c.len-done.result long in
+    let few = few_here (g.R.Reader.meaning.reads c.args.reader.now) (own_at c.args.overlay.now) c.args.self.now c.requires.fresh c.requires.unsettled c.self.inside.steps.items c.self.inside.frames.items (ap (λ (z : ZipTree). z.address) c.self.view_is) (ap (λ (z : ZipTree). z.frames) c.self.view_is) c.len-done.result long in
     let cut = length-take c.len-done.result c.deref-2.result.now in
     let same = ap length c.deref-2.ensures.value in
     omega (arith, few, cut, same)
@@ -24,7 +24,7 @@ slice_bounds-part-end g c =
 pub index-requires : goal.index-requires
 index-requires g c =
     let long : c.len-done.result ≡ length c.self.inside.frames.items = omega (arith, c.self.inside.frames.ok.0, c.len-done.ensures) in
-    let few = few_here (known_of (g.R.Reader.meaning.reads c.args.reader.now)) (own_at c.args.overlay.now) c.args.self.now c.requires.fresh c.requires.unsettled c.self.inside.steps.items c.self.inside.frames.items (ap (λ (z : ZipTree). z.address) c.self.view_is) (ap (λ (z : ZipTree). z.frames) c.self.view_is) c.len-done.result long in
+    let few = few_here (g.R.Reader.meaning.reads c.args.reader.now) (own_at c.args.overlay.now) c.args.self.now c.requires.fresh c.requires.unsettled c.self.inside.steps.items c.self.inside.frames.items (ap (λ (z : ZipTree). z.address) c.self.view_is) (ap (λ (z : ZipTree). z.frames) c.self.view_is) c.len-done.result long in
     omega (arith, few, c.self.inside.steps.ok.0)
 
 pub led-requires : goal.led-requires
@@ -34,7 +34,7 @@ led-requires g c =
     let form : spec_tree c.part-spec.result.now ≡ part (spec_tree c.spec.result.now) (turned step_tree (take c.len-done.result c.self.inside.steps.items)) = c.part-spec.ensures ∙ ap (λ (xs : List Step). part (spec_tree c.spec.result.now) (turned step_tree (take c.len-done.result xs))) c.deref-2.ensures.value in
     record {
       described =
-          scope_next (known_of (g.R.Reader.meaning.reads c.args.reader.now)) (own_at c.args.overlay.now) c.args.self.now c.requires.fresh c.requires.unsettled c.self.inside.steps.items c.self.inside.frames.items (ap (λ (z : ZipTree). z.address) c.self.view_is) (ap (λ (z : ZipTree). z.frames) c.self.view_is) c.len-done.result long
+          scope_next (g.R.Reader.meaning.reads c.args.reader.now) (own_at c.args.overlay.now) c.args.self.now c.requires.fresh c.requires.unsettled c.self.inside.steps.items c.self.inside.frames.items (ap (λ (z : ZipTree). z.address) c.self.view_is) (ap (λ (z : ZipTree). z.frames) c.self.view_is) c.len-done.result long
           c.index.result.now c.index.ensures (spec_tree c.spec.result.now) rooted (spec_tree c.part-spec.result.now) form c.self.inside.env (ap (λ (z : ZipTree). z.env) c.self.view_is) (subst (IsDescription []) (sym c.spec.ensures.tree) c.spec.ensures.checked.shapes);
     }
 
@@ -44,10 +44,10 @@ returns-clause-leads g c =
     let rooted : spec_tree c.spec.result.now ≡ c.args.self.now.root = search rules in
     let form : spec_tree c.part-spec.result.now ≡ part (spec_tree c.spec.result.now) (turned step_tree (take c.len-done.result c.self.inside.steps.items)) = c.part-spec.ensures ∙ ap (λ (xs : List Step). part (spec_tree c.spec.result.now) (turned step_tree (take c.len-done.result xs))) c.deref-2.ensures.value in
     let at : c.last_path-path.result.now ≡ path_of c.args.self.now.frames = c.last_path-path.ensures ∙ ap (λ (fs : List Frame). path_of (turned (λ f. f) fs)) c.as_slice.ensures.value ∙ ap (λ (z : ZipTree). path_of z.frames) c.self.view_is in
-    leads_next (known_of (g.R.Reader.meaning.reads c.args.reader.now)) (own_at c.args.overlay.now) c.args.self.now c.requires.fresh c.requires.unsettled c.self.inside.steps.items c.self.inside.frames.items (ap (λ (z : ZipTree). z.address) c.self.view_is) (ap (λ (z : ZipTree). z.frames) c.self.view_is) c.len-done.result long
+    leads_next (g.R.Reader.meaning.reads c.args.reader.now) (own_at c.args.overlay.now) c.args.self.now c.requires.fresh c.requires.unsettled c.self.inside.steps.items c.self.inside.frames.items (ap (λ (z : ZipTree). z.address) c.self.view_is) (ap (λ (z : ZipTree). z.frames) c.self.view_is) c.len-done.result long
     c.index.result.now c.index.ensures (spec_tree c.spec.result.now) rooted (spec_tree c.part-spec.result.now) form c.self.inside.env (ap (λ (z : ZipTree). z.env) c.self.view_is)
     g.R.Reader.meaning (c.args.reader.now, c.args.steps.now) (c.led.new.reader, c.led.new.steps) c.led.result c.last_path-path.result.now at c.led.ensures.leads
 
 pub returns-clause-same : goal.returns-clause-same
 returns-clause-same g c =
-    ap (λ (e : Bindings). zip_tree (record { base = c.self.inside.base; top = c.self.inside.top; steps = c.self.inside.steps; frames = c.self.inside.frames; env = e })) c.led.ensures.env ∙ c.self.view_is
+    ap (λ (e : Bindings). zip_tree (record { base = c.self.inside.base; top = c.self.inside.top; steps = c.self.inside.steps; frames = c.self.inside.frames; env = e; set = c.self.inside.set })) c.led.ensures.env ∙ c.self.view_is

@@ -10,10 +10,12 @@ pub returns-in_err-find : goal.returns-in_err-find
 returns-in_err-find g c = record {
   follows = hands_unfound g.R.Reader.meaning (own_at c.args.overlay.now) c.args.self.now c.find.new.self (c.args.reader.now, c.args.steps.now) (c.find.new.reader, c.find.new.steps) place_tree c.in_err-find.field-0.0 c.from_residual.result c.in_err-find.ensures c.from_residual.ensures.1;
   described = IfOk-from_err c.from_residual.result (λ place. IsDescribedPlace (place_tree place)) c.from_residual.ensures.0;
+  most = c.in_err-find.ensures.most;
 }
 
 pub returns : goal.returns
 returns g c = record {
   follows = hands_found g.R.Reader.meaning (own_at c.args.overlay.now) c.args.self.now c.find.new.self (c.args.reader.now, c.args.steps.now) (c.find.new.reader, c.find.new.steps) place_tree c.in_ok-find.ensures c.here.result c.here.ensures.place;
-  described = c.here.ensures.described (known_of (g.R.Reader.meaning.reads c.find.new.reader)) (own_at c.args.overlay.now) c.in_ok-find.ensures.stands;
+  described = c.here.ensures.described (g.R.Reader.meaning.reads c.find.new.reader) (own_at c.args.overlay.now) c.in_ok-find.ensures.stands;
+  most = c.in_ok-find.ensures.most;
 }

@@ -1,0 +1,191 @@
+-- Two sets of names, gone through side by side.
+use Rattle.std.proofs.Common.{◌≡◌, ℕ, zero, suc, ◌+◌, ◌<◌, ◌≤◌, Bool, true, false, cond, ◌||◌, List, [], ◌∷◌, ◌++◌, length, drop, nat_eq, Option, Some, None, Result, Ok, Err, refl, sym, subst, ap, ◌∙◌, arith}
+use Rattle.std.specs.Prelude.{slice_get, IsErrAnd}
+use Rattle.std.specs.declared.cmp.Ordering.TheVariants.{Less, Equal, Greater}
+use Rattle.std.specs.Ordering.{nat_cmp, eq_by_cmp}
+use Rattle.std.specs.Cmp.{eq_by_cmp_equiv}
+use Rattle.std.specs.Cmp.Lexicographic.{pointwise, slice_cmp, texts_ties}
+use Rattle.std.specs.List.{AllByRecursion}
+use Rattle.std.specs.List.Sorted.{IsStrictlySortedBy}
+use Rattle.std.proofs.lemmas.Map.Lookups.{exact_bytes}
+use Rattle.fx_base.proofs.Errors.{err_of}
+use Rattle.fx_base.proofs.Placing.{flipped, flipped_less, all_below}
+use Rattle.fx_store.specs.declared.changes.Change.{Change}
+use Rattle.fx_store.specs.Names.{has, name_cmp}
+use Rattle.fx_store.specs.Orders.{name_total}
+use Rattle.fx_store.specs.Rule.{Known, Ask, Answer, ◌>>=◌}
+use Rattle.fx_expr.specs.Merges.{IsLeastOf}
+use Rattle.fx_expr.specs.Sets.{IsAscending, has_text, set_of}
+use Rattle.fx_expr.proofs.Canon.{ascending_set}
+use Rattle.fx_expr.proofs.Merging.{least_of_first, least_of_second, least_less, least_equal, least_greater}
+use Rattle.fx_expr.proofs.Order.{other_greater, other_less, same_text}
+use Rattle.fx_spec.specs.Edit.{entry, entries}
+use Rattle.fx_edit.specs.Rules.{adding, left_of, change_of, IsFirst, IsNext}
+use Rattle.fx_view.specs.declared.reader.Stop.{Stop}
+use Rattle.fx_view.specs.Follows.{GoesBy}
+use Rattle.fx_view.specs.Meaning.{Meaning}
+use Rattle.fx_view.proofs.Calls.{consults_by}
+use Rattle.fx_view.proofs.Courses.{Goes, goes_on, goes_stop, goes_end}
+use Rattle.fx_edit.proofs.Addings.{adding-entries, adding-none}
+
+-- ---- which set has the least name
+
+-- the two tests of a name among others agree
+has-text : (xs : List (List ℕ)) (n : List ℕ) → has xs n ≡ has_text n xs
+has-text [] n = refl
+has-text (x ∷ xs) n = λ i. tie i || has-text xs n i
+  where
+    tie : eq_by_cmp name_cmp n x ≡ pointwise nat_eq x n
+    tie = (eq_by_cmp_equiv name_total).symm n x ∙ sym (texts_ties x n)
+
+other : (n m : List ℕ) → slice_cmp nat_cmp n m ≡ Less → pointwise nat_eq m n ≡ false
+other n m e = other_greater m n (flipped_less n m e)
+
+unlike : (n m : List ℕ) → slice_cmp nat_cmp n m ≡ Less → pointwise nat_eq n m ≡ false
+unlike n m e = other_less n m e
+
+lacks : (n : List ℕ) (ns : List (List ℕ)) → AllByRecursion (λ m. slice_cmp nat_cmp n m ≡ Less) ns → has ns n ≡ false
+lacks n [] a = refl
+lacks n (m ∷ ns) a = has-text (m ∷ ns) n ∙ (λ i. other n m a.0 i || has_text n ns) ∙ sym (has-text ns n) ∙ lacks n ns a.1
+
+here : (n : List ℕ) (ns : List (List ℕ)) → has (n ∷ ns) n ≡ true
+here n ns = has-text (n ∷ ns) n ∙ ap (λ b. b || has_text n ns) (same_text n)
+
+module _ (s t : List ℕ) (c d : List (List ℕ)) (up : IsAscending (s ∷ c)) (vp : IsAscending (t ∷ d)) where
+  at_less : slice_cmp nat_cmp s t ≡ Less → IsNext (s ∷ c) (t ∷ d) s true false
+  unfolding IsStrictlySortedBy
+  at_less e = record { least = least_less s t c d up vp e; first = refl; second = lacks s (t ∷ d) (e, all_below s t d e vp.0) }
+
+  at_greater : slice_cmp nat_cmp s t ≡ Greater → IsNext (s ∷ c) (t ∷ d) t false true
+  unfolding IsStrictlySortedBy
+  at_greater e = let f = flipped s t e in record { least = least_greater s t c d up vp e; first = lacks t (s ∷ c) (f, all_below t s c f up.0); second = refl }
+
+  at_equal : slice_cmp nat_cmp s t ≡ Equal → IsNext (s ∷ c) (t ∷ d) s true true
+  at_equal e = record { least = least_equal s t c d up vp e; first = refl; second = ap (λ n. n ∷ d) (sym (exact_bytes s t e)) }
+
+module _ (a b : List (List ℕ)) (n : List ℕ) (c : List (List ℕ)) where
+  pub next_first : IsAscending a → a ≡ n ∷ c → b ≡ [] → IsNext a b n true false
+  next_first up e f =
+      subst (λ x. IsNext x b n true false) (sym e) (subst (λ y. IsNext (n ∷ c) y n true false) (sym f)
+      (record { least = least_of_first n c (subst (λ x. IsAscending x) e up); first = refl; second = refl }))
+
+  pub next_second : IsAscending b → a ≡ [] → b ≡ n ∷ c → IsNext a b n false true
+  next_second up e f =
+      subst (λ x. IsNext x b n false true) (sym e) (subst (λ y. IsNext [] y n false true) (sym f)
+      (record { least = least_of_second n c (subst (λ x. IsAscending x) f up); first = refl; second = refl }))
+
+module _ (a b : List (List ℕ)) (s t : List ℕ) (c d : List (List ℕ)) (up : IsAscending a) (vp : IsAscending b) (e : a ≡ s ∷ c) (f : b ≡ t ∷ d) where
+  ups : IsAscending (s ∷ c)
+  ups = subst (λ x. IsAscending x) e up
+
+  vps : IsAscending (t ∷ d)
+  vps = subst (λ x. IsAscending x) f vp
+
+  both : (n : List ℕ) (x y : Bool) → IsNext (s ∷ c) (t ∷ d) n x y → IsNext a b n x y
+  both n x y h = subst (λ l. IsNext l b n x y) (sym e) (subst (λ l. IsNext (s ∷ c) l n x y) (sym f) h)
+
+  pub next_less : slice_cmp nat_cmp s t ≡ Less → IsNext a b s true false
+  next_less o = both s true false (at_less s t c d ups vps o)
+
+  pub next_equal : slice_cmp nat_cmp s t ≡ Equal → IsNext a b s true true
+  next_equal o = both s true true (at_equal s t c d ups vps o)
+
+  pub next_greater : slice_cmp nat_cmp s t ≡ Greater → IsNext a b t false true
+  next_greater o = both t false true (at_greater s t c d ups vps o)
+
+-- ---- the changes of the names that are left
+
+same_entries : (f g : List ℕ → Ask (List Change)) (ns : List (List ℕ)) → AllByRecursion (λ n. f n ≡ g n) ns → entries f ns ≡ entries g ns
+same_entries f g [] h = refl
+same_entries f g (n ∷ ns) h = λ i. h.0 i >>= λ first. same_entries f g ns h.1 i >>= λ rest. Answer (first ++ rest)
+
+-- a set and what is left of it have the same later names
+later : (x : Bool) (a : List (List ℕ)) (n m : List ℕ) → IsFirst x a n → slice_cmp nat_cmp n m ≡ Less → has a m ≡ has (left_of x a) m
+later false a n m w e = refl
+later true a n m w e =
+    ap (λ l. has l m) w ∙ has-text (n ∷ drop 1 a) m ∙ ap (λ b. b || has_text m (drop 1 a)) (unlike n m e) ∙ sym (has-text (drop 1 a) m)
+
+has_first : (x : Bool) (a : List (List ℕ)) (n : List ℕ) → IsFirst x a n → has a n ≡ x
+has_first true a n w = ap (λ l. has l n) w ∙ here n (drop 1 a)
+has_first false a n w = w
+
+abbrev pub left : List (List ℕ) → List (List ℕ) → List (List ℕ) → Ask (List Change)
+left q a b = entries (entry q a b) (set_of (a ++ b))
+
+module _ (q a b : List (List ℕ)) (n : List ℕ) (x y : Bool) (next : IsNext a b n x y) where
+  abbrev c : List (List ℕ)
+  c = left_of x a
+
+  abbrev d : List (List ℕ)
+  d = left_of y b
+
+  alike : (ns : List (List ℕ)) → AllByRecursion (λ m. slice_cmp nat_cmp n m ≡ Less) ns → AllByRecursion (λ m. entry q a b m ≡ entry q c d m) ns
+  alike [] above = tt
+  alike (m ∷ ns) above = ((λ i. change_of q m (later x a n m next.first above.0 i) (later y b n m next.second above.0 i)), alike ns above.1)
+
+  above : AllByRecursion (λ m. slice_cmp nat_cmp n m ≡ Less) (set_of (c ++ d))
+  unfolding IsStrictlySortedBy
+  above = (subst (λ l. IsAscending l) next.least.whole (ascending_set (a ++ b))).0
+
+  pub left_next : (so_far : List Change) → adding so_far (left q a b) ≡ (adding so_far (change_of q n x y) >>= λ cs. adding cs (left q c d))
+  left_next so_far =
+      ap (λ ns. adding so_far (entries (entry q a b) ns)) next.least.whole
+      ∙ adding-entries (entry q a b) so_far n (set_of (c ++ d))
+      ∙ (λ i. adding so_far (change_of q n (has_first x a n next.first i) (has_first y b n next.second i)) >>= λ cs. adding cs (same_entries (entry q a b) (entry q c d) (set_of (c ++ d)) (alike (set_of (c ++ d)) above) i))
+
+pub none_left : (q a b : List (List ℕ)) (so_far : List Change) → set_of (a ++ b) ≡ [] → adding so_far (left q a b) ≡ Answer so_far
+none_left q a b so_far e = ap (λ ns. adding so_far (entries (entry q a b) ns)) e ∙ adding-none so_far
+
+-- ---- the loop
+
+-- these names are left: what adds their changes now adds those of all at the start
+pub record IsRelisting {R : Type 0} (m : Meaning R) (own : Known) (q old new : List (List ℕ)) (start now : R) (begun so_far : List Change) (a b : List (List ℕ)) : Type 0 where
+  pub goes : (final : List Change) → Goes m (λ (u : Unit {0}). final) own (start, 0) (now, 0) (adding begun (left q old new)) (adding so_far (left q a b))
+
+module _ {R : Type 0} (m : Meaning R) (own : Known) (q old new : List (List ℕ)) (start : R) (begun : List Change) where
+  pub relisting_first : IsRelisting m own q old new start start begun begun old new
+  relisting_first = record { goes = λ final new r h. h }
+
+  module _ (now : R) (so_far : List Change) (a b : List (List ℕ)) (is : IsRelisting m own q old new start now begun so_far a b) where
+    pub relisting_next : (n : List ℕ) (x y : Bool) (later : R) (more : List Change) → IsNext a b n x y → GoesBy {X = Unit {0}} m (λ (u : Unit {0}). more) own now later (adding so_far (change_of q n x y)) (Ok tt) → IsRelisting m own q old new start later begun more (left_of x a) (left_of y b)
+    relisting_next n x y later more next h = record {
+      goes = λ final.
+          goes_on m (λ (u : Unit {0}). final) own (start, 0) (now, 0) (adding begun (left q old new)) (adding so_far (left q a b)) (is.goes final)
+          (λ (u : Unit {0}). more) (later, 0) (adding so_far (change_of q n x y)) (λ cs. adding cs (left q (left_of x a) (left_of y b))) tt (left_next q a b n x y next so_far)
+          (consults_by m (λ (u : Unit {0}). more) own now later (adding so_far (change_of q n x y)) (Ok tt) h 0);
+    }
+
+    pub relisting_stops : (n : List ℕ) (x y : Bool) (later : R) (more final : List Change) (why : Stop) (r : Result (Unit {0}) Stop) → IsNext a b n x y → IsErrAnd r (λ d. d ≡ why) → GoesBy {X = Unit {0}} m (λ (u : Unit {0}). more) own now later (adding so_far (change_of q n x y)) (Err why)
+        → GoesBy m (λ (u : Unit {0}). final) own start later (adding begun (left q old new)) r
+    relisting_stops n x y later more final why r next e h =
+        subst (λ (r : Result (Unit {0}) Stop). GoesBy m (λ (u : Unit {0}). final) own start later (adding begun (left q old new)) r) (sym (err_of r why e))
+        (goes_stop m (λ (u : Unit {0}). final) own (start, 0) (now, 0) (adding begun (left q old new)) (adding so_far (left q a b)) (is.goes final)
+        (λ (u : Unit {0}). more) (later, 0) (adding so_far (change_of q n x y)) (λ cs. adding cs (left q (left_of x a) (left_of y b))) why (left_next q a b n x y next so_far)
+        (consults_by m {X = Unit {0}} (λ (u : Unit {0}). more) own now later (adding so_far (change_of q n x y)) (Err why) h 0)).goes
+
+    pub relisting_ends : set_of (a ++ b) ≡ [] → GoesBy {X = Unit {0}} m (λ (u : Unit {0}). so_far) own start now (adding begun (left q old new)) (Ok tt)
+    relisting_ends none =
+        (goes_end m (λ (u : Unit {0}). so_far) own (start, 0) (now, 0) (adding begun (left q old new)) (adding so_far (left q a b)) (is.goes so_far)
+        tt (none_left q a b so_far none)).goes
+
+-- ---- places
+
+pub after_place : {A : Type 0} (xs : List A) (i : ℕ) → drop (i + 1) xs ≡ drop 1 (drop i xs)
+after_place [] zero = refl
+after_place [] (suc i) = let one : suc i + 1 ≡ suc (i + 1) = omega arith in ap (λ n. drop n []) one
+after_place (x ∷ xs) zero = refl
+after_place (x ∷ xs) (suc i) = let one : suc i + 1 ≡ suc (i + 1) = omega arith in ap (λ n. drop n (x ∷ xs)) one ∙ after_place xs i
+
+pub within_first : (x : Bool) (names : List (List ℕ)) (i : ℕ) (n : List ℕ) → IsFirst x (drop i names) n → x ≡ true → i < length names
+within_first false names i n w e = absurd (cc)
+within_first true [] zero n w e = absurd (cc)
+within_first true [] (suc i) n w e = absurd (cc)
+within_first true (m ∷ names) zero n w e = omega arith
+within_first true (m ∷ names) (suc i) n w e = omega (arith, within_first true names i n w e)
+
+pub ascending_drop : (names : List (List ℕ)) (i : ℕ) → IsAscending names → IsAscending (drop i names)
+unfolding IsStrictlySortedBy
+ascending_drop [] zero up = up
+ascending_drop [] (suc i) up = up
+ascending_drop (n ∷ names) zero up = up
+ascending_drop (n ∷ names) (suc i) up = ascending_drop names i up.1

@@ -1,0 +1,72 @@
+//! A reader of the filestore as it stands in a log.
+ghost use Rattle.std.specs.Prelude.{◌≡◌, ◌∷◌, ◌++◌, true, [], None, OnOk, OnErr, refl};
+ghost use Rattle.fx_view.specs.Reads.{read_at};
+ghost use Rattle.fx_sched.specs.Present.{IsNowIn};
+
+use fx_base::NoMemory;
+use fx_board::Board;
+use fx_store::{Node, Path};
+use fx_view::{Reader, Reads, Stop};
+use std::alloc::Global;
+
+/// A reader that answers from its reads, and reads every other path as it stands in the log. It vouches that the log is the
+/// one from the start, and that what was read since stands there.
+#[derive(Drop)]
+pub(crate) struct Present<'a> {
+    pub board: &'a Board,
+    pub reads: Reads,
+}
+
+impl<'a> Present<'a> {
+    pub(crate) fn new(board: &'a Board, reads: Reads) -> Present<'a>
+        ensures board { result.board.now ≡ board.now }
+        ensures reads { result.reads ≡ reads }
+    {
+        Present { board, reads }
+    }
+}
+
+/// Adds what stands at a new path to the reads.
+fn note(
+    alloc: Global,
+    reads: &mut Reads,
+    path: &Path,
+    node: &Option<Node>,
+    position: u64,
+) -> Result<(), NoMemory>
+    requires { read_at reads.old path.now ≡ None }
+    ensures ok { OnOk result (reads.new ≡ reads.old ++ (path.now, (node.now, position)) ∷ []) }
+    ensures err { OnErr result (reads.new ≡ reads.old) }
+{
+    let path = path.copy(alloc)?;
+    let node = node.clone()?;
+    reads.add(alloc, path, node, position)
+}
+
+impl Reader for Present<'_> {
+    ghost meaning = { record {
+      reads = λ p. p.reads;
+      complete = λ _. true;
+      vouches = λ start now reads. (now.board.now ≡ start.board.now)
+          × IsNowIn start.board.now start.reads reads;
+    } };
+
+    fn read(&mut self, alloc: Global, path: &Path) -> Result<Option<Node>, Stop> {
+        if let Some((node, _)) = self.reads.get(path) {
+            return Ok(node.clone()?);
+        }
+        let (node, position) = self.board.look(alloc, path)?;
+        note(alloc, &mut self.reads, path, &node, position)?;
+        Ok(node)
+    }
+
+    fn take_reads(&mut self, alloc: Global) -> Reads {
+        let mut taken = Reads::new(alloc);
+        std::mem::swap(&mut self.reads, &mut taken);
+        taken
+    }
+
+    ghost use Rattle.fx_sched.specs.Present.{nothing_new};
+
+    ghost begins = { λ reader. (refl, nothing_new reader.board.now reader.reads) };
+}

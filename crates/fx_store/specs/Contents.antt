@@ -1,0 +1,14 @@
+-- What a file's content is held in: by itself, or shared with its copies.
+use Rattle.std.specs.Prelude.{◌≡◌, ◌≤◌, ℕ, List, [], length}
+use Rattle.std.specs.Vec.{vec_capacity}
+use Rattle.fx_store.specs.declared.bytes.Held.{Held}
+use Rattle.fx_store.specs.declared.bytes.Held.TheVariants.{Own, Shared}
+
+abbrev pub held_bytes : Held → List ℕ
+held_bytes (Own bytes) = bytes.items
+held_bytes (Shared bytes spare) = bytes.value.items
+
+-- what is shared can be copied out at any time: there is room for it beside it
+abbrev pub HasRoom : Held → Type 0
+HasRoom (Own bytes) = Unit {0}
+HasRoom (Shared bytes spare) = (spare.items ≡ []) × (length bytes.value.items ≤ vec_capacity spare)

@@ -1,0 +1,9 @@
+use Rattle.std.proofs.Common.{◌≡◌, ℕ, ◌<◌, false, Some, is_some}
+use Rattle.std.specs.List.{slice_get}
+use Rattle.std.specs.Map.{keys_of}
+use Rattle.fx_outside.specs.Path.{Parts, name_in}
+use Rattle.fx_table.specs.Mapped.{mapped_of}
+use Rattle.fx_table.proofs.listing.folder_of.Given as goal
+
+abbrev pub invariant-loop-i : goal.invariant-loop-i
+invariant-loop-i l = (k : ℕ) (dir : Parts) → k < l.i → slice_get (keys_of (mapped_of l.found)) k ≡ Some dir → is_some (name_in dir l.path) ≡ false

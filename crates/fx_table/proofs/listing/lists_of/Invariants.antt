@@ -1,0 +1,9 @@
+use Rattle.std.proofs.Common.{◌≡◌, map, take}
+use Rattle.std.specs.Map.{keys_of}
+use Rattle.fx_table.specs.Listed.{names_below}
+use Rattle.fx_table.specs.Lists.{items_of}
+use Rattle.fx_table.specs.Mapped.{mapped_of}
+use Rattle.fx_table.proofs.listing.lists_of.Given as goal
+
+abbrev pub invariant-loop-j : goal.invariant-loop-j
+invariant-loop-j l = map items_of l.lists.items ≡ map (names_below (take l.j (mapped_of l.found))) (keys_of (mapped_of l.found))

@@ -1,0 +1,201 @@
+-- Frames that last over own changes: a rule is followed as before where the own changes are as before at all that was read.
+use Rattle.std.proofs.Common.{◌≡◌, ℕ, zero, suc, ◌+◌, ◌-◌, ◌≤◌, ◌<◌, Bool, true, false, ◌&&◌, List, [], ◌∷◌, ◌++◌, length, take, drop, Option, Some, None, IsSome, is_some, refl, sym, ap, ◌∙◌, subst, arith, append_assoc, length-append, length-drop, take-append-drop}
+use Rattle.std.specs.Prelude.{nat_le, nat_eq, slice_get}
+use Rattle.std.proofs.lemmas.Bool.Decides.{nat_tests}
+use Rattle.fx_store.specs.declared.node.Node.{Node}
+use Rattle.fx_store.specs.Rule.{Known, Ask, Answer, Look, Tick, Outcome, Found, follow, if_known, seen}
+use Rattle.fx_spec.specs.Describe.{Bindings}
+use Rattle.fx_spec.specs.Place.{Address, placed, lead}
+use Rattle.fx_spec.specs.SpecTree.{SpecTree}
+use Rattle.fx_view.specs.ReadList.{ReadList}
+use Rattle.fx_view.specs.Reads.{known_of}
+use Rattle.fx_view.proofs.Growing.{Grows, Grows-reads}
+use Rattle.fx_zip.specs.declared.frame.Frame.{Frame}
+use Rattle.fx_zip.specs.Fresh.{around, around_last, around_frame, shorter, IsSetOf, AreFound, IsFresh, SameOver, are_told}
+use Rattle.fx_zip.specs.Parts.{child, part}
+use Rattle.fx_zip.specs.Trees.{ZipTree, path_of}
+use Rattle.std.specs.Prelude.{cond}
+use Rattle.std.specs.Ordering.{eq_by_cmp}
+use Rattle.std.proofs.lemmas.Bool.{false≢true}
+use Rattle.fx_store.specs.declared.changes.Change.{Change}
+use Rattle.fx_store.specs.Names.{path_cmp}
+use Rattle.fx_store.specs.Orders.{path_eq_same}
+use Rattle.fx_view.specs.Own.{own_at, put_own, put_all}
+use Rattle.fx_view.specs.OwnList.{OwnList}
+use Rattle.fx_view.proofs.Owning.{own_at-put}
+use Rattle.fx_zip.specs.Steps.{turned}
+use Rattle.fx_zip.proofs.Standing.{IsMore, found_length}
+use Rattle.fx_zip.proofs.Turning.{turned_at, turned-last}
+
+abbrev Path : Type 0
+Path = List (List ℕ)
+
+-- ---- other own changes that are the same wherever something is known
+
+module _ {A : Type 0} (known own other : Known) (same : (p : Path) → IsSome (known p) → own p ≡ other p) where
+  pub follow_over : (rule : Ask A) → follow known own rule ≡ follow known other rule
+  follow_over (Answer a) = refl
+  follow_over (Tick rule) = follow_over rule
+  follow_over (Look p next) = step (known p) refl (λ n. follow_over (next n))
+    where
+      step : (k : Option (Option Node)) → known p ≡ k → ((n : Option Node) → follow known own (next n) ≡ follow known other (next n)) → if_known p k (λ n. follow known own (next (seen (own p) n))) ≡ if_known p k (λ n. follow known other (next (seen (other p) n)))
+      step None at rest = refl
+      step (Some n) at rest = rest (seen (own p) n) ∙ ap (λ o. follow known other (next (seen o n))) (same p (ap is_some at))
+
+-- ---- fewer reads
+
+more_within : (k n : ℕ) (reads : ReadList) → k ≤ n → IsMore (take k reads) (take n reads)
+more_within zero n reads few = (take n reads, refl)
+more_within (suc k) zero reads few = absurd (omega (arith, few))
+more_within (suc k) (suc n) [] few = ([], refl)
+more_within (suc k) (suc n) (r ∷ reads) few = let more = more_within k n reads (omega (arith, few)) in (more.0, ap (λ rs. r ∷ rs) more.1)
+
+some_kept : (o more : Option (Option Node)) → ((n : Option Node) → o ≡ Some n → more ≡ Some n) → IsSome o → IsSome more
+some_kept None more kept some = absurd (cc)
+some_kept (Some n) more kept some = ap is_some (kept n refl)
+
+same_within : (k n : ℕ) (reads : ReadList) (own now : Known) → k ≤ n → SameOver (take n reads) own now → SameOver (take k reads) own now
+same_within k n reads own now few same p some =
+    let more = more_within k n reads few in
+    let grows : Grows (known_of (take k reads)) (known_of (take n reads)) = subst (λ rs. Grows (known_of (take k reads)) (known_of rs)) (sym more.1) (Grows-reads (take k reads) more.0) in
+    same p (some_kept (known_of (take k reads) p) (known_of (take n reads) p) (grows.keeps p) some)
+
+-- ---- frames
+
+first_true : (a b : Bool) → a && b ≡ true → a ≡ true
+first_true true b e = refl
+first_true false b e = e
+
+then_true : (a b : Bool) → a && b ≡ true → b ≡ true
+then_true true b e = e
+then_true false b e = absurd (cc)
+
+is_within : (k n : ℕ) → nat_le k n ≡ true → k ≤ n
+is_within k n e = grind (arith, nat_tests)
+
+module _ (n : ℕ) (reads : ReadList) (own now : Known) (same : SameOver (take n reads) own now) (root : SpecTree) where
+  pub found_lasts : (a : Address) (fs : List Frame) (env : Bindings) → are_told n fs ≡ true → AreFound reads own root a fs env → AreFound reads now root a fs env
+  found_lasts [] [] env told h = h
+  found_lasts [] (f ∷ fs) env told h = absurd h
+  found_lasts (step ∷ a) [] env told h = absurd h
+  found_lasts (step ∷ a) (f ∷ fs) env told h = (
+    sym (follow_over (known_of (take f.reads reads)) own now (same_within f.reads n reads own now (is_within f.reads n (first_true (nat_le f.reads n) (are_told n fs) told)) same) (lead step (path_of fs) (around step env) (part root a))) ∙ h.0,
+    h.1,
+    found_lasts a fs (around step env) (then_true (nat_le f.reads n) (are_told n fs) told) h.2,
+  )
+
+pub fresh_lasts : (n : ℕ) (reads : ReadList) (own now : Known) (z : ZipTree) → SameOver (take n reads) own now → are_told n z.frames ≡ true → IsFresh reads own z → IsFresh reads now z
+fresh_lasts n reads own now z same told h = record {
+  ahead = h.ahead;
+  kept = h.kept;
+  whole = h.whole;
+  found = found_lasts n reads own now same z.root h.kept z.frames z.env told h.found;
+  set = h.set;
+}
+
+-- ---- one frame less, whatever its step
+
+drop_front : {A : Type 0} (xs ys : List A) (n : ℕ) → n ≡ length xs → drop n (xs ++ ys) ≡ ys
+drop_front [] ys n e = ap (λ n. drop n ys) e
+drop_front (x ∷ xs) ys zero e = absurd (omega (arith, e))
+drop_front (x ∷ xs) ys (suc n) e = drop_front xs ys n (omega (arith, e))
+
+drop_whole : {A : Type 0} (xs : List A) (n : ℕ) → n ≡ length xs → drop n xs ≡ []
+drop_whole [] zero e = refl
+drop_whole [] (suc n) e = refl
+drop_whole (x ∷ xs) zero e = absurd (omega (arith, e))
+drop_whole (x ∷ xs) (suc n) e = drop_whole xs n (omega (arith, e))
+
+module _ (reads : ReadList) (own : Known) (z : ZipTree) where
+  shorter_from : (ahead kept : Address) (fs : List Frame) → fs ≡ z.frames → z.address ≡ ahead ++ kept → AreFound reads own z.root kept fs z.env → IsFresh reads own (shorter z)
+  shorter_from ahead [] [] at whole found = record {
+    ahead = ahead;
+    kept = [];
+    whole = whole;
+    found =
+        subst (λ fs. AreFound reads own z.root [] (drop 1 fs) (around_frame z.address fs z.env)) at
+        (ap (λ a. around_last a z.env) (drop_whole z.address (length z.address - 0) (omega arith)) ∙ found);
+    set = tt;
+  }
+  shorter_from ahead [] (f ∷ fs) at whole found = absurd found
+  shorter_from ahead (step ∷ kept) [] at whole found = absurd found
+  shorter_from ahead (step ∷ kept) (f ∷ fs) at whole found =
+      let long : length fs ≡ length kept = found_length reads own z.root kept fs (around step z.env) found.2 in
+      let both : length (ahead ++ step ∷ kept) ≡ length ahead + length (step ∷ kept) = length-append ahead (step ∷ kept) in
+      let all = ap length whole in
+      let front : drop (length z.address - length (f ∷ fs)) z.address ≡ step ∷ kept =
+      ap (drop (length z.address - length (f ∷ fs))) whole ∙ drop_front ahead (step ∷ kept) (length z.address - length (f ∷ fs)) (omega (arith, long, both, all)) in
+      record {
+        ahead = ahead ++ step ∷ [];
+        kept = kept;
+        whole = whole ∙ sym (append_assoc ahead (step ∷ []) kept);
+        found =
+            subst (λ gs. AreFound reads own z.root kept (drop 1 gs) (around_frame z.address gs z.env)) at
+            (subst (λ a. AreFound reads own z.root kept fs (around_last a z.env)) (sym front) found.2);
+        set = tt;
+      }
+
+  pub fresh_shorter : IsFresh reads own z → IsFresh reads own (shorter z)
+  fresh_shorter h = shorter_from h.ahead h.kept z.frames refl h.whole h.found
+
+-- some frame is there, where not all are told by the first reads
+pub some_frame : (n : ℕ) (fs : List Frame) → are_told n fs ≡ false → length (drop 1 fs) < length fs
+some_frame n [] e = absurd (cc)
+some_frame n (f ∷ fs) e = omega arith
+
+-- ---- the loops
+
+told_append : (n : ℕ) (fs gs : List Frame) → are_told n (fs ++ gs) ≡ are_told n fs && are_told n gs
+told_append n [] gs = refl
+told_append n (f ∷ fs) gs = at (nat_le f.reads n) (told_append n fs gs)
+  where
+    at : (b : Bool) → are_told n (fs ++ gs) ≡ are_told n fs && are_told n gs → b && are_told n (fs ++ gs) ≡ (b && are_told n fs) && are_told n gs
+    at true rest = rest
+    at false rest = refl
+
+both_told : (a b : Bool) → a ≡ true → b ≡ true → a && b ≡ true
+both_told true b e f = f
+both_told false b e f = absurd (cc)
+
+within_is : (k n : ℕ) → k ≤ n → nat_le k n ≡ true
+within_is k n e = grind (arith, nat_tests)
+
+beyond_is : (k n : ℕ) → n < k → nat_le k n ≡ false
+beyond_is k n e = grind (arith, nat_tests)
+
+none_told : (a b c : Bool) → b ≡ false → (a && (b && true)) && c ≡ false
+none_told true true c e = absurd (cc)
+none_told true false c e = refl
+none_told false b c e = refl
+
+-- one frame that more reads tell
+pub not_told : (n : ℕ) (frames : List Frame) (i : ℕ) (f : Frame) → slice_get frames i ≡ Some f → n < f.reads → are_told n (turned (λ f. f) frames) ≡ false
+not_told n frames i f at more =
+    let after = turned (λ f. f) (drop (i + 1) frames) in
+    let before = turned (λ f. f) (take i frames) in
+    ap (are_told n) (turned_at (λ f. f) frames i f at)
+    ∙ told_append n (after ++ f ∷ []) before
+    ∙ ap (λ b. b && are_told n before) (told_append n after (f ∷ []))
+    ∙ none_told (are_told n after) (nat_le f.reads n) (are_told n before) (beyond_is f.reads n more)
+
+-- one more that these tell
+pub told_more : (n : ℕ) (frames next : List Frame) (f : Frame) → next ≡ frames ++ f ∷ [] → f.reads ≤ n → are_told n (turned (λ f. f) frames) ≡ true → are_told n (turned (λ f. f) next) ≡ true
+told_more n frames next f is few told =
+    ap (are_told n) (ap (turned (λ f. f)) is ∙ turned-last (λ f. f) frames f) ∙ both_told (nat_le f.reads n) (are_told n (turned (λ f. f) frames)) (within_is f.reads n few) told
+
+-- ---- own changes at paths that the first reads don't have
+
+abbrev pub AreElsewhere : ReadList → List Change → Type 0
+AreElsewhere reads [] = Unit {0}
+AreElsewhere reads (c ∷ cs) = (known_of reads c.path ≡ None) × AreElsewhere reads cs
+
+put_elsewhere : (reads : ReadList) (own : OwnList) (c : Change) → known_of reads c.path ≡ None → SameOver reads (own_at own) (own_at (put_own own c.path c.node))
+put_elsewhere reads own c none p some = at (eq_by_cmp path_cmp p c.path) refl ∙ sym (own_at-put own c.path c.node p)
+  where
+    at : (b : Bool) → eq_by_cmp path_cmp p c.path ≡ b → own_at own p ≡ cond b (Some c.node) (own_at own p)
+    at true e = let gone : known_of reads p ≡ None = ap (known_of reads) (path_eq_same p c.path e) ∙ none in absurd (false≢true (sym (ap is_some gone) ∙ some))
+    at false e = refl
+
+pub edits_elsewhere : (reads : ReadList) (own : OwnList) (cs : List Change) → AreElsewhere reads cs → SameOver reads (own_at own) (own_at (put_all own cs))
+edits_elsewhere reads own [] apart p some = refl
+edits_elsewhere reads own (c ∷ cs) apart p some = put_elsewhere reads own c apart.0 p some ∙ edits_elsewhere reads (put_own own c.path c.node) cs apart.1 p some

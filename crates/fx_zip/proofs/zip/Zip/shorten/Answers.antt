@@ -1,0 +1,22 @@
+use Rattle.std.proofs.Common.{◌≡◌, ℕ, List, ◌-◌, length, drop, None, ap, ◌∙◌, arith}
+use Rattle.fx_zip.specs.declared.step.Step.{Step}
+use Rattle.fx_zip.specs.Fresh.{around_last, around_frame, shorter}
+use Rattle.fx_zip.specs.Steps.{step_tree, turned}
+use Rattle.fx_zip.specs.Trees.{ZipTree}
+use Rattle.fx_zip.specs.View.{zip_tree}
+use Rattle.fx_zip.proofs.Turning.{length-turned}
+use Rattle.fx_zip.proofs.zip.Zip.shorten.Goals as goal
+
+pub returns : goal.returns
+returns c =
+    let z = zip_tree c.self.inside in
+    let all = length-turned step_tree c.self.inside.steps.items in
+    let few = length-turned (λ f. f) c.self.inside.frames.items in
+    let n : length c.self.inside.steps.items - c.len.result ≡ length z.address - length z.frames = omega (arith, c.self.inside.frames.ok.0, c.len.ensures, all, few) in
+    let env : c.unbind_at.new.env ≡ around_frame z.address z.frames z.env =
+    c.unbind_at.ensures
+    ∙ ap (λ (xs : List Step). around_last (drop (length xs - c.len.result) (turned step_tree xs)) c.self.inside.env) c.as_slice.ensures.value
+    ∙ ap (λ k. around_last (drop k z.address) z.env) n in
+    let built : ◌≡◌ {A = ZipTree} (record { root = z.root; address = z.address; frames = turned (λ f. f) c.pop_frame.new.frames.items; env = c.unbind_at.new.env; set = None }) (shorter z) =
+    (λ i. record { root = z.root; address = z.address; frames = c.pop_frame.ensures.frames i; env = env i; set = None }) in
+    built ∙ ap shorter c.self.view_is

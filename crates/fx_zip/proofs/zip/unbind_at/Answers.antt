@@ -1,0 +1,8 @@
+use Rattle.std.proofs.Common.{ap, ◌∙◌}
+use Rattle.fx_zip.specs.Fresh.{around_last}
+use Rattle.fx_zip.specs.Steps.{step_tree}
+use Rattle.fx_zip.proofs.Turning.{turned_take}
+use Rattle.fx_zip.proofs.zip.unbind_at.Goals as goal
+
+pub returns-then-place-steps : goal.returns-then-place-steps
+returns-then-place-steps c = c.unbind_last.ensures ∙ ap (λ a. around_last a c.args.env.now) (turned_take step_tree c.args.steps.now c.args.place c.if-place-steps.true)
