@@ -1,5 +1,5 @@
 -- The rule of a value evaluates as often as the count says.
-use Rattle.std.proofs.Common.{◌≡◌, ℕ, ◌+◌, Bool, true, false, cond, List, [], ◌∷◌, Option, Some, None, Result, Ok, Err, refl, ap, ◌∙◌, sym, arith}
+use Rattle.std.proofs.Common.{◌≡◌, ℕ, ◌+◌, Bool, true, false, cond, List, [], ◌∷◌, Option, Some, None, Result, Ok, Err, refl, ap, ◌∙◌, arith}
 use Rattle.std.specs.Option.{option_map}
 use Rattle.fx_store.specs.declared.node.Node.{Node}
 use Rattle.fx_store.specs.declared.node.Landing.{Landing}
@@ -11,13 +11,13 @@ use Rattle.fx_store.proofs.Asks.{ticks-bind}
 use Rattle.fx_store.proofs.Quiet.{ticks-resolve}
 use Rattle.fx_expr.specs.Bindings.{bind}
 use Rattle.fx_expr.specs.Eval.{Outcome, eval_of, names_in}
-use Rattle.fx_expr.specs.Tree.{Tree, TreeRows, row}
+use Rattle.fx_expr.specs.Tree.{Tree, row}
 use Rattle.fx_spec.specs.declared.refusal.Refusal.{Refusal}
 use Rattle.fx_spec.specs.SpecTree.{SpecTree}
-use Rattle.fx_spec.specs.Describe.{Bindings, with_some, file_value, dir_value, link_value, landed_value, content, is_at, exists, focus_path, at_focus, rows, table, option, value}
+use Rattle.fx_spec.specs.Describe.{Bindings, with_some, file_value, flag_value, dir_value, link_value, landed_value, content, is_at, exists, focus_path, at_focus, rows, table, option, value}
 use Rattle.fx_spec.specs.Move.{needed, go_into, go_to, go_down, another, fetched}
 use Rattle.fx_spec.specs.Place.{Step, First, Second, Inside, Down, Elem, Address, placed, where_true, lead, place}
-use Rattle.fx_spec.specs.Evals.{focus_evals, evals_with, rows_evals, table_evals, evals, ValuesEvaluate, step_evals, address_evals, table_move_evals, down_evals, fetch_evals, PlacesEvaluate, MovesEvaluate, MovesEvaluateOnce}
+use Rattle.fx_spec.specs.Evals.{focus_evals, evals_with, rows_evals, table_evals, evals, ValuesEvaluate, step_evals, address_evals, table_move_evals, down_evals, fetch_evals, PlacesEvaluate, MovesEvaluateOnce}
 
 module _ (S : Store) where
   -- an answer made of a rule's answer costs nothing more
@@ -139,4 +139,5 @@ moves_evaluate S a p env s = record {
   to_other = λ choice. ticks-another S a choice p env s;
   down = ticks-down S a p env s;
   fetch = ticks-fetched S p env s;
+  flag = ticks-mapped S (content flag_value true p) (needed Refusal.Lacks) ∙ ticks-content S flag_value true p;
 }

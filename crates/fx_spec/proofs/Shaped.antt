@@ -18,8 +18,8 @@ use Rattle.fx_expr.specs.Tree.{Tree, row}
 use Rattle.fx_expr.proofs.Shaping.{eval_has}
 use Rattle.fx_spec.specs.declared.refusal.Refusal.{Refusal}
 use Rattle.fx_spec.specs.SpecTree.{SpecTree}
-use Rattle.fx_spec.specs.Describe.{Bindings, with_some, file_value, dir_value, link_value, landed_value, content, exists, focus_path, at_focus, rows, table, option, truth, value}
-use Rattle.fx_spec.specs.Move.{Answered, evaluated, needed, unrefused, value_shape, fetch_shape, same_shape, has_fetch_shape, fetched, of_shape, at_place, fetch_at, whole_at}
+use Rattle.fx_spec.specs.Describe.{Bindings, with_some, file_value, flag_value, dir_value, link_value, landed_value, content, exists, focus_path, at_focus, rows, table, option, truth, value}
+use Rattle.fx_spec.specs.Move.{Answered, evaluated, needed, unrefused, value_shape, fetch_shape, same_shape, has_fetch_shape, fetched, of_shape, asks_flag, flag_at, at_place, fetch_at, whole_at}
 use Rattle.fx_spec.specs.Place.{Step, First, Second, Inside, Down, Elem, Address, PlaceTree, placed, where_true, has_element, at_path, lead, place}
 use Rattle.fx_spec.specs.WellShaped.{Scope, IsDescription}
 use Rattle.fx_spec.specs.Shaped.{IsDescribed, DescribedHaveShapes, RootsHaveShapes, FetchedHaveShapes, IsDescribedPlace, PlacesAreDescribed, FetchesHaveShapes, WholesHaveShapes}
@@ -67,6 +67,12 @@ file_has None = tt
 file_has (Some (File bytes exec)) = refl
 file_has (Some (Dir names)) = tt
 file_has (Some (Link text)) = tt
+
+flag_has : (n : Option Node) → Has ShapeTree.bool (flag_value n)
+flag_has None = tt
+flag_has (Some (File bytes exec)) = refl
+flag_has (Some (Dir names)) = tt
+flag_has (Some (Link text)) = tt
 
 dir_has : (n : Option Node) → Has ShapeTree.names (dir_value n)
 dir_has None = tt
@@ -225,11 +231,27 @@ shape_fetched : (shape : ShapeTree) (o : Option ShapeTree) → has_fetch_shape s
 shape_fetched shape None e = absurd (true≢false (sym e))
 shape_fetched shape (Some s) e = ap Some (same_shapes s shape e)
 
+flag_fetched : (shape : ShapeTree) (spec : SpecTree) → asks_flag shape spec ≡ true → ShapeTree.bool ≡ shape
+flag_fetched ShapeTree.bool spec e = refl
+flag_fetched _ spec e = absurd (true≢false (sym e))
+
+flag_at_has : (S : Store) (p : List (List ℕ)) → Gets ShapeTree.bool (answer S (flag_at p))
+flag_at_has S p = needed_value S (content flag_value true p) ShapeTree.bool (content_has S flag_value true p ShapeTree.bool flag_has)
+
+fetch_at_has : (S : Store) (shape : ShapeTree) (at : PlaceTree) → IsDescribedPlace at → Gets shape (answer S (fetch_at shape at))
+fetch_at_has S shape at h = go (asks_flag shape at.spec) (flag_fetched shape at.spec)
+  where
+    form : Ask (Answered Tree)
+    form = of_shape (has_fetch_shape shape (fetch_shape at.spec)) (fetched at.path at.env at.spec)
+
+    go : (b : Bool) → (b ≡ true → ShapeTree.bool ≡ shape) → Gets shape (answer S (cond b (flag_at at.path) form))
+    go true same = subst (λ s. Gets s (answer S (flag_at at.path))) (same refl) (flag_at_has S at.path)
+    go false same =
+        of_shape_has S (has_fetch_shape shape (fetch_shape at.spec)) (fetched at.path at.env at.spec) shape
+        (λ e. fetched_have_shapes h.0 at.env at.spec h.1 shape (shape_fetched shape (fetch_shape at.spec) e) S at.path)
+
 pub fetches_have_shapes : FetchesHaveShapes
-fetches_have_shapes root d S a shape =
-    placed_has S root a (fetch_at shape) shape (places_are_described root d S a)
-    (λ at h. of_shape_has S (has_fetch_shape shape (fetch_shape at.spec)) (fetched at.path at.env at.spec) shape
-    (λ e. fetched_have_shapes h.0 at.env at.spec h.1 shape (shape_fetched shape (fetch_shape at.spec) e) S at.path))
+fetches_have_shapes root d S a shape = placed_has S root a (fetch_at shape) shape (places_are_described root d S a) (fetch_at_has S shape)
 
 pub wholes_have_shapes : WholesHaveShapes
 wholes_have_shapes root d S a shape =

@@ -31,6 +31,11 @@ abbrev pub file_value : Option Node → Option Tree
 file_value (Some (File bytes exec)) = Some (Tree.str bytes)
 file_value _ = None
 
+-- whether a file is executable; a description's value does not tell
+abbrev pub flag_value : Option Node → Option Tree
+flag_value (Some (File bytes exec)) = Some (Tree.bool exec)
+flag_value _ = None
+
 abbrev pub dir_value : Option Node → Option Tree
 dir_value (Some (Dir names)) = Some (Tree.names names)
 dir_value _ = None

@@ -8,8 +8,8 @@ use Rattle.fx_expr.specs.Tree.{Tree}
 use Rattle.fx_spec.specs.declared.refusal.Refusal.{Refusal}
 use Rattle.fx_spec.specs.SpecTree.{SpecTree}
 use Rattle.fx_spec.specs.Describe.{Bindings, exists, focus_path, value}
-use Rattle.fx_spec.specs.Move.{go_into, go_to, go_down, another, fetched}
-use Rattle.fx_spec.specs.Place.{Step, First, Second, Inside, Down, Elem, Address, place}
+use Rattle.fx_spec.specs.Move.{go_into, go_to, go_down, another, fetched, flag_at}
+use Rattle.fx_spec.specs.Place.{Step, Second, Down, Elem, Address, place}
 
 -- at a focus once, and in its part, where its path is formed
 abbrev pub focus_evals : (List (List ℕ) → ℕ) → Result (List (List ℕ)) Refusal → ℕ
@@ -69,7 +69,7 @@ abbrev pub down_evals : SpecTree → ℕ
 down_evals (SpecTree.focus e s) = 1
 down_evals _ = 0
 
--- a fetch once, at a focus, a comprehension and a predicate
+-- a fetch once, at a focus, a comprehension and a predicate; that of a flag never
 abbrev pub fetch_evals : SpecTree → ℕ
 fetch_evals (SpecTree.focus e s) = 1
 fetch_evals (SpecTree.comp s x e) = 1
@@ -86,6 +86,7 @@ pub record MovesEvaluate (S : Store) (a : Address) (p : List (List ℕ)) (env : 
   pub to_other : (choice : List (List ℕ) → Option (List ℕ)) → ticks S (another a choice p env s) ≡ table_move_evals s
   pub down : ticks S (go_down a p env s) ≡ down_evals s
   pub fetch : ticks S (fetched p env s) ≡ fetch_evals s
+  pub flag : ticks S (flag_at p) ≡ 0
 
 abbrev pub MovesEvaluateOnce : Type 0
 MovesEvaluateOnce = (S : Store) (a : Address) (p : List (List ℕ)) (env : Bindings) (s : SpecTree) → MovesEvaluate S a p env s

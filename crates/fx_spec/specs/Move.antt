@@ -8,7 +8,7 @@ use Rattle.fx_expr.specs.ShapeTree.{ShapeTree}
 use Rattle.fx_expr.specs.Tree.{Tree}
 use Rattle.fx_spec.specs.declared.refusal.Refusal.{Refusal}
 use Rattle.fx_spec.specs.SpecTree.{SpecTree}
-use Rattle.fx_spec.specs.Describe.{Bindings, content, file_value, dir_value, link_value, exists, focus_path, value}
+use Rattle.fx_spec.specs.Describe.{Bindings, content, file_value, flag_value, dir_value, link_value, exists, focus_path, value}
 use Rattle.fx_spec.specs.Place.{Step, First, Second, Inside, Down, Elem, Address, PlaceTree, place}
 
 -- an answer or a refusal
@@ -112,7 +112,7 @@ value_shape (SpecTree.comp s x e) = ShapeTree.table (value_shape s)
 value_shape (SpecTree.opt s) = ShapeTree.opt (value_shape s)
 value_shape (SpecTree.pred e) = ShapeTree.bool
 
--- the shape of what a fetch gives at a form; a pair has no fetch
+-- the shape of what a fetch gives at a form; a pair has no fetch, and a file has another, of its flag
 abbrev pub fetch_shape : SpecTree → Option ShapeTree
 fetch_shape SpecTree.file = Some ShapeTree.str
 fetch_shape SpecTree.dir = Some ShapeTree.names
@@ -154,9 +154,19 @@ abbrev pub of_shape : Bool → Ask (Answered Tree) → Ask (Answered Tree)
 of_shape false rule = Answer (Err Refusal.WrongForm)
 of_shape true rule = rule
 
+-- a truth value that is fetched at a file is the file's flag
+abbrev pub asks_flag : ShapeTree → SpecTree → Bool
+asks_flag ShapeTree.bool SpecTree.file = true
+asks_flag _ _ = false
+
+abbrev pub flag_at : List (List ℕ) → Ask (Answered Tree)
+flag_at p = content flag_value true p >>= λ v. Answer (needed Refusal.Lacks v)
+
 -- `fetch x : shape` and `value x : shape`
 abbrev pub fetch_at : ShapeTree → PlaceTree → Ask (Answered Tree)
-fetch_at shape at = of_shape (has_fetch_shape shape (fetch_shape at.spec)) (fetched at.path at.env at.spec)
+fetch_at shape at =
+    let form = of_shape (has_fetch_shape shape (fetch_shape at.spec)) (fetched at.path at.env at.spec) in
+    cond (asks_flag shape at.spec) (flag_at at.path) form
 
 abbrev pub whole_at : ShapeTree → PlaceTree → Ask (Answered Tree)
 whole_at shape at =
