@@ -4,7 +4,9 @@ usage: all.py [BENCH[=SIZE,..]..]      the benches, all where none is named, and
 """
 
 import importlib
+import subprocess
 import sys
+import tempfile
 
 import measure
 
@@ -19,4 +21,11 @@ def lines(words):
         yield from importlib.import_module(name).lines([int(size) for size in sizes.split(",") if size])
 
 
+def file_system():
+    """The kind of file system on which the folders are made."""
+    words = ["stat", "-f", "-c", "%T", tempfile.gettempdir()]
+    return subprocess.run(words, capture_output=True, text=True).stdout.strip() or "an unknown file system"
+
+
+print(f"folders on {file_system()}, {tempfile.gettempdir()}")
 measure.print_table(lines(sys.argv[1:] or BENCHES))

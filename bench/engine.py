@@ -1,6 +1,5 @@
 """The engine on described trees: `trace` of many transactions over 16 projects, each with a counter and a log, and one
-transaction that goes through many files by `each`: reading, by `next` or by `to`, which evaluates the set of the elements
-anew, or storing, after which the set is evaluated anew too.
+transaction that goes through many files by `each`: reading, by `next` or by `to`, or storing.
 """
 
 import os
@@ -13,8 +12,7 @@ from threads import set_of
 from trace import traced, write_scripts
 
 SIZES = [1_000, 10_000, 100_000]
-EACH_SIZES = [1_000, 10_000]
-ANEW_SIZES = [500, 1_000, 2_000]
+EACH_SIZES = [1_000, 4_000, 16_000]
 PROJECTS = "abcdefghijklmnop"
 DESCRIPTION = '{(p :: <n : ("count" :: file), ("log" :: dir)>) | p in %s}\n'
 COUNT = 'txn{to("%s")down into down fetch n:str store(text((int(n)+1)))}'
@@ -24,8 +22,8 @@ TO = "txn { into next fetch all : names each n in (all) { to(n) down fetch x : s
 CHANGED = 'txn { into next fetch all : names into each n in (all) { down fetch x : str store((x ++ "!")) up try end next } }\n'
 EACH = [
     ("run: files read by one `each`, by `next`", THROUGH, EACH_SIZES),
-    ("run: files read by one `each`, by `to`", TO, ANEW_SIZES),
-    ("run: files changed by one `each`", CHANGED, ANEW_SIZES),
+    ("run: files read by one `each`, by `to`", TO, EACH_SIZES),
+    ("run: files changed by one `each`", CHANGED, EACH_SIZES),
 ]
 
 

@@ -1,4 +1,4 @@
-"""`txforest run` over folders of directories and of links, against `cp -r` of the same folder."""
+"""`txforest run` over folders of directories, of deep trees and of links, against `cp -r` of the same folder."""
 
 import os
 
@@ -8,6 +8,8 @@ from run import beside_cp
 SIZES = [10_000, 98_999]
 IN_EACH = 100
 LINKS = 50_000
+DEEP_FILES = 20_000
+LEVELS = 59
 DESCRIPTION = "dir\n"
 SCRIPT = "txn { }\n"
 REPEATS = 5
@@ -22,6 +24,13 @@ def directories(path, count):
         measure.write(below, f"f{i:05}", f"{i % 1000}")
 
 
+def deep(path, count):
+    below = os.path.join(path, *(f"d{i:02}" for i in range(LEVELS)))
+    os.makedirs(below)
+    for i in range(count):
+        measure.write(below, f"f{i:05}", f"{i % 1000}")
+
+
 def links(path, count):
     os.mkdir(path)
     measure.write(path, ".forest-links", "".join(f"/l{i:05} -> gone/{i}\n" for i in range(count)))
@@ -30,5 +39,6 @@ def links(path, count):
 def lines(sizes):
     for count in sizes or SIZES:
         yield beside_cp(f"run: files in directories of {IN_EACH}", directories, count, REPEATS, DESCRIPTION, SCRIPT)
+    yield beside_cp(f"run: files below {LEVELS} directories", deep, DEEP_FILES, REPEATS, DESCRIPTION, SCRIPT)
     line = beside_cp("run: links in one folder", links, LINKS, REPEATS, DESCRIPTION, SCRIPT)
     yield measure.Line(line.kind, line.size, line.seconds, line.peak_kib, more="one file for cp -r")

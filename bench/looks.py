@@ -1,5 +1,4 @@
-"""One transaction that looks many times. Under `trace` it starts again at each look, since steps are handed out one by one;
-under `run` a worker goes on where it is. And one transaction that has to start again, since another shell stores at the file
+"""One transaction that looks many times, under `trace`, whose steps are handed out one by one, and under `run`. And one transaction that has to start again, since another shell stores at the file
 that it reads after each of its looks.
 """
 
@@ -9,7 +8,8 @@ import tempfile
 
 import measure
 
-SIZES = [500, 1_000, 2_000]
+SIZES = [500, 2_000, 8_000]
+ATTEMPTS = [500, 1_000, 2_000]
 REPEATS = 3
 LISTED = '<l : ("list" :: file), {(n :: file) | n in lines(l)}>\n'
 THROUGH = "txn { into next fetch all : names into each n in (all) { down fetch x : str up try end next } }\n"
@@ -61,5 +61,5 @@ def lines(sizes):
     for count in sizes or SIZES:
         yield looking("trace: looks of one transaction", ["none"], THROUGH, count)
     yield looking("run: looks of one transaction", [], THROUGH, max(sizes or SIZES))
-    for count in sizes or SIZES:
+    for count in sizes or ATTEMPTS:
         yield started_again(count)

@@ -1,5 +1,5 @@
-"""SQLite by python's sqlite3, which does the same counts and appends as shells do: in memory on one thread, or in a file with
-a journal (WAL, without sync) on a thread a shell.
+"""SQLite by python's sqlite3, which does the same counts, appends and insertions as shells do: in memory on one thread, or in a
+file with a journal (WAL, without sync) on a thread a shell.
 
 A step is a pair of a counter and of None, where it counts, or of a text, where it appends that. Each is a transaction.
 """
@@ -44,6 +44,19 @@ def in_memory(counters, shells):
     begin = time.monotonic()
     for steps in shells:
         do_all(connection, steps)
+    return time.monotonic() - begin
+
+
+def insertions(there, count):
+    """Adds so many names to a table of names in memory, a transaction each."""
+    connection = sqlite3.connect(":memory:", isolation_level=None)
+    connection.execute("CREATE TABLE names (name TEXT PRIMARY KEY)")
+    connection.executemany("INSERT INTO names VALUES (?)", [(f"f{i:05}",) for i in range(there)])
+    begin = time.monotonic()
+    for i in range(count):
+        connection.execute("BEGIN IMMEDIATE")
+        connection.execute("INSERT INTO names VALUES (?)", (f"a{i:04}",))
+        connection.execute("COMMIT")
     return time.monotonic() - begin
 
 

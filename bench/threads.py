@@ -15,18 +15,22 @@ import sqlite_peer
 TEXT_LIMIT = 65_536
 COUNT = 'txn{to("%s")down fetch n:str store(text((int(n)+1)))}\n'
 STORE = 'txn{to("%s")down fetch n:str store(n)}\n'
+FOCUSED = "txn{down fetch n:str store(text((int(n)+1)))}\n"
 REPORT = re.compile(rb"forest report 1\nentries (\d+)\n")
 
 
 @dataclass
 class Load:
-    """So many shells, each with so many transactions, and the file that a transaction of a shell counts in."""
+    """So many shells, each with so many transactions, and the file that a transaction of a shell counts in; whether the
+    description is a focus on the one file, or else a comprehension over all.
+    """
 
     name: str
     shells: int
     each: int
     files: int
     file_of: Callable
+    focus: bool = False
 
 
 LOADS = [
@@ -35,6 +39,7 @@ LOADS = [
     Load("1 shell, 64 files in turn", 1, 1_600, 64, lambda _, i: i % 64),
     Load("64 shells, a file each", 64, 25, 64, lambda shell, _: shell),
     Load("64 shells, one file", 64, 100, 1, lambda *_: 0),
+    Load("1 shell, one file by a focus", 1, 1_600, 1, lambda *_: 0, focus=True),
 ]
 
 
@@ -51,7 +56,13 @@ def set_of(names):
     return parts[0]
 
 
+def description_of(load, names):
+    return f'("{names[0]}" :: file)\n' if load.focus else f"{{(n :: file) | n in {set_of(names)}}}\n"
+
+
 def script_of(load, names, shell):
+    if load.focus:
+        return FOCUSED * load.each
     transaction = COUNT if load.each * len(COUNT) < TEXT_LIMIT else STORE
     return "".join(transaction % names[load.file_of(shell, i)] for i in range(load.each))
 
@@ -64,7 +75,7 @@ def ran(load):
         os.mkdir(folder)
         for name in names:
             measure.write(folder, name, "0")
-        spec = measure.write(scratch, "spec", f"{{(n :: file) | n in {set_of(names)}}}\n")
+        spec = measure.write(scratch, "spec", description_of(load, names))
         scripts = [measure.write(scratch, f"s{shell}", script_of(load, names, shell)) for shell in range(load.shells)]
         run = measure.done([measure.program(), "run", spec, folder, os.path.join(scratch, "out"), *scripts], scratch)
     entries = int(REPORT.match(run.out)[1])

@@ -1,5 +1,5 @@
-"""Walks and edits of one transaction where there are many names: moves from element to element of a comprehension over
-50,000 names, and names that are added one by one to a directory of 50,000.
+"""Walks and edits where there are many names: moves from element to element of a comprehension over 50,000 names; names that
+one transaction adds one by one to a directory of 50,000; files that are created there, by a transaction each.
 """
 
 import os
@@ -7,10 +7,14 @@ import sys
 import tempfile
 
 import measure
+import sqlite_peer
 from names import empty_files
 
 SIZES = [500, 1_000, 2_000]
 ADDED = [500, 2_000]
+CREATED = 1_000
+CREATED_AMONG = [5_000, 50_000]
+CREATE = 'txn{to("%s")down create}\n'
 NAMES = 50_000
 MOVE_REPEATS = 5
 LISTED = '<l : ("list" :: file), {(n :: file) | n in lines(l)}>\n'
@@ -46,6 +50,24 @@ def additions(count):
     return measure.Line(f"run: names added to {NAMES:,} one by one", count, seconds, ran.peak_kib, more=more)
 
 
+def created(names):
+    """So many files, each made by a transaction of its own in a directory that has these names already."""
+    with tempfile.TemporaryDirectory() as scratch:
+        folder = os.path.join(scratch, "in")
+        empty_files(folder, names)
+        added = [f"a{i:04}" for i in range(CREATED)]
+        listed = "".join(f"{name}\\n" for name in added)
+        spec = measure.write(scratch, "spec", f'{{(n :: file) | n in lines("{listed}")}}\n')
+        words_of = lambda out, shell: [measure.program(), "run", spec, folder, out, shell]
+        script = "".join(CREATE % name for name in added)
+        ran, seconds, more, out = measure.beyond(scratch, words_of, "", script, 1)
+        if ran.out.count(b" done\n") != CREATED or len(os.listdir(out)) != names + CREATED:
+            sys.exit(f"not every file was made: {ran.out[:200]!r}")
+    peer = sqlite_peer.insertions(names, CREATED)
+    return measure.Line(f"run: {CREATED:,} files created among names", names, seconds, ran.peak_kib, "SQLite, memory", peer, more)
+
+
 def lines(sizes):
     yield from (moves(count) for count in sizes or SIZES)
     yield from (additions(count) for count in sizes or ADDED)
+    yield from (created(names) for names in CREATED_AMONG)
