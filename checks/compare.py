@@ -1,8 +1,8 @@
-"""Holds the built program against the second program of the meaning, model.py, on random inputs.
+"""Holds the built program against the second program of the meaning, tools/lib/model.py, on random inputs.
 
 usage: compare.py PROGRAM [SEED] [COUNT]
 
-Each case is a random folder with links, a description, up to three scripts and a schedule: `show`, `trace` and `run` have
+Each case is a random folder with links and flags, a description, up to three scripts and a schedule: `show`, `trace` and `run` have
 to print, write and refuse what the model says. Of `run` the order and the retries are those that it prints: the answers
 and OUT are those of its transactions run whole in that order. Some texts are broken before, so that refusals are compared
 too. Then four cases from numbers: what `gen` writes, and what `large` leaves and prints. Prints how many cases there were of each kind, and ends with 1 at the first difference, which it tells.
@@ -17,6 +17,7 @@ import sys
 import tempfile
 from collections import Counter
 
+sys.path.insert(0, os.path.join(os.path.dirname(os.path.abspath(__file__)), "..", "tools", "lib"))
 import model
 
 PROGRAM = os.path.abspath(sys.argv[1])
@@ -119,7 +120,7 @@ class Maker:
         r = self.r
         word = r.choice(["into", "into", "down", "down", "next", "prev", "out", "up", "top", "create", "remove", "store", "store", "to"])
         if word == "store":
-            return f"store({self.expr(scope, r.choice([model.STR, model.STR, model.NAMES, model.INTEGER]))})"
+            return f"store({self.expr(scope, r.choice([model.STR, model.STR, model.STR, model.NAMES, model.BOOL, model.INTEGER]))})"
         return f"to({self.expr(scope, model.STR)})" if word == "to" else word
 
     def block(self, scope, depth=0):
@@ -192,13 +193,19 @@ class Maker:
                         it.write(r.choice(TEXTS))
 
         fill(top, (), 0)
-        links = {}
+        lines = {}
         for _ in range(r.choice([0, 0, 1, 2, 3])):
             parent = r.choice(paths)
             path = (*parent, r.choice(NAMES).encode())
             if path not in paths and (not parent or os.path.isdir(os.path.join(top, *(p.decode() for p in parent)))):
-                links[path] = r.choice(TARGETS).encode()
-        table = b"".join(model.spelled(model.path_text(p)) + b" -> " + model.spelled(t) + b"\n" for p, t in sorted(links.items()))
+                lines[path] = b" -> " + model.spelled(r.choice(TARGETS).encode())
+        flags = [p for p in paths if os.path.isfile(os.path.join(top, *(n.decode() for n in p))) and r.random() < 0.2]
+        if r.random() < 0.02:
+            flags.append(r.choice(paths))
+        lines |= {path: b" *" for path in flags if r.random() < 0.8}
+        table = b"".join(model.spelled(model.path_text(p)) + mark + b"\n" for p, mark in sorted(lines.items()))
+        if any(mark == b" *" for mark in lines.values()) != (r.random() < 0.02):
+            table = model.VERSION2 + table
         if table and r.random() < 0.1:
             table = self.broken(table[:-1] if r.random() < 0.3 else table + table)
         if table or r.random() < 0.1:

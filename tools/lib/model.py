@@ -1,8 +1,8 @@
 """The meaning of descriptions, scripts, runs and reports, written a second time and apart from the program, plainly and
-slowly. `checks/compare.py` holds the program against it.
+slowly. `checks/compare.py` holds the program against it, and the tools take from it what they know of the meaning.
 
-A filestore is a dict from paths (tuples of names, as bytes) to nodes: ("file", bytes), ("dir", frozenset of names) or
-("link", bytes). Values are bytes, int, bool, frozenset of bytes, ("pair", a, b), None, ("some", a), and dict for tables.
+A filestore is a dict from paths (tuples of names, as bytes) to nodes: ("file", bytes, executable flag), ("dir", frozenset
+of names) or ("link", bytes). Values are bytes, int, bool, frozenset of bytes, ("pair", a, b), None, ("some", a), and dict for tables.
 """
 
 import os
@@ -10,11 +10,16 @@ import re
 
 TEXT_LIMIT, FILE_LIMIT, NODES, LOADED, WEIGHT, TABLE_LIMIT = 65_536, 1_048_576, 100_000, 67_108_864, 33_554_432, 33_554_432
 INT = range(-(2**63), 2**63)
-TABLE = b".forest-links"
+TABLE, VERSION2 = b".forest-links", b"version 2\n"
 
 
 class Refused(Exception):
-    """A text or a folder that is refused, with its cause as the line on standard error tells it."""
+    """A text or a folder that is refused, with its cause as the line on standard error tells it; of names and shapes, with
+    the part of the tree that is meant."""
+
+    def __init__(self, cause, at=None):
+        super().__init__(cause)
+        self.at = at
 
 
 class Fault(Exception):
@@ -168,7 +173,7 @@ class Parser:
         if value in ("true", "false"):
             return ("bool", value == "true")
         if value == "empty":
-            return ("empty",)
+            return (value,)
         if value == "(":
             a = self.expr(level + 1)
             op = self.take(*BINARY, "only")
@@ -338,13 +343,14 @@ def shape_text(shape):
     return f"{shape[0]}({', '.join(map(shape_text, shape[1:]))})"
 
 
-def differs(expected, found):
-    return Refused(f"TypeDiffers {shape_text(expected)} {shape_text(found)}")
+def differs(expected, found, at):
+    return Refused(f"TypeDiffers {shape_text(expected)} {shape_text(found)}", at)
 
 
-def need(expected, found):
+def need(expected, scope, e):
+    found = shape_of(scope, e)
     if expected != found:
-        raise differs(expected, found)
+        raise differs(expected, found, e)
 
 
 def look_up(scope, name):
@@ -360,52 +366,53 @@ def shape_of(scope, e):
     if kind == "var":
         shape = look_up(scope, e[1])
         if shape is None:
-            raise Refused(f"Unknown {e[1]}")
+            raise Refused(f"Unknown {e[1]}", e)
         return shape
     if kind == "only":
-        need(NAMES, shape_of(scope, e[1]))
+        need(NAMES, scope, e[1])
         return NAMES
     if kind == "if":
-        need(BOOL, shape_of(scope, e[1]))
+        need(BOOL, scope, e[1])
         shape = shape_of(scope, e[2])
-        need(shape, shape_of(scope, e[3]))
+        need(shape, scope, e[3])
         return shape
     if kind == "bin":
-        op, a = e[1], shape_of(scope, e[2])
+        op = e[1]
         if op in ("==", "<"):
+            a = shape_of(scope, e[2])
             if a not in ((STR, INTEGER, BOOL, NAMES) if op == "==" else (STR, INTEGER)):
-                raise differs(STR, a)
-            need(a, shape_of(scope, e[3]))
+                raise differs(STR, a, e[2])
+            need(a, scope, e[3])
             return BOOL
         left, right, gives = {
             "++": (STR, STR, STR), "+": (INTEGER, INTEGER, INTEGER), "-": (INTEGER, INTEGER, INTEGER), "and": (BOOL, BOOL, BOOL),
             "or": (BOOL, BOOL, BOOL), "in": (STR, NAMES, BOOL), "union": (NAMES, NAMES, NAMES), "minus": (NAMES, NAMES, NAMES),
         }[op]
-        need(left, a)
-        need(right, shape_of(scope, e[3]))
+        need(left, scope, e[2])
+        need(right, scope, e[3])
         return gives
     op, a = e[1], shape_of(scope, e[2])
     if op == "size":
         if a not in (STR, NAMES):
-            raise differs(STR, a)
+            raise differs(STR, a, e[2])
         return INTEGER
     if op in ("first", "second"):
         if a[0] != "pair":
-            raise differs(("pair", STR, STR), a)
+            raise differs(("pair", STR, STR), a, e[2])
         return a[1 if op == "first" else 2]
     if op in ("keys", "present"):
         wanted = "table" if op == "keys" else "opt"
         if a[0] != wanted:
-            raise differs((wanted, STR), a)
+            raise differs((wanted, STR), a, e[2])
         return NAMES if op == "keys" else BOOL
     takes, gives = {"not": (BOOL, BOOL), "one": (STR, NAMES), "lines": (STR, NAMES), "int": (STR, INTEGER), "text": (INTEGER, STR)}[op]
-    need(takes, a)
+    need(takes, scope, e[2])
     return gives
 
 
-def free(scope, name):
+def free(scope, name, at):
     if look_up(scope, name) is not None:
-        raise Refused(f"Repeated {name}")
+        raise Refused(f"Repeated {name}", at)
 
 
 def check_spec(scope, s):
@@ -415,19 +422,19 @@ def check_spec(scope, s):
     if kind == "dir":
         return NAMES
     if kind == "focus":
-        need(STR, shape_of(scope, s[1]))
+        need(STR, scope, s[1])
         return check_spec(scope, s[2])
     if kind == "pair":
         a = check_spec(scope, s[2])
-        free(scope, s[1])
+        free(scope, s[1], s)
         return ("pair", a, check_spec([*scope, (s[1], a)], s[3]))
     if kind == "comp":
-        need(NAMES, shape_of(scope, s[3]))
-        free(scope, s[2])
+        need(NAMES, scope, s[3])
+        free(scope, s[2], s)
         return ("table", check_spec([*scope, (s[2], STR)], s[1]))
     if kind == "opt":
         return ("opt", check_spec(scope, s[1]))
-    need(BOOL, shape_of(scope, s[1]))
+    need(BOOL, scope, s[1])
     return BOOL
 
 
@@ -443,7 +450,7 @@ def spec_shape(s):
 
 def check_act(scope, act):
     if act[0] == "to":
-        need(STR, shape_of(scope, act[1]))
+        need(STR, scope, act[1])
     elif act[0] == "store":
         shape_of(scope, act[1])
 
@@ -456,33 +463,34 @@ def check_block(scope, commands):
             check_act(scope, c[1])
         elif kind == "try":
             check_act(scope, c[2])
-            free(scope, c[1])
+            free(scope, c[1], c)
             scope.append((c[1], INTEGER))
         elif kind == "let":
             shape = shape_of(scope, c[2])
-            free(scope, c[1])
+            free(scope, c[1], c)
             scope.append((c[1], shape))
         elif kind == "set":
             shape = shape_of(scope, c[2])
             bound = look_up(scope, c[1])
             if bound is None:
-                raise Refused(f"Unknown {c[1]}")
-            need(bound, shape)
+                raise Refused(f"Unknown {c[1]}", c)
+            if bound != shape:
+                raise differs(bound, shape, c[2])
         elif kind in ("fetch", "value"):
-            free(scope, c[1])
+            free(scope, c[1], c)
             scope.append((c[1], c[2]))
         elif kind == "validate":
-            free(scope, c[1])
+            free(scope, c[1], c)
             scope.append((c[1], BOOL))
         elif kind == "print":
             shape_of(scope, c[1])
         elif kind == "if":
-            need(BOOL, shape_of(scope, c[1]))
+            need(BOOL, scope, c[1])
             check_block(scope, c[2])
             check_block(scope, c[3])
         elif kind == "each":
-            need(NAMES, shape_of(scope, c[2]))
-            free(scope, c[1])
+            need(NAMES, scope, c[2])
+            free(scope, c[1], c)
             check_block([*scope, (c[1], STR)], c[3])
 
 
@@ -650,12 +658,15 @@ def exists(view, path):
 KINDS = {"file": ("file", True), "dir": ("dir", True), "link": ("link", False)}
 
 
-def content(view, path, kind):
-    """What stands at a path by a bare form, or None."""
+EMPTY = ("file", b"", False)
+
+
+def found_at(view, path, kind):
+    """The node at a path by a bare form, or None where one of another kind or none stands there."""
     wanted, follow = KINDS[kind]
     landing = resolve(view.get, path, follow)
     node = view.get(landing[1]) if landing[0] == "at" else None
-    return node[1] if node and node[0] == wanted else None
+    return node if node and node[0] == wanted else None
 
 
 class NoValue(Exception):
@@ -665,10 +676,10 @@ class NoValue(Exception):
 def value(view, path, env, s):
     kind = s[0]
     if kind in KINDS:
-        found = content(view, path, kind)
+        found = found_at(view, path, kind)
         if found is None:
             raise NoValue
-        return found
+        return found[1]
     try:
         if kind == "focus":
             below = focus_path(path, env, s[1])
@@ -799,13 +810,14 @@ def fetch(view, root, address, shape):
     path, env, s = place(view, root, address)
     kind = s[0]
     shapes = {"file": STR, "link": STR, "focus": STR, "dir": NAMES, "comp": NAMES, "opt": BOOL, "pred": BOOL}
-    if kind == "pair" or shapes[kind] != shape:
+    of_flag = kind == "file" and shape == BOOL
+    if kind == "pair" or shapes[kind] != shape and not of_flag:
         raise Stop(*WRONG_FORM)
     if kind in KINDS:
-        found = content(view, path, kind)
+        found = found_at(view, path, kind)
         if found is None:
             raise Stop(*LACKS)
-        return found
+        return found[2] if of_flag else found[1]
     if kind == "opt":
         return exists(view, path)
     return guarded(env, s[3] if kind == "comp" else s[1])
@@ -834,7 +846,7 @@ def made(view, directory, names, node):
     changes[touched[-1]] = node
     if node[0] == "dir":
         for name in node[1]:
-            changes[(*touched[-1], name)] = ("file", b"")
+            changes[(*touched[-1], name)] = EMPTY
     for path in sorted(changes):
         view.get(path)
     return changes
@@ -846,8 +858,7 @@ def edit(view, root, address, act, variables):
     path, env, s = place(view, root, address)
     if word == "store":
         kind = s[0]
-        shape = bytes if kind in ("file", "link") else frozenset
-        if kind not in KINDS or not isinstance(stored, shape) or isinstance(stored, bool):
+        if kind not in KINDS or type(stored) not in {"file": (bytes, bool), "link": (bytes,), "dir": (frozenset,)}[kind]:
             raise Stop(*WRONG_FORM)
         if kind == "link":
             parts = link_parts(stored)
@@ -863,7 +874,9 @@ def edit(view, root, address, act, variables):
             old = view.get(at)
             if old is None or old[0] != kind:
                 raise blocked(at)
-            if kind != "dir":
+            if kind == "file":
+                return {at: (kind, old[1], stored) if isinstance(stored, bool) else (kind, stored, old[2])}
+            if kind == "link":
                 return {at: (kind, stored)}
             if stored and len(at) == 64:
                 raise Stop(*TOO_DEEP)
@@ -873,7 +886,7 @@ def edit(view, root, address, act, variables):
                     changes |= {p: None for p in below(view, (*at, name))}
                 elif name not in old[1]:
                     view.get((*at, name))
-                    changes[(*at, name)] = ("file", b"")
+                    changes[(*at, name)] = EMPTY
             return changes
         if landing[0] == "blocked":
             raise blocked(landing[1])
@@ -882,7 +895,10 @@ def edit(view, root, address, act, variables):
         where = (*landing[1], *landing[2])
         if len(where) > 64 or kind == "dir" and stored and len(where) == 64:
             raise Stop(*TOO_DEEP)
-        return made(view, landing[1], landing[2], (kind, stored))
+        node = (kind, stored)
+        if kind == "file":
+            node = (kind, b"", stored) if isinstance(stored, bool) else (kind, stored, False)
+        return made(view, landing[1], landing[2], node)
     if word == "create":
         bare = s
         while bare[0] in ("opt", "pair"):
@@ -895,7 +911,7 @@ def edit(view, root, address, act, variables):
         if landing[0] == "absent":
             if len(landing[1]) + len(landing[2]) > 64:
                 raise Stop(*TOO_DEEP)
-            return made(view, landing[1], landing[2], ("file", b"") if bare[0] == "file" else ("dir", frozenset()))
+            return made(view, landing[1], landing[2], EMPTY if bare[0] == "file" else ("dir", frozenset()))
     else:
         landing = resolve(view.get, path, False)
         if landing[0] == "at":
@@ -1157,7 +1173,7 @@ def load(folder):
                     raise too_large(inside)
                 loaded += size
                 with open(there, "rb") as it:
-                    store[inside] = ("file", it.read())
+                    store[inside] = ("file", it.read(), False)
         store[path] = ("dir", frozenset(names))
 
     walk(os.fsencode(folder), ())
@@ -1169,34 +1185,63 @@ def load(folder):
             text = it.read()
         if len(text) > TABLE_LIMIT:
             raise Refused('TooLarge "/.forest-links"')
-        before = None
-        for i, line in enumerate(text.splitlines(True) if text else [], 1):
-            bad = Refused(f"BadTable {i}")
-            parts = line[:-1].split(b" -> ") if line.endswith(b"\n") else []
-            if len(parts) != 2:
-                raise bad
-            spelling, target = map(unspelled, parts)
-            if spelling is None or target is None or spelling[:1] != b"/":
-                raise bad
-            path = tuple(spelling[1:].split(b"/"))
-            link = link_parts(target)
-            if not all(map(is_name, path)) or len(path) > 64 or link is None or len(link[1]) > 64:
-                raise bad
-            parent = store.get(path[:-1])
-            if before is not None and path <= before or not parent or parent[0] != "dir" or path in store:
-                raise bad
-            before = path
-            store[path[:-1]] = ("dir", parent[1] | {path[-1]})
-            store[path] = ("link", target)
-            loaded += len(target)
-            if len(store) > NODES or loaded > LOADED:
-                raise Refused('TooLarge "/.forest-links"')
+        read_table(store, text, loaded)
     return store
 
 
+def read_table(store, text, loaded):
+    """Puts the links and the flags of a table's text into the filestore of the folder; `loaded` are the bytes of its files."""
+    lines = re.findall(rb"[^\n]*\n|[^\n]+", text)
+    version2 = lines[:1] == [VERSION2]
+    before, flags = None, 0
+    for i, line in enumerate(lines, 1):
+        if version2 and i == 1:
+            continue
+        bad = Refused(f"BadTable {i}")
+        path, mark, target = table_line(line)
+        parent = store.get(path[:-1]) if path else None
+        if not path or before is not None and path <= before:
+            raise bad
+        before = path
+        if mark == "*":
+            if not version2 or path not in store or store[path][0] != "file":
+                raise bad
+            store[path] = ("file", store[path][1], True)
+            flags += 1
+            continue
+        if not parent or parent[0] != "dir" or path in store:
+            raise bad
+        store[path[:-1]] = ("dir", parent[1] | {path[-1]})
+        store[path] = ("link", target)
+        loaded += len(target)
+        if len(store) > NODES or loaded > LOADED:
+            raise Refused('TooLarge "/.forest-links"')
+    if version2 and not flags:
+        raise Refused("BadTable 1")
+
+
+def table_line(line):
+    """The path, the mark and the link's text of a table's line; no path where it is of no form."""
+    parts = line[:-1].split(b" ") if line.endswith(b"\n") else []
+    mark = {2: "*", 3: "->"}.get(len(parts))
+    if mark is None or parts[1] != mark.encode():
+        return (), None, None
+    spelling, target = unspelled(parts[0]), unspelled(parts[2]) if mark == "->" else None
+    if spelling is None or spelling[:1] != b"/":
+        return (), None, None
+    path = tuple(spelling[1:].split(b"/"))
+    link = link_parts(target) if target is not None else None
+    if not all(map(is_name, path)) or len(path) > 64 or mark == "->" and (link is None or len(link[1]) > 64):
+        return (), None, None
+    return path, mark, target
+
+
 def table_of(store):
-    links = sorted((p, n[1]) for p, n in store.items() if n[0] == "link")
-    return b"".join(spelled(path_text(p)) + b" -> " + spelled(text) + b"\n" for p, text in links)
+    """The text of a filestore's table, empty where it has neither links nor flags."""
+    links = [(p, b" -> " + spelled(n[1])) for p, n in store.items() if n[0] == "link"]
+    flags = [(p, b" *") for p, n in store.items() if n[0] == "file" and n[2]]
+    lines = b"".join(spelled(path_text(p)) + mark + b"\n" for p, mark in sorted(links + flags))
+    return VERSION2 + lines if flags else lines
 
 
 def saved(folder):
@@ -1213,7 +1258,7 @@ def saved(folder):
 
 def folder_of(store):
     """The same of a filestore: its links are lines of the table."""
-    found = {p: n for p, n in store.items() if n[0] == "file"}
+    found = {p: n[:2] for p, n in store.items() if n[0] == "file"}
     for p, n in store.items():
         if n[0] == "dir":
             found[p] = ("dir", frozenset(m for m in n[1] if store[(*p, m)][0] != "link"))
@@ -1243,18 +1288,18 @@ def generated(number):
     projects = [b"p%02d" % i for i in range(16)]
     store = {
         (): ("dir", frozenset([b"config", b"current", *projects])),
-        (b"config",): ("file", b"".join(p + b"\n" for p in projects)),
+        (b"config",): ("file", b"".join(p + b"\n" for p in projects), False),
         (b"current",): ("link", projects[draw(16)]),
     }
     notes = [b"n%d" % i for i in range(8)]
     for p in projects:
         store[(p,)] = ("dir", frozenset([b"count", b"log", b"notes"]))
-        store[(p, b"count")] = ("file", b"0")
+        store[(p, b"count")] = ("file", b"0", False)
         store[(p, b"log")] = ("dir", frozenset())
         store[(p, b"notes")] = ("dir", frozenset(notes))
         for n in notes:
             length = 1 + draw(64)
-            store[(p, b"notes", n)] = ("file", bytes([ord("a") + draw(26)]) * length)
+            store[(p, b"notes", n)] = ("file", bytes([ord("a") + draw(26)]) * length, False)
     scripts = []
     for k in range(8):
         lines = []
