@@ -149,9 +149,9 @@ sum_held (([], Link text) ∷ es) =
     let all = more_sizes ([], Link text) es in
     let link = more_texts (record { path = []; text = text }) (links_in es) in
     omega arith
-sum_held ((n ∷ r, File bytes false) ∷ es) =
+sum_held ((n ∷ r, File bytes exec) ∷ es) =
     let rest = sum_held es in
-    let all = more_sizes (n ∷ r, File bytes false) es in
+    let all = more_sizes (n ∷ r, File bytes exec) es in
     let held = more_bytes (n ∷ r, file bytes) (held_of es) in
     omega arith
 sum_held ((n ∷ r, Dir names) ∷ es) =

@@ -272,9 +272,9 @@ module _ (tree : Tree) (P : Paths) (nodes : Nodes) (whole : IsWhole (get nodes))
   -- ---- nothing is refused
 
   accepted : (p : Paths) (node : Node) (e : Entry) → get nodes p ≡ Some node → host_entry (Some node) ≡ Some e → 0 < length p → IsAccepted p e
-  accepted p (File bytes false) e is shows some =
+  accepted p (File bytes exec) e is shows some =
       let path = whole.paths p (ap is_some is) in
-      let node : IsNode p (File bytes false) = subst (λ o. IfSome o (IsNode p)) is (whole.nodes p) in
+      let node : IsNode p (File bytes exec) = subst (λ o. IfSome o (IsNode p)) is (whole.nodes p) in
       let same : file bytes ≡ e = cc in
       subst (IsAccepted p) same (record { named = path.names (length p - 1) [] (omega arith); short = path.short; known = λ k. cc; small = node.short })
   accepted p (Dir names) e is shows some =

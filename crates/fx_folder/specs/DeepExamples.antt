@@ -1,5 +1,5 @@
 -- Small folders of some depth, and what they are loaded as.
-use Rattle.std.specs.Prelude.{◌≡◌, ℕ, List, [], ◌∷◌, ◌++◌, codes, Ok, Err}
+use Rattle.std.specs.Prelude.{◌≡◌, ℕ, false, List, [], ◌∷◌, ◌++◌, codes, Ok, Err}
 use Rattle.fx_outside.specs.declared.kind.HostKind.TheVariants.{Other}
 use Rattle.fx_outside.specs.Tree.{Entry, file, folder}
 use Rattle.fx_store.specs.declared.node.Node.TheVariants.{File, Dir, Link}
