@@ -1,5 +1,5 @@
 -- Calls that follow rules: an answer, one look, one call and then the next, an evaluation, and a call that stops.
-use Rattle.std.proofs.Common.{◌≡◌, ℕ, ◌+◌, ◌≤◌, List, Option, Some, Result, Ok, Err, refl, ap, sym, subst, arith}
+use Rattle.std.proofs.Common.{◌≡◌, ℕ, ◌+◌, List, Option, Some, Result, Ok, Err, refl, ap, sym, subst, arith}
 use Rattle.std.specs.Prelude.{IfOk, IfErr}
 use mathlib.Core.Path.{fun_ext}
 use Rattle.fx_store.specs.declared.node.Node.{Node}
@@ -14,7 +14,7 @@ use Rattle.fx_view.specs.Answers.{IsReadOf, NeedsIt}
 use Rattle.fx_view.specs.Follows.{walked, Went, GoesBy, Follows, Consults}
 use Rattle.fx_view.proofs.Rules.{found_answer}
 use Rattle.fx_view.proofs.Going.{Went-grows}
-use Rattle.fx_view.proofs.Rulings.{by_answer, by_refused, by_then, by_stop, by_same, by_own, by_tick, by_look, by_look_refused, by_look_stop, by_look_own}
+use Rattle.fx_view.proofs.Rulings.{by_answer, by_refused, by_then, by_stop, by_own, by_tick, by_look, by_look_refused, by_look_stop, by_look_own}
 
 abbrev Path : Type 0
 Path = List (List ℕ)

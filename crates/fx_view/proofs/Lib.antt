@@ -13,5 +13,6 @@ pub mod Stepping
 pub mod Nets
 pub mod Sames
 pub mod Owning
+pub mod Apart
 pub mod NetLaws
 pub mod Wholes

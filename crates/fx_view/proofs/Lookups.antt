@@ -1,16 +1,16 @@
 -- Look-ups by path: what the tables answer is what the definitions say.
-use Rattle.std.proofs.Common.{◌≡◌, ℕ, zero, suc, ◌+◌, not, Bool, true, false, cond, List, [], ◌∷◌, ◌++◌, length, take, map, slice_get, Option, Some, None, is_some, refl, sym, ap, subst, ◌∙◌, arith, take_all}
+use Rattle.std.proofs.Common.{◌≡◌, ℕ, zero, suc, ◌+◌, not, Bool, true, false, cond, List, [], ◌∷◌, ◌++◌, length, map, slice_get, Option, Some, None, is_some, refl, sym, ap, subst, ◌∙◌, arith}
 use Rattle.std.specs.Prelude.{position, nat_lt}
 use Rattle.std.specs.List.{IsDistinct, position_or_len}
 use Rattle.std.specs.Map.{lookup, keys_of}
-use Rattle.std.proofs.lemmas.Option.{none-some, same_Some}
+use Rattle.std.proofs.lemmas.Option.{same_Some}
 use Rattle.std.specs.Ordering.{eq_by_cmp}
 use Rattle.indexmap.specs.IndexMap.{insert_entry}
 use Rattle.fx_store.specs.declared.node.Node.{Node}
 use Rattle.fx_store.specs.Names.{path_cmp}
 use Rattle.fx_view.specs.ReadList.{ReadList}
 use Rattle.fx_view.specs.OwnList.{OwnList}
-use Rattle.fx_view.specs.Reads.{read_at, placed, IsReads}
+use Rattle.fx_view.specs.Reads.{read_at, placed, count_before, IsReads}
 use Rattle.fx_view.specs.Own.{own_at, put_own}
 
 abbrev Path : Type 0
@@ -64,28 +64,32 @@ placed_once reads i position once = subst (IsDistinct (eq_by_cmp path_cmp)) (sym
 
 -- ---- the reads before a path's
 
-before_place : (test : Path → Bool) (reads : ReadList) → lookup test (take (position_or_len test (keys_of reads)) reads) ≡ None
-before_place test [] = refl
-before_place test (e ∷ es) = at (test e.0) refl (before_place test es)
-  where
-    at : (b : Bool) → test e.0 ≡ b → lookup test (take (position_or_len test (keys_of es)) es) ≡ None → lookup test (take (cond (not b) (1 + position_or_len test (keys_of es)) 0) (e ∷ es)) ≡ None
-    at true is rest = refl
-    at false is rest =
-        let one : 1 + position_or_len test (keys_of es) ≡ suc (position_or_len test (keys_of es)) = omega arith in
-        ap (λ k. lookup test (take k (e ∷ es))) one ∙ ap (λ b. cond b (Some e.1) (lookup test (take (position_or_len test (keys_of es)) es))) is ∙ rest
+module _ (path : Path) where
+  abbrev is : Path → Bool
+  is = eq_by_cmp path_cmp path
 
-pub place_some : (reads : ReadList) (path : Path) (i : ℕ) → position (eq_by_cmp path_cmp path) (keys_of reads) ≡ Some i → read_at (take i reads) path ≡ None
-place_some reads path i is = at (nat_lt (position_or_len (eq_by_cmp path_cmp path) (keys_of reads)) (length (keys_of reads))) is
-  where
-    at : (b : Bool) → cond b (Some (position_or_len (eq_by_cmp path_cmp path) (keys_of reads))) None ≡ Some i → read_at (take i reads) path ≡ None
-    at true e =
-        let same : position_or_len (eq_by_cmp path_cmp path) (keys_of reads) ≡ i = cc in
-        ap (λ i. read_at (take i reads) path) (sym same) ∙ sym (lookup-read_at (take (position_or_len (eq_by_cmp path_cmp path) (keys_of reads)) reads) path) ∙ before_place (eq_by_cmp path_cmp path) reads
-    at false e = absurd (cc)
+  count_position : (reads : ReadList) → position_or_len is (keys_of reads) ≡ count_before (path ∷ []) reads
+  count_position [] = refl
+  count_position (e ∷ es) = at (is e.0) (count_position es)
+    where
+      at : (b : Bool) → position_or_len is (keys_of es) ≡ count_before (path ∷ []) es → cond (not b) (1 + position_or_len is (keys_of es)) 0 ≡ cond (cond b true false) 0 (suc (count_before (path ∷ []) es))
+      at true rest = refl
+      at false rest = omega (arith, rest)
 
-pub place_none : (reads : ReadList) (path : Path) (n : ℕ) → is_some (lookup (eq_by_cmp path_cmp path) reads) ≡ false → n ≡ length reads → read_at (take n reads) path ≡ None
-place_none reads path n gone all = ap (λ rs. read_at rs path) (take_all n reads (omega (arith, all))) ∙ sym (lookup-read_at reads path) ∙ no_some (lookup (eq_by_cmp path_cmp path) reads) gone
-  where
-    no_some : (o : Option (Option Node × ℕ)) → is_some o ≡ false → o ≡ None
-    no_some None e = refl
-    no_some (Some x) e = absurd (cc)
+  pub count_some : (reads : ReadList) (i : ℕ) → position is (keys_of reads) ≡ Some i → i ≡ count_before (path ∷ []) reads
+  count_some reads i found = at (nat_lt (position_or_len is (keys_of reads)) (length (keys_of reads))) found
+    where
+      at : (b : Bool) → cond b (Some (position_or_len is (keys_of reads))) None ≡ Some i → i ≡ count_before (path ∷ []) reads
+      at true e = let same : position_or_len is (keys_of reads) ≡ i = cc in sym same ∙ count_position reads
+      at false e = absurd (cc)
+
+  count_all : (reads : ReadList) → is_some (lookup is reads) ≡ false → length reads ≡ count_before (path ∷ []) reads
+  count_all [] gone = refl
+  count_all (e ∷ es) gone = at (is e.0) gone (count_all es)
+    where
+      at : (b : Bool) → is_some (cond b (Some e.1) (lookup is es)) ≡ false → (is_some (lookup is es) ≡ false → length es ≡ count_before (path ∷ []) es) → suc (length es) ≡ cond (cond b true false) 0 (suc (count_before (path ∷ []) es))
+      at true gone rest = absurd (cc)
+      at false gone rest = ap suc (rest gone)
+
+  pub count_none : (reads : ReadList) (n : ℕ) → is_some (lookup is reads) ≡ false → n ≡ length reads → n ≡ count_before (path ∷ []) reads
+  count_none reads n gone all = all ∙ count_all reads gone

@@ -2,7 +2,7 @@
 use Rattle.std.proofs.Common.{◌≡◌, ℕ, cond, List, [], ◌∷◌, ◌++◌, Option, Some, None, is_some, IsSome, refl, ap, ◌∙◌, sym, subst}
 use Rattle.fx_store.specs.declared.node.Node.{Node}
 use Rattle.fx_store.specs.Whole.{Store}
-use Rattle.fx_store.specs.Rule.{Known, Ask, Answer, Look, Tick, answer, asked, ticks, ◌>>=◌, look_all, Found, Needs, seen, if_known, follow, AgreesWith, FollowedAt, AllKnown, changed, first_unknown}
+use Rattle.fx_store.specs.Rule.{Known, Ask, Answer, Look, Tick, answer, asked, ◌>>=◌, look_all, Found, Needs, seen, if_known, follow, AgreesWith, FollowedAt, AllKnown, changed, first_unknown}
 use Rattle.fx_store.proofs.Asks.{followed}
 use Rattle.fx_view.specs.Follows.{walked, walked_on}
 use Rattle.fx_view.proofs.Growing.{Grows}

@@ -39,6 +39,10 @@ put_all own (c ∷ cs) = put_all (put_own own c.path c.node) cs
 abbrev pub AreRead : OwnList → ReadList → Type 0
 AreRead own reads = (path : List (List ℕ)) → IsSome (own_at own path) → IsRead reads path
 
+-- the one has the same own changes as the other wherever something was read
+abbrev pub SameOver : ReadList → Known → Known → Type 0
+SameOver reads own now = (path : List (List ℕ)) → IsSome (known_of reads path) → own path ≡ now path
+
 -- the changes are the own ones whose node differs from the one read
 pub record IsNet (own : OwnList) (reads : ReadList) (changes : List Change) : Type 0 where
   pub sets : (path : List (List ℕ)) (node : Option Node) → change_at changes path ≡ Some node

@@ -1,5 +1,5 @@
 -- Reads: what was read at a path.
-use Rattle.std.specs.Prelude.{ℕ, zero, suc, cond, List, [], ◌∷◌, map, Option, Some, None, IsSome}
+use Rattle.std.specs.Prelude.{ℕ, zero, suc, Bool, true, false, cond, List, [], ◌∷◌, map, Option, Some, None, IsSome}
 use Rattle.std.specs.List.{IsDistinct}
 use Rattle.std.specs.Map.{keys_of}
 use Rattle.std.specs.Option.{option_map}
@@ -33,6 +33,16 @@ placed (suc i) position (e ∷ es) = e ∷ placed i position es
 -- the reads without the positions of their looks
 abbrev pub nodes_in : ReadList → OwnList
 nodes_in reads = map (λ r. (r.0, r.1.0)) reads
+
+-- whether the path is one of these
+abbrev pub is_among : List (List (List ℕ)) → List (List ℕ) → Bool
+is_among [] path = false
+is_among (p ∷ ps) path = cond (eq_by_cmp path_cmp p path) true (is_among ps path)
+
+-- how many reads come before the first at one of the paths; all, where there is none
+abbrev pub count_before : List (List (List ℕ)) → ReadList → ℕ
+count_before paths [] = 0
+count_before paths (e ∷ es) = cond (is_among paths e.0) 0 (suc (count_before paths es))
 
 -- something was read at the path
 abbrev pub IsRead : ReadList → List (List ℕ) → Type 0

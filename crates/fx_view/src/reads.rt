@@ -1,7 +1,7 @@
 //! What was read of a filestore.
 ghost use Rattle.std.specs.Prelude.{◌≡◌, ◌<◌, ◌++◌, ◌∷◌, [], None, length, take, slice_get, OnOk, OnErr, option_copied, option_map};
 ghost use Rattle.std.specs.Map.Iter.{deref_pair};
-ghost use Rattle.fx_view.specs.Reads.{IsReads, read_at, placed};
+ghost use Rattle.fx_view.specs.Reads.{IsReads, read_at, placed, count_before};
 
 use fx_base::NoMemory;
 use fx_store::{Node, Path};
@@ -79,7 +79,7 @@ impl Reads {
 
     /// How many reads come before the path's; all of them where it was not read.
     pub fn count_before(&self, path: &Path) -> u64
-        ensures { read_at (take result self.now) path.now ≡ None }
+        ensures { result ≡ count_before (path.now ∷ []) self.now }
     {
         count_before_in(&self.table, path)
     }
@@ -102,7 +102,7 @@ impl Reads {
 }
 
 fn count_before_in(table: &IndexMap<Path, (Option<Node>, u64)>, path: &Path) -> u64
-    ensures { read_at (take result table.now.entries) path.now ≡ None }
+    ensures { result ≡ count_before (path.now ∷ []) table.now.entries }
 {
     match table.get_index_of(path) {
         Some(i) => i as u64,
