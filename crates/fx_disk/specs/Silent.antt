@@ -1,7 +1,15 @@
 -- What is seen of a host that tells nothing.
-use Rattle.std.specs.Prelude.{ℕ, None}
-use Rattle.fx_outside.specs.Host.{HostView}
+use Rattle.std.specs.Prelude.{◌≡◌, ◌⊎◌, ◌≤◌, ℕ, List, Option, None}
+use Rattle.fx_outside.specs.declared.kind.HostFault.{HostFault}
+use Rattle.fx_outside.specs.declared.kind.HostFault.TheVariants.{Failed}
+use Rattle.fx_outside.specs.Host.{HostView, FaultAt, IsFaultless}
 
--- its counts of faults and of calls at unfit paths alone
-abbrev pub silent : ℕ → ℕ → HostView
-silent faults unfit = record { told = None; faults = faults; unfit = unfit }
+-- what it counts alone: its faults, with the path of the last one, and the calls at unfit paths
+abbrev pub silent : ℕ → Option (List ℕ) → ℕ → HostView
+silent faults last_fault unfit = record { told = None; faults = faults; last_fault = last_fault; unfit = unfit }
+
+-- no fault is counted, or one at this path; Failed is answered only for one that is counted
+pub record Counts (path : List ℕ) (old new : HostView) (fault : HostFault) : Type 0 where
+  pub later : old.faults ≤ new.faults
+  pub faults : IsFaultless old new ⊎ FaultAt path old new
+  pub failed : fault ≡ Failed → FaultAt path old new

@@ -3,7 +3,7 @@ ghost use Rattle.std.specs.Prelude.{◌≡◌, ◌≤◌, ◌+◌, None, true, f
 ghost use Rattle.std.specs.FinMap.{len};
 ghost use Rattle.fx_base.specs.Causes.{Rose};
 ghost use Rattle.fx_outside.specs.Path.{is_fit};
-ghost use Rattle.fx_outside.specs.declared.kind.HostFault.TheVariants.{Failed};
+ghost use Rattle.fx_disk.specs.Silent.{silent, Counts};
 
 use crate::reading::{Reading, read_on};
 use fx_base::NoMemory;
@@ -17,12 +17,13 @@ use std::rt::Files;
 pub const MOST_ENTRIES: usize = 1_000_000;
 
 /// The machine's files. It tells nothing of what it holds, and counts each error of the system: a name that is not UTF-8
-/// and a folder of more than [`MOST_ENTRIES`] entries too. It counts the calls at unfit paths besides. A file that is read
-/// on stays open, so that a pipe is read too.
+/// and a folder of more than [`MOST_ENTRIES`] entries too. It keeps the path of the last one, and counts the calls at unfit
+/// paths besides. A file that is read on stays open, so that a pipe is read too.
 #[derive(Drop)]
 pub struct Disk<R: Files + AllocGlobal + Clone + Drop> {
     rt: R,
     faults: u64,
+    last_fault: Option<HostText>,
     unfit: u64,
     reading: Option<Reading<R::File>>,
 }
@@ -115,11 +116,13 @@ fn write_file<R: Files>(rt: &R, path: &str, bytes: &[u8]) -> io::Result<()> {
 impl<R: Files + AllocGlobal + Clone + Drop> Disk<R> {
     pub fn new(rt: R) -> Disk<R>
         ensures faults { result.faults ≡ 0 }
+        ensures last { result.last_fault ≡ None }
         ensures unfit { result.unfit ≡ 0 }
     {
         Disk {
             rt,
             faults: 0,
+            last_fault: None,
             unfit: 0,
             reading: None,
         }
@@ -137,33 +140,38 @@ impl<R: Files + AllocGlobal + Clone + Drop> Disk<R> {
         ensures fit { is_fit path.now ≡ true → self.new.unfit ≡ self.old.unfit }
         ensures unfit { is_fit path.now ≡ false → Rose self.old.unfit self.new.unfit }
         ensures faults { self.new.faults ≡ self.old.faults }
+        ensures last { self.new.last_fault ≡ self.old.last_fault }
     {
         if !path.is_fit() {
             self.unfit = self.unfit.saturating_add(1);
         }
     }
 
-    /// A counted fault.
-    fn failed(&mut self) -> HostFault
-        ensures fault { result ≡ Failed }
-        ensures rose { Rose self.old.faults self.new.faults }
-        ensures later { self.old.faults ≤ self.new.faults }
+    /// A fault at this path, counted unless memory runs out.
+    fn failed(&mut self, alloc: Global, path: &HostText) -> HostFault
+        ensures counts { Counts path.now (silent self.old.faults self.old.last_fault self.old.unfit)
+            (silent self.new.faults self.new.last_fault self.new.unfit) result }
         ensures unfit { self.new.unfit ≡ self.old.unfit }
     {
+        let place = match path.copy(alloc) {
+            Ok(place) => place,
+            Err(NoMemory) => return HostFault::NoMemory,
+        };
         self.faults = self.faults.saturating_add(1);
+        self.last_fault = Some(place);
         HostFault::Failed
     }
 
-    /// An error of the system, counted unless it is want of memory.
-    fn fault(&mut self, error: io::Error) -> HostFault
-        ensures rose { result ≡ Failed → Rose self.old.faults self.new.faults }
-        ensures later { self.old.faults ≤ self.new.faults }
+    /// An error of the system at this path, counted unless it is want of memory.
+    fn fault(&mut self, alloc: Global, path: &HostText, error: io::Error) -> HostFault
+        ensures counts { Counts path.now (silent self.old.faults self.old.last_fault self.old.unfit)
+            (silent self.new.faults self.new.last_fault self.new.unfit) result }
         ensures unfit { self.new.unfit ≡ self.old.unfit }
     {
         if error.kind() == ErrorKind::OutOfMemory {
             HostFault::NoMemory
         } else {
-            self.failed()
+            self.failed(alloc, path)
         }
     }
 }
@@ -175,37 +183,38 @@ impl<R: Files + AllocGlobal + Clone + Drop> Host for Disk<R> {
     ghost use Rattle.fx_outside.specs.Host.{ReadsOnly, HasCause, CountsUnfit};
     ghost use Rattle.fx_disk.specs.Silent.{silent};
 
-    ghost view = { λ disk. silent disk.faults disk.unfit };
+    ghost view = { λ disk. silent disk.faults disk.last_fault disk.unfit };
 
-    fn standing(&mut self, _alloc: Global, path: &HostText) -> Result<Standing, HostFault> {
+    fn standing(&mut self, alloc: Global, path: &HostText) -> Result<Standing, HostFault> {
         self.count_unfit(path);
         match fs::symlink_metadata(&self.rt, path.as_str()) {
             Ok(metadata) => Ok(Standing::Is(kind_of(metadata.file_type()))),
             Err(error) => match error.kind() {
                 ErrorKind::NotFound | ErrorKind::NotADirectory => Ok(Standing::Absent),
-                _ => Err(self.fault(error)),
+                _ => Err(self.fault(alloc, path, error)),
             },
         }
     }
 
     fn list(&mut self, alloc: Global, path: &HostText) -> Result<Listing, HostFault>
         ensures few { IfOk result (λ names. len names ≤ MOST_ENTRIES) }
-        ensures same { ReadsOnly (silent self.old.faults self.old.unfit)
-            (silent self.new.faults self.new.unfit) }
-        ensures cause { HasCause (λ t. is_folder_at t path.now)
-            (silent self.old.faults self.old.unfit)
-            (silent self.new.faults self.new.unfit) result }
-        ensures unfit { CountsUnfit path.now (silent self.old.faults self.old.unfit)
-            (silent self.new.faults self.new.unfit) }
+        ensures same { ReadsOnly (silent self.old.faults self.old.last_fault self.old.unfit)
+            (silent self.new.faults self.new.last_fault self.new.unfit) }
+        ensures cause { HasCause path.now (λ t. is_folder_at t path.now)
+            (silent self.old.faults self.old.last_fault self.old.unfit)
+            (silent self.new.faults self.new.last_fault self.new.unfit) result }
+        ensures unfit { CountsUnfit path.now
+            (silent self.old.faults self.old.last_fault self.old.unfit)
+            (silent self.new.faults self.new.last_fault self.new.unfit) }
     {
         self.count_unfit(path);
         let found = match entries(&self.rt, alloc, path.as_str()) {
             Ok(found) => found,
-            Err(error) => return Err(self.fault(error)),
+            Err(error) => return Err(self.fault(alloc, path, error)),
         };
         match sorted(alloc, found) {
             Ok(Some(listing)) => Ok(listing),
-            Ok(None) => Err(self.failed()),
+            Ok(None) => Err(self.failed(alloc, path)),
             Err(NoMemory) => Err(HostFault::NoMemory),
         }
     }
@@ -220,28 +229,23 @@ impl<R: Files + AllocGlobal + Clone + Drop> Host for Disk<R> {
         self.count_unfit(path);
         match read_on(&self.rt, alloc, &mut self.reading, path, from, buf) {
             Ok(count) => Ok(count),
-            Err(error) => Err(self.fault(error)),
+            Err(error) => Err(self.fault(alloc, path, error)),
         }
     }
 
-    fn make_dir(&mut self, _alloc: Global, path: &HostText) -> Result<(), HostFault> {
+    fn make_dir(&mut self, alloc: Global, path: &HostText) -> Result<(), HostFault> {
         self.count_unfit(path);
         match fs::create_dir(&self.rt, path.as_str()) {
             Ok(()) => Ok(()),
-            Err(error) => Err(self.fault(error)),
+            Err(error) => Err(self.fault(alloc, path, error)),
         }
     }
 
-    fn write_new(
-        &mut self,
-        _alloc: Global,
-        path: &HostText,
-        bytes: &[u8],
-    ) -> Result<(), HostFault> {
+    fn write_new(&mut self, alloc: Global, path: &HostText, bytes: &[u8]) -> Result<(), HostFault> {
         self.count_unfit(path);
         match write_file(&self.rt, path.as_str(), bytes) {
             Ok(()) => Ok(()),
-            Err(error) => Err(self.fault(error)),
+            Err(error) => Err(self.fault(alloc, path, error)),
         }
     }
 

@@ -1,5 +1,5 @@
 -- What clauses see of a host, when a call on it fails, and what it leaves.
-use Rattle.std.specs.Prelude.{◌≡◌, ◌⊎◌, ◌≤◌, ℕ, ◌-◌, Bool, true, false, List, length, take, drop, Option, Result, Err, IsErr, IfSome, IsSomeAnd}
+use Rattle.std.specs.Prelude.{◌≡◌, ◌⊎◌, ◌≤◌, ℕ, ◌-◌, Bool, true, false, List, ◌∷◌, ◌++◌, length, take, drop, Option, Some, Result, Err, IsErr, IfSome, IsSomeAnd}
 use Rattle.fx_base.specs.Causes.{Rose}
 use Rattle.fx_outside.specs.declared.kind.HostFault.{HostFault}
 use Rattle.fx_outside.specs.declared.kind.HostFault.TheVariants.{Failed}
@@ -8,10 +8,12 @@ use Rattle.fx_outside.specs.Listing.{Names}
 use Rattle.fx_outside.specs.Path.{parts, is_fit}
 use Rattle.fx_outside.specs.Tree.{Tree, Entry, Lists, standing_of, entry_at, bytes_at, file, told_with}
 
--- the tree that a host holds, if it tells one; how often it has failed; and how many calls were made at unfit paths
+-- the tree that a host holds, if it tells one; how often it has failed; the path that was asked when it failed last; and how
+-- many calls were made at unfit paths
 pub record HostView : Type 0 where
   pub told : Option Tree
   pub faults : ℕ
+  pub last_fault : Option (List ℕ)
   pub unfit : ℕ
 
 -- the told tree stays, and the count of faults does not fall
@@ -28,17 +30,37 @@ pub record CountsUnfit (path : List ℕ) (old new : HostView) : Type 0 where
 abbrev pub AsksFit : List ℕ → HostView → HostView → Type 0
 AsksFit path old new = is_fit path ≡ true → new.unfit ≡ old.unfit
 
--- the count of faults rose, or the host tells a tree that a call does not suit
-abbrev pub HasFailed : (Tree → Bool) → HostView → HostView → Type 0
-HasFailed suits old new = Rose old.faults new.faults ⊎ IsSomeAnd old.told (λ tree. suits tree ≡ false)
+-- the count of faults rose, and the last fault was at this path
+pub record FaultAt (path : List ℕ) (old new : HostView) : Type 0 where
+  pub rose : Rose old.faults new.faults
+  pub place : new.last_fault ≡ Some path
 
--- The count of faults does not fall. A call is answered Failed only where the count rose, or where the host tells a
--- tree that the call does not suit. A call that does not suit the told tree is refused, changes nothing and leaves the
--- count.
-pub record HasCause {A : Type 0} (suits : Tree → Bool) (old new : HostView) (result : Result A HostFault) : Type 0 where
+-- the path of a folder, or of what stands below it
+abbrev pub IsIn : List ℕ → List ℕ → Type 0
+IsIn folder path = (path ≡ folder) ⊎ ((below : List ℕ) × (path ≡ folder ++ 47 ∷ below))
+
+-- the count of faults rose, and the last fault was at a folder or below it
+pub record FaultIn (folder : List ℕ) (old new : HostView) : Type 0 where
+  pub rose : Rose old.faults new.faults
+  pub place : IsSomeAnd new.last_fault (IsIn folder)
+
+-- no fault was counted, and the last one was where it was
+pub record IsFaultless (old new : HostView) : Type 0 where
+  pub count : new.faults ≡ old.faults
+  pub place : new.last_fault ≡ old.last_fault
+
+-- there was a fault of these, or the host tells a tree that a call does not suit
+abbrev pub HasFailed : (HostView → HostView → Type 0) → (Tree → Bool) → HostView → HostView → Type 0
+HasFailed Fault suits old new = Fault old new ⊎ IsSomeAnd old.told (λ tree. suits tree ≡ false)
+
+-- The count of faults does not fall, and each fault is at the path that was asked. A call is answered Failed only where
+-- there was one, or where the host tells a tree that the call does not suit. A call that does not suit the told tree is
+-- refused, changes nothing and counts no fault.
+pub record HasCause {A : Type 0} (path : List ℕ) (suits : Tree → Bool) (old new : HostView) (result : Result A HostFault) : Type 0 where
   pub later : old.faults ≤ new.faults
-  pub failed : result ≡ Err Failed → HasFailed suits old new
-  pub unsuited : IfSome old.told (λ tree. suits tree ≡ false → IsErr result × (new.told ≡ old.told) × (new.faults ≡ old.faults))
+  pub faults : IsFaultless old new ⊎ FaultAt path old new
+  pub failed : result ≡ Err Failed → HasFailed (FaultAt path) suits old new
+  pub unsuited : IfSome old.told (λ tree. suits tree ≡ false → IsErr result × (new.told ≡ old.told) × IsFaultless old new)
 
 -- the first n bytes of the buffer are those of the file from a place on; none are read at the end alone
 pub record ReadsAt (contents : List ℕ) (from n : ℕ) (buffer : List ℕ) : Type 0 where

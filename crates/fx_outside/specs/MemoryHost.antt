@@ -1,5 +1,5 @@
 -- What a host in memory shows.
-use Rattle.std.specs.Prelude.{ℕ, Some}
+use Rattle.std.specs.Prelude.{ℕ, List, Option, Some}
 use Rattle.fx_outside.specs.Calls.{Plan}
 use Rattle.fx_outside.specs.Host.{HostView}
 use Rattle.fx_outside.specs.Tree.{Tree}
@@ -13,9 +13,13 @@ host_tree host = tree_of host.tree.entries
 abbrev pub host_calls : MemoryHost → Plan
 host_calls host = host.calls
 
+-- the path at which it failed last
+abbrev pub host_last_fault : MemoryHost → Option (List ℕ)
+host_last_fault host = host.last_fault
+
 -- how many calls were made at unfit paths
 abbrev pub host_unfit : MemoryHost → ℕ
 host_unfit host = host.unfit
 
 abbrev pub host_view : MemoryHost → HostView
-host_view host = record { told = Some (host_tree host); faults = (host_calls host).faults; unfit = host_unfit host }
+host_view host = record { told = Some (host_tree host); faults = (host_calls host).faults; last_fault = host_last_fault host; unfit = host_unfit host }

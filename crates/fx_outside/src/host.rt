@@ -9,24 +9,25 @@ use crate::{HostFault, HostText, Listing, Standing};
 use std::alloc::Global;
 
 /// A tree of folders and files that may fail. A host may tell what it holds: then every answer is that of its tree, and
-/// a call that does not suit the tree is refused, changes nothing and raises no count. A host that tells nothing
-/// promises its counts alone: of its faults, and of the calls at unfit paths.
+/// a call that does not suit the tree is refused, changes nothing and counts no fault. A host that tells nothing
+/// promises what it counts alone: its faults, with the path of the last one, and the calls at unfit paths.
 pub trait Host {
-    /// The tree that it holds, if it tells one, and its counts.
+    /// The tree that it holds, if it tells one, and what it counts.
     ghost view: { Self → HostView };
 
     /// What stands at a path.
     fn standing(&mut self, alloc: Global, path: &HostText) -> Result<Standing, HostFault>
         ensures answer { IfOk result (TellsStanding (view self.old) path.now) }
         ensures same { ReadsOnly (view self.old) (view self.new) }
-        ensures cause { HasCause (λ _. is_fit path.now) (view self.old) (view self.new) result }
+        ensures cause { HasCause path.now (λ _. is_fit path.now) (view self.old)
+            (view self.new) result }
         ensures unfit { CountsUnfit path.now (view self.old) (view self.new) };
 
     /// The names and kinds of what a folder holds directly.
     fn list(&mut self, alloc: Global, path: &HostText) -> Result<Listing, HostFault>
         ensures answer { IfOk result (TellsNames (view self.old) path.now) }
         ensures same { ReadsOnly (view self.old) (view self.new) }
-        ensures cause { HasCause (λ t. is_folder_at t path.now) (view self.old)
+        ensures cause { HasCause path.now (λ t. is_folder_at t path.now) (view self.old)
             (view self.new) result }
         ensures unfit { CountsUnfit path.now (view self.old) (view self.new) };
 
@@ -42,7 +43,7 @@ pub trait Host {
         ensures bound { IfOk result (λ n. n ≤ length buf.new) }
         ensures answer { IfOk result (TellsBytes (view self.old) path.now from buf.new) }
         ensures same { ReadsOnly (view self.old) (view self.new) }
-        ensures cause { HasCause (λ t. is_file_at t path.now) (view self.old)
+        ensures cause { HasCause path.now (λ t. is_file_at t path.now) (view self.old)
             (view self.new) result }
         ensures unfit { CountsUnfit path.now (view self.old) (view self.new) };
 
@@ -52,7 +53,7 @@ pub trait Host {
         ensures failed { result ≡ Err Failed
             → MayAdd path.now folder (view self.old) (view self.new) }
         ensures memory { result ≡ Err NoMemory → IsAsTold (view self.old) (view self.new) }
-        ensures cause { HasCause (λ t. is_free_at t path.now) (view self.old)
+        ensures cause { HasCause path.now (λ t. is_free_at t path.now) (view self.old)
             (view self.new) result }
         ensures unfit { CountsUnfit path.now (view self.old) (view self.new) };
 
@@ -63,7 +64,7 @@ pub trait Host {
         ensures failed { result ≡ Err Failed
             → MayHoldPrefix path.now bytes.now (view self.old) (view self.new) }
         ensures memory { result ≡ Err NoMemory → IsAsTold (view self.old) (view self.new) }
-        ensures cause { HasCause (λ t. is_free_at t path.now) (view self.old)
+        ensures cause { HasCause path.now (λ t. is_free_at t path.now) (view self.old)
             (view self.new) result }
         ensures unfit { CountsUnfit path.now (view self.old) (view self.new) };
 

@@ -15,6 +15,7 @@ mod parts;
 mod sink;
 mod text;
 
+pub use calls::Calls;
 pub use gate::{Gate, Moment, OpenGate};
 pub use host::Host;
 pub use kind::{HostFault, HostKind, Standing};

@@ -1,5 +1,5 @@
 //! A host in memory, for tests.
-ghost use Rattle.std.specs.Prelude.{◌≡◌, ◌≤◌, [], IfOk, OnOk, OnErr, true, false};
+ghost use Rattle.std.specs.Prelude.{◌≡◌, ◌≤◌, [], IfOk, OnOk, OnErr, None, true, false};
 ghost use Rattle.std.specs.FinMap.{empty, insert};
 ghost use Rattle.fx_outside.specs.Path.{is_fit, parts};
 ghost use Rattle.fx_outside.specs.Tree.{IsWhole, is_free_at};
@@ -17,25 +17,28 @@ use std::collections::BTreeMap;
 pub struct MemoryHost {
     tree: Entries,
     calls: Calls,
+    last_fault: Option<HostText>,
     unfit: u64,
     ghost whole: { IsWhole (tree_of tree.entries) },
 }
 
 impl MemoryHost {
-    ghost use Rattle.fx_outside.specs.Calls.{no_calls, with_call, with_failing, is_next_failing};
+    ghost use Rattle.fx_outside.specs.Calls.{no_calls, with_call, with_failing, with_fault, is_next_failing};
     ghost use Rattle.fx_outside.specs.Tree.{is_file_kind};
-    ghost use Rattle.fx_outside.specs.Host.{CountsUnfit};
-    ghost use Rattle.fx_outside.specs.MemoryHost.{host_tree, host_calls, host_unfit, host_view};
+    ghost use Rattle.fx_outside.specs.Host.{CountsUnfit, FaultAt};
+    ghost use Rattle.fx_outside.specs.MemoryHost.{host_tree, host_calls, host_last_fault, host_unfit, host_view};
 
     /// The tree's root alone.
     pub fn new(alloc: Global) -> MemoryHost
         ensures tree { host_tree result ≡ empty }
         ensures calls { host_calls result ≡ no_calls }
+        ensures last { host_last_fault result ≡ None }
         ensures unfit { host_unfit result ≡ 0 }
     {
         MemoryHost {
             tree: BTreeMap::new(alloc),
             calls: Calls::new(alloc),
+            last_fault: None,
             unfit: 0,
         }
     }
@@ -65,6 +68,7 @@ impl MemoryHost {
             (record { kind = kind; bytes = bytes.now })) }
         ensures same { OnErr result (host_tree self.new ≡ host_tree self.old) }
         ensures calls { host_calls self.new ≡ host_calls self.old }
+        ensures last { host_last_fault self.new ≡ host_last_fault self.old }
         ensures unfit { host_unfit self.new ≡ host_unfit self.old }
     {
         match Parts::read(alloc, path)? {
@@ -81,6 +85,7 @@ impl MemoryHost {
         ensures added { OnOk result
             (host_calls self.new ≡ with_failing (host_calls self.old) call) }
         ensures same { OnErr result (host_calls self.new ≡ host_calls self.old) }
+        ensures last { host_last_fault self.new ≡ host_last_fault self.old }
         ensures tree { host_tree self.new ≡ host_tree self.old }
         ensures unfit { host_unfit self.new ≡ host_unfit self.old }
     {
@@ -98,6 +103,7 @@ impl MemoryHost {
     fn begin(&mut self, path: &HostText) -> bool
         ensures fails { result ≡ is_next_failing (host_calls self.old) }
         ensures counts { host_calls self.new ≡ with_call (host_calls self.old) }
+        ensures last { host_last_fault self.new ≡ host_last_fault self.old }
         ensures tree { host_tree self.new ≡ host_tree self.old }
         ensures unfit { CountsUnfit path.now (host_view self.old) (host_view self.new) }
     {
@@ -105,6 +111,23 @@ impl MemoryHost {
             self.unfit = self.unfit.saturating_add(1);
         }
         self.calls.begin()
+    }
+
+    /// Counts a fault at this path. A refusal counts none.
+    fn count_fault(&mut self, alloc: Global, path: &HostText) -> Result<(), fx_base::NoMemory>
+        ensures fault { OnOk result
+            (FaultAt path.now (host_view self.old) (host_view self.new)) }
+        ensures counts { OnOk result (host_calls self.new ≡ with_fault (host_calls self.old)) }
+        ensures same { OnErr result (host_view self.new ≡ host_view self.old) }
+        ensures calls { OnErr result (host_calls self.new ≡ host_calls self.old) }
+        ensures later { (host_view self.old).faults ≤ (host_view self.new).faults }
+        ensures tree { host_tree self.new ≡ host_tree self.old }
+        ensures unfit { host_unfit self.new ≡ host_unfit self.old }
+    {
+        let place = path.copy(alloc)?;
+        self.calls.fault();
+        self.last_fault = Some(place);
+        Ok(())
     }
 }
 
@@ -124,7 +147,7 @@ impl Host for MemoryHost {
     fn standing(&mut self, alloc: Global, path: &HostText) -> Result<Standing, HostFault>
         ensures answer { IfOk result (TellsStanding (host_view self.old) path.now) }
         ensures same { ReadsOnly (host_view self.old) (host_view self.new) }
-        ensures cause { HasCause (λ _. is_fit path.now) (host_view self.old)
+        ensures cause { HasCause path.now (λ _. is_fit path.now) (host_view self.old)
             (host_view self.new) result }
         ensures unfit { CountsUnfit path.now (host_view self.old) (host_view self.new) }
         ensures plan { FollowsPlan (host_calls self.old) (host_calls self.new)
@@ -135,7 +158,7 @@ impl Host for MemoryHost {
             return Err(HostFault::Failed);
         };
         if fails {
-            self.calls.fault();
+            self.count_fault(alloc, path)?;
             return Err(HostFault::Failed);
         }
         match kind_at(&self.tree, &names) {
@@ -147,7 +170,7 @@ impl Host for MemoryHost {
     fn list(&mut self, alloc: Global, path: &HostText) -> Result<Listing, HostFault>
         ensures answer { IfOk result (TellsNames (host_view self.old) path.now) }
         ensures same { ReadsOnly (host_view self.old) (host_view self.new) }
-        ensures cause { HasCause (λ t. is_folder_at t path.now) (host_view self.old)
+        ensures cause { HasCause path.now (λ t. is_folder_at t path.now) (host_view self.old)
             (host_view self.new) result }
         ensures unfit { CountsUnfit path.now (host_view self.old) (host_view self.new) }
         ensures plan { FollowsPlan (host_calls self.old) (host_calls self.new)
@@ -161,7 +184,7 @@ impl Host for MemoryHost {
             return Err(HostFault::Failed);
         }
         if fails {
-            self.calls.fault();
+            self.count_fault(alloc, path)?;
             return Err(HostFault::Failed);
         }
         Ok(names_in(alloc, &self.tree, &names)?)
@@ -178,7 +201,7 @@ impl Host for MemoryHost {
         ensures bound { IfOk result (λ n. n ≤ length buf.new) }
         ensures answer { IfOk result (TellsBytes (host_view self.old) path.now from buf.new) }
         ensures same { ReadsOnly (host_view self.old) (host_view self.new) }
-        ensures cause { HasCause (λ t. is_file_at t path.now) (host_view self.old)
+        ensures cause { HasCause path.now (λ t. is_file_at t path.now) (host_view self.old)
             (host_view self.new) result }
         ensures unfit { CountsUnfit path.now (host_view self.old) (host_view self.new) }
         ensures plan { FollowsPlan (host_calls self.old) (host_calls self.new)
@@ -192,7 +215,7 @@ impl Host for MemoryHost {
             return Err(HostFault::Failed);
         }
         if fails {
-            self.calls.fault();
+            self.count_fault(alloc, path)?;
             return Err(HostFault::Failed);
         }
         Ok(read_at(&self.tree, &names, from, buf))
@@ -205,7 +228,7 @@ impl Host for MemoryHost {
             → MayAdd path.now folder (host_view self.old) (host_view self.new) }
         ensures memory { result ≡ Err NoMemory
             → IsAsTold (host_view self.old) (host_view self.new) }
-        ensures cause { HasCause (λ t. is_free_at t path.now) (host_view self.old)
+        ensures cause { HasCause path.now (λ t. is_free_at t path.now) (host_view self.old)
             (host_view self.new) result }
         ensures unfit { CountsUnfit path.now (host_view self.old) (host_view self.new) }
         ensures plan { FollowsPlan (host_calls self.old) (host_calls self.new)
@@ -219,7 +242,7 @@ impl Host for MemoryHost {
             return Err(HostFault::Failed);
         }
         if fails {
-            self.calls.fault();
+            self.count_fault(alloc, path)?;
             return Err(HostFault::Failed);
         }
         add(&mut self.tree, names, HostKind::Folder, Vec::new(alloc))?;
@@ -233,7 +256,7 @@ impl Host for MemoryHost {
             → MayHoldPrefix path.now bytes.now (host_view self.old) (host_view self.new) }
         ensures memory { result ≡ Err NoMemory
             → IsAsTold (host_view self.old) (host_view self.new) }
-        ensures cause { HasCause (λ t. is_free_at t path.now) (host_view self.old)
+        ensures cause { HasCause path.now (λ t. is_free_at t path.now) (host_view self.old)
             (host_view self.new) result }
         ensures unfit { CountsUnfit path.now (host_view self.old) (host_view self.new) }
         ensures plan { FollowsPlan (host_calls self.old) (host_calls self.new)
@@ -247,7 +270,7 @@ impl Host for MemoryHost {
             return Err(HostFault::Failed);
         }
         if fails {
-            self.calls.fault();
+            self.count_fault(alloc, path)?;
             return Err(HostFault::Failed);
         }
         let bytes = Vec::from_slice(alloc, bytes)?;

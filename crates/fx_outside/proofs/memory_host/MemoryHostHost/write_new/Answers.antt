@@ -2,7 +2,7 @@ use Rattle.std.proofs.Common.{refl, sym, ◌∙◌}
 use Rattle.fx_outside.proofs.Whole.{whole_after}
 use Rattle.fx_outside.proofs.memory_host.MemoryHostHost.write_new.Goals as goal
 
-pub invariant_of-self-2 : goal.invariant_of-self-2
-invariant_of-self-2 c =
+pub invariant_of-self : goal.invariant_of-self
+invariant_of-self c =
     let read = sym c.in-Some.is ∙ c.in_ok-names.ensures in
     record { whole = whole_after c.add.result _ _ c.args.path.now c.in-Some.names _ c.begin-fails.new.self.whole read (sym c.in_ok-is_free.ensures ∙ c.if-not-branch.false) refl c.add.ensures.added c.add.ensures.same }
