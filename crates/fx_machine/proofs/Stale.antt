@@ -20,7 +20,7 @@ use Rattle.fx_spec.specs.Plans.{Turn}
 use Rattle.fx_spec.specs.Order.{BaseTree, state, Changes, first_numbers}
 use Rattle.fx_machine.specs.Machine.{Look, looks_of, position_at, IsStaleAt}
 use Rattle.fx_machine.specs.Laws.{StaleIsExact}
-use Rattle.fx_machine.specs.Measure.{same_node, changes_at, is_stale_look}
+use Rattle.fx_machine.specs.Measure.{same_flag, same_node, changes_at, is_stale_look}
 use Rattle.fx_machine.proofs.Reached.{reached_sound}
 
 -- ---- tests over the first numbers
@@ -38,6 +38,21 @@ none_at test (suc n) h =
 
 -- ---- nodes
 
+flag_is : (exec was : Bool) → same_flag exec was ≡ true → exec ≡ was
+flag_is true true e = refl
+flag_is true false e = absurd (false≢true e)
+flag_is false true e = absurd (false≢true e)
+flag_is false false e = refl
+
+flag_itself : (exec : Bool) → same_flag exec exec ≡ true
+flag_itself true = refl
+flag_itself false = refl
+
+file_is : (a b : List ℕ) (exec was : Bool) → (bytes_eq a b && same_flag exec was) ≡ true → Some (File a exec) ≡ Some (File b was)
+file_is a b exec was e =
+    let parts : (bytes_eq a b ≡ true) × (same_flag exec was ≡ true) = and_parts (bytes_eq a b) (same_flag exec was) e in
+    ap (λ bytes. Some (File bytes exec)) ((bytes_eq-Decides a b).0 parts.0) ∙ ap (λ flag. Some (File b flag)) (flag_is exec was parts.1)
+
 -- where the test of equality passes, the same stands there
 pub same_is : (a b : Option Node) → same_node a b ≡ true → a ≡ b
 same_is None None e = refl
@@ -45,7 +60,7 @@ same_is None (Some b) e = absurd (false≢true e)
 same_is (Some (File a exec)) None e = absurd (false≢true e)
 same_is (Some (Dir a)) None e = absurd (false≢true e)
 same_is (Some (Link a)) None e = absurd (false≢true e)
-same_is (Some (File a exec)) (Some (File b exec2)) e = ap (λ bytes. Some (File bytes false)) ((bytes_eq-Decides a b).0 e)
+same_is (Some (File a exec)) (Some (File b was)) e = file_is a b exec was e
 same_is (Some (File a exec)) (Some (Dir b)) e = absurd (false≢true e)
 same_is (Some (File a exec)) (Some (Link b)) e = absurd (false≢true e)
 same_is (Some (Dir a)) (Some (File b exec)) e = absurd (false≢true e)
@@ -57,7 +72,7 @@ same_is (Some (Link a)) (Some (Link b)) e = ap (λ text. Some (Link text)) ((byt
 
 pub same_itself : (a : Option Node) → same_node a a ≡ true
 same_itself None = refl
-same_itself (Some (File a exec)) = (bytes_eq-Decides a a).1 refl
+same_itself (Some (File a exec)) = and_from (bytes_eq a a) (same_flag exec exec) ((bytes_eq-Decides a a).1 refl) (flag_itself exec)
 same_itself (Some (Dir a)) = (slice_eq-Decides bytes_eq-Decides a a (same_node (Some (Dir a)) (Some (Dir a))) refl).1 refl
 same_itself (Some (Link a)) = (bytes_eq-Decides a a).1 refl
 

@@ -10,9 +10,13 @@ use Rattle.fx_spec.specs.Plans.{Turn}
 use Rattle.fx_spec.specs.Order.{BaseTree, state, first_numbers}
 use Rattle.fx_machine.specs.Machine.{Machine, Look, looks_of, next_txn}
 
+abbrev pub same_flag : Bool → Bool → Bool
+same_flag true flag = flag
+same_flag false flag = not flag
+
 abbrev pub same_node : Option Node → Option Node → Bool
 same_node None None = true
-same_node (Some (File a exec)) (Some (File b exec2)) = bytes_eq a b
+same_node (Some (File a exec)) (Some (File b was)) = bytes_eq a b && same_flag exec was
 same_node (Some (Dir a)) (Some (Dir b)) = pointwise (pointwise nat_eq) a b
 same_node (Some (Link a)) (Some (Link b)) = bytes_eq a b
 same_node _ _ = false

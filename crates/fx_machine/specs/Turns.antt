@@ -24,5 +24,12 @@ pub data TakesTurns (base : BaseTree) : List Event → List ℕ → List Event �
   a_round : {before : List Event} {events : List Event} → (shell : ℕ) → has_more base before shell ≡ true → TakesTurns base before (first_numbers (length base.plan)) events → TakesTurns base before [] events
   over : {before : List Event} → ((shell : ℕ) → has_more base before shell ≡ false) → TakesTurns base before [] []
 
+-- `BeginsTurns base before turns events`: the same of the events up to some moment, at which turns may be left
+pub data BeginsTurns (base : BaseTree) : List Event → List ℕ → List Event → Type 0 where
+  leaves_out : {before : List Event} {shell : ℕ} {turns : List ℕ} {events : List Event} → has_more base before shell ≡ false → BeginsTurns base before turns events → BeginsTurns base before (shell ∷ turns) events
+  goes : {before : List Event} {e : Event} {turns : List ℕ} {events : List Event} → has_more base before (shell_of e) ≡ true → BeginsTurns base (before ++ e ∷ []) turns events → BeginsTurns base before (shell_of e ∷ turns) (e ∷ events)
+  next_round : {before : List Event} {events : List Event} → (shell : ℕ) → has_more base before shell ≡ true → BeginsTurns base before (first_numbers (length base.plan)) events → BeginsTurns base before [] events
+  stops : {before : List Event} {turns : List ℕ} → BeginsTurns base before turns []
+
 abbrev pub FollowsSchedule : BaseTree → List ℕ → List Event → Type 0
 FollowsSchedule base schedule events = TakesTurns base [] schedule events
