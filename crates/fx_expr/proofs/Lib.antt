@@ -6,6 +6,7 @@ pub mod Merging
 pub mod Nearest
 pub mod Numerals
 pub mod Order
+mod Sameness
 pub mod Shaping
 pub mod Trees
 pub mod Zips

@@ -23,7 +23,7 @@ entries_again (x ∷ es) (v ∷ vs) e =
 pub same_table : (es fs : List (List ℕ × Value)) → map entry_tree es ≡ map entry_tree fs → tree_of (Table es) ≡ tree_of (Table fs)
 same_table es fs e = table_tree es ∙ ap (λ r. Tree.table (rows r)) e ∙ sym (table_tree fs)
 
-entries_rows : (es : List (List ℕ × Tree)) → entries (rows es) ≡ es
+pub entries_rows : (es : List (List ℕ × Tree)) → entries (rows es) ≡ es
 entries_rows [] = refl
 entries_rows (e ∷ es) = ap (λ l. e ∷ l) (entries_rows es)
 

@@ -50,6 +50,7 @@ impl Formula {
         Formula { expr, value: None }
     }
 
+    /// The expression itself, for what checks it.
     pub fn expr(&self) -> &Expr
         ensures { expr_tree result.now ≡ self.now }
     {

@@ -14,6 +14,7 @@ mod lists;
 mod number;
 mod operators;
 mod parts;
+mod projections;
 mod set;
 mod shape;
 mod text;

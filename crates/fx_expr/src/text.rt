@@ -1,22 +1,25 @@
-ghost use Rattle.std.specs.Prelude.{◌≡◌, ◌++◌, ◌<◌, [], ◌∷◌, Some, IfOk, OnOk, OnErr, length, slice_get, nat_eq, refl};
+ghost use Rattle.std.specs.Prelude.{◌≡◌, ◌++◌, [], ◌∷◌, Some, IfOk, OnOk, OnErr, length, slice_get, nat_eq, refl};
 ghost use Rattle.std.specs.Option.{option_copied};
 ghost use Rattle.std.specs.Ordering.{nat_cmp};
 ghost use Rattle.std.specs.Cmp.{partial_equiv_from_equiv};
 ghost use Rattle.std.specs.Cmp.Lexicographic.{pointwise, slice_cmp, nat_list_eq_equiv, nat_list_cmp_total, texts_ties, texts_po};
+ghost use Rattle.std.specs.Slice.Iter.{iter_rest};
 ghost use Rattle.fx_expr.specs.Bytes.{IsText};
 
-use fx_base::NoMemory;
+use fx_base::{Content, NoMemory};
 use std::alloc::{AllocError, Global};
 use std::cmp::Ordering;
 use std::marker::Model;
+use std::slice;
 
 /// The most bytes that a text may have.
 pub const TEXT_LIMIT: usize = 1_048_576;
 
-/// A text value: at most [`TEXT_LIMIT`] bytes of any kind, UTF-8 or not. Contracts see the list of its bytes.
+/// A text value: at most [`TEXT_LIMIT`] bytes of any kind, UTF-8 or not. Contracts see the list of its bytes. A copy of
+/// what `share` gave goes through no byte.
 #[derive(Debug, Drop)]
 pub struct Text {
-    bytes: Vec<u8>,
+    content: Content,
 }
 
 impl Model for Text {
@@ -25,9 +28,9 @@ impl Model for Text {
 
     ghost Value = { List ℕ };
 
-    ghost view = { λ t. t.bytes.items };
+    ghost view = { λ t. t.content };
 
-    ghost invariant = { λ t. IsText t.bytes.items };
+    ghost invariant = { λ t. IsText t.content };
 }
 
 impl Text {
@@ -35,9 +38,7 @@ impl Text {
     pub fn new(alloc: Global) -> Text
         ensures { result ≡ [] }
     {
-        Text {
-            bytes: Vec::new(alloc),
-        }
+        Text::from_vec(Vec::new(alloc))
     }
 
     /// The text of these bytes; the caller keeps the limit.
@@ -45,30 +46,62 @@ impl Text {
         requires { IsText v.items }
         ensures { result ≡ v.items }
     {
-        Text { bytes: v }
+        Text {
+            content: Content::of(v),
+        }
     }
 
+    /// The text of a content, as a file's, which stays shared where it is; the caller keeps the limit.
+    pub fn of_content(content: Content) -> Text
+        requires { IsText content }
+        ensures { result ≡ content }
+    {
+        Text { content }
+    }
+
+    /// The same bytes as a content, which stays shared where it is.
+    pub fn into_content(self) -> Content
+        ensures value { result ≡ self }
+        ensures limit { IsText self }
+    {
+        let Text { content } = self;
+        content
+    }
+
+    /// The same text, whose bytes copies share from now on, where there are enough of them.
+    pub fn share(self, alloc: Global) -> Result<Text, NoMemory>
+        ensures { IfOk result (λ text. text ≡ self) }
+    {
+        let Text { content } = self;
+        Ok(Text {
+            content: content.share(alloc)?,
+        })
+    }
+
+    /// The bytes, as a slice.
     pub fn as_slice(&self) -> &[u8]
         ensures value { result.now ≡ self.now }
         ensures limit { IsText self.now }
     {
-        self.bytes.as_slice()
+        self.content.as_slice()
     }
 
+    /// The bytes by themselves. They are copied only where another text or a file shares them.
     pub fn into_vec(self) -> Vec<u8>
         ensures value { result.items ≡ self }
         ensures limit { IsText self }
     {
-        let Text { bytes } = self;
-        bytes
+        let Text { content } = self;
+        content.into_vec()
     }
 
-    /// An equal text of its own.
+    /// An equal text: with shared bytes, where these are shared, and else with bytes of its own.
     pub fn copy(&self, alloc: Global) -> Result<Text, NoMemory>
         ensures { IfOk result (λ text. text ≡ self.now) }
     {
-        let bytes = Vec::from_slice(alloc, self.bytes.as_slice())?;
-        Ok(Text { bytes })
+        Ok(Text {
+            content: self.content.copy(alloc)?,
+        })
     }
 
     // This text and another after it; the caller keeps the limit.
@@ -76,10 +109,12 @@ impl Text {
         requires { IsText (self.now ++ other.now) }
         ensures { IfOk result (λ text. text ≡ self.now ++ other.now) }
     {
-        let mut bytes = Vec::with_capacity(alloc, self.bytes.len() + other.bytes.len())?;
-        bytes.extend_from_slice(self.bytes.as_slice())?;
-        bytes.extend_from_slice(other.bytes.as_slice())?;
-        Ok(Text { bytes })
+        let first = self.as_slice();
+        let second = other.as_slice();
+        let mut bytes = Vec::with_capacity(alloc, first.len() + second.len())?;
+        bytes.extend_from_slice(first)?;
+        bytes.extend_from_slice(second)?;
+        Ok(Text::from_vec(bytes))
     }
 
     /// The number of bytes.
@@ -87,24 +122,32 @@ impl Text {
         ensures value { result ≡ length self.now }
         ensures limit { IsText self.now }
     {
-        self.bytes.len() as u64
+        self.content.len() as u64
     }
 
     /// The byte at `i`; None exactly from `len` on.
     pub fn at(&self, i: u64) -> Option<&u8>
         ensures { option_copied result ≡ slice_get self.now i }
     {
-        self.bytes.get(i as usize)
+        self.as_slice().get(i as usize)
+    }
+
+    /// The bytes in their order.
+    pub fn iter(&self) -> slice::Iter<'_, u8>
+        ensures rest { iter_rest result ≡ self.now }
+        ensures len { length (iter_rest result) ≡ length self.now }
+        ensures limit { IsText self.now }
+    {
+        self.as_slice().iter()
     }
 
     /// Adds a byte at the end; the caller keeps the limit. A refusal changes nothing.
-    pub fn add(&mut self, _alloc: Global, item: u8) -> Result<(), NoMemory>
+    pub fn add(&mut self, alloc: Global, item: u8) -> Result<(), NoMemory>
         requires { IsText (self.old ++ item ∷ []) }
         ensures ok { OnOk result (self.new ≡ self.old ++ item ∷ []) }
         ensures err { OnErr result (self.new ≡ self.old) }
     {
-        self.bytes.push(item)?;
-        Ok(())
+        self.content.push(alloc, item)
     }
 }
 
@@ -113,7 +156,7 @@ impl Clone for Text {
 
     fn clone(&self) -> Result<Text, AllocError> {
         Ok(Text {
-            bytes: self.bytes.clone()?,
+            content: self.content.clone()?,
         })
     }
 }
@@ -124,7 +167,7 @@ impl PartialEq for Text {
     ghost laws = { partial_equiv_from_equiv nat_list_eq_equiv };
 
     fn eq(&self, other: &Text) -> bool {
-        self.bytes.as_slice() == other.bytes.as_slice()
+        self.as_slice() == other.as_slice()
     }
 }
 
@@ -152,6 +195,6 @@ impl Ord for Text {
     ghost matches_eq = { texts_ties };
 
     fn cmp(&self, other: &Text) -> Ordering {
-        self.bytes.as_slice().cmp(other.bytes.as_slice())
+        self.as_slice().cmp(other.as_slice())
     }
 }

@@ -37,6 +37,7 @@ impl Word {
         Word { bytes: v }
     }
 
+    /// The word, as a slice of its bytes.
     pub fn as_slice(&self) -> &[u8]
         ensures value { result.now ≡ self.now }
         ensures word { IsWord self.now }

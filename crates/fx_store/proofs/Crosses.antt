@@ -1,6 +1,7 @@
 -- That the types of this crate cross threads: a value may move to another thread, and two threads may read one.
 use denote.Param.Send.{IsSend, IsSync, sendable}
 use Rattle.std.proofs.Crossing.{crosses}
+use Rattle.fx_base.proofs.Crosses.{Content-send, Content-sync}
 use Rattle.fx_store.specs.contracts.name.Name as name
 use Rattle.fx_store.specs.contracts.path.Path as path
 use Rattle.fx_store.specs.contracts.paths.Paths as paths
@@ -35,10 +36,10 @@ pub Names-sync : IsSync (names.the_field).row
 Names-sync = search (sendable, crosses, Name-send, Name-sync) depth 40
 
 pub Bytes-send : IsSend (bytes.the_field).row
-Bytes-send = search (sendable, crosses) depth 40
+Bytes-send = search (sendable, crosses, Content-send) depth 40
 
 pub Bytes-sync : IsSync (bytes.the_field).row
-Bytes-sync = search (sendable, crosses) depth 40
+Bytes-sync = search (sendable, crosses, Content-sync) depth 40
 
 pub LinkText-send : IsSend (link_text.the_field).row
 LinkText-send = search (sendable, crosses) depth 40

@@ -1,5 +1,4 @@
 pub mod Changes
-pub mod Contents
 pub mod Examples
 pub mod Faults
 pub mod Filestore

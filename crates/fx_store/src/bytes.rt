@@ -1,204 +1,144 @@
 //! Lists of bytes, with the limit of a file's content and without a limit.
-ghost use Rattle.std.specs.Prelude.{◌≡◌, ℕ, ◌≤◌, ◌<◌, List, [], ◌∷◌, ◌++◌, length, IfOk, OnOk, OnErr, slice_get, option_copied};
-ghost use Rattle.std.specs.Vec.{vec_capacity};
-ghost use Rattle.fx_store.specs.Contents.{held_bytes, HasRoom};
+ghost use Rattle.std.specs.Prelude.{◌≡◌, ◌≤◌, ◌<◌, [], ◌∷◌, ◌++◌, length, IfOk, OnOk, OnErr, slice_get, option_copied};
+ghost use Rattle.std.specs.Slice.Iter.{iter_rest};
 ghost use Rattle.fx_store.specs.Names.{IsContent};
 ghost use Rattle.fx_store.specs.declared.limits.TheConstants.{MAX_FILE_BYTES};
 
-use fx_base::NoMemory;
+use crate::limits::MAX_FILE_BYTES;
+use fx_base::{Content, NoMemory};
 use std::alloc::{AllocError, Global};
 use std::marker::Model;
-use std::sync::Arc;
+use std::slice;
 
-/// What a file holds: at most 1,048,576 bytes. Copies of bytes that were shared by `share` take no time.
+/// What a file holds: at most [`MAX_FILE_BYTES`] bytes. A copy of what `share` gave goes through no byte.
 #[derive(Debug, Drop)]
 pub struct Bytes {
-    held: Held,
+    content: Content,
 }
-
-/// A list of bytes: by itself, or one that others may hold too, with room for it, so that it can be copied out.
-#[derive(Debug, Drop)]
-enum Held {
-    Own(Vec<u8>),
-    Shared(Arc<Vec<u8>>, Vec<u8>),
-}
-
-/// The fewest bytes that are shared; fewer are copied as fast.
-const FEWEST_SHARED: usize = 1024;
 
 impl Model for Bytes {
-    ghost use Rattle.std.specs.Prelude.{◌≤◌, ℕ, List, length};
-    ghost use Rattle.fx_store.specs.Contents.{held_bytes, HasRoom};
+    ghost use Rattle.std.specs.Prelude.{ℕ, List};
     ghost use Rattle.fx_store.specs.Names.{IsContent};
 
     ghost Value = { List ℕ };
 
-    ghost view = { λ b. held_bytes b.held };
+    ghost view = { λ b. b.content };
 
-    ghost invariant = { λ b. IsContent (held_bytes b.held) × HasRoom b.held };
+    ghost invariant = { λ b. IsContent b.content };
 }
 
 impl Bytes {
+    /// No bytes.
     pub fn new(alloc: Global) -> Bytes
         ensures { result ≡ [] }
     {
-        Bytes {
-            held: Held::Own(Vec::new(alloc)),
-        }
+        Bytes::from_vec(Vec::new(alloc))
     }
 
+    /// These bytes; the caller keeps the limit.
     pub fn from_vec(v: Vec<u8>) -> Bytes
         requires { length v.items ≤ MAX_FILE_BYTES }
         ensures { result ≡ v.items }
     {
-        Bytes { held: Held::Own(v) }
+        Bytes {
+            content: Content::of(v),
+        }
+    }
+
+    /// The bytes of a content, which stays shared where it is; the caller keeps the limit.
+    pub fn of_content(content: Content) -> Bytes
+        requires { length content ≤ MAX_FILE_BYTES }
+        ensures { result ≡ content }
+    {
+        prove!(content.as_slice().len() <= MAX_FILE_BYTES);
+        Bytes { content }
+    }
+
+    /// The same bytes as a content, which stays shared where it is.
+    pub fn into_content(self) -> Content
+        ensures bytes { result ≡ self }
+        ensures content { IsContent self }
+    {
+        let Bytes { content } = self;
+        content
     }
 
     /// The same bytes, which copies share from now on, where there are enough of them.
     pub fn share(self, alloc: Global) -> Result<Bytes, NoMemory>
         ensures { IfOk result (λ b. b ≡ self) }
     {
-        let Bytes { held } = self;
+        let Bytes { content } = self;
         Ok(Bytes {
-            held: shared(alloc, held)?,
+            content: content.share(alloc)?,
         })
     }
 
+    /// The number of bytes.
     pub fn len(&self) -> u64
         ensures { result ≡ length self.now }
     {
-        self.as_slice().len() as u64
+        self.content.len() as u64
     }
 
-    /// The byte at an index, counted from 0.
+    /// The byte at an index, counted from 0; `None` exactly from `len` on.
     pub fn at(&self, i: u64) -> Option<&u8>
         ensures { option_copied result ≡ slice_get self.now i }
     {
         self.as_slice().get(i as usize)
     }
 
-    /// Adds a byte at the end, which needs room below the limit.
+    /// The bytes in their order.
+    pub fn iter(&self) -> slice::Iter<'_, u8>
+        ensures rest { iter_rest result ≡ self.now }
+        ensures len { length (iter_rest result) ≡ length self.now }
+        ensures content { IsContent self.now }
+    {
+        self.as_slice().iter()
+    }
+
+    /// Adds a byte at the end, which needs room below the limit. A refusal changes nothing.
     pub fn add(&mut self, alloc: Global, item: u8) -> Result<(), NoMemory>
         requires { length self.old < MAX_FILE_BYTES }
         ensures ok { OnOk result (self.new ≡ self.old ++ item ∷ []) }
         ensures err { OnErr result (self.new ≡ self.old) }
     {
-        push(alloc, &mut self.held, item)
+        self.content.push(alloc, item)
     }
 
+    /// The bytes, as a slice.
     pub fn as_slice(&self) -> &[u8]
         ensures bytes { result.now ≡ self.now }
         ensures content { IsContent self.now }
     {
-        match &self.held {
-            Held::Own(bytes) => bytes.as_slice(),
-            Held::Shared(bytes, _) => bytes.as_slice(),
-        }
+        self.content.as_slice()
     }
 
+    /// The bytes by themselves. They are copied only where other bytes share them.
     pub fn into_vec(self) -> Vec<u8>
         ensures bytes { result.items ≡ self }
         ensures content { IsContent self }
     {
-        let Bytes { held } = self;
-        match held {
-            Held::Own(bytes) => bytes,
-            Held::Shared(bytes, spare) => taken_out(bytes, spare),
-        }
+        let Bytes { content } = self;
+        content.into_vec()
     }
 
+    /// The same bytes once more: shared, where these are shared, and else copied.
     pub fn copy(&self, alloc: Global) -> Result<Bytes, NoMemory>
         ensures { IfOk result (λ b. b ≡ self.now) }
     {
         Ok(Bytes {
-            held: copied(alloc, &self.held)?,
+            content: self.content.copy(alloc)?,
         })
     }
-}
-
-fn shared(alloc: Global, held: Held) -> Result<Held, NoMemory>
-    requires { HasRoom held }
-    ensures bytes { IfOk result (λ other. held_bytes other ≡ held_bytes held) }
-    ensures room { IfOk result HasRoom }
-{
-    match held {
-        Held::Own(bytes) => {
-            if bytes.len() < FEWEST_SHARED {
-                return Ok(Held::Own(bytes));
-            }
-            let spare = Vec::with_capacity(alloc, bytes.len())?;
-            Ok(Held::Shared(Arc::new(alloc, bytes)?, spare))
-        }
-        Held::Shared(bytes, spare) => Ok(Held::Shared(bytes, spare)),
-    }
-}
-
-fn copied(alloc: Global, held: &Held) -> Result<Held, NoMemory>
-    requires { HasRoom held.now }
-    ensures bytes { IfOk result (λ other. held_bytes other ≡ held_bytes held.now) }
-    ensures room { IfOk result HasRoom }
-{
-    match held {
-        Held::Own(bytes) => Ok(Held::Own(Vec::from_slice(alloc, bytes.as_slice())?)),
-        Held::Shared(bytes, _) => {
-            let spare = Vec::with_capacity(alloc, bytes.len())?;
-            Ok(Held::Shared(bytes.clone()?, spare))
-        }
-    }
-}
-
-// The bytes themselves, where nobody else holds them, and else a copy in the spare room.
-fn taken_out(bytes: Arc<Vec<u8>>, spare: Vec<u8>) -> Vec<u8>
-    requires empty { spare.items ≡ [] }
-    requires room { length bytes.value.items ≤ vec_capacity spare }
-    ensures { result.items ≡ bytes.value.items }
-{
-    match Arc::try_unwrap(bytes) {
-        Ok(bytes) => bytes,
-        Err(shared) => {
-            let mut copy = spare;
-            match copy.extend_from_slice(shared.as_slice()) {
-                Ok(()) => copy,
-                Err(_) => unreachable!(),
-            }
-        }
-    }
-}
-
-fn push(alloc: Global, held: &mut Held, item: u8) -> Result<(), NoMemory>
-    requires { HasRoom held.old }
-    ensures ok { OnOk result (held_bytes held.new ≡ held_bytes held.old ++ item ∷ []) }
-    ensures err { OnErr result (held_bytes held.new ≡ held_bytes held.old) }
-    ensures room { HasRoom held.new }
-{
-    match held {
-        Held::Own(bytes) => {
-            bytes.push(item)?;
-        }
-        Held::Shared(bytes, _) => {
-            let mut own = Vec::from_slice(alloc, bytes.as_slice())?;
-            own.push(item)?;
-            *held = Held::Own(own);
-        }
-    }
-    Ok(())
 }
 
 impl Clone for Bytes {
     ghost is_clone = { λ x y. y ≡ x };
 
     fn clone(&self) -> Result<Bytes, AllocError> {
-        match &self.held {
-            Held::Own(bytes) => Ok(Bytes {
-                held: Held::Own(bytes.clone()?),
-            }),
-            Held::Shared(bytes, spare) => {
-                let spare = Vec::with_capacity(spare.allocator().clone()?, bytes.len())?;
-                Ok(Bytes {
-                    held: Held::Shared(bytes.clone()?, spare),
-                })
-            }
-        }
+        Ok(Bytes {
+            content: self.content.clone()?,
+        })
     }
 }
 
@@ -217,6 +157,7 @@ impl Model for LongText {
 }
 
 impl LongText {
+    /// No bytes.
     pub fn new(alloc: Global) -> LongText
         ensures { result ≡ [] }
     {
@@ -225,26 +166,28 @@ impl LongText {
         }
     }
 
+    /// These bytes.
     pub fn from_vec(v: Vec<u8>) -> LongText
         ensures { result ≡ v.items }
     {
         LongText { bytes: v }
     }
 
+    /// The number of bytes.
     pub fn len(&self) -> u64
         ensures { result ≡ length self.now }
     {
         self.bytes.len() as u64
     }
 
-    /// The byte at an index, counted from 0.
+    /// The byte at an index, counted from 0; `None` exactly from `len` on.
     pub fn at(&self, i: u64) -> Option<&u8>
         ensures { option_copied result ≡ slice_get self.now i }
     {
         self.bytes.get(i as usize)
     }
 
-    /// Adds a byte at the end.
+    /// Adds a byte at the end. A refusal changes nothing.
     pub fn add(&mut self, _alloc: Global, item: u8) -> Result<(), NoMemory>
         ensures ok { OnOk result (self.new ≡ self.old ++ item ∷ []) }
         ensures err { OnErr result (self.new ≡ self.old) }
@@ -253,12 +196,22 @@ impl LongText {
         Ok(())
     }
 
+    /// The bytes in their order.
+    pub fn iter(&self) -> slice::Iter<'_, u8>
+        ensures rest { iter_rest result ≡ self.now }
+        ensures len { length (iter_rest result) ≡ length self.now }
+    {
+        self.bytes.iter()
+    }
+
+    /// The bytes, as a slice.
     pub fn as_slice(&self) -> &[u8]
         ensures { result.now ≡ self.now }
     {
         self.bytes.as_slice()
     }
 
+    /// The bytes by themselves.
     pub fn into_vec(self) -> Vec<u8>
         ensures { result.items ≡ self }
     {

@@ -1,20 +1,25 @@
 //! Changes of a filestore.
 ghost use Rattle.std.specs.Prelude.{◌≡◌, ◌↔◌, ◌++◌, ◌∷◌, [], length, IsTrue, IfOk, OnOk, OnErr, slice_get, option_copied};
+ghost use Rattle.std.specs.Slice.Iter.{iter_rest};
 
 use crate::node::Node;
 use crate::path::Path;
 use fx_base::NoMemory;
 use std::alloc::{AllocError, Global};
 use std::marker::Model;
+use std::slice;
 
 /// What stands at a path from now on: a node, or nothing.
 #[derive(Debug, Drop)]
 pub struct Change {
+    /// The path that is changed.
     pub path: Path,
+    /// What stands there from now on.
     pub node: Option<Node>,
 }
 
 impl Change {
+    /// An equal change of its own.
     pub fn copy(&self, alloc: Global) -> Result<Change, NoMemory>
         ensures { IfOk result (λ c. c ≡ self.now) }
     {
@@ -59,6 +64,7 @@ impl Changes {
     ghost use Rattle.std.specs.List.Sorted.{IsStrictlySortedBy};
     ghost use Rattle.fx_store.specs.Names.{path_cmp};
 
+    /// No changes.
     pub fn new(alloc: Global) -> Changes
         ensures { result ≡ [] }
     {
@@ -75,6 +81,7 @@ impl Changes {
         Changes { changes }
     }
 
+    /// The number of changes.
     pub fn len(&self) -> u64
         ensures len { result ≡ length self.now }
         ensures ascending { IsChanges self.now }
@@ -88,6 +95,15 @@ impl Changes {
         ensures ascending { IsChanges self.now }
     {
         self.changes.get(i as usize)
+    }
+
+    /// The changes in ascending order of path.
+    pub fn iter(&self) -> slice::Iter<'_, Change>
+        ensures rest { iter_rest result ≡ self.now }
+        ensures len { length (iter_rest result) ≡ length self.now }
+        ensures ascending { IsChanges self.now }
+    {
+        self.changes.iter()
     }
 
     /// Whether a path is greater than that of each of these, so that a change of it may be added.
@@ -111,6 +127,7 @@ impl Changes {
         Ok(())
     }
 
+    /// The changes, as a slice.
     pub fn as_slice(&self) -> &[Change]
         ensures changes { result.now ≡ self.now }
         ensures ascending { IsChanges self.now }
@@ -118,6 +135,7 @@ impl Changes {
         self.changes.as_slice()
     }
 
+    /// The changes as a vector, to go through by value.
     pub fn into_vec(self) -> Vec<Change>
         ensures changes { result.items ≡ self }
         ensures ascending { IsChanges self }
@@ -126,6 +144,7 @@ impl Changes {
         changes
     }
 
+    /// Equal changes of their own.
     pub fn copy(&self, alloc: Global) -> Result<Changes, NoMemory>
         ensures copied { IfOk result (λ s. s ≡ self.now) }
         ensures ascending { IsChanges self.now }

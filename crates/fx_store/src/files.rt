@@ -34,6 +34,7 @@ impl Model for Files {
 }
 
 impl Files {
+    /// No files.
     pub fn new(alloc: Global) -> Files
         ensures { result ≡ [] }
     {
@@ -42,6 +43,7 @@ impl Files {
         }
     }
 
+    /// The number of files.
     pub fn len(&self) -> u64
         ensures len { result ≡ length self.now }
         ensures files { IsFiles self.now }
@@ -107,7 +109,7 @@ fn add_files(
     ensures { OnOk result (changes.new.items ≡ changes.old.items ++ map file_change files.items) }
 {
     for (name, bytes) in files {
-        let path = Path::child(alloc, name)?;
+        let path = Path::of_name(alloc, name)?;
         changes.push(Change {
             path,
             node: Some(Node::File { bytes, exec: false }),

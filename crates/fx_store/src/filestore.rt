@@ -110,6 +110,8 @@ impl Filestore {
         put_all(&mut self.table, changes.into_vec());
     }
 
+    /// An equal filestore, with the same places. It shares its names with this one, and what its files hold where that is
+    /// shared.
     pub fn copy(&self, _alloc: Global) -> Result<Filestore, NoMemory>
         ensures copied { IfOk result (λ s. s ≡ self.now) }
         ensures table { IsTable self.now }

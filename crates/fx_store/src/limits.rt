@@ -7,10 +7,10 @@ pub const MAX_NAME_BYTES: usize = 255;
 pub const MAX_PATH_NAMES: usize = 64;
 
 /// The most bytes of a file.
-pub const MAX_FILE_BYTES: usize = 1048576;
+pub const MAX_FILE_BYTES: usize = 1_048_576;
 
 /// The most bytes of a link text.
-pub const MAX_LINK_BYTES: usize = 4096;
+pub const MAX_LINK_BYTES: usize = 4_096;
 
 /// The most components of a link text.
 pub const MAX_LINK_COMPONENTS: usize = 64;

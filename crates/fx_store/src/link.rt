@@ -46,6 +46,7 @@ impl LinkText {
         })
     }
 
+    /// The text, as a slice of its bytes.
     pub fn as_slice(&self) -> &[u8]
         ensures bytes { result.now ≡ self.now }
         ensures link { IsLinkText self.now }
@@ -53,6 +54,7 @@ impl LinkText {
         self.bytes.as_slice()
     }
 
+    /// An equal link text of its own.
     pub fn copy(&self, alloc: Global) -> Result<LinkText, NoMemory>
         ensures copied { IfOk result (λ l. l ≡ self.now) }
         ensures link { IsLinkText self.now }

@@ -101,6 +101,7 @@ impl Name {
         })
     }
 
+    /// The name, as a slice of its bytes.
     pub fn as_slice(&self) -> &[u8]
         ensures bytes { result.now ≡ self.now }
         ensures name { IsName self.now }
@@ -108,6 +109,7 @@ impl Name {
         self.bytes.as_slice()
     }
 
+    /// An equal name, which shares its bytes with this one.
     pub fn copy(&self, _alloc: Global) -> Result<Name, NoMemory>
         ensures copied { IfOk result (λ n. n ≡ self.now) }
         ensures name { IsName self.now }

@@ -18,6 +18,7 @@ pub enum Node {
 }
 
 impl Node {
+    /// An equal node. It shares a directory's names, and a file's bytes where those are shared.
     pub fn copy(&self, alloc: Global) -> Result<Node, NoMemory>
         ensures { IfOk result (λ n. n ≡ self.now) }
     {

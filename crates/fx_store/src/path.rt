@@ -1,11 +1,14 @@
 //! Paths, as lists of names from the root on.
-ghost use Rattle.std.specs.Prelude.{◌≡◌, ℕ, List, [], ◌∷◌, length, IfOk, slice_get, option_copied, refl};
+ghost use Rattle.std.specs.Prelude.{◌≡◌, ◌-◌, ◌<◌, ℕ, List, [], ◌∷◌, length, IfOk, slice_get, option_copied, refl};
+ghost use Rattle.std.specs.Slice.Iter.{iter_rest};
 ghost use Rattle.std.specs.Cmp.{partial_equiv_from_equiv, partial_order_from_total, eq_by_cmp_equiv};
 ghost use Rattle.std.specs.Ordering.{as_partial_cmp, eq_by_cmp};
 ghost use Rattle.std.specs.Hash as fed;
 ghost use Rattle.std.proofs.Common.{ap};
 ghost use Rattle.fx_store.specs.Names.{IsPath, path_cmp};
 ghost use Rattle.fx_store.specs.Orders.{path_total, path_eq_same};
+ghost use Rattle.fx_store.specs.Resolve.{◌/ₚ◌, parent};
+ghost use Rattle.fx_store.specs.declared.limits.TheConstants.{MAX_PATH_NAMES};
 
 use crate::limits::MAX_PATH_NAMES;
 use crate::name::{Name, PathFault, is_name};
@@ -15,6 +18,7 @@ use std::alloc::{AllocError, Global};
 use std::cmp::Ordering;
 use std::hash::{Hash, Hasher};
 use std::marker::Model;
+use std::slice;
 
 /// A path of at most 64 names, the first below the root. The root has none. Paths are ordered name by name, so a
 /// directory comes just before all that is below it.
@@ -37,6 +41,7 @@ impl Model for Path {
 impl Path {
     ghost use Rattle.fx_store.specs.Faults.{Answers, read_path, joined, extended};
 
+    /// The root, which has no names.
     pub fn root(alloc: Global) -> Path
         ensures { result ≡ [] }
     {
@@ -46,7 +51,7 @@ impl Path {
     }
 
     /// The path of an entry of the root.
-    pub(crate) fn child(alloc: Global, name: Name) -> Result<Path, NoMemory>
+    pub(crate) fn of_name(alloc: Global, name: Name) -> Result<Path, NoMemory>
         ensures { IfOk result (λ p. p ≡ name ∷ []) }
     {
         prove!(is_name(name.as_slice()));
@@ -79,6 +84,27 @@ impl Path {
         Ok(Path { names })
     }
 
+    /// The path of an entry; the caller keeps the limit of 64 names.
+    pub fn child(&self, alloc: Global, name: &Name) -> Result<Path, NoMemory>
+        requires { length self.now < MAX_PATH_NAMES }
+        ensures { IfOk result (λ p. p ≡ self.now /ₚ name.now) }
+    {
+        prove!(is_name(name.as_slice()));
+        let mut names = Vec::from_clones(alloc, &self.names)?;
+        names.push(name.copy(alloc)?)?;
+        Ok(Path { names })
+    }
+
+    /// The directory above; the root is above itself.
+    pub fn parent(&self, alloc: Global) -> Result<Path, NoMemory>
+        ensures { IfOk result (λ p. p ≡ parent self.now) }
+    {
+        let kept = self.names.len().saturating_sub(1);
+        Ok(Path {
+            names: Vec::from_clones(alloc, &self.names[..kept])?,
+        })
+    }
+
     /// The path that goes on by the names of a text, which has one `/` between each two. It is `BadName` where the
     /// text is not made so, and else `TooDeep` where there are more than 64 names.
     pub fn extend(&self, alloc: Global, text: &[u8]) -> Result<Path, PathFault>
@@ -95,6 +121,7 @@ impl Path {
         Ok(Path { names })
     }
 
+    /// How the paths are ordered: by their first names that differ, and else the shorter one first.
     pub fn compare(&self, other: &Path) -> Ordering
         ensures { result ≡ path_cmp self.now other.now }
     {
@@ -117,6 +144,24 @@ impl Path {
         self.names.get(i as usize)
     }
 
+    /// The last name; the root has none.
+    pub fn last(&self) -> Option<&Name>
+        ensures name { option_copied result ≡ slice_get self.now (length self.now - 1) }
+        ensures path { IsPath self.now }
+    {
+        self.names.last()
+    }
+
+    /// The names, from the first below the root.
+    pub fn iter(&self) -> slice::Iter<'_, Name>
+        ensures rest { iter_rest result ≡ self.now }
+        ensures len { length (iter_rest result) ≡ length self.now }
+        ensures path { IsPath self.now }
+    {
+        self.names.iter()
+    }
+
+    /// An equal path, which shares its names with this one.
     pub fn copy(&self, alloc: Global) -> Result<Path, NoMemory>
         ensures copied { IfOk result (λ p. p ≡ self.now) }
         ensures path { IsPath self.now }

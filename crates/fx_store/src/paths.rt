@@ -1,6 +1,7 @@
 //! Sets of paths.
 ghost use Rattle.std.specs.Prelude.{◌≡◌, ◌↔◌, ◌++◌, ◌∷◌, [], length, IsTrue, IfOk, OnOk, OnErr, slice_get, option_copied};
 ghost use Rattle.std.specs.List.Sorted.{IsStrictlySortedBy};
+ghost use Rattle.std.specs.Slice.Iter.{iter_rest};
 ghost use Rattle.fx_store.specs.Names.{IsPathSet, has_path, path_cmp};
 
 use crate::limits::MAX_PATH_NAMES;
@@ -9,6 +10,7 @@ use crate::path::Path;
 use fx_base::NoMemory;
 use std::alloc::Global;
 use std::marker::Model;
+use std::slice;
 
 /// Paths, each once, in ascending order.
 #[derive(Debug, Drop)]
@@ -28,6 +30,7 @@ impl Model for Paths {
 }
 
 impl Paths {
+    /// No paths.
     pub fn new(alloc: Global) -> Paths
         ensures { result ≡ [] }
     {
@@ -36,6 +39,7 @@ impl Paths {
         }
     }
 
+    /// The number of paths.
     pub fn len(&self) -> u64
         ensures len { result ≡ length self.now }
         ensures set { IsPathSet self.now }
@@ -49,6 +53,15 @@ impl Paths {
         ensures set { IsPathSet self.now }
     {
         self.paths.get(i as usize)
+    }
+
+    /// The paths in ascending order.
+    pub fn iter(&self) -> slice::Iter<'_, Path>
+        ensures rest { iter_rest result ≡ self.now }
+        ensures len { length (iter_rest result) ≡ length self.now }
+        ensures set { IsPathSet self.now }
+    {
+        self.paths.iter()
     }
 
     /// Whether a path is one of these, by binary search.
@@ -77,6 +90,7 @@ impl Paths {
         Ok(())
     }
 
+    /// An equal set of its own.
     pub fn copy(&self, alloc: Global) -> Result<Paths, NoMemory>
         ensures copied { IfOk result (λ s. s ≡ self.now) }
         ensures set { IsPathSet self.now }

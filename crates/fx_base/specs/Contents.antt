@@ -1,8 +1,8 @@
--- What a file's content is held in: by itself, or shared with its copies.
-use Rattle.std.specs.Prelude.{◌≡◌, ◌≤◌, ℕ, List, [], length}
+-- What bytes are held in: by themselves, or shared with their copies.
+use Rattle.std.specs.Prelude.{◌≡◌, ◌≤◌, ◌<◌, ℕ, List, [], All, length}
 use Rattle.std.specs.Vec.{vec_capacity}
-use Rattle.fx_store.specs.declared.bytes.Held.{Held}
-use Rattle.fx_store.specs.declared.bytes.Held.TheVariants.{Own, Shared}
+use Rattle.fx_base.specs.declared.content.Held.{Held}
+use Rattle.fx_base.specs.declared.content.Held.TheVariants.{Own, Shared}
 
 abbrev pub held_bytes : Held → List ℕ
 held_bytes (Own bytes) = bytes.items
@@ -12,3 +12,7 @@ held_bytes (Shared bytes spare) = bytes.value.items
 abbrev pub HasRoom : Held → Type 0
 HasRoom (Own bytes) = Unit {0}
 HasRoom (Shared bytes spare) = (spare.items ≡ []) × (length bytes.value.items ≤ vec_capacity spare)
+
+-- each number is a byte
+abbrev pub AreBytes : List ℕ → Type 0
+AreBytes bytes = All (λ b. b < 256) bytes
