@@ -1,19 +1,17 @@
 -- What an attempt that no entry stands in the way of becomes.
 use Rattle.std.proofs.Common.{◌≡◌, ◌≢◌, ℕ, zero, suc, ◌+◌, ◌-◌, ◌<◌, ◌≤◌, Bool, true, false, cond, List, [], ◌∷◌, ◌++◌, map, length, Option, Some, None, slice_get, refl, sym, ap, subst, ◌∙◌, inl, inr, arith, length-append}
-use Rattle.std.specs.Prelude.{◌↔◌, ◌⊎◌, bytes_eq, unwrap_or}
-use Rattle.std.specs.Cmp.Lexicographic.{pointwise}
+use Rattle.std.specs.Prelude.{◌↔◌, ◌⊎◌, unwrap_or}
 use Rattle.std.specs.FinMap.{get}
 use Rattle.std.specs.List.{Contains}
 use Rattle.std.specs.Option.{option_map}
 use Rattle.std.specs.Ordering.{eq_by_cmp}
-use Rattle.std.proofs.lemmas.Bool.{false≢true, true≢false}
+use Rattle.std.proofs.lemmas.Bool.{true≢false}
 use Rattle.std.proofs.lemmas.List.{length-map, map-append}
 use Rattle.std.proofs.lemmas.Option.{same_Some, none-some, slice_get_within, slice_get-get_or, get_or_from_slice_get}
-use Rattle.std.proofs.lemmas.Slice.Eq.{bytes_eq-Decides, slice_eq-Decides}
 use Rattle.fx_store.specs.declared.node.Node.{Node}
-use Rattle.fx_store.specs.declared.node.Node.TheVariants.{File, Dir, Link}
 use Rattle.fx_store.specs.declared.changes.Change.{Change}
 use Rattle.fx_store.specs.Changes.{IsChanges, changed_paths, change_at}
+use Rattle.fx_store.specs.Filestore.{Table}
 use Rattle.fx_store.specs.Names.{path_cmp}
 use Rattle.fx_store.specs.Orders.{path_eq_same}
 use Rattle.fx_store.specs.Whole.{Nodes, IsWhole, over, over_nodes}
@@ -36,8 +34,9 @@ use Rattle.fx_machine.specs.Machine.{next_number}
 use Rattle.fx_machine.specs.Passes.{AreTrueReads}
 use Rattle.fx_machine.specs.Measure.{same_node}
 use Rattle.fx_machine.proofs.Legal.{fewer_settled}
+use Rattle.fx_machine.proofs.Stale.{same_is, same_itself}
 use Rattle.fx_board.specs.Board.{IsEntry, IsBoard, IsIndex, IsFreshReads, IsNamed, log_of, turn_of, settled}
-use Rattle.fx_board.specs.Growing.{entry_of}
+use Rattle.fx_board.specs.Growing.{entry_of, nodes_by, StaysWhole}
 use Rattle.fx_board.specs.Log.{Log}
 use Rattle.fx_board.specs.Index.{Index, IsNoted, least_stale}
 use Rattle.fx_board.proofs.Indexes.{changes_within, index_more, named, none_stale}
@@ -46,28 +45,6 @@ abbrev Path : Type 0
 Path = List (List ℕ)
 
 -- ---- nodes that do not differ are the same
-
-same_is : (a b : Option Node) → same_node a b ≡ true → a ≡ b
-same_is None None e = refl
-same_is None (Some b) e = absurd (false≢true e)
-same_is (Some (File a exec)) None e = absurd (false≢true e)
-same_is (Some (Dir a)) None e = absurd (false≢true e)
-same_is (Some (Link a)) None e = absurd (false≢true e)
-same_is (Some (File a exec)) (Some (File b exec2)) e = ap (λ bytes. Some (File bytes false)) ((bytes_eq-Decides a b).0 e)
-same_is (Some (File a exec)) (Some (Dir b)) e = absurd (false≢true e)
-same_is (Some (File a exec)) (Some (Link b)) e = absurd (false≢true e)
-same_is (Some (Dir a)) (Some (File b exec)) e = absurd (false≢true e)
-same_is (Some (Dir a)) (Some (Dir b)) e = ap (λ names. Some (Dir names)) ((slice_eq-Decides bytes_eq-Decides a b (pointwise bytes_eq a b) refl).0 e)
-same_is (Some (Dir a)) (Some (Link b)) e = absurd (false≢true e)
-same_is (Some (Link a)) (Some (File b exec)) e = absurd (false≢true e)
-same_is (Some (Link a)) (Some (Dir b)) e = absurd (false≢true e)
-same_is (Some (Link a)) (Some (Link b)) e = ap (λ text. Some (Link text)) ((bytes_eq-Decides a b).0 e)
-
-same_itself : (a : Option Node) → same_node a a ≡ true
-same_itself None = refl
-same_itself (Some (File a exec)) = (bytes_eq-Decides a a).1 refl
-same_itself (Some (Dir a)) = (slice_eq-Decides bytes_eq-Decides a a (pointwise bytes_eq a a) refl).1 refl
-same_itself (Some (Link a)) = (bytes_eq-Decides a a).1 refl
 
 pub same_unless : (a b : Option Node) → (a ≢ b → ⊥) → a ≡ b
 same_unless a b unless = at (same_node a b) refl
@@ -262,6 +239,10 @@ starts base nodes whole plan same = record {
   after = same;
   last = λ path i changes. absurd (omega (arith, changes_within (base_tree base) [] i path changes));
 }
+
+pub stays_whole : (loaded : Nodes) (own : Option Table) (changes : List Change) → IsWhole (over (get (nodes_by loaded own)) changes) → StaysWhole own changes
+stays_whole loaded None changes whole = tt
+stays_whole loaded (Some own) changes whole = whole
 
 -- with an attempt whose reads are fresh the log is one again
 pub record IsReady (base : Base) (entries : List Entry) (nodes : Nodes) (index : Index) (a : Attempt) : Type 0 where

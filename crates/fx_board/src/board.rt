@@ -6,7 +6,7 @@ ghost use Rattle.fx_machine.specs.Machine.{next_number};
 ghost use Rattle.fx_machine.specs.Passes.{AreTrueReads};
 ghost use Rattle.fx_board.specs.Board.{IsLog, IsEntry, NeverChanged, IsLastChange, last_state, IsFreshReads, started, settled, RefusedAs};
 
-use crate::growing::grow;
+use crate::growing::{grow, make};
 use crate::index::{last, note, stale};
 use fx_base::{NoMemory, SHELL_LIMIT};
 use fx_machine::{Attempt, Entry};
@@ -24,7 +24,8 @@ use std::sync::Arc;
 pub struct Board {
     base: Arc<Base>,
     entries: Vec<Entry>,
-    store: Filestore,
+    /// The filestore after all entries, once one of them has changed something; until then it is the loaded one.
+    own: Option<Filestore>,
     index: IndexMap<Path, u64>,
 }
 
@@ -36,10 +37,12 @@ impl Model for Board {
     ghost coded = { log_code };
 
     ghost use Rattle.fx_board.specs.Board.{log_of, IsBoard};
+    ghost use Rattle.fx_board.specs.Growing.{nodes_by};
 
     ghost view = { λ b. log_of b.base.value b.entries.items };
 
-    ghost invariant = { λ b. IsBoard b.base.value b.entries.items b.store.nodes b.index.entries };
+    ghost invariant = { λ b. IsBoard b.base.value b.entries.items
+        (nodes_by b.base.value.loaded.nodes b.own) b.index.entries };
 }
 
 /// Why an attempt is not settled. Both refusals leave the log as it is, and hand the attempt back.
@@ -62,16 +65,16 @@ pub struct Settled {
 }
 
 impl Board {
-    /// No entries yet, and the loaded filestore.
+    /// No entries yet, and the loaded filestore, which is shared with the base until an entry changes something.
     pub fn new(alloc: Global, base: Arc<Base>) -> Result<Board, NoMemory>
         ensures { IfOk result (λ b. b ≡ started (base_tree base.value)) }
     {
         prove!(base.plan.len() <= SHELL_LIMIT);
-        let store = base.loaded.copy(alloc)?;
+        let _whole = base.loaded.places();
         Ok(Board {
             base,
             entries: Vec::new(alloc),
-            store,
+            own: None,
             index: IndexMap::new(alloc),
         })
     }
@@ -111,7 +114,10 @@ impl Board {
         ensures nodes { result.now.nodes ≡ last_state self.now }
         ensures log { IsLog self.now }
     {
-        &self.store
+        match &self.own {
+            Some(store) => store,
+            None => &self.base.loaded,
+        }
     }
 
     /// What stands at a path now, and the number of entries.
@@ -119,7 +125,7 @@ impl Board {
         ensures node { IfOk result (λ r. r.0 ≡ get (last_state self.now) path.now) }
         ensures position { IfOk result (λ r. r.1 ≡ length self.now.order) }
     {
-        let node = match self.store.get(path) {
+        let node = match self.store().get(path) {
             Some(node) => Some(node.copy(alloc)?),
             None => None,
         };
@@ -196,12 +202,13 @@ impl Board {
         match grow(
             alloc,
             &mut self.entries,
-            &mut self.store,
+            &self.base.loaded,
+            &mut self.own,
             &mut self.index,
             attempt,
         ) {
             Ok(grown) => {
-                self.store.apply(grown.changes);
+                make(&mut self.own, grown.changes);
                 note(&mut self.index, grown.keys, entry);
                 Ok(Settled {
                     entry,

@@ -1,6 +1,5 @@
-use Rattle.std.proofs.Common.{ap, subst, ◌∙◌}
+use Rattle.std.proofs.Common.{refl, subst}
 use Rattle.std.specs.FinMap.{get}
-use Rattle.fx_store.specs.Filestore.{Table}
 use Rattle.fx_store.specs.Whole.{IsWhole}
 use Rattle.fx_spec.specs.declared.base.Base.{Base}
 use Rattle.fx_spec.specs.Plans.{IsPlan}
@@ -10,4 +9,4 @@ use Rattle.fx_board.proofs.board.Board.new.Goals as goal
 pub invariant_of-result : goal.invariant_of-result
 invariant_of-result c =
     rw (c.new.ensures.items, c.new-2.ensures.empty)
-    (starts c.args.base.value c.in_ok-store.store.nodes (subst (λ (b : Base). IsWhole (get b.loaded.nodes)) c.deref-2.ensures c.in_ok-store.ensures.table.whole) (subst (λ (b : Base). IsPlan b.plan) c.deref.ensures c.len.ensures.plan) (ap (λ (t : Table). t.nodes) c.in_ok-store.ensures.copied ∙ ap (λ (b : Base). b.loaded.nodes) c.deref-2.ensures))
+    (starts c.args.base.value c.args.base.value.loaded.nodes (subst (λ (b : Base). IsWhole (get b.loaded.nodes)) c.deref-2.ensures c.places-whole.ensures.table.whole) (subst (λ (b : Base). IsPlan b.plan) c.deref.ensures c.len.ensures.plan) refl)
