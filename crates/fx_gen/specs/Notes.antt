@@ -1,5 +1,5 @@
 -- The filestore of a number: a list of sixteen projects, a link to one of them, and each with a count, a log and eight notes.
-use Rattle.std.specs.Prelude.{ℕ, ◌+◌, ◌*◌, ◌/◌, ◌%◌, List, [], ◌∷◌, ◌++◌, map, codes, Some, replicate}
+use Rattle.std.specs.Prelude.{ℕ, false, ◌+◌, ◌*◌, ◌/◌, ◌%◌, List, [], ◌∷◌, ◌++◌, map, codes, Some, replicate}
 use Rattle.std.specs.List.{flat_map, range_with_len}
 use Rattle.fx_store.specs.declared.node.Node.{Node}
 use Rattle.fx_store.specs.declared.node.Node.TheVariants.{File, Dir, Link}

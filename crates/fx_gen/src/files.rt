@@ -1,5 +1,5 @@
 //! The filestore.
-ghost use Rattle.std.specs.Prelude.{◌≡◌, ◌<◌, ◌≤◌, ◌+◌, ◌*◌, ◌++◌, ◌∷◌, [], Some, Ok, map, replicate, length, codes, IfOk, OnOk};
+ghost use Rattle.std.specs.Prelude.{◌≡◌, ◌<◌, ◌≤◌, ◌+◌, ◌*◌, ◌++◌, ◌∷◌, [], false, Some, Ok, map, replicate, length, codes, IfOk, OnOk};
 ghost use Rattle.std.specs.List.{flat_map, range_with_len};
 ghost use Rattle.fx_store.specs.Names.{IsName};
 ghost use Rattle.fx_store.specs.Faults.{read_link};
@@ -97,10 +97,17 @@ fn add_file(
     requires short { length bytes.items ≤ 1048576 }
     ensures { OnOk result
         (changes.new.items ≡ changes.old.items
-        ++ made (dir.now ++ entry.now ∷ [], Node.File bytes.items) ∷ []) }
+        ++ made (dir.now ++ entry.now ∷ [], Node.File bytes.items false) ∷ []) }
 {
     let path = below(alloc, dir, entry)?;
-    add(changes, path, Node::File { bytes: Bytes::from_vec(bytes), exec: false })
+    add(
+        changes,
+        path,
+        Node::File {
+            bytes: Bytes::from_vec(bytes),
+            exec: false,
+        },
+    )
 }
 
 /// Adds a name at the end of a list.
@@ -227,7 +234,7 @@ fn add_parts(alloc: Global, changes: &mut Vec<Change>, dir: &Path) -> Result<(),
         (changes.new.items
         ≡ changes.old.items
         ++ made (dir.now, Node.Dir (codes "count" ∷ codes "log" ∷ codes "notes" ∷ []))
-        ∷ made (dir.now ++ codes "count" ∷ [], Node.File (codes "0"))
+        ∷ made (dir.now ++ codes "count" ∷ [], Node.File (codes "0") false)
         ∷ made (dir.now ++ codes "log" ∷ [], Node.Dir []) ∷ []) }
 {
     add(changes, dir.copy(alloc)?, Node::Dir(parts(alloc)?))?;

@@ -1,4 +1,4 @@
-use Rattle.std.proofs.Common.{◌≡◌, ◌∙◌, ◌++◌, ◌∷◌, [], codes, OnOk, ap, subst}
+use Rattle.std.proofs.Common.{◌≡◌, ◌∙◌, ◌++◌, ◌∷◌, [], codes, OnOk, false, ap, subst}
 use Rattle.fx_store.specs.declared.node.Node.TheVariants.{File, Dir, Link}
 use Rattle.fx_gen.specs.Notes.{made}
 use Rattle.fx_gen.proofs.Placing.{current_named, top_made}
@@ -9,10 +9,10 @@ below-requires-clause-name c = current_named
 
 pub returns-clause-added : goal.returns-clause-added
 returns-clause-added c =
-    let chain : c.add_file.new.changes.items ≡ (c.args.changes.now.items ++ made ([], Dir c.in_ok-top_names.field-0) ∷ []) ++ made (codes "config" ∷ [], File c false.in_ok-config.field-0.items) ∷ [] =
+    let chain : c.add_file.new.changes.items ≡ (c.args.changes.now.items ++ made ([], Dir c.in_ok-top_names.field-0) ∷ []) ++ made (codes "config" ∷ [], File c.in_ok-config.field-0.items false) ∷ [] =
     c.in_ok-add_file.ensures
-    ∙ ap (λ l. l ++ made (c.root-root.result ++ codes "config" ∷ [], File c false.in_ok-config.field-0.items) ∷ []) (c.in_ok-add.ensures ∙ ap (λ x. c.args.changes.now.items ++ made (x, Dir c.in_ok-top_names.field-0) ∷ []) c.root-2.ensures)
-    ∙ ap (λ x. (c.args.changes.now.items ++ made ([], Dir c.in_ok-top_names.field-0) ∷ []) ++ made (x ++ codes "config" ∷ [], File c false.in_ok-config.field-0.items) ∷ []) c.root-root.ensures
+    ∙ ap (λ l. l ++ made (c.root-root.result ++ codes "config" ∷ [], File c.in_ok-config.field-0.items false) ∷ []) (c.in_ok-add.ensures ∙ ap (λ x. c.args.changes.now.items ++ made (x, Dir c.in_ok-top_names.field-0) ∷ []) c.root-2.ensures)
+    ∙ ap (λ x. (c.args.changes.now.items ++ made ([], Dir c.in_ok-top_names.field-0) ∷ []) ++ made (x ++ codes "config" ∷ [], File c.in_ok-config.field-0.items false) ∷ []) c.root-root.ensures
     in
     subst (λ l. OnOk c.add-2.result (c.add-2.new.changes.items ≡ l))
     (ap (λ l. l ++ made (c.in_ok-current.current, Link c.in_ok-target.target) ∷ []) chain
