@@ -1,7 +1,7 @@
 -- A folder is loaded or refused as its definition says.
 use Rattle.std.proofs.Common.{◌≡◌, ◌⊎◌, inl, inr, ℕ, Bool, true, false, List, Option, Some, None, IfSome, IfOk, IfErr, Result, Ok, Err, refl}
 use Rattle.fx_store.specs.declared.filestore.Filestore.{Filestore}
-use Rattle.fx_outside.specs.Host.{HostView, HasFailed}
+use Rattle.fx_outside.specs.Host.{HostView, FaultIn, HasFailed}
 use Rattle.fx_outside.specs.Tree.{Tree, is_folder_at}
 use Rattle.fx_table.specs.declared.fault.FolderCause.{FolderCause}
 use Rattle.fx_table.specs.declared.fault.LoadFault.{LoadFault}
@@ -33,7 +33,7 @@ if_refused : (told : Option Tree) (path : List ℕ) (cause : FolderCause) → If
 if_refused None path cause answer missing = tt
 if_refused (Some tree) path cause answer missing = refused_here tree path cause (is_folder_at tree path) refl answer missing
 
-pub is_not_loaded : (old new : HostView) (path : List ℕ) (result : Result Filestore LoadFault) → IfSome old.told (λ tree. is_folder_at tree path ≡ true → AnswersAs (loads tree path) result) → IfSome old.told (λ tree. is_folder_at tree path ≡ false → (result ≡ Err ReadFault) ⊎ (result ≡ Err NoMemory)) → (result ≡ Err ReadFault → HasFailed (λ tree. is_folder_at tree path) old new) → IfErr result (LoadCause path old new)
+pub is_not_loaded : (old new : HostView) (path : List ℕ) (result : Result Filestore LoadFault) → IfSome old.told (λ tree. is_folder_at tree path ≡ true → AnswersAs (loads tree path) result) → IfSome old.told (λ tree. is_folder_at tree path ≡ false → (result ≡ Err ReadFault) ⊎ (result ≡ Err NoMemory)) → (result ≡ Err ReadFault → HasFailed (FaultIn path) (λ tree. is_folder_at tree path) old new) → IfErr result (LoadCause path old new)
 is_not_loaded old new path (Ok s) answer missing fault = tt
 is_not_loaded old new path (Err (Refused cause)) answer missing fault = if_refused old.told path cause answer missing
 is_not_loaded old new path (Err ReadFault) answer missing fault = fault refl

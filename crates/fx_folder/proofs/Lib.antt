@@ -2,6 +2,7 @@ pub mod Below
 pub mod Branches
 pub mod Counted
 mod DeepExamples
+pub mod Faulted
 pub mod Filled
 pub mod Answering
 pub mod Fronts

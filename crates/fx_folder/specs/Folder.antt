@@ -6,8 +6,7 @@ use Rattle.fx_store.specs.Whole.{Nodes}
 use Rattle.fx_outside.specs.declared.kind.HostKind.TheVariants as kind
 use Rattle.fx_folder.specs.declared.fault.SaveFault.{SaveFault}
 use Rattle.fx_folder.specs.declared.fault.SaveFault.TheVariants as fault
-use Rattle.fx_base.specs.Causes.{Rose}
-use Rattle.fx_outside.specs.Host.{HostView, HasFailed}
+use Rattle.fx_outside.specs.Host.{HostView, FaultIn, HasFailed}
 use Rattle.fx_outside.specs.Path.{Parts, parts, parts_cmp, is_fit, above}
 use Rattle.fx_outside.specs.Tree.{Tree, Entry, file, entry_at, is_folder_at, has_folder}
 pub use Rattle.fx_folder.specs.Places.{host_entry}
@@ -67,7 +66,7 @@ IsTaken tree path =
 
 -- when no folder is ready to be written
 abbrev pub ReadyCause : List ℕ → HostView → HostView → SaveFault → Type 0
-ReadyCause path old new fault.WriteFault = HasFailed (λ _. is_fit path) old new
+ReadyCause path old new fault.WriteFault = HasFailed (FaultIn path) (λ _. is_fit path) old new
 ReadyCause path old new fault.NotEmpty = IfSome old.told (λ tree. IsTaken tree path)
 ReadyCause path old new fault.NoMemory = Unit {0}
 
@@ -77,6 +76,6 @@ LacksFolder tree path there = (there ≡ false) × (has_folder tree (above (part
 
 -- when a folder is not written whole
 abbrev pub SaveCause : List ℕ → Bool → HostView → HostView → SaveFault → Type 0
-SaveCause path there old new fault.WriteFault = Rose old.faults new.faults ⊎ IsSomeAnd old.told (λ tree. LacksFolder tree path there)
+SaveCause path there old new fault.WriteFault = FaultIn path old new ⊎ IsSomeAnd old.told (λ tree. LacksFolder tree path there)
 SaveCause path there old new fault.NotEmpty = ⊥
 SaveCause path there old new fault.NoMemory = Unit {0}

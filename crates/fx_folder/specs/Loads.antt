@@ -1,6 +1,6 @@
 -- What a folder of any depth is loaded as, with the links of its table, or why it is refused.
 use Rattle.std.specs.Prelude.{◌≡◌, true, ℕ, List, IfSome, Result, Ok, Err, ⊤}
-use Rattle.fx_outside.specs.Host.{HostView, HasFailed}
+use Rattle.fx_outside.specs.Host.{HostView, FaultIn, HasFailed}
 use Rattle.fx_outside.specs.Path.{parts}
 use Rattle.fx_outside.specs.Tree.{Tree, is_folder_at}
 use Rattle.fx_store.specs.declared.filestore.Filestore.{Filestore}
@@ -32,5 +32,5 @@ IsRefused tree path cause = (is_folder_at tree path ≡ true) × (loads tree pat
 -- when a folder is not loaded
 abbrev pub LoadCause : List ℕ → HostView → HostView → LoadFault → Type 0
 LoadCause path old new (Refused cause) = IfSome old.told (λ tree. IsRefused tree path cause)
-LoadCause path old new ReadFault = HasFailed (λ tree. is_folder_at tree path) old new
+LoadCause path old new ReadFault = HasFailed (FaultIn path) (λ tree. is_folder_at tree path) old new
 LoadCause path old new NoMemory = ⊤

@@ -1,8 +1,7 @@
 //! The table of a folder, and what was found with its links.
 ghost use Rattle.std.specs.Prelude.{◌≡◌, ◌≤◌, ◌<◌, ◌∷◌, [], length, true, Ok, Err, IfOk, IfErr, IfSome, option_map};
 ghost use Rattle.std.specs.FinMap.{get};
-ghost use Rattle.fx_base.specs.Causes.{Rose};
-ghost use Rattle.fx_outside.specs.Host.{ReadsOnly, AsksFit};
+ghost use Rattle.fx_outside.specs.Host.{ReadsOnly, AsksFit, FaultIn};
 ghost use Rattle.fx_outside.specs.Path.{parts};
 ghost use Rattle.fx_outside.specs.Tree.{is_folder_at, is_file_at, bytes_at};
 ghost use Rattle.fx_table.specs.declared.fault.LoadFault.TheVariants.{ReadFault};
@@ -56,7 +55,7 @@ pub(crate) fn with_table<H: Host>(
     ensures answer { IfSome (H.view host.old).told (λ tree.
         AnswersFound tree (parts folder.now) (items_in result)) }
     ensures fault { result ≡ Err ReadFault
-        → Rose (H.view host.old).faults (H.view host.new).faults }
+        → FaultIn folder.now (H.view host.old) (H.view host.new) }
     ensures same { ReadsOnly (H.view host.old) (H.view host.new) }
     ensures fit { AsksFit folder.now (H.view host.old) (H.view host.new) }
 {
@@ -98,7 +97,7 @@ fn read_text<H: Host>(
         AnswersText (text_of kind (bytes_at tree (path_below folder.now table_name)))
         (items_in result)) }
     ensures fault { result ≡ Err ReadFault
-        → Rose (H.view host.old).faults (H.view host.new).faults }
+        → FaultIn folder.now (H.view host.old) (H.view host.new) }
     ensures same { ReadsOnly (H.view host.old) (H.view host.new) }
     ensures fit { AsksFit folder.now (H.view host.old) (H.view host.new) }
 {
@@ -122,7 +121,7 @@ fn read_table_file<H: Host>(
         (text_of HostKind.File (bytes_at tree (path_below folder.now table_name)))
         (items_in result)) }
     ensures fault { result ≡ Err ReadFault
-        → Rose (H.view host.old).faults (H.view host.new).faults }
+        → FaultIn folder.now (H.view host.old) (H.view host.new) }
     ensures same { ReadsOnly (H.view host.old) (H.view host.new) }
     ensures fit { AsksFit (path_below folder.now table_name) (H.view host.old) (H.view host.new) }
 {

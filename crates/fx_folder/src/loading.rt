@@ -1,9 +1,8 @@
 //! Folders as filestores.
 ghost use Rattle.std.specs.Prelude.{◌≡◌, ◌⊎◌, ◌+◌, ◌-◌, ◌<◌, ◌≤◌, length, true, false, min, Ok, Err, IfOk, IfErr, IfSome, option_map};
-ghost use Rattle.fx_base.specs.Causes.{Rose};
 ghost use Rattle.fx_outside.specs.Path.{parts};
 ghost use Rattle.fx_outside.specs.Tree.{Lists, is_folder_at, is_file_at, bytes_at};
-ghost use Rattle.fx_outside.specs.Host.{ReadsOnly, AsksFit, HasFailed};
+ghost use Rattle.fx_outside.specs.Host.{ReadsOnly, AsksFit, HasFailed, FaultAt, FaultIn};
 ghost use Rattle.fx_outside.specs.declared.kind.HostFault.TheVariants.{Failed};
 ghost use Rattle.fx_table.specs.declared.fault.LoadFault.TheVariants.{ReadFault, NoMemory};
 ghost use Rattle.fx_folder.specs.Tables.{ReadsWhole, AnswersFound, items_in};
@@ -53,7 +52,8 @@ fn load_folder<H: Host>(
     ensures answer { IfSome (H.view host.old).told (λ tree.
         is_folder_at tree folder.now ≡ true → AnswersAs (loads tree folder.now) result) }
     ensures fault { result ≡ Err ReadFault
-        → HasFailed (λ tree. is_folder_at tree folder.now) (H.view host.old) (H.view host.new) }
+        → HasFailed (FaultIn folder.now) (λ tree. is_folder_at tree folder.now)
+        (H.view host.old) (H.view host.new) }
     ensures missing { IfSome (H.view host.old).told (λ tree.
         is_folder_at tree folder.now ≡ false → (result ≡ Err ReadFault) ⊎ (result ≡ Err NoMemory)) }
     ensures same { ReadsOnly (H.view host.old) (H.view host.new) }
@@ -80,7 +80,7 @@ fn find_all<H: Host>(
     ensures answer { IfSome (H.view host.old).told (λ tree.
         AnswersFound tree (parts folder.now) (items_in result)) }
     ensures fault { result ≡ Err ReadFault
-        → Rose (H.view host.old).faults (H.view host.new).faults }
+        → FaultIn folder.now (H.view host.old) (H.view host.new) }
     ensures same { ReadsOnly (H.view host.old) (H.view host.new) }
     ensures fit { AsksFit folder.now (H.view host.old) (H.view host.new) }
 {
@@ -121,7 +121,7 @@ pub(crate) fn read_file<H: Host>(
         ReadsFile left name.now (bytes_at tree (path_below folder.now name.now)) result) }
     ensures short { IfOk result (λ bytes. length bytes ≤ left) }
     ensures fault { result ≡ Err ReadFault
-        → Rose (H.view host.old).faults (H.view host.new).faults }
+        → FaultIn folder.now (H.view host.old) (H.view host.new) }
     ensures same { ReadsOnly (H.view host.old) (H.view host.new) }
     ensures fit { AsksFit (path_below folder.now name.now) (H.view host.old) (H.view host.new) }
 {
@@ -146,7 +146,7 @@ pub(crate) fn read_whole<H: Host>(
     ensures answer { IfOk result (λ bytes. IfSome (H.view host.old).told (λ tree.
         ReadsWhole limit (bytes_at tree path.now) (option_map (λ v. v.items) bytes))) }
     ensures short { IfOk result (λ bytes. IfSome bytes (λ v. length v.items ≤ limit)) }
-    ensures fault { result ≡ Err Failed → Rose (H.view host.old).faults (H.view host.new).faults }
+    ensures fault { result ≡ Err Failed → FaultAt path.now (H.view host.old) (H.view host.new) }
     ensures same { ReadsOnly (H.view host.old) (H.view host.new) }
     ensures fit { AsksFit path.now (H.view host.old) (H.view host.new) }
 {

@@ -1,8 +1,7 @@
 //! Whether a folder can be written at a path.
 ghost use Rattle.std.specs.Prelude.{◌≡◌, true, IfOk, IfErr, IfSome};
-ghost use Rattle.fx_base.specs.Causes.{Rose};
 ghost use Rattle.fx_outside.specs.Tree.{is_folder_at};
-ghost use Rattle.fx_outside.specs.Host.{ReadsOnly, AsksFit};
+ghost use Rattle.fx_outside.specs.Host.{ReadsOnly, AsksFit, FaultIn};
 ghost use Rattle.fx_folder.specs.Folder.{IsReady, IsTaken, ReadyCause};
 
 use crate::fault::SaveFault;
@@ -38,7 +37,7 @@ fn find_empty<H: Host>(alloc: Global, host: &mut H, folder: &HostText) -> Result
     ensures taken { result ≡ Err SaveFault.NotEmpty
         → IfSome (H.view host.old).told (λ tree. IsTaken tree folder.now) }
     ensures fault { result ≡ Err SaveFault.WriteFault
-        → Rose (H.view host.old).faults (H.view host.new).faults }
+        → FaultIn folder.now (H.view host.old) (H.view host.new) }
 {
     match host.list(alloc, folder) {
         Ok(listing) => {

@@ -1,11 +1,10 @@
 //! Filestores as folders.
 ghost use Rattle.std.specs.Prelude.{◌≡◌, ◌≤◌, ◌++◌, ◌∷◌, [], true, Some, Ok, Err, IfOk, IfErr, OnOk, OnErr, IfSome, IsSome, string_bytes};
 ghost use Rattle.std.specs.FinMap.{get, entries};
-ghost use Rattle.fx_base.specs.Causes.{Rose};
 ghost use Rattle.fx_store.specs.Whole.{IsWhole};
 ghost use Rattle.fx_store.specs.Names.{IsPath, IsName};
 ghost use Rattle.fx_outside.specs.Path.{parts};
-ghost use Rattle.fx_outside.specs.Host.{AsksFit, HasFailed, CountsUnfit};
+ghost use Rattle.fx_outside.specs.Host.{AsksFit, HasFailed, CountsUnfit, FaultAt, FaultIn};
 ghost use Rattle.fx_outside.specs.Tree.{is_free_at, file, folder};
 ghost use Rattle.fx_folder.specs.declared.fault.SaveFault.TheVariants.{WriteFault, NotEmpty};
 ghost use Rattle.fx_table.specs.Places.{place_of, table_name};
@@ -86,7 +85,7 @@ fn write_entries<H: Host>(
     ensures partly { OnErr result (IfTold (H.view host.old).told (H.view host.new).told
         (λ tree tree'. WroteFront tree tree' (parts folder.now) store.now.nodes)) }
     ensures fault { result ≡ Err WriteFault
-        → Rose (H.view host.old).faults (H.view host.new).faults }
+        → FaultIn folder.now (H.view host.old) (H.view host.new) }
     ensures free { result ≡ Err NotEmpty → ⊥ }
     ensures later { (H.view host.old).faults ≤ (H.view host.new).faults }
     ensures fit { AsksFit folder.now (H.view host.old) (H.view host.new) }
@@ -116,7 +115,7 @@ fn write_entry<H: Host>(
         (λ tree tree'. WrotePart tree tree' (parts folder.now ++ path.now)
         (host_entry (get store.now.nodes path.now)))) }
     ensures fault { result ≡ Err WriteFault
-        → Rose (H.view host.old).faults (H.view host.new).faults }
+        → FaultIn folder.now (H.view host.old) (H.view host.new) }
     ensures free { result ≡ Err NotEmpty → ⊥ }
     ensures later { (H.view host.old).faults ≤ (H.view host.new).faults }
     ensures fit { AsksFit folder.now (H.view host.old) (H.view host.new) }
@@ -141,7 +140,7 @@ fn write_node<H: Host>(
     ensures partly { OnErr result (IfTold (H.view host.old).told (H.view host.new).told
         (λ tree tree'. WrotePart tree tree' (parts place.now) (host_entry (Some node.now)))) }
     ensures fault { result ≡ Err WriteFault
-        → Rose (H.view host.old).faults (H.view host.new).faults }
+        → FaultAt place.now (H.view host.old) (H.view host.new) }
     ensures free { result ≡ Err NotEmpty → ⊥ }
     ensures later { (H.view host.old).faults ≤ (H.view host.new).faults }
     ensures fit { AsksFit place.now (H.view host.old) (H.view host.new) }
@@ -160,7 +159,7 @@ fn write_folder<H: Host>(alloc: Global, host: &mut H, place: &HostText) -> Resul
     ensures partly { OnErr result (IfTold (H.view host.old).told (H.view host.new).told
         (λ tree tree'. WrotePart tree tree' (parts place.now) (Some folder))) }
     ensures fault { result ≡ Err WriteFault
-        → Rose (H.view host.old).faults (H.view host.new).faults }
+        → FaultAt place.now (H.view host.old) (H.view host.new) }
     ensures free { result ≡ Err NotEmpty → ⊥ }
     ensures later { (H.view host.old).faults ≤ (H.view host.new).faults }
     ensures fit { AsksFit place.now (H.view host.old) (H.view host.new) }
@@ -185,7 +184,7 @@ pub fn write_file<H: Host>(
     ensures partly { OnErr result (IfTold (H.view host.old).told (H.view host.new).told
         (λ tree tree'. WrotePart tree tree' (parts place.now) (Some (file bytes.now)))) }
     ensures fault { result ≡ Err WriteFault
-        → Rose (H.view host.old).faults (H.view host.new).faults }
+        → FaultAt place.now (H.view host.old) (H.view host.new) }
     ensures free { result ≡ Err NotEmpty → ⊥ }
     ensures later { (H.view host.old).faults ≤ (H.view host.new).faults }
     ensures fit { AsksFit place.now (H.view host.old) (H.view host.new) }
@@ -213,7 +212,7 @@ fn add_table<H: Host>(
         (λ tree tree'. WrotePart tree tree' (parts folder.now ++ table_name ∷ [])
         (file_unless_empty text.now))) }
     ensures fault { result ≡ Err WriteFault
-        → Rose (H.view host.old).faults (H.view host.new).faults }
+        → FaultIn folder.now (H.view host.old) (H.view host.new) }
     ensures free { result ≡ Err NotEmpty → ⊥ }
     ensures later { (H.view host.old).faults ≤ (H.view host.new).faults }
     ensures fit { AsksFit folder.now (H.view host.old) (H.view host.new) }

@@ -1,10 +1,9 @@
 //! The walk through a folder: its entries in order of path, each folder's before its next sibling.
 ghost use Rattle.std.specs.Prelude.{◌≡◌, ◌<◌, ◌≤◌, ◌+◌, ◌++◌, ◌∷◌, [], length, true, Ok, Err, IfOk, IfErr, OnOk, IfSome, string_bytes};
 ghost use Rattle.std.specs.FinMap.{entries};
-ghost use Rattle.fx_base.specs.Causes.{Rose};
 ghost use Rattle.fx_outside.specs.Path.{parts};
 ghost use Rattle.fx_outside.specs.Tree.{Lists, is_folder_at, is_file_at, bytes_at};
-ghost use Rattle.fx_outside.specs.Host.{ReadsOnly, AsksFit};
+ghost use Rattle.fx_outside.specs.Host.{ReadsOnly, AsksFit, FaultIn};
 ghost use Rattle.fx_store.specs.Names.{IsPath};
 ghost use Rattle.fx_table.specs.declared.fault.LoadFault.TheVariants.{ReadFault};
 ghost use Rattle.fx_table.specs.Places.{place_of};
@@ -50,7 +49,7 @@ pub(crate) fn walk<H: Host>(
         (λ tree. AnswersWalk tree (parts folder.now) result) }
     ensures found { IfOk result (λ walked. AreFound walked.found.items) }
     ensures fault { result ≡ Err ReadFault
-        → Rose (H.view host.old).faults (H.view host.new).faults }
+        → FaultIn folder.now (H.view host.old) (H.view host.new) }
     ensures same { ReadsOnly (H.view host.old) (H.view host.new) }
     ensures fit { AsksFit folder.now (H.view host.old) (H.view host.new) }
 {
@@ -84,7 +83,7 @@ fn walk_items<H: Host>(
     ensures cause { IfErr result (λ fault. IfSome (H.view host.old).told (λ tree.
         WalkCause tree (parts folder.now) fault)) }
     ensures fault { result ≡ Err ReadFault
-        → Rose (H.view host.old).faults (H.view host.new).faults }
+        → FaultIn folder.now (H.view host.old) (H.view host.new) }
     ensures same { ReadsOnly (H.view host.old) (H.view host.new) }
     ensures fit { AsksFit folder.now (H.view host.old) (H.view host.new) }
 {
@@ -119,7 +118,7 @@ fn walk_item<H: Host>(
     ensures count { OnOk result (length found.new.items ≡ length found.old.items + 1) }
     ensures few { OnOk result (length found.old.items < MAX_NODES) }
     ensures fault { result ≡ Err ReadFault
-        → Rose (H.view host.old).faults (H.view host.new).faults }
+        → FaultIn folder.now (H.view host.old) (H.view host.new) }
     ensures same { ReadsOnly (H.view host.old) (H.view host.new) }
     ensures fit { AsksFit folder.now (H.view host.old) (H.view host.new) }
 {
@@ -153,7 +152,7 @@ fn enter<H: Host>(
     ensures size { IfOk result (λ change. size_of change ≤ left) }
     ensures few { OnOk result (nodes < MAX_NODES) }
     ensures fault { result ≡ Err ReadFault
-        → Rose (H.view host.old).faults (H.view host.new).faults }
+        → FaultIn folder.now (H.view host.old) (H.view host.new) }
     ensures same { ReadsOnly (H.view host.old) (H.view host.new) }
     ensures fit { AsksFit folder.now (H.view host.old) (H.view host.new) }
 {
@@ -187,7 +186,7 @@ fn enter_file<H: Host>(
     ensures found { IfOk result (λ change. (change.path ≡ path) × IsFoundNode change.node) }
     ensures size { IfOk result (λ change. size_of change ≤ left) }
     ensures fault { result ≡ Err ReadFault
-        → Rose (H.view host.old).faults (H.view host.new).faults }
+        → FaultIn folder.now (H.view host.old) (H.view host.new) }
     ensures same { ReadsOnly (H.view host.old) (H.view host.new) }
     ensures fit { AsksFit (path_below folder.now text.now) (H.view host.old) (H.view host.new) }
 {
@@ -217,7 +216,7 @@ fn enter_folder<H: Host>(
         todo.old.items todo.new.items) }
     ensures cause { IfErr result IsNoRefusal }
     ensures fault { result ≡ Err ReadFault
-        → Rose (H.view host.old).faults (H.view host.new).faults }
+        → FaultIn folder.now (H.view host.old) (H.view host.new) }
     ensures same { ReadsOnly (H.view host.old) (H.view host.new) }
     ensures fit { AsksFit (path_below folder.now text.now) (H.view host.old) (H.view host.new) }
 {

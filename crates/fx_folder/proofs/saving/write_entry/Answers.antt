@@ -2,6 +2,7 @@ use Rattle.std.proofs.Common.{rules, ◌≡◌, ◌++◌, true, Some, ap, sym, s
 use Rattle.std.specs.FinMap.{get}
 use Rattle.fx_outside.specs.Path.{parts, is_fit}
 use Rattle.fx_folder.specs.Places.{host_entry}
+use Rattle.fx_folder.proofs.Faulted.{fault_below}
 use Rattle.fx_folder.proofs.Texts.{parts_place, fit_place}
 use Rattle.fx_folder.proofs.Writes.{wrote_at, part_at}
 use Rattle.fx_folder.proofs.saving.write_entry.Goals as goal
@@ -18,3 +19,6 @@ returns-clause-partly g c =
 
 pub returns-clause-fit : goal.returns-clause-fit
 returns-clause-fit g c = λ fit. c.write_node.ensures.fit (subst (λ p. is_fit p ≡ true) (sym c.in_ok-place.ensures.place) (fit_place c.args.folder.now c.args.path.now fit c.in_ok-place.ensures.path.names))
+
+pub returns-clause-fault : goal.returns-clause-fault
+returns-clause-fault g c = λ failed. fault_below c.args.folder.now c.in_ok-place.place c.args.path.now (g.H.Host.view c.args.host.now) (g.H.Host.view c.write_node.new.host) c.in_ok-place.ensures.place (c.write_node.ensures.fault failed)
