@@ -52,5 +52,5 @@ mode_below count None is = All-nil (λ k. k < count)
 mode_below count (Some text) is = read_below count text (schedule_of count text) refl is
 
 -- the shells that a job asks for are below its number of scripts
-pub job_below : (j : code.RunJob) → IsJob j → All (λ k. k < length (scripts_in j)) (shells_of (asked j))
-job_below j is = mode_below (length (scripts_in j)) (schedule_text j) is.schedule
+pub job_below : (j : code.RunJob) → IsJob j → All (λ k. k < length (scripts_in j.inputs)) (shells_of (asked j))
+job_below j is = mode_below (length (scripts_in j.inputs)) (schedule_text j) is.schedule

@@ -12,12 +12,17 @@ pub data Mode : Type 0 where
   Plain : Mode
   Scheduled : List ℕ → Mode
 
--- scripts on the folder, by the description, and the folder that they leave into `out`
-pub record RunJob : Type 0 where
+-- what a run reads: a description, a folder and scripts, and the place of the first script's word, the command being 0
+pub record Inputs : Type 0 where
   pub spec : List ℕ
   pub folder : List ℕ
-  pub out : List ℕ
   pub scripts : List (List ℕ)
+  pub first : ℕ
+
+-- a run of these, and the folder that it leaves into `out`
+pub record RunJob : Type 0 where
+  pub inputs : Inputs
+  pub out : List ℕ
   pub mode : Mode
 
 -- whether the folder has a value by the description, and which
@@ -61,12 +66,12 @@ abbrev pub are_plain : List (List ℕ) → Bool
 are_plain words = list_all is_plain words
 
 abbrev pub run_job : List (List ℕ) → Option RunJob
-run_job (spec ∷ folder ∷ out ∷ scripts) = cond (is_count (length scripts)) (Some (record { spec = spec; folder = folder; out = out; scripts = scripts; mode = Plain })) None
+run_job (spec ∷ folder ∷ out ∷ scripts) = cond (is_count (length scripts)) (Some (record { inputs = record { spec = spec; folder = folder; scripts = scripts; first = 4 }; out = out; mode = Plain })) None
 run_job _ = None
 
 abbrev pub trace_job : List (List ℕ) → Option RunJob
 trace_job (spec ∷ folder ∷ out ∷ schedule ∷ scripts) =
-    let job : List ℕ → RunJob = λ shells. record { spec = spec; folder = folder; out = out; scripts = scripts; mode = Scheduled shells } in
+    let job : List ℕ → RunJob = λ shells. record { inputs = record { spec = spec; folder = folder; scripts = scripts; first = 5 }; out = out; mode = Scheduled shells } in
     cond (is_count (length scripts)) (option_map job (schedule_of (length scripts) schedule)) None
 trace_job _ = None
 
@@ -100,13 +105,9 @@ abbrev pub job_of : List (List ℕ) → Option Job
 job_of [] = None
 job_of (command ∷ arguments) = cond (are_plain arguments) (named_job command arguments) None
 
--- the place of a script's word among the words, the command being 0
-abbrev pub first_place : Mode → ℕ
-first_place Plain = 4
-first_place (Scheduled shells) = 5
-
-abbrev pub place_of : RunJob → ℕ → ℕ
-place_of job i = first_place job.mode + i
+-- the place of a script's word among the words
+abbrev pub place_of : Inputs → ℕ → ℕ
+place_of inputs i = inputs.first + i
 
 abbrev pub shells_in : Mode → List ℕ
 shells_in Plain = []

@@ -3,7 +3,7 @@ ghost use Rattle.fx_base.specs.Limits.{shell_limit};
 ghost use Rattle.fx_command_line.specs.Forms.{has_form};
 ghost use Rattle.fx_command_line.specs.WordsOf.{texts_of, words_of};
 ghost use Rattle.fx_words.specs.Job as job;
-ghost use Rattle.fx_words.specs.JobOf.{asked, asked_show, asked_gen, asked_job, IsJob, IsAnyJob};
+ghost use Rattle.fx_words.specs.JobOf.{asked, asked_inputs, asked_show, asked_gen, asked_job, AreInputs, IsJob, IsAnyJob};
 
 use crate::decimal::number_of;
 use crate::schedule::{is_schedule, read_schedule};
@@ -21,16 +21,22 @@ pub enum Job<'a> {
     Large(GenJob<'a>),
 }
 
+/// What a run reads: a description, a folder, and scripts, which are the last of the words.
+#[derive(Clone, Copy)]
+pub struct Inputs<'a> {
+    pub spec: &'a HostText,
+    pub folder: &'a HostText,
+    words: &'a Words,
+    first: u64,
+}
+
 /// The arguments of `run SPEC FOLDER OUT SCRIPT...`, or of `trace SPEC FOLDER OUT SCHEDULE SCRIPT...`, which alone has a
 /// schedule.
 #[derive(Clone, Copy)]
 pub struct RunJob<'a> {
-    pub spec: &'a HostText,
-    pub folder: &'a HostText,
+    pub inputs: Inputs<'a>,
     pub out: &'a HostText,
     pub schedule: Option<&'a HostText>,
-    words: &'a Words,
-    first: u64,
 }
 
 /// The arguments of `show SPEC FOLDER`.
@@ -98,13 +104,16 @@ fn run_job(words: &Words) -> Option<RunJob<'_>>
     let spec = words.at(1)?;
     let folder = words.at(2)?;
     let out = words.at(3)?;
-    Some(RunJob {
+    let inputs = Inputs {
         spec,
         folder,
-        out,
-        schedule: None,
         words,
         first: 4,
+    };
+    Some(RunJob {
+        inputs,
+        out,
+        schedule: None,
     })
 }
 
@@ -124,13 +133,16 @@ fn trace_job<'a>(words: &'a Words, shells: &str) -> Option<RunJob<'a>>
     if !is_schedule(count, shells.as_bytes()) {
         return None;
     }
-    Some(RunJob {
+    let inputs = Inputs {
         spec,
         folder,
-        out,
-        schedule: Some(schedule),
         words,
         first: 5,
+    };
+    Some(RunJob {
+        inputs,
+        out,
+        schedule: Some(schedule),
     })
 }
 
@@ -190,11 +202,11 @@ pub fn job_of(alloc: Global, words: &Words) -> Result<Job<'_>, WordsFault>
     }
 }
 
-impl<'a> RunJob<'a> {
+impl<'a> Inputs<'a> {
     /// The number of scripts: 1 to 64.
     pub fn scripts(&self) -> u32
-        requires { IsJob self.now }
-        ensures count { result ≡ length (asked self.now).scripts }
+        requires { AreInputs self.now }
+        ensures count { result ≡ length (asked_inputs self.now).scripts }
         ensures some { 1 ≤ result }
         ensures few { result ≤ shell_limit }
     {
@@ -203,21 +215,23 @@ impl<'a> RunJob<'a> {
 
     /// The word that names script `i`, from 0; None exactly from `scripts` on.
     pub fn script(&self, i: u32) -> Option<&HostText>
-        requires { IsJob self.now }
-        ensures { option_copied result ≡ slice_get (asked self.now).scripts i }
+        requires { AreInputs self.now }
+        ensures { option_copied result ≡ slice_get (asked_inputs self.now).scripts i }
     {
         self.words.at(self.first + u64::from(i))
     }
 
     /// The place of script `i` among the words, the command being 0.
     pub fn place(&self, i: u32) -> u32
-        requires job { IsJob self.now }
-        requires script { i < length (asked self.now).scripts }
-        ensures { result ≡ job.place_of (asked self.now) i }
+        requires inputs { AreInputs self.now }
+        requires script { i < length (asked_inputs self.now).scripts }
+        ensures { result ≡ job.place_of (asked_inputs self.now) i }
     {
         self.first as u32 + i
     }
+}
 
+impl<'a> RunJob<'a> {
     /// The shells of the schedule, in order; none where there is no schedule.
     pub fn shells(&self, alloc: Global) -> Result<Vec<u32>, NoMemory>
         requires { IsJob self.now }
@@ -225,7 +239,9 @@ impl<'a> RunJob<'a> {
     {
         match self.schedule {
             None => Ok(Vec::new(alloc)),
-            Some(schedule) => read_schedule(alloc, self.scripts(), schedule.as_str().as_bytes()),
+            Some(schedule) => {
+                read_schedule(alloc, self.inputs.scripts(), schedule.as_str().as_bytes())
+            }
         }
     }
 }

@@ -6,4 +6,4 @@ mod job;
 mod schedule;
 
 pub use fx_command_line::WordsFault;
-pub use job::{GenJob, Job, RunJob, ShowJob, job_of};
+pub use job::{GenJob, Inputs, Job, RunJob, ShowJob, job_of};
