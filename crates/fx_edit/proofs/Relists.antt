@@ -1,6 +1,6 @@
 -- Two sets of names, gone through side by side.
-use Rattle.std.proofs.Common.{◌≡◌, ℕ, zero, suc, ◌+◌, ◌<◌, ◌≤◌, Bool, true, false, cond, ◌||◌, List, [], ◌∷◌, ◌++◌, length, drop, nat_eq, Option, Some, None, Result, Ok, Err, refl, sym, subst, ap, ◌∙◌, arith}
-use Rattle.std.specs.Prelude.{slice_get, IsErrAnd}
+use Rattle.std.proofs.Common.{◌≡◌, ℕ, zero, suc, ◌+◌, ◌<◌, Bool, true, false, ◌||◌, List, [], ◌∷◌, ◌++◌, length, drop, nat_eq, Result, Ok, Err, refl, sym, subst, ap, ◌∙◌, arith}
+use Rattle.std.specs.Prelude.{IsErrAnd}
 use Rattle.std.specs.declared.cmp.Ordering.TheVariants.{Less, Equal, Greater}
 use Rattle.std.specs.Ordering.{nat_cmp, eq_by_cmp}
 use Rattle.std.specs.Cmp.{eq_by_cmp_equiv}
@@ -14,7 +14,6 @@ use Rattle.fx_store.specs.declared.changes.Change.{Change}
 use Rattle.fx_store.specs.Names.{has, name_cmp}
 use Rattle.fx_store.specs.Orders.{name_total}
 use Rattle.fx_store.specs.Rule.{Known, Ask, Answer, ◌>>=◌}
-use Rattle.fx_expr.specs.Merges.{IsLeastOf}
 use Rattle.fx_expr.specs.Sets.{IsAscending, has_text, set_of}
 use Rattle.fx_expr.proofs.Canon.{ascending_set}
 use Rattle.fx_expr.proofs.Merging.{least_of_first, least_of_second, least_less, least_equal, least_greater}

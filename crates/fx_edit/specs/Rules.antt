@@ -88,7 +88,7 @@ left_of false names = names
 -- what is done at a name, by whether the old names have it and whether the new ones do
 abbrev pub change_of : List (List ℕ) → List ℕ → Bool → Bool → Ask (List Change)
 change_of q n old new =
-    let added = Look (q /ₚ n) (λ node. Answer (set_to (q /ₚ n) (File []) ∷ [])) in
+    let added = Look (q /ₚ n) (λ node. Answer (set_to (q /ₚ n) (File [] false) ∷ [])) in
     let dropped = clear (q /ₚ n) in
     cond new (cond old (Answer []) added) dropped
 

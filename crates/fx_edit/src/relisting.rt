@@ -89,12 +89,7 @@ fn after(i: u64, there: bool) -> u64
 }
 
 /// The least name of two sets from some places on, and whether each has it.
-fn next_name<'a>(
-    old: &'a Names,
-    i: u64,
-    new: &'a Names,
-    j: u64,
-) -> Option<(&'a Name, bool, bool)>
+fn next_name<'a>(old: &'a Names, i: u64, new: &'a Names, j: u64) -> Option<(&'a Name, bool, bool)>
     ensures next { MatchOption result (set_of (drop i old.now ++ drop j new.now) ≡ [])
         (λ r. IsNext (drop i old.now) (drop j new.now) r.0.now r.1 r.2) }
     ensures sets { IsNameSet old.now × IsNameSet new.now }

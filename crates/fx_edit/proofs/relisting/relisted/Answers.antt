@@ -1,4 +1,4 @@
-use Rattle.std.proofs.Common.{◌≡◌, Ok, List, ℕ, ◌∷◌, [], ◌++◌, sym, ap}
+use Rattle.std.proofs.Common.{Ok, List, ◌∷◌, [], ◌++◌, sym, ap}
 use Rattle.fx_store.specs.declared.node.Node.TheVariants.{Dir}
 use Rattle.fx_store.specs.declared.changes.Change.{Change}
 use Rattle.fx_store.specs.Rule.{Ask}
