@@ -1,5 +1,7 @@
 pub mod Behind
+pub mod Bodies
 pub mod Descents
+pub mod Flagging
 pub mod Gives
 pub mod Lining
 pub mod Linking
@@ -18,3 +20,4 @@ pub mod TableLinks
 pub mod TableSpelling
 pub mod TableTexts
 pub mod Unspelled
+pub mod Versions

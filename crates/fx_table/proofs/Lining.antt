@@ -1,28 +1,26 @@
 -- The lines of a table, read one after another.
-use Rattle.std.proofs.Common.{◌≡◌, ℕ, zero, suc, ◌+◌, ◌-◌, ◌<◌, ◌≤◌, ◌==◌, Bool, true, false, not, cond, ◌||◌, List, [], ◌∷◌, ◌++◌, map, length, take, drop, get_or, All, IsTrue, Option, Some, None, Result, Ok, Err, IfOk, option_map, refl, sym, ◌∙◌, ap, subst, arith, append_assoc, append-nil, length-append}
+use Rattle.std.proofs.Common.{◌≡◌, ℕ, zero, suc, ◌+◌, ◌-◌, ◌<◌, ◌≤◌, ◌==◌, Bool, true, false, not, cond, ◌||◌, List, [], ◌∷◌, ◌++◌, map, length, take, drop, get_or, All, IsTrue, Option, Some, None, Result, Ok, Err, IfOk, refl, sym, ◌∙◌, ap, subst, arith, append_assoc, append-nil, length-append}
 use Rattle.std.specs.Prelude.{nat_lt, bytes_eq, codes}
 use Rattle.std.specs.declared.cmp.Ordering.TheVariants.{Less}
 use Rattle.std.specs.List.{AllByRecursion, slice_split}
 use Rattle.std.proofs.lemmas.List.Splits.{slice_split_none, slice_split_at, length-slice_split}
 use Rattle.fx_base.specs.declared.NoMemory.{NoMemory as Memory}
 use Rattle.fx_table.specs.TableSpelling.{unspelled}
-use Rattle.fx_table.specs.Unspells.{GivesLink}
+use Rattle.fx_table.specs.Unspells.{GivesLink, GivesFlag}
 use Rattle.std.specs.List.Sorted.{IsStrictlySortedBy}
 use Rattle.std.proofs.lemmas.Bool.Decides.{nat_tests}
-use Rattle.std.proofs.lemmas.List.Elements.{All-nil, All-head, All-tail, All-push}
+use Rattle.std.proofs.lemmas.List.Elements.{All-nil, All-head, All-tail, All-push, filter_map-append}
 use Rattle.std.proofs.lemmas.List.Sums.{sum_by-append}
 use Rattle.std.proofs.lemmas.Option.{same_Some}
-use Rattle.fx_store.specs.declared.node.Node.TheVariants.{Link}
 use Rattle.fx_store.specs.declared.changes.Change.{Change}
 use Rattle.fx_store.specs.Changes.{changed_paths}
 use Rattle.fx_store.specs.Names.{path_cmp}
-use Rattle.fx_store.specs.Whole.{Store}
 use Rattle.fx_table.specs.declared.fault.FolderCause.TheVariants.{BadName, Strange, TooLarge, BadTable}
 use Rattle.fx_table.specs.declared.fault.LoadFault.{LoadFault}
 use Rattle.fx_table.specs.declared.fault.LoadFault.TheVariants.{Refused, ReadFault, NoMemory}
 use Rattle.fx_table.specs.declared.lines.Room.{Room}
-use Rattle.fx_table.specs.Table.{TableLink, IsLink, IsTable, line_of, table_text, read_line, read_parts, link_of, is_space, can_stand}
-use Rattle.fx_table.specs.Lines.{link_change, link_in, links_in, AreLinks, IsAbsent, IsFirstAt, GivesLine, CanFollow, texts_of, is_over, room_less, TakesRoom, IsNextLine, ReadsNext, IsOver, IsStopped, StopsNext, ReadsAll, LinesCause}
+use Rattle.fx_table.specs.Table.{Mark, Target, Executable, TableLine, TableLink, IsLine, Setting, AreLinesOver, has_place, line_of, lines_text, read_line, read_parts, link_of, flag_of, is_space, links_among, link_in_line}
+use Rattle.fx_table.specs.Lines.{mark_node, line_change, mark_in, line_in, lines_in, AreLines, IsAbsent, IsFirstAt, CanFollow, texts_of, is_over_by, room_less, as_line, TakesRoom, IsNextLine, ReadsNext, IsOver, IsStopped, StopsNext, ReadsBody, BodyCause}
 use Rattle.fx_table.proofs.TableLines.{line_is, line_read, same_line, no_feed}
 
 -- ---- the first place of a byte
@@ -83,55 +81,66 @@ rest_is (suc n) [] = none (length {A = ℕ} [] - suc n)
     none (suc k) = refl
 rest_is (suc n) (x ∷ xs) = let one : length (x ∷ xs) - suc n ≡ length xs - n = omega arith in ap (λ k. take k (drop n xs)) one ∙ rest_is n xs
 
-abbrev pair_of : Option TableLink → Option (List (List ℕ) × List ℕ)
-pair_of o = option_map (λ (l : TableLink). (l.path, l.text)) o
-
-no_parts : (a b : List ℕ) (more : List (List ℕ)) → bytes_eq b (codes "->") ≡ false → read_parts (a ∷ b ∷ more) ≡ None
-no_parts a b [] other = refl
-no_parts a b (c ∷ []) other = ap (λ t. cond t (link_of (unspelled a) (unspelled c)) None) other
-no_parts a b (c ∷ d ∷ more) other = refl
-
-pub no_space : (line : List ℕ) → IsAbsent 32 line → GivesLine line None
-no_space line none = ap pair_of (ap read_parts (sym (slice_split_none is_space line none)))
+-- a line of one part gives nothing
+pub no_space : (line : List ℕ) → IsAbsent 32 line → None ≡ read_line line
+no_space line none = ap read_parts (sym (slice_split_none is_space line none))
 
 split_at : (line : List ℕ) (i : ℕ) → IsFirstAt line 32 i → slice_split is_space line ≡ take i line ∷ slice_split is_space (drop (i + 1) line)
 split_at line i first = ap (slice_split is_space) first.parts ∙ slice_split_at is_space (take i line) 32 (drop (i + 1) line) first.before refl
 
-pub one_space : (line rest : List ℕ) (i : ℕ) → IsFirstAt line 32 i → rest ≡ drop (i + 1) line → IsAbsent 32 rest → GivesLine line None
-one_space line rest i first is none =
-    ap pair_of (ap read_parts (sym (split_at line i first ∙ ap (λ l. take i line ∷ l) (ap (slice_split is_space) (sym is) ∙ slice_split_none is_space rest none))))
+-- a line of two parts gives what these do
+two_parts : (line rest : List ℕ) (i : ℕ) → IsFirstAt line 32 i → rest ≡ drop (i + 1) line → IsAbsent 32 rest → read_parts (take i line ∷ rest ∷ []) ≡ read_line line
+two_parts line rest i first is none =
+    ap read_parts (sym (split_at line i first ∙ ap (λ l. take i line ∷ l) (ap (slice_split is_space) (sym is) ∙ slice_split_none is_space rest none)))
+
+pub one_space : (r : Result (Option TableLine) Memory) (line rest : List ℕ) (i : ℕ) → IsFirstAt line 32 i → rest ≡ drop (i + 1) line → IsAbsent 32 rest → IfOk r (λ said. said ≡ read_parts (take i line ∷ rest ∷ [])) → IfOk r (λ said. said ≡ read_line line)
+one_space (Ok said) line rest i first is none gives = gives ∙ two_parts line rest i first is none
+one_space (Err e) line rest i first is none gives = tt
 
 two_split : (line rest : List ℕ) (i j : ℕ) → IsFirstAt line 32 i → rest ≡ drop (i + 1) line → IsFirstAt rest 32 j → slice_split is_space line ≡ take i line ∷ take j rest ∷ slice_split is_space (drop (j + 1) rest)
 two_split line rest i j first is second = split_at line i first ∙ ap (λ l. take i line ∷ l) (ap (slice_split is_space) (sym is) ∙ split_at rest j second)
 
-pub no_arrow : (line rest : List ℕ) (i j : ℕ) → IsFirstAt line 32 i → rest ≡ drop (i + 1) line → IsFirstAt rest 32 j → bytes_eq (take j rest) (codes "->") ≡ false → GivesLine line None
-no_arrow line rest i j first is second other =
-    ap pair_of (sym (ap read_parts (two_split line rest i j first is second) ∙ no_parts (take i line) (take j rest) (slice_split is_space (drop (j + 1) rest)) other))
+no_parts : (a b : List ℕ) (more : List (List ℕ)) → 0 < length more → bytes_eq b (codes "->") ≡ false → read_parts (a ∷ b ∷ more) ≡ None
+no_parts a b [] some other = absurd (omega arith)
+no_parts a b (c ∷ []) some other = ap (λ t. cond t (link_of (unspelled a) (unspelled c)) None) other
+no_parts a b (c ∷ d ∷ more) some other = refl
 
 some_part : (text : List ℕ) → 0 < length (slice_split is_space text)
 some_part text = omega (arith, length-slice_split is_space text)
+
+pub no_arrow : (line rest : List ℕ) (i j : ℕ) → IsFirstAt line 32 i → rest ≡ drop (i + 1) line → IsFirstAt rest 32 j → bytes_eq (take j rest) (codes "->") ≡ false → None ≡ read_line line
+no_arrow line rest i j first is second other =
+    sym (ap read_parts (two_split line rest i j first is second) ∙ no_parts (take i line) (take j rest) (slice_split is_space (drop (j + 1) rest)) (some_part (drop (j + 1) rest)) other)
 
 many_parts : (a b c : List ℕ) (more : List (List ℕ)) → 0 < length more → read_parts (a ∷ b ∷ c ∷ more) ≡ None
 many_parts a b c [] some = absurd (omega arith)
 many_parts a b c (d ∷ more) some = refl
 
-pub many_spaces : (line rest text : List ℕ) (i j k : ℕ) → IsFirstAt line 32 i → rest ≡ drop (i + 1) line → IsFirstAt rest 32 j → text ≡ drop (j + 1) rest → IsFirstAt text 32 k → GivesLine line None
+pub many_spaces : (line rest text : List ℕ) (i j k : ℕ) → IsFirstAt line 32 i → rest ≡ drop (i + 1) line → IsFirstAt rest 32 j → text ≡ drop (j + 1) rest → IsFirstAt text 32 k → None ≡ read_line line
 many_spaces line rest text i j k first is second at third =
-    ap pair_of (sym (
+    sym (
     ap read_parts (two_split line rest i j first is second ∙ ap (λ l. take i line ∷ take j rest ∷ l) (ap (slice_split is_space) (sym at) ∙ split_at text k third))
     ∙ many_parts (take i line) (take j rest) (take k text) (slice_split is_space (drop (k + 1) text)) (some_part (drop (k + 1) text))
-    ))
+    )
 
-pub line_gives : (line rest text : List ℕ) (i j : ℕ) (link : Option (List (List ℕ) × List ℕ)) → IsFirstAt line 32 i → rest ≡ drop (i + 1) line → IsFirstAt rest 32 j → bytes_eq (take j rest) (codes "->") ≡ true → text ≡ drop (j + 1) rest → IsAbsent 32 text → GivesLink (unspelled (take i line)) (unspelled text) link → GivesLine line link
-line_gives line rest text i j link first is second arrow at none gives =
-    gives ∙ ap pair_of (sym (
+line_gives : (line rest text : List ℕ) (i j : ℕ) (said : Option TableLine) → IsFirstAt line 32 i → rest ≡ drop (i + 1) line → IsFirstAt rest 32 j → bytes_eq (take j rest) (codes "->") ≡ true → text ≡ drop (j + 1) rest → IsAbsent 32 text → GivesLink (unspelled (take i line)) (unspelled text) said → said ≡ read_line line
+line_gives line rest text i j said first is second arrow at none gives =
+    gives ∙ sym (
     ap read_parts (two_split line rest i j first is second ∙ ap (λ l. take i line ∷ take j rest ∷ l) (ap (slice_split is_space) (sym at) ∙ slice_split_none is_space text none))
     ∙ ap (λ t. cond t (link_of (unspelled (take i line)) (unspelled text)) None) arrow
-    ))
+    )
 
-pub line_result : (r : Result (Option (List (List ℕ) × List ℕ)) Memory) (line rest text : List ℕ) (i j : ℕ) → IsFirstAt line 32 i → rest ≡ drop (i + 1) line → IsFirstAt rest 32 j → bytes_eq (take j rest) (codes "->") ≡ true → text ≡ drop (j + 1) rest → IsAbsent 32 text → IfOk r (GivesLink (unspelled (take i line)) (unspelled text)) → IfOk r (GivesLine line)
-line_result (Ok link) line rest text i j first is second arrow at none gives = line_gives line rest text i j link first is second arrow at none gives
+pub line_result : (r : Result (Option TableLine) Memory) (line rest text : List ℕ) (i j : ℕ) → IsFirstAt line 32 i → rest ≡ drop (i + 1) line → IsFirstAt rest 32 j → bytes_eq (take j rest) (codes "->") ≡ true → text ≡ drop (j + 1) rest → IsAbsent 32 text → IfOk r (GivesLink (unspelled (take i line)) (unspelled text)) → IfOk r (λ said. said ≡ read_line line)
+line_result (Ok said) line rest text i j first is second arrow at none gives = line_gives line rest text i j said first is second arrow at none gives
 line_result (Err e) line rest text i j first is second arrow at none gives = tt
+
+-- a line of two parts, of which the second is no star
+pub no_star : (path star : List ℕ) → bytes_eq star (codes "*") ≡ false → None ≡ read_parts (path ∷ star ∷ [])
+no_star path star other = sym (ap (λ b. cond b (flag_of (unspelled path)) None) other)
+
+pub star_result : (r : Result (Option TableLine) Memory) (path star : List ℕ) → bytes_eq star (codes "*") ≡ true → IfOk r (GivesFlag (unspelled path)) → IfOk r (λ said. said ≡ read_parts (path ∷ star ∷ []))
+star_result (Ok said) path star is gives = gives ∙ sym (ap (λ b. cond b (flag_of (unspelled path)) None) is)
+star_result (Err e) path star is gives = tt
 
 not_true : (b : Bool) → not b ≡ true → b ≡ false
 not_true true e = cc
@@ -141,11 +150,11 @@ not_false : (b : Bool) → not b ≡ false → b ≡ true
 not_false true e = refl
 not_false false e = cc
 
-pub is_no_arrow : (a b : List ℕ) (r : Bool) → b ≡ codes "->" → r ≡ not (bytes_eq a b) → r ≡ true → bytes_eq a (codes "->") ≡ false
-is_no_arrow a b r same is holds = ap (bytes_eq a) (sym same) ∙ not_true (bytes_eq a b) (sym is ∙ holds)
+pub differs : (a b text : List ℕ) (r : Bool) → b ≡ text → r ≡ not (bytes_eq a b) → r ≡ true → bytes_eq a text ≡ false
+differs a b text r same is holds = ap (bytes_eq a) (sym same) ∙ not_true (bytes_eq a b) (sym is ∙ holds)
 
-pub is_arrow : (a b : List ℕ) (r : Bool) → b ≡ codes "->" → r ≡ not (bytes_eq a b) → r ≡ false → bytes_eq a (codes "->") ≡ true
-is_arrow a b r same is fails = ap (bytes_eq a) (sym same) ∙ not_false (bytes_eq a b) (sym is ∙ fails)
+pub agrees : (a b text : List ℕ) (r : Bool) → b ≡ text → r ≡ not (bytes_eq a b) → r ≡ false → bytes_eq a text ≡ true
+agrees a b text r same is fails = ap (bytes_eq a) (sym same) ∙ not_false (bytes_eq a b) (sym is ∙ fails)
 
 -- ---- one link more
 
@@ -161,11 +170,11 @@ each_push : {A : Type 0} (P : A → Type 0) (xs : List A) (x : A) → AllByRecur
 each_push P [] x all one = (one, tt)
 each_push P (y ∷ xs) x all one = (all.0, each_push P xs x all.1 one)
 
-paths_push : (old : List Change) (l : TableLink) → map (λ (k : TableLink). k.path) (links_in old ++ l ∷ []) ≡ changed_paths old ++ l.path ∷ []
+paths_push : (old : List Change) (l : TableLine) → map (λ (k : TableLine). k.path) (lines_in old ++ l ∷ []) ≡ changed_paths old ++ l.path ∷ []
 paths_push [] l = refl
 paths_push (c ∷ old) l = ap (λ ps. c.path ∷ ps) (paths_push old l)
 
-paths_in : (old : List Change) → map (λ (k : TableLink). k.path) (links_in old) ≡ changed_paths old
+paths_in : (old : List Change) → map (λ (k : TableLine). k.path) (lines_in old) ≡ changed_paths old
 paths_in [] = refl
 paths_in (c ∷ old) = ap (λ ps. c.path ∷ ps) (paths_in old)
 
@@ -177,104 +186,91 @@ some_name : (p : List (List ℕ)) → path_cmp [] p ≡ Less → 0 < length p
 some_name [] e = cc
 some_name (n ∷ p) e = omega arith
 
-abbrev Stands : Store → TableLink → Type 0
-Stands S l = IsTrue (can_stand S l.path)
+abbrev Stands : Setting → TableLine → Type 0
+Stands S l = IsTrue (has_place S l)
 
-table_more : (S : Store) (old : List Change) (l : TableLink) → IsTable S (links_in old) → IsLink l → CanFollow S old l.path → IsTable S (links_in old ++ l ∷ [])
+table_more : (S : Setting) (old : List Change) (l : TableLine) → AreLinesOver S (lines_in old) → IsLine l → CanFollow S old l → AreLinesOver S (lines_in old ++ l ∷ [])
 unfolding IsStrictlySortedBy
 table_more S old l table link follow = record {
-  valid = All-push IsLink (links_in old) l table.valid link;
-  stand = All-push (Stands S) (links_in old) l table.stand follow.stands;
+  valid = All-push IsLine (lines_in old) l table.valid link;
+  stand = All-push (Stands S) (lines_in old) l table.stand follow.stands;
   ascending = subst (λ ps. IsStrictlySortedBy path_cmp ([] ∷ ps)) (sym (paths_push old l))
       (each_push (λ q. path_cmp [] q ≡ Less) (changed_paths old) l.path (subst (AllByRecursion (λ q. path_cmp [] q ≡ Less)) (paths_in old) table.ascending.0) (above_root l.path follow.some), follow.ascending);
 }
 
-follow_of : (S : Store) (old : List Change) (l : TableLink) → IsTable S (links_in old ++ l ∷ []) → CanFollow S old l.path
+follow_of : (S : Setting) (old : List Change) (l : TableLine) → AreLinesOver S (lines_in old ++ l ∷ []) → CanFollow S old l
 unfolding IsStrictlySortedBy
 follow_of S old l table =
     let up = subst (λ ps. IsStrictlySortedBy path_cmp ([] ∷ ps)) (paths_push old l) table.ascending in
-    record { some = some_name l.path (each_last (λ q. path_cmp [] q ≡ Less) (changed_paths old) l.path up.0); ascending = up.1; stands = all_last (Stands S) (links_in old) l table.stand }
+    record { some = some_name l.path (each_last (λ q. path_cmp [] q ≡ Less) (changed_paths old) l.path up.0); ascending = up.1; stands = all_last (Stands S) (lines_in old) l table.stand }
 
 -- ---- the first line
 
-record IsGot (line : List ℕ) (l : TableLink) : Type 0 where
-  read : read_line line ≡ Some l
-  spelled : line ≡ line_of l
-  valid : IsLink l
+not_got : (line : List ℕ) (said : Option TableLine) → said ≡ read_line line → None ≡ said → read_line line ≡ None
+not_got line said gives none = sym gives ∙ sym none
 
-got : (line : List ℕ) (path : List (List ℕ)) (text : List ℕ) → GivesLine line (Some (path, text)) → IsGot line (record { path = path; text = text })
-got line path text gives = by (read_line line) refl gives
-  where
-    by : (o : Option TableLink) → read_line line ≡ o → ◌≡◌ {A = Option (List (List ℕ) × List ℕ)} (Some (path, text)) (option_map (λ (l : TableLink). (l.path, l.text)) o) → IsGot line (record { path = path; text = text })
-    by None is e = cc
-    by (Some l) is e =
-        let p : l.path ≡ path = ap (λ (x : List (List ℕ) × List ℕ). x.0) (sym (same_Some (path, text) (l.path, l.text) e)) in
-        let t : l.text ≡ text = ap (λ (x : List (List ℕ) × List ℕ). x.1) (sym (same_Some (path, text) (l.path, l.text) e)) in
-        let same : l ≡ record { path = path; text = text } = λ i. record { path = p i; text = t i } in
-        let here = line_is line l is in
-        subst (IsGot line) same (record { read = is; spelled = here.spelled; valid = here.link })
-
-not_got : (line : List ℕ) → GivesLine line None → read_line line ≡ None
-not_got line gives = by (read_line line) gives
-  where
-    by : (o : Option TableLink) → ◌≡◌ {A = Option (List (List ℕ) × List ℕ)} None (option_map (λ (l : TableLink). (l.path, l.text)) o) → o ≡ None
-    by None e = refl
-    by (Some l) e = cc
-
--- another link that the text begins with is that of its first line
-first_read : (text : List ℕ) (i : ℕ) (l : TableLink) (later : List ℕ) → IsFirstAt text 10 i → text ≡ line_of l ++ 10 ∷ later → IsLink l → read_line (take i text) ≡ Some l
+-- another line that the text begins with is its first
+first_read : (text : List ℕ) (i : ℕ) (l : TableLine) (later : List ℕ) → IsFirstAt text 10 i → text ≡ line_of l ++ 10 ∷ later → IsLine l → read_line (take i text) ≡ Some l
 first_read text i l later first is valid = ap read_line (same_line (take i text) (drop (i + 1) text) l later first.before (sym first.parts ∙ is)) ∙ line_read l valid
 
-last_valid : (S : Store) (old : List Change) (l : TableLink) → IsTable S (links_in old ++ l ∷ []) → IsLink l
-last_valid S old l table = all_last IsLink (links_in old) l table.valid
+last_valid : (S : Setting) (old : List Change) (l : TableLine) → AreLinesOver S (lines_in old ++ l ∷ []) → IsLine l
+last_valid S old l table = all_last IsLine (lines_in old) l table.valid
 
-pub no_line : (S : Store) (text : List ℕ) (old : List Change) → IsAbsent 10 text → IsStopped S text old
+pub no_line : (S : Setting) (text : List ℕ) (old : List Change) → IsAbsent 10 text → IsStopped S text old
 no_line S text old none l later is table = no_feed text l later none is
 
-pub bad_line : (S : Store) (text : List ℕ) (i : ℕ) (old : List Change) → IsFirstAt text 10 i → GivesLine (take i text) None → IsStopped S text old
-bad_line S text i old first gives l later is table = let wrong : None ≡ Some l = sym (not_got (take i text) gives) ∙ first_read text i l later first is (last_valid S old l table) in cc
+pub bad_line : (S : Setting) (text : List ℕ) (i : ℕ) (old : List Change) → IsFirstAt text 10 i → None ≡ read_line (take i text) → IsStopped S text old
+bad_line S text i old first gives l later is table = let wrong : None ≡ Some l = gives ∙ first_read text i l later first is (last_valid S old l table) in cc
 
-pub bad_place : (S : Store) (text : List ℕ) (i : ℕ) (old : List Change) (path : List (List ℕ)) (target : List ℕ) → IsFirstAt text 10 i → GivesLine (take i text) (Some (path, target)) → (CanFollow S old path → ⊥) → IsStopped S text old
-bad_place S text i old path target first gives never l later is table =
-    let here = got (take i text) path target gives in
-    let same : record { path = path; text = target } ≡ l = same_Some (record { path = path; text = target }) l (sym here.read ∙ first_read text i l later first is (last_valid S old l table)) in
-    never (subst (λ (k : TableLink). CanFollow S old k.path) (sym same) (follow_of S old l table))
+pub bad_place : (S : Setting) (text : List ℕ) (i : ℕ) (old : List Change) (line : TableLine) → IsFirstAt text 10 i → Some line ≡ read_line (take i text) → (CanFollow S old line → ⊥) → IsStopped S text old
+bad_place S text i old line first gives never l later is table =
+    let same : line ≡ l = same_Some line l (gives ∙ first_read text i l later first is (last_valid S old l table)) in
+    never (subst (CanFollow S old) (sym same) (follow_of S old l table))
 
-pub next_line : (S : Store) (text : List ℕ) (i : ℕ) (old : List Change) (path : List (List ℕ)) (target : List ℕ) → AreLinks S old → IsFirstAt text 10 i → GivesLine (take i text) (Some (path, target)) → CanFollow S old path → IsNextLine S text old (record { path = path; text = target }) (i + 1)
-next_line S text i old path target are first gives follow =
-    let here = got (take i text) path target gives in
+pub next_line : (S : Setting) (text : List ℕ) (i : ℕ) (old : List Change) (line : TableLine) → AreLines S old → IsFirstAt text 10 i → Some line ≡ read_line (take i text) → CanFollow S old line → IsNextLine S text old line (i + 1)
+next_line S text i old line are first gives follow =
+    let here = line_is (take i text) line (sym gives) in
     record {
-      line = first.parts ∙ ap (λ t. t ++ 10 ∷ drop (i + 1) text) here.spelled;
+      spelled = first.parts ∙ ap (λ t. t ++ 10 ∷ drop (i + 1) text) here.spelled;
       some = omega arith;
       within = omega (arith, first.within);
-      table = table_more S old (record { path = path; text = target }) are.table here.valid follow;
+      table = table_more S old line are.table here.valid follow;
     }
 
-pub over_next : (S : Store) (room : Room) (text : List ℕ) (i : ℕ) (old : List Change) (path : List (List ℕ)) (target : List ℕ) (room' : Room) → IsNextLine S text old (record { path = path; text = target }) (i + 1) → TakesRoom room target room' false → IsOver S room text old
-over_next S room text i old path target room' next takes = record { link = record { path = path; text = target }; count = i + 1; next = next; many = takes.over }
+-- there is room for a line where there is for what it says
+over_of : (room : Room) (path : List (List ℕ)) (mark : Mark) → is_over_by room (record { path = path; mark = mark } ∷ []) ≡ is_over_by room (as_line mark ∷ [])
+over_of room path (Target text) = refl
+over_of room path Executable = refl
 
-pub reads_next : (S : Store) (room : Room) (text : List ℕ) (i n : ℕ) (old new : List Change) (path : List (List ℕ)) (target : List ℕ) (room' : Room) → IsNextLine S text old (record { path = path; text = target }) (i + 1) → TakesRoom room target room' true → n ≡ i + 1 → new ≡ old ++ record { path = path; node = Some (Link target) } ∷ [] → ReadsNext S room text old new room' n
-reads_next S room text i n old new path target room' next takes is made = record {
-  link = record { path = path; text = target };
-  next = subst (IsNextLine S text old (record { path = path; text = target })) (sym is) next;
+pub over_next : (S : Setting) (room : Room) (text : List ℕ) (i : ℕ) (old : List Change) (line : TableLine) (room' : Room) → IsNextLine S text old line (i + 1) → TakesRoom room line.mark room' false → IsOver S room text old
+over_next S room text i old line room' next takes = record { line = line; count = i + 1; next = next; many = over_of room line.path line.mark ∙ takes.over }
+
+pub reads_next : (S : Setting) (room : Room) (text : List ℕ) (i n : ℕ) (old new : List Change) (line : TableLine) (room' : Room) → IsNextLine S text old line (i + 1) → TakesRoom room line.mark room' true → n ≡ i + 1 → new ≡ old ++ line_change line ∷ [] → ReadsNext S room text old new room' n
+reads_next S room text i n old new line room' next takes is made = record {
+  line = line;
+  next = subst (IsNextLine S text old line) (sym is) next;
   made = made;
-  few = takes.over;
+  few = over_of room line.path line.mark ∙ takes.over;
   left = takes.left refl;
 }
 
 -- ---- line after line
 
-links_push : (old : List Change) (l : TableLink) → links_in (old ++ link_change l ∷ []) ≡ links_in old ++ l ∷ []
-links_push [] l = refl
-links_push (c ∷ old) l = ap (λ ls. link_in c ∷ ls) (links_push old l)
+marked_back : (mark : Mark) → mark_in (Some (mark_node mark)) ≡ mark
+marked_back (Target text) = refl
+marked_back Executable = refl
 
-map_push : (ls : List TableLink) (l : TableLink) → map link_change (ls ++ l ∷ []) ≡ map link_change ls ++ link_change l ∷ []
+lines_push : (old : List Change) (l : TableLine) → lines_in (old ++ line_change l ∷ []) ≡ lines_in old ++ l ∷ []
+lines_push [] l = ap (λ m. record { path = l.path; mark = m } ∷ []) (marked_back l.mark)
+lines_push (c ∷ old) l = ap (λ ls. line_in c ∷ ls) (lines_push old l)
+
+map_push : (ls : List TableLine) (l : TableLine) → map line_change (ls ++ l ∷ []) ≡ map line_change ls ++ line_change l ∷ []
 map_push [] l = refl
-map_push (k ∷ ls) l = ap (λ cs. link_change k ∷ cs) (map_push ls l)
+map_push (k ∷ ls) l = ap (λ cs. line_change k ∷ cs) (map_push ls l)
 
-text_push : (ls : List TableLink) (l : TableLink) (rest : List ℕ) → table_text (ls ++ l ∷ []) ++ rest ≡ table_text ls ++ (line_of l ++ 10 ∷ rest)
+text_push : (ls : List TableLine) (l : TableLine) (rest : List ℕ) → lines_text (ls ++ l ∷ []) ++ rest ≡ lines_text ls ++ (line_of l ++ 10 ∷ rest)
 text_push [] l rest = ap (λ t. t ++ rest) (append-nil (line_of l ++ 10 ∷ [])) ∙ append_assoc (line_of l) (10 ∷ []) rest
-text_push (k ∷ ls) l rest = append_assoc (line_of k ++ 10 ∷ []) (table_text (ls ++ l ∷ [])) rest ∙ (ap (λ t. (line_of k ++ 10 ∷ []) ++ t) (text_push ls l rest) ∙ sym (append_assoc (line_of k ++ 10 ∷ []) (table_text ls) (line_of l ++ 10 ∷ rest)))
+text_push (k ∷ ls) l rest = append_assoc (line_of k ++ 10 ∷ []) (lines_text (ls ++ l ∷ [])) rest ∙ (ap (λ t. (line_of k ++ 10 ∷ []) ++ t) (text_push ls l rest) ∙ sym (append_assoc (line_of k ++ 10 ∷ []) (lines_text ls) (line_of l ++ 10 ∷ rest)))
 
 drop_more : (text : List ℕ) (m n : ℕ) → drop n (drop m text) ≡ drop (m + n) text
 drop_more text zero n = ap (λ k. drop k text) (omega arith)
@@ -285,34 +281,72 @@ drop_more [] (suc m) n = nothing n ∙ sym (nothing (suc m + n))
     nothing (suc k) = refl
 drop_more (b ∷ text) (suc m) n = let one : suc m + n ≡ suc (m + n) = omega arith in drop_more text m n ∙ ap (λ k. drop k (b ∷ text)) (sym one)
 
--- the room that is left behind links
-abbrev pub room_left : Room → List TableLink → Room
-room_left room ls = record { links = room.links - length ls; bytes = room.bytes - texts_of ls }
+-- the room that is left behind lines
+abbrev pub room_left : Room → List TableLine → Room
+room_left room ls = record { links = room.links - length (links_among ls); bytes = room.bytes - texts_of (links_among ls) }
 
-texts_push : (ls : List TableLink) (l : TableLink) → texts_of (ls ++ l ∷ []) ≡ texts_of ls + length l.text
-texts_push ls l = let one : texts_of (l ∷ []) ≡ length l.text = omega arith in omega (arith, sum_by-append (λ (k : TableLink). length k.text) ls (l ∷ []), one)
+links_push : (ls : List TableLine) (l : TableLine) → links_among (ls ++ l ∷ []) ≡ links_among ls ++ links_among (l ∷ [])
+links_push ls l = filter_map-append (λ (k : TableLine). link_in_line k.path k.mark) ls (l ∷ [])
 
-over_tests : (a b m n k t : ℕ) → (nat_lt a m || nat_lt b n) ≡ false → (nat_lt (a - m) 1 || nat_lt (b - n) t) ≡ (nat_lt a (m + 1) || nat_lt b (n + t))
+-- the links of one line, and the bytes in their texts
+abbrev count_of : Mark → ℕ
+count_of (Target text) = 1
+count_of Executable = 0
+
+abbrev size_of : Mark → ℕ
+size_of (Target text) = length text
+size_of Executable = 0
+
+count_is : (path : List (List ℕ)) (mark : Mark) → length (links_among (record { path = path; mark = mark } ∷ [])) ≡ count_of mark
+count_is path (Target text) = refl
+count_is path Executable = refl
+
+size_is : (path : List (List ℕ)) (mark : Mark) → texts_of (links_among (record { path = path; mark = mark } ∷ [])) ≡ size_of mark
+size_is path (Target text) = omega arith
+size_is path Executable = refl
+
+count_push : (ls : List TableLine) (l : TableLine) → length (links_among (ls ++ l ∷ [])) ≡ length (links_among ls) + count_of l.mark
+count_push ls l = ap length (links_push ls l) ∙ (length-append (links_among ls) (links_among (l ∷ [])) ∙ ap (λ n. length (links_among ls) + n) (count_is l.path l.mark))
+
+texts_push : (ls : List TableLine) (l : TableLine) → texts_of (links_among (ls ++ l ∷ [])) ≡ texts_of (links_among ls) + size_of l.mark
+texts_push ls l = ap texts_of (links_push ls l) ∙ (sum_by-append (λ (k : TableLink). length k.text) (links_among ls) (links_among (l ∷ [])) ∙ ap (λ n. texts_of (links_among ls) + n) (size_is l.path l.mark))
+
+over_tests : (a b m n k t : ℕ) → (nat_lt a m || nat_lt b n) ≡ false → (nat_lt (a - m) k || nat_lt (b - n) t) ≡ (nat_lt a (m + k) || nat_lt b (n + t))
 over_tests a b m n k t few = grind (arith, nat_tests)
 
--- a link more is too many where it is too many for the room that is left
-over_push : (room : Room) (ls : List TableLink) (l : TableLink) → is_over room ls ≡ false → is_over (room_left room ls) (l ∷ []) ≡ is_over room (ls ++ l ∷ [])
+-- a line more is too many where it is too many for the room that is left
+over_push : (room : Room) (ls : List TableLine) (l : TableLine) → is_over_by room ls ≡ false → is_over_by (room_left room ls) (l ∷ []) ≡ is_over_by room (ls ++ l ∷ [])
 over_push room ls l few =
-    let one : texts_of (l ∷ []) ≡ length l.text = omega arith in
-    let count : length (ls ++ l ∷ []) ≡ length ls + 1 = length-append ls (l ∷ []) in
-    ap (λ t. nat_lt (room.links - length ls) 1 || nat_lt (room.bytes - texts_of ls) t) one
-    ∙ (over_tests room.links room.bytes (length ls) (texts_of ls) 0 (length l.text) few
-    ∙ (ap (λ k. nat_lt room.links k || nat_lt room.bytes (texts_of ls + length l.text)) (sym count)
-    ∙ ap (λ t. nat_lt room.links (length (ls ++ l ∷ [])) || nat_lt room.bytes t) (sym (texts_push ls l))))
+    let a = length (links_among ls) in
+    let b = texts_of (links_among ls) in
+    (λ i. nat_lt (room.links - a) (count_is l.path l.mark i) || nat_lt (room.bytes - b) (size_is l.path l.mark i))
+    ∙ (over_tests room.links room.bytes a b (count_of l.mark) (size_of l.mark) few
+    ∙ (λ i. nat_lt room.links (sym (count_push ls l) i) || nat_lt room.bytes (sym (texts_push ls l) i)))
 
--- the links of the lines before a place, for which there is room
-pub record IsReading (S : Store) (room : Room) (text : List ℕ) (changes : List Change) (left : Room) (at number : ℕ) : Type 0 where
-  pub are : AreLinks S changes
-  pub front : text ≡ table_text (links_in changes) ++ drop at text
-  pub few : is_over room (links_in changes) ≡ false
-  pub remains : left ≡ room_left room (links_in changes)
-  pub count : number ≡ length (links_in changes) + 1
-  pub short : number ≤ at + 1
+minus : (a b c : ℕ) → a - b - c ≡ a - (b + c)
+minus a b c = omega arith
+
+nothing_off : (a : ℕ) → a ≡ a - 0
+nothing_off a = omega arith
+
+less_by : (room : Room) (mark : Mark) → room_less room mark ≡ record { links = room.links - count_of mark; bytes = room.bytes - size_of mark }
+less_by room (Target text) = refl
+less_by room Executable = λ i. record { links = nothing_off room.links i; bytes = nothing_off room.bytes i }
+
+less : (room : Room) (ls : List TableLine) (l : TableLine) → room_less (room_left room ls) l.mark ≡ room_left room (ls ++ l ∷ [])
+less room ls l =
+    let a : room.links - length (links_among ls) - count_of l.mark ≡ room.links - length (links_among (ls ++ l ∷ [])) = minus room.links (length (links_among ls)) (count_of l.mark) ∙ ap (λ k. room.links - k) (sym (count_push ls l)) in
+    let b : room.bytes - texts_of (links_among ls) - size_of l.mark ≡ room.bytes - texts_of (links_among (ls ++ l ∷ [])) = minus room.bytes (texts_of (links_among ls)) (size_of l.mark) ∙ ap (λ k. room.bytes - k) (sym (texts_push ls l)) in
+    less_by (room_left room ls) l.mark ∙ (λ i. record { links = a i; bytes = b i })
+
+-- the lines before a place, for which there is room
+pub record IsReading (S : Setting) (room : Room) (first : ℕ) (text : List ℕ) (changes : List Change) (left : Room) (at number : ℕ) : Type 0 where
+  pub are : AreLines S changes
+  pub front : text ≡ lines_text (lines_in changes) ++ drop at text
+  pub few : is_over_by room (lines_in changes) ≡ false
+  pub remains : left ≡ room_left room (lines_in changes)
+  pub count : number ≡ length (lines_in changes) + first
+  pub short : number ≤ at + first
   pub within : at ≤ length text
 
 none_over : (a b : ℕ) → (nat_lt a 0 || nat_lt b 0) ≡ false
@@ -321,14 +355,14 @@ none_over a b = grind (arith, nat_tests)
 nothing_less : (n : ℕ) → n ≡ n - 0
 nothing_less n = omega arith
 
-pub reading_none : (S : Store) (room : Room) (text : List ℕ) (changes : List Change) → changes ≡ [] → IsReading S room text changes room 0 1
+pub reading_none : (S : Setting) (room : Room) (first : ℕ) (text : List ℕ) (changes : List Change) → changes ≡ [] → IsReading S room first text changes room 0 first
 unfolding IsStrictlySortedBy
-reading_none S room text changes none = subst (λ cs. IsReading S room text cs room 0 1) (sym none) (record {
-  are = record { made = refl; table = record { valid = All-nil IsLink; stand = All-nil (Stands S); ascending = (tt, tt) } };
+reading_none S room first text changes none = subst (λ cs. IsReading S room first text cs room 0 first) (sym none) (record {
+  are = record { made = refl; table = record { valid = All-nil IsLine; stand = All-nil (Stands S); ascending = (tt, tt) } };
   front = nothing text;
   few = none_over room.links room.bytes;
   remains = λ i. record { links = nothing_less room.links i; bytes = nothing_less room.bytes i };
-  count = refl;
+  count = omega arith;
   short = omega arith;
   within = omega arith;
 })
@@ -337,28 +371,28 @@ reading_none S room text changes none = subst (λ cs. IsReading S room text cs r
     nothing [] = refl
     nothing (x ∷ xs) = refl
 
-module _ (S : Store) (room : Room) (text : List ℕ) (changes : List Change) (left : Room) (at number : ℕ) (reading : IsReading S room text changes left at number) where
-  abbrev ls : List TableLink
-  ls = links_in changes
+module _ (S : Setting) (room : Room) (first : ℕ) (text : List ℕ) (changes : List Change) (left : Room) (at number : ℕ) (reading : IsReading S room first text changes left at number) where
+  abbrev ls : List TableLine
+  ls = lines_in changes
 
-  begins : (l : TableLink) (rest : List ℕ) → drop at text ≡ line_of l ++ 10 ∷ rest → text ≡ table_text (ls ++ l ∷ []) ++ rest
-  begins l rest is = reading.front ∙ (ap (λ t. table_text ls ++ t) is ∙ sym (text_push ls l rest))
+  begins : (l : TableLine) (rest : List ℕ) → drop at text ≡ line_of l ++ 10 ∷ rest → text ≡ lines_text (ls ++ l ∷ []) ++ rest
+  begins l rest is = reading.front ∙ (ap (λ t. lines_text ls ++ t) is ∙ sym (text_push ls l rest))
 
-  pub reading_more : (new : List Change) (left' : Room) (n at' number' : ℕ) (rest : List ℕ) → rest ≡ drop at text → at' ≡ at + n → number' ≡ number + 1 → ReadsNext S left rest changes new left' n → IsReading S room text new left' at' number'
+  pub reading_more : (new : List Change) (left' : Room) (n at' number' : ℕ) (rest : List ℕ) → rest ≡ drop at text → at' ≡ at + n → number' ≡ number + 1 → ReadsNext S left rest changes new left' n → IsReading S room first text new left' at' number'
   reading_more new left' n at' number' rest is next more reads =
-      let l = reads.link in
-      let links : links_in new ≡ ls ++ l ∷ [] = ap links_in reads.made ∙ links_push changes l in
-      let count : length (links_in new) ≡ length ls + 1 = ap length links ∙ length-append ls (l ∷ []) in
-      let few : is_over room (ls ++ l ∷ []) ≡ false = sym (over_push room ls l reading.few) ∙ (ap (λ r. is_over r (l ∷ [])) (sym reading.remains) ∙ reads.few) in
+      let l = reads.line in
+      let lines : lines_in new ≡ ls ++ l ∷ [] = ap lines_in reads.made ∙ lines_push changes l in
+      let count : length (lines_in new) ≡ length ls + 1 = ap length lines ∙ length-append ls (l ∷ []) in
+      let few : is_over_by room (ls ++ l ∷ []) ≡ false = sym (over_push room ls l reading.few) ∙ (ap (λ r. is_over_by r (l ∷ [])) (sym reading.remains) ∙ reads.few) in
       record {
         are = record {
-          made = reads.made ∙ (ap (λ cs. cs ++ link_change l ∷ []) reading.are.made ∙ (sym (map_push ls l) ∙ ap (map link_change) (sym links)));
-          table = subst (IsTable S) (sym links) reads.next.table;
+          made = reads.made ∙ (ap (λ cs. cs ++ line_change l ∷ []) reading.are.made ∙ (sym (map_push ls l) ∙ ap (map line_change) (sym lines)));
+          table = subst (AreLinesOver S) (sym lines) reads.next.table;
         };
-        front = begins l (drop n (drop at text)) (sym is ∙ (reads.next.line ∙ ap (λ t. line_of l ++ 10 ∷ drop n t) is)) ∙ (ap (λ k. table_text k ++ drop n (drop at text)) (sym links) ∙ ap (λ t. table_text (links_in new) ++ t) (drop_more text at n ∙ ap (λ k. drop k text) (sym next)));
-        few = ap (is_over room) links ∙ few;
-        remains = reads.left ∙ (ap (λ r. room_less r l) reading.remains ∙ less l ∙ ap (room_left room) (sym links));
-        count = more ∙ (ap (λ k. k + 1) reading.count ∙ ap (λ k. k + 1) (sym count));
+        front = begins l (drop n (drop at text)) (sym is ∙ (reads.next.spelled ∙ ap (λ t. line_of l ++ 10 ∷ drop n t) is)) ∙ (ap (λ k. lines_text k ++ drop n (drop at text)) (sym lines) ∙ ap (λ t. lines_text (lines_in new) ++ t) (drop_more text at n ∙ ap (λ k. drop k text) (sym next)));
+        few = ap (is_over_by room) lines ∙ few;
+        remains = reads.left ∙ (ap (λ r. room_less r l.mark) reading.remains ∙ less room ls l ∙ ap (room_left room) (sym lines));
+        count = omega (arith, more, reading.count, count);
         short = omega (arith, reading.short, reads.next.some, next, more);
         within = omega (arith, reads.next.within, ap length is, length_drop at text, reading.within, next);
       }
@@ -367,15 +401,6 @@ module _ (S : Store) (room : Room) (text : List ℕ) (changes : List Change) (le
       length_drop zero xs = omega arith
       length_drop (suc n) [] = let none : 0 ≡ 0 - suc n = omega arith in none
       length_drop (suc n) (x ∷ xs) = length_drop n xs ∙ omega arith
-
-      minus : (a b c : ℕ) → a - b - c ≡ a - (b + c)
-      minus a b c = omega arith
-
-      less : (l : TableLink) → room_less (room_left room ls) l ≡ room_left room (ls ++ l ∷ [])
-      less l =
-          let a : room.links - length ls - 1 ≡ room.links - length (ls ++ l ∷ []) = minus room.links (length ls) 1 ∙ ap (λ k. room.links - k) (sym (length-append ls (l ∷ []))) in
-          let b : room.bytes - texts_of ls - length l.text ≡ room.bytes - texts_of (ls ++ l ∷ []) = minus room.bytes (texts_of ls) (length l.text) ∙ ap (λ k. room.bytes - k) (sym (texts_push ls l)) in
-          λ i. record { links = a i; bytes = b i }
 
   past : length text ≤ at → drop at text ≡ []
   past le = nothing text at le
@@ -386,8 +411,8 @@ module _ (S : Store) (room : Room) (text : List ℕ) (changes : List Change) (le
       nothing (x ∷ xs) zero h = absurd (omega arith)
       nothing (x ∷ xs) (suc n) h = nothing xs n (omega arith)
 
-  pub reading_end : length text ≤ at → ReadsAll S room text changes
-  reading_end le = record { are = reading.are; whole = reading.front ∙ (ap (λ t. table_text ls ++ t) (past le) ∙ append-nil (table_text ls)); few = reading.few }
+  pub reading_end : length text ≤ at → ReadsBody S room text changes
+  reading_end le = record { are = reading.are; whole = reading.front ∙ (ap (λ t. lines_text ls ++ t) (past le) ∙ append-nil (lines_text ls)); few = reading.few }
 
   some_left : at < length text → drop at text ≡ [] → ⊥
   some_left lt none = still text at lt none
@@ -397,31 +422,31 @@ module _ (S : Store) (room : Room) (text : List ℕ) (changes : List Change) (le
       still (x ∷ xs) zero h e = cc
       still (x ∷ xs) (suc n) h e = still xs n (omega arith) e
 
-  pub reading_stops : (rest : List ℕ) (fault : LoadFault) → at < length text → rest ≡ drop at text → StopsNext S left rest number changes fault → LinesCause S room text fault
+  pub reading_stops : (rest : List ℕ) (fault : LoadFault) → at < length text → rest ≡ drop at text → StopsNext S left rest number changes fault → BodyCause S room first text fault
   reading_stops rest (Refused (BadName place)) lt is stops = stops
   reading_stops rest (Refused (Strange place)) lt is stops = stops
   reading_stops rest (Refused (TooLarge place)) lt is stops =
-      let l = stops.1.link in (
+      let l = stops.1.line in (
         stops.0,
         record {
-          links = ls ++ l ∷ [];
-          front = record {
-            rest = drop stops.1.count (drop at text);
-            parts = begins l (drop stops.1.count (drop at text)) (sym is ∙ (stops.1.next.line ∙ ap (λ t. line_of l ++ 10 ∷ drop stops.1.count t) is));
-            table = stops.1.next.table;
-          };
-          many = sym (over_push room ls l reading.few) ∙ (ap (λ r. is_over r (l ∷ [])) (sym reading.remains) ∙ stops.1.many);
+          lines = ls ++ l ∷ [];
+          rest = drop stops.1.count (drop at text);
+          parts = begins l (drop stops.1.count (drop at text)) (sym is ∙ (stops.1.next.spelled ∙ ap (λ t. line_of l ++ 10 ∷ drop stops.1.count t) is));
+          table = stops.1.next.table;
+          many = sym (over_push room ls l reading.few) ∙ (ap (λ r. is_over_by r (l ∷ [])) (sym reading.remains) ∙ stops.1.many);
         },
       )
   reading_stops rest (Refused (BadTable n)) lt is stops = record {
-    first = record {
-      links = ls;
+    bad = record {
+      lines = ls;
       rest = drop at text;
       parts = reading.front;
       table = reading.are.table;
-      place = stops.0 ∙ reading.count;
-      some = some_left lt;
-      stops = λ l later e table. stops.1 l later (is ∙ e) table;
+      bad = record {
+        place = stops.0 ∙ reading.count;
+        some = some_left lt;
+        stops = λ l later e table. stops.1 l later (is ∙ e) table;
+      };
     };
     few = reading.few;
   }

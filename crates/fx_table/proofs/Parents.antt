@@ -1,6 +1,6 @@
 -- The names that stand directly below each of some paths, as one path more is come to.
 use Rattle.std.proofs.Common.{◌≡◌, ℕ, zero, suc, ◌+◌, ◌-◌, ◌<◌, ◌≤◌, Bool, true, false, cond, List, [], ◌∷◌, ◌++◌, map, take, drop, length, set, get_or, Option, Some, None, option_map, is_some, refl, sym, ◌∙◌, ap, subst, arith, append-nil, length-append, replicate, inl, inr, Vec}
-use Rattle.std.specs.declared.cmp.Ordering.TheVariants.{Less, Greater, Equal}
+use Rattle.std.specs.declared.cmp.Ordering.TheVariants.{Less, Equal}
 use Rattle.std.specs.List.{AllByRecursion, cons_option, slice_get}
 use Rattle.std.specs.List.Sorted.{IsStrictlySortedBy}
 use Rattle.std.specs.Ordering.{eq_by_cmp}

@@ -1,19 +1,20 @@
 -- Changes that make the links of a table among what a filestore holds.
-use Rattle.std.proofs.Common.{◌≡◌, ◌⊎◌, inl, inr, ℕ, ◌+◌, ◌≤◌, Bool, true, false, cond, ◌||◌, List, [], ◌∷◌, ◌++◌, map, length, Option, Some, None, Result, Ok, Err, IfSome, option_map, refl, sym, ◌∙◌, ap, subst, arith, length-append, append_assoc, append-nil}
+use Rattle.std.proofs.Common.{◌≡◌, ◌⊎◌, inl, inr, ℕ, zero, suc, ◌+◌, ◌≤◌, drop, Bool, true, false, cond, ◌||◌, List, [], ◌∷◌, ◌++◌, map, length, Option, Some, None, IfSome, option_map, refl, sym, ◌∙◌, ap, subst, arith, length-append, append_assoc, append-nil}
 use Rattle.std.specs.Prelude.{nat_lt, unwrap_or, codes, ◌/◌, ◌%◌}
 use Rattle.std.specs.Fmt.{digit_glyph}
 use Rattle.std.proofs.lemmas.List.Sums.{sum_by-cons}
 use Rattle.std.specs.declared.cmp.Ordering.{Ordering}
 use Rattle.std.specs.declared.cmp.Ordering.TheVariants.{Less, Equal, Greater}
 use Rattle.std.specs.Ordering.{is_eq, eq_by_cmp}
-use Rattle.std.specs.List.{AllByRecursion}
+use Rattle.std.specs.List.{AllByRecursion, cons_option}
 use Rattle.std.specs.List.Sorted.{IsStrictlySortedBy}
 use Rattle.std.specs.Map.{keys_of}
 use Rattle.std.specs.FinMap.{get, find, put, entries, entries_sorted, get-entries, get-from_entries}
 use Rattle.std.specs.FinMap.Entries.{by_order}
 use Rattle.std.proofs.lemmas.Bool.{false≢true}
 use Rattle.std.proofs.lemmas.Bool.Decides.{nat_tests}
-use Rattle.std.proofs.lemmas.List.Elements.{filter-append}
+use Rattle.std.proofs.lemmas.List.Elements.{filter_map-append}
+use Rattle.std.proofs.lemmas.Option.{same_Some}
 use Rattle.fx_outside.specs.Path.{Parts}
 use Rattle.fx_outside.proofs.Sorted.{strictly_sorted}
 use Rattle.fx_store.specs.declared.node.Node.{Node}
@@ -30,22 +31,23 @@ use Rattle.fx_table.specs.declared.fault.LoadFault.{LoadFault}
 use Rattle.fx_table.specs.declared.fault.LoadFault.TheVariants.{Refused, ReadFault, NoMemory}
 use Rattle.fx_table.specs.declared.lines.Room.{Room}
 use Rattle.fx_table.specs.declared.descent.Level.{Level}
-use Rattle.fx_table.specs.Listed.{Mapped, listed, with_links}
+use Rattle.fx_table.specs.Flags.{with_exec}
+use Rattle.fx_table.specs.Listed.{Mapped, listed, with_links, with_flags, with_lines}
 use Rattle.fx_table.specs.Shaped.{IsOfBytes, AreOfBytes, IsLeaf, IsShaped, change_of, changes_of, HaveNameSets}
-use Rattle.fx_table.specs.Lines.{links_in, AreLinks, texts_of, ReadsAll, LinesCause}
-use Rattle.fx_table.specs.Linked.{linked_nodes, MakesTable, TableCause, bare_node, bare, AddsBare, makes_no_file, unfiled}
+use Rattle.fx_table.specs.Lines.{lines_in, AreLines, texts_of, ReadsAll, LinesCause}
+use Rattle.fx_table.specs.Linked.{linked_nodes, MakesTable, TableCause, bare_node, bare, AddsBare, differs, flag_change, kept_change, kept_of, Keeps}
 use Rattle.fx_table.specs.Mapped.{mapped_of}
-use Rattle.fx_table.specs.Merges.{MakeLinks, CanMerge}
+use Rattle.fx_table.specs.Merges.{CanMerge}
 use Rattle.fx_table.specs.Remaining.{left_of, AreLevels, IsLeftBelow, ComesNext}
-use Rattle.fx_table.specs.Table.{TableLink, is_dir, line_of, table_text, read_table}
+use Rattle.fx_table.specs.Table.{Mark, Target, Executable, TableLine, TableLink, over as setting, is_dir, line_of, lines_text, links_among, link_in_line, flag_at, is_second, body_of, read_table}
 use Rattle.fx_table.specs.TableSpelling.{is_plain, spelled, spelling}
-use Rattle.fx_table.proofs.Linking.{IsLinked, links_made, find_linked, apart_from}
-use Rattle.fx_table.proofs.Mixing.{made_links}
+use Rattle.fx_table.proofs.Bodies.{bad_read}
+use Rattle.fx_table.proofs.Flagging.{find_flags, keys_flags, bytes_flags, lines_made, lines_merge}
+use Rattle.fx_table.proofs.Linking.{IsLinked, find_linked}
 use Rattle.fx_table.proofs.Making.{set_at, paths_of, keys_with}
 use Rattle.fx_table.proofs.Naming.{mapped_changes, same_names}
 use Rattle.fx_table.proofs.Shapes.{found, is_set, find_listed, relisted}
-use Rattle.fx_table.proofs.TableFronts.{none_bad, one_bad}
-use Rattle.fx_table.proofs.TableLines.{tables_are_read, read_texts_are_tables, bad_lines_are_first}
+use Rattle.fx_table.proofs.Versions.{tables_are_read}
 
 -- ---- the bare nodes of a filestore
 
@@ -131,46 +133,75 @@ over_cases q (l ∷ ls) = by (eq_by_cmp path_cmp q l.path) refl (over_cases q ls
     by true is (inr same) = inl (l.text, λ o. same (cond (eq_by_cmp path_cmp q l.path) (Some (Link l.text)) o) ∙ ap (λ t. cond t (Some (Link l.text)) o) is)
     by false is (inr same) = inr (λ o. same (cond (eq_by_cmp path_cmp q l.path) (Some (Link l.text)) o) ∙ ap (λ t. cond t (Some (Link l.text)) o) is)
 
--- ---- changes that make no files
+-- ---- changes that are kept
 
-keep : Option (Option Node) → Option (Option Node)
-keep None = None
-keep (Some node) = cond (makes_no_file node) (Some node) None
+keep : Parts → Option Node → Option (Option Node) → Option (Option Node)
+keep q there None = None
+keep q there (Some node) = option_map (λ (c : Change). c.node) (kept_change q there node)
 
 none_above : (cs : List Change) (p : Parts) → AllByRecursion (λ q. path_cmp p q ≡ Less) (changed_paths cs) → change_at cs p ≡ None
 none_above [] p above = refl
 none_above (c ∷ cs) p above = ap (λ r. cond (is_eq r) (Some c.node) (change_at cs p)) above.0 ∙ none_above cs p above.1
 
-kept_at : (cs : List Change) (q : Parts) → IsChanges cs → change_at (unfiled cs) q ≡ keep (change_at cs q)
-unfolding IsStrictlySortedBy keep
-kept_at [] q up = refl
-kept_at (c ∷ cs) q up = by (makes_no_file c.node) refl (eq_by_cmp path_cmp q c.path) refl (kept_at cs q up.1) (λ same. ap (change_at cs) (path_eq_same q c.path same) ∙ none_above cs c.path up.0)
+-- what is kept stands at the same path
+flag_path : (p : Parts) (exec : Bool) (there : Option Node) (d : Change) → flag_change p exec there ≡ Some d → d.path ≡ p
+flag_path p exec None d e = cc
+flag_path p exec (Some (File bytes was)) d e = by (differs exec was) e
   where
-    by : (m : Bool) → makes_no_file c.node ≡ m → (b : Bool) → eq_by_cmp path_cmp q c.path ≡ b → change_at (unfiled cs) q ≡ keep (change_at cs q) → (b ≡ true → change_at cs q ≡ None) → change_at (cond m (c ∷ unfiled cs) (unfiled cs)) q ≡ keep (cond b (Some c.node) (change_at cs q))
-    by true m true b rest none = ap (λ t. cond t (Some c.node) (change_at (unfiled cs) q)) b ∙ sym (ap (λ t. cond t (Some c.node) None) m)
-    by true m false b rest none = ap (λ t. cond t (Some c.node) (change_at (unfiled cs) q)) b ∙ rest
-    by false m true b rest none = rest ∙ (ap keep (none refl) ∙ sym (ap (λ t. cond t (Some c.node) None) m))
-    by false m false b rest none = rest
+    by : (b : Bool) → ◌≡◌ {A = Option Change} (cond b (Some (record { path = p; node = Some (File bytes exec) })) None) (Some d) → d.path ≡ p
+    by true e = ap (λ (c : Change). c.path) (sym (same_Some (record { path = p; node = Some (File bytes exec) }) d e))
+    by false e = cc
+flag_path p exec (Some (Dir names)) d e = cc
+flag_path p exec (Some (Link text)) d e = cc
 
-all_filtered : (p : Parts) (cs : List Change) → AllByRecursion (λ q. path_cmp p q ≡ Less) (changed_paths cs) → AllByRecursion (λ q. path_cmp p q ≡ Less) (changed_paths (unfiled cs))
-all_filtered p [] all = tt
-all_filtered p (c ∷ cs) all = by (makes_no_file c.node) (all_filtered p cs all.1)
-  where
-    by : (m : Bool) → AllByRecursion (λ q. path_cmp p q ≡ Less) (changed_paths (unfiled cs)) → AllByRecursion (λ q. path_cmp p q ≡ Less) (changed_paths (cond m (c ∷ unfiled cs) (unfiled cs)))
-    by true rest = (all.0, rest)
-    by false rest = rest
+kept_path : (p : Parts) (there node : Option Node) (d : Change) → kept_change p there node ≡ Some d → d.path ≡ p
+kept_path p there None d e = ap (λ (c : Change). c.path) (sym (same_Some (record { path = p; node = None }) d e))
+kept_path p there (Some (File bytes exec)) d e = flag_path p exec there d e
+kept_path p there (Some (Dir names)) d e = ap (λ (c : Change). c.path) (sym (same_Some (record { path = p; node = Some (Dir names) }) d e))
+kept_path p there (Some (Link text)) d e = ap (λ (c : Change). c.path) (sym (same_Some (record { path = p; node = Some (Link text) }) d e))
 
-unfiled_ascend : (cs : List Change) → IsChanges cs → IsChanges (unfiled cs)
-unfolding IsStrictlySortedBy
-unfiled_ascend [] up = tt
-unfiled_ascend (c ∷ cs) up = by (makes_no_file c.node) (all_filtered c.path cs up.0) (unfiled_ascend cs up.1)
-  where
-    by : (m : Bool) → AllByRecursion (λ q. path_cmp c.path q ≡ Less) (changed_paths (unfiled cs)) → IsChanges (unfiled cs) → IsChanges (cond m (c ∷ unfiled cs) (unfiled cs))
-    by true above rest = (above, rest)
-    by false above rest = rest
+module _ (nodes : Nodes) where
+  kept_at : (cs : List Change) (q : Parts) → IsChanges cs → change_at (kept_of nodes cs) q ≡ keep q (get nodes q) (change_at cs q)
+  unfolding IsStrictlySortedBy keep
+  kept_at [] q up = refl
+  kept_at (c ∷ cs) q up = by (kept_change c.path (get nodes c.path) c.node) refl (eq_by_cmp path_cmp q c.path) refl (kept_at cs q up.1)
+    where
+      none : eq_by_cmp path_cmp q c.path ≡ true → change_at cs q ≡ None
+      none same = ap (change_at cs) (path_eq_same q c.path same) ∙ none_above cs c.path up.0
 
-pub unfiled_push : (cs : List Change) (c : Change) → unfiled (cs ++ c ∷ []) ≡ unfiled cs ++ unfiled (c ∷ [])
-unfiled_push cs c = filter-append (λ (d : Change). makes_no_file d.node) cs (c ∷ [])
+      here : eq_by_cmp path_cmp q c.path ≡ true → keep q (get nodes q) (Some c.node) ≡ option_map (λ (d : Change). d.node) (kept_change c.path (get nodes c.path) c.node)
+      here same = ap (λ p. option_map (λ (d : Change). d.node) (kept_change p (get nodes p) c.node)) (path_eq_same q c.path same)
+
+      by : (o : Option Change) → kept_change c.path (get nodes c.path) c.node ≡ o → (b : Bool) → eq_by_cmp path_cmp q c.path ≡ b → change_at (kept_of nodes cs) q ≡ keep q (get nodes q) (change_at cs q) → change_at (cons_option o (kept_of nodes cs)) q ≡ keep q (get nodes q) (cond b (Some c.node) (change_at cs q))
+      by None kept true same rest = rest ∙ (ap (keep q (get nodes q)) (none same) ∙ sym (here same ∙ ap (option_map (λ (d : Change). d.node)) kept))
+      by None kept false other rest = rest
+      by (Some d) kept true same rest =
+          ap (λ p. cond (eq_by_cmp path_cmp q p) (Some d.node) (change_at (kept_of nodes cs) q)) (kept_path c.path (get nodes c.path) c.node d kept)
+          ∙ (ap (λ b. cond b (Some d.node) (change_at (kept_of nodes cs) q)) same ∙ sym (here same ∙ ap (option_map (λ (d : Change). d.node)) kept))
+      by (Some d) kept false other rest =
+          ap (λ p. cond (eq_by_cmp path_cmp q p) (Some d.node) (change_at (kept_of nodes cs) q)) (kept_path c.path (get nodes c.path) c.node d kept)
+          ∙ (ap (λ b. cond b (Some d.node) (change_at (kept_of nodes cs) q)) other ∙ rest)
+
+  all_kept : (p : Parts) (cs : List Change) → AllByRecursion (λ q. path_cmp p q ≡ Less) (changed_paths cs) → AllByRecursion (λ q. path_cmp p q ≡ Less) (changed_paths (kept_of nodes cs))
+  all_kept p [] all = tt
+  all_kept p (c ∷ cs) all = by (kept_change c.path (get nodes c.path) c.node) refl (all_kept p cs all.1)
+    where
+      by : (o : Option Change) → kept_change c.path (get nodes c.path) c.node ≡ o → AllByRecursion (λ q. path_cmp p q ≡ Less) (changed_paths (kept_of nodes cs)) → AllByRecursion (λ q. path_cmp p q ≡ Less) (changed_paths (cons_option o (kept_of nodes cs)))
+      by None kept rest = rest
+      by (Some d) kept rest = (ap (path_cmp p) (kept_path c.path (get nodes c.path) c.node d kept) ∙ all.0, rest)
+
+  kept_ascends : (cs : List Change) → IsChanges cs → IsChanges (kept_of nodes cs)
+  unfolding IsStrictlySortedBy
+  kept_ascends [] up = tt
+  kept_ascends (c ∷ cs) up = by (kept_change c.path (get nodes c.path) c.node) refl (all_kept c.path cs up.0) (kept_ascends cs up.1)
+    where
+      by : (o : Option Change) → kept_change c.path (get nodes c.path) c.node ≡ o → AllByRecursion (λ q. path_cmp c.path q ≡ Less) (changed_paths (kept_of nodes cs)) → IsChanges (kept_of nodes cs) → IsChanges (cons_option o (kept_of nodes cs))
+      by None kept above rest = rest
+      by (Some d) kept above rest = (subst (λ p. AllByRecursion (λ q. path_cmp p q ≡ Less) (changed_paths (kept_of nodes cs))) (sym (kept_path c.path (get nodes c.path) c.node d kept)) above, rest)
+
+pub kept_push : (nodes : Nodes) (cs kept new : List Change) (c : Change) → kept ≡ kept_of nodes cs → Keeps nodes c kept new → new ≡ kept_of nodes (cs ++ c ∷ [])
+kept_push nodes cs kept new c is keeps =
+    keeps ∙ (ap (λ l. l ++ cons_option (kept_change c.path (get nodes c.path) c.node) []) is ∙ sym (filter_map-append (λ (d : Change). kept_change d.path (get nodes d.path) d.node) cs (c ∷ [])))
 
 -- ---- a whole filestore has a shape
 
@@ -213,55 +244,56 @@ module _ (nodes : Nodes) (whole : IsWhole (get nodes)) where
   linked : IsLinked (get nodes) es
   linked = record { sorted = entries_sorted nodes; shape = subst IsShaped store_is shape; dirs = λ q. ap is_dir (sym (at q)) }
 
-  module _ (links : List Change) (are : AreLinks (get nodes) links) where
-    abbrev ls : List TableLink
-    ls = links_in links
+  module _ (lines : List Change) (are : AreLines (setting (get nodes) true) lines) where
+    abbrev ls : List TableLine
+    ls = lines_in lines
+
+    abbrev ks : List TableLink
+    ks = links_among ls
 
     abbrev E : List Mapped
-    E = with_links es ls
+    E = with_lines es ls
 
     abbrev B : List Mapped
-    B = with_links (map bare es) ls
+    B = with_lines (map bare es) ls
 
     made : IsLinked (get nodes) E
-    made = links_made (get nodes) es ls are.table.valid are.table.stand linked
+    made = lines_made (get nodes) true ls are.table es linked
 
-    bytes_linked : (fs : List Mapped) (ks : List TableLink) → AreOfBytes (found fs) → AreOfBytes (found (with_links fs ks))
+    bytes_linked : (fs : List Mapped) (links : List TableLink) → AreOfBytes (found fs) → AreOfBytes (found (with_links fs links))
     bytes_linked fs [] held = held
-    bytes_linked fs (k ∷ ks) held = bytes_linked (put path_cmp k.path (Link k.text) fs) ks (λ q. subst (λ o. IfSome o IsOfBytes) (sym (find_linked fs k q)) (by (eq_by_cmp path_cmp q k.path) q))
+    bytes_linked fs (k ∷ links) held = bytes_linked (put path_cmp k.path (Link k.text) fs) links (λ q. subst (λ o. IfSome o IsOfBytes) (sym (find_linked fs k q)) (by (eq_by_cmp path_cmp q k.path) q))
       where
         by : (b : Bool) (q : Parts) → IfSome (cond b (Some (Link k.text)) (found fs q)) IsOfBytes
         by true q = tt
         by false q = held q
 
     bytes : AreOfBytes (found E)
-    bytes = bytes_linked es ls (λ q. subst (λ o. IfSome o IsOfBytes) (at q) (bytes_of q (get nodes q) (whole.nodes q)))
+    bytes = bytes_linked (with_flags es ls) ks (bytes_flags es ls (λ q. subst (λ o. IfSome o IsOfBytes) (at q) (bytes_of q (get nodes q) (whole.nodes q))))
 
     up : IsStrictlySortedBy path_cmp (keys_of E)
     up = strictly_sorted path_cmp E made.sorted
 
     keys : keys_of B ≡ keys_of E
-    keys = keys_linked (map bare es) es ls (keys_bare es)
-
-    pub bare_links : MakeLinks links
-    bare_links = made_links links are.made
+    keys = keys_linked (with_flags (map bare es) ls) (with_flags es ls) ks (keys_flags (map bare es) ls ∙ (keys_bare es ∙ sym (keys_flags es ls)))
 
     pub bare_set : (cs : List Change) → cs ≡ changes_of (map bare es) → cs ≡ changes_of (mapped_of cs)
     bare_set cs is = is ∙ ap changes_of (sym (ap mapped_of is ∙ mapped_changes (map bare es)))
 
-    free_bare : (q : Parts) → get nodes q ≡ None → found (map bare es) q ≡ None
-    free_bare q none = find_bare es q ∙ ap (option_map bare_node) (sym (at q) ∙ none)
+    free_bare : (q : Parts) → found es q ≡ None → found (map bare es) q ≡ None
+    free_bare q none = find_bare es q ∙ ap (option_map bare_node) none
 
-    apart : (ks : List TableLink) → AllByRecursion (λ (l : TableLink). find path_cmp l.path es ≡ None) ks → AllByRecursion (λ (l : TableLink). find path_cmp l.path (map bare es) ≡ None) ks
+    apart : (links : List TableLink) → AllByRecursion (λ (l : TableLink). find path_cmp l.path es ≡ None) links → AllByRecursion (λ (l : TableLink). find path_cmp l.path (map bare es) ≡ None) links
     apart [] all = tt
-    apart (k ∷ ks) all = (free_bare k.path (at k.path ∙ all.0), apart ks all.1)
+    apart (k ∷ links) all = (free_bare k.path all.0, apart links all.1)
 
-    pub bare_merge : (cs : List Change) → cs ≡ changes_of (map bare es) → CanMerge (mapped_of cs) (links_in links)
-    unfolding IsStrictlySortedBy
-    bare_merge cs is = subst (λ l. CanMerge l (links_in links)) (sym (ap mapped_of is ∙ mapped_changes (map bare es))) (record {
-      apart = apart (links_in links) (apart_from (get nodes) es (links_in links) at are.table.stand);
-      ascending = are.table.ascending.1;
-    })
+    pub bare_merge : (cs : List Change) → cs ≡ changes_of (map bare es) → CanMerge (mapped_of cs) (links_among (lines_in lines))
+    bare_merge cs is =
+        let can = lines_merge (get nodes) true ls are.table es at in
+        subst (λ l. CanMerge l (links_among (lines_in lines))) (sym (ap mapped_of is ∙ mapped_changes (map bare es))) (record {
+          apart = apart (links_among (lines_in lines)) can.apart;
+          ascending = can.ascending;
+        })
 
     pub bare_sets : (all : List Change) → all ≡ changes_of B → HaveNameSets (mapped_of all)
     bare_sets all is = subst HaveNameSets (sym (ap mapped_of is ∙ mapped_changes B)) (record {
@@ -269,51 +301,70 @@ module _ (nodes : Nodes) (whole : IsWhole (get nodes)) where
       sets = λ path. subst IsNameSet (sym (same_names B E path keys)) (is_set E up made.shape bytes path).0;
     })
 
-    pub all_is : (cs all : List Change) → cs ≡ changes_of (map bare es) → all ≡ changes_of (with_links (mapped_of cs) (links_in links)) → all ≡ changes_of B
-    all_is cs all is more = more ∙ ap (λ l. changes_of (with_links l (links_in links))) (ap mapped_of is ∙ mapped_changes (map bare es))
+    pub all_is : (cs all : List Change) → cs ≡ changes_of (map bare es) → all ≡ changes_of (with_lines (mapped_of cs) (lines_in lines)) → all ≡ changes_of B
+    all_is cs all is more = more ∙ ap (λ l. changes_of (with_lines l (lines_in lines))) (ap mapped_of is ∙ mapped_changes (map bare es))
 
-    pub all_set : (cs all : List Change) → cs ≡ changes_of (map bare es) → all ≡ changes_of (with_links (mapped_of cs) (links_in links)) → all ≡ changes_of (mapped_of all)
+    pub all_set : (cs all : List Change) → cs ≡ changes_of (map bare es) → all ≡ changes_of (with_lines (mapped_of cs) (lines_in lines)) → all ≡ changes_of (mapped_of all)
     all_set cs all is more = let so = all_is cs all is more in so ∙ ap changes_of (sym (ap mapped_of so ∙ mapped_changes B))
 
-    pub all_listed : (cs all new : List Change) → cs ≡ changes_of (map bare es) → all ≡ changes_of (with_links (mapped_of cs) (links_in links)) → new ≡ changes_of (listed (mapped_of all)) → new ≡ changes_of (listed B)
+    pub all_listed : (cs all new : List Change) → cs ≡ changes_of (map bare es) → all ≡ changes_of (with_lines (mapped_of cs) (lines_in lines)) → new ≡ changes_of (listed (mapped_of all)) → new ≡ changes_of (listed B)
     all_listed cs all new is more lists = let so = all_is cs all is more in lists ∙ ap (λ l. changes_of (listed l)) (ap mapped_of so ∙ mapped_changes B)
 
     all_ascend : IsChanges (changes_of (listed B))
     all_ascend = subst (IsStrictlySortedBy path_cmp) (sym (paths_of (listed B) ∙ (keys_with B B ∙ keys))) up
 
-    pub kept_ascend : (all kept : List Change) → all ≡ changes_of (listed B) → kept ≡ unfiled all → IsChanges kept
-    kept_ascend all kept is filtered = subst IsChanges (sym (filtered ∙ ap unfiled is)) (unfiled_ascend (changes_of (listed B)) all_ascend)
+    pub kept_ascend : (all kept : List Change) → all ≡ changes_of (listed B) → kept ≡ kept_of nodes all → IsChanges kept
+    kept_ascend all kept is filtered = subst IsChanges (sym (filtered ∙ ap (kept_of nodes) is)) (kept_ascends nodes (changes_of (listed B)) all_ascend)
+
+    -- what the bare entries hold at a path once the lines are set
+    bare_at : (q : Parts) → found B q ≡ link_over q ks (with_exec (flag_at ls q) (option_map bare_node (found es q)))
+    bare_at q = find_over (with_flags (map bare es) ls) ks q ∙ ap (link_over q ks) (find_flags (map bare es) ls q ∙ ap (with_exec (flag_at ls q)) (find_bare es q))
+
+    full_at : (q : Parts) → found E q ≡ link_over q ks (with_exec (flag_at ls q) (found es q))
+    full_at q = find_over (with_flags es ls) ks q ∙ ap (link_over q ks) (find_flags es ls q)
 
     -- what the changes make at a path
-    made_at : (q : Parts) → change_at (unfiled (changes_of (listed B))) q ≡ keep (option_map Some (option_map (relisted B q) (link_over q ls (option_map bare_node (found es q)))))
-    made_at q = kept_at (changes_of (listed B)) q all_ascend ∙ ap keep (set_at (listed B) q ∙ ap (option_map Some) (find_listed B B q ∙ ap (option_map (relisted B q)) (find_over (map bare es) ls q ∙ ap (link_over q ls) (find_bare es q))))
+    abbrev made_over : Parts → Option Node → Option (Option Node)
+    made_over q o = keep q o (option_map Some (option_map (relisted B q) (link_over q ks (with_exec (flag_at ls q) (option_map bare_node o)))))
 
-    plain : (q : Parts) (o : Option Node) → unwrap_or (keep (option_map Some (option_map (relisted B q) (option_map bare_node o)))) o ≡ option_map (relisted E q) o
+    made_at : (q : Parts) → change_at (kept_of nodes (changes_of (listed B))) q ≡ made_over q (found es q)
+    made_at q =
+        kept_at nodes (changes_of (listed B)) q all_ascend
+        ∙ (ap (keep q (get nodes q)) (set_at (listed B) q ∙ ap (option_map Some) (find_listed B B q ∙ ap (option_map (relisted B q)) (bare_at q)))
+        ∙ ap (λ o. keep q o (option_map Some (option_map (relisted B q) (link_over q ks (with_exec (flag_at ls q) (option_map bare_node (found es q))))))) (at q))
+
+    flagged : (q : Parts) (content : List ℕ) (exec was : Bool) → unwrap_or (option_map (λ (c : Change). c.node) (cond (differs exec was) (Some (record { path = q; node = Some (File content exec) })) None)) (Some (File content was)) ≡ Some (File content exec)
+    flagged q content true true = refl
+    flagged q content true false = refl
+    flagged q content false true = refl
+    flagged q content false false = refl
+
+    plain : (q : Parts) (exec : Bool) (o : Option Node) → unwrap_or (keep q o (option_map Some (option_map (relisted B q) (with_exec exec (option_map bare_node o))))) o ≡ option_map (relisted E q) (with_exec exec o)
     unfolding keep
-    plain q None = refl
-    plain q (Some (File content exec)) = refl
-    plain q (Some (Dir names)) = ap (λ ns. Some (Dir ns)) (same_names B E q keys)
-    plain q (Some (Link text)) = refl
+    plain q exec None = refl
+    plain q exec (Some (File content was)) = flagged q content exec was
+    plain q exec (Some (Dir names)) = ap (λ ns. Some (Dir ns)) (same_names B E q keys)
+    plain q exec (Some (Link text)) = refl
 
-    linked_at : (q : Parts) (o : Option Node) → IsOver q ls → unwrap_or (keep (option_map Some (option_map (relisted B q) (link_over q ls (option_map bare_node o))))) o ≡ option_map (relisted E q) (link_over q ls o)
+    linked_at : (q : Parts) (o : Option Node) → IsOver q ks → unwrap_or (made_over q o) o ≡ option_map (relisted E q) (link_over q ks (with_exec (flag_at ls q) o))
     unfolding keep
     linked_at q o (inl over) =
-        ap (λ x. unwrap_or (keep (option_map Some (option_map (relisted B q) x))) o) (over.1 (option_map bare_node o))
-        ∙ sym (ap (option_map (relisted E q)) (over.1 o))
+        ap (λ x. unwrap_or (keep q o (option_map Some (option_map (relisted B q) x))) o) (over.1 (with_exec (flag_at ls q) (option_map bare_node o)))
+        ∙ sym (ap (option_map (relisted E q)) (over.1 (with_exec (flag_at ls q) o)))
     linked_at q o (inr same) =
-        ap (λ x. unwrap_or (keep (option_map Some (option_map (relisted B q) x))) o) (same (option_map bare_node o))
-        ∙ (plain q o ∙ sym (ap (option_map (relisted E q)) (same o)))
+        ap (λ x. unwrap_or (keep q o (option_map Some (option_map (relisted B q) x))) o) (same (with_exec (flag_at ls q) (option_map bare_node o)))
+        ∙ (plain q (flag_at ls q) o ∙ sym (ap (option_map (relisted E q)) (same (with_exec (flag_at ls q) o))))
 
-    pub makes_links : (all kept : List Change) → all ≡ changes_of (listed B) → kept ≡ unfiled all → over_nodes nodes kept ≡ linked_nodes nodes (links_in links)
-    makes_links all kept is filtered =
-        ap (over_nodes nodes) (filtered ∙ ap unfiled is)
-        ∙ same_nodes (over_nodes nodes (unfiled (changes_of (listed B)))) (linked_nodes nodes ls) (λ q.
-        get-over_nodes nodes (unfiled (changes_of (listed B))) q
-        ∙ (over-change_at (get nodes) (unfiled (changes_of (listed B))) (unfiled_ascend (changes_of (listed B)) all_ascend) q
+    pub makes_lines : (all kept : List Change) → all ≡ changes_of (listed B) → kept ≡ kept_of nodes all → over_nodes nodes kept ≡ linked_nodes nodes (lines_in lines)
+    makes_lines all kept is filtered =
+        ap (over_nodes nodes) (filtered ∙ ap (kept_of nodes) is)
+        ∙ same_nodes (over_nodes nodes (kept_of nodes (changes_of (listed B)))) (linked_nodes nodes ls) (λ q.
+        get-over_nodes nodes (kept_of nodes (changes_of (listed B))) q
+        ∙ (over-change_at (get nodes) (kept_of nodes (changes_of (listed B))) (kept_ascends nodes (changes_of (listed B)) all_ascend) q
         ∙ (ap (λ o. unwrap_or o (get nodes q)) (made_at q)
-        ∙ (ap (λ o. unwrap_or (keep (option_map Some (option_map (relisted B q) (link_over q ls (option_map bare_node (found es q)))))) o) (at q)
-        ∙ (linked_at q (found es q) (over_cases q ls)
-        ∙ (ap (option_map (relisted E q)) (sym (find_over es ls q)) ∙ (sym (find_listed E E q) ∙ sym (get-from_entries path_total (listed E) q))))))))
+        ∙ (ap (λ o. unwrap_or (made_over q (found es q)) o) (at q)
+        ∙ (linked_at q (found es q) (over_cases q ks)
+        ∙ (ap (option_map (relisted E q)) (sym (full_at q)) ∙ (sym (find_listed E E q) ∙ sym (get-from_entries path_total (listed E) q))))))))
 
 -- ---- there is always room
 
@@ -328,44 +379,64 @@ spelling_long : (bs : List ℕ) → length bs ≤ length (spelling bs)
 spelling_long [] = omega arith
 spelling_long (b ∷ bs) = omega (arith, length-append (spelled b) (spelling bs), spelled_some b, spelling_long bs)
 
-line_long : (l : TableLink) → length l.text ≤ length (line_of l)
-line_long l =
-    omega (arith, length-append (spelling (path_text l.path)) (codes " -> " ++ spelling l.text), length-append (codes " -> ") (spelling l.text), spelling_long l.text)
+line_long : (p : Parts) (mark : Mark) → texts_of (cons_option (link_in_line p mark) []) ≤ length (line_of (record { path = p; mark = mark }))
+line_long p (Target text) =
+    omega (arith, length-append (spelling (path_text p)) (codes " -> " ++ spelling text), length-append (codes " -> ") (spelling text), spelling_long text)
+line_long p Executable = omega arith
 
-texts_long : (ls : List TableLink) → texts_of ls ≤ length (table_text ls)
+one_long : (p : Parts) (mark : Mark) → length (cons_option (link_in_line p mark) []) ≤ 1
+one_long p (Target text) = omega arith
+one_long p Executable = omega arith
+
+first_texts : (p : Parts) (mark : Mark) (ks : List TableLink) → texts_of (cons_option (link_in_line p mark) ks) ≡ texts_of (cons_option (link_in_line p mark) []) + texts_of ks
+first_texts p (Target text) ks = omega (arith, sum_by-cons (λ (k : TableLink). length k.text) (record { path = p; text = text }) ks, sum_by-cons (λ (k : TableLink). length k.text) (record { path = p; text = text }) [])
+first_texts p Executable ks = omega arith
+
+first_count : (p : Parts) (mark : Mark) (ks : List TableLink) → length (cons_option (link_in_line p mark) ks) ≡ length (cons_option (link_in_line p mark) []) + length ks
+first_count p (Target text) ks = omega arith
+first_count p Executable ks = omega arith
+
+texts_long : (ls : List TableLine) → texts_of (links_among ls) ≤ length (lines_text ls)
 texts_long [] = omega arith
 texts_long (l ∷ ls) =
-    omega (arith, sum_by-cons (λ (k : TableLink). length k.text) l ls, length-append (line_of l ++ 10 ∷ []) (table_text ls), length-append (line_of l) (10 ∷ []), line_long l, texts_long ls)
+    omega (arith, first_texts l.path l.mark (links_among ls), length-append (line_of l ++ 10 ∷ []) (lines_text ls), length-append (line_of l) (10 ∷ []), line_long l.path l.mark, texts_long ls)
 
-count_long : (ls : List TableLink) → length ls ≤ length (table_text ls)
+count_long : (ls : List TableLine) → length (links_among ls) ≤ length (lines_text ls)
 count_long [] = omega arith
-count_long (l ∷ ls) = omega (arith, length-append (line_of l ++ 10 ∷ []) (table_text ls), length-append (line_of l) (10 ∷ []), count_long ls)
+count_long (l ∷ ls) = omega (arith, first_count l.path l.mark (links_among ls), one_long l.path l.mark, length-append (line_of l ++ 10 ∷ []) (lines_text ls), length-append (line_of l) (10 ∷ []), count_long ls)
 
 never_over : (n a b : ℕ) → a ≤ n → b ≤ n → (nat_lt n a || nat_lt n b) ≡ true → ⊥
 never_over n a b p q e = let never : (nat_lt n a || nat_lt n b) ≡ false = grind (arith, nat_tests) in absurd (false≢true (sym never ∙ e))
+
+drop_short : (n : ℕ) (xs : List ℕ) → length (drop n xs) ≤ length xs
+drop_short zero [] = omega arith
+drop_short zero (x ∷ xs) = omega arith
+drop_short (suc n) [] = omega arith
+drop_short (suc n) (x ∷ xs) = omega (arith, drop_short n xs)
+
+body_short : (text : List ℕ) → length (body_of text) ≤ length text
+body_short text = by (is_second text)
+  where
+    by : (b : Bool) → length (cond b (drop 10 text) text) ≤ length text
+    by true = drop_short 10 text
+    by false = omega arith
 
 pub table_caused : (nodes : Nodes) (text : List ℕ) (room : Room) (fault : LoadFault) → room.links ≡ length text → room.bytes ≡ length text → LinesCause (get nodes) room text fault → TableCause nodes text fault
 table_caused nodes text room (Refused (BadName place)) a b why = why
 table_caused nodes text room (Refused (Strange place)) a b why = why
 table_caused nodes text room (Refused (TooLarge place)) a b why =
-    let ks = why.1.links in
-    let long : length text ≡ length (table_text ks) + length why.1.front.rest = ap length why.1.front.parts ∙ length-append (table_text ks) why.1.front.rest in
-    never_over (length text) (length ks) (texts_of ks) (omega (arith, long, count_long ks)) (omega (arith, long, texts_long ks))
+    let ls = why.1.lines in
+    let ks = links_among ls in
+    let long : length (body_of text) ≡ length (lines_text ls) + length why.1.front.rest = ap length why.1.front.parts ∙ length-append (lines_text ls) why.1.front.rest in
+    never_over (length text) (length ks) (texts_of ks) (omega (arith, long, body_short text, count_long ls)) (omega (arith, long, body_short text, texts_long ls))
     (ap (λ n. nat_lt n (length ks) || nat_lt (length text) (texts_of ks)) (sym a) ∙ (ap (λ n. nat_lt room.links (length ks) || nat_lt n (texts_of ks)) (sym b) ∙ why.1.many))
-table_caused nodes text room (Refused (BadTable n)) a b why = by (read_table (get nodes) text) refl
-  where
-    by : (r : Result (List TableLink) ℕ) → read_table (get nodes) text ≡ r → r ≡ Err n
-    by (Ok ks) is = let spells = read_texts_are_tables (get nodes) text ks is in absurd (none_bad (get nodes) text n why.first ks spells.table spells.spelled)
-    by (Err m) is =
-        let other = bad_lines_are_first (get nodes) text m is in
-        let same = one_bad (get nodes) text n m why.first other in
-        ap (λ k. Err k) (other.place ∙ (ap (λ ks. length ks + 1) (sym same) ∙ sym why.first.place))
+table_caused nodes text room (Refused (BadTable n)) a b why = bad_read (get nodes) text n why.first
 table_caused nodes text room ReadFault a b why = why
 table_caused nodes text room NoMemory a b why = tt
 
-pub table_made : (nodes : Nodes) (text : List ℕ) (room : Room) (links changes : List Change) → ReadsAll (get nodes) room text links → over_nodes nodes changes ≡ linked_nodes nodes (links_in links) → MakesTable nodes text changes
-table_made nodes text room links changes reads made = record {
-  links = links_in links;
-  read = ap (read_table (get nodes)) reads.whole ∙ tables_are_read (get nodes) (links_in links) reads.are.table;
+pub table_made : (nodes : Nodes) (text : List ℕ) (room : Room) (lines changes : List Change) → ReadsAll (get nodes) room text lines → over_nodes nodes changes ≡ linked_nodes nodes (lines_in lines) → MakesTable nodes text changes
+table_made nodes text room lines changes reads made = record {
+  lines = lines_in lines;
+  read = ap (read_table (get nodes)) reads.whole ∙ tables_are_read (get nodes) (lines_in lines) reads.are.table;
   made = made;
 }

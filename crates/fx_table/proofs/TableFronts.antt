@@ -1,5 +1,5 @@
 -- Two tables at the front of one text: one is a front of the other.
-use Rattle.std.proofs.Common.{◌≡◌, ◌⊎◌, inl, inr, ℕ, suc, ◌+◌, ◌-◌, List, [], ◌∷◌, ◌++◌, map, length, take, flat_map, All, refl, sym, ◌∙◌, ap, subst, arith, append_assoc, append-nil, length-append}
+use Rattle.std.proofs.Common.{◌≡◌, ◌⊎◌, inl, inr, ℕ, suc, ◌+◌, ◌-◌, List, [], ◌∷◌, ◌++◌, map, length, take, flat_map, All, IsTrue, Result, Ok, Err, refl, sym, ◌∙◌, ap, subst, arith, append_assoc, append-nil, length-append}
 use Rattle.std.specs.declared.cmp.Ordering.{Ordering}
 use Rattle.std.specs.declared.cmp.Ordering.TheVariants.{Less}
 use Rattle.std.specs.List.{AllByRecursion, slice_split}
@@ -8,11 +8,12 @@ use Rattle.std.proofs.lemmas.List.{append_cancel_left}
 use Rattle.std.proofs.lemmas.List.Elements.{All-nil, All-cons, All-head, All-tail}
 use Rattle.std.proofs.lemmas.Option.{same_Some}
 use Rattle.fx_store.specs.Names.{path_cmp}
-use Rattle.fx_store.specs.Whole.{Store}
-use Rattle.fx_table.specs.Table.{TableLink, IsLink, IsTable, line_of, table_text, is_feed, read_line, read_table, links_or_none, links_before}
-use Rattle.fx_table.specs.TableLaws.{IsFirstBadLine}
-use Rattle.fx_table.proofs.Linking.{CanStand}
-use Rattle.fx_table.proofs.TableLines.{first_line, line_read, tables_are_read}
+use Rattle.fx_table.specs.Table.{TableLine, IsLine, Setting, AreLinesOver, has_place, line_of, lines_text, is_feed, read_line, read_from, lines_or_none}
+use Rattle.fx_table.specs.TableLaws.{IsFirstBadOf}
+use Rattle.fx_table.proofs.TableLines.{first_line, line_read, lines_are_read, texts_are_lines, bad_line_is_first}
+
+abbrev Stands : Setting → TableLine → Type 0
+Stands S l = IsTrue (has_place S l)
 
 -- ---- a front of a table is a table
 
@@ -29,47 +30,47 @@ unfolding IsStrictlySortedBy
 sorted_front R [] ys up = tt
 sorted_front R (x ∷ xs) ys up = (each_front (λ y. R x y ≡ Less) xs ys up.0, sorted_front R xs ys up.1)
 
-abbrev paths_of : List TableLink → List (List (List ℕ))
-paths_of ls = map (λ (l : TableLink). l.path) ls
+abbrev paths_of : List TableLine → List (List (List ℕ))
+paths_of ls = map (λ (l : TableLine). l.path) ls
 
-paths_append : (ms ns : List TableLink) → paths_of (ms ++ ns) ≡ paths_of ms ++ paths_of ns
+paths_append : (ms ns : List TableLine) → paths_of (ms ++ ns) ≡ paths_of ms ++ paths_of ns
 paths_append [] ns = refl
 paths_append (a ∷ ms) ns = ap (λ l. a.path ∷ l) (paths_append ms ns)
 
-table_front : (S : Store) (ms ns : List TableLink) → IsTable S (ms ++ ns) → IsTable S ms
+table_front : (S : Setting) (ms ns : List TableLine) → AreLinesOver S (ms ++ ns) → AreLinesOver S ms
 table_front S ms ns table = record {
-  valid = all_front IsLink ms ns table.valid;
-  stand = all_front (CanStand S) ms ns table.stand;
+  valid = all_front IsLine ms ns table.valid;
+  stand = all_front (Stands S) ms ns table.stand;
   ascending = sorted_front path_cmp ([] ∷ paths_of ms) (paths_of ns) (subst (λ l. IsStrictlySortedBy path_cmp ([] ∷ l)) (paths_append ms ns) table.ascending);
 }
 
 -- ---- one of two tables is a front of the other
 
 -- the second is longer by these, which stand in what is left behind the first
-pub record IsLonger (ms ns : List TableLink) (r s : List ℕ) : Type 0 where
-  pub more : List TableLink
+pub record IsLonger (ms ns : List TableLine) (r s : List ℕ) : Type 0 where
+  pub more : List TableLine
   pub links : ns ≡ ms ++ more
-  pub rest : r ≡ table_text more ++ s
+  pub rest : r ≡ lines_text more ++ s
 
 same_heads : {A : Type 0} (x y : A) (xs ys : List A) → x ∷ xs ≡ y ∷ ys → x ≡ y
 same_heads x y xs ys e = cc
 
-first_is : (a b : TableLink) (u v : List ℕ) → IsLink a → IsLink b → (line_of a ++ 10 ∷ []) ++ u ≡ (line_of b ++ 10 ∷ []) ++ v → (a ≡ b) × (u ≡ v)
+first_is : (a b : TableLine) (u v : List ℕ) → IsLine a → IsLine b → (line_of a ++ 10 ∷ []) ++ u ≡ (line_of b ++ 10 ∷ []) ++ v → (a ≡ b) × (u ≡ v)
 first_is a b u v valid valid' e =
     let lines : line_of a ∷ slice_split is_feed u ≡ line_of b ∷ slice_split is_feed v = sym (first_line a u) ∙ (ap (slice_split is_feed) e ∙ first_line b v) in
     let line = same_heads (line_of a) (line_of b) (slice_split is_feed u) (slice_split is_feed v) lines in
     let link : a ≡ b = same_Some a b (sym (line_read a valid) ∙ (ap read_line line ∙ line_read b valid')) in
     (link, append_cancel_left (line_of a ++ 10 ∷ []) u v (e ∙ ap (λ l. (l ++ 10 ∷ []) ++ v) (sym line)))
 
-text_first : (a : TableLink) (ms : List TableLink) (r : List ℕ) → table_text (a ∷ ms) ++ r ≡ (line_of a ++ 10 ∷ []) ++ (table_text ms ++ r)
-text_first a ms r = append_assoc (line_of a ++ 10 ∷ []) (table_text ms) r
+text_first : (a : TableLine) (ms : List TableLine) (r : List ℕ) → lines_text (a ∷ ms) ++ r ≡ (line_of a ++ 10 ∷ []) ++ (lines_text ms ++ r)
+text_first a ms r = append_assoc (line_of a ++ 10 ∷ []) (lines_text ms) r
 
-pub compared : (ms ns : List TableLink) (r s : List ℕ) → All IsLink ms → All IsLink ns → table_text ms ++ r ≡ table_text ns ++ s → IsLonger ms ns r s ⊎ IsLonger ns ms s r
+pub compared : (ms ns : List TableLine) (r s : List ℕ) → All IsLine ms → All IsLine ns → lines_text ms ++ r ≡ lines_text ns ++ s → IsLonger ms ns r s ⊎ IsLonger ns ms s r
 compared [] ns r s valid valid' e = inl (record { more = ns; links = refl; rest = e })
 compared (a ∷ ms) [] r s valid valid' e = inr (record { more = a ∷ ms; links = refl; rest = sym e })
 compared (a ∷ ms) (b ∷ ns) r s valid valid' e =
-    let first = first_is a b (table_text ms ++ r) (table_text ns ++ s) (All-head IsLink a ms valid) (All-head IsLink b ns valid') (sym (text_first a ms r) ∙ (e ∙ text_first b ns s)) in
-    elim (compared ms ns r s (All-tail IsLink a ms valid) (All-tail IsLink b ns valid') first.1) [
+    let first = first_is a b (lines_text ms ++ r) (lines_text ns ++ s) (All-head IsLine a ms valid) (All-head IsLine b ns valid') (sym (text_first a ms r) ∙ (e ∙ text_first b ns s)) in
+    elim (compared ms ns r s (All-tail IsLine a ms valid) (All-tail IsLine b ns valid') first.1) [
       | inl longer ↦ inl (record { more = longer.more; links = (λ i. sym first.0 i ∷ longer.links i); rest = longer.rest })
       | inr longer ↦ inr (record { more = longer.more; links = (λ i. first.0 i ∷ longer.links i); rest = longer.rest })
     ]
@@ -78,61 +79,61 @@ some_text : (xs : List ℕ) (b : ℕ) (ys r : List ℕ) → [] ≡ ((xs ++ b ∷
 some_text [] b ys r e = cc
 some_text (x ∷ xs) b ys r e = cc
 
-nothing_more : (more : List TableLink) (r : List ℕ) → [] ≡ table_text more ++ r → more ≡ []
+nothing_more : (more : List TableLine) (r : List ℕ) → [] ≡ lines_text more ++ r → more ≡ []
 nothing_more [] r e = refl
-nothing_more (m ∷ more) r e = absurd (some_text (line_of m) 10 (table_text more) r e)
+nothing_more (m ∷ more) r e = absurd (some_text (line_of m) 10 (lines_text more) r e)
 
 -- a table at the front is a front of the one that is the whole text
-pub before_end : (ms ns : List TableLink) (r : List ℕ) → All IsLink ms → All IsLink ns → table_text ms ++ r ≡ table_text ns → IsLonger ms ns r []
-before_end ms ns r valid valid' e = elim (compared ms ns r [] valid valid' (e ∙ sym (append-nil (table_text ns)))) [
+pub before_end : (ms ns : List TableLine) (r : List ℕ) → All IsLine ms → All IsLine ns → lines_text ms ++ r ≡ lines_text ns → IsLonger ms ns r []
+before_end ms ns r valid valid' e = elim (compared ms ns r [] valid valid' (e ∙ sym (append-nil (lines_text ns)))) [
   | inl longer ↦ longer
   | inr longer ↦
       let none = nothing_more longer.more r longer.rest in
       let same : ms ≡ ns = longer.links ∙ (ap (λ l. ns ++ l) none ∙ append-nil ns) in
-      record { more = []; links = sym same ∙ sym (append-nil ms); rest = sym (longer.rest ∙ ap (λ l. table_text l ++ r) none) }
+      record { more = []; links = sym same ∙ sym (append-nil ms); rest = sym (longer.rest ∙ ap (λ l. lines_text l ++ r) none) }
 ]
 
 -- ---- the lines before a bad one
 
-lines_taken : (ls : List TableLink) (rest : List ℕ) → take (length ls) (slice_split is_feed (table_text ls ++ rest)) ≡ map line_of ls
+lines_taken : (ls : List TableLine) (rest : List ℕ) → take (length ls) (slice_split is_feed (lines_text ls ++ rest)) ≡ map line_of ls
 lines_taken [] rest = refl
 lines_taken (l ∷ ls) rest =
     ap (λ t. take (suc (length ls)) (slice_split is_feed t)) (text_first l ls rest)
-    ∙ (ap (take (suc (length ls))) (first_line l (table_text ls ++ rest)) ∙ ap (λ t. line_of l ∷ t) (lines_taken ls rest))
+    ∙ (ap (take (suc (length ls))) (first_line l (lines_text ls ++ rest)) ∙ ap (λ t. line_of l ∷ t) (lines_taken ls rest))
 
-text_of_lines : (ls : List TableLink) → flat_map (λ line. line ++ 10 ∷ []) (map line_of ls) ≡ table_text ls
+text_of_lines : (ls : List TableLine) → flat_map (λ line. line ++ 10 ∷ []) (map line_of ls) ≡ lines_text ls
 text_of_lines [] = refl
 text_of_lines (l ∷ ls) = ap (λ t. (line_of l ++ 10 ∷ []) ++ t) (text_of_lines ls)
 
-one_less : (n m : ℕ) → n ≡ m + 1 → n - 1 ≡ m
-one_less n m e = omega arith
+so_many : (n m k : ℕ) → n ≡ m + k → n - k ≡ m
+so_many n m k e = omega arith
 
--- the links of the lines before a bad one are those of the table there
-pub links_before_is : (S : Store) (text : List ℕ) (number : ℕ) (bad : IsFirstBadLine S text number) → links_before S text number ≡ bad.links
-links_before_is S text number bad =
-    ap (λ n. links_or_none (read_table S (flat_map (λ line. line ++ 10 ∷ []) (take n (slice_split is_feed text))))) (one_less number (length bad.links) bad.place)
-    ∙ ap (λ t. links_or_none (read_table S (flat_map (λ line. line ++ 10 ∷ []) (take (length bad.links) (slice_split is_feed t))))) bad.parts
-    ∙ ap (λ ls. links_or_none (read_table S (flat_map (λ line. line ++ 10 ∷ []) ls))) (lines_taken bad.links bad.rest)
-    ∙ ap (λ t. links_or_none (read_table S t)) (text_of_lines bad.links)
-    ∙ ap links_or_none (tables_are_read S bad.links bad.table)
+-- what the lines before a bad one say is what stands there
+pub lines_before_are : (S : Setting) (first : ℕ) (text : List ℕ) (number : ℕ) (bad : IsFirstBadOf S first text number) → lines_or_none (read_from S first (flat_map (λ line. line ++ 10 ∷ []) (take (number - first) (slice_split is_feed text)))) ≡ bad.lines
+lines_before_are S first text number bad =
+    ap (λ n. lines_or_none (read_from S first (flat_map (λ line. line ++ 10 ∷ []) (take n (slice_split is_feed text))))) (so_many number (length bad.lines) first bad.bad.place)
+    ∙ ap (λ t. lines_or_none (read_from S first (flat_map (λ line. line ++ 10 ∷ []) (take (length bad.lines) (slice_split is_feed t))))) bad.parts
+    ∙ ap (λ ls. lines_or_none (read_from S first (flat_map (λ line. line ++ 10 ∷ []) ls))) (lines_taken bad.lines bad.rest)
+    ∙ ap (λ t. lines_or_none (read_from S first t)) (text_of_lines bad.lines)
+    ∙ ap lines_or_none (lines_are_read S first bad.lines bad.table)
 
 -- ---- no table goes on where a line is bad
 
-stops_here : (S : Store) (text : List ℕ) (number : ℕ) (bad : IsFirstBadLine S text number) (links : List TableLink) (s : List ℕ) → IsTable S links → (more : List TableLink) → links ≡ bad.links ++ more → bad.rest ≡ table_text more ++ s → more ≡ []
-stops_here S text number bad links s table [] is rest = refl
-stops_here S text number bad links s table (l ∷ more) is rest =
-    let apart : (bad.links ++ l ∷ []) ++ more ≡ links = append_assoc bad.links (l ∷ []) more ∙ sym is in
-    let longer = table_front S (bad.links ++ l ∷ []) more (subst (IsTable S) (sym apart) table) in
-    absurd (bad.stops l (table_text more ++ s) (rest ∙ (text_first l more s ∙ append_assoc (line_of l) (10 ∷ []) (table_text more ++ s))) longer)
+stops_here : (S : Setting) (first : ℕ) (text : List ℕ) (number : ℕ) (bad : IsFirstBadOf S first text number) (links : List TableLine) (s : List ℕ) → AreLinesOver S links → (more : List TableLine) → links ≡ bad.lines ++ more → bad.rest ≡ lines_text more ++ s → more ≡ []
+stops_here S first text number bad links s table [] is rest = refl
+stops_here S first text number bad links s table (l ∷ more) is rest =
+    let apart : (bad.lines ++ l ∷ []) ++ more ≡ links = append_assoc bad.lines (l ∷ []) more ∙ sym is in
+    let longer = table_front S (bad.lines ++ l ∷ []) more (subst (AreLinesOver S) (sym apart) table) in
+    absurd (bad.bad.stops l (lines_text more ++ s) (rest ∙ (text_first l more s ∙ append_assoc (line_of l) (10 ∷ []) (lines_text more ++ s))) longer)
 
 -- a table at the front is one of the lines before the bad one
-pub before_bad : (S : Store) (text : List ℕ) (number : ℕ) (bad : IsFirstBadLine S text number) (links : List TableLink) (s : List ℕ) → IsTable S links → text ≡ table_text links ++ s → IsLonger links bad.links s bad.rest
-before_bad S text number bad links s table is = elim (compared links bad.links s bad.rest table.valid bad.table.valid (sym is ∙ bad.parts)) [
+pub before_bad : (S : Setting) (first : ℕ) (text : List ℕ) (number : ℕ) (bad : IsFirstBadOf S first text number) (links : List TableLine) (s : List ℕ) → AreLinesOver S links → text ≡ lines_text links ++ s → IsLonger links bad.lines s bad.rest
+before_bad S first text number bad links s table is = elim (compared links bad.lines s bad.rest table.valid bad.table.valid (sym is ∙ bad.parts)) [
   | inl longer ↦ longer
   | inr longer ↦
-      let none = stops_here S text number bad links s table longer.more longer.links longer.rest in
-      let same : links ≡ bad.links = longer.links ∙ (ap (λ l. bad.links ++ l) none ∙ append-nil bad.links) in
-      let rest : bad.rest ≡ s = longer.rest ∙ ap (λ l. table_text l ++ s) none in
+      let none = stops_here S first text number bad links s table longer.more longer.links longer.rest in
+      let same : links ≡ bad.lines = longer.links ∙ (ap (λ l. bad.lines ++ l) none ∙ append-nil bad.lines) in
+      let rest : bad.rest ≡ s = longer.rest ∙ ap (λ l. lines_text l ++ s) none in
       record { more = []; links = sym same ∙ sym (append-nil links); rest = sym rest }
 ]
 
@@ -141,19 +142,30 @@ no_text [] ys e = sym e
 no_text (x ∷ xs) ys e = cc
 
 -- so a text that is a table has no bad line
-pub none_bad : (S : Store) (text : List ℕ) (number : ℕ) (bad : IsFirstBadLine S text number) (links : List TableLink) → IsTable S links → text ≡ table_text links → ⊥
-none_bad S text number bad links table is =
-    let longer = before_bad S text number bad links [] table (is ∙ sym (append-nil (table_text links))) in
-    bad.some (no_text (table_text longer.more) bad.rest longer.rest)
+pub none_bad : (S : Setting) (first : ℕ) (text : List ℕ) (number : ℕ) (bad : IsFirstBadOf S first text number) (links : List TableLine) → AreLinesOver S links → text ≡ lines_text links → ⊥
+none_bad S first text number bad links table is =
+    let longer = before_bad S first text number bad links [] table (is ∙ sym (append-nil (lines_text links))) in
+    bad.bad.some (no_text (lines_text longer.more) bad.rest longer.rest)
 
 no_more : {A : Type 0} (xs more less : List A) → xs ≡ (xs ++ more) ++ less → more ≡ []
 no_more xs [] less e = refl
 no_more xs (m ∷ more) less e = let n : length xs ≡ length ((xs ++ m ∷ more) ++ less) = ap length e in absurd (omega (arith, length-append (xs ++ m ∷ more) less, length-append xs (m ∷ more)))
 
 -- and a text has one first bad line at most
-pub one_bad : (S : Store) (text : List ℕ) (number n : ℕ) (bad : IsFirstBadLine S text number) (other : IsFirstBadLine S text n) → bad.links ≡ other.links
-one_bad S text number n bad other =
-    let there = before_bad S text n other bad.links bad.rest bad.table bad.parts in
-    let back = before_bad S text number bad other.links other.rest other.table other.parts in
-    let same : bad.links ≡ (bad.links ++ there.more) ++ back.more = back.links ∙ ap (λ l. l ++ back.more) there.links in
-    sym (there.links ∙ (ap (λ l. bad.links ++ l) (no_more bad.links there.more back.more same) ∙ append-nil bad.links))
+pub one_bad : (S : Setting) (first : ℕ) (text : List ℕ) (number n : ℕ) (bad : IsFirstBadOf S first text number) (other : IsFirstBadOf S first text n) → bad.lines ≡ other.lines
+one_bad S first text number n bad other =
+    let there = before_bad S first text n other bad.lines bad.rest bad.table bad.parts in
+    let back = before_bad S first text number bad other.lines other.rest other.table other.parts in
+    let same : bad.lines ≡ (bad.lines ++ there.more) ++ back.more = back.links ∙ ap (λ l. l ++ back.more) there.links in
+    sym (there.links ∙ (ap (λ l. bad.lines ++ l) (no_more bad.lines there.more back.more same) ∙ append-nil bad.lines))
+
+-- the text is refused there
+pub stops_read : (S : Setting) (first : ℕ) (text : List ℕ) (number : ℕ) → IsFirstBadOf S first text number → read_from S first text ≡ Err number
+stops_read S first text number bad = by (read_from S first text) refl
+  where
+    by : (r : Result (List TableLine) ℕ) → read_from S first text ≡ r → r ≡ Err number
+    by (Ok lines) is = let spells = texts_are_lines S first text lines is in absurd (none_bad S first text number bad lines spells.table spells.spelled)
+    by (Err n) is =
+        let other = bad_line_is_first S first text n is in
+        let same = one_bad S first text number n bad other in
+        ap (λ k. Err k) (other.bad.place ∙ (ap (λ ls. length ls + first) (sym same) ∙ sym bad.bad.place))

@@ -1,5 +1,5 @@
--- The links of a whole filestore are a table over the rest of it.
-use Rattle.std.proofs.Common.{◌≡◌, ℕ, suc, ◌-◌, ◌<◌, true, false, cond, List, [], ◌∷◌, ◌++◌, length, take, map, get_or, refl, sym, ap, subst, ◌∙◌, arith, Option, Some, None, IsSome, is_some, All}
+-- The lines of a whole filestore are a table over the rest of it.
+use Rattle.std.proofs.Common.{◌≡◌, ℕ, suc, ◌-◌, ◌<◌, true, false, cond, List, [], ◌∷◌, ◌++◌, length, take, map, get_or, refl, sym, ap, subst, ◌∙◌, arith, Option, Some, None, IsSome, is_some, All, Bool}
 use Rattle.std.specs.Prelude.{IfSome, IsTrue}
 use Rattle.std.specs.Ordering.{eq_by_cmp, is_eq, ordering_reverse}
 use Rattle.std.specs.declared.cmp.Ordering.TheVariants.{Less}
@@ -14,11 +14,11 @@ use Rattle.std.proofs.Math.Seq.{take-length, take-suc}
 use Rattle.fx_outside.proofs.Sorted.{strictly_sorted}
 use Rattle.fx_store.specs.declared.node.Node.{Node}
 use Rattle.fx_store.specs.declared.node.Node.TheVariants.{File, Dir, Link}
-use Rattle.fx_store.specs.Names.{path_cmp}
+use Rattle.fx_store.specs.Names.{path_cmp, IsPath}
 use Rattle.fx_store.specs.Orders.{path_total}
 use Rattle.fx_store.specs.Resolve.{parent}
 use Rattle.fx_store.specs.Whole.{Store, Nodes, IsWhole, IsNode, lists}
-use Rattle.fx_table.specs.Table.{TableLink, link_at, links_of, is_dir, can_stand, IsLink, IsTable}
+use Rattle.fx_table.specs.Table.{Target, Executable, TableLine, line_at, lines_of, is_dir, is_file, can_stand, over, has_place, IsMark, IsLine, IsTable}
 use Rattle.fx_table.specs.TableLaws.{but_no_link, unlinked}
 
 abbrev Paths : Type 0
@@ -62,66 +62,90 @@ module _ (S : Store) (whole : IsWhole S) where
       let name = get_or p (length p - 1) [] in
       dir_lists (S (parent p)) name (sym (whole.listed (parent p) name) ∙ (ap (λ q. is_some (S q)) (sym (last_off p some)) ∙ here))
 
-  pub below_root : (p : Paths) (text : List ℕ) → S p ≡ Some (Link text) → 0 < length p
-  below_root [] text e = let root = whole.root in let wrong : Some (Link text) ≡ Some (Dir root.0) = sym e ∙ root.1 in absurd cc
-  below_root (n ∷ p) text e = omega arith
+  pub below_root : (p : Paths) (node : Node) → is_dir (Some node) ≡ false → S p ≡ Some node → 0 < length p
+  below_root [] node plain e = let root = whole.root in absurd (false≢true (sym plain ∙ (ap is_dir (sym e) ∙ ap is_dir root.1)))
+  below_root (n ∷ p) node plain e = omega arith
 
   can : (p : Paths) (text : List ℕ) → S p ≡ Some (Link text) → can_stand (unlinked S) p ≡ true
-  can p text e = rw (parent_lists p (ap is_some e) (below_root p text e), e) refl
+  can p text e = rw (parent_lists p (ap is_some e) (below_root p (Link text) refl e), e) refl
 
-  within : (p : Paths) (text : List ℕ) → S p ≡ Some (Link text) → IsLink (record { path = p; text = text })
-  within p text e = record { path = whole.paths p (ap is_some e); text = subst (λ o. IfSome o (IsNode p)) e (whole.nodes p) }
+  stands : (p : Paths) (bytes : List ℕ) (exec : Bool) → S p ≡ Some (File bytes exec) → is_file (unlinked S p) ≡ true
+  stands p bytes exec e = ap (λ o. is_file (but_no_link o)) e
 
--- ---- the links of some entries
+  within : (p : Paths) (node : Node) → S p ≡ Some node → IsPath p
+  within p node e = whole.paths p (ap is_some e)
 
-abbrev paths_of : List TableLink → List Paths
-paths_of ls = map (λ (l : TableLink). l.path) ls
+  text_within : (p : Paths) (text : List ℕ) → S p ≡ Some (Link text) → IsMark (Target text)
+  text_within p text e = subst (λ o. IfSome o (IsNode p)) e (whole.nodes p)
 
--- what holds of all paths holds of those of the links
-all_kept : (P : Paths → Type 0) (es : List (Paths × Node)) → AllByRecursion P (keys_of es) → AllByRecursion P (paths_of (filter_map link_at es))
+-- ---- the lines of some entries
+
+abbrev paths_of : List TableLine → List Paths
+paths_of ls = map (λ (l : TableLine). l.path) ls
+
+abbrev lines_among : List (Paths × Node) → List TableLine
+lines_among es = filter_map line_at es
+
+-- what holds of all paths holds of those of the lines
+all_kept : (P : Paths → Type 0) (es : List (Paths × Node)) → AllByRecursion P (keys_of es) → AllByRecursion P (paths_of (lines_among es))
 all_kept P [] all = tt
-all_kept P ((p, File bytes exec) ∷ es) all = all_kept P es all.1
+all_kept P ((p, File bytes true) ∷ es) all = (all.0, all_kept P es all.1)
+all_kept P ((p, File bytes false) ∷ es) all = all_kept P es all.1
 all_kept P ((p, Dir names) ∷ es) all = all_kept P es all.1
 all_kept P ((p, Link text) ∷ es) all = (all.0, all_kept P es all.1)
 
-sorted_kept : (es : List (Paths × Node)) → IsStrictlySortedBy path_cmp (keys_of es) → IsStrictlySortedBy path_cmp (paths_of (filter_map link_at es))
+sorted_kept : (es : List (Paths × Node)) → IsStrictlySortedBy path_cmp (keys_of es) → IsStrictlySortedBy path_cmp (paths_of (lines_among es))
 unfolding IsStrictlySortedBy
 sorted_kept [] up = tt
-sorted_kept ((p, File bytes exec) ∷ es) up = sorted_kept es up.1
+sorted_kept ((p, File bytes true) ∷ es) up = (all_kept (λ q. path_cmp p q ≡ Less) es up.0, sorted_kept es up.1)
+sorted_kept ((p, File bytes false) ∷ es) up = sorted_kept es up.1
 sorted_kept ((p, Dir names) ∷ es) up = sorted_kept es up.1
 sorted_kept ((p, Link text) ∷ es) up = (all_kept (λ q. path_cmp p q ≡ Less) es up.0, sorted_kept es up.1)
 
-abbrev CanStand : Store → TableLink → Type 0
-CanStand S l = IsTrue (can_stand S l.path)
+abbrev HasPlace : Store → TableLine → Type 0
+HasPlace S l = IsTrue (has_place (over (unlinked S) true) l)
 
 root_first : (p : Paths) → 0 < length p → path_cmp [] p ≡ Less
 root_first [] some = absurd (omega arith)
 root_first (n ∷ p) some = refl
 
--- what holds of each link of the entries
-record AreLinks (S : Store) (ls : List TableLink) : Type 0 where
-  valid : All IsLink ls
-  stand : All (CanStand (unlinked S)) ls
+-- what holds of each line of the entries
+record AreLines (S : Store) (ls : List TableLine) : Type 0 where
+  valid : All IsLine ls
+  stand : All (HasPlace S) ls
   below : AllByRecursion (λ p. path_cmp [] p ≡ Less) (paths_of ls)
 
-module _ (nodes : Nodes) (whole : IsWhole (get nodes)) where
-  are_links : (es : List (Paths × Node)) → AreFound es (entries nodes) → AreLinks (get nodes) (filter_map link_at es)
-  are_links [] found = record { valid = All-nil IsLink; stand = All-nil (CanStand (unlinked (get nodes))); below = tt }
-  are_links ((p, File bytes exec) ∷ es) found = are_links es found.1
-  are_links ((p, Dir names) ∷ es) found = are_links es found.1
-  are_links ((p, Link text) ∷ es) found =
-      let here : get nodes p ≡ Some (Link text) = get-entries nodes p ∙ found.0 in
-      let link : TableLink = record { path = p; text = text } in
-      let later = are_links es found.1 in
-      record {
-        valid = All-cons IsLink link (filter_map link_at es) (within (get nodes) whole p text here) later.valid;
-        stand = All-cons (CanStand (unlinked (get nodes))) link (filter_map link_at es) (can (get nodes) whole p text here) later.stand;
-        below = (root_first p (below_root (get nodes) whole p text here), later.below);
-      }
+-- one line more
+more : (S : Store) (l : TableLine) (ls : List TableLine) → IsLine l → HasPlace S l → 0 < length l.path → AreLines S ls → AreLines S (l ∷ ls)
+more S l ls valid stand some later = record {
+  valid = All-cons IsLine l ls valid later.valid;
+  stand = All-cons (HasPlace S) l ls stand later.stand;
+  below = (root_first l.path some, later.below);
+}
 
-pub links_are_tables : (nodes : Nodes) → IsWhole (get nodes) → IsTable (unlinked (get nodes)) (links_of nodes)
+module _ (nodes : Nodes) (whole : IsWhole (get nodes)) where
+  are_lines : (es : List (Paths × Node)) → AreFound es (entries nodes) → AreLines (get nodes) (lines_among es)
+  are_lines [] found = record { valid = All-nil IsLine; stand = All-nil (HasPlace (get nodes)); below = tt }
+  are_lines ((p, File bytes false) ∷ es) found = are_lines es found.1
+  are_lines ((p, Dir names) ∷ es) found = are_lines es found.1
+  are_lines ((p, File bytes true) ∷ es) found =
+      let here : get nodes p ≡ Some (File bytes true) = get-entries nodes p ∙ found.0 in
+      more (get nodes) (record { path = p; mark = Executable }) (lines_among es)
+      (record { path = within (get nodes) whole p (File bytes true) here; mark = tt })
+      (stands (get nodes) whole p bytes true here)
+      (below_root (get nodes) whole p (File bytes true) refl here)
+      (are_lines es found.1)
+  are_lines ((p, Link text) ∷ es) found =
+      let here : get nodes p ≡ Some (Link text) = get-entries nodes p ∙ found.0 in
+      more (get nodes) (record { path = p; mark = Target text }) (lines_among es)
+      (record { path = within (get nodes) whole p (Link text) here; mark = text_within (get nodes) whole p text here })
+      (can (get nodes) whole p text here)
+      (below_root (get nodes) whole p (Link text) refl here)
+      (are_lines es found.1)
+
+pub lines_are_tables : (nodes : Nodes) → IsWhole (get nodes) → IsTable (unlinked (get nodes)) (lines_of nodes)
 unfolding IsStrictlySortedBy
-links_are_tables nodes whole =
+lines_are_tables nodes whole =
     let up = strictly_sorted path_cmp (entries nodes) (entries_sorted nodes) in
-    let all = are_links nodes whole (entries nodes) (all_found (entries nodes) up) in
+    let all = are_lines nodes whole (entries nodes) (all_found (entries nodes) up) in
     record { valid = all.valid; stand = all.stand; ascending = (all.below, sorted_kept (entries nodes) up) }

@@ -1,5 +1,6 @@
 pub mod Entered
 pub mod Faults
+pub mod Flags
 pub mod Lines
 pub mod Linked
 pub mod Lists
@@ -13,4 +14,5 @@ pub mod Table
 pub mod TableExamples
 pub mod TableLaws
 pub mod TableSpelling
+pub mod Texts
 pub mod Unspells

@@ -1,12 +1,9 @@
 -- What the reader of a table answers, line by line.
 use Rattle.std.specs.Prelude.{◌≡◌, ℕ, ◌+◌, ◌-◌, ◌<◌, ◌≤◌, ◌==◌, Bool, true, false, not, ◌||◌, nat_lt, List, [], ◌∷◌, ◌++◌, map, length, take, drop, sum_by, All, IsTrue, unwrap_or, Option, Some, None, ⊤}
-use Rattle.std.specs.Option.{option_map}
 use Rattle.std.specs.List.Sorted.{IsStrictlySortedBy}
 use Rattle.fx_store.specs.declared.node.Node.{Node}
 use Rattle.fx_store.specs.declared.node.Node.TheVariants.{File, Dir, Link}
 use Rattle.fx_store.specs.declared.changes.Change.{Change}
-use Rattle.fx_store.specs.declared.link.LinkText.{LinkText}
-use Rattle.fx_store.specs.declared.path.Path.{Path}
 use Rattle.fx_store.specs.Changes.{changed_paths, change_at}
 use Rattle.fx_store.specs.Names.{path_cmp}
 use Rattle.fx_store.specs.Whole.{Store}
@@ -15,8 +12,8 @@ use Rattle.fx_table.specs.declared.fault.LoadFault.{LoadFault}
 use Rattle.fx_table.specs.declared.fault.LoadFault.TheVariants.{Refused, ReadFault, NoMemory}
 use Rattle.fx_table.specs.declared.lines.Room.{Room}
 use Rattle.fx_table.specs.Places.{place_of, table_name}
-use Rattle.fx_table.specs.TableLaws.{BeginsWith, IsFirstBadLine}
-use Rattle.fx_table.specs.Table.{TableLink, IsTable, line_of, table_text, read_line, can_stand}
+use Rattle.fx_table.specs.TableLaws.{BeginsWith, IsFirstBadOf, IsFirstBadLine}
+use Rattle.fx_table.specs.Table.{TableLine, Mark, Target, Executable, TableLink, Setting, over, AreLinesOver, line_of, lines_text, table_text, has_place, links_among}
 
 -- the change that makes a link, and the link that a change makes
 abbrev pub link_change : TableLink → Change
@@ -34,10 +31,30 @@ link_in c = record { path = c.path; text = text_in c.node }
 abbrev pub links_in : List Change → List TableLink
 links_in changes = map link_in changes
 
--- the changes make links, and the links are a table
-pub record AreLinks (S : Store) (changes : List Change) : Type 0 where
-  pub made : changes ≡ map link_change (links_in changes)
-  pub table : IsTable S (links_in changes)
+-- the change that a line stands for while lines are read, and the line of a change: an executable file is one without bytes
+abbrev pub mark_node : Mark → Node
+mark_node (Target text) = Link text
+mark_node Executable = File [] true
+
+abbrev pub line_change : TableLine → Change
+line_change l = record { path = l.path; node = Some (mark_node l.mark) }
+
+abbrev pub mark_in : Option Node → Mark
+mark_in None = Executable
+mark_in (Some (File bytes exec)) = Executable
+mark_in (Some (Dir names)) = Executable
+mark_in (Some (Link text)) = Target text
+
+abbrev pub line_in : Change → TableLine
+line_in c = record { path = c.path; mark = mark_in c.node }
+
+abbrev pub lines_in : List Change → List TableLine
+lines_in changes = map line_in changes
+
+-- the changes stand for lines, which have their places
+pub record AreLines (s : Setting) (changes : List Change) : Type 0 where
+  pub made : changes ≡ map line_change (lines_in changes)
+  pub table : AreLinesOver s (lines_in changes)
 
 -- what stands at a path by changes alone
 abbrev pub standing_by : List Change → Store
@@ -56,19 +73,15 @@ abbrev pub FindsFirst : List ℕ → ℕ → Option ℕ → Type 0
 FindsFirst text byte None = IsAbsent byte text
 FindsFirst text byte (Some i) = IsFirstAt text byte i
 
--- the link of a line, if it has one
-abbrev pub GivesLine : List ℕ → Option (Path × LinkText) → Type 0
-GivesLine line link = link ≡ option_map (λ (l : TableLink). (l.path, l.text)) (read_line line)
+-- a line at the path can follow these
+pub record CanFollow (s : Setting) (changes : List Change) (line : TableLine) : Type 0 where
+  pub some : 0 < length line.path
+  pub ascending : IsStrictlySortedBy path_cmp (changed_paths changes ++ line.path ∷ [])
+  pub stands : IsTrue (has_place s line)
 
--- a link at the path can follow these links
-pub record CanFollow (S : Store) (changes : List Change) (path : List (List ℕ)) : Type 0 where
-  pub some : 0 < length path
-  pub ascending : IsStrictlySortedBy path_cmp (changed_paths changes ++ path ∷ [])
-  pub stands : IsTrue (can_stand S path)
-
-pub record DecidesFollow (S : Store) (changes : List Change) (path : List (List ℕ)) (can : Bool) : Type 0 where
-  pub holds : can ≡ true → CanFollow S changes path
-  pub fails : can ≡ false → CanFollow S changes path → ⊥
+pub record DecidesFollow (s : Setting) (changes : List Change) (line : TableLine) (can : Bool) : Type 0 where
+  pub holds : can ≡ true → CanFollow s changes line
+  pub fails : can ≡ false → CanFollow s changes line → ⊥
 
 -- the bytes in the texts of links
 abbrev pub texts_of : List TableLink → ℕ
@@ -78,67 +91,98 @@ texts_of links = sum_by (λ (l : TableLink). length l.text) links
 abbrev pub is_over : Room → List TableLink → Bool
 is_over room links = nat_lt room.links (length links) || nat_lt room.bytes (texts_of links)
 
--- the room that a link leaves
-abbrev pub room_less : Room → TableLink → Room
-room_less room link = record { links = room.links - 1; bytes = room.bytes - length link.text }
+abbrev pub is_over_by : Room → List TableLine → Bool
+is_over_by room lines = is_over room (links_among lines)
 
-abbrev pub as_link : List ℕ → TableLink
-as_link text = record { path = []; text = text }
+-- the room that a line leaves
+abbrev pub room_less : Room → Mark → Room
+room_less room (Target text) = record { links = room.links - 1; bytes = room.bytes - length text }
+room_less room Executable = room
 
--- the room of a link of this text is taken, unless there is too little
-pub record TakesRoom (old : Room) (text : List ℕ) (new : Room) (takes : Bool) : Type 0 where
-  pub over : is_over old (as_link text ∷ []) ≡ not takes
-  pub left : takes ≡ true → new ≡ room_less old (as_link text)
+abbrev pub as_line : Mark → TableLine
+as_line mark = record { path = []; mark = mark }
 
--- a line at the front of a text gives a link that can follow
-pub record IsNextLine (S : Store) (text : List ℕ) (old : List Change) (link : TableLink) (n : ℕ) : Type 0 where
-  pub line : text ≡ line_of link ++ 10 ∷ drop n text
+-- the room of such a line is taken, unless there is too little
+pub record TakesRoom (old : Room) (mark : Mark) (new : Room) (takes : Bool) : Type 0 where
+  pub over : is_over_by old (as_line mark ∷ []) ≡ not takes
+  pub left : takes ≡ true → new ≡ room_less old mark
+
+-- a line at the front of a text can follow
+pub record IsNextLine (s : Setting) (text : List ℕ) (old : List Change) (line : TableLine) (n : ℕ) : Type 0 where
+  pub spelled : text ≡ line_of line ++ 10 ∷ drop n text
   pub some : 0 < n
   pub within : n ≤ length text
-  pub table : IsTable S (links_in old ++ link ∷ [])
+  pub table : AreLinesOver s (lines_in old ++ line ∷ [])
 
 -- so many bytes are read of a text
-pub record ReadsNext (S : Store) (room : Room) (text : List ℕ) (old new : List Change) (room' : Room) (n : ℕ) : Type 0 where
-  pub link : TableLink
-  pub next : IsNextLine S text old link n
-  pub made : new ≡ old ++ link_change link ∷ []
-  pub few : is_over room (link ∷ []) ≡ false
-  pub left : room' ≡ room_less room link
+pub record ReadsNext (s : Setting) (room : Room) (text : List ℕ) (old new : List Change) (room' : Room) (n : ℕ) : Type 0 where
+  pub line : TableLine
+  pub next : IsNextLine s text old line n
+  pub made : new ≡ old ++ line_change line ∷ []
+  pub few : is_over_by room (line ∷ []) ≡ false
+  pub left : room' ≡ room_less room line.mark
 
-pub record IsOver (S : Store) (room : Room) (text : List ℕ) (old : List Change) : Type 0 where
-  pub link : TableLink
+pub record IsOver (s : Setting) (room : Room) (text : List ℕ) (old : List Change) : Type 0 where
+  pub line : TableLine
   pub count : ℕ
-  pub next : IsNextLine S text old link count
-  pub many : is_over room (link ∷ []) ≡ true
+  pub next : IsNextLine s text old line count
+  pub many : is_over_by room (line ∷ []) ≡ true
 
--- no line at the front of the text gives a link that can follow
-abbrev pub IsStopped : Store → List ℕ → List Change → Type 0
-IsStopped S text old = (link : TableLink) (later : List ℕ) → text ≡ line_of link ++ 10 ∷ later → IsTable S (links_in old ++ link ∷ []) → ⊥
+-- no line at the front of the text can follow
+abbrev pub IsStopped : Setting → List ℕ → List Change → Type 0
+IsStopped s text old = (line : TableLine) (later : List ℕ) → text ≡ line_of line ++ 10 ∷ later → AreLinesOver s (lines_in old ++ line ∷ []) → ⊥
 
-abbrev pub StopsNext : Store → Room → List ℕ → ℕ → List Change → LoadFault → Type 0
-StopsNext S room text number old (Refused (BadName place)) = ⊥
-StopsNext S room text number old (Refused (Strange place)) = ⊥
-StopsNext S room text number old (Refused (TooLarge place)) = (place ≡ place_of (table_name ∷ [])) × IsOver S room text old
-StopsNext S room text number old (Refused (BadTable n)) = (n ≡ number) × IsStopped S text old
-StopsNext S room text number old ReadFault = ⊥
-StopsNext S room text number old NoMemory = ⊤
+abbrev pub StopsNext : Setting → Room → List ℕ → ℕ → List Change → LoadFault → Type 0
+StopsNext s room text number old (Refused (BadName place)) = ⊥
+StopsNext s room text number old (Refused (Strange place)) = ⊥
+StopsNext s room text number old (Refused (TooLarge place)) = (place ≡ place_of (table_name ∷ [])) × IsOver s room text old
+StopsNext s room text number old (Refused (BadTable n)) = (n ≡ number) × IsStopped s text old
+StopsNext s room text number old ReadFault = ⊥
+StopsNext s room text number old NoMemory = ⊤
+
+-- lines are read to their end
+pub record ReadsBody (s : Setting) (room : Room) (body : List ℕ) (changes : List Change) : Type 0 where
+  pub are : AreLines s changes
+  pub whole : body ≡ lines_text (lines_in changes)
+  pub few : is_over_by room (lines_in changes) ≡ false
+
+-- lines at the front have their places, and there is no room for them
+pub record IsOverBody (s : Setting) (room : Room) (body : List ℕ) : Type 0 where
+  pub lines : List TableLine
+  pub rest : List ℕ
+  pub parts : body ≡ lines_text lines ++ rest
+  pub table : AreLinesOver s lines
+  pub many : is_over_by room lines ≡ true
+
+-- a line is bad, and there is room for those before it
+pub record IsBadBody (s : Setting) (room : Room) (first : ℕ) (body : List ℕ) (number : ℕ) : Type 0 where
+  pub bad : IsFirstBadOf s first body number
+  pub few : is_over_by room bad.lines ≡ false
+
+abbrev pub BodyCause : Setting → Room → ℕ → List ℕ → LoadFault → Type 0
+BodyCause s room first body (Refused (BadName place)) = ⊥
+BodyCause s room first body (Refused (Strange place)) = ⊥
+BodyCause s room first body (Refused (TooLarge place)) = (place ≡ place_of (table_name ∷ [])) × IsOverBody s room body
+BodyCause s room first body (Refused (BadTable n)) = IsBadBody s room first body n
+BodyCause s room first body ReadFault = ⊥
+BodyCause s room first body NoMemory = ⊤
 
 -- a table is read
 pub record ReadsAll (S : Store) (room : Room) (text : List ℕ) (changes : List Change) : Type 0 where
-  pub are : AreLinks S changes
-  pub whole : text ≡ table_text (links_in changes)
-  pub few : is_over room (links_in changes) ≡ false
+  pub are : AreLines (over S true) changes
+  pub whole : text ≡ table_text (lines_in changes)
+  pub few : is_over_by room (lines_in changes) ≡ false
 
--- lines at the front of a text are a table for which there is no room
+-- lines at the front of a text have their places, and there is no room for them
 pub record StopsMany (S : Store) (room : Room) (text : List ℕ) : Type 0 where
-  pub links : List TableLink
-  pub front : BeginsWith S text links
-  pub many : is_over room links ≡ true
+  pub lines : List TableLine
+  pub front : BeginsWith S text lines
+  pub many : is_over_by room lines ≡ true
 
 -- a line is bad, and there is room for those before it
 pub record StopsBad (S : Store) (room : Room) (text : List ℕ) (number : ℕ) : Type 0 where
   pub first : IsFirstBadLine S text number
-  pub few : is_over room first.links ≡ false
+  pub few : is_over_by room first.lines ≡ false
 
 abbrev pub LinesCause : Store → Room → List ℕ → LoadFault → Type 0
 LinesCause S room text (Refused (BadName place)) = ⊥

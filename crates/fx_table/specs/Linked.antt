@@ -1,6 +1,6 @@
--- What the reader of a table answers of a filestore: changes that make the links of its text.
-use Rattle.std.specs.Prelude.{◌≡◌, ℕ, Bool, true, false, List, [], ◌∷◌, ◌++◌, Option, Some, None, Ok, Err, ⊤}
-use Rattle.std.specs.List.{filter}
+-- What the reader of a table answers of a filestore: changes that make the links and flags of its text.
+use Rattle.std.specs.Prelude.{◌≡◌, ℕ, Bool, true, false, not, cond, List, [], ◌∷◌, ◌++◌, Option, Some, None, Ok, Err, ⊤}
+use Rattle.std.specs.List.{filter_map, cons_option}
 use Rattle.std.specs.FinMap.{get, entries, from_entries}
 use Rattle.fx_store.specs.declared.node.Node.{Node}
 use Rattle.fx_store.specs.declared.node.Node.TheVariants.{File, Dir, Link}
@@ -9,19 +9,20 @@ use Rattle.fx_store.specs.Whole.{Nodes, over_nodes}
 use Rattle.fx_table.specs.declared.fault.FolderCause.TheVariants.{BadName, Strange, TooLarge, BadTable}
 use Rattle.fx_table.specs.declared.fault.LoadFault.{LoadFault}
 use Rattle.fx_table.specs.declared.fault.LoadFault.TheVariants.{Refused, ReadFault, NoMemory}
-use Rattle.fx_table.specs.Listed.{Mapped, listed, with_links}
+use Rattle.fx_table.specs.Listed.{Mapped, listed, with_lines}
 use Rattle.fx_table.specs.Shaped.{change_of}
-use Rattle.fx_table.specs.Table.{TableLink, read_table}
+use Rattle.fx_table.specs.Table.{TableLine, read_table}
 
--- the filestore with the links among its entries, each listed by its directory
-abbrev pub linked_nodes : Nodes → List TableLink → Nodes
-linked_nodes nodes links = from_entries (listed (with_links (entries nodes) links))
+-- the filestore with the lines of a table: its files executable where a line says so, and the links among its entries, each
+-- listed by its directory
+abbrev pub linked_nodes : Nodes → List TableLine → Nodes
+linked_nodes nodes lines = from_entries (listed (with_lines (entries nodes) lines))
 
--- the changes make the links that the text stands for
+-- the changes make the links and flags that the text stands for
 pub record MakesTable (nodes : Nodes) (text : List ℕ) (changes : List Change) : Type 0 where
-  pub links : List TableLink
-  pub read : read_table (get nodes) text ≡ Ok links
-  pub made : over_nodes nodes changes ≡ linked_nodes nodes links
+  pub lines : List TableLine
+  pub read : read_table (get nodes) text ≡ Ok lines
+  pub made : over_nodes nodes changes ≡ linked_nodes nodes lines
 
 -- a table is refused at its first bad line
 abbrev pub TableCause : Nodes → List ℕ → LoadFault → Type 0
@@ -45,12 +46,38 @@ bare (path, node) = (path, bare_node node)
 abbrev pub AddsBare : Nodes → List (List ℕ) → List Change → List Change → Type 0
 AddsBare nodes path old new = (node : Node) × (get nodes path ≡ Some node) × (new ≡ old ++ change_of (bare (path, node)) ∷ [])
 
--- the change makes no file
-abbrev pub makes_no_file : Option Node → Bool
-makes_no_file None = true
-makes_no_file (Some (File bytes exec)) = false
-makes_no_file (Some (Dir names)) = true
-makes_no_file (Some (Link text)) = true
+abbrev pub differs : Bool → Bool → Bool
+differs true was = not was
+differs false was = was
 
-abbrev pub unfiled : List Change → List Change
-unfiled changes = filter (λ (c : Change). makes_no_file c.node) changes
+-- the file that stands at a path, with another flag
+abbrev pub flag_change : List (List ℕ) → Bool → Option Node → Option Change
+flag_change path exec None = None
+flag_change path exec (Some (File bytes was)) = cond (differs exec was) (Some (record { path = path; node = Some (File bytes exec) })) None
+flag_change path exec (Some (Dir names)) = None
+flag_change path exec (Some (Link text)) = None
+
+-- of a file that is bare a change of its flag is kept, where a file stands, and all else is kept
+abbrev pub kept_change : List (List ℕ) → Option Node → Option Node → Option Change
+kept_change path there None = Some (record { path = path; node = None })
+kept_change path there (Some (File bytes exec)) = flag_change path exec there
+kept_change path there (Some (Dir names)) = Some (record { path = path; node = Some (Dir names) })
+kept_change path there (Some (Link text)) = Some (record { path = path; node = Some (Link text) })
+
+abbrev pub kept_of : Nodes → List Change → List Change
+kept_of nodes changes = filter_map (λ (c : Change). kept_change c.path (get nodes c.path) c.node) changes
+
+-- the flag of the file that a change makes
+abbrev pub flag_in : Option Node → Option Bool
+flag_in None = None
+flag_in (Some (File bytes exec)) = Some exec
+flag_in (Some (Dir names)) = None
+flag_in (Some (Link text)) = None
+
+-- one change more, if the flag is another
+abbrev pub KeepsFlag : Bool → List (List ℕ) → Option Node → List Change → List Change → Type 0
+KeepsFlag exec path node old new = new ≡ old ++ cons_option (flag_change path exec node) []
+
+-- one change more, if it is kept
+abbrev pub Keeps : Nodes → Change → List Change → List Change → Type 0
+Keeps nodes c old new = new ≡ old ++ cons_option (kept_change c.path (get nodes c.path) c.node) []

@@ -1,7 +1,7 @@
--- The table file, in which a folder keeps its links: a line for each link, in order of path.
-use Rattle.std.specs.Prelude.{ℕ, ◌+◌, ◌-◌, ◌==◌, Bool, true, false, cond, ◌&&◌, is_none, List, [], ◌∷◌, ◌++◌, map, take, All, IsTrue, codes, bytes_eq, Option, Some, None, Result, Ok, Err}
-use Rattle.std.specs.Ordering.{is_lt}
-use Rattle.std.specs.List.{flat_map, filter_map, slice_split}
+-- The table file, in which a folder keeps its links and which of its files are executable: a line for each, in order of path.
+use Rattle.std.specs.Prelude.{ℕ, ◌+◌, ◌-◌, ◌==◌, Bool, true, false, cond, ◌&&◌, not, is_none, List, [], ◌∷◌, ◌++◌, map, take, drop, All, IsTrue, codes, bytes_eq, Option, Some, None, Result, Ok, Err, ⊤}
+use Rattle.std.specs.Ordering.{is_lt, eq_by_cmp}
+use Rattle.std.specs.List.{flat_map, filter_map, list_any, slice_split}
 use Rattle.std.specs.List.Sorted.{IsStrictlySortedBy}
 use Rattle.std.specs.FinMap.{entries}
 use Rattle.fx_store.specs.declared.node.Node.{Node}
@@ -12,61 +12,99 @@ use Rattle.fx_store.specs.Faults.{read_path, read_link}
 use Rattle.fx_store.specs.Resolve.{parent}
 use Rattle.fx_store.specs.Whole.{Store, Nodes}
 use Rattle.fx_table.specs.TableSpelling.{spelling, unspelled}
+pub use Rattle.fx_table.specs.declared.line.Mark.{Mark}
+pub use Rattle.fx_table.specs.declared.line.Mark.TheVariants.{Target, Executable}
+pub use Rattle.fx_table.specs.declared.line.TableLine.{TableLine}
+
+-- ---- how a table is spelled
 
 -- a link of the table: where it stands, and where it leads
 pub record TableLink : Type 0 where
   pub path : List (List ℕ)
   pub text : List ℕ
 
+-- what stands in a line behind its path
+abbrev pub mark_text : Mark → List ℕ
+mark_text (Target text) = codes " -> " ++ spelling text
+mark_text Executable = codes " *"
+
 -- a line, without its line feed
-abbrev pub line_of : TableLink → List ℕ
-line_of link = spelling (path_text link.path) ++ (codes " -> " ++ spelling link.text)
+abbrev pub line_of : TableLine → List ℕ
+line_of line = spelling (path_text line.path) ++ mark_text line.mark
 
--- the text of a table: each line with its line feed
-abbrev pub table_text : List TableLink → List ℕ
-table_text links = flat_map (λ l. line_of l ++ 10 ∷ []) links
+-- lines, each with its line feed
+abbrev pub lines_text : List TableLine → List ℕ
+lines_text lines = flat_map (λ l. line_of l ++ 10 ∷ []) lines
 
--- the line of a link in the table, where one stands at the path
-abbrev pub line_at : List (List ℕ) → Option Node → List ℕ
-line_at path None = []
-line_at path (Some (File bytes exec)) = []
-line_at path (Some (Dir names)) = []
-line_at path (Some (Link text)) = line_of (record { path = path; text = text }) ++ 10 ∷ []
+abbrev pub is_flag : Mark → Bool
+is_flag (Target text) = false
+is_flag Executable = true
 
-abbrev pub link_at : List (List ℕ) × Node → Option TableLink
-link_at (path, File bytes exec) = None
-link_at (path, Dir names) = None
-link_at (path, Link text) = Some (record { path = path; text = text })
+abbrev pub has_flags : List TableLine → Bool
+has_flags lines = list_any (λ (l : TableLine). is_flag l.mark) lines
 
--- the links of a filestore, in order of path
-abbrev pub links_of : Nodes → List TableLink
-links_of nodes = filter_map link_at (entries nodes)
+-- what a table of version 2 begins with
+abbrev pub version_line : List ℕ
+version_line = codes "version 2" ++ 10 ∷ []
+
+-- the text of a table, which is of version 1 where no file is executable
+abbrev pub table_text : List TableLine → List ℕ
+table_text lines = cond (has_flags lines) version_line [] ++ lines_text lines
+
+-- ---- the table of a filestore
+
+abbrev pub flag_line : Bool → List (List ℕ) → Option TableLine
+flag_line true path = Some (record { path = path; mark = Executable })
+flag_line false path = None
+
+-- the line of what stands at a path: a link has one, and a file that is executable
+abbrev pub line_at : List (List ℕ) × Node → Option TableLine
+line_at (path, File bytes exec) = flag_line exec path
+line_at (path, Dir names) = None
+line_at (path, Link text) = Some (record { path = path; mark = Target text })
+
+-- the lines of a filestore, in order of path
+abbrev pub lines_of : Nodes → List TableLine
+lines_of nodes = filter_map line_at (entries nodes)
+
+-- ---- how a line is read
 
 -- a path and a text of a link that were read
-abbrev pub linked : Result (List (List ℕ)) PathFault → Result (List ℕ) PathFault → Option TableLink
-linked (Ok path) (Ok text) = Some (record { path = path; text = text })
+abbrev pub linked : Result (List (List ℕ)) PathFault → Result (List ℕ) PathFault → Option TableLine
+linked (Ok path) (Ok text) = Some (record { path = path; mark = Target text })
 linked (Ok path) (Err fault) = None
 linked (Err fault) text = None
 
-abbrev pub link_of : Option (List ℕ) → Option (List ℕ) → Option TableLink
+abbrev pub link_of : Option (List ℕ) → Option (List ℕ) → Option TableLine
 link_of (Some path) (Some text) = linked (read_path path) (read_link text)
 link_of (Some path) None = None
 link_of None text = None
 
--- the link of three parts: a spelled path text, an arrow and a spelled link text
-abbrev pub read_parts : List (List ℕ) → Option TableLink
+-- a path of a file that was read
+abbrev pub flagged : Result (List (List ℕ)) PathFault → Option TableLine
+flagged (Ok path) = Some (record { path = path; mark = Executable })
+flagged (Err fault) = None
+
+abbrev pub flag_of : Option (List ℕ) → Option TableLine
+flag_of (Some path) = flagged (read_path path)
+flag_of None = None
+
+-- the line of its parts: a spelled path text, and a star; or one, an arrow and a spelled link text
+abbrev pub read_parts : List (List ℕ) → Option TableLine
 read_parts [] = None
 read_parts (a ∷ []) = None
-read_parts (a ∷ b ∷ []) = None
+read_parts (path ∷ star ∷ []) = cond (bytes_eq star (codes "*")) (flag_of (unspelled path)) None
 read_parts (path ∷ arrow ∷ text ∷ []) = cond (bytes_eq arrow (codes "->")) (link_of (unspelled path) (unspelled text)) None
 read_parts (a ∷ b ∷ c ∷ d ∷ more) = None
 
 abbrev pub is_space : ℕ → Bool
 is_space b = b == 32
 
--- the link of a line, which has one space on each side of its arrow
-abbrev pub read_line : List ℕ → Option TableLink
+-- what a line says, whose parts have one space between them
+abbrev pub read_line : List ℕ → Option TableLine
 read_line line = read_parts (slice_split is_space line)
+
+-- ---- which lines a filestore can have
 
 abbrev pub is_dir : Option Node → Bool
 is_dir None = false
@@ -74,61 +112,148 @@ is_dir (Some (File bytes exec)) = false
 is_dir (Some (Dir names)) = true
 is_dir (Some (Link text)) = false
 
+abbrev pub is_file : Option Node → Bool
+is_file None = false
+is_file (Some (File bytes exec)) = true
+is_file (Some (Dir names)) = false
+is_file (Some (Link text)) = false
+
 -- a link can be made at the path: its parent is a directory of the filestore, which has no links yet, and nothing stands
 -- there; a link that an earlier line made is no directory
 abbrev pub can_stand : Store → List (List ℕ) → Bool
 can_stand S path = is_dir (S (parent path)) && is_none (S path)
 
--- the link that was read, if its path is greater than that of the line before and it can be made
-abbrev pub next_link : Store → List (List ℕ) → Option TableLink → Option TableLink
-next_link S before None = None
-next_link S before (Some link) = cond (is_lt (path_cmp before link.path) && can_stand S link.path) (Some link) None
+-- what lines are read over: a filestore of files and directories; and whether they may say that a file is executable
+pub record Setting : Type 0 where
+  pub store : Store
+  pub flags : Bool
 
-abbrev pub with_first : TableLink → Result (List TableLink) ℕ → Result (List TableLink) ℕ
-with_first link (Ok links) = Ok (link ∷ links)
-with_first link (Err number) = Err number
+abbrev pub over : Store → Bool → Setting
+over S flags = record { store = S; flags = flags }
 
--- the line of this number gave no link, or one that stands before those of the further lines
-abbrev pub read_on : ℕ → Option TableLink → (TableLink → Result (List TableLink) ℕ) → Result (List TableLink) ℕ
+abbrev pub can_mark : Setting → List (List ℕ) → Mark → Bool
+can_mark s path (Target text) = can_stand s.store path
+can_mark s path Executable = s.flags && is_file (s.store path)
+
+-- a line of a link where one can be made, or of a file that stands there
+abbrev pub has_place : Setting → TableLine → Bool
+has_place s line = can_mark s line.path line.mark
+
+-- ---- how lines are read
+
+-- the line that was read, if its path is greater than that of the line before and it has its place
+abbrev pub next_line : Setting → List (List ℕ) → Option TableLine → Option TableLine
+next_line s before None = None
+next_line s before (Some l) = cond (is_lt (path_cmp before l.path) && has_place s l) (Some l) None
+
+abbrev pub with_first : TableLine → Result (List TableLine) ℕ → Result (List TableLine) ℕ
+with_first line (Ok lines) = Ok (line ∷ lines)
+with_first line (Err number) = Err number
+
+-- the line of this number says nothing, or one that stands before those of the further lines
+abbrev pub read_on : ℕ → Option TableLine → (TableLine → Result (List TableLine) ℕ) → Result (List TableLine) ℕ
 read_on number None further = Err number
-read_on number (Some link) further = with_first link (further link)
+read_on number (Some line) further = with_first line (further line)
 
--- the links of the lines from a number on, or the number of the first bad line; what stands behind the last line feed is a
--- line that lacks its own, unless it is empty
-abbrev pub read_lines : Store → List (List ℕ) → ℕ → List (List ℕ) → Result (List TableLink) ℕ
-read_lines S before number [] = Ok []
-read_lines S before number ([] ∷ []) = Ok []
-read_lines S before number ((b ∷ line) ∷ []) = Err number
-read_lines S before number (line ∷ next ∷ lines) =
-    read_on number (next_link S before (read_line line)) (λ link. read_lines S link.path (number + 1) (next ∷ lines))
+-- what the lines from a number on say, or the number of the first bad line; what stands behind the last line feed is a line
+-- that lacks its own, unless it is empty
+abbrev pub read_lines : Setting → List (List ℕ) → ℕ → List (List ℕ) → Result (List TableLine) ℕ
+read_lines s before number [] = Ok []
+read_lines s before number ([] ∷ []) = Ok []
+read_lines s before number ((b ∷ line) ∷ []) = Err number
+read_lines s before number (line ∷ next ∷ lines) =
+    read_on number (next_line s before (read_line line)) (λ l. read_lines s l.path (number + 1) (next ∷ lines))
 
 abbrev pub is_feed : ℕ → Bool
 is_feed b = b == 10
 
--- the links that a text of the table stands for over a filestore of files and directories, or the number of its first bad
--- line, counted from 1; the root stands before the first line, so that no line has its path
-abbrev pub read_table : Store → List ℕ → Result (List TableLink) ℕ
-read_table S text = read_lines S [] 1 (slice_split is_feed text)
+-- what a text of lines says, of which the first has this number; the root stands before it, so that no line has its path
+abbrev pub read_from : Setting → ℕ → List ℕ → Result (List TableLine) ℕ
+read_from s first text = read_lines s [] first (slice_split is_feed text)
 
-abbrev pub links_or_none : Result (List TableLink) ℕ → List TableLink
-links_or_none (Ok links) = links
-links_or_none (Err number) = []
+-- ---- how a table is read
 
--- the links of the lines before a bad one
-abbrev pub links_before : Store → List ℕ → ℕ → List TableLink
-links_before S text number = links_or_none (read_table S (flat_map (λ line. line ++ 10 ∷ []) (take (number - 1) (slice_split is_feed text))))
+-- the text is of version 2
+abbrev pub is_second : List ℕ → Bool
+is_second text = bytes_eq (take 10 text) version_line
+
+-- the lines of a text, and the number of the first of them; lines are counted from 1, and the version's is one
+abbrev pub body_of : List ℕ → List ℕ
+body_of text = cond (is_second text) (drop 10 text) text
+
+abbrev pub first_number : List ℕ → ℕ
+first_number text = cond (is_second text) 2 1
+
+-- only those of version 2 may say that a file is executable
+abbrev pub setting_of : Store → List ℕ → Setting
+setting_of S text = over S (is_second text)
+
+abbrev pub read_body : Store → List ℕ → Result (List TableLine) ℕ
+read_body S text = read_from (setting_of S text) (first_number text) (body_of text)
+
+-- the text is of version 2, of which none of these lines has need
+abbrev pub lacks_flags : List ℕ → List TableLine → Bool
+lacks_flags text lines = is_second text && not (has_flags lines)
+
+abbrev pub unless_lacking : List ℕ → Result (List TableLine) ℕ → Result (List TableLine) ℕ
+unless_lacking text (Ok lines) = cond (lacks_flags text lines) (Err 1) (Ok lines)
+unless_lacking text (Err number) = Err number
+
+-- the lines that a text of the table stands for over a filestore of files and directories, or the number of its first bad
+-- line; a text of version 2 whose lines are all good is bad at line 1 where none says that a file is executable
+abbrev pub read_table : Store → List ℕ → Result (List TableLine) ℕ
+read_table S text = unless_lacking text (read_body S text)
+
+abbrev pub lines_or_none : Result (List TableLine) ℕ → List TableLine
+lines_or_none (Ok lines) = lines
+lines_or_none (Err number) = []
+
+-- what the lines before a bad one say
+abbrev pub lines_before : Store → List ℕ → ℕ → List TableLine
+lines_before S text number =
+    lines_or_none (read_from (setting_of S text) (first_number text) (flat_map (λ line. line ++ 10 ∷ []) (take (number - first_number text) (slice_split is_feed (body_of text)))))
+
+-- ---- the lines of a table
+
+abbrev pub IsMark : Mark → Type 0
+IsMark (Target text) = IsLinkText text
+IsMark Executable = ⊤
 
 -- a link within its limits
 pub record IsLink (link : TableLink) : Type 0 where
   pub path : IsPath link.path
   pub text : IsLinkText link.text
 
--- links that can be made in a filestore, in strictly ascending order and behind a path
-pub record IsTableBehind (S : Store) (before : List (List ℕ)) (links : List TableLink) : Type 0 where
-  pub valid : All IsLink links
-  pub stand : All (λ (l : TableLink). IsTrue (can_stand S l.path)) links
-  pub ascending : IsStrictlySortedBy path_cmp (before ∷ map (λ (l : TableLink). l.path) links)
+-- a line within its limits
+pub record IsLine (line : TableLine) : Type 0 where
+  pub path : IsPath line.path
+  pub mark : IsMark line.mark
 
--- the links of a table, none of them at the root
-abbrev pub IsTable : Store → List TableLink → Type 0
-IsTable S links = IsTableBehind S [] links
+-- lines that have their places, in strictly ascending order and behind a path
+pub record IsTableBehind (s : Setting) (before : List (List ℕ)) (lines : List TableLine) : Type 0 where
+  pub valid : All IsLine lines
+  pub stand : All (λ (l : TableLine). IsTrue (has_place s l)) lines
+  pub ascending : IsStrictlySortedBy path_cmp (before ∷ map (λ (l : TableLine). l.path) lines)
+
+-- the lines of a table in a setting, none of them at the root
+abbrev pub AreLinesOver : Setting → List TableLine → Type 0
+AreLinesOver s lines = IsTableBehind s [] lines
+
+-- the lines of a table
+abbrev pub IsTable : Store → List TableLine → Type 0
+IsTable S lines = AreLinesOver (over S true) lines
+
+-- ---- what lines say
+
+abbrev pub link_in_line : List (List ℕ) → Mark → Option TableLink
+link_in_line path (Target text) = Some (record { path = path; text = text })
+link_in_line path Executable = None
+
+-- the links among lines
+abbrev pub links_among : List TableLine → List TableLink
+links_among lines = filter_map (λ (l : TableLine). link_in_line l.path l.mark) lines
+
+-- the line of a path says that the file there is executable
+abbrev pub flag_at : List TableLine → List (List ℕ) → Bool
+flag_at [] path = false
+flag_at (l ∷ lines) path = cond (eq_by_cmp path_cmp path l.path) (is_flag l.mark) (flag_at lines path)

@@ -1,11 +1,10 @@
 -- What spelled texts give: their first byte, a path, a link text, a link.
 use Rattle.std.specs.Prelude.{◌≡◌, ◌<◌, ◌≤◌, ℕ, List, length, drop, Option, Some, None, Result, Ok, Err}
-use Rattle.std.specs.Option.{option_map}
 use Rattle.fx_store.specs.declared.name.PathFault.{PathFault}
 use Rattle.fx_store.specs.declared.path.Path.{Path}
 use Rattle.fx_store.specs.declared.link.LinkText.{LinkText}
 use Rattle.fx_store.specs.Faults.{read_path, read_link}
-use Rattle.fx_table.specs.Table.{TableLink, link_of}
+use Rattle.fx_table.specs.Table.{TableLine, link_of, flag_of}
 use Rattle.fx_table.specs.TableSpelling.{onto, unspelled}
 
 -- a byte, and the characters behind those that spell it
@@ -34,6 +33,9 @@ GivesPath bytes path = path ≡ read_of read_path bytes
 abbrev pub GivesText : Option (List ℕ) → Option LinkText → Type 0
 GivesText bytes text = text ≡ read_of read_link bytes
 
--- the link of two unspelled texts
-abbrev pub GivesLink : Option (List ℕ) → Option (List ℕ) → Option (Path × LinkText) → Type 0
-GivesLink path text link = link ≡ option_map (λ (l : TableLink). (l.path, l.text)) (link_of path text)
+-- the line of a path and of what it leads to, or of a path alone
+abbrev pub GivesLink : Option (List ℕ) → Option (List ℕ) → Option TableLine → Type 0
+GivesLink path text line = line ≡ link_of path text
+
+abbrev pub GivesFlag : Option (List ℕ) → Option TableLine → Type 0
+GivesFlag path line = line ≡ flag_of path

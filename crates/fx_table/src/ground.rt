@@ -5,7 +5,7 @@ ghost use Rattle.fx_store.specs.Changes.{change_at};
 ghost use Rattle.fx_store.specs.Names.{path_cmp};
 ghost use Rattle.fx_store.specs.Resolve.{parent};
 ghost use Rattle.fx_table.specs.Lines.{standing_by};
-ghost use Rattle.fx_table.specs.Table.{is_dir};
+ghost use Rattle.fx_table.specs.Table.{is_dir, is_file};
 
 use crate::lines::Ground;
 use fx_base::NoMemory;
@@ -23,6 +23,10 @@ impl Ground for Changes {
         let above = parent_of(alloc, path)?;
         Ok(is_dir(node_in(self, &above)))
     }
+
+    fn is_file(&self, path: &Path) -> bool {
+        is_file(node_in(self, path))
+    }
 }
 
 impl Ground for Filestore {
@@ -35,10 +39,14 @@ impl Ground for Filestore {
         let above = parent_of(alloc, path)?;
         Ok(is_dir(self.get(&above)))
     }
+
+    fn is_file(&self, path: &Path) -> bool {
+        is_file(self.get(path))
+    }
 }
 
 /// What stands at a path by changes alone.
-fn node_in<'a>(changes: &'a Changes, path: &Path) -> Option<&'a Node>
+pub(crate) fn node_in<'a>(changes: &'a Changes, path: &Path) -> Option<&'a Node>
     ensures { option_copied result ≡ standing_by changes.now path.now }
 {
     let compare = |change: &Change| -> Ordering
@@ -57,6 +65,17 @@ fn is_dir(node: Option<&Node>) -> bool
     match node {
         Some(Node::Dir(_)) => true,
         Some(Node::File { .. }) => false,
+        Some(Node::Link(_)) => false,
+        None => false,
+    }
+}
+
+fn is_file(node: Option<&Node>) -> bool
+    ensures { result ≡ is_file (option_copied node.entry) }
+{
+    match node {
+        Some(Node::File { .. }) => true,
+        Some(Node::Dir(_)) => false,
         Some(Node::Link(_)) => false,
         None => false,
     }

@@ -1,8 +1,8 @@
 //! Laws of the table's definitions. Each stands on a function that does nothing, so that it is proved with the crate.
 ghost use Rattle.fx_table.specs.TableExamples.{TableExamples};
-ghost use Rattle.fx_table.specs.TableLaws.{TablesAreRead, ReadTextsAreTables, TablesAreReadable, BadLinesAreFirst, LinksAreTables};
+ghost use Rattle.fx_table.specs.TableLaws.{TablesAreRead, ReadTextsAreTables, TablesAreReadable, BadLinesAreFirst, LinesAreTables};
 
-/// The text of a table is read as the links of the table.
+/// The text of a table is read as the lines of the table.
 pub fn tables_are_read()
     ensures { TablesAreRead }
 {}
@@ -12,19 +12,20 @@ pub fn read_texts_are_tables()
     ensures { ReadTextsAreTables }
 {}
 
-/// Different links have different texts.
+/// Different lines have different texts.
 pub fn tables_are_readable()
     ensures { TablesAreReadable }
 {}
 
-/// Where a text is refused, the lines before the bad one are those of a table, and no table has one line more of the text.
+/// Where a text is refused, the lines before the bad one have their places, and with one line more of the text they have not; or
+/// it is of version 2 and all its lines are good, and none has need of that.
 pub fn bad_lines_are_first()
     ensures { BadLinesAreFirst }
 {}
 
-/// The links of a whole filestore are a table over its files and directories.
-pub fn links_are_tables()
-    ensures { LinksAreTables }
+/// The lines of a whole filestore are a table over its files and directories, none of the files executable.
+pub fn lines_are_tables()
+    ensures { LinesAreTables }
 {}
 
 /// Small tables: how they are spelled, how they are read, and which line of others is bad.

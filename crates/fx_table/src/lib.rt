@@ -1,10 +1,12 @@
-//! The table in which a folder keeps its links, as a text, and what it stands for among files and directories.
+//! The table in which a folder keeps its links and which of its files are executable, as a text, and what it stands for
+//! among files and directories.
 #![tactic(auto)]
 
 mod descent;
 mod fault;
 mod ground;
 pub mod laws;
+mod line;
 mod lines;
 mod linked;
 mod links;
@@ -15,7 +17,8 @@ mod table;
 
 pub use descent::Descent;
 pub use fault::{FolderCause, LoadFault};
-pub use lines::{Ground, Room, read_links, table_place};
+pub use line::{Mark, TableLine};
+pub use lines::{Ground, Room, read_lines, table_place};
 pub use linked::read_table;
 pub use links::write_table;
 pub use listing::list_names;

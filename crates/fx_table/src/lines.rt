@@ -1,16 +1,20 @@
 //! The reader of a table's lines.
-ghost use Rattle.std.specs.Prelude.{◌≡◌, ◌∷◌, [], IfOk, IfErr};
+ghost use Rattle.std.specs.Prelude.{◌≡◌, ◌≤◌, ◌∷◌, [], ◌&&◌, cond, not, IfOk, IfErr};
 ghost use Rattle.fx_store.specs.Whole.{Store};
-ghost use Rattle.fx_table.specs.Table.{can_stand};
-ghost use Rattle.fx_table.specs.Lines.{FindsFirst, GivesLine, DecidesFollow, AreLinks, ReadsNext, StopsNext, ReadsAll, LinesCause, TakesRoom};
+ghost use Rattle.fx_table.specs.Table.{can_stand, is_file, over, has_flags, is_second, body_of, has_place, is_flag, read_line, read_parts, Target};
+ghost use Rattle.fx_table.specs.Lines.{FindsFirst, DecidesFollow, AreLines, ReadsNext, StopsNext, ReadsBody, BodyCause, ReadsAll, LinesCause, TakesRoom, line_change, lines_in, mark_in, mark_node};
 ghost use Rattle.fx_table.specs.Places.{place_of, table_name};
 
-use crate::table::link_of;
+use crate::line::{Mark, TableLine};
+use crate::table::{flag_of, link_of};
 use crate::{FolderCause, LoadFault};
 use fx_base::NoMemory;
 use fx_outside::HostText;
-use fx_store::{Change, Changes, LinkText, Node, Path};
+use fx_store::{Bytes, Change, Changes, LinkText, Node, Path};
 use std::alloc::Global;
+
+/// What a table of version 2 begins with.
+pub(crate) const VERSION_LINE: &[u8] = b"version 2\n";
 
 /// Files and directories, among which links are made.
 pub trait Ground {
@@ -20,6 +24,10 @@ pub trait Ground {
     /// Whether a link can be made at a path: nothing stands there, and a directory stands above.
     fn can_stand(&self, alloc: Global, path: &Path) -> Result<bool, NoMemory>
         ensures { IfOk result (λ can. can ≡ can_stand (store self.now) path.now) };
+
+    /// Whether a file stands at a path.
+    fn is_file(&self, path: &Path) -> bool
+        ensures { result ≡ is_file (store self.now path.now) };
 }
 
 /// How many links may still be made, and how many bytes their texts may have together.
@@ -29,8 +37,9 @@ pub struct Room {
     pub bytes: u64,
 }
 
-/// The links of a table's text, in order of path.
-pub fn read_links<G: Ground>(
+/// The lines of a table's text, in order of path: a change that makes a link for each link, and one that makes an
+/// executable file without bytes for each flag. Only a text of version 2 may have flags, and it has at least one.
+pub fn read_lines<G: Ground>(
     alloc: Global,
     text: &[u8],
     ground: &G,
@@ -39,52 +48,168 @@ pub fn read_links<G: Ground>(
     ensures read { IfOk result (ReadsAll (G.store ground.now) room text.now) }
     ensures cause { IfErr result (LinesCause (G.store ground.now) room text.now) }
 {
-    let mut links = Changes::new(alloc);
+    let flags = is_second(text);
+    let lines = read_body(
+        alloc,
+        body_of(text),
+        first_number(flags),
+        ground,
+        flags,
+        room,
+    )?;
+    if lacks_flags(flags, &lines) {
+        return Err(LoadFault::Refused(FolderCause::BadTable(1)));
+    }
+    Ok(lines)
+}
+
+/// Whether a text is of version 2.
+fn is_second(text: &[u8]) -> bool
+    ensures { result ≡ is_second text.now }
+{
+    if text.len() < VERSION_LINE.len() {
+        return false;
+    }
+    &text[..VERSION_LINE.len()] == VERSION_LINE
+}
+
+/// What stands behind the line of its version, if a text has one.
+fn body_of(text: &[u8]) -> &[u8]
+    ensures { result.now ≡ body_of text.now }
+{
+    if is_second(text) {
+        return &text[VERSION_LINE.len()..];
+    }
+    text
+}
+
+/// The number of the first line behind that of the version, which is of version 2 or not.
+fn first_number(second: bool) -> u64
+    ensures number { result ≡ cond second 2 1 }
+    ensures small { result ≤ 2 }
+{
+    if second { 2 } else { 1 }
+}
+
+/// Whether a text is of version 2 in vain.
+fn lacks_flags(second: bool, lines: &Changes) -> bool
+    ensures { result ≡ (second && not (has_flags (lines_in lines.now))) }
+{
+    if !second {
+        return false;
+    }
+    !has_flags(lines)
+}
+
+/// Whether a line says that a file is executable.
+fn has_flags(lines: &Changes) -> bool
+    ensures { result ≡ has_flags (lines_in lines.now) }
+{
+    for line in lines.as_slice() {
+        if is_flag(line) {
+            return true;
+        }
+    }
+    false
+}
+
+/// Whether a change stands for an executable file, and for no link.
+fn is_flag(line: &Change) -> bool
+    ensures { result ≡ is_flag (mark_in line.now.node) }
+{
+    match &line.node {
+        Some(Node::Link(_)) => false,
+        Some(Node::File { .. }) => true,
+        Some(Node::Dir(_)) => true,
+        None => true,
+    }
+}
+
+/// Reads all lines of a text, of which the first has this number.
+fn read_body<G: Ground>(
+    alloc: Global,
+    text: &[u8],
+    first: u64,
+    ground: &G,
+    flags: bool,
+    room: Room,
+) -> Result<Changes, LoadFault>
+    requires { first ≤ 2 }
+    ensures read { IfOk result (ReadsBody (over (G.store ground.now) flags) room text.now) }
+    ensures cause { IfErr result (BodyCause (over (G.store ground.now) flags) room first text.now) }
+{
+    let mut lines = Changes::new(alloc);
     let mut room = room;
     let mut at = 0;
-    let mut number = 1;
+    let mut number = first;
     'reading: while at < text.len() {
-        at += next_link(alloc, &text[at..], number, ground, &mut room, &mut links)?;
+        at += next_line(
+            alloc,
+            &text[at..],
+            number,
+            ground,
+            flags,
+            &mut room,
+            &mut lines,
+        )?;
         number += 1;
     }
-    Ok(links)
+    Ok(lines)
 }
 
 /// Reads the first line of a text, and gives how many bytes it has with its line feed.
-fn next_link<G: Ground>(
+fn next_line<G: Ground>(
     alloc: Global,
     text: &[u8],
     number: u64,
     ground: &G,
+    flags: bool,
     room: &mut Room,
-    links: &mut Changes,
+    lines: &mut Changes,
 ) -> Result<usize, LoadFault>
-    requires { AreLinks (G.store ground.now) links.old }
-    ensures read { IfOk result
-        (ReadsNext (G.store ground.now) room.old text.now links.old links.new room.new) }
+    requires { AreLines (over (G.store ground.now) flags) lines.old }
+    ensures read { IfOk result (ReadsNext (over (G.store ground.now) flags)
+        room.old text.now lines.old lines.new room.new) }
     ensures cause { IfErr result
-        (StopsNext (G.store ground.now) room.old text.now number links.old) }
+        (StopsNext (over (G.store ground.now) flags) room.old text.now number lines.old) }
 {
     let Some(end) = place_in(text, b'\n') else {
         return Err(LoadFault::Refused(FolderCause::BadTable(number)));
     };
-    let Some((path, target)) = link_of_line(alloc, &text[..end])? else {
+    let Some(line) = read_line(alloc, &text[..end])? else {
         return Err(LoadFault::Refused(FolderCause::BadTable(number)));
     };
-    if !can_follow(alloc, ground, links, &path)? {
+    if !can_follow(alloc, ground, flags, lines, &line)? {
         return Err(LoadFault::Refused(FolderCause::BadTable(number)));
     }
-    if !room.takes(&target) {
+    if !room.takes(&line.mark) {
         return Err(LoadFault::Refused(FolderCause::TooLarge(table_place(alloc)?)));
     }
-    links.add(
-        alloc,
-        Change {
-            path,
-            node: Some(Node::Link(target)),
-        },
-    )?;
+    lines.add(alloc, change_of(alloc, line))?;
     Ok(end + 1)
+}
+
+/// The change that stands for a line.
+fn change_of(alloc: Global, line: TableLine) -> Change
+    ensures { result ≡ line_change line }
+{
+    let TableLine { path, mark } = line;
+    Change {
+        path,
+        node: Some(node_of(alloc, mark)),
+    }
+}
+
+fn node_of(alloc: Global, mark: Mark) -> Node
+    ensures { result ≡ mark_node mark }
+{
+    match mark {
+        Mark::Target(text) => Node::Link(text),
+        Mark::Executable => Node::File {
+            bytes: Bytes::new(alloc),
+            exec: true,
+        },
+    }
 }
 
 /// The first place of a byte.
@@ -99,16 +224,16 @@ fn place_in(text: &[u8], byte: u8) -> Option<usize>
     None
 }
 
-/// The link of a line: a spelled path text, an arrow with a space on each side, and a spelled link text.
-fn link_of_line(alloc: Global, line: &[u8]) -> Result<Option<(Path, LinkText)>, NoMemory>
-    ensures { IfOk result (GivesLine line.now) }
+/// What a line says: a spelled path text, and a star or an arrow and a spelled link text, with a space between each two.
+fn read_line(alloc: Global, line: &[u8]) -> Result<Option<TableLine>, NoMemory>
+    ensures { IfOk result (λ said. said ≡ read_line line.now) }
 {
     let Some(i) = place_in(line, b' ') else {
         return Ok(None);
     };
     let rest = &line[i + 1..];
     let Some(j) = place_in(rest, b' ') else {
-        return Ok(None);
+        return read_flag(alloc, &line[..i], rest);
     };
     if &rest[..j] != b"->".as_slice() {
         return Ok(None);
@@ -120,28 +245,71 @@ fn link_of_line(alloc: Global, line: &[u8]) -> Result<Option<(Path, LinkText)>, 
     }
 }
 
-/// Whether a link can be made at a path behind other links.
+/// What a line of two parts says: a spelled path text, and a star.
+fn read_flag(alloc: Global, path: &[u8], star: &[u8]) -> Result<Option<TableLine>, NoMemory>
+    ensures { IfOk result (λ said. said ≡ read_parts (path.now ∷ star.now ∷ [])) }
+{
+    if star != b"*".as_slice() {
+        return Ok(None);
+    }
+    flag_of(alloc, path)
+}
+
+/// Whether a line has its place behind others.
 fn can_follow<G: Ground>(
     alloc: Global,
     ground: &G,
-    links: &Changes,
-    path: &Path,
+    flags: bool,
+    lines: &Changes,
+    line: &TableLine,
 ) -> Result<bool, NoMemory>
-    ensures { IfOk result (DecidesFollow (G.store ground.now) links.now path.now) }
+    ensures { IfOk result
+        (DecidesFollow (over (G.store ground.now) flags) lines.now line.now) }
 {
-    if path.len() == 0 {
+    if line.path.len() == 0 {
         return Ok(false);
     }
-    if !links.is_next(path) {
+    if !lines.is_next(&line.path) {
         return Ok(false);
     }
-    ground.can_stand(alloc, path)
+    has_place(alloc, ground, flags, line)
+}
+
+/// Whether a link can be made, or a file stands where one is said to be executable, which flags allow.
+fn has_place<G: Ground>(
+    alloc: Global,
+    ground: &G,
+    flags: bool,
+    line: &TableLine,
+) -> Result<bool, NoMemory>
+    ensures { IfOk result
+        (λ has. has ≡ has_place (over (G.store ground.now) flags) line.now) }
+{
+    match &line.mark {
+        Mark::Target(_) => ground.can_stand(alloc, &line.path),
+        Mark::Executable => {
+            if !flags {
+                return Ok(false);
+            }
+            Ok(ground.is_file(&line.path))
+        }
+    }
 }
 
 impl Room {
+    /// Takes the room of a line that says this, if there is enough.
+    fn takes(&mut self, mark: &Mark) -> bool
+        ensures { TakesRoom self.old mark.now self.new result }
+    {
+        match mark {
+            Mark::Target(text) => self.takes_link(text),
+            Mark::Executable => true,
+        }
+    }
+
     /// Takes the room of a link of this text, if there is enough.
-    fn takes(&mut self, text: &LinkText) -> bool
-        ensures { TakesRoom self.old text.now self.new result }
+    fn takes_link(&mut self, text: &LinkText) -> bool
+        ensures { TakesRoom self.old (Target text.now) self.new result }
     {
         let bytes = text.as_slice().len() as u64;
         if self.links == 0 {

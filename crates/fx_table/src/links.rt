@@ -1,54 +1,88 @@
-//! The table in which a folder keeps the links of a filestore, as a text.
-ghost use Rattle.std.specs.Prelude.{◌≡◌, ◌<◌, ◌++◌, ◌∷◌, [], length, true, IfOk, OnOk};
+//! The table of a filestore, as a text.
+ghost use Rattle.std.specs.Prelude.{◌≡◌, ◌<◌, ◌++◌, ◌∷◌, [], cond, length, true, IfOk, OnOk};
 ghost use Rattle.std.specs.FinMap.{get};
 ghost use Rattle.std.specs.List.{flat_map};
 ghost use Rattle.std.specs.Fmt.{digit_glyph};
-ghost use Rattle.fx_store.specs.Names.{path_text};
 ghost use Rattle.fx_store.specs.Whole.{IsWhole};
-ghost use Rattle.fx_table.specs.Table.{table_text, links_of, line_of, line_at};
+ghost use Rattle.fx_table.specs.Table.{table_text, lines_of, version_line};
+ghost use Rattle.fx_table.specs.Texts.{link_text, flag_text, text_at, flag_of_node};
 ghost use Rattle.fx_table.specs.TableSpelling.{is_plain, spelled, spelling};
 
 use crate::descent::Descent;
+use crate::lines::VERSION_LINE;
 use fx_base::NoMemory;
 use fx_store::{Filestore, LinkText, LongText, Name, Node, Path};
 use std::alloc::Global;
 
-/// The text of the table of a filestore's links: a line for each, in order of path. It is empty where there is none.
+/// The text of the table of a filestore: a line for each link, and for each file that is executable, in order of path. It
+/// is of version 1 where no file is, and empty where there is no link either.
 pub fn write_table(alloc: Global, store: &Filestore) -> Result<LongText, NoMemory>
-    ensures text { IfOk result (λ text. text ≡ table_text (links_of store.now.nodes)) }
+    ensures text { IfOk result (λ text. text ≡ table_text (lines_of store.now.nodes)) }
     ensures whole { IsWhole (get store.now.nodes) }
 {
     let mut text = Vec::new(alloc);
+    let mut flags = false;
     let mut descent = Descent::new(alloc, store)?;
     'writing: while let Some(path) = descent.next(alloc, store)? {
-        add_entry(&mut text, &path, store)?;
+        flags |= add_entry(&mut text, &path, store)?;
     }
-    Ok(LongText::from_vec(text))
+    Ok(LongText::from_vec(with_version(alloc, text, flags)?))
 }
 
-/// Adds the line of a link, where one stands at the path.
-fn add_entry(text: &mut Vec<u8>, path: &Path, store: &Filestore) -> Result<(), NoMemory>
-    ensures { OnOk result
-        (text.new.items ≡ text.old.items ++ line_at path.now (get store.now.nodes path.now)) }
+/// Lines behind the line of their version, which they have where they say that a file is executable.
+fn with_version(alloc: Global, lines: Vec<u8>, flags: bool) -> Result<Vec<u8>, NoMemory>
+    ensures { IfOk result (λ text. text.items ≡ cond flags version_line [] ++ lines.items) }
+{
+    if !flags {
+        return Ok(lines);
+    }
+    let mut text = Vec::with_capacity(alloc, lines.len().saturating_add(VERSION_LINE.len()))?;
+    add_bytes(&mut text, VERSION_LINE)?;
+    add_bytes(&mut text, &lines)?;
+    Ok(text)
+}
+
+/// Adds the line of what stands at a path, if it has one, and tells whether it says that a file is executable.
+fn add_entry(text: &mut Vec<u8>, path: &Path, store: &Filestore) -> Result<bool, NoMemory>
+    ensures text { OnOk result
+        (text.new.items ≡ text.old.items ++ text_at path.now (get store.now.nodes path.now)) }
+    ensures flag { IfOk result (λ flag.
+        flag ≡ flag_of_node (get store.now.nodes path.now)) }
 {
     match store.get(path) {
-        Some(Node::Link(link)) => add_line(text, path, link),
-        Some(Node::File { .. }) => Ok(()),
-        Some(Node::Dir(_)) => Ok(()),
-        None => Ok(()),
+        Some(Node::Link(link)) => {
+            add_link(text, path, link)?;
+            Ok(false)
+        }
+        Some(Node::File { exec, .. }) => add_flag(text, path, *exec),
+        Some(Node::Dir(_)) => Ok(false),
+        None => Ok(false),
     }
 }
 
 /// Adds the line of a link at a path other than the root.
-fn add_line(text: &mut Vec<u8>, path: &Path, link: &LinkText) -> Result<(), NoMemory>
+fn add_link(text: &mut Vec<u8>, path: &Path, link: &LinkText) -> Result<(), NoMemory>
     requires { 0 < length path.now }
-    ensures { OnOk result
-        (text.new.items ≡ text.old.items ++ line_at path.now (Some (Node.Link link.now))) }
+    ensures { OnOk result (text.new.items ≡ text.old.items ++ link_text path.now link.now) }
 {
     add_names(text, path)?;
     add_bytes(text, b" -> ")?;
     add_spelled(text, link.as_slice())?;
     add_bytes(text, b"\n")
+}
+
+/// Adds the line of a file at a path other than the root, if it is executable, and gives whether it is.
+fn add_flag(text: &mut Vec<u8>, path: &Path, exec: bool) -> Result<bool, NoMemory>
+    requires { 0 < length path.now }
+    ensures text { OnOk result (text.new.items ≡ text.old.items ++ flag_text path.now exec) }
+    ensures flag { IfOk result (λ flag. flag ≡ exec) }
+{
+    if !exec {
+        return Ok(false);
+    }
+    add_names(text, path)?;
+    add_bytes(text, b" *\n")?;
+    Ok(true)
 }
 
 /// Adds each name with `/` before it, as the table spells it.

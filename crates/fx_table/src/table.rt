@@ -1,9 +1,10 @@
-//! The lines of the table file, in which a folder keeps its links.
+//! The parts of a line of the table file.
 ghost use Rattle.std.specs.Prelude.{◌≡◌, IfOk, IfSome, option_map};
 ghost use Rattle.fx_table.specs.TableSpelling.{unspelled};
-ghost use Rattle.fx_table.specs.Table.{TableLink, link_of};
-ghost use Rattle.fx_table.specs.Unspells.{GivesPath, GivesText, GivesLink};
+ghost use Rattle.fx_table.specs.Table.{link_of, flag_of};
+ghost use Rattle.fx_table.specs.Unspells.{GivesPath, GivesText, GivesLink, GivesFlag};
 
+use crate::line::{Mark, TableLine};
 use crate::spelling::unspelled;
 use fx_base::NoMemory;
 use fx_store::{LinkText, Path, PathFault};
@@ -14,8 +15,8 @@ pub(crate) fn link_of(
     alloc: Global,
     path: &[u8],
     text: &[u8],
-) -> Result<Option<(Path, LinkText)>, NoMemory>
-    ensures { IfOk result (λ link. GivesLink (unspelled path.now) (unspelled text.now) link) }
+) -> Result<Option<TableLine>, NoMemory>
+    ensures { IfOk result (GivesLink (unspelled path.now) (unspelled text.now)) }
 {
     let Some(path) = path_of(alloc, path)? else {
         return Ok(None);
@@ -23,7 +24,23 @@ pub(crate) fn link_of(
     let Some(text) = text_of(alloc, text)? else {
         return Ok(None);
     };
-    Ok(Some((path, text)))
+    Ok(Some(TableLine {
+        path,
+        mark: Mark::Target(text),
+    }))
+}
+
+/// The line that a spelled path text gives where the file there is executable: `None` where it gives none.
+pub(crate) fn flag_of(alloc: Global, path: &[u8]) -> Result<Option<TableLine>, NoMemory>
+    ensures { IfOk result (GivesFlag (unspelled path.now)) }
+{
+    let Some(path) = path_of(alloc, path)? else {
+        return Ok(None);
+    };
+    Ok(Some(TableLine {
+        path,
+        mark: Mark::Executable,
+    }))
 }
 
 /// The path of a spelled path text.

@@ -1,4 +1,4 @@
-use Rattle.fx_table.proofs.TableLines.{bad_lines_are_first}
+use Rattle.fx_table.proofs.Versions.{bad_lines_are_first}
 use Rattle.fx_table.proofs.laws.bad_lines_are_first.Goals as goal
 
 pub returns : goal.returns

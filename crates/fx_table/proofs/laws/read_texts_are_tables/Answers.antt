@@ -1,4 +1,4 @@
-use Rattle.fx_table.proofs.TableLines.{read_texts_are_tables}
+use Rattle.fx_table.proofs.Versions.{read_texts_are_tables}
 use Rattle.fx_table.proofs.laws.read_texts_are_tables.Goals as goal
 
 pub returns : goal.returns

@@ -1,6 +1,6 @@
 use Rattle.std.proofs.Common.{◌≡◌}
-use Rattle.fx_table.specs.Linked.{unfiled}
-use Rattle.fx_table.proofs.linked.unfiled.Given as goal
+use Rattle.fx_table.specs.Linked.{kept_of}
+use Rattle.fx_table.proofs.linked.kept_of.Given as goal
 
 abbrev pub invariant-loop-change : goal.invariant-loop-change
-invariant-loop-change l = l.kept.items ≡ unfiled l.yielded
+invariant-loop-change l = l.kept.items ≡ kept_of l.store.nodes l.yielded

@@ -1,4 +1,4 @@
-use Rattle.std.proofs.Common.{sym, ◌∙◌, arith}
+use Rattle.std.proofs.Common.{arith}
 use Rattle.fx_table.proofs.Parents.{child_test}
 use Rattle.fx_table.proofs.listing.is_child.Goals as goal
 

@@ -1,7 +1,5 @@
-use Rattle.std.proofs.Common.{◌≡◌, sym, ◌∙◌, ap, subst}
+use Rattle.std.proofs.Common.{sym, ◌∙◌, subst}
 use Rattle.fx_store.specs.Names.{IsNameSet}
-use Rattle.fx_table.specs.Listed.{names_below}
-use Rattle.fx_table.specs.Mapped.{mapped_of}
 use Rattle.fx_table.proofs.Naming.{key_of, there, one_path, lists_none, lists_dir}
 use Rattle.fx_table.proofs.listing.list_at.Goals as goal
 

@@ -19,6 +19,7 @@ pub loop-i-preserved : goal.loop-i-preserved
 loop-i-preserved c =
     let es = mapped_of c.args.found.now.items in
     let count : c.len-i-end.result ≡ length c.args.found.now.items = grind (arith, common_steps) in
-    let within : c.loop-i.i < length c.loop-i.found.items = omega (arith, count, c.loop-i-test.true, mapped_len c.args.found.now.items, part_len es c.loop-i.i c.loop-i.found.items c.loop-i.invariant.0) in
-    (part_more es c.loop-i.i c.loop-i.found.items c.list_at.new.found.items within c.loop-i.invariant.0 c.in_ok-list_at.ensures,
-    rest_left items_of c.loop-i.lists.items c.list_out-names.new.lists.items (map (names_below es) (keys_of es)) c.loop-i.i c.list_out-names.ensures.rest c.loop-i.invariant.1)
+    let within : c.loop-i.i < length c.loop-i.found.items = omega (arith, count, c.loop-i-test.true, mapped_len c.args.found.now.items, part_len es c.loop-i.i c.loop-i.found.items c.loop-i.invariant.0) in (
+      part_more es c.loop-i.i c.loop-i.found.items c.list_at.new.found.items within c.loop-i.invariant.0 c.in_ok-list_at.ensures,
+      rest_left items_of c.loop-i.lists.items c.list_out-names.new.lists.items (map (names_below es) (keys_of es)) c.loop-i.i c.list_out-names.ensures.rest c.loop-i.invariant.1,
+    )

@@ -1,6 +1,4 @@
-use Rattle.std.proofs.Common.{map, get_or, refl, sym, ◌∙◌, arith}
-use Rattle.std.specs.Map.{keys_of}
-use Rattle.fx_table.specs.Listed.{names_below}
+use Rattle.std.proofs.Common.{map, get_or, refl, arith}
 use Rattle.fx_table.specs.Lists.{items_of}
 use Rattle.fx_table.specs.Mapped.{mapped_of}
 use Rattle.fx_table.proofs.Naming.{mapped_len}

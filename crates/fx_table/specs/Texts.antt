@@ -1,0 +1,30 @@
+-- The text of a table, line by line.
+use Rattle.std.specs.Prelude.{ℕ, Bool, true, false, List, [], ◌∷◌, ◌++◌, Option, Some, None}
+use Rattle.fx_store.specs.declared.node.Node.{Node}
+use Rattle.fx_store.specs.declared.node.Node.TheVariants.{File, Dir, Link}
+use Rattle.fx_table.specs.Table.{TableLine, Target, Executable, line_of}
+
+-- a line with its line feed
+abbrev pub line_text : TableLine → List ℕ
+line_text line = line_of line ++ 10 ∷ []
+
+abbrev pub link_text : List (List ℕ) → List ℕ → List ℕ
+link_text path text = line_text (record { path = path; mark = Target text })
+
+abbrev pub flag_text : List (List ℕ) → Bool → List ℕ
+flag_text path true = line_text (record { path = path; mark = Executable })
+flag_text path false = []
+
+-- the line of what stands at a path, if it has one
+abbrev pub text_at : List (List ℕ) → Option Node → List ℕ
+text_at path None = []
+text_at path (Some (File bytes exec)) = flag_text path exec
+text_at path (Some (Dir names)) = []
+text_at path (Some (Link text)) = link_text path text
+
+-- it says that a file is executable
+abbrev pub flag_of_node : Option Node → Bool
+flag_of_node None = false
+flag_of_node (Some (File bytes exec)) = exec
+flag_of_node (Some (Dir names)) = false
+flag_of_node (Some (Link text)) = false
