@@ -155,12 +155,17 @@ def fresh_place(target):
             settle(place, target)
 
 
+def others(target):
+    """The places that stand beside a target."""
+    folder, front = place_of(target)
+    return [os.path.join(folder, name) for name in os.listdir(folder) if re.fullmatch(re.escape(front) + "[0-9a-f]{12}", name)]
+
+
 def settle_others(target):
     """Settles the places that killed jobs left beside a target, whose lock is held. Answers how many."""
-    folder, front = place_of(target)
-    left = [name for name in os.listdir(folder) if re.fullmatch(re.escape(front) + "[0-9a-f]{12}", name)]
-    for name in left:
-        settle(os.path.join(folder, name), target)
+    left = others(target)
+    for place in left:
+        settle(place, target)
     return len(left)
 
 
