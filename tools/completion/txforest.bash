@@ -1,0 +1,42 @@
+# Completion of bash for txforest and its tools.
+
+_txforest() {
+    local word=${COMP_WORDS[COMP_CWORD]} at=$COMP_CWORD
+    if ((at == 1)); then
+        COMPREPLY=($(compgen -W "run trace show gen large" -- "$word"))
+        return
+    fi
+    case ${COMP_WORDS[1]}:$at in
+    run:3 | trace:3 | show:3 | run:4 | trace:4 | gen:3 | large:3) _txforest_paths -d ;;
+    trace:5) COMPREPLY=($(compgen -W "none" -- "$word")) ;;
+    run:* | trace:* | show:2) _txforest_paths -f ;;
+    esac
+}
+
+_txforest_paths() {
+    compopt -o filenames 2>/dev/null
+    mapfile -t COMPREPLY < <(compgen "$1" -- "${COMP_WORDS[COMP_CWORD]}")
+}
+
+_txforest_tool() {
+    local word=${COMP_WORDS[COMP_CWORD]} before=${COMP_WORDS[COMP_CWORD - 1]} options=--help
+    case ${COMP_WORDS[0]##*/} in
+    txforest-import) options="--help --leave-out --no-flags --as" ;;
+    txforest-export) options="--help --attributes --replace" ;;
+    txforest-apply) options="--help --in-place --link --allow-stopped --keep --wait" ;;
+    txforest-explain) options="--help --scripts --report --walk" ;;
+    txforest-schedules) options="--help --limit --seed" ;;
+    txforest-picture) options="--help --html --names --output" ;;
+    esac
+    case $before in
+    --keep | --wait | --limit | --seed | --names) return ;;
+    --in-place | --as) _txforest_paths -d && return ;;
+    esac
+    case $word in
+    -*) COMPREPLY=($(compgen -W "$options" -- "$word")) ;;
+    *) _txforest_paths -f ;;
+    esac
+}
+
+complete -F _txforest txforest
+complete -F _txforest_tool txforest-import txforest-export txforest-apply txforest-explain txforest-schedules txforest-picture

@@ -1,0 +1,28 @@
+# Completion of fish for txforest and its tools.
+
+complete -c txforest -f -n 'test (count (commandline -opc)) -eq 1' -a 'run\t"run scripts on threads" trace\t"run scripts by a schedule" show\t"print the value of a folder" gen\t"write a generated case" large\t"run a generated case"'
+complete -c txforest -F -n 'test (count (commandline -opc)) -gt 1'
+
+complete -c txforest-import -l leave-out -d 'take the tree without what can not be taken'
+complete -c txforest-import -l no-flags -d 'a table of version 1'
+complete -c txforest-import -l as -r -F -d 'the tree is a copy of this path'
+
+complete -c txforest-export -l attributes -r -F -d 'what txforest-import kept'
+complete -c txforest-export -l replace -d 'put it in the place of what stands there'
+
+complete -c txforest-apply -l in-place -r -F -d 'the folder'
+complete -c txforest-apply -l link -r -F -d 'a symbolic link to the folder'
+complete -c txforest-apply -l allow-stopped -d 'go on where transactions stopped'
+complete -c txforest-apply -l keep -x -d 'how many folders of before are kept'
+complete -c txforest-apply -l wait -x -d 'how long to wait for the lock'
+
+complete -c txforest-explain -l scripts -d 'all words are scripts'
+complete -c txforest-explain -l report -r -F -d 'a report to explain'
+complete -c txforest-explain -l walk -d 'the moves to each part'
+
+complete -c txforest-schedules -l limit -x -d 'how many orders are tried'
+complete -c txforest-schedules -l seed -x -d 'of the random orders'
+
+complete -c txforest-picture -l html -d 'a page of its own'
+complete -c txforest-picture -l names -x -d 'names of the shells'
+complete -c txforest-picture -s o -l output -r -F -d 'where the picture goes'
