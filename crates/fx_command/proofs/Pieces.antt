@@ -1,10 +1,10 @@
 -- Reading a file piece by piece: what is read is a front of it, until the end.
-use Rattle.std.proofs.Common.{◌≡◌, ◌⊎◌, ℕ, ◌+◌, ◌≤◌, ◌<◌, Bool, true, false, List, [], ◌++◌, length, take, drop, refl, sym, ap, subst, ◌∙◌, inl, inr, arith, Option, Some, None, Result, Ok, Err, IfSome, IsSomeAnd, length-append}
+use Rattle.std.proofs.Common.{◌≡◌, ℕ, ◌+◌, ◌≤◌, ◌<◌, Bool, true, false, List, [], ◌++◌, length, take, drop, refl, sym, ap, subst, ◌∙◌, arith, Option, Some, None, Result, Ok, Err, IfSome, length-append}
 use Rattle.std.specs.Prelude.{IsOk, IsErr}
 use Rattle.std.proofs.Math.Seq.{take-add, take-length, take-append_seam}
 use Rattle.std.proofs.lemmas.List.{length-take}
 use Rattle.fx_outside.specs.declared.kind.HostFault.{HostFault}
-use Rattle.fx_outside.specs.Host.{HostView, HasCause, ReadsAt, ReadsOnly, AsksFit}
+use Rattle.fx_outside.specs.Host.{HostView, HasCause, IsFaultless, ReadsAt, ReadsOnly, AsksFit}
 use Rattle.fx_outside.proofs.Views.{reads_none, reads_then, fit_then}
 use Rattle.fx_outside.specs.Tree.{Tree, is_file_at, bytes_at}
 use Rattle.fx_command.specs.Texts.{IsFrontAt, IsReadAt}
@@ -19,10 +19,10 @@ suits_told : {A : Type 0} (result : Result A HostFault) (suits : Tree → Bool) 
 suits_told result suits None X ok h = tt
 suits_told result suits (Some tree) X ok h = suits_true result (suits tree) X ok h
 
-pub suited : {A : Type 0} (result : Result A HostFault) (suits : Tree → Bool) (old new : HostView) → IsOk result → HasCause suits old new result → IfSome old.told (λ tree. suits tree ≡ true)
-suited result suits old new ok cause = suits_told result suits old.told ((new.told ≡ old.told) × (new.faults ≡ old.faults)) ok (if_pairs old.told cause.unsuited)
+pub suited : {A : Type 0} (result : Result A HostFault) (path : List ℕ) (suits : Tree → Bool) (old new : HostView) → IsOk result → HasCause path suits old new result → IfSome old.told (λ tree. suits tree ≡ true)
+suited result path suits old new ok cause = suits_told result suits old.told ((new.told ≡ old.told) × IsFaultless old new) ok (if_pairs old.told cause.unsuited)
   where
-    if_pairs : (told : Option Tree) → IfSome told (λ tree. suits tree ≡ false → IsErr result × (new.told ≡ old.told) × (new.faults ≡ old.faults)) → IfSome told (λ tree. suits tree ≡ false → IsErr result × ((new.told ≡ old.told) × (new.faults ≡ old.faults)))
+    if_pairs : (told : Option Tree) → IfSome told (λ tree. suits tree ≡ false → IsErr result × (new.told ≡ old.told) × IsFaultless old new) → IfSome told (λ tree. suits tree ≡ false → IsErr result × ((new.told ≡ old.told) × IsFaultless old new))
     if_pairs None h = tt
     if_pairs (Some tree) h = λ e. ((h e).0, ((h e).1, (h e).2))
 

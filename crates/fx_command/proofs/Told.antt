@@ -1,10 +1,9 @@
 -- What the rows of the tables of statuses are made of: told trees, and reads before a row.
 use Rattle.std.proofs.Common.{◌≡◌, ◌⊎◌, inl, inr, ℕ, Bool, true, false, ◌&&◌, List, ◌++◌, take, Option, Some, None, IfSome, IsSomeAnd, refl, sym, subst}
-use Rattle.fx_base.specs.Causes.{Rose}
 use Rattle.fx_outside.specs.Host.{HostView, ReadsOnly}
 use Rattle.fx_outside.specs.Sink.{SinkView}
 use Rattle.fx_outside.specs.Tree.{Tree}
-use Rattle.fx_outside.proofs.Views.{reads_then, rose_back}
+use Rattle.fx_outside.proofs.Views.{reads_then}
 use Rattle.fx_folder.specs.Folder.{IfTold}
 use Rattle.fx_command.specs.Left.{IsSame, Grows}
 
@@ -46,9 +45,9 @@ pub grows_all : (sink sink' : SinkView) (output : List ℕ) → IfSome sink.writ
 grows_all sink sink' output all = if_some_map _ _ sink.written (λ w all. (output, all)) all
 
 -- a row from a later moment on is one from an earlier moment on, where only reads lie between
-pub cause_back : (P : Tree → Type 0) (a b c : HostView) → ReadsOnly a b → Rose b.faults c.faults ⊎ IsSomeAnd b.told P → Rose a.faults c.faults ⊎ IsSomeAnd a.told P
-cause_back P a b c reads (inl rose) = inl (rose_back a b c reads.later rose)
-cause_back P a b c reads (inr is) = inr (subst (λ o. IsSomeAnd o P) reads.same is)
+pub cause_back : (Fault : HostView → HostView → Type 0) (P : Tree → Type 0) (a b c : HostView) → ReadsOnly a b → (Fault b c → Fault a c) → Fault b c ⊎ IsSomeAnd b.told P → Fault a c ⊎ IsSomeAnd a.told P
+cause_back Fault P a b c reads back (inl fault) = inl (back fault)
+cause_back Fault P a b c reads back (inr is) = inr (subst (λ o. IsSomeAnd o P) reads.same is)
 
 pub told_back : (P : Tree → Tree → Type 0) (a b c : HostView) → ReadsOnly a b → IfTold b.told c.told P → IfTold a.told c.told P
 told_back P a b c reads is = subst (λ o. IfTold o c.told P) reads.same is

@@ -1,7 +1,7 @@
 //! Reading a whole text of the host into memory.
 ghost use Rattle.std.specs.Prelude.{◌≡◌, ◌<◌, true, IfOk, IfErr, OnOk, IfSome, length};
 ghost use Rattle.fx_outside.specs.Tree.{is_file_at, bytes_at};
-ghost use Rattle.fx_outside.specs.Host.{ReadsAt, ReadsOnly, AsksFit, HasFailed};
+ghost use Rattle.fx_outside.specs.Host.{ReadsAt, ReadsOnly, AsksFit, FaultAt, HasFailed};
 ghost use Rattle.fx_outside.specs.declared.kind.HostFault.TheVariants.{Failed};
 ghost use Rattle.fx_command.specs.Texts.{IsReadAt};
 
@@ -34,7 +34,8 @@ fn read_piece<H: Host>(
     ensures same { ReadsOnly (H.view host.old) (H.view host.new) }
     ensures fit { AsksFit path.now (H.view host.old) (H.view host.new) }
     ensures failed { IfErr result (λ fault. fault ≡ Failed
-        → HasFailed (λ tree. is_file_at tree path.now) (H.view host.old) (H.view host.new)) }
+        → HasFailed (FaultAt path.now) (λ tree. is_file_at tree path.now)
+        (H.view host.old) (H.view host.new)) }
 {
     let mut piece = buffer(alloc)?;
     let count = host.read(alloc, path, from, &mut piece)?;
@@ -54,7 +55,8 @@ pub fn read_text<H: Host>(
     ensures same { ReadsOnly (H.view host.old) (H.view host.new) }
     ensures fit { AsksFit path.now (H.view host.old) (H.view host.new) }
     ensures failed { IfErr result (λ fault. fault ≡ Failed
-        → HasFailed (λ tree. is_file_at tree path.now) (H.view host.old) (H.view host.new)) }
+        → HasFailed (FaultAt path.now) (λ tree. is_file_at tree path.now)
+        (H.view host.old) (H.view host.new)) }
 {
     let mut text = Vec::new(alloc);
     'reading: while text.len() <= SOURCE_LIMIT {

@@ -15,7 +15,7 @@ use Rattle.fx_outside.specs.Path.{Parts, parts, parts_cmp, is_fit, above}
 use Rattle.fx_outside.specs.Tree as tree
 use Rattle.fx_outside.specs.Tree.{Tree, Entry, file, folder, entry_at, has_folder, is_free, is_free_at}
 use Rattle.fx_outside.proofs.Trees.{parts_total}
-use Rattle.fx_outside.proofs.Views.{fit_then}
+use Rattle.fx_outside.proofs.Views.{fit_then, fault_in_back, fault_in_outer}
 use Rattle.fx_folder.specs.declared.fault.SaveFault.{SaveFault}
 use Rattle.fx_folder.specs.declared.fault.SaveFault.TheVariants as save
 use Rattle.fx_folder.specs.Folder.{IfTold, IsReady, IsSaved, IsPartlySaved, IsFrontOf, SaveCause, LacksFolder}
@@ -277,10 +277,10 @@ case_stopped (Err e) told told1 told2 told3 path there c made wrote part =
     told_then told told2 told3 (λ t t'. HasEntries t t' (parts path) (text_nodes c)) (λ t t'. IsPartlySaved t t' (parts (path_below path inner)) c.nodes) (λ t t'. IsPartlyWritten t t' (parts path) c) (filled told told1 told2 path there c made wrote) part
     (λ t u v at has some. case_part c t u v (parts path) has (subst (λ p. IsPartlySaved u v p c.nodes) (parts_below path inner inner_named) some))
 
--- the folder of the filestore is not written whole: the host's count rose, since a folder stands above
+-- the folder of the filestore is not written whole: the host failed in it, since a folder stands above
 pub inner_cause : (r : Result (Unit {0}) SaveFault) (a b d e : HostView) (path : List ℕ) (there : Bool) (c : Case) → a.faults ≤ d.faults → IfTold b.told d.told (λ t t'. HasEntries t t' (parts path) (text_nodes c)) → IfErr r (SaveCause (path_below path inner) false d e) → IfErr r (SaveCause path there a e)
 inner_cause (Ok done) a b d e path there c later wrote cause = tt
-inner_cause (Err save.WriteFault) a b d e path there c later wrote (inl rose) = inl (omega (arith, later, rose))
+inner_cause (Err save.WriteFault) a b d e path there c later wrote (inl fault) = inl (fault_in_back path a d e later (fault_in_outer path inner d e fault))
 inner_cause (Err save.WriteFault) a b d e path there c later wrote (inr lacks) = absurd (inner_above b.told d.told path c wrote (lacking d.told lacks))
   where
     lacking : (told : Option Tree) → IsSomeAnd told (λ t. LacksFolder t (path_below path inner) false) → IsSomeAnd told (λ t. has_folder t (above (parts (path_below path inner))) ≡ false)

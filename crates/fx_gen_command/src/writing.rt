@@ -1,9 +1,8 @@
 //! A case as a folder.
 ghost use Rattle.std.specs.Prelude.{◌≡◌, ◌<◌, ◌≤◌, ◌++◌, ◌∷◌, [], true, Some, Err, IfOk, IfErr, OnOk, OnErr, IfSome, length, string_bytes};
-ghost use Rattle.fx_base.specs.Causes.{Rose};
 ghost use Rattle.fx_store.specs.Names.{IsName};
 ghost use Rattle.fx_outside.specs.Path.{parts};
-ghost use Rattle.fx_outside.specs.Host.{AsksFit};
+ghost use Rattle.fx_outside.specs.Host.{AsksFit, FaultIn};
 ghost use Rattle.fx_outside.specs.Tree.{is_free_at, file};
 ghost use Rattle.fx_folder.specs.declared.fault.SaveFault.TheVariants.{WriteFault, NotEmpty};
 ghost use Rattle.fx_folder.specs.Reads.{path_below};
@@ -59,7 +58,7 @@ fn write_texts<H: Host>(
     ensures partly { OnErr result (IfTold (H.view host.old).told (H.view host.new).told
         (λ t t'. WroteTexts t t' (parts folder.now) (case_in case.now))) }
     ensures fault { result ≡ Err WriteFault
-        → Rose (H.view host.old).faults (H.view host.new).faults }
+        → FaultIn folder.now (H.view host.old) (H.view host.new) }
     ensures free { result ≡ Err NotEmpty → ⊥ }
     ensures later { (H.view host.old).faults ≤ (H.view host.new).faults }
     ensures fit { AsksFit folder.now (H.view host.old) (H.view host.new) }
@@ -91,7 +90,7 @@ fn write_text<H: Host>(
     ensures partly { OnErr result (IfTold (H.view host.old).told (H.view host.new).told
         (λ t t'. WrotePart t t' (parts folder.now ++ name.now ∷ []) (Some (file text.now)))) }
     ensures fault { result ≡ Err WriteFault
-        → Rose (H.view host.old).faults (H.view host.new).faults }
+        → FaultIn folder.now (H.view host.old) (H.view host.new) }
     ensures free { result ≡ Err NotEmpty → ⊥ }
     ensures later { (H.view host.old).faults ≤ (H.view host.new).faults }
     ensures fit { AsksFit folder.now (H.view host.old) (H.view host.new) }

@@ -1,8 +1,9 @@
 -- The rows of the table of statuses for a command that only makes OUT, from what its stages ensure.
 use Rattle.std.proofs.Common.{◌≡◌, ◌⊎◌, inl, inr, ℕ, Bool, false, ◌++◌, take, Some, IfSome, IsSomeAnd, refl, subst}
 use Rattle.fx_base.specs.Causes.{Rose}
-use Rattle.fx_outside.specs.Host.{HostView, ReadsOnly, HasFailed}
+use Rattle.fx_outside.specs.Host.{HostView, ReadsOnly, FaultIn, HasFailed}
 use Rattle.fx_outside.specs.Path.{is_fit}
+use Rattle.fx_outside.proofs.Views.{fault_in_back}
 use Rattle.fx_outside.specs.Sink.{SinkView}
 use Rattle.fx_outside.specs.Tree.{Tree}
 use Rattle.fx_folder.specs.Folder.{IfTold, IsReady, IsTaken, SaveCause, LacksFolder}
@@ -26,8 +27,8 @@ module _ {A : Type 0} (m : Making A) where
   pub making_no_memory : (host host' : HostView) → ReadsOnly host host' → MakingEndsAs m host host' status.NoMemory
   making_no_memory host host' reads sink = (refl, untouched host host' reads)
 
-  unready_cause : (host host' : HostView) → HasFailed (λ _. is_fit m.out) host host' → Rose host.faults host'.faults ⊎ IsSomeAnd host.told (λ t. CannotWrite t m.out)
-  unready_cause host host' (inl rose) = inl rose
+  unready_cause : (host host' : HostView) → HasFailed (FaultIn m.out) (λ _. is_fit m.out) host host' → FaultIn m.out host host' ⊎ IsSomeAnd host.told (λ t. CannotWrite t m.out)
+  unready_cause host host' (inl fault) = inl fault
   unready_cause host host' (inr unfit) =
       inr (some_and (λ _. Unit {0}) (λ t. is_fit m.out ≡ false) (λ t. CannotWrite t m.out) host.told (λ t _ unfit. inl unfit) (some_unit host.told) unfit)
 
@@ -63,8 +64,8 @@ module _ {A : Type 0} (m : Making A) where
       one t t' is (inl same) = inl same
       one t t' is (inr part) = inr (record { end = end; there = there; comes = is.comes; free = is.free; begun = part })
 
-  unmade_cause : (end : A) (there : Bool) (host host' : HostView) → IfSome host.told (λ t. IsComing m t end there) → Rose host.faults host'.faults ⊎ IsSomeAnd host.told (λ t. LacksFolder t m.out there) → Rose host.faults host'.faults ⊎ IsSomeAnd host.told (λ t. CannotWrite t m.out)
-  unmade_cause end there host host' is (inl rose) = inl rose
+  unmade_cause : (end : A) (there : Bool) (host host' : HostView) → IfSome host.told (λ t. IsComing m t end there) → FaultIn m.out host host' ⊎ IsSomeAnd host.told (λ t. LacksFolder t m.out there) → FaultIn m.out host host' ⊎ IsSomeAnd host.told (λ t. CannotWrite t m.out)
+  unmade_cause end there host host' is (inl fault) = inl fault
   unmade_cause end there host host' is (inr lacks) =
       inr (some_and (λ t. IsComing m t end there) (λ t. LacksFolder t m.out there) (λ t. CannotWrite t m.out) host.told (λ t is lacks. inr (subst (λ b. IsReady t m.out b) lacks.0 is.free, lacks.1)) is lacks)
 
@@ -99,7 +100,7 @@ module _ {A : Type 0} (m : Making A) where
   making_row_back a b c sink sink' status.ReadFault reads row = row
   making_row_back a b c sink sink' status.NotEmpty reads row = (same_back a b c sink sink' reads row.0, some_back (λ t. IsTaken t m.out) a b reads row.1)
   making_row_back a b c sink sink' status.WriteFault reads (inl row) =
-      inl (record { cause = cause_back (λ t. CannotWrite t m.out) a b c reads row.cause; unprinted = row.unprinted; left = told_back (MayBeBegun m) a b c reads row.left })
+      inl (record { cause = cause_back (FaultIn m.out) (λ t. CannotWrite t m.out) a b c reads (fault_in_back m.out a b c reads.later) row.cause; unprinted = row.unprinted; left = told_back (MayBeBegun m) a b c reads row.left })
   making_row_back a b c sink sink' status.WriteFault reads (inr row) =
       inr (record { cause = row.cause; grows = row.grows; left = told_back (λ t t'. IsMadeUnprinted m t t' sink.written sink'.written) a b c reads row.left })
   making_row_back a b c sink sink' status.NoMemory reads row = (row.0, told_back (MayBeBegun m) a b c reads row.1)
@@ -119,8 +120,8 @@ module _ {A : Type 0} (m : Making A) where
       absurd (not_taken t m.out proper.there proper.free (subst (λ o. IfSome o (λ t. IsTaken t m.out)) is row.1))
   making_completes t host host' sink sink' status.WriteFault is proper none quiet (inl row) = absurd (not_unmade row.cause)
     where
-      not_unmade : Rose host.faults host'.faults ⊎ IsSomeAnd host.told (λ t. CannotWrite t m.out) → ⊥
-      not_unmade (inl rose) = none rose
+      not_unmade : FaultIn m.out host host' ⊎ IsSomeAnd host.told (λ t. CannotWrite t m.out) → ⊥
+      not_unmade (inl fault) = none fault.rose
       not_unmade (inr cannot) = can_write t m.out proper.there proper.free proper.above (subst (λ o. IsSomeAnd o (λ t. CannotWrite t m.out)) is cannot)
   making_completes t host host' sink sink' status.WriteFault is proper none quiet (inr row) = absurd (quiet row.cause)
   making_completes t host host' sink sink' status.NoMemory is proper none quiet row = inr refl

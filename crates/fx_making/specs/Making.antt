@@ -2,7 +2,7 @@
 -- statuses says.
 use Rattle.std.specs.Prelude.{◌≡◌, ◌⊎◌, ℕ, Bool, List, ◌++◌, take, Option, Some, IfSome, IsSomeAnd}
 use Rattle.fx_base.specs.Causes.{Rose}
-use Rattle.fx_outside.specs.Host.{HostView}
+use Rattle.fx_outside.specs.Host.{HostView, FaultIn}
 use Rattle.fx_outside.specs.Sink.{SinkView}
 use Rattle.fx_outside.specs.Tree.{Tree}
 use Rattle.fx_folder.specs.Folder.{IfTold, IsReady, IsTaken}
@@ -52,7 +52,7 @@ MayBeBegun m t t' = (t' ≡ t) ⊎ IsBegun m t t'
 
 -- OUT was not written whole, and nothing is printed
 pub record IsUnmade {A : Type 0} (m : Making A) (host host' : HostView) (sink sink' : SinkView) : Type 0 where
-  pub cause : Rose host.faults host'.faults ⊎ IsSomeAnd host.told (λ t. CannotWrite t m.out)
+  pub cause : FaultIn m.out host host' ⊎ IsSomeAnd host.told (λ t. CannotWrite t m.out)
   pub unprinted : sink' ≡ sink
   pub left : IfTold host.told host'.told (MayBeBegun m)
 

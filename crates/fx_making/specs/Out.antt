@@ -2,7 +2,7 @@
 use Rattle.std.specs.Prelude.{◌≡◌, ◌⊎◌, ℕ, Bool, true, false, List, IfSome, ⊤}
 use Rattle.fx_outside.specs.Path.{parts, is_fit, above}
 use Rattle.fx_outside.specs.Tree.{Tree, has_folder}
-use Rattle.fx_outside.specs.Host.{HostView, HasFailed}
+use Rattle.fx_outside.specs.Host.{HostView, FaultIn, HasFailed}
 use Rattle.fx_folder.specs.Folder.{IsReady, IsTaken}
 use Rattle.fx_command.specs.declared.status.Status.{Status}
 use Rattle.fx_command.specs.declared.status.Status.TheVariants as status
@@ -30,5 +30,5 @@ IsUnready out host host' (status.TextRefused word cause) = ⊥
 IsUnready out host host' (status.FolderRefused cause) = ⊥
 IsUnready out host host' status.ReadFault = ⊥
 IsUnready out host host' status.NotEmpty = IfSome host.told (λ t. IsTaken t out)
-IsUnready out host host' status.WriteFault = HasFailed (λ _. is_fit out) host host'
+IsUnready out host host' status.WriteFault = HasFailed (FaultIn out) (λ _. is_fit out) host host'
 IsUnready out host host' status.NoMemory = ⊤

@@ -9,7 +9,7 @@ use Rattle.fx_table.specs.declared.fault.FolderCause.{FolderCause}
 use Rattle.fx_store.specs.Whole.{Nodes}
 use Rattle.fx_command.specs.declared.status.Status.{Status}
 use Rattle.fx_command.specs.declared.status.Status.TheVariants as status
-use Rattle.fx_show.specs.Rows.{ShowRow}
+use Rattle.fx_show.specs.Rows.{ShowRow, ShowReadFault}
 use Rattle.fx_show.specs.Shows.{HasNoDescription, HasSomeDescription, CannotShow, IsProperShow}
 use Rattle.fx_words.specs.Job.{ShowJob}
 
@@ -26,6 +26,10 @@ can_show : (t : Tree) (j : ShowJob) → IsProperShow t j → CannotShow t j → 
 can_show t j proper (inl spec) = two (is_file_at t j.spec) proper.described.1.file spec
 can_show t j proper (inr (described, folder)) = two (is_folder_at t j.folder) proper.loaded.0 folder
 
+fault_rose : (j : ShowJob) (host host' : HostView) → ShowReadFault j host host' → Rose host.faults host'.faults
+fault_rose j host host' (inl fault) = fault.rose
+fault_rose j host host' (inr (fault, described)) = fault.rose
+
 pub show_completes : (j : ShowJob) (t : Tree) (host host' : HostView) (sink sink' : SinkView) (st : Status) → host.told ≡ Some t → IsProperShow t j → (Rose host.faults host'.faults → ⊥) → (Rose sink.faults sink'.faults → ⊥) → ShowRow j host host' sink sink' st → Ends st
 show_completes j t host host' sink sink' status.Done is proper none quiet row = inl refl
 show_completes j t host host' sink sink' status.Usage is proper none quiet row = absurd row
@@ -33,7 +37,7 @@ show_completes j t host host' sink sink' (status.TextRefused word cause) is prop
     absurd ((subst (λ o. IfSome o (λ t. HasNoDescription t j cause)) is row.2).refused.none proper.described.0 proper.described.1.describes)
 show_completes j t host host' sink sink' (status.FolderRefused cause) is proper none quiet row =
     absurd (not_both t j.folder proper.nodes cause proper.loaded (subst (λ o. IfSome o (λ t. HasSomeDescription t j × IsRefused t j.folder cause)) is row.1).1)
-show_completes j t host host' sink sink' status.ReadFault is proper none quiet (same, inl rose) = absurd (none rose)
+show_completes j t host host' sink sink' status.ReadFault is proper none quiet (same, inl fault) = absurd (none (fault_rose j host host' fault))
 show_completes j t host host' sink sink' status.ReadFault is proper none quiet (same, inr cannot) = absurd (can_show t j proper (subst (λ o. IsSomeAnd o (λ t. CannotShow t j)) is cannot))
 show_completes j t host host' sink sink' status.NotEmpty is proper none quiet row = absurd row
 show_completes j t host host' sink sink' status.WriteFault is proper none quiet row = absurd (quiet row.cause)

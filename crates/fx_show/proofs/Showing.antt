@@ -5,11 +5,11 @@ use Rattle.fx_base.specs.Causes.{Rose}
 use Rattle.fx_store.specs.Whole.{Nodes}
 use Rattle.fx_outside.specs.declared.kind.HostFault.{HostFault}
 use Rattle.fx_outside.specs.declared.kind.HostFault.TheVariants as fails
-use Rattle.fx_outside.specs.Host.{HostView, ReadsOnly, HasFailed}
+use Rattle.fx_outside.specs.Host.{HostView, ReadsOnly, FaultAt, FaultIn, HasFailed}
 use Rattle.fx_outside.specs.Path.{is_fit}
 use Rattle.fx_outside.specs.Sink.{SinkView}
 use Rattle.fx_outside.specs.Tree.{Tree, is_file_at, bytes_at, is_folder_at}
-use Rattle.fx_outside.proofs.Views.{reads_then}
+use Rattle.fx_outside.proofs.Views.{reads_then, fault_back, fault_in_back}
 use Rattle.fx_folder.specs.Loads.{Loads, LoadCause}
 use Rattle.fx_table.specs.declared.fault.LoadFault.{LoadFault}
 use Rattle.fx_table.specs.declared.fault.LoadFault.TheVariants as load
@@ -23,7 +23,7 @@ use Rattle.fx_show.specs.Described.{Describes, IsRefusedFor, IsUndescribed}
 use Rattle.fx_show.specs.Shown.{root_value, shown}
 use Rattle.fx_command.specs.declared.status.Status.{Status}
 use Rattle.fx_command.specs.declared.status.Status.TheVariants as status
-use Rattle.fx_show.specs.Rows.{ShowRow, ShowEndsAs, IsShown, IsShownInPart}
+use Rattle.fx_show.specs.Rows.{ShowReadFault, ShowRow, ShowEndsAs, IsShown, IsShownInPart}
 use Rattle.fx_show.specs.Shows.{HasDescription, HasNoDescription, HasSomeDescription, IsShowing, CannotShow}
 use Rattle.fx_command.specs.StatusOf.{read_status, load_status}
 use Rattle.fx_show.specs.Faults.{status_of_fault}
@@ -64,15 +64,15 @@ refused_whole t path text fault.TooMany read is = whole t path text fault.TooMan
 show_no_memory : (j : ShowJob) (host host' : HostView) → ReadsOnly host host' → ShowEndsAs j host host' status.NoMemory
 show_no_memory j host host' reads sink = same host host' sink reads
 
-show_read_failed : (j : ShowJob) (suits : Tree → Bool) (P : Tree → Type 0) (host host' : HostView) → ReadsOnly host host' → ((t : Tree) → P t → suits t ≡ false → CannotShow t j) → IfSome host.told P → HasFailed suits host host' → ShowEndsAs j host host' status.ReadFault
-show_read_failed j suits P host host' reads why before (inl rose) sink = (same host host' sink reads, inl rose)
-show_read_failed j suits P host host' reads why before (inr none) sink =
+show_read_failed : (j : ShowJob) (Fault : HostView → HostView → Type 0) (suits : Tree → Bool) (P : Tree → Type 0) (host host' : HostView) → ReadsOnly host host' → (Fault host host' → ShowReadFault j host host') → ((t : Tree) → P t → suits t ≡ false → CannotShow t j) → IfSome host.told P → HasFailed Fault suits host host' → ShowEndsAs j host host' status.ReadFault
+show_read_failed j Fault suits P host host' reads place why before (inl fault) sink = (same host host' sink reads, inl (place fault))
+show_read_failed j Fault suits P host host' reads place why before (inr none) sink =
     (same host host' sink reads, inr (some_and P (λ t. suits t ≡ false) (λ t. CannotShow t j) host.told why before none))
 
 -- the text is not read, or refused
-pub text_unread : (j : ShowJob) (host host' : HostView) (fault : HostFault) → ReadsOnly host host' → (fault ≡ fails.Failed → HasFailed (λ t. is_file_at t j.spec) host host') → ShowEndsAs j host host' (read_status fault)
+pub text_unread : (j : ShowJob) (host host' : HostView) (fault : HostFault) → ReadsOnly host host' → (fault ≡ fails.Failed → HasFailed (FaultAt j.spec) (λ t. is_file_at t j.spec) host host') → ShowEndsAs j host host' (read_status fault)
 text_unread j host host' fails.Failed reads failed =
-    show_read_failed j (λ t. is_file_at t j.spec) (λ _. Unit {0}) host host' reads (λ t _ none. inl none) (some_unit host.told) (failed refl)
+    show_read_failed j (FaultAt j.spec) (λ t. is_file_at t j.spec) (λ _. Unit {0}) host host' reads (λ fault. inl fault) (λ t _ none. inl none) (some_unit host.told) (failed refl)
 text_unread j host host' fails.NoMemory reads failed = show_no_memory j host host' reads
 
 pub text_refused : (j : ShowJob) (host host' : HostView) (text : List ℕ) (refusal : DescriptionFault) → ReadsOnly host host' → IfSome host.told (λ t. IsReadAt t j.spec text) → IsUndescribed text refusal → ShowEndsAs j host host' (status_of_fault refusal)
@@ -85,7 +85,7 @@ pub folder_unloaded : (j : ShowJob) (host host' : HostView) (fault : LoadFault) 
 folder_unloaded j host host' (load.Refused cause) reads described refused sink =
     (same host host' sink reads, if_some_both (λ t. HasSomeDescription t j) _ _ host.told (λ t described refused. (described, refused)) described refused)
 folder_unloaded j host host' load.ReadFault reads described failed sink =
-    show_read_failed j (λ t. is_folder_at t j.folder) (λ t. HasSomeDescription t j) host host' reads (λ t described none. inr (described, none)) described failed sink
+    show_read_failed j (FaultIn j.folder) (λ t. is_folder_at t j.folder) (λ t. HasSomeDescription t j) host host' reads (λ fault. inr (fault, described)) (λ t described none. inr (described, none)) described failed sink
 folder_unloaded j host host' load.NoMemory reads described failed sink = show_no_memory j host host' reads sink
 
 -- ---- from one stage to the next
@@ -104,12 +104,16 @@ pub showing_before : (j : ShowJob) (a b : HostView) (result : Result (List ℕ) 
 showing_before j a b (Ok output) reads is = some_back (λ t. IsShowing t j output) a b reads is
 showing_before j a b (Err st) reads is = tt
 
+show_fault_back : (j : ShowJob) (a b c : HostView) → ReadsOnly a b → ShowReadFault j b c → ShowReadFault j a c
+show_fault_back j a b c reads (inl fault) = inl (fault_back j.spec a b c reads.later fault)
+show_fault_back j a b c reads (inr (fault, described)) = inr (fault_in_back j.folder a b c reads.later fault, some_back (λ t. HasSomeDescription t j) a b reads described)
+
 show_row_back : (j : ShowJob) (a b c : HostView) (sink sink' : SinkView) (st : Status) → ReadsOnly a b → ShowRow j b c sink sink' st → ShowRow j a c sink sink' st
 show_row_back j a b c sink sink' status.Done reads row = (reads_then a b c reads row.0, row.1, some_back (λ t. IsShown t j sink.written sink'.written) a b reads row.2)
 show_row_back j a b c sink sink' status.Usage reads row = row
 show_row_back j a b c sink sink' (status.TextRefused word cause) reads row = (same_back a b c sink sink' reads row.0, row.1, some_back (λ t. HasNoDescription t j cause) a b reads row.2)
 show_row_back j a b c sink sink' (status.FolderRefused cause) reads row = (same_back a b c sink sink' reads row.0, some_back _ a b reads row.1)
-show_row_back j a b c sink sink' status.ReadFault reads row = (same_back a b c sink sink' reads row.0, cause_back (λ t. CannotShow t j) a b c reads row.1)
+show_row_back j a b c sink sink' status.ReadFault reads row = (same_back a b c sink sink' reads row.0, cause_back (ShowReadFault j) (λ t. CannotShow t j) a b c reads (show_fault_back j a b c reads) row.1)
 show_row_back j a b c sink sink' status.NotEmpty reads row = row
 show_row_back j a b c sink sink' status.WriteFault reads row = record {
   reads = reads_then a b c reads row.reads;

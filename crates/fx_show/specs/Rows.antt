@@ -1,7 +1,7 @@
 -- What each status of `show` says: where it comes, and what is then left at the host and at the sink.
 use Rattle.std.specs.Prelude.{◌≡◌, ◌⊎◌, ◌&&◌, ℕ, true, List, ◌++◌, take, Option, Some, IfSome, IsSomeAnd}
 use Rattle.fx_base.specs.Causes.{Rose}
-use Rattle.fx_outside.specs.Host.{HostView, ReadsOnly}
+use Rattle.fx_outside.specs.Host.{HostView, ReadsOnly, FaultAt, FaultIn}
 use Rattle.fx_outside.specs.Path.{is_fit}
 use Rattle.fx_outside.specs.Sink.{SinkView}
 use Rattle.fx_outside.specs.Tree.{Tree}
@@ -31,13 +31,17 @@ pub record IsUnshown (j : ShowJob) (host host' : HostView) (sink sink' : SinkVie
   pub grows : Grows sink sink'
   pub left : IfSome host.told (λ t. IsShownInPart t j sink.written sink'.written)
 
+-- a fault at SPEC; or in FOLDER, and then the description is read
+abbrev pub ShowReadFault : ShowJob → HostView → HostView → Type 0
+ShowReadFault j host host' = FaultAt j.spec host host' ⊎ (FaultIn j.folder host host' × IfSome host.told (λ t. HasSomeDescription t j))
+
 -- the table for `show`: it asks nothing but reads of the host, however it ends
 abbrev pub ShowRow : ShowJob → HostView → HostView → SinkView → SinkView → Status → Type 0
 ShowRow j host host' sink sink' status.Done = ReadsOnly host host' × Grows sink sink' × IfSome host.told (λ t. IsShown t j sink.written sink'.written)
 ShowRow j host host' sink sink' status.Usage = ⊥
 ShowRow j host host' sink sink' (status.TextRefused word cause) = IsSame host host' sink sink' × (word ≡ 1) × IfSome host.told (λ t. HasNoDescription t j cause)
 ShowRow j host host' sink sink' (status.FolderRefused cause) = IsSame host host' sink sink' × IfSome host.told (λ t. HasSomeDescription t j × IsRefused t j.folder cause)
-ShowRow j host host' sink sink' status.ReadFault = IsSame host host' sink sink' × (Rose host.faults host'.faults ⊎ IsSomeAnd host.told (λ t. CannotShow t j))
+ShowRow j host host' sink sink' status.ReadFault = IsSame host host' sink sink' × (ShowReadFault j host host' ⊎ IsSomeAnd host.told (λ t. CannotShow t j))
 ShowRow j host host' sink sink' status.NotEmpty = ⊥
 ShowRow j host host' sink sink' status.WriteFault = IsUnshown j host host' sink sink'
 ShowRow j host host' sink sink' status.NoMemory = IsSame host host' sink sink'

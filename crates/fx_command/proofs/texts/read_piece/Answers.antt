@@ -16,4 +16,4 @@ returns-clause-piece g c =
     cut_to _ c.args.path.now c.read.new.buf _ c.args.from c.in_ok-count.count is (cut _ c.args.path.now c.read.new.buf c.args.from c.in_ok-count.count (c.in_ok-count.ensures.bound) c.in_ok-count.ensures.answer)
 
 pub returns-clause-file : goal.returns-clause-file
-returns-clause-file g c = suited _ (λ tree. is_file_at tree c.args.path.now) (g.H.Host.view c.args.host.now) (g.H.Host.view c.read.new.self) refl c.in_ok-count.ensures.cause
+returns-clause-file g c = suited _ c.args.path.now (λ tree. is_file_at tree c.args.path.now) (g.H.Host.view c.args.host.now) (g.H.Host.view c.read.new.self) refl c.in_ok-count.ensures.cause

@@ -7,21 +7,22 @@ use Rattle.std.proofs.Math.Seq.{get_or-append_seam}
 use Rattle.std.proofs.lemmas.List.{append-nil}
 use Rattle.std.proofs.lemmas.List.Elements.{All-append, All-cons, All-nil}
 use Rattle.std.proofs.lemmas.List.Sums.{sum_by_push}
-use Rattle.fx_base.specs.Causes.{Rose}
-use Rattle.fx_outside.specs.Host.{HostView, ReadsOnly, AsksFit, HasFailed}
+use Rattle.fx_outside.specs.Host.{HostView, ReadsOnly, AsksFit, FaultAt, HasFailed}
 use Rattle.fx_outside.specs.Path.{is_fit}
 use Rattle.fx_outside.specs.Tree.{Tree, is_file_at}
-use Rattle.fx_outside.proofs.Views.{reads_none, reads_then, rose_back}
+use Rattle.fx_outside.proofs.Views.{reads_none, reads_then, fault_back}
 use Rattle.fx_spec.specs.CommandTree.{CommandTree}
 use Rattle.fx_spec.specs.WellShaped.{IsScript}
 use Rattle.fx_spec.specs.Plans.{IsPlan, count_of}
 use Rattle.fx_command.specs.declared.status.TextFault.{TextFault}
-use Rattle.fx_words.specs.Job.{RunJob, place_of}
-use Rattle.fx_top.specs.declared.inputs.ScriptUnread.{ScriptUnread}
-use Rattle.fx_top.specs.declared.inputs.ScriptUnread.TheVariants as script
-use Rattle.fx_top.specs.Answers.{ScriptCause, UnreadCause}
-use Rattle.fx_top.specs.Unread.{unread_at}
-use Rattle.fx_top.specs.Inputs.{HasScripts, StopsAtScript, GoesOn, HasNoScript, LacksFile}
+use Rattle.fx_command.proofs.Told.{if_some_map}
+use Rattle.fx_words.specs.Job.{Inputs, place_of}
+use Rattle.fx_inputs.specs.declared.scripts.ScriptUnread.{ScriptUnread}
+use Rattle.fx_inputs.specs.declared.scripts.ScriptUnread.TheVariants as script
+use Rattle.fx_inputs.specs.Causes.{ScriptCause, UnreadCause}
+use Rattle.fx_inputs.specs.Unread.{unread_at}
+use Rattle.fx_inputs.specs.Inputs.{HasScripts, StopsAtScript, IsReached, GoesOn, HasNoScript, LacksFile}
+use Rattle.fx_inputs.specs.Reads.{FailsAtScript}
 
 abbrev Plan : Type 0
 Plan = List (List (List CommandTree))
@@ -46,12 +47,14 @@ pub record IsFront (t : Tree) (paths : Paths) (plan : Plan) (i before : ℕ) : T
   pub on : (more : Plan) → HasScripts t before (drop i paths) more → HasScripts t 0 paths (plan ++ more)
   pub refused : (cause : TextFault) (k : ℕ) → StopsAtScript (HasNoScript cause) t before (drop i paths) k → StopsAtScript (HasNoScript cause) t 0 paths (i + k)
   pub lacking : (k : ℕ) → StopsAtScript LacksFile t before (drop i paths) k → StopsAtScript LacksFile t 0 paths (i + k)
+  pub reached : (k : ℕ) → StopsAtScript IsReached t before (drop i paths) k → StopsAtScript IsReached t 0 paths (i + k)
 
 front_empty : (t : Tree) (paths : Paths) → IsFront t paths [] 0 0
 front_empty t paths = record {
   on = λ more has. has;
   refused = λ cause k stops. subst (λ n. StopsAtScript (HasNoScript cause) t 0 paths n) (omega arith) stops;
   lacking = λ k stops. subst (λ n. StopsAtScript LacksFile t 0 paths n) (omega arith) stops;
+  reached = λ k stops. subst (λ n. StopsAtScript IsReached t 0 paths n) (omega arith) stops;
 }
 
 -- a stop behind one more script that is read
@@ -65,6 +68,7 @@ front_more t paths plan i before path txns at goes was =
       on = λ more has. subst (λ all. HasScripts t 0 paths all) (sym (append_assoc plan (txns ∷ []) more)) (was.on (txns ∷ more) (subst (λ ps. HasScripts t before ps (txns ∷ more)) (sym left) (goes.script, has)));
       refused = λ cause k stops. subst (λ n. StopsAtScript (HasNoScript cause) t 0 paths n) (omega arith) (was.refused cause (k + 1) (stop_later (HasNoScript cause) t path before k txns (drop i paths) (drop (i + 1) paths) left goes stops));
       lacking = λ k stops. subst (λ n. StopsAtScript LacksFile t 0 paths n) (omega arith) (was.lacking (k + 1) (stop_later LacksFile t path before k txns (drop i paths) (drop (i + 1) paths) left goes stops));
+      reached = λ k stops. subst (λ n. StopsAtScript IsReached t 0 paths n) (omega arith) (was.reached (k + 1) (stop_later IsReached t path before k txns (drop i paths) (drop (i + 1) paths) left goes stops));
     }
 
 -- between two scripts
@@ -163,6 +167,14 @@ lacking_at : (t : Tree) (paths : Paths) (plan : Plan) (i before : ℕ) (path : L
 lacking_at t paths plan i before path at front none =
     subst (λ n. StopsAtScript LacksFile t 0 paths n) (omega arith) (front.lacking 0 (stop_here LacksFile t path before (drop i paths) (drop (i + 1) paths) (drop_there paths i path at) none))
 
+reached_at : (t : Tree) (paths : Paths) (plan : Plan) (i before : ℕ) (path : List ℕ) → slice_get paths i ≡ Some path → IsFront t paths plan i before → StopsAtScript IsReached t 0 paths i
+reached_at t paths plan i before path at front =
+    subst (λ n. StopsAtScript IsReached t 0 paths n) (omega arith) (front.reached 0 (stop_here IsReached t path before (drop i paths) (drop (i + 1) paths) (drop_there paths i path at) tt))
+
+reached : (told : Option Tree) (paths : Paths) (plan : Plan) (i before : ℕ) (path : List ℕ) → slice_get paths i ≡ Some path → IfSome told (λ t. IsFront t paths plan i before) → IfSome told (λ t. StopsAtScript IsReached t 0 paths i)
+reached told paths plan i before path at front =
+    if_some_map (λ t. IsFront t paths plan i before) (λ t. StopsAtScript IsReached t 0 paths i) told (λ t front. reached_at t paths plan i before path at front) front
+
 refuses : (told now : Option Tree) (cause : TextFault) (paths : Paths) (plan : Plan) (i before : ℕ) (path : List ℕ) (word : ℕ) (place : ℕ → ℕ) → now ≡ told → word ≡ place i → slice_get paths i ≡ Some path → IfSome told (λ t. IsFront t paths plan i before) → IfSome now (λ t. HasNoScript cause t path before) → IfSome told (λ t. (i : ℕ) × (word ≡ place i) × StopsAtScript (HasNoScript cause) t 0 paths i)
 refuses None now cause paths plan i before path word place same is at front none = tt
 refuses (Some t) now cause paths plan i before path word place same is at front none =
@@ -172,13 +184,19 @@ lacks : (told now : Option Tree) (paths : Paths) (plan : Plan) (i before : ℕ) 
 lacks None now paths plan i before path same at front none = let no = subst (λ o. IsSomeAnd o (λ t. is_file_at t path ≡ false)) same none in absurd no
 lacks (Some t) now paths plan i before path same at front none = (i, lacking_at t paths plan i before path at front (subst (λ o. IsSomeAnd o (λ t. is_file_at t path ≡ false)) same none))
 
-fails : (old now then : HostView) (paths : Paths) (plan : Plan) (i before : ℕ) (path : List ℕ) → IsReading old now paths plan i before → slice_get paths i ≡ Some path → HasFailed (λ t. is_file_at t path) now then → Rose old.faults then.faults ⊎ IsSomeAnd old.told (λ t. (i : ℕ) × StopsAtScript LacksFile t 0 paths i)
-fails old now then paths plan i before path was at (inl rose) = inl (rose_back old now then was.reads.later rose)
+fails : (old now then : HostView) (paths : Paths) (plan : Plan) (i before : ℕ) (path : List ℕ) → IsReading old now paths plan i before → slice_get paths i ≡ Some path → HasFailed (FaultAt path) (λ t. is_file_at t path) now then → FailsAtScript paths old then ⊎ IsSomeAnd old.told (λ t. (i : ℕ) × StopsAtScript LacksFile t 0 paths i)
+fails old now then paths plan i before path was at (inl fault) = inl (record {
+  number = i;
+  path = path;
+  script = at;
+  fault = fault_back path old now then was.reads.later fault;
+  before = reached old.told paths plan i before path at was.front;
+})
 fails old now then paths plan i before path was at (inr none) = inr (lacks old.told now.told paths plan i before path was.reads.same at was.front none)
 
 -- the script of number `i` is not read
-pub unread_here : (j : RunJob) (old now then : HostView) (plan : Plan) (i before : ℕ) (path : List ℕ) (word : ℕ) (fault : ScriptUnread) → IsReading old now j.scripts plan i before → slice_get j.scripts i ≡ Some path → word ≡ place_of j i → ScriptCause path before now then fault → UnreadCause j old then (unread_at word fault)
-unread_here j old now then plan i before path word (script.Refused cause) was at is none =
-    refuses old.told now.told cause j.scripts plan i before path word (λ i. place_of j i) was.reads.same is at was.front none
-unread_here j old now then plan i before path word script.ReadFault was at is failed = fails old now then j.scripts plan i before path was at failed
-unread_here j old now then plan i before path word script.NoMemory was at is none = tt
+pub unread_here : (inputs : Inputs) (old now then : HostView) (plan : Plan) (i before : ℕ) (path : List ℕ) (word : ℕ) (fault : ScriptUnread) → IsReading old now inputs.scripts plan i before → slice_get inputs.scripts i ≡ Some path → word ≡ place_of inputs i → ScriptCause path before now then fault → UnreadCause inputs old then (unread_at word fault)
+unread_here inputs old now then plan i before path word (script.Refused cause) was at is none =
+    refuses old.told now.told cause inputs.scripts plan i before path word (λ i. place_of inputs i) was.reads.same is at was.front none
+unread_here inputs old now then plan i before path word script.ReadFault was at is failed = fails old now then inputs.scripts plan i before path was at failed
+unread_here inputs old now then plan i before path word script.NoMemory was at is none = tt

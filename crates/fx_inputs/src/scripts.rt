@@ -1,19 +1,19 @@
-//! The scripts of a run, read from the host.
+//! The scripts, read from the host.
 ghost use Rattle.std.specs.Prelude.{◌≡◌, ◌+◌, ◌≤◌, IfOk, IfErr, IfSome, length};
 ghost use Rattle.fx_base.specs.Limits.{txn_limit};
 ghost use Rattle.fx_outside.specs.Host.{ReadsOnly, AsksFit};
 ghost use Rattle.fx_spec.specs.WellShaped.{IsScript};
-ghost use Rattle.fx_words.specs.JobOf.{asked, IsJob};
-ghost use Rattle.fx_top.specs.Inputs.{GoesOn, HasScripts};
-ghost use Rattle.fx_top.specs.Answers.{ScriptCause, UnreadCause};
-ghost use Rattle.fx_top.specs.Rows.{AsksAllFit};
-ghost use Rattle.fx_top.specs.Unread.{unread_at};
+ghost use Rattle.fx_words.specs.JobOf.{asked_inputs, AreInputs};
+ghost use Rattle.fx_inputs.specs.Inputs.{GoesOn, HasScripts};
+ghost use Rattle.fx_inputs.specs.Causes.{ScriptCause, UnreadCause};
+ghost use Rattle.fx_inputs.specs.Reads.{AsksAllFit};
+ghost use Rattle.fx_inputs.specs.Unread.{unread_at};
 
 use fx_command::{Status, TextFault, read_text};
 use fx_outside::{Host, HostFault, HostText};
 use fx_scripts::{ScriptFault, script_of};
 use fx_spec::{Plan, Script};
-use fx_words::RunJob;
+use fx_words::Inputs;
 use std::alloc::Global;
 
 /// Why a script is not read.
@@ -27,7 +27,7 @@ pub enum ScriptUnread {
 
 impl From<HostFault> for ScriptUnread {
     ghost use Rattle.std.specs.Prelude.{◌≡◌};
-    ghost use Rattle.fx_top.specs.Unread.{of_host};
+    ghost use Rattle.fx_inputs.specs.Unread.{of_host};
 
     ghost from_gives = { λ fault unread. unread ≡ of_host fault };
 
@@ -41,7 +41,7 @@ impl From<HostFault> for ScriptUnread {
 
 impl From<ScriptFault> for ScriptUnread {
     ghost use Rattle.std.specs.Prelude.{◌≡◌};
-    ghost use Rattle.fx_top.specs.Unread.{of_script};
+    ghost use Rattle.fx_inputs.specs.Unread.{of_script};
 
     ghost from_gives = { λ fault unread. unread ≡ of_script fault };
 
@@ -97,27 +97,33 @@ fn read_script_at<H: Host>(
     Ok(script)
 }
 
-/// The scripts of a job, in order, as a plan.
-pub fn read_plan<H: Host>(alloc: Global, job: &RunJob, host: &mut H) -> Result<Plan, Unread>
-    requires { IsJob job.now }
-    ensures read { IfOk result (λ plan.
-        IfSome (H.view host.old).told (λ t. HasScripts t 0 (asked job.now).scripts plan)) }
-    ensures count { IfOk result (λ plan. length plan ≡ length (asked job.now).scripts) }
+/// The scripts, in order, as a plan.
+pub(crate) fn read_plan<H: Host>(
+    alloc: Global,
+    inputs: &Inputs,
+    host: &mut H,
+) -> Result<Plan, Unread>
+    requires { AreInputs inputs.now }
+    ensures read { IfOk result (λ plan. IfSome (H.view host.old).told
+        (λ t. HasScripts t 0 (asked_inputs inputs.now).scripts plan)) }
+    ensures count { IfOk result
+        (λ plan. length plan ≡ length (asked_inputs inputs.now).scripts) }
     ensures same { ReadsOnly (H.view host.old) (H.view host.new) }
-    ensures fit { AsksAllFit (asked job.now).scripts (H.view host.old) (H.view host.new) }
+    ensures fit { AsksAllFit (asked_inputs inputs.now).scripts
+        (H.view host.old) (H.view host.new) }
     ensures unread { IfErr result
-        (UnreadCause (asked job.now) (H.view host.old) (H.view host.new)) }
+        (UnreadCause (asked_inputs inputs.now) (H.view host.old) (H.view host.new)) }
 {
     let mut plan = Plan::new(alloc);
     let mut before = 0;
-    'scripts: for i in 0..job.scripts() {
-        let path = match job.script(i) {
+    'scripts: for i in 0..inputs.scripts() {
+        let path = match inputs.script(i) {
             Some(path) => path,
             None => unreachable!(),
         };
         let script = match read_script_at(alloc, host, path, before) {
             Ok(script) => script,
-            Err(unread) => return Err(unread.at(job.place(i))),
+            Err(unread) => return Err(unread.at(inputs.place(i))),
         };
         match plan.push(alloc, script) {
             Ok(()) => {}
@@ -130,7 +136,7 @@ pub fn read_plan<H: Host>(alloc: Global, job: &RunJob, host: &mut H) -> Result<P
 
 impl From<Unread> for Status {
     ghost use Rattle.std.specs.Prelude.{◌≡◌};
-    ghost use Rattle.fx_top.specs.Unread.{unread_status};
+    ghost use Rattle.fx_inputs.specs.Unread.{unread_status};
 
     ghost from_gives = { λ unread status. status ≡ unread_status unread };
 

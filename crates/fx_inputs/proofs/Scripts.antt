@@ -2,7 +2,7 @@
 use Rattle.std.proofs.Common.{◌≡◌, ℕ, ◌+◌, ◌≤◌, ◌<◌, List, length, Option, Some, None, IfSome, refl, sym, subst, arith}
 use Rattle.fx_outside.specs.declared.kind.HostFault.{HostFault}
 use Rattle.fx_outside.specs.declared.kind.HostFault.TheVariants as fails
-use Rattle.fx_outside.specs.Host.{HostView, HasFailed}
+use Rattle.fx_outside.specs.Host.{HostView, FaultAt, HasFailed}
 use Rattle.fx_outside.specs.Tree.{Tree, is_file_at, bytes_at}
 use Rattle.fx_spec.specs.CommandTree.{CommandTree}
 use Rattle.fx_command.specs.declared.status.TextFault.{TextFault}
@@ -12,9 +12,9 @@ use Rattle.fx_command.proofs.Told.{if_some_map}
 use Rattle.fx_scripts.specs.declared.fault.ScriptFault.{ScriptFault}
 use Rattle.fx_scripts.specs.declared.fault.ScriptFault.TheVariants as refusal
 use Rattle.fx_scripts.specs.Scripted.{Scripts, IsNoScriptFor, IsUnscripted}
-use Rattle.fx_top.specs.Answers.{ScriptCause}
-use Rattle.fx_top.specs.Inputs.{HasScript, HasNoScript, GoesOn}
-use Rattle.fx_top.specs.Unread.{of_host, of_script}
+use Rattle.fx_inputs.specs.Causes.{ScriptCause}
+use Rattle.fx_inputs.specs.Inputs.{HasScript, HasNoScript, GoesOn}
+use Rattle.fx_inputs.specs.Unread.{of_host, of_script}
 
 abbrev Txns : Type 0
 Txns = List (List CommandTree)
@@ -59,6 +59,6 @@ script_refused path text before host host' (refusal.Refused cause) read is =
     if_some_map (λ t. IsReadAt t path text) (λ t. HasNoScript cause t path before) host.told (λ t read. no_script t path text before cause read is) read
 script_refused path text before host host' refusal.NoMemory read is = tt
 
-pub script_unread : (path : List ℕ) (before : ℕ) (host host' : HostView) (fault : HostFault) → (fault ≡ fails.Failed → HasFailed (λ t. is_file_at t path) host host') → ScriptCause path before host host' (of_host fault)
+pub script_unread : (path : List ℕ) (before : ℕ) (host host' : HostView) (fault : HostFault) → (fault ≡ fails.Failed → HasFailed (FaultAt path) (λ t. is_file_at t path) host host') → ScriptCause path before host host' (of_host fault)
 script_unread path before host host' fails.Failed failed = failed refl
 script_unread path before host host' fails.NoMemory failed = tt

@@ -6,10 +6,10 @@ use Rattle.fx_outside.specs.declared.kind.HostFault.{HostFault}
 use Rattle.fx_outside.specs.declared.kind.HostFault.TheVariants as host
 use Rattle.fx_scripts.specs.declared.fault.ScriptFault.{ScriptFault}
 use Rattle.fx_scripts.specs.declared.fault.ScriptFault.TheVariants as fault
-use Rattle.fx_top.specs.declared.inputs.ScriptUnread.{ScriptUnread}
-use Rattle.fx_top.specs.declared.inputs.ScriptUnread.TheVariants as script
-use Rattle.fx_top.specs.declared.inputs.Unread.{Unread}
-use Rattle.fx_top.specs.declared.inputs.Unread.TheVariants as unread
+use Rattle.fx_inputs.specs.declared.scripts.ScriptUnread.{ScriptUnread}
+use Rattle.fx_inputs.specs.declared.scripts.ScriptUnread.TheVariants as script
+use Rattle.fx_inputs.specs.declared.scripts.Unread.{Unread}
+use Rattle.fx_inputs.specs.declared.scripts.Unread.TheVariants as unread
 
 -- of a file that is not read
 abbrev pub of_host : HostFault → ScriptUnread

@@ -9,16 +9,16 @@ use Rattle.fx_spec.specs.Order.{BaseTree}
 use Rattle.fx_command.specs.declared.status.TextFault.{TextFault}
 use Rattle.fx_show.specs.Described.{Describes, IsRefusedFor}
 use Rattle.fx_scripts.specs.Scripted.{Scripts, IsNoScriptFor}
-use Rattle.fx_words.specs.Job.{RunJob, place_of}
+use Rattle.fx_words.specs.Job.{Inputs, place_of}
 
 -- the file at SPEC describes this; or its text is refused, first for this cause
-pub record HasSpec (t : Tree) (j : RunJob) (spec : SpecTree) : Type 0 where
-  pub file : is_file_at t j.spec ≡ true
-  pub describes : Describes (bytes_at t j.spec) spec
+pub record HasSpec (t : Tree) (inputs : Inputs) (spec : SpecTree) : Type 0 where
+  pub file : is_file_at t inputs.spec ≡ true
+  pub describes : Describes (bytes_at t inputs.spec) spec
 
-pub record HasNoSpec (t : Tree) (j : RunJob) (cause : TextFault) : Type 0 where
-  pub file : is_file_at t j.spec ≡ true
-  pub refused : IsRefusedFor (bytes_at t j.spec) cause
+pub record HasNoSpec (t : Tree) (inputs : Inputs) (cause : TextFault) : Type 0 where
+  pub file : is_file_at t inputs.spec ≡ true
+  pub refused : IsRefusedFor (bytes_at t inputs.spec) cause
 
 -- the file at a path stands for a script that follows so many transactions; or its text is refused, first for this cause
 pub record HasScript (t : Tree) (path : List ℕ) (before : ℕ) (txns : List (List CommandTree)) : Type 0 where
@@ -45,36 +45,44 @@ pub record GoesOn (t : Tree) (path : List ℕ) (before : ℕ) (txns : List (List
   pub script : HasScript t path before txns
   pub only : IsOnlyScript t path before txns
 
--- the script of number `i` is the first whose file is not there, or whose text is refused; those before it are read
+-- so much is so of the script of number `i`, and those before it are read
 abbrev pub StopsAtScript : (Tree → List ℕ → ℕ → Type 0) → Tree → ℕ → List (List ℕ) → ℕ → Type 0
 StopsAtScript stops t before [] i = ⊥
 StopsAtScript stops t before (path ∷ paths) i =
     ((i ≡ 0) × stops t path before) ⊎ ((k : ℕ) × (i ≡ k + 1) × (txns : List (List CommandTree)) × GoesOn t path before txns × StopsAtScript stops t (before + length txns) paths k)
 
+-- reading comes to the script
+abbrev pub IsReached : Tree → List ℕ → ℕ → Type 0
+IsReached t path before = Unit {0}
+
 abbrev pub LacksFile : Tree → List ℕ → ℕ → Type 0
 LacksFile t path before = is_file_at t path ≡ false
 
 -- what a run begins with is what the host's texts and folder stand for
-pub record HasBase (t : Tree) (j : RunJob) (base : BaseTree) : Type 0 where
-  pub spec : HasSpec t j base.description
-  pub scripts : HasScripts t 0 j.scripts base.plan
-  pub folder : Loads t j.folder base.loaded
+pub record HasBase (t : Tree) (inputs : Inputs) (base : BaseTree) : Type 0 where
+  pub spec : HasSpec t inputs base.description
+  pub scripts : HasScripts t 0 inputs.scripts base.plan
+  pub folder : Loads t inputs.folder base.loaded
 
-abbrev pub HasSomeSpec : Tree → RunJob → Type 0
-HasSomeSpec t j = (spec : SpecTree) × HasSpec t j spec
+-- a script for each of the words
+abbrev pub HasEachScript : Inputs → BaseTree → Type 0
+HasEachScript inputs base = length base.plan ≡ length inputs.scripts
 
-abbrev pub HasTexts : Tree → RunJob → Type 0
-HasTexts t j = HasSomeSpec t j × ((plan : List (List (List CommandTree))) × HasScripts t 0 j.scripts plan)
+abbrev pub HasSomeSpec : Tree → Inputs → Type 0
+HasSomeSpec t inputs = (spec : SpecTree) × HasSpec t inputs spec
 
-abbrev pub HasInputs : Tree → RunJob → Type 0
-HasInputs t j = HasTexts t j × ((nodes : Nodes) × Loads t j.folder nodes)
+abbrev pub HasTexts : Tree → Inputs → Type 0
+HasTexts t inputs = HasSomeSpec t inputs × ((plan : List (List (List CommandTree))) × HasScripts t 0 inputs.scripts plan)
+
+abbrev pub HasInputs : Tree → Inputs → Type 0
+HasInputs t inputs = HasTexts t inputs × ((nodes : Nodes) × Loads t inputs.folder nodes)
 
 -- a file or folder that a run reads is not there, and nothing that comes before it is refused
-abbrev pub CannotRead : Tree → RunJob → Type 0
-CannotRead t j =
-    (is_file_at t j.spec ≡ false) ⊎ ((HasSomeSpec t j × ((i : ℕ) × StopsAtScript LacksFile t 0 j.scripts i)) ⊎ (HasTexts t j × (is_folder_at t j.folder ≡ false)))
+abbrev pub CannotRead : Tree → Inputs → Type 0
+CannotRead t inputs =
+    (is_file_at t inputs.spec ≡ false) ⊎ ((HasSomeSpec t inputs × ((i : ℕ) × StopsAtScript LacksFile t 0 inputs.scripts i)) ⊎ (HasTexts t inputs × (is_folder_at t inputs.folder ≡ false)))
 
 -- the text of this word is the first that is refused, first for this cause
-abbrev pub IsFirstRefused : Tree → RunJob → ℕ → TextFault → Type 0
-IsFirstRefused t j word cause =
-    ((word ≡ 1) × HasNoSpec t j cause) ⊎ (HasSomeSpec t j × ((i : ℕ) × (word ≡ place_of j i) × StopsAtScript (HasNoScript cause) t 0 j.scripts i))
+abbrev pub IsFirstRefused : Tree → Inputs → ℕ → TextFault → Type 0
+IsFirstRefused t inputs word cause =
+    ((word ≡ 1) × HasNoSpec t inputs cause) ⊎ (HasSomeSpec t inputs × ((i : ℕ) × (word ≡ place_of inputs i) × StopsAtScript (HasNoScript cause) t 0 inputs.scripts i))

@@ -1,0 +1,43 @@
+-- From one stage of reading to the next.
+use Rattle.std.proofs.Common.{◌≡◌, ℕ, List, Option, Some, None, IfSome, sym, subst}
+use Rattle.fx_store.specs.Whole.{Nodes}
+use Rattle.fx_outside.specs.Host.{HostView, ReadsOnly}
+use Rattle.fx_outside.specs.Tree.{Tree}
+use Rattle.fx_folder.specs.Loads.{Loads}
+use Rattle.fx_spec.specs.SpecTree.{SpecTree}
+use Rattle.fx_spec.specs.CommandTree.{CommandTree}
+use Rattle.fx_spec.specs.Order.{BaseTree}
+use Rattle.fx_words.specs.Job.{Inputs}
+use Rattle.fx_inputs.specs.Inputs.{HasSpec, HasScripts, HasSomeSpec, HasTexts, HasInputs, HasBase}
+use Rattle.fx_command.proofs.Told.{if_some_map, if_some_both, some_back}
+
+abbrev Plan : Type 0
+Plan = List (List (List CommandTree))
+
+-- after a stage that only reads
+pub then_told : (P : Tree → Type 0) (a b : HostView) → ReadsOnly a b → IfSome a.told P → IfSome b.told P
+then_told P a b reads is = subst (λ o. IfSome o P) (sym reads.same) is
+
+pub some_spec : (inputs : Inputs) (spec : SpecTree) (a b : HostView) → ReadsOnly a b → IfSome a.told (λ t. HasSpec t inputs spec) → IfSome b.told (λ t. HasSomeSpec t inputs)
+some_spec inputs spec a b reads is = then_told (λ t. HasSomeSpec t inputs) a b reads (if_some_map (λ t. HasSpec t inputs spec) (λ t. HasSomeSpec t inputs) a.told (λ t is. (spec, is)) is)
+
+-- the texts, once both are read
+pub both_texts : (inputs : Inputs) (plan : Plan) (b c : HostView) → ReadsOnly b c → IfSome b.told (λ t. HasSomeSpec t inputs) → IfSome b.told (λ t. HasScripts t 0 inputs.scripts plan) → IfSome c.told (λ t. HasTexts t inputs)
+both_texts inputs plan b c reads spec scripts =
+    then_told (λ t. HasTexts t inputs) b c reads (if_some_both (λ t. HasSomeSpec t inputs) (λ t. HasScripts t 0 inputs.scripts plan) (λ t. HasTexts t inputs) b.told (λ t spec scripts. (spec, (plan, scripts))) spec scripts)
+
+three : (P Q R S : Tree → Type 0) (o : Option Tree) → ((t : Tree) → P t → Q t → R t → S t) → IfSome o P → IfSome o Q → IfSome o R → IfSome o S
+three P Q R S None f p q r = tt
+three P Q R S (Some t) f p q r = f t p q r
+
+-- all that a run begins with
+pub whole_base : (inputs : Inputs) (base : BaseTree) (spec : SpecTree) (plan : Plan) (nodes : Nodes) (a b c : HostView) → ReadsOnly a b → ReadsOnly b c → base ≡ record { description = spec; plan = plan; loaded = nodes } → IfSome a.told (λ t. HasSpec t inputs spec) → IfSome b.told (λ t. HasScripts t 0 inputs.scripts plan) → IfSome c.told (λ t. Loads t inputs.folder nodes) → IfSome a.told (λ t. HasBase t inputs base)
+whole_base inputs base spec plan nodes a b c first then is has scripts loads =
+    subst (λ base. IfSome a.told (λ t. HasBase t inputs base)) (sym is)
+    (three (λ t. HasSpec t inputs spec) (λ t. HasScripts t 0 inputs.scripts plan) (λ t. Loads t inputs.folder nodes) (λ t. HasBase t inputs (record { description = spec; plan = plan; loaded = nodes })) a.told
+    (λ t spec scripts folder. record { spec = spec; scripts = scripts; folder = folder }) has (some_back _ a b first scripts) (some_back _ a b first (some_back _ b c then loads)))
+
+pub inputs_read : (inputs : Inputs) (base : BaseTree) (a b : HostView) → ReadsOnly a b → IfSome a.told (λ t. HasBase t inputs base) → IfSome b.told (λ t. HasInputs t inputs)
+inputs_read inputs base a b reads is =
+    then_told (λ t. HasInputs t inputs) a b reads
+    (if_some_map (λ t. HasBase t inputs base) (λ t. HasInputs t inputs) a.told (λ t is. (((base.description, is.spec), (base.plan, is.scripts)), (base.loaded, is.folder))) is)

@@ -1,0 +1,4 @@
+pub mod Causes
+pub mod Inputs
+pub mod Reads
+pub mod Unread

@@ -1,0 +1,114 @@
+//! The stages that read: the description, the scripts and the folder.
+ghost use Rattle.std.specs.Prelude.{◌≡◌, length, IfOk, IfErr, IfSome};
+ghost use Rattle.fx_outside.specs.Host.{ReadsOnly};
+ghost use Rattle.fx_folder.specs.Loads.{Loads};
+ghost use Rattle.fx_spec.specs.Bases.{base_tree};
+ghost use Rattle.fx_words.specs.JobOf.{asked_inputs, AreInputs};
+ghost use Rattle.fx_inputs.specs.Inputs.{HasSpec, HasScripts, HasSomeSpec, HasTexts, HasBase, HasEachScript};
+ghost use Rattle.fx_inputs.specs.Reads.{ReadRow, InputsAskFit};
+
+use crate::scripts::read_plan;
+use fx_base::NoMemory;
+use fx_command::{Status, read_text};
+use fx_folder::load;
+use fx_outside::Host;
+use fx_show::description_of;
+use fx_spec::{Base, Checked, Plan};
+use fx_store::Filestore;
+use fx_words::Inputs;
+use std::alloc::Global;
+use std::sync::Arc;
+
+/// Reads the description.
+fn read_description<H: Host>(
+    alloc: Global,
+    inputs: &Inputs,
+    host: &mut H,
+) -> Result<Checked, Status>
+    ensures read { IfOk result (λ spec.
+        IfSome (H.view host.old).told (λ t. HasSpec t (asked_inputs inputs.now) spec)) }
+    ensures same { ReadsOnly (H.view host.old) (H.view host.new) }
+    ensures fit { InputsAskFit (asked_inputs inputs.now) (H.view host.old) (H.view host.new) }
+    ensures ends { IfErr result
+        (ReadRow (asked_inputs inputs.now) (H.view host.old) (H.view host.new)) }
+{
+    let text = read_text(alloc, host, inputs.spec)?;
+    let spec = description_of(alloc, &text)?;
+    Ok(spec)
+}
+
+/// Reads the scripts, after the description.
+fn read_scripts<H: Host>(alloc: Global, inputs: &Inputs, host: &mut H) -> Result<Plan, Status>
+    requires inputs { AreInputs inputs.now }
+    requires spec { IfSome (H.view host.old).told (λ t. HasSomeSpec t (asked_inputs inputs.now)) }
+    ensures read { IfOk result (λ plan. IfSome (H.view host.old).told
+        (λ t. HasScripts t 0 (asked_inputs inputs.now).scripts plan)) }
+    ensures count { IfOk result
+        (λ plan. length plan ≡ length (asked_inputs inputs.now).scripts) }
+    ensures same { ReadsOnly (H.view host.old) (H.view host.new) }
+    ensures fit { InputsAskFit (asked_inputs inputs.now) (H.view host.old) (H.view host.new) }
+    ensures ends { IfErr result
+        (ReadRow (asked_inputs inputs.now) (H.view host.old) (H.view host.new)) }
+{
+    let plan = read_plan(alloc, inputs, host)?;
+    Ok(plan)
+}
+
+/// Loads the folder, after the texts.
+fn read_folder<H: Host>(
+    alloc: Global,
+    inputs: &Inputs,
+    host: &mut H,
+) -> Result<Filestore, Status>
+    requires { IfSome (H.view host.old).told (λ t. HasTexts t (asked_inputs inputs.now)) }
+    ensures loaded { IfOk result (λ s. IfSome (H.view host.old).told
+        (λ t. Loads t (asked_inputs inputs.now).folder s.nodes)) }
+    ensures same { ReadsOnly (H.view host.old) (H.view host.new) }
+    ensures fit { InputsAskFit (asked_inputs inputs.now) (H.view host.old) (H.view host.new) }
+    ensures ends { IfErr result
+        (ReadRow (asked_inputs inputs.now) (H.view host.old) (H.view host.new)) }
+{
+    let store = load(alloc, host, inputs.folder)?;
+    Ok(store)
+}
+
+fn gathered(
+    alloc: Global,
+    description: Checked,
+    plan: Plan,
+    loaded: Filestore,
+) -> Result<Arc<Base>, NoMemory>
+    ensures { IfOk result (λ base.
+        base.value ≡ record { description = description; plan = plan; loaded = loaded }) }
+{
+    let base = Base {
+        description,
+        plan,
+        loaded,
+    };
+    Ok(Arc::new(alloc, base)?)
+}
+
+/// Reads what a run begins with: the description, the scripts in order, and the folder. It asks nothing but reads, and
+/// ends for no other cause than that one of these is not read or is refused, or that memory runs out.
+pub fn read_base<H: Host>(
+    alloc: Global,
+    inputs: &Inputs,
+    host: &mut H,
+) -> Result<Arc<Base>, Status>
+    requires { AreInputs inputs.now }
+    ensures read { IfOk result (λ base. IfSome (H.view host.old).told
+        (λ t. HasBase t (asked_inputs inputs.now) (base_tree base.value))) }
+    ensures count { IfOk result
+        (λ base. HasEachScript (asked_inputs inputs.now) (base_tree base.value)) }
+    ensures same { ReadsOnly (H.view host.old) (H.view host.new) }
+    ensures fit { InputsAskFit (asked_inputs inputs.now) (H.view host.old) (H.view host.new) }
+    ensures ends { IfErr result
+        (ReadRow (asked_inputs inputs.now) (H.view host.old) (H.view host.new)) }
+{
+    let description = read_description(alloc, inputs, host)?;
+    let plan = read_scripts(alloc, inputs, host)?;
+    let loaded = read_folder(alloc, inputs, host)?;
+    let base = gathered(alloc, description, plan, loaded)?;
+    Ok(base)
+}
