@@ -19,7 +19,6 @@ use Rattle.fx_view.specs.Follows.{GoesBy}
 use Rattle.fx_view.specs.Meaning.{Meaning}
 use Rattle.fx_view.specs.Own.{own_at, AreRead}
 use Rattle.fx_view.specs.OwnList.{OwnList}
-use Rattle.fx_view.specs.Reads.{known_of}
 use Rattle.fx_base.proofs.Errors.{err_of}
 use Rattle.fx_view.proofs.Rulings.{by_same, by_then, by_then_answer, by_stop}
 use Rattle.fx_zip.specs.Calls.{Finds, place_needed}

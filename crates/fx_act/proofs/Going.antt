@@ -8,7 +8,6 @@ use Rattle.fx_view.specs.Follows.{GoesBy, walked}
 use Rattle.fx_view.specs.Meaning.{Meaning}
 use Rattle.fx_view.specs.Own.{AreRead}
 use Rattle.fx_view.specs.OwnList.{OwnList}
-use Rattle.fx_view.specs.Reads.{known_of}
 use Rattle.fx_view.specs.ReadList.{ReadList}
 use Rattle.fx_view.proofs.Calls.{went_by}
 use Rattle.fx_view.proofs.Going.{Went-grows}

@@ -20,7 +20,6 @@ use Rattle.fx_view.specs.declared.reader.Stop.TheVariants as stop
 use Rattle.fx_view.specs.Follows.{GoesBy}
 use Rattle.fx_view.specs.Meaning.{Meaning}
 use Rattle.fx_view.specs.Own.{own_at, AreRead}
-use Rattle.fx_view.specs.Reads.{known_of}
 use Rattle.fx_base.proofs.Errors.{err_of}
 use Rattle.fx_view.proofs.Rulings.{by_answer, by_refused, by_same}
 use Rattle.fx_zip.specs.Calls.{Moves, OnRefused}

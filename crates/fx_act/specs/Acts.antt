@@ -13,7 +13,6 @@ use Rattle.fx_rules.specs.Halts.{parted}
 use Rattle.fx_view.specs.Follows.{GoesBy}
 use Rattle.fx_view.specs.Meaning.{Meaning}
 use Rattle.fx_view.specs.Own.{own_at, put_all, AreRead}
-use Rattle.fx_view.specs.Reads.{known_of}
 use Rattle.fx_zip.specs.Fresh.{IsFresh}
 use Rattle.fx_act.specs.declared.walk.Walk.{Walk}
 

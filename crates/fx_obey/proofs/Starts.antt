@@ -13,7 +13,7 @@ use Rattle.fx_view.specs.declared.reader.Stop.TheVariants as stop
 use Rattle.fx_view.specs.Follows.{GoesBy}
 use Rattle.fx_view.specs.Meaning.{Meaning}
 use Rattle.fx_view.specs.Own.{AreRead, no_own, own_at}
-use Rattle.fx_view.specs.Reads.{known_of}
+use Rattle.fx_view.specs.ReadList.{ReadList}
 use Rattle.fx_view.proofs.Owning.{AreRead-none}
 use Rattle.fx_view.proofs.Rulings.{by_same}
 use Rattle.fx_zip.specs.Fresh.{IsFresh}
@@ -34,9 +34,9 @@ pub record Begins (root : SpecTree) (w : Work) : Type 0 where
   pub overlay : w.walk.overlay ≡ []
   pub variables : w.variables ≡ []
   pub outputs : w.outputs ≡ []
-  pub fresh : (known own : Known) → IsFresh known own w.walk.zip
+  pub fresh : (reads : ReadList) (own : Known) → IsFresh reads own w.walk.zip
 
-pub begins_from : (clone base : Base) (w : Work) → clone ≡ base → root_of w ≡ clone.description → w.walk.zip.address ≡ [] → w.walk.overlay ≡ [] → w.variables ≡ [] → w.outputs ≡ [] → ((known own : Known) → IsFresh known own w.walk.zip) → Begins base.description w
+pub begins_from : (clone base : Base) (w : Work) → clone ≡ base → root_of w ≡ clone.description → w.walk.zip.address ≡ [] → w.walk.overlay ≡ [] → w.variables ≡ [] → w.outputs ≡ [] → ((reads : ReadList) (own : Known) → IsFresh reads own w.walk.zip) → Begins base.description w
 begins_from clone base w same root address overlay variables outputs fresh = record {
   rooted = root ∙ ap (λ (b : Base). b.description) same;
   address = address;
@@ -52,7 +52,7 @@ begins_shaped root w t begins is = record { scope = []; bindings = subst (λ e. 
 module _ {R : Type 0} (m : Meaning R) (root : SpecTree) (w : Work) (t : List CommandTree) (begins : Begins root w) (was : R) where
   pub begins_sound : IsSound (m.reads was) w.walk
   begins_sound = record {
-    fresh = begins.fresh (known_of (m.reads was)) (own_at w.walk.overlay);
+    fresh = begins.fresh (m.reads was) (own_at w.walk.overlay);
     read = subst (λ own. AreRead own (m.reads was)) (sym begins.overlay) (AreRead-none (m.reads was));
   }
 

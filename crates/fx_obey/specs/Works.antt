@@ -17,7 +17,6 @@ use Rattle.fx_view.specs.Follows.{GoesBy}
 use Rattle.fx_view.specs.Meaning.{Meaning}
 use Rattle.fx_view.specs.Own.{AreRead, no_own, own_at}
 use Rattle.fx_view.specs.ReadList.{ReadList}
-use Rattle.fx_view.specs.Reads.{known_of}
 use Rattle.fx_rules.specs.declared.halt.Halt.{Halt}
 use Rattle.fx_rules.specs.Answering.{answered}
 use Rattle.fx_rules.specs.Halts.{split}
@@ -45,7 +44,7 @@ came_by w end = came (flow_by w end) w.walk.overlay
 
 -- the zipper's frames are those over these reads, with the own changes on top, and each changed path was read
 pub record IsSound (reads : ReadList) (walk : Walk) : Type 0 where
-  pub fresh : IsFresh (known_of reads) (own_at walk.overlay) walk.zip
+  pub fresh : IsFresh reads (own_at walk.overlay) walk.zip
   pub read : AreRead walk.overlay reads
 
 -- the call pursues the task
@@ -68,7 +67,7 @@ pub record IsQuiet (task : Task Flow) (old new : Work) (result : Result (Unit {0
 -- a question at the place is answered as the rule says, and changes nothing
 pub record Tells {R A X : Type 0} (m : Meaning R) (view : X → A) (old new : Walk) (was now : R) (rule : Ask (Answered A)) (result : Result X Halt) : Type 0 where
   pub follows : GoesBy m (answered view) (own_at old.overlay) was now rule (split result)
-  pub fresh : IfOk (split result) (λ _. IsFresh (known_of (m.reads now)) (own_at new.overlay) new.zip)
+  pub fresh : IfOk (split result) (λ _. IsFresh (m.reads now) (own_at new.overlay) new.zip)
   pub root : new.zip.root ≡ old.zip.root
   pub address : new.zip.address ≡ old.zip.address
   pub overlay : new.overlay ≡ old.overlay

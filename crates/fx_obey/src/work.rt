@@ -1,6 +1,7 @@
 //! Where a transaction stands between two commands.
 ghost use Rattle.std.specs.Prelude.{◌≡◌, []};
 ghost use Rattle.fx_store.specs.Rule.{Known};
+ghost use Rattle.fx_view.specs.ReadList.{ReadList};
 ghost use Rattle.fx_zip.specs.Fresh.{IsFresh};
 
 use fx_act::Walk;
@@ -25,7 +26,7 @@ impl Work {
         ensures overlay { result.walk.overlay ≡ [] }
         ensures variables { result.variables ≡ [] }
         ensures outputs { result.outputs ≡ [] }
-        ensures fresh { (known own : Known) → IsFresh known own result.walk.zip }
+        ensures fresh { (reads : ReadList) (own : Known) → IsFresh reads own result.walk.zip }
     {
         Work {
             walk: Walk::new(alloc, base),

@@ -17,7 +17,6 @@ use Rattle.fx_view.specs.declared.reader.Stop.{Stop}
 use Rattle.fx_view.specs.declared.reader.Stop.TheVariants as stop
 use Rattle.fx_view.specs.Follows.{Follows}
 use Rattle.fx_view.specs.Meaning.{Meaning}
-use Rattle.fx_view.specs.Reads.{known_of}
 use Rattle.fx_view.proofs.Calls.{follows_then_answer, follows_then_refused, follows_stop}
 use Rattle.fx_base.proofs.Errors.{err_of}
 use Rattle.fx_rules.specs.declared.halt.Halt.{Halt}

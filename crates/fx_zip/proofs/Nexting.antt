@@ -12,7 +12,6 @@ use Rattle.fx_spec.specs.WellShaped.{IsDescription}
 use Rattle.fx_view.specs.declared.reader.Stop.{Stop}
 use Rattle.fx_view.specs.declared.reader.Stop.TheVariants as stop
 use Rattle.fx_view.specs.Meaning.{Meaning}
-use Rattle.fx_view.specs.Reads.{known_of}
 use Rattle.fx_base.proofs.Errors.{err_of}
 use Rattle.fx_walk.specs.Scopes.{HasScope}
 use Rattle.fx_zip.specs.declared.frame.Spot.{Spot}

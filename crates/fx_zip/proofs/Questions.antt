@@ -1,6 +1,6 @@
 -- Questions at the place: their answers, and the shapes of what is answered.
 use Rattle.std.proofs.Common.{◌≡◌, ℕ, List, Bool, true, false, Option, Some, None, Result, Ok, Err, refl, sym, ap, subst, ◌+◌, arith}
-use Rattle.std.specs.Prelude.{IfOk}
+use Rattle.std.specs.Prelude.{IfOk, cond}
 use Rattle.std.specs.Option.{unwrap_or}
 use Rattle.fx_store.specs.declared.node.Node.{Node}
 use Rattle.fx_store.specs.Rule.{Known, Ask, Answer, Tick, AgreesWith, answer, changed}
@@ -70,6 +70,13 @@ module _ {R : Type 0} (m : Meaning R) (own : Known) where
   -- a rule of a form, and the form's own refusal
   pub shaped_follows : (was now : R × ℕ) (b : Bool) (rule : Ask (Answered Tree)) (r : Result Value Halt) → b ≡ true → Follows m (answered tree_of) own was now rule (split r) → Follows m (answered tree_of) own was now (of_shape b rule) (split r)
   shaped_follows was now b rule r is h = follows_same m (answered tree_of) own was now rule (of_shape b rule) (split r) (ap (λ b. of_shape b rule) (sym is)) h
+
+  -- a file's flag, and what else a form gives
+  pub flag_follows : (was now : R × ℕ) (b : Bool) (flag form : Ask (Answered Tree)) (r : Result Value Halt) → b ≡ true → Follows m (answered tree_of) own was now flag (split r) → Follows m (answered tree_of) own was now (cond b flag form) (split r)
+  flag_follows was now b flag form r is h = follows_same m (answered tree_of) own was now flag (cond b flag form) (split r) (ap (λ b. cond b flag form) (sym is)) h
+
+  pub form_follows : (was now : R × ℕ) (b : Bool) (flag form : Ask (Answered Tree)) (r : Result Value Halt) → b ≡ false → Follows m (answered tree_of) own was now form (split r) → Follows m (answered tree_of) own was now (cond b flag form) (split r)
+  form_follows was now b flag form r is h = follows_same m (answered tree_of) own was now form (cond b flag form) (split r) (ap (λ b. cond b flag form) (sym is)) h
 
   pub misshaped : (was : R × ℕ) (b : Bool) (rule : Ask (Answered Tree)) → b ≡ false → Follows {A = Answered Tree} {X = Result Value Refusal} m (answered tree_of) own was was (of_shape b rule) (Ok (Err Refusal.WrongForm))
   misshaped was b rule is =

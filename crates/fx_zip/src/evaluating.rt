@@ -64,19 +64,19 @@ pub(crate) fn set_again<L: Ledger>(
     alloc: Global,
     kept: Option<&TextSet>,
     env: &Env,
-    expr: &Expr,
+    formula: &Formula,
     steps: &mut Steps<L>,
 ) -> Result<TextSet, Halt>
-    requires shaped { IsWellShaped env.now (expr_tree expr.now) }
+    requires shaped { IsWellShaped env.now formula.now }
     requires kept { (set : List (List ℕ)) → option_copied kept ≡ Some set
-        → set_answer (eval_of env.now (expr_tree expr.now)) ≡ Ok set }
+        → set_answer (eval_of env.now formula.now) ≡ Ok set }
     ensures set { Says (answered (λ set. set))
-        (Some (set_answer (eval_of env.now (expr_tree expr.now)))) (split result) }
+        (Some (set_answer (eval_of env.now formula.now))) (split result) }
     ensures tick { steps.new ≤ steps.old + 1 }
 {
     match kept {
         Some(set) => Ok(set.copy(alloc)?),
-        None => set_of(alloc, env, expr, steps),
+        None => set_of(alloc, env, formula, steps),
     }
 }
 

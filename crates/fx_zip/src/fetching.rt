@@ -16,7 +16,8 @@ ghost use Rattle.fx_walk.specs.Scopes.{HasScope};
 ghost use Rattle.fx_zip.specs.Calls.{value_needed};
 
 use crate::evaluating::evaluate;
-use crate::shapes::{has_fetch_shape, has_value_shape};
+use crate::flags::flag_at;
+use crate::shapes::{asks_flag, has_fetch_shape, has_value_shape};
 use fx_base::Steps;
 use fx_expr::{Env, Shape, Value};
 use fx_rules::Halt;
@@ -27,7 +28,7 @@ use fx_walk::{exists, value_in};
 use std::alloc::Global;
 use std::sync::ledger::Ledger;
 
-/// What the form gives, where that has the shape. The environment is as before on every way out.
+/// What the form gives, where that has the shape; a file gives its flag too. The environment is as before on every way out.
 pub(crate) fn fetch_at<R: Reader, L: Ledger>(
     alloc: Global,
     reader: &mut R,
@@ -45,7 +46,9 @@ pub(crate) fn fetch_at<R: Reader, L: Ledger>(
         (move.fetch_at (shape_tree shape.now) (placed path.now env.old (spec_tree spec.now)))
         (split result) }
 {
-    if has_fetch_shape(spec, shape) {
+    if asks_flag(spec, shape) {
+        flag_at(alloc, reader, overlay, path)
+    } else if has_fetch_shape(spec, shape) {
         fetched(alloc, reader, overlay, path, env, spec, steps)
     } else {
         Err(Halt::Refused(Refusal::WrongForm))

@@ -5,6 +5,7 @@
 mod asking;
 mod evaluating;
 mod fetching;
+mod flags;
 mod forms;
 mod frame;
 pub mod laws;

@@ -8,7 +8,7 @@ ghost use Rattle.fx_spec.specs.Views.{spec_tree};
 use fx_expr::Shape;
 use fx_spec::Spec;
 
-/// Whether what is fetched at a form has the shape; a pair has no fetch.
+/// Whether what is fetched at a form has the shape; a pair has no fetch, and a file's flag is apart.
 pub(crate) fn has_fetch_shape(spec: &Spec, shape: &Shape) -> bool
     ensures { result ≡ move.has_fetch_shape (shape_tree shape.now)
         (move.fetch_shape (spec_tree spec.now)) }
@@ -18,6 +18,27 @@ pub(crate) fn has_fetch_shape(spec: &Spec, shape: &Shape) -> bool
         Spec::Dir | Spec::Comp(_, _, _) => is_names(shape),
         Spec::Opt(_) | Spec::Pred(_) => is_bool(shape),
         Spec::Pair(_, _, _) => false,
+    }
+}
+
+/// Whether a truth value is asked for at a file: the file's flag.
+pub(crate) fn asks_flag(spec: &Spec, shape: &Shape) -> bool
+    ensures { result ≡ move.asks_flag (shape_tree shape.now) (spec_tree spec.now) }
+{
+    match shape {
+        Shape::Bool => is_file(spec),
+        Shape::Str | Shape::Int | Shape::Names => false,
+        Shape::Pair(_, _) | Shape::Opt(_) | Shape::Table(_) => false,
+    }
+}
+
+fn is_file(spec: &Spec) -> bool
+    ensures { result ≡ move.asks_flag ShapeTree.bool (spec_tree spec.now) }
+{
+    match spec {
+        Spec::File => true,
+        Spec::Dir | Spec::Link | Spec::Focus(_, _) | Spec::Pair(_, _, _) => false,
+        Spec::Comp(_, _, _) | Spec::Opt(_) | Spec::Pred(_) => false,
     }
 }
 

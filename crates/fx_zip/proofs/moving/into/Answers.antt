@@ -29,4 +29,4 @@ returns-in-None-option_of g c = record {
 }
 
 pub least-requires-clause-kept : goal.least-requires-clause-kept
-least-requires-clause-kept g c = kept_set (option_copied c.args.kept) c.args.env.now (spec_tree c.args.spec.now) (spec_tree c.in-Some.field-0-0.now) c.in-Some.name.now (expr_tree c.in-Some.set.now) c.in-Some.ensures c.requires.kept
+least-requires-clause-kept g c = kept_set (option_copied c.args.kept) c.args.env.now (spec_tree c.args.spec.now) (spec_tree c.in-Some.field-0-0.now) c.in-Some.name.now c.in-Some.set.now c.in-Some.ensures c.requires.kept

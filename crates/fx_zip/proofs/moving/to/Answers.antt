@@ -19,4 +19,4 @@ returns-in_ok-set-in-Some g c = record {
 }
 
 pub set_again-requires-clause-kept : goal.set_again-requires-clause-kept
-set_again-requires-clause-kept g c = kept_set (option_copied c.args.kept) c.args.env.now (spec_tree c.args.spec.now) (spec_tree c.in-Some.field-0-0.now) c.in-Some.name.now (expr_tree c.in-Some.set.now) c.in-Some.ensures c.requires.kept
+set_again-requires-clause-kept g c = kept_set (option_copied c.args.kept) c.args.env.now (spec_tree c.args.spec.now) (spec_tree c.in-Some.field-0-0.now) c.in-Some.name.now c.in-Some.set.now c.in-Some.ensures c.requires.kept

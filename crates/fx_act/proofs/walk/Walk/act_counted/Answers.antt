@@ -3,7 +3,6 @@ use Rattle.fx_spec.specs.CommandTree.{ActTree}
 use Rattle.fx_spec.specs.Move.{go_out, go_up}
 use Rattle.fx_spec.specs.Views.{act_tree}
 use Rattle.fx_view.specs.Own.{own_at}
-use Rattle.fx_view.specs.Reads.{known_of}
 use Rattle.fx_act.proofs.Taken.{moved, acts_of, moves_acts, told_acts, told_refused}
 use Rattle.fx_act.proofs.walk.Walk.act_counted.Goals as goal
 

@@ -1,6 +1,5 @@
 use Rattle.fx_spec.specs.Edit as edit
 use Rattle.fx_view.specs.Own.{own_at}
-use Rattle.fx_view.specs.Reads.{known_of}
 use Rattle.fx_walk.specs.Places.{place_tree}
 use Rattle.fx_act.proofs.Edited.{unfound_acts, failed_acts, edited_acts}
 use Rattle.fx_act.proofs.walk.Walk.create.Goals as goal

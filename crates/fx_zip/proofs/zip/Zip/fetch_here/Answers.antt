@@ -5,7 +5,6 @@ use Rattle.fx_spec.specs.Move.{fetch_at}
 use Rattle.fx_spec.specs.Views.{spec_tree}
 use Rattle.fx_spec.specs.WellShaped.{IsDescription}
 use Rattle.fx_view.specs.Own.{own_at}
-use Rattle.fx_view.specs.Reads.{known_of}
 use Rattle.fx_zip.specs.declared.frame.Frame.{Frame}
 use Rattle.fx_zip.specs.declared.step.Step.{Step}
 use Rattle.fx_zip.specs.Parts.{part}

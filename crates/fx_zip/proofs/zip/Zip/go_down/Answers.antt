@@ -3,7 +3,6 @@ use Rattle.fx_spec.specs.Move.{go_down}
 use Rattle.fx_spec.specs.Transaction.{from_place}
 use Rattle.fx_spec.specs.Views.{spec_tree}
 use Rattle.fx_view.specs.Own.{own_at}
-use Rattle.fx_view.specs.Reads.{known_of}
 use Rattle.fx_zip.specs.Calls.{place_evals}
 use Rattle.fx_zip.proofs.Places.{moves_unfound, here_scope, enters_here, moved_in, moved_memory, moved_not}
 use Rattle.fx_zip.proofs.Telling.{enters_of}

@@ -1,6 +1,5 @@
 use Rattle.std.proofs.Common.{sym, ◌∙◌}
 use Rattle.fx_view.specs.Own.{own_at}
-use Rattle.fx_view.specs.Reads.{known_of}
 use Rattle.fx_zip.proofs.Around.{moved_first, moved_smaller, second_of_true}
 use Rattle.fx_zip.proofs.Places.{moves_unfound}
 use Rattle.fx_zip.proofs.zip.Zip.go_prev.Goals as goal

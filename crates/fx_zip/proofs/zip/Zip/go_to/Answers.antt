@@ -3,7 +3,6 @@ use Rattle.fx_spec.specs.Move.{go_to}
 use Rattle.fx_spec.specs.Transaction.{from_place}
 use Rattle.fx_spec.specs.Views.{spec_tree}
 use Rattle.fx_view.specs.Own.{own_at}
-use Rattle.fx_view.specs.Reads.{known_of}
 use Rattle.fx_zip.specs.Calls.{place_evals}
 use Rattle.std.specs.Option.{option_copied}
 use Rattle.fx_zip.proofs.Places.{moves_unfound, here_scope, kept_here, enters_here, moved_in, moved_memory, moved_not}
