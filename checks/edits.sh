@@ -10,6 +10,7 @@ git clone -q "$edits/../.." "$fresh/txforest"
 cd "$fresh/txforest"
 [ $# -gt 0 ] || set -- $(ls "$edits")
 for crate; do
-    cp -R "$edits/$crate" "crates/$crate/must-fail"
+    mkdir -p "crates/$crate/must-fail"
+    cp "$edits/$crate"/* "crates/$crate/must-fail"
 done
 rt must-fail "$@"

@@ -1,23 +1,16 @@
 //! The commands at a zipper, as the lines of cases name them.
 ghost use Rattle.std.specs.Prelude.{IfOk};
 ghost use Rattle.fx_rules.specs.Halts.{split};
-ghost use Rattle.fx_moves.specs.Ready.{IsReady};
+ghost use Rattle.fx_view.specs.Own.{own_at};
+ghost use Rattle.fx_moves.specs.Ready.{IsAfter, IsReady};
 
 use crate::verbs::{Edit, Move, Question};
 use crate::walk::Walk;
 use fx_base::Steps;
 use fx_expr::{Shape, Text, Value};
 use fx_rules::Halt;
-use fx_spec::Refusal;
 use std::alloc::Global;
 use std::sync::ledger::Ledger;
-
-fn as_halt(result_of: Result<(), Refusal>) -> Result<(), Halt> {
-    match result_of {
-        Ok(()) => Ok(()),
-        Err(refusal) => Err(Halt::Refused(refusal)),
-    }
-}
 
 /// Moves; `text` is the element of `to`.
 pub fn move_by<L: Ledger>(
@@ -46,8 +39,8 @@ pub fn move_by<L: Ledger>(
         Move::Down => walk
             .zip
             .go_down(alloc, &mut walk.reader, &walk.overlay, steps),
-        Move::Out => as_halt(walk.zip.go_out()),
-        Move::Up => as_halt(walk.zip.go_up()),
+        Move::Out => Ok(walk.zip.go_out()?),
+        Move::Up => Ok(walk.zip.go_up()?),
         Move::Top => {
             walk.zip.go_top();
             Ok(())
@@ -82,8 +75,12 @@ pub fn ask<L: Ledger>(
     }
 }
 
-/// The edit at the place where the zipper stands.
-fn edit_here(alloc: Global, walk: &mut Walk, edit: Edit, value: &Value) -> Result<(), Halt> {
+/// The edit at the place where the zipper stands: how many of the first reads it leaves untouched.
+fn edit_here(alloc: Global, walk: &mut Walk, edit: Edit, value: &Value) -> Result<u64, Halt>
+    requires ready { IsReady walk.old }
+    ensures after { IfOk (split result)
+        (IsAfter walk.new.reader.reads (own_at walk.new.overlay) walk.new.zip) }
+{
     let place = walk.zip.here();
     match edit {
         Edit::Store => fx_edit::store(alloc, &mut walk.reader, &mut walk.overlay, &place, value),
@@ -105,7 +102,7 @@ pub fn edit_by<L: Ledger>(
 {
     walk.zip
         .find(alloc, &mut walk.reader, &walk.overlay, steps)?;
-    let done = edit_here(alloc, walk, edit, value);
-    walk.zip.stored();
-    done
+    let untouched = edit_here(alloc, walk, edit, value)?;
+    walk.zip.edited(untouched);
+    Ok(())
 }

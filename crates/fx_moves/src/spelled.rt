@@ -97,10 +97,11 @@ fn names_of(alloc: Global, spelled: &str) -> Result<Names, NoMemory> {
     Ok(names)
 }
 
-fn file_of(alloc: Global, spelled: &str) -> Result<Node, NoMemory> {
+fn file_of(alloc: Global, spelled: &str, exec: bool) -> Result<Node, NoMemory> {
     let mut bytes = unescaped(alloc, spelled)?;
     bytes.truncate(TEXT_LIMIT);
-    Ok(Node::File { bytes: Bytes::from_vec(bytes), exec: false })
+    let bytes = Bytes::from_vec(bytes);
+    Ok(Node::File { bytes, exec })
 }
 
 /// The link of a text; none where it is no link's text.
@@ -115,7 +116,8 @@ fn link_of(alloc: Global, spelled: &str) -> Result<Option<Node>, NoMemory> {
 /// The node that is put, or none.
 pub fn node_of(alloc: Global, put: Put, spelled: &str) -> Result<Option<Node>, NoMemory> {
     match put {
-        Put::File => Ok(Some(file_of(alloc, spelled)?)),
+        Put::File => Ok(Some(file_of(alloc, spelled, false)?)),
+        Put::Exec => Ok(Some(file_of(alloc, spelled, true)?)),
         Put::Dir => Ok(Some(Node::Dir(names_of(alloc, spelled)?))),
         Put::Link => link_of(alloc, spelled),
         Put::Nothing => Ok(None),

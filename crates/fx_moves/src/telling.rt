@@ -157,9 +157,13 @@ fn add_text(out: &mut String, kind: &str, bytes: &[u8]) -> Result<(), NoMemory> 
     add_bytes(out, bytes)
 }
 
+fn kind_of(exec: bool) -> &'static str {
+    if exec { " exec" } else { " file" }
+}
+
 fn add_node(out: &mut String, node: &Option<Node>) -> Result<(), NoMemory> {
     match node {
-        Some(Node::File { bytes, .. }) => add_text(out, " file", bytes.as_slice()),
+        Some(Node::File { bytes, exec }) => add_text(out, kind_of(*exec), bytes.as_slice()),
         Some(Node::Dir(names)) => {
             out.push_str(" dir")?;
             add_names(out, names)

@@ -32,6 +32,8 @@ pub enum Edit {
 #[derive(Clone, Copy)]
 pub enum Put {
     File,
+    /// A file that is executable.
+    Exec,
     Dir,
     Link,
     Nothing,
@@ -69,6 +71,7 @@ const VERBS: &[(&str, Verb)] = &[
     ("create", Verb::Edit(Edit::Create)),
     ("remove", Verb::Edit(Edit::Remove)),
     ("put-file", Verb::Put(Put::File)),
+    ("put-exec", Verb::Put(Put::Exec)),
     ("put-dir", Verb::Put(Put::Dir)),
     ("put-link", Verb::Put(Put::Link)),
     ("put-none", Verb::Put(Put::Nothing)),

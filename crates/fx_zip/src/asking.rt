@@ -24,9 +24,9 @@ use std::alloc::Global;
 use std::sync::ledger::Ledger;
 
 impl Zip {
-    /// What the form at the place gives: a file's bytes, a directory's names, a link's text, a focus's text, a
-    /// comprehension's set, whether an option's entry is there, or whether a predicate is true. It is of the wrong form
-    /// where that has another shape.
+    /// What the form at the place gives: a file's bytes, or whether it is executable where a truth value is asked for; a
+    /// directory's names, a link's text, a focus's text, a comprehension's set, whether an option's entry is there, or
+    /// whether a predicate is true. It is of the wrong form where that has another shape.
     pub fn fetch<R: Reader, L: Ledger>(
         &mut self,
         alloc: Global,

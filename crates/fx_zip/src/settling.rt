@@ -44,7 +44,8 @@ impl Zip {
         Ok(())
     }
 
-    /// The place of the address.
+    /// The place of the address, which is lent as long as the zipper is; `find` and then `here` say besides what the zipper
+    /// is afterwards.
     pub fn place<R: Reader, L: Ledger>(
         &mut self,
         alloc: Global,

@@ -25,8 +25,9 @@ use std::sync::Arc;
 /// An address in a described filestore, with a frame for each of its first steps: the path there, and the values of the
 /// names bound on the way. Contracts see the root description, the address, the frames and the values.
 ///
-/// A call that reads needs a reader that still has all reads of the zipper's earlier calls. After own changes `stored` is
-/// called: the next call that needs the place finds it again from the root on.
+/// A call that reads needs a reader that still has all reads of the zipper's earlier calls. After own changes `edited` is
+/// called, or `stored` where it is not known what they leave untouched: the next call that needs the place finds again what
+/// they forget.
 #[derive(Drop)]
 pub struct Zip {
     pub(crate) base: Arc<Base>,
@@ -470,7 +471,11 @@ fn set_in(last: Option<Frame>) -> Option<TextSet>
 fn set_of(frame: Frame) -> Option<TextSet>
     ensures { result ≡ frame.set }
 {
-    let Frame { path: _, set, reads: _ } = frame;
+    let Frame {
+        path: _,
+        set,
+        reads: _,
+    } = frame;
     set
 }
 

@@ -9,10 +9,10 @@ dropping-init c = (refl, refl, λ reads own h. h)
 
 pub dropping-preserved : goal.dropping-preserved
 dropping-preserved c = (
-    ap (λ (z : ZipTree). z.root) c.shorten.ensures ∙ c.dropping.invariant.0,
-    ap (λ (z : ZipTree). z.address) c.shorten.ensures ∙ c.dropping.invariant.1,
-    λ reads own h. subst (IsFresh reads own) (sym c.shorten.ensures) (fresh_shorter reads own c.dropping.self (c.dropping.invariant.2 reads own h)),
-  )
+  ap (λ (z : ZipTree). z.root) c.shorten.ensures ∙ c.dropping.invariant.0,
+  ap (λ (z : ZipTree). z.address) c.shorten.ensures ∙ c.dropping.invariant.1,
+  λ reads own h. subst (IsFresh reads own) (sym c.shorten.ensures) (fresh_shorter reads own c.dropping.self (c.dropping.invariant.2 reads own h)),
+)
 
 pub dropping-smaller : goal.dropping-smaller
 dropping-smaller c =
