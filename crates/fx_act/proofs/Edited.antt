@@ -17,13 +17,13 @@ use Rattle.fx_rules.specs.Answering.{answered}
 use Rattle.fx_view.specs.declared.reader.Stop.{Stop}
 use Rattle.fx_view.specs.Follows.{GoesBy}
 use Rattle.fx_view.specs.Meaning.{Meaning}
-use Rattle.fx_view.specs.Own.{own_at, AreRead}
+use Rattle.fx_view.specs.Own.{own_at, AreRead, SameOver}
 use Rattle.fx_view.specs.OwnList.{OwnList}
 use Rattle.fx_view.specs.ReadList.{ReadList}
 use Rattle.fx_base.proofs.Errors.{err_of}
 use Rattle.fx_view.proofs.Rulings.{by_same, by_then, by_then_answer, by_stop}
 use Rattle.fx_zip.specs.Calls.{Finds, place_needed}
-use Rattle.fx_zip.specs.Fresh.{IsFresh, SameOver}
+use Rattle.fx_zip.specs.Fresh.{IsFresh}
 use Rattle.fx_zip.specs.Trees.{ZipTree, here}
 use Rattle.fx_zip.proofs.Standing.{fresh_grows}
 use Rattle.fx_act.specs.declared.walk.Walk.{Walk}

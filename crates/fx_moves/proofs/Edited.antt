@@ -7,7 +7,7 @@ use Rattle.fx_spec.specs.declared.refusal.Refusal.{Refusal}
 use Rattle.fx_spec.specs.Move.{Answered}
 use Rattle.fx_view.specs.Follows.{GoesBy}
 use Rattle.fx_view.specs.Meaning.{Meaning}
-use Rattle.fx_view.specs.Own.{own_at}
+use Rattle.fx_view.specs.Own.{own_at, SameOver}
 use Rattle.fx_view.specs.OwnList.{OwnList}
 use Rattle.fx_view.specs.ReadList.{ReadList}
 use Rattle.fx_base.proofs.Errors.{err_of}
@@ -15,7 +15,7 @@ use Rattle.fx_rules.specs.declared.halt.Halt.{Halt}
 use Rattle.fx_rules.specs.declared.halt.Halt.TheVariants as halt
 use Rattle.fx_rules.specs.Halts.{split}
 use Rattle.fx_edit.specs.Edits.{Edits, done}
-use Rattle.fx_zip.specs.Fresh.{IsFresh, SameOver}
+use Rattle.fx_zip.specs.Fresh.{IsFresh}
 use Rattle.fx_zip.specs.Trees.{ZipTree}
 use Rattle.fx_zip.proofs.Standing.{fresh_grows}
 use Rattle.fx_moves.specs.Ready.{IsAfter}

@@ -2,9 +2,9 @@
 use Rattle.std.specs.Prelude.{ℕ, Result, Ok, Err, take}
 use Rattle.fx_store.specs.Rule.{Known}
 use Rattle.fx_spec.specs.declared.refusal.Refusal.{Refusal}
-use Rattle.fx_view.specs.Own.{own_at}
+use Rattle.fx_view.specs.Own.{own_at, SameOver}
 use Rattle.fx_view.specs.ReadList.{ReadList}
-use Rattle.fx_zip.specs.Fresh.{IsFresh, SameOver}
+use Rattle.fx_zip.specs.Fresh.{IsFresh}
 use Rattle.fx_zip.specs.Trees.{ZipTree}
 use Rattle.fx_moves.specs.declared.walk.Walk.{Walk}
 

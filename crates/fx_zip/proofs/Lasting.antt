@@ -8,21 +8,13 @@ use Rattle.fx_spec.specs.Describe.{Bindings}
 use Rattle.fx_spec.specs.Place.{Address, placed, lead}
 use Rattle.fx_spec.specs.SpecTree.{SpecTree}
 use Rattle.fx_view.specs.ReadList.{ReadList}
+use Rattle.fx_view.specs.Own.{SameOver}
 use Rattle.fx_view.specs.Reads.{known_of}
 use Rattle.fx_view.proofs.Growing.{Grows, Grows-reads}
 use Rattle.fx_zip.specs.declared.frame.Frame.{Frame}
-use Rattle.fx_zip.specs.Fresh.{around, around_last, around_frame, shorter, IsSetOf, AreFound, IsFresh, SameOver, are_told}
+use Rattle.fx_zip.specs.Fresh.{around, around_last, around_frame, shorter, IsSetOf, AreFound, IsFresh, are_told}
 use Rattle.fx_zip.specs.Parts.{child, part}
 use Rattle.fx_zip.specs.Trees.{ZipTree, path_of}
-use Rattle.std.specs.Prelude.{cond}
-use Rattle.std.specs.Ordering.{eq_by_cmp}
-use Rattle.std.proofs.lemmas.Bool.{false≢true}
-use Rattle.fx_store.specs.declared.changes.Change.{Change}
-use Rattle.fx_store.specs.Names.{path_cmp}
-use Rattle.fx_store.specs.Orders.{path_eq_same}
-use Rattle.fx_view.specs.Own.{own_at, put_own, put_all}
-use Rattle.fx_view.specs.OwnList.{OwnList}
-use Rattle.fx_view.proofs.Owning.{own_at-put}
 use Rattle.fx_zip.specs.Steps.{turned}
 use Rattle.fx_zip.proofs.Standing.{IsMore, found_length}
 use Rattle.fx_zip.proofs.Turning.{turned_at, turned-last}
@@ -182,20 +174,3 @@ not_told n frames i f at more =
 pub told_more : (n : ℕ) (frames next : List Frame) (f : Frame) → next ≡ frames ++ f ∷ [] → f.reads ≤ n → are_told n (turned (λ f. f) frames) ≡ true → are_told n (turned (λ f. f) next) ≡ true
 told_more n frames next f is few told =
     ap (are_told n) (ap (turned (λ f. f)) is ∙ turned-last (λ f. f) frames f) ∙ both_told (nat_le f.reads n) (are_told n (turned (λ f. f) frames)) (within_is f.reads n few) told
-
--- ---- own changes at paths that the first reads don't have
-
-abbrev pub AreElsewhere : ReadList → List Change → Type 0
-AreElsewhere reads [] = Unit {0}
-AreElsewhere reads (c ∷ cs) = (known_of reads c.path ≡ None) × AreElsewhere reads cs
-
-put_elsewhere : (reads : ReadList) (own : OwnList) (c : Change) → known_of reads c.path ≡ None → SameOver reads (own_at own) (own_at (put_own own c.path c.node))
-put_elsewhere reads own c none p some = at (eq_by_cmp path_cmp p c.path) refl ∙ sym (own_at-put own c.path c.node p)
-  where
-    at : (b : Bool) → eq_by_cmp path_cmp p c.path ≡ b → own_at own p ≡ cond b (Some c.node) (own_at own p)
-    at true e = let gone : known_of reads p ≡ None = ap (known_of reads) (path_eq_same p c.path e) ∙ none in absurd (false≢true (sym (ap is_some gone) ∙ some))
-    at false e = refl
-
-pub edits_elsewhere : (reads : ReadList) (own : OwnList) (cs : List Change) → AreElsewhere reads cs → SameOver reads (own_at own) (own_at (put_all own cs))
-edits_elsewhere reads own [] apart p some = refl
-edits_elsewhere reads own (c ∷ cs) apart p some = put_elsewhere reads own c apart.0 p some ∙ edits_elsewhere reads (put_own own c.path c.node) cs apart.1 p some

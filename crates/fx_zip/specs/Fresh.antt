@@ -1,7 +1,7 @@
 -- A zipper whose frames are those of the places that its steps have over what is known, with the own changes on top.
 use Rattle.fx_view.specs.ReadList.{ReadList}
 use Rattle.fx_view.specs.Reads.{known_of}
-use Rattle.std.specs.Prelude.{◌≡◌, ℕ, ◌-◌, Bool, true, false, cond, List, [], ◌∷◌, ◌++◌, length, take, drop, Option, Some, None, Ok, ◌&&◌, nat_le, IsSome}
+use Rattle.std.specs.Prelude.{◌≡◌, ℕ, ◌-◌, Bool, true, false, cond, List, [], ◌∷◌, ◌++◌, length, take, drop, Option, Some, None, Ok, ◌&&◌, nat_le}
 use Rattle.fx_store.specs.Rule.{Known, Found, follow}
 use Rattle.fx_expr.specs.Eval.{Outcome, eval_of}
 use Rattle.fx_spec.specs.Describe.{Bindings}
@@ -107,10 +107,6 @@ left z =
 -- the zipper does not stand at an element whose set is kept
 abbrev pub IsNoElement : ZipTree → Type 0
 IsNoElement z = (t : List ℕ) → last_step z.address ≡ Some (Elem t) → last_set z.frames ≡ None
-
--- the one has the same own changes as the other wherever something was read
-abbrev pub SameOver : ReadList → Known → Known → Type 0
-SameOver reads own now = (p : List (List ℕ)) → IsSome (known_of reads p) → own p ≡ now p
 
 -- each frame's place is told by as many reads at most
 abbrev pub are_told : ℕ → List Frame → Bool
