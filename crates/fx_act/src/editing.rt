@@ -1,5 +1,4 @@
-//! Edits at the place where a transaction walks. The zipper keeps what it found by reads that the own changes leave untouched,
-//! and finds the rest of its place again.
+//! Edits at the place where a transaction walks. The zipper finds its place again after own changes.
 ghost use Rattle.fx_expr.specs.Views.{expr_tree, tree_of};
 ghost use Rattle.fx_spec.specs.CommandTree.{ActTree};
 ghost use Rattle.fx_spec.specs.Edit as edit;
@@ -54,8 +53,8 @@ impl Walk {
             (edit.store_at (tree_of value.now)))) result }
     {
         self.zip.find(alloc, reader, &self.overlay, steps)?;
-        let untouched = store(alloc, reader, &mut self.overlay, &self.zip.here(), value)?;
-        self.zip.edited(untouched);
+        store(alloc, reader, &mut self.overlay, &self.zip.here(), value)?;
+        self.zip.stored();
         Ok(())
     }
 
@@ -72,8 +71,8 @@ impl Walk {
             (editing (at_place self.old.zip.root self.old.zip.address edit.create_at)) result }
     {
         self.zip.find(alloc, reader, &self.overlay, steps)?;
-        let untouched = create(alloc, reader, &mut self.overlay, &self.zip.here())?;
-        self.zip.edited(untouched);
+        create(alloc, reader, &mut self.overlay, &self.zip.here())?;
+        self.zip.stored();
         Ok(())
     }
 
@@ -90,8 +89,8 @@ impl Walk {
             (editing (at_place self.old.zip.root self.old.zip.address edit.remove_at)) result }
     {
         self.zip.find(alloc, reader, &self.overlay, steps)?;
-        let untouched = remove(alloc, reader, &mut self.overlay, &self.zip.here())?;
-        self.zip.edited(untouched);
+        remove(alloc, reader, &mut self.overlay, &self.zip.here())?;
+        self.zip.stored();
         Ok(())
     }
 }

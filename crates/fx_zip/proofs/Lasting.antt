@@ -1,19 +1,19 @@
 -- Frames that last over own changes: a rule is followed as before where the own changes are as before at all that was read.
-use Rattle.std.proofs.Common.{◌≡◌, ℕ, zero, suc, ◌+◌, ◌-◌, ◌≤◌, ◌<◌, Bool, true, false, ◌&&◌, List, [], ◌∷◌, ◌++◌, length, take, drop, Option, Some, None, IsSome, is_some, refl, sym, ap, ◌∙◌, subst, arith, append_assoc, length-append, length-drop, take-append-drop}
-use Rattle.std.specs.Prelude.{nat_le, nat_eq, slice_get}
+use Rattle.std.proofs.Common.{◌≡◌, ℕ, zero, suc, ◌+◌, ◌-◌, ◌≤◌, ◌<◌, Bool, true, false, ◌&&◌, List, [], ◌∷◌, ◌++◌, length, take, drop, Option, Some, None, IsSome, is_some, refl, sym, ap, ◌∙◌, subst, arith, append_assoc, length-append}
+use Rattle.std.specs.Prelude.{nat_le, slice_get}
 use Rattle.std.proofs.lemmas.Bool.Decides.{nat_tests}
 use Rattle.fx_store.specs.declared.node.Node.{Node}
-use Rattle.fx_store.specs.Rule.{Known, Ask, Answer, Look, Tick, Outcome, Found, follow, if_known, seen}
+use Rattle.fx_store.specs.Rule.{Known, Ask, Answer, Look, Tick, follow, if_known, seen}
 use Rattle.fx_spec.specs.Describe.{Bindings}
-use Rattle.fx_spec.specs.Place.{Address, placed, lead}
+use Rattle.fx_spec.specs.Place.{Address, lead}
 use Rattle.fx_spec.specs.SpecTree.{SpecTree}
 use Rattle.fx_view.specs.ReadList.{ReadList}
 use Rattle.fx_view.specs.Own.{SameOver}
 use Rattle.fx_view.specs.Reads.{known_of}
 use Rattle.fx_view.proofs.Growing.{Grows, Grows-reads}
 use Rattle.fx_zip.specs.declared.frame.Frame.{Frame}
-use Rattle.fx_zip.specs.Fresh.{around, around_last, around_frame, shorter, IsSetOf, AreFound, IsFresh, are_told}
-use Rattle.fx_zip.specs.Parts.{child, part}
+use Rattle.fx_zip.specs.Fresh.{around, around_last, around_frame, shorter, AreFound, IsFresh, are_told}
+use Rattle.fx_zip.specs.Parts.{part}
 use Rattle.fx_zip.specs.Trees.{ZipTree, path_of}
 use Rattle.fx_zip.specs.Steps.{turned}
 use Rattle.fx_zip.proofs.Standing.{IsMore, found_length}

@@ -15,8 +15,7 @@ use Rattle.fx_view.specs.ReadList.{ReadList}
 use Rattle.std.specs.Prelude.{IfOk}
 use Rattle.std.specs.Option.{IfSome}
 use Rattle.fx_view.proofs.Calls.{went_by, follows_stop, follows_then_answer}
-use Rattle.fx_view.proofs.Going.{Went-none, Went-grows}
-use Rattle.fx_view.proofs.Growing.{Grows}
+use Rattle.fx_view.proofs.Going.{Went-none}
 use Rattle.fx_rules.specs.declared.halt.Halt.{Halt}
 use Rattle.fx_rules.specs.Answering.{answered}
 use Rattle.fx_rules.specs.Halts.{split}

@@ -1,5 +1,5 @@
 -- Accepted calls evaluate no more often than each by itself.
-use Rattle.std.proofs.Common.{◌≡◌, ℕ, ◌+◌, ◌≤◌, Bool, true, false, cond, List, [], ◌∷◌, Result, Ok, Err, refl, sym, ap, ◌∙◌, subst, arith}
+use Rattle.std.proofs.Common.{◌≡◌, ℕ, ◌+◌, ◌≤◌, Bool, true, false, cond, List, [], ◌∷◌, Result, Ok, refl, sym, ap, ◌∙◌, subst, arith}
 use Rattle.std.specs.Str.{is_utf8, chars}
 use lib.Utf8.{encode}
 use Rattle.fx_store.specs.Rule.{Known, Ask, answer, ticks, changed}
@@ -7,7 +7,6 @@ use Rattle.fx_store.specs.Whole.{Store}
 use Rattle.fx_store.specs.Names.{is_name}
 use Rattle.fx_store.specs.Resolve.{resolve}
 use Rattle.fx_expr.specs.ShapeTree.{ShapeTree}
-use Rattle.fx_expr.specs.Tree.{Tree}
 use Rattle.fx_expr.specs.Views.{tree_of}
 use Rattle.fx_expr.specs.declared.value.Value.{Value}
 use Rattle.fx_spec.specs.declared.refusal.Refusal.{Refusal}
@@ -15,7 +14,6 @@ use Rattle.fx_spec.specs.Describe.{value}
 use Rattle.fx_spec.specs.Move.{Answered, at_place, go_into, go_to, go_next, go_down, go_out, go_up, fetch_at}
 use Rattle.fx_spec.specs.Place.{First, Second, Inside, Elem, Address, place}
 use Rattle.fx_spec.specs.Place as steps
-use Rattle.fx_spec.specs.SpecTree.{SpecTree}
 use Rattle.fx_spec.specs.Transaction.{from_place}
 use Rattle.fx_view.specs.Meaning.{Meaning}
 use Rattle.fx_view.specs.Reads.{known_of, Agrees}

@@ -1,5 +1,5 @@
 -- Calls of a zipper one after another, and how often they evaluate together.
-use Rattle.std.specs.Prelude.{◌≡◌, ℕ, ◌+◌, ◌≤◌, List, [], ◌∷◌, Result, Ok, Err, codes}
+use Rattle.std.specs.Prelude.{◌≡◌, ℕ, ◌+◌, ◌≤◌, false, List, [], ◌∷◌, Ok, Err, codes}
 use Rattle.fx_store.specs.declared.node.Node.TheVariants.{File, Dir}
 use Rattle.fx_store.specs.Examples.{store_of}
 use Rattle.fx_store.specs.Rule.{Known, Ask, answer, ticks, changed}
@@ -8,7 +8,6 @@ use Rattle.fx_expr.specs.ExprTree.{ExprTree}
 use Rattle.fx_expr.specs.ShapeTree.{ShapeTree}
 use Rattle.fx_expr.specs.Views.{tree_of}
 use Rattle.fx_expr.specs.declared.value.Value.{Value}
-use Rattle.fx_spec.specs.declared.refusal.Refusal.{Refusal}
 use Rattle.fx_spec.specs.Describe.{value}
 use Rattle.fx_spec.specs.Evals.{evals_with}
 use Rattle.fx_spec.specs.Move.{Answered, at_place, go_into, go_to, go_next, go_down, go_out, go_up, fetch_at}

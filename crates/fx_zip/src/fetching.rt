@@ -16,7 +16,6 @@ ghost use Rattle.fx_walk.specs.Scopes.{HasScope};
 ghost use Rattle.fx_zip.specs.Calls.{value_needed};
 
 use crate::evaluating::evaluate;
-use crate::flags::flag_at;
 use crate::shapes::{asks_flag, has_fetch_shape, has_value_shape};
 use fx_base::Steps;
 use fx_expr::{Env, Shape, Value};
@@ -24,7 +23,7 @@ use fx_rules::Halt;
 use fx_spec::{Refusal, Spec};
 use fx_store::Path;
 use fx_view::{Overlay, Reader, Stop};
-use fx_walk::{exists, value_in};
+use fx_walk::{exists, file_flag, value_in};
 use std::alloc::Global;
 use std::sync::ledger::Ledger;
 
@@ -140,6 +139,22 @@ fn entry_at<R: Reader>(
 {
     let there = exists(alloc, reader, overlay, path)?;
     Ok(Value::Bool(there))
+}
+
+/// The flag of the file, which has to be there.
+fn flag_at<R: Reader>(
+    alloc: Global,
+    reader: &mut R,
+    overlay: &Overlay,
+    path: &Path,
+) -> Result<Value, Halt>
+    ensures follows { Consults R.meaning (answered tree_of) (own_at overlay.now)
+        reader.old reader.new (move.flag_at path.now) (split result) }
+{
+    match file_flag(alloc, reader, overlay, path)? {
+        Some(flag) => Ok(flag),
+        None => Err(Halt::Refused(Refusal::Lacks)),
+    }
 }
 
 /// The value of the description, which has to be there.

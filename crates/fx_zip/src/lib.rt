@@ -5,7 +5,6 @@
 mod asking;
 mod evaluating;
 mod fetching;
-mod flags;
 mod forms;
 mod frame;
 pub mod laws;

@@ -1,10 +1,10 @@
-use Rattle.std.proofs.Common.{sym, ◌∙◌}
-use Rattle.fx_store.specs.Rule.{Ask}
-use Rattle.fx_expr.specs.Tree.{Tree}
+use Rattle.std.proofs.Common.{Err, sym, ◌∙◌}
 use Rattle.fx_expr.specs.Views.{shape_tree}
-use Rattle.fx_spec.specs.Move.{Answered, asks_flag, flag_at, fetched, has_fetch_shape, fetch_shape, of_shape}
+use Rattle.fx_spec.specs.declared.refusal.Refusal.{Refusal}
+use Rattle.fx_spec.specs.Move.{asks_flag, flag_at, fetched, has_fetch_shape, fetch_shape, of_shape}
 use Rattle.fx_spec.specs.Views.{spec_tree}
 use Rattle.fx_view.specs.Own.{own_at}
+use Rattle.fx_rules.specs.declared.halt.Halt.TheVariants as halt
 use Rattle.fx_zip.proofs.Questions.{flag_follows, form_follows, shaped_follows, misshaped}
 use Rattle.fx_zip.proofs.fetching.fetch_at.Goals as goal
 
@@ -22,5 +22,5 @@ returns-then-has_fetch_shape-clause-follows g c =
 pub returns-else-has_fetch_shape-clause-follows : goal.returns-else-has_fetch_shape-clause-follows
 returns-else-has_fetch_shape-clause-follows g c =
     form_follows g.R.Reader.meaning (own_at c.args.overlay.now) (c.args.reader.now, c.args.steps.now) (c.args.reader.now, c.args.steps.now) (asks_flag (shape_tree c.args.shape.now) (spec_tree c.args.spec.now)) (flag_at c.args.path.now)
-    (of_shape (has_fetch_shape (shape_tree c.args.shape.now) (fetch_shape (spec_tree c.args.spec.now))) (fetched c.args.path.now c.args.env.now (spec_tree c.args.spec.now))) _ (sym c.asks_flag.ensures ∙ c.if-asks_flag.false)
+    (of_shape (has_fetch_shape (shape_tree c.args.shape.now) (fetch_shape (spec_tree c.args.spec.now))) (fetched c.args.path.now c.args.env.now (spec_tree c.args.spec.now))) (Err (halt.Refused Refusal.WrongForm)) (sym c.asks_flag.ensures ∙ c.if-asks_flag.false)
     (misshaped g.R.Reader.meaning (own_at c.args.overlay.now) (c.args.reader.now, c.args.steps.now) (has_fetch_shape (shape_tree c.args.shape.now) (fetch_shape (spec_tree c.args.spec.now))) (fetched c.args.path.now c.args.env.now (spec_tree c.args.spec.now)) (sym c.has_fetch_shape.ensures ∙ c.if-has_fetch_shape.false))

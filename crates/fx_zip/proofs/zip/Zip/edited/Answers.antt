@@ -1,4 +1,4 @@
-use Rattle.std.proofs.Common.{◌≡◌, ◌<◌, length, refl, sym, ap, ◌∙◌, subst}
+use Rattle.std.proofs.Common.{◌<◌, length, refl, sym, ap, ◌∙◌, subst}
 use Rattle.fx_zip.specs.Fresh.{IsFresh}
 use Rattle.fx_zip.specs.Trees.{ZipTree}
 use Rattle.fx_zip.proofs.Lasting.{fresh_lasts, fresh_shorter, some_frame}

@@ -1,4 +1,4 @@
-use Rattle.std.proofs.Common.{◌≡◌, ℕ, List, ◌-◌, length, drop, None, ap, ◌∙◌, arith}
+use Rattle.std.proofs.Common.{◌≡◌, List, ◌-◌, length, drop, None, ap, ◌∙◌, arith}
 use Rattle.fx_zip.specs.declared.step.Step.{Step}
 use Rattle.fx_zip.specs.Fresh.{around_last, around_frame, shorter}
 use Rattle.fx_zip.specs.Steps.{step_tree, turned}
