@@ -1,5 +1,5 @@
 -- What an edit comes to: its changes are put, it is refused, or it stops.
-use Rattle.std.proofs.Common.{◌≡◌, Bool, true, false, cond, List, [], ◌∷◌, ◌++◌, Option, Some, Result, Ok, Err, refl, sym, subst, ap, ◌∙◌}
+use Rattle.std.proofs.Common.{◌≡◌, ℕ, Bool, true, false, cond, List, [], ◌∷◌, ◌++◌, Option, Some, Result, Ok, Err, refl, sym, subst, ap, ◌∙◌}
 use Rattle.std.specs.Prelude.{IsErrAnd}
 use mathlib.Core.Path.{fun_ext}
 use Rattle.std.specs.Ordering.{eq_by_cmp}
@@ -26,7 +26,7 @@ use Rattle.fx_rules.specs.declared.halt.Halt.{Halt}
 use Rattle.fx_rules.specs.declared.halt.Halt.TheVariants as halt
 use Rattle.fx_rules.specs.Answering.{answered}
 use Rattle.fx_rules.specs.Halts.{split}
-use Rattle.fx_edit.specs.Edits.{Edits}
+use Rattle.fx_edit.specs.Edits.{Edits, done}
 
 -- ---- own changes that are put on top
 
@@ -68,9 +68,9 @@ module _ {R : Type 0} (m : Meaning R) (before : OwnList) (old mid : R) (rule : A
     whole = λ S agrees whole. tt;
   }
 
-  pub edits_late : (after : OwnList) (changes : List Change) (r : Result (Unit {0}) Halt) → IsErrAnd r (λ h. h ≡ halt.Stopped stop.NoMemory) → GoesBy {X = Result (List Change) Refusal} m (answered (λ (e : Changes). e)) (own_at before) old mid rule (Ok (Ok changes))
-      → Edits m before after old mid rule r
-  edits_late after changes r is h = subst (Edits m before after old mid rule) (sym (err_of r (halt.Stopped stop.NoMemory) is)) (stopped_late after h.1)
+  pub edits_late : (after : OwnList) (changes : List Change) (r : Result ℕ Halt) → IsErrAnd r (λ h. h ≡ halt.Stopped stop.NoMemory) → GoesBy {X = Result (List Change) Refusal} m (answered (λ (e : Changes). e)) (own_at before) old mid rule (Ok (Ok changes))
+      → Edits m before after old mid rule (done r)
+  edits_late after changes r is h = subst (λ r. Edits m before after old mid rule (done r)) (sym (err_of r (halt.Stopped stop.NoMemory) is)) (stopped_late after h.1)
 
   -- it is refused or stops before
   halted : (e : Halt) → GoesBy {X = Result (List Change) Refusal} m (answered (λ (e : Changes). e)) (own_at before) old mid rule (split (Err e)) → Edits m before before old mid rule (Err e)
@@ -86,8 +86,8 @@ module _ {R : Type 0} (m : Meaning R) (before : OwnList) (old mid : R) (rule : A
   }
   halted (halt.Stopped stop.NoMemory) h = stopped_late before h
 
-  pub edits_halt : (e : Halt) (r : Result (Unit {0}) Halt) → IsErrAnd r (λ h. h ≡ e) → GoesBy {X = Result (List Change) Refusal} m (answered (λ (e : Changes). e)) (own_at before) old mid rule (split (Err e)) → Edits m before before old mid rule r
-  edits_halt e r is h = subst (Edits m before before old mid rule) (sym (err_of r e is)) (halted e h)
+  pub edits_halt : (e : Halt) (r : Result ℕ Halt) → IsErrAnd r (λ h. h ≡ e) → GoesBy {X = Result (List Change) Refusal} m (answered (λ (e : Changes). e)) (own_at before) old mid rule (split (Err e)) → Edits m before before old mid rule (done r)
+  edits_halt e r is h = subst (λ r. Edits m before before old mid rule (done r)) (sym (err_of r e is)) (halted e h)
 
 -- one change more is put
 pub put_all-push : (own : OwnList) (cs : List Change) (c : Change) → put_all own (cs ++ c ∷ []) ≡ put_own (put_all own cs) c.path c.node

@@ -12,3 +12,4 @@ pub mod Edited
 pub mod Removes
 pub mod Naming
 pub mod Done
+pub mod Untouched

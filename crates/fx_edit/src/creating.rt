@@ -1,12 +1,13 @@
 //! `create`: an empty file or directory, where nothing is yet.
-ghost use Rattle.std.specs.Prelude.{◌≡◌, false};
+ghost use Rattle.std.specs.Prelude.{◌≡◌, false, take, IfOk};
 ghost use Rattle.fx_rules.specs.Answering.{answered};
 ghost use Rattle.fx_rules.specs.Halts.{split};
 ghost use Rattle.fx_spec.specs.Edit as edit;
 ghost use Rattle.fx_view.specs.Follows.{GoesBy};
-ghost use Rattle.fx_view.specs.Own.{own_at};
+ghost use Rattle.fx_view.specs.Own.{own_at, SameOver};
 ghost use Rattle.fx_walk.specs.Places.{place_tree};
 ghost use Rattle.fx_edit.specs.Edits as says;
+ghost use Rattle.fx_edit.specs.Edits.{done, IsNextSet};
 ghost use Rattle.fx_edit.specs.Rules.{create_there};
 
 use crate::edits::Edits;
@@ -20,20 +21,26 @@ use std::alloc::Global;
 
 /// Makes an empty file or directory at a place, with the missing directories on the way; the bare form of an option is that of
 /// its part, and of a pair that of its first part. A last link is not followed. Refused: NoDefault, Exists, Blocked, TooDeep.
-/// After a refusal the own changes are as before.
+/// After a refusal the own changes are as
+/// before. Answers how many of the reader's first reads are at none of the changed paths.
 pub fn create<R: Reader>(
     alloc: Global,
     reader: &mut R,
     overlay: &mut Overlay,
     place: &Place,
-) -> Result<(), Halt>
-    ensures { says.Edits R.meaning overlay.old overlay.new reader.old reader.new
-        (edit.create_at (place_tree place.now)) result }
+) -> Result<u64, Halt>
+    ensures edits { says.Edits R.meaning overlay.old overlay.new reader.old reader.new
+        (edit.create_at (place_tree place.now)) (done result) }
+    ensures untouched { IfOk result (λ n. SameOver (take n (R.meaning.reads reader.new))
+        (own_at overlay.old) (own_at overlay.new)) }
+    ensures next { IfOk result (IsNextSet (R.meaning.reads reader.new) overlay.new) }
 {
     // The place's path is within its limits.
     prove!(place.path.len() <= 64);
     let edits = created(alloc, reader, overlay, place)?;
-    Ok(edits.put_all(alloc, overlay)?)
+    let untouched = edits.untouched(reader.reads());
+    edits.put_all(alloc, overlay)?;
+    Ok(untouched)
 }
 
 /// The changes of a creation.

@@ -4,11 +4,12 @@ ghost use Rattle.fx_store.specs.Changes.{changed_paths};
 ghost use Rattle.fx_spec.specs.Edit.{set_to, removed};
 ghost use Rattle.fx_view.specs.Follows.{GoesBy};
 ghost use Rattle.fx_view.specs.Own.{own_at, put_all};
+ghost use Rattle.fx_view.specs.Reads.{count_before};
 ghost use Rattle.fx_edit.specs.Rules.{looking};
 
 use fx_base::NoMemory;
 use fx_store::{Change, Node, Path};
-use fx_view::{Overlay, Reader, Stop, look};
+use fx_view::{Overlay, Reader, Reads, Stop, look};
 use std::alloc::Global;
 use std::marker::Model;
 
@@ -80,6 +81,17 @@ impl Edits {
             let_go(look(alloc, reader, overlay, &self.changes[i].path)?);
         }
         Ok(())
+    }
+
+    /// How many of the reads come before the first at a changed path.
+    pub(crate) fn untouched(&self, reads: &Reads) -> u64
+        ensures { result ≡ count_before (changed_paths self.now) reads.now }
+    {
+        let mut count = reads.len();
+        for change in self.changes.iter() {
+            count = count.min(reads.count_before(&change.path));
+        }
+        count
     }
 
     /// Sets the changes on top of those made before.

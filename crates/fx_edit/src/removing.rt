@@ -1,14 +1,15 @@
 //! `remove`: the entry at a place's own path goes, with all below it.
-ghost use Rattle.std.specs.Prelude.{◌≡◌, ◌∷◌, [], false};
+ghost use Rattle.std.specs.Prelude.{◌≡◌, ◌∷◌, [], false, take, IfOk};
 ghost use Rattle.fx_store.specs.declared.node.Node.TheVariants.{Dir};
 ghost use Rattle.fx_store.specs.Rule as rule;
 ghost use Rattle.fx_rules.specs.Answering.{answered};
 ghost use Rattle.fx_rules.specs.Halts.{split};
 ghost use Rattle.fx_spec.specs.Edit as edit;
 ghost use Rattle.fx_view.specs.Follows.{GoesBy};
-ghost use Rattle.fx_view.specs.Own.{own_at};
+ghost use Rattle.fx_view.specs.Own.{own_at, SameOver};
 ghost use Rattle.fx_walk.specs.Places.{place_tree};
 ghost use Rattle.fx_edit.specs.Edits as says;
+ghost use Rattle.fx_edit.specs.Edits.{done, IsNextSet};
 ghost use Rattle.fx_edit.specs.Rules.{HasLast, removing, remove_there};
 
 use crate::clearing::clear;
@@ -23,20 +24,25 @@ use std::alloc::Global;
 
 /// Removes the entry at a place's own path, with all below it and with its name in the directory above, whatever the place's
 /// form is. A last link is not followed. Refused: Blocked, at the root too, and Absent. After a refusal the own changes are as
-/// before.
+/// before. Answers how many of the reader's first reads are at none of the changed paths.
 pub fn remove<R: Reader>(
     alloc: Global,
     reader: &mut R,
     overlay: &mut Overlay,
     place: &Place,
-) -> Result<(), Halt>
-    ensures { says.Edits R.meaning overlay.old overlay.new reader.old reader.new
-        (edit.remove_at (place_tree place.now)) result }
+) -> Result<u64, Halt>
+    ensures edits { says.Edits R.meaning overlay.old overlay.new reader.old reader.new
+        (edit.remove_at (place_tree place.now)) (done result) }
+    ensures untouched { IfOk result (λ n. SameOver (take n (R.meaning.reads reader.new))
+        (own_at overlay.old) (own_at overlay.new)) }
+    ensures next { IfOk result (IsNextSet (R.meaning.reads reader.new) overlay.new) }
 {
     // The place's path is within its limits.
     prove!(place.path.len() <= 64);
     let edits = gone(alloc, reader, overlay, place.path)?;
-    Ok(edits.put_all(alloc, overlay)?)
+    let untouched = edits.untouched(reader.reads());
+    edits.put_all(alloc, overlay)?;
+    Ok(untouched)
 }
 
 /// The changes of a removal.

@@ -1,5 +1,5 @@
 //! `store`: a value becomes the content of the node where a place's path lands.
-ghost use Rattle.std.specs.Prelude.{◌≡◌, ◌∷◌, [], IfOk};
+ghost use Rattle.std.specs.Prelude.{◌≡◌, ◌∷◌, [], IfOk, take};
 ghost use Rattle.fx_store.specs.declared.node.Node.TheVariants.{File, Dir};
 ghost use Rattle.fx_store.specs.Rule as rule;
 ghost use Rattle.fx_expr.specs.Views.{tree_of};
@@ -7,9 +7,10 @@ ghost use Rattle.fx_rules.specs.Answering.{answered};
 ghost use Rattle.fx_rules.specs.Halts.{split};
 ghost use Rattle.fx_spec.specs.Edit as edit;
 ghost use Rattle.fx_view.specs.Follows.{GoesBy};
-ghost use Rattle.fx_view.specs.Own.{own_at};
+ghost use Rattle.fx_view.specs.Own.{own_at, SameOver};
 ghost use Rattle.fx_walk.specs.Places.{place_tree};
 ghost use Rattle.fx_edit.specs.Edits as says;
+ghost use Rattle.fx_edit.specs.Edits.{done, IsNextSet};
 ghost use Rattle.fx_edit.specs.Kinds.{is_file, is_dir, is_link, is_alike, old_file};
 ghost use Rattle.fx_edit.specs.Rules.{store_there};
 
@@ -28,21 +29,27 @@ use std::alloc::Global;
 /// Makes the value the content of the node at a place: a text at a file or a link, a set of names at a directory, whose new
 /// names are empty files from then on, and whose dropped ones are gone with all below. A node that is missing is made, with the
 /// directories on the way. A last link is followed, unless the place is a link's. Refused: WrongForm, BadName, TooDeep,
-/// Blocked. After a refusal the own changes are as before.
+/// Blocked. After a refusal the own changes are as
+/// before. Answers how many of the reader's first reads are at none of the changed paths.
 pub fn store<R: Reader>(
     alloc: Global,
     reader: &mut R,
     overlay: &mut Overlay,
     place: &Place,
     value: &Value,
-) -> Result<(), Halt>
-    ensures { says.Edits R.meaning overlay.old overlay.new reader.old reader.new
-        (edit.store_at (tree_of value.now) (place_tree place.now)) result }
+) -> Result<u64, Halt>
+    ensures edits { says.Edits R.meaning overlay.old overlay.new reader.old reader.new
+        (edit.store_at (tree_of value.now) (place_tree place.now)) (done result) }
+    ensures untouched { IfOk result (λ n. SameOver (take n (R.meaning.reads reader.new))
+        (own_at overlay.old) (own_at overlay.new)) }
+    ensures next { IfOk result (IsNextSet (R.meaning.reads reader.new) overlay.new) }
 {
     // The place's path is within its limits.
     prove!(place.path.len() <= 64);
     let edits = stored(alloc, reader, overlay, place, value)?;
-    Ok(edits.put_all(alloc, overlay)?)
+    let untouched = edits.untouched(reader.reads());
+    edits.put_all(alloc, overlay)?;
+    Ok(untouched)
 }
 
 /// The changes of a store.
