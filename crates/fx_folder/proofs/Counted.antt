@@ -16,7 +16,8 @@ use Rattle.fx_store.specs.declared.node.Node.TheVariants.{File, Dir, Link}
 use Rattle.fx_store.specs.Names.{path_cmp}
 use Rattle.fx_store.specs.Orders.{path_eq_same}
 use Rattle.fx_folder.specs.Places.{host_entry}
-use Rattle.fx_table.specs.Table.{TableLink, link_at}
+use Rattle.fx_table.specs.declared.line.TableLine.{TableLine}
+use Rattle.fx_table.specs.Table.{TableLink, line_at, links_among}
 use Rattle.fx_folder.specs.Deep.{Held, all_bytes}
 use Rattle.fx_table.specs.Listed.{Mapped}
 use Rattle.fx_folder.specs.LoadLaws.{size_of, sizes_of}
@@ -115,8 +116,12 @@ held_sorted ((n ∷ r, Link text) ∷ es) up = held_sorted es (rest_sorted (n �
 
 -- ---- counts
 
+abbrev pub lines_in : List Mapped → List TableLine
+lines_in es = filter_map line_at es
+
+-- the links of entries
 abbrev pub links_in : List Mapped → List TableLink
-links_in es = filter_map link_at es
+links_in es = links_among (lines_in es)
 
 abbrev pub texts_of : List TableLink → ℕ
 texts_of links = sum_by (λ (l : TableLink). length l.text) links
@@ -124,10 +129,12 @@ texts_of links = sum_by (λ (l : TableLink). length l.text) links
 -- what the root adds to each
 pub count_held : (es : List Mapped) → length (held_of es) + length (links_in es) ≤ length es
 count_held [] = omega arith
-count_held (([], File bytes exec) ∷ es) = let rest = count_held es in omega arith
+count_held (([], File bytes true) ∷ es) = let rest = count_held es in omega arith
+count_held (([], File bytes false) ∷ es) = let rest = count_held es in omega arith
 count_held (([], Dir names) ∷ es) = let rest = count_held es in omega arith
 count_held (([], Link text) ∷ es) = let rest = count_held es in omega arith
-count_held ((n ∷ r, File bytes exec) ∷ es) = let rest = count_held es in omega arith
+count_held ((n ∷ r, File bytes true) ∷ es) = let rest = count_held es in omega arith
+count_held ((n ∷ r, File bytes false) ∷ es) = let rest = count_held es in omega arith
 count_held ((n ∷ r, Dir names) ∷ es) = let rest = count_held es in omega arith
 count_held ((n ∷ r, Link text) ∷ es) = let rest = count_held es in omega arith
 
@@ -142,16 +149,22 @@ more_sizes e es = sum_by-cons (λ (x : Mapped). size_of x.1) e es
 
 pub sum_held : (es : List Mapped) → all_bytes (held_of es) + texts_of (links_in es) ≤ sizes_of es
 sum_held [] = omega arith
-sum_held (([], File bytes exec) ∷ es) = let rest = sum_held es in let all = more_sizes ([], File bytes exec) es in omega arith
+sum_held (([], File bytes true) ∷ es) = let rest = sum_held es in let all = more_sizes ([], File bytes true) es in omega arith
+sum_held (([], File bytes false) ∷ es) = let rest = sum_held es in let all = more_sizes ([], File bytes false) es in omega arith
 sum_held (([], Dir names) ∷ es) = let rest = sum_held es in let all = more_sizes ([], Dir names) es in omega arith
 sum_held (([], Link text) ∷ es) =
     let rest = sum_held es in
     let all = more_sizes ([], Link text) es in
     let link = more_texts (record { path = []; text = text }) (links_in es) in
     omega arith
-sum_held ((n ∷ r, File bytes exec) ∷ es) =
+sum_held ((n ∷ r, File bytes true) ∷ es) =
     let rest = sum_held es in
-    let all = more_sizes (n ∷ r, File bytes exec) es in
+    let all = more_sizes (n ∷ r, File bytes true) es in
+    let held = more_bytes (n ∷ r, file bytes) (held_of es) in
+    omega arith
+sum_held ((n ∷ r, File bytes false) ∷ es) =
+    let rest = sum_held es in
+    let all = more_sizes (n ∷ r, File bytes false) es in
     let held = more_bytes (n ∷ r, file bytes) (held_of es) in
     omega arith
 sum_held ((n ∷ r, Dir names) ∷ es) =

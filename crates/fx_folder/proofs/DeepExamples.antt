@@ -15,4 +15,7 @@ deep_examples = record {
   table_folder = refl;
   deep_table = refl;
   first = refl;
+  flags = refl;
+  flag_of_folder = refl;
+  no_flags = refl;
 }

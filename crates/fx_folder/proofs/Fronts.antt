@@ -22,7 +22,7 @@ use Rattle.fx_outside.proofs.Sorted.{both, first, second, is_less, less_test}
 use Rattle.fx_outside.proofs.Trees.{parts_total}
 use Rattle.fx_folder.specs.Places.{host_entry}
 use Rattle.fx_table.specs.Places.{rest_of, table_name}
-use Rattle.fx_table.specs.Table.{links_of}
+use Rattle.fx_table.specs.Table.{lines_of}
 use Rattle.fx_folder.specs.Deep.{folder_entry, is_table_place, table_entry}
 use Rattle.fx_folder.specs.Folder.{IsReady, IsSaved, IsPartOf, IsPartlySaved, IsFrontOf, entry_or, is_written_before}
 use Rattle.fx_folder.specs.Written.{with_folder, MadePart, IsOpen, with_entry, WrotePart, HasEntries, WroteFront}
@@ -214,7 +214,7 @@ node_place nodes whole p node here = elim (cases_Bool (is_table_place p)) [
 -- what stands for a node of the filestore
 node_entry : (nodes : Nodes) → IsWhole (get nodes) → (p : Parts) (node : Node) → get nodes p ≡ Some node → folder_entry nodes p ≡ host_entry (Some node)
 node_entry nodes whole p node here =
-    ap (λ b. cond b (table_entry (links_of nodes)) (host_entry (get nodes p))) (node_place nodes whole p node here) ∙ ap host_entry here
+    ap (λ b. cond b (table_entry (lines_of nodes)) (host_entry (get nodes p))) (node_place nodes whole p node here) ∙ ap host_entry here
 
 some_of : (o : Option Node) (e : Entry) → host_entry o ≡ Some e → (node : Node) × (o ≡ Some node)
 some_of None e is = cc
@@ -245,7 +245,7 @@ module _ (nodes : Nodes) (whole : IsWhole (get nodes)) (t u : Tree) (at : Parts)
   -- what stands for a node is a node's, where it is not the table
   node_of : (b : Parts) (w : Entry) → is_table_place b ≡ false → folder_entry nodes b ≡ Some w → (y : Node) × (get nodes b ≡ Some y) × (host_entry (Some y) ≡ Some w)
   node_of b w other has_w =
-      let entry : host_entry (get nodes b) ≡ Some w = sym (ap (λ c. cond c (table_entry (links_of nodes)) (host_entry (get nodes b))) other) ∙ has_w in
+      let entry : host_entry (get nodes b) ≡ Some w = sym (ap (λ c. cond c (table_entry (lines_of nodes)) (host_entry (get nodes b))) other) ∙ has_w in
       let some = some_of (get nodes b) w entry in
       (some.0, some.1, ap host_entry (sym some.1) ∙ entry)
 
@@ -322,38 +322,38 @@ module _ (nodes : Nodes) (whole : IsWhole (get nodes)) (t u : Tree) (at : Parts)
   all_inside has p = has.inside p ∙ ap host_entry (sym (get-entries nodes p))
 
   -- all nodes and the table are the folder
-  pub all_saved : HasEntries t u at (entries nodes) → (v : Tree) → v ≡ with_entry u (at ++ table_name ∷ []) (table_entry (links_of nodes)) → IsSaved t v at nodes
+  pub all_saved : HasEntries t u at (entries nodes) → (v : Tree) → v ≡ with_entry u (at ++ table_name ∷ []) (table_entry (lines_of nodes)) → IsSaved t v at nodes
   all_saved has v added q = go (rest_of at q) refl
     where
-      at_table : (p : Parts) → cond (is_table_place p) (option_or (table_entry (links_of nodes)) (host_entry (get nodes p))) (host_entry (get nodes p)) ≡ folder_entry nodes p
+      at_table : (p : Parts) → cond (is_table_place p) (option_or (table_entry (lines_of nodes)) (host_entry (get nodes p))) (host_entry (get nodes p)) ≡ folder_entry nodes p
       at_table p = elim (cases_Bool (is_table_place p)) [
         | inl hit ↦
             let none : get nodes p ≡ None = ap (get nodes) (parts_is p (table_name ∷ []) (table_place p ∙ hit)) ∙ no_table nodes whole in
-            ap (λ o. cond (is_table_place p) (option_or (table_entry (links_of nodes)) (host_entry o)) (host_entry (get nodes p))) none
-            ∙ ap (λ h. cond (is_table_place p) h (host_entry (get nodes p))) (or_new (table_entry (links_of nodes)))
+            ap (λ o. cond (is_table_place p) (option_or (table_entry (lines_of nodes)) (host_entry o)) (host_entry (get nodes p))) none
+            ∙ ap (λ h. cond (is_table_place p) h (host_entry (get nodes p))) (or_new (table_entry (lines_of nodes)))
         | inr miss ↦
-            ap (λ b. cond b (option_or (table_entry (links_of nodes)) (host_entry (get nodes p))) (host_entry (get nodes p))) miss
-            ∙ sym (ap (λ b. cond b (table_entry (links_of nodes)) (host_entry (get nodes p))) miss)
+            ap (λ b. cond b (option_or (table_entry (lines_of nodes)) (host_entry (get nodes p))) (host_entry (get nodes p))) miss
+            ∙ sym (ap (λ b. cond b (table_entry (lines_of nodes)) (host_entry (get nodes p))) miss)
       ]
 
       inside : (p : Parts) → get v (at ++ p) ≡ folder_entry nodes p
       inside p =
-          ap (λ x. get x (at ++ p)) added ∙ get_with u (at ++ table_name ∷ []) (table_entry (links_of nodes)) (at ++ p)
-          ∙ ap (λ o. cond (eq_by_cmp parts_cmp (at ++ p) (at ++ table_name ∷ [])) (option_or (table_entry (links_of nodes)) o) o) (all_inside has p)
-          ∙ ap (λ b. cond b (option_or (table_entry (links_of nodes)) (host_entry (get nodes p))) (host_entry (get nodes p))) (same_place at p (table_name ∷ []) ∙ table_place p)
+          ap (λ x. get x (at ++ p)) added ∙ get_with u (at ++ table_name ∷ []) (table_entry (lines_of nodes)) (at ++ p)
+          ∙ ap (λ o. cond (eq_by_cmp parts_cmp (at ++ p) (at ++ table_name ∷ [])) (option_or (table_entry (lines_of nodes)) o) o) (all_inside has p)
+          ∙ ap (λ b. cond b (option_or (table_entry (lines_of nodes)) (host_entry (get nodes p))) (host_entry (get nodes p))) (same_place at p (table_name ∷ []) ∙ table_place p)
           ∙ at_table p
 
       go : (o : Option Parts) → rest_of at q ≡ o → get v q ≡ entry_or (get t q) nodes o
-      go None none = ap (λ x. get x q) added ∙ get_apart u (at ++ table_name ∷ []) (table_entry (links_of nodes)) q (no_rest at q (table_name ∷ []) none) ∙ has.outside q none
+      go None none = ap (λ x. get x q) added ∙ get_apart u (at ++ table_name ∷ []) (table_entry (lines_of nodes)) q (no_rest at q (table_name ∷ []) none) ∙ has.outside q none
       go (Some p) some = ap (get v) (rest_is at q p some) ∙ inside p
 
   -- all nodes, and the table or a front of it
-  pub table_part : HasEntries t u at (entries nodes) → (v : Tree) (e whole_e : Entry) → table_entry (links_of nodes) ≡ Some whole_e → (e ≡ whole_e) ⊎ IsFrontOf e whole_e → v ≡ insert u (at ++ table_name ∷ []) e → IsPartOf t v at nodes (table_name ∷ [])
+  pub table_part : HasEntries t u at (entries nodes) → (v : Tree) (e whole_e : Entry) → table_entry (lines_of nodes) ≡ Some whole_e → (e ≡ whole_e) ⊎ IsFrontOf e whole_e → v ≡ insert u (at ++ table_name ∷ []) e → IsPartOf t v at nodes (table_name ∷ [])
   table_part has v e whole_e is front added = record {
     outside = λ q miss. apart q (no_rest at q (table_name ∷ []) miss) ∙ has.outside q miss;
     inside = λ p d here. elim (cases_Bool (is_table_place p)) [
-      | inl hit ↦ (whole_e, ap (λ b. cond b (table_entry (links_of nodes)) (host_entry (get nodes p))) hit ∙ is, at_last p d hit here)
-      | inr miss ↦ (d, ap (λ b. cond b (table_entry (links_of nodes)) (host_entry (get nodes p))) miss ∙ sym (all_inside has p) ∙ sym (apart (at ++ p) (place p ∙ miss)) ∙ here, inl refl)
+      | inl hit ↦ (whole_e, ap (λ b. cond b (table_entry (lines_of nodes)) (host_entry (get nodes p))) hit ∙ is, at_last p d hit here)
+      | inr miss ↦ (d, ap (λ b. cond b (table_entry (lines_of nodes)) (host_entry (get nodes p))) miss ∙ sym (all_inside has p) ∙ sym (apart (at ++ p) (place p ∙ miss)) ∙ here, inl refl)
     ];
     ordered = λ p b d w here before has_w.
         let y = node_of b w (not_table b p before) has_w in
@@ -396,7 +396,7 @@ refused_front nodes whole t0 t v at there made was = go was.begun
           inr (next.0, begun_part nodes whole t0 was.before at was.done next.2 next.0 next.1 split (from_old t0 t was.before at there was.done made was.written) v some.0 some.1 some.2 some.3 some.4)
     ]
 
-pub refused_table : (nodes : Nodes) → IsWhole (get nodes) → (t u v : Tree) (at : Parts) → HasEntries t u at (entries nodes) → WrotePart u v (at ++ table_name ∷ []) (table_entry (links_of nodes)) → IsPartlySaved t v at nodes
+pub refused_table : (nodes : Nodes) → IsWhole (get nodes) → (t u v : Tree) (at : Parts) → HasEntries t u at (entries nodes) → WrotePart u v (at ++ table_name ∷ []) (table_entry (lines_of nodes)) → IsPartlySaved t v at nodes
 refused_table nodes whole t u v at has (inl same) =
     inr ([], subst (λ x. IsPartOf t x at nodes []) (sym same) (front_part nodes whole t u at (entries nodes) [] (sym (append-nil (entries nodes))) has []))
 refused_table nodes whole t u v at has (inr some) = inr (table_name ∷ [], table_part nodes whole t u at has v some.0 some.1 some.2 some.3 some.4)

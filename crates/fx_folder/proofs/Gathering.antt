@@ -33,27 +33,29 @@ use Rattle.fx_table.specs.declared.fault.FolderCause.TheVariants.{BadName, Stran
 use Rattle.fx_table.specs.declared.fault.LoadFault.{LoadFault}
 use Rattle.fx_table.specs.declared.fault.LoadFault.TheVariants.{Refused, ReadFault, NoMemory}
 use Rattle.fx_folder.specs.declared.walking.Walked.{Walked}
-use Rattle.fx_folder.specs.Deep.{Held, all_below, walked, table_in, all_bytes, first_refused, refused_entry, node_of_kind, unlisted, most_in_table, unless_bad, read_links, table_file_links, linked, with_table, unless_refused, loaded, as_nodes}
-use Rattle.fx_table.specs.Listed.{Mapped, listed, with_links}
+use Rattle.fx_folder.specs.Deep.{Held, all_below, walked, table_in, all_bytes, first_refused, refused_entry, node_of_kind, unlisted, most_in_table, unless_bad, lacking, read_lines, table_file_lines, linked, with_table, unless_refused, loaded, as_nodes}
+use Rattle.fx_table.specs.Listed.{Mapped, listed, with_links, with_flag, with_flags, with_lines}
 use Rattle.fx_table.specs.Places.{place_of, table_name}
 use Rattle.fx_folder.specs.Grown.{IsFoundNode, HasDir, IsFound, AreFound}
 use Rattle.fx_folder.specs.Limits.{most_nodes, most_bytes}
 use Rattle.fx_table.specs.Shaped.{IsOfBytes, AreOfBytes, IsLeaf, IsShaped, change_of, changes_of, AreShaped}
-use Rattle.fx_table.specs.Lines.{links_in, standing_by, AreLinks, texts_of, is_over, ReadsAll, LinesCause}
+use Rattle.fx_table.specs.Lines.{lines_in, standing_by, AreLines, texts_of, is_over, ReadsAll, LinesCause}
 use Rattle.fx_table.specs.Mapped.{mapped_of, node_or_dir}
-use Rattle.fx_table.specs.Merges.{MakeLinks, CanMerge}
-use Rattle.fx_folder.specs.RefusalLaws.{exceed_limits, IsLineCause}
-use Rattle.fx_table.specs.Table.{TableLink, IsTable, read_table}
+use Rattle.fx_table.specs.Merges.{CanMerge}
+use Rattle.fx_folder.specs.RefusalLaws.{exceed_limits, HasBadLine, IsLineCause}
+use Rattle.fx_table.specs.declared.line.TableLine.{TableLine}
+use Rattle.fx_table.specs.Table.{TableLink, IsTable, over, links_among, lacks_flags, read_body}
+use Rattle.fx_table.specs.TableLaws.{BeginsWith, IsFirstBadLine}
 use Rattle.fx_folder.specs.Tables.{ReadsWhole, text_of, AnswersText, room_behind, IsJoined, AnswersFound, HasTable, items_in}
 use Rattle.fx_folder.specs.Walks.{found_as, AnswersWalk}
 use Rattle.fx_folder.proofs.Branches.{find_below}
-use Rattle.fx_table.proofs.Linking.{IsLinked, CanStand, links_made, find_linked, apart_from}
-use Rattle.fx_table.proofs.Mixing.{made_links}
+use Rattle.fx_table.proofs.Flagging.{bytes_flags, lines_made, lines_merge}
+use Rattle.fx_table.proofs.Linking.{IsLinked, find_linked}
 use Rattle.fx_table.proofs.Making.{set_at}
 use Rattle.fx_table.proofs.Naming.{mapped_changes}
 use Rattle.fx_folder.proofs.Refusals.{same_first, fits_all}
 use Rattle.fx_table.proofs.Shapes.{found}
-use Rattle.fx_table.proofs.TableLines.{tables_are_read}
+use Rattle.fx_table.proofs.Versions.{body_read, lacks_none}
 use Rattle.fx_folder.proofs.TableRefusals.{lines_refused, same_many}
 
 -- ---- what was found has a shape
@@ -156,27 +158,23 @@ module _ (cs : List Change) (are : AreFound cs) where
   is_linked : IsLinked (found es) es
   is_linked = record { sorted = sorted_test path_cmp es are.ascending; shape = shape; dirs = λ q. refl }
 
--- ---- links that are a table can be merged
+-- ---- lines that are a table can be merged
 
-module _ (cs : List Change) (are : AreFound cs) (links : List Change) (linked : AreLinks (standing_by cs) links) where
+module _ (cs : List Change) (are : AreFound cs) (lines : List Change) (linked : AreLines (over (standing_by cs) true) lines) where
   abbrev S : Store
   S = standing_by cs
-
-  ls : List TableLink
-  ls = links_in links
-
-  pub links_make : MakeLinks links
-  links_make = made_links links linked.made
-
-  pub can_merge : CanMerge (mapped_of cs) (links_in links)
-  unfolding IsStrictlySortedBy
-  can_merge = record { apart = apart_from S (mapped_of cs) (links_in links) (stands cs are) linked.table.stand; ascending = linked.table.ascending.1 }
 
   same_store : S ≡ found (mapped_of cs)
   same_store = λ i q. stands cs are q i
 
-  joined_links : IsLinked (found (mapped_of cs)) (with_links (mapped_of cs) (links_in links))
-  joined_links = links_made (found (mapped_of cs)) (mapped_of cs) (links_in links) linked.table.valid (subst (λ F. All (CanStand F) (links_in links)) same_store linked.table.stand) (is_linked cs are)
+  lines_table : IsTable (found (mapped_of cs)) (lines_in lines)
+  lines_table = subst (λ F. IsTable F (lines_in lines)) same_store linked.table
+
+  pub can_merge : CanMerge (mapped_of cs) (links_among (lines_in lines))
+  can_merge = lines_merge (found (mapped_of cs)) true (lines_in lines) lines_table (mapped_of cs) (λ q. refl)
+
+  joined_lines : IsLinked (found (mapped_of cs)) (with_lines (mapped_of cs) (lines_in lines))
+  joined_lines = lines_made (found (mapped_of cs)) true (lines_in lines) lines_table (mapped_of cs) (is_linked cs are)
 
   bytes_linked : (fs : List Mapped) (ks : List TableLink) → AreOfBytes (found fs) → AreOfBytes (found (with_links fs ks))
   bytes_linked fs [] held = held
@@ -186,15 +184,15 @@ module _ (cs : List Change) (are : AreFound cs) (links : List Change) (linked : 
       by true q = tt
       by false q = held q
 
-  pub joined_shaped : (all : List Change) → all ≡ changes_of (with_links (mapped_of cs) (links_in links)) → AreShaped all
+  pub joined_shaped : (all : List Change) → all ≡ changes_of (with_lines (mapped_of cs) (lines_in lines)) → AreShaped all
   joined_shaped all is =
-      let fs = with_links (mapped_of cs) (links_in links) in
+      let fs = with_lines (mapped_of cs) (lines_in lines) in
       let same : mapped_of (changes_of fs) ≡ fs = mapped_changes fs in
       subst AreShaped (sym is) (record {
         set = ap changes_of (sym same);
-        ascending = subst (λ l. IsStrictlySortedBy path_cmp (keys_of l)) (sym same) (strictly_sorted path_cmp fs joined_links.sorted);
-        shape = subst (λ l. IsShaped (found l)) (sym same) joined_links.shape;
-        bytes = subst (λ l. AreOfBytes (found l)) (sym same) (bytes_linked (mapped_of cs) (links_in links) (found_shaped cs are).bytes);
+        ascending = subst (λ l. IsStrictlySortedBy path_cmp (keys_of l)) (sym same) (strictly_sorted path_cmp fs joined_lines.sorted);
+        shape = subst (λ l. IsShaped (found l)) (sym same) joined_lines.shape;
+        bytes = subst (λ l. AreOfBytes (found l)) (sym same) (bytes_linked (with_flags (mapped_of cs) (lines_in lines)) (links_among (lines_in lines)) (bytes_flags (mapped_of cs) (lines_in lines) (found_shaped cs are).bytes));
       })
 
 -- ---- what was walked is what is unlisted
@@ -226,6 +224,19 @@ few_nodes nodes left (h ∷ hs) le none =
     let two = neither (refused_entry nodes left h) (first_refused (nodes + 1) (left - length h.1.bytes) hs) none in
     let lt = below nodes (passes _ _ (nat_lt nodes most_nodes) _ _ _ two.0) in
     omega (arith, few_nodes (nodes + 1) (left - length h.1.bytes) hs (omega (arith, lt)) two.1)
+
+-- without lines no file is executable, as none was found to be
+unflagged : (p : Parts) (k : HostKind) (bytes : List ℕ) → with_flag [] (p, node_of_kind k bytes) ≡ (p, node_of_kind k bytes)
+unflagged p kind.File bytes = refl
+unflagged p kind.Folder bytes = refl
+unflagged p kind.Other bytes = refl
+
+all_unflagged : (hs : List Held) → with_flags (map (λ (h : Held). (h.0, node_of_kind h.1.kind h.1.bytes)) hs) [] ≡ map (λ (h : Held). (h.0, node_of_kind h.1.kind h.1.bytes)) hs
+all_unflagged [] = refl
+all_unflagged (h ∷ hs) = λ i. unflagged h.0 h.1.kind h.1.bytes i ∷ all_unflagged hs i
+
+no_lines : (hs : List Held) → with_lines (unlisted hs) [] ≡ unlisted hs
+no_lines hs = ap (λ l. ([], Dir []) ∷ l) (all_unflagged hs)
 
 module _ (t : Tree) (at : Parts) (w : Walked) (are : AreFound w.found.items) (walk : AnswersWalk t at (Ok w)) where
   abbrev hs : List Held
@@ -264,11 +275,14 @@ module _ (t : Tree) (at : Parts) (w : Walked) (are : AreFound w.found.items) (wa
       ∙ (ap (λ n. nat_lt most_nodes (length hs + 1 + length ls) || nat_lt n (texts_of ls)) walk.2 ∙ same_many hs fits ls)
 
   -- the table's text is read
-  lines_read : (text : List ℕ) (links : List Change) → ReadsAll ground (room_behind cs w.left) text links → read_links (length hs + 1) (most_bytes - all_bytes hs) U text (read_table U text) ≡ Ok (links_in links)
-  lines_read text links reads =
-      let read : read_table U text ≡ Ok (links_in links) = ap (read_table U) reads.whole ∙ tables_are_read U (links_in links) (subst (λ F. IsTable F (links_in links)) same_ground reads.are.table) in
-      ap (read_links (length hs + 1) (most_bytes - all_bytes hs) U text) read
-      ∙ ap (λ b. cond b (Err (TooLarge (place_of (table_name ∷ [])))) (unless_bad (links_in links) None)) (same_many hs fits (links_in links) ∙ (sym (over_is (links_in links)) ∙ reads.few))
+  lines_read : (text : List ℕ) (lines : List Change) → ReadsAll ground (room_behind cs w.left) text lines → read_lines (length hs + 1) (most_bytes - all_bytes hs) U text (read_body U text) ≡ Ok (lines_in lines)
+  lines_read text lines reads =
+      let said = lines_in lines in
+      let read : read_body U text ≡ Ok said = ap (read_body U) reads.whole ∙ body_read U said (subst (λ F. IsTable F said) same_ground reads.are.table) in
+      let lacks : lacks_flags text said ≡ false = ap (λ t. lacks_flags t said) reads.whole ∙ lacks_none said in
+      ap (read_lines (length hs + 1) (most_bytes - all_bytes hs) U text) read
+      ∙ (ap (λ b. cond b (Err (TooLarge (place_of (table_name ∷ [])))) (unless_bad said (lacking text said))) (same_many hs fits (links_among said) ∙ (sym (over_is (links_among said)) ∙ reads.few))
+      ∙ ap (λ l. unless_bad said (cond l (Some (BadTable 1)) None)) lacks)
 
   cause_of : (text : List ℕ) (cause : FolderCause) → LinesCause ground (room_behind cs w.left) text (Refused cause) → IsLineCause U hs text cause
   cause_of text (BadName place) why = absurd why
@@ -276,27 +290,15 @@ module _ (t : Tree) (at : Parts) (w : Walked) (are : AreFound w.found.items) (wa
   cause_of text (TooLarge place) why = inl (
     ap TooLarge why.0,
     record {
-      links = why.1.links;
-      front = record { rest = why.1.front.rest; parts = why.1.front.parts; table = subst (λ F. IsTable F why.1.links) same_ground why.1.front.table };
-      many = sym (over_is why.1.links) ∙ why.1.many;
+      lines = why.1.lines;
+      front = subst (λ F. BeginsWith F text why.1.lines) same_ground why.1.front;
+      many = sym (over_is (links_among why.1.lines)) ∙ why.1.many;
     },
   )
-  cause_of text (BadTable n) why = inr (
-    n,
-    refl,
-    record {
-      first = record {
-        links = why.first.links;
-        rest = why.first.rest;
-        parts = why.first.parts;
-        table = subst (λ F. IsTable F why.first.links) same_ground why.first.table;
-        place = why.first.place;
-        some = why.first.some;
-        stops = λ l later e table. why.first.stops l later e (subst (λ F. IsTable F (why.first.links ++ l ∷ [])) (sym same_ground) table);
-      };
-      few = sym (over_is why.first.links) ∙ why.few;
-    },
-  )
+  cause_of text (BadTable n) why = inr (n, refl, few_in same_ground why.first (sym (over_is (links_among why.first.lines)) ∙ why.few))
+    where
+      few_in : {F G : Store} (same : F ≡ G) (first : IsFirstBadLine F text n) → exceed_limits hs (links_among first.lines) ≡ false → HasBadLine G hs text n
+      few_in same first few = subst (λ F. HasBadLine F hs text n) same (record { first = first; few = few })
 
   abbrev table : Option Entry
   table = table_in (all_below t at)
@@ -310,7 +312,7 @@ module _ (t : Tree) (at : Parts) (w : Walked) (are : AreFound w.found.items) (wa
   -- ---- the folder has no table
 
   pub answers_bare : get t (at ++ table_name ∷ []) ≡ None → loaded (all_below t at) ≡ Ok (listed (mapped_of cs))
-  answers_bare none = loaded_is None (table_is ∙ none) ∙ ap (λ l. Ok (listed l)) (sym unlisted_is)
+  answers_bare none = loaded_is None (table_is ∙ none) ∙ (ap (λ l. Ok (listed l)) (no_lines hs) ∙ ap (λ l. Ok (listed l)) (sym unlisted_is))
 
   -- ---- the folder has a table
 
@@ -321,22 +323,22 @@ module _ (t : Tree) (at : Parts) (w : Walked) (are : AreFound w.found.items) (wa
     abbrev left : ℕ
     left = most_bytes - all_bytes hs
 
-    whole_is : loaded (all_below t at) ≡ linked (unlisted hs) (table_file_links nodes left U e.kind e.bytes)
+    whole_is : loaded (all_below t at) ≡ linked (unlisted hs) (table_file_lines nodes left U e.kind e.bytes)
     whole_is = loaded_is (Some e) (table_is ∙ there)
 
-    text_links : (k : HostKind) (contents text : List ℕ) → text_of k contents ≡ Ok text → table_file_links nodes left U k contents ≡ read_links nodes left U text (read_table U text)
-    text_links kind.File contents text is = by (nat_lt most_in_table (length contents)) is
+    text_lines : (k : HostKind) (contents text : List ℕ) → text_of k contents ≡ Ok text → table_file_lines nodes left U k contents ≡ read_lines nodes left U text (read_body U text)
+    text_lines kind.File contents text is = by (nat_lt most_in_table (length contents)) is
       where
-        by : (b : Bool) → cond b (Err (TooLarge (place_of (table_name ∷ [])))) (Ok contents) ≡ Ok text → cond b (Err (TooLarge (place_of (table_name ∷ [])))) (read_links nodes left U contents (read_table U contents)) ≡ read_links nodes left U text (read_table U text)
+        by : (b : Bool) → cond b (Err (TooLarge (place_of (table_name ∷ [])))) (Ok contents) ≡ Ok text → cond b (Err (TooLarge (place_of (table_name ∷ [])))) (read_lines nodes left U contents (read_body U contents)) ≡ read_lines nodes left U text (read_body U text)
         by true is = cc
-        by false is = let same : contents ≡ text = cc in ap (λ c. read_links nodes left U c (read_table U c)) same
-    text_links kind.Folder contents text is = cc
-    text_links kind.Other contents text is = cc
+        by false is = let same : contents ≡ text = cc in ap (λ c. read_lines nodes left U c (read_body U c)) same
+    text_lines kind.Folder contents text is = cc
+    text_lines kind.Other contents text is = cc
 
-    text_cause : (k : HostKind) (contents : List ℕ) (cause : FolderCause) → text_of k contents ≡ Err cause → table_file_links nodes left U k contents ≡ Err cause
+    text_cause : (k : HostKind) (contents : List ℕ) (cause : FolderCause) → text_of k contents ≡ Err cause → table_file_lines nodes left U k contents ≡ Err cause
     text_cause kind.File contents cause is = by (nat_lt most_in_table (length contents)) is
       where
-        by : (b : Bool) → cond b (Err (TooLarge (place_of (table_name ∷ [])))) (Ok contents) ≡ Err cause → cond b (Err (TooLarge (place_of (table_name ∷ [])))) (read_links nodes left U contents (read_table U contents)) ≡ Err cause
+        by : (b : Bool) → cond b (Err (TooLarge (place_of (table_name ∷ [])))) (Ok contents) ≡ Err cause → cond b (Err (TooLarge (place_of (table_name ∷ [])))) (read_lines nodes left U contents (read_body U contents)) ≡ Err cause
         by true is = cc
         by false is = cc
     text_cause kind.Folder contents cause is = cc
@@ -347,12 +349,12 @@ module _ (t : Tree) (at : Parts) (w : Walked) (are : AreFound w.found.items) (wa
 
     pub answers_joined : (text : List ℕ) (all : List Change) → text_of e.kind e.bytes ≡ Ok text → IsJoined cs w.left text all → loaded (all_below t at) ≡ Ok (listed (mapped_of all))
     answers_joined text all is joined =
-        whole_is ∙ ap (linked (unlisted hs)) (text_links e.kind e.bytes text is ∙ lines_read text joined.links joined.read)
-        ∙ ap (λ l. Ok (listed l)) (ap (λ l. with_links l (links_in joined.links)) (sym unlisted_is) ∙ sym (ap mapped_of joined.all ∙ mapped_changes (with_links (mapped_of cs) (links_in joined.links))))
+        whole_is ∙ ap (linked (unlisted hs)) (text_lines e.kind e.bytes text is ∙ lines_read text joined.lines joined.read)
+        ∙ ap (λ l. Ok (listed l)) (ap (λ l. with_lines l (lines_in joined.lines)) (sym unlisted_is) ∙ sym (ap mapped_of joined.all ∙ mapped_changes (with_lines (mapped_of cs) (lines_in joined.lines))))
 
     pub answers_stopped : (text : List ℕ) (cause : FolderCause) → text_of e.kind e.bytes ≡ Ok text → LinesCause ground (room_behind cs w.left) text (Refused cause) → loaded (all_below t at) ≡ Err cause
     answers_stopped text cause is why =
-        whole_is ∙ ap (linked (unlisted hs)) (text_links e.kind e.bytes text is ∙ lines_refused hs fits U text cause (cause_of text cause why))
+        whole_is ∙ ap (linked (unlisted hs)) (text_lines e.kind e.bytes text is ∙ lines_refused hs fits U text cause (cause_of text cause why))
 
 -- ---- for a host that may tell its tree
 

@@ -1,8 +1,9 @@
 -- What a folder is loaded as is a whole filestore.
-use Rattle.std.proofs.Common.{◌≡◌, inl, inr, ℕ, zero, suc, ◌+◌, ◌-◌, ◌<◌, ◌≤◌, ◌==◌, Bool, true, false, cond, not, ◌&&◌, ◌||◌, T, List, [], ◌∷◌, ◌++◌, map, length, take, Option, Some, None, Result, Ok, Err, is_some, IsSome, IfSome, All, refl, sym, ◌∙◌, ap, subst, arith, append_assoc, length-take}
+use Rattle.std.proofs.Common.{◌≡◌, inl, inr, ℕ, zero, suc, ◌+◌, ◌-◌, ◌<◌, ◌≤◌, ◌==◌, Bool, true, false, cond, not, ◌&&◌, ◌||◌, T, List, [], ◌∷◌, ◌++◌, map, length, take, Option, Some, None, Result, Ok, Err, is_some, IsSome, IfSome, IsTrue, All, refl, sym, ◌∙◌, ap, subst, arith, append_assoc, length-take}
 use Rattle.std.specs.Prelude.{nat_lt, nat_le, bytes_eq}
 use Rattle.std.specs.Ordering.{is_lt, eq_by_cmp}
 use Rattle.std.specs.Option.{option_or, option_map, option_map_or}
+use Rattle.std.specs.List.Sorted.{IsStrictlySortedBy}
 use Rattle.std.specs.FinMap.{get, find, is_sorted, from_entries, get-from_entries}
 use Rattle.std.specs.FinMap.Entries.{below_all}
 use Rattle.std.proofs.lemmas.Bool.{cases_Bool, false≢true}
@@ -26,14 +27,17 @@ use Rattle.fx_table.specs.declared.fault.FolderCause.{FolderCause}
 use Rattle.fx_table.specs.declared.fault.FolderCause.TheVariants.{BadTable}
 use Rattle.fx_folder.specs.Loads.{most_nodes, most_in_file, most_bytes}
 use Rattle.fx_table.specs.Places.{table_name}
-use Rattle.fx_table.specs.Table.{TableLink, IsLink, is_dir, read_table, links_before}
-use Rattle.fx_folder.specs.Deep.{Held, all_below, walked, table_in, last_name, refused_kind, refused_bytes, refused_entry, first_refused, node_of_kind, unlisted, unless_bad, are_too_many, read_links, table_file_links, table_links, linked, all_bytes, with_table, unless_refused, as_nodes}
-use Rattle.fx_table.specs.Listed.{Mapped, with_links, listed}
+use Rattle.fx_table.specs.declared.line.TableLine.{TableLine}
+use Rattle.fx_table.specs.Table.{IsLine, IsTable, Setting, over, has_place, is_dir, setting_of, first_number, body_of, is_second, read_body, lines_before, links_among}
+use Rattle.fx_folder.specs.Deep.{Held, all_below, walked, table_in, last_name, refused_kind, refused_bytes, refused_entry, first_refused, node_of_kind, unlisted, unless_bad, are_too_many, lacking, read_lines, table_file_lines, table_lines, linked, all_bytes, with_table, unless_refused, as_nodes}
+use Rattle.fx_table.specs.Listed.{Mapped, with_lines, listed}
 use Rattle.fx_folder.specs.LoadLaws.{LoadsAreWhole}
 use Rattle.fx_table.specs.Shaped.{IsOfBytes, AreOfBytes}
-use Rattle.fx_table.proofs.TableLines.{read_texts_are_tables}
+use Rattle.fx_table.proofs.TableLines.{texts_are_lines}
+use Rattle.fx_table.proofs.Versions.{over_all}
 use Rattle.fx_table.proofs.Shapes.{found, IsLeaf, listed_whole, above_pushed, find_listed, relisted}
-use Rattle.fx_table.proofs.Linking.{IsLinked, CanStand, links_made}
+use Rattle.fx_table.proofs.Flagging.{lines_made}
+use Rattle.fx_table.proofs.Linking.{IsLinked}
 use Rattle.fx_folder.proofs.Walked.{below_sorted, below_root, find_walked_below}
 
 abbrev Paths : Type 0
@@ -232,57 +236,55 @@ module _ (tree : Tree) (whole : host.IsWhole tree) (P : Paths) where
       dirs = λ q. refl;
     }
 
--- ---- the links are a table, or none
+-- ---- the lines are a table, or none
 
-record AreMade (S : Store) (links : List TableLink) : Type 0 where
-  valid : All IsLink links
-  stand : All (CanStand S) links
+no_lines : (S : Store) → IsTable S []
+unfolding IsStrictlySortedBy
+no_lines S = record { valid = All-nil IsLine; stand = All-nil (λ (l : TableLine). IsTrue (has_place (over S true) l)); ascending = (tt, tt) }
 
-no_links : (S : Store) → AreMade S []
-no_links S = record { valid = All-nil IsLink; stand = All-nil (CanStand S) }
+not_bad : (b : Bool) (c : FolderCause) (bad : Option FolderCause) (lines made : List TableLine) → cond b (Err c) (unless_bad lines bad) ≡ Ok made → lines ≡ made
+not_bad true c bad lines made e = cc
+not_bad false c None lines made e = cc
+not_bad false c (Some d) lines made e = cc
 
-none_bad : (b : Bool) (c : FolderCause) (links made : List TableLink) → cond b (Err c) (unless_bad links None) ≡ Ok made → links ≡ made
-none_bad true c links made e = cc
-none_bad false c links made e = cc
+some_bad : (b : Bool) (c d : FolderCause) (lines made : List TableLine) → cond b (Err c) (unless_bad lines (Some d)) ≡ Ok made → ⊥
+some_bad true c d lines made e = cc
+some_bad false c d lines made e = cc
 
-some_bad : (b : Bool) (c d : FolderCause) (links made : List TableLink) → cond b (Err c) (unless_bad links (Some d)) ≡ Ok made → ⊥
-some_bad true c d links made e = cc
-some_bad false c d links made e = cc
+read_made : (nodes left : ℕ) (S : Store) (text : List ℕ) (r : Result (List TableLine) ℕ) (lines : List TableLine) → read_body S text ≡ r → read_lines nodes left S text r ≡ Ok lines → IsTable S lines
+read_made nodes left S text (Ok found) lines is e =
+    let same : found ≡ lines = not_bad (are_too_many nodes left (links_among found)) _ (lacking text found) found lines e in
+    let spells = texts_are_lines (setting_of S text) (first_number text) (body_of text) found is in
+    subst (IsTable S) same (over_all S found (is_second text) spells.table)
+read_made nodes left S text (Err number) lines is e = absurd (some_bad (are_too_many nodes left (links_among (lines_before S text number))) _ (BadTable number) (lines_before S text number) lines e)
 
-read_made : (nodes left : ℕ) (S : Store) (text : List ℕ) (r : Result (List TableLink) ℕ) (links : List TableLink) → read_table S text ≡ r → read_links nodes left S text r ≡ Ok links → AreMade S links
-read_made nodes left S text (Ok found) links is e =
-    let same : found ≡ links = none_bad (are_too_many nodes left found) _ found links e in
-    let spells = read_texts_are_tables S text found is in
-    subst (AreMade S) same (record { valid = spells.table.valid; stand = spells.table.stand })
-read_made nodes left S text (Err number) links is e = absurd (some_bad (are_too_many nodes left (links_before S text number)) _ (BadTable number) (links_before S text number) links e)
+unless_large : (b : Bool) (c : FolderCause) (r : Result (List TableLine) FolderCause) (lines : List TableLine) → cond b (Err c) r ≡ Ok lines → r ≡ Ok lines
+unless_large true c r lines e = cc
+unless_large false c r lines e = e
 
-unless_large : (b : Bool) (c : FolderCause) (r : Result (List TableLink) FolderCause) (links : List TableLink) → cond b (Err c) r ≡ Ok links → r ≡ Ok links
-unless_large true c r links e = cc
-unless_large false c r links e = e
+file_made : (nodes left : ℕ) (S : Store) (k : HostKind) (text : List ℕ) (lines : List TableLine) → table_file_lines nodes left S k text ≡ Ok lines → IsTable S lines
+file_made nodes left S kind.File text lines e = read_made nodes left S text (read_body S text) lines refl (unless_large _ _ (read_lines nodes left S text (read_body S text)) lines e)
+file_made nodes left S kind.Folder text lines e = cc
+file_made nodes left S kind.Other text lines e = cc
 
-file_made : (nodes left : ℕ) (S : Store) (k : HostKind) (text : List ℕ) (links : List TableLink) → table_file_links nodes left S k text ≡ Ok links → AreMade S links
-file_made nodes left S kind.File text links e = read_made nodes left S text (read_table S text) links refl (unless_large _ _ (read_links nodes left S text (read_table S text)) links e)
-file_made nodes left S kind.Folder text links e = cc
-file_made nodes left S kind.Other text links e = cc
-
-table_made : (nodes left : ℕ) (S : Store) (table : Option Entry) (links : List TableLink) → table_links nodes left S table ≡ Ok links → AreMade S links
-table_made nodes left S None links e = let same : [] ≡ links = cc in subst (AreMade S) same (no_links S)
-table_made nodes left S (Some e) links is = file_made nodes left S e.kind e.bytes links is
+table_made : (nodes left : ℕ) (S : Store) (table : Option Entry) (lines : List TableLine) → table_lines nodes left S table ≡ Ok lines → IsTable S lines
+table_made nodes left S None lines e = let same : [] ≡ lines = cc in subst (IsTable S) same (no_lines S)
+table_made nodes left S (Some e) lines is = file_made nodes left S e.kind e.bytes lines is
 
 -- ---- what was loaded
 
--- the links of a table that is read, and what the entries are with them
+-- the lines of a table that is read, and what the entries are with them
 pub record IsLoaded (hs : List Held) (table : Option Entry) (nodes : Nodes) : Type 0 where
   pub none : first_refused 1 most_bytes hs ≡ None
-  pub links : List TableLink
-  pub read : table_links (length hs + 1) (most_bytes - all_bytes hs) (λ path. find path_cmp path (unlisted hs)) table ≡ Ok links
-  pub is : from_entries (listed (with_links (unlisted hs) links)) ≡ nodes
+  pub lines : List TableLine
+  pub read : table_lines (length hs + 1) (most_bytes - all_bytes hs) (λ path. find path_cmp path (unlisted hs)) table ≡ Ok lines
+  pub is : from_entries (listed (with_lines (unlisted hs) lines)) ≡ nodes
 
 pub was_loaded : (hs : List Held) (table : Option Entry) (nodes : Nodes) → as_nodes (unless_refused (first_refused 1 most_bytes hs) (with_table hs table)) ≡ Ok nodes → IsLoaded hs table nodes
-was_loaded hs table nodes e = by (first_refused 1 most_bytes hs) (table_links (length hs + 1) (most_bytes - all_bytes hs) (λ path. find path_cmp path (unlisted hs)) table) refl refl e
+was_loaded hs table nodes e = by (first_refused 1 most_bytes hs) (table_lines (length hs + 1) (most_bytes - all_bytes hs) (λ path. find path_cmp path (unlisted hs)) table) refl refl e
   where
-    by : (o : Option FolderCause) (r : Result (List TableLink) FolderCause) → first_refused 1 most_bytes hs ≡ o → table_links (length hs + 1) (most_bytes - all_bytes hs) (λ path. find path_cmp path (unlisted hs)) table ≡ r → as_nodes (unless_refused o (linked (unlisted hs) r)) ≡ Ok nodes → IsLoaded hs table nodes
-    by None (Ok links) none read e = record { none = none; links = links; read = read; is = cc }
+    by : (o : Option FolderCause) (r : Result (List TableLine) FolderCause) → first_refused 1 most_bytes hs ≡ o → table_lines (length hs + 1) (most_bytes - all_bytes hs) (λ path. find path_cmp path (unlisted hs)) table ≡ r → as_nodes (unless_refused o (linked (unlisted hs) r)) ≡ Ok nodes → IsLoaded hs table nodes
+    by None (Ok lines) none read e = record { none = none; lines = lines; read = read; is = cc }
     by None (Err cause) none read e = cc
     by (Some cause) r none read e = cc
 
@@ -296,9 +298,9 @@ pub loads_are_whole : LoadsAreWhole
 loads_are_whole tree whole P nodes is bytes =
     let hs = walked (all_below tree P) in
     let made = was_loaded hs (table_in (all_below tree P)) nodes is in
-    let links = table_made _ _ (found (unlisted hs)) (table_in (all_below tree P)) made.links made.read in
-    let es = with_links (unlisted hs) made.links in
-    let linked = links_made (found (unlisted hs)) (unlisted hs) made.links links.valid links.stand (unlisted_shape tree whole P made.none) in
+    let table = table_made _ _ (found (unlisted hs)) (table_in (all_below tree P)) made.lines made.read in
+    let es = with_lines (unlisted hs) made.lines in
+    let linked = lines_made (found (unlisted hs)) true made.lines table (unlisted hs) (unlisted_shape tree whole P made.none) in
     let same : (q : Paths) → found (listed es) q ≡ get nodes q = λ q. sym (get-from_entries path_total (listed es) q) ∙ ap (λ m. get m q) made.is in
     let held : AreOfBytes (found es) = λ q. bytes_listed es q (found es q) (subst (λ o. IfSome o IsOfBytes) (sym (same q) ∙ find_listed es es q) (bytes q)) in
     IsWhole-same (found (listed es)) (get nodes) same (listed_whole es (strictly_sorted path_cmp es linked.sorted) linked.shape held)

@@ -25,8 +25,8 @@ use Rattle.fx_table.specs.declared.fault.FolderCause.{FolderCause}
 use Rattle.fx_table.specs.declared.fault.FolderCause.TheVariants.{BadName, Strange, TooLarge}
 use Rattle.fx_folder.specs.Loads.{most_nodes, most_in_file, most_bytes}
 use Rattle.fx_table.specs.Places.{table_name, place_of}
-use Rattle.fx_table.specs.Table.{TableLink}
-use Rattle.fx_folder.specs.Deep.{Held, all_below, table_in, last_name, all_bytes, refused_kind, refused_bytes, refused_entry, first_refused, unlisted, table_links, linked, unless_refused, as_nodes, deep_loads}
+use Rattle.fx_table.specs.declared.line.TableLine.{TableLine}
+use Rattle.fx_folder.specs.Deep.{Held, all_below, table_in, last_name, all_bytes, refused_kind, refused_bytes, refused_entry, first_refused, unlisted, table_lines, linked, unless_refused, as_nodes, deep_loads}
 use Rattle.fx_folder.specs.RefusalLaws.{Stands, all_standing, is_one_too_many, is_too_much, is_strange, where_so, cause_of, IsFirstCause, HasNoCause, IsTableCause, EntriesAreListed, FirstCausesAreTold}
 use Rattle.fx_folder.proofs.Counted.{none_behind}
 use Rattle.fx_folder.proofs.TableRefusals.{IsCauseOf, table_is, table_refused}
@@ -321,10 +321,10 @@ module _ (tree : Tree) (P : Parts) where
   abbrev S : Store
   S path = find parts_cmp path (unlisted hs)
 
-  abbrev links : Result (List TableLink) FolderCause
-  links = table_links (length hs + 1) (most_bytes - all_bytes hs) S (table_in (all_below tree P))
+  abbrev lines : Result (List TableLine) FolderCause
+  lines = table_lines (length hs + 1) (most_bytes - all_bytes hs) S (table_in (all_below tree P))
 
-  not_linked : (r : Result (List TableLink) FolderCause) (cause : FolderCause) → as_nodes (linked (unlisted hs) r) ≡ Err cause → r ≡ Err cause
+  not_linked : (r : Result (List TableLine) FolderCause) (cause : FolderCause) → as_nodes (linked (unlisted hs) r) ≡ Err cause → r ≡ Err cause
   not_linked (Ok ls) cause e = cc
   not_linked (Err c) cause e = cc
 
@@ -337,28 +337,28 @@ module _ (tree : Tree) (P : Parts) where
     has_table cause None is why = absurd why
     has_table cause (Some e) is why = record { table = e; stands = sym table_at ∙ is; why = why }
 
-    to_table : (cause : FolderCause) → links ≡ Err cause → IsTableCause tree P cause
+    to_table : (cause : FolderCause) → lines ≡ Err cause → IsTableCause tree P cause
     to_table cause e = has_table cause (table_in (all_below tree P)) refl (table_is hs fits S (table_in (all_below tree P)) cause e)
 
-    from_table : (cause : FolderCause) → IsTableCause tree P cause → links ≡ Err cause
+    from_table : (cause : FolderCause) → IsTableCause tree P cause → lines ≡ Err cause
     from_table cause told_so =
-        ap (table_links (length hs + 1) (most_bytes - all_bytes hs) S) (table_at ∙ told_so.stands)
+        ap (table_lines (length hs + 1) (most_bytes - all_bytes hs) S) (table_at ∙ told_so.stands)
         ∙ table_refused hs fits S (Some told_so.table) cause told_so.why
 
   all_fit : first_cause [] hs ≡ None → all_bytes hs ≤ most_bytes
   all_fit none = fits_all [] hs (omega arith) none
 
   refused : (cause : FolderCause) → deep_loads tree P ≡ Err cause → IsFirstCause tree P cause ⊎ (HasNoCause tree P × IsTableCause tree P cause)
-  refused cause e = by (first_cause [] hs) refl (sym (ap (λ o. as_nodes (unless_refused o (linked (unlisted hs) links))) told) ∙ e)
+  refused cause e = by (first_cause [] hs) refl (sym (ap (λ o. as_nodes (unless_refused o (linked (unlisted hs) lines))) told) ∙ e)
     where
-      by : (o : Option FolderCause) → first_cause [] hs ≡ o → as_nodes (unless_refused o (linked (unlisted hs) links)) ≡ Err cause → IsFirstCause tree P cause ⊎ (HasNoCause tree P × IsTableCause tree P cause)
+      by : (o : Option FolderCause) → first_cause [] hs ≡ o → as_nodes (unless_refused o (linked (unlisted hs) lines)) ≡ Err cause → IsFirstCause tree P cause ⊎ (HasNoCause tree P × IsTableCause tree P cause)
       by (Some c) is e = let same : c ≡ cause = cc in inl (to_paths cause (first_is hs sorted [] hs cause refl (is ∙ ap Some same)))
-      by None is e = inr (λ q x stands. none_is hs sorted [] hs refl is q x (is_found q x stands), to_table (all_fit is) cause (not_linked links cause e))
+      by None is e = inr (λ q x stands. none_is hs sorted [] hs refl is q x (is_found q x stands), to_table (all_fit is) cause (not_linked lines cause e))
 
   tells : (cause : FolderCause) → IsFirstCause tree P cause ⊎ (HasNoCause tree P × IsTableCause tree P cause) → deep_loads tree P ≡ Err cause
-  tells cause why = ap (λ o. as_nodes (unless_refused o (linked (unlisted hs) links))) told ∙ by (first_cause [] hs) refl why
+  tells cause why = ap (λ o. as_nodes (unless_refused o (linked (unlisted hs) lines))) told ∙ by (first_cause [] hs) refl why
     where
-      by : (o : Option FolderCause) → first_cause [] hs ≡ o → IsFirstCause tree P cause ⊎ (HasNoCause tree P × IsTableCause tree P cause) → as_nodes (unless_refused o (linked (unlisted hs) links)) ≡ Err cause
+      by : (o : Option FolderCause) → first_cause [] hs ≡ o → IsFirstCause tree P cause ⊎ (HasNoCause tree P × IsTableCause tree P cause) → as_nodes (unless_refused o (linked (unlisted hs) lines)) ≡ Err cause
       by (Some c) is (inl f) = ap (λ x. Err x) (one_first hs sorted c cause (first_is hs sorted [] hs c refl is) (from_paths cause f))
       by (Some c) is (inr no_entry) = absurd (no_first hs sorted c (first_is hs sorted [] hs c refl is) (λ q e found. no_entry.0 q e (does_stand q e found)))
       by None is (inl f) = absurd (no_first hs sorted cause (from_paths cause f) (none_is hs sorted [] hs refl is))

@@ -25,22 +25,27 @@ use Rattle.fx_store.specs.Orders.{name_total, name_same, path_total, path_same}
 use Rattle.fx_store.specs.Resolve.{parent}
 use Rattle.fx_store.specs.Whole.{Store, Nodes, IsWhole, IsNode, lists}
 use Rattle.fx_table.specs.declared.fault.FolderCause.{FolderCause}
-use Rattle.fx_table.specs.declared.fault.FolderCause.TheVariants.{TooLarge}
+use Rattle.fx_table.specs.declared.fault.FolderCause.TheVariants.{TooLarge, BadTable}
 use Rattle.fx_folder.specs.Places.{host_entry}
 use Rattle.fx_folder.specs.Loads.{most_nodes, most_in_file, most_bytes}
 use Rattle.fx_table.specs.Places.{table_name, place_of}
-use Rattle.fx_table.specs.Table.{TableLink, IsTable, links_of, is_dir, can_stand, table_text, read_table}
+use Rattle.fx_table.specs.Flags.{with_exec}
+use Rattle.fx_table.specs.declared.line.TableLine.{TableLine}
+use Rattle.fx_table.specs.declared.line.Mark.{Mark}
+use Rattle.fx_table.specs.declared.line.Mark.TheVariants.{Target, Executable}
+use Rattle.fx_table.specs.Table.{TableLink, IsTable, over, can_mark, lines_of, links_among, flag_at, is_dir, is_file, table_text, read_body}
 use Rattle.fx_table.specs.TableLaws.{but_no_link, unlinked}
-use Rattle.fx_folder.specs.Deep.{Held, all_below, walked, table_in, last_name, refused_kind, refused_entry, first_refused, unlisted, read_links, most_in_table, table_links, linked, all_bytes, with_table, unless_refused, as_nodes, deep_loads, table_entry, is_table_place, HasFolderOf}
-use Rattle.fx_table.specs.Listed.{Mapped, with_links, names_below, listed}
+use Rattle.fx_folder.specs.Deep.{Held, all_below, walked, table_in, last_name, refused_kind, refused_entry, first_refused, unlisted, unless_bad, lacking, read_lines, most_in_table, table_lines, linked, all_bytes, with_table, unless_refused, as_nodes, deep_loads, table_entry, is_table_place, HasFolderOf}
+use Rattle.fx_table.specs.Listed.{Mapped, with_links, with_flags, with_lines, names_below, listed}
 use Rattle.fx_folder.specs.LoadLaws.{IsWithinLimits, FoldersAreLoaded}
-use Rattle.fx_table.proofs.TableLines.{tables_are_read}
-use Rattle.fx_table.proofs.TableLinks.{AreFound, all_found, links_are_tables}
+use Rattle.fx_table.proofs.Flagging.{find_flags, sorted_flags}
+use Rattle.fx_table.proofs.Versions.{body_read, lacks_none}
+use Rattle.fx_table.proofs.TableLinks.{AreFound, all_found, lines_are_tables}
 use Rattle.fx_table.proofs.Shapes.{found, relisted, find_listed, has_below, names_ascend}
 use Rattle.fx_table.proofs.Linking.{find_linked}
 use Rattle.fx_folder.proofs.Walked.{below_sorted, below_root, find_all_below, find_walked_below}
 use Rattle.fx_folder.proofs.Loaded.{IsAccepted, node_of, find_unlisted, unlisted_sorted}
-use Rattle.fx_folder.proofs.Counted.{none_behind, none_again, rest_sorted, has_root, held_of, find_held, no_root_held, held_sorted, links_in, texts_of, more_bytes, counted, sum_held}
+use Rattle.fx_folder.proofs.Counted.{none_behind, none_again, rest_sorted, has_root, held_of, find_held, no_root_held, held_sorted, lines_in, links_in, texts_of, more_bytes, counted, sum_held}
 
 abbrev Paths : Type 0
 Paths = List (List ℕ)
@@ -105,17 +110,19 @@ same_names ms ns up up' same =
 few_enough : (more : Bool) (over : Bool) → more ≡ false → over ≡ false → (more || over) ≡ false
 few_enough more over p q = rw (p, q) refl
 
-reads : (nodes left : ℕ) (S : Store) (links : List TableLink) → IsTable S links → length (table_text links) ≤ most_in_table → nodes + length links ≤ most_nodes → texts_of links ≤ left → table_links nodes left S (table_entry links) ≡ Ok links
+reads : (nodes left : ℕ) (S : Store) (lines : List TableLine) → IsTable S lines → length (table_text lines) ≤ most_in_table → nodes + length (links_among lines) ≤ most_nodes → texts_of (links_among lines) ≤ left → table_lines nodes left S (table_entry lines) ≡ Ok lines
 reads nodes left S [] table small few fits = refl
 reads nodes left S (l ∷ ls) table small few fits =
-    let links = l ∷ ls in
-    let text = table_text links in
+    let lines = l ∷ ls in
+    let links = links_among lines in
+    let text = table_text lines in
     let fit : nat_lt most_in_table (length text) ≡ false = grind (arith, nat_tests) in
     let room : nat_lt most_nodes (nodes + length links) ≡ false = grind (arith, nat_tests) in
     let bytes : nat_lt left (texts_of links) ≡ false = grind (arith, nat_tests) in
-    ap (λ b. cond b (Err (TooLarge (place_of (table_name ∷ [])))) (read_links nodes left S text (read_table S text))) fit
-    ∙ ap (read_links nodes left S text) (tables_are_read S links table)
-    ∙ ap (λ b. cond b (Err (TooLarge (place_of (table_name ∷ [])))) (Ok links)) (few_enough _ _ room bytes)
+    ap (λ b. cond b (Err (TooLarge (place_of (table_name ∷ [])))) (read_lines nodes left S text (read_body S text))) fit
+    ∙ ap (read_lines nodes left S text) (body_read S lines table)
+    ∙ ap (λ b. cond b (Err (TooLarge (place_of (table_name ∷ [])))) (unless_bad lines (lacking text lines))) (few_enough _ _ room bytes)
+    ∙ ap (λ b. unless_bad lines (cond b (Some (BadTable 1)) None)) (lacks_none lines)
 
 -- ---- links are set in their places
 
@@ -142,7 +149,8 @@ placed text false f o again = refl
 find_with : (es : List Mapped) → T (is_sorted path_cmp es) → (ms : List Mapped) (q : Paths) → found (with_links ms (links_in es)) q ≡ link_or (found es q) (found ms q)
 unfolding link_or
 find_with [] up ms q = refl
-find_with ((p, File bytes exec) ∷ es) up ms q = find_with es (rest_sorted p (File bytes exec) es up) ms q ∙ passed (File bytes exec) (eq_by_cmp path_cmp q p) (found es q) (found ms q) (λ o. refl) (none_again p (File bytes exec) es up q)
+find_with ((p, File bytes true) ∷ es) up ms q = find_with es (rest_sorted p (File bytes true) es up) ms q ∙ passed (File bytes true) (eq_by_cmp path_cmp q p) (found es q) (found ms q) (λ o. refl) (none_again p (File bytes true) es up q)
+find_with ((p, File bytes false) ∷ es) up ms q = find_with es (rest_sorted p (File bytes false) es up) ms q ∙ passed (File bytes false) (eq_by_cmp path_cmp q p) (found es q) (found ms q) (λ o. refl) (none_again p (File bytes false) es up q)
 find_with ((p, Dir names) ∷ es) up ms q = find_with es (rest_sorted p (Dir names) es up) ms q ∙ passed (Dir names) (eq_by_cmp path_cmp q p) (found es q) (found ms q) (λ o. refl) (none_again p (Dir names) es up q)
 find_with ((p, Link text) ∷ es) up ms q =
     find_with es (rest_sorted p (Link text) es up) (put path_cmp p (Link text) ms) q
@@ -152,6 +160,53 @@ find_with ((p, Link text) ∷ es) up ms q =
 with_sorted : (links : List TableLink) (ms : List Mapped) → T (is_sorted path_cmp ms) → T (is_sorted path_cmp (with_links ms links))
 with_sorted [] ms up = up
 with_sorted (link ∷ links) ms up = with_sorted links (put path_cmp link.path (Link link.text) ms) (is_sorted-put path_cmp path_total link.path (Link link.text) ms up)
+
+-- ---- each file has its flag
+
+no_flag : (es : List Mapped) (q : Paths) → found es q ≡ None → flag_at (lines_in es) q ≡ false
+no_flag [] q none = refl
+no_flag ((p, File bytes true) ∷ es) q none = by (eq_by_cmp path_cmp q p) none (no_flag es q)
+  where
+    by : (b : Bool) → cond b (Some (File bytes true)) (found es q) ≡ None → (found es q ≡ None → flag_at (lines_in es) q ≡ false) → cond b true (flag_at (lines_in es) q) ≡ false
+    by true none rest = cc
+    by false none rest = rest none
+no_flag ((p, Link text) ∷ es) q none = by (eq_by_cmp path_cmp q p) none (no_flag es q)
+  where
+    by : (b : Bool) → cond b (Some (Link text)) (found es q) ≡ None → (found es q ≡ None → flag_at (lines_in es) q ≡ false) → cond b false (flag_at (lines_in es) q) ≡ false
+    by true none rest = refl
+    by false none rest = rest none
+no_flag ((p, File bytes false) ∷ es) q none = no_flag es q (behind (eq_by_cmp path_cmp q p) (File bytes false) (found es q) none)
+  where
+    behind : (b : Bool) (node : Node) (o : Option Node) → cond b (Some node) o ≡ None → o ≡ None
+    behind true node o e = cc
+    behind false node o e = e
+no_flag ((p, Dir names) ∷ es) q none = no_flag es q (behind (eq_by_cmp path_cmp q p) (Dir names) (found es q) none)
+  where
+    behind : (b : Bool) (node : Node) (o : Option Node) → cond b (Some node) o ≡ None → o ≡ None
+    behind true node o e = cc
+    behind false node o e = e
+
+-- where an entry without a line comes first, the flag is that of the others
+skipped : (node : Node) (exec : Bool) (bytes : List ℕ) (es : List Mapped) (q : Paths) (b : Bool) → (Some node ≡ Some (File bytes exec) → exec ≡ false) → cond b (Some node) (found es q) ≡ Some (File bytes exec) → (b ≡ true → found es q ≡ None) → (found es q ≡ Some (File bytes exec) → flag_at (lines_in es) q ≡ exec) → flag_at (lines_in es) q ≡ exec
+skipped node exec bytes es q true plain is none rest = no_flag es q (none refl) ∙ sym (plain is)
+skipped node exec bytes es q false plain is none rest = rest is
+
+flag_is : (es : List Mapped) → T (is_sorted path_cmp es) → (q : Paths) (bytes : List ℕ) (exec : Bool) → found es q ≡ Some (File bytes exec) → flag_at (lines_in es) q ≡ exec
+flag_is [] up q bytes exec is = cc
+flag_is ((p, File old true) ∷ es) up q bytes exec is = by (eq_by_cmp path_cmp q p) is (flag_is es (rest_sorted p (File old true) es up) q bytes exec)
+  where
+    by : (b : Bool) → cond b (Some (File old true)) (found es q) ≡ Some (File bytes exec) → (found es q ≡ Some (File bytes exec) → flag_at (lines_in es) q ≡ exec) → cond b true (flag_at (lines_in es) q) ≡ exec
+    by true is rest = cc
+    by false is rest = rest is
+flag_is ((p, Link text) ∷ es) up q bytes exec is = by (eq_by_cmp path_cmp q p) is (flag_is es (rest_sorted p (Link text) es up) q bytes exec)
+  where
+    by : (b : Bool) → cond b (Some (Link text)) (found es q) ≡ Some (File bytes exec) → (found es q ≡ Some (File bytes exec) → flag_at (lines_in es) q ≡ exec) → cond b false (flag_at (lines_in es) q) ≡ exec
+    by true is rest = cc
+    by false is rest = rest is
+flag_is ((p, File old false) ∷ es) up q bytes exec is =
+    skipped (File old false) exec bytes es q (eq_by_cmp path_cmp q p) (λ e. cc) is (none_again p (File old false) es up q) (flag_is es (rest_sorted p (File old false) es up) q bytes exec)
+flag_is ((p, Dir names) ∷ es) up q bytes exec is =
+    skipped (Dir names) exec bytes es q (eq_by_cmp path_cmp q p) (λ e. cc) is (none_again p (Dir names) es up q) (flag_is es (rest_sorted p (Dir names) es up) q bytes exec)
 
 -- ---- nodes whose names are not listed yet
 
@@ -182,12 +237,19 @@ entry_erased (Some (File bytes exec)) = refl
 entry_erased (Some (Dir names)) = refl
 entry_erased (Some (Link text)) = refl
 
-with_erased : (o : Option Node) → link_or o (option_map erased (but_no_link o)) ≡ option_map erased o
+erased_file : (o : Option Node) → is_file (option_map erased o) ≡ is_file o
+unfolding erased
+erased_file None = refl
+erased_file (Some (File bytes exec)) = refl
+erased_file (Some (Dir names)) = refl
+erased_file (Some (Link text)) = refl
+
+with_erased : (flag : Bool) (o : Option Node) → ((bytes : List ℕ) (exec : Bool) → o ≡ Some (File bytes exec) → flag ≡ exec) → link_or o (with_exec flag (option_map erased (but_no_link o))) ≡ option_map erased o
 unfolding erased link_or
-with_erased None = refl
-with_erased (Some (File bytes exec)) = refl
-with_erased (Some (Dir names)) = refl
-with_erased (Some (Link text)) = refl
+with_erased flag None is = refl
+with_erased flag (Some (File bytes exec)) is = ap (λ f. Some (File bytes f)) (is bytes exec refl)
+with_erased flag (Some (Dir names)) is = refl
+with_erased flag (Some (Link text)) is = refl
 
 no_table_name : is_name table_name ≡ false
 unfolding is_name
@@ -197,8 +259,11 @@ module _ (tree : Tree) (P : Paths) (nodes : Nodes) (whole : IsWhole (get nodes))
   abbrev hs : List Held
   hs = walked (all_below tree P)
 
+  abbrev lines : List TableLine
+  lines = lines_of nodes
+
   abbrev links : List TableLink
-  links = links_of nodes
+  links = links_among lines
 
   nothing_there : (n : List ℕ) (r : Paths) (o : Option Node) → get nodes (n ∷ r) ≡ o → bytes_eq n table_name ≡ true → o ≡ None
   nothing_there n r None e same = refl
@@ -214,7 +279,7 @@ module _ (tree : Tree) (P : Paths) (nodes : Nodes) (whole : IsWhole (get nodes))
   below_is : (n : List ℕ) (r : Paths) → find parts_cmp (n ∷ r) hs ≡ host_entry (get nodes (n ∷ r))
   below_is n r = find_walked_below tree P n r ∙ elim (cases_Bool (bytes_eq n table_name)) [
     | inl same ↦ ap (λ b. cond (not b) (get tree (P ++ n ∷ r)) None) same ∙ sym (ap host_entry (nothing_there n r (get nodes (n ∷ r)) refl same))
-    | inr other ↦ ap (λ b. cond (not b) (get tree (P ++ n ∷ r)) None) other ∙ (stands (n ∷ r) ∙ ap (λ b. cond b (table_entry links) (host_entry (get nodes (n ∷ r)))) (no_place n r other))
+    | inr other ↦ ap (λ b. cond (not b) (get tree (P ++ n ∷ r)) None) other ∙ (stands (n ∷ r) ∙ ap (λ b. cond b (table_entry lines) (host_entry (get nodes (n ∷ r)))) (no_place n r other))
   ]
 
   -- the entries of the folder are those of the filestore
@@ -230,30 +295,31 @@ module _ (tree : Tree) (P : Paths) (nodes : Nodes) (whole : IsWhole (get nodes))
   unlisted_is [] = sym (ap (λ o. option_map erased (but_no_link o)) whole.root.1)
   unlisted_is (n ∷ r) = find_unlisted hs n r ∙ (ap (option_map node_of) (below_is n r) ∙ entry_erased (get nodes (n ∷ r)))
 
-  can_same : (p : Paths) → can_stand (found (unlisted hs)) p ≡ can_stand (unlinked (get nodes)) p
-  can_same p =
+  can_same : (p : Paths) (mark : Mark) → can_mark (over (found (unlisted hs)) true) p mark ≡ can_mark (over (unlinked (get nodes)) true) p mark
+  can_same p (Target text) =
       (λ i. is_dir (unlisted_is (parent p) i) && is_none (unlisted_is p i))
       ∙ (λ i. erased_dir (unlinked (get nodes) (parent p)) i && erased_none (unlinked (get nodes) p) i)
+  can_same p Executable = ap is_file (unlisted_is p) ∙ erased_file (unlinked (get nodes) p)
 
-  table_of : IsTable (found (unlisted hs)) links
+  table_of : IsTable (found (unlisted hs)) lines
   table_of =
-      let table = links_are_tables nodes whole in
-      record { valid = table.valid; stand = λ k d lt. can_same (slice_index_or links k d).path ∙ table.stand k d lt; ascending = table.ascending }
+      let table = lines_are_tables nodes whole in
+      record { valid = table.valid; stand = λ k d lt. can_same (slice_index_or lines k d).path (slice_index_or lines k d).mark ∙ table.stand k d lt; ascending = table.ascending }
 
   ws : List Mapped
-  ws = with_links (unlisted hs) links
+  ws = with_lines (unlisted hs) lines
 
   ws_sorted : T (is_sorted path_cmp ws)
   unfolding ws
-  ws_sorted = with_sorted links (unlisted hs) (unlisted_sorted hs (below_root tree P) (below_sorted tree P))
+  ws_sorted = with_sorted links (with_flags (unlisted hs) lines) (sorted_flags (unlisted hs) lines (unlisted_sorted hs (below_root tree P) (below_sorted tree P)))
 
   ws_at : (q : Paths) → found ws q ≡ option_map erased (get nodes q)
   unfolding ws
   ws_at q =
-      find_with (entries nodes) (entries_sorted nodes) (unlisted hs) q
-      ∙ ap (λ o. link_or o (found (unlisted hs) q)) (sym (get-entries nodes q))
-      ∙ ap (link_or (get nodes q)) (unlisted_is q)
-      ∙ with_erased (get nodes q)
+      find_with (entries nodes) (entries_sorted nodes) (with_flags (unlisted hs) lines) q
+      ∙ ap (λ o. link_or o (found (with_flags (unlisted hs) lines) q)) (sym (get-entries nodes q))
+      ∙ ap (link_or (get nodes q)) (find_flags (unlisted hs) lines q ∙ ap (with_exec (flag_at lines q)) (unlisted_is q))
+      ∙ with_erased (flag_at lines q) (get nodes q) (λ bytes exec is. flag_is (entries nodes) (entries_sorted nodes) q bytes exec (sym (get-entries nodes q) ∙ is))
 
   relist : (q : Paths) (o : Option Node) → get nodes q ≡ o → option_map (relisted ws q) (option_map erased o) ≡ o
   unfolding erased
@@ -307,23 +373,23 @@ module _ (tree : Tree) (P : Paths) (nodes : Nodes) (whole : IsWhole (get nodes))
       ap (first_refused 1 most_bytes) held_are
       ∙ all_pass 1 most_bytes (held_of (entries nodes)) (all_accepted (entries nodes) (all_found (entries nodes) (strictly_sorted path_cmp (entries nodes) (entries_sorted nodes)))) (omega arith) (omega arith)
 
-  table_is : table_in (all_below tree P) ≡ table_entry links
+  table_is : table_in (all_below tree P) ≡ table_entry lines
   table_is = find_all_below tree P table_name [] ∙ stands (table_name ∷ [])
 
-  links_read : table_links (length hs + 1) (most_bytes - all_bytes hs) (found (unlisted hs)) (table_in (all_below tree P)) ≡ Ok links
-  links_read =
+  lines_read : table_lines (length hs + 1) (most_bytes - all_bytes hs) (found (unlisted hs)) (table_in (all_below tree P)) ≡ Ok lines
+  lines_read =
       let n : length hs ≡ length (held_of (entries nodes)) = ap length held_are in
       let b : all_bytes hs ≡ all_bytes (held_of (entries nodes)) = ap all_bytes held_are in
       let room = few in
       let fit = bytes in
-      ap (table_links (length hs + 1) (most_bytes - all_bytes hs) (found (unlisted hs))) table_is
-      ∙ reads (length hs + 1) (most_bytes - all_bytes hs) (found (unlisted hs)) links table_of limits.table (omega arith) (omega arith)
+      ap (table_lines (length hs + 1) (most_bytes - all_bytes hs) (found (unlisted hs))) table_is
+      ∙ reads (length hs + 1) (most_bytes - all_bytes hs) (found (unlisted hs)) lines table_of limits.table (omega arith) (omega arith)
 
   is_loaded : deep_loads tree P ≡ Ok nodes
   unfolding ws
   is_loaded =
       ap (λ o. as_nodes (unless_refused o (with_table hs (table_in (all_below tree P))))) none_refused
-      ∙ (ap (λ r. as_nodes (linked (unlisted hs) r)) links_read ∙ ap (λ m. Ok m) back)
+      ∙ (ap (λ r. as_nodes (linked (unlisted hs) r)) lines_read ∙ ap (λ m. Ok m) back)
 
 pub folders_are_loaded : FoldersAreLoaded
 folders_are_loaded tree P nodes whole limits stands = is_loaded tree P nodes whole limits stands

@@ -1,7 +1,8 @@
--- The table of links is refused for the first cause of its lines.
+-- The table is refused for the first cause of its lines.
 use Rattle.std.proofs.Common.{◌≡◌, inl, inr, ℕ, ◌+◌, ◌-◌, ◌<◌, ◌≤◌, Bool, true, false, cond, ◌||◌, List, [], ◌∷◌, ◌++◌, length, sum_by, Option, Some, None, Result, Ok, Err, refl, sym, ◌∙◌, ap, arith, append-nil, length-append}
 use Rattle.std.specs.Prelude.{nat_lt}
 use Rattle.std.proofs.lemmas.Bool.Decides.{nat_tests}
+use Rattle.std.proofs.lemmas.List.Elements.{filter_map-append}
 use Rattle.std.proofs.lemmas.List.Sums.{sum_by-append}
 use Rattle.fx_outside.specs.declared.kind.HostKind.{HostKind}
 use Rattle.fx_outside.specs.declared.kind.HostKind.TheVariants as kind
@@ -11,13 +12,16 @@ use Rattle.fx_table.specs.declared.fault.FolderCause.{FolderCause}
 use Rattle.fx_table.specs.declared.fault.FolderCause.TheVariants.{TooLarge, BadTable}
 use Rattle.fx_folder.specs.Loads.{most_nodes, most_bytes}
 use Rattle.fx_table.specs.Places.{table_name, place_of}
-use Rattle.fx_table.specs.Table.{TableLink, table_text, read_table}
-use Rattle.fx_table.specs.TableLaws.{IsFirstBadLine, BeginsWith}
+use Rattle.fx_table.specs.declared.line.TableLine.{TableLine}
+use Rattle.fx_table.specs.Table.{TableLink, Setting, setting_of, first_number, body_of, lines_text, read_body, lacks_flags, lines_before, links_among, link_in_line}
+use Rattle.fx_table.specs.TableLaws.{IsFirstBadOf}
 use Rattle.fx_folder.specs.Deep as deep
-use Rattle.fx_folder.specs.Deep.{Held, all_bytes, most_in_table, unless_bad, limited, read_links, table_file_links, table_links}
+use Rattle.fx_folder.specs.Deep.{Held, all_bytes, most_in_table, unless_bad, limited, lacking, read_lines, table_file_lines, table_lines}
 use Rattle.fx_folder.specs.RefusalLaws.{exceed_limits, HasTooManyLinks, HasBadLine, IsLineCause, IsFileCause}
-use Rattle.fx_table.proofs.TableLines.{read_texts_are_tables, bad_lines_are_first}
-use Rattle.fx_table.proofs.TableFronts.{before_end, links_before_is, before_bad, none_bad, one_bad}
+use Rattle.fx_table.proofs.Bodies.{body_said}
+use Rattle.fx_table.proofs.TableLines.{SpellsLines, texts_are_lines, bad_line_is_first}
+use Rattle.fx_table.proofs.TableFronts.{before_end, lines_before_are, before_bad, stops_read}
+use Rattle.fx_table.proofs.Versions.{stops_in, lacks_in}
 
 abbrev too_large : FolderCause
 too_large = TooLarge (place_of (table_name ∷ []))
@@ -49,54 +53,74 @@ module _ (all : List Held) where
   unfolding texts
   same_many fits links = ap (λ b. nat_lt most_nodes (nodes + length links) || b) (over most_bytes (all_bytes all) (texts links) fits)
 
+  -- lines with more behind them have too many links too
+  longer_lines : (lines more : List TableLine) → exceed_limits all (links_among lines) ≡ true → exceed_limits all (links_among (lines ++ more)) ≡ true
+  longer_lines lines more many =
+      ap (exceed_limits all) (filter_map-append (λ (l : TableLine). link_in_line l.path l.mark) lines more) ∙ longer_too_many (links_among lines) (links_among more) many
+
   module _ (fits : all_bytes all ≤ most_bytes) (S : Store) (text : List ℕ) where
     -- ---- the lines
 
-    limit_is : (links : List TableLink) (bad : Option FolderCause) → limited nodes left links bad ≡ cond (exceed_limits all links) (Err too_large) (unless_bad links bad)
-    limit_is links bad = ap (λ b. cond b (Err too_large) (unless_bad links bad)) (same_many fits links)
+    abbrev over_text : Setting
+    over_text = setting_of S text
 
-    read_is : (r : Result (List TableLink) ℕ) → read_table S text ≡ r → (cause : FolderCause) → read_links nodes left S text r ≡ Err cause → IsLineCause S all text cause
-    read_is (Ok links) is cause e =
-        let spells = read_texts_are_tables S text links is in
-        inl (by (exceed_limits all links) refl (sym (limit_is links None) ∙ e) (record { rest = []; parts = spells.spelled ∙ sym (append-nil (table_text links)); table = spells.table }))
+    abbrev from : ℕ
+    from = first_number text
+
+    abbrev body : List ℕ
+    body = body_of text
+
+    limit_is : (lines : List TableLine) (bad : Option FolderCause) → limited nodes left lines bad ≡ cond (exceed_limits all (links_among lines)) (Err too_large) (unless_bad lines bad)
+    limit_is lines bad = ap (λ b. cond b (Err too_large) (unless_bad lines bad)) (same_many fits (links_among lines))
+
+    before_is : (number : ℕ) (bad : IsFirstBadOf over_text from body number) → limited nodes left (lines_before S text number) (Some (BadTable number)) ≡ cond (exceed_limits all (links_among bad.lines)) (Err too_large) (Err (BadTable number))
+    before_is number bad = ap (λ ls. limited nodes left ls (Some (BadTable number))) (lines_before_are over_text from body number bad) ∙ limit_is bad.lines (Some (BadTable number))
+
+    read_is : (r : Result (List TableLine) ℕ) → read_body S text ≡ r → (cause : FolderCause) → read_lines nodes left S text r ≡ Err cause → IsLineCause S all text cause
+    read_is (Ok lines) is cause e =
+        let spells = texts_are_lines over_text from body lines is in
+        by spells (exceed_limits all (links_among lines)) refl (lacks_flags text lines) refl (sym (limit_is lines (lacking text lines)) ∙ e)
       where
-        by : (b : Bool) → exceed_limits all links ≡ b → cond b (Err too_large) (Ok links) ≡ Err cause → BeginsWith S text links → (cause ≡ too_large) × HasTooManyLinks S all text
-        by true many e front = (cc, record { links = links; front = front; many = many })
-        by false few e front = cc
+        by : SpellsLines over_text body lines → (b : Bool) → exceed_limits all (links_among lines) ≡ b → (l : Bool) → lacks_flags text lines ≡ l → cond b (Err too_large) (unless_bad lines (cond l (Some (BadTable 1)) None)) ≡ Err cause → IsLineCause S all text cause
+        by spells true many l lacks e = inl (cc, record { lines = lines; front = record { rest = []; parts = spells.spelled ∙ sym (append-nil (lines_text lines)); table = spells.table }; many = many })
+        by spells false few true lacks e = inr (1, cc, record { first = lacks_in S text lines spells.table spells.spelled lacks; few = few })
+        by spells false few false lacks e = cc
     read_is (Err number) is cause e =
-        let bad = bad_lines_are_first S text number is in
-        by bad (exceed_limits all bad.links) refl (sym (ap (λ ls. limited nodes left ls (Some (BadTable number))) (links_before_is S text number bad) ∙ limit_is bad.links (Some (BadTable number))) ∙ e)
+        let bad = bad_line_is_first over_text from body number is in
+        by bad (exceed_limits all (links_among bad.lines)) refl (sym (before_is number bad) ∙ e)
       where
-        by : (bad : IsFirstBadLine S text number) (b : Bool) → exceed_limits all bad.links ≡ b → ◌≡◌ {A = Result (List TableLink) FolderCause} (cond b (Err too_large) (Err (BadTable number))) (Err cause) → IsLineCause S all text cause
-        by bad true many e = inl (cc, record { links = bad.links; front = record { rest = bad.rest; parts = bad.parts; table = bad.table }; many = many })
-        by bad false few e = inr (number, cc, record { first = bad; few = few })
+        by : (bad : IsFirstBadOf over_text from body number) (b : Bool) → exceed_limits all (links_among bad.lines) ≡ b → ◌≡◌ {A = Result (List TableLine) FolderCause} (cond b (Err too_large) (Err (BadTable number))) (Err cause) → IsLineCause S all text cause
+        by bad true many e = inl (cc, record { lines = bad.lines; front = record { rest = bad.rest; parts = bad.parts; table = bad.table }; many = many })
+        by bad false few e = inr (number, cc, record { first = stops_in S text number bad; few = few })
 
-    many_read : HasTooManyLinks S all text → (r : Result (List TableLink) ℕ) → read_table S text ≡ r → read_links nodes left S text r ≡ Err too_large
-    many_read has (Ok links) is =
-        let spells = read_texts_are_tables S text links is in
-        let longer = before_end has.links links has.front.rest has.front.table.valid spells.table.valid (sym has.front.parts ∙ spells.spelled) in
-        limit_is links None ∙ ap (λ b. cond b (Err too_large) (Ok links)) (ap (exceed_limits all) longer.links ∙ longer_too_many has.links longer.more has.many)
+    many_read : HasTooManyLinks S all text → (r : Result (List TableLine) ℕ) → read_body S text ≡ r → read_lines nodes left S text r ≡ Err too_large
+    many_read has (Ok lines) is =
+        let spells = texts_are_lines over_text from body lines is in
+        let longer = before_end has.lines lines has.front.rest has.front.table.valid spells.table.valid (sym has.front.parts ∙ spells.spelled) in
+        limit_is lines (lacking text lines) ∙ ap (λ b. cond b (Err too_large) (unless_bad lines (lacking text lines))) (ap (λ ls. exceed_limits all (links_among ls)) longer.links ∙ longer_lines has.lines longer.more has.many)
     many_read has (Err number) is =
-        let bad = bad_lines_are_first S text number is in
-        let longer = before_bad S text number bad has.links has.front.rest has.front.table has.front.parts in
-        ap (λ ls. limited nodes left ls (Some (BadTable number))) (links_before_is S text number bad)
-        ∙ limit_is bad.links (Some (BadTable number))
-        ∙ ap (λ b. cond b (Err too_large) (Err (BadTable number))) (ap (exceed_limits all) longer.links ∙ longer_too_many has.links longer.more has.many)
+        let bad = bad_line_is_first over_text from body number is in
+        let longer = before_bad over_text from body number bad has.lines has.front.rest has.front.table has.front.parts in
+        before_is number bad
+        ∙ ap (λ b. cond b (Err too_large) (Err (BadTable number))) (ap (λ ls. exceed_limits all (links_among ls)) longer.links ∙ longer_lines has.lines longer.more has.many)
 
-    bad_read : (number : ℕ) → HasBadLine S all text number → (r : Result (List TableLink) ℕ) → read_table S text ≡ r → read_links nodes left S text r ≡ Err (BadTable number)
-    bad_read number has (Ok links) is =
-        let spells = read_texts_are_tables S text links is in
-        absurd (none_bad S text number has.first links spells.table spells.spelled)
-    bad_read number has (Err n) is =
-        let other = bad_lines_are_first S text n is in
-        let same = one_bad S text number n has.first other in
-        let place : n ≡ number = other.place ∙ (ap (λ ls. length ls + 1) (sym same) ∙ sym has.first.place) in
-        ap (λ ls. limited nodes left ls (Some (BadTable n))) (links_before_is S text n other)
-        ∙ (limit_is other.links (Some (BadTable n)) ∙ (ap (λ b. cond b (Err too_large) (Err (BadTable n))) (ap (exceed_limits all) (sym same) ∙ has.few) ∙ ap (λ m. Err (BadTable m)) place))
+    bad_read : (number : ℕ) → HasBadLine S all text number → read_lines nodes left S text (read_body S text) ≡ Err (BadTable number)
+    bad_read number has = elim has.first.bad [
+      | inl stops ↦
+          let bad : IsFirstBadOf over_text from body number = record { lines = has.first.lines; rest = has.first.rest; parts = has.first.parts; table = has.first.table; bad = stops } in
+          ap (read_lines nodes left S text) (stops_read over_text from body number bad) ∙ (before_is number bad ∙ ap (λ b. cond b (Err too_large) (Err (BadTable number))) has.few)
+      | inr lacks ↦
+          let lines = has.first.lines in
+          let whole : body ≡ lines_text lines = has.first.parts ∙ (ap (λ r. lines_text lines ++ r) lacks.whole ∙ append-nil (lines_text lines)) in
+          ap (read_lines nodes left S text) (body_said S text lines whole has.first.table)
+          ∙ (limit_is lines (lacking text lines)
+          ∙ (ap (λ b. cond b (Err too_large) (unless_bad lines (lacking text lines))) has.few
+          ∙ (ap (λ l. unless_bad lines (cond l (Some (BadTable 1)) None)) lacks.lacks ∙ ap (λ n. Err (BadTable n)) (sym lacks.place))))
+    ]
 
-    pub lines_refused : (cause : FolderCause) → IsLineCause S all text cause → read_links nodes left S text (read_table S text) ≡ Err cause
-    lines_refused cause (inl (same, many)) = many_read many (read_table S text) refl ∙ ap (λ c. Err c) (sym same)
-    lines_refused cause (inr (number, same, bad)) = bad_read number bad (read_table S text) refl ∙ ap (λ c. Err c) (sym same)
+    pub lines_refused : (cause : FolderCause) → IsLineCause S all text cause → read_lines nodes left S text (read_body S text) ≡ Err cause
+    lines_refused cause (inl (same, many)) = many_read many (read_body S text) refl ∙ ap (λ c. Err c) (sym same)
+    lines_refused cause (inr (number, same, bad)) = bad_read number bad ∙ ap (λ c. Err c) (sym same)
 
   -- ---- the table
 
@@ -113,30 +137,30 @@ module _ (all : List Held) where
   is_large n lt = grind (arith, nat_tests)
 
   module _ (fits : all_bytes all ≤ most_bytes) (S : Store) where
-    file_is : (k : HostKind) (text : List ℕ) (cause : FolderCause) → table_file_links nodes left S k text ≡ Err cause → IsFileCause S all k text cause
+    file_is : (k : HostKind) (text : List ℕ) (cause : FolderCause) → table_file_lines nodes left S k text ≡ Err cause → IsFileCause S all k text cause
     file_is kind.Folder text cause e = cc
     file_is kind.Other text cause e = cc
     file_is kind.File text cause e = by (nat_lt most_in_table (length text)) refl e
       where
-        by : (b : Bool) → nat_lt most_in_table (length text) ≡ b → cond b (Err too_large) (read_links nodes left S text (read_table S text)) ≡ Err cause → IsFileCause S all kind.File text cause
+        by : (b : Bool) → nat_lt most_in_table (length text) ≡ b → cond b (Err too_large) (read_lines nodes left S text (read_body S text)) ≡ Err cause → IsFileCause S all kind.File text cause
         by true is e = inl (not_small (length text) is, cc)
-        by false is e = inr (small_enough (length text) is, read_is fits S text (read_table S text) refl cause e)
+        by false is e = inr (small_enough (length text) is, read_is fits S text (read_body S text) refl cause e)
 
-    file_refused : (k : HostKind) (text : List ℕ) (cause : FolderCause) → IsFileCause S all k text cause → table_file_links nodes left S k text ≡ Err cause
+    file_refused : (k : HostKind) (text : List ℕ) (cause : FolderCause) → IsFileCause S all k text cause → table_file_lines nodes left S k text ≡ Err cause
     file_refused kind.Folder text cause same = ap (λ c. Err c) (sym same)
     file_refused kind.Other text cause same = ap (λ c. Err c) (sym same)
-    file_refused kind.File text cause (inl (large, same)) = ap (λ b. cond b (Err too_large) (read_links nodes left S text (read_table S text))) (is_large (length text) large) ∙ ap (λ c. Err c) (sym same)
-    file_refused kind.File text cause (inr (small, why)) = ap (λ b. cond b (Err too_large) (read_links nodes left S text (read_table S text))) (is_small (length text) small) ∙ lines_refused fits S text cause why
+    file_refused kind.File text cause (inl (large, same)) = ap (λ b. cond b (Err too_large) (read_lines nodes left S text (read_body S text))) (is_large (length text) large) ∙ ap (λ c. Err c) (sym same)
+    file_refused kind.File text cause (inr (small, why)) = ap (λ b. cond b (Err too_large) (read_lines nodes left S text (read_body S text))) (is_small (length text) small) ∙ lines_refused fits S text cause why
 
     -- the table that stands, if any, is refused for the cause
     abbrev pub IsCauseOf : Option Entry → FolderCause → Type 0
     IsCauseOf None cause = ⊥
     IsCauseOf (Some e) cause = IsFileCause S all e.kind e.bytes cause
 
-    pub table_is : (table : Option Entry) (cause : FolderCause) → table_links nodes left S table ≡ Err cause → IsCauseOf table cause
+    pub table_is : (table : Option Entry) (cause : FolderCause) → table_lines nodes left S table ≡ Err cause → IsCauseOf table cause
     table_is None cause e = cc
     table_is (Some x) cause e = file_is x.kind x.bytes cause e
 
-    pub table_refused : (table : Option Entry) (cause : FolderCause) → IsCauseOf table cause → table_links nodes left S table ≡ Err cause
+    pub table_refused : (table : Option Entry) (cause : FolderCause) → IsCauseOf table cause → table_lines nodes left S table ≡ Err cause
     table_refused None cause why = absurd why
     table_refused (Some x) cause why = file_refused x.kind x.bytes cause why

@@ -1,5 +1,5 @@
 -- The steps of writing a folder: what each leaves, and that the next may be made.
-use Rattle.std.proofs.Common.{◌≡◌, inl, inr, ℕ, ◌<◌, ◌≤◌, Bool, true, List, [], ◌∷◌, ◌++◌, length, Option, Some, None, IfSome, IsSome, OnOk, OnErr, Result, Ok, Err, refl, sym, ◌∙◌, ap, subst, arith, append_assoc}
+use Rattle.std.proofs.Common.{◌≡◌, inl, inr, ℕ, ◌<◌, ◌≤◌, Bool, true, false, cond, List, [], ◌∷◌, ◌++◌, length, Option, Some, None, IfSome, IsSome, OnOk, OnErr, Result, Ok, Err, refl, sym, ◌∙◌, ap, subst, arith, append_assoc}
 use Rattle.std.specs.Option.{option_or}
 use Rattle.std.specs.FinMap.{entries, get, find}
 use Rattle.fx_store.specs.declared.node.Node.{Node}
@@ -14,7 +14,8 @@ use Rattle.fx_outside.specs.Tree.{Tree, Entry, file, is_free_at}
 use Rattle.fx_folder.specs.Places.{host_entry}
 use Rattle.fx_table.specs.Places.{table_name, place_of}
 use Rattle.fx_folder.specs.Reads.{path_below}
-use Rattle.fx_table.specs.Table.{TableLink, line_of, links_of, table_text}
+use Rattle.fx_table.specs.declared.line.TableLine.{TableLine}
+use Rattle.fx_table.specs.Table.{line_of, lines_of, lines_text, has_flags, version_line, table_text}
 use Rattle.fx_folder.specs.Deep.{table_entry}
 use Rattle.fx_folder.specs.Folder.{IfTold, IsSaved, IsPartlySaved, IsReady}
 use Rattle.fx_table.specs.Remaining.{ComesNext, IsLeftBelow}
@@ -191,27 +192,29 @@ free_for_table told told1 told2 path there nodes start made wrote =
     told_next told1 told2 (λ t. IsOpen t path) (λ t t'. HasEntries t t' (parts path) (entries nodes)) (λ t. is_free_at t (path_below path table_name) ≡ true) (opened told told1 path there start.whole start.ready made) wrote
     (λ t u is has. table_free nodes start.stored t u (parts path) has (path_below path table_name) (fit_table path is.fit) (parts_table path))
 
-table_file : (links : List TableLink) (text : List ℕ) → text ≡ table_text links → file_unless_empty text ≡ table_entry links
+table_file : (lines : List TableLine) (text : List ℕ) → text ≡ table_text lines → file_unless_empty text ≡ table_entry lines
 table_file [] text is = ap file_unless_empty is
-table_file (link ∷ links) text is =
-    ap file_unless_empty (is ∙ append_assoc (line_of link) (10 ∷ []) (table_text links)) ∙ long (line_of link) 10 (table_text links)
-    ∙ sym (ap (λ x. Some (file x)) (append_assoc (line_of link) (10 ∷ []) (table_text links)))
+table_file (line ∷ lines) text is = ap file_unless_empty is ∙ some (has_flags (line ∷ lines))
   where
-    long : (bytes : List ℕ) (b : ℕ) (more : List ℕ) → file_unless_empty (bytes ++ b ∷ more) ≡ Some (file (bytes ++ b ∷ more))
-    long [] b more = refl
-    long (a ∷ bytes) b more = refl
+    long : (bytes more : List ℕ) → file_unless_empty ((bytes ++ 10 ∷ []) ++ more) ≡ Some (file ((bytes ++ 10 ∷ []) ++ more))
+    long [] more = refl
+    long (a ∷ bytes) more = refl
 
-pub saved_all : {E : Type 0} (r : Result (Unit {0}) E) (told told1 told2 told3 : Option Tree) (path : List ℕ) (there : Bool) (nodes : Nodes) (text : List ℕ) → IsWhole (get nodes) → text ≡ table_text (links_of nodes) → IfTold told told1 (λ t u. u ≡ with_folder t (parts path) there) → IfTold told1 told2 (λ t t'. HasEntries t t' (parts path) (entries nodes)) → OnOk r (IfTold told2 told3 (λ t t'. t' ≡ with_entry t (parts path ++ table_name ∷ []) (file_unless_empty text))) → OnOk r (IfTold told told3 (λ t t'. IsSaved t t' (parts path) nodes))
+    some : (b : Bool) → file_unless_empty (cond b version_line [] ++ lines_text (line ∷ lines)) ≡ Some (file (cond b version_line [] ++ lines_text (line ∷ lines)))
+    some true = refl
+    some false = long (line_of line) (lines_text lines)
+
+pub saved_all : {E : Type 0} (r : Result (Unit {0}) E) (told told1 told2 told3 : Option Tree) (path : List ℕ) (there : Bool) (nodes : Nodes) (text : List ℕ) → IsWhole (get nodes) → text ≡ table_text (lines_of nodes) → IfTold told told1 (λ t u. u ≡ with_folder t (parts path) there) → IfTold told1 told2 (λ t t'. HasEntries t t' (parts path) (entries nodes)) → OnOk r (IfTold told2 told3 (λ t t'. t' ≡ with_entry t (parts path ++ table_name ∷ []) (file_unless_empty text))) → OnOk r (IfTold told told3 (λ t t'. IsSaved t t' (parts path) nodes))
 saved_all (Err e) told told1 told2 told3 path there nodes text stored is made wrote added = tt
 saved_all (Ok done) told told1 told2 told3 path there nodes text stored is made wrote added =
     told_then told told2 told3 (λ t t'. HasEntries t t' (parts path) (entries nodes)) (λ t t'. t' ≡ with_entry t (parts path ++ table_name ∷ []) (file_unless_empty text)) (λ t t'. IsSaved t t' (parts path) nodes) (filled told told1 told2 path there nodes made wrote) added
-    (λ t u v at has new. all_saved nodes stored t u (parts path) has v (new ∙ ap (with_entry u (parts path ++ table_name ∷ [])) (table_file (links_of nodes) text is)))
+    (λ t u v at has new. all_saved nodes stored t u (parts path) has v (new ∙ ap (with_entry u (parts path ++ table_name ∷ [])) (table_file (lines_of nodes) text is)))
 
-pub stopped_in_table : {E : Type 0} (r : Result (Unit {0}) E) (told told1 told2 told3 : Option Tree) (path : List ℕ) (there : Bool) (nodes : Nodes) (text : List ℕ) → IsWhole (get nodes) → text ≡ table_text (links_of nodes) → IfTold told told1 (λ t u. u ≡ with_folder t (parts path) there) → IfTold told1 told2 (λ t t'. HasEntries t t' (parts path) (entries nodes)) → OnErr r (IfTold told2 told3 (λ t t'. WrotePart t t' (parts path ++ table_name ∷ []) (file_unless_empty text))) → OnErr r (IfTold told told3 (λ t t'. IsPartlySaved t t' (parts path) nodes))
+pub stopped_in_table : {E : Type 0} (r : Result (Unit {0}) E) (told told1 told2 told3 : Option Tree) (path : List ℕ) (there : Bool) (nodes : Nodes) (text : List ℕ) → IsWhole (get nodes) → text ≡ table_text (lines_of nodes) → IfTold told told1 (λ t u. u ≡ with_folder t (parts path) there) → IfTold told1 told2 (λ t t'. HasEntries t t' (parts path) (entries nodes)) → OnErr r (IfTold told2 told3 (λ t t'. WrotePart t t' (parts path ++ table_name ∷ []) (file_unless_empty text))) → OnErr r (IfTold told told3 (λ t t'. IsPartlySaved t t' (parts path) nodes))
 stopped_in_table (Ok done) told told1 told2 told3 path there nodes text stored is made wrote part = tt
 stopped_in_table (Err e) told told1 told2 told3 path there nodes text stored is made wrote part =
     told_then told told2 told3 (λ t t'. HasEntries t t' (parts path) (entries nodes)) (λ t t'. WrotePart t t' (parts path ++ table_name ∷ []) (file_unless_empty text)) (λ t t'. IsPartlySaved t t' (parts path) nodes) (filled told told1 told2 path there nodes made wrote) part
-    (λ t u v at has some. refused_table nodes stored t u v (parts path) has (subst (WrotePart u v (parts path ++ table_name ∷ [])) (table_file (links_of nodes) text is) some))
+    (λ t u v at has some. refused_table nodes stored t u v (parts path) has (subst (WrotePart u v (parts path ++ table_name ∷ [])) (table_file (lines_of nodes) text is) some))
 
 pub stopped_in_front : (told told1 told2 : Option Tree) (path : List ℕ) (there : Bool) (nodes : Nodes) → IsWhole (get nodes) → IfTold told told1 (λ t u. u ≡ with_folder t (parts path) there) → IfTold told1 told2 (λ t t'. WroteFront t t' (parts path) nodes) → IfTold told told2 (λ t t'. IsPartlySaved t t' (parts path) nodes)
 stopped_in_front told told1 told2 path there nodes stored made wrote =

@@ -1,4 +1,4 @@
--- What a folder of any depth is loaded as, links included, or why it is refused; and the folder of a filestore.
+-- What a folder of any depth is loaded as, its table included, or why it is refused; and the folder of a filestore.
 use Rattle.std.specs.Prelude.{◌≡◌, ℕ, ◌+◌, ◌-◌, Bool, false, nat_le, nat_lt, cond, not, ◌||◌, ◌&&◌, List, [], ◌∷◌, ◌++◌, map, length, slice_index_or, bytes_eq, Option, Some, None, Result, Ok, Err}
 use Rattle.std.specs.Option.{option_or, option_map, option_and_then}
 use Rattle.std.specs.List.{filter_map, filter, sum_by}
@@ -16,10 +16,11 @@ use Rattle.fx_store.specs.Whole.{Store, Nodes}
 use Rattle.fx_table.specs.declared.fault.FolderCause.{FolderCause}
 use Rattle.fx_table.specs.declared.fault.FolderCause.TheVariants.{BadName, Strange, TooLarge, BadTable}
 use Rattle.fx_folder.specs.Limits.{most_nodes, most_in_file, most_bytes}
-use Rattle.fx_table.specs.Listed.{Mapped, with_links, listed}
+use Rattle.fx_table.specs.Listed.{Mapped, with_lines, listed}
 use Rattle.fx_table.specs.Places.{table_name, place_of, rest_of}
 use Rattle.fx_folder.specs.Places.{host_entry}
-use Rattle.fx_table.specs.Table.{TableLink, read_table, table_text, links_of, links_before}
+use Rattle.fx_table.specs.declared.line.TableLine.{TableLine}
+use Rattle.fx_table.specs.Table.{TableLink, table_text, lines_of, links_among, read_body, lacks_flags, lines_before}
 
 -- an entry, with the names that lead to it from a folder
 abbrev pub Held : Type 0
@@ -37,7 +38,7 @@ held_below folder e = option_map (λ names. (names, e.1)) (option_and_then insid
 abbrev pub all_below : Tree → Parts → List Held
 all_below tree folder = filter_map (held_below folder) (entries tree)
 
--- the table of links, and what stands below it if it is no file
+-- the table, and what stands below it if it is no file
 abbrev pub is_table : Held → Bool
 is_table ([], e) = false
 is_table (name ∷ names, e) = bytes_eq name table_name
@@ -94,33 +95,37 @@ most_in_table = 33554432
 abbrev pub are_too_many : ℕ → ℕ → List TableLink → Bool
 are_too_many nodes left links = nat_lt most_nodes (nodes + length links) || nat_lt left (sum_by (λ (l : TableLink). length l.text) links)
 
-abbrev pub unless_bad : List TableLink → Option FolderCause → Result (List TableLink) FolderCause
-unless_bad links None = Ok links
-unless_bad links (Some cause) = Err cause
+abbrev pub unless_bad : List TableLine → Option FolderCause → Result (List TableLine) FolderCause
+unless_bad lines None = Ok lines
+unless_bad lines (Some cause) = Err cause
 
--- the links of the table, or the first refusal: a good line may be one too many before a bad one comes
-abbrev pub limited : ℕ → ℕ → List TableLink → Option FolderCause → Result (List TableLink) FolderCause
-limited nodes left links bad = cond (are_too_many nodes left links) (Err (TooLarge (place_of (table_name ∷ [])))) (unless_bad links bad)
+-- the lines of the table, or the first refusal: a good line may be one too many before a bad one comes
+abbrev pub limited : ℕ → ℕ → List TableLine → Option FolderCause → Result (List TableLine) FolderCause
+limited nodes left lines bad = cond (are_too_many nodes left (links_among lines)) (Err (TooLarge (place_of (table_name ∷ [])))) (unless_bad lines bad)
 
-abbrev pub read_links : ℕ → ℕ → Store → List ℕ → Result (List TableLink) ℕ → Result (List TableLink) FolderCause
-read_links nodes left S text (Ok links) = limited nodes left links None
-read_links nodes left S text (Err number) = limited nodes left (links_before S text number) (Some (BadTable number))
+-- a text of version 2 that has no need of it is bad at its first line, but all lines are read before
+abbrev pub lacking : List ℕ → List TableLine → Option FolderCause
+lacking text lines = cond (lacks_flags text lines) (Some (BadTable 1)) None
+
+abbrev pub read_lines : ℕ → ℕ → Store → List ℕ → Result (List TableLine) ℕ → Result (List TableLine) FolderCause
+read_lines nodes left S text (Ok lines) = limited nodes left lines (lacking text lines)
+read_lines nodes left S text (Err number) = limited nodes left (lines_before S text number) (Some (BadTable number))
 
 -- a table that is a file and not too large is read line by line
-abbrev pub table_file_links : ℕ → ℕ → Store → HostKind → List ℕ → Result (List TableLink) FolderCause
-table_file_links nodes left S kind.File text =
-    cond (nat_lt most_in_table (length text)) (Err (TooLarge (place_of (table_name ∷ [])))) (read_links nodes left S text (read_table S text))
-table_file_links nodes left S kind.Folder text = Err (Strange (place_of (table_name ∷ [])))
-table_file_links nodes left S kind.Other text = Err (Strange (place_of (table_name ∷ [])))
+abbrev pub table_file_lines : ℕ → ℕ → Store → HostKind → List ℕ → Result (List TableLine) FolderCause
+table_file_lines nodes left S kind.File text =
+    cond (nat_lt most_in_table (length text)) (Err (TooLarge (place_of (table_name ∷ [])))) (read_lines nodes left S text (read_body S text))
+table_file_lines nodes left S kind.Folder text = Err (Strange (place_of (table_name ∷ [])))
+table_file_lines nodes left S kind.Other text = Err (Strange (place_of (table_name ∷ [])))
 
--- no table stands for no links
-abbrev pub table_links : ℕ → ℕ → Store → Option Entry → Result (List TableLink) FolderCause
-table_links nodes left S None = Ok []
-table_links nodes left S (Some e) = table_file_links nodes left S e.kind e.bytes
+-- no table stands for no lines
+abbrev pub table_lines : ℕ → ℕ → Store → Option Entry → Result (List TableLine) FolderCause
+table_lines nodes left S None = Ok []
+table_lines nodes left S (Some e) = table_file_lines nodes left S e.kind e.bytes
 
--- files, directories and links together
-abbrev pub linked : List Mapped → Result (List TableLink) FolderCause → Result (List Mapped) FolderCause
-linked es (Ok links) = Ok (listed (with_links es links))
+-- files, directories and what the lines say
+abbrev pub linked : List Mapped → Result (List TableLine) FolderCause → Result (List Mapped) FolderCause
+linked es (Ok lines) = Ok (listed (with_lines es lines))
 linked es (Err cause) = Err cause
 
 abbrev pub all_bytes : List Held → ℕ
@@ -129,13 +134,13 @@ all_bytes hs = sum_by (λ (h : Held). length h.1.bytes) hs
 -- what the table adds to the entries that were walked
 abbrev pub with_table : List Held → Option Entry → Result (List Mapped) FolderCause
 with_table hs table =
-    linked (unlisted hs) (table_links (length hs + 1) (most_bytes - all_bytes hs) (λ path. find path_cmp path (unlisted hs)) table)
+    linked (unlisted hs) (table_lines (length hs + 1) (most_bytes - all_bytes hs) (λ path. find path_cmp path (unlisted hs)) table)
 
 abbrev pub unless_refused : Option FolderCause → Result (List Mapped) FolderCause → Result (List Mapped) FolderCause
 unless_refused None loaded = loaded
 unless_refused (Some cause) loaded = Err cause
 
--- what entries stand for, or the first refusal: first the entries in the order of their paths, then the table of links
+-- what entries stand for, or the first refusal: first the entries in the order of their paths, then the table
 abbrev pub loaded : List Held → Result (List Mapped) FolderCause
 loaded hs = unless_refused (first_refused 1 most_bytes (walked hs)) (with_table (walked hs) (table_in hs))
 
@@ -147,19 +152,19 @@ as_nodes (Err cause) = Err cause
 abbrev pub deep_loads : Tree → Parts → Result Nodes FolderCause
 deep_loads tree folder = as_nodes (loaded (all_below tree folder))
 
--- the table of a filestore's links, if it has any
-abbrev pub table_entry : List TableLink → Option Entry
+-- the table of a filestore's lines, if it has any
+abbrev pub table_entry : List TableLine → Option Entry
 table_entry [] = None
-table_entry (link ∷ links) = Some (file (table_text (link ∷ links)))
+table_entry (line ∷ lines) = Some (file (table_text (line ∷ lines)))
 
 abbrev pub is_table_place : Parts → Bool
 is_table_place [] = false
 is_table_place (name ∷ []) = bytes_eq name table_name
 is_table_place (name ∷ next ∷ names) = false
 
--- what stands in the folder of a filestore: its directories as folders, its files, and a table where it has links
+-- what stands in the folder of a filestore: its directories as folders, its files, and a table where it has links or a file is executable
 abbrev pub folder_entry : Nodes → Parts → Option Entry
-folder_entry nodes names = cond (is_table_place names) (table_entry (links_of nodes)) (host_entry (get nodes names))
+folder_entry nodes names = cond (is_table_place names) (table_entry (lines_of nodes)) (host_entry (get nodes names))
 
 -- the tree has the folder of the filestore at these parts
 abbrev pub HasFolderOf : Tree → Parts → Nodes → Type 0

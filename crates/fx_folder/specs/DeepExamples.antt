@@ -1,5 +1,5 @@
 -- Small folders of some depth, and what they are loaded as.
-use Rattle.std.specs.Prelude.{◌≡◌, ℕ, false, List, [], ◌∷◌, ◌++◌, codes, Ok, Err}
+use Rattle.std.specs.Prelude.{◌≡◌, ℕ, true, false, List, [], ◌∷◌, ◌++◌, codes, Ok, Err}
 use Rattle.fx_outside.specs.declared.kind.HostKind.TheVariants.{Other}
 use Rattle.fx_outside.specs.Tree.{Entry, file, folder}
 use Rattle.fx_store.specs.declared.node.Node.TheVariants.{File, Dir, Link}
@@ -30,3 +30,7 @@ pub record DeepExamples : Type 0 where
   pub table_folder : loaded ((table_name ∷ [], folder) ∷ (table_name ∷ codes "x" ∷ [], file []) ∷ with_between []) ≡ Err (Strange (codes "/.forest-links"))
   pub deep_table : loaded (with_between ((codes "b" ∷ [], folder) ∷ (codes "b" ∷ table_name ∷ [], file []) ∷ [])) ≡ Err (BadName (codes "/b/.forest-links"))
   pub first : loaded (with_between ((codes "b" ∷ [], folder) ∷ (codes "b" ∷ codes "g" ∷ [], strange) ∷ (codes "c" ∷ [], strange) ∷ [])) ≡ Err (Strange (codes "/b/g"))
+  pub flags : loaded (table (line (codes "version 2") ++ line (codes "/b -> a") ++ line (codes "/d/f *")) ∷ with_between [])
+      ≡ Ok (([], Dir (codes "a" ∷ codes "b" ∷ codes "d" ∷ [])) ∷ (codes "a" ∷ [], File (codes "1") false) ∷ (codes "b" ∷ [], Link (codes "a")) ∷ (codes "d" ∷ [], Dir (codes "f" ∷ [])) ∷ (codes "d" ∷ codes "f" ∷ [], File (codes "hi") true) ∷ [])
+  pub flag_of_folder : loaded (table (line (codes "version 2") ++ line (codes "/d *")) ∷ with_between []) ≡ Err (BadTable 2)
+  pub no_flags : loaded (table (line (codes "version 2") ++ line (codes "/b -> a")) ∷ with_between []) ≡ Err (BadTable 1)

@@ -8,7 +8,7 @@ use Rattle.fx_store.specs.declared.node.Node.{Node}
 use Rattle.fx_store.specs.declared.node.Node.TheVariants.{File, Dir, Link}
 use Rattle.fx_store.specs.Whole.{Nodes, IsWhole}
 use Rattle.fx_folder.specs.Loads.{most_nodes, most_bytes}
-use Rattle.fx_table.specs.Table.{table_text, links_of}
+use Rattle.fx_table.specs.Table.{table_text, lines_of}
 use Rattle.fx_folder.specs.Deep.{most_in_table, deep_loads, HasFolderOf}
 use Rattle.fx_table.specs.Listed.{Mapped}
 use Rattle.fx_table.specs.Shaped.{AreOfBytes}
@@ -31,7 +31,7 @@ sizes_of es = sum_by (λ (e : Mapped). size_of e.1) es
 pub record IsWithinLimits (nodes : Nodes) : Type 0 where
   pub count : len nodes ≤ most_nodes
   pub bytes : sizes_of (entries nodes) ≤ most_bytes
-  pub table : length (table_text (links_of nodes)) ≤ most_in_table
+  pub table : length (table_text (lines_of nodes)) ≤ most_in_table
 
 -- the folder of a whole filestore within the limits is loaded as this filestore
 abbrev pub FoldersAreLoaded : Type 0

@@ -19,7 +19,8 @@ use Rattle.fx_table.specs.declared.fault.FolderCause.{FolderCause}
 use Rattle.fx_table.specs.declared.fault.FolderCause.TheVariants.{BadName, Strange, TooLarge, BadTable}
 use Rattle.fx_folder.specs.Loads.{most_nodes, most_in_file, most_bytes}
 use Rattle.fx_table.specs.Places.{table_name, place_of}
-use Rattle.fx_table.specs.Table.{TableLink}
+use Rattle.fx_table.specs.declared.line.TableLine.{TableLine}
+use Rattle.fx_table.specs.Table.{TableLink, links_among}
 use Rattle.fx_table.specs.TableLaws.{IsFirstBadLine, BeginsWith}
 use Rattle.fx_folder.specs.Deep.{Held, all_below, walked, last_name, all_bytes, unlisted, most_in_table, deep_loads}
 
@@ -88,16 +89,16 @@ HasNoCause tree folder = (names : Parts) (e : Entry) → Stands tree folder name
 abbrev pub exceed_limits : List Held → List TableLink → Bool
 exceed_limits all links = nat_lt most_nodes (length all + 1 + length links) || nat_lt most_bytes (all_bytes all + sum_by (λ (l : TableLink). length l.text) links)
 
--- lines at the front are a table whose last links are too many
+-- lines at the front have their places, and the last of their links are too many
 pub record HasTooManyLinks (S : Store) (all : List Held) (text : List ℕ) : Type 0 where
-  pub links : List TableLink
-  pub front : BeginsWith S text links
-  pub many : exceed_limits all links ≡ true
+  pub lines : List TableLine
+  pub front : BeginsWith S text lines
+  pub many : exceed_limits all (links_among lines) ≡ true
 
 -- a line is bad, and the links of those before it are not too many
 pub record HasBadLine (S : Store) (all : List Held) (text : List ℕ) (number : ℕ) : Type 0 where
   pub first : IsFirstBadLine S text number
-  pub few : exceed_limits all first.links ≡ false
+  pub few : exceed_limits all (links_among first.lines) ≡ false
 
 -- the lines of a text are refused for the cause of the first line that has one
 abbrev pub IsLineCause : Store → List Held → List ℕ → FolderCause → Type 0

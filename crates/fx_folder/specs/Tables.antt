@@ -13,10 +13,10 @@ use Rattle.fx_table.specs.declared.fault.LoadFault.{LoadFault}
 use Rattle.fx_table.specs.declared.fault.LoadFault.TheVariants.{Refused, ReadFault, NoMemory}
 use Rattle.fx_table.specs.declared.lines.Room.{Room}
 use Rattle.fx_folder.specs.Deep.{all_below, loaded, most_in_table}
-use Rattle.fx_table.specs.Listed.{listed, with_links}
+use Rattle.fx_table.specs.Listed.{listed, with_lines}
 use Rattle.fx_table.specs.Places.{place_of, table_name}
 use Rattle.fx_folder.specs.Limits.{most_nodes}
-use Rattle.fx_table.specs.Lines.{links_in, standing_by, ReadsAll}
+use Rattle.fx_table.specs.Lines.{lines_in, standing_by, ReadsAll}
 use Rattle.fx_table.specs.Mapped.{mapped_of}
 use Rattle.fx_table.specs.Shaped.{changes_of}
 
@@ -42,11 +42,11 @@ AnswersText answer (Err NoMemory) = ⊤
 abbrev pub room_behind : List Change → ℕ → Room
 room_behind found left = record { links = most_nodes - length found; bytes = left }
 
--- the links of the text are set among what was found
+-- the lines of the text are set among what was found
 pub record IsJoined (found : List Change) (left : ℕ) (text : List ℕ) (joined : List Change) : Type 0 where
-  pub links : List Change
-  pub read : ReadsAll (standing_by found) (room_behind found left) text links
-  pub all : joined ≡ changes_of (with_links (mapped_of found) (links_in links))
+  pub lines : List Change
+  pub read : ReadsAll (standing_by found) (room_behind found left) text lines
+  pub all : joined ≡ changes_of (with_lines (mapped_of found) (lines_in lines))
 
 -- everything that a folder is loaded as but the names of its directories, or the first refusal
 abbrev pub AnswersFound : Tree → Parts → Result (List Change) LoadFault → Type 0

@@ -1,4 +1,4 @@
-//! The table of a folder, and what was found with its links.
+//! The table of a folder, and what was found with its lines.
 ghost use Rattle.std.specs.Prelude.{◌≡◌, ◌≤◌, ◌<◌, ◌∷◌, [], length, true, Ok, Err, IfOk, IfErr, IfSome, option_map};
 ghost use Rattle.std.specs.FinMap.{get};
 ghost use Rattle.fx_outside.specs.Host.{ReadsOnly, AsksFit, FaultIn};
@@ -19,7 +19,7 @@ use crate::walking::Walked;
 use fx_base::NoMemory;
 use fx_outside::{Host, HostKind, HostText, Listing};
 use fx_store::{Change, Changes};
-use fx_table::{FolderCause, LoadFault, Room, merged, read_links, table_place};
+use fx_table::{FolderCause, LoadFault, Room, merged, read_lines, table_place};
 use std::alloc::Global;
 
 /// The most bytes of a table.
@@ -36,7 +36,7 @@ pub(crate) fn table_kind(alloc: Global, names: &Listing) -> Result<Option<HostKi
     }
 }
 
-/// What was walked of a folder, with the links of its table, which is of this kind.
+/// What was walked of a folder, with the links and flags of its table, which is of this kind.
 pub(crate) fn with_table<H: Host>(
     alloc: Global,
     host: &mut H,
@@ -63,7 +63,7 @@ pub(crate) fn with_table<H: Host>(
     joined(alloc, walked, &text)
 }
 
-/// What was walked, with the links of a table's text.
+/// What was walked, with the links and flags of a table's text.
 fn joined(alloc: Global, walked: Walked, text: &[u8]) -> Result<Vec<Change>, LoadFault>
     requires { AreFound walked.found.items }
     ensures shaped { IfOk result (λ all. AreShaped all.items) }
@@ -78,8 +78,8 @@ fn joined(alloc: Global, walked: Walked, text: &[u8]) -> Result<Vec<Change>, Loa
         bytes: left,
     };
     let found = Changes::from_vec(found);
-    let links = read_links(alloc, text, &found, room)?;
-    Ok(merged(alloc, found.into_vec(), links)?)
+    let lines = read_lines(alloc, text, &found, room)?;
+    Ok(merged(alloc, found.into_vec(), lines)?)
 }
 
 /// The text of a folder's table, which is of this kind.

@@ -29,10 +29,10 @@ pub(crate) const MAX_BYTES: u64 = 67_108_864;
 /// How many bytes are read at once.
 const CHUNK: usize = 65_536;
 
-/// The file in which a folder keeps its links.
+/// The file in which a folder keeps its links, and which of its files are executable.
 pub(crate) const TABLE: &str = ".forest-links";
 
-/// Loads a folder of any depth, with the links of its table. An entry that can't be loaded is refused with its path;
+/// Loads a folder of any depth, with the links and flags of its table. An entry that can't be loaded is refused with its path;
 /// where there are several, it is the first in order of path, and the table comes last.
 pub fn load<H: Host>(alloc: Global, host: &mut H, folder: &HostText) -> Result<Filestore, LoadFault>
     ensures loaded { IfOk result (λ s.
@@ -65,7 +65,7 @@ fn load_folder<H: Host>(
     Ok(filestore_of(alloc, found)?)
 }
 
-/// Everything in a folder that has this listing, with the links of its table.
+/// Everything in a folder that has this listing, with the links and flags of its table.
 fn find_all<H: Host>(
     alloc: Global,
     host: &mut H,
@@ -128,7 +128,7 @@ pub(crate) fn read_file<H: Host>(
     let path = path_below(alloc, folder, name)?;
     let limit = left.min(MAX_FILE) as usize;
     match read_whole(alloc, host, &path, limit, buf)? {
-        Some(bytes) => Ok(Bytes::from_vec(bytes)),
+        Some(bytes) => Ok(Bytes::from_vec(bytes).share(alloc)?),
         None => Err(LoadFault::Refused(FolderCause::TooLarge(below_folder(alloc, name)?))),
     }
 }

@@ -21,7 +21,7 @@ use fx_table::{Descent, write_table};
 use std::alloc::Global;
 
 /// Writes a filestore as a folder: the folder itself, unless an empty one is there, then directories and files in the order
-/// of paths, and last the table of links, if there is one. A refusal may leave a part of it, in which the file last begun
+/// of paths, and last the table, if there is a link or an executable file. A refusal may leave a part of it, in which the file last begun
 /// may hold a prefix of its bytes.
 pub fn save<H: Host>(
     alloc: Global,
@@ -196,7 +196,7 @@ pub fn write_file<H: Host>(
     }
 }
 
-/// Writes the table of links, whose text this is, if it has any.
+/// Writes the table, whose text this is, if it has any.
 fn add_table<H: Host>(
     alloc: Global,
     host: &mut H,
