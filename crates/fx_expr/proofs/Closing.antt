@@ -1,10 +1,10 @@
 -- An expression without names has one value and one shape, whatever is bound around it.
 use Rattle.std.proofs.Common.{◌≡◌, ℕ, Bool, true, false, cond, ◌&&◌, List, [], Some, Ok, refl, ap, ◌∙◌}
-use Rattle.fx_expr.specs.Closed.{is_closed, IsKept, IsShaped}
+use Rattle.fx_expr.specs.Closed.{is_closed, IsKept}
 use Rattle.std.specs.List.{filter}
 use Rattle.fx_expr.specs.Globs.{glob_matches}
 use Rattle.fx_expr.specs.Eval.{eval_of, then_on, unless, two, one, decided, truth_in, names_in}
-use Rattle.fx_expr.specs.Shapes.{HasShape, IsWellShaped}
+use Rattle.fx_expr.specs.Shapes.{HasShape}
 use Rattle.fx_expr.specs.Tree.{Tree}
 use Rattle.fx_expr.specs.ShapeTree.{ShapeTree}
 use Rattle.fx_expr.specs.ExprTree.{ExprTree}
@@ -45,9 +45,6 @@ one_shape (ExprTree.choose c a b) h g k s (hc, ha, hb) =
     let q = both (is_closed a) (is_closed b) p.1 in
     (one_shape c p.0 g k ShapeTree.bool hc, one_shape a q.0 g k s ha, one_shape b q.1 g k s hb)
 one_shape (ExprTree.only a glob) h g k s (hs, ha) = (hs, one_shape a h g k ShapeTree.names ha)
-
-pub closed_is_shaped : (e : ExprTree) → is_closed e ≡ true → IsShaped e → IsWellShaped [] e
-closed_is_shaped e h w = record { shapes = []; shape = w.shape; bindings = tt; expression = one_shape e h w.names [] w.shape w.has }
 
 -- a value in no environment is the value in each
 pub kept : (e : ExprTree) (v : Tree) → is_closed e ≡ true → eval_of [] e ≡ Ok v → IsKept e (Some v)

@@ -1,4 +1,4 @@
--- A value has its expression's shape, so each operator meets the values that it takes.
+-- A value has its expression's shape.
 use Rattle.std.proofs.Common.{◌≡◌, ℕ, Bool, true, false, cond, List, [], ◌∷◌, Option, Some, None, Ok, Err, IfOk, nat_eq, refl, ap, sym, subst, ◌∙◌}
 use Rattle.std.specs.Option.{unwrap_or}
 use Rattle.std.specs.Cmp.Lexicographic.{pointwise}
@@ -7,8 +7,7 @@ use Rattle.fx_expr.specs.declared.expr.UnOp.{UnOp}
 use Rattle.fx_expr.specs.declared.fault.ExprFault.{ExprFault}
 use Rattle.fx_expr.specs.Bindings.{bound, newer_or}
 use Rattle.fx_expr.specs.Eval.{Outcome, eval_of, then_on, unless, two, one, decided, first_in, second_in, truth_in}
-use Rattle.fx_expr.specs.Shapes.{HasShape, ValueHas, BinShape, UnShape, BindingsHave, IsWellShaped}
-use Rattle.fx_expr.specs.Takes.{TakesTwo, TakesOne, LooksAt}
+use Rattle.fx_expr.specs.Shapes.{HasShape, ValueHas, BinShape, UnShape, BindingsHave}
 use Rattle.fx_expr.specs.Tree.{Tree}
 use Rattle.fx_expr.specs.ShapeTree.{ShapeTree}
 use Rattle.fx_expr.specs.ExprTree.{ExprTree}
@@ -165,69 +164,3 @@ eval_has g env (ExprTree.un op a) s b (u, sh, ha) = then_has (eval_of env a) _ u
 eval_has g env (ExprTree.choose c a d) s b (hc, ha, hd) =
     then_has (eval_of env c) _ ShapeTree.bool s (eval_has g env c ShapeTree.bool b hc) (λ v hv. choice_has (truth_in v) (eval_of env a) (eval_of env d) s (eval_has g env a s b ha) (eval_has g env d s b hd))
 eval_has g env (ExprTree.only a glob) s b (hs, ha) = then_has (eval_of env a) _ ShapeTree.names s (eval_has g env a ShapeTree.names b ha) (λ v hv. hs)
-
-given : (o : Outcome) (v : Tree) (s : ShapeTree) → o ≡ Ok v → IfOk o (λ w. ValueHas w s) → ValueHas v s
-given (Ok w) v s e h = let same : w ≡ v = cc in subst (λ (x : Tree). ValueHas x s) same h
-given (Err f) v s e h = absurd (cc)
-
--- ---- what the parts of a well-shaped expression meet
-
-module _ (env : List (List ℕ × Tree)) where
-  pub var_bound : (x : List ℕ) → IsWellShaped env (ExprTree.var x) → bound env x ≡ None → ⊥
-  var_bound x w e = let f : Bound env x w.shape = bound_has env w.shapes x w.shape w.bindings w.expression in let g : None ≡ Some f.value = sym e ∙ f.is in cc
-
-  looks : (op : BinOp) (v : Tree) (u t s : ShapeTree) → BinShape op u t s → ValueHas v u → LooksAt op v
-  looks BinOp.And v u t s h g = subst (λ (q : ShapeTree). ValueHas v q) h.0 g
-  looks BinOp.Or v u t s h g = subst (λ (q : ShapeTree). ValueHas v q) h.0 g
-  looks BinOp.Join v u t s h g = tt
-  looks BinOp.Plus v u t s h g = tt
-  looks BinOp.Minus v u t s h g = tt
-  looks BinOp.Equal v u t s h g = tt
-  looks BinOp.Less v u t s h g = tt
-  looks BinOp.Member v u t s h g = tt
-  looks BinOp.Union v u t s h g = tt
-  looks BinOp.Without v u t s h g = tt
-
-  pub bin_looks : (op : BinOp) (a c : ExprTree) (v : Tree) → IsWellShaped env (ExprTree.bin op a c) → eval_of env a ≡ Ok v → LooksAt op v
-  bin_looks op a c v w e = looks op v w.expression.0 w.expression.1 w.shape w.expression.2 (given (eval_of env a) v w.expression.0 e (eval_has w.shapes env a w.expression.0 w.bindings w.expression.3))
-
-  along : (v : Tree) (u s : ShapeTree) → u ≡ s → ValueHas v u → ValueHas v s
-  along v u s e h = subst (λ (q : ShapeTree). ValueHas v q) e h
-
-  takes : (op : BinOp) (v x : Tree) (u t s : ShapeTree) → BinShape op u t s → ValueHas v u → ValueHas x t → TakesTwo op v x
-  takes BinOp.Join v x u t s h g k = (along v u _ h.0 g, along x t _ h.1 k)
-  takes BinOp.Plus v x u t s h g k = (along v u _ h.0 g, along x t _ h.1 k)
-  takes BinOp.Minus v x u t s h g k = (along v u _ h.0 g, along x t _ h.1 k)
-  takes BinOp.Equal v x u t s h g k = (u, h.0, g, along x t u h.1 k)
-  takes BinOp.Less v x u t s h g k = (u, h.0, g, along x t u h.1 k)
-  takes BinOp.And v x u t s h g k = (along v u _ h.0 g, along x t _ h.1 k)
-  takes BinOp.Or v x u t s h g k = (along v u _ h.0 g, along x t _ h.1 k)
-  takes BinOp.Member v x u t s h g k = (along v u _ h.0 g, along x t _ h.1 k)
-  takes BinOp.Union v x u t s h g k = (along v u _ h.0 g, along x t _ h.1 k)
-  takes BinOp.Without v x u t s h g k = (along v u _ h.0 g, along x t _ h.1 k)
-
-  pub bin_takes : (op : BinOp) (a c : ExprTree) (v x : Tree) → IsWellShaped env (ExprTree.bin op a c) → eval_of env a ≡ Ok v → eval_of env c ≡ Ok x → TakesTwo op v x
-  bin_takes op a c v x w e f =
-      takes op v x w.expression.0 w.expression.1 w.shape w.expression.2 (given (eval_of env a) v w.expression.0 e (eval_has w.shapes env a w.expression.0 w.bindings w.expression.3))
-      (given (eval_of env c) x w.expression.1 f (eval_has w.shapes env c w.expression.1 w.bindings w.expression.4))
-
-  takes_one : (op : UnOp) (v : Tree) (u s : ShapeTree) → UnShape op u s → ValueHas v u → TakesOne op v
-  takes_one UnOp.Not v u s h g = along v u _ h.0 g
-  takes_one UnOp.One v u s h g = along v u _ h.0 g
-  takes_one UnOp.Lines v u s h g = along v u _ h.0 g
-  takes_one UnOp.Size v u s h g = (u, h.0, g)
-  takes_one UnOp.Int v u s h g = along v u _ h.0 g
-  takes_one UnOp.Text v u s h g = along v u _ h.0 g
-  takes_one UnOp.First v u s h g = (s, h.0, along v u _ h.1 g)
-  takes_one UnOp.Second v u s h g = (h.0, s, along v u _ h.1 g)
-  takes_one UnOp.Keys v u s h g = (h.0, along v u _ h.1 g)
-  takes_one UnOp.Present v u s h g = (h.0, along v u _ h.1 g)
-
-  pub un_takes : (op : UnOp) (a : ExprTree) (v : Tree) → IsWellShaped env (ExprTree.un op a) → eval_of env a ≡ Ok v → TakesOne op v
-  un_takes op a v w e = takes_one op v w.expression.0 w.shape w.expression.1 (given (eval_of env a) v w.expression.0 e (eval_has w.shapes env a w.expression.0 w.bindings w.expression.2))
-
-  pub choose_takes : (c a d : ExprTree) (v : Tree) → IsWellShaped env (ExprTree.choose c a d) → eval_of env c ≡ Ok v → ValueHas v ShapeTree.bool
-  choose_takes c a d v w e = given (eval_of env c) v ShapeTree.bool e (eval_has w.shapes env c ShapeTree.bool w.bindings w.expression.0)
-
-  pub only_takes : (a : ExprTree) (glob : List ℕ) (v : Tree) → IsWellShaped env (ExprTree.only a glob) → eval_of env a ≡ Ok v → ValueHas v ShapeTree.names
-  only_takes a glob v w e = given (eval_of env a) v ShapeTree.names e (eval_has w.shapes env a ShapeTree.names w.bindings w.expression.1)

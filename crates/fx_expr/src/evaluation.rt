@@ -1,7 +1,11 @@
-ghost use Rattle.std.specs.Prelude.{◌≡◌, ◌+◌, IfOk, List, ℕ};
-ghost use Rattle.fx_expr.specs.Eval.{eval_of};
+ghost use Rattle.std.specs.Prelude.{◌≡◌, ◌+◌, IfOk, List, ℕ, Ok, false};
+ghost use Rattle.std.specs.List.{filter};
+ghost use Rattle.fx_expr.specs.Eval.{eval_of, names_in};
 ghost use Rattle.fx_expr.specs.Gives.{Gives};
+ghost use Rattle.fx_expr.specs.Globs.{glob_matches};
 ghost use Rattle.fx_expr.specs.Shapes.{IsWellShaped, BindingsHave, HasShape, ValueHas};
+ghost use Rattle.std.specs.Option.{unwrap_or};
+ghost use Rattle.fx_expr.specs.Bindings.{bound};
 ghost use Rattle.fx_expr.specs.ExprTree.{ExprTree};
 ghost use Rattle.fx_expr.specs.ShapeTree.{ShapeTree};
 ghost use Rattle.fx_expr.specs.Tree.{Tree};
@@ -10,12 +14,13 @@ ghost use Rattle.fx_expr.specs.Views.{expr_tree, tree_of};
 use crate::env::Env;
 use crate::expr::Expr;
 use crate::fault::EvalFault;
-use crate::operators::{apply_one, apply_two, decides};
-use crate::parts::{into_names, truth};
+use crate::operators::{apply_after, apply_one, decides};
+use crate::parts::{into_truth, let_go};
 use crate::set::TextSet;
+use crate::text::Text;
 use crate::value::Value;
 use crate::word::Word;
-use fx_base::Steps;
+use fx_base::{NoMemory, Steps};
 use std::alloc::Global;
 use std::sync::ledger::Ledger;
 
@@ -36,8 +41,8 @@ pub fn eval<L: Ledger>(
     evaluated(alloc, expr, env)
 }
 
+// The value of an expression, or its fault, in steps that are not counted.
 pub(crate) fn evaluated(alloc: Global, expr: &Expr, env: &Env) -> Result<Value, EvalFault>
-    requires { IsWellShaped env.now (expr_tree expr.now) }
     ensures { Gives tree_of result (eval_of env.now (expr_tree expr.now)) }
 {
     match expr {
@@ -45,37 +50,46 @@ pub(crate) fn evaluated(alloc: Global, expr: &Expr, env: &Env) -> Result<Value, 
         Expr::Int(n) => Ok(Value::Int(*n)),
         Expr::Bool(b) => Ok(Value::Bool(*b)),
         Expr::Empty => Ok(Value::Names(TextSet::new(alloc))),
-        Expr::Var(word) => bound_value(alloc, word, env),
+        Expr::Var(word) => Ok(bound_value(alloc, word, env)?),
         Expr::Bin(op, a, b) => {
             let first = evaluated(alloc, a, env)?;
             match decides(*op, &first) {
-                Some(decided) => Ok(Value::Bool(decided)),
-                None => apply_two(alloc, *op, &first, &evaluated(alloc, b, env)?),
+                Some(decided) => {
+                    let_go(first);
+                    Ok(Value::Bool(decided))
+                }
+                None => apply_after(alloc, *op, first, evaluated(alloc, b, env)),
             }
         }
         Expr::Un(op, a) => apply_one(alloc, *op, evaluated(alloc, a, env)?),
         Expr::Choose(test, a, b) => {
-            if truth(&evaluated(alloc, test, env)?) {
+            if into_truth(evaluated(alloc, test, env)?) {
                 evaluated(alloc, a, env)
             } else {
                 evaluated(alloc, b, env)
             }
         }
-        Expr::Only(a, glob) => {
-            let names = into_names(evaluated(alloc, a, env)?);
-            Ok(Value::Names(names.only(alloc, glob.as_slice())?))
-        }
+        Expr::Only(a, glob) => matching(alloc, evaluated(alloc, a, env)?, glob),
     }
 }
 
-fn bound_value(alloc: Global, word: &Word, env: &Env) -> Result<Value, EvalFault>
-    requires { IsWellShaped env.now (ExprTree.var word.now) }
-    ensures { Gives tree_of result (eval_of env.now (ExprTree.var word.now)) }
+fn bound_value(alloc: Global, word: &Word, env: &Env) -> Result<Value, NoMemory>
+    ensures { IfOk result
+        (λ value. tree_of value ≡ unwrap_or (bound env.now word.now) (Tree.bool false)) }
 {
     match env.get(word) {
-        Some(value) => Ok(value.copy(alloc)?),
-        None => unreachable!(),
+        Some(value) => value.copy(alloc),
+        None => Ok(Value::Bool(false)),
     }
+}
+
+// The elements of a set that match a glob.
+fn matching(alloc: Global, set: Value, glob: &Text) -> Result<Value, EvalFault>
+    ensures { Gives tree_of result
+        (Ok (Tree.names (filter (λ x. glob_matches glob.now x) (names_in (tree_of set))))) }
+{
+    let names = set.into_names(alloc);
+    Ok(Value::Names(names.only(alloc, glob.as_slice())?))
 }
 
 /// A value of an expression has the expression's shape, wherever the bound words have theirs: so evaluation never meets

@@ -104,10 +104,9 @@ fn is_closed(expr: &Expr) -> bool
 }
 
 // The value of an expression without names; None where it faults.
-#[tactic(auto, using(crate::proofs::Closing::closed_is_shaped, crate::proofs::Closing::kept))]
+#[tactic(auto, using(crate::proofs::Closing::kept))]
 fn closed_value(alloc: Global, expr: &Expr) -> Result<Option<Value>, NoMemory>
-    requires closed { is_closed (expr_tree expr.now) ≡ true }
-    requires shaped { IsShaped (expr_tree expr.now) }
+    requires { is_closed (expr_tree expr.now) ≡ true }
     ensures { IfOk result (λ value. IsKept (expr_tree expr.now) (option_map tree_of value)) }
 {
     let env = Env::new(alloc);

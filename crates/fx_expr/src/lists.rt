@@ -1,12 +1,14 @@
-ghost use Rattle.std.specs.Prelude.{◌≡◌, ◌++◌, [], ◌∷◌, IfOk, OnOk, OnErr, length, slice_get};
+ghost use Rattle.std.specs.Prelude.{◌≡◌, ◌↔◌, ◌++◌, [], ◌∷◌, IfOk, IsTrue, OnOk, OnErr, length, map, slice_get};
+ghost use Rattle.std.specs.Slice.Iter.{iter_rest};
 ghost use Rattle.std.specs.Option.{option_map, option_copied};
 ghost use Rattle.fx_expr.specs.Views.{tree_of};
 
 use crate::text::Text;
-use crate::value::{Value, copy_values};
+use crate::value::{Value, are_same, copy_values};
 use fx_base::NoMemory;
 use std::alloc::Global;
 use std::marker::Model;
+use std::slice;
 
 /// A list of values. Contracts see the list of their trees.
 #[derive(Debug, Drop)]
@@ -50,6 +52,21 @@ impl Values {
         ensures { option_map (λ value. tree_of value.now) result ≡ slice_get self.now i }
     {
         self.items.get(i as usize)
+    }
+
+    /// The values, from the first.
+    pub fn iter(&self) -> slice::Iter<'_, Value>
+        ensures rest { map tree_of (iter_rest result) ≡ self.now }
+        ensures len { length (iter_rest result) ≡ length self.now }
+    {
+        self.items.iter()
+    }
+
+    /// Whether the lists are equal, value by value.
+    pub fn is_same(&self, other: &Values) -> bool
+        ensures { IsTrue result ↔ (self.now ≡ other.now) }
+    {
+        are_same(self.items.as_slice(), other.items.as_slice())
     }
 
     /// Adds a value at the end. A refusal changes nothing.
@@ -106,6 +123,14 @@ impl Texts {
         ensures { option_copied result ≡ slice_get self.now i }
     {
         self.items.get(i as usize)
+    }
+
+    /// The texts, from the first.
+    pub fn iter(&self) -> slice::Iter<'_, Text>
+        ensures rest { iter_rest result ≡ self.now }
+        ensures len { length (iter_rest result) ≡ length self.now }
+    {
+        self.items.iter()
     }
 
     /// Adds a text at the end. A refusal changes nothing.

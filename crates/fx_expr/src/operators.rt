@@ -1,9 +1,9 @@
-// What the operators give of values that they take.
-ghost use Rattle.std.specs.Prelude.{◌≡◌, ◌+ℤ◌, ◌-ℤ◌};
+// What the operators give of values.
+ghost use Rattle.std.specs.Prelude.{◌≡◌, ◌+ℤ◌, ◌-ℤ◌, ◌++◌};
 ghost use Rattle.std.specs.Option.{option_map};
-ghost use Rattle.fx_expr.specs.Eval.{joined, in_range, united, same_value, is_less, read_integer, two, one, decided};
+ghost use Rattle.fx_expr.specs.Eval.{Outcome, joined, in_range, same_value, is_less, read_integer, two, one, decided, then_on, text_in, names_in};
 ghost use Rattle.fx_expr.specs.Gives.{Gives};
-ghost use Rattle.fx_expr.specs.Takes.{Comparable, Ordered, TakesTwo, TakesOne, LooksAt};
+ghost use Rattle.fx_expr.specs.Sets.{has_text};
 ghost use Rattle.fx_expr.specs.Tree.{Tree};
 ghost use Rattle.fx_expr.specs.Views.{tree_of};
 
@@ -12,8 +12,8 @@ use crate::fault::{EvalFault, ExprFault};
 use crate::lines::lines;
 use crate::number::{decimal, read_integer};
 use crate::parts::{
-    integer, into_first, into_integer, into_keys, into_presence, into_second, into_size, into_text,
-    into_truth, names, text, truth,
+    into_first, into_integer, into_keys, into_presence, into_second, into_size, into_truth,
+    names_or, text_or,
 };
 use crate::set::{TextSet, UNION_LIMIT};
 use crate::text::{TEXT_LIMIT, Text};
@@ -23,65 +23,73 @@ use std::alloc::Global;
 
 // What an operator's first part decides alone.
 pub(crate) fn decides(op: BinOp, first: &Value) -> Option<bool>
-    requires { LooksAt op (tree_of first.now) }
     ensures { option_map (λ b. Tree.bool b) result ≡ decided op (tree_of first.now) }
 {
     match op {
-        BinOp::And => if truth(first) { None } else { Some(false) },
-        BinOp::Or => if truth(first) { Some(true) } else { None },
+        BinOp::And => if first.is_true() { None } else { Some(false) },
+        BinOp::Or => if first.is_true() { Some(true) } else { None },
         _ => None,
     }
 }
 
-pub(crate) fn apply_two(
+// What an operator gives of its first part and of what came of its second.
+pub(crate) fn apply_after(
     alloc: Global,
     op: BinOp,
-    first: &Value,
-    second: &Value,
+    first: Value,
+    second: Result<Value, EvalFault>,
 ) -> Result<Value, EvalFault>
-    requires { TakesTwo op (tree_of first.now) (tree_of second.now) }
+    ensures { (o : Outcome) → Gives tree_of second o
+        → Gives tree_of result (then_on o λ v. two op (tree_of first) v) }
+{
+    match second {
+        Ok(second) => apply_two(alloc, op, &first, &second),
+        Err(fault) => Err(fault),
+    }
+}
+
+fn apply_two(alloc: Global, op: BinOp, first: &Value, second: &Value) -> Result<Value, EvalFault>
     ensures { Gives tree_of result (two op (tree_of first.now) (tree_of second.now)) }
 {
     match op {
-        BinOp::Join => join(alloc, text(first), text(second)),
-        BinOp::Plus => plus(integer(first), integer(second)),
-        BinOp::Minus => minus(integer(first), integer(second)),
-        BinOp::Equal => Ok(Value::Bool(is_equal(first, second))),
-        BinOp::Less => Ok(Value::Bool(is_less(first, second))),
-        BinOp::And => Ok(Value::Bool(truth(second))),
-        BinOp::Or => Ok(Value::Bool(truth(second))),
-        BinOp::Member => Ok(Value::Bool(names(second).has(text(first)))),
-        BinOp::Union => unite(alloc, names(first), names(second)),
-        BinOp::Without => lessen(alloc, names(first), names(second)),
+        BinOp::Join => join(alloc, first.text_bytes(), second.text_bytes()),
+        BinOp::Plus => plus(first.integer(), second.integer()),
+        BinOp::Minus => minus(first.integer(), second.integer()),
+        BinOp::Equal => Ok(Value::Bool(is_equal(alloc, first, second))),
+        BinOp::Less => Ok(Value::Bool(is_less(alloc, first, second))),
+        BinOp::And => Ok(Value::Bool(second.is_true())),
+        BinOp::Or => Ok(Value::Bool(second.is_true())),
+        BinOp::Member => Ok(Value::Bool(is_member(alloc, first, second))),
+        BinOp::Union => unite(alloc, first, second),
+        BinOp::Without => lessen(alloc, first, second),
     }
 }
 
 // Each arm hands the value on, so that none of them drops it.
 pub(crate) fn apply_one(alloc: Global, op: UnOp, value: Value) -> Result<Value, EvalFault>
-    requires { TakesOne op (tree_of value) }
     ensures { Gives tree_of result (one op (tree_of value)) }
 {
     match op {
         UnOp::Not => Ok(Value::Bool(!into_truth(value))),
-        UnOp::One => singleton(alloc, into_text(value)),
-        UnOp::Lines => line_set(alloc, into_text(value)),
+        UnOp::One => singleton(alloc, value.into_text(alloc)),
+        UnOp::Lines => line_set(alloc, value.into_text(alloc)),
         UnOp::Size => Ok(Value::Int(into_size(value))),
-        UnOp::Int => spelled(into_text(value)),
+        UnOp::Int => spelled(value.into_text(alloc)),
         UnOp::Text => spelling(alloc, into_integer(value)),
         UnOp::First => Ok(into_first(value)),
         UnOp::Second => Ok(into_second(value)),
-        UnOp::Keys => Ok(Value::Names(into_keys(value))),
+        UnOp::Keys => Ok(Value::Names(into_keys(alloc, value))),
         UnOp::Present => Ok(Value::Bool(into_presence(value))),
     }
 }
 
-fn join(alloc: Global, first: &Text, second: &Text) -> Result<Value, EvalFault>
+fn join(alloc: Global, first: &[u8], second: &[u8]) -> Result<Value, EvalFault>
     ensures { Gives tree_of result (joined first.now second.now) }
 {
-    if first.len() + second.len() > TEXT_LIMIT as u64 {
+    if first.len() > TEXT_LIMIT || second.len() > TEXT_LIMIT - first.len() {
         return Err(EvalFault::Fault(ExprFault::TooLong));
     }
-    Ok(Value::Str(first.followed_by(alloc, second)?))
+    Ok(Value::Str(Text::joined(alloc, first, second)?))
 }
 
 fn plus(a: i64, b: i64) -> Result<Value, EvalFault>
@@ -102,44 +110,53 @@ fn minus(a: i64, b: i64) -> Result<Value, EvalFault>
     }
 }
 
-fn is_equal(first: &Value, second: &Value) -> bool
-    requires { Comparable (tree_of first.now) (tree_of second.now) }
+fn is_equal(alloc: Global, first: &Value, second: &Value) -> bool
     ensures { result ≡ same_value (tree_of first.now) (tree_of second.now) }
 {
     match first {
-        Value::Str(a) => *a == *text(second),
-        Value::Int(a) => *a == integer(second),
-        Value::Bool(a) => *a == truth(second),
-        Value::Names(a) => *a == *names(second),
-        _ => unreachable!(),
+        Value::Str(a) => a.as_slice() == second.text_bytes(),
+        Value::Int(a) => *a == second.integer(),
+        Value::Bool(a) => *a == second.is_true(),
+        Value::Names(a) => *a == *names_or(second, &TextSet::new(alloc)),
+        Value::Pair(_, _) | Value::Nothing | Value::Some(_) | Value::Table(_) => false,
     }
 }
 
-fn is_less(first: &Value, second: &Value) -> bool
-    requires { Ordered (tree_of first.now) (tree_of second.now) }
+fn is_less(alloc: Global, first: &Value, second: &Value) -> bool
     ensures { result ≡ is_less (tree_of first.now) (tree_of second.now) }
 {
     match first {
-        Value::Str(a) => *a < *text(second),
-        Value::Int(a) => *a < integer(second),
-        _ => unreachable!(),
+        Value::Str(a) => *a < *text_or(second, &Text::new(alloc)),
+        Value::Int(a) => *a < second.integer(),
+        Value::Bool(_) | Value::Names(_) | Value::Pair(_, _) => false,
+        Value::Nothing | Value::Some(_) | Value::Table(_) => false,
     }
 }
 
-fn unite(alloc: Global, first: &TextSet, second: &TextSet) -> Result<Value, EvalFault>
-    ensures { Gives tree_of result (united first.now second.now) }
+fn is_member(alloc: Global, first: &Value, second: &Value) -> bool
+    ensures { result ≡ has_text (text_in (tree_of first.now)) (names_in (tree_of second.now)) }
 {
-    if !first.union_weighs_at_most(second, UNION_LIMIT) {
+    names_or(second, &TextSet::new(alloc)).has(text_or(first, &Text::new(alloc)))
+}
+
+fn unite(alloc: Global, first: &Value, second: &Value) -> Result<Value, EvalFault>
+    ensures { Gives tree_of result (two BinOp.Union (tree_of first.now) (tree_of second.now)) }
+{
+    let none = TextSet::new(alloc);
+    let set = names_or(first, &none);
+    let other = names_or(second, &none);
+    if !set.union_weighs_at_most(other, UNION_LIMIT) {
         return Err(EvalFault::Fault(ExprFault::TooLong));
     }
-    Ok(Value::Names(first.union(alloc, second)?))
+    Ok(Value::Names(set.union(alloc, other)?))
 }
 
-fn lessen(alloc: Global, first: &TextSet, second: &TextSet) -> Result<Value, EvalFault>
+fn lessen(alloc: Global, first: &Value, second: &Value) -> Result<Value, EvalFault>
     ensures { Gives tree_of result
-        (two BinOp.Without (Tree.names first.now) (Tree.names second.now)) }
+        (two BinOp.Without (tree_of first.now) (tree_of second.now)) }
 {
-    Ok(Value::Names(first.without(alloc, second)?))
+    let none = TextSet::new(alloc);
+    Ok(Value::Names(names_or(first, &none).without(alloc, names_or(second, &none))?))
 }
 
 fn singleton(alloc: Global, text: Text) -> Result<Value, EvalFault>

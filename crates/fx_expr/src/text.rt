@@ -104,13 +104,11 @@ impl Text {
         })
     }
 
-    // This text and another after it; the caller keeps the limit.
-    pub(crate) fn followed_by(&self, alloc: Global, other: &Text) -> Result<Text, NoMemory>
-        requires { IsText (self.now ++ other.now) }
-        ensures { IfOk result (λ text. text ≡ self.now ++ other.now) }
+    // The text of these bytes and of others after them; the caller keeps the limit.
+    pub(crate) fn joined(alloc: Global, first: &[u8], second: &[u8]) -> Result<Text, NoMemory>
+        requires { IsText (first.now ++ second.now) }
+        ensures { IfOk result (λ text. text ≡ first.now ++ second.now) }
     {
-        let first = self.as_slice();
-        let second = other.as_slice();
         let mut bytes = Vec::with_capacity(alloc, first.len() + second.len())?;
         bytes.extend_from_slice(first)?;
         bytes.extend_from_slice(second)?;
