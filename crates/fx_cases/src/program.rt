@@ -4,7 +4,7 @@ use fx_base::NoMemory;
 use fx_outside::{MemoryHost, MemorySink, OpenGate, Words};
 use fx_spec::Base;
 use fx_stage::{Program, Stage, words_of};
-use fx_top::reading::read_base;
+use fx_inputs::read_base;
 use fx_top::status::Status;
 use fx_top::top::top;
 use fx_words::{Job, job_of};
@@ -56,7 +56,7 @@ impl<R: Threads + Wait + Sync> Program for Top<R> {
     fn base(&self, alloc: Global, stage: &mut Stage, scripts: &str) -> Result<Arc<Base>, Status> {
         let words = run_words(alloc, scripts)?;
         match job_of(alloc, &words) {
-            Ok(Job::Run(job)) => read_base(alloc, &job, &mut stage.host),
+            Ok(Job::Run(job)) => read_base(alloc, &job.inputs, &mut stage.host),
             _ => Err(Status::Usage),
         }
     }

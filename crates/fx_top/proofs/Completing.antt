@@ -5,7 +5,7 @@ use Rattle.std.specs.Option.{option_map_or}
 use Rattle.fx_base.specs.Causes.{Rose}
 use Rattle.fx_outside.specs.declared.kind.HostKind.{HostKind}
 use Rattle.fx_outside.specs.declared.kind.HostKind.TheVariants as kind
-use Rattle.fx_outside.specs.Host.{HostView}
+use Rattle.fx_outside.specs.Host.{HostView, FaultIn}
 use Rattle.fx_outside.specs.Sink.{SinkView}
 use Rattle.fx_outside.specs.Path.{parts, is_fit, above}
 use Rattle.fx_outside.specs.Tree.{Tree, Entry, entry_at, is_file_at, is_folder_at, is_folder_kind, has_folder}
@@ -29,7 +29,8 @@ use Rattle.fx_show.proofs.Completing.{show_completes}
 use Rattle.fx_command.proofs.Told.{if_some_map, same, some_unit}
 use Rattle.fx_top.proofs.Ending.{no_memory}
 use Rattle.fx_top.specs.Rows.{AsksFitPaths, Row, RunRow, CannotSave, IsProperRun, Completes}
-use Rattle.fx_top.specs.Inputs.{HasTexts, HasInputs, CannotRead, IsFirstRefused, HasScript, HasNoScript, HasScripts, StopsAtScript, LacksFile}
+use Rattle.fx_inputs.specs.Inputs.{HasTexts, HasInputs, CannotRead, IsFirstRefused, HasScript, HasNoScript, HasScripts, StopsAtScript, LacksFile}
+use Rattle.fx_inputs.proofs.Reading.{read_fault_rose}
 use Rattle.fx_words.specs.Job.{Job, Run, Show, Gen, Large, RunJob, ShowJob}
 
 -- scripts that are all read are not stopped at
@@ -42,17 +43,17 @@ not_stopped stops t before (path ∷ paths) (txns ∷ plan) apart has i (inr lat
     let same : txns ≡ later.2 = read.only txns has.0.script in
     not_stopped stops t (before + length txns) paths plan apart has.1 later.0 (subst (λ us. StopsAtScript stops t (before + length us) paths later.0) (sym same) later.4)
 
-not_first : (t : Tree) (j : RunJob) (word : ℕ) (cause : TextFault) → HasTexts t j → IsFirstRefused t j word cause → ⊥
+not_first : (t : Tree) (j : RunJob) (word : ℕ) (cause : TextFault) → HasTexts t j.inputs → IsFirstRefused t j.inputs word cause → ⊥
 not_first t j word cause has (inl first) = first.1.refused.none has.0.0 has.0.1.describes
-not_first t j word cause has (inr second) = not_stopped (HasNoScript cause) t 0 j.scripts has.1.0 (λ path before txns read none. none.refused.none txns read.script) has.1.1 second.1.0 second.1.2
+not_first t j word cause has (inr second) = not_stopped (HasNoScript cause) t 0 j.inputs.scripts has.1.0 (λ path before txns read none. none.refused.none txns read.script) has.1.1 second.1.0 second.1.2
 
 not_both : (t : Tree) (path : List ℕ) (nodes : Nodes) (cause : FolderCause) → Loads t path nodes → IsRefused t path cause → ⊥
 not_both t path nodes cause loads refused = let both : Ok nodes ≡ Err cause = sym loads.1 ∙ refused.1 in cc
 
-can_read : (t : Tree) (j : RunJob) → HasInputs t j → CannotRead t j → ⊥
-can_read t j has (inl spec) = two (is_file_at t j.spec) has.0.0.1.file spec
-can_read t j has (inr (inl scripts)) = not_stopped LacksFile t 0 j.scripts has.0.1.0 (λ path before txns read lacks. two (is_file_at t path) read.file lacks) has.0.1.1 scripts.1.0 scripts.1.1
-can_read t j has (inr (inr folder)) = two (is_folder_at t j.folder) has.1.1.0 folder.1
+can_read : (t : Tree) (j : RunJob) → HasInputs t j.inputs → CannotRead t j.inputs → ⊥
+can_read t j has (inl spec) = two (is_file_at t j.inputs.spec) has.0.0.1.file spec
+can_read t j has (inr (inl scripts)) = not_stopped LacksFile t 0 j.inputs.scripts has.0.1.0 (λ path before txns read lacks. two (is_file_at t path) read.file lacks) has.0.1.1 scripts.1.0 scripts.1.1
+can_read t j has (inr (inr folder)) = two (is_folder_at t j.inputs.folder) has.1.1.0 folder.1
 
 can_save : (t : Tree) (j : RunJob) → IsProperRun t j → CannotSave t j → ⊥
 can_save t j proper cannot = can_write t j.out proper.there proper.free proper.above cannot.1
@@ -63,17 +64,17 @@ Ends st = (st ≡ status.Done) ⊎ (st ≡ status.NoMemory)
 row_at : (j : RunJob) (t : Tree) (host host' : HostView) (sink sink' : SinkView) (st : Status) → host.told ≡ Some t → IsProperRun t j → (Rose host.faults host'.faults → ⊥) → (Rose sink.faults sink'.faults → ⊥) → RunRow j host host' sink sink' st → Ends st
 row_at j t host host' sink sink' status.Done is proper none quiet row = inl refl
 row_at j t host host' sink sink' status.Usage is proper none quiet row = absurd row
-row_at j t host host' sink sink' (status.TextRefused word cause) is proper none quiet row = absurd (not_first t j word cause proper.inputs.0 (subst (λ o. IfSome o (λ t. IsFirstRefused t j word cause)) is row.1))
+row_at j t host host' sink sink' (status.TextRefused word cause) is proper none quiet row = absurd (not_first t j word cause proper.inputs.0 (subst (λ o. IfSome o (λ t. IsFirstRefused t j.inputs word cause)) is row.1))
 row_at j t host host' sink sink' (status.FolderRefused cause) is proper none quiet row =
-    absurd (not_both t j.folder proper.inputs.1.0 cause proper.inputs.1.1 (subst (λ o. IfSome o (λ t. HasTexts t j × IsRefused t j.folder cause)) is row.1).1)
-row_at j t host host' sink sink' status.ReadFault is proper none quiet (same, inl rose) = absurd (none rose)
-row_at j t host host' sink sink' status.ReadFault is proper none quiet (same, inr cannot) = absurd (can_read t j proper.inputs (subst (λ o. IsSomeAnd o (λ t. CannotRead t j)) is cannot))
+    absurd (not_both t j.inputs.folder proper.inputs.1.0 cause proper.inputs.1.1 (subst (λ o. IfSome o (λ t. HasTexts t j.inputs × IsRefused t j.inputs.folder cause)) is row.1).1)
+row_at j t host host' sink sink' status.ReadFault is proper none quiet (same, inl fault) = absurd (none (read_fault_rose j.inputs host host' fault))
+row_at j t host host' sink sink' status.ReadFault is proper none quiet (same, inr cannot) = absurd (can_read t j proper.inputs (subst (λ o. IsSomeAnd o (λ t. CannotRead t j.inputs)) is cannot))
 row_at j t host host' sink sink' status.NotEmpty is proper none quiet row =
-    absurd (not_taken t j.out proper.there proper.free (subst (λ o. IfSome o (λ t. HasInputs t j × IsTaken t j.out)) is row.1).1)
+    absurd (not_taken t j.out proper.there proper.free (subst (λ o. IfSome o (λ t. HasInputs t j.inputs × IsTaken t j.out)) is row.1).1)
 row_at j t host host' sink sink' status.WriteFault is proper none quiet (inl row) = absurd (not_unsaved row.cause)
   where
-    not_unsaved : Rose host.faults host'.faults ⊎ IsSomeAnd host.told (λ t. CannotSave t j) → ⊥
-    not_unsaved (inl rose) = none rose
+    not_unsaved : FaultIn j.out host host' ⊎ IsSomeAnd host.told (λ t. CannotSave t j) → ⊥
+    not_unsaved (inl fault) = none fault.rose
     not_unsaved (inr cannot) = can_save t j proper (subst (λ o. IsSomeAnd o (λ t. CannotSave t j)) is cannot)
 row_at j t host host' sink sink' status.WriteFault is proper none quiet (inr row) = absurd (quiet row.cause)
 row_at j t host host' sink sink' status.NoMemory is proper none quiet row = inr refl

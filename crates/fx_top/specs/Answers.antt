@@ -1,42 +1,19 @@
 -- What a run has come to between its stages.
-use Rattle.std.specs.Prelude.{◌≡◌, ◌⊎◌, ◌++◌, ℕ, Bool, true, List, Option, Some, None, IfSome, IsSomeAnd, map, length, ⊤}
+use Rattle.std.specs.Prelude.{◌≡◌, ◌++◌, ℕ, Bool, List, map, length}
 use Rattle.fx_store.specs.Whole.{Nodes}
-use Rattle.fx_base.specs.Causes.{Rose}
-use Rattle.fx_outside.specs.Host.{HostView, HasFailed}
-use Rattle.fx_outside.specs.Tree.{Tree, is_file_at}
+use Rattle.fx_outside.specs.Tree.{Tree}
 use Rattle.fx_folder.specs.Folder.{IsReady}
 use Rattle.fx_spec.specs.Plans.{Turn}
 use Rattle.fx_spec.specs.Order.{BaseTree, IsComplete, RetriesOk, state}
 use Rattle.fx_machine.specs.declared.retry.Retry.{Retry}
 use Rattle.fx_machine.specs.Tried.{retry_tree}
-use Rattle.fx_words.specs.Job.{RunJob, Mode, place_of}
+use Rattle.fx_words.specs.Job.{RunJob, Mode}
 use Rattle.fx_board.specs.Board.{last_state}
 use Rattle.fx_report.specs.Entries.{report}
 use Rattle.fx_report.specs.Events.{lines}
 use Rattle.fx_sched.specs.declared.schedule.Traced.{Traced}
 use Rattle.fx_top.specs.declared.answer.Answer.{Answer}
-use Rattle.fx_top.specs.declared.inputs.Unread.{Unread}
-use Rattle.fx_top.specs.declared.inputs.Unread.TheVariants as unread
-use Rattle.fx_top.specs.declared.inputs.ScriptUnread.{ScriptUnread}
-use Rattle.fx_top.specs.declared.inputs.ScriptUnread.TheVariants as script
-use Rattle.fx_top.specs.Inputs.{HasNoScript, StopsAtScript, LacksFile}
 use Rattle.fx_top.specs.Outcome.{IsPrintedAs, IsOutcome}
-
--- why a script is not read
-abbrev pub ScriptCause : List ℕ → ℕ → HostView → HostView → ScriptUnread → Type 0
-ScriptCause path before host host' (script.Refused cause) = IfSome host.told (λ t. HasNoScript cause t path before)
-ScriptCause path before host host' script.ReadFault = HasFailed (λ t. is_file_at t path) host host'
-ScriptCause path before host host' script.NoMemory = ⊤
-
--- why the scripts are not read
-abbrev pub UnreadCause : RunJob → HostView → HostView → Unread → Type 0
-UnreadCause j host host' (unread.Refused word cause) = IfSome host.told (λ t. (i : ℕ) × (word ≡ place_of j i) × StopsAtScript (HasNoScript cause) t 0 j.scripts i)
-UnreadCause j host host' unread.ReadFault = Rose host.faults host'.faults ⊎ IsSomeAnd host.told (λ t. (i : ℕ) × StopsAtScript LacksFile t 0 j.scripts i)
-UnreadCause j host host' unread.NoMemory = ⊤
-
--- a script for each of the command's
-abbrev pub HasEachScript : RunJob → BaseTree → Type 0
-HasEachScript j base = length base.plan ≡ length j.scripts
 
 -- a whole run from a base on: the output, and the last filestore
 pub record IsRunFrom (base : BaseTree) (mode : Mode) (nodes : Nodes) (output : List ℕ) : Type 0 where

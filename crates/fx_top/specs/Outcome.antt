@@ -12,7 +12,7 @@ use Rattle.fx_machine.specs.Turns.{FollowsSchedule}
 use Rattle.fx_report.specs.Entries.{report}
 use Rattle.fx_report.specs.Events.{lines}
 use Rattle.fx_words.specs.Job.{RunJob, Mode, Plain, Scheduled}
-use Rattle.fx_top.specs.Inputs.{HasBase}
+use Rattle.fx_inputs.specs.Inputs.{HasBase}
 
 -- the events lead from the empty order to this one by the schedule's turns, the retries are their conflicts by shell, and
 -- the events are printed before the report
@@ -34,7 +34,7 @@ pub record IsOutcome (t : Tree) (j : RunJob) (nodes : Nodes) (output : List ℕ)
   pub base : BaseTree
   pub order : List Turn
   pub retries : List Retry
-  pub begins : HasBase t j base
+  pub begins : HasBase t j.inputs base
   pub complete : IsComplete base order
   pub tried : RetriesOk base order (map retry_tree retries)
   pub printed : IsPrintedAs j.mode base order retries output

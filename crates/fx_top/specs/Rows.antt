@@ -1,9 +1,8 @@
 -- What each status of a command says: where it comes, and what is then left at the host and at the sink.
 use Rattle.std.specs.Prelude.{◌≡◌, ◌⊎◌, ◌&&◌, ℕ, Bool, true, false, List, [], ◌++◌, take, Option, Some, IfSome, IsSomeAnd}
-use Rattle.std.specs.List.{list_all}
 use Rattle.fx_base.specs.Causes.{Rose}
 use Rattle.fx_store.specs.Whole.{Nodes}
-use Rattle.fx_outside.specs.Host.{HostView, AsksFit}
+use Rattle.fx_outside.specs.Host.{HostView, FaultIn, AsksFit}
 use Rattle.fx_outside.specs.Path.{parts, is_fit}
 use Rattle.fx_outside.specs.Sink.{SinkView}
 use Rattle.fx_outside.specs.Tree.{Tree}
@@ -19,7 +18,8 @@ use Rattle.fx_making.specs.Making.{MakingRow}
 use Rattle.fx_making.specs.Out.{CannotWrite, FitsOut, IsProperOut}
 use Rattle.fx_show.specs.Rows.{ShowRow, ShowAsksFit}
 use Rattle.fx_show.specs.Shows.{IsProperShow}
-use Rattle.fx_top.specs.Inputs.{HasTexts, HasInputs, CannotRead, IsFirstRefused}
+use Rattle.fx_inputs.specs.Inputs.{HasTexts, HasInputs, CannotRead, IsFirstRefused}
+use Rattle.fx_inputs.specs.Reads.{HasReadFault, has_fit_inputs}
 use Rattle.fx_top.specs.Outcome.{IsOutcome}
 
 -- all is done: the report is written after what was written before, and the last filestore's folder stands at OUT; all else
@@ -58,13 +58,13 @@ MayHoldPart j t t' = (t' ≡ t) ⊎ IsPartThere t t' j
 
 -- OUT is unfit, or nothing stands there and no folder above
 abbrev pub CannotSave : Tree → RunJob → Type 0
-CannotSave t j = HasInputs t j × CannotWrite t j.out
+CannotSave t j = HasInputs t j.inputs × CannotWrite t j.out
 
 -- OUT was not written whole, and nothing is printed
 pub record IsUnsaved (j : RunJob) (host host' : HostView) (sink sink' : SinkView) : Type 0 where
-  pub cause : Rose host.faults host'.faults ⊎ IsSomeAnd host.told (λ t. CannotSave t j)
+  pub cause : FaultIn j.out host host' ⊎ IsSomeAnd host.told (λ t. CannotSave t j)
   pub unprinted : sink' ≡ sink
-  pub left : IfTold host.told host'.told (λ t t'. HasInputs t j × MayHoldPart j t t')
+  pub left : IfTold host.told host'.told (λ t t'. HasInputs t j.inputs × MayHoldPart j t t')
 
 -- the sink failed, OUT is whole, and a front of the output is printed
 pub record IsUnprinted (j : RunJob) (host host' : HostView) (sink sink' : SinkView) : Type 0 where
@@ -76,10 +76,10 @@ pub record IsUnprinted (j : RunJob) (host host' : HostView) (sink sink' : SinkVi
 abbrev pub RunRow : RunJob → HostView → HostView → SinkView → SinkView → Status → Type 0
 RunRow j host host' sink sink' status.Done = Grows sink sink' × IfTold host.told host'.told (λ t t'. IsDone t t' j sink.written sink'.written)
 RunRow j host host' sink sink' status.Usage = ⊥
-RunRow j host host' sink sink' (status.TextRefused word cause) = IsSame host host' sink sink' × IfSome host.told (λ t. IsFirstRefused t j word cause)
-RunRow j host host' sink sink' (status.FolderRefused cause) = IsSame host host' sink sink' × IfSome host.told (λ t. HasTexts t j × IsRefused t j.folder cause)
-RunRow j host host' sink sink' status.ReadFault = IsSame host host' sink sink' × (Rose host.faults host'.faults ⊎ IsSomeAnd host.told (λ t. CannotRead t j))
-RunRow j host host' sink sink' status.NotEmpty = IsSame host host' sink sink' × IfSome host.told (λ t. HasInputs t j × IsTaken t j.out)
+RunRow j host host' sink sink' (status.TextRefused word cause) = IsSame host host' sink sink' × IfSome host.told (λ t. IsFirstRefused t j.inputs word cause)
+RunRow j host host' sink sink' (status.FolderRefused cause) = IsSame host host' sink sink' × IfSome host.told (λ t. HasTexts t j.inputs × IsRefused t j.inputs.folder cause)
+RunRow j host host' sink sink' status.ReadFault = IsSame host host' sink sink' × (HasReadFault j.inputs host host' ⊎ IsSomeAnd host.told (λ t. CannotRead t j.inputs))
+RunRow j host host' sink sink' status.NotEmpty = IsSame host host' sink sink' × IfSome host.told (λ t. HasInputs t j.inputs × IsTaken t j.out)
 RunRow j host host' sink sink' status.WriteFault = IsUnsaved j host host' sink sink' ⊎ IsUnprinted j host host' sink sink'
 RunRow j host host' sink sink' status.NoMemory = (sink' ≡ sink) × IfTold host.told host'.told (MayHoldPart j)
 
@@ -94,13 +94,9 @@ Row (Large j) host host' sink sink' st = MakingRow (large_making j.number j.out)
 abbrev pub EndsAs : RunJob → HostView → HostView → Status → Type 0
 EndsAs j host host' st = (sink : SinkView) → RunRow j host host' sink sink st
 
--- where all these paths are fit, no call is made at an unfit one
-abbrev pub AsksAllFit : List (List ℕ) → HostView → HostView → Type 0
-AsksAllFit paths host host' = list_all is_fit paths ≡ true → host'.unfit ≡ host.unfit
-
 -- the paths of a command are fit
 abbrev pub has_fit_paths : RunJob → Bool
-has_fit_paths j = is_fit j.spec && (is_fit j.folder && (is_fit j.out && list_all is_fit j.scripts))
+has_fit_paths j = has_fit_inputs j.inputs && is_fit j.out
 
 -- where they are, no call is made at an unfit path
 abbrev pub RunAsksFit : RunJob → HostView → HostView → Type 0
@@ -114,7 +110,7 @@ AsksFitPaths (Large j) host host' = AsksFit j.out host host'
 
 -- texts that stand for a description and scripts, a folder that loads, and an OUT that is an empty folder or can be made
 pub record IsProperRun (t : Tree) (j : RunJob) : Type 0 where
-  pub inputs : HasInputs t j
+  pub inputs : HasInputs t j.inputs
   pub there : Bool
   pub free : IsReady t j.out there
   pub above : FitsOut t j.out there

@@ -4,7 +4,8 @@ ghost use Rattle.fx_spec.specs.Bases.{base_tree};
 ghost use Rattle.fx_sched.specs.Traced.{IsTraced};
 ghost use Rattle.fx_words.specs.Job.{Plain, Scheduled};
 ghost use Rattle.fx_words.specs.JobOf.{asked, IsJob};
-ghost use Rattle.fx_top.specs.Answers.{last_of, HasEachScript, IsPrintedTrace, IsRunFrom};
+ghost use Rattle.fx_top.specs.Answers.{last_of, IsPrintedTrace, IsRunFrom};
+ghost use Rattle.fx_inputs.specs.Inputs.{HasEachScript};
 
 use fx_base::NoMemory;
 use fx_board::Board;
@@ -81,7 +82,7 @@ pub fn run_base<R: Threads + Wait + Sync, G: Gate + Sync>(
     gate: &G,
 ) -> Result<Answer, NoMemory>
     requires job { IsJob job.now }
-    requires count { HasEachScript (asked job.now) (base_tree base.value) }
+    requires count { HasEachScript (asked job.now).inputs (base_tree base.value) }
     ensures { IfOk result (λ a.
         IsRunFrom (base_tree base.value) (asked job.now).mode (last_of a) a.output) }
 {

@@ -4,8 +4,6 @@
 pub mod answer;
 pub mod gate;
 pub mod host;
-pub mod inputs;
-pub mod reading;
 mod run;
 pub mod sink;
 pub mod status;

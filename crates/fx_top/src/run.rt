@@ -1,19 +1,35 @@
 //! The command `run`, which runs its scripts on threads, and `trace`, which runs them by a schedule.
-ghost use Rattle.std.specs.Prelude.{IfSome};
+ghost use Rattle.std.specs.Prelude.{IfOk, IfErr, IfSome};
+ghost use Rattle.fx_outside.specs.Host.{ReadsOnly};
+ghost use Rattle.fx_folder.specs.Folder.{IsReady};
+ghost use Rattle.fx_inputs.specs.Inputs.{HasInputs};
 ghost use Rattle.fx_words.specs.JobOf.{asked, IsJob};
 ghost use Rattle.fx_top.specs.Answers.{last_of, IsAnswered};
-ghost use Rattle.fx_top.specs.Rows.{RunRow, RunAsksFit};
+ghost use Rattle.fx_top.specs.Rows.{RunRow, EndsAs, RunAsksFit};
 ghost use Rattle.fx_command.specs.StatusOf.{status_of};
 
 use crate::answer::{Answer, run_base};
-use crate::reading::{make_ready, read_base};
 use fx_command::{Status, print_all};
-use fx_folder::save;
+use fx_folder::{ready, save};
+use fx_inputs::read_base;
 use fx_outside::{Gate, Host, Sink, SinkFailed};
 use fx_words::RunJob;
 use std::alloc::Global;
 use std::sync::Wait;
 use std::thread::Threads;
+
+/// Sees that OUT can be written, after the inputs: whether an empty folder stands there already.
+fn make_ready<H: Host>(alloc: Global, job: &RunJob, host: &mut H) -> Result<bool, Status>
+    requires { IfSome (H.view host.old).told (λ t. HasInputs t (asked job.now).inputs) }
+    ensures ready { IfOk result (λ there.
+        IfSome (H.view host.old).told (λ t. IsReady t (asked job.now).out there)) }
+    ensures same { ReadsOnly (H.view host.old) (H.view host.new) }
+    ensures fit { RunAsksFit (asked job.now) (H.view host.old) (H.view host.new) }
+    ensures ends { IfErr result (EndsAs (asked job.now) (H.view host.old) (H.view host.new)) }
+{
+    let there = ready(alloc, host, job.out)?;
+    Ok(there)
+}
 
 /// Saves the last filestore, and then prints the output.
 fn save_and_print<H: Host, S: Sink>(
@@ -51,7 +67,7 @@ pub(crate) fn run<R: Threads + Wait + Sync, H: Host, S: Sink, G: Gate + Sync>(
         (S.view out.old) (S.view out.new) (status_of result) }
     ensures fit { RunAsksFit (asked job.now) (H.view host.old) (H.view host.new) }
 {
-    let base = read_base(alloc, job, host)?;
+    let base = read_base(alloc, &job.inputs, host)?;
     let there = make_ready(alloc, job, host)?;
     let answer = run_base(rt, alloc, job, base, gate)?;
     save_and_print(alloc, job, there, &answer, host, out)

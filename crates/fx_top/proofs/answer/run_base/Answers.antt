@@ -8,4 +8,4 @@ use Rattle.fx_top.proofs.answer.run_base.Goals as goal
 pub run_by-requires : goal.run_by-requires
 run_by-requires g c =
     let shells : shells_of (asked c.args.job.now) ≡ c.deref.result.now = sym c.in_ok-schedule-in-Some.ensures ∙ sym c.deref.ensures.value in
-    subst (λ n. All (λ k. k < n) c.deref.result.now) (sym c.requires.count) (subst (λ ks. All (λ k. k < length (asked c.args.job.now).scripts) ks) shells (job_below c.args.job.now c.requires.job))
+    subst (λ n. All (λ k. k < n) c.deref.result.now) (sym c.requires.count) (subst (λ ks. All (λ k. k < length (asked c.args.job.now).inputs.scripts) ks) shells (job_below c.args.job.now c.requires.job))

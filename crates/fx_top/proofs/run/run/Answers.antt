@@ -5,8 +5,9 @@ use Rattle.fx_top.specs.Answers.{last_of}
 use Rattle.fx_top.specs.Rows.{RunRow}
 use Rattle.fx_command.specs.StatusOf.{status_of}
 use Rattle.fx_base.proofs.Errors.{err_of}
-use Rattle.fx_top.proofs.Ending.{ends_back}
-use Rattle.fx_top.proofs.Stages.{inputs_read, can_save}
+use Rattle.fx_inputs.proofs.Stages.{inputs_read}
+use Rattle.fx_top.proofs.Ending.{read_row, ends_back}
+use Rattle.fx_top.proofs.Stages.{can_save}
 use Rattle.fx_top.proofs.run.run.Goals as goal
 
 pub returns-in_err-base-clause-row : goal.returns-in_err-base-clause-row
@@ -15,11 +16,11 @@ returns-in_err-base-clause-row g c =
     let b = g.H.Host.view c.read_base.new.host in
     let sink = g.S.Sink.view c.args.out.now in
     let is = err_of c.from_residual.result c.in_err-base.field-0.0 c.from_residual.ensures.1 in
-    subst (λ r. RunRow (asked c.args.job.now) a b sink sink (status_of r)) (sym is) (c.in_err-base.ensures.ends sink)
+    subst (λ r. RunRow (asked c.args.job.now) a b sink sink (status_of r)) (sym is) (read_row (asked c.args.job.now) a b c.in_err-base.field-0.0 c.in_err-base.ensures.same c.in_err-base.ensures.ends sink)
 
 pub make_ready-requires : goal.make_ready-requires
 make_ready-requires g c =
-    inputs_read (asked c.args.job.now) (base_tree c.in_ok-base.base.value) (g.H.Host.view c.args.host.now) (g.H.Host.view c.read_base.new.host) c.in_ok-base.ensures.same c.in_ok-base.ensures.read
+    inputs_read (asked c.args.job.now).inputs (base_tree c.in_ok-base.base.value) (g.H.Host.view c.args.host.now) (g.H.Host.view c.read_base.new.host) c.in_ok-base.ensures.same c.in_ok-base.ensures.read
 
 pub returns-in_err-there-clause-row : goal.returns-in_err-there-clause-row
 returns-in_err-there-clause-row g c =
