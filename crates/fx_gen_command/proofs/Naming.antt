@@ -71,7 +71,7 @@ no_earlier i k (text ∷ texts) before small =
 pub script_fresh : (c : Case) (i : ℕ) → i < 10 → i ≤ length c.scripts → find path_cmp (script_name i ∷ []) (text_nodes (scripts_to i c)) ≡ None
 script_fresh c i small there =
     let other = apart (script_name i ∷ []) (codes "spec" ∷ []) (not_spec i small) in
-    ap (λ b. cond b (Some (File c false.description)) (find path_cmp (script_name i ∷ []) (map file_of (scripts_from 0 (take i c.scripts))))) other
+    ap (λ b. cond b (Some (File c.description false)) (find path_cmp (script_name i ∷ []) (map file_of (scripts_from 0 (take i c.scripts))))) other
     ∙ no_earlier i 0 (take i c.scripts) (omega (arith, length-take-le i c.scripts there)) (omega (arith, small))
 
 -- a generated case has eight scripts

@@ -85,7 +85,7 @@ spec_written old now path c open_ later fit wrote = record {
       told_then old.told old.told now.told (λ t t'. IsOpen t path × (t' ≡ t)) (λ t t'. t' ≡ with_entry t (parts path ++ codes "spec" ∷ []) (Some (file c.description))) (λ t t'. HasEntries t t' (parts path) (text_nodes (scripts_to 0 c)))
       (told_open old.told (λ t. IsOpen t path) (λ t t'. IsOpen t path × (t' ≡ t)) open_ (λ t is. (is, refl))) wrote
       (λ t u v at is added.
-      adds t u v (parts path) (([], Dir []) ∷ []) (codes "spec" ∷ []) (File c false.description) (subst (λ x. HasEntries t x (parts path) (([], Dir []) ∷ [])) (sym is.1) (begins t path [] is.0)) refl added);
+      adds t u v (parts path) (([], Dir []) ∷ []) (codes "spec" ∷ []) (File c.description false) (subst (λ x. HasEntries t x (parts path) (([], Dir []) ∷ [])) (sym is.1) (begins t path [] is.0)) refl added);
 }
 
 pub script_free : (old now : HostView) (path : List ℕ) (c : Case) (i : ℕ) → IfSome old.told (λ t. IsOpen t path) → IsWriting old now path c i → i < 10 → i ≤ length c.scripts → IfSome now.told (λ t. is_free_at t (path_below path (script_name i)) ≡ true)
@@ -117,11 +117,11 @@ spec_stops old now path c open_ wrote =
     (told_open old.told (λ t. IsOpen t path) (λ t t'. IsOpen t path × (t' ≡ t)) open_ (λ t is. (is, refl))) wrote
     (λ t u v at is part. record {
       done = ([], Dir []) ∷ [];
-      left = (codes "spec" ∷ [], File c false.description) ∷ _;
+      left = (codes "spec" ∷ [], File c.description false) ∷ _;
       split = refl;
       before = u;
       written = subst (λ x. HasEntries t x (parts path) (([], Dir []) ∷ [])) (sym is.1) (begins t path [] is.0);
-      begun = inr (record { path = codes "spec" ∷ []; node = File c false.description; rest = _; next = refl; fresh = refl; part = part });
+      begun = inr (record { path = codes "spec" ∷ []; node = File c.description false; rest = _; next = refl; fresh = refl; part = part });
     })
 
 pub stops_before : (old now : HostView) (path : List ℕ) (c : Case) (i : ℕ) → IsWriting old now path c i → IfTold old.told now.told (λ t t'. WroteTexts t t' (parts path) c)
