@@ -20,9 +20,9 @@ use fx_view::{Overlay, Reader, resolve};
 use std::alloc::Global;
 
 /// Makes an empty file or directory at a place, with the missing directories on the way; the bare form of an option is that of
-/// its part, and of a pair that of its first part. A last link is not followed. Refused: NoDefault, Exists, Blocked, TooDeep.
-/// After a refusal the own changes are as
-/// before. Answers how many of the reader's first reads are at none of the changed paths.
+/// its part, and of a pair that of its first part. A file has the flag false. A last link is not followed. Refused: NoDefault,
+/// Exists, Blocked, TooDeep. After a refusal the own changes are as before. Answers how many of the reader's first reads are at
+/// none of the changed paths.
 pub fn create<R: Reader>(
     alloc: Global,
     reader: &mut R,

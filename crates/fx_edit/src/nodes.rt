@@ -42,7 +42,7 @@ fn file_node(alloc: Global, value: &Value) -> Result<Node, Halt>
 {
     match text_in(value) {
         Some(text) => Ok(Node::File {
-            bytes: content(alloc, text)?,
+            bytes: content(alloc, text)?.share(alloc)?,
             exec: false,
         }),
         None => flag_node(alloc, value),

@@ -26,11 +26,12 @@ use fx_store::{Bytes, Landing, Names, Node, Path};
 use fx_view::{Overlay, Reader, Stop, look, resolve};
 use std::alloc::Global;
 
-/// Makes the value the content of the node at a place: a text at a file or a link, a set of names at a directory, whose new
-/// names are empty files from then on, and whose dropped ones are gone with all below. A node that is missing is made, with the
-/// directories on the way. A last link is followed, unless the place is a link's. Refused: WrongForm, BadName, TooDeep,
-/// Blocked. After a refusal the own changes are as
-/// before. Answers how many of the reader's first reads are at none of the changed paths.
+/// Makes the value the content of the node at a place: a text at a file or a link, a truth value as a file's flag, a set of
+/// names at a directory, whose new names are empty files from then on, and whose dropped ones are gone with all below. A text
+/// leaves a file its flag, and a flag leaves it its bytes. A node that is missing is made, with the directories on the way: a
+/// file with the flag false, or with no bytes. A last link is followed, unless the place is a link's. Refused: WrongForm,
+/// BadName, TooDeep, Blocked. After a refusal the own changes are as before. Answers how many of the reader's first reads are at
+/// none of the changed paths.
 pub fn store<R: Reader>(
     alloc: Global,
     reader: &mut R,
