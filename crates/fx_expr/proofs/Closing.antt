@@ -1,12 +1,10 @@
--- An expression without names has one value and one shape, whatever is bound around it.
+-- An expression without names has one value, whatever is bound around it.
 use Rattle.std.proofs.Common.{◌≡◌, ℕ, Bool, true, false, cond, ◌&&◌, List, [], Some, Ok, refl, ap, ◌∙◌}
 use Rattle.fx_expr.specs.Closed.{is_closed, IsKept}
 use Rattle.std.specs.List.{filter}
 use Rattle.fx_expr.specs.Globs.{glob_matches}
 use Rattle.fx_expr.specs.Eval.{eval_of, then_on, unless, two, one, decided, truth_in, names_in}
-use Rattle.fx_expr.specs.Shapes.{HasShape}
 use Rattle.fx_expr.specs.Tree.{Tree}
-use Rattle.fx_expr.specs.ShapeTree.{ShapeTree}
 use Rattle.fx_expr.specs.ExprTree.{ExprTree}
 
 both : (a b : Bool) → (a && b) ≡ true → (a ≡ true) × (b ≡ true)
@@ -29,22 +27,6 @@ one_value (ExprTree.choose c a b) h env other =
     λ i. then_on (one_value c p.0 env other i) (λ v. cond (truth_in v) (one_value a q.0 env other i) (one_value b q.1 env other i))
 one_value (ExprTree.only a glob) h env other =
     ap (λ o. then_on o (λ v. Ok (Tree.names (filter (λ x. glob_matches glob x) (names_in v))))) (one_value a h env other)
-
-pub one_shape : (e : ExprTree) → is_closed e ≡ true → (g k : List (List ℕ × ShapeTree)) (s : ShapeTree) → HasShape g e s → HasShape k e s
-one_shape (ExprTree.str x) h g k s w = w
-one_shape (ExprTree.int x) h g k s w = w
-one_shape (ExprTree.bool x) h g k s w = w
-one_shape ExprTree.empty h g k s w = w
-one_shape (ExprTree.var x) h g k s w = absurd (cc)
-one_shape (ExprTree.bin op a b) h g k s (u, t, sh, ha, hb) =
-    let p = both (is_closed a) (is_closed b) h in
-    (u, t, sh, one_shape a p.0 g k u ha, one_shape b p.1 g k t hb)
-one_shape (ExprTree.un op a) h g k s (u, sh, ha) = (u, sh, one_shape a h g k u ha)
-one_shape (ExprTree.choose c a b) h g k s (hc, ha, hb) =
-    let p = both (is_closed c) (is_closed a && is_closed b) h in
-    let q = both (is_closed a) (is_closed b) p.1 in
-    (one_shape c p.0 g k ShapeTree.bool hc, one_shape a q.0 g k s ha, one_shape b q.1 g k s hb)
-one_shape (ExprTree.only a glob) h g k s (hs, ha) = (hs, one_shape a h g k ShapeTree.names ha)
 
 -- a value in no environment is the value in each
 pub kept : (e : ExprTree) (v : Tree) → is_closed e ≡ true → eval_of [] e ≡ Ok v → IsKept e (Some v)

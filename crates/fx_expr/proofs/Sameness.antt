@@ -4,7 +4,7 @@ use Rattle.std.specs.Cmp.Lexicographic.{pointwise, lists_equiv, nat_list_eq_equi
 use Rattle.std.proofs.lemmas.List.{get_or-map}
 use Rattle.fx_expr.specs.declared.value.Value.{Value, the_lemmas}
 use Rattle.fx_expr.specs.declared.value.Value.TheVariants.{Names, Table}
-use Rattle.fx_expr.specs.Tree.{Tree, rows, entries}
+use Rattle.fx_expr.specs.Tree.{Tree}
 use Rattle.fx_expr.specs.Eval.{entries_in}
 use Rattle.fx_expr.specs.Rows.{keys_of, values_of}
 use Rattle.fx_expr.specs.Views.{tree_of, entry_tree}
