@@ -188,6 +188,10 @@ def hostile(room):
     os.chmod(f"{tree}/d", 0o2711)
     write(f"{tree}/secret")
     os.chmod(f"{tree}/secret", 0o600)
+    try:
+        os.setxattr(f"{tree}/run", "user.note", b"a %\n")
+    except OSError:
+        pass
     told = tool("import", "--leave-out", tree, f"{room}/f", say=["/d/p (0 bytes): a FIFO", "/root (1 byte): a link to / leads out of the tree, and in the folder it would lead to /", "/up (2 bytes): a link to .. leads out", "/out: a link to ../elsewhere leads out of the tree; it is kept"])
     shell("rm tree/d/p tree/root tree/up; touch -r f/d tree/d; touch -r f tree", room)
     same("the table", read(f"{room}/f/.forest-links").startswith("version 2\n"), True)
@@ -203,6 +207,8 @@ def hostile(room):
     same("the back tree", shell("diff -r --no-dereference tree back", room)[1].splitlines(), ["Only in back/d: ln", "Only in back/d: made", "Only in back: new", "diff -r --no-dereference tree/secret back/secret", "0a1", "> new", "\\ No newline at end of file"])
     modes = {name: f"{stat.S_IMODE(os.lstat(f'{room}/back/{name}').st_mode):o}" for name in ("run", "secret", "new", "d", "d/made")}
     same("modes", modes, {"run": "4640", "secret": "600", "new": "644", "d": "2711", "d/made": "700"})
+    same("further attributes", [(n, os.getxattr(f"{room}/back/run", n)) for n in os.listxattr(f"{room}/back/run")], [(n, os.getxattr(f"{tree}/run", n)) for n in os.listxattr(f"{tree}/run")])
+    same("rights in the folder", oct(os.lstat(f"{room}/f/run").st_mode & 0o7777), "0o750")
     same("a new link", os.readlink(f"{room}/back/d/ln"), "../d/made")
     tool("export", f"{room}/plain", f"{room}/plainback")
     same("without flags", attributes(f"{room}/plainback") == attributes(tree), True)
@@ -335,6 +341,64 @@ def killed(room, times=100):
             if ".before-" in name or re.fullmatch(r"live\d\.\d{8}T\d{12}", name):
                 generation(f"{room}/{name}")
     return f"{times} kills at random moments left {old} times the old and {new} times the new folder whole, {steps} times none between two renames, which the next job ended; {cleared} broken places were cleared away"
+
+
+HOOK = """
+import os, runpy, signal, sys
+kill_at, tool = int(sys.argv[1]), sys.argv[2]
+sys.argv = sys.argv[2:]
+sys.path.insert(0, os.path.dirname(tool))
+WRITES = os.O_WRONLY | os.O_RDWR | os.O_CREAT
+count = 0
+def hook(event, given):
+    global count
+    if event in ("os.rename", "os.mkdir", "os.symlink", "os.remove", "os.rmdir", "os.chmod", "os.utime", "os.chown", "subprocess.Popen") or event == "open" and given[2] & WRITES:
+        if count == kill_at:
+            os.kill(os.getpid(), signal.SIGKILL)
+        count += 1
+sys.addaudithook(hook)
+runpy.run_path(tool, run_name="__main__")
+"""
+
+
+def steps(room):
+    """A kill before each single call that changes something, in each tool that puts a folder in place."""
+    write(f"{room}/hook.py", HOOK)
+    write(f"{room}/d", '<a : ("a" :: file), ("d/b" :: file)>')
+    write(f"{room}/s", "txn { into down fetch a : str store(text((int(a) + 1))) up next down store(text((int(a) + 1))) }")
+    write(f"{room}/none")
+    kills = ended = 0
+    ways = [("apply", ["--in-place", "f", "d", "s"], {}), ("apply", ["--link", "live", "d", "s"], {}), ("apply", ["--in-place", "f", "d", "s"], {"TXFOREST_NO_EXCHANGE": "1"}), ("export", ["--replace", "new", "f"], {}), ("import", ["new", "g"], {})]
+    for name, words, more in ways:
+        environment = {**os.environ, **more, "PYTHONDONTWRITEBYTECODE": "1"}
+        for at in range(1000):
+            shell("rm -rf f* g* live* new; mkdir -p f/d new/d; printf 1 > f/a; printf 1 > f/d/b; printf 2 > new/a; printf 2 > new/d/b", room)
+            if "--link" in words:
+                os.symlink("f", f"{room}/live")
+            ran = subprocess.run([sys.executable, "-B", f"{room}/hook.py", str(at), f"{TOOLS}/txforest-{name}", *words], cwd=room, env=environment, stdout=subprocess.PIPE, stderr=subprocess.STDOUT)
+            target = f"{room}/{'g' if name == 'import' else 'live' if '--link' in words else 'f'}"
+            found = (read(f"{target}/a"), read(f"{target}/d/b")) if os.path.lexists(target) else None
+            if ran.returncode == 0:
+                same(f"{name} {words}", found, ("2", "2"))
+                break
+            same(f"{name} {words}, killed before call {at}: {ran.stdout.decode()}", ran.returncode, -signal.SIGKILL)
+            wanted = [None, ("2", "2")] if name == "import" else [("1", "1"), ("2", "2")] + [None] * ("TXFOREST_NO_EXCHANGE" in more)
+            same(f"{name} {words}, killed before call {at}, leaves {found}", found in wanted, True)
+            kills += 1
+            if name != "import":
+                again = ["--in-place" if name == "export" else words[0], os.path.basename(target), "d", "none"]
+                tool("apply", *again, room=room, env=environment)
+                after = read(f"{target}/a"), read(f"{target}/d/b")
+                same(f"{name} {words}, killed before call {at}, then", after, found or after)
+                ended += found is None
+                for old in os.listdir(room):
+                    if ".before-" in old:
+                        same("the folder of before", (read(f"{room}/{old}/a"), read(f"{room}/{old}/d/b")), ("1", "1"))
+                same("what is left", [n for n in os.listdir(room) if n.startswith(".")], [])
+                same("folders of a time", len([n for n in os.listdir(room) if re.fullmatch(r"live\.\d{8}T\d{12}", n)]), int("--link" in words and after == ("2", "2")))
+            else:
+                shell("rm -rf .g*", room)
+    return f"{kills} kills, before each call that changes something, in 5 ways to put a folder in place: the old or the new folder stood there whole; {ended} times, between two renames, the next job put it there"
 
 
 def refusals(room):
@@ -607,7 +671,7 @@ def installed(room):
     return f"{len(files)} files installed, {len(pages)} manual pages among them, and all taken back" + (f"; not tried: {', '.join(missing)}" if missing else "")
 
 
-PARTS = [trees, hostile, together, killed, refusals, full, explain, outcomes, pictures, installed]
+PARTS = [trees, hostile, together, killed, steps, refusals, full, explain, outcomes, pictures, installed]
 wanted = sys.argv[1:] or [part.__name__ for part in PARTS]
 for part in PARTS:
     if part.__name__ in wanted:
