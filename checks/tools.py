@@ -449,7 +449,7 @@ def refusals(room):
     write(f"{room}/m", 'txn { into down store("8") up next into next down store("x") }')
     tool("apply", "--in-place", "f", "more", "m", room=room)
     modes = {n: f"{stat.S_IMODE(os.lstat(f'{room}/f/{n}').st_mode):o}" for n in (".", "key", "n", "new", "new/file")}
-    same("modes", modes, {".": "2750", "key": "600", "n": "644", "new": "750", "new/file": "640"})
+    same("modes", modes, {".": "2750", "key": "600", "n": "644", "new": "2750", "new/file": "640"})
     same("the time of what is as it was", int(os.lstat(f"{room}/f/key").st_mtime), 981158400)
     same("the time of what changed", os.lstat(f"{room}/f/n").st_mtime > 1e9, True)
     # A signal that asks to end leaves nothing behind.

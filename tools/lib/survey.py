@@ -4,7 +4,7 @@ import os
 import re
 
 import model
-from common import below, many, shown
+from common import Failed, below, many, shown
 from trees import at, entries, leads_out, link_text, read_file
 
 
@@ -95,6 +95,20 @@ def size_of(tree, entry):
     return sum(e.stat.st_size for e in entries(tree, entry.path, fault=lambda *_: None) if e.kind == "f")
 
 
+def table_lines(folder):
+    path = at(folder, (model.TABLE,))
+    return re.findall(rb"[^\n]*\n|[^\n]+", read_file(path)) if os.path.lexists(path) else []
+
+
+def read_table(folder, kinds):
+    """Links with their texts, and the files with a flag, by the table of a folder; `kinds` are those of its entries."""
+    bad = table_faults(folder, kinds)
+    if bad:
+        raise Failed(4, *(f"{shown(os.path.join(folder, '.forest-links'))}:{number}: {why}" for number, _, why in bad))
+    lines = [model.table_line(line) for line in table_lines(folder) if line != model.VERSION2]
+    return {path: target for path, mark, target in lines if mark == "->"}, {path for path, mark, _ in lines if mark == "*"}
+
+
 def table_faults(folder, kinds):
     """Each line of a folder's table that is bad, with the reason; `kinds` are those of the folder's entries."""
     path = at(folder, (model.TABLE,))
@@ -104,7 +118,7 @@ def table_faults(folder, kinds):
         return [(0, b"", "it is no file")]
     if os.path.getsize(path) > model.TABLE_LIMIT:
         return [(0, b"", f"it has {many(os.path.getsize(path), 'byte')}; a table has at most {many(model.TABLE_LIMIT, 'byte')}")]
-    lines = re.findall(rb"[^\n]*\n|[^\n]+", read_file(path))
+    lines = table_lines(folder)
     version2, before, flags, found = lines[:1] == [model.VERSION2], None, 0, []
     for i, line in enumerate(lines, 1):
         if i == 1 and version2:

@@ -112,7 +112,9 @@ class Text:
         """What could stand at a place, and what is often meant there."""
         tokens = model.lex(self.bytes)
         i = next(i for i, token in enumerate(tokens) if token[2] == byte)
-        could = {token[1] if token[0] in ("word", "mark") else token[0] for token in CANDIDATES if self.begins(tokens[:i], token, byte)}
+        # Of a script the transactions before the last one are whole, and say nothing of it.
+        begin = max((k for k in range(i) if tokens[k][:2] == ("word", "txn")), default=0)
+        could = {token[1] if token[0] in ("word", "mark") else token[0] for token in CANDIDATES if self.begins(tokens[begin:i], token, byte)}
         found = tokens[i][1] if tokens[i][0] in ("word", "mark") else None
         yield "expected " + listed(grouped(could))
         if "a_name" in could and found in model.KEPT:

@@ -6,7 +6,6 @@ symbolic links, but a table of them.
 
 import hashlib
 import os
-import re
 import stat
 from dataclasses import dataclass, field
 
@@ -75,38 +74,12 @@ def write_file(path, bytes_):
         it.write(bytes_)
 
 
-# ---- the table of a folder
-
-
-def read_table(folder, kinds):
-    """Links with their texts, and the files with a flag, by the table of a folder; `kinds` are those of its entries."""
-    path = at(folder, (model.TABLE,))
-    if not os.path.lexists(path):
-        return {}, set()
-    links, flags, before = {}, set(), None
-    lines = re.findall(rb"[^\n]*\n|[^\n]+", read_file(path))
-    for i, line in enumerate(lines, 1):
-        if i == 1 and line == model.VERSION2:
-            continue
-        place, mark, target = model.table_line(line)
-        good = place and (before is None or place > before)
-        good = good and (kinds.get(place) == "f" if mark == "*" else place not in kinds and (len(place) == 1 or kinds.get(place[:-1]) == "d"))
-        if not good or mark == "*" and lines[0] != model.VERSION2:
-            raise Failed(4, f"{shown(path)}: line {i} is no line of a table there: BadTable {i}")
-        before = place
-        if mark == "*":
-            flags.add(place)
-        else:
-            links[place] = target
-    return links, flags
+# ---- links of a tree and of a folder
 
 
 def table_text(links, flags):
     """The table of links with their texts and of files with a flag; empty where there are none."""
     return model.table_of({**{p: ("link", t) for p, t in links.items()}, **{p: ("file", b"", True) for p in flags}})
-
-
-# ---- links of a tree as links of a folder
 
 
 def names_of(text):
@@ -273,7 +246,7 @@ def give(tree, kept, now, flags=None):
             mode, owner, group, more = before.mode, before.owner, before.group, before.more
         elif path:
             mode, owner, group = plan[path[:-1]][:3]
-            mode, more = mode & (0o777 if now[path].kind == "d" else 0o666), {}
+            mode, more = mode & (0o2777 if now[path].kind == "d" else 0o666), {}
         else:
             mode, owner, group, more = now[path].mode, now[path].owner, now[path].group, {}
         if flags is not None and now[path].kind == "f":
