@@ -20,11 +20,18 @@ stable_path p q h = at (eq_by_cmp path_cmp p q) refl
 stable_text : (a b : List ℕ) → Stable a b
 stable_text a b h = let same : a ∷ [] ≡ b ∷ [] = stable_path (a ∷ []) (b ∷ []) (λ f. h (λ e. f (ap (λ x. x ∷ []) e))) in cc
 
+stable_flag : (a b : Bool) → Stable a b
+stable_flag true true h = refl
+stable_flag true false h = absurd (h (λ e. cc))
+stable_flag false true h = absurd (h (λ e. cc))
+stable_flag false false h = refl
+
 pub stable_node : (m n : Option Node) → Stable m n
 stable_node None None h = refl
 stable_node None (Some n) h = absurd (h (λ e. cc))
 stable_node (Some m) None h = absurd (h (λ e. cc))
-stable_node (Some (File a exec)) (Some (File b exec2)) h = ap (λ x. Some (File x false)) (stable_text a b (λ f. h (λ e. f cc)))
+stable_node (Some (File a exec)) (Some (File b was)) h =
+    ap (λ x. Some (File x exec)) (stable_text a b (λ f. h (λ e. f cc))) ∙ ap (λ x. Some (File b x)) (stable_flag exec was (λ f. h (λ e. f cc)))
 stable_node (Some (Dir a)) (Some (Dir b)) h = ap (λ x. Some (Dir x)) (stable_path a b (λ f. h (λ e. f cc)))
 stable_node (Some (Link a)) (Some (Link b)) h = ap (λ x. Some (Link x)) (stable_text a b (λ f. h (λ e. f cc)))
 stable_node (Some (File a exec)) (Some (Dir b)) h = absurd (h (λ e. cc))

@@ -16,7 +16,7 @@ use Rattle.fx_machine.specs.Machine.{Machine, Run, next_number, shell_of, restin
 use Rattle.fx_machine.specs.Measure.{has_left}
 use Rattle.fx_machine.specs.Tried.{conflicts_of}
 use Rattle.fx_machine.specs.Turns.{is_settled_by, has_more}
-use Rattle.fx_sched.specs.Recorded.{noted}
+use Rattle.fx_sched.specs.World.{noted}
 
 abbrev pub settled_by : ℕ → List Event → ℕ
 settled_by k events = count_by (is_settled_by k) events

@@ -18,12 +18,11 @@ use Rattle.fx_machine.specs.Tried.{conflicts_of, retries_of, retry_tree}
 use Rattle.fx_machine.specs.Turns.{TakesTurns}
 use Rattle.fx_machine.proofs.Complete.{complete_runs}
 use Rattle.fx_machine.proofs.Reached.{set_looks, reached_sound}
-use Rattle.fx_sched.specs.declared.recording.Recording.{Recording}
 use Rattle.fx_sched.specs.declared.schedule.Traced.{Traced}
-use Rattle.fx_sched.specs.Recorded.{lists_of, joined, HadTurns, HadRounds}
+use Rattle.fx_sched.specs.Recorded.{Play, joined, HadTurns, HadRounds}
 use Rattle.fx_sched.specs.Traced.{IsTraced}
 use Rattle.fx_sched.proofs.Counts.{some_within}
-use Rattle.fx_sched.proofs.Records.{first_contains, true_false, retries_in}
+use Rattle.fx_sched.proofs.Records.{first_contains, true_false}
 
 -- ---- a shell with no transaction left looks at nothing
 
@@ -127,7 +126,7 @@ listed lists f n count each =
 
 -- ---- the whole run
 
-pub traced : (base : BaseTree) (schedule : List ℕ) (a b c : Recording) (t : Traced) → a.world.base ≡ base → a.events ≡ [] → HadTurns a schedule b → HadRounds b c → t.board.base ≡ c.world.base → t.board.order ≡ c.world.machine.order → t.events ≡ c.events → t.retries ≡ joined (lists_of c.retried.items) → IsTraced base schedule t
+pub traced : (base : BaseTree) (schedule : List ℕ) (a b c : Play) (t : Traced) → a.world.base ≡ base → a.events ≡ [] → HadTurns a schedule b → HadRounds b c → t.board.base ≡ c.world.base → t.board.order ≡ c.world.machine.order → t.events ≡ c.events → t.retries ≡ joined c.world.retries → IsTraced base schedule t
 traced base schedule a b c t on none had rounds board order events retries =
     let base_is : c.world.base ≡ base = rounds.base ∙ had.base ∙ on in
     let run : Run base (resting base []) c.events c.world.machine = subst (λ b. Run b (resting b []) c.events c.world.machine) base_is rounds.recording.run in
@@ -143,8 +142,8 @@ traced base schedule a b c t on none had rounds board order events retries =
     (subst (λ before. TakesTurns base before (schedule ++ []) (had.more ++ rounds.more)) none
     (subst (λ base. TakesTurns base a.events (schedule ++ []) (had.more ++ rounds.more)) on (had.takes [] rounds.more round_turns))) in
     let plan : length c.world.base.plan ≡ length base.plan = ap (λ (b : BaseTree). length b.plan) base_is in
-    let lists : lists_of c.retried.items ≡ map (λ k. conflicts_of k 0 c.events) (first_numbers (length base.plan)) =
-    listed (lists_of c.retried.items) (λ k. conflicts_of k 0 c.events) (length base.plan) (length-map c.retried.items retries_in ∙ rounds.recording.count ∙ plan)
+    let lists : c.world.retries ≡ map (λ k. conflicts_of k 0 c.events) (first_numbers (length base.plan)) =
+    listed c.world.retries (λ k. conflicts_of k 0 c.events) (length base.plan) (rounds.recording.count ∙ plan)
     (λ k h. rounds.recording.conflicts k (omega (arith, plan, h))) in
     let conflicts : t.retries ≡ retries_of base t.events =
     retries ∙ ap joined lists ∙ flat_map-map (λ (list : List Retry). list) (λ k. conflicts_of k 0 c.events) (first_numbers (length base.plan)) ∙ ap (retries_of base) (sym events) in

@@ -4,3 +4,4 @@ pub mod Worlds
 pub mod Counts
 pub mod Records
 pub mod Ends
+pub mod Takings

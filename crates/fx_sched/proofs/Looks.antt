@@ -1,5 +1,5 @@
 -- Looks and the reads that they are of.
-use Rattle.std.proofs.Common.{◌≡◌, ℕ, suc, ◌≤◌, Bool, true, false, cond, ◌||◌, List, [], ◌∷◌, ◌++◌, length, Option, Some, None, is_some, refl, sym, ap, subst, ◌∙◌, ◌⊎◌, inl, inr, Result, Ok, Err, IfOk, IfErr, arith, length-append}
+use Rattle.std.proofs.Common.{◌≡◌, ℕ, suc, ◌≤◌, Bool, true, false, cond, ◌||◌, List, [], ◌∷◌, ◌++◌, length, Option, Some, None, is_some, refl, sym, ap, subst, ◌∙◌, ◌⊎◌, inl, inr, arith, length-append}
 use Rattle.std.specs.List.{Contains, IsDistinct, list_any}
 use Rattle.std.specs.Map.{keys_of}
 use Rattle.std.specs.Option.{option_map, IsSome}
@@ -25,7 +25,7 @@ use Rattle.fx_machine.specs.declared.attempt.Attempt.{Attempt}
 use Rattle.fx_machine.specs.Explained.{IsExplained, RunsAs}
 use Rattle.fx_machine.specs.Machine.{position_at, first_unseen, AgreesAt, HasSeenAll, ComesNext, IsStaleAt, IsFresh}
 use Rattle.fx_machine.specs.Passes.{AreTrueReads}
-use Rattle.fx_run.specs.Running.{IsNeeded, ReadsFit}
+use Rattle.fx_run.specs.Running.{IsNeeded}
 use Rattle.fx_board.specs.Board.{IsFreshReads, IsStaleRead}
 use Rattle.fx_sched.specs.Shells.{looks_in}
 use Rattle.fx_sched.specs.Moves.{AllRead}
@@ -149,4 +149,3 @@ pub true_longer : (base : BaseTree) (o more : List Turn) (reads : ReadList) → 
 true_longer base o more reads true_reads path node position e =
     let h = true_reads path node position e in
     (omega (arith, h.0, length-append o more), h.1 ∙ sym (ap (λ (m : Nodes). get m path) (state-front base o more position h.0)))
-

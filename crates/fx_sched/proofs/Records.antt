@@ -1,10 +1,9 @@
 -- Recorded runs: how they begin, and how they go on by turns and rounds.
-use Rattle.std.proofs.Common.{◌≡◌, ⊎_elim, ℕ, zero, suc, ◌+◌, ◌<◌, ◌≤◌, Bool, true, false, nat_lt, List, [], ◌∷◌, ◌++◌, length, get_or, set, take, slice_get, Some, None, is_some, refl, sym, ap, subst, ◌∙◌, arith, append_assoc}
-use Rattle.std.specs.List.{All, Contains}
+use Rattle.std.proofs.Common.{◌≡◌, ⊎_elim, ℕ, zero, suc, ◌<◌, ◌≤◌, Bool, true, false, nat_lt, List, [], ◌∷◌, ◌++◌, length, get_or, replicate, slice_get, Some, None, is_some, refl, sym, ap, subst, ◌∙◌, arith, append_assoc}
+use Rattle.std.specs.List.{Contains}
 use Rattle.std.proofs.lemmas.Bool.{cases_lt}
-use Rattle.std.proofs.lemmas.List.{take_more, append-nil, map-set, length-map, length-set, get_or_past}
+use Rattle.std.proofs.lemmas.List.{append-nil, length-set, length-replicate, get_or_past}
 use Rattle.std.proofs.lemmas.List.Elements.{Contains-append_cases, Contains-append_left, Contains-append_right}
-use Rattle.std.proofs.lemmas.Option.{slice_get_cases}
 use Rattle.fx_spec.specs.Plans.{script_of, count_of}
 use Rattle.fx_spec.specs.Order.{BaseTree, first_numbers}
 use Rattle.fx_machine.specs.declared.event.Event.{Event}
@@ -14,16 +13,15 @@ use Rattle.fx_machine.specs.Laws.{IsReached}
 use Rattle.fx_machine.specs.Machine.{Machine, Run, Step, next_number, next_txn, shell_of, resting}
 use Rattle.fx_machine.specs.Measure.{has_left}
 use Rattle.fx_machine.specs.Tried.{conflicts_of}
-use Rattle.fx_machine.specs.Turns.{TakesTurns, left_out, steps, a_round, over as all_over, has_more}
+use Rattle.fx_machine.specs.Turns.{TakesTurns, left_out, steps, a_round, over as all_over, BeginsTurns, leaves_out, goes, next_round, stops, has_more}
 use Rattle.fx_machine.proofs.Weight.{weight, weight_falls}
 use Rattle.fx_board.specs.Log.{Log}
-use Rattle.fx_sched.specs.declared.recording.Retried.{Retried}
-use Rattle.fx_sched.specs.declared.recording.Recording.{Recording}
 use Rattle.fx_sched.specs.declared.shell.Shell.{Shell}
 use Rattle.fx_sched.specs.Left.{SomeLeft}
-use Rattle.fx_sched.specs.Recorded.{lists_of, noted, IsRecording, HadTurns, HadRounds}
+use Rattle.fx_sched.specs.Recorded.{Play, IsRecording, RunsBy, HadTurns, HadRounds}
 use Rattle.fx_sched.specs.Running.{Running}
-use Rattle.fx_sched.specs.World.{running_of, IsWorld, began, Leads}
+use Rattle.fx_sched.specs.Taking.{a_start}
+use Rattle.fx_sched.specs.World.{running_of, noted, IsWorld, Leads}
 use Rattle.fx_sched.proofs.Counts.{settled_by, next_counts, some_within, more_is_left, noted_conflicts}
 use Rattle.fx_sched.proofs.Worlds.{run_more, shell_at}
 
@@ -47,38 +45,20 @@ all_none running count e below k =
 
 -- ---- retries by shell
 
-abbrev pub retries_in : Retried → List Retry
-retries_in s = s.items.items
-
-list_at : (shells : List Retried) (k : ℕ) (d : Retried) → k < length shells → get_or (lists_of shells) k [] ≡ retries_in (get_or shells k d)
-list_at [] k d h = absurd (omega (arith, h))
-list_at (s ∷ shells) zero d h = refl
-list_at (s ∷ shells) (suc k) d h = list_at shells k d (omega (arith, h))
-
-pub noted_is : (shells : List Retried) (txn k entry : ℕ) (path : List (List ℕ)) (e : Event) (d t : Retried) (retry : Retry) → e ≡ event.Conflict k entry path → shell_of e < length shells → retries_in t ≡ retries_in (get_or shells k d) ++ retry ∷ [] → retry ≡ record { shell = k; txn = txn; entry = entry; path = path } → lists_of (set shells k t) ≡ noted txn (lists_of shells) e
-noted_is shells txn k entry path e d t retry is within items made =
-    let inside : k < length shells = subst (λ e. shell_of e < length shells) is within in
-    map-set retries_in shells k t ∙ ap (set (lists_of shells) k) (items ∙ ap (λ l. l ++ retry ∷ []) (sym (list_at shells k d inside)) ∙ ap (λ r. get_or (lists_of shells) k [] ++ r ∷ []) made)
-    ∙ ap (noted txn (lists_of shells)) (sym is)
-
 noted_length : (txn : ℕ) (lists : List (List Retry)) (e : Event) → length (noted txn lists e) ≡ length lists
 noted_length txn lists (event.Look k path position) = refl
 noted_length txn lists (event.Settled k entry) = refl
 noted_length txn lists (event.Conflict k entry path) = length-set lists k (get_or lists k [] ++ record { shell = k; txn = txn; entry = entry; path = path } ∷ [])
 
-lists_none : (shells : List Retried) (k : ℕ) → All (λ s. retries_in s ≡ []) shells → get_or (lists_of shells) k [] ≡ []
-lists_none shells k all =
-    ⊎_elim (λ h. list_at shells k h.0 h.1 ∙ all k h.0 h.1) (λ h. get_or_past (lists_of shells) k [] (let e : length (lists_of shells) ≡ length shells = length-map shells retries_in in let g = h.0 in omega (arith, e, g))) (slice_get_cases shells k).1
+none_at : (n k : ℕ) → get_or (replicate n (let none : List Retry = [] in none)) k [] ≡ []
+none_at zero k = refl
+none_at (suc n) zero = refl
+none_at (suc n) (suc k) = none_at n k
 
 -- ---- the beginning
 
-pub begun : (r : Recording) (base : BaseTree) → r.world ≡ began base → r.events ≡ [] → length r.retried.items ≡ length r.world.base.plan → All (λ (s : Retried). s.items.items ≡ []) r.retried.items → IsRecording r
-begun r base world events count none = record {
-  run = subst (λ es. Run r.world.base (resting r.world.base []) es r.world.machine) (sym events)
-      (ap (λ (w : Running). resting w.base []) world ∙ sym (ap (λ (w : Running). w.machine) world));
-  count = count;
-  conflicts = λ k within. lists_none r.retried.items k none ∙ ap (conflicts_of k 0) (sym events);
-}
+pub begun : (base : BaseTree) → IsRecording (a_start base)
+begun base = record { run = refl; count = length-replicate (length base.plan) []; conflicts = λ k within. none_at (length base.plan) k }
 
 -- ---- turns
 
@@ -86,15 +66,17 @@ runs_on : (base : BaseTree) (m : Machine) (events : List Event) (m' : Machine) (
 runs_on base m [] m' more m'' run on = subst (λ m. Run base m more m'') (sym run) on
 runs_on base m (e ∷ events) m' more m'' run on = (run.0, run.1, runs_on base run.0 events m' more m'' run.2 on)
 
-recorded_more : (r : Recording) → IsRecording r → (k : ℕ) → has_more r.world.base r.events k ≡ has_left r.world.base r.world.machine k
+pub recorded_more : (r : Play) → IsRecording r → (k : ℕ) → has_more r.world.base r.events k ≡ has_left r.world.base r.world.machine k
 recorded_more r is k = more_is_left r.world.base r.events r.world.machine k is.run
 
 -- a turn in which an event came
-pub stepped : (old new : Recording) (shell txn : ℕ) (e : Event) → IsRecording old → Leads old.world shell new.world e → new.events ≡ old.events ++ e ∷ [] → txn ≡ next_number new.world.machine.order (shell_of e) → lists_of new.retried.items ≡ noted txn (lists_of old.retried.items) e → HadTurns old (shell ∷ []) new
-stepped old new shell txn e is leads events next lists =
+pub stepped : (old new : Play) (shell : ℕ) (e : Event) → IsRecording old → Leads old.world shell new.world e → new.events ≡ old.events ++ e ∷ [] → HadTurns old (shell ∷ []) new
+stepped old new shell e is leads events =
+    let txn : ℕ = next_number new.world.machine.order shell in
+    let lists : new.world.retries ≡ noted txn old.world.retries e = leads.retries in
+    let next : txn ≡ next_number new.world.machine.order (shell_of e) = ap (next_number new.world.machine.order) (sym leads.whose) in
     let run : Run old.world.base (resting old.world.base []) (old.events ++ e ∷ []) new.world.machine = run_more old.world.base (resting old.world.base []) old.events old.world.machine e new.world.machine is.run leads.step in
-    let count : length new.retried.items ≡ length old.retried.items =
-    sym (length-map new.retried.items retries_in) ∙ ap length lists ∙ noted_length txn (lists_of old.retried.items) e ∙ length-map old.retried.items retries_in in
+    let count : length new.world.retries ≡ length old.world.retries = ap length lists ∙ noted_length txn old.world.retries e in
     let settled : txn ≡ settled_by (shell_of e) (old.events ++ e ∷ []) =
     (let h = next_counts old.world.base (resting old.world.base []) (old.events ++ e ∷ []) new.world.machine (shell_of e) run in omega (arith, h, next)) in
     record {
@@ -103,8 +85,8 @@ stepped old new shell txn e is leads events next lists =
         count = count ∙ is.count ∙ ap (λ (b : BaseTree). length b.plan) (sym leads.base);
         conflicts = λ k within.
             let inside : k < length old.world.base.plan = subst (λ (b : BaseTree). k < length b.plan) leads.base within in
-            let listed : k < length (lists_of old.retried.items) = (let a : length (lists_of old.retried.items) ≡ length old.retried.items = length-map old.retried.items retries_in in let b = is.count in omega (arith, a, b, inside)) in
-            ap (λ ls. get_or ls k []) lists ∙ noted_conflicts (lists_of old.retried.items) old.events e txn k listed settled (is.conflicts k inside) ∙ ap (conflicts_of k 0) (sym events);
+            let listed : k < length old.world.retries = (let b = is.count in omega (arith, b, inside)) in
+            ap (λ ls. get_or ls k []) lists ∙ noted_conflicts old.world.retries old.events e txn k listed settled (is.conflicts k inside) ∙ ap (conflicts_of k 0) (sym events);
       };
       base = leads.base;
       more = e ∷ [];
@@ -115,25 +97,65 @@ stepped old new shell txn e is leads events next lists =
           let has : has_more old.world.base old.events (shell_of e) ≡ true = recorded_more old is (shell_of e) ∙ ap (has_left old.world.base old.world.machine) leads.whose ∙ leads.left in
           let after : TakesTurns old.world.base (old.events ++ e ∷ []) later es = subst (λ before. TakesTurns old.world.base before later es) events t in
           subst (λ k. TakesTurns old.world.base old.events (k ∷ later) (e ∷ es)) leads.whose (steps has after);
+      begins = λ later es t.
+          let has : has_more old.world.base old.events (shell_of e) ≡ true = recorded_more old is (shell_of e) ∙ ap (has_left old.world.base old.world.machine) leads.whose ∙ leads.left in
+          let after : BeginsTurns old.world.base (old.events ++ e ∷ []) later es = subst (λ before. BeginsTurns old.world.base before later es) events t in
+          subst (λ k. BeginsTurns old.world.base old.events (k ∷ later) (e ∷ es)) leads.whose (goes has after);
     }
 
+one_of : (shell k : ℕ) → Contains (shell ∷ []) k → shell ≡ k
+one_of shell k (zero, h, e) = e
+one_of shell k (suc i, h, e) = absurd (omega (arith, h))
+
 -- a turn of a shell that has no transaction left
-pub idled : (old new : Recording) (shell : ℕ) → IsRecording old → next_txn old.world.base old.world.machine.order shell ≡ None → new ≡ old → HadTurns old (shell ∷ []) new
+pub idled : (old new : Play) (shell : ℕ) → IsRecording old → next_txn old.world.base old.world.machine.order shell ≡ None → new ≡ old → HadTurns old (shell ∷ []) new
 idled old new shell is none same = subst (HadTurns old (shell ∷ [])) (sym same) (record {
   recording = is;
   base = refl;
   more = [];
   events = sym (append-nil old.events);
   run = refl;
-  idle = λ e k inside. subst (λ k. has_left old.world.base old.world.machine k ≡ false) (one_of k inside) (ap is_some none);
+  idle = λ e k inside. subst (λ k. has_left old.world.base old.world.machine k ≡ false) (one_of shell k inside) (ap is_some none);
   takes = λ later es t. left_out (recorded_more old is shell ∙ ap is_some none) t;
+  begins = λ later es t. leaves_out (recorded_more old is shell ∙ ap is_some none) t;
 })
-  where
-    one_of : (k : ℕ) → Contains (shell ∷ []) k → shell ≡ k
-    one_of k (zero, h, e) = e
-    one_of k (suc i, h, e) = absurd (omega (arith, h))
 
-pub had_none : (r : Recording) → IsRecording r → HadTurns r [] r
+-- ---- the runs of turns
+
+both_none : (xs ys : List Event) → xs ++ ys ≡ [] → (xs ≡ []) × (ys ≡ [])
+both_none [] ys e = (refl, e)
+both_none (x ∷ xs) ys e = absurd (cc)
+
+pub runs_stepped : (old new : Running) (shell : ℕ) (e : Event) → Leads old shell new e → RunsBy old (shell ∷ []) new
+runs_stepped old new shell e leads =
+    record { base = leads.base; more = e ∷ []; run = (new.machine, leads.step, refl); idle = λ none. absurd (cc) }
+
+pub runs_idled : (old new : Running) (shell : ℕ) → next_txn old.base old.machine.order shell ≡ None → new ≡ old → RunsBy old (shell ∷ []) new
+runs_idled old new shell none same = subst (RunsBy old (shell ∷ [])) (sym same) (record {
+  base = refl;
+  more = [];
+  run = refl;
+  idle = λ e k inside. subst (λ k. has_left old.base old.machine k ≡ false) (one_of shell k inside) (ap is_some none);
+})
+
+pub runs_none : (r : Running) → RunsBy r [] r
+runs_none r = record { base = refl; more = []; run = refl; idle = λ e k inside. absurd (let h = inside.1 in omega (arith, h)) }
+
+pub runs_then : (a b c : Running) (ts us : List ℕ) → RunsBy a ts b → RunsBy b us c → RunsBy a (ts ++ us) c
+runs_then a b c ts us s t =
+    let run : Run a.base b.machine t.more c.machine = subst (λ base. Run base b.machine t.more c.machine) s.base t.run in
+    record {
+      base = t.base ∙ s.base;
+      more = s.more ++ t.more;
+      run = runs_on a.base a.machine s.more b.machine t.more c.machine s.run run;
+      idle = λ none k inside.
+          let parts : (s.more ≡ []) × (t.more ≡ []) = both_none s.more t.more none in
+          let same : a.machine ≡ b.machine = subst (λ es. Run a.base a.machine es b.machine) parts.0 s.run in
+          ⊎_elim (λ h. s.idle parts.0 k h)
+          (λ h. ap (λ m. has_left a.base m k) same ∙ ap (λ base. has_left base b.machine k) (sym s.base) ∙ t.idle parts.1 k h) (Contains-append_cases ts us k inside);
+    }
+
+pub had_none : (r : Play) → IsRecording r → HadTurns r [] r
 had_none r is = record {
   recording = is;
   base = refl;
@@ -142,13 +164,10 @@ had_none r is = record {
   run = refl;
   idle = λ e k inside. absurd (let h = inside.1 in omega (arith, h));
   takes = λ later es t. t;
+  begins = λ later es t. t;
 }
 
-both_none : (xs ys : List Event) → xs ++ ys ≡ [] → (xs ≡ []) × (ys ≡ [])
-both_none [] ys e = (refl, e)
-both_none (x ∷ xs) ys e = absurd (cc)
-
-pub had_then : (a b c : Recording) (ts us : List ℕ) → HadTurns a ts b → HadTurns b us c → HadTurns a (ts ++ us) c
+pub had_then : (a b c : Play) (ts us : List ℕ) → HadTurns a ts b → HadTurns b us c → HadTurns a (ts ++ us) c
 had_then a b c ts us s t =
     let run : Run a.world.base b.world.machine t.more c.world.machine = subst (λ base. Run base b.world.machine t.more c.world.machine) s.base t.run in
     record {
@@ -167,6 +186,11 @@ had_then a b c ts us s t =
           (t.takes later es (subst (λ base. TakesTurns base c.events later es) (sym s.base) h)) in
           subst (λ turns. TakesTurns a.world.base a.events turns ((s.more ++ t.more) ++ es)) (sym (append_assoc ts us later))
           (subst (TakesTurns a.world.base a.events (ts ++ (us ++ later))) (sym (append_assoc s.more t.more es)) (s.takes (us ++ later) (t.more ++ es) on));
+      begins = λ later es h.
+          let on : BeginsTurns a.world.base b.events (us ++ later) (t.more ++ es) = subst (λ base. BeginsTurns base b.events (us ++ later) (t.more ++ es)) s.base
+          (t.begins later es (subst (λ base. BeginsTurns base c.events later es) (sym s.base) h)) in
+          subst (λ turns. BeginsTurns a.world.base a.events turns ((s.more ++ t.more) ++ es)) (sym (append_assoc ts us later))
+          (subst (BeginsTurns a.world.base a.events (ts ++ (us ++ later))) (sym (append_assoc s.more t.more es)) (s.begins (us ++ later) (t.more ++ es) on));
     }
 
 -- ---- rounds
@@ -197,24 +221,25 @@ run_falls base m (e ∷ events) m' reached some run =
 pub true_false : (b : Bool) → b ≡ true → b ≡ false → ⊥
 true_false b t f = absurd (cc)
 
-pub round_falls : (old new : Recording) → IsRecording old → SomeLeft old.world → HadTurns old (first_numbers (length old.world.base.plan)) new → weight new.world.base new.world.machine < weight old.world.base old.world.machine
-round_falls old new is left had =
-    subst (λ b. weight b new.world.machine < weight old.world.base old.world.machine) (sym had.base)
-    (run_falls old.world.base old.world.machine had.more new.world.machine (record { events = old.events; run = is.run })
-    (λ none. true_false (has_left old.world.base old.world.machine left.shell) left.left (had.idle none left.shell (first_contains (length old.world.base.plan) left.shell left.within))) had.run)
+pub round_falls : (old new : Running) → IsReached old.base old.machine → SomeLeft old → RunsBy old (first_numbers (length old.base.plan)) new → weight new.base new.machine < weight old.base old.machine
+round_falls old new reached left runs =
+    subst (λ b. weight b new.machine < weight old.base old.machine) (sym runs.base)
+    (run_falls old.base old.machine runs.more new.machine reached
+    (λ none. true_false (has_left old.base old.machine left.shell) left.left (runs.idle none left.shell (first_contains (length old.base.plan) left.shell left.within))) runs.run)
 
 -- some rounds so far
-pub record Rounds (old new : Recording) : Type 0 where
+pub record Rounds (old new : Play) : Type 0 where
   pub recording : IsRecording new
   pub base : new.world.base ≡ old.world.base
   pub more : List Event
   pub events : new.events ≡ old.events ++ more
   pub takes : (events : List Event) → TakesTurns old.world.base new.events [] events → TakesTurns old.world.base old.events [] (more ++ events)
+  pub begins : (events : List Event) → BeginsTurns old.world.base new.events [] events → BeginsTurns old.world.base old.events [] (more ++ events)
 
-pub rounds_none : (r : Recording) → IsRecording r → Rounds r r
-rounds_none r is = record { recording = is; base = refl; more = []; events = sym (append-nil r.events); takes = λ es t. t }
+pub rounds_none : (r : Play) → IsRecording r → Rounds r r
+rounds_none r is = record { recording = is; base = refl; more = []; events = sym (append-nil r.events); takes = λ es t. t; begins = λ es t. t }
 
-pub rounds_more : (a b c : Recording) → Rounds a b → SomeLeft b.world → HadTurns b (first_numbers (length b.world.base.plan)) c → Rounds a c
+pub rounds_more : (a b c : Play) → Rounds a b → SomeLeft b.world → HadTurns b (first_numbers (length b.world.base.plan)) c → Rounds a c
 rounds_more a b c r left had = record {
   recording = had.recording;
   base = had.base ∙ r.base;
@@ -226,9 +251,15 @@ rounds_more a b c r left had = record {
       subst (λ turns. TakesTurns b.world.base b.events turns (had.more ++ es)) (append-nil (first_numbers (length b.world.base.plan))) (had.takes [] es here) in
       let round : TakesTurns b.world.base b.events [] (had.more ++ es) = a_round left.shell (recorded_more b r.recording left.shell ∙ left.left) turns in
       subst (TakesTurns a.world.base a.events []) (sym (append_assoc r.more had.more es)) (r.takes (had.more ++ es) (subst (λ base. TakesTurns base b.events [] (had.more ++ es)) r.base round));
+  begins = λ es t.
+      let here : BeginsTurns b.world.base c.events [] es = subst (λ base. BeginsTurns base c.events [] es) (sym r.base) t in
+      let turns : BeginsTurns b.world.base b.events (first_numbers (length b.world.base.plan)) (had.more ++ es) =
+      subst (λ turns. BeginsTurns b.world.base b.events turns (had.more ++ es)) (append-nil (first_numbers (length b.world.base.plan))) (had.begins [] es here) in
+      let round : BeginsTurns b.world.base b.events [] (had.more ++ es) = next_round left.shell (recorded_more b r.recording left.shell ∙ left.left) turns in
+      subst (BeginsTurns a.world.base a.events []) (sym (append_assoc r.more had.more es)) (r.begins (had.more ++ es) (subst (λ base. BeginsTurns base b.events [] (had.more ++ es)) r.base round));
 }
 
-pub rounds_over : (a b : Recording) → Rounds a b → ((k : ℕ) → has_left b.world.base b.world.machine k ≡ false) → HadRounds a b
+pub rounds_over : (a b : Play) → Rounds a b → ((k : ℕ) → has_left b.world.base b.world.machine k ≡ false) → HadRounds a b
 rounds_over a b r none = record {
   recording = r.recording;
   base = r.base;
@@ -236,10 +267,5 @@ rounds_over a b r none = record {
   events = r.events;
   over = none;
   takes = subst (TakesTurns a.world.base a.events []) (append-nil r.more) (r.takes [] (subst (λ base. TakesTurns base b.events [] []) r.base (all_over (λ k. recorded_more b r.recording k ∙ none k))));
+  begins = subst (BeginsTurns a.world.base a.events []) (append-nil r.more) (r.begins [] stops);
 }
-
-pub turn_more : (a b c : Recording) (n : ℕ) → HadTurns a (first_numbers n) b → HadTurns b (n ∷ []) c → HadTurns a (first_numbers (n + 1)) c
-turn_more a b c n s t = let next : suc n ≡ n + 1 = omega arith in subst (λ m. HadTurns a (first_numbers m) c) next (had_then a b c (first_numbers n) (n ∷ []) s t)
-
-pub schedule_more : (a b c : Recording) (schedule : List ℕ) (i : ℕ) → i < length schedule → HadTurns a (take i schedule) b → HadTurns b (get_or schedule i 0 ∷ []) c → HadTurns a (take (i + 1) schedule) c
-schedule_more a b c schedule i h s t = subst (λ ts. HadTurns a ts c) (sym (take_more schedule i 0 h)) (had_then a b c (take i schedule) (get_or schedule i 0 ∷ []) s t)

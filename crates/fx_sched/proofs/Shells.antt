@@ -7,23 +7,21 @@ use Rattle.std.specs.FinMap.{get}
 use Rattle.std.specs.List.{Contains, IsDistinct}
 use Rattle.std.specs.Option.{option_map}
 use Rattle.std.proofs.lemmas.Option.{none-some, same_Some, slice_get_within}
-use Rattle.std.proofs.lemmas.List.{append-nil}
 use Rattle.fx_store.specs.declared.node.Node.{Node}
 use Rattle.fx_store.specs.Names.{IsPath}
 use Rattle.fx_store.specs.Rule.{Known, first_unknown}
-use Rattle.fx_store.specs.Whole.{Nodes, IsWhole}
-use Rattle.fx_spec.specs.CommandTree.{CommandTree}
-use Rattle.fx_spec.specs.Plans.{Turn, txn_of}
+use Rattle.fx_store.specs.Whole.{Nodes}
+use Rattle.fx_spec.specs.Plans.{Turn}
 use Rattle.fx_spec.specs.Order.{BaseTree, Changes, numbers_of}
 use Rattle.fx_spec.specs.Transaction.{way}
 use Rattle.fx_spec.proofs.Orders.{state-front, numbers_own}
 use Rattle.fx_view.specs.ReadList.{ReadList}
-use Rattle.fx_view.specs.OwnList.{OwnList}
 use Rattle.fx_view.specs.Reads.{read_at, known_of, IsRead, IsReads, Agrees, placed, nodes_in}
 use Rattle.fx_view.proofs.Growing.{agrees_before, read_known}
 use Rattle.fx_view.proofs.Lookups.{placed_once}
 use Rattle.fx_machine.specs.declared.attempt.Attempt.{Attempt}
-use Rattle.fx_machine.specs.Explained.{IsExplained, RunsAs, IsNew}
+use Rattle.fx_machine.specs.Explained.{IsExplained, RunsAs}
+use Rattle.fx_machine.specs.declared.retry.Retry.{Retry}
 use Rattle.fx_machine.specs.declared.event.Event.{Event}
 use Rattle.fx_machine.specs.declared.event.Event.TheVariants as event
 use Rattle.fx_machine.specs.Machine.{next_number}
@@ -36,9 +34,9 @@ use Rattle.fx_board.proofs.Settling.{stands_now}
 use Rattle.fx_sched.specs.declared.shell.Plan.{Plan}
 use Rattle.fx_sched.specs.declared.shell.Shell.{Shell}
 use Rattle.fx_sched.specs.Present.{AreNow, IsNowIn}
-use Rattle.fx_sched.specs.Shells.{looked_in, attempt_of, StoodThen, IsPlan, IsShell, IsReady, HasLooksOf}
-use Rattle.fx_sched.specs.Moves.{AllRead, HasLooked, HasSettled, HasRestarted, Moved}
-use Rattle.fx_sched.proofs.Looks.{all_read, read_more_cases, once_more, true_more, true_longer}
+use Rattle.fx_sched.specs.Shells.{looked_in, attempt_of, IsPlan, IsShell, IsReady, HasLooksOf}
+use Rattle.fx_sched.specs.Moves.{AllRead, HasLooked, HasSettled, HasRestarted, Moved, retry_of}
+use Rattle.fx_sched.proofs.Looks.{all_read, read_more_cases, once_more, true_more}
 
 abbrev Path : Type 0
 Path = List (List ℕ)
@@ -138,8 +136,9 @@ fits_more base turn reads path read fit needed t planned nodes whole agrees p is
 
 -- ---- the shell
 
-abbrev pub shell_of : ℕ → ℕ → ReadList → Option Plan → Shell
-shell_of next looked reads plan = record { next = next; looked = looked; reads = reads; plan = plan }
+abbrev pub shell_of : ℕ → ℕ → ReadList → Option Plan → List Retry → Shell
+shell_of next looked reads plan retries =
+    record { next = next; looked = looked; reads = reads; plan = plan; retries = retries }
 
 plan_in : (log : Log) (number : ℕ) (s : Shell) (o : Option Plan) (p : Plan) → o ≡ Some p → IfSome o (IsPlan log number s) → IsPlan log number s p
 plan_in log number s None p e is = absurd (none-some p e)
@@ -192,11 +191,12 @@ has_looked log number s r path position is ready at p e valid =
       now = e;
       txn = refl;
       looked = looks_on s r position (get (last_state log) r.0) at (ready.now r at) ∙ ap (λ p. looked_in s ++ (p, (get (last_state log) p, position)) ∷ []) (sym p);
+      retries = refl;
     }
 
 -- a shell without a plan, that has these looks
-pub unplanned : (log : Log) (number : ℕ) (s : Shell) (reads : ReadList) → IsShell log number s → s.looked ≤ length reads → take s.looked reads ≡ looked_in s → IsShell log number (shell_of s.next s.looked reads None)
-unplanned log number s reads is within same = record {
+pub unplanned : (log : Log) (number : ℕ) (s : Shell) (reads : ReadList) (retries : List Retry) → IsShell log number s → s.looked ≤ length reads → take s.looked reads ≡ looked_in s → IsShell log number (shell_of s.next s.looked reads None retries)
+unplanned log number s reads retries is within same = record {
   next = is.next;
   within = within;
   once = subst IsReads (sym same) is.once;
@@ -229,15 +229,15 @@ module _ (log : Log) (number : ℕ) (s : Shell) (is : IsShell log number s) (loo
   looks_within reads more kept = omega (arith, long, ap length kept, length-append looks more)
 
   -- where no plan could be made
-  pub unplanned_shell : (reads more : ReadList) → reads ≡ looks ++ more → IsShell log number (shell_of s.next s.looked reads None)
-  unplanned_shell reads more kept = unplanned log number s reads is (looks_within reads more kept) (looks_kept reads more kept)
+  pub unplanned_shell : (reads more : ReadList) → reads ≡ looks ++ more → IsShell log number (shell_of s.next s.looked reads None s.retries)
+  unplanned_shell reads more kept = unplanned log number s reads s.retries is (looks_within reads more kept) (looks_kept reads more kept)
 
   module _ (base : BaseTree) (b : base ≡ log.base) (a : Attempt) (once : IsReads a.reads) (whose : a.shell ≡ number) (txn : a.txn ≡ s.next) (now : IsNowIn log looks a.reads) (explained : IsExplained base a) (foretold : Foretells base (number, s.next) looks a.reads) (made : ℕ) (made_is : made ≡ length log.order) where
     abbrev pub made_plan : Plan
     made_plan = record { made = made; changes = a.changes; outputs = a.outputs; end = a.end }
 
     abbrev pub planned : Shell
-    planned = shell_of s.next s.looked a.reads (Some made_plan)
+    planned = shell_of s.next s.looked a.reads (Some made_plan) s.retries
 
     same_looks : looked_in planned ≡ looked_in s
     same_looks = looks_kept a.reads now.more now.kept
@@ -308,9 +308,9 @@ own_next log number txn e =
 
 -- ---- a shell that begins, and one whose log has grown
 
-pub fresh_shell : (log : Log) (number next : ℕ) (reads : ReadList) → next ≡ next_number log.order number → IsShell log number (shell_of next 0 reads None)
+pub fresh_shell : (log : Log) (number next : ℕ) (reads : ReadList) (retries : List Retry) → next ≡ next_number log.order number → IsShell log number (shell_of next 0 reads None retries)
 unfolding IsDistinct
-fresh_shell log number next reads e = record {
+fresh_shell log number next reads retries e = record {
   next = e;
   within = omega arith;
   once = tt;
@@ -331,13 +331,13 @@ longer_plan log number shell txn s (Some p) is = record {
 
 -- ---- the shell after a look, as the code leaves it
 
-pub looked_as : (log : Log) (number : ℕ) (s : Shell) (r : Row) (position : ℕ) (reads : ReadList) → IsShell log number s → IsReady log s → slice_get s.reads s.looked ≡ Some r → position ≡ length log.order → reads ≡ placed s.looked position s.reads → IsShell log number (shell_of s.next (s.looked + 1) reads s.plan)
+pub looked_as : (log : Log) (number : ℕ) (s : Shell) (r : Row) (position : ℕ) (reads : ReadList) → IsShell log number s → IsReady log s → slice_get s.reads s.looked ≡ Some r → position ≡ length log.order → reads ≡ placed s.looked position s.reads → IsShell log number (shell_of s.next (s.looked + 1) reads s.plan s.retries)
 looked_as log number s r position reads is ready at e same =
-    subst (λ rs. IsShell log number (shell_of s.next (s.looked + 1) rs s.plan)) (sym (same ∙ ap (λ p. placed s.looked p s.reads) e)) (looked_shell log number s r is ready at)
+    subst (λ rs. IsShell log number (shell_of s.next (s.looked + 1) rs s.plan s.retries)) (sym (same ∙ ap (λ p. placed s.looked p s.reads) e)) (looked_shell log number s r is ready at)
 
-pub has_looked_as : (log : Log) (number : ℕ) (s : Shell) (r : Row) (path : Path) (position : ℕ) (reads : ReadList) → IsShell log number s → IsReady log s → slice_get s.reads s.looked ≡ Some r → path ≡ r.0 → position ≡ length log.order → IsPath path → reads ≡ placed s.looked position s.reads → HasLooked log log number s path position (shell_of s.next (s.looked + 1) reads s.plan)
+pub has_looked_as : (log : Log) (number : ℕ) (s : Shell) (r : Row) (path : Path) (position : ℕ) (reads : ReadList) → IsShell log number s → IsReady log s → slice_get s.reads s.looked ≡ Some r → path ≡ r.0 → position ≡ length log.order → IsPath path → reads ≡ placed s.looked position s.reads → HasLooked log log number s path position (shell_of s.next (s.looked + 1) reads s.plan s.retries)
 has_looked_as log number s r path position reads is ready at p e valid same =
-    subst (λ rs. HasLooked log log number s path position (shell_of s.next (s.looked + 1) rs s.plan)) (sym same) (has_looked log number s r path position is ready at p e valid)
+    subst (λ rs. HasLooked log log number s path position (shell_of s.next (s.looked + 1) rs s.plan s.retries)) (sym same) (has_looked log number s r path position is ready at p e valid)
 
 -- ---- the shell after a settle
 
@@ -347,22 +347,22 @@ take_whole [] (suc n) h = refl
 take_whole (r ∷ reads) zero h = absurd (omega arith)
 take_whole (r ∷ reads) (suc n) h = ap (λ rs. r ∷ rs) (take_whole reads n (omega arith))
 
-module _ (log new : Log) (number : ℕ) (s : Shell) (is : IsShell log number s) (o : Option Plan) (none : o ≡ None) where
+module _ (log new : Log) (number : ℕ) (s : Shell) (is : IsShell log number s) (o : Option Plan) (none : o ≡ None) (retries : List Retry) where
   -- its number is the next one's
-  pub settled_shell : (reads : ReadList) → new ≡ settled log number s.next → IsShell new number (shell_of (s.next + 1) 0 reads o)
+  pub settled_shell : (reads : ReadList) → new ≡ settled log number s.next → IsShell new number (shell_of (s.next + 1) 0 reads o retries)
   settled_shell reads grown =
       let next : s.next + 1 ≡ next_number (settled log number s.next).order number = add-one s.next ∙ own_next log number s.next is.next in
-      subst (λ o. IsShell new number (shell_of (s.next + 1) 0 reads o)) (sym none) (subst (λ log. IsShell log number (shell_of (s.next + 1) 0 reads None)) (sym grown) (fresh_shell (settled log number s.next) number (s.next + 1) reads next))
+      subst (λ o. IsShell new number (shell_of (s.next + 1) 0 reads o retries)) (sym none) (subst (λ log. IsShell log number (shell_of (s.next + 1) 0 reads None retries)) (sym grown) (fresh_shell (settled log number s.next) number (s.next + 1) reads retries next))
 
   -- it starts again
-  pub restarted_shell : (reads : ReadList) → new ≡ log → IsShell new number (shell_of s.next 0 reads o)
+  pub restarted_shell : (reads : ReadList) → new ≡ log → IsShell new number (shell_of s.next 0 reads o retries)
   restarted_shell reads same =
-      subst (λ o. IsShell new number (shell_of s.next 0 reads o)) (sym none) (subst (λ log. IsShell log number (shell_of s.next 0 reads None)) (sym same) (fresh_shell log number s.next reads is.next))
+      subst (λ o. IsShell new number (shell_of s.next 0 reads o retries)) (sym none) (subst (λ log. IsShell log number (shell_of s.next 0 reads None retries)) (sym same) (fresh_shell log number s.next reads retries is.next))
 
   -- it has its looks back
-  pub refused_shell : (reads : ReadList) → new ≡ log → reads ≡ s.reads → IsShell new number (shell_of s.next s.looked reads o)
+  pub refused_shell : (reads : ReadList) → new ≡ log → reads ≡ s.reads → IsShell new number (shell_of s.next s.looked reads o retries)
   refused_shell reads same r =
-      subst (λ o. IsShell new number (shell_of s.next s.looked reads o)) (sym none) (subst (λ log. IsShell log number (shell_of s.next s.looked reads None)) (sym same) (unplanned log number s reads is (omega (arith, is.within, ap length r)) (ap (take s.looked) r)))
+      subst (λ o. IsShell new number (shell_of s.next s.looked reads o retries)) (sym none) (subst (λ log. IsShell log number (shell_of s.next s.looked reads None retries)) (sym same) (unplanned log number s reads retries is (omega (arith, is.within, ap length r)) (ap (take s.looked) r)))
 
 module _ (log new : Log) (number : ℕ) (s t : Shell) (is : IsShell log number s) (ready : IsReady log s) (past : length s.reads ≤ s.looked) (reads : ReadList) (r : reads ≡ s.reads) where
   whole : reads ≡ looked_in s
@@ -373,54 +373,68 @@ module _ (log new : Log) (number : ℕ) (s t : Shell) (is : IsShell log number s
       let plan : IsPlan log number s ready.plan = plan_in log number s s.plan ready.plan ready.there is.plan in
       subst (AllRead log.base (number, s.next)) (sym (take_whole s.reads s.looked past)) (all_read log.base (attempt_of number s ready.plan) plan.explained)
 
-  pub has_settled : (entry : ℕ) → IsFreshReads log.base log.order reads → entry ≡ length log.order → new ≡ settled log number s.next → t.next ≡ s.next + 1 → looked_in t ≡ [] → HasSettled log new number s entry t
-  has_settled entry fresh now grown txn none = record {
+  pub has_settled : (entry : ℕ) → IsFreshReads log.base log.order reads → entry ≡ length log.order → new ≡ settled log number s.next → t.next ≡ s.next + 1 → looked_in t ≡ [] → t.retries ≡ s.retries → HasSettled log new number s entry t
+  has_settled entry fresh now grown txn none retries = record {
     ready = ready_all;
     fresh = subst (IsFreshReads log.base log.order) whole fresh;
     now = now;
     log = grown;
     txn = txn ∙ add-one s.next;
     none = none;
+    retries = retries;
   }
 
-  pub has_restarted : (entry : ℕ) (path : Path) → IsStaleRead log.base log.order reads entry path → new ≡ log → t.next ≡ s.next → looked_in t ≡ [] → HasRestarted log new number s entry path t
-  has_restarted entry path stale same txn none = record {
+  pub has_restarted : (entry : ℕ) (path : Path) → IsStaleRead log.base log.order reads entry path → new ≡ log → t.next ≡ s.next → looked_in t ≡ [] → t.retries ≡ s.retries ++ retry_of number s.next entry path ∷ [] → HasRestarted log new number s entry path t
+  has_restarted entry path stale same txn none retries = record {
     ready = ready_all;
     stale = subst (λ rs. IsStaleRead log.base log.order rs entry path) whole stale;
     log = same;
     txn = txn;
     none = none;
+    retries = retries;
   }
 
 -- ---- a move from a shell with the same looks
 
 pub moved_from : (old new : Log) (number : ℕ) (s mid : Shell) (e : Event) (t : Shell) → HasLooksOf s mid → Moved old new number mid e t → Moved old new number s e t
-moved_from old new number s mid (event.Look k path position) t same m = (m.0, record {
-  log = m.1.log;
-  valid = m.1.valid;
-  next = subst (λ n. IsNext old.base (number, n) (looked_in s) path) same.next (subst (λ rs. IsNext old.base (number, mid.next) rs path) same.looked m.1.next);
-  now = m.1.now;
-  txn = m.1.txn ∙ same.next;
-  looked = m.1.looked ∙ ap (λ rs. rs ++ (path, (get (last_state old) path, position)) ∷ []) same.looked;
-})
-moved_from old new number s mid (event.Settled k entry) t same m = (m.0, record {
-  ready = subst (λ n. AllRead old.base (number, n) (looked_in s)) same.next (subst (AllRead old.base (number, mid.next)) same.looked m.1.ready);
-  fresh = subst (IsFreshReads old.base old.order) same.looked m.1.fresh;
-  now = m.1.now;
-  log = m.1.log ∙ ap (settled old number) same.next;
-  txn = m.1.txn ∙ ap suc same.next;
-  none = m.1.none;
-})
-moved_from old new number s mid (event.Conflict k entry path) t same m = (m.0, record {
-  ready = subst (λ n. AllRead old.base (number, n) (looked_in s)) same.next (subst (AllRead old.base (number, mid.next)) same.looked m.1.ready);
-  stale = subst (λ rs. IsStaleRead old.base old.order rs entry path) same.looked m.1.stale;
-  log = m.1.log;
-  txn = m.1.txn ∙ same.next;
-  none = m.1.none;
-})
+moved_from old new number s mid (event.Look k path position) t same m = (
+  m.0,
+  record {
+    log = m.1.log;
+    valid = m.1.valid;
+    next = subst (λ n. IsNext old.base (number, n) (looked_in s) path) same.next (subst (λ rs. IsNext old.base (number, mid.next) rs path) same.looked m.1.next);
+    now = m.1.now;
+    txn = m.1.txn ∙ same.next;
+    retries = m.1.retries ∙ same.retries;
+    looked = m.1.looked ∙ ap (λ rs. rs ++ (path, (get (last_state old) path, position)) ∷ []) same.looked;
+  },
+)
+moved_from old new number s mid (event.Settled k entry) t same m = (
+  m.0,
+  record {
+    ready = subst (λ n. AllRead old.base (number, n) (looked_in s)) same.next (subst (AllRead old.base (number, mid.next)) same.looked m.1.ready);
+    fresh = subst (IsFreshReads old.base old.order) same.looked m.1.fresh;
+    now = m.1.now;
+    log = m.1.log ∙ ap (settled old number) same.next;
+    txn = m.1.txn ∙ ap suc same.next;
+    none = m.1.none;
+    retries = m.1.retries ∙ same.retries;
+  },
+)
+moved_from old new number s mid (event.Conflict k entry path) t same m = (
+  m.0,
+  record {
+    ready = subst (λ n. AllRead old.base (number, n) (looked_in s)) same.next (subst (AllRead old.base (number, mid.next)) same.looked m.1.ready);
+    stale = subst (λ rs. IsStaleRead old.base old.order rs entry path) same.looked m.1.stale;
+    log = m.1.log;
+    txn = m.1.txn ∙ same.next;
+    none = m.1.none;
+    retries = m.1.retries ∙ (ap (λ rs. rs ++ retry_of number mid.next entry path ∷ []) same.retries ∙ ap (λ n. s.retries ++ retry_of number n entry path ∷ []) same.next);
+  },
+)
 
 pub moves_from : (old new : Log) (number : ℕ) (s mid : Shell) (t : Shell) (r : Result Event NoMemory) → HasLooksOf s mid → IfOk r (λ e. Moved old new number mid e t) → IfOk r (λ e. Moved old new number s e t)
 moves_from old new number s mid t r same m = IfOk-weaker r (λ e. Moved old new number mid e t) (λ e. Moved old new number s e t) (λ e h. moved_from old new number s mid e t same h) m
 
 pub looks_then : (s mid t : Shell) → HasLooksOf s mid → HasLooksOf mid t → HasLooksOf s t
-looks_then s mid t a b = record { next = b.next ∙ a.next; looked = b.looked ∙ a.looked }
+looks_then s mid t a b = record { next = b.next ∙ a.next; looked = b.looked ∙ a.looked; retries = b.retries ∙ a.retries }

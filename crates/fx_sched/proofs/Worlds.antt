@@ -1,29 +1,27 @@
 -- A step of one shell is a step of its world.
-use Rattle.std.proofs.Common.{◌≡◌, ◌≢◌, ℕ, zero, suc, ◌<◌, ◌≤◌, List, [], ◌∷◌, ◌++◌, map, length, get_or, set, replicate, slice_get, Option, Some, None, IsSome, is_some, Result, Ok, Err, refl, sym, ap, subst, ◌∙◌, arith, length-append}
+use Rattle.std.proofs.Common.{◌≡◌, ◌≢◌, ℕ, zero, suc, ◌<◌, ◌≤◌, List, [], ◌∷◌, ◌++◌, map, length, get_or, set, replicate, slice_get, Option, Some, None, IsSome, is_some, Result, Ok, Err, refl, sym, ap, subst, ◌∙◌, arith}
 use Rattle.std.specs.Prelude.{OnErr}
 use Rattle.std.specs.FinMap.{get}
-use Rattle.std.specs.List.{IsDistinct}
 use Rattle.std.proofs.lemmas.Bool.{ne_eqb}
-use Rattle.std.proofs.lemmas.List.{map-append, map-set, set-get_or, length-set, length-replicate}
+use Rattle.std.proofs.lemmas.List.{map-append, map-set, length-set, length-replicate}
 use Rattle.std.proofs.lemmas.Option.{none-some, same_Some, slice_get-get_or, slice_get_past}
 use Rattle.fx_spec.specs.declared.base.Base.{Base}
 use Rattle.fx_spec.specs.Bases.{base_tree}
 use Rattle.fx_spec.specs.CommandTree.{CommandTree}
 use Rattle.fx_spec.specs.Plans.{Turn, txn_of, script_of, count_of}
-use Rattle.fx_spec.specs.Order.{BaseTree, numbers_of}
-use Rattle.fx_spec.proofs.Orders.{numbers_own, numbers_other}
-use Rattle.fx_view.specs.ReadList.{ReadList}
+use Rattle.fx_spec.specs.Order.{BaseTree}
+use Rattle.fx_spec.proofs.Orders.{numbers_other}
 use Rattle.fx_machine.specs.declared.event.Event.{Event}
 use Rattle.fx_machine.specs.declared.event.Event.TheVariants as event
+use Rattle.fx_machine.specs.declared.retry.Retry.{Retry}
 use Rattle.fx_machine.specs.Laws.{IsReached}
 use Rattle.fx_machine.specs.Machine.{Machine, Look, Looks, Settles, Restarts, Step, Run, looks_of, position_at, next_number, next_txn, ComesNext, HasSeenAll, IsFresh, IsStaleAt, resting, shell_of}
-use Rattle.fx_run.specs.Running.{ReadsFit}
 use Rattle.fx_board.specs.Board.{last_state, settled, started}
 use Rattle.fx_board.specs.Log.{Log}
 use Rattle.fx_sched.specs.declared.shell.Shell.{Shell}
 use Rattle.fx_sched.specs.Shells.{looks_in, looked_in, IsShell, HasLooksOf}
-use Rattle.fx_sched.specs.World.{machine_of, running_of, IsWorld, new_shell, began, Leads}
-use Rattle.fx_sched.specs.Moves.{Moved}
+use Rattle.fx_sched.specs.World.{machine_of, running_of, noted, IsWorld, new_shell, began, Leads}
+use Rattle.fx_sched.specs.Moves.{Moved, retry_of}
 use Rattle.fx_sched.specs.Running.{Running}
 use Rattle.fx_machine.specs.Measure.{measure, IsLower}
 use Rattle.fx_machine.proofs.Lowering.{events_lower}
@@ -155,6 +153,29 @@ some_txn : (o : Option (List CommandTree)) → IsSome o → (t : List CommandTre
 some_txn None e = absurd (cc)
 some_txn (Some t) e = (t, refl)
 
+-- ---- the retries
+
+abbrev pub retries_in : List Shell → List (List Retry)
+retries_in shells = map (λ (s : Shell). s.retries) shells
+
+retries_same : (shells : List Shell) (number : ℕ) (s t : Shell) → slice_get shells number ≡ Some s → t.retries ≡ s.retries → retries_in (set shells number t) ≡ retries_in shells
+retries_same [] number s t at e = absurd (none-some s at)
+retries_same (x ∷ xs) zero s t at e = ap (λ rs. rs ∷ retries_in xs) (e ∙ ap (λ (s : Shell). s.retries) (sym (same_Some x s at)))
+retries_same (x ∷ xs) (suc number) s t at e = ap (λ ls. x.retries ∷ ls) (retries_same xs number s t at e)
+
+retries_more : (shells : List Shell) (number : ℕ) (s t : Shell) (r : Retry) → slice_get shells number ≡ Some s → t.retries ≡ s.retries ++ r ∷ [] → retries_in (set shells number t) ≡ set (retries_in shells) number (get_or (retries_in shells) number [] ++ r ∷ [])
+retries_more [] number s t r at e = absurd (none-some s at)
+retries_more (x ∷ xs) zero s t r at e = ap (λ rs. rs ∷ retries_in xs) (e ∙ ap (λ (s : Shell). s.retries ++ r ∷ []) (sym (same_Some x s at)))
+retries_more (x ∷ xs) (suc number) s t r at e = ap (λ ls. x.retries ∷ ls) (retries_more xs number s t r at e)
+
+retries_on : (old new : Log) (shells : List Shell) (number : ℕ) (s : Shell) (e : Event) (t : Shell) → IsShell old number s → slice_get shells number ≡ Some s → Moved old new number s e t → retries_in (set shells number t) ≡ noted (next_number new.order number) (retries_in shells) e
+retries_on old new shells number s (event.Look k path position) t is at m = retries_same shells number s t at m.1.retries
+retries_on old new shells number s (event.Settled k entry) t is at m = retries_same shells number s t at m.1.retries
+retries_on old new shells number s (event.Conflict k entry path) t is at m =
+    let txn : s.next ≡ next_number new.order number = is.next ∙ ap (λ (l : Log). next_number l.order number) (sym m.1.log) in
+    retries_more shells number s t (retry_of number s.next entry path) at m.1.retries
+    ∙ (ap (λ n. noted n (retries_in shells) (event.Conflict number entry path)) txn ∙ ap (λ k. noted (next_number new.order number) (retries_in shells) (event.Conflict k entry path)) (sym m.0))
+
 -- ---- what the step ensures
 
 pub leads : (old new : Log) (shells : List Shell) (number : ℕ) (s : Shell) (e : Event) (t : Shell) → IsWorld old shells → slice_get shells number ≡ Some s → IsSome (txn_of old.base.plan (number, s.next)) → IsShell new number t → Moved old new number s e t → Leads (running_of old shells) number (running_of new (set shells number t)) e
@@ -164,6 +185,7 @@ leads old new shells number s e t w at left is m =
       left = ap is_some (planned_next old number s txn.0 (w.each number s at) txn.1);
       whose = whose old new number s e t m;
       base = (kept old new shells number s e t w is m).base;
+      retries = retries_on old new shells number s e t (w.each number s at) at m;
       step = steps old new shells number s txn.0 e t w at txn.1 m;
     }
 
@@ -189,8 +211,9 @@ same_looks (x ∷ xs) (suc number) s t at e = ap (λ ls. shell_looks x ∷ ls) (
 
 pub refused_running : (old new : Log) (shells : List Shell) (number : ℕ) (s t : Shell) → slice_get shells number ≡ Some s → new ≡ old → HasLooksOf s t → running_of new (set shells number t) ≡ running_of old shells
 refused_running old new shells number s t at e same =
-    let with_looks : List (List Look) → Running = λ ls. record { base = old.base; machine = record { order = old.order; looks = ls } } in
-    ap (λ (l : Log). running_of l (set shells number t)) e ∙ ap with_looks (same_looks shells number s t at same.looked)
+    let with : List (List Look) → List (List Retry) → Running = λ ls rs. record { base = old.base; machine = record { order = old.order; looks = ls }; retries = rs } in
+    ap (λ (l : Log). running_of l (set shells number t)) e
+    ∙ (ap (λ ls. with ls (retries_in (set shells number t))) (same_looks shells number s t at same.looked) ∙ ap (with (map shell_looks shells)) (retries_same shells number s t at same.retries))
 
 pub refused_world : (old new : Log) (shells : List Shell) (number : ℕ) (s t : Shell) → IsWorld old shells → slice_get shells number ≡ Some s → new ≡ old → IsShell new number t → HasLooksOf s t → IsWorld new (set shells number t)
 refused_world old new shells number s t w at e is same = record {
@@ -205,6 +228,10 @@ started_looks : (n : ℕ) → map shell_looks (replicate n new_shell) ≡ replic
 started_looks zero = refl
 started_looks (suc n) = ap (λ ls. [] ∷ ls) (started_looks n)
 
+started_retries : (n : ℕ) → retries_in (replicate n new_shell) ≡ replicate n []
+started_retries zero = refl
+started_retries (suc n) = ap (λ ls. [] ∷ ls) (started_retries n)
+
 new_each : (n k : ℕ) (s : Shell) → slice_get (replicate n new_shell) k ≡ Some s → s ≡ new_shell
 new_each zero k s e = absurd (none-some s e)
 new_each (suc n) zero s e = sym (same_Some new_shell s e)
@@ -216,7 +243,7 @@ started_machine base = let with_looks : List (List Look) → Machine = λ ls. re
 pub started_world : (base : BaseTree) → IsWorld (started base) (replicate (length base.plan) new_shell)
 started_world base = record {
   count = length-replicate (length base.plan) new_shell;
-  each = λ k s e. subst (IsShell (started base) k) (sym (new_each (length base.plan) k s e)) (fresh_shell (started base) k 0 [] refl);
+  each = λ k s e. subst (IsShell (started base) k) (sym (new_each (length base.plan) k s e)) (fresh_shell (started base) k 0 [] [] refl);
   reached = record { events = []; run = sym (started_machine base) };
 }
 
@@ -246,9 +273,10 @@ pub started_over : (base read : Base) (log : Log) (shells : List Shell) (count :
 started_over base read log shells count l s n r =
     let count_of : count ≡ length base.plan = n ∙ ap (λ (b : Base). length b.plan) r in
     let shells_are : shells ≡ replicate (length base.plan) new_shell = s ∙ ap (λ n. replicate n new_shell) count_of in
-    let with_machine : Machine → Running = λ m. record { base = base_tree base; machine = m } in (
+    let with : Machine → List (List Retry) → Running = λ m rs. record { base = base_tree base; machine = m; retries = rs } in (
       subst (λ log. IsWorld log shells) (sym l) (subst (IsWorld (started (base_tree base))) (sym shells_are) (started_world (base_tree base))),
-      ap (λ log. running_of log shells) l ∙ ap (running_of (started (base_tree base))) shells_are ∙ ap with_machine (started_machine (base_tree base)),
+      ap (λ log. running_of log shells) l ∙ ap (running_of (started (base_tree base))) shells_are
+          ∙ ap (λ m. with m (retries_in (replicate (length base.plan) new_shell))) (started_machine (base_tree base)) ∙ ap (with (resting (base_tree base) [])) (started_retries (length base.plan)),
     )
 
 pub on_err : {X E : Type 0} (r : Result X E) (P : Type 0) → P → OnErr r P

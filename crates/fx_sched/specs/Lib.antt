@@ -6,3 +6,4 @@ pub mod Traced
 pub mod Moves
 pub mod Recorded
 pub mod Left
+pub mod Taking

@@ -10,6 +10,7 @@ use Rattle.fx_spec.specs.Plans.{Turn, txn_of}
 use Rattle.fx_spec.specs.Transaction.{way}
 use Rattle.fx_view.specs.ReadList.{ReadList}
 use Rattle.fx_view.specs.Reads.{known_of, Agrees}
+use Rattle.fx_machine.specs.declared.retry.Retry.{Retry}
 use Rattle.fx_machine.specs.declared.event.Event.{Event}
 use Rattle.fx_machine.specs.declared.event.Event.TheVariants as event
 use Rattle.fx_run.specs.Running.{IsNext}
@@ -31,6 +32,7 @@ pub record HasLooked (old new : Log) (number : ℕ) (s : Shell) (path : List (Li
   pub now : position ≡ length old.order
   pub txn : t.next ≡ s.next
   pub looked : looked_in t ≡ looked_in s ++ (path, (get (last_state old) path, position)) ∷ []
+  pub retries : t.retries ≡ s.retries
 
 -- the shell's transaction has joined the order, and it goes on to the next one
 pub record HasSettled (old new : Log) (number : ℕ) (s : Shell) (entry : ℕ) (t : Shell) : Type 0 where
@@ -40,6 +42,10 @@ pub record HasSettled (old new : Log) (number : ℕ) (s : Shell) (entry : ℕ) (
   pub log : new ≡ settled old number s.next
   pub txn : t.next ≡ suc s.next
   pub none : looked_in t ≡ []
+  pub retries : t.retries ≡ s.retries
+
+abbrev pub retry_of : ℕ → ℕ → ℕ → List (List ℕ) → Retry
+retry_of shell txn entry path = record { shell = shell; txn = txn; entry = entry; path = path }
 
 -- an entry stood in the way of the shell's transaction, which starts again
 pub record HasRestarted (old new : Log) (number : ℕ) (s : Shell) (entry : ℕ) (path : List (List ℕ)) (t : Shell) : Type 0 where
@@ -48,6 +54,7 @@ pub record HasRestarted (old new : Log) (number : ℕ) (s : Shell) (entry : ℕ)
   pub log : new ≡ old
   pub txn : t.next ≡ s.next
   pub none : looked_in t ≡ []
+  pub retries : t.retries ≡ s.retries ++ retry_of number s.next entry path ∷ []
 
 -- an event of the shell, with the log and the shell before and after it
 abbrev pub Moved : Log → Log → ℕ → Shell → Event → Shell → Type 0

@@ -57,7 +57,8 @@ pub record IsReady (log : Log) (s : Shell) : Type 0 where
   pub there : s.plan ≡ Some plan
   pub now : (r : List (List ℕ) × (Option Node × ℕ)) → slice_get s.reads s.looked ≡ Some r → r.1.0 ≡ get (last_state log) r.0
 
--- the shell has the same transaction, and the same looks
+-- the shell has the same transaction, looks and retries
 pub record HasLooksOf (s t : Shell) : Type 0 where
   pub next : t.next ≡ s.next
   pub looked : looked_in t ≡ looked_in s
+  pub retries : t.retries ≡ s.retries

@@ -4,16 +4,7 @@ use Rattle.fx_spec.specs.Order.{BaseTree, IsComplete, RetriesOk}
 use Rattle.fx_machine.specs.Machine.{Run, resting}
 use Rattle.fx_machine.specs.Tried.{retries_of, retry_tree}
 use Rattle.fx_machine.specs.Turns.{FollowsSchedule}
-use Rattle.fx_sched.specs.declared.recording.Recording.{Recording}
 use Rattle.fx_sched.specs.declared.schedule.Traced.{Traced}
-use Rattle.fx_sched.specs.Recorded.{lists_of, joined}
-
--- a recording's log and events, and its retries by shell
-pub record IsTraceOf (r : Recording) (traced : Traced) : Type 0 where
-  pub base : traced.board.base ≡ r.world.base
-  pub order : traced.board.order ≡ r.world.machine.order
-  pub events : traced.events ≡ r.events
-  pub retries : traced.retries ≡ joined (lists_of r.retried.items)
 
 -- the events are a run of the machine from the start to a complete order with no looks left, by the schedule's turns; the
 -- retries are its conflicts, by shell

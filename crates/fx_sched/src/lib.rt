@@ -3,10 +3,11 @@
 
 mod moves;
 mod present;
-mod recording;
 mod schedule;
 mod shell;
+mod taking;
 mod world;
 
 pub use schedule::{Traced, run_schedule};
+pub use taking::{Ended, Taker, play};
 pub use world::World;

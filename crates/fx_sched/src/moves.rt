@@ -1,14 +1,15 @@
 //! One step of one shell over a log.
-ghost use Rattle.std.specs.Prelude.{◌≡◌, ◌<◌, ◌≤◌, ◌+◌, ◌^◌, true, IfOk, OnErr, OnOk, IsSome, length};
+ghost use Rattle.std.specs.Prelude.{◌≡◌, ◌<◌, ◌≤◌, ◌+◌, ◌^◌, ◌++◌, ◌∷◌, [], true, IfOk, OnErr, OnOk, IsSome, length};
 ghost use Rattle.fx_spec.specs.Plans.{txn_of};
 ghost use Rattle.fx_sched.specs.Shells.{IsShell, IsReady, HasLooksOf};
-ghost use Rattle.fx_sched.specs.Moves.{Moved};
+ghost use Rattle.fx_sched.specs.Moves.{Moved, retry_of};
 
 use crate::present::Present;
 use crate::shell::{Plan, Shell};
 use fx_base::NoMemory;
 use fx_board::{Board, Event, Settle};
-use fx_machine::Attempt;
+use fx_machine::{Attempt, Retries, Retry};
+use fx_store::Path;
 use fx_view::{Reads, Stop};
 use std::alloc::Global;
 use std::mem;
@@ -38,12 +39,7 @@ pub(crate) fn advance(
 }
 
 /// Sees to it that the shell has a plan, and that what this reads next stands there now.
-fn make_ready(
-    alloc: Global,
-    board: &Board,
-    number: u32,
-    shell: &mut Shell,
-) -> Result<(), NoMemory>
+fn make_ready(alloc: Global, board: &Board, number: u32, shell: &mut Shell) -> Result<(), NoMemory>
     requires shell { IsShell board.now number shell.old }
     requires left { IsSome (txn_of board.now.base.plan (number, shell.old.next)) }
     ensures shell { IsShell board.now number shell.new }
@@ -178,18 +174,47 @@ fn settle(
                 path,
                 attempt,
             },
-        ) => {
-            drop(attempt);
-            shell.looked = 0;
-            Ok(Event::Conflict {
-                shell: number,
-                entry,
-                path,
-            })
-        }
+        ) => match note(alloc, &mut shell.retries, number, shell.next, entry, &path) {
+            Ok(()) => {
+                drop(attempt);
+                shell.looked = 0;
+                Ok(Event::Conflict {
+                    shell: number,
+                    entry,
+                    path,
+                })
+            }
+            Err(NoMemory) => {
+                shell.reads = attempt.reads;
+                Err(NoMemory)
+            }
+        },
         Err(Settle::NoMemory(attempt)) => {
             shell.reads = attempt.reads;
             Err(NoMemory)
         }
     }
+}
+
+/// Adds a retry to those of its shell.
+fn note(
+    alloc: Global,
+    retries: &mut Retries,
+    shell: u32,
+    txn: u32,
+    entry: u64,
+    path: &Path,
+) -> Result<(), NoMemory>
+    ensures ok { OnOk result
+        (retries.new ≡ retries.old ++ retry_of shell txn entry path.now ∷ []) }
+    ensures err { OnErr result (retries.new ≡ retries.old) }
+{
+    let path = path.copy(alloc)?;
+    retries.push(Retry {
+        shell,
+        txn,
+        entry,
+        path,
+    })?;
+    Ok(())
 }

@@ -1,11 +1,11 @@
 ghost use Rattle.std.specs.Prelude.{◌≡◌, ◌<◌, true, All, IfOk, length};
 ghost use Rattle.fx_spec.specs.Bases.{base_tree};
-ghost use Rattle.fx_sched.specs.Recorded.{HasPlayed};
-ghost use Rattle.fx_sched.specs.Traced.{IsTraced, IsTraceOf};
+ghost use Rattle.fx_sched.specs.Traced.{IsTraced};
 
-use crate::recording::{Recording, begin, join, take_rounds, take_turns};
+use crate::taking::{Taker, play};
+use crate::world::World;
 use fx_base::NoMemory;
-use fx_board::{Board, Events, Retries};
+use fx_board::{Board, Event, Events, Retries};
 use fx_spec::Base;
 use std::alloc::Global;
 use std::sync::Arc;
@@ -18,32 +18,24 @@ pub struct Traced {
     pub events: Events,
 }
 
-/// A whole run as it was recorded.
-fn recorded(alloc: Global, base: Arc<Base>, schedule: &[u32]) -> Result<Recording, NoMemory>
-    requires shells { All (λ k. k < length base.value.plan) schedule.now }
-    ensures { IfOk result (HasPlayed (base_tree base.value) schedule.now) }
-{
-    let mut recording = begin(alloc, base)?;
-    take_turns(alloc, &mut recording, schedule)?;
-    take_rounds(alloc, &mut recording)?;
-    Ok(recording)
+/// Keeps the events of a run, in order.
+#[derive(Drop)]
+struct Listing {
+    events: Events,
 }
 
-/// What is recorded, with the retries by shell.
-fn gathered(alloc: Global, recording: Recording) -> Result<Traced, NoMemory>
-    ensures { IfOk result (IsTraceOf recording) }
-{
-    let Recording {
-        world,
-        events,
-        retried,
-    } = recording;
-    let retries = join(alloc, retried)?;
-    Ok(Traced {
-        board: world.into_board(),
-        retries,
-        events,
-    })
+impl Taker for Listing {
+    ghost use Rattle.std.specs.Prelude.{⊤};
+
+    type Stop = NoMemory;
+
+    ghost took = { λ listing events running. listing.events ≡ events };
+
+    ghost refused = { λ listing stop events event running. ⊤ };
+
+    fn take(&mut self, _alloc: Global, _world: &World, event: Event) -> Result<(), NoMemory> {
+        self.events.push(event)
+    }
 }
 
 /// Steps the shells of the schedule in order, and then all shells in rounds from 0 on, until none has a transaction left.
@@ -52,6 +44,15 @@ pub fn run_schedule(alloc: Global, base: Arc<Base>, schedule: &[u32]) -> Result<
     requires shells { All (λ k. k < length base.value.plan) schedule.now }
     ensures { IfOk result (IsTraced (base_tree base.value) schedule.now) }
 {
-    let recording = recorded(alloc, base, schedule)?;
-    gathered(alloc, recording)
+    let mut listing = Listing {
+        events: Events::new(alloc),
+    };
+    match play(alloc, base, schedule, &mut listing) {
+        Ok((board, retries)) => Ok(Traced {
+            board,
+            retries,
+            events: listing.events,
+        }),
+        Err(_) => Err(NoMemory),
+    }
 }

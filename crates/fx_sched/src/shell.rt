@@ -1,6 +1,7 @@
 //! A shell between two of its steps.
 
 use fx_expr::Values;
+use fx_machine::Retries;
 use fx_spec::End;
 use fx_store::Changes;
 use fx_view::Reads;
@@ -15,7 +16,7 @@ pub struct Plan {
     pub end: End,
 }
 
-/// A shell: the number of its next transaction, and what was read for it. The first reads, so many, are looks; those after
+/// A shell: the number of its next transaction, what was read for it, and its attempts that had to start again. The first reads, so many, are looks; those after
 /// them are read by the plan.
 #[derive(Drop)]
 pub struct Shell {
@@ -23,4 +24,5 @@ pub struct Shell {
     pub looked: u64,
     pub reads: Reads,
     pub plan: Option<Plan>,
+    pub retries: Retries,
 }

@@ -1,5 +1,8 @@
-ghost use Rattle.std.specs.Prelude.{◌≡◌, ℕ, ◌<◌, true, false, IfOk, IfSome, OnErr, length, replicate};
+ghost use Rattle.std.specs.Prelude.{◌≡◌, ℕ, ◌<◌, true, false, IfOk, IfSome, OnErr, ◌++◌, length, map, replicate};
+ghost use Rattle.fx_sched.specs.declared.shell.Shell.{Shell};
+ghost use Rattle.fx_sched.specs.Recorded.{joined};
 ghost use Rattle.fx_spec.specs.Bases.{base_tree};
+ghost use Rattle.fx_machine.specs.Laws.{IsReached};
 ghost use Rattle.fx_machine.specs.Machine.{next_number};
 ghost use Rattle.fx_machine.specs.Measure.{measure, IsLower, has_left};
 ghost use Rattle.fx_sched.specs.Left.{SomeLeft};
@@ -8,7 +11,7 @@ ghost use Rattle.fx_sched.specs.World.{began, Stepped, IsWorld, new_shell, machi
 use crate::moves::advance;
 use crate::shell::Shell;
 use fx_base::NoMemory;
-use fx_board::{Board, Event};
+use fx_board::{Board, Event, Retries, Retry};
 use fx_spec::Base;
 use fx_view::Reads;
 use std::alloc::Global;
@@ -54,18 +57,20 @@ impl World {
         &self.board
     }
 
-    /// The log alone.
-    pub(crate) fn into_board(self) -> Board
-        ensures { (result.base ≡ self.base) × (result.order ≡ self.machine.order) }
+    /// The log, and the retries of all shells, by shell.
+    pub fn finish(self, alloc: Global) -> Result<(Board, Retries), NoMemory>
+        ensures { IfOk result (λ r. (r.0.base ≡ self.base) × (r.0.order ≡ self.machine.order)
+            × (r.1 ≡ joined self.retries)) }
     {
         let World { board, shells } = self;
-        drop(shells);
-        board
+        let retries = join(alloc, shells)?;
+        Ok((board, retries))
     }
 
     /// The number of shells.
     pub(crate) fn count(&self) -> u32
-        ensures { result ≡ length self.now.base.plan }
+        ensures len { result ≡ length self.now.base.plan }
+        ensures reached { IsReached self.now.base self.now.machine }
     {
         self.board.base().plan.len()
     }
@@ -91,6 +96,7 @@ impl World {
         ensures some { result ≡ true → SomeLeft self.now }
         ensures none { result ≡ false → (k : ℕ)
             → has_left self.now.base self.now.machine k ≡ false }
+        ensures reached { IsReached self.now.base self.now.machine }
     {
         for shell in 0..self.count() {
             if self.is_left(shell) {
@@ -114,6 +120,31 @@ impl World {
     }
 }
 
+/// The retries of all shells, by shell.
+fn join(alloc: Global, shells: Vec<Shell>) -> Result<Retries, NoMemory>
+    ensures { IfOk result (λ retries. retries ≡ joined (map (λ (s : Shell). s.retries) shells.items)) }
+{
+    let mut retries = Retries::new(alloc);
+    for shell in shells {
+        append(alloc, &mut retries, &shell.retries)?;
+    }
+    Ok(retries)
+}
+
+fn append(alloc: Global, retries: &mut Retries, items: &Retries) -> Result<(), NoMemory>
+    ensures { IfOk result (λ _. retries.new ≡ retries.old ++ items.now) }
+{
+    for retry in items {
+        retries.push(Retry {
+            shell: retry.shell,
+            txn: retry.txn,
+            entry: retry.entry,
+            path: retry.path.copy(alloc)?,
+        })?;
+    }
+    Ok(())
+}
+
 fn new_shells(alloc: Global, count: u32) -> Result<Vec<Shell>, NoMemory>
     ensures { IfOk result (λ shells. shells.items ≡ replicate count new_shell) }
 {
@@ -124,6 +155,7 @@ fn new_shells(alloc: Global, count: u32) -> Result<Vec<Shell>, NoMemory>
             looked: 0,
             reads: Reads::new(alloc),
             plan: None,
+            retries: Retries::new(alloc),
         })?;
     }
     Ok(shells)

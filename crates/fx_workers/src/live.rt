@@ -121,6 +121,10 @@ impl<R: Wait, G: Gate> Reader for Live<'_, R, G> {
         Ok(node)
     }
 
+    fn reads(&self) -> &Reads {
+        &self.reads
+    }
+
     fn take_reads(&mut self, alloc: Global) -> Reads {
         let mut taken = Reads::new(alloc);
         std::mem::swap(&mut self.reads, &mut taken);

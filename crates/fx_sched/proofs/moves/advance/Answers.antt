@@ -1,4 +1,4 @@
-use Rattle.fx_sched.proofs.Shells.{moves_from, looks_then}
+use Rattle.fx_sched.proofs.Shells.{moves_from}
 use Rattle.fx_sched.proofs.moves.advance.Goals as goal
 
 pub returns-then-shell-len-clause-ok : goal.returns-then-shell-len-clause-ok
