@@ -62,11 +62,8 @@ impl Formula {
         requires { IsShaped self }
         ensures { IfOk result (λ formula. formula ≡ self) }
     {
-        let Formula { expr, value } = self;
-        if !is_closed(&expr) {
-            return Ok(Formula { expr, value });
-        }
-        let value = closed_value(alloc, &expr)?;
+        let value = value_alone(alloc, &self.expr)?;
+        let Formula { expr, value: _ } = self;
         Ok(Formula { expr, value })
     }
 
@@ -100,6 +97,17 @@ fn is_closed(expr: &Expr) -> bool
         Expr::Un(_, a) => is_closed(a),
         Expr::Choose(test, a, b) => is_closed(test) && is_closed(a) && is_closed(b),
         Expr::Only(a, _) => is_closed(a),
+    }
+}
+
+// The value that an expression has whatever is bound around it; None where a name stands in it, or where it faults.
+fn value_alone(alloc: Global, expr: &Expr) -> Result<Option<Value>, NoMemory>
+    ensures { IfOk result (λ value. IsKept (expr_tree expr.now) (option_map tree_of value)) }
+{
+    if is_closed(expr) {
+        closed_value(alloc, expr)
+    } else {
+        Ok(None)
     }
 }
 
