@@ -1,5 +1,5 @@
 //! A list in chunks that many values may share, so that one item more or less copies one chunk.
-ghost use Rattle.std.specs.Prelude.{◌≡◌, ◌^◌, ◌<◌, ◌≤◌, ◌++◌, ◌∷◌, [], length, slice_get, slice_index_or, IfOk, OnOk, OnErr};
+ghost use Rattle.std.specs.Prelude.{◌≡◌, ◌-◌, ◌^◌, ◌<◌, ◌≤◌, ◌++◌, ◌∷◌, [], length, slice_get, slice_index_or, IfOk, OnOk, OnErr};
 ghost use Rattle.std.specs.Option.{option_copied};
 ghost use Rattle.std.specs.List.{insert, remove};
 ghost use Rattle.std.specs.List.Sorted.{IsSearchInRange, IsBinarySearchResult};
@@ -7,6 +7,7 @@ ghost use Rattle.fx_base.specs.Chunks.{AreChunks, joined, shared_list};
 
 use crate::NoMemory;
 use crate::chunk::Chunk;
+use crate::items::Items;
 use crate::table::{Table, chunk_at};
 use std::alloc::{AllocError, Global};
 use std::cmp::Ordering;
@@ -88,6 +89,27 @@ impl<T> Chunks<T> {
             Some(chunk) => item_at(chunk.items(), i - chunk.before()),
             None => None,
         }
+    }
+
+    /// The items, from the first. It is the way to go over all of them, since `get` searches.
+    pub fn iter(&self) -> Items<'_, T>
+        ensures { result ≡ self.now }
+    {
+        Items {
+            front: &[],
+            chunks: self.as_slice(),
+        }
+    }
+
+    /// The last item, if there is one.
+    pub fn last(&self) -> Option<&T>
+        ensures { option_copied result ≡ slice_get self.now (length self.now - 1) }
+    {
+        let len = self.len();
+        if len == 0 {
+            return None;
+        }
+        self.get(len - 1)
     }
 
     /// Adds an item at the end, in place where nothing else shares the list. A refusal changes nothing.

@@ -149,7 +149,7 @@ impl<T> Table<T> {
         ensures { IfOk result (λ t. t ≡ joined (take k chunks.now) ++ (items.items ++ joined (drop (k + 1) chunks.now))) }
     {
         let mut table = Table {
-            chunks: Vec::with_capacity(alloc, 2)?,
+            chunks: Vec::with_capacity(alloc, chunks.len() + 1)?,
         };
         table.share_all(&chunks[..k])?;
         table.add_cut(alloc, items)?;

@@ -2,39 +2,37 @@
 ghost use Rattle.std.specs.Prelude.{◌≡◌, ◌↔◌, ◌++◌, ◌∷◌, [], length, All, IsTrue, IfOk, OnOk, OnErr, slice_get, option_copied};
 ghost use Rattle.std.specs.List.Sorted.{IsStrictlySortedBy};
 ghost use Rattle.fx_base.specs.Sets.{with_text, without_name};
-ghost use Rattle.fx_base.specs.Shared.{listed};
-ghost use Rattle.fx_store.specs.Names.{IsName, IsNameSet, has, name_cmp};
+ghost use Rattle.fx_store.specs.Names.{IsName, IsNameSet, has, is_above, name_cmp};
 
 use crate::name::{Name, is_name};
-use crate::order::is_above;
-use fx_base::NoMemory;
+use fx_base::{Chunks, Items, NoMemory};
 use std::alloc::{AllocError, Global};
 use std::marker::Model;
-use std::sync::Arc;
 
 /// The names of a directory, each once, in ascending order. A copy shares them, and takes no memory for them.
 #[derive(Debug, Drop)]
 pub struct Names {
-    shared: Option<Arc<Vec<Name>>>,
+    names: Chunks<Name>,
 }
 
 impl Model for Names {
     ghost use Rattle.std.specs.Prelude.{List, ℕ};
-    ghost use Rattle.fx_base.specs.Shared.{listed};
     ghost use Rattle.fx_store.specs.Names.{IsNameSet};
 
     ghost Value = { List (List ℕ) };
 
-    ghost view = { λ s. listed s.shared };
+    ghost view = { λ s. s.names };
 
-    ghost invariant = { λ s. IsNameSet (listed s.shared) };
+    ghost invariant = { λ s. IsNameSet s.names };
 }
 
 impl Names {
-    pub fn new(_alloc: Global) -> Names
+    pub fn new(alloc: Global) -> Names
         ensures { result ≡ [] }
     {
-        Names { shared: None }
+        Names {
+            names: Chunks::new(alloc),
+        }
     }
 
     /// The names of a list, which needs each once and in ascending order.
@@ -43,33 +41,31 @@ impl Names {
         ensures { IfOk result (λ s. s ≡ names.items) }
     {
         Ok(Names {
-            shared: Some(Arc::new(alloc, names)?),
+            names: Chunks::from_vec(alloc, names)?,
         })
-    }
-
-    fn as_slice(&self) -> &[Name]
-        ensures names { result.now ≡ self.now }
-        ensures set { IsNameSet self.now }
-    {
-        match &self.shared {
-            Some(names) => names.as_slice(),
-            None => &[],
-        }
     }
 
     pub fn len(&self) -> u64
         ensures len { result ≡ length self.now }
         ensures set { IsNameSet self.now }
     {
-        self.as_slice().len() as u64
+        self.names.len() as u64
     }
 
-    /// The name at an index, counted from 0 in ascending order.
+    /// The name at an index, counted from 0 in ascending order. It takes a search over the chunks of the set.
     pub fn at(&self, i: u64) -> Option<&Name>
         ensures name { option_copied result ≡ slice_get self.now i }
         ensures set { IsNameSet self.now }
     {
-        self.as_slice().get(i as usize)
+        self.names.get(i as usize)
+    }
+
+    /// The names in ascending order. It is the way to go over all of them, since `at` searches.
+    pub fn iter(&self) -> Items<'_, Name>
+        ensures names { result ≡ self.now }
+        ensures set { IsNameSet self.now }
+    {
+        self.names.iter()
     }
 
     /// Whether a name is one of these, by binary search.
@@ -77,14 +73,14 @@ impl Names {
         ensures found { result ≡ has self.now name.now }
         ensures set { IsNameSet self.now }
     {
-        self.as_slice().binary_search(name).is_ok()
+        self.names.search(name).is_ok()
     }
 
     /// Whether a name is greater than each of these, so that it may be added.
     pub fn is_next(&self, name: &Name) -> bool
         ensures { IsTrue result ↔ IsStrictlySortedBy name_cmp (self.now ++ name.now ∷ []) }
     {
-        is_above(self.as_slice(), name)
+        is_above(&self.names, name)
     }
 
     /// Adds a name at the end, which needs one that is greater than each of these.
@@ -94,20 +90,20 @@ impl Names {
         ensures err { OnErr result (self.new ≡ self.old) }
     {
         prove!(is_name(item.as_slice()));
-        push(alloc, &mut self.shared, item)
+        self.names.push(alloc, item)
     }
 
     /// The set with one name more. Where it has the name it is the same set.
     pub fn with(&self, alloc: Global, name: &Name) -> Result<Names, NoMemory>
         ensures { IfOk result (λ s. s ≡ with_text name.now self.now) }
     {
-        let names = self.as_slice();
-        match names.binary_search(name) {
+        match self.names.search(name) {
             Ok(_) => self.copy(alloc),
             Err(i) => {
-                let mut more = Vec::from_clones(alloc, names)?;
-                more.insert(i, name.copy(alloc)?)?;
-                Names::from_vec(alloc, more)
+                let name = name.copy(alloc)?;
+                Ok(Names {
+                    names: self.names.with(alloc, i, name)?,
+                })
             }
         }
     }
@@ -116,13 +112,10 @@ impl Names {
     pub fn without(&self, alloc: Global, name: &Name) -> Result<Names, NoMemory>
         ensures { IfOk result (λ s. s ≡ without_name name.now self.now) }
     {
-        let names = self.as_slice();
-        match names.binary_search(name) {
-            Ok(i) => {
-                let mut fewer = Vec::from_clones(alloc, names)?;
-                let_go(fewer.remove(i));
-                Names::from_vec(alloc, fewer)
-            }
+        match self.names.search(name) {
+            Ok(i) => Ok(Names {
+                names: self.names.without(alloc, i)?,
+            }),
             Err(_) => self.copy(alloc),
         }
     }
@@ -132,29 +125,19 @@ impl Names {
         ensures set { IsNameSet self.now }
     {
         Ok(Names {
-            shared: self.shared.clone()?,
+            names: self.names.copy()?,
         })
     }
 }
 
-fn let_go(_name: Name) {}
-
-/// Adds a name at the end of a list, which is copied where others share it.
-fn push(alloc: Global, shared: &mut Option<Arc<Vec<Name>>>, item: Name) -> Result<(), NoMemory>
-    ensures ok { OnOk result (listed shared.new ≡ listed shared.old ++ item ∷ []) }
-    ensures err { OnErr result (listed shared.new ≡ listed shared.old) }
+// Whether a name is greater than the last of a set.
+fn is_above(names: &Chunks<Name>, name: &Name) -> bool
+    ensures { result ≡ is_above name_cmp names.now name.now }
 {
-    match shared {
-        Some(items) => {
-            Arc::make_mut(items)?.push(item)?;
-        }
-        None => {
-            let mut items = Vec::new(alloc);
-            items.push(item)?;
-            *shared = Some(Arc::new(alloc, items)?);
-        }
+    match names.last() {
+        Some(last) => last.cmp(name).is_lt(),
+        None => true,
     }
-    Ok(())
 }
 
 impl Clone for Names {
@@ -162,7 +145,7 @@ impl Clone for Names {
 
     fn clone(&self) -> Result<Names, AllocError> {
         Ok(Names {
-            shared: self.shared.clone()?,
+            names: self.names.clone()?,
         })
     }
 }

@@ -2,4 +2,4 @@ use Rattle.fx_store.proofs.Sets.{IsNameSet-none}
 use Rattle.fx_store.proofs.names.Names.new.Goals as goal
 
 pub invariant_of-result : goal.invariant_of-result
-invariant_of-result c = IsNameSet-none
+invariant_of-result c = rw c.new.ensures IsNameSet-none
