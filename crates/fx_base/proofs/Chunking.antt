@@ -1,6 +1,6 @@
 -- What the chunks of a list have to do with it.
-use Rattle.std.proofs.Common.{◌≡◌, ℕ, zero, suc, ◌+◌, ◌-◌, ◌^◌, ◌<◌, ◌≤◌, ◌≢◌, List, [], ◌∷◌, ◌++◌, ◌⊎◌, length, take, drop, get_or, set, Option, Some, None, slice_get, refl, ap, sym, subst, ◌∙◌, inl, inr, arith}
-use Rattle.std.specs.List.{flat_map, insert, remove}
+use Rattle.std.proofs.Common.{◌≡◌, ℕ, zero, suc, ◌+◌, ◌-◌, ◌^◌, ◌<◌, ◌≤◌, ◌≢◌, List, [], ◌∷◌, ◌++◌, ◌⊎◌, length, take, drop, get_or, set, Some, None, slice_get, refl, ap, sym, subst, ◌∙◌, inl, inr, arith}
+use Rattle.std.specs.List.{insert, remove}
 use Rattle.std.proofs.Math.Seq.{split_at}
 use Rattle.std.proofs.lemmas.Bool.{cases_lt}
 use Rattle.std.proofs.lemmas.List.{append-nil, length-append, take_more, take_all, take-append-le, take-set, take-set-le, length-set, get_or_append_left, get_or_at, get_or-set_same, get_or-set_other, drop_all, take_more_set, append_assoc, take-append-drop}
@@ -83,9 +83,9 @@ module _ {X : Type 0} where
     with_last short few = record {
       before = λ j e lt. before j e lt (cases_lt j k);
       few =
-        let a = ap length whole ∙ length-append (joined (take k cs)) c.items in
-        let b = ap length other ∙ length-append (joined (take k cs)) d.items in
-        omega arith;
+          let a = ap length whole ∙ length-append (joined (take k cs)) c.items in
+          let b = ap length other ∙ length-append (joined (take k cs)) d.items in
+          omega arith;
     }
       where
         before : (j : ℕ) (e : Piece X) → j < length (set cs k d) → (j < k) ⊎ (k ≤ j) → (get_or (set cs k d) j e).before ≡ length (joined (take j (set cs k d)))

@@ -1,5 +1,5 @@
 -- A binary search of an ascending list that is read item by item.
-use Rattle.std.proofs.Common.{◌≡◌, ℕ, ◌+◌, ◌-◌, ◌<◌, ◌≤◌, ◌⊎◌, Bool, true, false, List, length, get_or, refl, ap, sym, subst, ◌∙◌, inl, inr, arith}
+use Rattle.std.proofs.Common.{◌≡◌, ℕ, ◌+◌, ◌<◌, ◌≤◌, ◌⊎◌, true, false, List, length, get_or, refl, ap, sym, subst, ◌∙◌, inl, inr, arith}
 use Rattle.std.specs.declared.cmp.Ordering.{Ordering}
 use Rattle.std.specs.declared.cmp.Ordering.TheVariants.{Less, Equal, Greater}
 use Rattle.std.specs.List.{AllWithin, HoldsAt}
@@ -64,4 +64,3 @@ module _ {X : Type 0} (ord : X → Ordering) (xs : List X) where
       first : (k : ℕ) (d : X) → k < base → (base ≡ 0) ⊎ HoldsAt (λ y. is_gt (ord y) ≡ false) xs base → ord (get_or xs k d) ≡ Less
       first k d b (inl e) = absurd (omega arith)
       first k d b (inr q) = absurd (false≢true (sym (q d) ∙ ap is_gt (p d)))
-

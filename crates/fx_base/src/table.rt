@@ -142,11 +142,17 @@ impl<T> Table<T> {
     }
 
     /// These chunks with other items in place of one chunk.
-    pub(crate) fn of(alloc: Global, chunks: &[Chunk<T>], k: usize, items: Vec<T>) -> Result<Table<T>, NoMemory>
+    pub(crate) fn of(
+        alloc: Global,
+        chunks: &[Chunk<T>],
+        k: usize,
+        items: Vec<T>,
+    ) -> Result<Table<T>, NoMemory>
     where
         T: Drop,
         requires { k < length chunks.now }
-        ensures { IfOk result (λ t. t ≡ joined (take k chunks.now) ++ (items.items ++ joined (drop (k + 1) chunks.now))) }
+        ensures { IfOk result
+            (λ t. t ≡ joined (take k chunks.now) ++ (items.items ++ joined (drop (k + 1) chunks.now))) }
     {
         let mut table = Table {
             chunks: Vec::with_capacity(alloc, chunks.len() + 1)?,

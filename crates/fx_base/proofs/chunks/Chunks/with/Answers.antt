@@ -28,11 +28,11 @@ returns-in_ok-of-in-Some g c =
     let le : i ≤ length (joined cs) = omega arith in
     let copies = c.in_ok-items-in-Some.ensures.items_if_clones_equal c.requires.copies ∙ c.items.ensures in
     let edited : c.insert.new.self.items ≡ insert chunk.items (i - chunk.before) c.args.item =
-      c.in_ok-insert-in-Some.ensures.items ∙ (λ j. insert (copies j) (i - c.before-in-Some.ensures j) c.args.item) in
+    c.in_ok-insert-in-Some.ensures.items ∙ (λ j. insert (copies j) (i - c.before-in-Some.ensures j) c.args.item) in
     let whole =
-      ap (λ ys. joined (take k cs) ++ (ys ++ joined (drop (k + 1) cs))) edited
-      ∙ inserted cs c.as_slice-chunks.ensures.chunks i k c.chunk_at-k.ensures chunk (sym c.in-Some.ensures) c.args.item le
-      ∙ ap (λ xs. insert xs i c.args.item) c.as_slice-chunks.ensures.items in
+    ap (λ ys. joined (take k cs) ++ (ys ++ joined (drop (k + 1) cs))) edited
+    ∙ inserted cs c.as_slice-chunks.ensures.chunks i k c.chunk_at-k.ensures chunk (sym c.in-Some.ensures) c.args.item le
+    ∙ ap (λ xs. insert xs i c.args.item) c.as_slice-chunks.ensures.items in
     IfOk-weaker c.of-in-Some.result _ _ (λ s e. e ∙ c.in_ok-of-in-Some.ensures ∙ whole) c.of-in-Some.ensures
 
 pub returns-in_ok-push-in-None : goal.returns-in_ok-push-in-None

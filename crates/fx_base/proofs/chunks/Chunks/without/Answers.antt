@@ -35,9 +35,9 @@ returns g c =
     let lt : i < length (joined cs) = omega arith in
     let copies = c.in_ok-items-in-Some.ensures.items_if_clones_equal c.requires.copies ∙ c.items.ensures in
     let edited : c.remove.new.self.items ≡ remove chunk.items (i - chunk.before) =
-      c.remove.ensures.items ∙ (λ j. remove (copies j) (i - c.before-in-Some.ensures j)) in
+    c.remove.ensures.items ∙ (λ j. remove (copies j) (i - c.before-in-Some.ensures j)) in
     let whole =
-      ap (λ ys. joined (take k cs) ++ (ys ++ joined (drop (k + 1) cs))) edited
-      ∙ removed cs c.as_slice-chunks.ensures.chunks i k c.chunk_at-k.ensures chunk (sym c.in-Some.ensures) lt
-      ∙ ap (λ xs. remove xs i) c.as_slice-chunks.ensures.items in
+    ap (λ ys. joined (take k cs) ++ (ys ++ joined (drop (k + 1) cs))) edited
+    ∙ removed cs c.as_slice-chunks.ensures.chunks i k c.chunk_at-k.ensures chunk (sym c.in-Some.ensures) lt
+    ∙ ap (λ xs. remove xs i) c.as_slice-chunks.ensures.items in
     IfOk-weaker c.of-in-Some.result _ _ (λ s e. e ∙ c.in_ok-of-in-Some.ensures ∙ whole) c.of-in-Some.ensures
