@@ -12,20 +12,21 @@ use Rattle.fx_store.specs.declared.name.PathFault.TheVariants.{BadName, TooDeep}
 use Rattle.fx_store.specs.Faults.{read_link}
 use Rattle.fx_store.specs.Names.{is_name, IsName, IsContent, IsNameSet, IsLinkText, is_component, components}
 use Rattle.fx_store.specs.Resolve.{lands}
-use Rattle.fx_store.specs.Rule.{answer}
+use Rattle.fx_store.specs.Rule.{Ask, answer}
 use Rattle.fx_store.specs.Whole.{Store, IsWhole, IsNode}
 use Rattle.fx_expr.specs.Sets.{set_of}
+use Rattle.fx_expr.specs.ShapeTree.{ShapeTree}
 use Rattle.fx_expr.specs.Tree.{Tree}
 use Rattle.fx_expr.proofs.Canon.{ascending_set, has_set, same_sets}
 use Rattle.fx_expr.proofs.Order.{same_text}
 use Rattle.fx_spec.specs.declared.refusal.Refusal.{Refusal}
 use Rattle.fx_spec.specs.SpecTree.{SpecTree}
-use Rattle.fx_spec.specs.Describe.{file_value, dir_value, link_value}
-use Rattle.fx_spec.specs.Move.{fetched}
+use Rattle.fx_spec.specs.Describe.{file_value, flag_value, dir_value, link_value}
+use Rattle.fx_spec.specs.Move.{Answered, fetch_shape, has_fetch_shape, fetched, of_shape, asks_flag, flag_at, fetch_at}
 use Rattle.fx_spec.specs.Edit.{set_to, names_node, link_node, is_content, stored_node, store_at}
 use Rattle.fx_spec.specs.Place.{PlaceTree}
 use Rattle.fx_laws.specs.Stored.{IsHeld, has_content, FetchedIsAccepted}
-use Rattle.fx_laws.proofs.Stored.{content_there, file_there, dir_there, link_there, same_content_is_accepted}
+use Rattle.fx_laws.proofs.Stored.{content_there, file_there, flag_there, dir_there, link_there, held_of, flag_of_file, of_its_shape, same_content_is_accepted}
 
 both : (a b : Bool) → a ≡ true → b ≡ true → (a && b) ≡ true
 both true b e f = f
@@ -71,32 +72,50 @@ link_stored text ok =
     ap (λ b. cond b (link_node (read_link text)) (Err Refusal.WrongForm)) (content_passes text (omega (arith, short)) ok.bytes)
     ∙ ap link_node (ap (λ b. cond b (cond (nat_lt 64 (length (components text))) (Err TooDeep) (Ok text)) (Err BadName)) ok.form ∙ ap (λ b. cond b (Err TooDeep) (Ok text)) (not_more (length (components text)) ok.short))
 
-accepted : (S : Store) → IsWhole S → (at : PlaceTree) (v : Tree) (node : Node) (q : List (List ℕ)) → IsHeld S at v node q → (q : List (List ℕ)) × (node : Node) × (S q ≡ Some node) × (answer S (store_at v at) ≡ Ok (set_to q node ∷ []))
+-- what is stored there is what is there
+abbrev Accepts : Store → PlaceTree → Tree → Type 0
+Accepts S at v = (q : List (List ℕ)) × (node : Node) × (S q ≡ Some node) × (answer S (store_at v at) ≡ Ok (set_to q node ∷ []))
+
+accepted : (S : Store) → IsWhole S → (at : PlaceTree) (v : Tree) (node : Node) (q : List (List ℕ)) → IsHeld S at v node q → Accepts S at v
 accepted S whole at v node q held = (q, node, held.stands, same_content_is_accepted S whole at v node q held)
 
 -- the node at a path of a whole filestore is within its limits
 node_ok : (S : Store) → IsWhole S → (q : List (List ℕ)) (node : Node) → S q ≡ Some node → IsNode q node
 node_ok S whole q node e = subst (λ n. IfSome n (IsNode q)) e (whole.nodes q)
 
-by_form : (S : Store) → IsWhole S → (at : PlaceTree) (v : Tree) (spec : SpecTree) → at.spec ≡ spec → has_content spec ≡ true → answer S (fetched at.path at.env spec) ≡ Ok v → (q : List (List ℕ)) × (node : Node) × (S q ≡ Some node) × (answer S (store_at v at) ≡ Ok (set_to q node ∷ []))
+by_form : (S : Store) → IsWhole S → (at : PlaceTree) (v : Tree) (spec : SpecTree) → at.spec ≡ spec → has_content spec ≡ true → answer S (fetched at.path at.env spec) ≡ Ok v → Accepts S at v
 by_form S whole at v SpecTree.file is form e =
     let c : (q : List (List ℕ)) × (lands S at.path true ≡ At q) × (file_value (S q) ≡ Some v) = content_there S file_value true at.path v e in
-    let t : (bytes : List ℕ) × (v ≡ Tree.str bytes) × (S c.0 ≡ Some (File bytes false)) = file_there (S c.0) v c.2 in
-    accepted S whole at v (File t.0 exec) c.0 (record { stores = (λ i. stored_node (is i) (t.1 i)) ∙ file_stored t.0 (node_ok S whole c.0 (File t.0 exec) t.2); lands = c.1; stands = t.2 })
+    let t : (bytes : List ℕ) × (exec : Bool) × (v ≡ Tree.str bytes) × (S c.0 ≡ Some (File bytes exec)) = file_there (S c.0) v c.2 in
+    accepted S whole at v (File t.0 t.1) c.0 (held_of S at v (Tree.str t.0) (File t.0 false) (File t.0 false) (File t.0 t.1) c.0 ((λ i. stored_node (is i) (t.2 i)) ∙ file_stored t.0 (node_ok S whole c.0 (File t.0 t.1) t.3)) refl t.2 refl c.1 t.3)
 by_form S whole at v SpecTree.dir is form e =
     let c : (q : List (List ℕ)) × (lands S at.path true ≡ At q) × (dir_value (S q) ≡ Some v) = content_there S dir_value true at.path v e in
     let t : (names : List (List ℕ)) × (v ≡ Tree.names names) × (S c.0 ≡ Some (Dir names)) = dir_there (S c.0) v c.2 in
     let ok : IsNode c.0 (Dir t.0) = node_ok S whole c.0 (Dir t.0) t.2 in
-    accepted S whole at v (Dir t.0) c.0 (record { stores = (λ i. stored_node (is i) (t.1 i)) ∙ dir_stored t.0 ok.0; lands = c.1; stands = t.2 })
+    accepted S whole at v (Dir t.0) c.0 (held_of S at v (Tree.names t.0) (Dir t.0) (Dir t.0) (Dir t.0) c.0 ((λ i. stored_node (is i) (t.1 i)) ∙ dir_stored t.0 ok.0) refl t.1 refl c.1 t.2)
 by_form S whole at v SpecTree.link is form e =
     let c : (q : List (List ℕ)) × (lands S at.path false ≡ At q) × (link_value (S q) ≡ Some v) = content_there S link_value false at.path v e in
     let t : (text : List ℕ) × (v ≡ Tree.str text) × (S c.0 ≡ Some (Link text)) = link_there (S c.0) v c.2 in
-    accepted S whole at v (Link t.0) c.0 (record { stores = (λ i. stored_node (is i) (t.1 i)) ∙ link_stored t.0 (node_ok S whole c.0 (Link t.0) t.2); lands = c.1; stands = t.2 })
+    accepted S whole at v (Link t.0) c.0 (held_of S at v (Tree.str t.0) (Link t.0) (Link t.0) (Link t.0) c.0 ((λ i. stored_node (is i) (t.1 i)) ∙ link_stored t.0 (node_ok S whole c.0 (Link t.0) t.2)) refl t.1 refl c.1 t.2)
 by_form S whole at v (SpecTree.focus t s) is form e = absurd (true≢false (sym form))
 by_form S whole at v (SpecTree.pair x a b) is form e = absurd (true≢false (sym form))
 by_form S whole at v (SpecTree.comp s x t) is form e = absurd (true≢false (sym form))
 by_form S whole at v (SpecTree.opt s) is form e = absurd (true≢false (sym form))
 by_form S whole at v (SpecTree.pred t) is form e = absurd (true≢false (sym form))
 
+-- a flag can be stored at each file
+by_flag : (S : Store) → IsWhole S → (at : PlaceTree) (v : Tree) → at.spec ≡ SpecTree.file → answer S (flag_at at.path) ≡ Ok v → Accepts S at v
+by_flag S whole at v is e =
+    let c : (q : List (List ℕ)) × (lands S at.path true ≡ At q) × (flag_value (S q) ≡ Some v) = content_there S flag_value true at.path v e in
+    let t : (bytes : List ℕ) × (exec : Bool) × (v ≡ Tree.bool exec) × (S c.0 ≡ Some (File bytes exec)) = flag_there (S c.0) v c.2 in
+    accepted S whole at v (File t.0 t.1) c.0 (held_of S at v (Tree.bool t.1) (File [] t.1) (File [] t.1) (File t.0 t.1) c.0 (λ i. stored_node (is i) (t.2 i)) refl t.2 refl c.1 t.3)
+
 pub fetched_is_accepted : FetchedIsAccepted
-fetched_is_accepted S whole at v form e = by_form S whole at v at.spec refl form e
+fetched_is_accepted S whole at shape v content e = by (asks_flag shape at.spec) refl e
+  where
+    form : Ask (Answered Tree)
+    form = of_shape (has_fetch_shape shape (fetch_shape at.spec)) (fetched at.path at.env at.spec)
+
+    by : (b : Bool) → asks_flag shape at.spec ≡ b → answer S (cond b (flag_at at.path) form) ≡ Ok v → Accepts S at v
+    by true asks g = by_flag S whole at v (flag_of_file shape at.spec asks) g
+    by false asks g = by_form S whole at v at.spec refl content (of_its_shape S (has_fetch_shape shape (fetch_shape at.spec)) (fetched at.path at.env at.spec) v g)

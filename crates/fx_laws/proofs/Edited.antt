@@ -18,7 +18,7 @@ use Rattle.fx_store.proofs.Asks.{answer-bind}
 use Rattle.fx_store.proofs.Landings.{landings_are_true}
 use Rattle.fx_store.proofs.Relisted.{rest_at, rest_is, eq_names}
 use Rattle.fx_expr.specs.Sets.{with_text}
-use Rattle.fx_spec.specs.Edit.{set_to, names_of, children, made, make, is_too_deep, create_landed, last_name, without_name, lacks_room, unless_deep, new_names, replaced, store_landed, follows_last, remove_landed}
+use Rattle.fx_spec.specs.Edit.{set_to, names_of, children, made, make, is_too_deep, create_landed, last_name, without_name, lacks_room, unless_deep, new_names, replaced, store_landed, follows_last, remove_landed, is_flag}
 use Rattle.fx_spec.specs.declared.refusal.Refusal.{Refusal}
 use Rattle.fx_spec.specs.Move.{Answered, unrefused, needed}
 use Rattle.fx_spec.proofs.EditLaws.{stored_node_ok, unless-ok, has_room}
@@ -116,14 +116,14 @@ removals_remove S whole at cs e =
 
 pub stores_relist : StoresRelist
 stores_relist S whole at v new q stores landed cs e =
-    let stored : answer S (resolve at.path true >>= store_landed at.path (Dir new)) ≡ Ok cs = sym (ap (λ a. answer S (unrefused (λ node. resolve at.path (follows_last node) >>= store_landed at.path node) a)) stores) ∙ e in
-    let there : answer S (store_landed at.path (Dir new) (At q)) ≡ Ok cs = sym (answer-bind S (resolve at.path true) (store_landed at.path (Dir new)) ∙ ap (λ l. answer S (store_landed at.path (Dir new) l)) landed) ∙ stored in
+    let stored : answer S (resolve at.path true >>= store_landed (is_flag v) at.path (Dir new)) ≡ Ok cs = sym (ap (λ a. answer S (unrefused (λ node. resolve at.path (follows_last node) >>= store_landed (is_flag v) at.path node) a)) stores) ∙ e in
+    let there : answer S (store_landed (is_flag v) at.path (Dir new) (At q)) ≡ Ok cs = sym (answer-bind S (resolve at.path true) (store_landed (is_flag v) at.path (Dir new)) ∙ ap (λ l. answer S (store_landed (is_flag v) at.path (Dir new) l)) landed) ∙ stored in
     go (S q) refl there
   where
     names : IsNameSet new
     names = stored_node_ok at.spec v (Dir new) stores
 
-    go : (x : Option Node) → S q ≡ x → answer S (replaced q (Dir new) x) ≡ Ok cs → (old : Path) × ((S q ≡ Some (Dir old)) × IsRelisted S (over S cs) q old new)
+    go : (x : Option Node) → S q ≡ x → answer S (replaced (is_flag v) q (Dir new) x) ≡ Ok cs → (old : Path) × ((S q ≡ Some (Dir old)) × IsRelisted S (over S cs) q old new)
     go None is f = cc
     go (Some (File b exec)) is f = cc
     go (Some (Link t)) is f = cc
@@ -183,9 +183,9 @@ module _ (S : Store) (here : Path) (n : List ℕ) (names : Path) (node : Node) w
 
 pub stores_make : StoresMake
 stores_make S at v node here n names stores landed cs e =
-    let rule : Ask (Answered (List Change)) = resolve at.path (follows_last node) >>= store_landed at.path node in
-    let stored : answer S rule ≡ Ok cs = sym (ap (λ a. answer S (unrefused (λ node. resolve at.path (follows_last node) >>= store_landed at.path node) a)) stores) ∙ e in
-    made_unless_deep S here n names node cs (sym (answer-bind S (resolve at.path (follows_last node)) (store_landed at.path node) ∙ ap (λ l. answer S (store_landed at.path node l)) landed) ∙ stored)
+    let rule : Ask (Answered (List Change)) = resolve at.path (follows_last node) >>= store_landed (is_flag v) at.path node in
+    let stored : answer S rule ≡ Ok cs = sym (ap (λ a. answer S (unrefused (λ node. resolve at.path (follows_last node) >>= store_landed (is_flag v) at.path node) a)) stores) ∙ e in
+    made_unless_deep S here n names node cs (sym (answer-bind S (resolve at.path (follows_last node)) (store_landed (is_flag v) at.path node) ∙ ap (λ l. answer S (store_landed (is_flag v) at.path node l)) landed) ∙ stored)
 
 pub creations_make : CreationsMake
 creations_make S at node here n names bare landed cs e =

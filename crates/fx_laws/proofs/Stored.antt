@@ -30,9 +30,9 @@ use Rattle.fx_expr.proofs.Order.{same_text}
 use Rattle.fx_spec.specs.declared.refusal.Refusal.{Refusal}
 use Rattle.fx_spec.specs.SpecTree.{SpecTree}
 use Rattle.fx_spec.specs.CommandTree.{ActTree, CommandTree, Block, block, count}
-use Rattle.fx_spec.specs.Describe.{Bindings, file_value, dir_value, link_value, landed_value, content}
-use Rattle.fx_spec.specs.Move.{Answered, unrefused, evaluated, needed, at_place, fetch_shape, has_fetch_shape, fetched, of_shape, fetch_at}
-use Rattle.fx_spec.specs.Edit.{set_to, clear, entry, entries, new_names, lacks_room, unless_deep, replaced, store_landed, names_node, link_node, is_storable, stored_node, follows_last, store_at}
+use Rattle.fx_spec.specs.Describe.{Bindings, file_value, flag_value, dir_value, link_value, landed_value, content}
+use Rattle.fx_spec.specs.Move.{Answered, unrefused, evaluated, needed, at_place, fetch_shape, has_fetch_shape, fetched, of_shape, asks_flag, flag_at, fetch_at}
+use Rattle.fx_spec.specs.Edit.{set_to, clear, entry, entries, new_names, lacks_room, unless_deep, renewed, replaced, is_flag, store_landed, names_node, link_node, is_storable, stored_node, follows_last, store_at}
 use Rattle.fx_spec.specs.Place.{Address, PlaceTree, place}
 use Rattle.fx_spec.specs.Task.{Task, Ends, Looks, Sets, result, after, asking, ◌>=>◌}
 use Rattle.fx_spec.specs.Transaction.{edits, effect, Standing, Flow, On, Over, go_on, binding, or_stop, taking, run, run_block, transaction, flow_end, is_done, end}
@@ -80,32 +80,55 @@ same_names S q names =
     listed : (n : List ℕ) → has (set_of (names ++ names)) n ≡ true → has names n ≡ true
     listed n h = either (has names n) (sym (list_any-append (eq_by_cmp name_cmp n) names names) ∙ sym (has-set_of (names ++ names) n) ∙ h)
 
--- the node is replaced by itself
-replaced_same : (S : Store) (q : List (List ℕ)) (node : Node) → lacks_room q node ≡ false → answer S (replaced q node (Some node)) ≡ Ok (set_to q node ∷ [])
-replaced_same S q (File bytes exec) room = refl
-replaced_same S q (Link text) room = refl
-replaced_same S q (Dir names) room = ap (λ b. answer S (unless_deep b (new_names q names names))) room ∙ same_names S q names
+-- only a directory or a link of the same content replaces one by itself
+renewed_dir : (flag : Bool) (made : Node) (names : List (List ℕ)) → renewed flag made (Dir names) ≡ Dir names → made ≡ Dir names
+renewed_dir true (File bytes exec) names h = h
+renewed_dir true (Dir new) names h = h
+renewed_dir true (Link text) names h = h
+renewed_dir false (File bytes exec) names h = h
+renewed_dir false (Dir new) names h = h
+renewed_dir false (Link text) names h = h
 
-replaced_deep : (S : Store) (q : List (List ℕ)) (node : Node) → lacks_room q node ≡ true → answer S (replaced q node (Some node)) ≡ Err Refusal.TooDeep
-replaced_deep S q (File bytes exec) deep = absurd (true≢false (sym deep))
-replaced_deep S q (Link text) deep = absurd (true≢false (sym deep))
-replaced_deep S q (Dir names) deep = ap (λ b. answer S (unless_deep b (new_names q names names))) deep
+renewed_link : (flag : Bool) (made : Node) (text : List ℕ) → renewed flag made (Link text) ≡ Link text → made ≡ Link text
+renewed_link true (File bytes exec) text h = h
+renewed_link true (Dir names) text h = h
+renewed_link true (Link new) text h = h
+renewed_link false (File bytes exec) text h = h
+renewed_link false (Dir names) text h = h
+renewed_link false (Link new) text h = h
+
+-- the node is replaced by itself
+replaced_same : (S : Store) (q : List (List ℕ)) (flag : Bool) (made node : Node) → renewed flag made node ≡ node → lacks_room q node ≡ false → answer S (replaced flag q made (Some node)) ≡ Ok (set_to q node ∷ [])
+replaced_same S q flag (File new is) (File bytes exec) holds room = ap (λ (n : Node). Ok (set_to q n ∷ [])) holds
+replaced_same S q true (Dir names) (File bytes exec) holds room = absurd (cc)
+replaced_same S q false (Dir names) (File bytes exec) holds room = absurd (cc)
+replaced_same S q true (Link text) (File bytes exec) holds room = absurd (cc)
+replaced_same S q false (Link text) (File bytes exec) holds room = absurd (cc)
+replaced_same S q flag made (Link text) holds room = ap (λ m. answer S (replaced flag q m (Some (Link text)))) (renewed_link flag made text holds)
+replaced_same S q flag made (Dir names) holds room =
+    ap (λ m. answer S (replaced flag q m (Some (Dir names)))) (renewed_dir flag made names holds) ∙ ap (λ b. answer S (unless_deep b (new_names q names names))) room ∙ same_names S q names
+
+replaced_deep : (S : Store) (q : List (List ℕ)) (flag : Bool) (made node : Node) → renewed flag made node ≡ node → lacks_room q node ≡ true → answer S (replaced flag q made (Some node)) ≡ Err Refusal.TooDeep
+replaced_deep S q flag made (File bytes exec) holds deep = absurd (true≢false (sym deep))
+replaced_deep S q flag made (Link text) holds deep = absurd (true≢false (sym deep))
+replaced_deep S q flag made (Dir names) holds deep =
+    ap (λ m. answer S (replaced flag q m (Some (Dir names)))) (renewed_dir flag made names holds) ∙ ap (λ b. answer S (unless_deep b (new_names q names names))) deep
 
 -- a store of what is held replaces a node by itself
-store_replaces : (S : Store) (at : PlaceTree) (v : Tree) (node : Node) (q : List (List ℕ)) → IsHeld S at v node q → answer S (store_at v at) ≡ answer S (replaced q node (Some node))
+store_replaces : (S : Store) (at : PlaceTree) (v : Tree) (node : Node) (q : List (List ℕ)) (held : IsHeld S at v node q) → answer S (store_at v at) ≡ answer S (replaced (is_flag v) q held.made (Some node))
 store_replaces S at v node q held =
-    ap (λ x. answer S (unrefused (λ node. resolve at.path (follows_last node) >>= store_landed at.path node) x)) held.stores
-    ∙ answer-bind S (resolve at.path (follows_last node)) (store_landed at.path node)
-    ∙ ap (λ l. answer S (store_landed at.path node l)) held.lands
-    ∙ ap (λ n. answer S (replaced q node n)) held.stands
+    ap (λ x. answer S (unrefused (λ made. resolve at.path (follows_last made) >>= store_landed (is_flag v) at.path made) x)) held.stores
+    ∙ answer-bind S (resolve at.path (follows_last held.made)) (store_landed (is_flag v) at.path held.made)
+    ∙ ap (λ l. answer S (store_landed (is_flag v) at.path held.made l)) held.lands
+    ∙ ap (λ n. answer S (replaced (is_flag v) q held.made n)) held.stands
 
 pub same_content_changes_nothing : SameContentChangesNothing
 same_content_changes_nothing S at v node q held changes e = by (lacks_room q node) refl
   where
     by : (b : Bool) → lacks_room q node ≡ b → Same S (over S changes)
-    by true f = let g : ◌≡◌ {A = Answered (List Change)} (Err Refusal.TooDeep) (Ok changes) = sym (replaced_deep S q node f) ∙ sym (store_replaces S at v node q held) ∙ e in cc
+    by true f = let g : ◌≡◌ {A = Answered (List Change)} (Err Refusal.TooDeep) (Ok changes) = sym (replaced_deep S q (is_flag v) held.made node held.holds f) ∙ sym (store_replaces S at v node q held) ∙ e in cc
     by false f =
-        let g : ◌≡◌ {A = Answered (List Change)} (Ok (set_to q node ∷ [])) (Ok changes) = sym (replaced_same S q node f) ∙ sym (store_replaces S at v node q held) ∙ e in
+        let g : ◌≡◌ {A = Answered (List Change)} (Ok (set_to q node ∷ [])) (Ok changes) = sym (replaced_same S q (is_flag v) held.made node held.holds f) ∙ sym (store_replaces S at v node q held) ∙ e in
         let same : set_to q node ∷ [] ≡ changes = cc in
         subst (λ cs. Same S (over S cs)) same (set_same S q node held.stands)
 
@@ -120,7 +143,7 @@ has_room q (Dir names) short ok = by (nat_lt 63 (length q)) refl
 
 pub same_content_is_accepted : SameContentIsAccepted
 same_content_is_accepted S whole at v node q held =
-    store_replaces S at v node q held ∙ replaced_same S q node (has_room q node path.short (subst (λ n. IfSome n (IsNode q)) held.stands (whole.nodes q)))
+    store_replaces S at v node q held ∙ replaced_same S q (is_flag v) held.made node held.holds (has_room q node path.short (subst (λ n. IfSome n (IsNode q)) held.stands (whole.nodes q)))
   where
     path : IsPath q
     path = whole.paths q (subst IsSome (sym held.stands) refl)
@@ -202,11 +225,17 @@ pub content_there : (S : Store) (held : Option Node → Option Tree) (follow : B
 content_there S held follow p v e =
     landed_there S held (lands S p follow) v (sym (answer-bind S (resolve p follow) (landed_value held)) ∙ needed_some (answer S (content held follow p)) v (sym (answer-bind S (content held follow p) (λ v. Answer (needed Refusal.Lacks v))) ∙ e))
 
-pub file_there : (n : Option Node) (v : Tree) → file_value n ≡ Some v → (bytes : List ℕ) × (v ≡ Tree.str bytes) × (n ≡ Some (File bytes false))
+pub file_there : (n : Option Node) (v : Tree) → file_value n ≡ Some v → (bytes : List ℕ) × (exec : Bool) × (v ≡ Tree.str bytes) × (n ≡ Some (File bytes exec))
 file_there None v e = absurd (cc)
-file_there (Some (File bytes exec)) v e = (bytes, (let same : v ≡ Tree.str bytes = cc in same), refl)
+file_there (Some (File bytes exec)) v e = (bytes, exec, (let same : v ≡ Tree.str bytes = cc in same), refl)
 file_there (Some (Dir names)) v e = absurd (cc)
 file_there (Some (Link text)) v e = absurd (cc)
+
+pub flag_there : (n : Option Node) (v : Tree) → flag_value n ≡ Some v → (bytes : List ℕ) × (exec : Bool) × (v ≡ Tree.bool exec) × (n ≡ Some (File bytes exec))
+flag_there None v e = absurd (cc)
+flag_there (Some (File bytes exec)) v e = (bytes, exec, (let same : v ≡ Tree.bool exec = cc in same), refl)
+flag_there (Some (Dir names)) v e = absurd (cc)
+flag_there (Some (Link text)) v e = absurd (cc)
 
 pub dir_there : (n : Option Node) (v : Tree) → dir_value n ≡ Some v → (names : List (List ℕ)) × (v ≡ Tree.names names) × (n ≡ Some (Dir names))
 dir_there None v e = absurd (cc)
@@ -231,6 +260,9 @@ one_node false made node f e = absurd (cc)
 
 file_node : (bytes : List ℕ) (node : Node) → stored_node SpecTree.file (Tree.str bytes) ≡ Ok node → node ≡ File bytes false
 file_node bytes node e = one_node (is_storable (Tree.str bytes)) (File bytes false) node Refusal.WrongForm e
+
+flag_node : (exec : Bool) (node : Node) → stored_node SpecTree.file (Tree.bool exec) ≡ Ok node → node ≡ File [] exec
+flag_node exec node e = one_node (is_storable (Tree.bool exec)) (File [] exec) node Refusal.WrongForm e
 
 dir_node : (names : List (List ℕ)) (node : Node) → stored_node SpecTree.dir (Tree.names names) ≡ Ok node → node ≡ Dir names
 dir_node names node e = at (is_storable (Tree.names names)) e
@@ -258,42 +290,85 @@ link_node_is text node e = at (is_storable (Tree.str text)) e
 node_of : (S : Store) (at : PlaceTree) (v : Tree) (changes : List Change) → answer S (store_at v at) ≡ Ok changes → (node : Node) × (stored_node at.spec v ≡ Ok node)
 node_of S at v changes e = go (stored_node at.spec v) refl e
   where
-    go : (o : Answered Node) → stored_node at.spec v ≡ o → answer S (unrefused (λ node. resolve at.path (follows_last node) >>= store_landed at.path node) o) ≡ Ok changes → (node : Node) × (stored_node at.spec v ≡ Ok node)
+    go : (o : Answered Node) → stored_node at.spec v ≡ o → answer S (unrefused (λ node. resolve at.path (follows_last node) >>= store_landed (is_flag v) at.path node) o) ≡ Ok changes → (node : Node) × (stored_node at.spec v ≡ Ok node)
     go (Ok node) f g = (node, f)
     go (Err f) h g = absurd (cc)
 
--- a node of this content, where the place's path lands
-held_of : (S : Store) (at : PlaceTree) (v : Tree) (node made : Node) (q : List (List ℕ)) → stored_node at.spec v ≡ Ok node → node ≡ made → lands S at.path (follows_last made) ≡ At q → S q ≡ Some made → IsHeld S at v node q
-held_of S at v node made q e same l n = record { stores = e; lands = ap (λ (m : Node). lands S at.path (follows_last m)) same ∙ l; stands = n ∙ ap Some (sym same) }
+-- a node that the made one replaces by itself, where the place's path lands
+pub held_of : (S : Store) (at : PlaceTree) (v w : Tree) (made is node : Node) (q : List (List ℕ)) → stored_node at.spec v ≡ Ok made → made ≡ is → v ≡ w → renewed (is_flag w) is node ≡ node → lands S at.path (follows_last is) ≡ At q → S q ≡ Some node → IsHeld S at v node q
+held_of S at v w made is node q e same value holds l n = record {
+  made = made;
+  stores = e;
+  holds = ap (λ (m : Node). renewed (is_flag v) m node) same ∙ ap (λ (u : Tree). renewed (is_flag u) is node) value ∙ holds;
+  lands = ap (λ (m : Node). lands S at.path (follows_last m)) same ∙ l;
+  stands = n;
+}
 
-fetched_held : (S : Store) (at : PlaceTree) (v : Tree) (node : Node) (spec : SpecTree) → at.spec ≡ spec → stored_node spec v ≡ Ok node → answer S (fetched at.path at.env spec) ≡ Ok v → (q : List (List ℕ)) × IsHeld S at v node q
-fetched_held S at v node SpecTree.file is e f =
+-- some node holds the value where a store at the place lands
+abbrev HoldsIt : Store → PlaceTree → Tree → Type 0
+HoldsIt S at v = (q : List (List ℕ)) × (node : Node) × IsHeld S at v node q
+
+fetched_held : (S : Store) (at : PlaceTree) (v : Tree) (made : Node) (spec : SpecTree) → at.spec ≡ spec → stored_node spec v ≡ Ok made → answer S (fetched at.path at.env spec) ≡ Ok v → HoldsIt S at v
+fetched_held S at v made SpecTree.file is e f =
     let c : (q : List (List ℕ)) × (lands S at.path true ≡ At q) × (file_value (S q) ≡ Some v) = content_there S file_value true at.path v f in
-    let t : (bytes : List ℕ) × (v ≡ Tree.str bytes) × (S c.0 ≡ Some (File bytes false)) = file_there (S c.0) v c.2 in
-    (c.0, held_of S at v node (File t.0 false) c.0 (ap (λ s. stored_node s v) is ∙ e) (file_node t.0 node (ap (stored_node SpecTree.file) (sym t.1) ∙ e)) c.1 t.2)
-fetched_held S at v node SpecTree.dir is e f =
+    let t : (bytes : List ℕ) × (exec : Bool) × (v ≡ Tree.str bytes) × (S c.0 ≡ Some (File bytes exec)) = file_there (S c.0) v c.2 in
+    (c.0, File t.0 t.1, held_of S at v (Tree.str t.0) made (File t.0 false) (File t.0 t.1) c.0 (ap (λ s. stored_node s v) is ∙ e) (file_node t.0 made (ap (stored_node SpecTree.file) (sym t.2) ∙ e)) t.2 refl c.1 t.3)
+fetched_held S at v made SpecTree.dir is e f =
     let c : (q : List (List ℕ)) × (lands S at.path true ≡ At q) × (dir_value (S q) ≡ Some v) = content_there S dir_value true at.path v f in
     let t : (names : List (List ℕ)) × (v ≡ Tree.names names) × (S c.0 ≡ Some (Dir names)) = dir_there (S c.0) v c.2 in
-    (c.0, held_of S at v node (Dir t.0) c.0 (ap (λ s. stored_node s v) is ∙ e) (dir_node t.0 node (ap (stored_node SpecTree.dir) (sym t.1) ∙ e)) c.1 t.2)
-fetched_held S at v node SpecTree.link is e f =
+    (c.0, Dir t.0, held_of S at v (Tree.names t.0) made (Dir t.0) (Dir t.0) c.0 (ap (λ s. stored_node s v) is ∙ e) (dir_node t.0 made (ap (stored_node SpecTree.dir) (sym t.1) ∙ e)) t.1 refl c.1 t.2)
+fetched_held S at v made SpecTree.link is e f =
     let c : (q : List (List ℕ)) × (lands S at.path false ≡ At q) × (link_value (S q) ≡ Some v) = content_there S link_value false at.path v f in
     let t : (text : List ℕ) × (v ≡ Tree.str text) × (S c.0 ≡ Some (Link text)) = link_there (S c.0) v c.2 in
-    (c.0, held_of S at v node (Link t.0) c.0 (ap (λ s. stored_node s v) is ∙ e) (link_node_is t.0 node (ap (stored_node SpecTree.link) (sym t.1) ∙ e)) c.1 t.2)
-fetched_held S at v node (SpecTree.focus t s) is e f = absurd (no_node (is_storable v) node e)
-fetched_held S at v node (SpecTree.pair x a b) is e f = absurd (no_node (is_storable v) node e)
-fetched_held S at v node (SpecTree.comp s x t) is e f = absurd (no_node (is_storable v) node e)
-fetched_held S at v node (SpecTree.opt s) is e f = absurd (no_node (is_storable v) node e)
-fetched_held S at v node (SpecTree.pred t) is e f = absurd (no_node (is_storable v) node e)
+    (c.0, Link t.0, held_of S at v (Tree.str t.0) made (Link t.0) (Link t.0) c.0 (ap (λ s. stored_node s v) is ∙ e) (link_node_is t.0 made (ap (stored_node SpecTree.link) (sym t.1) ∙ e)) t.1 refl c.1 t.2)
+fetched_held S at v made (SpecTree.focus t s) is e f = absurd (no_node (is_storable v) made e)
+fetched_held S at v made (SpecTree.pair x a b) is e f = absurd (no_node (is_storable v) made e)
+fetched_held S at v made (SpecTree.comp s x t) is e f = absurd (no_node (is_storable v) made e)
+fetched_held S at v made (SpecTree.opt s) is e f = absurd (no_node (is_storable v) made e)
+fetched_held S at v made (SpecTree.pred t) is e f = absurd (no_node (is_storable v) made e)
 
-of_its_shape : (S : Store) (b : Bool) (rule : Ask (Answered Tree)) (v : Tree) → answer S (of_shape b rule) ≡ Ok v → answer S rule ≡ Ok v
+-- the flag that was fetched at a file
+flag_held : (S : Store) (at : PlaceTree) (v : Tree) (made : Node) → at.spec ≡ SpecTree.file → stored_node SpecTree.file v ≡ Ok made → answer S (flag_at at.path) ≡ Ok v → HoldsIt S at v
+flag_held S at v made is e f =
+    let c : (q : List (List ℕ)) × (lands S at.path true ≡ At q) × (flag_value (S q) ≡ Some v) = content_there S flag_value true at.path v f in
+    let t : (bytes : List ℕ) × (exec : Bool) × (v ≡ Tree.bool exec) × (S c.0 ≡ Some (File bytes exec)) = flag_there (S c.0) v c.2 in
+    (c.0, File t.0 t.1, held_of S at v (Tree.bool t.1) made (File [] t.1) (File t.0 t.1) c.0 (ap (λ s. stored_node s v) is ∙ e) (flag_node t.1 made (ap (stored_node SpecTree.file) (sym t.2) ∙ e)) t.2 refl c.1 t.3)
+
+-- a flag is asked for at a file alone
+pub flag_of_file : (shape : ShapeTree) (spec : SpecTree) → asks_flag shape spec ≡ true → spec ≡ SpecTree.file
+flag_of_file ShapeTree.bool SpecTree.file e = refl
+flag_of_file ShapeTree.bool SpecTree.dir e = absurd (true≢false (sym e))
+flag_of_file ShapeTree.bool SpecTree.link e = absurd (true≢false (sym e))
+flag_of_file ShapeTree.bool (SpecTree.focus t s) e = absurd (true≢false (sym e))
+flag_of_file ShapeTree.bool (SpecTree.pair x a b) e = absurd (true≢false (sym e))
+flag_of_file ShapeTree.bool (SpecTree.comp s x t) e = absurd (true≢false (sym e))
+flag_of_file ShapeTree.bool (SpecTree.opt s) e = absurd (true≢false (sym e))
+flag_of_file ShapeTree.bool (SpecTree.pred t) e = absurd (true≢false (sym e))
+flag_of_file ShapeTree.str spec e = absurd (true≢false (sym e))
+flag_of_file ShapeTree.int spec e = absurd (true≢false (sym e))
+flag_of_file ShapeTree.names spec e = absurd (true≢false (sym e))
+flag_of_file (ShapeTree.pair a b) spec e = absurd (true≢false (sym e))
+flag_of_file (ShapeTree.opt a) spec e = absurd (true≢false (sym e))
+flag_of_file (ShapeTree.table a) spec e = absurd (true≢false (sym e))
+
+pub of_its_shape : (S : Store) (b : Bool) (rule : Ask (Answered Tree)) (v : Tree) → answer S (of_shape b rule) ≡ Ok v → answer S rule ≡ Ok v
 of_its_shape S true rule v e = e
 of_its_shape S false rule v e = absurd (cc)
 
 stored_fetched : (S : Store) (at : PlaceTree) (shape : ShapeTree) (v : Tree) → answer S (fetch_at shape at) ≡ Ok v → (changes : List Change) → answer S (store_at v at) ≡ Ok changes → Same S (over S changes)
 stored_fetched S at shape v e changes f =
-    let n : (node : Node) × (stored_node at.spec v ≡ Ok node) = node_of S at v changes f in
-    let h : (q : List (List ℕ)) × IsHeld S at v n.0 q = fetched_held S at v n.0 at.spec refl n.1 (of_its_shape S (has_fetch_shape shape (fetch_shape at.spec)) (fetched at.path at.env at.spec) v e) in
-    same_content_changes_nothing S at v n.0 h.0 h.1 changes f
+    let n : (made : Node) × (stored_node at.spec v ≡ Ok made) = node_of S at v changes f in
+    let h : HoldsIt S at v = by n (asks_flag shape at.spec) refl e in
+    same_content_changes_nothing S at v h.1 h.0 h.2 changes f
+  where
+    form : Ask (Answered Tree)
+    form = of_shape (has_fetch_shape shape (fetch_shape at.spec)) (fetched at.path at.env at.spec)
+
+    by : ((made : Node) × (stored_node at.spec v ≡ Ok made)) → (b : Bool) → asks_flag shape at.spec ≡ b → answer S (cond b (flag_at at.path) form) ≡ Ok v → HoldsIt S at v
+    by n true asks g =
+        let file : at.spec ≡ SpecTree.file = flag_of_file shape at.spec asks in
+        flag_held S at v n.0 file (ap (λ s. stored_node s v) (sym file) ∙ n.1) g
+    by n false asks g = fetched_held S at v n.0 at.spec refl n.1 (of_its_shape S (has_fetch_shape shape (fetch_shape at.spec)) (fetched at.path at.env at.spec) v g)
 
 pub fetched_store_changes_nothing : FetchedStoreChangesNothing
 fetched_store_changes_nothing root x shape s S i p =

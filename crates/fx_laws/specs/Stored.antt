@@ -13,16 +13,19 @@ use Rattle.fx_expr.specs.Tree.{Tree}
 use Rattle.fx_spec.specs.declared.refusal.End.{End}
 use Rattle.fx_spec.specs.SpecTree.{SpecTree}
 use Rattle.fx_spec.specs.CommandTree.{ActTree, CommandTree, block}
-use Rattle.fx_spec.specs.Edit.{set_to, stored_node, follows_last, store_at}
-use Rattle.fx_spec.specs.Move.{fetched}
+use Rattle.fx_spec.specs.Edit.{set_to, renewed, is_flag, stored_node, follows_last, store_at}
+use Rattle.fx_spec.specs.Move.{fetch_at}
 use Rattle.fx_spec.specs.Place.{PlaceTree, place}
 use Rattle.fx_spec.specs.Task.{result, after}
 use Rattle.fx_spec.specs.Transaction.{Standing, On, run_block, transaction, end, left}
 
--- the value is what the node holds at which a store at the place lands: a file's bytes, a directory's names or a link's text
+-- the value is what the node holds at which a store at the place lands: a file's bytes or its flag, a directory's names or a
+-- link's text; the node that is made of the value replaces it by itself
 pub record IsHeld (S : Store) (at : PlaceTree) (v : Tree) (node : Node) (q : List (List ℕ)) : Type 0 where
-  pub stores : stored_node at.spec v ≡ Ok node
-  pub lands : lands S at.path (follows_last node) ≡ At q
+  pub made : Node
+  pub stores : stored_node at.spec v ≡ Ok made
+  pub holds : renewed (is_flag v) made node ≡ node
+  pub lands : lands S at.path (follows_last made) ≡ At q
   pub stands : S q ≡ Some node
 
 -- the two filestores have the same at each path
@@ -48,7 +51,7 @@ has_content _ = false
 -- on a whole filestore the store of what is fetched at such a form is accepted, and sets a node to what it is
 abbrev pub FetchedIsAccepted : Type 0
 FetchedIsAccepted =
-    (S : Store) → IsWhole S → (at : PlaceTree) (v : Tree) → has_content at.spec ≡ true → answer S (fetched at.path at.env at.spec) ≡ Ok v
+    (S : Store) → IsWhole S → (at : PlaceTree) (shape : ShapeTree) (v : Tree) → has_content at.spec ≡ true → answer S (fetch_at shape at) ≡ Ok v
     → (q : List (List ℕ)) × (node : Node) × (S q ≡ Some node) × (answer S (store_at v at) ≡ Ok (set_to q node ∷ []))
 
 -- from this standing the expression gives what is held at the place
