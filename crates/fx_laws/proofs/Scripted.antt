@@ -1,5 +1,5 @@
 -- The worked transactions of one shell, computed.
-use Rattle.std.proofs.Common.{refl, [], ◌∷◌, codes}
+use Rattle.std.proofs.Common.{false, refl, [], ◌∷◌, codes}
 use Rattle.std.specs.Str.{is_utf8, chars}
 use lib.Utf8.{encode}
 use Rattle.fx_store.specs.Names.{is_name}

@@ -1,5 +1,5 @@
 -- Worked transactions of one shell.
-use Rattle.std.specs.Prelude.{List, [], ◌∷◌, codes, pos}
+use Rattle.std.specs.Prelude.{false, List, [], ◌∷◌, codes, pos}
 use Rattle.fx_store.specs.declared.node.Node.TheVariants.{File, Dir}
 use Rattle.fx_store.specs.Examples.{store_of}
 use Rattle.fx_expr.specs.declared.expr.BinOp.{BinOp}
