@@ -1,14 +1,14 @@
--- Acts that edit: the place is found, the edit is made there, and the frames are forgotten.
+-- Acts that edit: the place is found, the edit is made there, and the frames that the own changes leave untouched are kept.
 use Rattle.std.proofs.Common.{◌≡◌, ℕ, List, [], Result, Ok, Err, refl, sym, ap, ◌∙◌, subst}
-use Rattle.std.specs.Prelude.{IsErrAnd}
+use Rattle.std.specs.Prelude.{IsErrAnd, take}
 use Rattle.fx_store.specs.declared.changes.Change.{Change}
-use Rattle.fx_store.specs.Rule.{Ask, Answer, ◌>>=◌}
+use Rattle.fx_store.specs.Rule.{Known, Ask, Answer, ◌>>=◌}
 use Rattle.fx_store.proofs.Asks.{ask-bind-assoc}
 use Rattle.fx_spec.specs.declared.refusal.Refusal.{Refusal}
 use Rattle.fx_spec.specs.Move.{Answered, needed, unrefused, at_place}
 use Rattle.fx_spec.specs.Place.{Address, PlaceTree, place}
 use Rattle.fx_spec.specs.SpecTree.{SpecTree}
-use Rattle.fx_spec.specs.Transaction.{Effect, edits, editing}
+use Rattle.fx_spec.specs.Transaction.{edits, editing}
 use Rattle.fx_spec.specs.Transaction as txn
 use Rattle.fx_edit.specs.Edits.{Edits}
 use Rattle.fx_rules.specs.declared.halt.Halt.{Halt}
@@ -17,8 +17,9 @@ use Rattle.fx_rules.specs.Answering.{answered}
 use Rattle.fx_view.specs.declared.reader.Stop.{Stop}
 use Rattle.fx_view.specs.Follows.{GoesBy}
 use Rattle.fx_view.specs.Meaning.{Meaning}
-use Rattle.fx_view.specs.Own.{own_at, AreRead}
+use Rattle.fx_view.specs.Own.{own_at, AreRead, SameOver}
 use Rattle.fx_view.specs.OwnList.{OwnList}
+use Rattle.fx_view.specs.ReadList.{ReadList}
 use Rattle.fx_base.proofs.Errors.{err_of}
 use Rattle.fx_view.proofs.Rulings.{by_same, by_then, by_then_answer, by_stop}
 use Rattle.fx_zip.specs.Calls.{Finds, place_needed}
@@ -39,6 +40,10 @@ at_place_is root a rest = ask-bind-assoc (place root a) (λ at. Answer (needed R
 -- the walk with another zipper and other own changes
 abbrev pub walk_of : ZipTree → OwnList → Walk
 walk_of z own = record { zip = z; overlay = own }
+
+-- the frames that the first reads tell last over own changes elsewhere
+abbrev Lasts : ℕ → ZipTree → ZipTree → Type 0
+Lasts n old new = (reads : ReadList) (own now : Known) → SameOver (take n reads) own now → IsFresh reads own old → IsFresh reads now new
 
 module _ {R : Type 0} (m : Meaning R) (old : Walk) (mid : ZipTree) (was then : R × ℕ) (rest : Rest) where
   abbrev rule : Ask (Answered (List Change))
@@ -108,11 +113,14 @@ module _ {R : Type 0} (m : Meaning R) (old : Walk) (mid : ZipTree) (was then : R
     failed_acts e r is h = subst (Acts m old (walk_of mid own) was.0 now (editing rule)) (sym (err_of r e is)) (failed e h)
 
     -- it is made
-    pub edited_acts : (z : ZipTree) → z.root ≡ mid.root → z.address ≡ mid.address → IsFresh (m.reads now) (own_at own) z → Edits m old.overlay own then.0 now (rest at) (Ok tt) → Acts m old (walk_of z own) was.0 now (editing rule) (Ok tt)
-    edited_acts z root address fresh h = record {
-      taken =
-          (txn.Changes h.made.0, goes_mapped m (λ (u : Unit {0}). Ok h.made.0) (own_at old.overlay) was.0 now rule edits (Ok tt) (goes_on (λ (u : Unit {0}). Ok h.made.0) (Ok tt) (h.made.1 0).goes), (address ∙ finds.address, h.made.2));
-      fresh = fresh;
-      root = root ∙ finds.root;
-      read = λ read. h.read (read_then read);
-    }
+    pub edited_acts : (z : ZipTree) (n : ℕ) → z.root ≡ mid.root → z.address ≡ mid.address → Lasts n mid z → SameOver (take n (m.reads now)) (own_at old.overlay) (own_at own) → Edits m old.overlay own then.0 now (rest at) (Ok tt) → Acts m old (walk_of z own) was.0 now (editing rule) (Ok tt)
+    edited_acts z n root address lasts same h =
+        let goes = (h.made.1 0).goes in
+        record {
+          taken = (txn.Changes h.made.0, goes_mapped m (λ (u : Unit {0}). Ok h.made.0) (own_at old.overlay) was.0 now rule edits (Ok tt) (goes_on (λ (u : Unit {0}). Ok h.made.0) (Ok tt) goes), (address ∙ finds.address, h.made.2));
+          fresh =
+              lasts (m.reads now) (own_at old.overlay) (own_at own) same
+              (fresh_grows (m.reads then.0) (own_at old.overlay) mid (m.reads now) (known_grows m (λ (u : Unit {0}). Ok h.made.0) (own_at old.overlay) then.0 now (rest at) (Ok tt) goes) finds.fresh);
+          root = root ∙ finds.root;
+          read = λ read. h.read (read_then read);
+        }

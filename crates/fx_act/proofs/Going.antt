@@ -4,14 +4,12 @@ use Rattle.std.specs.Prelude.{IfOk}
 use Rattle.fx_store.specs.Rule.{Known, Ask, Answer, ◌>>=◌}
 use Rattle.fx_view.specs.declared.reader.Stop.{Stop}
 use Rattle.fx_view.specs.declared.reader.Stop.TheVariants as stop
-use Rattle.fx_view.specs.Follows.{GoesBy, walked}
+use Rattle.fx_view.specs.Follows.{GoesBy}
 use Rattle.fx_view.specs.Meaning.{Meaning}
 use Rattle.fx_view.specs.Own.{AreRead}
 use Rattle.fx_view.specs.OwnList.{OwnList}
 use Rattle.fx_view.specs.ReadList.{ReadList}
 use Rattle.fx_view.proofs.Calls.{went_by}
-use Rattle.fx_view.proofs.Going.{Went-grows}
-use Rattle.fx_view.proofs.Growing.{Grows}
 use Rattle.fx_view.proofs.Owning.{read_more}
 use Rattle.fx_view.proofs.Rulings.{by_then_answer, by_stop}
 use Rattle.fx_rules.specs.declared.halt.Halt.{Halt}

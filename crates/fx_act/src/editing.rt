@@ -1,4 +1,5 @@
-//! Edits at the place where a transaction walks. The zipper finds its place again after own changes.
+//! Edits at the place where a transaction walks. The zipper keeps what it found by reads that the own changes leave untouched,
+//! and finds the rest of its place again.
 ghost use Rattle.fx_expr.specs.Views.{expr_tree, tree_of};
 ghost use Rattle.fx_spec.specs.CommandTree.{ActTree};
 ghost use Rattle.fx_spec.specs.Edit as edit;
@@ -53,8 +54,8 @@ impl Walk {
             (edit.store_at (tree_of value.now)))) result }
     {
         self.zip.find(alloc, reader, &self.overlay, steps)?;
-        store(alloc, reader, &mut self.overlay, &self.zip.here(), value)?;
-        self.zip.stored();
+        let untouched = store(alloc, reader, &mut self.overlay, &self.zip.here(), value)?;
+        self.zip.edited(untouched);
         Ok(())
     }
 
@@ -71,8 +72,8 @@ impl Walk {
             (editing (at_place self.old.zip.root self.old.zip.address edit.create_at)) result }
     {
         self.zip.find(alloc, reader, &self.overlay, steps)?;
-        create(alloc, reader, &mut self.overlay, &self.zip.here())?;
-        self.zip.stored();
+        let untouched = create(alloc, reader, &mut self.overlay, &self.zip.here())?;
+        self.zip.edited(untouched);
         Ok(())
     }
 
@@ -89,8 +90,8 @@ impl Walk {
             (editing (at_place self.old.zip.root self.old.zip.address edit.remove_at)) result }
     {
         self.zip.find(alloc, reader, &self.overlay, steps)?;
-        remove(alloc, reader, &mut self.overlay, &self.zip.here())?;
-        self.zip.stored();
+        let untouched = remove(alloc, reader, &mut self.overlay, &self.zip.here())?;
+        self.zip.edited(untouched);
         Ok(())
     }
 }
