@@ -1,5 +1,6 @@
 //! The lines of cases, and what each gives.
 
+use crate::door::Door;
 use fx_base::NoMemory;
 use fx_hosts::{Call, tell_call, tell_message};
 use fx_outside::HostKind;
@@ -41,6 +42,7 @@ enum Trial {
 enum Verb {
     Note,
     Set(Setting),
+    Hold,
     Try(Trial),
     Call(Call),
     Message,
@@ -58,6 +60,7 @@ const VERBS: &[(&str, Verb)] = &[
     ("fail-write", Verb::Set(Setting::FailWrite)),
     ("room", Verb::Set(Setting::Room)),
     ("tell", Verb::Set(Setting::Tell)),
+    ("hold", Verb::Hold),
     ("top", Verb::Try(Trial::Top)),
     ("faults", Verb::Try(Trial::Faults)),
     ("changes", Verb::Try(Trial::Changes)),
@@ -138,10 +141,19 @@ fn try_out<P: Program>(
     }
 }
 
-/// What is tried, and the stage of a case.
+/// Tells where a hold of the gate held no shell as long as it was to.
+fn tell_missed(door: &Door, out: &mut String) -> Result<(), NoMemory> {
+    if door.is_missed() {
+        return tell(out, "not held");
+    }
+    Ok(())
+}
+
+/// What is tried, the gate that its threads pass, and the stage of a case.
 #[derive(Drop)]
 pub struct Tried<'a, P> {
     pub program: &'a P,
+    pub door: &'a Door,
     pub stage: &'a mut Stage,
 }
 
@@ -151,8 +163,19 @@ impl<P: Program> Case for Tried<'_, P> {
         match verb_of(word) {
             None => tell(out, "no such word"),
             Some(Verb::Note) => Ok(()),
+            Some(Verb::Set(Setting::Case)) => {
+                self.door.open();
+                set_up(alloc, self.stage, Setting::Case, rest, out)
+            }
             Some(Verb::Set(setting)) => set_up(alloc, self.stage, setting, rest, out),
-            Some(Verb::Try(trial)) => try_out(self.program, alloc, self.stage, trial, rest, out),
+            Some(Verb::Hold) => {
+                self.door.hold(rest);
+                Ok(())
+            }
+            Some(Verb::Try(trial)) => {
+                try_out(self.program, alloc, self.stage, trial, rest, out)?;
+                tell_missed(self.door, out)
+            }
             Some(Verb::Call(call)) => tell_call(alloc, self.stage, call, rest, out),
             Some(Verb::Message) => tell_message(alloc, rest, out),
         }

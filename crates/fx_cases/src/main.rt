@@ -4,9 +4,11 @@
 #![tactic(auto)]
 
 mod answers;
+mod door;
 mod program;
 
 use answers::Tried;
+use door::Door;
 use fx_stage::Stage;
 use fx_telling::add_answers;
 use program::top_on;
@@ -18,9 +20,11 @@ fn main(rt: HostRuntime) -> io::Result<()> {
     let cases = io::read_to_string(alloc, rt.reader())?;
     let mut answers = String::new(alloc);
     let mut stage = Stage::new(alloc);
-    let top = top_on(&rt);
+    let door = Door::new();
+    let top = top_on(&rt, &door);
     let mut tried = Tried {
         program: &top,
+        door: &door,
         stage: &mut stage,
     };
     match add_answers(alloc, &mut tried, cases.as_str(), &mut answers) {

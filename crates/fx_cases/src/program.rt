@@ -1,10 +1,11 @@
 //! The top call, as the program that is tried.
 
+use crate::door::Door;
 use fx_base::NoMemory;
-use fx_outside::{MemoryHost, MemorySink, OpenGate, Words};
+use fx_inputs::read_base;
+use fx_outside::{MemoryHost, MemorySink, Words};
 use fx_spec::Base;
 use fx_stage::{Program, Stage, words_of};
-use fx_inputs::read_base;
 use fx_top::status::Status;
 use fx_top::top::top;
 use fx_words::{Job, job_of};
@@ -23,16 +24,18 @@ impl<R: Threads> Threads for Handles<R> {}
 
 impl<R: Wait> Wait for Handles<R> {}
 
-/// The top call, on the threads of a runtime.
+/// The top call, on the threads of a runtime, which pass a gate.
 #[derive(Drop)]
-pub struct Top<R> {
+pub struct Top<'a, R> {
     pub handles: Handles<R>,
+    pub door: &'a Door,
 }
 
-/// The top call, on the threads of this runtime.
-pub fn top_on<R: Threads + Wait + Sync>(_rt: &R) -> Top<R> {
+/// The top call, on the threads of this runtime, with this gate.
+pub fn top_on<'a, R: Threads + Wait + Sync>(_rt: &R, door: &'a Door) -> Top<'a, R> {
     Top {
         handles: Handles { of: PhantomData },
+        door,
     }
 }
 
@@ -42,7 +45,7 @@ fn run_words(alloc: Global, scripts: &str) -> Result<Words, NoMemory> {
     words_of(alloc, line.as_str())
 }
 
-impl<R: Threads + Wait + Sync> Program for Top<R> {
+impl<R: Threads + Wait + Sync> Program for Top<'_, R> {
     fn run(
         &self,
         alloc: Global,
@@ -50,7 +53,7 @@ impl<R: Threads + Wait + Sync> Program for Top<R> {
         host: &mut MemoryHost,
         sink: &mut MemorySink,
     ) -> Status {
-        top(&self.handles, alloc, words, host, sink, &OpenGate)
+        top(&self.handles, alloc, words, host, sink, self.door)
     }
 
     fn base(&self, alloc: Global, stage: &mut Stage, scripts: &str) -> Result<Arc<Base>, Status> {
