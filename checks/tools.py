@@ -443,6 +443,10 @@ def refusals(room):
     holder.kill()
     holder.wait()
     shell("pkill -P $$ sleep; true")
+    # A report that can't be printed puts nothing in place.
+    for sink in ("> /dev/full", "| true"):
+        shell(f"set -o pipefail; (sleep 0.2; {TOOLS}/txforest-apply --in-place f d s) {sink}", room)
+        same(f"a report {sink}", read(f"{room}/f/n"), "1")
     # Modes, owners, times and access lists stay; new entries get those of their directory.
     shell("rm -rf f*; mkdir -m 750 f; printf 7 > f/n; printf key > f/key; chmod 600 f/key; chmod 2750 f; touch -d 2001-02-03 f/key f/n", room)
     write(f"{room}/more", '<n : ("n" :: file), <k : ("key" :: file), ("new/file" :: file)>>')
@@ -459,7 +463,7 @@ def refusals(room):
         job.terminate()
         job.wait(60)
         same("what a signal leaves", [n for n in os.listdir(room) if n.startswith(".")], [])
-    return f"{len(tries) + 8} jobs that are refused changed nothing; modes, owners and times stayed"
+    return f"{len(tries) + 10} jobs that are refused changed nothing; modes, owners and times stayed"
 
 
 def full(room):

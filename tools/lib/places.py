@@ -17,7 +17,7 @@ import time
 from contextlib import contextmanager
 from datetime import datetime, timedelta, timezone
 
-from common import LOCKED, USAGE, Failed, shown
+from common import LOCKED, USAGE, Failed, shown, tell
 
 libc = ctypes.CDLL(None, use_errno=True)
 STAMP, STAMPED = "%Y%m%dT%H%M%S%f", r"\d{8}T\d{12}"
@@ -148,11 +148,14 @@ def fresh_place(target):
     folder, front = place_of(target)
     place = os.path.join(folder, front + secrets.token_hex(6))
     os.mkdir(place, 0o700)
+    number = opened(place)
     try:
+        fcntl.flock(number, fcntl.LOCK_EX)
         yield place
     finally:
         with unbroken():
             settle(place, target)
+        os.close(number)
 
 
 def others(target):
@@ -162,11 +165,20 @@ def others(target):
 
 
 def settle_others(target):
-    """Settles the places that killed jobs left beside a target, whose lock is held. Answers how many."""
-    left = others(target)
-    for place in left:
-        settle(place, target)
-    return len(left)
+    """Settles the places that killed jobs left beside a target, whose lock is held; one that is in use stays, as that of an
+    import. Answers how many."""
+    count = 0
+    for place in others(target):
+        number = opened(place)
+        try:
+            fcntl.flock(number, fcntl.LOCK_EX | fcntl.LOCK_NB)
+            settle(place, target)
+            count += 1
+        except BlockingIOError:
+            pass
+        finally:
+            os.close(number)
+    return count
 
 
 def settle(place, target):
@@ -263,5 +275,8 @@ def prune(place, target, front, keep, but=None):
     old = sorted(n for n in os.listdir(folder) if n != but and re.fullmatch(re.escape(front) + STAMPED, n))
     for number, name in enumerate(old[: max(0, len(old) - keep)]):
         gone = os.path.join(place, f"gone{number}")
-        os.rename(os.path.join(folder, name), gone)
-        clear(gone)
+        try:
+            os.rename(os.path.join(folder, name), gone)
+            clear(gone)
+        except OSError as error:
+            tell(f"{shown(os.path.join(folder, name))}: is not removed: {error.strerror}")
