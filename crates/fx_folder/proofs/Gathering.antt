@@ -1,5 +1,5 @@
 -- What was walked, with the links of the table, is what the definition of loading gives.
-use Rattle.std.proofs.Common.{◌≡◌, ◌⊎◌, inl, inr, ℕ, suc, ◌+◌, ◌-◌, ◌<◌, ◌≤◌, Bool, true, false, cond, ◌&&◌, ◌||◌, List, [], ◌∷◌, ◌++◌, map, length, Option, Some, None, Result, Ok, Err, IfOk, IfErr, IfSome, is_some, option_map, All, refl, sym, ◌∙◌, ap, subst, arith}
+use Rattle.std.proofs.Common.{◌≡◌, ◌⊎◌, inl, inr, ℕ, suc, ◌+◌, ◌-◌, ◌<◌, ◌≤◌, Bool, true, false, cond, ◌&&◌, ◌||◌, List, [], ◌∷◌, ◌++◌, map, length, Option, Some, None, Result, Ok, Err, IfOk, IfErr, IfSome, is_some, option_map, refl, sym, ◌∙◌, ap, subst, arith}
 use Rattle.std.specs.Prelude.{nat_lt, unwrap_or}
 use Rattle.std.specs.Option.{option_or, option_map_or}
 use Rattle.std.specs.Ordering.{eq_by_cmp}
@@ -43,7 +43,6 @@ use Rattle.fx_table.specs.Lines.{lines_in, standing_by, AreLines, texts_of, is_o
 use Rattle.fx_table.specs.Mapped.{mapped_of, node_or_dir}
 use Rattle.fx_table.specs.Merges.{CanMerge}
 use Rattle.fx_folder.specs.RefusalLaws.{exceed_limits, HasBadLine, IsLineCause}
-use Rattle.fx_table.specs.declared.line.TableLine.{TableLine}
 use Rattle.fx_table.specs.Table.{TableLink, IsTable, over, links_among, lacks_flags, read_body}
 use Rattle.fx_table.specs.TableLaws.{BeginsWith, IsFirstBadLine}
 use Rattle.fx_folder.specs.Tables.{ReadsWhole, text_of, AnswersText, room_behind, IsJoined, AnswersFound, HasTable, items_in}

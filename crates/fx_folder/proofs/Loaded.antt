@@ -28,7 +28,7 @@ use Rattle.fx_table.specs.declared.fault.FolderCause.TheVariants.{BadTable}
 use Rattle.fx_folder.specs.Loads.{most_nodes, most_in_file, most_bytes}
 use Rattle.fx_table.specs.Places.{table_name}
 use Rattle.fx_table.specs.declared.line.TableLine.{TableLine}
-use Rattle.fx_table.specs.Table.{IsLine, IsTable, Setting, over, has_place, is_dir, setting_of, first_number, body_of, is_second, read_body, lines_before, links_among}
+use Rattle.fx_table.specs.Table.{IsLine, IsTable, over, has_place, is_dir, setting_of, first_number, body_of, is_second, read_body, lines_before, links_among}
 use Rattle.fx_folder.specs.Deep.{Held, all_below, walked, table_in, last_name, refused_kind, refused_bytes, refused_entry, first_refused, node_of_kind, unlisted, unless_bad, are_too_many, lacking, read_lines, table_file_lines, table_lines, linked, all_bytes, with_table, unless_refused, as_nodes}
 use Rattle.fx_table.specs.Listed.{Mapped, with_lines, listed}
 use Rattle.fx_folder.specs.LoadLaws.{LoadsAreWhole}

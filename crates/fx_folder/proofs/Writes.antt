@@ -227,3 +227,10 @@ stopped_at_folder (Some t) None path there nodes start made = made
 stopped_at_folder (Some t) (Some u) path there nodes start made = refused_folder nodes start.stored t u path there start.whole start.ready made
 
 -- the causes of a refusal
+
+-- what was written at a path is what stands there
+pub wrote_there : (told told' : Option Tree) (place : Parts) (nodes : Nodes) (p : Parts) (node : Node) → get nodes p ≡ Some node → IfTold told told' (λ t t'. t' ≡ with_entry t place (host_entry (Some node))) → IfTold told told' (λ t t'. t' ≡ with_entry t place (host_entry (get nodes p)))
+wrote_there told told' place nodes p node is wrote = subst (λ o. IfTold told told' (λ t t'. t' ≡ with_entry t place (host_entry o))) (sym is) wrote
+
+pub part_there : (told told' : Option Tree) (place : Parts) (nodes : Nodes) (p : Parts) (node : Node) → get nodes p ≡ Some node → IfTold told told' (λ t t'. WrotePart t t' place (host_entry (Some node))) → IfTold told told' (λ t t'. WrotePart t t' place (host_entry (get nodes p)))
+part_there told told' place nodes p node is wrote = subst (λ o. IfTold told told' (λ t t'. WrotePart t t' place (host_entry o))) (sym is) wrote

@@ -8,6 +8,9 @@ ghost use Rattle.fx_outside.specs.Host.{AsksFit, HasFailed, CountsUnfit, FaultAt
 ghost use Rattle.fx_outside.specs.Tree.{is_free_at, file, folder};
 ghost use Rattle.fx_folder.specs.declared.fault.SaveFault.TheVariants.{WriteFault, NotEmpty};
 ghost use Rattle.fx_table.specs.Places.{place_of, table_name};
+ghost use Rattle.fx_table.specs.Entered.{levels_of};
+ghost use Rattle.fx_table.specs.Remaining.{AreLevels, IsLeftBelow, left_of};
+ghost use Rattle.fx_table.specs.Table.{table_text, lines_of};
 ghost use Rattle.fx_folder.specs.Reads.{path_below};
 ghost use Rattle.fx_folder.specs.Places.{host_entry};
 ghost use Rattle.fx_folder.specs.Folder.{IsReady, IfTold, Saves, SavesPart, SaveCause};
@@ -17,7 +20,7 @@ use crate::SaveFault;
 use fx_base::NoMemory;
 use fx_outside::{Host, HostFault, HostText};
 use fx_store::{Filestore, LongText, Name, Node, Path};
-use fx_table::{Descent, write_table};
+use fx_table::{Descent, Entry, TableText};
 use std::alloc::Global;
 
 /// Writes a filestore as a folder: the folder itself, unless an empty one is there, then directories and files in the order
@@ -39,9 +42,9 @@ pub fn save<H: Host>(
     ensures later { (H.view host.old).faults ≤ (H.view host.new).faults }
     ensures fit { AsksFit folder.now (H.view host.old) (H.view host.new) }
 {
-    let table = write_table(alloc, store)?;
+    let descent = Descent::new(alloc, store)?;
     make_folder(alloc, host, folder, there)?;
-    write_entries(alloc, host, folder, store)?;
+    let table = write_entries(alloc, host, folder, store, descent)?;
     add_table(alloc, host, folder, &table)
 }
 
@@ -71,15 +74,20 @@ pub fn make_folder<H: Host>(
     }
 }
 
-/// Writes the directories and files of a filestore into an empty folder, in the order of their paths.
+/// Writes the directories and files of a filestore into an empty folder, in the order of their paths, by a walk that stands
+/// at its begin, and gives the text of its table.
 fn write_entries<H: Host>(
     alloc: Global,
     host: &mut H,
     folder: &HostText,
     store: &Filestore,
-) -> Result<(), SaveFault>
+    mut descent: Descent,
+) -> Result<LongText, SaveFault>
     requires open { IfSome (H.view host.old).told (λ tree. IsOpen tree folder.now) }
     requires whole { IsWhole (get store.now.nodes) }
+    requires levels { AreLevels store.now.nodes (levels_of descent) }
+    requires left { IsLeftBelow store.now.nodes (left_of store.now.nodes (levels_of descent)) }
+    ensures text { IfOk result (λ text. text ≡ table_text (lines_of store.now.nodes)) }
     ensures written { OnOk result (IfTold (H.view host.old).told (H.view host.new).told
         (λ tree tree'. HasEntries tree tree' (parts folder.now) (entries store.now.nodes))) }
     ensures partly { OnErr result (IfTold (H.view host.old).told (H.view host.new).told
@@ -90,11 +98,12 @@ fn write_entries<H: Host>(
     ensures later { (H.view host.old).faults ≤ (H.view host.new).faults }
     ensures fit { AsksFit folder.now (H.view host.old) (H.view host.new) }
 {
-    let mut descent = Descent::new(alloc, store)?;
-    'writing: while let Some(path) = descent.next(alloc, store)? {
-        write_entry(alloc, host, folder, &path, store)?;
+    let mut table = TableText::new(alloc);
+    'writing: while let Some(entry) = descent.next(alloc, store)? {
+        write_entry(alloc, host, folder, &entry)?;
+        table.add(&entry)?;
     }
-    Ok(())
+    Ok(table.into_text(alloc)?)
 }
 
 /// Writes what stands at a path of a filestore, unless that is a link.
@@ -102,29 +111,24 @@ fn write_entry<H: Host>(
     alloc: Global,
     host: &mut H,
     folder: &HostText,
-    path: &Path,
-    store: &Filestore,
+    entry: &Entry<'_>,
 ) -> Result<(), SaveFault>
-    requires free { IfSome (H.view host.old).told (λ tree.
-        is_free_at tree (folder.now ++ place_of path.now) ≡ true) }
-    requires there { IsSome (get store.now.nodes path.now) }
+    requires { IfSome (H.view host.old).told (λ tree.
+        is_free_at tree (folder.now ++ place_of entry.now.path) ≡ true) }
     ensures written { OnOk result (IfTold (H.view host.old).told (H.view host.new).told
-        (λ tree tree'. tree' ≡ with_entry tree (parts folder.now ++ path.now)
-        (host_entry (get store.now.nodes path.now)))) }
+        (λ tree tree'. tree' ≡ with_entry tree (parts folder.now ++ entry.now.path)
+        (host_entry (Some entry.now.node.now)))) }
     ensures partly { OnErr result (IfTold (H.view host.old).told (H.view host.new).told
-        (λ tree tree'. WrotePart tree tree' (parts folder.now ++ path.now)
-        (host_entry (get store.now.nodes path.now)))) }
+        (λ tree tree'. WrotePart tree tree' (parts folder.now ++ entry.now.path)
+        (host_entry (Some entry.now.node.now)))) }
     ensures fault { result ≡ Err WriteFault
         → FaultIn folder.now (H.view host.old) (H.view host.new) }
     ensures free { result ≡ Err NotEmpty → ⊥ }
     ensures later { (H.view host.old).faults ≤ (H.view host.new).faults }
     ensures fit { AsksFit folder.now (H.view host.old) (H.view host.new) }
 {
-    let place = place_below(alloc, folder, path)?;
-    match store.get(path) {
-        Some(node) => write_node(alloc, host, &place, node),
-        None => unreachable!(),
-    }
+    let place = place_below(alloc, folder, &entry.path)?;
+    write_node(alloc, host, &place, entry.node)
 }
 
 /// Writes a directory or a file where nothing stands, and nothing for a link.

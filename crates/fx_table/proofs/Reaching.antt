@@ -30,6 +30,7 @@ use Rattle.fx_table.specs.declared.fault.FolderCause.TheVariants.{BadName, Stran
 use Rattle.fx_table.specs.declared.fault.LoadFault.{LoadFault}
 use Rattle.fx_table.specs.declared.fault.LoadFault.TheVariants.{Refused, ReadFault, NoMemory}
 use Rattle.fx_table.specs.declared.lines.Room.{Room}
+use Rattle.fx_table.specs.declared.descent.Entry.{Entry}
 use Rattle.fx_table.specs.declared.descent.Level.{Level}
 use Rattle.fx_table.specs.Flags.{with_exec}
 use Rattle.fx_table.specs.Listed.{Mapped, listed, with_links, with_flags, with_lines}
@@ -38,7 +39,7 @@ use Rattle.fx_table.specs.Lines.{lines_in, AreLines, texts_of, ReadsAll, LinesCa
 use Rattle.fx_table.specs.Linked.{linked_nodes, MakesTable, TableCause, bare_node, bare, AddsBare, differs, flag_change, kept_change, kept_of, Keeps}
 use Rattle.fx_table.specs.Mapped.{mapped_of}
 use Rattle.fx_table.specs.Merges.{CanMerge}
-use Rattle.fx_table.specs.Remaining.{left_of, AreLevels, IsLeftBelow, ComesNext}
+use Rattle.fx_table.specs.Remaining.{left_of, AreLevels, IsLeftBelow, ComesNext, IsEntry}
 use Rattle.fx_table.specs.Table.{Mark, Target, Executable, TableLine, TableLink, over as setting, is_dir, line_of, lines_text, links_among, link_in_line, flag_at, is_second, body_of, read_table}
 use Rattle.fx_table.specs.TableSpelling.{is_plain, spelled, spelling}
 use Rattle.fx_table.proofs.Bodies.{bad_read}
@@ -63,14 +64,15 @@ baring_starts nodes all start levels p ns are left none root empty is = record {
       ∙ ap (λ l. changes_of (map bare l)) (sym left.2);
 }
 
-pub baring_more : (nodes : Nodes) (all new : List Change) (levels levels' : List Level) (path : Parts) → IsBaring nodes all levels → AreLevels nodes levels' → ComesNext nodes (left_of nodes levels) (left_of nodes levels') (Some path) → AddsBare nodes path all new → IsBaring nodes new levels'
-baring_more nodes all new levels levels' path was are next adds =
-    let same : adds.0 ≡ next.0 = let e : Some adds.0 ≡ Some next.0 = sym adds.1 ∙ next.1 in cc in
+pub baring_more : (nodes : Nodes) (all new : List Change) (levels levels' : List Level) (e : Entry) → IsBaring nodes all levels → AreLevels nodes levels' → IsEntry nodes (left_of nodes levels) (left_of nodes levels') e → AddsBare e.path e.node.now all new → IsBaring nodes new levels'
+baring_more nodes all new levels levels' e was are comes adds =
+    let next = comes.next in
+    let same : e.node.now ≡ next.0 = same_Some e.node.now next.0 (sym comes.node ∙ next.1) in
     record {
       are = are;
       baring =
-          ap (λ l. l ++ changes_of (map bare (left_of nodes levels'))) (adds.2 ∙ ap (λ n. all ++ change_of (bare (path, n)) ∷ []) same)
-          ∙ (append_assoc all (change_of (bare (path, next.0)) ∷ []) (changes_of (map bare (left_of nodes levels')))
+          ap (λ l. l ++ changes_of (map bare (left_of nodes levels'))) (adds ∙ ap (λ n. all ++ change_of (bare (e.path, n)) ∷ []) same)
+          ∙ (append_assoc all (change_of (bare (e.path, next.0)) ∷ []) (changes_of (map bare (left_of nodes levels')))
           ∙ (ap (λ l. all ++ changes_of (map bare l)) (sym next.2) ∙ was.baring));
     }
 

@@ -43,8 +43,8 @@ abbrev pub bare : Mapped → Mapped
 bare (path, node) = (path, bare_node node)
 
 -- one path more, with its bare node
-abbrev pub AddsBare : Nodes → List (List ℕ) → List Change → List Change → Type 0
-AddsBare nodes path old new = (node : Node) × (get nodes path ≡ Some node) × (new ≡ old ++ change_of (bare (path, node)) ∷ [])
+abbrev pub AddsBare : List (List ℕ) → Node → List Change → List Change → Type 0
+AddsBare path node old new = new ≡ old ++ change_of (bare (path, node)) ∷ []
 
 abbrev pub differs : Bool → Bool → Bool
 differs true was = not was

@@ -5,6 +5,7 @@ use Rattle.std.specs.FinMap.{entries, get}
 use Rattle.fx_store.specs.declared.node.Node.{Node}
 use Rattle.fx_store.specs.declared.node.Node.TheVariants.{File, Dir, Link}
 use Rattle.fx_store.specs.Whole.{Nodes}
+use Rattle.fx_table.specs.declared.descent.Entry.{Entry}
 use Rattle.fx_table.specs.declared.descent.Level.{Level}
 use Rattle.fx_table.specs.Places.{rest_of}
 
@@ -49,6 +50,16 @@ Enters old path (name ∷ names) new = new ≡ old ++ record { path = path; name
 abbrev pub ComesNext : Nodes → List (List (List ℕ) × Node) → List (List (List ℕ) × Node) → Option (List (List ℕ)) → Type 0
 ComesNext nodes old new None = old ≡ []
 ComesNext nodes old new (Some path) = (node : Node) × (get nodes path ≡ Some node) × (old ≡ (path, node) ∷ new)
+
+-- an entry is the first of those that were left, and the others are left
+pub record IsEntry (nodes : Nodes) (old new : List (List (List ℕ) × Node)) (e : Entry) : Type 0 where
+  pub some : 0 < length e.path
+  pub node : get nodes e.path ≡ Some e.node.now
+  pub next : ComesNext nodes old new (Some e.path)
+
+abbrev pub ComesTo : Nodes → List (List (List ℕ) × Node) → List (List (List ℕ) × Node) → Option Entry → Type 0
+ComesTo nodes old new None = ComesNext nodes old new None
+ComesTo nodes old new (Some e) = IsEntry nodes old new e
 
 -- all but the root is left
 abbrev pub IsLeftBelow : Nodes → List (List (List ℕ) × Node) → Type 0

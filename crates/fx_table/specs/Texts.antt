@@ -1,8 +1,9 @@
 -- The text of a table, line by line.
-use Rattle.std.specs.Prelude.{ℕ, Bool, true, false, List, [], ◌∷◌, ◌++◌, Option, Some, None}
+use Rattle.std.specs.Prelude.{◌≡◌, ◌||◌, ℕ, Bool, true, false, cond, List, [], ◌∷◌, ◌++◌, Option, Some, None}
 use Rattle.fx_store.specs.declared.node.Node.{Node}
 use Rattle.fx_store.specs.declared.node.Node.TheVariants.{File, Dir, Link}
-use Rattle.fx_table.specs.Table.{TableLine, Target, Executable, line_of}
+use Rattle.fx_table.specs.declared.links.TableText.{TableText}
+use Rattle.fx_table.specs.Table.{TableLine, Target, Executable, line_of, version_line}
 
 -- a line with its line feed
 abbrev pub line_text : TableLine → List ℕ
@@ -28,3 +29,17 @@ flag_of_node None = false
 flag_of_node (Some (File bytes exec)) = exec
 flag_of_node (Some (Dir names)) = false
 flag_of_node (Some (Link text)) = false
+
+-- the lines that were added, and whether one of them says that a file is executable
+abbrev pub lines_so_far : TableText → List ℕ
+lines_so_far text = text.lines.items
+
+abbrev pub flags_so_far : TableText → Bool
+flags_so_far text = text.flags
+
+pub record AddsLine (old : TableText) (path : List (List ℕ)) (node : Node) (new : TableText) : Type 0 where
+  pub lines : lines_so_far new ≡ lines_so_far old ++ text_at path (Some node)
+  pub flags : flags_so_far new ≡ (flags_so_far old || flag_of_node (Some node))
+
+abbrev pub whole_text : TableText → List ℕ
+whole_text text = cond text.flags version_line [] ++ text.lines.items

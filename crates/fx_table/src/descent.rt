@@ -1,8 +1,8 @@
 //! A walk over a filestore in the order of paths, from directory to directory over what each lists.
-ghost use Rattle.std.specs.Prelude.{◌≡◌, ◌<◌, ◌++◌, suc, Some, ◌∷◌, [], length, drop, IfOk, OnOk, IsSome};
+ghost use Rattle.std.specs.Prelude.{◌≡◌, ◌<◌, ◌++◌, suc, Some, ◌∷◌, [], length, drop, IfOk, OnOk, IsSome, option_copied};
 ghost use Rattle.std.specs.FinMap.{get};
 ghost use Rattle.fx_store.specs.Whole.{Nodes, IsWhole};
-ghost use Rattle.fx_table.specs.Remaining.{Enters, IsNextOf, IsLevel, AreLevels, left_of, from_names, names_in, ComesNext, IsLeftBelow};
+ghost use Rattle.fx_table.specs.Remaining.{Enters, IsNextOf, IsLevel, AreLevels, left_of, from_names, names_in, ComesTo, IsEntry, IsLeftBelow};
 
 use fx_base::NoMemory;
 use fx_store::{Filestore, Names, Node, Path, PathFault};
@@ -14,6 +14,13 @@ struct Level {
     path: Path,
     names: Names,
     next: u64,
+}
+
+/// What stands at a path of a filestore.
+#[derive(Drop)]
+pub struct Entry<'a> {
+    pub path: Path,
+    pub node: &'a Node,
 }
 
 /// A walk over all that stands below the root of a filestore. What stands in a directory comes just after it.
@@ -35,12 +42,16 @@ impl Descent {
         Ok(Descent { levels })
     }
 
-    /// The next path, unless there is none left.
-    pub fn next(&mut self, alloc: Global, store: &Filestore) -> Result<Option<Path>, NoMemory>
+    /// What comes next, unless there is nothing left.
+    pub fn next<'a>(
+        &mut self,
+        alloc: Global,
+        store: &'a Filestore,
+    ) -> Result<Option<Entry<'a>>, NoMemory>
         requires whole { IsWhole (get store.now.nodes) }
         requires levels { AreLevels store.now.nodes self.old.levels.items }
         ensures levels { OnOk result (AreLevels store.now.nodes self.new.levels.items) }
-        ensures next { IfOk result (ComesNext store.now.nodes
+        ensures next { IfOk result (ComesTo store.now.nodes
             (left_of store.now.nodes self.old.levels.items)
             (left_of store.now.nodes self.new.levels.items)) }
     {
@@ -51,25 +62,27 @@ impl Descent {
     }
 }
 
-/// The next path of the directory last entered, of which what is left below stays to be walked.
-fn step(
+/// What comes next in the directory last entered, of which what is left below stays to be walked.
+fn step<'a>(
     alloc: Global,
     levels: &mut Vec<Level>,
     level: Level,
-    store: &Filestore,
-) -> Result<Path, NoMemory>
+    store: &'a Filestore,
+) -> Result<Entry<'a>, NoMemory>
     requires whole { IsWhole (get store.now.nodes) }
     requires level { IsLevel store.now.nodes level }
     requires levels { AreLevels store.now.nodes levels.old.items }
     ensures levels { OnOk result (AreLevels store.now.nodes levels.new.items) }
-    ensures next { IfOk result (λ path. ComesNext store.now.nodes
+    ensures next { IfOk result (IsEntry store.now.nodes
         (left_of store.now.nodes (levels.old.items ++ level ∷ []))
-        (left_of store.now.nodes levels.new.items) (Some path)) }
+        (left_of store.now.nodes levels.new.items)) }
 {
     let path = child(alloc, &level)?;
     go_on(levels, level)?;
-    enter(alloc, levels, &path, store)?;
-    Ok(path)
+    match enter(alloc, levels, &path, store)? {
+        Some(node) => Ok(Entry { path, node }),
+        None => unreachable!(),
+    }
 }
 
 /// The path of a directory's next name.
@@ -107,13 +120,14 @@ fn go_on(levels: &mut Vec<Level>, mut level: Level) -> Result<(), NoMemory>
     Ok(())
 }
 
-/// Enters what stands at a path, if it is a directory that lists something.
-fn enter(
+/// Enters what stands at a path, if it is a directory that lists something, and gives it.
+fn enter<'a>(
     alloc: Global,
     levels: &mut Vec<Level>,
     path: &Path,
-    store: &Filestore,
-) -> Result<(), NoMemory>
+    store: &'a Filestore,
+) -> Result<Option<&'a Node>, NoMemory>
+    ensures node { IfOk result (λ node. option_copied node ≡ get store.now.nodes path.now) }
     ensures levels { OnOk result (AreLevels store.now.nodes levels.old.items
         → AreLevels store.now.nodes levels.new.items) }
     ensures left { OnOk result (left_of store.now.nodes levels.new.items
@@ -121,11 +135,15 @@ fn enter(
         ++ left_of store.now.nodes levels.old.items) }
     ensures whole { IsWhole (get store.now.nodes) }
 {
-    match store.get(path) {
-        Some(Node::Dir(names)) => push(alloc, levels, path, names),
-        Some(Node::File { .. }) => Ok(()),
-        Some(Node::Link(_)) => Ok(()),
-        None => Ok(()),
+    let node = store.get(path);
+    match node {
+        Some(Node::Dir(names)) => {
+            push(alloc, levels, path, names)?;
+            Ok(node)
+        }
+        Some(Node::File { .. }) => Ok(node),
+        Some(Node::Link(_)) => Ok(node),
+        None => Ok(node),
     }
 }
 

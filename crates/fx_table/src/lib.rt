@@ -15,11 +15,11 @@ mod merging;
 mod spelling;
 mod table;
 
-pub use descent::Descent;
+pub use descent::{Descent, Entry};
 pub use fault::{FolderCause, LoadFault};
 pub use line::{Mark, TableLine};
 pub use lines::{Ground, Room, read_lines, table_place};
 pub use linked::read_table;
-pub use links::write_table;
+pub use links::{TableText, write_table};
 pub use listing::list_names;
 pub use merging::merged;

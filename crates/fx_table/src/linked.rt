@@ -55,33 +55,26 @@ fn bare_nodes(alloc: Global, store: &Filestore) -> Result<Vec<Change>, NoMemory>
         path: Path::root(alloc),
         node: Some(Node::Dir(Names::new(alloc))),
     })?;
-    'going: while let Some(path) = descent.next(alloc, store)? {
-        add_bare(alloc, path, store, &mut all)?;
+    'going: while let Some(entry) = descent.next(alloc, store)? {
+        add_bare(alloc, entry.path, entry.node, &mut all)?;
     }
     Ok(all)
 }
 
 /// Adds a path with a directory without names, or with an empty file.
-fn add_bare(
-    alloc: Global,
-    path: Path,
-    store: &Filestore,
-    all: &mut Vec<Change>,
-) -> Result<(), NoMemory>
-    requires { IsSome (get store.now.nodes path) }
-    ensures { OnOk result (AddsBare store.now.nodes path all.old.items all.new.items) }
+fn add_bare(alloc: Global, path: Path, node: &Node, all: &mut Vec<Change>) -> Result<(), NoMemory>
+    ensures { OnOk result (AddsBare path node.now all.old.items all.new.items) }
 {
-    let node = match store.get(&path) {
-        Some(Node::Dir(_)) => Node::Dir(Names::new(alloc)),
-        Some(Node::File { .. }) => Node::File {
+    let node = match node {
+        Node::Dir(_) => Node::Dir(Names::new(alloc)),
+        Node::File { .. } => Node::File {
             bytes: Bytes::new(alloc),
             exec: false,
         },
-        Some(Node::Link(_)) => Node::File {
+        Node::Link(_) => Node::File {
             bytes: Bytes::new(alloc),
             exec: false,
         },
-        None => unreachable!(),
     };
     all.push(Change {
         path,

@@ -1,14 +1,14 @@
 //! The table of a filestore, as a text.
-ghost use Rattle.std.specs.Prelude.{◌≡◌, ◌<◌, ◌++◌, ◌∷◌, [], cond, length, true, IfOk, OnOk};
+ghost use Rattle.std.specs.Prelude.{◌≡◌, ◌<◌, ◌++◌, ◌∷◌, [], cond, length, true, false, Some, IfOk, OnOk};
 ghost use Rattle.std.specs.FinMap.{get};
 ghost use Rattle.std.specs.List.{flat_map};
 ghost use Rattle.std.specs.Fmt.{digit_glyph};
 ghost use Rattle.fx_store.specs.Whole.{IsWhole};
 ghost use Rattle.fx_table.specs.Table.{table_text, lines_of, version_line};
-ghost use Rattle.fx_table.specs.Texts.{link_text, flag_text, text_at, flag_of_node};
+ghost use Rattle.fx_table.specs.Texts.{link_text, flag_text, text_at, flag_of_node, AddsLine, whole_text};
 ghost use Rattle.fx_table.specs.TableSpelling.{is_plain, spelled, spelling};
 
-use crate::descent::Descent;
+use crate::descent::{Descent, Entry};
 use crate::lines::VERSION_LINE;
 use fx_base::NoMemory;
 use fx_store::{Filestore, LinkText, LongText, Name, Node, Path};
@@ -20,13 +20,50 @@ pub fn write_table(alloc: Global, store: &Filestore) -> Result<LongText, NoMemor
     ensures text { IfOk result (λ text. text ≡ table_text (lines_of store.now.nodes)) }
     ensures whole { IsWhole (get store.now.nodes) }
 {
-    let mut text = Vec::new(alloc);
-    let mut flags = false;
+    let mut table = TableText::new(alloc);
     let mut descent = Descent::new(alloc, store)?;
-    'writing: while let Some(path) = descent.next(alloc, store)? {
-        flags |= add_entry(&mut text, &path, store)?;
+    'writing: while let Some(entry) = descent.next(alloc, store)? {
+        table.add(&entry)?;
     }
-    Ok(LongText::from_vec(with_version(alloc, text, flags)?))
+    table.into_text(alloc)
+}
+
+/// The text of a table to which a walk over a filestore adds the lines.
+#[derive(Drop)]
+pub struct TableText {
+    lines: Vec<u8>,
+    flags: bool,
+}
+
+impl TableText {
+    /// The text without lines.
+    pub fn new(alloc: Global) -> TableText
+        ensures lines { result.lines.items ≡ [] }
+        ensures flags { result.flags ≡ false }
+    {
+        TableText {
+            lines: Vec::new(alloc),
+            flags: false,
+        }
+    }
+
+    /// Adds the line of an entry below the root, if it has one.
+    pub fn add(&mut self, entry: &Entry<'_>) -> Result<(), NoMemory>
+        requires { 0 < length entry.now.path }
+        ensures { OnOk result (AddsLine self.old entry.now.path entry.now.node.now self.new) }
+    {
+        let flag = add_entry(&mut self.lines, &entry.path, entry.node)?;
+        self.flags |= flag;
+        Ok(())
+    }
+
+    /// The whole text, with the line of its version where it says that a file is executable.
+    pub fn into_text(self, alloc: Global) -> Result<LongText, NoMemory>
+        ensures { IfOk result (λ text. text ≡ whole_text self) }
+    {
+        let TableText { lines, flags } = self;
+        Ok(LongText::from_vec(with_version(alloc, lines, flags)?))
+    }
 }
 
 /// Lines behind the line of their version, which they have where they say that a file is executable.
@@ -42,21 +79,21 @@ fn with_version(alloc: Global, lines: Vec<u8>, flags: bool) -> Result<Vec<u8>, N
     Ok(text)
 }
 
-/// Adds the line of what stands at a path, if it has one, and tells whether it says that a file is executable.
-fn add_entry(text: &mut Vec<u8>, path: &Path, store: &Filestore) -> Result<bool, NoMemory>
+/// Adds the line of what stands at a path other than the root, if it has one, and tells whether it says that a file is
+/// executable.
+fn add_entry(text: &mut Vec<u8>, path: &Path, node: &Node) -> Result<bool, NoMemory>
+    requires { 0 < length path.now }
     ensures text { OnOk result
-        (text.new.items ≡ text.old.items ++ text_at path.now (get store.now.nodes path.now)) }
-    ensures flag { IfOk result (λ flag.
-        flag ≡ flag_of_node (get store.now.nodes path.now)) }
+        (text.new.items ≡ text.old.items ++ text_at path.now (Some node.now)) }
+    ensures flag { IfOk result (λ flag. flag ≡ flag_of_node (Some node.now)) }
 {
-    match store.get(path) {
-        Some(Node::Link(link)) => {
+    match node {
+        Node::Link(link) => {
             add_link(text, path, link)?;
             Ok(false)
         }
-        Some(Node::File { exec, .. }) => add_flag(text, path, *exec),
-        Some(Node::Dir(_)) => Ok(false),
-        None => Ok(false),
+        Node::File { exec, .. } => add_flag(text, path, *exec),
+        Node::Dir(_) => Ok(false),
     }
 }
 

@@ -1,6 +1,7 @@
 use Rattle.std.proofs.Common.{length}
-use Rattle.fx_table.specs.Remaining.{left_of, AreLevels}
+use Rattle.fx_table.specs.Remaining.{left_of}
 use Rattle.fx_table.specs.Entered.{levels_of}
+use Rattle.fx_table.proofs.TableTexts.{IsListing}
 use Rattle.fx_folder.proofs.Writes.{IsWriting}
 use Rattle.fx_folder.proofs.saving.write_entries.Given as goal
 
@@ -8,5 +9,5 @@ abbrev pub decreases-writing : goal.decreases-writing
 decreases-writing g l = length (left_of l.store.nodes (levels_of l.descent))
 
 abbrev pub invariant-writing : goal.invariant-writing
-invariant-writing g l = AreLevels l.store.nodes (levels_of l.descent)
-    × IsWriting (g.H.Host.view l.initial.host) (g.H.Host.view l.host) l.folder l.store.nodes (left_of l.store.nodes (levels_of l.descent))
+invariant-writing g l = IsWriting (g.H.Host.view l.initial.host) (g.H.Host.view l.host) l.folder l.store.nodes (left_of l.store.nodes (levels_of l.descent))
+    × IsListing l.table l.store.nodes (levels_of l.descent)

@@ -1,5 +1,4 @@
-use Rattle.std.proofs.Common.{rules, ◌≡◌, ◌++◌, true, Some, ap, sym, subst, ◌∙◌}
-use Rattle.std.specs.FinMap.{get}
+use Rattle.std.proofs.Common.{◌≡◌, ◌++◌, true, Some, refl, ap, sym, subst, ◌∙◌}
 use Rattle.fx_outside.specs.Path.{parts, is_fit}
 use Rattle.fx_folder.specs.Places.{host_entry}
 use Rattle.fx_folder.proofs.Faulted.{fault_below}
@@ -9,16 +8,14 @@ use Rattle.fx_folder.proofs.saving.write_entry.Goals as goal
 
 pub returns-clause-written : goal.returns-clause-written
 returns-clause-written g c =
-    let here : get c.args.store.now.nodes c.args.path.now ≡ Some c.in-Some.node.now = search rules in
-    wrote_at c.write_node.result _ _ (parts c.in_ok-place.place) (parts c.args.folder.now ++ c.args.path.now) (host_entry (Some c.in-Some.node.now)) (host_entry (get c.args.store.now.nodes c.args.path.now)) (ap parts c.in_ok-place.ensures.place ∙ parts_place c.args.folder.now c.args.path.now c.in_ok-place.ensures.path.names) (ap host_entry (sym here)) c.write_node.ensures.written
+    wrote_at c.write_node.result _ _ (parts c.in_ok-place.place) (parts c.args.folder.now ++ c.args.entry.now.path) (host_entry (Some c.args.entry.now.node.now)) (host_entry (Some c.args.entry.now.node.now)) (ap parts c.in_ok-place.ensures.place ∙ parts_place c.args.folder.now c.args.entry.now.path c.in_ok-place.ensures.path.names) refl c.write_node.ensures.written
 
 pub returns-clause-partly : goal.returns-clause-partly
 returns-clause-partly g c =
-    let here : get c.args.store.now.nodes c.args.path.now ≡ Some c.in-Some.node.now = search rules in
-    part_at c.write_node.result _ _ (parts c.in_ok-place.place) (parts c.args.folder.now ++ c.args.path.now) (host_entry (Some c.in-Some.node.now)) (host_entry (get c.args.store.now.nodes c.args.path.now)) (ap parts c.in_ok-place.ensures.place ∙ parts_place c.args.folder.now c.args.path.now c.in_ok-place.ensures.path.names) (ap host_entry (sym here)) c.write_node.ensures.partly
+    part_at c.write_node.result _ _ (parts c.in_ok-place.place) (parts c.args.folder.now ++ c.args.entry.now.path) (host_entry (Some c.args.entry.now.node.now)) (host_entry (Some c.args.entry.now.node.now)) (ap parts c.in_ok-place.ensures.place ∙ parts_place c.args.folder.now c.args.entry.now.path c.in_ok-place.ensures.path.names) refl c.write_node.ensures.partly
 
 pub returns-clause-fit : goal.returns-clause-fit
-returns-clause-fit g c = λ fit. c.write_node.ensures.fit (subst (λ p. is_fit p ≡ true) (sym c.in_ok-place.ensures.place) (fit_place c.args.folder.now c.args.path.now fit c.in_ok-place.ensures.path.names))
+returns-clause-fit g c = λ fit. c.write_node.ensures.fit (subst (λ p. is_fit p ≡ true) (sym c.in_ok-place.ensures.place) (fit_place c.args.folder.now c.args.entry.now.path fit c.in_ok-place.ensures.path.names))
 
 pub returns-clause-fault : goal.returns-clause-fault
-returns-clause-fault g c = λ failed. fault_below c.args.folder.now c.in_ok-place.place c.args.path.now (g.H.Host.view c.args.host.now) (g.H.Host.view c.write_node.new.host) c.in_ok-place.ensures.place (c.write_node.ensures.fault failed)
+returns-clause-fault g c = λ failed. fault_below c.args.folder.now c.in_ok-place.place c.args.entry.now.path (g.H.Host.view c.args.host.now) (g.H.Host.view c.write_node.new.host) c.in_ok-place.ensures.place (c.write_node.ensures.fault failed)

@@ -7,4 +7,4 @@ abbrev pub decreases-writing : goal.decreases-writing
 decreases-writing l = length (left_of l.store.nodes l.descent.levels.items)
 
 abbrev pub invariant-writing : goal.invariant-writing
-invariant-writing l = IsListing l.text.items l.flags l.store.nodes l.descent.levels.items
+invariant-writing l = IsListing l.table l.store.nodes l.descent.levels.items
