@@ -1,5 +1,5 @@
 -- A walk over a filestore in the order of paths: what stands at a path and below, and what each step leaves.
-use Rattle.std.proofs.Common.{◌≡◌, inl, inr, ℕ, zero, suc, ◌+◌, ◌<◌, Bool, true, false, cond, ◌||◌, T, List, [], ◌∷◌, ◌++◌, length, length-append, drop, is_some, Option, Some, None, Result, Ok, Err, OnOk, IfSome, IsSome, refl, sym, ◌∙◌, ap, subst, arith, append_assoc, append-nil}
+use Rattle.std.proofs.Common.{◌≡◌, inl, inr, ℕ, zero, suc, ◌+◌, ◌<◌, Bool, true, false, cond, ◌||◌, T, List, [], ◌∷◌, ◌++◌, length, length-append, drop, is_some, Option, Some, None, IfSome, IsSome, refl, sym, ◌∙◌, ap, subst, arith, append_assoc, append-nil}
 use Rattle.std.specs.declared.cmp.Ordering.TheVariants.{Less}
 use Rattle.std.specs.Ordering.{is_eq, is_lt, eq_by_cmp, ordering_then}
 use Rattle.std.specs.Cmp.{eq_by_cmp_equiv, tied_itself}
@@ -329,10 +329,6 @@ child_there nodes whole level path is next =
     is_there : (o : Option Node) → is_some o ≡ true → IsSome o
     is_there None e = cc
     is_there (Some x) e = refl
-
-pub entered_ok : {E : Type 0} (r : Result (Unit {0}) E) (nodes : Nodes) (old new : List Level) (path : Path) (names : List (List ℕ)) → get nodes path ≡ Some (Dir names) → OnOk r (Enters old path names new) → OnOk r (left_of nodes new ≡ from_names nodes path (names_in (get nodes path)) ++ left_of nodes old)
-entered_ok (Ok done) nodes old new path names here is = entered_left nodes old new path names here is
-entered_ok (Err e) nodes old new path names here is = tt
 
 pub next_below : (level : Level) (path : Path) → IsNextOf level path → 0 < length path
 next_below level path next = omega (arith, ap length next.2, length-append level.path (next.0 ∷ []))

@@ -206,9 +206,6 @@ follow_of S old l table =
 
 -- ---- the first line
 
-not_got : (line : List ℕ) (said : Option TableLine) → said ≡ read_line line → None ≡ said → read_line line ≡ None
-not_got line said gives none = sym gives ∙ sym none
-
 -- another line that the text begins with is its first
 first_read : (text : List ℕ) (i : ℕ) (l : TableLine) (later : List ℕ) → IsFirstAt text 10 i → text ≡ line_of l ++ 10 ∷ later → IsLine l → read_line (take i text) ≡ Some l
 first_read text i l later first is valid = ap read_line (same_line (take i text) (drop (i + 1) text) l later first.before (sym first.parts ∙ is)) ∙ line_read l valid
