@@ -1,4 +1,4 @@
+pub mod OneScript
 pub mod Plans
-pub mod Reading
-pub mod Scripts
+pub mod ReadRows
 pub mod Stages

@@ -30,7 +30,7 @@ use Rattle.fx_command.proofs.Told.{if_some_map, same, some_unit}
 use Rattle.fx_top.proofs.Ending.{no_memory}
 use Rattle.fx_top.specs.Rows.{AsksFitPaths, Row, RunRow, CannotSave, IsProperRun, Completes}
 use Rattle.fx_inputs.specs.Inputs.{HasTexts, HasInputs, CannotRead, IsFirstRefused, HasScript, HasNoScript, HasScripts, StopsAtScript, LacksFile}
-use Rattle.fx_inputs.proofs.Reading.{read_fault_rose}
+use Rattle.fx_inputs.proofs.ReadRows.{read_fault_rose}
 use Rattle.fx_words.specs.Job.{Job, Run, Show, Gen, Large, RunJob, ShowJob}
 
 -- scripts that are all read are not stopped at

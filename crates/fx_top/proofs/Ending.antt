@@ -16,7 +16,7 @@ use Rattle.fx_command.specs.StatusOf.{save_status}
 use Rattle.fx_command.proofs.Told.{if_some_map, if_some_both, some_and, if_told_same, if_told_map, some_unit, same, grows_front, grows_all, cause_back, told_back, some_back, same_back, left_true, right_true}
 use Rattle.fx_inputs.specs.Inputs.{HasInputs, CannotRead}
 use Rattle.fx_inputs.specs.Reads.{HasReadFault, ReadRow, has_fit_inputs}
-use Rattle.fx_inputs.proofs.Reading.{read_fault_back}
+use Rattle.fx_inputs.proofs.ReadRows.{read_fault_back}
 use Rattle.fx_top.specs.Answers.{IsAnswered}
 use Rattle.fx_top.specs.Outcome.{IsOutcome}
 use Rattle.fx_top.specs.Rows.{RunRow, EndsAs, MayHoldPart, IsPartThere, IsDone, IsCutShort, CannotSave, has_fit_paths}

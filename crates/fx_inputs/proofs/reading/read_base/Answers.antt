@@ -4,7 +4,7 @@ use Rattle.fx_spec.specs.Bases.{base_tree}
 use Rattle.fx_words.specs.JobOf.{asked_inputs}
 use Rattle.fx_inputs.specs.Reads.{ReadRow}
 use Rattle.fx_base.proofs.Errors.{if_err_of}
-use Rattle.fx_inputs.proofs.Reading.{read_row_back}
+use Rattle.fx_inputs.proofs.ReadRows.{read_row_back}
 use Rattle.fx_inputs.proofs.Stages.{whole_base}
 use Rattle.fx_inputs.proofs.reading.read_base.Goals as goal
 

@@ -4,7 +4,7 @@ use Rattle.fx_base.proofs.Errors.{if_err_of}
 use Rattle.fx_words.specs.JobOf.{asked_inputs}
 use Rattle.fx_show.specs.Faults.{status_of_fault}
 use Rattle.fx_inputs.specs.Reads.{ReadRow}
-use Rattle.fx_inputs.proofs.Reading.{spec_refused}
+use Rattle.fx_inputs.proofs.ReadRows.{spec_refused}
 use Rattle.fx_inputs.proofs.reading.read_description.Goals as goal
 
 pub returns-in_err-spec-clause-ends : goal.returns-in_err-spec-clause-ends

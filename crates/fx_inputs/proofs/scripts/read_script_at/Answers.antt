@@ -3,7 +3,7 @@ use Rattle.fx_command.specs.Texts.{IsReadAt}
 use Rattle.fx_base.proofs.Errors.{if_err_of}
 use Rattle.fx_inputs.specs.Causes.{ScriptCause}
 use Rattle.fx_inputs.specs.Unread.{of_host, of_script}
-use Rattle.fx_inputs.proofs.Scripts.{script_read, script_refused, script_unread}
+use Rattle.fx_inputs.proofs.OneScript.{script_read, script_refused, script_unread}
 use Rattle.fx_inputs.proofs.scripts.read_script_at.Goals as goal
 
 pub returns-in_err-text-clause-unread : goal.returns-in_err-text-clause-unread
