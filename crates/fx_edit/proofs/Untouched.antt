@@ -1,7 +1,6 @@
 -- How many of the first reads an edit leaves untouched.
-use Rattle.std.proofs.Common.{◌≡◌, ℕ, Bool, true, false, cond, List, [], ◌∷◌, ◌++◌, min, take, Option, Some, None, IfSome, refl, sym, ap, subst, ◌∙◌, arith, ◌≤◌, IsSome}
-use Rattle.std.specs.Prelude.{nat_lt, slice_get}
-use Rattle.std.proofs.lemmas.Bool.Decides.{nat_tests}
+use Rattle.std.proofs.Common.{◌≡◌, ℕ, List, [], ◌∷◌, ◌++◌, min, take, Option, Some, None, IfSome, refl, sym, ap, subst, ◌∙◌, IsSome}
+use Rattle.std.specs.Prelude.{slice_get}
 use Rattle.std.proofs.lemmas.List.{map-append}
 use Rattle.fx_store.specs.declared.node.Node.{Node}
 use Rattle.fx_store.specs.declared.changes.Change.{Change}
@@ -13,17 +12,10 @@ use Rattle.fx_view.specs.Own.{own_at, put_all, SameOver}
 use Rattle.fx_view.proofs.Apart.{count_append, next_among, same_before, put_among}
 use Rattle.fx_edit.specs.Edits.{IsNextSet}
 
-lesser_min : (m n : ℕ) (b : Bool) → nat_lt n m ≡ b → cond b n m ≡ min m n
-lesser_min m n true e = let less : n ≤ m = grind (arith, nat_tests) in omega (arith, less)
-lesser_min m n false e = let more : m ≤ n = grind (arith, nat_tests) in omega (arith, more)
-
 -- one change more
 pub count_push : (reads : ReadList) (cs : List Change) (c : Change) (n : ℕ) → n ≡ count_before (changed_paths cs) reads → min n (count_before (c.path ∷ []) reads) ≡ count_before (changed_paths (cs ++ c ∷ [])) reads
 count_push reads cs c n is =
-    let before = count_before (changed_paths cs) reads in
-    let one = count_before (c.path ∷ []) reads in
-    ap (λ n. min n one) is
-    ∙ sym (lesser_min before one (nat_lt one before) refl)
+    ap (λ n. min n (count_before (c.path ∷ []) reads)) is
     ∙ sym (count_append (changed_paths cs) (c.path ∷ []) reads)
     ∙ ap (λ ps. count_before ps reads) (sym (map-append (λ (c : Change). c.path) cs (c ∷ [])))
 

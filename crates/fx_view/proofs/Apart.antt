@@ -1,9 +1,8 @@
 -- The first reads that an edit leaves as they were: those before the first at a changed path.
-use Rattle.std.proofs.Common.{◌≡◌, ℕ, suc, Bool, true, false, cond, List, [], ◌∷◌, ◌++◌, length, take, Option, Some, None, is_some, IsSome, refl, sym, ap, subst, ◌∙◌, arith}
-use Rattle.std.specs.Prelude.{nat_lt, slice_get}
+use Rattle.std.proofs.Common.{◌≡◌, ℕ, suc, Bool, true, false, cond, List, [], ◌∷◌, ◌++◌, length, min, take, Option, Some, None, is_some, IsSome, refl, sym, ap, subst, ◌∙◌, arith}
+use Rattle.std.specs.Prelude.{slice_get}
 use Rattle.std.specs.Ordering.{eq_by_cmp}
 use Rattle.std.proofs.lemmas.Bool.{false≢true}
-use Rattle.std.proofs.lemmas.Bool.Decides.{nat_tests}
 use Rattle.fx_store.specs.declared.changes.Change.{Change}
 use Rattle.fx_store.specs.declared.node.Node.{Node}
 use Rattle.fx_store.specs.Changes.{changed_paths}
@@ -58,40 +57,16 @@ pub count_no_paths : (reads : ReadList) → count_before [] reads ≡ length rea
 count_no_paths [] = refl
 count_no_paths (e ∷ es) = ap suc (count_no_paths es)
 
--- the lesser of two
-abbrev pub lesser : ℕ → ℕ → ℕ
-lesser m n = cond (nat_lt n m) n m
-
-both_more : (m n : ℕ) (b : Bool) → nat_lt n m ≡ b → nat_lt (suc n) (suc m) ≡ b
-both_more m n true e = grind (arith, nat_tests)
-both_more m n false e = grind (arith, nat_tests)
-
-lesser_more : (m n : ℕ) (b : Bool) → nat_lt n m ≡ b → suc (cond b n m) ≡ lesser (suc m) (suc n)
-lesser_more m n true e = ap (λ b. cond b (suc n) (suc m)) (sym (both_more m n true e))
-lesser_more m n false e = ap (λ b. cond b (suc n) (suc m)) (sym (both_more m n false e))
-
-none_less : (m : ℕ) → nat_lt 0 (suc m) ≡ true
-none_less m = grind (arith, nat_tests)
-
-lesser_none : (m : ℕ) → 0 ≡ lesser (suc m) 0
-lesser_none m = ap (λ b. cond b 0 (suc m)) (sym (none_less m))
-
-not_less : (m : ℕ) → nat_lt (suc m) 0 ≡ false
-not_less m = grind (arith, nat_tests)
-
-lesser_zero : (m : ℕ) → 0 ≡ lesser 0 (suc m)
-lesser_zero m = ap (λ b. cond b (suc m) 0) (sym (not_less m))
-
-pub count_append : (ps qs : List Path) (reads : ReadList) → count_before (ps ++ qs) reads ≡ lesser (count_before ps reads) (count_before qs reads)
+pub count_append : (ps qs : List Path) (reads : ReadList) → count_before (ps ++ qs) reads ≡ min (count_before ps reads) (count_before qs reads)
 count_append ps qs [] = refl
 count_append ps qs (e ∷ es) = ap (λ b. cond b 0 (suc (count_before (ps ++ qs) es))) (among_append ps qs e.0) ∙ at (is_among ps e.0) (is_among qs e.0) (count_append ps qs es)
   where
-    at : (b c : Bool) → count_before (ps ++ qs) es ≡ lesser (count_before ps es) (count_before qs es)
-        → cond (cond b true c) 0 (suc (count_before (ps ++ qs) es)) ≡ lesser (cond b 0 (suc (count_before ps es))) (cond c 0 (suc (count_before qs es)))
-    at true true rest = refl
-    at true false rest = lesser_zero (count_before qs es)
-    at false true rest = lesser_none (count_before ps es)
-    at false false rest = ap suc rest ∙ lesser_more (count_before ps es) (count_before qs es) (nat_lt (count_before qs es) (count_before ps es)) refl
+    at : (b c : Bool) → count_before (ps ++ qs) es ≡ min (count_before ps es) (count_before qs es)
+        → cond (cond b true c) 0 (suc (count_before (ps ++ qs) es)) ≡ min (cond b 0 (suc (count_before ps es))) (cond c 0 (suc (count_before qs es)))
+    at true true rest = omega arith
+    at true false rest = omega arith
+    at false true rest = omega arith
+    at false false rest = omega (arith, rest)
 
 -- ---- changes
 
