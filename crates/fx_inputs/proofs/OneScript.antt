@@ -1,5 +1,5 @@
 -- A script, read from the host and checked.
-use Rattle.std.proofs.Common.{◌≡◌, ℕ, ◌+◌, ◌≤◌, ◌<◌, List, length, Option, Some, None, IfSome, refl, sym, subst, arith}
+use Rattle.std.proofs.Common.{◌≡◌, ℕ, ◌≤◌, ◌<◌, List, length, Option, IfSome, refl, sym, subst, arith}
 use Rattle.fx_outside.specs.declared.kind.HostFault.{HostFault}
 use Rattle.fx_outside.specs.declared.kind.HostFault.TheVariants as fails
 use Rattle.fx_outside.specs.Host.{HostView, FaultAt, HasFailed}
@@ -13,7 +13,7 @@ use Rattle.fx_scripts.specs.declared.fault.ScriptFault.{ScriptFault}
 use Rattle.fx_scripts.specs.declared.fault.ScriptFault.TheVariants as refusal
 use Rattle.fx_scripts.specs.Scripted.{Scripts, IsNoScriptFor, IsUnscripted}
 use Rattle.fx_inputs.specs.Causes.{ScriptCause}
-use Rattle.fx_inputs.specs.Inputs.{HasScript, HasNoScript, GoesOn}
+use Rattle.fx_inputs.specs.Inputs.{HasNoScript, GoesOn}
 use Rattle.fx_inputs.specs.Unread.{of_host, of_script}
 
 abbrev Txns : Type 0

@@ -1,5 +1,5 @@
 -- How the stages that read end, from what each of them asks.
-use Rattle.std.proofs.Common.{◌≡◌, ◌⊎◌, inl, inr, ℕ, Bool, true, false, ◌&&◌, List, Option, Some, None, IfSome, IsSomeAnd, refl, subst}
+use Rattle.std.proofs.Common.{◌≡◌, inl, inr, ℕ, Bool, true, false, ◌&&◌, List, IfSome, refl, subst}
 use Rattle.std.specs.List.{list_all}
 use Rattle.fx_base.specs.Causes.{Rose}
 use Rattle.fx_outside.specs.declared.kind.HostFault.{HostFault}

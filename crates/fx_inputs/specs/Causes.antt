@@ -1,13 +1,13 @@
 -- Why the scripts are not read.
-use Rattle.std.specs.Prelude.{◌≡◌, ◌⊎◌, ℕ, List, slice_get, Some, IfSome, IsSomeAnd, ⊤}
+use Rattle.std.specs.Prelude.{◌≡◌, ◌⊎◌, ℕ, List, IfSome, IsSomeAnd, ⊤}
 use Rattle.fx_outside.specs.Host.{HostView, FaultAt, HasFailed}
-use Rattle.fx_outside.specs.Tree.{Tree, is_file_at}
+use Rattle.fx_outside.specs.Tree.{is_file_at}
 use Rattle.fx_words.specs.Job.{Inputs, place_of}
 use Rattle.fx_inputs.specs.declared.scripts.Unread.{Unread}
 use Rattle.fx_inputs.specs.declared.scripts.Unread.TheVariants as unread
 use Rattle.fx_inputs.specs.declared.scripts.ScriptUnread.{ScriptUnread}
 use Rattle.fx_inputs.specs.declared.scripts.ScriptUnread.TheVariants as script
-use Rattle.fx_inputs.specs.Inputs.{HasNoScript, StopsAtScript, IsReached, LacksFile}
+use Rattle.fx_inputs.specs.Inputs.{HasNoScript, StopsAtScript, LacksFile}
 use Rattle.fx_inputs.specs.Reads.{FailsAtScript}
 
 -- of one script

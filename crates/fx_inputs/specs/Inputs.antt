@@ -1,5 +1,5 @@
 -- What a run reads: the texts of the description and of the scripts, and the folder.
-use Rattle.std.specs.Prelude.{◌≡◌, ◌⊎◌, ℕ, ◌+◌, ◌≤◌, true, false, List, [], ◌∷◌, length}
+use Rattle.std.specs.Prelude.{◌≡◌, ◌⊎◌, ℕ, ◌+◌, true, false, List, [], ◌∷◌, length}
 use Rattle.fx_store.specs.Whole.{Nodes}
 use Rattle.fx_outside.specs.Tree.{Tree, is_file_at, bytes_at, is_folder_at}
 use Rattle.fx_folder.specs.Loads.{Loads}

@@ -55,11 +55,7 @@ fn read_scripts<H: Host>(alloc: Global, inputs: &Inputs, host: &mut H) -> Result
 }
 
 /// Loads the folder, after the texts.
-fn read_folder<H: Host>(
-    alloc: Global,
-    inputs: &Inputs,
-    host: &mut H,
-) -> Result<Filestore, Status>
+fn read_folder<H: Host>(alloc: Global, inputs: &Inputs, host: &mut H) -> Result<Filestore, Status>
     requires { IfSome (H.view host.old).told (λ t. HasTexts t (asked_inputs inputs.now)) }
     ensures loaded { IfOk result (λ s. IfSome (H.view host.old).told
         (λ t. Loads t (asked_inputs inputs.now).folder s.nodes)) }
@@ -91,11 +87,7 @@ fn gathered(
 
 /// Reads what a run begins with: the description, the scripts in order, and the folder. It asks nothing but reads, and
 /// ends for no other cause than that one of these is not read or is refused, or that memory runs out.
-pub fn read_base<H: Host>(
-    alloc: Global,
-    inputs: &Inputs,
-    host: &mut H,
-) -> Result<Arc<Base>, Status>
+pub fn read_base<H: Host>(alloc: Global, inputs: &Inputs, host: &mut H) -> Result<Arc<Base>, Status>
     requires { AreInputs inputs.now }
     ensures read { IfOk result (λ base. IfSome (H.view host.old).told
         (λ t. HasBase t (asked_inputs inputs.now) (base_tree base.value))) }

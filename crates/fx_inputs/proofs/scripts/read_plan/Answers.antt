@@ -1,4 +1,4 @@
-use Rattle.std.proofs.Common.{rules, ◌≡◌, ◌+◌, ◌≤◌, length, Some, sym, subst, arith}
+use Rattle.std.proofs.Common.{rules, ◌≡◌, Some, sym, subst, arith}
 use Rattle.std.specs.Prelude.{slice_get}
 use Rattle.fx_words.specs.JobOf.{asked_inputs}
 use Rattle.fx_inputs.specs.Causes.{UnreadCause}
