@@ -2,8 +2,9 @@
 
 usage: compare.py PROGRAM [SEED] [COUNT]
 
-Each case is a random folder with links and flags, a description, up to three scripts and a schedule: `show`, `trace` and `run` have
-to print, write and refuse what the model says. Of `run` the order and the retries are those that it prints: the answers
+Each case is a random folder with links and flags, a description, some scripts and a schedule: `show`, `trace` and `run` have
+to print, write and refuse what the model says. In every third case the scripts work on the same few files, so that they
+meet. Of `run` the order and the retries are those that it prints: the answers
 and OUT are those of its transactions run whole in that order. Some texts are broken before, so that refusals are compared
 too. Then four cases from numbers: what `gen` writes, and what `large` leaves and prints. Prints how many cases there were of each kind, and ends with 1 at the first difference, which it tells.
 """
@@ -167,6 +168,25 @@ class Maker:
     def script(self):
         return "\n".join(f"txn {{ {self.block([])} }}" for _ in range(self.r.randrange(0, 4))).encode()
 
+    def meeting_folder(self, top):
+        os.mkdir(top)
+        for name in ("a", "b", "c"):
+            with open(os.path.join(top, name), "wb") as it:
+                it.write(self.r.choice(TEXTS))
+        if self.r.random() < 0.5:
+            os.mkdir(os.path.join(top, "d"))
+        lines = self.r.choice([b"", b"/l -> a\n", b"version 2\n/a *\n", b"version 2\n/b *\n/l -> c\n"])
+        if lines:
+            with open(os.path.join(top, ".forest-links"), "wb") as it:
+                it.write(lines)
+
+    def meeting_script(self):
+        r, found = self.r, []
+        for _ in range(r.randrange(1, 5)):
+            body = r.choice(MEETINGS).replace("X", r.choice("abcl")).replace("Y", r.choice("abd"))
+            found.append(f"txn {{ {body} }}")
+        return "\n".join(found).encode()
+
     def broken(self, text):
         """The text, now and then with a piece of it gone, doubled or changed."""
         r = self.r
@@ -213,6 +233,22 @@ class Maker:
                 it.write(table)
 
 
+# A description of the files and links of a folder, and transactions that meet there; X and Y are names.
+MEETING = '<d : dir, {(n :: <f : file, opt(file)>) | n in (d union one("new"))}>'
+MEETINGS = [
+    'into next to("X") down into fetch v : str store((v ++ "1")) print(v)',
+    'into next to("X") down into fetch v : str out up out to("Y") down into store((v ++ "2"))',
+    'into fetch d : names store((d union one("X"))) print(d)',
+    'into fetch d : names store((d minus one("Y")))',
+    'into next to("X") down try e remove print(e)',
+    'into next to("X") down into fetch f : bool store(not(f)) print(f)',
+    'into next to("X") down into store(true) fetch v : str print(v)',
+    'into next to("new") down create top into next to("Y") down value v : pair(str, opt(str)) print(v)',
+    "validate v print(v) into next fetch all : names each n in (all) { to(n) down into try e store(n) up try o out up out }",
+    "into next into down try a into try b next fetch there : bool print(there) abort",
+]
+
+
 class Different(Exception):
     pass
 
@@ -244,16 +280,15 @@ def inputs(room, scripts, of_show):
 
 
 def compare(room, maker, counts):
-    r = maker.r
-    maker.folder(os.path.join(room, "in"))
-    spec, _ = maker.spec([])
+    r, meet = maker.r, maker.r.random() < 0.33
+    maker.meeting_folder(os.path.join(room, "in")) if meet else maker.folder(os.path.join(room, "in"))
     with open(os.path.join(room, "spec"), "wb") as it:
-        it.write(maker.broken(spec.encode()))
-    scripts = [f"s{i}" for i in range(r.choice([1, 1, 2, 2, 3]))]
+        it.write(MEETING.encode() if meet else maker.broken(maker.spec([])[0].encode()))
+    scripts = [f"s{i}" for i in range(r.choice([2, 3, 4] if meet else [1, 1, 2, 2, 3]))]
     for name in scripts:
         with open(os.path.join(room, name), "wb") as it:
-            it.write(maker.broken(maker.script()))
-    schedule = [r.randrange(len(scripts)) for _ in range(r.randrange(0, 12))]
+            it.write(maker.meeting_script() if meet else maker.broken(maker.script()))
+    schedule = [r.randrange(len(scripts)) for _ in range(r.randrange(0, 60 if meet else 12))]
 
     found = run(["show", "spec", "in"], room)
     read = inputs(room, scripts, True)
