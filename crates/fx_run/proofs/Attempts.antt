@@ -5,7 +5,7 @@ use Rattle.fx_spec.specs.SpecTree.{SpecTree}
 use Rattle.fx_spec.specs.CommandTree.{CommandTree}
 use Rattle.fx_spec.specs.Plans.{txn_of}
 use Rattle.fx_spec.specs.Order.{BaseTree}
-use Rattle.fx_spec.specs.Transaction.{Flow, flow_outputs}
+use Rattle.fx_spec.specs.Transaction.{flow_outputs}
 use Rattle.fx_spec.specs.declared.refusal.End.{End}
 use Rattle.fx_view.specs.declared.reader.Stop.{Stop}
 use Rattle.fx_view.specs.declared.reader.Stop.TheVariants as stop
@@ -13,16 +13,14 @@ use Rattle.fx_view.specs.Meaning.{Meaning}
 use Rattle.fx_view.specs.Own.{AreRead, no_own}
 use Rattle.fx_view.specs.Reads.{known_of}
 use Rattle.fx_view.specs.Follows.{Went, GoesBy, walked}
-use Rattle.fx_view.proofs.Going.{Went-kept_on}
 use Rattle.fx_machine.specs.declared.attempt.Attempt.{Attempt}
 use Rattle.fx_machine.specs.Explained.{IsExplained}
 use Rattle.fx_run.specs.declared.finishing.Finished.{Finished}
 use Rattle.fx_obey.specs.declared.pursuing.Ran.{Ran}
 use Rattle.fx_obey.specs.declared.work.Work.{Work}
 use Rattle.fx_obey.specs.Course.{pursued, came_of}
-use Rattle.fx_obey.specs.Pursuing.{Came}
 use Rattle.fx_obey.specs.Works.{flow_by}
-use Rattle.fx_run.specs.Finishing.{KeepsAll, IsFinished, IsAttempt, Finishes}
+use Rattle.fx_run.specs.Finishing.{IsFinished, IsAttempt, Finishes}
 use Rattle.fx_run.specs.Running.{ReadsFit, Foretells, Attempted, KeepsOn, StoppedAt}
 use Rattle.fx_run.proofs.Explaining.{explained, next_needed, unread_needed, fit_again}
 use Rattle.fx_run.proofs.Foretelling.{foretells}
@@ -31,12 +29,12 @@ outputs_by : (w : Work) (o : Option End) → flow_outputs (flow_by w o) ≡ w.ou
 outputs_by w None = refl
 outputs_by w (Some end) = refl
 
-module _ {R : Type 0} (m : Meaning R) (root : SpecTree) (t : List CommandTree) (shell txn : ℕ) (old mid : R) where
-  -- the reader keeps its reads while it is finished, and gives them to the attempt
-  pub attempted : (kept new : R) (ran : Ran) (f : Finished) (a : Attempt) → a ≡ record { shell = shell; txn = txn; reads = m.reads mid; changes = f.changes; outputs = f.outputs; end = f.end }
-      → GoesBy m came_of no_own old mid (pursued root t) (Ok ran) → AreRead ran.work.walk.overlay (m.reads mid) → KeepsAll m mid kept → IsFinished ran (m.reads mid) f
-      → m.reads new ≡ [] → m.complete new ≡ m.complete kept → ((start : R) → m.vouches start kept (m.reads kept) → m.vouches start new (m.reads kept)) → IsAttempt m root t shell txn old new a
-  attempted kept new ran f a is follows read keeps finished none same vouched =
+module _ {R : Type 0} (m : Meaning R) (root : SpecTree) (t : List CommandTree) (shell txn : ℕ) (old mid new : R) where
+  -- the reader gives its reads to the attempt
+  pub attempted : (ran : Ran) (f : Finished) (a : Attempt) → a ≡ record { shell = shell; txn = txn; reads = m.reads mid; changes = f.changes; outputs = f.outputs; end = f.end }
+      → GoesBy m came_of no_own old mid (pursued root t) (Ok ran) → AreRead ran.work.walk.overlay (m.reads mid) → IsFinished ran (m.reads mid) f
+      → m.reads new ≡ [] → m.complete new ≡ m.complete mid → ((start : R) → m.vouches start mid (m.reads mid) → m.vouches start new (m.reads mid)) → IsAttempt m root t shell txn old new a
+  attempted ran f a is follows read finished none same vouched =
       subst (IsAttempt m root t shell txn old new) (sym is) (record {
         whose = refl;
         number = refl;
@@ -51,15 +49,9 @@ module _ {R : Type 0} (m : Meaning R) (root : SpecTree) (t : List CommandTree) (
         outputs = finished.outputs ∙ sym (outputs_by ran.work ran.over);
         end = finished.end;
         none = none;
-        same = same ∙ (keeps.same ∙ follows.1.same);
-        vouched = λ start v. subst (λ rs. m.vouches start new rs) keeps.kept (vouched start (keeps.vouched start (follows.1.vouched start v)));
+        same = same ∙ follows.1.same;
+        vouched = λ start v. vouched start (follows.1.vouched start v);
       })
-
-  -- memory is refused while it is finished
-  pub attempt_refused : (kept : R) (ran : Ran) → GoesBy m came_of no_own old mid (pursued root t) (Ok ran) → KeepsAll m mid kept → GoesBy {A = Came Flow} {X = Ran} m came_of no_own old kept (pursued root t) (Err stop.NoMemory)
-  attempt_refused kept ran follows keeps =
-      subst (λ rs. Went m old kept (walked (known_of rs) no_own (pursued root t))) (sym keeps.kept)
-      (Went-kept_on m old mid kept (walked (known_of (m.reads mid)) no_own (pursued root t)) keeps.kept keeps.same keeps.vouched follows.1)
 
 module _ {R : Type 0} (m : Meaning R) (base : BaseTree) (shell txn : ℕ) (t : List CommandTree) (planned : txn_of base.plan (shell, txn) ≡ Some t) (old new : R) (fit : ReadsFit base (shell, txn) (m.reads old)) where
   attempt_explained : (a : Attempt) → IsAttempt m base.description t shell txn old new a → IsExplained base a

@@ -1,12 +1,12 @@
 -- What an attempt tells ahead: the paths that its transaction consults after less was read.
-use Rattle.std.proofs.Common.{◌≡◌, ℕ, zero, suc, ◌+◌, ◌<◌, ◌≤◌, Bool, true, false, cond, List, [], ◌∷◌, ◌++◌, length, Option, Some, None, refl, ap, ◌∙◌, sym, subst, arith, length-append, ◌⊎◌, inl, inr}
+use Rattle.std.proofs.Common.{◌≡◌, ℕ, suc, ◌≤◌, Bool, true, false, cond, List, [], ◌∷◌, ◌++◌, length, Option, Some, None, refl, ap, ◌∙◌, sym, subst, arith}
 use Rattle.std.specs.FinMap.{get}
 use Rattle.std.specs.Option.{option_map}
 use Rattle.std.specs.Ordering.{eq_by_cmp}
 use mathlib.Core.Path.{fun_ext}
 use Rattle.fx_store.specs.declared.node.Node.{Node}
 use Rattle.fx_store.specs.Names.{path_cmp}
-use Rattle.fx_store.specs.Rule.{Known, follow, Found, Needs, first_unknown}
+use Rattle.fx_store.specs.Rule.{follow, Found, Needs, first_unknown}
 use Rattle.fx_spec.specs.CommandTree.{CommandTree}
 use Rattle.fx_spec.specs.Plans.{Turn, txn_of}
 use Rattle.fx_spec.specs.Order.{BaseTree}
@@ -21,7 +21,7 @@ use Rattle.fx_view.proofs.Ordering.{order_at}
 use Rattle.fx_view.proofs.Rules.{follow_less, needs_unknown}
 use Rattle.fx_obey.specs.Course.{pursued}
 use Rattle.fx_obey.specs.Pursuing.{Came}
-use Rattle.fx_run.specs.Running.{IsNeeded, IsNext, Foretells}
+use Rattle.fx_run.specs.Running.{IsNext, Foretells}
 use Rattle.fx_run.proofs.Explaining.{needs_way}
 
 abbrev Path : Type 0
@@ -56,8 +56,8 @@ record Parted (reads : ReadList) (front : OwnList) (path : Path) : Type 0 where
   same : nodes_in before ≡ front
 
 parted : (reads : ReadList) (front : OwnList) (path : Path) (node : Option Node) (rest : OwnList) → nodes_in reads ≡ front ++ (path, node) ∷ rest → Parted reads front path
-parted [] [] path node rest e = cc
-parted [] (f ∷ front) path node rest e = cc
+parted [] [] path stood rest e = cc
+parted [] (f ∷ front) path stood rest e = cc
 parted (r ∷ reads) [] path node rest e =
     let both : ◌≡◌ {A = Path × Option Node} (bare r) (path, node) = cc in
     let here : r.0 ≡ path = ap (λ (x : Path × Option Node). x.0) both in

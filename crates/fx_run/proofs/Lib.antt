@@ -2,6 +2,5 @@ pub mod Ways
 pub mod Stable
 pub mod Explaining
 pub mod Foretelling
-pub mod Copies
 pub mod Planned
 pub mod Attempts

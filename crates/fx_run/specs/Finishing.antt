@@ -1,5 +1,5 @@
 -- What a transaction comes to as an attempt.
-use Rattle.std.specs.Prelude.{◌≡◌, ◌⊎◌, ℕ, List, [], ◌++◌, All, Contains, Option, Some, Result, Ok, Err}
+use Rattle.std.specs.Prelude.{◌≡◌, ℕ, List, [], ◌++◌, All, Contains, Result, Ok, Err}
 use Rattle.std.specs.Map.{keys_of}
 use Rattle.fx_store.specs.Rule.{follow, Found}
 use Rattle.fx_spec.specs.SpecTree.{SpecTree}
@@ -7,12 +7,10 @@ use Rattle.fx_spec.specs.CommandTree.{CommandTree}
 use Rattle.fx_spec.specs.Transaction.{Flow, flow_end, flow_outputs}
 use Rattle.fx_view.specs.declared.reader.Stop.{Stop}
 use Rattle.fx_view.specs.Follows.{GoesBy, InOrder, walked}
-use Rattle.fx_store.specs.declared.node.Node.{Node}
-use Rattle.fx_view.specs.OwnList.{OwnList}
 use Rattle.fx_view.specs.Meaning.{Meaning}
 use Rattle.fx_view.specs.ReadList.{ReadList}
 use Rattle.fx_view.specs.Own.{AreRead, no_own}
-use Rattle.fx_view.specs.Reads.{known_of, IsRead}
+use Rattle.fx_view.specs.Reads.{known_of}
 use Rattle.fx_machine.specs.declared.attempt.Attempt.{Attempt}
 use Rattle.fx_run.specs.declared.finishing.Finished.{Finished}
 use Rattle.fx_obey.specs.declared.pursuing.Ran.{Ran}
@@ -20,23 +18,6 @@ use Rattle.fx_obey.specs.Course.{pursued, came_of}
 use Rattle.fx_obey.specs.Pursuing.{Came}
 use Rattle.fx_run.specs.Course.{KeptOf, end_of}
 use Rattle.fx_run.specs.Keeping.{AreKept}
-
--- at each own path the copied reads are what was read there
-pub record IsCopy (own : OwnList) (reads copied : ReadList) : Type 0 where
-  pub all : AreRead own copied
-  pub same : (path : List (List ℕ)) (node : Option Node) → known_of copied path ≡ Some node → known_of reads path ≡ Some node
-
--- the path is read now, where it was not read before as this node; nothing else changes
-pub record Keeps (old new : ReadList) (path : List (List ℕ)) (node : Option Node) : Type 0 where
-  pub there : IsRead new path
-  pub before : (p : List (List ℕ)) → IsRead old p → IsRead new p
-  pub only : (p : List (List ℕ)) (n : Option Node) → known_of new p ≡ Some n → (known_of old p ≡ Some n) ⊎ ((p ≡ path) × (n ≡ node))
-
--- the reader keeps just the reads that it has, and vouches for them
-pub record KeepsAll {R : Type 0} (m : Meaning R) (old new : R) : Type 0 where
-  pub kept : m.reads new ≡ m.reads old
-  pub same : m.complete new ≡ m.complete old
-  pub vouched : (start : R) → m.vouches start old (m.reads old) → m.vouches start new (m.reads new)
 
 -- the changes that the transaction keeps, its outputs and its end
 pub record IsFinished (r : Ran) (reads : ReadList) (f : Finished) : Type 0 where

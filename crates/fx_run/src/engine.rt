@@ -41,7 +41,7 @@ fn attempt<R: Reader>(
         reader.old reader.new result }
 {
     let ran = pursue(alloc, reader, base, commands)?;
-    let finished = finish(alloc, reader, ran)?;
+    let finished = finish(alloc, reader.reads(), ran)?;
     Ok(Attempt {
         shell,
         txn,
@@ -54,7 +54,8 @@ fn attempt<R: Reader>(
 
 /// Runs a transaction of the plan over what the reader reads. The reader's reads, on each whole filestore that agrees with
 /// them, need to be of paths that the transaction consults there; no reads are. The attempt holds the reads that the reader
-/// had at the end, in the order in which the transaction came to their paths, and the reader then has none. After `Needs` the reads with the needed path are such again.
+/// had at the end, in the order in which the transaction came to their paths, and the reader then has none. After `Needs` the
+/// reads with the needed path are such again.
 pub fn run<R: Reader>(
     alloc: Global,
     base: &Arc<Base>,

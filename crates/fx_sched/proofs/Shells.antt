@@ -154,7 +154,7 @@ abbrev pub looked_on : Shell → ℕ → Shell
 looked_on s position = record s { looked = s.looked + 1; reads = placed s.looked position s.reads }
 
 looks_on : (s : Shell) (r : Row) (position : ℕ) (node : Option Node) → slice_get s.reads s.looked ≡ Some r → r.1.0 ≡ node → looked_in (looked_on s position) ≡ looked_in s ++ (r.0, (node, position)) ∷ []
-looks_on s r position node at now = ap (λ n. take n (placed s.looked position s.reads)) (add-one s.looked) ∙ (take_placed s.reads s.looked position r at ∙ ap (λ node. looked_in s ++ (r.0, (node, position)) ∷ []) now)
+looks_on s r position stood at now = ap (λ n. take n (placed s.looked position s.reads)) (add-one s.looked) ∙ (take_placed s.reads s.looked position r at ∙ ap (λ stood. looked_in s ++ (r.0, (stood, position)) ∷ []) now)
 
 plan_on : (log : Log) (number : ℕ) (s : Shell) (p : Plan) (r : Row) (position : ℕ) → IsShell log number s → IsPlan log number s p → slice_get s.reads s.looked ≡ Some r → IsPlan log number (looked_on s position) p
 plan_on log number s p r position is plan at = record {
@@ -275,8 +275,8 @@ fits_as log number s looks base l b is = subst (λ base. ReadsFit base (number, 
 
 -- one read more that stands there now
 AreNow-last : (log : Log) (reads : ReadList) (path : Path) (node : Option Node) (position : ℕ) → node ≡ get (last_state log) path → AreNow log reads → AreNow log (reads ++ (path, (node, position)) ∷ [])
-AreNow-last log [] path node position there now = (there, tt)
-AreNow-last log (r ∷ reads) path node position there now = (now.0, AreNow-last log reads path node position there now.1)
+AreNow-last log [] path stood position there now = (there, tt)
+AreNow-last log (r ∷ reads) path stood position there now = (now.0, AreNow-last log reads path stood position there now.1)
 
 pub now_added : (log : Log) (old mid new : ReadList) (path : Path) (node : Option Node) (position : ℕ) → IsNowIn log old mid → new ≡ mid ++ (path, (node, position)) ∷ [] → node ≡ get (last_state log) path → IsNowIn log old new
 now_added log old mid new path node position was added there = record {
