@@ -1,5 +1,6 @@
 """What the tools share: how they end, how a path is told, and how they call the program."""
 
+import argparse
 import os
 import re
 import signal
@@ -8,14 +9,6 @@ import sys
 
 sys.setrecursionlimit(100_000)
 DONE, NO, USAGE, SYSTEM, NO_VALUE, LOCKED = 0, 1, 2, 9, 10, 11
-STATUSES = """exit status:
-  0      done
-  1      the answer is no: nothing was changed
-  2      the words have no form of this tool
-  3-8    the program's own status, with its line
-  9      the system refused something; the path and the cause are told"""
-
-
 class Failed(Exception):
     """The tool ends with this status, and tells these lines."""
 
@@ -82,6 +75,12 @@ def odd_ends(report):
     """The entries of a report that are not done: shell, transaction, end."""
     found = re.findall(rb"(?m)^entry \d+ shell (\d+) txn (\d+) (stopped .*|aborted)$", report)
     return [(int(shell), int(txn), end.decode(errors="replace")) for shell, txn, end in found]
+
+
+def words_of(doc, no=None, more="", usage=None):
+    """A parser of a tool's words, whose help ends with the statuses: what 1 means, where it may come, and further ones."""
+    lines = ["exit status:", "  0      done", *([f"  1      {no}"] if no else []), "  2      the words have no form of this tool", "  3-8    the program's own status, with its line", "  9      the system refused something; the path and the cause are told"]
+    return argparse.ArgumentParser(description=doc, epilog="\n".join(lines) + more, usage=usage, formatter_class=argparse.RawDescriptionHelpFormatter)
 
 
 def main(tool):
