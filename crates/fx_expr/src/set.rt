@@ -3,7 +3,6 @@ ghost use Rattle.std.specs.Option.{option_copied};
 ghost use Rattle.std.specs.Cmp.{partial_equiv_from_equiv};
 ghost use Rattle.std.specs.Cmp.Lexicographic.{pointwise, nat_list_eq_equiv, lists_equiv};
 ghost use Rattle.std.specs.List.{filter};
-ghost use Rattle.fx_base.specs.Shared.{listed};
 ghost use Rattle.fx_expr.specs.Sets.{IsAscending, has_text, set_of, weight, least, least_above, greatest_below, item_before};
 ghost use Rattle.fx_expr.specs.Eval.{without};
 ghost use Rattle.fx_expr.specs.Globs.{glob_matches};
@@ -11,11 +10,10 @@ ghost use Rattle.fx_expr.specs.Merges.{IsLeastOf};
 
 use crate::glob::matches;
 use crate::text::Text;
-use fx_base::NoMemory;
+use fx_base::{Chunks, Items, NoMemory};
 use std::alloc::{AllocError, Global};
 use std::cmp::Ordering;
 use std::marker::Model;
-use std::sync::Arc;
 
 /// The most that a union may weigh: the bytes of its elements, and one more for each.
 pub const UNION_LIMIT: u64 = 33_554_432;
@@ -23,28 +21,29 @@ pub const UNION_LIMIT: u64 = 33_554_432;
 /// A set of texts, of which a copy takes no time. Contracts see its elements in strictly ascending order of bytes.
 #[derive(Debug, Drop)]
 pub struct TextSet {
-    shared: Option<Arc<Vec<Text>>>,
+    texts: Chunks<Text>,
 }
 
 impl Model for TextSet {
     ghost use Rattle.std.specs.Prelude.{List, ℕ};
-    ghost use Rattle.fx_base.specs.Shared.{listed};
     ghost use Rattle.fx_expr.specs.Sets.{IsAscending};
 
     ghost Value = { List (List ℕ) };
 
-    ghost view = { λ s. listed s.shared };
+    ghost view = { λ s. s.texts };
 
-    ghost invariant = { λ s. IsAscending (listed s.shared) };
+    ghost invariant = { λ s. IsAscending s.texts };
 }
 
 impl TextSet {
     /// The empty set.
     #[tactic(auto, using(crate::proofs::Order::ascending_none))]
-    pub fn new(_alloc: Global) -> TextSet
+    pub fn new(alloc: Global) -> TextSet
         ensures { result ≡ [] }
     {
-        TextSet { shared: None }
+        TextSet {
+            texts: Chunks::new(alloc),
+        }
     }
 
     /// The number of elements.
@@ -53,14 +52,21 @@ impl TextSet {
         ensures small { result < 2 ^ 63 }
         ensures order { IsAscending self.now }
     {
-        self.as_slice().len() as u64
+        self.texts.len() as u64
     }
 
-    /// The element at `i` in ascending order; None exactly from `len` on.
+    /// The elements in ascending order. It is the way to go over all of them, since `at` searches.
+    pub fn iter(&self) -> Items<'_, Text>
+        ensures { result ≡ self.now }
+    {
+        self.texts.iter()
+    }
+
+    /// The element at `i` in ascending order, by a search over the chunks of the set; None exactly from `len` on.
     pub fn at(&self, i: u64) -> Option<&Text>
         ensures { option_copied result ≡ slice_get self.now i }
     {
-        self.as_slice().get(i as usize)
+        self.texts.get(i as usize)
     }
 
     /// Adds a text above all elements. A refusal changes nothing.
@@ -69,7 +75,7 @@ impl TextSet {
         ensures ok { OnOk result (self.new ≡ self.old ++ item ∷ []) }
         ensures err { OnErr result (self.new ≡ self.old) }
     {
-        push(alloc, &mut self.shared, item)
+        self.texts.push(alloc, item)
     }
 
     /// Whether the text is an element, by binary search.
@@ -85,24 +91,25 @@ impl TextSet {
             (λ i. slice_get self.now i ≡ Some item.now) }
         ensures order { IsAscending self.now }
     {
-        self.as_slice().binary_search(item).ok()
+        self.texts.search(item).ok()
     }
 
     /// The least element.
     pub fn first(&self) -> Option<&Text>
         ensures { option_copied result ≡ least self.now }
     {
-        self.as_slice().first()
+        self.texts.get(0)
     }
 
     /// The least element above a text, by binary search.
     pub fn above(&self, text: &Text) -> Option<&Text>
         ensures { option_copied result ≡ least_above text.now self.now }
     {
-        let texts = self.as_slice();
-        match texts.binary_search(text) {
-            Ok(i) => item_at(texts, i + 1),
-            Err(i) => item_at(texts, i),
+        // The length is read for its bound alone.
+        let _len = self.texts.len();
+        match self.texts.search(text) {
+            Ok(i) => self.texts.get(i + 1),
+            Err(i) => self.texts.get(i),
         }
     }
 
@@ -110,10 +117,9 @@ impl TextSet {
     pub fn below(&self, text: &Text) -> Option<&Text>
         ensures { option_copied result ≡ greatest_below text.now self.now }
     {
-        let texts = self.as_slice();
-        match texts.binary_search(text) {
-            Ok(i) => item_before(texts, i),
-            Err(i) => item_before(texts, i),
+        match self.texts.search(text) {
+            Ok(i) => item_before(&self.texts, i),
+            Err(i) => item_before(&self.texts, i),
         }
     }
 
@@ -122,18 +128,8 @@ impl TextSet {
         ensures { IfOk result (λ set. set ≡ self.now) }
     {
         Ok(TextSet {
-            shared: self.shared.clone()?,
+            texts: self.texts.copy()?,
         })
-    }
-
-    fn as_slice(&self) -> &[Text]
-        ensures texts { result.now ≡ self.now }
-        ensures order { IsAscending self.now }
-    {
-        match &self.shared {
-            Some(texts) => texts.as_slice(),
-            None => &[],
-        }
     }
 }
 
@@ -154,7 +150,7 @@ impl TextSet {
         ensures { IfOk result (λ set. set ≡ items.items) }
     {
         Ok(TextSet {
-            shared: Some(Arc::new(alloc, items)?),
+            texts: Chunks::from_vec(alloc, items)?,
         })
     }
 
@@ -172,7 +168,7 @@ impl TextSet {
     pub fn union(&self, alloc: Global, other: &TextSet) -> Result<TextSet, NoMemory>
         ensures { IfOk result (λ set. set ≡ set_of (self.now ++ other.now)) }
     {
-        let both = merge(alloc, self.as_slice(), other.as_slice())?;
+        let both = merge(alloc, &self.texts, &other.texts)?;
         TextSet::from_ascending(alloc, both)
     }
 
@@ -180,16 +176,15 @@ impl TextSet {
     pub(crate) fn union_weighs_at_most(&self, other: &TextSet, limit: u64) -> bool
         ensures { result ≡ nat_le (weight (set_of (self.now ++ other.now))) limit }
     {
-        merge_weighs_at_most(self.as_slice(), other.as_slice(), limit)
+        merge_weighs_at_most(&self.texts, &other.texts, limit)
     }
 
     /// The elements that are not in the other set.
     pub fn without(&self, alloc: Global, other: &TextSet) -> Result<TextSet, NoMemory>
         ensures { IfOk result (λ set. set ≡ without self.now other.now) }
     {
-        let texts = self.as_slice();
         let mut kept = Vec::new(alloc);
-        for text in texts {
+        for text in self.texts.iter() {
             if !other.has(text) {
                 kept.push(text.copy(alloc)?)?;
             }
@@ -201,9 +196,8 @@ impl TextSet {
     pub fn only(&self, alloc: Global, glob: &[u8]) -> Result<TextSet, NoMemory>
         ensures { IfOk result (λ set. set ≡ filter (λ text. glob_matches glob.now text) self.now) }
     {
-        let texts = self.as_slice();
         let mut kept = Vec::new(alloc);
-        for text in texts {
+        for text in self.texts.iter() {
             if matches(glob, text.as_slice()) {
                 kept.push(text.copy(alloc)?)?;
             }
@@ -212,45 +206,25 @@ impl TextSet {
     }
 }
 
-fn push(alloc: Global, shared: &mut Option<Arc<Vec<Text>>>, item: Text) -> Result<(), NoMemory>
-    ensures ok { OnOk result (listed shared.new ≡ listed shared.old ++ item ∷ []) }
-    ensures err { OnErr result (listed shared.new ≡ listed shared.old) }
-{
-    match shared {
-        Some(items) => {
-            Arc::make_mut(items)?.push(item)?;
-        }
-        None => {
-            let mut items = Vec::new(alloc);
-            items.push(item)?;
-            *shared = Some(Arc::new(alloc, items)?);
-        }
-    }
-    Ok(())
-}
-
-// `get`, with its answer as one equation.
-fn item_at(texts: &[Text], i: usize) -> Option<&Text>
-    ensures { option_copied result ≡ slice_get texts.now i }
-{
-    texts.get(i)
-}
-
 // The text before a place.
-fn item_before(texts: &[Text], i: usize) -> Option<&Text>
+fn item_before(texts: &Chunks<Text>, i: usize) -> Option<&Text>
     ensures { option_copied result ≡ item_before i texts.now }
 {
-    if i == 0 { None } else { item_at(texts, i - 1) }
+    if i == 0 { None } else { texts.get(i - 1) }
 }
 
-fn merge(alloc: Global, first: &[Text], second: &[Text]) -> Result<Vec<Text>, NoMemory>
+fn merge<'a>(
+    alloc: Global,
+    first: &'a Chunks<Text>,
+    second: &'a Chunks<Text>,
+) -> Result<Vec<Text>, NoMemory>
     requires first { IsAscending first.now }
     requires second { IsAscending second.now }
     ensures { IfOk result (λ both. both.items ≡ set_of (first.now ++ second.now)) }
 {
     let mut both = Vec::new(alloc);
-    let mut a = first;
-    let mut b = second;
+    let mut a = first.iter();
+    let mut b = second.iter();
     while let Some((text, c, d)) = split_least(a, b) {
         both.push(text.copy(alloc)?)?;
         a = c;
@@ -259,14 +233,14 @@ fn merge(alloc: Global, first: &[Text], second: &[Text]) -> Result<Vec<Text>, No
     Ok(both)
 }
 
-fn merge_weighs_at_most(first: &[Text], second: &[Text], limit: u64) -> bool
+fn merge_weighs_at_most<'a>(first: &'a Chunks<Text>, second: &'a Chunks<Text>, limit: u64) -> bool
     requires first { IsAscending first.now }
     requires second { IsAscending second.now }
     ensures { result ≡ nat_le (weight (set_of (first.now ++ second.now))) limit }
 {
     let mut room = limit;
-    let mut a = first;
-    let mut b = second;
+    let mut a = first.iter();
+    let mut b = second.iter();
     while let Some((text, c, d)) = split_least(a, b) {
         let size = text.len() + 1;
         if size > room {
@@ -280,11 +254,14 @@ fn merge_weighs_at_most(first: &[Text], second: &[Text], limit: u64) -> bool
 }
 
 // The least text of two sets, and what is left of them without it.
-fn split_least<'a>(a: &'a [Text], b: &'a [Text]) -> Option<(&'a Text, &'a [Text], &'a [Text])>
-    requires first { IsAscending a.now }
-    requires second { IsAscending b.now }
-    ensures { MatchOption result (set_of (a.now ++ b.now) ≡ [])
-        (λ r. IsLeastOf a.now b.now r.0.now r.1.now r.2.now) }
+fn split_least<'a>(
+    a: Items<'a, Text>,
+    b: Items<'a, Text>,
+) -> Option<(&'a Text, Items<'a, Text>, Items<'a, Text>)>
+    requires first { IsAscending a }
+    requires second { IsAscending b }
+    ensures { MatchOption result (set_of (a.entry ++ b.entry) ≡ [])
+        (λ r. IsLeastOf a.entry b.entry r.0.now r.1 r.2) }
 {
     match a.split_first() {
         None => match b.split_first() {
@@ -302,12 +279,32 @@ fn split_least<'a>(a: &'a [Text], b: &'a [Text]) -> Option<(&'a Text, &'a [Text]
     }
 }
 
+fn are_same(a: Items<'_, Text>, b: Items<'_, Text>) -> bool
+    ensures { result ≡ pointwise (pointwise nat_eq) a.entry b.entry }
+{
+    let mut a = a;
+    let mut b = b;
+    while let Some((x, c)) = a.split_first() {
+        match b.split_first() {
+            None => return false,
+            Some((y, d)) => {
+                if x != y {
+                    return false;
+                }
+                a = c;
+                b = d;
+            }
+        }
+    }
+    b.split_first().is_none()
+}
+
 impl Clone for TextSet {
     ghost is_clone = { λ x y. y ≡ x };
 
     fn clone(&self) -> Result<TextSet, AllocError> {
         Ok(TextSet {
-            shared: self.shared.clone()?,
+            texts: self.texts.clone()?,
         })
     }
 }
@@ -318,7 +315,7 @@ impl PartialEq for TextSet {
     ghost laws = { partial_equiv_from_equiv (lists_equiv nat_list_eq_equiv) };
 
     fn eq(&self, other: &TextSet) -> bool {
-        self.as_slice() == other.as_slice()
+        are_same(self.texts.iter(), other.texts.iter())
     }
 }
 

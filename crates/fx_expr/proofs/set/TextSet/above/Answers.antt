@@ -1,17 +1,18 @@
-use Rattle.std.proofs.Common.{◌+◌, ◌∙◌, sym, ap, slice_get}
+use Rattle.std.proofs.Common.{◌∙◌, sym, ap}
+use Rattle.fx_expr.specs.Sets.{least_above}
 use Rattle.fx_expr.proofs.Nearest.{above_found, above_gap}
 use Rattle.fx_expr.proofs.Order.{gap_at}
 use Rattle.fx_expr.proofs.set.TextSet.above.Goals as goal
 
 pub returns-in-Ok : goal.returns-in-Ok
 returns-in-Ok c =
-    let texts = c.as_slice-texts.ensures.texts in
-    c.item_at.ensures
-    ∙ ap (λ l. slice_get l (c.in-Ok.i + 1)) texts
-    ∙ sym (above_found c.args.text.now c.args.self.now c.in-Ok.i c.as_slice-texts.ensures.order (rw texts at c.in-Ok.ensures.bound) (rw texts at c.in-Ok.ensures.position))
+    c.get.ensures
+    ∙ sym (above_found c.args.text.now c.self.inside.texts c.in-Ok.i c.self.invariant c.in-Ok.ensures.bound c.in-Ok.ensures.position)
+    ∙ ap (least_above c.args.text.now) c.self.view_is
 
 pub returns-in-Err : goal.returns-in-Err
 returns-in-Err c =
-    let texts = c.as_slice-texts.ensures.texts in
-    let gap = gap_at c.args.self.now c.args.text.now c.in-Err.i c.as_slice-texts.ensures.order (rw texts at c.in-Err.ensures.position) in
-    c.item_at-in-Err.ensures ∙ ap (λ l. slice_get l c.in-Err.i) texts ∙ sym (above_gap c.args.text.now c.args.self.now c.in-Err.i (rw texts at c.in-Err.ensures.bound) gap)
+    let gap = gap_at c.self.inside.texts c.args.text.now c.in-Err.i c.self.invariant c.in-Err.ensures.position in
+    c.get-in-Err.ensures
+    ∙ sym (above_gap c.args.text.now c.self.inside.texts c.in-Err.i c.in-Err.ensures.bound gap)
+    ∙ ap (least_above c.args.text.now) c.self.view_is

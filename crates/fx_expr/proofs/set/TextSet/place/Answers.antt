@@ -3,6 +3,4 @@ use Rattle.fx_expr.proofs.set.TextSet.place.Goals as goal
 
 pub returns-clause-value : goal.returns-clause-value
 returns-clause-value c =
-    let xs = c.args.self.now in
-    let found = searched xs c.args.item.now c.binary_search.result c.as_slice.ensures.order (rw c.as_slice.ensures.texts at c.binary_search.ensures.position) (rw c.as_slice.ensures.texts at c.binary_search.ensures.bound) in
-    rw c.ok.ensures.value found
+    rw (c.ok.ensures.value, ← c.self.view_is) (searched c.self.inside.texts c.args.item.now c.search.result c.self.invariant c.search.ensures.position c.search.ensures.bound)
