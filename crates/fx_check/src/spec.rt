@@ -11,8 +11,8 @@ ghost use Rattle.fx_spec.specs.WellShaped.{Scope};
 
 use crate::expr::{boxed, needed, shape_of};
 use crate::fault::CheckFault;
-use crate::settling::settled;
 use crate::scope::{Scope, let_go};
+use crate::settling::settled;
 use fx_base::NoMemory;
 use fx_expr::{Expr, Shape, Word};
 use fx_spec::{Checked, Spec};
