@@ -1,8 +1,7 @@
 //! The commands at a zipper, as the lines of cases name them.
 ghost use Rattle.std.specs.Prelude.{IfOk};
 ghost use Rattle.fx_rules.specs.Halts.{split};
-ghost use Rattle.fx_view.specs.Own.{own_at};
-ghost use Rattle.fx_moves.specs.Ready.{IsAfter, IsReady};
+ghost use Rattle.fx_moves.specs.Ready.{IsReady};
 
 use crate::verbs::{Edit, Move, Question};
 use crate::walk::Walk;
@@ -75,18 +74,15 @@ pub fn ask<L: Ledger>(
     }
 }
 
-/// The edit at the place where the zipper stands: how many of the first reads it leaves untouched.
-fn edit_here(alloc: Global, walk: &mut Walk, edit: Edit, value: &Value) -> Result<u64, Halt>
-    requires ready { IsReady walk.old }
-    ensures after { IfOk (split result)
-        (IsAfter walk.new.reader.reads (own_at walk.new.overlay) walk.new.zip) }
-{
+/// The edit at the place where the zipper stands.
+fn edit_here(alloc: Global, walk: &mut Walk, edit: Edit, value: &Value) -> Result<(), Halt> {
     let place = walk.zip.here();
-    match edit {
-        Edit::Store => fx_edit::store(alloc, &mut walk.reader, &mut walk.overlay, &place, value),
-        Edit::Create => fx_edit::create(alloc, &mut walk.reader, &mut walk.overlay, &place),
-        Edit::Remove => fx_edit::remove(alloc, &mut walk.reader, &mut walk.overlay, &place),
-    }
+    let _untouched = match edit {
+        Edit::Store => fx_edit::store(alloc, &mut walk.reader, &mut walk.overlay, &place, value)?,
+        Edit::Create => fx_edit::create(alloc, &mut walk.reader, &mut walk.overlay, &place)?,
+        Edit::Remove => fx_edit::remove(alloc, &mut walk.reader, &mut walk.overlay, &place)?,
+    };
+    Ok(())
 }
 
 /// Edits at the place; `value` is what is stored.
@@ -102,7 +98,7 @@ pub fn edit_by<L: Ledger>(
 {
     walk.zip
         .find(alloc, &mut walk.reader, &walk.overlay, steps)?;
-    let untouched = edit_here(alloc, walk, edit, value)?;
-    walk.zip.edited(untouched);
-    Ok(())
+    let done = edit_here(alloc, walk, edit, value);
+    walk.zip.stored();
+    done
 }
