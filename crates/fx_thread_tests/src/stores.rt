@@ -15,8 +15,16 @@ fn are_same_names(one: &Names, other: &Names) -> bool {
 
 fn are_same_nodes(one: &Node, other: &Node) -> bool {
     match (one, other) {
-        (Node::File { bytes: one, .. }, Node::File { bytes: other, .. }) => one.as_slice()
-            == other.as_slice(),
+        (
+            Node::File {
+                bytes: one,
+                exec: is,
+            },
+            Node::File {
+                bytes: other,
+                exec: was,
+            },
+        ) => one.as_slice() == other.as_slice() && is == was,
         (Node::Dir(one), Node::Dir(other)) => are_same_names(one, other),
         (Node::Link(one), Node::Link(other)) => one.as_slice() == other.as_slice(),
         _ => false,
