@@ -608,7 +608,7 @@ def pictures(room):
     write(f"{room}/bad", "jump\nforest report 1\nend\n")
     tool("picture", "bad", status=2, say=["line 1 is none"], room=room)
     counted(f"{room}/c")
-    write(f"{room}/c/s", PLUS * 1200)
+    write(f"{room}/c/s", PLUS * 500)
     draw = random.Random(1)
     schedule = ",".join(str(draw.randrange(5)) for _ in range(8000))
     status, trace = shell(f"{PROGRAM} trace d f out {schedule} s s s s s", f"{room}/c")
