@@ -1,15 +1,10 @@
 -- With fit inputs and no fault of host or sink a run is done, or memory runs out.
-use Rattle.std.proofs.Common.{◌≡◌, ◌⊎◌, inl, inr, ℕ, ◌+◌, length, subst, Bool, true, false, cond, List, [], ◌∷◌, ◌++◌, Option, Some, None, Ok, Err, IfSome, IsSomeAnd, refl, sym, ap, ◌∙◌, arith}
-use Rattle.std.specs.FinMap.{get}
-use Rattle.std.specs.Option.{option_map_or}
+use Rattle.std.proofs.Common.{◌≡◌, ◌⊎◌, inl, inr, ℕ, ◌+◌, length, subst, List, [], ◌∷◌, Option, Some, None, Ok, Err, IfSome, IsSomeAnd, refl, sym, ◌∙◌, arith}
 use Rattle.fx_base.specs.Causes.{Rose}
-use Rattle.fx_outside.specs.declared.kind.HostKind.{HostKind}
-use Rattle.fx_outside.specs.declared.kind.HostKind.TheVariants as kind
 use Rattle.fx_outside.specs.Host.{HostView, FaultIn}
 use Rattle.fx_outside.specs.Sink.{SinkView}
-use Rattle.fx_outside.specs.Path.{parts, is_fit, above}
-use Rattle.fx_outside.specs.Tree.{Tree, Entry, entry_at, is_file_at, is_folder_at, is_folder_kind, has_folder}
-use Rattle.fx_folder.specs.Folder.{IsReady, IsTaken}
+use Rattle.fx_outside.specs.Tree.{Tree, is_file_at, is_folder_at}
+use Rattle.fx_folder.specs.Folder.{IsTaken}
 use Rattle.fx_folder.specs.Loads.{Loads, IsRefused}
 use Rattle.fx_table.specs.declared.fault.FolderCause.{FolderCause}
 use Rattle.fx_store.specs.Whole.{Nodes}

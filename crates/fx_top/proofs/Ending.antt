@@ -19,7 +19,7 @@ use Rattle.fx_inputs.specs.Reads.{HasReadFault, ReadRow, has_fit_inputs}
 use Rattle.fx_inputs.proofs.ReadRows.{read_fault_back}
 use Rattle.fx_top.specs.Answers.{IsAnswered}
 use Rattle.fx_top.specs.Outcome.{IsOutcome}
-use Rattle.fx_top.specs.Rows.{RunRow, EndsAs, MayHoldPart, IsPartThere, IsDone, IsCutShort, CannotSave, has_fit_paths}
+use Rattle.fx_top.specs.Rows.{RunRow, EndsAs, MayHoldPart, IsDone, IsCutShort, CannotSave, has_fit_paths}
 use Rattle.fx_words.specs.Job.{RunJob}
 
 -- ---- stages that only read

@@ -1,5 +1,5 @@
 -- What each status of a command says: where it comes, and what is then left at the host and at the sink.
-use Rattle.std.specs.Prelude.{◌≡◌, ◌⊎◌, ◌&&◌, ℕ, Bool, true, false, List, [], ◌++◌, take, Option, Some, IfSome, IsSomeAnd}
+use Rattle.std.specs.Prelude.{◌≡◌, ◌⊎◌, ◌&&◌, ℕ, Bool, true, List, ◌++◌, take, Option, Some, IfSome, IsSomeAnd}
 use Rattle.fx_base.specs.Causes.{Rose}
 use Rattle.fx_store.specs.Whole.{Nodes}
 use Rattle.fx_outside.specs.Host.{HostView, FaultIn, AsksFit}

@@ -1,4 +1,4 @@
-use Rattle.std.proofs.Common.{sym, subst}
+use Rattle.std.proofs.Common.{sym, subst, ◌∙◌}
 use Rattle.fx_spec.specs.Bases.{base_tree}
 use Rattle.fx_words.specs.JobOf.{asked}
 use Rattle.fx_top.specs.Answers.{last_of}
@@ -6,7 +6,7 @@ use Rattle.fx_top.specs.Rows.{RunRow}
 use Rattle.fx_command.specs.StatusOf.{status_of}
 use Rattle.fx_base.proofs.Errors.{err_of}
 use Rattle.fx_inputs.proofs.Stages.{inputs_read}
-use Rattle.fx_top.proofs.Ending.{read_row, ends_back}
+use Rattle.fx_top.proofs.Ending.{read_row, ends_back, fit_inputs}
 use Rattle.fx_top.proofs.Stages.{can_save}
 use Rattle.fx_top.proofs.run.run.Goals as goal
 
@@ -36,3 +36,6 @@ pub save_and_print-requires : goal.save_and_print-requires
 save_and_print-requires g c =
     can_save (asked c.args.job.now) (base_tree c.in_ok-base.base.value) (last_of c.in_ok-answer.answer) c.in_ok-answer.answer.output c.in_ok-there.there (g.H.Host.view c.args.host.now) (g.H.Host.view c.read_base.new.host) (g.H.Host.view c.make_ready.new.host)
     c.in_ok-base.ensures.same c.in_ok-there.ensures.same c.in_ok-base.ensures.read c.in_ok-there.ensures.ready c.in_ok-answer.ensures
+
+pub returns-clause-fit : goal.returns-clause-fit
+returns-clause-fit g c = λ fit. c.save_and_print.ensures.fit fit ∙ c.in_ok-there.ensures.fit fit ∙ c.in_ok-base.ensures.fit (fit_inputs (asked c.args.job.now) fit)
