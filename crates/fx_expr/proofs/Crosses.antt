@@ -1,7 +1,6 @@
 -- That the types of this crate cross threads: a value may move to another thread, and two threads may read one.
 use denote.Param.Send.{IsSend, IsSync, sendable}
 use Rattle.std.proofs.Crossing.{crosses}
-use Rattle.fx_base.proofs.Crosses.{Content-send, Content-sync}
 use Rattle.fx_expr.specs.contracts.text.Text as text
 use Rattle.fx_expr.specs.contracts.word.Word as word
 use Rattle.fx_expr.specs.contracts.set.TextSet as text_set
@@ -15,10 +14,10 @@ use Rattle.fx_expr.proofs.expr.Expr.TheLaws.TheKnot.{send-Expr, sync-Expr}
 use Rattle.fx_expr.proofs.value.Value.TheLaws.TheKnot.{send-Value, sync-Value}
 
 pub Text-send : IsSend (text.the_field).row
-Text-send = search (sendable, crosses, Content-send) depth 40
+Text-send = search (sendable, crosses) depth 40
 
 pub Text-sync : IsSync (text.the_field).row
-Text-sync = search (sendable, crosses, Content-sync) depth 40
+Text-sync = search (sendable, crosses) depth 40
 
 pub Word-send : IsSend (word.the_field).row
 Word-send = search (sendable, crosses) depth 40

@@ -6,7 +6,7 @@ ghost use Rattle.std.specs.Cmp.Lexicographic.{pointwise, slice_cmp, nat_list_eq_
 ghost use Rattle.std.specs.Slice.Iter.{iter_rest};
 ghost use Rattle.fx_expr.specs.Bytes.{IsText};
 
-use fx_base::{Content, NoMemory};
+use fx_base::NoMemory;
 use std::alloc::{AllocError, Global};
 use std::cmp::Ordering;
 use std::marker::Model;
@@ -15,11 +15,10 @@ use std::slice;
 /// The most bytes that a text may have.
 pub const TEXT_LIMIT: usize = 1_048_576;
 
-/// A text value: at most [`TEXT_LIMIT`] bytes of any kind, UTF-8 or not. Contracts see the list of its bytes. A copy of
-/// what `share` gave goes through no byte.
+/// A text value: at most [`TEXT_LIMIT`] bytes of any kind, UTF-8 or not. Contracts see the list of its bytes.
 #[derive(Debug, Drop)]
 pub struct Text {
-    content: Content,
+    bytes: Vec<u8>,
 }
 
 impl Model for Text {
@@ -28,9 +27,9 @@ impl Model for Text {
 
     ghost Value = { List ℕ };
 
-    ghost view = { λ t. t.content };
+    ghost view = { λ t. t.bytes.items };
 
-    ghost invariant = { λ t. IsText t.content };
+    ghost invariant = { λ t. IsText t.bytes.items };
 }
 
 impl Text {
@@ -38,7 +37,9 @@ impl Text {
     pub fn new(alloc: Global) -> Text
         ensures { result ≡ [] }
     {
-        Text::from_vec(Vec::new(alloc))
+        Text {
+            bytes: Vec::new(alloc),
+        }
     }
 
     /// The text of these bytes; the caller keeps the limit.
@@ -46,36 +47,7 @@ impl Text {
         requires { IsText v.items }
         ensures { result ≡ v.items }
     {
-        Text {
-            content: Content::of(v),
-        }
-    }
-
-    /// The text of a content, as a file's, which stays shared where it is; the caller keeps the limit.
-    pub fn of_content(content: Content) -> Text
-        requires { IsText content }
-        ensures { result ≡ content }
-    {
-        Text { content }
-    }
-
-    /// The same bytes as a content, which stays shared where it is.
-    pub fn into_content(self) -> Content
-        ensures value { result ≡ self }
-        ensures limit { IsText self }
-    {
-        let Text { content } = self;
-        content
-    }
-
-    /// The same text, whose bytes copies share from now on, where there are enough of them.
-    pub fn share(self, alloc: Global) -> Result<Text, NoMemory>
-        ensures { IfOk result (λ text. text ≡ self) }
-    {
-        let Text { content } = self;
-        Ok(Text {
-            content: content.share(alloc)?,
-        })
+        Text { bytes: v }
     }
 
     /// The bytes, as a slice.
@@ -83,25 +55,24 @@ impl Text {
         ensures value { result.now ≡ self.now }
         ensures limit { IsText self.now }
     {
-        self.content.as_slice()
+        self.bytes.as_slice()
     }
 
-    /// The bytes by themselves. They are copied only where another text or a file shares them.
+    /// The bytes by themselves.
     pub fn into_vec(self) -> Vec<u8>
         ensures value { result.items ≡ self }
         ensures limit { IsText self }
     {
-        let Text { content } = self;
-        content.into_vec()
+        let Text { bytes } = self;
+        bytes
     }
 
-    /// An equal text: with shared bytes, where these are shared, and else with bytes of its own.
+    /// An equal text of its own.
     pub fn copy(&self, alloc: Global) -> Result<Text, NoMemory>
         ensures { IfOk result (λ text. text ≡ self.now) }
     {
-        Ok(Text {
-            content: self.content.copy(alloc)?,
-        })
+        let bytes = Vec::from_slice(alloc, self.bytes.as_slice())?;
+        Ok(Text { bytes })
     }
 
     // The text of these bytes and of others after them; the caller keeps the limit.
@@ -120,14 +91,14 @@ impl Text {
         ensures value { result ≡ length self.now }
         ensures limit { IsText self.now }
     {
-        self.content.len() as u64
+        self.bytes.len() as u64
     }
 
     /// The byte at `i`; None exactly from `len` on.
     pub fn at(&self, i: u64) -> Option<&u8>
         ensures { option_copied result ≡ slice_get self.now i }
     {
-        self.as_slice().get(i as usize)
+        self.bytes.get(i as usize)
     }
 
     /// The bytes in their order.
@@ -140,12 +111,13 @@ impl Text {
     }
 
     /// Adds a byte at the end; the caller keeps the limit. A refusal changes nothing.
-    pub fn add(&mut self, alloc: Global, item: u8) -> Result<(), NoMemory>
+    pub fn add(&mut self, _alloc: Global, item: u8) -> Result<(), NoMemory>
         requires { IsText (self.old ++ item ∷ []) }
         ensures ok { OnOk result (self.new ≡ self.old ++ item ∷ []) }
         ensures err { OnErr result (self.new ≡ self.old) }
     {
-        self.content.push(alloc, item)
+        self.bytes.push(item)?;
+        Ok(())
     }
 }
 
@@ -154,7 +126,7 @@ impl Clone for Text {
 
     fn clone(&self) -> Result<Text, AllocError> {
         Ok(Text {
-            content: self.content.clone()?,
+            bytes: self.bytes.clone()?,
         })
     }
 }
