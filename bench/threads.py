@@ -39,7 +39,7 @@ LOADS = [
     Load("1 shell, 64 files in turn", 1, 1_600, 64, lambda _, i: i % 64),
     Load("64 shells, a file each", 64, 25, 64, lambda shell, _: shell),
     Load("64 shells, one file", 64, 100, 1, lambda *_: 0),
-    Load("1 shell, one file by a focus", 1, 1_600, 1, lambda *_: 0, focus=True),
+    Load("1 shell, one file by a focus", 1, 1_300, 1, lambda *_: 0, focus=True),
 ]
 
 
