@@ -2,7 +2,7 @@
 use Rattle.std.proofs.Common.{◌≡◌, ℕ, Bool, true, false, cond, ◌&&◌, List, [], ◌∷◌, ◌++◌, Result, Ok, Err, refl, sym, subst, ap, ◌∙◌, All}
 use Rattle.std.specs.Prelude.{IsErrAnd}
 use Rattle.std.specs.List.{list_all}
-use Rattle.std.proofs.lemmas.List.{append-nil, append-assoc}
+use Rattle.std.proofs.lemmas.List.{append-nil, append_assoc}
 use Rattle.std.proofs.lemmas.List.Elements.{All-nil, All-cons}
 use Rattle.fx_store.specs.declared.node.Node.TheVariants.{Dir}
 use Rattle.fx_store.specs.declared.name.PathFault.{PathFault}
@@ -70,7 +70,7 @@ module _ (texts : List (List ℕ)) where
   naming_next names longer rest more t name is here read added =
       let ok = read_ok t name read in
       record {
-        same = ap (λ ns. ns ++ more) added ∙ (append-assoc names (name ∷ []) more ∙ (ap (λ n. names ++ n ∷ more) ok.1 ∙ (ap (λ ns. names ++ ns) (sym here) ∙ is.same)));
+        same = ap (λ ns. ns ++ more) added ∙ (append_assoc names (name ∷ []) more ∙ (ap (λ n. names ++ n ∷ more) ok.1 ∙ (ap (λ ns. names ++ ns) (sym here) ∙ is.same)));
         all = ap (list_all is_name) added ∙ all_more is_name names name is.all (ap is_name ok.1 ∙ ok.0);
       }
 

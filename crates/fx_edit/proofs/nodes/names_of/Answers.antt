@@ -17,7 +17,7 @@ returns-in_err-next_name-clause-names c =
     told_on (λ name. name) (λ names. Dir names) (name_read c.in-Some.text.now) (edit.names_node c.args.texts.now) (λ refusal is. naming_wrong c.args.texts.now c.loop-text.names.items c.loop-text.text-iterator c.next.new.self c.in-Some.text.now refusal c.loop-text.invariant c.in-Some.ensures.steps is) c.from_residual.result c.in_err-next_name.field-0.0 c.from_residual.ensures.1 c.in_err-next_name.ensures
 
 pub from_vec-requires : goal.from_vec-requires
-from_vec-requires c = naming_set c.args.texts.now c.loop-text.names.items c.loop-text.text-iterator c.loop-text.invariant c.in-None.ensures.steps.0 c.len.ensures.order
+from_vec-requires c = naming_set c.args.texts.now c.loop-text.names.items c.loop-text.text-iterator c.loop-text.invariant c.in-None.ensures.steps.0 c.len-len.ensures.order
 
 pub returns-clause-names : goal.returns-clause-names
 returns-clause-names c =
