@@ -18,14 +18,14 @@ run_none : (args : List (List ℕ)) → takes command.Run (length args) ≡ fals
 run_none [] e = refl
 run_none (a ∷ []) e = refl
 run_none (a ∷ b ∷ []) e = refl
-run_none (a ∷ b ∷ c ∷ scripts) e = rw (sym (counted 3 (length scripts) (length (a ∷ b ∷ c ∷ scripts)) refl) ∙ e) refl
+run_none (a ∷ b ∷ c ∷ scripts) e = rw (sym (counted 3 (length scripts) (length (a ∷ b ∷ c ∷ scripts)) (omega arith)) ∙ e) refl
 
 scheduled_none : (mode : List ℕ → Mode) (args : List (List ℕ)) → is_within 5 68 (length args) ≡ false → scheduled_job mode args ≡ None
 scheduled_none mode [] e = refl
 scheduled_none mode (a ∷ []) e = refl
 scheduled_none mode (a ∷ b ∷ []) e = refl
 scheduled_none mode (a ∷ b ∷ c ∷ []) e = refl
-scheduled_none mode (a ∷ b ∷ c ∷ d ∷ scripts) e = rw (sym (counted 4 (length scripts) (length (a ∷ b ∷ c ∷ d ∷ scripts)) refl) ∙ e) refl
+scheduled_none mode (a ∷ b ∷ c ∷ d ∷ scripts) e = rw (sym (counted 4 (length scripts) (length (a ∷ b ∷ c ∷ d ∷ scripts)) (omega arith)) ∙ e) refl
 
 show_none : (args : List (List ℕ)) → takes command.Show (length args) ≡ false → show_job args ≡ None
 show_none [] e = refl
@@ -43,7 +43,7 @@ audit_none : (args : List (List ℕ)) → takes command.Audit (length args) ≡ 
 audit_none [] e = refl
 audit_none (a ∷ []) e = refl
 audit_none (a ∷ b ∷ []) e = refl
-audit_none (a ∷ b ∷ c ∷ scripts) e = rw (sym (counted 3 (length scripts) (length (a ∷ b ∷ c ∷ scripts)) refl) ∙ e) refl
+audit_none (a ∷ b ∷ c ∷ scripts) e = rw (sym (counted 3 (length scripts) (length (a ∷ b ∷ c ∷ scripts)) (omega arith)) ∙ e) refl
 
 command_none : (name : CommandName) (args : List (List ℕ)) → takes name (length args) ≡ false → command_job name args ≡ None
 command_none command.Run args e = ap (option_map Run) (run_none args e)
