@@ -5,10 +5,10 @@ use Rattle.std.specs.List.{list_all}
 use Rattle.std.specs.Option.{option_map, option_map_or, option_and_then, unwrap_or}
 use Rattle.std.proofs.lemmas.Bool.Decides.{nat_tests}
 use Rattle.fx_command_line.specs.declared.form.CommandName.{CommandName}
-use Rattle.fx_command_line.specs.Forms.{command_named, has_form, is_within, least_of, most_of, takes, word_of}
+use Rattle.fx_command_line.specs.Forms.{command_named, has_form, is_count_beside, is_within, least_of, most_of, takes, word_of}
 use Rattle.fx_command_line.proofs.Names.{named_so}
 use Rattle.fx_words.specs.declared.job.Inputs as code_inputs
-use Rattle.fx_words.specs.Job.{Inputs, Mode, RunJob, AuditJob, ShowJob, GenJob, Plain, are_plain, audit_job, command_job, gen_job, is_count, is_plain, job_of, named_job, number_of, run_job, schedule_of, scheduled_job, show_job}
+use Rattle.fx_words.specs.Job.{Inputs, Mode, RunJob, AuditJob, JournalJob, RecoverJob, ViewsJob, ShowJob, GenJob, Plain, Scheduled, are_plain, audit_job, command_job, gen_job, is_count, is_plain, job_of, journal_job, named_job, number_of, recover_job, run_job, schedule_of, scheduled_job, show_job, views_job}
 use Rattle.fx_words.specs.JobOf.{BeginAt, asked_inputs, has_schedule, scripts_in, shells_read}
 use Rattle.fx_words.proofs.Lists.{drop_there}
 
@@ -27,9 +27,17 @@ three ws a b c e f g = two ws a b e f ∙ ap (λ r. a ∷ b ∷ r) (next ws 3 c 
 four : (ws : List Text) (a b c d : Text) → slice_get ws 1 ≡ Some a → slice_get ws 2 ≡ Some b → slice_get ws 3 ≡ Some c → slice_get ws 4 ≡ Some d → drop 1 ws ≡ a ∷ b ∷ c ∷ d ∷ drop 5 ws
 four ws a b c d e f g h = three ws a b c e f g ∙ ap (λ r. a ∷ b ∷ c ∷ r) (next ws 4 d h)
 
+five : (ws : List Text) (a b c d s : Text) → slice_get ws 1 ≡ Some a → slice_get ws 2 ≡ Some b → slice_get ws 3 ≡ Some c → slice_get ws 4 ≡ Some d → slice_get ws 5 ≡ Some s → drop 1 ws ≡ a ∷ b ∷ c ∷ d ∷ s ∷ drop 6 ws
+five ws a b c d s e f g h k = four ws a b c d e f g h ∙ ap (λ r. a ∷ b ∷ c ∷ d ∷ r) (next ws 5 s k)
+
 -- the rest is of 1 to 64 scripts
 fits : (k : ℕ) (ws : List Text) → k < length ws → length ws ≤ k + 64 → is_count (length (drop k ws)) ≡ true
 fits k ws some few =
+    let rest : length (drop k ws) ≡ length ws - k = length-drop k ws in
+    grind (arith, nat_tests)
+
+fits_beside : (k : ℕ) (ws : List Text) → k < length ws → length ws + 1 ≤ k + 64 → is_count_beside (length (drop k ws)) ≡ true
+fits_beside k ws some few =
     let rest : length (drop k ws) ≡ length ws - k = length-drop k ws in
     grind (arith, nat_tests)
 
@@ -57,6 +65,25 @@ audit_is ws i report begin e some few =
     ap audit_job (three ws i.spec.now i.folder.now report begin.spec begin.folder e)
     ∙ ap (λ b. cond b (Some (job (inputs i.spec.now i.folder.now (drop 4 ws) 4))) None) (fits 4 ws some few)
     ∙ ap (λ x. Some (job x)) (inputs_are ws 4 i begin)
+
+pub recover_is : (ws : List Text) (i : code_inputs.Inputs) (journal out : Text) → BeginAt ws 5 i → slice_get ws 3 ≡ Some journal → slice_get ws 4 ≡ Some out → 5 < length ws → length ws ≤ 69 → recover_job (drop 1 ws) ≡ Some (record { inputs = asked_inputs i; journal = journal; out = out })
+recover_is ws i journal out begin e f some few =
+    let job : Inputs → RecoverJob = λ x. record { inputs = x; journal = journal; out = out } in
+    ap recover_job (four ws i.spec.now i.folder.now journal out begin.spec begin.folder e f)
+    ∙ ap (λ b. cond b (Some (job (inputs i.spec.now i.folder.now (drop 5 ws) 5))) None) (fits 5 ws some few)
+    ∙ ap (λ x. Some (job x)) (inputs_are ws 5 i begin)
+
+pub views_is : (ws : List Text) (i : code_inputs.Inputs) (out views : Text) → BeginAt ws 5 i → slice_get ws 3 ≡ Some out → slice_get ws 4 ≡ Some views → 5 < length ws → length ws ≤ 68 → views_job (drop 1 ws) ≡ Some (record { run = record { inputs = asked_inputs i; out = out; mode = Plain }; views = views })
+views_is ws i out views begin e f some few =
+    let job : Inputs → ViewsJob = λ x. record { run = record { inputs = x; out = out; mode = Plain }; views = views } in
+    ap views_job (four ws i.spec.now i.folder.now out views begin.spec begin.folder e f)
+    ∙ ap (λ b. cond b (Some (job (inputs i.spec.now i.folder.now (drop 5 ws) 5))) None) (fits_beside 5 ws some (omega (arith, few)))
+    ∙ ap (λ x. Some (job x)) (inputs_are ws 5 i begin)
+
+pub few_beside : (ws : List Text) (i : code_inputs.Inputs) → BeginAt ws 5 i → length ws ≤ 68 → 5 < length ws → length (scripts_in i) + 1 ≤ 64
+few_beside ws i begin few some =
+    let rest : length (scripts_in i) ≡ length ws - 5 = ap length (sym (scripts_are ws 5 i begin)) ∙ length-drop 5 ws in
+    omega (arith, rest, few, some)
 
 -- ---- with one
 
@@ -98,6 +125,27 @@ module _ (mode : List ℕ → Mode) where
   scheduled_not (w ∷ a ∷ b ∷ c ∷ []) some none = absurd (omega (arith, some))
   scheduled_not (w ∷ a ∷ b ∷ c ∷ s ∷ scripts) some none =
       sym (unread_by (λ shells. record { inputs = inputs a b scripts 5; out = c; mode = mode shells }) (is_count (length scripts)) (schedule_of (length scripts) s) none)
+
+pub journal_is : (ws : List Text) (i : code_inputs.Inputs) (out journal s : Text) → BeginAt ws 6 i → slice_get ws 3 ≡ Some out → slice_get ws 4 ≡ Some journal → slice_get ws 5 ≡ Some s → has_schedule ws 5 ≡ true → 6 < length ws → length ws ≤ 70
+    → Some (record { run = record { inputs = asked_inputs i; out = out; mode = Scheduled (shells_read (length (scripts_in i)) s) }; journal = journal }) ≡ journal_job (drop 1 ws)
+journal_is ws i out journal s begin e f g is some few =
+    let job : Inputs → List ℕ → JournalJob = λ x shells. record { run = record { inputs = x; out = out; mode = Scheduled shells }; journal = journal } in
+    let here : Inputs = inputs i.spec.now i.folder.now (drop 6 ws) 6 in
+    sym (ap journal_job (five ws i.spec.now i.folder.now out journal s begin.spec begin.folder e f g)
+    ∙ ap (λ b. cond b (option_map (job here) (schedule_of (length (drop 6 ws)) s)) None) (fits 6 ws some few)
+    ∙ read_by (job here) (schedule_of (length (drop 6 ws)) s) (schedule_read ws 5 s g is)
+    ∙ ap₂ (λ (x : Inputs) (scripts : List Text). Some (job x (shells_read (length scripts) s))) (inputs_are ws 6 i begin) (scripts_are ws 6 i begin))
+
+pub journal_not : (ws : List Text) → 6 < length ws → has_schedule ws 5 ≡ false → None ≡ journal_job (drop 1 ws)
+journal_not [] some none = absurd (omega (arith, some))
+journal_not (w ∷ []) some none = absurd (omega (arith, some))
+journal_not (w ∷ a ∷ []) some none = absurd (omega (arith, some))
+journal_not (w ∷ a ∷ b ∷ []) some none = absurd (omega (arith, some))
+journal_not (w ∷ a ∷ b ∷ c ∷ []) some none = absurd (omega (arith, some))
+journal_not (w ∷ a ∷ b ∷ c ∷ d ∷ []) some none = absurd (omega (arith, some))
+journal_not (w ∷ a ∷ b ∷ c ∷ d ∷ s ∷ scripts) some none =
+    let job : List ℕ → JournalJob = λ shells. record { run = record { inputs = inputs a b scripts 6; out = c; mode = Scheduled shells }; journal = d } in
+    sym (unread_by job (is_count (length scripts)) (schedule_of (length scripts) s) none)
 
 -- ---- two texts
 

@@ -154,9 +154,9 @@ command_job command.Gen arguments = option_map Gen (gen_job arguments)
 command_job command.Large arguments = option_map Large (gen_job arguments)
 command_job command.Audit arguments = option_map Audit (audit_job arguments)
 command_job command.Watch arguments = option_map Run (scheduled_job Watched arguments)
-command_job command.Journal arguments = None
-command_job command.Recover arguments = None
-command_job command.Views arguments = None
+command_job command.Journal arguments = option_map Journal (journal_job arguments)
+command_job command.Recover arguments = option_map Recover (recover_job arguments)
+command_job command.Views arguments = option_map Views (views_job arguments)
 
 -- the command that a word names, with its arguments
 abbrev pub named_job : List ℕ → List (List ℕ) → Option Job

@@ -3,7 +3,7 @@ ghost use Rattle.fx_base.specs.Limits.{shell_limit};
 ghost use Rattle.fx_command_line.specs.Forms.{least_of, most_of};
 ghost use Rattle.fx_command_line.specs.WordsOf.{texts_of};
 ghost use Rattle.fx_words.specs.Job as job;
-ghost use Rattle.fx_words.specs.JobOf.{asked, asked_audit, asked_gen, asked_inputs, asked_job, asked_show, has_schedule, AreInputs, BeginAt, IsAnyJob, IsJob};
+ghost use Rattle.fx_words.specs.JobOf.{asked, asked_audit, asked_gen, asked_inputs, asked_job, asked_journal, asked_recover, asked_show, asked_views, has_schedule, AreInputs, BeginAt, IsAnyJob, IsJob, IsJournalJob, IsViewsJob};
 
 use crate::decimal::number_of;
 use crate::schedule::{is_schedule, read_schedule};
@@ -238,6 +238,53 @@ fn audit_job(words: &Words) -> AuditJob<'_>
     }
 }
 
+/// The arguments of `journal`, if the schedule can be read.
+fn journal_job(words: &Words) -> Option<JournalJob<'_>>
+    requires some { 6 < length words.now }
+    requires few { length words.now ≤ 6 + shell_limit }
+    ensures asked { option_map asked_journal result ≡ job.journal_job (drop 1 words.now) }
+    ensures job { IfSome result IsJournalJob }
+{
+    let schedule = schedule_at(words, 5)?;
+    let run = RunJob {
+        inputs: inputs_from(words, 6),
+        out: word(words, 3),
+        mode: RunMode::Scheduled(schedule),
+    };
+    let journal = word(words, 4);
+    Some(JournalJob { run, journal })
+}
+
+/// The arguments of `recover`.
+fn recover_job(words: &Words) -> RecoverJob<'_>
+    requires some { 5 < length words.now }
+    requires few { length words.now ≤ 5 + shell_limit }
+    ensures asked { job.recover_job (drop 1 words.now) ≡ Some (asked_recover result) }
+    ensures job { AreInputs result.inputs }
+{
+    RecoverJob {
+        inputs: inputs_from(words, 5),
+        journal: word(words, 3),
+        out: word(words, 4),
+    }
+}
+
+/// The arguments of `views`.
+fn views_job(words: &Words) -> ViewsJob<'_>
+    requires some { 5 < length words.now }
+    requires few { length words.now ≤ 4 + shell_limit }
+    ensures asked { job.views_job (drop 1 words.now) ≡ Some (asked_views result) }
+    ensures job { IsViewsJob result }
+{
+    let run = RunJob {
+        inputs: inputs_from(words, 5),
+        out: word(words, 3),
+        mode: RunMode::Plain,
+    };
+    let views = word(words, 4);
+    ViewsJob { run, views }
+}
+
 /// The arguments of `show`.
 fn show_job(words: &Words) -> ShowJob<'_>
     requires { length words.now ≡ 3 }
@@ -274,7 +321,9 @@ fn job_in(words: &Words, command: CommandName) -> Option<Job<'_>>
         CommandName::Large => Some(Job::Large(gen_job(words)?)),
         CommandName::Audit => Some(Job::Audit(audit_job(words))),
         CommandName::Watch => Some(Job::Run(watch_job(words)?)),
-        CommandName::Journal | CommandName::Recover | CommandName::Views => None,
+        CommandName::Journal => Some(Job::Journal(journal_job(words)?)),
+        CommandName::Recover => Some(Job::Recover(recover_job(words))),
+        CommandName::Views => Some(Job::Views(views_job(words))),
     }
 }
 
