@@ -4,7 +4,7 @@ use Rattle.std.specs.Option.{option_map_or}
 use Rattle.std.specs.Str.{bytes_eq}
 use Rattle.fx_base.specs.Limits.{shell_limit}
 use Rattle.fx_command_line.specs.declared.form.CommandName.{CommandName}
-use Rattle.fx_command_line.specs.declared.form.CommandName.TheVariants.{Run, Trace, Show, Gen, Large, Audit, Watch, Journal, Recover, Views}
+use Rattle.fx_command_line.specs.declared.form.CommandName.TheVariants.{Run, Trace, Show, Gen, Large, Audit, Watch, Journal, Recover}
 
 -- a word may be an argument: it is not empty and does not begin with `-`
 abbrev pub is_plain : List ℕ → Bool
@@ -22,10 +22,9 @@ word_of Audit = codes "audit"
 word_of Watch = codes "watch"
 word_of Journal = codes "journal"
 word_of Recover = codes "recover"
-word_of Views = codes "views"
 
 abbrev pub commands : List CommandName
-commands = Run ∷ Trace ∷ Show ∷ Gen ∷ Large ∷ Audit ∷ Watch ∷ Journal ∷ Recover ∷ Views ∷ []
+commands = Run ∷ Trace ∷ Show ∷ Gen ∷ Large ∷ Audit ∷ Watch ∷ Journal ∷ Recover ∷ []
 
 -- the one of these commands that a word names
 abbrev pub named_in : List CommandName → List ℕ → Option CommandName
@@ -41,10 +40,6 @@ is_within least most n = nat_le least n && nat_le n most
 abbrev pub is_count : ℕ → Bool
 is_count n = is_within 1 shell_limit n
 
--- 1 to 63 scripts, beside which one more shell runs
-abbrev pub is_count_beside : ℕ → Bool
-is_count_beside n = nat_le 1 n && nat_le (n + 1) shell_limit
-
 -- the fewest arguments of a command: SPEC, FOLDER and so on, and a script; or two texts
 abbrev pub least_of : CommandName → ℕ
 least_of Run = 4
@@ -56,7 +51,6 @@ least_of Audit = 4
 least_of Watch = 5
 least_of Journal = 6
 least_of Recover = 5
-least_of Views = 5
 
 -- and the most, with 64 scripts
 abbrev pub most_of : CommandName → ℕ
@@ -69,7 +63,6 @@ most_of Audit = 3 + shell_limit
 most_of Watch = 4 + shell_limit
 most_of Journal = 5 + shell_limit
 most_of Recover = 4 + shell_limit
-most_of Views = 3 + shell_limit
 
 -- a command takes so many arguments
 abbrev pub takes : CommandName → ℕ → Bool

@@ -21,7 +21,6 @@ pub enum CommandName {
     Watch,
     Journal,
     Recover,
-    Views,
 }
 
 /// A command that the words name, with its arguments as they stand there.
@@ -32,7 +31,7 @@ pub struct Form<'a> {
 }
 
 /// Every command.
-pub(crate) const COMMANDS: [CommandName; 10] = [
+pub(crate) const COMMANDS: [CommandName; 9] = [
     CommandName::Run,
     CommandName::Trace,
     CommandName::Show,
@@ -42,7 +41,6 @@ pub(crate) const COMMANDS: [CommandName; 10] = [
     CommandName::Watch,
     CommandName::Journal,
     CommandName::Recover,
-    CommandName::Views,
 ];
 
 impl CommandName {
@@ -60,11 +58,10 @@ impl CommandName {
             CommandName::Watch => "watch",
             CommandName::Journal => "journal",
             CommandName::Recover => "recover",
-            CommandName::Views => "views",
         }
     }
 
-    /// How many arguments the command takes: some texts, and then scripts. The transactions of VIEWS run as one more shell.
+    /// How many arguments the command takes: some texts, and then scripts.
     pub(crate) fn argument_count(self) -> RangeInclusive<usize>
         ensures least { result.start ≡ least_of self }
         ensures most { result.end ≡ most_of self }
@@ -74,7 +71,6 @@ impl CommandName {
             CommandName::Run | CommandName::Audit => 4..=3 + SCRIPT_LIMIT,
             CommandName::Trace | CommandName::Watch | CommandName::Recover => 5..=4 + SCRIPT_LIMIT,
             CommandName::Journal => 6..=5 + SCRIPT_LIMIT,
-            CommandName::Views => 5..=3 + SCRIPT_LIMIT,
         }
     }
 }

@@ -11,10 +11,9 @@ use Rattle.fx_words.specs.declared.job.RunMode.TheVariants as by
 use Rattle.fx_words.specs.declared.job.AuditJob as code_audit
 use Rattle.fx_words.specs.declared.job.JournalJob as code_journal
 use Rattle.fx_words.specs.declared.job.RecoverJob as code_recover
-use Rattle.fx_words.specs.declared.job.ViewsJob as code_views
 use Rattle.fx_words.specs.declared.job.ShowJob as code_show
 use Rattle.fx_words.specs.declared.job.GenJob as code_gen
-use Rattle.fx_words.specs.Job.{Job, Run, Show, Gen, Large, Audit, Journal, Recover, Views, Inputs, RunJob, ShowJob, GenJob, AuditJob, JournalJob, RecoverJob, ViewsJob, Mode, Plain, Scheduled, Watched, schedule_of, shells_of}
+use Rattle.fx_words.specs.Job.{Job, Run, Show, Gen, Large, Audit, Journal, Recover, Inputs, RunJob, ShowJob, GenJob, AuditJob, JournalJob, RecoverJob, Mode, Plain, Scheduled, Watched, schedule_of, shells_of}
 
 abbrev pub scripts_in : code_inputs.Inputs → List (List ℕ)
 scripts_in i = drop i.first i.words.now
@@ -82,15 +81,6 @@ pub record IsJournalJob (j : code_journal.JournalJob) : Type 0 where
 abbrev pub asked_recover : code_recover.RecoverJob → RecoverJob
 asked_recover j = record { inputs = asked_inputs j.inputs; journal = j.journal.now; out = j.out.now }
 
-abbrev pub asked_views : code_views.ViewsJob → ViewsJob
-asked_views j = record { run = asked j.run; views = j.views.now }
-
--- its run is on threads, one fewer than 64 at most
-pub record IsViewsJob (j : code_views.ViewsJob) : Type 0 where
-  pub run : IsJob j.run
-  pub plain : (asked j.run).mode ≡ Plain
-  pub few : length (scripts_in j.run.inputs) + 1 ≤ shell_limit
-
 abbrev pub asked_job : every.Job → Job
 asked_job (any.Run j) = Run (asked j)
 asked_job (any.Show j) = Show (asked_show j)
@@ -99,7 +89,6 @@ asked_job (any.Large j) = Large (asked_gen j)
 asked_job (any.Audit j) = Audit (asked_audit j)
 asked_job (any.Journal j) = Journal (asked_journal j)
 asked_job (any.Recover j) = Recover (asked_recover j)
-asked_job (any.Views j) = Views (asked_views j)
 
 abbrev pub IsAnyJob : every.Job → Type 0
 IsAnyJob (any.Run j) = IsJob j
@@ -109,4 +98,3 @@ IsAnyJob (any.Large j) = Unit {0}
 IsAnyJob (any.Audit j) = AreInputs j.inputs
 IsAnyJob (any.Journal j) = IsJournalJob j
 IsAnyJob (any.Recover j) = AreInputs j.inputs
-IsAnyJob (any.Views j) = IsViewsJob j
