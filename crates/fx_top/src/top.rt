@@ -6,11 +6,11 @@ ghost use Rattle.fx_top.specs.Rows.{Row, AsksFitPaths, Completes};
 ghost use Rattle.fx_command.specs.Left.{IsIdle};
 ghost use Rattle.fx_command.specs.StatusOf.{status_of};
 
-use crate::run::run;
 use fx_command::Status;
 use fx_gen_command::write_generated;
 use fx_large::run_generated;
 use fx_outside::{Gate, Host, Sink, Words};
+use fx_run_command::run;
 use fx_show::show;
 use fx_words::{Job, WordsFault, job_of};
 use std::alloc::Global;

@@ -17,9 +17,9 @@ use Rattle.fx_command.proofs.Told.{if_some_map, if_some_both, some_and, if_told_
 use Rattle.fx_inputs.specs.Inputs.{HasInputs, CannotRead}
 use Rattle.fx_inputs.specs.Reads.{HasReadFault, ReadRow, has_fit_inputs}
 use Rattle.fx_inputs.proofs.ReadRows.{read_fault_back}
-use Rattle.fx_top.specs.Answers.{IsAnswered}
-use Rattle.fx_top.specs.Outcome.{IsOutcome}
-use Rattle.fx_top.specs.Rows.{RunRow, EndsAs, MayHoldPart, IsDone, IsCutShort, CannotSave, has_fit_paths}
+use Rattle.fx_run_command.specs.Answers.{IsAnswered}
+use Rattle.fx_run_command.specs.Outcome.{IsOutcome}
+use Rattle.fx_run_command.specs.Rows.{RunRow, EndsAs, MayHoldPart, IsDone, IsCutShort, CannotSave, has_fit_paths}
 use Rattle.fx_words.specs.Job.{RunJob}
 
 -- ---- stages that only read

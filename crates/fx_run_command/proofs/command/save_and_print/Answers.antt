@@ -1,12 +1,12 @@
 use Rattle.std.proofs.Common.{◌≡◌, ◌++◌, ℕ, take, Some, IfSome, sym, subst}
 use Rattle.fx_folder.specs.Folder.{Saves, SavesPart}
 use Rattle.fx_words.specs.JobOf.{asked}
-use Rattle.fx_top.specs.Answers.{last_of}
-use Rattle.fx_top.specs.Rows.{RunRow}
+use Rattle.fx_run_command.specs.Answers.{last_of}
+use Rattle.fx_run_command.specs.Rows.{RunRow}
 use Rattle.fx_command.specs.StatusOf.{status_of, save_status}
 use Rattle.fx_base.proofs.Errors.{err_of}
-use Rattle.fx_top.proofs.Ending.{not_saved, not_printed, all_done}
-use Rattle.fx_top.proofs.run.save_and_print.Goals as goal
+use Rattle.fx_run_command.proofs.Ending.{not_saved, not_printed, all_done}
+use Rattle.fx_run_command.proofs.command.save_and_print.Goals as goal
 
 pub returns-in_err-save-clause-row : goal.returns-in_err-save-clause-row
 returns-in_err-save-clause-row g c =

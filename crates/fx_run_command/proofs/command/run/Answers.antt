@@ -1,14 +1,14 @@
 use Rattle.std.proofs.Common.{sym, subst, ◌∙◌}
 use Rattle.fx_spec.specs.Bases.{base_tree}
 use Rattle.fx_words.specs.JobOf.{asked}
-use Rattle.fx_top.specs.Answers.{last_of}
-use Rattle.fx_top.specs.Rows.{RunRow}
+use Rattle.fx_run_command.specs.Answers.{last_of}
+use Rattle.fx_run_command.specs.Rows.{RunRow}
 use Rattle.fx_command.specs.StatusOf.{status_of}
 use Rattle.fx_base.proofs.Errors.{err_of}
 use Rattle.fx_inputs.proofs.Stages.{inputs_read}
-use Rattle.fx_top.proofs.Ending.{read_row, ends_back, fit_inputs}
-use Rattle.fx_top.proofs.Stages.{can_save}
-use Rattle.fx_top.proofs.run.run.Goals as goal
+use Rattle.fx_run_command.proofs.Ending.{read_row, ends_back, fit_inputs}
+use Rattle.fx_run_command.proofs.Stages.{can_save}
+use Rattle.fx_run_command.proofs.command.run.Goals as goal
 
 pub returns-in_err-base-clause-row : goal.returns-in_err-base-clause-row
 returns-in_err-base-clause-row g c =

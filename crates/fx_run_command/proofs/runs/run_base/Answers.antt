@@ -3,7 +3,7 @@ use Rattle.std.specs.Prelude.{All}
 use Rattle.fx_words.specs.Job.{shells_of}
 use Rattle.fx_words.specs.JobOf.{asked}
 use Rattle.fx_words.proofs.Below.{job_below}
-use Rattle.fx_top.proofs.answer.run_base.Goals as goal
+use Rattle.fx_run_command.proofs.runs.run_base.Goals as goal
 
 pub run_by-requires : goal.run_by-requires
 run_by-requires g c =

@@ -4,11 +4,11 @@ ghost use Rattle.fx_outside.specs.Host.{ReadsOnly};
 ghost use Rattle.fx_folder.specs.Folder.{IsReady};
 ghost use Rattle.fx_inputs.specs.Inputs.{HasInputs};
 ghost use Rattle.fx_words.specs.JobOf.{asked, IsJob};
-ghost use Rattle.fx_top.specs.Answers.{last_of, IsAnswered};
-ghost use Rattle.fx_top.specs.Rows.{RunRow, EndsAs, RunAsksFit};
+ghost use Rattle.fx_run_command.specs.Answers.{last_of, IsAnswered};
+ghost use Rattle.fx_run_command.specs.Rows.{RunRow, EndsAs, RunAsksFit};
 ghost use Rattle.fx_command.specs.StatusOf.{status_of};
 
-use crate::answer::{Answer, run_base};
+use crate::runs::{Answer, run_base};
 use fx_command::{Status, print_all};
 use fx_folder::{ready, save};
 use fx_inputs::read_base;
@@ -19,7 +19,7 @@ use std::sync::Wait;
 use std::thread::Threads;
 
 /// Sees that OUT can be written, after the inputs: whether an empty folder stands there already.
-fn make_ready<H: Host>(alloc: Global, job: &RunJob, host: &mut H) -> Result<bool, Status>
+pub fn make_ready<H: Host>(alloc: Global, job: &RunJob, host: &mut H) -> Result<bool, Status>
     requires { IfSome (H.view host.old).told (λ t. HasInputs t (asked job.now).inputs) }
     ensures ready { IfOk result (λ there.
         IfSome (H.view host.old).told (λ t. IsReady t (asked job.now).out there)) }
@@ -32,7 +32,7 @@ fn make_ready<H: Host>(alloc: Global, job: &RunJob, host: &mut H) -> Result<bool
 }
 
 /// Saves the last filestore, and then prints the output.
-fn save_and_print<H: Host, S: Sink>(
+pub fn save_and_print<H: Host, S: Sink>(
     alloc: Global,
     job: &RunJob,
     there: bool,
@@ -54,7 +54,7 @@ fn save_and_print<H: Host, S: Sink>(
 }
 
 /// Runs the scripts on the folder, by the description, and leaves the folder that they make at OUT.
-pub(crate) fn run<R: Threads + Wait + Sync, H: Host, S: Sink, G: Gate + Sync>(
+pub fn run<R: Threads + Wait + Sync, H: Host, S: Sink, G: Gate + Sync>(
     rt: &R,
     alloc: Global,
     job: &RunJob,

@@ -4,7 +4,7 @@ ghost use Rattle.fx_spec.specs.Bases.{base_tree};
 ghost use Rattle.fx_sched.specs.Traced.{IsTraced};
 ghost use Rattle.fx_words.specs.Job.{Plain, Scheduled};
 ghost use Rattle.fx_words.specs.JobOf.{asked, IsJob};
-ghost use Rattle.fx_top.specs.Answers.{last_of, IsPrintedTrace, IsRunFrom};
+ghost use Rattle.fx_run_command.specs.Answers.{last_of, IsPrintedTrace, IsRunFrom};
 ghost use Rattle.fx_inputs.specs.Inputs.{HasEachScript};
 
 use fx_base::NoMemory;

@@ -8,7 +8,7 @@ use Rattle.fx_spec.specs.Order.{BaseTree}
 use Rattle.fx_words.specs.Job.{RunJob}
 use Rattle.fx_inputs.specs.Inputs.{HasBase}
 use Rattle.fx_inputs.proofs.Stages.{then_told}
-use Rattle.fx_top.specs.Answers.{IsRunFrom, IsAnswered}
+use Rattle.fx_run_command.specs.Answers.{IsRunFrom, IsAnswered}
 use Rattle.fx_command.proofs.Told.{if_some_both}
 
 answered : (t : Tree) (j : RunJob) (base : BaseTree) (last : Nodes) (output : List ℕ) (there : Bool) → IsRunFrom base j.mode last output → HasBase t j.inputs base → IsReady t j.out there → IsAnswered t j last output there

@@ -12,8 +12,8 @@ use Rattle.fx_board.specs.Board.{last_state}
 use Rattle.fx_report.specs.Entries.{report}
 use Rattle.fx_report.specs.Events.{lines}
 use Rattle.fx_sched.specs.declared.schedule.Traced.{Traced}
-use Rattle.fx_top.specs.declared.answer.Answer.{Answer}
-use Rattle.fx_top.specs.Outcome.{IsPrintedAs, IsOutcome}
+use Rattle.fx_run_command.specs.declared.runs.Answer.{Answer}
+use Rattle.fx_run_command.specs.Outcome.{IsPrintedAs, IsOutcome}
 
 -- a whole run from a base on: the output, and the last filestore
 pub record IsRunFrom (base : BaseTree) (mode : Mode) (nodes : Nodes) (output : List ℕ) : Type 0 where
