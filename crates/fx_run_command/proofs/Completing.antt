@@ -72,3 +72,4 @@ run_completes j t host host' sink sink' status.WriteFault is proper none quiet (
     not_unsaved (inr cannot) = can_save t j proper (subst (λ o. IsSomeAnd o (λ t. CannotSave t j)) is cannot)
 run_completes j t host host' sink sink' status.WriteFault is proper none quiet (inr row) = absurd (quiet row.cause)
 run_completes j t host host' sink sink' status.NoMemory is proper none quiet row = inr refl
+run_completes j t host host' sink sink' (status.BadJournal place) is proper none quiet row = absurd row
