@@ -1,5 +1,5 @@
 -- With fit inputs and no fault of host or sink a run is done, or memory runs out.
-use Rattle.std.proofs.Common.{◌≡◌, ◌⊎◌, inl, inr, ℕ, ◌+◌, length, subst, List, [], ◌∷◌, Option, Some, Ok, Err, IfSome, IsSomeAnd, refl, sym, ◌∙◌}
+use Rattle.std.proofs.Common.{◌≡◌, ◌⊎◌, inl, inr, ℕ, ◌+◌, length, subst, List, [], ◌∷◌, Some, Ok, Err, IfSome, IsSomeAnd, refl, sym, ◌∙◌}
 use Rattle.fx_base.specs.Causes.{Rose}
 use Rattle.fx_outside.specs.Host.{HostView, FaultIn}
 use Rattle.fx_outside.specs.Sink.{SinkView}

@@ -1,5 +1,5 @@
 -- With fit inputs and no fault of host, sink or disk a command is done, or memory runs out.
-use Rattle.std.proofs.Common.{◌≡◌, ◌⊎◌, inl, inr, Option, Some, None, IfSome, refl, subst, arith}
+use Rattle.std.proofs.Common.{◌≡◌, ◌⊎◌, inr, Option, Some, None, IfSome, refl, subst, arith}
 use Rattle.fx_base.specs.Causes.{Rose}
 use Rattle.fx_outside.specs.Host.{HostView, ReadsOnly}
 use Rattle.fx_outside.specs.Sink.{SinkView}

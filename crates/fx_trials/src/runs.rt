@@ -35,9 +35,7 @@ pub fn tell_run<P: Program>(
     out: &mut String,
 ) -> Result<(), NoMemory> {
     let mut disk = empty_disk(alloc)?;
-    tell_run_over(
-        program, alloc, words, host, sink, &mut disk, detail, out,
-    )
+    tell_run_over(program, alloc, words, host, sink, &mut disk, detail, out)
 }
 
 /// Runs a command over the host and the disk of a stage, and tells what it gives.

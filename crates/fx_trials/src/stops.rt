@@ -3,7 +3,7 @@
 
 use fx_base::NoMemory;
 use fx_durable::{DiskCall, MemoryDisk};
-use fx_outside::{MemorySink, Words};
+use fx_outside::Words;
 use fx_stage::{JOURNAL, OUT, Program, Stage, disk_of, empty_disk, words_of};
 use std::alloc::Global;
 use std::collections::BTreeSet;
@@ -48,12 +48,7 @@ fn unsynced(record: &[DiskCall]) -> Option<(u64, u64)> {
 }
 
 /// A file whose bytes from a place on, so many, are all of one kind.
-fn filled(
-    alloc: Global,
-    bytes: &[u8],
-    place: (u64, u64),
-    fill: u8,
-) -> Result<Vec<u8>, NoMemory> {
+fn filled(alloc: Global, bytes: &[u8], place: (u64, u64), fill: u8) -> Result<Vec<u8>, NoMemory> {
     let (from, count) = place;
     let mut image = Vec::new(alloc);
     for (i, byte) in bytes.iter().enumerate() {
