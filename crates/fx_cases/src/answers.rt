@@ -5,7 +5,7 @@ use fx_base::NoMemory;
 use fx_hosts::{Call, tell_call, tell_message};
 use fx_outside::HostKind;
 use fx_stage::{Program, Stage, tell_tree};
-use fx_steps::{tell_attempt, tell_steps, tell_threads};
+use fx_steps::{tell_attempt, tell_steps, tell_threads, tell_watch};
 use fx_telling::{Case, number, split_word, tell};
 use fx_trials::{tell_changes, tell_faults, tell_rooms, tell_schedules, tell_top};
 use std::alloc::Global;
@@ -36,6 +36,7 @@ enum Trial {
     Tree,
     Attempt,
     Steps,
+    Watch,
 }
 
 #[derive(Clone, Copy)]
@@ -70,6 +71,7 @@ const VERBS: &[(&str, Verb)] = &[
     ("tree", Verb::Try(Trial::Tree)),
     ("attempt", Verb::Try(Trial::Attempt)),
     ("steps", Verb::Try(Trial::Steps)),
+    ("watch", Verb::Try(Trial::Watch)),
     ("standing", Verb::Call(Call::Standing)),
     ("list", Verb::Call(Call::List)),
     ("read", Verb::Call(Call::Read)),
@@ -138,6 +140,7 @@ fn try_out<P: Program>(
         Trial::Tree => tell_tree(alloc, &mut stage.host, rest, out),
         Trial::Attempt => tell_attempt(program, alloc, stage, rest, out),
         Trial::Steps => tell_steps(program, alloc, stage, rest, out),
+        Trial::Watch => tell_watch(program, alloc, stage, rest, out),
     }
 }
 
