@@ -5,7 +5,7 @@ use fx_base::NoMemory;
 use fx_hosts::{Call, tell_call, tell_message};
 use fx_outside::HostKind;
 use fx_stage::{Program, Stage, tell_disk, tell_tree};
-use fx_steps::{tell_attempt, tell_steps, tell_threads};
+use fx_steps::{tell_attempt, tell_steps, tell_threads, tell_watch};
 use fx_telling::{Case, number, split_word, tell};
 use fx_trials::{tell_changes, tell_faults, tell_rooms, tell_schedules, tell_stops, tell_top};
 use std::alloc::Global;
@@ -40,6 +40,7 @@ enum Trial {
     Disk,
     Attempt,
     Steps,
+    Watch,
 }
 
 #[derive(Clone, Copy)]
@@ -78,6 +79,7 @@ const VERBS: &[(&str, Verb)] = &[
     ("disk", Verb::Try(Trial::Disk)),
     ("attempt", Verb::Try(Trial::Attempt)),
     ("steps", Verb::Try(Trial::Steps)),
+    ("watch", Verb::Try(Trial::Watch)),
     ("standing", Verb::Call(Call::Standing)),
     ("list", Verb::Call(Call::List)),
     ("read", Verb::Call(Call::Read)),
@@ -158,6 +160,7 @@ fn try_out<P: Program>(
         Trial::Disk => tell_disk_of(alloc, stage, out),
         Trial::Attempt => tell_attempt(program, alloc, stage, rest, out),
         Trial::Steps => tell_steps(program, alloc, stage, rest, out),
+        Trial::Watch => tell_watch(program, alloc, stage, rest, out),
     }
 }
 

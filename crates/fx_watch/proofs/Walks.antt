@@ -1,7 +1,7 @@
 -- What a walk consults, and that nothing else decides what it finds.
 use Rattle.std.proofs.Common.{◌≡◌, ◌⊎◌, inl, inr, ℕ, zero, suc, ◌&&◌, ◌≤◌, ◌+◌, Bool, true, false, cond, not, List, [], ◌∷◌, ◌++◌, Contains, All, Option, Some, None, IsSome, is_some, Result, Ok, Err, refl, sym, ap, subst, ◌∙◌, arith}
-use Rattle.std.specs.Prelude.{◌↔◌, IfOk, slice_get}
-use Rattle.std.proofs.lemmas.Option.{same_Some, none-some}
+use Rattle.std.specs.Prelude.{◌↔◌, IsSomeAnd, MatchOption}
+use Rattle.std.specs.Bool.{then_some}
 use Rattle.std.specs.List.{list_all}
 use Rattle.std.specs.Map.{keys_of}
 use Rattle.std.proofs.lemmas.Bool.{false≢true}
@@ -23,7 +23,8 @@ use Rattle.fx_view.specs.Reads.{known_of, read_at, IsRead, Agrees}
 use Rattle.fx_view.proofs.Growing.{read_known}
 use Rattle.fx_view.proofs.Rules.{walked_known, found_answer, found_asked}
 use Rattle.fx_run.proofs.Ways.{all_known, read_among}
-use Rattle.fx_watch.specs.Validity.{IsWalked, IsFound, DiffersAt, Spares, root_rule, consulted}
+use Rattle.fx_watch.specs.Validity.{IsWalked, IsFound, DiffersAt, Spares, has_value, root_rule, consulted}
+use Rattle.fx_watch.specs.WatchView.{WatchView, AnswersFor}
 
 abbrev Path : Type 0
 Path = List (List ℕ)
@@ -107,6 +108,29 @@ spares_unread root S reads valid (p ∷ ps) seen spares = at (is_some (read_at r
     at true is rest = absurd (All-head (λ path. Contains (consulted root S) path → ⊥) p ps spares ((seen.asked_is p).0 is))
     at false is rest = subst (λ b. (not b && list_all (λ path. not (is_some (read_at reads path))) ps) ≡ true) (sym is) rest
 
+-- whether there is a value stays
+pub valid_stays : (root : SpecTree) (S T : Store) (changed : List Path) → DiffersAt changed S T → Spares root S changed → has_value root S ≡ has_value root T
+valid_stays root S T changed differs spares =
+    let same = depends (root_rule root) S T (spared root S T changed differs spares) in
+    ap is_some (sym same.0)
+
+found_stays : (root : SpecTree) (S T : Store) (changed : List Path) → DiffersAt changed S T → Spares root S changed → (found : Option (ReadList × Bool)) → IsSomeAnd found (λ f. IsFound root S f.0 f.1) → IsSomeAnd found (λ f. IsFound root T f.0 f.1)
+found_stays root S T changed differs spares None h = h
+found_stays root S T changed differs spares (Some f) h = spared_found root S T changed f.0 f.1 differs spares h
+
+pub answers_stay : (watch : WatchView) (S T : Store) (changed : List Path) → DiffersAt changed S T → Spares watch.root S changed → AnswersFor watch S → AnswersFor watch T
+answers_stay watch S T changed differs spares h = found_stays watch.root S T changed differs spares watch.found h
+
+-- the answer is kept exactly where none of the changed paths was read
+kept_found : (root : SpecTree) (S : Store) (reads : ReadList) (valid : Bool) (changed : List Path) (unread : Bool) → IsFound root S reads valid → unread ≡ list_all (λ path. not (is_some (read_at reads path))) changed → MatchOption (then_some unread valid) (Spares root S changed → ⊥) (λ v. Spares root S changed × (v ≡ has_value root S))
+kept_found root S reads valid changed true found is = (unread_spares root S reads valid changed found (sym is), found.valid_is)
+kept_found root S reads valid changed false found is = λ spares. false≢true (is ∙ spares_unread root S reads valid changed found spares)
+
+pub kept_as : (watch : WatchView) (S : Store) (reads : ReadList) (valid : Bool) (changed : List Path) (unread : Bool) (kept : Option Bool) → watch.found ≡ Some (reads, valid) → unread ≡ list_all (λ path. not (is_some (read_at reads path))) changed → kept ≡ then_some unread valid → AnswersFor watch S → MatchOption kept (Spares watch.root S changed → ⊥) (λ v. Spares watch.root S changed × (v ≡ has_value watch.root S))
+kept_as watch S reads valid changed unread kept there is kept_is answers =
+    subst (λ k. MatchOption k (Spares watch.root S changed → ⊥) (λ v. Spares watch.root S changed × (v ≡ has_value watch.root S))) (sym kept_is)
+    (kept_found watch.root S reads valid changed unread (subst (λ found. IsSomeAnd found (λ f. IsFound watch.root S f.0 f.1)) there answers) is)
+
 -- a walk over a reader that has read nothing yet of a whole filestore
 module _ {R : Type 0} (m : Meaning R) (own : OwnList) (old new : R × ℕ) (rule : Ask (Option Tree)) (none : own ≡ []) (unread : m.reads old.0 ≡ []) (begins : m.vouches old.0 old.0 (m.reads old.0)) (S : Store) (agrees : m.vouches old.0 new.0 (m.reads new.0) → Agrees (m.reads new.0) S) where
   abbrev mapped : Ask Bool
@@ -123,12 +147,3 @@ module _ {R : Type 0} (m : Meaning R) (own : OwnList) (old new : R × ℕ) (rule
 
   pub most_alone : (result : Result Bool Stop) → Follows {A = Bool} {X = Bool} m (λ b. b) (own_at own) old new mapped result → new.1 ≤ old.1 + ticks S rule
   most_alone result h = walked_most m old new rule unread S (agreed result (bare result h)) result (bare result h)
-
-pub all_false : (f : Path → Bool) (ps : List Path) (i : ℕ) (p : Path) → slice_get ps i ≡ Some p → f p ≡ false → list_all f ps ≡ false
-all_false f [] i p e miss = absurd (none-some p e)
-all_false f (x ∷ xs) zero p e miss = subst (λ b. (b && list_all f xs) ≡ false) (sym (ap f (same_Some x p e) ∙ miss)) refl
-all_false f (x ∷ xs) (suc i) p e miss = by (f x) (all_false f xs i p e miss)
-  where
-    by : (b : Bool) → list_all f xs ≡ false → (b && list_all f xs) ≡ false
-    by true r = r
-    by false r = refl

@@ -1,4 +1,4 @@
-ghost use Rattle.std.specs.Prelude.{◌≡◌, ◌≤◌, ◌+◌, ◌×◌, IfOk, OnOk, IsSome, MatchOption};
+ghost use Rattle.std.specs.Prelude.{◌≡◌, ◌≤◌, ◌+◌, IfOk, OnOk, IsSome, MatchOption};
 ghost use Rattle.std.specs.FinMap.{get};
 ghost use Rattle.fx_store.specs.Whole.{Store};
 ghost use Rattle.fx_watch.specs.Validity.{has_value, evaluations, DiffersAt, Spares};

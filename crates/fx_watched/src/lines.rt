@@ -10,11 +10,7 @@ use fx_store::LongText;
 use std::alloc::Global;
 
 /// Adds the line of an event.
-pub(crate) fn add_event(
-    alloc: Global,
-    output: &mut Vec<u8>,
-    event: Event,
-) -> Result<(), NoMemory>
+pub(crate) fn add_event(alloc: Global, output: &mut Vec<u8>, event: Event) -> Result<(), NoMemory>
     ensures { OnOk result (output.new.items ≡ output.old.items ++ event_line event) }
 {
     let mut events = Events::new(alloc);

@@ -41,7 +41,13 @@ impl<L: Ledger, B: Based> Taker for Watching<L, B> {
         add_event(alloc, &mut self.output, event)?;
         match settled {
             Some(entry) => {
-                let valid = valid_after(alloc, &mut self.watch, world.board(), entry, &mut self.steps)?;
+                let valid = valid_after(
+                    alloc,
+                    &mut self.watch,
+                    world.board(),
+                    entry,
+                    &mut self.steps,
+                )?;
                 add_valid(&mut self.output, valid)
             }
             None => Ok(()),
