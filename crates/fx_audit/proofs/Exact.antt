@@ -114,8 +114,8 @@ yes_true base bytes read = record {
   order = order_told read.entries;
   retries = read.retries;
   complete = read.said.0;
-  tried = read.said.1.1;
-  report = subst (λ es. IsReportOf bytes es read.retries) (answers_are base read.entries read.said.1.0) read.report;
+  tried = read.said.2;
+  report = subst (λ es. IsReportOf bytes es read.retries) (answers_are base read.entries read.said.1) read.report;
 }
 
 -- what was read of a true report
@@ -142,9 +142,9 @@ only_yes base bytes (verdict.Order i) said is =
 only_yes base bytes (verdict.Answer i) said is =
     let t = told base bytes said.entries said.retries said.report is in absurd (said.said.1.here (t.answered i))
 only_yes base bytes (verdict.Missing shell txn) said is =
-    let t = told base bytes said.entries said.retries said.report is in absurd (said.said.1.1.lacks (t.complete.all shell txn said.said.1.1.planned))
+    let t = told base bytes said.entries said.retries said.report is in absurd (said.said.2.lacks (t.complete.all shell txn said.said.2.planned))
 only_yes base bytes (verdict.Retry m) said is =
-    let t = told base bytes said.entries said.retries said.report is in absurd (said.said.1.1.here (ok_take base (order_told said.entries) said.retries (suc m) t.tried))
+    let t = told base bytes said.entries said.retries said.report is in absurd (said.said.2.here (ok_take base (order_told said.entries) said.retries (suc m) t.tried))
 
 true_if_yes : (base : BaseTree) (bytes : List ℕ) (v : Verdict) → IsVerdictOn base bytes v → v ≡ verdict.Yes → IsTrueReport base bytes
 true_if_yes base bytes v said yes_ = yes_true base bytes (subst (IsVerdictOn base bytes) yes_ said)

@@ -1,4 +1,5 @@
 pub mod Answering
+pub mod Ends
 pub mod Exact
 pub mod Fronts
 pub mod Lists

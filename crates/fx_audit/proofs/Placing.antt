@@ -106,6 +106,10 @@ not_next base o shell txn count table are counted other next = other (next.next 
 pub not_planned : (base : BaseTree) (o : List Turn) (shell txn planned : ℕ) → planned ≡ count_of base.plan shell → planned ≤ txn → IsNextIn base o (shell, txn) → ⊥
 not_planned base o shell txn planned plan le next = let p = next.planned in omega (arith, plan, le, p)
 
+pub not_added : (base : BaseTree) (o : List Turn) (turn : Turn) (table : List (List ℕ)) (added : Bool) → AddsNext base o turn table added → added ≡ false → IsNextIn base o turn → ⊥
+not_added base o turn table true adds is next = let no : true ≡ false = is in cc
+not_added base o turn table false adds is next = adds next
+
 -- ---- complete orders
 
 stands : (o : List Turn) (shell txn : ℕ) (places : List ℕ) → AreShellPlaces o shell places → txn < length places → Contains o (shell, txn)

@@ -47,9 +47,9 @@ precedes_then a b c (inl h) (inr k) = inl (let same = k.0 in omega (arith, h, sa
 precedes_then a b c (inr h) (inl k) = inl (let same = h.0 in omega (arith, same, k))
 precedes_then a b c (inr h) (inr k) =
     let s = h.0 in let t = k.0 in
-    let u = h.1.0 in let v = k.1.0 in
-    let w = h.1.1 in let x = k.1.1 in
-    inr (s ∙ t, (omega (arith, u, v), omega (arith, w, x)))
+    let u = h.1 in let v = k.1 in
+    let w = h.2 in let x = k.2 in
+    inr (s ∙ t, omega (arith, u, v), omega (arith, w, x))
 
 abbrev pub last_of : List RetryTree → Option RetryTree
 last_of [] = None

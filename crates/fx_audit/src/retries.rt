@@ -44,7 +44,7 @@ fn precedes(before: &Retry, after: &Retry) -> bool
 
 /// Whether a retry may stand behind the last one.
 fn may_follow(last: Option<&Retry>, retry: &Retry) -> bool
-    ensures { IsTrue result ↔ MayFollow (last_tree last) (retry_tree retry.now) }
+    ensures { IsTrue result ↔ MayFollow (last_tree last.entry) (retry_tree retry.now) }
 {
     match last {
         Some(last) => precedes(last, retry),
@@ -56,7 +56,7 @@ fn may_follow(last: Option<&Retry>, retry: &Retry) -> bool
 fn is_next_retry(board: &Board, table: &[Places], last: Option<&Retry>, retry: &Retry) -> bool
     requires { ArePlaces board.now.base board.now.order table.now }
     ensures { IsTrue result
-        ↔ IsNextRetry board.now.base board.now.order (last_tree last) (retry_tree retry.now) }
+        ↔ IsNextRetry board.now.base board.now.order (last_tree last.entry) (retry_tree retry.now) }
 {
     may_follow(last, retry) && is_retry(board, table, retry)
 }

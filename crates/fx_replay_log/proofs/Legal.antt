@@ -11,9 +11,7 @@ use Rattle.fx_spec.specs.Plans.{Turn, count_of}
 use Rattle.fx_spec.specs.Order.{BaseTree, IsLegal, number_in, numbers_of, first_numbers}
 use Rattle.fx_machine.specs.declared.entry.Pair.{Pair}
 use Rattle.fx_machine.specs.Machine.{next_number}
-use Rattle.fx_board.specs.Board.{settled}
-use Rattle.fx_board.specs.Log.{Log}
-use Rattle.fx_replay_log.specs.Orders.{turn_of, turns_of, logged}
+use Rattle.fx_replay_log.specs.Orders.{turn_of, turns_of}
 
 pub at_middle : {X : Type 0} (xs ys : List X) (x : X) → slice_get (xs ++ x ∷ ys) (length xs) ≡ Some x
 at_middle [] ys x = refl

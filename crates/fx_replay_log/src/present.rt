@@ -64,6 +64,10 @@ impl Reader for Present<'_> {
         Ok(node)
     }
 
+    fn reads(&self) -> &Reads {
+        &self.reads
+    }
+
     fn take_reads(&mut self, alloc: Global) -> Reads {
         let mut taken = Reads::new(alloc);
         std::mem::swap(&mut self.reads, &mut taken);
