@@ -80,8 +80,11 @@ fn run_watching(alloc: Global, base: Arc<Base>, schedule: &[u32]) -> Result<Answ
     ensures { IfOk result (λ a.
         IsRunFrom (base_tree base.value) (Watched schedule.now) (last_of a) a.output) }
 {
-    let (board, output) = run_watched(alloc, base, schedule)?;
-    Ok(Answer { board, output })
+    let run = run_watched(alloc, base, schedule)?;
+    Ok(Answer {
+        board: run.0,
+        output: run.1,
+    })
 }
 
 /// Runs all scripts on the loaded filestore: on threads, or by the job's schedule, watched or not.

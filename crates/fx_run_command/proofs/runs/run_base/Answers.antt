@@ -15,4 +15,4 @@ run_by-requires g c =
 
 pub run_watching-requires : goal.run_watching-requires
 run_watching-requires g c =
-    below c.args.job.now c.deref-in_ok-schedule-in-Watched.result.now (length c.args.base.value.plan) c.requires.job c.requires.count (sym c.in_ok-schedule-in-Watched.ensures ∙ sym c.deref-in_ok-schedule-in-Watched.ensures.value)
+    below c.args.job.now c.deref-in-Watched.result.now (length c.args.base.value.plan) c.requires.job c.requires.count (sym c.in_ok-schedule-in-Watched.ensures ∙ sym c.deref-in-Watched.ensures.value)
