@@ -80,10 +80,10 @@ fn run_watching(alloc: Global, base: Arc<Base>, schedule: &[u32]) -> Result<Answ
     ensures { IfOk result (λ a.
         IsRunFrom (base_tree base.value) (Watched schedule.now) (last_of a) a.output) }
 {
-    let run = run_watched(alloc, base, schedule)?;
+    let watched = run_watched(alloc, base, schedule)?;
     Ok(Answer {
-        board: run.0,
-        output: run.1,
+        board: watched.0,
+        output: watched.1,
     })
 }
 
