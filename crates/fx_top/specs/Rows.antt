@@ -72,7 +72,7 @@ IsProper t disk (Gen j) = IsProperOut t j.out
 IsProper t disk (Large j) = IsProperOut t j.out
 IsProper t disk (Audit j) = IsProperAudit t j
 IsProper t disk (Journal j) = IsProperJournal t disk j
-IsProper t disk (Recover j) = IsProperRecover t disk j
+IsProper t disk (Recover j) = IsProperRecover t j disk
 IsProper t disk (Views j) = IsProperViews t j
 
 -- the disk failed while the command asked it
