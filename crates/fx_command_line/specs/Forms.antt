@@ -1,5 +1,5 @@
 -- The forms of the commands: a name, and as many arguments as the command takes.
-use Rattle.std.specs.Prelude.{ℕ, ◌+◌, ◌-◌, Bool, true, false, cond, not, ◌&&◌, ◌==◌, List, [], ◌∷◌, length, Option, Some, None, codes, nat_le}
+use Rattle.std.specs.Prelude.{ℕ, ◌+◌, Bool, true, false, not, ◌&&◌, ◌==◌, List, [], ◌∷◌, length, Option, codes, find, nat_le}
 use Rattle.std.specs.Option.{option_map_or}
 use Rattle.std.specs.Str.{bytes_eq}
 use Rattle.fx_base.specs.Limits.{shell_limit}
@@ -24,62 +24,52 @@ word_of Journal = codes "journal"
 word_of Recover = codes "recover"
 word_of Views = codes "views"
 
--- the command that a word names
-abbrev pub command_named : List ℕ → Option CommandName
-command_named word =
-    cond (bytes_eq word (codes "run")) (Some Run)
-    (cond (bytes_eq word (codes "trace")) (Some Trace)
-    (cond (bytes_eq word (codes "show")) (Some Show)
-    (cond (bytes_eq word (codes "gen")) (Some Gen)
-    (cond (bytes_eq word (codes "large")) (Some Large)
-    (cond (bytes_eq word (codes "audit")) (Some Audit)
-    (cond (bytes_eq word (codes "watch")) (Some Watch)
-    (cond (bytes_eq word (codes "journal")) (Some Journal)
-    (cond (bytes_eq word (codes "recover")) (Some Recover)
-    (cond (bytes_eq word (codes "views")) (Some Views) None)))))))))
+abbrev pub commands : List CommandName
+commands = Run ∷ Trace ∷ Show ∷ Gen ∷ Large ∷ Audit ∷ Watch ∷ Journal ∷ Recover ∷ Views ∷ []
 
--- from `least` to `most`
+-- the one of these commands that a word names
+abbrev pub named_in : List CommandName → List ℕ → Option CommandName
+named_in names word = find (λ name. bytes_eq (word_of name) word) names
+
+abbrev pub command_named : List ℕ → Option CommandName
+command_named word = named_in commands word
+
 abbrev pub is_within : ℕ → ℕ → ℕ → Bool
 is_within least most n = nat_le least n && nat_le n most
 
--- the most scripts of a run, and of one that leaves room for one shell more
-abbrev pub script_limit : ℕ
-script_limit = shell_limit
-
-abbrev pub script_limit_beside : ℕ
-script_limit_beside = shell_limit - 1
-
--- 1 to 64 scripts, and 1 to 63
+-- 1 to 64 scripts
 abbrev pub is_count : ℕ → Bool
-is_count n = is_within 1 script_limit n
+is_count n = is_within 1 shell_limit n
 
+-- 1 to 63 scripts, beside which one more shell runs
 abbrev pub is_count_beside : ℕ → Bool
-is_count_beside n = is_within 1 script_limit_beside n
+is_count_beside n = nat_le 1 n && nat_le (n + 1) shell_limit
 
--- the fewest arguments of a command, and the most: so many texts, and then scripts
+-- the fewest arguments of a command: SPEC, FOLDER and so on, and a script; or two texts
 abbrev pub least_of : CommandName → ℕ
-least_of Run = 3 + 1
-least_of Trace = 4 + 1
+least_of Run = 4
+least_of Trace = 5
 least_of Show = 2
 least_of Gen = 2
 least_of Large = 2
-least_of Audit = 3 + 1
-least_of Watch = 4 + 1
-least_of Journal = 5 + 1
-least_of Recover = 4 + 1
-least_of Views = 4 + 1
+least_of Audit = 4
+least_of Watch = 5
+least_of Journal = 6
+least_of Recover = 5
+least_of Views = 5
 
+-- and the most, with 64 scripts
 abbrev pub most_of : CommandName → ℕ
-most_of Run = 3 + script_limit
-most_of Trace = 4 + script_limit
+most_of Run = 3 + shell_limit
+most_of Trace = 4 + shell_limit
 most_of Show = 2
 most_of Gen = 2
 most_of Large = 2
-most_of Audit = 3 + script_limit
-most_of Watch = 4 + script_limit
-most_of Journal = 5 + script_limit
-most_of Recover = 4 + script_limit
-most_of Views = 4 + script_limit_beside
+most_of Audit = 3 + shell_limit
+most_of Watch = 4 + shell_limit
+most_of Journal = 5 + shell_limit
+most_of Recover = 4 + shell_limit
+most_of Views = 3 + shell_limit
 
 -- a command takes so many arguments
 abbrev pub takes : CommandName → ℕ → Bool
@@ -88,4 +78,4 @@ takes command n = is_within (least_of command) (most_of command) n
 -- the words have the form of a command
 abbrev pub has_form : List (List ℕ) → Bool
 has_form [] = false
-has_form (command ∷ arguments) = option_map_or (λ c. takes c (length arguments)) (command_named command) false
+has_form (word ∷ arguments) = option_map_or (λ command. takes command (length arguments)) (command_named word) false

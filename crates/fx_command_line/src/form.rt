@@ -1,8 +1,10 @@
-//! The commands of the program, and the arguments that each takes.
-ghost use Rattle.std.specs.Prelude.{◌≡◌, Some};
+//! The commands of the program, and how many arguments each takes.
+ghost use Rattle.std.specs.Prelude.{◌≡◌, ◌+◌, ◌≤◌};
 ghost use Rattle.fx_command_line.specs.Forms as forms;
+ghost use Rattle.fx_command_line.specs.Forms.{least_of, most_of};
 
 use fx_base::SHELL_LIMIT;
+use std::ops::RangeInclusive;
 
 /// The most scripts that a command takes.
 const SCRIPT_LIMIT: usize = SHELL_LIMIT as usize;
@@ -29,24 +31,24 @@ pub struct Form<'a> {
     pub arguments: Vec<&'a str>,
 }
 
-impl CommandName {
-    /// Every command.
-    pub(crate) const ALL: [CommandName; 10] = [
-        CommandName::Run,
-        CommandName::Trace,
-        CommandName::Show,
-        CommandName::Gen,
-        CommandName::Large,
-        CommandName::Audit,
-        CommandName::Watch,
-        CommandName::Journal,
-        CommandName::Recover,
-        CommandName::Views,
-    ];
+/// Every command.
+pub(crate) const COMMANDS: [CommandName; 10] = [
+    CommandName::Run,
+    CommandName::Trace,
+    CommandName::Show,
+    CommandName::Gen,
+    CommandName::Large,
+    CommandName::Audit,
+    CommandName::Watch,
+    CommandName::Journal,
+    CommandName::Recover,
+    CommandName::Views,
+];
 
+impl CommandName {
     /// The word that names the command.
     pub(crate) fn word(self) -> &'static str
-        ensures { result.now ≡ forms.word_of self.now }
+        ensures { result.now ≡ forms.word_of self }
     {
         match self {
             CommandName::Run => "run",
@@ -59,6 +61,20 @@ impl CommandName {
             CommandName::Journal => "journal",
             CommandName::Recover => "recover",
             CommandName::Views => "views",
+        }
+    }
+
+    /// How many arguments the command takes: some texts, and then scripts. The transactions of VIEWS run as one more shell.
+    pub(crate) fn argument_count(self) -> RangeInclusive<usize>
+        ensures least { result.start ≡ least_of self }
+        ensures most { result.end ≡ most_of self }
+    {
+        match self {
+            CommandName::Show | CommandName::Gen | CommandName::Large => 2..=2,
+            CommandName::Run | CommandName::Audit => 4..=3 + SCRIPT_LIMIT,
+            CommandName::Trace | CommandName::Watch | CommandName::Recover => 5..=4 + SCRIPT_LIMIT,
+            CommandName::Journal => 6..=5 + SCRIPT_LIMIT,
+            CommandName::Views => 5..=3 + SCRIPT_LIMIT,
         }
     }
 }

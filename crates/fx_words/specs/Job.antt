@@ -5,7 +5,10 @@ use Rattle.std.specs.List.{list_all, slice_split}
 use Rattle.std.specs.Option.{option_map, option_and_then}
 use Rattle.std.specs.Str.{bytes_eq}
 use Rattle.std.specs.Str.Parse.{digits_value}
-pub use Rattle.fx_command_line.specs.Forms.{is_count, is_count_beside, is_plain}
+use Rattle.fx_command_line.specs.declared.form.CommandName.{CommandName}
+use Rattle.fx_command_line.specs.declared.form.CommandName.TheVariants as command
+use Rattle.fx_command_line.specs.Forms.{command_named, is_count_beside}
+pub use Rattle.fx_command_line.specs.Forms.{is_count, is_plain}
 
 -- a thread for each script, or by a schedule of shells, which says after each commit whether the tree has a value or not
 pub data Mode : Type 0 where
@@ -142,24 +145,27 @@ gen_job (number ∷ out ∷ []) =
     option_map job (number_of number)
 gen_job _ = None
 
+-- what a command asks for with these arguments
+abbrev pub command_job : CommandName → List (List ℕ) → Option Job
+command_job command.Run arguments = option_map Run (run_job arguments)
+command_job command.Trace arguments = option_map Run (scheduled_job Scheduled arguments)
+command_job command.Show arguments = option_map Show (show_job arguments)
+command_job command.Gen arguments = option_map Gen (gen_job arguments)
+command_job command.Large arguments = option_map Large (gen_job arguments)
+command_job command.Audit arguments = option_map Audit (audit_job arguments)
+command_job command.Watch arguments = option_map Run (scheduled_job Watched arguments)
+command_job command.Journal arguments = option_map Journal (journal_job arguments)
+command_job command.Recover arguments = option_map Recover (recover_job arguments)
+command_job command.Views arguments = option_map Views (views_job arguments)
+
 -- the command that a word names, with its arguments
 abbrev pub named_job : List ℕ → List (List ℕ) → Option Job
-named_job command arguments =
-    cond (bytes_eq command (codes "run")) (option_map Run (run_job arguments))
-    (cond (bytes_eq command (codes "trace")) (option_map Run (scheduled_job Scheduled arguments))
-    (cond (bytes_eq command (codes "show")) (option_map Show (show_job arguments))
-    (cond (bytes_eq command (codes "gen")) (option_map Gen (gen_job arguments))
-    (cond (bytes_eq command (codes "large")) (option_map Large (gen_job arguments))
-    (cond (bytes_eq command (codes "audit")) (option_map Audit (audit_job arguments))
-    (cond (bytes_eq command (codes "watch")) (option_map Run (scheduled_job Watched arguments))
-    (cond (bytes_eq command (codes "journal")) (option_map Journal (journal_job arguments))
-    (cond (bytes_eq command (codes "recover")) (option_map Recover (recover_job arguments))
-    (cond (bytes_eq command (codes "views")) (option_map Views (views_job arguments)) None)))))))))
+named_job word arguments = option_and_then (λ name. command_job name arguments) (command_named word)
 
 -- the command that the words ask for, if they have a command's form
 abbrev pub job_of : List (List ℕ) → Option Job
 job_of [] = None
-job_of (command ∷ arguments) = cond (are_plain arguments) (named_job command arguments) None
+job_of (word ∷ arguments) = cond (are_plain arguments) (named_job word arguments) None
 
 -- the place of a script's word among the words
 abbrev pub place_of : Inputs → ℕ → ℕ

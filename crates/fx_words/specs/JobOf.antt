@@ -1,6 +1,6 @@
 -- What the program's own commands stand for.
-use Rattle.std.specs.Prelude.{◌≡◌, ℕ, ◌+◌, ◌≤◌, true, List, [], drop, length, is_some}
-use Rattle.std.specs.Option.{unwrap_or}
+use Rattle.std.specs.Prelude.{◌≡◌, ℕ, ◌+◌, ◌≤◌, Bool, true, false, List, [], drop, length, Some, is_some, slice_get}
+use Rattle.std.specs.Option.{option_map_or, unwrap_or}
 use Rattle.fx_base.specs.Limits.{shell_limit}
 use Rattle.fx_words.specs.declared.job.Job as every
 use Rattle.fx_words.specs.declared.job.Job.TheVariants as any
@@ -27,6 +27,17 @@ pub record AreInputs (i : code_inputs.Inputs) : Type 0 where
   pub early : i.first ≤ 6
   pub some : 1 ≤ length (scripts_in i)
   pub few : length (scripts_in i) ≤ shell_limit
+
+-- they are SPEC, FOLDER, and the words from a place on
+pub record BeginAt (words : List (List ℕ)) (first : ℕ) (i : code_inputs.Inputs) : Type 0 where
+  pub spec : slice_get words 1 ≡ Some i.spec.now
+  pub folder : slice_get words 2 ≡ Some i.folder.now
+  pub words_are : i.words.now ≡ words
+  pub first_is : i.first ≡ first
+
+-- the word at a place is a schedule of as many shells as words follow
+abbrev pub has_schedule : List (List ℕ) → ℕ → Bool
+has_schedule words place = option_map_or (λ schedule. is_some (schedule_of (length (drop (place + 1) words)) schedule)) (slice_get words place) false
 
 -- the shells that a schedule of so many shells names
 abbrev pub shells_read : ℕ → List ℕ → List ℕ

@@ -1,0 +1,14 @@
+use Rattle.std.proofs.Common.{refl}
+use Rattle.fx_words.proofs.Arguments.{few_beside, views_is}
+use Rattle.fx_words.proofs.job.views_job.Goals as goal
+
+pub returns-clause-asked : goal.returns-clause-asked
+returns-clause-asked c =
+    views_is c.args.words.now c.inputs_from.result c.word.result.now c.word-views.result.now c.inputs_from.ensures.begin c.word.ensures c.word-views.ensures c.requires.some c.requires.few
+
+pub returns-clause-job : goal.returns-clause-job
+returns-clause-job c = record {
+  run = record { inputs = c.inputs_from.ensures.inputs; mode = tt };
+  plain = refl;
+  few = few_beside c.args.words.now c.inputs_from.result c.inputs_from.ensures.begin c.requires.few c.requires.some;
+}
