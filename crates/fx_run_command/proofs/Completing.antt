@@ -1,5 +1,5 @@
 -- With fit inputs and no fault of host or sink a run is done, or memory runs out.
-use Rattle.std.proofs.Common.{◌≡◌, ◌⊎◌, inl, inr, ℕ, ◌+◌, length, subst, List, [], ◌∷◌, Option, Some, Ok, Err, IfSome, IsSomeAnd, refl, sym, ◌∙◌}
+use Rattle.std.proofs.Common.{◌≡◌, ◌⊎◌, inl, inr, ℕ, ◌+◌, length, subst, List, [], ◌∷◌, Some, Ok, Err, IfSome, IsSomeAnd, refl, sym, ◌∙◌}
 use Rattle.fx_base.specs.Causes.{Rose}
 use Rattle.fx_outside.specs.Host.{HostView, FaultIn}
 use Rattle.fx_outside.specs.Sink.{SinkView}
@@ -72,3 +72,4 @@ run_completes j t host host' sink sink' status.WriteFault is proper none quiet (
     not_unsaved (inr cannot) = can_save t j proper (subst (λ o. IsSomeAnd o (λ t. CannotSave t j)) is cannot)
 run_completes j t host host' sink sink' status.WriteFault is proper none quiet (inr row) = absurd (quiet row.cause)
 run_completes j t host host' sink sink' status.NoMemory is proper none quiet row = inr refl
+run_completes j t host host' sink sink' (status.BadJournal place) is proper none quiet row = absurd row

@@ -38,6 +38,7 @@ read_row j host host' status.ReadFault reads row sink = (same host host' sink re
 read_row j host host' status.NotEmpty reads row sink = absurd row
 read_row j host host' status.WriteFault reads row sink = absurd row
 read_row j host host' status.NoMemory reads row sink = no_memory j host host' reads sink
+read_row j host host' (status.BadJournal place) reads row sink = absurd row
 
 -- OUT cannot be written
 untouched : (j : RunJob) (host host' : HostView) → ReadsOnly host host' → IfSome host.told (λ t. HasInputs t j.inputs) → IfTold host.told host'.told (λ t t'. HasInputs t j.inputs × MayHoldPart j t t')
@@ -111,6 +112,7 @@ row_back j a b c sink sink' status.NotEmpty reads row = (same_back a b c sink si
 row_back j a b c sink sink' status.WriteFault reads (inl row) = inl (record { cause = cause_back (FaultIn j.out) (λ t. CannotSave t j) a b c reads (fault_in_back j.out a b c reads.later) row.cause; unprinted = row.unprinted; left = told_back _ a b c reads row.left })
 row_back j a b c sink sink' status.WriteFault reads (inr row) = inr (record { cause = row.cause; grows = row.grows; left = told_back _ a b c reads row.left })
 row_back j a b c sink sink' status.NoMemory reads row = (row.0, told_back _ a b c reads row.1)
+row_back j a b c sink sink' (status.BadJournal place) reads row = row
 
 pub ends_back : (j : RunJob) (a b c : HostView) (st : Status) → ReadsOnly a b → EndsAs j b c st → EndsAs j a c st
 ends_back j a b c st reads ends sink = row_back j a b c sink sink st reads (ends sink)

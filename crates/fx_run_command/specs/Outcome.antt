@@ -11,7 +11,8 @@ use Rattle.fx_machine.specs.Tried.{retries_of, retry_tree}
 use Rattle.fx_machine.specs.Turns.{FollowsSchedule}
 use Rattle.fx_report.specs.Entries.{report}
 use Rattle.fx_report.specs.Events.{lines}
-use Rattle.fx_words.specs.Job.{RunJob, Mode, Plain, Scheduled}
+use Rattle.fx_watched.specs.Outcome.{IsWatchedAs}
+use Rattle.fx_words.specs.Job.{RunJob, Mode, Plain, Scheduled, Watched}
 use Rattle.fx_inputs.specs.Inputs.{HasBase}
 
 -- the events lead from the empty order to this one by the schedule's turns, the retries are their conflicts by shell, and
@@ -23,10 +24,11 @@ pub record IsTracedAs (base : BaseTree) (schedule : List ℕ) (order : List Turn
   pub conflicts : retries ≡ retries_of base events
   pub printed : output ≡ lines events ++ report base order retries
 
--- the report alone, or the events and the report
+-- the report alone, or the events and the report, with what is said of the tree after each commit where it is watched
 abbrev pub IsPrintedAs : Mode → BaseTree → List Turn → List Retry → List ℕ → Type 0
 IsPrintedAs Plain base order retries output = output ≡ report base order retries
 IsPrintedAs (Scheduled schedule) base order retries output = IsTracedAs base schedule order retries output
+IsPrintedAs (Watched schedule) base order retries output = IsWatchedAs base schedule order retries output
 
 -- a commit order holds every transaction of every script exactly once, each script's in its order; the printed answers and
 -- the last filestore are those of these transactions run whole, one after another in that order, on the loaded filestore

@@ -77,6 +77,7 @@ RunRow j host host' sink sink' status.ReadFault = IsSame host host' sink sink' �
 RunRow j host host' sink sink' status.NotEmpty = IsSame host host' sink sink' × IfSome host.told (λ t. HasInputs t j.inputs × IsTaken t j.out)
 RunRow j host host' sink sink' status.WriteFault = IsUnsaved j host host' sink sink' ⊎ IsUnprinted j host host' sink sink'
 RunRow j host host' sink sink' status.NoMemory = (sink' ≡ sink) × IfTold host.told host'.told (MayHoldPart j)
+RunRow j host host' sink sink' (status.BadJournal place) = ⊥
 
 -- a stage that only reads ends a run so, whatever the sink
 abbrev pub EndsAs : RunJob → HostView → HostView → Status → Type 0

@@ -1,4 +1,5 @@
-//! The command `run`, which runs its scripts on threads, and `trace`, which runs them by a schedule.
+//! The command `run`, which runs its scripts on threads, `trace`, which runs them by a schedule, and `watch`, which tells
+//! besides whether the tree has a value.
 ghost use Rattle.std.specs.Prelude.{IfOk, IfErr, IfSome};
 ghost use Rattle.fx_outside.specs.Host.{ReadsOnly};
 ghost use Rattle.fx_folder.specs.Folder.{IsReady};

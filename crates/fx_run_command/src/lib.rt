@@ -1,4 +1,4 @@
-//! The commands `run` and `trace`, stage by stage: whole runs of scripts on a folder, and what each leaves at OUT and prints.
+//! The commands `run`, `trace` and `watch`, stage by stage: whole runs of scripts on a folder, and what each leaves at OUT and prints.
 #![tactic(auto)]
 
 mod command;

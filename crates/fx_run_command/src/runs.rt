@@ -2,7 +2,7 @@
 ghost use Rattle.std.specs.Prelude.{◌≡◌, ◌++◌, ◌<◌, All, IfOk, length};
 ghost use Rattle.fx_spec.specs.Bases.{base_tree};
 ghost use Rattle.fx_sched.specs.Traced.{IsTraced};
-ghost use Rattle.fx_words.specs.Job.{Plain, Scheduled};
+ghost use Rattle.fx_words.specs.Job.{Plain, Scheduled, Watched};
 ghost use Rattle.fx_words.specs.JobOf.{asked, IsJob};
 ghost use Rattle.fx_run_command.specs.Answers.{last_of, IsPrintedTrace, IsRunFrom};
 ghost use Rattle.fx_inputs.specs.Inputs.{HasEachScript};
@@ -14,7 +14,8 @@ use fx_report::{event_lines, report};
 use fx_sched::{Traced, run_schedule};
 use fx_spec::Base;
 use fx_store::LongText;
-use fx_words::RunJob;
+use fx_watched::run_watched;
+use fx_words::{RunJob, RunMode};
 use fx_workers::run_all;
 use std::alloc::Global;
 use std::sync::{Arc, Wait};
@@ -73,7 +74,17 @@ fn run_by(alloc: Global, base: Arc<Base>, schedule: &[u32]) -> Result<Answer, No
     })
 }
 
-/// Runs all scripts on the loaded filestore: on threads, or by the job's schedule.
+/// Runs all scripts on one thread, by a schedule of shells, and watches whether the tree has a value.
+fn run_watching(alloc: Global, base: Arc<Base>, schedule: &[u32]) -> Result<Answer, NoMemory>
+    requires { All (λ k. k < length base.value.plan) schedule.now }
+    ensures { IfOk result (λ a.
+        IsRunFrom (base_tree base.value) (Watched schedule.now) (last_of a) a.output) }
+{
+    let (board, output) = run_watched(alloc, base, schedule)?;
+    Ok(Answer { board, output })
+}
+
+/// Runs all scripts on the loaded filestore: on threads, or by the job's schedule, watched or not.
 pub fn run_base<R: Threads + Wait + Sync, G: Gate + Sync>(
     rt: &R,
     alloc: Global,
@@ -86,11 +97,15 @@ pub fn run_base<R: Threads + Wait + Sync, G: Gate + Sync>(
     ensures { IfOk result (λ a.
         IsRunFrom (base_tree base.value) (asked job.now).mode (last_of a) a.output) }
 {
-    match job.schedule {
-        None => run_on_threads(rt, alloc, base, gate),
-        Some(_) => {
+    match job.mode {
+        RunMode::Plain => run_on_threads(rt, alloc, base, gate),
+        RunMode::Scheduled(_) => {
             let schedule = job.shells(alloc)?;
             run_by(alloc, base, &schedule)
+        }
+        RunMode::Watched(_) => {
+            let schedule = job.shells(alloc)?;
+            run_watching(alloc, base, &schedule)
         }
     }
 }

@@ -5,12 +5,13 @@ use Rattle.std.specs.List.{list_all, slice_split}
 use Rattle.std.specs.Option.{option_map, option_and_then}
 use Rattle.std.specs.Str.{bytes_eq}
 use Rattle.std.specs.Str.Parse.{digits_value}
-pub use Rattle.fx_command_line.specs.Forms.{is_count, is_plain}
+pub use Rattle.fx_command_line.specs.Forms.{is_count, is_count_beside, is_plain}
 
--- a thread for each script, or by a schedule of shells
+-- a thread for each script, or by a schedule of shells, which says after each commit whether the tree has a value or not
 pub data Mode : Type 0 where
   Plain : Mode
   Scheduled : List ℕ → Mode
+  Watched : List ℕ → Mode
 
 -- what a run reads: a description, a folder and scripts, and the place of the first script's word, the command being 0
 pub record Inputs : Type 0 where
@@ -24,6 +25,27 @@ pub record RunJob : Type 0 where
   pub inputs : Inputs
   pub out : List ℕ
   pub mode : Mode
+
+-- whether the text at `report` is the report of a run of these
+pub record AuditJob : Type 0 where
+  pub inputs : Inputs
+  pub report : List ℕ
+
+-- a run by a schedule, whose order the file at `journal` keeps
+pub record JournalJob : Type 0 where
+  pub run : RunJob
+  pub journal : List ℕ
+
+-- the folder after the order that the file at `journal` keeps, into `out`
+pub record RecoverJob : Type 0 where
+  pub inputs : Inputs
+  pub journal : List ℕ
+  pub out : List ℕ
+
+-- a run on threads, and one thread more, which runs the transactions of the text at `views`
+pub record ViewsJob : Type 0 where
+  pub run : RunJob
+  pub views : List ℕ
 
 -- whether the folder has a value by the description, and which
 pub record ShowJob : Type 0 where
@@ -41,6 +63,10 @@ pub data Job : Type 0 where
   Show : ShowJob → Job
   Gen : GenJob → Job
   Large : GenJob → Job
+  Audit : AuditJob → Job
+  Journal : JournalJob → Job
+  Recover : RecoverJob → Job
+  Views : ViewsJob → Job
 
 -- the least number from `k` on, of so many, whose decimal text this is
 abbrev pub numbered : ℕ → ℕ → List ℕ → Option ℕ
@@ -65,15 +91,40 @@ schedule_of count text = cond (bytes_eq text (codes "none")) (Some []) (shells_n
 abbrev pub are_plain : List (List ℕ) → Bool
 are_plain words = list_all is_plain words
 
+-- SPEC FOLDER OUT SCRIPT...
 abbrev pub run_job : List (List ℕ) → Option RunJob
 run_job (spec ∷ folder ∷ out ∷ scripts) = cond (is_count (length scripts)) (Some (record { inputs = record { spec = spec; folder = folder; scripts = scripts; first = 4 }; out = out; mode = Plain })) None
 run_job _ = None
 
-abbrev pub trace_job : List (List ℕ) → Option RunJob
-trace_job (spec ∷ folder ∷ out ∷ schedule ∷ scripts) =
-    let job : List ℕ → RunJob = λ shells. record { inputs = record { spec = spec; folder = folder; scripts = scripts; first = 5 }; out = out; mode = Scheduled shells } in
+-- SPEC FOLDER OUT SCHEDULE SCRIPT..., in the mode that a schedule gives
+abbrev pub scheduled_job : (List ℕ → Mode) → List (List ℕ) → Option RunJob
+scheduled_job mode (spec ∷ folder ∷ out ∷ schedule ∷ scripts) =
+    let job : List ℕ → RunJob = λ shells. record { inputs = record { spec = spec; folder = folder; scripts = scripts; first = 5 }; out = out; mode = mode shells } in
     cond (is_count (length scripts)) (option_map job (schedule_of (length scripts) schedule)) None
-trace_job _ = None
+scheduled_job mode _ = None
+
+-- SPEC FOLDER REPORT SCRIPT...
+abbrev pub audit_job : List (List ℕ) → Option AuditJob
+audit_job (spec ∷ folder ∷ report ∷ scripts) = cond (is_count (length scripts)) (Some (record { inputs = record { spec = spec; folder = folder; scripts = scripts; first = 4 }; report = report })) None
+audit_job _ = None
+
+-- SPEC FOLDER OUT JOURNAL SCHEDULE SCRIPT...
+abbrev pub journal_job : List (List ℕ) → Option JournalJob
+journal_job (spec ∷ folder ∷ out ∷ journal ∷ schedule ∷ scripts) =
+    let job : List ℕ → JournalJob = λ shells. record { run = record { inputs = record { spec = spec; folder = folder; scripts = scripts; first = 6 }; out = out; mode = Scheduled shells }; journal = journal } in
+    cond (is_count (length scripts)) (option_map job (schedule_of (length scripts) schedule)) None
+journal_job _ = None
+
+-- SPEC FOLDER JOURNAL OUT SCRIPT...
+abbrev pub recover_job : List (List ℕ) → Option RecoverJob
+recover_job (spec ∷ folder ∷ journal ∷ out ∷ scripts) = cond (is_count (length scripts)) (Some (record { inputs = record { spec = spec; folder = folder; scripts = scripts; first = 5 }; journal = journal; out = out })) None
+recover_job _ = None
+
+-- SPEC FOLDER OUT VIEWS SCRIPT...
+abbrev pub views_job : List (List ℕ) → Option ViewsJob
+views_job (spec ∷ folder ∷ out ∷ views ∷ scripts) =
+    cond (is_count_beside (length scripts)) (Some (record { run = record { inputs = record { spec = spec; folder = folder; scripts = scripts; first = 5 }; out = out; mode = Plain }; views = views })) None
+views_job _ = None
 
 abbrev pub show_job : List (List ℕ) → Option ShowJob
 show_job (spec ∷ folder ∷ []) = Some (record { spec = spec; folder = folder })
@@ -95,10 +146,15 @@ gen_job _ = None
 abbrev pub named_job : List ℕ → List (List ℕ) → Option Job
 named_job command arguments =
     cond (bytes_eq command (codes "run")) (option_map Run (run_job arguments))
-    (cond (bytes_eq command (codes "trace")) (option_map Run (trace_job arguments))
+    (cond (bytes_eq command (codes "trace")) (option_map Run (scheduled_job Scheduled arguments))
     (cond (bytes_eq command (codes "show")) (option_map Show (show_job arguments))
     (cond (bytes_eq command (codes "gen")) (option_map Gen (gen_job arguments))
-    (cond (bytes_eq command (codes "large")) (option_map Large (gen_job arguments)) None))))
+    (cond (bytes_eq command (codes "large")) (option_map Large (gen_job arguments))
+    (cond (bytes_eq command (codes "audit")) (option_map Audit (audit_job arguments))
+    (cond (bytes_eq command (codes "watch")) (option_map Run (scheduled_job Watched arguments))
+    (cond (bytes_eq command (codes "journal")) (option_map Journal (journal_job arguments))
+    (cond (bytes_eq command (codes "recover")) (option_map Recover (recover_job arguments))
+    (cond (bytes_eq command (codes "views")) (option_map Views (views_job arguments)) None)))))))))
 
 -- the command that the words ask for, if they have a command's form
 abbrev pub job_of : List (List ℕ) → Option Job
@@ -112,6 +168,7 @@ place_of inputs i = inputs.first + i
 abbrev pub shells_in : Mode → List ℕ
 shells_in Plain = []
 shells_in (Scheduled shells) = shells
+shells_in (Watched shells) = shells
 
 abbrev pub shells_of : RunJob → List ℕ
 shells_of job = shells_in job.mode

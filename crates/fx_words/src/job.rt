@@ -3,12 +3,12 @@ ghost use Rattle.fx_base.specs.Limits.{shell_limit};
 ghost use Rattle.fx_command_line.specs.Forms.{has_form};
 ghost use Rattle.fx_command_line.specs.WordsOf.{texts_of, words_of};
 ghost use Rattle.fx_words.specs.Job as job;
-ghost use Rattle.fx_words.specs.JobOf.{asked, asked_inputs, asked_show, asked_gen, asked_job, AreInputs, IsJob, IsAnyJob};
+ghost use Rattle.fx_words.specs.JobOf.{asked, asked_audit, asked_gen, asked_inputs, asked_job, asked_journal, asked_recover, asked_show, asked_views, AreInputs, IsAnyJob, IsJob, IsJournalJob, IsViewsJob};
 
 use crate::decimal::number_of;
 use crate::schedule::{is_schedule, read_schedule};
 use fx_base::NoMemory;
-use fx_command_line::{Form, WordsFault, read_words};
+use fx_command_line::{CommandName, Form, WordsFault, read_words};
 use fx_outside::{HostText, Words};
 use std::alloc::Global;
 
@@ -19,6 +19,10 @@ pub enum Job<'a> {
     Show(ShowJob<'a>),
     Gen(GenJob<'a>),
     Large(GenJob<'a>),
+    Audit(AuditJob<'a>),
+    Journal(JournalJob<'a>),
+    Recover(RecoverJob<'a>),
+    Views(ViewsJob<'a>),
 }
 
 /// What a run reads: a description, a folder, and scripts, which are the last of the words.
@@ -30,13 +34,52 @@ pub struct Inputs<'a> {
     first: u64,
 }
 
-/// The arguments of `run SPEC FOLDER OUT SCRIPT...`, or of `trace SPEC FOLDER OUT SCHEDULE SCRIPT...`, which alone has a
-/// schedule.
+/// How the scripts run, with the text of the schedule.
+#[derive(Clone, Copy)]
+pub enum RunMode<'a> {
+    /// A thread for each script.
+    Plain,
+    /// One thread, by a schedule of shells.
+    Scheduled(&'a HostText),
+    /// The same, and each commit is followed by whether the tree has a value.
+    Watched(&'a HostText),
+}
+
+/// The arguments of `run SPEC FOLDER OUT SCRIPT...`, or of `trace` or `watch SPEC FOLDER OUT SCHEDULE SCRIPT...`.
 #[derive(Clone, Copy)]
 pub struct RunJob<'a> {
     pub inputs: Inputs<'a>,
     pub out: &'a HostText,
-    pub schedule: Option<&'a HostText>,
+    pub mode: RunMode<'a>,
+}
+
+/// The arguments of `audit SPEC FOLDER REPORT SCRIPT...`.
+#[derive(Clone, Copy)]
+pub struct AuditJob<'a> {
+    pub inputs: Inputs<'a>,
+    pub report: &'a HostText,
+}
+
+/// The arguments of `journal SPEC FOLDER OUT JOURNAL SCHEDULE SCRIPT...`. Its run is by the schedule.
+#[derive(Clone, Copy)]
+pub struct JournalJob<'a> {
+    pub run: RunJob<'a>,
+    pub journal: &'a HostText,
+}
+
+/// The arguments of `recover SPEC FOLDER JOURNAL OUT SCRIPT...`.
+#[derive(Clone, Copy)]
+pub struct RecoverJob<'a> {
+    pub inputs: Inputs<'a>,
+    pub journal: &'a HostText,
+    pub out: &'a HostText,
+}
+
+/// The arguments of `views SPEC FOLDER OUT VIEWS SCRIPT...`. Its run is on threads, of at most 63 scripts.
+#[derive(Clone, Copy)]
+pub struct ViewsJob<'a> {
+    pub run: RunJob<'a>,
+    pub views: &'a HostText,
 }
 
 /// The arguments of `show SPEC FOLDER`.
@@ -113,16 +156,15 @@ fn run_job(words: &Words) -> Option<RunJob<'_>>
     Some(RunJob {
         inputs,
         out,
-        schedule: None,
+        mode: RunMode::Plain,
     })
 }
 
 /// The arguments of `trace`, if the schedule can be read.
-fn trace_job<'a>(words: &'a Words, shells: &str) -> Option<RunJob<'a>>
+fn trace_job(words: &Words) -> Option<RunJob<'_>>
     requires some { 6 ≤ length words.now }
     requires few { length words.now ≤ 69 }
-    requires shells { slice_get words.now 4 ≡ Some shells.now }
-    ensures asked { option_map asked result ≡ job.trace_job (drop 1 words.now) }
+    ensures asked { option_map asked result ≡ job.scheduled_job job.Scheduled (drop 1 words.now) }
     ensures job { IfSome result IsJob }
 {
     let spec = words.at(1)?;
@@ -130,7 +172,7 @@ fn trace_job<'a>(words: &'a Words, shells: &str) -> Option<RunJob<'a>>
     let out = words.at(3)?;
     let schedule = words.at(4)?;
     let count = (words.len() - 5) as u32;
-    if !is_schedule(count, shells.as_bytes()) {
+    if !is_schedule(count, schedule.as_str().as_bytes()) {
         return None;
     }
     let inputs = Inputs {
@@ -142,8 +184,134 @@ fn trace_job<'a>(words: &'a Words, shells: &str) -> Option<RunJob<'a>>
     Some(RunJob {
         inputs,
         out,
-        schedule: Some(schedule),
+        mode: RunMode::Scheduled(schedule),
     })
+}
+
+/// The arguments of `watch`, if the schedule can be read.
+fn watch_job(words: &Words) -> Option<RunJob<'_>>
+    requires some { 6 ≤ length words.now }
+    requires few { length words.now ≤ 69 }
+    ensures asked { option_map asked result ≡ job.scheduled_job job.Watched (drop 1 words.now) }
+    ensures job { IfSome result IsJob }
+{
+    let spec = words.at(1)?;
+    let folder = words.at(2)?;
+    let out = words.at(3)?;
+    let schedule = words.at(4)?;
+    let count = (words.len() - 5) as u32;
+    if !is_schedule(count, schedule.as_str().as_bytes()) {
+        return None;
+    }
+    let inputs = Inputs {
+        spec,
+        folder,
+        words,
+        first: 5,
+    };
+    Some(RunJob {
+        inputs,
+        out,
+        mode: RunMode::Watched(schedule),
+    })
+}
+
+/// The arguments of `audit`.
+fn audit_job(words: &Words) -> Option<AuditJob<'_>>
+    requires some { 5 ≤ length words.now }
+    requires few { length words.now ≤ 68 }
+    ensures asked { option_map asked_audit result ≡ job.audit_job (drop 1 words.now) }
+    ensures job { IfSome result (λ j. AreInputs j.inputs) }
+{
+    let spec = words.at(1)?;
+    let folder = words.at(2)?;
+    let report = words.at(3)?;
+    let inputs = Inputs {
+        spec,
+        folder,
+        words,
+        first: 4,
+    };
+    Some(AuditJob { inputs, report })
+}
+
+/// The arguments of `journal`, if the schedule can be read.
+fn journal_job(words: &Words) -> Option<JournalJob<'_>>
+    requires some { 7 ≤ length words.now }
+    requires few { length words.now ≤ 70 }
+    ensures asked { option_map asked_journal result ≡ job.journal_job (drop 1 words.now) }
+    ensures job { IfSome result IsJournalJob }
+{
+    let spec = words.at(1)?;
+    let folder = words.at(2)?;
+    let out = words.at(3)?;
+    let journal = words.at(4)?;
+    let schedule = words.at(5)?;
+    let count = (words.len() - 6) as u32;
+    if !is_schedule(count, schedule.as_str().as_bytes()) {
+        return None;
+    }
+    let inputs = Inputs {
+        spec,
+        folder,
+        words,
+        first: 6,
+    };
+    let run = RunJob {
+        inputs,
+        out,
+        mode: RunMode::Scheduled(schedule),
+    };
+    Some(JournalJob { run, journal })
+}
+
+/// The arguments of `recover`.
+fn recover_job(words: &Words) -> Option<RecoverJob<'_>>
+    requires some { 6 ≤ length words.now }
+    requires few { length words.now ≤ 69 }
+    ensures asked { option_map asked_recover result ≡ job.recover_job (drop 1 words.now) }
+    ensures job { IfSome result (λ j. AreInputs j.inputs) }
+{
+    let spec = words.at(1)?;
+    let folder = words.at(2)?;
+    let journal = words.at(3)?;
+    let out = words.at(4)?;
+    let inputs = Inputs {
+        spec,
+        folder,
+        words,
+        first: 5,
+    };
+    Some(RecoverJob {
+        inputs,
+        journal,
+        out,
+    })
+}
+
+/// The arguments of `views`.
+fn views_job(words: &Words) -> Option<ViewsJob<'_>>
+    requires some { 6 ≤ length words.now }
+    requires few { length words.now ≤ 68 }
+    ensures asked { option_map asked_views result ≡ job.views_job (drop 1 words.now) }
+    ensures job { IfSome result IsViewsJob }
+{
+    let spec = words.at(1)?;
+    let folder = words.at(2)?;
+    let out = words.at(3)?;
+    let views = words.at(4)?;
+    let inputs = Inputs {
+        spec,
+        folder,
+        words,
+        first: 5,
+    };
+    let run = RunJob {
+        inputs,
+        out,
+        mode: RunMode::Plain,
+    };
+    Some(ViewsJob { run, views })
 }
 
 /// The arguments of `show`.
@@ -157,13 +325,13 @@ fn show_job(words: &Words) -> Option<ShowJob<'_>>
 }
 
 /// The arguments of `gen` or of `large`, if the number can be read.
-fn gen_job<'a>(words: &'a Words, number: &str) -> Option<GenJob<'a>>
-    requires length { length words.now ≡ 3 }
-    requires number { slice_get words.now 1 ≡ Some number.now }
+fn gen_job(words: &Words) -> Option<GenJob<'_>>
+    requires { length words.now ≡ 3 }
     ensures { option_map asked_gen result ≡ job.gen_job (drop 1 words.now) }
 {
+    let number = words.at(1)?;
     let out = words.at(2)?;
-    let number = number_of(number)?;
+    let number = number_of(number.as_str())?;
     Some(GenJob { number, out })
 }
 
@@ -175,12 +343,17 @@ fn job_in<'a>(words: &'a Words, form: &Form) -> Option<Job<'a>>
     ensures asked { option_map asked_job result ≡ job.job_of words.now }
     ensures job { IfSome result IsAnyJob }
 {
-    match form {
-        Form::Run(_) => Some(Job::Run(run_job(words)?)),
-        Form::Trace(form) => Some(Job::Run(trace_job(words, form.schedule)?)),
-        Form::Show(_) => Some(Job::Show(show_job(words)?)),
-        Form::Gen(form) => Some(Job::Gen(gen_job(words, form.number)?)),
-        Form::Large(form) => Some(Job::Large(gen_job(words, form.number)?)),
+    match form.command {
+        CommandName::Run => Some(Job::Run(run_job(words)?)),
+        CommandName::Trace => Some(Job::Run(trace_job(words)?)),
+        CommandName::Show => Some(Job::Show(show_job(words)?)),
+        CommandName::Gen => Some(Job::Gen(gen_job(words)?)),
+        CommandName::Large => Some(Job::Large(gen_job(words)?)),
+        CommandName::Audit => Some(Job::Audit(audit_job(words)?)),
+        CommandName::Watch => Some(Job::Run(watch_job(words)?)),
+        CommandName::Journal => Some(Job::Journal(journal_job(words)?)),
+        CommandName::Recover => Some(Job::Recover(recover_job(words)?)),
+        CommandName::Views => Some(Job::Views(views_job(words)?)),
     }
 }
 
@@ -237,9 +410,9 @@ impl<'a> RunJob<'a> {
         requires { IsJob self.now }
         ensures { IfOk result (λ shells. shells.items ≡ job.shells_of (asked self.now)) }
     {
-        match self.schedule {
-            None => Ok(Vec::new(alloc)),
-            Some(schedule) => {
+        match self.mode {
+            RunMode::Plain => Ok(Vec::new(alloc)),
+            RunMode::Scheduled(schedule) | RunMode::Watched(schedule) => {
                 read_schedule(alloc, self.inputs.scripts(), schedule.as_str().as_bytes())
             }
         }

@@ -1,0 +1,4 @@
+pub mod Job
+pub mod Lines
+pub mod Rows
+pub mod Texts
