@@ -18,7 +18,9 @@ use Rattle.fx_durable.specs.Journal.{JournalView, RestsAt}
 use Rattle.fx_durable.proofs.Moments.{only_now}
 use Rattle.fx_report.specs.Events.{event_line, lines}
 use Rattle.fx_sched.specs.Running.{Running}
-use Rattle.fx_sched.specs.Taking.{HadSome, a_start}
+use Rattle.fx_sched.specs.Taking.{HadSome, a_start, HasEndedSomewhere}
+use Rattle.fx_sched.specs.declared.taking.Ended.{Ended}
+use Rattle.fx_sched.specs.declared.taking.Ended.TheVariants as end
 use Rattle.fx_sched.specs.Traced.{IsTraced}
 use Rattle.fx_sched.specs.World as World
 use Rattle.fx_journaling.specs.declared.fault.RecordFault.{RecordFault}
@@ -26,7 +28,7 @@ use Rattle.fx_journaling.specs.declared.fault.RecordFault.TheVariants as fault
 use Rattle.fx_journaling.specs.Kept.{SpellsFront, HasAtMostOneMore, IfFile, HoldsOrder, LeavesEither, KeepsOrder, IsHeld, RestsWhileGood, order_seen}
 use Rattle.fx_journaling.specs.Written.{HasWrittenEvents, IsPartOfLine}
 use Rattle.fx_journaling.specs.Taken.{Beginning, beginning, HasGrown, HasTaken, HasRefused}
-use Rattle.fx_journaling.specs.Recorded.{IsStarted, HasRecorded, HasBrokenOff}
+use Rattle.fx_journaling.specs.Recorded.{IsStarted, HasRecorded, HasBrokenOff, fault_in}
 use Rattle.fx_journaling.proofs.Holding.{holds_leaves, if_file_map, spells_rested, rests_as_seen}
 use Rattle.fx_journaling.proofs.Taking.{lines_more, grown_none, grown_as, run_more}
 
@@ -166,3 +168,14 @@ seen_none (Some file) rests image = rests_as_seen 0 [] file rests (omega arith) 
 
 pub rests_begun : (disk : DiskView) (journal : JournalView) → IsStarted journal disk → IfSome disk.told (λ file. MayLeave file.steps file.seen) → RestsWhileGood journal disk
 rests_begun disk journal started image = λ good. subst (λ n. IfSome disk.told (λ file. RestsAt n (order_seen file) file)) (sym started.count) (seen_none disk.told started.rests image)
+
+-- ---- a run that ends before its end
+
+module _ {T : Type 0} (took : T → List Event → Running → Type 0) (refused : T → RecordFault → List Event → Event → Running → Type 0) (base : BaseTree) (schedule : List ℕ) (disk disk' : DiskView) (sink sink' : SinkView) (disk_name sink_name : ℕ) (journal : JournalView) (taker : T)
+    (taken : (events : List Event) (running : Running) → took taker events running → HasTaken (beginning base disk sink disk_name sink_name) events running journal disk' sink')
+    (lost : (stop : RecordFault) (events : List Event) (e : Event) (running : Running) → refused taker stop events e running → HasRefused (beginning base disk sink disk_name sink_name) stop events e running disk' sink') where
+  pub ended : (why : Ended RecordFault) → HasEndedSomewhere took refused (a_start base) schedule taker why → HasBrokenOff base schedule disk disk' sink sink' (fault_in why)
+  ended end.NoMemory (world, had) =
+      paused base schedule disk disk' sink sink' disk_name sink_name had.play.events had.play.world journal (taken had.play.events had.play.world had.taken) (subst (BeginsTurns base [] schedule) (sym had.had.events) had.had.begins)
+  ended (end.Stopped stop) (world, had) =
+      broken base schedule disk disk' sink sink' disk_name sink_name stop had.events had.event world (lost stop had.events had.event world had.why) (subst (BeginsTurns base [] schedule) (sym had.had.events) had.had.begins)

@@ -32,35 +32,27 @@ fn fault_of(ended: Ended<RecordFault>) -> RecordFault
     }
 }
 
-/// The run, from a moment on that contracts name.
-fn record_from<K: Origin, D: Disk, S: Sink>(
+/// The run, whose events the recorder takes from the moment on that contracts name.
+fn play_with<K: Origin, D: Disk, S: Sink>(
     alloc: Global,
     base: Arc<Base>,
     schedule: &[u32],
-    journal: Journal,
-    disk: &mut D,
-    out: &mut S,
+    recorder: &mut Recorder<'_, '_, K, D, S>,
 ) -> Result<Recorded, RecordFault>
     requires shells { All (λ k. k < length base.value.plan) schedule.now }
-    requires started { IsStarted journal (D.view disk.old) }
-    requires origin { K.began ≡ beginning (base_tree base.value) (D.view disk.old) (S.view out.old)
-        disk.ghost_name out.ghost_name }
+    requires started { IsStarted recorder.old.journal (D.view recorder.old.disk.now) }
+    requires origin { K.began ≡ beginning (base_tree base.value) (D.view recorder.old.disk.now)
+        (S.view recorder.old.out.now) recorder.old.disk.ghost_name recorder.old.out.ghost_name }
+    ensures disk { recorder.new.disk.ghost_name ≡ recorder.old.disk.ghost_name }
+    ensures out { recorder.new.out.ghost_name ≡ recorder.old.out.ghost_name }
     ensures done { IfOk result (λ r. HasRecorded (base_tree base.value) schedule.now
-        (D.view disk.old) (D.view disk.new) (S.view out.old) (S.view out.new) r.board r.retries) }
+        (D.view recorder.old.disk.now) (D.view recorder.new.disk.now)
+        (S.view recorder.old.out.now) (S.view recorder.new.out.now) r.board r.retries) }
     ensures broken { IfErr result (HasBrokenOff (base_tree base.value) schedule.now
-        (D.view disk.old) (D.view disk.new) (S.view out.old) (S.view out.new)) }
+        (D.view recorder.old.disk.now) (D.view recorder.new.disk.now)
+        (S.view recorder.old.out.now) (S.view recorder.new.out.now)) }
 {
-    let mut recorder = Recorder::<'_, '_, K, D, S> {
-        journal,
-        disk,
-        out,
-        origin: PhantomData,
-    };
-    let played = play(alloc, base, schedule, &mut recorder);
-    let Recorder { disk, out, .. } = recorder;
-    let _disk = &mut *disk;
-    let _out = &mut *out;
-    match played {
+    match play(alloc, base, schedule, recorder) {
         Ok((board, retries)) => Ok(Recorded { board, retries }),
         Err(ended) => Err(fault_of(ended)),
     }
@@ -85,5 +77,15 @@ pub fn record<D: Disk, S: Sink>(
     ensures broken { IfErr result (HasBrokenOff (base_tree base.value) schedule.now
         (D.view disk.old) (D.view disk.new) (S.view out.old) (S.view out.new)) }
 {
-    record_from::<Brand, D, S>(alloc, base, schedule, journal, disk, out)
+    let mut recorder = Recorder::<'_, '_, Brand, D, S> {
+        journal,
+        disk,
+        out,
+        origin: PhantomData,
+    };
+    let recorded = play_with::<Brand, D, S>(alloc, base, schedule, &mut recorder);
+    let Recorder { disk, out, .. } = recorder;
+    let _disk = &mut *disk;
+    let _out = &mut *out;
+    recorded
 }
