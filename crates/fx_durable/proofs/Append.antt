@@ -115,12 +115,6 @@ module _ (count : ℕ) (room : count < txn_limit) (turn : Turn) (good : FitsReco
           pub ends_added : AddsTurn count turn old y
           ends_added = if_told old.told _ (λ file is order rests. if_is_told y.told _ _ (told_fourth file is) (rests_fourth count room turn good file (seen file is) order rests))
 
--- a file of which each image is an order's is the same one later on
-pub continues : (count : ℕ) (turn : Turn) (old new : DiskView) → Rests count old → LeavesOrder count turn old new → Continues old new
-continues count turn old new rests any = if_told old.told _ (λ file is.
-    let order = of_told old.told _ file is rests in
-    is_some_weaker new.told _ (GoesOn file) (λ g leaves. leaves.goes_on) (of_told old.told _ file is any order.0 order.1))
-
 -- there is a byte at each place up to the gate
 pub has_gate : (inner count : ℕ) → inner ≡ count → (old : DiskView) → IsImage old → Rests count old → IfSome old.told (λ file. 9 * inner + 1 ≤ length file.seen)
 has_gate inner count same old image rests = if_told old.told _ (λ file is.
