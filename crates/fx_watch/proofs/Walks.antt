@@ -1,18 +1,20 @@
 -- What a walk consults, and that nothing else decides what it finds.
-use Rattle.std.proofs.Common.{◌≡◌, ◌⊎◌, inl, inr, ℕ, zero, suc, ◌&&◌, ◌≤◌, ◌+◌, Bool, true, false, cond, not, List, [], ◌∷◌, ◌++◌, Contains, All, Option, Some, None, IsSome, is_some, Result, Ok, Err, refl, sym, ap, subst, ◌∙◌, arith}
+use Rattle.std.proofs.Common.{◌≡◌, ℕ, ◌&&◌, ◌≤◌, ◌+◌, Bool, true, false, cond, not, List, [], ◌∷◌, ◌++◌, Contains, All, Option, Some, None, IsSome, is_some, Result, Ok, refl, sym, ap, subst, ◌∙◌, arith}
 use Rattle.std.specs.Prelude.{◌↔◌, IsSomeAnd, MatchOption}
 use Rattle.std.specs.Bool.{then_some}
 use Rattle.std.specs.List.{list_all}
 use Rattle.std.specs.Map.{keys_of}
+use Rattle.std.specs.Ordering.{eq_by_cmp}
 use Rattle.std.proofs.lemmas.Bool.{false≢true}
 use Rattle.std.proofs.lemmas.List.Elements.{All-contains, All-head, All-tail, All-nil, All-cons, All-contains_itself, Contains-append_right}
-use Rattle.fx_store.specs.declared.node.Node.{Node}
-use Rattle.fx_store.specs.Rule.{Ask, Answer, Look, Tick, Known, answer, asked, ticks, ◌>>=◌, changed, follow, Found, SameOn, AllKnown}
+use Rattle.fx_store.specs.Names.{path_cmp}
+use Rattle.fx_store.specs.Orders.{path_eq_same}
+use Rattle.fx_store.specs.Rule.{Ask, Answer, Look, Tick, Known, asked, ticks, ◌>>=◌, changed, SameOn, AllKnown}
 use Rattle.fx_store.specs.Whole.{Store}
 use Rattle.fx_store.proofs.Asks.{depends, answer-bind}
 use Rattle.fx_expr.specs.Tree.{Tree}
 use Rattle.fx_spec.specs.SpecTree.{SpecTree}
-use Rattle.fx_view.specs.Follows.{walked, Went, Follows}
+use Rattle.fx_view.specs.Follows.{walked, Follows}
 use Rattle.fx_view.specs.Meaning.{Meaning}
 use Rattle.fx_view.specs.Own.{no_own, own_at}
 use Rattle.fx_view.specs.OwnList.{OwnList}
@@ -22,12 +24,24 @@ use Rattle.fx_view.specs.ReadList.{ReadList}
 use Rattle.fx_view.specs.Reads.{known_of, read_at, IsRead, Agrees}
 use Rattle.fx_view.proofs.Growing.{read_known}
 use Rattle.fx_view.proofs.Rules.{walked_known, found_answer, found_asked}
-use Rattle.fx_run.proofs.Ways.{all_known, read_among}
 use Rattle.fx_watch.specs.Validity.{IsWalked, IsFound, DiffersAt, Spares, has_value, root_rule, consulted}
 use Rattle.fx_watch.specs.WatchView.{WatchView, AnswersFor}
 
 abbrev Path : Type 0
 Path = List (List ℕ)
+
+all_known : (known : Known) (ps : List Path) → AllKnown known ps → All (λ p. IsSome (known p)) ps
+all_known known [] h = All-nil (λ p. IsSome (known p))
+all_known known (p ∷ ps) h = All-cons (λ p. IsSome (known p)) p ps h.0 (all_known known ps h.1)
+
+-- what was read has its key
+read_key : (reads : ReadList) (path : Path) → IsRead reads path → Contains (keys_of reads) path
+read_key [] path h = absurd (false≢true h)
+read_key (e ∷ es) path h = at (eq_by_cmp path_cmp path e.0) refl h (λ k. read_key es path k)
+  where
+    at : (b : Bool) → eq_by_cmp path_cmp path e.0 ≡ b → IsSome (cond b (Some e.1) (read_at es path)) → (IsRead es path → Contains (keys_of es) path) → Contains (e.0 ∷ keys_of es) path
+    at true is k rest = subst (Contains (e.0 ∷ keys_of es)) (sym (path_eq_same path e.0 is)) (All-head (Contains (e.0 ∷ keys_of es)) e.0 (keys_of es) (All-contains_itself (e.0 ∷ keys_of es)))
+    at false is k rest = Contains-append_right (e.0 ∷ []) (keys_of es) path (rest k)
 
 -- whether there is a value is the rule's answer, mapped: it consults and evaluates the same
 asked_mapped : {A B : Type 0} (S : Store) (rule : Ask A) (f : A → B) → asked S (rule >>= λ a. Answer (f a)) ≡ asked S rule
@@ -52,17 +66,10 @@ module _ {R : Type 0} (m : Meaning R) (old new : R × ℕ) (rule : Ask (Option T
       record {
         valid_is = sym (found_answer (known_of (m.reads new.0)) no_own S agrees mapped valid found) ∙ answer-bind S rule (λ v. Answer (is_some v));
         asked_is = λ path. (
-          (λ read. subst (λ ps. Contains ps path) same (All-contains (Contains (walked (known_of (m.reads new.0)) no_own mapped)) (keys_of went.more) path went.only (among went.more path (subst (λ l. IsRead l path) kept read)))),
+          (λ read. subst (λ ps. Contains ps path) same (All-contains (Contains (walked (known_of (m.reads new.0)) no_own mapped)) (keys_of went.more) path went.only (read_key went.more path (subst (λ l. IsRead l path) kept read)))),
           (λ has. read_known (m.reads new.0) path (All-contains (λ p. IsSome (known_of (m.reads new.0) p)) (walked (known_of (m.reads new.0)) no_own mapped) path (all_known (known_of (m.reads new.0)) (walked (known_of (m.reads new.0)) no_own mapped) (walked_known (known_of (m.reads new.0)) no_own mapped)) (subst (λ ps. Contains ps path) (sym same) has))),
         );
       }
-    where
-      among : (more : ReadList) (path : Path) → IsRead more path → Contains (keys_of more) path
-      among more path h = by (read_among [] more path h)
-        where
-          by : IsRead [] path ⊎ Contains (keys_of more) path → Contains (keys_of more) path
-          by (inl nil) = absurd (false≢true nil)
-          by (inr k) = k
 
   pub walked_most : (result : Result Bool Stop) → Follows {A = Bool} {X = Bool} m (λ b. b) no_own old new (rule >>= λ v. Answer (is_some v)) result → new.1 ≤ old.1 + ticks S rule
   walked_most result h = let most = h.most S agrees in let same = ticks_mapped S rule is_some in omega (arith, most, same)

@@ -1,5 +1,5 @@
 -- A watch as contracts see it.
-use Rattle.std.specs.Prelude.{ℕ, Bool, List, Option, IsSomeAnd, refl}
+use Rattle.std.specs.Prelude.{Bool, Option, IsSomeAnd, refl}
 use Rattle.std.specs.Coded.{Coded, code_by, coded×, coded_bool, coded_list, coded_ℕ, coded_option}
 use Rattle.fx_store.specs.contracts.node.Node as node
 use Rattle.fx_store.specs.Whole.{Store}
