@@ -10,11 +10,14 @@ import tempfile
 
 import measure
 
-NUMBER = 7
+SHELLS, EACH = 64, 1_562
 SIZES = [1_000_000, 20_000_000, 200_000_000]
 OUTPUT = 50_000
+OF_SCRIPT = 1_500
 REPEATS = 3
 YES = b"audit yes\n"
+DESCRIPTION = '("a" :: file)\n'
+TXN = "txn { down fetch x : str print(x) }\n"
 
 
 def audited(ran):
@@ -23,42 +26,44 @@ def audited(ran):
     return ran
 
 
-def beside_run(scratch):
-    """The audit of a run of the case of a number, which has 100,000 transactions, beside this run, in seconds of processor."""
-    case, out = os.path.join(scratch, "case"), os.path.join(scratch, "out")
-    measure.done([measure.program(), "gen", str(NUMBER), case], scratch)
-    spec, folder = os.path.join(case, "spec"), os.path.join(case, "in")
-    scripts = sorted(os.path.join(case, name) for name in os.listdir(case) if name not in ("spec", "in"))
-    ran = measure.done([measure.program(), "run", spec, folder, out, *scripts], scratch)
+def run_and_audit(scratch, texts, repeats):
+    """A run of scripts with these texts, the fastest audit of its report, and the report's size."""
+    spec, folder = measure.write(scratch, "spec", DESCRIPTION), os.path.join(scratch, "in")
+    scripts = [measure.write(scratch, f"s{k:02}", text) for k, text in enumerate(texts)]
+    (ran, _), = measure.best(scratch, [lambda out: [measure.program(), "run", spec, folder, out, *scripts]], repeats)
     report = os.path.join(scratch, "report")
     with open(report, "wb") as file:
         file.write(ran.out)
     words = [measure.program(), "audit", spec, folder, report, *scripts]
-    best = min((audited(measure.done(words, scratch)) for _ in range(REPEATS)), key=lambda it: it.user)
-    entries = int(ran.out.split(b"\n", 2)[1].split()[1])
-    return measure.Line("audit: entries", entries, best.user, best.peak_kib, "run, processor", ran.user, f"{best.seconds:.3f} s on the clock")
+    best = min((audited(measure.done(words, scratch)) for _ in range(repeats)), key=lambda it: it.user)
+    return ran, best, len(ran.out)
 
 
-def of_size(scratch, size):
-    """The audit of a report of about so many bytes: each transaction prints a long text."""
-    count = size // (OUTPUT + 40)
+def folder_of(scratch, text):
     folder = os.path.join(scratch, "in")
-    os.makedirs(folder, exist_ok=True)
-    measure.write(folder, "a", "x" * OUTPUT)
-    spec = measure.write(scratch, "spec", '("a" :: file)\n')
-    script = measure.write(scratch, "script", "txn { down fetch x : str print(x) }\n" * count)
-    out = os.path.join(scratch, f"out{size}")
-    ran = measure.done([measure.program(), "run", spec, folder, out, script], scratch)
-    report = os.path.join(scratch, "report")
-    with open(report, "wb") as file:
-        file.write(ran.out)
-    best = audited(measure.done([measure.program(), "audit", spec, folder, report, script], scratch))
-    times = best.peak_kib * 1024 / len(ran.out)
-    return measure.Line("audit: bytes of the report", len(ran.out), best.seconds, best.peak_kib, "run", ran.seconds, f"{times:.2f} times the report in memory")
+    os.mkdir(folder)
+    measure.write(folder, "a", text)
+
+
+def beside_run():
+    """The audit of a run of some 100,000 transactions of 64 shells, beside this run, in seconds of processor."""
+    with tempfile.TemporaryDirectory() as scratch:
+        folder_of(scratch, "1")
+        ran, best, _ = run_and_audit(scratch, [TXN * EACH] * SHELLS, REPEATS)
+        return measure.Line("audit: entries", SHELLS * EACH, best.user, best.peak_kib, "run, processor", ran.user, f"{best.seconds:.3f} s on the clock")
+
+
+def of_size(size):
+    """The audit of a report of about so many bytes: each transaction prints a long text."""
+    with tempfile.TemporaryDirectory() as scratch:
+        folder_of(scratch, "x" * OUTPUT)
+        count = max(1, size // (OUTPUT + 40))
+        texts = [TXN * min(OF_SCRIPT, count - done) for done in range(0, count, OF_SCRIPT)]
+        ran, best, held = run_and_audit(scratch, texts, 1)
+        return measure.Line("audit: bytes of the report", held, best.seconds, best.peak_kib, "run", ran.seconds, f"{best.peak_kib * 1024 / held:.2f} times the report in memory")
 
 
 def lines(sizes):
-    with tempfile.TemporaryDirectory() as scratch:
-        yield beside_run(scratch)
-        for size in sizes or SIZES:
-            yield of_size(scratch, size)
+    yield beside_run()
+    for size in sizes or SIZES:
+        yield of_size(size)

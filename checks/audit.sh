@@ -1,5 +1,5 @@
 #!/usr/bin/env bash
-# Audits the report of every example, and of many runs of a case of 100,000 transactions, each with the order that its threads came to: each has to be
+# Audits the report of every example, and of many runs of a large case, each with the order that its threads came to: each has to be
 # one of a run. Then the reports of examples/audit that are none.
 # usage: audit.sh PROGRAM [RUNS [NUMBER]]     100 runs of the case of number 7, where nothing else is said
 set -eu

@@ -1,6 +1,6 @@
 -- The answers that entries tell, and those of their transactions.
 use Rattle.std.proofs.Common.{◌≡◌, ◌⊎◌, inl, inr, ℕ, zero, suc, ◌+◌, ◌<◌, ◌≤◌, Bool, true, false, List, [], ◌∷◌, ◌++◌, length, take, drop, map, slice_get, Option, Some, None, refl, sym, ap, subst, ◌∙◌, arith}
-use Rattle.std.specs.Prelude.{◌↔◌}
+use Rattle.std.specs.Prelude.{IsTrue}
 use Rattle.std.specs.FinMap.{get}
 use Rattle.std.proofs.lemmas.Bool.{cases_lt}
 use Rattle.std.proofs.lemmas.Option.{same_Some, none-some, slice_get_within}
@@ -15,12 +15,12 @@ use Rattle.fx_spec.proofs.Orders.{state-front}
 use Rattle.fx_machine.specs.declared.entry.Entry.{Entry}
 use Rattle.fx_report.specs.declared.printed.PrintedEntry.{PrintedEntry}
 use Rattle.fx_report.specs.Entries.{commands_or_none, entry, entries_from, entries_of}
-use Rattle.fx_board.specs.Board.{IsEntry, turn_of}
+use Rattle.fx_board.specs.Board.{IsEntry, settled, turn_of}
 use Rattle.fx_board.specs.Log.{Log}
 use Rattle.fx_replay_log.specs.Orders.{logged}
 use Rattle.fx_audit.specs.Verdicts.{turn_told, order_told, IsAnswered, AllAnswered, IsFirstUnanswered}
 use Rattle.fx_audit.proofs.Lists.{split, take_more}
-use Rattle.fx_audit.proofs.Fronts.{told_length, told_split}
+use Rattle.fx_audit.proofs.Fronts.{told_length, told_more, told_split}
 
 -- ---- one entry
 
@@ -56,6 +56,29 @@ entry_front base o more i turn h =
     let same : state base (o ++ more) i ≡ state base o i = state-front base o more i h in
     same_entry turn.0 turn.1 _ _ _ _ (ap (λ n. outputs base.description t (get n)) same) (ap (λ n. end base.description t (get n)) same)
 
+-- the entry that was just settled
+pub answer_settled : (log log' : Log) (i : ℕ) (told : PrintedEntry) (b : Bool) → log' ≡ settled log told.shell told.txn → i ≡ length log.order
+    → (IsTrue b → told ≡ entry log'.base log'.order i (turn_told told)) × (told ≡ entry log'.base log'.order i (turn_told told) → IsTrue b)
+    → (IsTrue b → told ≡ entry log.base log.order (length log.order) (turn_told told)) × (told ≡ entry log.base log.order (length log.order) (turn_told told) → IsTrue b)
+answer_settled log log' i told b new at h =
+    let same : entry log'.base log'.order i (turn_told told) ≡ entry log.base log.order (length log.order) (turn_told told) =
+        ap (λ (l : Log). entry l.base l.order i (turn_told told)) new ∙ (ap (λ k. entry log.base (log.order ++ turn_told told ∷ []) k (turn_told told)) at
+        ∙ entry_front log.base log.order (turn_told told ∷ []) (length log.order) (turn_told told) (omega arith)) in
+    (λ t. h.0 t ∙ same, λ e. h.1 (e ∙ sym same))
+
+pub yes_answered : (base : BaseTree) (o : List Turn) (log : Log) (told : PrintedEntry) (b : Bool) → log ≡ logged base o → b ≡ true
+    → (IsTrue b → told ≡ entry log.base log.order (length log.order) (turn_told told)) × (told ≡ entry log.base log.order (length log.order) (turn_told told) → IsTrue b)
+    → told ≡ entry base o (length o) (turn_told told)
+yes_answered base o log told b is yes_ h = h.0 yes_ ∙ ap (λ (l : Log). entry l.base l.order (length l.order) (turn_told told)) is
+
+pub not_answered : (base : BaseTree) (o : List Turn) (log : Log) (told : PrintedEntry) (b : Bool) → log ≡ logged base o → b ≡ false
+    → (IsTrue b → told ≡ entry log.base log.order (length log.order) (turn_told told)) × (told ≡ entry log.base log.order (length log.order) (turn_told told) → IsTrue b)
+    → told ≡ entry base o (length o) (turn_told told) → ⊥
+not_answered base o log told b is no h same =
+    let right : b ≡ true = h.1 (same ∙ sym (ap (λ (l : Log). entry l.base l.order (length l.order) (turn_told told)) is)) in
+    let both : true ≡ false = sym right ∙ no in
+    cc
+
 -- ---- entry by entry
 
 entry_told : (base : BaseTree) (es : List PrintedEntry) (i : ℕ) (e : PrintedEntry) → slice_get es i ≡ Some e → entry base (order_told es) i (turn_told e) ≡ entry base (order_told (take i es)) (length (order_told (take i es))) (turn_told e)
@@ -85,6 +108,9 @@ unanswered_at base es i e before is other = record { before = before; here = λ 
 
 pub answered_all : (base : BaseTree) (es : List PrintedEntry) (n : ℕ) → length es ≤ n → AnsweredBelow base es n → AllAnswered base es
 answered_all base es n whole below i e is = let lt : i < length es = slice_get_within es i e is in below i (omega (arith, lt, whole)) e is
+
+pub log_more : (base : BaseTree) (es : List PrintedEntry) (i : ℕ) (e : PrintedEntry) (log log' : Log) → log ≡ logged base (order_told (take i es)) → slice_get es i ≡ Some e → log' ≡ settled log e.shell e.txn → log' ≡ logged base (order_told (take (i + 1) es))
+log_more base es i e log log' was is new = new ∙ (ap (λ l. settled l e.shell e.txn) was ∙ ap (logged base) (sym (told_more es i e is)))
 
 -- ---- all of them
 

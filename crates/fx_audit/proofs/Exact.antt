@@ -1,5 +1,5 @@
 -- The verdict is yes exactly on the reports of complete orders with good retries.
-use Rattle.std.proofs.Common.{◌≡◌, ◌⊎◌, inl, inr, ℕ, zero, suc, ◌+◌, ◌<◌, ◌≤◌, Bool, true, false, not, List, [], ◌∷◌, ◌++◌, length, take, map, slice_get, Some, refl, sym, ap, subst, ◌∙◌, arith}
+use Rattle.std.proofs.Common.{◌≡◌, ◌⊎◌, inl, inr, ℕ, zero, suc, ◌+◌, ◌<◌, ◌≤◌, Bool, true, false, not, List, [], ◌∷◌, ◌++◌, length, take, map, slice_get, Some, Result, Ok, Err, IfOk, refl, sym, ap, subst, ◌∙◌, arith}
 use Rattle.std.specs.Prelude.{◌↔◌, nat_lt}
 use Rattle.std.specs.List.{All, list_any}
 use Rattle.std.specs.Str.{is_utf8}
@@ -159,3 +159,11 @@ said_on base bytes es rs (verdict.Order i) read said = record { entries = es; re
 said_on base bytes es rs (verdict.Answer i) read said = record { entries = es; retries = rs; report = read; said = said }
 said_on base bytes es rs (verdict.Missing k j) read said = record { entries = es; retries = rs; report = read; said = said }
 said_on base bytes es rs (verdict.Retry m) read said = record { entries = es; retries = rs; report = read; said = said }
+
+pub said_result : {E : Type 0} (base : BaseTree) (bytes : List ℕ) (es : List PrintedEntry) (rs : List Retry) (r : Result Verdict E) → IsReportOf bytes es rs → IfOk r (IsVerdict base es rs) → IfOk r (IsVerdictOn base bytes)
+said_result base bytes es rs (Ok v) read said = said_on base bytes es rs v read said
+said_result base bytes es rs (Err e) read said = tt
+
+pub exact_result : {E : Type 0} (base : BaseTree) (bytes : List ℕ) (r : Result Verdict E) → IfOk r (IsVerdictOn base bytes) → IfOk r (λ v. (v ≡ verdict.Yes) ↔ IsTrueReport base bytes)
+exact_result base bytes (Ok v) said = exact_is base bytes v said
+exact_result base bytes (Err e) said = tt

@@ -1,13 +1,21 @@
 -- Retries, one by one and all together.
-use Rattle.std.proofs.Common.{◌≡◌, ◌≢◌, ◌⊎◌, inl, inr, ℕ, zero, suc, ◌+◌, ◌<◌, ◌≤◌, List, [], ◌∷◌, ◌++◌, length, take, drop, map, slice_get, Option, Some, None, refl, sym, ap, subst, ◌∙◌, arith}
-use Rattle.std.specs.List.{All}
+use Rattle.std.proofs.Common.{◌≡◌, ◌≢◌, ◌⊎◌, inl, inr, ℕ, zero, suc, ◌+◌, ◌<◌, ◌≤◌, Bool, true, List, [], ◌∷◌, ◌++◌, length, take, drop, map, slice_get, Option, Some, None, refl, sym, ap, subst, ◌∙◌, arith}
+use Rattle.std.specs.Prelude.{IsTrue}
+use Rattle.std.specs.List.{All, Contains}
 use Rattle.std.proofs.lemmas.List.{map-append}
 use Rattle.std.proofs.lemmas.List.Elements.{All-nil, All-cons, All-head, All-tail, All-append}
-use Rattle.std.proofs.lemmas.Option.{same_Some, none-some}
+use Rattle.std.proofs.lemmas.Option.{same_Some, none-some, slice_get_within}
+use Rattle.std.proofs.lemmas.Cmp.{eq_by_cmp_equiv}
+use Rattle.std.proofs.lemmas.Map.Views.{list_any-from_Contains, Contains-from_any}
+use Rattle.fx_store.specs.Names.{has_path}
+use Rattle.fx_store.specs.Orders.{path_eq_same, path_total}
 use Rattle.fx_spec.specs.Plans.{Turn}
 use Rattle.fx_spec.specs.Order.{BaseTree, Changes, InOrder, IsRetry, Precedes, RetriesOk, RetryTree}
+use Rattle.fx_machine.specs.declared.entry.Entry.{Entry}
 use Rattle.fx_machine.specs.declared.retry.Retry.{Retry}
 use Rattle.fx_machine.specs.Tried.{retry_tree}
+use Rattle.fx_board.specs.Board.{IsEntry}
+use Rattle.fx_board.specs.Log.{Log}
 use Rattle.fx_audit.specs.Places.{ArePlaces, places_of}
 use Rattle.fx_audit.specs.Retries.{IsCause, IsNextRetry, MayFollow}
 use Rattle.fx_audit.specs.Verdicts.{IsFirstUntrue}
@@ -148,3 +156,22 @@ untrue_at base o rs m last r are is other = record {
       let whole : trees (take (suc m) rs) ≡ trees (take m rs) ++ retry_tree r ∷ [] = ap (λ n. trees (take n rs)) one ∙ trees_more rs m r is in
       other (subst (λ l. IsNextRetry base o l (retry_tree r)) (sym are.last_is) (ok_last base o (trees (take m rs)) (retry_tree r) (subst (RetriesOk base o) whole ok)));
 }
+
+-- ---- the entry of a retry
+
+has_from : (changed : List (List (List ℕ))) (path : List (List ℕ)) → Contains changed path → has_path changed path ≡ true
+has_from changed path has = list_any-from_Contains (eq_by_cmp_equiv path_total) path changed has
+
+from_has : (changed : List (List (List ℕ))) (path : List (List ℕ)) → has_path changed path ≡ true → Contains changed path
+from_has changed path has = Contains-from_any path_eq_same path changed has
+
+pub cause_is : (log : Log) (e : Entry) (r : RetryTree) (b : Bool) → IsEntry log r.entry e → (e.shell ≡ r.shell → ⊥) → b ≡ has_path e.changed r.path → (IsTrue b → IsCause log.base log.order r) × (IsCause log.base log.order r → IsTrue b)
+cause_is log e r b is apart found =
+    (λ t. record { other = (e.shell, e.txn, is.turn, apart); changed = (is.changed r.path).0 (from_has e.changed r.path (sym found ∙ t)) },
+    λ cause. found ∙ has_from e.changed r.path ((is.changed r.path).1 cause.changed))
+
+pub no_cause : (log : Log) (r : RetryTree) → length log.order ≤ r.entry → IsCause log.base log.order r → ⊥
+no_cause log r past cause =
+    let other = cause.other in
+    let within = slice_get_within log.order r.entry (other.0, other.1) other.2 in
+    omega (arith, within, past)

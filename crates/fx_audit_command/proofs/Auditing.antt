@@ -81,10 +81,14 @@ pub has_inputs : (j : AuditJob) (base : BaseTree) (host : HostView) → IfSome h
 has_inputs j base host is =
     if_some_map (λ t. HasBase t j.inputs base) (λ t. HasInputs t j.inputs) host.told (λ t is. (((base.description, is.spec), (base.plan, is.scripts)), (base.loaded, is.folder))) is
 
-pub auditing : (j : AuditJob) (base : BaseTree) (bytes : List ℕ) (v : Verdict) (output : List ℕ) (host : HostView) → IfSome host.told (λ t. HasBase t j.inputs base) → IfSome host.told (λ t. HasReport t j bytes) → IsVerdictOn base bytes v → (v ≡ verdict.Yes) ↔ IsTrueReport base bytes → output ≡ verdict_line v → IfSome host.told (λ t. IsAuditing t j output)
-auditing j base bytes v output host begins report said exact printed =
+auditing_of : (j : AuditJob) (base : BaseTree) (bytes : List ℕ) (v : Verdict) (output : List ℕ) (host : HostView) → IfSome host.told (λ t. HasBase t j.inputs base) → IfSome host.told (λ t. HasReport t j bytes) → IsVerdictOn base bytes v → (v ≡ verdict.Yes) ↔ IsTrueReport base bytes → output ≡ verdict_line v → IfSome host.told (λ t. IsAuditing t j output)
+auditing_of j base bytes v output host begins report said exact printed =
     if_some_both (λ t. HasBase t j.inputs base) (λ t. HasReport t j bytes) (λ t. IsAuditing t j output) host.told
     (λ t begins report. record { base = base; bytes = bytes; verdict = v; begins = begins; report = report; said = said; exact = exact; printed = printed }) begins report
+
+pub auditing : (j : AuditJob) (base : BaseTree) (bytes held : List ℕ) (v : Verdict) (output : List ℕ) (host : HostView) → held ≡ bytes → IfSome host.told (λ t. HasBase t j.inputs base) → IfSome host.told (λ t. HasReport t j bytes) → IsVerdictOn base held v → (v ≡ verdict.Yes) ↔ IsTrueReport base held → output ≡ verdict_line v → IfSome host.told (λ t. IsAuditing t j output)
+auditing j base bytes held v output host same begins report said exact printed =
+    auditing_of j base bytes v output host begins report (subst (λ (b : List ℕ). IsVerdictOn base b v) same said) (subst (λ (b : List ℕ). (v ≡ verdict.Yes) ↔ IsTrueReport base b) same exact) printed
 
 pub auditing_before : (j : AuditJob) (a b : HostView) {X : Type 0} (output : X → List ℕ) (result : Result X Status) → ReadsOnly a b → IfOk result (λ x. IfSome b.told (λ t. IsAuditing t j (output x))) → IfOk result (λ x. IfSome a.told (λ t. IsAuditing t j (output x)))
 auditing_before j a b output (Ok x) reads is = some_back (λ t. IsAuditing t j (output x)) a b reads is
