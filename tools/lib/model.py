@@ -1,4 +1,4 @@
-"""The meaning of descriptions, scripts, runs and reports, written a second time and apart from the program, plainly and
+"""The meaning of descriptions, scripts, runs, reports and audits, written a second time and apart from the program, plainly and
 slowly. `checks/compare.py` holds the program against it, and the tools take from it what they know of the meaning.
 
 A filestore is a dict from paths (tuples of names, as bytes) to nodes: ("file", bytes, executable flag), ("dir", frozenset
@@ -1044,8 +1044,8 @@ def whole_run(root, txns, store):
 # ---- several shells on one thread
 
 
-def trace(root, plan, store, schedule):
-    """Events, order, retries and last filestore of a run by a schedule."""
+def steps(root, plan, store, schedule):
+    """Events, order, retries, and the filestores before and after each entry, of a run by a schedule."""
     changed, looks, events, order, retries = [], [{} for _ in plan], [], [], []
     states = [store]
     todo = [0 for _ in plan]
@@ -1088,7 +1088,33 @@ def trace(root, plan, store, schedule):
     while any(t < len(p) for t, p in zip(todo, plan)):
         for shell in range(len(plan)):
             step(shell)
-    return events, order, sorted(retries, key=lambda r: r[0]), states[-1]
+    return events, order, sorted(retries, key=lambda r: r[0]), states
+
+
+def trace(root, plan, store, schedule):
+    """Events, order, retries and last filestore of a run by a schedule."""
+    events, order, retries, states = steps(root, plan, store, schedule)
+    return events, order, retries, states[-1]
+
+
+def valid_line(root, store):
+    """Whether the description has a value at the root of a filestore."""
+    try:
+        value(View(store.get), (), [], root)
+    except NoValue:
+        return "valid no"
+    return "valid yes"
+
+
+def watch(root, plan, store, schedule):
+    """The lines of a watched run: of the loaded filestore, of each event, and behind a settled one of the filestore after its
+    entry; then order, retries and last filestore."""
+    events, order, retries, states = steps(root, plan, store, schedule)
+    lines = [valid_line(root, states[0])]
+    for event in events:
+        word, _, number = event.split(" ")[:3]
+        lines += [event, valid_line(root, states[int(number) + 1])] if word == "settled" else [event]
+    return lines, order, retries, states[-1]
 
 
 # ---- what is printed
@@ -1127,6 +1153,170 @@ def report(order, retries):
     lines.append(f"retries {len(retries)}")
     lines += [f"retry shell {k} txn {j} entry {i} path {quote(path_text(p))}" for k, j, i, p in retries]
     return "".join(line + "\n" for line in [*lines, "end"])
+
+
+# ---- a report, read back and judged
+
+
+class BadLine(Exception):
+    """The number of the first line at which bytes stop being the front of a report."""
+
+
+def unquoted(text):
+    """The bytes between quotation marks at the front of a text, and what stands behind them; None where there are none."""
+    found = re.match(rb'"((?:[ !#-\[\]-~]|\\["\\n]|\\x[0-9a-f]{2})*)"', text)
+    if not found:
+        return None
+    escape = lambda m: {b'"': b'"', b"\\": b"\\", b"n": b"\n"}.get(m[1][:1]) or bytes([int(m[1][1:], 16)])
+    value = re.sub(rb"\\(x..|.)", escape, found[1])
+    return (value, text[found.end() :]) if quote(value).encode() == found[0] and len(value) <= FILE_LIMIT else None
+
+
+def told_value(text, levels=64):
+    """A printed value at the front of a text, and what stands behind it; None where there is none."""
+
+    def pieces(rest, close, piece):
+        found, value = [], None
+        while not rest.startswith(close):
+            if found and not rest.startswith(b", "):
+                return None
+            got = piece(rest[2:] if found else rest)
+            if got is None:
+                return None
+            value, rest = got
+            found.append(value)
+        return found, rest[len(close) :]
+
+    def row(rest):
+        key = unquoted(rest)
+        if key is None or not key[1].startswith(b" = "):
+            return None
+        got = told_value(key[1][3:], levels - 1)
+        return got and ((key[0], got[0]), got[1])
+
+    def ascending(keys):
+        return all(a < b for a, b in zip(keys, keys[1:]))
+
+    if levels == 0:
+        return None
+    for word, value in ((b"true", True), (b"false", False), (b"none", None)):
+        if text.startswith(word):
+            return (value, text[len(word) :])
+    if text.startswith(b'"'):
+        return unquoted(text)
+    if text.startswith(b"{"):
+        got = pieces(text[1:], b"}", unquoted)
+        return (frozenset(got[0]), got[1]) if got and ascending(got[0]) else None
+    if text.startswith(b"["):
+        got = pieces(text[1:], b"]", row)
+        return (dict(got[0]), got[1]) if got and ascending([key for key, _ in got[0]]) else None
+    if text.startswith(b"some("):
+        got = told_value(text[5:], levels - 1)
+        return (("some", got[0]), got[1][1:]) if got and got[1].startswith(b")") else None
+    if text.startswith(b"<"):
+        a = told_value(text[1:], levels - 1)
+        b = told_value(a[1][2:], levels - 1) if a and a[1].startswith(b", ") else None
+        return (("pair", a[0], b[0]), b[1][1:]) if b and b[1].startswith(b">") else None
+    digits = re.match(rb"-[1-9][0-9]*|0|[1-9][0-9]*", text)
+    return (int(digits[0]), text[digits.end() :]) if digits and int(digits[0]) in INT else None
+
+
+def told_path(text):
+    """The path that a quoted text spells, if it spells one and nothing stands behind it."""
+    got = unquoted(text)
+    if got is None or got[1] or not got[0].startswith(b"/"):
+        return None
+    path = tuple(got[0][1:].split(b"/")) if got[0] != b"/" else ()
+    return path if len(path) <= 64 and all(map(is_name, path)) and path_text(path) == got[0] else None
+
+
+def is_told_end(text):
+    names = [NO_STEP, NO_ELEMENT, NO_PLACE, LACKS, WRONG_FORM, TOO_DEEP, BAD_NAME, NO_DEFAULT, ABSENT, EXISTS]
+    if text in (b"done", b"aborted"):
+        return True
+    found = re.fullmatch(rb"stopped (0|[1-9][0-9]*) ([0-9]+ .*)", text, re.S)
+    if not found or int(found[1]) >= 2**32:
+        return False
+    if found[2].startswith(b"6 Blocked "):
+        return told_path(found[2][10:]) is not None
+    plain = [f"{number} {name}".encode() for number, name in names]
+    return found[2] in plain + [b"10 Expr TooLong", b"10 Expr Overflow", b"10 Expr NotNumber"]
+
+
+def read_report(data):
+    """The entries of a report, with their printed outputs as texts, and its retries."""
+    lines, entries, retries, counts = data.split(b"\n"), [], [], []
+    number = rb"(0|[1-9][0-9]*)"
+
+    def fields(pattern, line, *limits):
+        found = re.fullmatch(pattern, line, re.S)
+        return found if found and all(int(found[i + 1]) < limit for i, limit in enumerate(limits)) else None
+
+    def take(line, i):
+        if i == 0:
+            return line == b"forest report 1"
+        if i == 1:
+            found = fields(rb"entries " + number, line, 2**64)
+            counts.extend([int(found[1])] if found else [])
+            return found
+        if len(counts) == 1:
+            found = fields(rb"entry %b shell %b txn %b (.*)" % (number, number, number), line, 2**64, 2**32, 2**32)
+            if found:
+                entries.append((int(found[2]), int(found[3]), [], found[4].decode("latin-1")))
+                return int(found[1]) == len(entries) - 1 < counts[0] and is_told_end(found[4])
+            if line.startswith(b"print ") and entries:
+                got = told_value(line[6:])
+                entries[-1][2].append(line[6:].decode("latin-1"))
+                return got and not got[1]
+            found = fields(rb"retries " + number, line, 2**64)
+            counts.extend([int(found[1])] if found else [])
+            return found and len(entries) == counts[0]
+        if len(counts) == 2:
+            found = fields(rb"retry shell %b txn %b entry %b path (.*)" % (number, number, number), line, 2**32, 2**32, 2**64)
+            if found:
+                retries.append((int(found[1]), int(found[2]), int(found[3]), told_path(found[4])))
+                return retries[-1][3] is not None and len(retries) <= counts[1]
+            counts.append(None)
+            return line == b"end" and len(retries) == counts[1]
+        return False
+
+    for i, line in enumerate(lines[:-1]):
+        if not take(line, i):
+            raise BadLine(i + 1)
+    if lines[-1] or len(counts) != 3:
+        raise BadLine(len(lines))
+    return entries, retries
+
+
+def audit(root, plan, store, data):
+    """What `audit` prints of bytes as the report of a run."""
+    try:
+        entries, retries = read_report(data)
+    except BadLine as bad:
+        return f"audit no BadLine {bad}\n"
+    done = [0 for _ in plan]
+    for i, (k, j, _, _) in enumerate(entries):
+        if k >= len(plan) or j != done[k] or j >= len(plan[k]):
+            return f"audit no Order {i}\n"
+        done[k] += 1
+    changed, place = [], {}
+    for i, (k, j, told, end) in enumerate(entries):
+        outputs, ended, changes, _ = run_txn(root, plan[k][j], store.get)
+        if ([printed(v) for v in outputs], ended) != (told, end):
+            return f"audit no Answer {i}\n"
+        after = over(store, changes)
+        changed.append({p for p in changes if store.get(p) != after.get(p)})
+        store, place[k, j] = after, i
+    for k, txns in enumerate(plan):
+        if done[k] < len(txns):
+            return f"audit no Missing {k} {done[k]}\n"
+    last = None
+    for m, (k, j, i, p) in enumerate(retries):
+        can_be = i < place.get((k, j), 0) and entries[i][0] != k and p in changed[i]
+        if not can_be or last and not (last[0] < k or last[0] == k and last[1] <= j and last[2] < i):
+            return f"audit no Retry {m}\n"
+        last = k, j, i
+    return "audit yes\n"
 
 
 # ---- folders

@@ -1,0 +1,69 @@
+"""`txforest audit` of the report of a large run, beside the `run` that made it, and of a report of long outputs, beside its size.
+
+An audit runs each transaction once more, in the order of the report, so it should take about the processor time of the run; and it holds the report
+and what its entries tell, so its memory is told as a multiple of the report.
+"""
+
+import os
+import sys
+import tempfile
+
+import measure
+
+SHELLS, EACH = 64, 1_562
+SIZES = [1_000_000, 20_000_000, 200_000_000]
+OUTPUT = 50_000
+OF_SCRIPT = 1_500
+REPEATS = 3
+YES = b"audit yes\n"
+DESCRIPTION = '("a" :: file)\n'
+TXN = "txn { down fetch x : str print(x) }\n"
+
+
+def audited(ran):
+    if ran.out != YES:
+        sys.exit(f"another verdict: {ran.out[:200]!r}")
+    return ran
+
+
+def run_and_audit(scratch, texts, repeats):
+    """A run of scripts with these texts, the fastest audit of its report, and the report's size."""
+    spec, folder = measure.write(scratch, "spec", DESCRIPTION), os.path.join(scratch, "in")
+    scripts = [measure.write(scratch, f"s{k:02}", text) for k, text in enumerate(texts)]
+    (ran, _), = measure.best(scratch, [lambda out: [measure.program(), "run", spec, folder, out, *scripts]], repeats)
+    report = os.path.join(scratch, "report")
+    with open(report, "wb") as file:
+        file.write(ran.out)
+    words = [measure.program(), "audit", spec, folder, report, *scripts]
+    best = min((audited(measure.done(words, scratch)) for _ in range(repeats)), key=lambda it: it.user)
+    return ran, best, len(ran.out)
+
+
+def folder_of(scratch, text):
+    folder = os.path.join(scratch, "in")
+    os.mkdir(folder)
+    measure.write(folder, "a", text)
+
+
+def beside_run():
+    """The audit of a run of some 100,000 transactions of 64 shells, beside this run, in seconds of processor."""
+    with tempfile.TemporaryDirectory() as scratch:
+        folder_of(scratch, "1")
+        ran, best, _ = run_and_audit(scratch, [TXN * EACH] * SHELLS, REPEATS)
+        return measure.Line("audit: entries", SHELLS * EACH, best.user, best.peak_kib, "run, processor", ran.user, f"{best.seconds:.3f} s on the clock")
+
+
+def of_size(size):
+    """The audit of a report of about so many bytes: each transaction prints a long text."""
+    with tempfile.TemporaryDirectory() as scratch:
+        folder_of(scratch, "x" * OUTPUT)
+        count = max(1, size // (OUTPUT + 40))
+        texts = [TXN * min(OF_SCRIPT, count - done) for done in range(0, count, OF_SCRIPT)]
+        ran, best, held = run_and_audit(scratch, texts, 1)
+        return measure.Line("audit: bytes of the report", held, best.seconds, best.peak_kib, "run", ran.seconds, f"{best.peak_kib * 1024 / held:.2f} times the report in memory")
+
+
+def lines(sizes):
+    yield beside_run()
+    for size in sizes or SIZES:
+        yield of_size(size)

@@ -1,0 +1,4 @@
+pub mod Audits
+pub mod Places
+pub mod Retries
+pub mod Verdicts

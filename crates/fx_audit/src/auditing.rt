@@ -1,0 +1,63 @@
+//! The verdict on a report.
+ghost use Rattle.std.specs.Prelude.{◌≡◌, ◌↔◌, IfOk};
+ghost use Rattle.fx_spec.specs.Bases.{base_tree};
+ghost use Rattle.fx_audit.specs.declared.verdict.Verdict.TheVariants as verdict;
+ghost use Rattle.fx_audit.specs.Audits.{IsVerdictOn, IsTrueReport};
+ghost use Rattle.fx_audit.specs.Verdicts.{IsVerdict};
+
+use crate::answers::first_unanswered;
+use crate::order::{first_missing, first_unordered};
+use crate::places::no_places;
+use crate::retries::first_untrue;
+use crate::verdict::Verdict;
+use fx_base::NoMemory;
+use fx_board::Board;
+use fx_machine::Retries;
+use fx_read_report::{ReportFault, read_report};
+use fx_report::PrintedEntries;
+use fx_spec::Base;
+use std::alloc::Global;
+use std::sync::Arc;
+
+/// The verdict on what a report tells.
+fn verdict_on(
+    alloc: Global,
+    base: &Arc<Base>,
+    entries: &PrintedEntries,
+    retries: &Retries,
+) -> Result<Verdict, NoMemory>
+    ensures { IfOk result (IsVerdict (base_tree base.now.value) entries.now retries.now) }
+{
+    let mut table = no_places(alloc, base.plan.len())?;
+    if let Some(i) = first_unordered(base, entries, &mut table)? {
+        return Ok(Verdict::Order(i));
+    }
+    let mut board = Board::new(alloc, Arc::try_clone(base)?)?;
+    if let Some(i) = first_unanswered(alloc, base, &mut board, entries)? {
+        return Ok(Verdict::Answer(i));
+    }
+    if let Some(pair) = first_missing(base, &table) {
+        return Ok(Verdict::Missing {
+            shell: pair.shell,
+            txn: pair.txn,
+        });
+    }
+    match first_untrue(&board, &table, retries) {
+        Some(m) => Ok(Verdict::Retry(m)),
+        None => Ok(Verdict::Yes),
+    }
+}
+
+/// The verdict on bytes as a report of a run of this base: the first of their faults. They have none exactly where they are
+/// the report of a complete order and of retries that this order can have had.
+pub fn audit(alloc: Global, base: Arc<Base>, bytes: &[u8]) -> Result<Verdict, NoMemory>
+    ensures verdict { IfOk result (IsVerdictOn (base_tree base.value) bytes.now) }
+    ensures exact { IfOk result (λ v. (v ≡ verdict.Yes)
+        ↔ IsTrueReport (base_tree base.value) bytes.now) }
+{
+    match read_report(alloc, bytes) {
+        Ok(printed) => verdict_on(alloc, &base, &printed.entries, &printed.retries),
+        Err(ReportFault::BadLine(number)) => Ok(Verdict::BadLine(number)),
+        Err(ReportFault::NoMemory) => Err(NoMemory),
+    }
+}

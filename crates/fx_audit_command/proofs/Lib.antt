@@ -1,0 +1,3 @@
+pub mod Auditing
+pub mod Completing
+pub mod Pieces

@@ -1,0 +1,15 @@
+use Rattle.std.proofs.Common.{IfSome, sym, subst}
+use Rattle.fx_base.proofs.Errors.{if_err_of}
+use Rattle.fx_command.specs.StatusOf.{read_status}
+use Rattle.fx_words.specs.JobOf.{asked_audit}
+use Rattle.fx_audit_command.specs.Rows.{AuditEndsAs}
+use Rattle.fx_audit_command.proofs.Auditing.{audit_fit_report, report_large, report_read, report_unread}
+use Rattle.fx_audit_command.proofs.reading.read_report.Goals as goal
+
+pub returns-in_err-bytes-clause-ends : goal.returns-in_err-bytes-clause-ends
+returns-in_err-bytes-clause-ends g c =
+    let j = asked_audit c.args.job.now in
+    let a = g.H.Host.view c.args.host.now in
+    let b = g.H.Host.view c.read_text.new.host in
+    let fault = c.in_err-bytes.field-0.0 in
+    if_err_of (AuditEndsAs j a b) c.from_residual.result (read_status fault) c.from_residual.ensures.1 (report_unread j a b fault c.in_err-bytes.ensures.same c.requires c.in_err-bytes.ensures.failed)

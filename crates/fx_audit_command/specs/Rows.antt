@@ -1,0 +1,112 @@
+-- What each status of `audit` says: where it comes, and what is then left at the host and at the sink.
+use Rattle.std.specs.Prelude.{◌≡◌, ◌⊎◌, ◌↔◌, ◌&&◌, ℕ, ◌<◌, ◌≤◌, Bool, true, false, List, ◌++◌, length, take, Option, Some, IfSome, IsSomeAnd}
+use Rattle.fx_base.specs.Causes.{Rose}
+use Rattle.fx_outside.specs.Host.{HostView, ReadsOnly, FaultAt}
+use Rattle.fx_outside.specs.Path.{is_fit}
+use Rattle.fx_outside.specs.Sink.{SinkView}
+use Rattle.fx_outside.specs.Tree.{Tree, is_file_at, bytes_at}
+use Rattle.fx_folder.specs.Loads.{IsRefused}
+use Rattle.fx_spec.specs.Order.{BaseTree}
+use Rattle.fx_command.specs.declared.status.Status.{Status}
+use Rattle.fx_command.specs.declared.status.Status.TheVariants as status
+use Rattle.fx_command.specs.declared.status.TextFault.{TextFault}
+use Rattle.fx_command.specs.declared.status.TextFault.TheVariants as fault
+use Rattle.fx_command.specs.Left.{IsSame, Grows}
+use Rattle.fx_inputs.specs.Inputs.{HasBase, HasInputs, HasTexts, CannotRead, IsFirstRefused}
+use Rattle.fx_inputs.specs.Reads.{HasReadFault, has_fit_inputs}
+use Rattle.fx_audit.specs.Audits.{IsVerdictOn, IsTrueReport}
+use Rattle.fx_audit.specs.declared.verdict.Verdict.{Verdict}
+use Rattle.fx_audit.specs.declared.verdict.Verdict.TheVariants as verdict
+use Rattle.fx_audit_command.specs.declared.reading.TheConstants.{REPORT_LIMIT, REPORT_WORD}
+use Rattle.fx_words.specs.Job.{AuditJob}
+use Rattle.fx_audit_command.specs.Lines.{verdict_line}
+
+-- the file at REPORT has these bytes, which are no more than a report may have
+pub record HasReport (t : Tree) (j : AuditJob) (bytes : List ℕ) : Type 0 where
+  pub file : is_file_at t j.report ≡ true
+  pub whole : bytes ≡ bytes_at t j.report
+  pub short : length bytes ≤ REPORT_LIMIT
+
+-- the file at REPORT has more bytes
+pub record HasLargeReport (t : Tree) (j : AuditJob) : Type 0 where
+  pub file : is_file_at t j.report ≡ true
+  pub large : REPORT_LIMIT < length (bytes_at t j.report)
+
+-- the line tells the verdict on the text at REPORT, as a report of a run of what the texts and the folder stand for; it is
+-- yes exactly where the text is such a report
+pub record IsAuditing (t : Tree) (j : AuditJob) (output : List ℕ) : Type 0 where
+  pub base : BaseTree
+  pub bytes : List ℕ
+  pub verdict : Verdict
+  pub begins : HasBase t j.inputs base
+  pub report : HasReport t j bytes
+  pub said : IsVerdictOn base bytes verdict
+  pub exact : (verdict ≡ verdict.Yes) ↔ IsTrueReport base bytes
+  pub printed : output ≡ verdict_line verdict
+
+-- the line stands after what was written before
+pub record IsAudited (t : Tree) (j : AuditJob) (before after : Option (List ℕ)) : Type 0 where
+  pub output : List ℕ
+  pub auditing : IsAuditing t j output
+  pub written : IfSome before (λ w. after ≡ Some (w ++ output))
+
+-- a front of it is written
+pub record IsAuditedInPart (t : Tree) (j : AuditJob) (before after : Option (List ℕ)) : Type 0 where
+  pub output : List ℕ
+  pub auditing : IsAuditing t j output
+  pub written : IfSome before (λ w. (n : ℕ) × (after ≡ Some (w ++ take n output)))
+
+-- the sink failed, and a front of the line is printed
+pub record IsUnsaid (j : AuditJob) (host host' : HostView) (sink sink' : SinkView) : Type 0 where
+  pub reads : ReadsOnly host host'
+  pub cause : Rose sink.faults sink'.faults
+  pub grows : Grows sink sink'
+  pub left : IfSome host.told (λ t. IsAuditedInPart t j sink.written sink'.written)
+
+-- a fault at what a run reads; or at REPORT, and then all that is read
+abbrev pub AuditReadFault : AuditJob → HostView → HostView → Type 0
+AuditReadFault j host host' = HasReadFault j.inputs host host' ⊎ (FaultAt j.report host host' × IfSome host.told (λ t. HasInputs t j.inputs))
+
+-- what a run reads is not there; or REPORT is not, and all that comes before it is
+abbrev pub CannotAudit : Tree → AuditJob → Type 0
+CannotAudit t j = CannotRead t j.inputs ⊎ (HasInputs t j.inputs × (is_file_at t j.report ≡ false))
+
+-- the text of REPORT is too large, and all that comes before it is read
+pub record IsTooLarge (t : Tree) (j : AuditJob) (word : ℕ) (cause : TextFault) : Type 0 where
+  pub word : word ≡ REPORT_WORD
+  pub cause : cause ≡ fault.TooLarge
+  pub inputs : HasInputs t j.inputs
+  pub large : HasLargeReport t j
+
+-- the text of this word is the first that is refused, first for this cause
+abbrev pub IsFirstRefusedOf : Tree → AuditJob → ℕ → TextFault → Type 0
+IsFirstRefusedOf t j word cause = IsFirstRefused t j.inputs word cause ⊎ IsTooLarge t j word cause
+
+-- the table for `audit`: it asks nothing but reads of the host, however it ends, and ends alike for every verdict
+abbrev pub AuditRow : AuditJob → HostView → HostView → SinkView → SinkView → Status → Type 0
+AuditRow j host host' sink sink' status.Done = ReadsOnly host host' × Grows sink sink' × IfSome host.told (λ t. IsAudited t j sink.written sink'.written)
+AuditRow j host host' sink sink' status.Usage = ⊥
+AuditRow j host host' sink sink' (status.TextRefused word cause) = IsSame host host' sink sink' × IfSome host.told (λ t. IsFirstRefusedOf t j word cause)
+AuditRow j host host' sink sink' (status.FolderRefused cause) = IsSame host host' sink sink' × IfSome host.told (λ t. HasTexts t j.inputs × IsRefused t j.inputs.folder cause)
+AuditRow j host host' sink sink' status.ReadFault = IsSame host host' sink sink' × (AuditReadFault j host host' ⊎ IsSomeAnd host.told (λ t. CannotAudit t j))
+AuditRow j host host' sink sink' status.NotEmpty = ⊥
+AuditRow j host host' sink sink' status.WriteFault = IsUnsaid j host host' sink sink'
+AuditRow j host host' sink sink' status.NoMemory = IsSame host host' sink sink'
+
+-- a stage that only reads ends the command so, whatever the sink
+abbrev pub AuditEndsAs : AuditJob → HostView → HostView → Status → Type 0
+AuditEndsAs j host host' st = (sink : SinkView) → AuditRow j host host' sink sink st
+
+-- the paths of the command are fit
+abbrev pub has_fit_audit : AuditJob → Bool
+has_fit_audit j = has_fit_inputs j.inputs && is_fit j.report
+
+-- where they are, no call is made at an unfit one
+abbrev pub AuditAsksFit : AuditJob → HostView → HostView → Type 0
+AuditAsksFit j host host' = has_fit_audit j ≡ true → host'.unfit ≡ host.unfit
+
+-- texts that stand for a description and scripts, a folder that loads, and a text at REPORT within its limit
+pub record IsProperAudit (t : Tree) (j : AuditJob) : Type 0 where
+  pub inputs : HasInputs t j.inputs
+  pub file : is_file_at t j.report ≡ true
+  pub short : length (bytes_at t j.report) ≤ REPORT_LIMIT

@@ -1,0 +1,9 @@
+//! The command `audit`: whether the text of a report is the report of a run of a description, scripts and a folder.
+#![tactic(auto)]
+
+mod command;
+mod line;
+mod reading;
+mod texts;
+
+pub use command::audit;

@@ -1,0 +1,121 @@
+-- Legal orders, one transaction more at a time.
+use Rattle.std.proofs.Common.{◌≡◌, ◌≢◌, ℕ, zero, suc, ◌+◌, ◌<◌, ◌≤◌, Bool, true, false, nat_eq, List, [], ◌∷◌, ◌++◌, length, take, get_or, set, map, replicate, slice_get, Some, refl, sym, ap, subst, ◌∙◌, arith, add-one, length-append}
+use Rattle.std.specs.Prelude.{slice_index_or}
+use Rattle.std.proofs.Math.Seq.{take-length}
+use Rattle.std.proofs.lemmas.Bool.{eqb-true, eqb-false}
+use Rattle.std.proofs.lemmas.List.{length-map, map-append, get_or-set_same, get_or-set_other, length-set, take_at, drop_at}
+use Rattle.std.proofs.lemmas.Option.{same_Some, none-some, slice_get_within}
+use Rattle.fx_spec.specs.Plans.{Turn, count_of, script_of}
+use Rattle.fx_spec.specs.Order.{BaseTree, IsLegal, IsLegalFor, numbers_of, first_numbers}
+use Rattle.fx_spec.proofs.Orders.{legal_none, legal-next, numbers_own, numbers_other}
+use Rattle.fx_machine.specs.declared.entry.Pair.{Pair}
+use Rattle.fx_durable.specs.Journal.{turn_of, turns_of}
+use Rattle.fx_recover_command.specs.Orders.{IsFirstIllegal, count_in, AreCounts, IsNextIn, AddsNext}
+
+-- ---- lists
+
+head_of : (a b : ℕ) (xs ys : List ℕ) → a ∷ xs ≡ b ∷ ys → a ≡ b
+head_of a b xs ys e = ap (λ (l : List ℕ). get_or l 0 a) e
+
+-- the last items of two lists that are as long as each other
+last_same : (xs ys : List ℕ) (a b : ℕ) → length xs ≡ length ys → xs ++ a ∷ [] ≡ ys ++ b ∷ [] → a ≡ b
+last_same xs ys a b long same =
+    head_of a b [] [] (sym (drop_at xs (a ∷ []) (length xs) refl) ∙ ap (λ (l : List ℕ). Rattle.std.proofs.Common.drop (length xs) l) same ∙ drop_at ys (b ∷ []) (length xs) (sym long))
+
+take_suc : {X : Type 0} (xs : List X) (i : ℕ) (x : X) → slice_get xs i ≡ Some x → take (suc i) xs ≡ take i xs ++ x ∷ []
+take_suc [] i x e = absurd (none-some x e)
+take_suc (y ∷ xs) zero x e = ap (λ z. z ∷ []) (same_Some y x e)
+take_suc (y ∷ xs) (suc i) x e = ap (λ l. y ∷ l) (take_suc xs i x e)
+
+map_take : {X Y : Type 0} (f : X → Y) (xs : List X) (i : ℕ) → map f (take i xs) ≡ take i (map f xs)
+map_take f [] zero = refl
+map_take f [] (suc i) = refl
+map_take f (x ∷ xs) zero = refl
+map_take f (x ∷ xs) (suc i) = ap (λ l. f x ∷ l) (map_take f xs i)
+
+none_there : (n k : ℕ) → get_or (replicate n 0) k 0 ≡ 0
+none_there zero k = refl
+none_there (suc n) zero = refl
+none_there (suc n) (suc k) = none_there n k
+
+-- ---- one transaction more
+
+first_length : (n : ℕ) → length (first_numbers n) ≡ n
+first_length zero = refl
+first_length (suc n) = let rest = first_length n in omega (arith, length-append (first_numbers n) (n ∷ []), rest)
+
+-- the last transaction of a legal order is its shell's next one
+pub next_in : (base : BaseTree) (o : List Turn) (shell txn : ℕ) → IsLegal base (o ++ (shell, txn) ∷ []) → IsNextIn base o (shell, txn)
+next_in base o shell txn legal =
+    let own = numbers_own o shell txn in
+    let count : length (numbers_of shell (o ++ (shell, txn) ∷ [])) ≡ suc (count_in o shell) = ap length own ∙ length-append (numbers_of shell o) (txn ∷ []) ∙ add-one in
+    let turns : numbers_of shell o ++ txn ∷ [] ≡ first_numbers (count_in o shell) ++ count_in o shell ∷ [] = sym own ∙ (legal shell).in_turn ∙ ap first_numbers count in
+    let same : txn ≡ count_in o shell = last_same (numbers_of shell o) (first_numbers (count_in o shell)) txn (count_in o shell) (sym (first_length (count_in o shell))) turns in
+    let planned = (legal shell).planned in
+    record { next = same; planned = omega (arith, same, count, planned) }
+
+shell_within : (base : BaseTree) (shell txn : ℕ) → txn < count_of base.plan shell → shell < length base.plan
+shell_within base shell txn less = within base.plan shell less
+  where
+    within : {X : Type 0} (plan : List (List X)) (k : ℕ) → txn < length (slice_index_or plan k []) → k < length plan
+    within [] k less = absurd (omega (arith, less))
+    within (script ∷ plan) zero less = omega arith
+    within (script ∷ plan) (suc k) less = let rest = within plan k less in omega (arith, rest)
+
+module _ (base : BaseTree) (o : List Turn) (shell : ℕ) (counts : List ℕ) (are : AreCounts base o counts) where
+  -- a transaction is counted
+  pub counted : (txn next planned : ℕ) (counts' : List ℕ) → shell < length counts → next ≡ slice_index_or counts shell 0 → txn ≡ next → planned ≡ count_of base.plan shell → next < planned → counts' ≡ set counts shell (next + 1) → AreCounts base (o ++ (shell, txn) ∷ []) counts'
+  counted txn next planned counts' within is same plan less sets =
+      let number : next ≡ count_in o shell = is ∙ are.each shell in
+      record {
+        shells = ap length sets ∙ length-set counts shell (next + 1) ∙ are.shells;
+        legal = subst (λ n. IsLegal base (o ++ (shell, n) ∷ [])) (sym (same ∙ number)) (legal-next base o shell are.legal (omega (arith, number, plan, less)));
+        each = λ k. ap (λ (l : List ℕ). get_or l k 0) sets ∙ each k (nat_eq shell k) refl number;
+      }
+    where
+      each : (k : ℕ) (b : Bool) → nat_eq shell k ≡ b → next ≡ count_in o shell → get_or (set counts shell (next + 1)) k 0 ≡ count_in (o ++ (shell, txn) ∷ []) k
+      each k true e number =
+          let here : shell ≡ k = eqb-true shell k e in
+          subst (λ k. get_or (set counts shell (next + 1)) k 0 ≡ count_in (o ++ (shell, txn) ∷ []) k) here
+          (get_or-set_same counts shell (next + 1) 0 within ∙ ap (λ n. n + 1) number ∙ sym (ap length (numbers_own o shell txn) ∙ length-append (numbers_of shell o) (txn ∷ [])))
+      each k false e number =
+          get_or-set_other counts shell k (next + 1) 0 (λ same. eqb-false shell k e (sym same)) ∙ are.each k ∙ sym (ap length (numbers_other o k shell txn e))
+
+  -- a transaction that is not its shell's next one, or is not in the script
+  pub not_a_shell : (txn : ℕ) → length counts ≤ shell → IsNextIn base o (shell, txn) → ⊥
+  not_a_shell txn le is = let within = shell_within base shell txn is.planned in omega (arith, within, le, are.shells)
+
+  pub not_next : (txn next : ℕ) → next ≡ slice_index_or counts shell 0 → (txn ≡ next → ⊥) → IsNextIn base o (shell, txn) → ⊥
+  not_next txn next is other in' = other (in'.next ∙ sym (is ∙ are.each shell))
+
+  pub not_planned : (txn next planned : ℕ) → txn ≡ next → planned ≡ count_of base.plan shell → planned ≤ next → IsNextIn base o (shell, txn) → ⊥
+  not_planned txn next planned same plan le is = let less = is.planned in omega (arith, same, plan, le, less)
+
+-- no transaction is counted
+pub none_counted : (base : BaseTree) (counts : List ℕ) → counts ≡ replicate (length base.plan) 0 → AreCounts base [] counts
+none_counted base counts is = record {
+  shells = ap length is ∙ long (length base.plan);
+  legal = legal_none base;
+  each = λ shell. ap (λ (l : List ℕ). get_or l shell 0) is ∙ none_there (length base.plan) shell;
+}
+  where
+    long : (n : ℕ) → length (replicate n 0) ≡ n
+    long zero = refl
+    long (suc n) = ap suc (long n)
+
+-- ---- over the pairs of an order
+
+pub turns_more : (pairs : List Pair) (i : ℕ) (pair : Pair) → slice_get pairs i ≡ Some pair → turns_of (take (i + 1) pairs) ≡ turns_of (take i pairs) ++ turn_of pair ∷ []
+turns_more pairs i pair is =
+    let one : i + 1 ≡ suc i = omega arith in
+    ap (λ n. turns_of (take n pairs)) one ∙ ap turns_of (take_suc pairs i pair is) ∙ map-append turn_of (take i pairs) (pair ∷ [])
+
+pub first_illegal_at : (base : BaseTree) (pairs : List Pair) (i : ℕ) (pair : Pair) (counts : List ℕ) → slice_get pairs i ≡ Some pair → AreCounts base (turns_of (take i pairs)) counts → (IsNextIn base (turns_of (take i pairs)) (turn_of pair) → ⊥) → IsFirstIllegal base (turns_of pairs) i
+first_illegal_at base pairs i pair counts is are isnt = record {
+  inside = subst (λ n. i < n) (sym (length-map pairs turn_of)) (slice_get_within pairs i pair is);
+  before = subst (IsLegal base) (map_take turn_of pairs i) are.legal;
+  here = λ legal. isnt (next_in base (turns_of (take i pairs)) pair.shell pair.txn (subst (IsLegal base) (sym (map_take turn_of pairs (i + 1)) ∙ turns_more pairs i pair is) legal));
+}
+
+pub all_legal : (base : BaseTree) (pairs : List Pair) (counts : List ℕ) → AreCounts base (turns_of (take (length pairs) pairs)) counts → IsLegal base (turns_of pairs)
+all_legal base pairs counts are = subst (λ l. IsLegal base (turns_of l)) (take-length pairs) are.legal

@@ -1,0 +1,67 @@
+-- A transaction of a legal order is its shell's next one, and stands in the script.
+use Rattle.std.proofs.Common.{◌≡◌, ℕ, zero, suc, ◌+◌, ◌<◌, ◌≤◌, Bool, true, false, cond, nat_eq, nat_lt, List, [], ◌∷◌, ◌++◌, length, take, drop, get_or, Option, Some, None, refl, sym, ap, subst, ◌∙◌, arith, length-append, eq-eqb}
+use Rattle.std.specs.Prelude.{slice_get, slice_index_or, map}
+use Rattle.std.specs.List.{cons_option}
+use Rattle.std.proofs.Math.Seq.{take-suc}
+use Rattle.std.proofs.lemmas.List.{map-append}
+use Rattle.std.proofs.lemmas.List.Elements.{filter_map-append}
+use Rattle.std.proofs.lemmas.Option.{same_Some}
+use Rattle.std.proofs.lemmas.Bool.{ltb-true, ltb-false}
+use Rattle.fx_spec.specs.Plans.{Turn, count_of}
+use Rattle.fx_spec.specs.Order.{BaseTree, IsLegal, number_in, numbers_of, first_numbers}
+use Rattle.fx_machine.specs.declared.entry.Pair.{Pair}
+use Rattle.fx_machine.specs.Machine.{next_number}
+use Rattle.fx_replay_log.specs.Orders.{turn_of, turns_of}
+
+pub at_middle : {X : Type 0} (xs ys : List X) (x : X) → slice_get (xs ++ x ∷ ys) (length xs) ≡ Some x
+at_middle [] ys x = refl
+at_middle (z ∷ xs) ys x = at_middle xs ys x
+
+front_at : {X : Type 0} (xs ys : List X) (i : ℕ) → i < length xs → slice_get (xs ++ ys) i ≡ slice_get xs i
+front_at [] ys i h = absurd (omega (arith, h))
+front_at (x ∷ xs) ys zero h = refl
+front_at (x ∷ xs) ys (suc i) h = front_at xs ys i (omega (arith, h))
+
+pub first_length : (n : ℕ) → length (first_numbers n) ≡ n
+first_length zero = refl
+first_length (suc n) = let rest = first_length n in omega (arith, length-append (first_numbers n) (n ∷ []), rest)
+
+first_at : (n i : ℕ) → i < n → slice_get (first_numbers n) i ≡ Some i
+first_at zero i h = absurd (omega (arith, h))
+first_at (suc n) i h = at (nat_lt i n) refl (first_at n i)
+  where
+    at : (b : Bool) → nat_lt i n ≡ b → (i < n → slice_get (first_numbers n) i ≡ Some i) → slice_get (first_numbers (suc n)) i ≡ Some i
+    at true e rest = front_at (first_numbers n) (n ∷ []) i (omega (arith, ltb-true i n e, first_length n)) ∙ rest (ltb-true i n e)
+    at false e rest =
+        let same : n ≡ i = omega (arith, h, ltb-false i n e) in
+        subst (λ i. slice_get (first_numbers (suc n)) i ≡ Some i) same
+        (subst (λ k. slice_get (first_numbers n ++ n ∷ []) k ≡ Some n) (first_length n) (at_middle (first_numbers n) [] n))
+
+-- the numbers of a shell around one of its transactions
+numbers_around : (o more : List Turn) (turn : Turn) → numbers_of turn.0 (o ++ turn ∷ more) ≡ numbers_of turn.0 o ++ turn.1 ∷ numbers_of turn.0 more
+numbers_around o more turn =
+    filter_map-append (number_in turn.0) o (turn ∷ more) ∙ ap (λ b. numbers_of turn.0 o ++ cons_option (cond b (Some turn.1) None) (numbers_of turn.0 more)) (eq-eqb turn.0 turn.0 refl)
+
+-- the transaction after a front of a legal order
+pub legal_turn : (base : BaseTree) (o more : List Turn) (turn : Turn) → IsLegal base (o ++ turn ∷ more) → (turn.1 ≡ next_number o turn.0) × (turn.1 < count_of base.plan turn.0)
+legal_turn base o more turn legal =
+    let here = legal turn.0 in
+    let around = numbers_around o more turn in
+    let count : length (numbers_of turn.0 o) < length (numbers_of turn.0 (o ++ turn ∷ more)) = omega (arith, ap length around, length-append (numbers_of turn.0 o) (turn.1 ∷ numbers_of turn.0 more)) in
+    let stands : slice_get (numbers_of turn.0 (o ++ turn ∷ more)) (length (numbers_of turn.0 o)) ≡ Some turn.1 = ap (λ l. slice_get l (length (numbers_of turn.0 o))) around ∙ at_middle (numbers_of turn.0 o) (numbers_of turn.0 more) turn.1 in
+    let numbered : slice_get (numbers_of turn.0 (o ++ turn ∷ more)) (length (numbers_of turn.0 o)) ≡ Some (length (numbers_of turn.0 o)) = ap (λ l. slice_get l (length (numbers_of turn.0 o))) here.in_turn ∙ first_at (length (numbers_of turn.0 (o ++ turn ∷ more))) (length (numbers_of turn.0 o)) count in
+    let same : turn.1 ≡ length (numbers_of turn.0 o) = same_Some turn.1 (length (numbers_of turn.0 o)) (sym stands ∙ numbered) in
+    let planned = here.planned in
+    (same, omega (arith, same, count, planned))
+
+split_at : {X : Type 0} (xs : List X) (i : ℕ) (d : X) → i < length xs → xs ≡ take i xs ++ slice_index_or xs i d ∷ drop (suc i) xs
+split_at [] i d h = absurd (omega (arith, h))
+split_at (y ∷ ys) zero d h = refl
+split_at (y ∷ ys) (suc i) d h = ap (λ l. y ∷ l) (split_at ys i d (omega (arith, h)))
+
+pub next_of : (base : BaseTree) (pairs : List Pair) (i : ℕ) (d : Pair) → IsLegal base (turns_of pairs) → i < length pairs
+    → ((slice_index_or pairs i d).txn ≡ next_number (turns_of (take i pairs)) (slice_index_or pairs i d).shell) × ((slice_index_or pairs i d).txn < count_of base.plan (slice_index_or pairs i d).shell)
+next_of base pairs i d legal h =
+    let p = slice_index_or pairs i d in
+    legal_turn base (turns_of (take i pairs)) (turns_of (drop (suc i) pairs)) (turn_of p)
+    (subst (IsLegal base) (ap turns_of (split_at pairs i d h) ∙ map-append turn_of (take i pairs) (p ∷ drop (suc i) pairs)) legal)

@@ -1,0 +1,78 @@
+//! A reader of the filestore after all entries of a log.
+ghost use Rattle.std.specs.Prelude.{◌≡◌, ◌∷◌, ◌++◌, [], None, true, OnOk, OnErr, refl};
+ghost use Rattle.fx_view.specs.Reads.{read_at};
+ghost use Rattle.fx_replay_log.specs.Present.{AreNow};
+
+use fx_base::NoMemory;
+use fx_board::Board;
+use fx_store::{Node, Path};
+use fx_view::{Reader, Reads, Stop};
+use std::alloc::Global;
+
+/// A reader of what stands after all entries of a log. It vouches that each of its reads is of that filestore, and was made when
+/// the log had all its entries, where it was so at the start.
+#[derive(Drop)]
+pub(crate) struct Present<'a> {
+    pub board: &'a Board,
+    pub reads: Reads,
+}
+
+impl<'a> Present<'a> {
+    /// Nothing read yet.
+    pub fn new(alloc: Global, board: &'a Board) -> Present<'a>
+        ensures board { result.board.now ≡ board.now }
+        ensures reads { result.reads ≡ [] }
+    {
+        Present {
+            board,
+            reads: Reads::new(alloc),
+        }
+    }
+}
+
+/// Adds a look at a new path to the reads.
+fn note(
+    alloc: Global,
+    reads: &mut Reads,
+    path: &Path,
+    node: &Option<Node>,
+    position: u64,
+) -> Result<(), NoMemory>
+    requires { read_at reads.old path.now ≡ None }
+    ensures ok { OnOk result (reads.new ≡ reads.old ++ (path.now, (node.now, position)) ∷ []) }
+    ensures err { OnErr result (reads.new ≡ reads.old) }
+{
+    let path = path.copy(alloc)?;
+    let node = node.clone()?;
+    reads.add(alloc, path, node, position)
+}
+
+impl Reader for Present<'_> {
+    ghost meaning = { record {
+      reads = λ p. p.reads;
+      complete = λ _. true;
+      vouches = λ start now reads. AreNow start.board.now start.reads →
+          (now.board.now ≡ start.board.now) × AreNow now.board.now reads;
+    } };
+
+    fn read(&mut self, alloc: Global, path: &Path) -> Result<Option<Node>, Stop> {
+        if let Some((node, _)) = self.reads.get(path) {
+            return Ok(node.clone()?);
+        }
+        let (node, position) = self.board.look(alloc, path)?;
+        note(alloc, &mut self.reads, path, &node, position)?;
+        Ok(node)
+    }
+
+    fn reads(&self) -> &Reads {
+        &self.reads
+    }
+
+    fn take_reads(&mut self, alloc: Global) -> Reads {
+        let mut taken = Reads::new(alloc);
+        std::mem::swap(&mut self.reads, &mut taken);
+        taken
+    }
+
+    ghost begins = { λ reader now. (refl, now) };
+}
