@@ -63,10 +63,11 @@ report_unread j host host' fails.NoMemory reads inputs failed sink = no_memory j
 
 -- it has more bytes than its limit
 pub report_large : (j : AuditJob) (host host' : HostView) (text : List ℕ) → ReadsOnly host host' → IfSome host.told (λ t. HasInputs t j.inputs) → IfSome host.told (λ t. IsReadAt t j.report REPORT_LIMIT text) → REPORT_LIMIT < length text → AuditEndsAs j host host' (status.TextRefused REPORT_WORD fault.TooLarge)
-report_large j host host' text reads inputs read large sink =
-    (same host host' sink reads,
-    if_some_both (λ t. HasInputs t j.inputs) (λ t. IsReadAt t j.report REPORT_LIMIT text) (λ t. IsFirstRefusedOf t j REPORT_WORD fault.TooLarge) host.told
-    (λ t inputs read. inr (record { word = refl; cause = refl; inputs = inputs; large = record { file = read.file; large = longer (length text) (length (bytes_at t j.report)) large read.within } })) inputs read)
+report_large j host host' text reads inputs read large sink = (
+  same host host' sink reads,
+  if_some_both (λ t. HasInputs t j.inputs) (λ t. IsReadAt t j.report REPORT_LIMIT text) (λ t. IsFirstRefusedOf t j REPORT_WORD fault.TooLarge) host.told
+      (λ t inputs read. inr (record { word = refl; cause = refl; inputs = inputs; large = record { file = read.file; large = longer (length text) (length (bytes_at t j.report)) large read.within } })) inputs read,
+)
   where
     longer : (n m : ℕ) → REPORT_LIMIT < n → n ≤ m → REPORT_LIMIT < m
     longer n m h k = omega (arith, h, k)
