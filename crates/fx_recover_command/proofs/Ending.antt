@@ -61,10 +61,11 @@ order_unread j host host' base disk disk' status.ReadFault reads begins cause si
 order_unread j host host' base disk disk' status.NotEmpty reads begins cause sink = absurd cause
 order_unread j host host' base disk disk' status.WriteFault reads begins cause sink = absurd cause
 order_unread j host host' base disk disk' status.NoMemory reads begins cause sink = no_memory j host host' reads sink disk disk'
-order_unread j host host' base disk disk' (status.BadJournal place) reads begins cause sink =
-    (same host host' sink reads,
-    if_some_map (λ t. HasBase t j.inputs base) (λ t. IfSome disk.told (λ file. IsBad t j file place)) host.told
-    (λ t is. if_some_map (λ file. GoesWrong base file.seen place) (λ file. IsBad t j file place) disk.told (λ file wrong. (base, (is, wrong))) cause) begins)
+order_unread j host host' base disk disk' (status.BadJournal place) reads begins cause sink = (
+  same host host' sink reads,
+  if_some_map (λ t. HasBase t j.inputs base) (λ t. IfSome disk.told (λ file. IsBad t j file place)) host.told
+      (λ t is. if_some_map (λ file. GoesWrong base file.seen place) (λ file. IsBad t j file place) disk.told (λ file wrong. (base, (is, wrong))) cause) begins,
+)
 
 -- OUT cannot be written
 module _ (j : RecoverJob) (host host' : HostView) (base : BaseTree) (order : List Turn) (disk : DiskView) (is : IfSome host.told (λ t. HasOrder t j disk base order)) where
@@ -83,9 +84,10 @@ module _ (j : RecoverJob) (host host' : HostView) (base : BaseTree) (order : Lis
   unready (status.TextRefused word why) reads cause sink disk' = absurd cause
   unready (status.FolderRefused why) reads cause sink disk' = absurd cause
   unready status.ReadFault reads cause sink disk' = absurd cause
-  unready status.NotEmpty reads taken sink disk' =
-      (same host host' sink reads,
-      if_some_both (λ t. HasOrder t j disk base order) (λ t. IsTaken t j.out) (λ t. HasSomeOrder t j disk × IsTaken t j.out) host.told (λ t has taken. ((base, (order, has)), taken)) is taken)
+  unready status.NotEmpty reads taken sink disk' = (
+    same host host' sink reads,
+    if_some_both (λ t. HasOrder t j disk base order) (λ t. IsTaken t j.out) (λ t. HasSomeOrder t j disk × IsTaken t j.out) host.told (λ t has taken. ((base, (order, has)), taken)) is taken,
+  )
   unready status.WriteFault reads failed sink disk' = inl (record { cause = unready_cause failed; unprinted = refl; left = untouched reads })
   unready status.NoMemory reads cause sink disk' = no_memory j host host' reads sink disk disk'
   unready (status.BadJournal place) reads cause sink disk' = absurd cause
@@ -161,7 +163,7 @@ module _ (j : RecoverJob) (nodes : Nodes) (output : List ℕ) (there : Bool) (ho
   all_done sink sink' saved whole = (
     grows_all sink sink' output whole,
     if_told_map (λ t t'. IsSaved t t' (parts j.out) nodes) (λ t t'. IsDone t t' j disk sink.written sink'.written) (λ t. IsAnswered t j disk nodes output there) host.told host'.told
-    (λ t t' is saved. record { nodes = nodes; output = output; there = there; outcome = is.outcome; free = is.free; saved = saved; written = whole }) is saved,
+        (λ t t' is saved. record { nodes = nodes; output = output; there = there; outcome = is.outcome; free = is.free; saved = saved; written = whole }) is saved,
   )
 
 -- ---- fit paths

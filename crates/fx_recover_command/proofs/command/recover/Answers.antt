@@ -42,10 +42,11 @@ returns-clause-row g c =
     let disk = g.D.Disk.view c.args.disk.now in
     let disk' = g.D.Disk.view c.read_order.new.disk in
     let base = base_tree c.in_ok-base.base.value in
-    let order = turns_of c.in_ok-order.order in
-    (c.in_ok-order.ensures.same,
-    end_back j a b d sink sink' disk disk' (status_of c.leave.result) c.in_ok-base.ensures.same
-    (c.leave.ensures.end disk disk' (has_order j base order a b disk c.in_ok-base.ensures.same c.in_ok-base.ensures.read c.in_ok-order.ensures.read c.in_ok-order.ensures.legal)))
+    let order = turns_of c.in_ok-order.order in (
+      c.in_ok-order.ensures.same,
+      end_back j a b d sink sink' disk disk' (status_of c.leave.result) c.in_ok-base.ensures.same
+          (c.leave.ensures.end disk disk' (has_order j base order a b disk c.in_ok-base.ensures.same c.in_ok-base.ensures.read c.in_ok-order.ensures.read c.in_ok-order.ensures.legal)),
+    )
 
 pub returns-clause-fit : goal.returns-clause-fit
 returns-clause-fit g c = λ fit. c.leave.ensures.fit (fit_out (asked_recover c.args.job.now) fit) ∙ c.in_ok-base.ensures.fit (fit_inputs (asked_recover c.args.job.now) fit)
