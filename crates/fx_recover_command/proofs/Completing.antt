@@ -12,6 +12,7 @@ use Rattle.fx_table.specs.declared.fault.FolderCause.{FolderCause}
 use Rattle.fx_store.specs.Whole.{Nodes}
 use Rattle.fx_spec.specs.CommandTree.{CommandTree}
 use Rattle.fx_spec.specs.Plans.{Turn}
+use Rattle.fx_spec.specs.Order.{IsLegal}
 use Rattle.fx_command.specs.declared.status.Status.{Status}
 use Rattle.fx_command.specs.declared.status.TextFault.{TextFault}
 use Rattle.fx_command.specs.declared.status.Status.TheVariants as status
@@ -55,10 +56,10 @@ not_broken : (place : ℕ) (order : List Turn) (image : List ℕ) → Spells ord
 not_broken place order image spells breaks = let both : Some order ≡ value_of (Err place) = sym spells ∙ ap value_of breaks in cc
 
 not_bad : (t : Tree) (j : RecoverJob) (disk : DiskView) (has : HasJournal t j disk) (place : ℕ) → IsBad t j has.file place → ⊥
-not_bad t j disk has place (base, (begins, inl breaks)) = not_broken place has.order has.file.seen has.spelled breaks
-not_bad t j disk has place (base, (begins, inr (order, (spells, illegal)))) =
+not_bad t j disk has place (base, begins, inl breaks) = not_broken place has.order has.file.seen has.spelled breaks
+not_bad t j disk has place (base, begins, inr (order, spells, illegal)) =
     let same : has.order ≡ order = same_Some has.order order (sym has.spelled ∙ spells) in
-    illegal.here (legal_take base order (place + 1) (subst (λ o. Rattle.fx_spec.specs.Order.IsLegal base o) same (has.legal base begins)))
+    illegal.here (legal_take base order (place + 1) (subst (λ o. IsLegal base o) same (has.legal base begins)))
 
 not_other : (t : Tree) (j : RecoverJob) (disk : DiskView) → HasJournal t j disk → TellsOther disk j.journal → ⊥
 not_other t j disk has other = subst (λ o. IsSomeAnd o (λ file. file.path ≡ j.journal → ⊥)) has.told other has.path

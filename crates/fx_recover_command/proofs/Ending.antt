@@ -64,7 +64,7 @@ order_unread j host host' base disk disk' status.NoMemory reads begins cause sin
 order_unread j host host' base disk disk' (status.BadJournal place) reads begins cause sink = (
   same host host' sink reads,
   if_some_map (λ t. HasBase t j.inputs base) (λ t. IfSome disk.told (λ file. IsBad t j file place)) host.told
-      (λ t is. if_some_map (λ file. GoesWrong base file.seen place) (λ file. IsBad t j file place) disk.told (λ file wrong. (base, (is, wrong))) cause) begins,
+      (λ t is. if_some_map (λ file. GoesWrong base file.seen place) (λ file. IsBad t j file place) disk.told (λ file wrong. (base, is, wrong)) cause) begins,
 )
 
 -- OUT cannot be written
@@ -72,11 +72,11 @@ module _ (j : RecoverJob) (host host' : HostView) (base : BaseTree) (order : Lis
   untouched : ReadsOnly host host' → IfTold host.told host'.told (λ t t'. HasSomeOrder t j disk × MayHoldPart j disk t t')
   untouched reads =
       if_told_same (λ t t'. HasSomeOrder t j disk × MayHoldPart j disk t t') host.told host'.told reads.same
-      (if_some_map (λ t. HasOrder t j disk base order) (λ t. HasSomeOrder t j disk × MayHoldPart j disk t t) host.told (λ t has. ((base, (order, has)), inl refl)) is)
+      (if_some_map (λ t. HasOrder t j disk base order) (λ t. HasSomeOrder t j disk × MayHoldPart j disk t t) host.told (λ t has. ((base, order, has), inl refl)) is)
 
   unready_cause : HasFailed (FaultIn j.out) (λ _. is_fit j.out) host host' → FaultIn j.out host host' ⊎ IsSomeAnd host.told (λ t. CannotSave t j disk)
   unready_cause (inl fault) = inl fault
-  unready_cause (inr unfit) = inr (some_and (λ t. HasOrder t j disk base order) (λ t. is_fit j.out ≡ false) (λ t. CannotSave t j disk) host.told (λ t has unfit. ((base, (order, has)), inl unfit)) is unfit)
+  unready_cause (inr unfit) = inr (some_and (λ t. HasOrder t j disk base order) (λ t. is_fit j.out ≡ false) (λ t. CannotSave t j disk) host.told (λ t has unfit. ((base, order, has), inl unfit)) is unfit)
 
   pub unready : (st : Status) → ReadsOnly host host' → IsUnready j.out host host' st → (sink : SinkView) (disk' : DiskView) → RecoverEnd j host host' sink sink disk disk' st
   unready status.Done reads cause sink disk' = absurd cause
@@ -86,7 +86,7 @@ module _ (j : RecoverJob) (host host' : HostView) (base : BaseTree) (order : Lis
   unready status.ReadFault reads cause sink disk' = absurd cause
   unready status.NotEmpty reads taken sink disk' = (
     same host host' sink reads,
-    if_some_both (λ t. HasOrder t j disk base order) (λ t. IsTaken t j.out) (λ t. HasSomeOrder t j disk × IsTaken t j.out) host.told (λ t has taken. ((base, (order, has)), taken)) is taken,
+    if_some_both (λ t. HasOrder t j disk base order) (λ t. IsTaken t j.out) (λ t. HasSomeOrder t j disk × IsTaken t j.out) host.told (λ t has taken. ((base, order, has), taken)) is taken,
   )
   unready status.WriteFault reads failed sink disk' = inl (record { cause = unready_cause failed; unprinted = refl; left = untouched reads })
   unready status.NoMemory reads cause sink disk' = no_memory j host host' reads sink disk disk'
@@ -126,7 +126,7 @@ end_back j a b c sink sink' disk disk' (status.BadJournal place) reads row = (sa
 -- ---- the last stage
 
 some_order : (t : Tree) (j : RecoverJob) (disk : DiskView) (nodes : Nodes) (output : List ℕ) → IsOutcome t j disk nodes output → HasSomeOrder t j disk
-some_order t j disk nodes output is = (is.base, (is.order, is.read))
+some_order t j disk nodes output is = (is.base, is.order, is.read)
 
 module _ (j : RecoverJob) (nodes : Nodes) (output : List ℕ) (there : Bool) (host host' : HostView) (disk disk' : DiskView) (is : IfSome host.told (λ t. IsAnswered t j disk nodes output there)) where
   part_there : SavesPart j.out nodes host host' → IfTold host.told host'.told (λ t t'. HasSomeOrder t j disk × MayHoldPart j disk t t')

@@ -11,7 +11,7 @@ ghost use Rattle.fx_recover_command.specs.Recovered.{HasOrder};
 ghost use Rattle.fx_recover_command.specs.Rows.{RecoverEnd, RecoverRow, RecoverAsksFit};
 
 use crate::journal::read_order;
-use crate::replaying::{recovered, save_and_print};
+use crate::replaying::{replayed, save_and_print};
 use fx_command::Status;
 use fx_durable::{Disk, Pairs};
 use fx_inputs::read_base;
@@ -40,7 +40,7 @@ fn leave<H: Host, S: Sink>(
     ensures fit { AsksFit (asked_recover job.now).out (H.view host.old) (H.view host.new) }
 {
     let there = ready_out(alloc, job.out, host)?;
-    let recovered = recovered(alloc, base, order)?;
+    let recovered = replayed(alloc, base, order)?;
     save_and_print(alloc, job, there, &recovered, host, out)
 }
 

@@ -44,7 +44,7 @@ fn line_of(alloc: Global, count: u64) -> Result<Vec<u8>, NoMemory>
 }
 
 /// Runs the transactions of a legal order whole, one after another, on the loaded filestore.
-pub(crate) fn recovered(
+pub(crate) fn replayed(
     alloc: Global,
     base: &Arc<Base>,
     order: &Pairs,
