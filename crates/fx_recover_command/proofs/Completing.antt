@@ -1,8 +1,7 @@
 -- With all that `recover` reads in order, and no fault of host, sink or disk, it is done, or memory runs out.
-use Rattle.std.proofs.Common.{◌≡◌, ◌⊎◌, inl, inr, ℕ, ◌+◌, length, subst, List, [], ◌∷◌, Option, Some, Ok, Err, IfSome, IsSomeAnd, refl, sym, ◌∙◌, ap}
+use Rattle.std.proofs.Common.{◌≡◌, ◌⊎◌, inl, inr, ℕ, ◌+◌, length, subst, List, [], ◌∷◌, Some, Ok, Err, IfSome, IsSomeAnd, refl, sym, ◌∙◌, ap}
 use Rattle.std.proofs.lemmas.Option.{same_Some}
 use Rattle.fx_base.specs.Causes.{Rose}
-use Rattle.fx_base.specs.Limits.{txn_limit}
 use Rattle.fx_outside.specs.Host.{HostView, FaultIn}
 use Rattle.fx_outside.specs.Sink.{SinkView}
 use Rattle.fx_outside.specs.Tree.{Tree, is_file_at, is_folder_at}
@@ -20,8 +19,8 @@ use Rattle.fx_making.proofs.Outs.{two, not_taken, can_write}
 use Rattle.fx_inputs.specs.Inputs.{HasTexts, HasInputs, CannotRead, IsFirstRefused, HasScript, HasNoScript, HasScripts, StopsAtScript, LacksFile}
 use Rattle.fx_inputs.proofs.ReadRows.{read_fault_rose}
 use Rattle.fx_words.specs.Job.{Inputs, RecoverJob}
-use Rattle.fx_durable.specs.Disk.{DiskView, File, TellsOther}
-use Rattle.fx_durable.specs.Journal.{reading, value_of, Spells, Breaks}
+use Rattle.fx_durable.specs.Disk.{DiskView, TellsOther}
+use Rattle.fx_durable.specs.Journal.{value_of, Spells, Breaks}
 use Rattle.fx_recover_command.specs.Recovered.{HasSomeOrder, IsBad}
 use Rattle.fx_recover_command.specs.Rows.{RecoverReadFault, RecoverEnd, RecoverRow, CannotSave, HasJournal, IsProperRecover}
 use Rattle.fx_recover_command.proofs.Counting.{legal_take}

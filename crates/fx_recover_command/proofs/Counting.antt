@@ -1,17 +1,17 @@
 -- Legal orders, one transaction more at a time.
-use Rattle.std.proofs.Common.{◌≡◌, ◌≢◌, ℕ, zero, suc, ◌+◌, ◌<◌, ◌≤◌, Bool, true, false, nat_eq, nat_lt, List, [], ◌∷◌, ◌++◌, length, take, drop, get_or, set, map, replicate, slice_get, Some, refl, sym, ap, subst, ◌∙◌, arith, add-one, length-append, take-append-drop}
+use Rattle.std.proofs.Common.{◌≡◌, ℕ, zero, suc, ◌+◌, ◌<◌, ◌≤◌, Bool, true, false, nat_eq, nat_lt, List, [], ◌∷◌, ◌++◌, length, take, drop, get_or, set, map, replicate, slice_get, Some, refl, sym, ap, subst, ◌∙◌, arith, add-one, length-append, take-append-drop}
 use Rattle.std.specs.Prelude.{slice_index_or}
 use Rattle.std.proofs.Math.Seq.{take-length}
 use Rattle.std.proofs.lemmas.Bool.{eqb-true, eqb-false, ltb-true, ltb-false}
 use Rattle.std.proofs.lemmas.List.{length-map, map-append, get_or-set_same, get_or-set_other, length-set, take_at, drop_at, take_all, take-append-le}
 use Rattle.std.proofs.lemmas.List.Elements.{filter_map-append}
 use Rattle.std.proofs.lemmas.Option.{same_Some, none-some, slice_get_within, slice_get-get_or}
-use Rattle.fx_spec.specs.Plans.{Turn, count_of, script_of}
+use Rattle.fx_spec.specs.Plans.{Turn, count_of}
 use Rattle.fx_spec.specs.Order.{BaseTree, IsLegal, number_in, numbers_of, first_numbers}
 use Rattle.fx_spec.proofs.Orders.{legal_none, legal-next, numbers_own, numbers_other}
 use Rattle.fx_machine.specs.declared.entry.Pair.{Pair}
 use Rattle.fx_durable.specs.Journal.{turn_of, turns_of}
-use Rattle.fx_recover_command.specs.Orders.{IsFirstIllegal, count_in, AreCounts, IsNextIn, AddsNext}
+use Rattle.fx_recover_command.specs.Orders.{IsFirstIllegal, count_in, AreCounts, IsNextIn}
 
 -- ---- lists
 

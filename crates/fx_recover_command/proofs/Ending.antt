@@ -1,5 +1,5 @@
 -- How `recover` ends, from what its stages ensure.
-use Rattle.std.proofs.Common.{◌≡◌, ◌⊎◌, inl, inr, ℕ, Bool, true, false, List, ◌++◌, length, take, Option, Some, None, IfSome, IsSomeAnd, refl, subst, ◌∙◌, sym, ap}
+use Rattle.std.proofs.Common.{◌≡◌, ◌⊎◌, inl, inr, ℕ, Bool, true, false, List, ◌++◌, length, take, Option, Some, None, IfSome, IsSomeAnd, refl, subst}
 use Rattle.fx_base.specs.Causes.{Rose}
 use Rattle.fx_store.specs.Whole.{Nodes}
 use Rattle.fx_outside.specs.Host.{HostView, ReadsOnly, FaultIn, HasFailed}
@@ -18,11 +18,11 @@ use Rattle.fx_command.specs.StatusOf.{save_status}
 use Rattle.fx_command.proofs.Told.{if_some_map, if_some_both, some_and, if_told_same, if_told_map, some_unit, same, grows_front, grows_all, cause_back, told_back, some_back, same_back, left_true, right_true}
 use Rattle.fx_making.specs.Out.{IsUnready}
 use Rattle.fx_inputs.specs.Inputs.{HasBase, HasInputs, CannotRead}
-use Rattle.fx_inputs.specs.Reads.{HasReadFault, ReadRow, has_fit_inputs}
+use Rattle.fx_inputs.specs.Reads.{ReadRow, has_fit_inputs}
 use Rattle.fx_inputs.proofs.ReadRows.{read_fault_back}
 use Rattle.fx_inputs.proofs.Stages.{then_told}
 use Rattle.fx_words.specs.Job.{RecoverJob}
-use Rattle.fx_durable.specs.Disk.{DiskView, File}
+use Rattle.fx_durable.specs.Disk.{DiskView}
 use Rattle.fx_durable.specs.Journal.{Spells}
 use Rattle.fx_recover_command.specs.Recovered.{recovered_line, HasOrder, HasSomeOrder, IsOutcome, IsAnswered, IsBad}
 use Rattle.fx_recover_command.specs.Rows.{MayHoldPart, IsDone, IsCutShort, RecoverReadFault, CannotSave, RecoverEnd, has_fit_recover}

@@ -1,5 +1,5 @@
 -- How `recover` ends where the journal is not read, or does not spell a legal order.
-use Rattle.std.specs.Prelude.{◌≡◌, ◌⊎◌, ℕ, List, IfSome, ⊤}
+use Rattle.std.specs.Prelude.{◌⊎◌, ℕ, List, IfSome, ⊤}
 use Rattle.fx_base.specs.Causes.{Rose}
 use Rattle.fx_spec.specs.Plans.{Turn}
 use Rattle.fx_spec.specs.Order.{BaseTree}

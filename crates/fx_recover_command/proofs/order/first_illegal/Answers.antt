@@ -1,4 +1,4 @@
-use Rattle.std.proofs.Common.{◌∷◌, ◌++◌, [], take, length, get_or, refl, arith, sym, subst, ap, ◌∙◌}
+use Rattle.std.proofs.Common.{take, length, get_or, sym, subst, ap, ◌∙◌}
 use Rattle.fx_spec.specs.Bases.{base_tree}
 use Rattle.fx_machine.specs.declared.entry.Pair.{Pair}
 use Rattle.fx_durable.specs.Journal.{turn_of, turns_of}
