@@ -1,12 +1,11 @@
 -- What the records of an order spell.
-use Rattle.std.proofs.Common.{◌≡◌, ◌≢◌, ◌==◌, inl, inr, ℕ, zero, suc, ◌+◌, ◌*◌, ◌≤◌, ◌<◌, List, [], ◌∷◌, ◌++◌, length, take, drop, refl, sym, ◌∙◌, ap, subst, arith, Ok, Some, true, false}
+use Rattle.std.proofs.Common.{◌≡◌, ◌≢◌, ℕ, zero, suc, ◌*◌, ◌≤◌, List, [], ◌∷◌, ◌++◌, length, refl, ◌∙◌, ap, arith, Ok, false}
 use Rattle.std.specs.Prelude.{All, nat_lt}
-use Rattle.std.specs.Int.{w32, to_be_bytes, from_be_bytes}
 use Rattle.std.proofs.lemmas.List.Elements.{All-head, All-tail}
 use Rattle.std.proofs.lemmas.Nat.{from_be_bytes-to_be_bytes_4}
 use Rattle.std.proofs.lemmas.Bool.Decides.{nat_tests}
 use Rattle.fx_base.specs.Limits.{txn_limit}
-use Rattle.fx_durable.specs.Journal.{payload, turn_in, before, reading, value_of, spelled, records, at_rest, FitsRecord, Spells}
+use Rattle.fx_durable.specs.Journal.{payload, turn_in, before, reading, value_of, records, at_rest, FitsRecord, Spells}
 use Rattle.fx_spec.specs.Plans.{Turn}
 
 pub length-records : (order : List Turn) → length (records order) ≡ 9 * length order

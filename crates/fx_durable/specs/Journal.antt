@@ -1,6 +1,6 @@
 -- What the bytes of a journal spell. A record has nine: a gate, and the numbers of a shell and of a transaction, each as four bytes
 -- of which the highest comes first.
-use Rattle.std.specs.Prelude.{true, false, ◌≡◌, ◌⊎◌, ◌==◌, ◌<◌, ◌≤◌, ◌+◌, ◌^◌, ℕ, zero, suc, List, [], ◌∷◌, ◌++◌, length, take, drop, if◌then◌else◌, nat_lt, Bool, Option, Some, None, Result, Ok, Err, IfSome, IsSomeAnd, All, map}
+use Rattle.std.specs.Prelude.{false, ◌≡◌, ◌⊎◌, ◌==◌, ◌<◌, ◌≤◌, ◌+◌, ◌^◌, ℕ, zero, suc, List, [], ◌∷◌, ◌++◌, length, take, drop, if◌then◌else◌, nat_lt, Bool, Option, Some, None, Result, Ok, Err, IfSome, IsSomeAnd, All, map}
 use Rattle.std.specs.Int.{w32, to_be_bytes, from_be_bytes}
 use Rattle.fx_base.specs.Causes.{Rose}
 use Rattle.fx_base.specs.Limits.{txn_limit}

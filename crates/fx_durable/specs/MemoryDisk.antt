@@ -1,5 +1,5 @@
 -- What a disk in memory tells: what its record of calls makes of an empty file.
-use Rattle.std.specs.Prelude.{◌≡◌, ◌+◌, ◌<◌, ◌||◌, ℕ, Bool, true, false, not, List, [], ◌∷◌, ◌++◌, length, take, drop, nat_lt, Some, IfSome, refl, Result, Ok, Err}
+use Rattle.std.specs.Prelude.{◌≡◌, ◌+◌, ◌<◌, ◌||◌, ℕ, Bool, true, false, not, List, [], ◌∷◌, ◌++◌, length, nat_lt, Some, IfSome, refl, Result, Ok, Err}
 use Rattle.fx_outside.specs.Calls.{Plan, is_next_failing}
 use Rattle.fx_durable.specs.Disk.{File, DiskView, MayLeave, torn}
 use Rattle.fx_durable.specs.Replay.{no_file, replay}

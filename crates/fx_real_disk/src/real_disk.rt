@@ -66,11 +66,7 @@ fn unchosen() -> io::Error {
     io::Error::from(ErrorKind::NotFound)
 }
 
-fn read_chosen<F: Read + Seek>(
-    file: &mut Option<F>,
-    from: u64,
-    buf: &mut [u8],
-) -> io::Result<usize>
+fn read_chosen<F: Read + Seek>(file: &mut Option<F>, from: u64, buf: &mut [u8]) -> io::Result<usize>
     ensures { IfOk result (λ n. n ≤ length buf.new) }
 {
     match file {

@@ -1,7 +1,6 @@
-use Rattle.std.proofs.Common.{◌≡◌, sym, ◌∙◌, ap, Err, subst}
-use Rattle.fx_base.proofs.Errors.{err_of}
+use Rattle.std.proofs.Common.{subst}
 use Rattle.fx_durable.specs.Journal.{Reads}
-use Rattle.fx_durable.proofs.Spelling.{reads_told, unread_reads}
+use Rattle.fx_durable.proofs.Spelling.{reads_told}
 use Rattle.fx_durable.proofs.reading.read_journal.Goals as goal
 
 pub returns-clause-reads : goal.returns-clause-reads

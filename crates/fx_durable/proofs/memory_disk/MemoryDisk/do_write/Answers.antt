@@ -1,4 +1,4 @@
-use Rattle.std.proofs.Common.{refl, sym, ◌∙◌, ap, arith, [], ◌∷◌, length, take, length-append, ◌≡◌, ◌+◌, ◌≤◌}
+use Rattle.std.proofs.Common.{refl, sym, ◌∙◌, ap, arith, [], ◌∷◌, length, length-append, ◌≡◌, ◌+◌, ◌≤◌}
 use Rattle.fx_durable.specs.Disk.{with_bytes}
 use Rattle.fx_durable.specs.Replay.{no_file, replay}
 use Rattle.fx_durable.specs.declared.disk_call.DiskCall.TheVariants as call

@@ -1,4 +1,4 @@
-use Rattle.std.proofs.Common.{refl, sym, ◌∙◌, ap, arith, [], ◌∷◌, length, length-append, ◌≡◌, ◌+◌, inr}
+use Rattle.std.proofs.Common.{◌∙◌, ap, arith, [], ◌∷◌, length, length-append, ◌≡◌, ◌+◌, inr}
 use Rattle.fx_durable.proofs.Replays.{idle_is, idle_spends, idle_placed, idle_seen}
 use Rattle.fx_durable.proofs.memory_disk.MemoryDisk.log.Goals as goal
 

@@ -1,4 +1,4 @@
-use Rattle.std.proofs.Common.{◌≡◌, refl, sym, ◌∙◌, ap, arith, inl, inr, [], length, ◌+◌, ◌-◌, ◌^◌, ◌≤◌}
+use Rattle.std.proofs.Common.{◌≡◌, refl, sym, ◌∙◌, ap, arith, inl, inr, length}
 use Rattle.fx_durable.specs.Replay.{no_file, replay}
 use Rattle.fx_durable.specs.declared.disk_call.DiskCall.TheVariants as call
 use Rattle.fx_durable.proofs.Replays.{path_stays, idle_file}
