@@ -1,6 +1,6 @@
 -- How a recorded run ends.
-use Rattle.std.proofs.Common.{◌≡◌, ◌⊎◌, inl, inr, ⊎_elim, ℕ, ◌+◌, ◌≤◌, ◌<◌, List, [], ◌∷◌, ◌++◌, length, take, Option, Some, None, refl, sym, ◌∙◌, ap, subst, arith}
-use Rattle.std.specs.Prelude.{IfSome, false, true}
+use Rattle.std.proofs.Common.{◌≡◌, ◌⊎◌, inl, inr, ⊎_elim, ℕ, ◌≤◌, ◌<◌, List, [], ◌∷◌, ◌++◌, length, take, Option, Some, None, refl, sym, ◌∙◌, ap, subst, arith}
+use Rattle.std.specs.Prelude.{IfSome}
 use Rattle.std.proofs.lemmas.Bool.{cases_lt}
 use Rattle.std.proofs.lemmas.List.{append-nil, take_all}
 use Rattle.fx_outside.specs.Sink.{SinkView}
@@ -18,16 +18,16 @@ use Rattle.fx_durable.specs.Journal.{JournalView, RestsAt}
 use Rattle.fx_durable.proofs.Moments.{only_now}
 use Rattle.fx_report.specs.Events.{event_line, lines}
 use Rattle.fx_sched.specs.Running.{Running}
-use Rattle.fx_sched.specs.Taking.{HadSome, a_start, HasEndedSomewhere}
+use Rattle.fx_sched.specs.Taking.{a_start, HasEndedSomewhere}
 use Rattle.fx_sched.specs.declared.taking.Ended.{Ended}
 use Rattle.fx_sched.specs.declared.taking.Ended.TheVariants as end
 use Rattle.fx_sched.specs.Traced.{IsTraced}
 use Rattle.fx_sched.specs.World as World
 use Rattle.fx_journaling.specs.declared.fault.RecordFault.{RecordFault}
 use Rattle.fx_journaling.specs.declared.fault.RecordFault.TheVariants as fault
-use Rattle.fx_journaling.specs.Kept.{SpellsFront, HasAtMostOneMore, IfFile, HoldsOrder, LeavesEither, KeepsOrder, IsHeld, RestsWhileGood, order_seen}
-use Rattle.fx_journaling.specs.Written.{HasWrittenEvents, IsPartOfLine}
-use Rattle.fx_journaling.specs.Taken.{Beginning, beginning, HasGrown, HasTaken, HasRefused}
+use Rattle.fx_journaling.specs.Kept.{HasAtMostOneMore, IfFile, HoldsOrder, LeavesEither, KeepsOrder, RestsWhileGood, order_seen}
+use Rattle.fx_journaling.specs.Written.{IsPartOfLine}
+use Rattle.fx_journaling.specs.Taken.{Beginning, beginning, HasTaken, HasRefused}
 use Rattle.fx_journaling.specs.Recorded.{IsStarted, HasRecorded, HasBrokenOff, fault_in}
 use Rattle.fx_journaling.proofs.Holding.{holds_leaves, if_file_map, spells_rested, rests_as_seen}
 use Rattle.fx_journaling.proofs.Taking.{lines_more, grown_none, grown_as, run_more}

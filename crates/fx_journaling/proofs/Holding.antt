@@ -1,16 +1,16 @@
 -- How the order that a journal holds grows by one entry, on a told file.
 use Rattle.std.proofs.Common.{◌≡◌, ◌⊎◌, inl, inr, ⊎_elim, ℕ, ◌+◌, ◌≤◌, ◌<◌, List, [], ◌∷◌, ◌++◌, length, Option, Some, None, refl, sym, ◌∙◌, ap, subst, arith, append_assoc, length-append}
-use Rattle.std.specs.Prelude.{IfSome, IsSomeAnd, All}
+use Rattle.std.specs.Prelude.{IfSome, IsSomeAnd}
 use Rattle.std.specs.Option.{unwrap_or}
 use Rattle.std.proofs.lemmas.List.{append-nil}
 use Rattle.fx_base.specs.Limits.{txn_limit}
 use Rattle.fx_spec.specs.Plans.{Turn}
 use Rattle.fx_spec.specs.Order.{BaseTree, IsLegal}
 use Rattle.fx_durable.specs.Disk.{Step, File, MayLeave, LeftSince, GoesOn, LeavesOnly, StaysTold, moment}
-use Rattle.fx_durable.specs.Journal.{RestsAt, Spells, IsBeforeOrAfter, spelled, at_rest}
+use Rattle.fx_durable.specs.Journal.{RestsAt, Spells, IsBeforeOrAfter}
 use Rattle.fx_durable.proofs.Moments.{since_before, goes_over}
 use Rattle.fx_durable.proofs.Records.{spells_closed}
-use Rattle.fx_journaling.specs.Kept.{SpellsLegal, SpellsFront, LeavesEither, HoldsOrder, KeepsOrder, IfFile, MayAdd, order_seen}
+use Rattle.fx_journaling.specs.Kept.{SpellsLegal, SpellsFront, LeavesEither, HoldsOrder, IfFile, MayAdd, order_seen}
 
 -- what a crash leaves now it leaves since any moment
 pub at_present : (start : ℕ) (steps : List Step) (image : List ℕ) → MayLeave steps image → LeftSince start steps image

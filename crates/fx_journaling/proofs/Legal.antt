@@ -1,16 +1,14 @@
 -- Images that spell a legal order are good.
-use Rattle.std.proofs.Common.{◌≡◌, ℕ, zero, suc, ◌+◌, ◌≤◌, ◌<◌, List, [], ◌∷◌, ◌++◌, length, take, drop, Option, Some, None, Ok, Err, refl, sym, ◌∙◌, ap, subst, arith, length-append, ⊎_elim}
+use Rattle.std.proofs.Common.{◌≡◌, ℕ, zero, suc, ◌+◌, ◌≤◌, ◌<◌, List, [], ◌∷◌, ◌++◌, length, take, drop, refl, sym, ◌∙◌, ap, subst, arith, length-append, ⊎_elim}
 use Rattle.std.proofs.lemmas.Bool.{cases_lt}
 use Rattle.std.proofs.lemmas.List.{take-append-drop, take-append-le, take_at}
 use Rattle.std.proofs.lemmas.List.Elements.{filter_map-append}
 use Rattle.std.proofs.lemmas.Option.{same_Some, none-some}
 use Rattle.std.proofs.Math.Seq.{take-length}
-use Rattle.fx_base.specs.Limits.{txn_limit}
-use Rattle.fx_spec.specs.Plans.{Turn, count_of}
-use Rattle.fx_spec.specs.Order.{BaseTree, IsLegal, IsLegalFor, number_in, numbers_of, first_numbers}
-use Rattle.fx_durable.specs.Journal.{Spells, Breaks, reading, value_of}
-use Rattle.fx_journaling.specs.Kept.{SpellsLegal}
-use Rattle.fx_journaling.specs.Laws.{IsBad, breaks, illegal, LegalImagesAreGood}
+use Rattle.fx_spec.specs.Plans.{Turn}
+use Rattle.fx_spec.specs.Order.{BaseTree, IsLegal, number_in, numbers_of, first_numbers}
+use Rattle.fx_durable.specs.Journal.{Spells, Breaks, value_of}
+use Rattle.fx_journaling.specs.Laws.{breaks, illegal, LegalImagesAreGood}
 
 length_first : (n : ℕ) → length (first_numbers n) ≡ n
 length_first zero = refl

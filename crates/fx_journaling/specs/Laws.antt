@@ -1,5 +1,5 @@
 -- Laws of what a journal keeps.
-use Rattle.std.specs.Prelude.{◌≡◌, ◌<◌, ◌+◌, ℕ, List, length, take}
+use Rattle.std.specs.Prelude.{◌<◌, ◌+◌, ℕ, List, length, take}
 use Rattle.fx_spec.specs.Plans.{Turn}
 use Rattle.fx_spec.specs.Order.{BaseTree, IsLegal}
 use Rattle.fx_durable.specs.Journal.{Spells, Breaks}

@@ -1,8 +1,8 @@
-use Rattle.std.proofs.Common.{◌≡◌, [], refl, sym, ◌∙◌, subst}
+use Rattle.std.proofs.Common.{◌≡◌, [], refl, sym, subst}
 use Rattle.fx_spec.specs.Bases.{base_tree}
 use Rattle.fx_sched.specs.World.{began}
 use Rattle.fx_journaling.specs.Taken.{Beginning, HasTaken, HasRefused}
-use Rattle.fx_journaling.specs.Recorded.{HasBrokenOff, fault_in}
+use Rattle.fx_journaling.specs.Recorded.{HasBrokenOff}
 use Rattle.fx_journaling.proofs.Ending.{begun, recorded, ended}
 use Rattle.fx_journaling.proofs.recording.play_with.Goals as goal
 

@@ -1,9 +1,9 @@
-use Rattle.std.proofs.Common.{◌≡◌, List, [], ◌∷◌, ◌++◌, refl, sym, subst}
+use Rattle.std.proofs.Common.{◌≡◌, sym, subst}
 use Rattle.std.specs.Prelude.{IfErr}
 use Rattle.fx_base.proofs.Errors.{err_of}
 use Rattle.fx_journaling.specs.declared.fault.RecordFault.{RecordFault}
 use Rattle.fx_journaling.specs.declared.fault.RecordFault.TheVariants as fault
-use Rattle.fx_journaling.specs.Taken.{HasTaken, HasRefused, HasGrown, TellCause}
+use Rattle.fx_journaling.specs.Taken.{HasRefused, HasGrown, TellCause}
 use Rattle.fx_report.specs.Events.{event_line}
 use Rattle.fx_journaling.proofs.Taking.{reached, held_before, taken_more, refused_keep, refused_tell, on_ok_map, if_err_map}
 use Rattle.fx_journaling.proofs.recorder.RecorderTaker.take.Goals as goal
