@@ -128,10 +128,9 @@ module _ (base : BaseTree) (schedule : List ℕ) (disk disk' : DiskView) (sink s
     broken = ⊎_elim
         (λ lost. cut (inl (ap (λ n. take n (event_line e)) lost.0)) lost.1)
         (λ held.
-            ⊎_elim
-            (λ (short : refused.count < length (event_line e)). cut (inr (record { next = e; after = running.machine; step = refused.step; turns = begins; count = refused.count; short = short; is = refl })) (held_leaves refused.before.order running.machine.order held))
-            (λ (all : length (event_line e) ≤ refused.count). whole all held) (cases_lt refused.count (length (event_line e)))) refused.told
-
+        ⊎_elim
+        (λ (short : refused.count < length (event_line e)). cut (inr (record { next = e; after = running.machine; step = refused.step; turns = begins; count = refused.count; short = short; is = refl })) (held_leaves refused.before.order running.machine.order held))
+        (λ (all : length (event_line e) ≤ refused.count). whole all held) (cases_lt refused.count (length (event_line e)))) refused.told
 
 -- ---- nothing has come yet
 

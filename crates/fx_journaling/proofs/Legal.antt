@@ -19,8 +19,8 @@ take_first n zero h = let none : n ≡ 0 = omega (arith, h) in subst (λ n. take
 take_first n (suc k) h = ⊎_elim
     (λ (l : n < suc k). take-append-le n (first_numbers k) (k ∷ []) (omega (arith, l, length_first k)) ∙ take_first n k (omega (arith, l)))
     (λ (g : suc k ≤ n). let same : n ≡ suc k = omega (arith, h, g) in
-        subst (λ n. take n (first_numbers (suc k)) ≡ first_numbers n) (sym same)
-        (subst (λ m. take m (first_numbers (suc k)) ≡ first_numbers (suc k)) (length_first (suc k)) (take-length (first_numbers (suc k)))))
+    subst (λ n. take n (first_numbers (suc k)) ≡ first_numbers n) (sym same)
+    (subst (λ m. take m (first_numbers (suc k)) ≡ first_numbers (suc k)) (length_first (suc k)) (take-length (first_numbers (suc k)))))
     (cases_lt n (suc k))
 
 -- a front of a legal order is legal

@@ -23,7 +23,7 @@ fn append<D: Disk>(journal: &mut Journal, disk: &mut D, pair: Pair) -> Result<()
     ensures held { (base : BaseTree) (order : List Turn) (began : DiskView)
         → IsHeld base order began journal.old (D.view disk.old) → MayAdd base order (turn_of pair)
         → OnOk result (IsHeld base (order ++ turn_of pair ∷ []) began
-            journal.new (D.view disk.new)) }
+        journal.new (D.view disk.new)) }
     ensures lost { (base : BaseTree) (order : List Turn) (began : DiskView)
         → IsHeld base order began journal.old (D.view disk.old) → MayAdd base order (turn_of pair)
         → OnErr result (IsLost base order (order ++ turn_of pair ∷ []) began (D.view disk.new)) }
@@ -55,7 +55,7 @@ fn settled_pair(world: &World, event: &Event) -> Option<Pair>
     ensures { (before : Running) → IsReached before.base before.machine
         → Leads before (shell_of event.now) world.now event.now
         → Extends before.base before.machine.order (option_map turn_of result)
-            world.now.machine.order }
+        world.now.machine.order }
 {
     match event {
         Event::Settled { shell: _, entry } => pair_at(world.board(), *entry),
@@ -85,12 +85,12 @@ pub(crate) fn keep<D: Disk>(
         → IsHeld before.base before.machine.order began journal.old (D.view disk.old)
         → Leads before (shell_of event.now) world.now event.now
         → OnOk result (IsHeld before.base world.now.machine.order began
-            journal.new (D.view disk.new)) }
+        journal.new (D.view disk.new)) }
     ensures lost { (began : DiskView) (before : Running) → IsReached before.base before.machine
         → IsHeld before.base before.machine.order began journal.old (D.view disk.old)
         → Leads before (shell_of event.now) world.now event.now
         → OnErr result (IsLost before.base before.machine.order world.now.machine.order began
-            (D.view disk.new)) }
+        (D.view disk.new)) }
 {
     match settled_pair(world, event) {
         None => Ok(()),
