@@ -29,7 +29,7 @@ Row (Audit j) host host' sink sink' disk disk' st = AuditRow j host host' sink s
 Row (Journal j) host host' sink sink' disk disk' st = JournalRow j host host' sink sink' disk disk' st
 Row (Recover j) host host' sink sink' disk disk' st = RecoverRow j host host' sink sink' disk disk' st
 
--- a command that neither keeps nor reads a journal asks nothing of the disk
+-- a command that neither keeps nor reads a journal leaves the disk as it was
 abbrev pub LeavesDisk : Job → DiskView → DiskView → Type 0
 LeavesDisk (Run j) disk disk' = disk' ≡ disk
 LeavesDisk (Show j) disk disk' = disk' ≡ disk

@@ -89,7 +89,7 @@ pub fn top<R: Threads + Wait + Sync, H: Host, S: Sink, G: Gate + Sync, D: Disk>(
     ensures fit { IfSome (job_of words.now) (λ j.
         AsksFitPaths j (H.view host.old) (H.view host.new)) }
 
-    // A command that neither keeps nor reads a journal makes no call on the disk.
+    // A command that neither keeps nor reads a journal leaves the disk as it was.
     ensures disk { IfSome (job_of words.now) (λ j.
         LeavesDisk j (D.view disk.old) (D.view disk.new)) }
 
