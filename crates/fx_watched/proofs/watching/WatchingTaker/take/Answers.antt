@@ -12,7 +12,7 @@ returns-in_ok-valid-in-Some-clause-ok g c = λ events before w leads.
     let some = sym c.settled_entry-settled.ensures ∙ c.in-Some.is in
     let at = at_entry base old.watch old.output.items events before c.args.world.now c.args.event w leads c.in-Some.entry some c.board.result.now c.board.ensures.0 c.board.ensures.1 in
     let on = settled_on base old.watch old.output.items events before c.args.world.now c.args.event w leads c.in-Some.entry some c.board.result.now c.board.ensures.0 c.board.ensures.1 c.valid_after.new.watch c.in_ok-valid-in-Some.valid
-        (c.in_ok-valid-in-Some.ensures.valid at) (c.in_ok-valid-in-Some.ensures.told at) c.in_ok-valid-in-Some.ensures.root in
+    (c.in_ok-valid-in-Some.ensures.valid at) (c.in_ok-valid-in-Some.ensures.told at) c.in_ok-valid-in-Some.ensures.root in
     on_ok_weaker c.add_valid.result
     (λ added. subst (λ output. HasWatched base c.valid_after.new.watch output (events ++ c.args.event ∷ []) c.args.world.now) (sym (added ∙ ap (λ o. o ++ valid_line c.in_ok-valid-in-Some.valid) c.in_ok-add_event.ensures)) on) c.add_valid.ensures
 
