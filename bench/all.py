@@ -10,7 +10,7 @@ import tempfile
 
 import measure
 
-BENCHES = ["run", "folders", "show", "trace", "names", "looks", "walks", "engine", "threads", "large", "audit"]
+BENCHES = ["run", "folders", "show", "trace", "watch", "names", "looks", "walks", "engine", "threads", "large", "audit", "journal"]
 
 
 def lines(words):

@@ -2,8 +2,8 @@
 
 usage: compare.py PROGRAM [SEED] [COUNT]
 
-Each case is a random folder with links and flags, a description, some scripts and a schedule: `show`, `trace` and `run` have
-to print, write and refuse what the model says. In every third case the scripts work on the same few files, so that they
+Each case is a random folder with links and flags, a description, some scripts and a schedule: `show`, `trace`, `watch` and
+`run` have to print, write and refuse what the model says. In every third case the scripts work on the same few files, so that they
 meet. Of `run` the order and the retries are those that it prints: the answers
 and OUT are those of its transactions run whole in that order, and `audit` says of its report, and of changed ones, what the model says. Some texts are broken before, so that refusals are compared
 too. Then four cases from numbers: what `gen` writes, and what `large` leaves and prints. Prints how many cases there were of each kind, and ends with 1 at the first difference, which it tells.
@@ -310,12 +310,19 @@ def compare(room, maker, counts):
     if len(read) == 2:
         expect("trace", found, (read[0], "", read[1]))
         expect("run", run(["run", "spec", "in", "out", *scripts], room), found)
+        expect("watch", run(["watch", *words[1:]], room), found)
         counts[f"run refused {read[0]}"] += 1
         return
     root, plan, store = read
     events, order, retries, last = model.trace(root, plan, store, schedule)
     expect("trace", found, (0, "".join(e + "\n" for e in events) + model.report(order, retries), ""))
     expect("OUT", model.saved(os.path.join(room, "out")), model.folder_of(last))
+    lines, _, _, _ = model.watch(root, plan, store, schedule)
+    found = run(["watch", *words[1:3], "watched", *words[4:]], room)
+    expect("watch", found, (0, "".join(line + "\n" for line in lines) + model.report(order, retries), ""))
+    expect("OUT of watch", model.saved(os.path.join(room, "watched")), model.folder_of(last))
+    counts["watched valid"] += lines.count("valid yes")
+    counts["watched not valid"] += lines.count("valid no")
     for _, _, _, end in order:
         counts[re.sub(r"stopped \d+ (\d+ \w+).*", r"stopped \1", end)] += 1
     counts["conflicts"] += len(retries)

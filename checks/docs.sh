@@ -13,4 +13,6 @@ for example in rota:ann-off,ben-off config:add,scale,check projects:count,log,tu
     "$program" show description "$fresh/out" | grep -q '^valid yes$'
     rm -r "$fresh/out"
 done
+cd "$top/examples/watch"
+"$program" watch description folder "$fresh/out" "$(cat schedule)" ann ben | diff report -
 echo "the examples print what their reports show"

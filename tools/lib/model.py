@@ -1044,8 +1044,8 @@ def whole_run(root, txns, store):
 # ---- several shells on one thread
 
 
-def trace(root, plan, store, schedule):
-    """Events, order, retries and last filestore of a run by a schedule."""
+def steps(root, plan, store, schedule):
+    """Events, order, retries, and the filestores before and after each entry, of a run by a schedule."""
     changed, looks, events, order, retries = [], [{} for _ in plan], [], [], []
     states = [store]
     todo = [0 for _ in plan]
@@ -1088,7 +1088,33 @@ def trace(root, plan, store, schedule):
     while any(t < len(p) for t, p in zip(todo, plan)):
         for shell in range(len(plan)):
             step(shell)
-    return events, order, sorted(retries, key=lambda r: r[0]), states[-1]
+    return events, order, sorted(retries, key=lambda r: r[0]), states
+
+
+def trace(root, plan, store, schedule):
+    """Events, order, retries and last filestore of a run by a schedule."""
+    events, order, retries, states = steps(root, plan, store, schedule)
+    return events, order, retries, states[-1]
+
+
+def valid_line(root, store):
+    """Whether the description has a value at the root of a filestore."""
+    try:
+        value(View(store.get), (), [], root)
+    except NoValue:
+        return "valid no"
+    return "valid yes"
+
+
+def watch(root, plan, store, schedule):
+    """The lines of a watched run: of the loaded filestore, of each event, and behind a settled one of the filestore after its
+    entry; then order, retries and last filestore."""
+    events, order, retries, states = steps(root, plan, store, schedule)
+    lines = [valid_line(root, states[0])]
+    for event in events:
+        word, _, number = event.split(" ")[:3]
+        lines += [event, valid_line(root, states[int(number) + 1])] if word == "settled" else [event]
+    return lines, order, retries, states[-1]
 
 
 # ---- what is printed

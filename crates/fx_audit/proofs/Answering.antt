@@ -62,8 +62,8 @@ pub answer_settled : (log log' : Log) (i : ℕ) (told : PrintedEntry) (b : Bool)
     → (IsTrue b → told ≡ entry log.base log.order (length log.order) (turn_told told)) × (told ≡ entry log.base log.order (length log.order) (turn_told told) → IsTrue b)
 answer_settled log log' i told b new at h =
     let same : entry log'.base log'.order i (turn_told told) ≡ entry log.base log.order (length log.order) (turn_told told) =
-        ap (λ (l : Log). entry l.base l.order i (turn_told told)) new ∙ (ap (λ k. entry log.base (log.order ++ turn_told told ∷ []) k (turn_told told)) at
-        ∙ entry_front log.base log.order (turn_told told ∷ []) (length log.order) (turn_told told) (omega arith)) in
+    ap (λ (l : Log). entry l.base l.order i (turn_told told)) new ∙ (ap (λ k. entry log.base (log.order ++ turn_told told ∷ []) k (turn_told told)) at
+    ∙ entry_front log.base log.order (turn_told told ∷ []) (length log.order) (turn_told told) (omega arith)) in
     (λ t. h.0 t ∙ same, λ e. h.1 (e ∙ sym same))
 
 pub yes_answered : (base : BaseTree) (o : List Turn) (log : Log) (told : PrintedEntry) (b : Bool) → log ≡ logged base o → b ≡ true

@@ -166,9 +166,10 @@ from_has : (changed : List (List (List ℕ))) (path : List (List ℕ)) → has_p
 from_has changed path has = Contains-from_any path_eq_same path changed has
 
 pub cause_is : (log : Log) (e : Entry) (r : RetryTree) (b : Bool) → IsEntry log r.entry e → (e.shell ≡ r.shell → ⊥) → b ≡ has_path e.changed r.path → (IsTrue b → IsCause log.base log.order r) × (IsCause log.base log.order r → IsTrue b)
-cause_is log e r b is apart found =
-    (λ t. record { other = (e.shell, e.txn, is.turn, apart); changed = (is.changed r.path).0 (from_has e.changed r.path (sym found ∙ t)) },
-    λ cause. found ∙ has_from e.changed r.path ((is.changed r.path).1 cause.changed))
+cause_is log e r b is apart found = (
+  λ t. record { other = (e.shell, e.txn, is.turn, apart); changed = (is.changed r.path).0 (from_has e.changed r.path (sym found ∙ t)) },
+  λ cause. found ∙ has_from e.changed r.path ((is.changed r.path).1 cause.changed),
+)
 
 pub no_cause : (log : Log) (r : RetryTree) → length log.order ≤ r.entry → IsCause log.base log.order r → ⊥
 no_cause log r past cause =

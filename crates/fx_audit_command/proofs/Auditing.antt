@@ -24,7 +24,7 @@ use Rattle.fx_audit.specs.Audits.{IsVerdictOn, IsTrueReport}
 use Rattle.fx_audit.specs.declared.verdict.Verdict.{Verdict}
 use Rattle.fx_audit.specs.declared.verdict.Verdict.TheVariants as verdict
 use Rattle.fx_audit_command.specs.declared.reading.TheConstants.{REPORT_LIMIT, REPORT_WORD}
-use Rattle.fx_audit_command.specs.Job.{AuditJob}
+use Rattle.fx_words.specs.Job.{AuditJob}
 use Rattle.fx_audit_command.specs.Lines.{verdict_line}
 use Rattle.fx_audit_command.specs.Rows.{AuditEndsAs, AuditReadFault, AuditRow, CannotAudit, HasLargeReport, HasReport, IsAudited, IsAuditedInPart, IsAuditing, IsFirstRefusedOf, has_fit_audit}
 use Rattle.fx_audit_command.specs.Texts.{IsReadAt}

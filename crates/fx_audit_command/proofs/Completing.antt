@@ -13,9 +13,8 @@ use Rattle.fx_command.specs.declared.status.Status.TheVariants as status
 use Rattle.fx_command.specs.declared.status.TextFault.{TextFault}
 use Rattle.fx_inputs.specs.Inputs.{HasTexts, HasInputs, CannotRead, IsFirstRefused, HasScript, HasNoScript, HasScripts, StopsAtScript, LacksFile}
 use Rattle.fx_inputs.proofs.ReadRows.{read_fault_rose}
-use Rattle.fx_words.specs.Job.{Inputs}
 use Rattle.fx_audit_command.specs.declared.reading.TheConstants.{REPORT_LIMIT}
-use Rattle.fx_audit_command.specs.Job.{AuditJob}
+use Rattle.fx_words.specs.Job.{AuditJob, Inputs}
 use Rattle.fx_audit_command.specs.Rows.{AuditReadFault, AuditRow, CannotAudit, IsFirstRefusedOf, IsProperAudit}
 
 two : (b : Bool) → b ≡ true → b ≡ false → ⊥

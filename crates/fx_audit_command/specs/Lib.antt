@@ -1,4 +1,3 @@
-pub mod Job
 pub mod Lines
 pub mod Rows
 pub mod Texts

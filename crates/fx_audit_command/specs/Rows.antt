@@ -18,7 +18,7 @@ use Rattle.fx_audit.specs.Audits.{IsVerdictOn, IsTrueReport}
 use Rattle.fx_audit.specs.declared.verdict.Verdict.{Verdict}
 use Rattle.fx_audit.specs.declared.verdict.Verdict.TheVariants as verdict
 use Rattle.fx_audit_command.specs.declared.reading.TheConstants.{REPORT_LIMIT, REPORT_WORD}
-use Rattle.fx_audit_command.specs.Job.{AuditJob}
+use Rattle.fx_words.specs.Job.{AuditJob}
 use Rattle.fx_audit_command.specs.Lines.{verdict_line}
 
 -- the file at REPORT has these bytes, which are no more than a report may have

@@ -2,19 +2,18 @@
 ghost use Rattle.std.specs.Prelude.{◌≡◌, IfOk, IfErr, IfSome};
 ghost use Rattle.fx_outside.specs.Host.{ReadsOnly};
 ghost use Rattle.fx_spec.specs.Bases.{base_tree};
-ghost use Rattle.fx_words.specs.JobOf.{AreInputs};
 ghost use Rattle.fx_command.specs.StatusOf.{status_of};
 ghost use Rattle.fx_inputs.specs.Inputs.{HasBase};
-ghost use Rattle.fx_audit_command.specs.Job.{asked_audit};
+ghost use Rattle.fx_words.specs.JobOf.{asked_audit, AreInputs};
 ghost use Rattle.fx_audit_command.specs.Rows.{AuditRow, AuditEndsAs, AuditAsksFit, IsAuditing};
 
-use crate::job::AuditJob;
 use crate::line::verdict_line;
 use crate::reading::read_report;
 use fx_command::{Status, print_all};
 use fx_inputs::read_base;
 use fx_outside::{Host, Sink, SinkFailed};
 use fx_spec::Base;
+use fx_words::AuditJob;
 use std::alloc::Global;
 use std::sync::Arc;
 

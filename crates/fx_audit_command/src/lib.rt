@@ -2,10 +2,8 @@
 #![tactic(auto)]
 
 mod command;
-mod job;
 mod line;
 mod reading;
 mod texts;
 
 pub use command::audit;
-pub use job::AuditJob;

@@ -2,13 +2,13 @@
 ghost use Rattle.std.specs.Prelude.{◌≡◌, IfOk, IfErr, IfSome};
 ghost use Rattle.fx_outside.specs.Host.{ReadsOnly};
 ghost use Rattle.fx_inputs.specs.Inputs.{HasInputs};
-ghost use Rattle.fx_audit_command.specs.Job.{asked_audit};
+ghost use Rattle.fx_words.specs.JobOf.{asked_audit};
 ghost use Rattle.fx_audit_command.specs.Rows.{AuditAsksFit, AuditEndsAs, HasReport};
 
-use crate::job::AuditJob;
 use crate::texts::read_text;
 use fx_command::{Status, TextFault};
 use fx_outside::Host;
+use fx_words::AuditJob;
 use std::alloc::Global;
 
 /// How many bytes a report may have.

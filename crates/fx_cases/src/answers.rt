@@ -4,10 +4,10 @@ use crate::door::Door;
 use fx_base::NoMemory;
 use fx_hosts::{Call, tell_call, tell_message};
 use fx_outside::HostKind;
-use fx_stage::{Program, Stage, tell_tree};
-use fx_steps::{tell_attempt, tell_steps, tell_threads};
+use fx_stage::{Program, Stage, tell_disk, tell_tree};
+use fx_steps::{tell_attempt, tell_steps, tell_threads, tell_watch};
 use fx_telling::{Case, number, split_word, tell};
-use fx_trials::{tell_changes, tell_faults, tell_rooms, tell_schedules, tell_top};
+use fx_trials::{tell_changes, tell_faults, tell_rooms, tell_schedules, tell_stops, tell_top};
 use std::alloc::Global;
 
 /// What a line sets up.
@@ -20,6 +20,8 @@ enum Setting {
     Other,
     Fail,
     FailWrite,
+    FailDisk,
+    Image,
     Room,
     Tell,
 }
@@ -32,10 +34,13 @@ enum Trial {
     Changes,
     Rooms,
     Schedules,
+    Stops,
     Threads,
     Tree,
+    Disk,
     Attempt,
     Steps,
+    Watch,
 }
 
 #[derive(Clone, Copy)]
@@ -58,6 +63,8 @@ const VERBS: &[(&str, Verb)] = &[
     ("other", Verb::Set(Setting::Other)),
     ("fail", Verb::Set(Setting::Fail)),
     ("fail-write", Verb::Set(Setting::FailWrite)),
+    ("fail-disk", Verb::Set(Setting::FailDisk)),
+    ("image", Verb::Set(Setting::Image)),
     ("room", Verb::Set(Setting::Room)),
     ("tell", Verb::Set(Setting::Tell)),
     ("hold", Verb::Hold),
@@ -66,10 +73,13 @@ const VERBS: &[(&str, Verb)] = &[
     ("changes", Verb::Try(Trial::Changes)),
     ("rooms", Verb::Try(Trial::Rooms)),
     ("schedules", Verb::Try(Trial::Schedules)),
+    ("stops", Verb::Try(Trial::Stops)),
     ("threads", Verb::Try(Trial::Threads)),
     ("tree", Verb::Try(Trial::Tree)),
+    ("disk", Verb::Try(Trial::Disk)),
     ("attempt", Verb::Try(Trial::Attempt)),
     ("steps", Verb::Try(Trial::Steps)),
+    ("watch", Verb::Try(Trial::Watch)),
     ("standing", Verb::Call(Call::Standing)),
     ("list", Verb::Call(Call::List)),
     ("read", Verb::Call(Call::Read)),
@@ -109,6 +119,8 @@ fn set_up(
         Setting::Case => *stage = Stage::new(alloc),
         Setting::Fail => stage.host.fail(alloc, u64::from(number(rest)))?,
         Setting::FailWrite => stage.fail_write(u64::from(number(rest)))?,
+        Setting::FailDisk => stage.fail_disk(alloc, u64::from(number(rest)))?,
+        Setting::Image => stage.put_image(alloc, rest)?,
         Setting::Room => stage.set_room(u64::from(number(rest))),
         Setting::Tell => stage.set_detail(rest),
         _ => {
@@ -117,6 +129,14 @@ fn set_up(
             }
         }
     }
+    Ok(())
+}
+
+/// Tells the bytes of the file on the disk of a stage.
+fn tell_disk_of(alloc: Global, stage: &mut Stage, out: &mut String) -> Result<(), NoMemory> {
+    let disk = stage.take_disk(alloc)?;
+    tell_disk(out, &disk)?;
+    stage.put_disk(disk);
     Ok(())
 }
 
@@ -134,10 +154,13 @@ fn try_out<P: Program>(
         Trial::Changes => tell_changes(program, alloc, stage, rest, out),
         Trial::Rooms => tell_rooms(program, alloc, stage, rest, out),
         Trial::Schedules => tell_schedules(program, alloc, stage, out),
+        Trial::Stops => tell_stops(program, alloc, stage, rest, out),
         Trial::Threads => tell_threads(program, alloc, stage, rest, out),
         Trial::Tree => tell_tree(alloc, &mut stage.host, rest, out),
+        Trial::Disk => tell_disk_of(alloc, stage, out),
         Trial::Attempt => tell_attempt(program, alloc, stage, rest, out),
         Trial::Steps => tell_steps(program, alloc, stage, rest, out),
+        Trial::Watch => tell_watch(program, alloc, stage, rest, out),
     }
 }
 

@@ -2,6 +2,7 @@
 
 use crate::door::Door;
 use fx_base::NoMemory;
+use fx_durable::MemoryDisk;
 use fx_inputs::read_base;
 use fx_outside::{MemoryHost, MemorySink, Words};
 use fx_spec::Base;
@@ -52,8 +53,9 @@ impl<R: Threads + Wait + Sync> Program for Top<'_, R> {
         words: &Words,
         host: &mut MemoryHost,
         sink: &mut MemorySink,
+        disk: &mut MemoryDisk,
     ) -> Status {
-        top(&self.handles, alloc, words, host, sink, self.door)
+        top(&self.handles, alloc, words, host, sink, self.door, disk)
     }
 
     fn base(&self, alloc: Global, stage: &mut Stage, scripts: &str) -> Result<Arc<Base>, Status> {

@@ -58,8 +58,8 @@ front_more tree path text piece front reads is_file =
       within = omega (arith, reads.within, front.within, whole);
     }
 
-front_end : (tree : Tree) (path text piece : List ℕ) → length piece ≡ 0 → IsFrontAt tree path text → ReadsAt (bytes_at tree path) (length text) (length piece) piece → is_file_at tree path ≡ true → IsReadAt tree path text
-front_end tree path text piece none front reads is_file =
+front_end : (tree : Tree) (path : List ℕ) (limit : ℕ) (text piece : List ℕ) → length piece ≡ 0 → IsFrontAt tree path text → ReadsAt (bytes_at tree path) (length text) (length piece) piece → is_file_at tree path ≡ true → IsReadAt tree path limit text
+front_end tree path limit text piece none front reads is_file =
     let all : length text ≡ length (bytes_at tree path) = omega (arith, front.within, reads.ends none) in
     record {
       file = is_file;
@@ -68,8 +68,8 @@ front_end tree path text piece none front reads is_file =
       whole = λ _. front.front ∙ ap (λ n. take n (bytes_at tree path)) all ∙ take-length (bytes_at tree path);
     }
 
-front_full : (tree : Tree) (path text : List ℕ) → IsFrontAt tree path text → 65536 < length text → IsReadAt tree path text
-front_full tree path text front full = record {
+front_full : (tree : Tree) (path : List ℕ) (limit : ℕ) (text : List ℕ) → IsFrontAt tree path text → limit < length text → IsReadAt tree path limit text
+front_full tree path limit text front full = record {
   file = front.file (omega arith);
   front = front.front;
   within = front.within;
@@ -111,33 +111,33 @@ goes_on old host host' path text piece text' was reads file then fit more = reco
   front = subst (λ text. IfSome old.told (λ tree. IsFrontAt tree path text)) (sym more) (front_goes_on old.told host.told path text piece was.reads.same was.front reads file);
 }
 
-front_ends : (told now : Option Tree) (path text piece : List ℕ)
+front_ends : (told now : Option Tree) (path : List ℕ) (limit : ℕ) (text piece : List ℕ)
     → length piece ≡ 0
     → now ≡ told
     → IfSome told (λ tree. IsFrontAt tree path text)
     → IfSome now (λ tree. ReadsAt (bytes_at tree path) (length text) (length piece) piece)
     → IfSome now (λ tree. is_file_at tree path ≡ true)
-    → IfSome told (λ tree. IsReadAt tree path text)
-front_ends None now path text piece none same front reads file = tt
-front_ends (Some tree) now path text piece none same front reads file =
+    → IfSome told (λ tree. IsReadAt tree path limit text)
+front_ends None now path limit text piece none same front reads file = tt
+front_ends (Some tree) now path limit text piece none same front reads file =
     let answered = subst (λ o. IfSome o (λ tree. ReadsAt (bytes_at tree path) (length text) (length piece) piece)) same reads in
     let is_file = subst (λ o. IfSome o (λ tree. is_file_at tree path ≡ true)) same file in
-    front_end tree path text piece none front answered is_file
+    front_end tree path limit text piece none front answered is_file
 
-pub ends : (old host : HostView) (path text piece : List ℕ)
+pub ends : (old host : HostView) (path : List ℕ) (limit : ℕ) (text piece : List ℕ)
     → length piece ≡ 0
     → IsReading old host path text
     → IfSome host.told (λ tree. ReadsAt (bytes_at tree path) (length text) (length piece) piece)
     → IfSome host.told (λ tree. is_file_at tree path ≡ true)
-    → IfSome old.told (λ tree. IsReadAt tree path text)
-ends old host path text piece none was reads file = front_ends old.told host.told path text piece none was.reads.same was.front reads file
+    → IfSome old.told (λ tree. IsReadAt tree path limit text)
+ends old host path limit text piece none was reads file = front_ends old.told host.told path limit text piece none was.reads.same was.front reads file
 
-told_full : (told : Option Tree) (path text : List ℕ) → IfSome told (λ tree. IsFrontAt tree path text) → 65536 < length text → IfSome told (λ tree. IsReadAt tree path text)
-told_full None path text front full = tt
-told_full (Some tree) path text front full = front_full tree path text front full
+told_full : (told : Option Tree) (path : List ℕ) (limit : ℕ) (text : List ℕ) → IfSome told (λ tree. IsFrontAt tree path text) → limit < length text → IfSome told (λ tree. IsReadAt tree path limit text)
+told_full None path limit text front full = tt
+told_full (Some tree) path limit text front full = front_full tree path limit text front full
 
-pub is_full : (old host : HostView) (path text : List ℕ) → IsReading old host path text → 65536 < length text → IfSome old.told (λ tree. IsReadAt tree path text)
-is_full old host path text was full = told_full old.told path text was.front full
+pub is_full : (old host : HostView) (path : List ℕ) (limit : ℕ) (text : List ℕ) → IsReading old host path text → limit < length text → IfSome old.told (λ tree. IsReadAt tree path limit text)
+is_full old host path limit text was full = told_full old.told path limit text was.front full
 
 pub take_front : (buffer rest cut : List ℕ) (len n : ℕ) → cut ≡ take n (take len (buffer ++ rest)) → len ≡ length buffer → cut ≡ take n buffer
 take_front buffer rest cut len n is all = is ∙ ap (λ m. take n (take m (buffer ++ rest))) all ∙ ap (λ x. take n x) (take-append_seam buffer rest)

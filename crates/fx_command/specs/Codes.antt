@@ -12,3 +12,4 @@ status_code status.ReadFault = 5
 status_code status.NotEmpty = 6
 status_code status.WriteFault = 7
 status_code status.NoMemory = 8
+status_code (status.BadJournal place) = 9

@@ -45,6 +45,9 @@ pub enum Status {
     /// OUT or the output was not written.
     WriteFault,
     NoMemory,
+    /// The record of this number is short or one too many, or its entry makes the order of the journal one that no
+    /// run of these scripts has.
+    BadJournal { place: u64 },
 }
 
 impl Status {
@@ -61,6 +64,7 @@ impl Status {
             Status::NotEmpty => 6,
             Status::WriteFault => 7,
             Status::NoMemory => 8,
+            Status::BadJournal { place: _ } => 9,
         }
     }
 }

@@ -5,7 +5,7 @@ ghost use Rattle.fx_outside.specs.Host.{ReadsAt, ReadsOnly, AsksFit, FaultAt, Ha
 ghost use Rattle.fx_outside.specs.declared.kind.HostFault.TheVariants.{Failed};
 ghost use Rattle.fx_command.specs.Texts.{IsReadAt};
 
-use fx_base::{NoMemory, SOURCE_LIMIT};
+use fx_base::NoMemory;
 use fx_outside::{Host, HostFault, HostText};
 use std::alloc::Global;
 
@@ -43,15 +43,16 @@ fn read_piece<H: Host>(
     Ok(piece)
 }
 
-/// The bytes of the file at a path, read to its end; of a file of more than 65,536 bytes, more than so many
+/// The bytes of the file at a path, read to its end; of a file of more than `limit` bytes, more than so many
 /// bytes from its front.
 pub fn read_text<H: Host>(
     alloc: Global,
     host: &mut H,
     path: &HostText,
+    limit: u64,
 ) -> Result<Vec<u8>, HostFault>
     ensures read { IfOk result (λ text. IfSome (H.view host.old).told
-        (λ tree. IsReadAt tree path.now text.items)) }
+        (λ tree. IsReadAt tree path.now limit text.items)) }
     ensures same { ReadsOnly (H.view host.old) (H.view host.new) }
     ensures fit { AsksFit path.now (H.view host.old) (H.view host.new) }
     ensures failed { IfErr result (λ fault. fault ≡ Failed
@@ -59,7 +60,7 @@ pub fn read_text<H: Host>(
         (H.view host.old) (H.view host.new)) }
 {
     let mut text = Vec::new(alloc);
-    'reading: while text.len() <= SOURCE_LIMIT {
+    'reading: while text.len() as u64 <= limit {
         let piece = read_piece(alloc, host, path, text.len() as u64)?;
         if piece.is_empty() {
             return Ok(text);

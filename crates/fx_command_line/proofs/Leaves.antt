@@ -1,89 +1,67 @@
--- Each command's own level: when it takes its arguments, and which words its matches then say.
-use Rattle.std.proofs.Common.{◌≡◌, ℕ, ◌<◌, Bool, true, false, cond, ◌&&◌, ◌==◌, inl, inr, List, [], ◌∷◌, ◌++◌, length, Some, None, refl, sym, ap, ap₂, ◌∙◌, arith, codes, append-nil, append_assoc}
+-- A command's own level: it takes as many arguments as are its, and its matches say them.
+use Rattle.std.proofs.Common.{◌≡◌, ℕ, ◌<◌, ◌≤◌, Bool, true, false, cond, ◌&&◌, ◌==◌, inl, inr, List, [], ◌∷◌, ◌++◌, length, Some, None, refl, sym, ap, ap₂, ◌∙◌, arith, codes, append-nil, append_assoc}
 use Rattle.std.specs.Prelude.{nat_le, nat_lt}
 use Rattle.std.specs.List.{fold}
 use Rattle.std.proofs.lemmas.Bool.{cases_lt}
 use Rattle.std.proofs.lemmas.Bool.Decides.{nat_tests}
 use Rattle.clap.specs.Kinds.{Kinds, or_else, range_kinds, values_kinds}
-use Rattle.clap.specs.Walk.{Row, Text, Walk, finished, is_empty, positional, settled, value}
+use Rattle.clap.specs.Walk.{Row, Text, Walk, all_of, finished, is_empty, nothing_held, positional, value}
 use Rattle.clap.specs.Simple.{Shape, built_leaf, inherited}
 use Rattle.clap.specs.Faults.{defaults_fault, step_fault}
 use Rattle.clap.specs.declared.builder.value_parser.ValueParser.TheVariants as parser
 use Rattle.clap.specs.declared.error.kind.ErrorKind.TheVariants as kind
-use Rattle.fx_command_line.specs.Forms.{are_of_run, are_of_trace, are_two, is_count}
-use Rattle.fx_command_line.specs.Parser.{bare, gen, large, run, show, trace}
-use Rattle.fx_command_line.specs.Matched.{command_in}
+use Rattle.fx_command_line.specs.declared.form.CommandName.{CommandName}
+use Rattle.fx_command_line.specs.declared.form.CommandName.TheVariants.{Run, Trace, Show, Gen, Large, Audit, Watch, Journal, Recover}
+use Rattle.fx_command_line.specs.Forms.{is_within, least_of, most_of, takes}
+use Rattle.fx_command_line.specs.Parser.{command, program}
 use Rattle.fx_command_line.proofs.Walks.{end_fault, leaf_fault, leaf_rows, start, step, steps_fault}
 
 -- a command as the program's parser is built
-abbrev pub ready : Shape → Shape
-ready s = built_leaf (inherited bare s)
+abbrev pub ready : CommandName → Shape
+ready name = built_leaf (inherited program.top (command name))
 
--- ---- two arguments
+-- ---- a use of as many values as are wanted
 
-pub show_takes : (words : List Text) → is_empty (leaf_fault (ready show) words) ≡ are_two words
-unfolding defaults_fault
-show_takes [] = refl
-show_takes (a ∷ []) = refl
-show_takes (a ∷ b ∷ []) = refl
-show_takes (a ∷ b ∷ c ∷ rest) = refl
+abbrev kinds_by : Bool → Bool → Bool → Bool → Bool → Kinds
+kinds_by none same exact few many =
+    cond none (kind.InvalidValue ∷ [])
+    (cond same (cond exact [] (kind.WrongNumberOfValues ∷ [])) (cond few (kind.TooFewValues ∷ []) (cond many (kind.TooManyValues ∷ []) [])))
 
-pub gen_takes : (words : List Text) → is_empty (leaf_fault (ready gen) words) ≡ are_two words
-unfolding defaults_fault
-gen_takes [] = refl
-gen_takes (a ∷ []) = refl
-gen_takes (a ∷ b ∷ []) = refl
-gen_takes (a ∷ b ∷ c ∷ rest) = refl
+too_few : (same many : Bool) → is_empty (kinds_by false same false true many) ≡ false
+too_few true many = refl
+too_few false many = refl
 
-pub large_takes : (words : List Text) → is_empty (leaf_fault (ready large) words) ≡ are_two words
-unfolding defaults_fault
-large_takes [] = refl
-large_takes (a ∷ []) = refl
-large_takes (a ∷ b ∷ []) = refl
-large_takes (a ∷ b ∷ c ∷ rest) = refl
+too_many : (same few : Bool) → is_empty (kinds_by false same false few true) ≡ false
+too_many true few = refl
+too_many false true = refl
+too_many false false = refl
 
--- its matches say its words
-abbrev pub Says : Text → Shape → List Text → Type 0
-Says name s words = command_in name (leaf_rows (ready s).rules words) ≡ Some (name ∷ words)
+enough : (same exact : Bool) → (same ≡ true → exact ≡ true) → is_empty (kinds_by false same exact false false) ≡ true
+enough true exact e = ap (λ b. is_empty (kinds_by false true b false false)) (e refl)
+enough false exact e = refl
 
-pub show_says : (words : List Text) → are_two words ≡ true → Says (codes "show") show words
-show_says [] e = cc
-show_says (a ∷ []) e = cc
-show_says (a ∷ b ∷ []) e = refl
-show_says (a ∷ b ∷ c ∷ rest) e = cc
-
-pub gen_says : (words : List Text) → are_two words ≡ true → Says (codes "gen") gen words
-gen_says [] e = cc
-gen_says (a ∷ []) e = cc
-gen_says (a ∷ b ∷ []) e = refl
-gen_says (a ∷ b ∷ c ∷ rest) e = cc
-
-pub large_says : (words : List Text) → are_two words ≡ true → Says (codes "large") large words
-large_says [] e = cc
-large_says (a ∷ []) e = cc
-large_says (a ∷ b ∷ []) e = refl
-large_says (a ∷ b ∷ c ∷ rest) e = cc
-
--- ---- a last argument of several
-
-abbrev kinds_by : Bool → Bool → Bool → Kinds
-kinds_by none few many = cond none (kind.InvalidValue ∷ []) (cond few (kind.TooFewValues ∷ []) (cond many (kind.TooManyValues ∷ []) []))
-
--- a use of 1 to 64 values
-counted : (n : ℕ) → 0 < n → is_empty (range_kinds 1 64 n) ≡ is_count n
-counted n some =
-    let none : (n == 0) ≡ false = grind (arith, nat_tests) in
-    let few : nat_lt n 1 ≡ false = grind (arith, nat_tests) in
-    let one : nat_le 1 n ≡ true = grind (arith, nat_tests) in
-    elim (cases_lt 64 n) [
-      | inl more ↦
-          let many : nat_lt 64 n ≡ true = grind (arith, nat_tests) in
-          let not_few : nat_le n 64 ≡ false = grind (arith, nat_tests) in
-          (λ i. is_empty (kinds_by (none i) (few i) (many i))) ∙ (λ i. sym one i && sym not_few i)
-      | inr less ↦
-          let many : nat_lt 64 n ≡ false = grind (arith, nat_tests) in
-          let fits : nat_le n 64 ≡ true = grind (arith, nat_tests) in
-          (λ i. is_empty (kinds_by (none i) (few i) (many i))) ∙ (λ i. sym one i && sym fits i)
+counted : (least most n : ℕ) → 0 < n → least ≤ most → is_empty (range_kinds least most n) ≡ is_within least most n
+counted least most n some order =
+    let none : (nat_lt 0 least && (n == 0)) ≡ false = grind (arith, nat_tests) in
+    elim (cases_lt n least) [
+      | inl less ↦
+          let exact : (least == n) ≡ false = grind (arith, nat_tests) in
+          let few : nat_lt n least ≡ true = grind (arith, nat_tests) in
+          let within : is_within least most n ≡ false = grind (arith, nat_tests) in
+          (λ i. is_empty (kinds_by (none i) (least == most) (exact i) (few i) (nat_lt most n))) ∙ too_few (least == most) (nat_lt most n) ∙ sym within
+      | inr reached ↦ elim (cases_lt most n) [
+        | inl more ↦
+            let exact : (least == n) ≡ false = grind (arith, nat_tests) in
+            let many : nat_lt most n ≡ true = grind (arith, nat_tests) in
+            let within : is_within least most n ≡ false = grind (arith, nat_tests) in
+            (λ i. is_empty (kinds_by (none i) (least == most) (exact i) (nat_lt n least) (many i))) ∙ too_many (least == most) (nat_lt n least) ∙ sym within
+        | inr fits ↦
+            let few : nat_lt n least ≡ false = grind (arith, nat_tests) in
+            let many : nat_lt most n ≡ false = grind (arith, nat_tests) in
+            let within : is_within least most n ≡ true = grind (arith, nat_tests) in
+            let exact : (least == most) ≡ true → (least == n) ≡ true = λ e. grind (arith, nat_tests) in
+            (λ i. is_empty (kinds_by (none i) (least == most) (least == n) (few i) (many i))) ∙ enough (least == most) (least == n) exact ∙ sym within
+      ]
     ]
 
 strings_pass : (vs : List Text) → values_kinds false parser.String vs ≡ []
@@ -94,91 +72,82 @@ kinds_only : (a b : Kinds) → b ≡ [] → is_empty (or_else (or_else a b) []) 
 kinds_only [] b none = ap (λ k. is_empty (or_else k [])) none
 kinds_only (k ∷ ks) b none = refl
 
--- the texts so far of the last argument, whose turn it is
-abbrev taking : ℕ → List Row → List Text → Walk
-taking position rows vs = record {
-  held = record { rows = rows; pending = Some (codes "script", vs); skip = 0 };
+-- ---- the walk over the arguments
+
+-- the texts so far
+abbrev taking : List Text → Walk
+taking vs = record {
+  held = record { rows = []; pending = Some (codes "argument", vs); skip = 0 };
   waiting = positional;
-  position = position;
+  position = 1;
   is_trailing = false;
   stopped = None;
 }
 
-module _ (s : Shape) (position : ℕ) (rows : List Row)
-    (turn : (vs : List Text) (x : Text) → step s.rules (taking position rows vs) x ≡ taking position rows (vs ++ x ∷ []))
-    (fine : (vs : List Text) → step_fault s position (taking position rows vs).held value ≡ []) where
-  taken : (vs xs : List Text) → fold (step s.rules) (taking position rows vs) xs ≡ taking position rows (vs ++ xs)
-  taken vs [] = ap (taking position rows) (sym (append-nil vs))
-  taken vs (x ∷ xs) =
-      ap (λ w. fold (step s.rules) w xs) (turn vs x)
-      ∙ taken (vs ++ x ∷ []) xs
-      ∙ ap (taking position rows) (append_assoc vs (x ∷ []) xs)
+-- what a shape of one argument of so many texts does
+record Takes (s : Shape) (least most : ℕ) : Type 0 where
+  pub some : 0 < least
+  pub order : least ≤ most
+  pub first : (x : Text) → step s.rules start x ≡ taking (x ∷ [])
+  pub turn : (vs : List Text) (x : Text) → step s.rules (taking vs) x ≡ taking (vs ++ x ∷ [])
+  pub begins : step_fault s 1 nothing_held value ≡ []
+  pub fine : (vs : List Text) → step_fault s 1 (taking vs).held value ≡ []
+  pub none : is_empty (leaf_fault s []) ≡ false
+  pub end : (x : Text) (xs : List Text) → end_fault s (taking (x ∷ xs)).held ≡ or_else (or_else (range_kinds least most (length (x ∷ xs))) (values_kinds false parser.String (x ∷ xs))) []
+  pub found : (x : Text) (xs : List Text) → all_of (codes "argument") (finished s.rules (taking (x ∷ xs)).held) ≡ Some (x ∷ xs)
 
-  taken_fault : (vs xs : List Text) → steps_fault s (taking position rows vs) xs ≡ []
+module _ (s : Shape) (least most : ℕ) (t : Takes s least most) where
+  taken : (vs xs : List Text) → fold (step s.rules) (taking vs) xs ≡ taking (vs ++ xs)
+  taken vs [] = ap taking (sym (append-nil vs))
+  taken vs (x ∷ xs) =
+      ap (λ w. fold (step s.rules) w xs) (t.turn vs x)
+      ∙ taken (vs ++ x ∷ []) xs
+      ∙ ap taking (append_assoc vs (x ∷ []) xs)
+
+  all_taken : (x : Text) (xs : List Text) → fold (step s.rules) start (x ∷ xs) ≡ taking (x ∷ xs)
+  all_taken x xs = ap (λ w. fold (step s.rules) w xs) (t.first x) ∙ taken (x ∷ []) xs
+
+  taken_fault : (vs xs : List Text) → steps_fault s (taking vs) xs ≡ []
   taken_fault vs [] = refl
   taken_fault vs (x ∷ xs) =
-      ap₂ or_else (fine vs) (ap (λ w. steps_fault s w xs) (turn vs x) ∙ taken_fault (vs ++ x ∷ []) xs)
+      ap₂ or_else (t.fine vs) (ap (λ w. steps_fault s w xs) (t.turn vs x) ∙ taken_fault (vs ++ x ∷ []) xs)
 
--- what is found of the arguments before the last
-abbrev rows_before : Shape → List Text → List Row
-rows_before s words = (settled s.rules (fold (step s.rules) start words).held).rows
+  all_fault : (x : Text) (xs : List Text) → steps_fault s start (x ∷ xs) ≡ []
+  all_fault x xs = ap₂ or_else t.begins (ap (λ w. steps_fault s w xs) (t.first x) ∙ taken_fault (x ∷ []) xs)
 
-run_end : (rows : List Row) (a b c x : Text) (xs : List Text) → rows ≡ rows_before (ready run) (a ∷ b ∷ c ∷ []) → end_fault (ready run) (taking 4 rows (x ∷ xs)).held
-    ≡ or_else (or_else (range_kinds 1 64 (length (x ∷ xs))) (values_kinds false parser.String (x ∷ xs))) []
+  shape_takes : (words : List Text) → is_empty (leaf_fault s words) ≡ is_within least most (length words)
+  shape_takes [] =
+      let few : is_within least most 0 ≡ false = let some = t.some in grind (arith, nat_tests) in
+      t.none ∙ sym few
+  shape_takes (x ∷ xs) =
+      ap₂ (λ (k : Kinds) (w : Walk). is_empty (or_else k (end_fault s w.held))) (all_fault x xs) (all_taken x xs)
+      ∙ ap is_empty (t.end x xs)
+      ∙ kinds_only (range_kinds least most (length (x ∷ xs))) (values_kinds false parser.String (x ∷ xs)) (strings_pass (x ∷ xs))
+      ∙ counted least most (length (x ∷ xs)) (omega arith) t.order
+
+  shape_says : (words : List Text) → is_within least most (length words) ≡ true → all_of (codes "argument") (leaf_rows s.rules words) ≡ Some words
+  shape_says [] e =
+      let few : is_within least most 0 ≡ false = let some = t.some in grind (arith, nat_tests) in
+      let bad : true ≡ false = sym e ∙ few in
+      cc
+  shape_says (x ∷ xs) e = ap (λ (w : Walk). all_of (codes "argument") (finished s.rules w.held)) (all_taken x xs) ∙ t.found x xs
+
+-- ---- each command
+
+command_shape : (name : CommandName) → Takes (ready name) (least_of name) (most_of name)
 unfolding defaults_fault
-run_end rows a b c x xs e = rw e refl
+command_shape Run = record { some = omega arith; order = omega arith; first = λ x. refl; turn = λ vs x. refl; begins = refl; fine = λ vs. refl; none = refl; end = λ x xs. refl; found = λ x xs. refl }
+command_shape Trace = record { some = omega arith; order = omega arith; first = λ x. refl; turn = λ vs x. refl; begins = refl; fine = λ vs. refl; none = refl; end = λ x xs. refl; found = λ x xs. refl }
+command_shape Show = record { some = omega arith; order = omega arith; first = λ x. refl; turn = λ vs x. refl; begins = refl; fine = λ vs. refl; none = refl; end = λ x xs. refl; found = λ x xs. refl }
+command_shape Gen = record { some = omega arith; order = omega arith; first = λ x. refl; turn = λ vs x. refl; begins = refl; fine = λ vs. refl; none = refl; end = λ x xs. refl; found = λ x xs. refl }
+command_shape Large = record { some = omega arith; order = omega arith; first = λ x. refl; turn = λ vs x. refl; begins = refl; fine = λ vs. refl; none = refl; end = λ x xs. refl; found = λ x xs. refl }
+command_shape Audit = record { some = omega arith; order = omega arith; first = λ x. refl; turn = λ vs x. refl; begins = refl; fine = λ vs. refl; none = refl; end = λ x xs. refl; found = λ x xs. refl }
+command_shape Watch = record { some = omega arith; order = omega arith; first = λ x. refl; turn = λ vs x. refl; begins = refl; fine = λ vs. refl; none = refl; end = λ x xs. refl; found = λ x xs. refl }
+command_shape Journal = record { some = omega arith; order = omega arith; first = λ x. refl; turn = λ vs x. refl; begins = refl; fine = λ vs. refl; none = refl; end = λ x xs. refl; found = λ x xs. refl }
+command_shape Recover = record { some = omega arith; order = omega arith; first = λ x. refl; turn = λ vs x. refl; begins = refl; fine = λ vs. refl; none = refl; end = λ x xs. refl; found = λ x xs. refl }
 
-pub run_takes : (words : List Text) → is_empty (leaf_fault (ready run) words) ≡ are_of_run words
-unfolding defaults_fault
-run_takes [] = refl
-run_takes (a ∷ []) = refl
-run_takes (a ∷ b ∷ []) = refl
-run_takes (a ∷ b ∷ c ∷ []) = refl
-run_takes (a ∷ b ∷ c ∷ x ∷ xs) =
-    let rows = rows_before (ready run) (a ∷ b ∷ c ∷ []) in
-    ap₂ (λ (k : Kinds) (w : Walk). is_empty (or_else k (end_fault (ready run) w.held)))
-    (taken_fault (ready run) 4 rows (λ vs x. refl) (λ vs. refl) (x ∷ []) xs)
-    (taken (ready run) 4 rows (λ vs x. refl) (λ vs. refl) (x ∷ []) xs)
-    ∙ ap is_empty (run_end rows a b c x xs refl)
-    ∙ kinds_only (range_kinds 1 64 (length (x ∷ xs))) (values_kinds false parser.String (x ∷ xs)) (strings_pass (x ∷ xs))
-    ∙ counted (length (x ∷ xs)) (omega arith)
+pub command_takes : (name : CommandName) (words : List Text) → is_empty (leaf_fault (ready name) words) ≡ takes name (length words)
+command_takes name words = shape_takes (ready name) (least_of name) (most_of name) (command_shape name) words
 
-pub run_says : (words : List Text) → are_of_run words ≡ true → Says (codes "run") run words
-run_says [] e = cc
-run_says (a ∷ []) e = cc
-run_says (a ∷ b ∷ []) e = cc
-run_says (a ∷ b ∷ c ∷ []) e = cc
-run_says (a ∷ b ∷ c ∷ x ∷ xs) e =
-    let rows = rows_before (ready run) (a ∷ b ∷ c ∷ []) in
-    ap (λ (w : Walk). command_in (codes "run") (finished (ready run).rules w.held)) (taken (ready run) 4 rows (λ vs x. refl) (λ vs. refl) (x ∷ []) xs)
-
-trace_end : (rows : List Row) (a b c d x : Text) (xs : List Text) → rows ≡ rows_before (ready trace) (a ∷ b ∷ c ∷ d ∷ []) → end_fault (ready trace) (taking 5 rows (x ∷ xs)).held
-    ≡ or_else (or_else (range_kinds 1 64 (length (x ∷ xs))) (values_kinds false parser.String (x ∷ xs))) []
-unfolding defaults_fault
-trace_end rows a b c d x xs e = rw e refl
-
-pub trace_takes : (words : List Text) → is_empty (leaf_fault (ready trace) words) ≡ are_of_trace words
-unfolding defaults_fault
-trace_takes [] = refl
-trace_takes (a ∷ []) = refl
-trace_takes (a ∷ b ∷ []) = refl
-trace_takes (a ∷ b ∷ c ∷ []) = refl
-trace_takes (a ∷ b ∷ c ∷ d ∷ []) = refl
-trace_takes (a ∷ b ∷ c ∷ d ∷ x ∷ xs) =
-    let rows = rows_before (ready trace) (a ∷ b ∷ c ∷ d ∷ []) in
-    ap₂ (λ (k : Kinds) (w : Walk). is_empty (or_else k (end_fault (ready trace) w.held)))
-    (taken_fault (ready trace) 5 rows (λ vs x. refl) (λ vs. refl) (x ∷ []) xs)
-    (taken (ready trace) 5 rows (λ vs x. refl) (λ vs. refl) (x ∷ []) xs)
-    ∙ ap is_empty (trace_end rows a b c d x xs refl)
-    ∙ kinds_only (range_kinds 1 64 (length (x ∷ xs))) (values_kinds false parser.String (x ∷ xs)) (strings_pass (x ∷ xs))
-    ∙ counted (length (x ∷ xs)) (omega arith)
-
-pub trace_says : (words : List Text) → are_of_trace words ≡ true → Says (codes "trace") trace words
-trace_says [] e = cc
-trace_says (a ∷ []) e = cc
-trace_says (a ∷ b ∷ []) e = cc
-trace_says (a ∷ b ∷ c ∷ []) e = cc
-trace_says (a ∷ b ∷ c ∷ d ∷ []) e = cc
-trace_says (a ∷ b ∷ c ∷ d ∷ x ∷ xs) e =
-    let rows = rows_before (ready trace) (a ∷ b ∷ c ∷ d ∷ []) in
-    ap (λ (w : Walk). command_in (codes "trace") (finished (ready trace).rules w.held)) (taken (ready trace) 5 rows (λ vs x. refl) (λ vs. refl) (x ∷ []) xs)
+pub command_says : (name : CommandName) (words : List Text) → takes name (length words) ≡ true → all_of (codes "argument") (leaf_rows (ready name).rules words) ≡ Some words
+command_says name words e = shape_says (ready name) (least_of name) (most_of name) (command_shape name) words e

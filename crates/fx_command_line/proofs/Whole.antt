@@ -1,21 +1,22 @@
 -- The whole command line: the program's parser takes the plain words that have a command's form, and its matches say them.
-use Rattle.std.proofs.Common.{◌≡◌, Bool, true, false, cond, ◌||◌, inl, inr, List, [], ◌∷◌, Option, Some, None, refl, sym, ap, ap₂, subst, ◌∙◌, codes}
-use Rattle.std.specs.Prelude.{◌⊎◌, is_some}
+use Rattle.std.proofs.Common.{◌≡◌, Bool, true, false, List, [], ◌∷◌, length, Option, Some, None, refl, sym, ap, ap₂, subst, ◌∙◌, codes}
+use Rattle.std.specs.Prelude.{find, is_some}
 use Rattle.std.specs.List.{fold, list_all}
-use Rattle.std.specs.Option.{option_map}
-use Rattle.std.specs.Str.{bytes_eq}
-use Rattle.std.proofs.lemmas.Slice.Eq.{bytes_eq-Decides}
+use Rattle.std.specs.Option.{option_map, option_map_or, option_and_then}
 use Rattle.clap.specs.Kinds.{Kinds, or_else}
-use Rattle.clap.specs.Walk.{Names, Row, Text, Walk, finished, idle, is_empty, nothing_held, rows_after, settled, subcommand_met, walked}
-use Rattle.clap.specs.Simple.{Shape, built, entered, names_of, subcommand_of}
+use Rattle.clap.specs.Walk.{Names, Row, Text, Walk, all_of, answers_to, finished, idle, is_empty, nothing_held, rows_after, settled, subcommand_met, walked}
+use Rattle.clap.specs.Simple.{Shape, built, entered, label_of, names_of, rows_at, subcommand_of}
 use Rattle.clap.specs.Faults.{check_fault, defaults_fault, entered_fault, fault_of, level_fault, settle_fault, turn_fault, walk_fault}
 use Rattle.clap.proofs.WalkLemmas.{walk_stopped}
 use Rattle.clap.proofs.FaultLemmas.{stopped_fault}
-use Rattle.fx_command_line.specs.Forms.{are_of_run, are_of_trace, are_two, has_form, is_plain, takes}
-use Rattle.fx_command_line.specs.Matched.{words_in, command_in}
-use Rattle.fx_command_line.specs.Parser.{gen, large, program, run, show, trace}
+use Rattle.fx_command_line.specs.declared.form.CommandName.{CommandName}
+use Rattle.fx_command_line.specs.declared.form.CommandName.TheVariants.{Run, Trace, Show, Gen, Large, Audit, Watch, Journal, Recover}
+use Rattle.fx_command_line.specs.Forms.{command_named, commands, has_form, is_plain, takes, word_of}
+use Rattle.fx_command_line.specs.Matched.{command_in, words_in}
+use Rattle.fx_command_line.specs.Parser.{program}
 use Rattle.fx_command_line.proofs.Walks.{both, level_is, rows_are, start, turn_is}
-use Rattle.fx_command_line.proofs.Leaves.{Says, ready, gen_says, gen_takes, large_says, large_takes, run_says, run_takes, show_says, show_takes, trace_says, trace_takes}
+use Rattle.fx_command_line.proofs.Leaves.{command_says, command_takes, ready}
+use Rattle.fx_command_line.proofs.Names.{command_is, labels, named_so, unfound}
 
 abbrev names : Names
 names = names_of (built program)
@@ -23,11 +24,52 @@ names = names_of (built program)
 abbrev top : Shape
 top = (built program).top
 
+-- ---- the word of a command
+
+first_stops : (name : CommandName) → walked top.rules names start (word_of name) ≡ record start { stopped = Some (word_of name, []) }
+unfolding walked
+first_stops Run = refl
+first_stops Trace = refl
+first_stops Show = refl
+first_stops Gen = refl
+first_stops Large = refl
+first_stops Audit = refl
+first_stops Watch = refl
+first_stops Journal = refl
+first_stops Recover = refl
+
+first_passes : (name : CommandName) → turn_fault top names start (word_of name) ≡ []
+first_passes Run = refl
+first_passes Trace = refl
+first_passes Show = refl
+first_passes Gen = refl
+first_passes Large = refl
+first_passes Audit = refl
+first_passes Watch = refl
+first_passes Journal = refl
+first_passes Recover = refl
+
+found : (name : CommandName) → find (λ s. answers_to (word_of name) (label_of s)) (built program).subs ≡ Some (ready name)
+found Run = refl
+found Trace = refl
+found Show = refl
+found Gen = refl
+found Large = refl
+found Audit = refl
+found Watch = refl
+found Journal = refl
+found Recover = refl
+
 -- after a command's name the words are left to it
-left_to : (name : Text) (words : List Text) → walked top.rules names start name ≡ record start { stopped = Some (name, []) }
-    → fold (walked top.rules names) start (name ∷ words) ≡ record start { stopped = Some (name, words) }
-left_to name words e =
-    ap (λ w. fold (walked top.rules names) w words) e ∙ sym (walk_stopped top.rules names start name [] words)
+left_to : (name : CommandName) (words : List Text) → fold (walked top.rules names) start (word_of name ∷ words) ≡ record start { stopped = Some (word_of name, words) }
+left_to name words =
+    ap (λ w. fold (walked top.rules names) w words) (first_stops name) ∙ sym (walk_stopped top.rules names start (word_of name) [] words)
+
+below_is : (name : CommandName) (words : List Text) → entered_fault (built program) (Some (word_of name, words)) ≡ level_fault (ready name) [] nothing_held words false []
+below_is name words = ap (λ o. option_map_or (λ s. level_fault s [] nothing_held words false []) o []) (found name)
+
+enters : (name : CommandName) (words : List Text) → entered (built program) (Some (word_of name, words)) ≡ Some (word_of name, rows_after (ready name).rules [] words)
+enters name words = ap (option_map (λ s. rows_at s words)) (found name)
 
 no_more : (k : Kinds) → or_else [] (or_else k []) ≡ k
 no_more [] = refl
@@ -42,142 +84,70 @@ ends walked_kinds below has w =
     (or_else (defaults_fault (settled top.rules w.held).rows top.rules) (check_fault top (finished top.rules w.held) has))))
 
 -- the words fail as the command's own level does
-
-fails_as : (name : Text) (words : List Text) (s : Shape) → walked top.rules names start name ≡ record start { stopped = Some (name, []) }
-    → turn_fault top names start name ≡ [] → entered_fault (built program) (Some (name, words)) ≡ level_fault s [] nothing_held words false []
-    → is_some (entered (built program) (Some (name, words))) ≡ true
-    → fault_of program (name ∷ words) ≡ level_fault s [] nothing_held words false []
+fails_as : (name : CommandName) (words : List Text) → fault_of program (word_of name ∷ words) ≡ level_fault (ready name) [] nothing_held words false []
 unfolding walk_fault defaults_fault
-fails_as name words s first none below there =
-    let stopped : Walk = record start { stopped = Some (name, words) } in
-    let walk_passes : walk_fault top names start (name ∷ words) ≡ [] =
-    ap₂ or_else none (ap (λ w. walk_fault top names w words) first ∙ stopped_fault top names start (name, []) words) in
-    ap (λ (w : Walk). ends (walk_fault top names start (name ∷ words)) (entered_fault (built program) w.stopped) (is_some (entered (built program) w.stopped)) w) (left_to name words first)
+fails_as name words =
+    let word = word_of name in
+    let stopped : Walk = record start { stopped = Some (word, words) } in
+    let walk_passes : walk_fault top names start (word ∷ words) ≡ [] =
+    ap₂ or_else (first_passes name) (ap (λ w. walk_fault top names w words) (first_stops name) ∙ stopped_fault top names start (word, []) words) in
+    let below = below_is name words in
+    let there : is_some (entered (built program) (Some (word, words))) ≡ true = ap is_some (enters name words) in
+    ap (λ (w : Walk). ends (walk_fault top names start (word ∷ words)) (entered_fault (built program) w.stopped) (is_some (entered (built program) w.stopped)) w) (left_to name words)
     ∙ (λ i. ends (walk_passes i) (below i) (there i) stopped)
-    ∙ no_more (level_fault s [] nothing_held words false [])
+    ∙ no_more (level_fault (ready name) [] nothing_held words false [])
 
 -- and its matches are the command's own
-says_as : (name : Text) (words : List Text) (rows : List Row) → walked top.rules names start name ≡ record start { stopped = Some (name, []) }
-    → entered (built program) (Some (name, words)) ≡ Some (name, rows) → subcommand_of program (name ∷ words) ≡ Some (name, rows)
-says_as name words rows first is = ap (λ (w : Walk). entered (built program) w.stopped) (left_to name words first) ∙ is
+says_as : (name : CommandName) (words : List Text) → subcommand_of program (word_of name ∷ words) ≡ Some (word_of name, rows_after (ready name).rules [] words)
+says_as name words = ap (λ (w : Walk). entered (built program) w.stopped) (left_to name words) ∙ enters name words
 
--- ---- by the command's name
-
-record Unnamed (w : Text) : Type 0 where
-  pub not_run : bytes_eq w (codes "run") ≡ false
-  pub not_trace : bytes_eq w (codes "trace") ≡ false
-  pub not_show : bytes_eq w (codes "show") ≡ false
-  pub not_gen : bytes_eq w (codes "gen") ≡ false
-  pub not_large : bytes_eq w (codes "large") ≡ false
-
-decide : (w n : Text) → (w ≡ n) ⊎ (bytes_eq w n ≡ false)
-decide w n = at (bytes_eq w n) refl
-  where
-    at : (b : Bool) → bytes_eq w n ≡ b → (w ≡ n) ⊎ (bytes_eq w n ≡ false)
-    at true e = inl ((bytes_eq-Decides w n).0 e)
-    at false e = inr e
-
-by_name : (w : Text) (P : Text → Type 0) → P (codes "run") → P (codes "trace") → P (codes "show") → P (codes "gen") → P (codes "large") → (Unnamed w → P w) → P w
-by_name w P r t s g l other = elim (decide w (codes "run")) [
-  | inl e ↦ subst P (sym e) r
-  | inr a ↦ elim (decide w (codes "trace")) [
-    | inl e ↦ subst P (sym e) t
-    | inr b ↦ elim (decide w (codes "show")) [
-      | inl e ↦ subst P (sym e) s
-      | inr c ↦ elim (decide w (codes "gen")) [
-        | inl e ↦ subst P (sym e) g
-        | inr d ↦ elim (decide w (codes "large")) [
-          | inl e ↦ subst P (sym e) l
-          | inr f ↦ other (record { not_run = a; not_trace = b; not_show = c; not_gen = d; not_large = f })
-        ]
-      ]
-    ]
-  ]
-]
-
-flipped : (w n : Text) → bytes_eq w n ≡ false → bytes_eq n w ≡ false
-flipped w n e = at (bytes_eq n w) refl
-  where
-    at : (b : Bool) → bytes_eq n w ≡ b → b ≡ false
-    at false f = refl
-    at true f =
-        let same : w ≡ n = sym ((bytes_eq-Decides n w).0 f) in
-        let bad : bytes_eq w n ≡ true = (bytes_eq-Decides w n).1 same in
-        sym bad ∙ e
-
-abbrev met_by : Bool → Bool → Bool → Bool → Bool → Option Text
-met_by r t s g l =
-    option_map (λ (p : Text × List Text). p.0)
-    (cond (r || false) (Some (codes "run", []))
-    (cond (t || false) (Some (codes "trace", []))
-    (cond (s || false) (Some (codes "show", []))
-    (cond (g || false) (Some (codes "gen", []))
-    (cond (l || false) (Some (codes "large", [])) None)))))
-
-unmet : (w : Text) → Unnamed w → subcommand_met names idle w ≡ None
-unmet w u =
-    let r = flipped w (codes "run") u.not_run in
-    let t = flipped w (codes "trace") u.not_trace in
-    let s = flipped w (codes "show") u.not_show in
-    let g = flipped w (codes "gen") u.not_gen in
-    let l = flipped w (codes "large") u.not_large in
-    λ i. met_by (r i) (t i) (s i) (g i) (l i)
-
-untaken : (w : Text) (words : List Text) → Unnamed w → takes w words ≡ false
-untaken w words u = λ i.
-    cond (u.not_run i) (are_of_run words)
-    (cond (u.not_trace i) (are_of_trace words)
-    (cond (u.not_show i) (are_two words) (cond (u.not_gen i) (are_two words) (cond (u.not_large i) (are_two words) false))))
+-- ---- a word that names no command is refused
 
 some_kind : (a b c : Kinds) → is_empty a ≡ false → is_empty (or_else (or_else a b) c) ≡ false
 some_kind [] b c e = cc
 some_kind (k ∷ ks) b c e = e
 
--- a word that names no command is refused
-unnamed_fails : (w : Text) (words : List Text) → is_plain w ≡ true → Unnamed w → is_empty (fault_of program (w ∷ words)) ≡ false
+unmet : (w : Text) → command_named w ≡ None → subcommand_met names idle w ≡ None
+unmet w none = ap (option_map (λ (p : Text × List Text). p.0)) (unfound commands w none)
+
+unnamed_fails : (w : Text) (words : List Text) → is_plain w ≡ true → command_named w ≡ None → is_empty (fault_of program (w ∷ words)) ≡ false
 unfolding walk_fault
-unnamed_fails w words plain u =
-    some_kind (turn_fault top names start w) _ _ (ap is_empty (turn_is top names start w plain (refl, refl) (unmet w u)))
+unnamed_fails w words plain none =
+    some_kind (turn_fault top names start w) _ _ (ap is_empty (turn_is top names start w plain (refl, refl) (unmet w none)))
 
-abbrev Takes : List Text → Text → Type 0
-Takes words w = list_all is_plain (w ∷ words) ≡ true → is_empty (fault_of program (w ∷ words)) ≡ takes w words
+-- ---- the program's parser takes exactly the words that have a command's form
 
-rest_plain : (w : Text) (words : List Text) → list_all is_plain (w ∷ words) ≡ true → list_all is_plain words ≡ true
-rest_plain w words plain = (both (is_plain w) (list_all is_plain words) plain).1
+abbrev form_by : List Text → Option CommandName → Bool
+form_by words o = option_map_or (λ name. takes name (length words)) o false
 
--- the program's parser takes exactly the words that have a command's form
+named_takes : (name : CommandName) (words : List Text) → list_all is_plain words ≡ true → is_empty (fault_of program (word_of name ∷ words)) ≡ takes name (length words)
+named_takes name words plain = ap is_empty (fails_as name words ∙ level_is (ready name) words plain) ∙ command_takes name words
+
 pub program_takes : (words : List Text) → list_all is_plain words ≡ true → is_empty (fault_of program words) ≡ has_form words
 unfolding walk_fault walked defaults_fault
 program_takes [] plain = refl
-program_takes (w ∷ words) plain = by_name w (Takes words)
-    (λ p. ap is_empty (fails_as (codes "run") words (ready run) refl refl refl refl ∙ level_is (ready run) words (rest_plain (codes "run") words p)) ∙ run_takes words)
-    (λ p. ap is_empty (fails_as (codes "trace") words (ready trace) refl refl refl refl ∙ level_is (ready trace) words (rest_plain (codes "trace") words p)) ∙ trace_takes words)
-    (λ p. ap is_empty (fails_as (codes "show") words (ready show) refl refl refl refl ∙ level_is (ready show) words (rest_plain (codes "show") words p)) ∙ show_takes words)
-    (λ p. ap is_empty (fails_as (codes "gen") words (ready gen) refl refl refl refl ∙ level_is (ready gen) words (rest_plain (codes "gen") words p)) ∙ gen_takes words)
-    (λ p. ap is_empty (fails_as (codes "large") words (ready large) refl refl refl refl ∙ level_is (ready large) words (rest_plain (codes "large") words p)) ∙ large_takes words)
-    (λ u p. unnamed_fails w words (both (is_plain w) (list_all is_plain words) p).0 u ∙ sym (untaken w words u))
-    plain
+program_takes (w ∷ words) plain = at (command_named w) refl
+  where
+    at : (o : Option CommandName) → command_named w ≡ o → is_empty (fault_of program (w ∷ words)) ≡ form_by words (command_named w)
+    at None none = unnamed_fails w words (both (is_plain w) (list_all is_plain words) plain).0 none ∙ ap (form_by words) (sym none)
+    at (Some name) is =
+        let rest = (both (is_plain w) (list_all is_plain words) plain).1 in
+        ap (λ v. is_empty (fault_of program (v ∷ words))) (sym (command_is w name is)) ∙ named_takes name words rest ∙ ap (form_by words) (sym is)
 
-abbrev Reads : List Text → Text → Type 0
-Reads words w = list_all is_plain (w ∷ words) ≡ true → takes w words ≡ true → words_in (subcommand_of program (w ∷ words)) ≡ Some (w ∷ words)
+-- ---- and its matches say these words
 
-reads_as : (name : Text) (s : Shape) (words : List Text) → walked top.rules names start name ≡ record start { stopped = Some (name, []) }
-    → entered (built program) (Some (name, words)) ≡ Some (name, rows_after (ready s).rules [] words)
-    → list_all is_plain words ≡ true → Says name s words → words_in (subcommand_of program (name ∷ words)) ≡ Some (name ∷ words)
-reads_as name s words first is plain says =
-    ap words_in (says_as name words (rows_after (ready s).rules [] words) first is)
-    ∙ ap (command_in name) (rows_are (ready s).rules words plain)
-    ∙ says
+named_says : (name : CommandName) (words : List Text) → list_all is_plain words ≡ true → takes name (length words) ≡ true → words_in (subcommand_of program (word_of name ∷ words)) ≡ Some (word_of name ∷ words)
+named_says name words plain form =
+    ap words_in (says_as name words)
+    ∙ ap (command_in (word_of name)) (rows_are (ready name).rules words plain)
+    ∙ ap₂ (λ (o : Option CommandName) (texts : Option (List Text)). option_and_then (λ n. option_map (λ arguments. word_of n ∷ arguments) texts) o) (named_so name) (command_says name words form)
 
--- and its matches say these words
 pub program_reads : (words : List Text) → list_all is_plain words ≡ true → has_form words ≡ true → words_in (subcommand_of program words) ≡ Some words
-unfolding walked
 program_reads [] plain form = cc
-program_reads (w ∷ words) plain form = by_name w (Reads words)
-    (λ p e. reads_as (codes "run") run words refl refl (rest_plain (codes "run") words p) (run_says words e))
-    (λ p e. reads_as (codes "trace") trace words refl refl (rest_plain (codes "trace") words p) (trace_says words e))
-    (λ p e. reads_as (codes "show") show words refl refl (rest_plain (codes "show") words p) (show_says words e))
-    (λ p e. reads_as (codes "gen") gen words refl refl (rest_plain (codes "gen") words p) (gen_says words e))
-    (λ p e. reads_as (codes "large") large words refl refl (rest_plain (codes "large") words p) (large_says words e))
-    (λ u p e. let no : takes w words ≡ false = untaken w words u in let bad : true ≡ false = sym e ∙ no in cc)
-    plain form
+program_reads (w ∷ words) plain form = at (command_named w) refl form
+  where
+    at : (o : Option CommandName) → command_named w ≡ o → form_by words o ≡ true → words_in (subcommand_of program (w ∷ words)) ≡ Some (w ∷ words)
+    at None none e = cc
+    at (Some name) is e =
+        let rest = (both (is_plain w) (list_all is_plain words) plain).1 in
+        subst (λ v. words_in (subcommand_of program (v ∷ words)) ≡ Some (v ∷ words)) (command_is w name is) (named_says name words rest e)

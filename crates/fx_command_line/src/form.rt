@@ -1,46 +1,76 @@
+//! The commands of the program, and how many arguments each takes.
+ghost use Rattle.std.specs.Prelude.{◌≡◌, ◌+◌, ◌≤◌};
+ghost use Rattle.fx_command_line.specs.Forms as forms;
+ghost use Rattle.fx_command_line.specs.Forms.{least_of, most_of};
+
+use fx_base::SHELL_LIMIT;
+use std::ops::RangeInclusive;
+
+/// The most scripts that a command takes.
+const SCRIPT_LIMIT: usize = SHELL_LIMIT as usize;
+
+/// A command of the program.
+#[derive(Debug, Clone, Copy)]
+pub enum CommandName {
+    Run,
+    Trace,
+    Show,
+    Gen,
+    Large,
+    Audit,
+    Watch,
+    Journal,
+    Recover,
+}
+
 /// A command that the words name, with its arguments as they stand there.
 #[derive(Drop)]
-pub enum Form<'a> {
-    Run(RunForm<'a>),
-    Trace(TraceForm<'a>),
-    Show(ShowForm<'a>),
-    Gen(GenForm<'a>),
-    Large(GenForm<'a>),
+pub struct Form<'a> {
+    pub command: CommandName,
+    pub arguments: Vec<&'a str>,
 }
 
-/// SPEC, FOLDER and OUT.
-#[derive(Clone, Copy)]
-pub struct Places<'a> {
-    pub spec: &'a str,
-    pub folder: &'a str,
-    pub out: &'a str,
-}
+/// Every command.
+pub(crate) const COMMANDS: [CommandName; 9] = [
+    CommandName::Run,
+    CommandName::Trace,
+    CommandName::Show,
+    CommandName::Gen,
+    CommandName::Large,
+    CommandName::Audit,
+    CommandName::Watch,
+    CommandName::Journal,
+    CommandName::Recover,
+];
 
-/// The arguments of `run SPEC FOLDER OUT SCRIPT...`.
-#[derive(Drop)]
-pub struct RunForm<'a> {
-    pub places: Places<'a>,
-    pub scripts: Vec<&'a str>,
-}
+impl CommandName {
+    /// The word that names the command.
+    pub(crate) fn word(self) -> &'static str
+        ensures { result.now ≡ forms.word_of self }
+    {
+        match self {
+            CommandName::Run => "run",
+            CommandName::Trace => "trace",
+            CommandName::Show => "show",
+            CommandName::Gen => "gen",
+            CommandName::Large => "large",
+            CommandName::Audit => "audit",
+            CommandName::Watch => "watch",
+            CommandName::Journal => "journal",
+            CommandName::Recover => "recover",
+        }
+    }
 
-/// The arguments of `trace SPEC FOLDER OUT SCHEDULE SCRIPT...`.
-#[derive(Drop)]
-pub struct TraceForm<'a> {
-    pub places: Places<'a>,
-    pub schedule: &'a str,
-    pub scripts: Vec<&'a str>,
-}
-
-/// The arguments of `show SPEC FOLDER`.
-#[derive(Clone, Copy)]
-pub struct ShowForm<'a> {
-    pub spec: &'a str,
-    pub folder: &'a str,
-}
-
-/// The arguments of `gen NUMBER OUT`, and of `large NUMBER OUT`.
-#[derive(Clone, Copy)]
-pub struct GenForm<'a> {
-    pub number: &'a str,
-    pub out: &'a str,
+    /// How many arguments the command takes: some texts, and then scripts.
+    pub(crate) fn argument_count(self) -> RangeInclusive<usize>
+        ensures least { result.start ≡ least_of self }
+        ensures most { result.end ≡ most_of self }
+    {
+        match self {
+            CommandName::Show | CommandName::Gen | CommandName::Large => 2..=2,
+            CommandName::Run | CommandName::Audit => 4..=3 + SCRIPT_LIMIT,
+            CommandName::Trace | CommandName::Watch | CommandName::Recover => 5..=4 + SCRIPT_LIMIT,
+            CommandName::Journal => 6..=5 + SCRIPT_LIMIT,
+        }
+    }
 }

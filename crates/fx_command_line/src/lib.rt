@@ -7,5 +7,5 @@ mod parser;
 mod reading;
 
 pub use fault::WordsFault;
-pub use form::{Form, GenForm, Places, RunForm, ShowForm, TraceForm};
+pub use form::{CommandName, Form};
 pub use reading::read_words;

@@ -1,10 +1,9 @@
 -- The names that the texts of a set are.
-use Rattle.std.proofs.Common.{◌≡◌, ℕ, zero, suc, ◌+◌, ◌≤◌, Bool, true, false, cond, ◌&&◌, List, [], ◌∷◌, ◌++◌, length, get_or, take, Some, Result, Ok, Err, refl, sym, subst, ap, ◌∙◌, All}
-use Rattle.std.specs.Prelude.{slice_get, IsErrAnd}
+use Rattle.std.proofs.Common.{◌≡◌, ℕ, Bool, true, false, cond, ◌&&◌, List, [], ◌∷◌, ◌++◌, Result, Ok, Err, refl, sym, subst, ap, ◌∙◌, All}
+use Rattle.std.specs.Prelude.{IsErrAnd}
 use Rattle.std.specs.List.{list_all}
-use Rattle.std.proofs.lemmas.List.{take_more, take_all}
+use Rattle.std.proofs.lemmas.List.{append-nil, append_assoc}
 use Rattle.std.proofs.lemmas.List.Elements.{All-nil, All-cons}
-use Rattle.std.proofs.lemmas.Option.{get_or_from_slice_get, slice_get_within}
 use Rattle.fx_store.specs.declared.node.Node.TheVariants.{Dir}
 use Rattle.fx_store.specs.declared.name.PathFault.{PathFault}
 use Rattle.fx_store.specs.declared.name.PathFault.TheVariants.{BadName}
@@ -32,12 +31,11 @@ module _ (test : List ℕ → Bool) where
   all_more [] x all e = both_true (test x) true e refl
   all_more (y ∷ xs) x all e = let p = first_true (test y) (list_all test xs) all in both_true (test y) (list_all test (xs ++ x ∷ [])) p.0 (all_more xs x p.1 e)
 
-  all_fails : (xs : List (List ℕ)) (i : ℕ) (x : List ℕ) → slice_get xs i ≡ Some x → test x ≡ false → list_all test xs ≡ false
-  all_fails [] i x here e = cc
-  all_fails (y ∷ xs) zero x here e = let same : y ≡ x = cc in ap (λ y. test y && list_all test xs) same ∙ ap (λ b. b && list_all test xs) e
-  all_fails (y ∷ xs) (suc i) x here e = at (test y) (all_fails xs i x here e)
+  all_fails : (xs : List (List ℕ)) (x : List ℕ) (ys : List (List ℕ)) → test x ≡ false → list_all test (xs ++ x ∷ ys) ≡ false
+  all_fails [] x ys e = ap (λ b. b && list_all test ys) e
+  all_fails (y ∷ xs) x ys e = at (test y) (all_fails xs x ys e)
     where
-      at : (b : Bool) → list_all test xs ≡ false → b && list_all test xs ≡ false
+      at : (b : Bool) → list_all test (xs ++ x ∷ ys) ≡ false → b && list_all test (xs ++ x ∷ ys) ≡ false
       at true f = f
       at false f = refl
 
@@ -59,32 +57,32 @@ read_err t refusal e = at (is_name t) refl e
     at true f e = cc
     at false f e = let same : Refusal.BadName ≡ refusal = cc in (f, same)
 
--- so many of the texts are names
-pub record AreNamed (texts names : List (List ℕ)) (i : ℕ) : Type 0 where
-  pub same : names ≡ take i texts
+-- the texts before the rest are names
+pub record AreNamed (texts names rest : List (List ℕ)) : Type 0 where
+  pub same : names ++ rest ≡ texts
   pub all : list_all is_name names ≡ true
 
 module _ (texts : List (List ℕ)) where
-  pub naming_first : (names : List (List ℕ)) → names ≡ [] → AreNamed texts names 0
-  naming_first names none = record { same = none; all = ap (list_all is_name) none }
+  pub naming_first : (names rest : List (List ℕ)) → names ≡ [] → rest ≡ texts → AreNamed texts names rest
+  naming_first names rest none e = record { same = ap (λ ns. ns ++ rest) none ∙ e; all = ap (list_all is_name) none }
 
-  pub naming_next : (names longer : List (List ℕ)) (i : ℕ) (t name : List ℕ) → AreNamed texts names i → slice_get texts i ≡ Some t → name_read t ≡ Ok name → longer ≡ names ++ name ∷ [] → AreNamed texts longer (i + 1)
-  naming_next names longer i t name is here read added =
+  pub naming_next : (names longer rest more : List (List ℕ)) (t name : List ℕ) → AreNamed texts names rest → rest ≡ t ∷ more → name_read t ≡ Ok name → longer ≡ names ++ name ∷ [] → AreNamed texts longer more
+  naming_next names longer rest more t name is here read added =
       let ok = read_ok t name read in
-      let got : get_or texts i t ≡ t = get_or_from_slice_get texts i t t here in
       record {
-        same = added ∙ (ap (λ ns. ns ++ name ∷ []) is.same ∙ (ap (λ n. take i texts ++ n ∷ []) (ok.1 ∙ sym got) ∙ sym (take_more texts i t (slice_get_within texts i t here))));
+        same = ap (λ ns. ns ++ more) added ∙ (append_assoc names (name ∷ []) more ∙ (ap (λ n. names ++ n ∷ more) ok.1 ∙ (ap (λ ns. names ++ ns) (sym here) ∙ is.same)));
         all = ap (list_all is_name) added ∙ all_more is_name names name is.all (ap is_name ok.1 ∙ ok.0);
       }
 
-  pub naming_wrong : (i : ℕ) (t : List ℕ) (refusal : Refusal) → slice_get texts i ≡ Some t → name_read t ≡ Err refusal → names_node texts ≡ Err refusal
-  naming_wrong i t refusal here read =
+  pub naming_wrong : (names rest more : List (List ℕ)) (t : List ℕ) (refusal : Refusal) → AreNamed texts names rest → rest ≡ t ∷ more → name_read t ≡ Err refusal → names_node texts ≡ Err refusal
+  naming_wrong names rest more t refusal is here read =
       let bad = read_err t refusal read in
-      ap (λ b. cond b (Ok (Dir texts)) (Err Refusal.BadName)) (all_fails is_name texts i t here bad.0) ∙ ap (λ (r : Refusal). Err r) bad.1
+      let whole : names ++ t ∷ more ≡ texts = ap (λ ns. names ++ ns) (sym here) ∙ is.same in
+      ap (λ b. cond b (Ok (Dir texts)) (Err Refusal.BadName)) (ap (list_all is_name) (sym whole) ∙ all_fails is_name names t more bad.0) ∙ ap (λ (r : Refusal). Err r) bad.1
 
-  module _ (names : List (List ℕ)) (i : ℕ) (is : AreNamed texts names i) (past : length texts ≤ i) where
+  module _ (names rest : List (List ℕ)) (is : AreNamed texts names rest) (none : rest ≡ []) where
     whole : names ≡ texts
-    whole = is.same ∙ take_all i texts past
+    whole = sym (append-nil names) ∙ (ap (λ ns. names ++ ns) (sym none) ∙ is.same)
 
     pub naming_set : IsAscending texts → IsNameSet names
     naming_set up = record { names = all_pass is_name names is.all; ascending = subst IsAscending (sym whole) up }
@@ -106,6 +104,10 @@ module _ {A B X Y : Type 0} (view : X → A) (then_view : Y → B) (told : Answe
 
 -- a name is read
 module _ (t : List ℕ) where
+  -- a text that is the name of some entry is that name
+  pub named_by : (name copy : List ℕ) → copy ≡ name → name ≡ t → is_name name ≡ true → name_read t ≡ Ok copy
+  named_by name copy same e is = ap (λ b. cond b (Ok t) (Err Refusal.BadName)) (ap is_name (sym e) ∙ is) ∙ ap (λ (n : List ℕ). Ok n) (sym e ∙ sym same)
+
   pub named_ok : (name : List ℕ) → read_name t ≡ Ok name → name_read t ≡ Ok name
   named_ok name e = at (is_name t) e
     where

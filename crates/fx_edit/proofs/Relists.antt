@@ -1,5 +1,5 @@
 -- Two sets of names, gone through side by side.
-use Rattle.std.proofs.Common.{◌≡◌, ℕ, zero, suc, ◌+◌, ◌<◌, Bool, true, false, ◌||◌, List, [], ◌∷◌, ◌++◌, length, drop, nat_eq, Result, Ok, Err, refl, sym, subst, ap, ◌∙◌, arith}
+use Rattle.std.proofs.Common.{◌≡◌, ℕ, ◌+◌, ◌<◌, ◌≤◌, Bool, true, false, ◌||◌, List, [], ◌∷◌, ◌++◌, length, drop, nat_eq, Result, Ok, Err, refl, sym, subst, ap, ◌∙◌, arith}
 use Rattle.std.specs.Prelude.{IsErrAnd}
 use Rattle.std.specs.declared.cmp.Ordering.TheVariants.{Less, Equal, Greater}
 use Rattle.std.specs.Ordering.{nat_cmp, eq_by_cmp}
@@ -19,7 +19,7 @@ use Rattle.fx_expr.proofs.Canon.{ascending_set}
 use Rattle.fx_expr.proofs.Merging.{least_of_first, least_of_second, least_less, least_equal, least_greater}
 use Rattle.fx_expr.proofs.Order.{other_greater, other_less, same_text}
 use Rattle.fx_spec.specs.Edit.{entry, entries}
-use Rattle.fx_edit.specs.Rules.{adding, left_of, change_of, IsFirst, IsNext}
+use Rattle.fx_edit.specs.Rules.{adding, left_of, change_of, IsFirst, IsNext, IsNextOf}
 use Rattle.fx_view.specs.declared.reader.Stop.{Stop}
 use Rattle.fx_view.specs.Follows.{GoesBy}
 use Rattle.fx_view.specs.Meaning.{Meaning}
@@ -167,24 +167,49 @@ module _ {R : Type 0} (m : Meaning R) (own : Known) (q old new : List (List ℕ)
         (goes_end m (λ (u : Unit {0}). so_far) own (start, 0) (now, 0) (adding begun (left q old new)) (adding so_far (left q a b)) (is.goes so_far)
         tt (none_left q a b so_far none)).goes
 
--- ---- places
+-- ---- what is left
 
-pub after_place : {A : Type 0} (xs : List A) (i : ℕ) → drop (i + 1) xs ≡ drop 1 (drop i xs)
-after_place [] zero = refl
-after_place [] (suc i) = let one : suc i + 1 ≡ suc (i + 1) = omega arith in ap (λ n. drop n []) one
-after_place (x ∷ xs) zero = refl
-after_place (x ∷ xs) (suc i) = let one : suc i + 1 ≡ suc (i + 1) = omega arith in ap (λ n. drop n (x ∷ xs)) one ∙ after_place xs i
+-- a set that has the next name is not empty
+pub some_new : (y : Bool) (b new : List (List ℕ)) (n : List ℕ) → IsFirst y b n → length b ≤ length new → y ≡ true → 0 < length new
+some_new true b new n w few e = omega (arith, ap length w, few)
+some_new false b new n w few e = absurd (cc)
 
-pub within_first : (x : Bool) (names : List (List ℕ)) (i : ℕ) (n : List ℕ) → IsFirst x (drop i names) n → x ≡ true → i < length names
-within_first false names i n w e = absurd (cc)
-within_first true [] zero n w e = absurd (cc)
-within_first true [] (suc i) n w e = absurd (cc)
-within_first true (m ∷ names) zero n w e = omega arith
-within_first true (m ∷ names) (suc i) n w e = omega (arith, within_first true names i n w e)
+fewer : (y : Bool) (b : List (List ℕ)) → length (left_of y b) ≤ length b
+fewer true [] = omega arith
+fewer true (n ∷ b) = omega arith
+fewer false b = omega arith
 
-pub ascending_drop : (names : List (List ℕ)) (i : ℕ) → IsAscending names → IsAscending (drop i names)
-unfolding IsStrictlySortedBy
-ascending_drop [] zero up = up
-ascending_drop [] (suc i) up = up
-ascending_drop (n ∷ names) zero up = up
-ascending_drop (n ∷ names) (suc i) up = ascending_drop names i up.1
+-- both sets that are left ascend, and the new names are no more than there were
+pub record AreLeft (new a b : List (List ℕ)) : Type 0 where
+  pub olds : IsAscending a
+  pub news : IsAscending b
+  pub few : length b ≤ length new
+
+pub left_after : (new a b : List (List ℕ)) (n : List ℕ) (x y : Bool) (c d : List (List ℕ)) → AreLeft new a b → IsNextOf a b n x y c d → AreLeft new c d
+left_after new a b n x y c d is next = record {
+  olds = subst (λ l. IsAscending l) (sym next.olds) next.next.least.first;
+  news = subst (λ l. IsAscending l) (sym next.news) next.next.least.second;
+  few = omega (arith, ap length next.news, fewer y b, is.few);
+}
+
+pub less_left : (a b : List (List ℕ)) (n : List ℕ) (x y : Bool) (c d : List (List ℕ)) → IsNextOf a b n x y c d → length c + length d < length a + length b
+less_left a b n x y c d next = omega (arith, ap length next.olds, ap length next.news, next.next.least.smaller)
+
+-- ---- the ways in which the next name is found
+
+module _ (a b : List (List ℕ)) (n : List ℕ) (c : List (List ℕ)) where
+  pub found_first : IsAscending a → a ≡ n ∷ c → b ≡ [] → IsNextOf a b n true false c b
+  found_first up e f = record { next = next_first a b n c up e f; olds = sym (ap (drop 1) e); news = refl }
+
+  pub found_second : IsAscending b → a ≡ [] → b ≡ n ∷ c → IsNextOf a b n false true a c
+  found_second up e f = record { next = next_second a b n c up e f; olds = refl; news = sym (ap (drop 1) f) }
+
+module _ (a b : List (List ℕ)) (s t : List ℕ) (c d : List (List ℕ)) (up : IsAscending a) (vp : IsAscending b) (e : a ≡ s ∷ c) (f : b ≡ t ∷ d) where
+  pub found_less : slice_cmp nat_cmp s t ≡ Less → IsNextOf a b s true false c b
+  found_less o = record { next = next_less a b s t c d up vp e f o; olds = sym (ap (drop 1) e); news = refl }
+
+  pub found_equal : slice_cmp nat_cmp s t ≡ Equal → IsNextOf a b s true true c d
+  found_equal o = record { next = next_equal a b s t c d up vp e f o; olds = sym (ap (drop 1) e); news = sym (ap (drop 1) f) }
+
+  pub found_greater : slice_cmp nat_cmp s t ≡ Greater → IsNextOf a b t false true a d
+  found_greater o = record { next = next_greater a b s t c d up vp e f o; olds = refl; news = sym (ap (drop 1) f) }

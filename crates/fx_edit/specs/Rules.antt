@@ -102,3 +102,9 @@ pub record IsNext (a b : List (List ℕ)) (n : List ℕ) (x y : Bool) : Type 0 w
   pub least : IsLeastOf a b n (left_of x a) (left_of y b)
   pub first : IsFirst x a n
   pub second : IsFirst y b n
+
+-- and these are left of the two sets without it
+pub record IsNextOf (a b : List (List ℕ)) (n : List ℕ) (x y : Bool) (c d : List (List ℕ)) : Type 0 where
+  pub next : IsNext a b n x y
+  pub olds : c ≡ left_of x a
+  pub news : d ≡ left_of y b

@@ -1,5 +1,5 @@
 //! The node that a value makes at a form, and the empty node of a form.
-ghost use Rattle.std.specs.Prelude.{◌≡◌, ◌<◌, Some, None, [], false, length, slice_get, IfOk};
+ghost use Rattle.std.specs.Prelude.{◌≡◌, None, [], false, IfOk, IfSome};
 ghost use Rattle.std.specs.Option.{option_copied};
 ghost use Rattle.fx_store.specs.declared.node.Node.TheVariants.{File, Dir};
 ghost use Rattle.fx_store.specs.Names.{IsContent};
@@ -13,21 +13,28 @@ ghost use Rattle.fx_spec.specs.Views.{spec_tree};
 ghost use Rattle.fx_spec.specs.declared.refusal.Refusal.TheVariants as refusal;
 ghost use Rattle.fx_edit.specs.Values.{text_of, texts_of, flag_of, name_read, Tells};
 
-use fx_base::NoMemory;
+use fx_base::{Items, NoMemory};
 use fx_expr::{Text, TextSet, Value};
 use fx_rules::Halt;
 use fx_spec::{Refusal, Spec};
 use fx_store::{Bytes, LinkText, Name, Names, Node, PathFault};
 use fx_view::Stop;
 use std::alloc::Global;
+use std::cmp::Ordering;
 
-/// The node that the value makes at a form, or why it makes none.
-pub(crate) fn stored_node(alloc: Global, form: &Spec, value: &Value) -> Result<Node, Halt>
+/// The node that the value makes at a form, or why it makes none. A directory shares the names that it has with the likely
+/// ones.
+pub(crate) fn stored_node(
+    alloc: Global,
+    form: &Spec,
+    value: &Value,
+    likely: &Names,
+) -> Result<Node, Halt>
     ensures { Tells (λ n. n) (edit.stored_node (spec_tree form.now) (tree_of value.now)) result }
 {
     match form {
         Spec::File => file_node(alloc, value),
-        Spec::Dir => dir_node(alloc, value),
+        Spec::Dir => dir_node(alloc, value, likely),
         Spec::Link => link_node(alloc, value),
         Spec::Focus(_, _)
         | Spec::Pair(_, _, _)
@@ -114,11 +121,11 @@ fn link_node(alloc: Global, value: &Value) -> Result<Node, Halt>
     }
 }
 
-fn dir_node(alloc: Global, value: &Value) -> Result<Node, Halt>
+fn dir_node(alloc: Global, value: &Value, likely: &Names) -> Result<Node, Halt>
     ensures { Tells (λ n. n) (edit.stored_node SpecTree.dir (tree_of value.now)) result }
 {
     match texts_in(value) {
-        Some(texts) => Ok(Node::Dir(names_of(alloc, texts)?)),
+        Some(texts) => Ok(Node::Dir(names_of(alloc, texts, likely)?)),
         None => Err(Halt::Refused(Refusal::WrongForm)),
     }
 }
@@ -178,27 +185,43 @@ fn link_of(alloc: Global, text: &Text) -> Result<Node, Halt>
     }
 }
 
-/// The names that the texts of a set are.
-fn names_of(alloc: Global, texts: &TextSet) -> Result<Names, Halt>
+/// The names that the texts of a set are, shared where they are among the likely ones.
+fn names_of(alloc: Global, texts: &TextSet, likely: &Names) -> Result<Names, Halt>
     ensures names { Tells (λ names. Dir names) (edit.names_node texts.now) result }
     ensures order { IsAscending texts.now }
 {
+    // The texts ascend.
+    let _len = texts.len();
     let mut names = Vec::new(alloc);
-    for i in 0..texts.len() {
-        names.push(name_of(alloc, text_at(texts, i))?)?;
+    let mut left = likely.iter();
+    for text in texts.iter() {
+        names.push(next_name(alloc, text, &mut left)?)?;
     }
     Ok(Names::from_vec(alloc, names)?)
 }
 
-/// The text at a place of a set.
-fn text_at(texts: &TextSet, i: u64) -> &Text
-    requires { i < length texts.now }
-    ensures { slice_get texts.now i ≡ Some result.now }
+/// The name that a text is, shared where it is among those that are left.
+fn next_name(alloc: Global, text: &Text, left: &mut Items<'_, Name>) -> Result<Name, Halt>
+    ensures { Tells (λ name. name) (name_read text.now) result }
 {
-    match texts.at(i) {
-        Some(text) => text,
-        None => unreachable!(),
+    match shared_name(text, left) {
+        Some(name) => Ok(name.copy(alloc)?),
+        None => name_of(alloc, text),
     }
+}
+
+/// Goes on among ascending names to the one that a text is, or to the first above it.
+fn shared_name<'a>(text: &Text, left: &mut Items<'a, Name>) -> Option<&'a Name>
+    ensures { IfSome result (λ name. name.now ≡ text.now) }
+{
+    while let Some((name, rest)) = left.split_first() {
+        match name.as_slice().cmp(text.as_slice()) {
+            Ordering::Less => *left = rest,
+            Ordering::Equal => return Some(name),
+            Ordering::Greater => return None,
+        }
+    }
+    None
 }
 
 /// The name that a text is.

@@ -1,20 +1,19 @@
 //! A directory that lists other names from now on.
-ghost use Rattle.std.specs.Prelude.{◌≡◌, ◌<◌, ◌+◌, ◌^◌, ◌++◌, ◌∷◌, List, ℕ, [], true, false, drop, length, IfOk, MatchOption};
+ghost use Rattle.std.specs.Prelude.{◌≡◌, ◌<◌, ◌++◌, ◌∷◌, [], true, false, length, IfOk, MatchOption};
 ghost use Rattle.fx_store.specs.declared.node.Node.TheVariants.{File, Dir};
-ghost use Rattle.fx_store.specs.Names.{IsNameSet};
 ghost use Rattle.fx_store.specs.Resolve.{◌/ₚ◌};
 ghost use Rattle.fx_store.specs.Rule as rule;
-ghost use Rattle.fx_expr.specs.Sets.{set_of};
+ghost use Rattle.fx_expr.specs.Sets.{IsAscending, set_of};
 ghost use Rattle.fx_spec.specs.Edit as edit;
 ghost use Rattle.fx_view.specs.Follows.{GoesBy};
 ghost use Rattle.fx_view.specs.Own.{own_at};
-ghost use Rattle.fx_edit.specs.Rules.{adding, change_of, left_of, IsNext};
+ghost use Rattle.fx_edit.specs.Rules.{adding, change_of, IsNextOf};
 
 use crate::clearing::clear_entry;
 use crate::edits::Edits;
 use crate::nodes::empty_file;
 use crate::paths::below;
-use fx_base::NoMemory;
+use fx_base::{Items, NoMemory};
 use fx_store::{Name, Names, Node, Path};
 use fx_view::{Overlay, Reader, Stop, look};
 use std::alloc::Global;
@@ -68,40 +67,34 @@ fn change_entries<R: Reader>(
         (adding edits.old (edit.entries (edit.entry list.now.path list.now.old list.now.new)
         (set_of (list.now.old ++ list.now.new)))) result }
 {
-    let (_olds, _news) = (list.old.len(), list.new.len());
-    let mut i: u64 = 0;
-    let mut j: u64 = 0;
-    while let Some((name, in_old, in_new)) = next_name(&list.old, i, &list.new, j) {
+    let mut olds = list.old.iter();
+    let mut news = list.new.iter();
+    while let Some((name, in_old, in_new, other_olds, other_news)) = next_name(olds, news) {
         change_entry(alloc, reader, overlay, list, name, in_old, in_new, edits)?;
-        i = after(i, in_old);
-        j = after(j, in_new);
+        olds = other_olds;
+        news = other_news;
     }
     Ok(())
 }
 
-/// The place after one that was gone through.
-#[tactic(auto, using(crate::proofs::Relists::after_place))]
-fn after(i: u64, there: bool) -> u64
-    requires { there ≡ true → i + 1 < 2 ^ 64 }
-    ensures { (names : List (List ℕ)) → drop result names ≡ left_of there (drop i names) }
-{
-    if there { i + 1 } else { i }
-}
+/// A name, whether each of two sets has it, and what is left of them.
+type Next<'a> = (&'a Name, bool, bool, Items<'a, Name>, Items<'a, Name>);
 
-/// The least name of two sets from some places on, and whether each has it.
-fn next_name<'a>(old: &'a Names, i: u64, new: &'a Names, j: u64) -> Option<(&'a Name, bool, bool)>
-    ensures next { MatchOption result (set_of (drop i old.now ++ drop j new.now) ≡ [])
-        (λ r. IsNext (drop i old.now) (drop j new.now) r.0.now r.1 r.2) }
-    ensures sets { IsNameSet old.now × IsNameSet new.now }
+/// The least name of two sets, and what is left of them without it.
+fn next_name<'a>(olds: Items<'a, Name>, news: Items<'a, Name>) -> Option<Next<'a>>
+    requires olds { IsAscending olds }
+    requires news { IsAscending news }
+    ensures { MatchOption result (set_of (olds.entry ++ news.entry) ≡ [])
+        (λ r. IsNextOf olds.entry news.entry r.0.now r.1 r.2 r.3 r.4) }
 {
-    match (old.at(i), new.at(j)) {
+    match (olds.split_first(), news.split_first()) {
         (None, None) => None,
-        (Some(name), None) => Some((name, true, false)),
-        (None, Some(name)) => Some((name, false, true)),
-        (Some(name), Some(other)) => match name.cmp(other) {
-            Ordering::Less => Some((name, true, false)),
-            Ordering::Equal => Some((name, true, true)),
-            Ordering::Greater => Some((other, false, true)),
+        (Some((name, rest)), None) => Some((name, true, false, rest, news)),
+        (None, Some((name, rest))) => Some((name, false, true, olds, rest)),
+        (Some((name, rest)), Some((other, others))) => match name.cmp(other) {
+            Ordering::Less => Some((name, true, false, rest, news)),
+            Ordering::Equal => Some((name, true, true, rest, others)),
+            Ordering::Greater => Some((other, false, true, olds, others)),
         },
     }
 }

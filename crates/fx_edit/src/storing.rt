@@ -23,7 +23,7 @@ use fx_expr::Value;
 use fx_rules::Halt;
 use fx_spec::{Place, Refusal};
 use fx_store::{Bytes, Landing, Names, Node, Path};
-use fx_view::{Overlay, Reader, Stop, look, resolve};
+use fx_view::{Overlay, Reader, Reads, Stop, look, resolve};
 use std::alloc::Global;
 
 /// Makes the value the content of the node at a place: a text at a file or a link, a truth value as a file's flag, a set of
@@ -64,8 +64,33 @@ fn stored<R: Reader>(
     ensures { GoesBy R.meaning (answered (λ e. e)) (own_at overlay.now) reader.old reader.new
         (edit.store_at (tree_of value.now) (place_tree place.now)) (split result) }
 {
-    let node = stored_node(alloc, place.spec, value)?;
+    let none = Names::new(alloc);
+    let likely = likely_names(reader.reads(), overlay, place.path, &none);
+    let node = stored_node(alloc, place.spec, value, likely)?;
     store_node(alloc, reader, overlay, place.path, is_flag(value), node)
+}
+
+/// The names of a directory at a path when it was last changed or looked at, for which no look is needed; or else none.
+fn likely_names<'a>(
+    reads: &'a Reads,
+    overlay: &'a Overlay,
+    path: &Path,
+    none: &'a Names,
+) -> &'a Names {
+    match overlay.get(path) {
+        Some(node) => listed_names(node, none),
+        None => match reads.get(path) {
+            Some((node, _)) => listed_names(node, none),
+            None => none,
+        },
+    }
+}
+
+fn listed_names<'a>(node: &'a Option<Node>, none: &'a Names) -> &'a Names {
+    match node {
+        Some(Node::Dir(names)) => names,
+        Some(Node::File { .. }) | Some(Node::Link(_)) | None => none,
+    }
 }
 
 /// The changes of a store of a node at a path.

@@ -37,7 +37,7 @@ has_placed z x y ys more Equal e =
     again (pointwise nat_eq y z) (has_text z ys) ∙ ap (λ t. pointwise nat_eq t z || has_text z (y ∷ ys)) (sym same)
 has_placed z x y ys more Greater e = swapped (pointwise nat_eq y z) (pointwise nat_eq x z) (has_text z ys) _ more
 
-has_with : (z x : List ℕ) (xs : List (List ℕ)) → has_text z (with_text x xs) ≡ (pointwise nat_eq x z || has_text z xs)
+pub has_with : (z x : List ℕ) (xs : List (List ℕ)) → has_text z (with_text x xs) ≡ (pointwise nat_eq x z || has_text z xs)
 has_with z x [] = refl
 has_with z x (y ∷ ys) = has_placed z x y ys (has_with z x ys) (slice_cmp nat_cmp x y) refl
 

@@ -6,8 +6,10 @@ pub mod Merging
 pub mod Nearest
 pub mod Numerals
 pub mod Order
+pub mod Putting
 mod Sameness
 pub mod Shaping
 pub mod Trees
+pub mod Weights
 pub mod Zips
 pub mod Crosses

@@ -32,13 +32,13 @@ set_least : (x : List ℕ) (xs : List (List ℕ)) → AllAbove x xs → set_of (
 set_least x xs a = with_least x (set_of xs) (all_set x xs a)
 
 -- the same texts have the same set
-set_alike : (xs ys : List (List ℕ)) → ((z : List ℕ) → has_text z xs ≡ has_text z ys) → set_of xs ≡ set_of ys
+pub set_alike : (xs ys : List (List ℕ)) → ((z : List ℕ) → has_text z xs ≡ has_text z ys) → set_of xs ≡ set_of ys
 set_alike xs ys h = same_sets (set_of xs) (set_of ys) (ascending_set xs) (ascending_set ys) (λ z. has_set z xs ∙ h z ∙ sym (has_set z ys))
 
-has_append : (z : List ℕ) (xs ys : List (List ℕ)) → has_text z (xs ++ ys) ≡ (has_text z xs || has_text z ys)
+pub has_append : (z : List ℕ) (xs ys : List (List ℕ)) → has_text z (xs ++ ys) ≡ (has_text z xs || has_text z ys)
 has_append z xs ys = list_any-append (λ y. pointwise nat_eq y z) xs ys
 
-moved : (a b c : Bool) → (a || (b || c)) ≡ (b || (a || c))
+pub moved : (a b c : Bool) → (a || (b || c)) ≡ (b || (a || c))
 moved true true c = refl
 moved true false c = refl
 moved false b c = refl

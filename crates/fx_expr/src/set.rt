@@ -1,9 +1,10 @@
-ghost use Rattle.std.specs.Prelude.{◌≡◌, ◌<◌, ◌^◌, ◌++◌, [], ◌∷◌, IfOk, OnOk, OnErr, MatchOption, Some, false, length, slice_get, nat_eq, nat_le};
+ghost use Rattle.std.specs.Prelude.{◌≡◌, ◌+◌, ◌<◌, ◌≤◌, ◌^◌, ◌++◌, [], ◌∷◌, IfOk, OnOk, OnErr, MatchOption, Some, true, false, length, slice_get, nat_eq, nat_le};
 ghost use Rattle.std.specs.Option.{option_copied};
 ghost use Rattle.std.specs.Cmp.{partial_equiv_from_equiv};
 ghost use Rattle.std.specs.Cmp.Lexicographic.{pointwise, nat_list_eq_equiv, lists_equiv};
 ghost use Rattle.std.specs.List.{filter};
-ghost use Rattle.fx_expr.specs.Sets.{IsAscending, has_text, set_of, weight, least, least_above, greatest_below, item_before};
+ghost use Rattle.fx_base.specs.Sets.{without_name};
+ghost use Rattle.fx_expr.specs.Sets.{IsAscending, has_text, with_text, set_of, weight, least, least_above, greatest_below, item_before};
 ghost use Rattle.fx_expr.specs.Eval.{without};
 ghost use Rattle.fx_expr.specs.Globs.{glob_matches};
 ghost use Rattle.fx_expr.specs.Merges.{IsLeastOf};
@@ -18,31 +19,36 @@ use std::marker::Model;
 /// The most that a union may weigh: the bytes of its elements, and one more for each.
 pub const UNION_LIMIT: u64 = 33_554_432;
 
+/// How many times the elements of one set another has at least, where they are put in or taken out one by one.
+const FEW: u64 = 256;
+
 /// A set of texts, of which a copy takes no time. Contracts see its elements in strictly ascending order of bytes.
 #[derive(Debug, Drop)]
 pub struct TextSet {
     texts: Chunks<Text>,
+    weight: u64,
 }
 
 impl Model for TextSet {
     ghost use Rattle.std.specs.Prelude.{List, ℕ};
-    ghost use Rattle.fx_expr.specs.Sets.{IsAscending};
+    ghost use Rattle.fx_expr.specs.Sets.{IsWeighed};
 
     ghost Value = { List (List ℕ) };
 
     ghost view = { λ s. s.texts };
 
-    ghost invariant = { λ s. IsAscending s.texts };
+    ghost invariant = { λ s. IsWeighed s.texts s.weight };
 }
 
 impl TextSet {
     /// The empty set.
-    #[tactic(auto, using(crate::proofs::Order::ascending_none))]
+    #[tactic(auto, using(crate::proofs::Weights::weighed_none))]
     pub fn new(alloc: Global) -> TextSet
         ensures { result ≡ [] }
     {
         TextSet {
             texts: Chunks::new(alloc),
+            weight: 0,
         }
     }
 
@@ -75,7 +81,10 @@ impl TextSet {
         ensures ok { OnOk result (self.new ≡ self.old ++ item ∷ []) }
         ensures err { OnErr result (self.new ≡ self.old) }
     {
-        self.texts.push(alloc, item)
+        let weight = heavier(self.weight, &item)?;
+        self.texts.push(alloc, item)?;
+        self.weight = weight;
+        Ok(())
     }
 
     /// Whether the text is an element, by binary search.
@@ -129,6 +138,7 @@ impl TextSet {
     {
         Ok(TextSet {
             texts: self.texts.copy()?,
+            weight: self.weight,
         })
     }
 }
@@ -149,8 +159,10 @@ impl TextSet {
         requires { IsAscending items.items }
         ensures { IfOk result (λ set. set ≡ items.items) }
     {
+        let weight = weight_of(items.as_slice())?;
         Ok(TextSet {
             texts: Chunks::from_vec(alloc, items)?,
+            weight,
         })
     }
 
@@ -164,23 +176,99 @@ impl TextSet {
         TextSet::from_ascending(alloc, items)
     }
 
-    /// The elements of both.
+    /// The elements of both. Where one of the sets has few, most of the other is shared.
     pub fn union(&self, alloc: Global, other: &TextSet) -> Result<TextSet, NoMemory>
         ensures { IfOk result (λ set. set ≡ set_of (self.now ++ other.now)) }
     {
+        if other.len() <= self.len() / FEW {
+            return self.with_each(alloc, other);
+        }
+        if self.len() <= other.len() / FEW {
+            return other.with_each(alloc, self);
+        }
         let both = merge(alloc, &self.texts, &other.texts)?;
         TextSet::from_ascending(alloc, both)
     }
 
-    // Whether the bytes of all elements of both, and one more for each, are at most this many. It takes no memory.
+    // The elements of both: those of the other are put in one by one.
+    fn with_each(&self, alloc: Global, other: &TextSet) -> Result<TextSet, NoMemory>
+        requires { IsAscending self.now }
+        ensures { IfOk result (λ set. set ≡ set_of (self.now ++ other.now)) }
+    {
+        let mut set = self.copy(alloc)?;
+        for text in other.iter() {
+            set = set.with(alloc, text)?;
+        }
+        Ok(set)
+    }
+
+    // The set with one text more. Where it has the text it is the same set.
+    fn with(&self, alloc: Global, text: &Text) -> Result<TextSet, NoMemory>
+        ensures { IfOk result (λ set. set ≡ with_text text.now self.now) }
+    {
+        match self.texts.search(text) {
+            Ok(_) => self.copy(alloc),
+            Err(i) => {
+                let weight = heavier(self.weight, text)?;
+                let text = text.copy(alloc)?;
+                Ok(TextSet {
+                    texts: self.texts.with(alloc, i, text)?,
+                    weight,
+                })
+            }
+        }
+    }
+
+    // Whether the bytes of all elements of both, and one more for each, are at most this many. It takes no memory, and no
+    // time where both sets together weigh no more.
     pub(crate) fn union_weighs_at_most(&self, other: &TextSet, limit: u64) -> bool
         ensures { result ≡ nat_le (weight (set_of (self.now ++ other.now))) limit }
     {
+        if fits(self.weight, other.weight, limit) {
+            return true;
+        }
         merge_weighs_at_most(&self.texts, &other.texts, limit)
     }
 
-    /// The elements that are not in the other set.
+    /// The elements that are not in the other set. Where that has few, most of this set is shared.
     pub fn without(&self, alloc: Global, other: &TextSet) -> Result<TextSet, NoMemory>
+        ensures { IfOk result (λ set. set ≡ without self.now other.now) }
+    {
+        if other.len() <= self.len() / FEW {
+            return self.without_each(alloc, other);
+        }
+        self.left(alloc, other)
+    }
+
+    // The elements that are not in the other set, of which each is taken out by itself.
+    fn without_each(&self, alloc: Global, other: &TextSet) -> Result<TextSet, NoMemory>
+        ensures { IfOk result (λ set. set ≡ without self.now other.now) }
+    {
+        let mut set = self.copy(alloc)?;
+        for text in other.iter() {
+            set = set.without_one(alloc, text)?;
+        }
+        Ok(set)
+    }
+
+    // The set without a text. Where it lacks the text it is the same set.
+    fn without_one(&self, alloc: Global, text: &Text) -> Result<TextSet, NoMemory>
+        ensures { IfOk result (λ set. set ≡ without_name text.now self.now) }
+    {
+        match self.texts.search(text) {
+            Ok(i) => {
+                let weight = self.weight - (text.len() + 1);
+                Ok(TextSet {
+                    texts: self.texts.without(alloc, i)?,
+                    weight,
+                })
+            }
+            Err(_) => self.copy(alloc),
+        }
+    }
+
+    // The elements that are not in the other set, gone through one by one.
+    fn left(&self, alloc: Global, other: &TextSet) -> Result<TextSet, NoMemory>
         ensures { IfOk result (λ set. set ≡ without self.now other.now) }
     {
         let mut kept = Vec::new(alloc);
@@ -204,6 +292,37 @@ impl TextSet {
         }
         TextSet::from_ascending(alloc, kept)
     }
+}
+
+// A weight with that of one text more.
+fn heavier(weight: u64, text: &Text) -> Result<u64, NoMemory>
+    ensures { IfOk result (λ sum. sum ≡ weight + (length text.now + 1)) }
+{
+    match weight.checked_add(text.len() + 1) {
+        Some(sum) => Ok(sum),
+        None => Err(NoMemory),
+    }
+}
+
+// What texts weigh.
+fn weight_of(texts: &[Text]) -> Result<u64, NoMemory>
+    ensures { IfOk result (λ sum. sum ≡ weight texts.now) }
+{
+    let mut sum = 0;
+    for text in texts {
+        sum = heavier(sum, text)?;
+    }
+    Ok(sum)
+}
+
+// Whether two weights are together at most a limit.
+fn fits(first: u64, second: u64, limit: u64) -> bool
+    ensures { result ≡ true → first + second ≤ limit }
+{
+    if first > limit {
+        return false;
+    }
+    second <= limit - first
 }
 
 // The text before a place.
@@ -305,6 +424,7 @@ impl Clone for TextSet {
     fn clone(&self) -> Result<TextSet, AllocError> {
         Ok(TextSet {
             texts: self.texts.clone()?,
+            weight: self.weight,
         })
     }
 }

@@ -111,6 +111,7 @@ fn plain_status(name: &str) -> Status {
         "not-empty" => Status::NotEmpty,
         "write" => Status::WriteFault,
         "memory" => Status::NoMemory,
+        "journal" => Status::BadJournal { place: 0 },
         _ => Status::Done,
     }
 }

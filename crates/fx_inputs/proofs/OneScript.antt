@@ -7,6 +7,7 @@ use Rattle.fx_outside.specs.Tree.{Tree, is_file_at, bytes_at}
 use Rattle.fx_spec.specs.CommandTree.{CommandTree}
 use Rattle.fx_command.specs.declared.status.TextFault.{TextFault}
 use Rattle.fx_command.specs.declared.status.TextFault.TheVariants as fault
+use Rattle.fx_base.specs.Limits.{source_limit}
 use Rattle.fx_command.specs.Texts.{IsReadAt}
 use Rattle.fx_command.proofs.Told.{if_some_map}
 use Rattle.fx_scripts.specs.declared.fault.ScriptFault.{ScriptFault}
@@ -19,7 +20,7 @@ use Rattle.fx_inputs.specs.Unread.{of_host, of_script}
 abbrev Txns : Type 0
 Txns = List (List CommandTree)
 
-goes_on : (t : Tree) (path text : List ℕ) (before : ℕ) (txns : Txns) → IsReadAt t path text → Scripts text before txns → ((others : Txns) → Scripts text before others → others ≡ txns) → GoesOn t path before txns
+goes_on : (t : Tree) (path text : List ℕ) (before : ℕ) (txns : Txns) → IsReadAt t path source_limit text → Scripts text before txns → ((others : Txns) → Scripts text before others → others ≡ txns) → GoesOn t path before txns
 goes_on t path text before txns read is only =
     let same : text ≡ bytes_at t path = read.whole is.read.short in
     record {
@@ -27,21 +28,21 @@ goes_on t path text before txns read is only =
       only = λ others other. only others (subst (λ x. Scripts x before others) (sym same) other);
     }
 
-pub script_read : (told : Option Tree) (path text : List ℕ) (before : ℕ) (txns : Txns) → IfSome told (λ t. IsReadAt t path text) → Scripts text before txns → ((others : Txns) → Scripts text before others → others ≡ txns) → IfSome told (λ t. GoesOn t path before txns)
+pub script_read : (told : Option Tree) (path text : List ℕ) (before : ℕ) (txns : Txns) → IfSome told (λ t. IsReadAt t path source_limit text) → Scripts text before txns → ((others : Txns) → Scripts text before others → others ≡ txns) → IfSome told (λ t. GoesOn t path before txns)
 script_read told path text before txns read is only =
-    if_some_map (λ t. IsReadAt t path text) (λ t. GoesOn t path before txns) told (λ t read. goes_on t path text before txns read is only) read
+    if_some_map (λ t. IsReadAt t path source_limit text) (λ t. GoesOn t path before txns) told (λ t read. goes_on t path text before txns read is only) read
 
 -- a text that is within its limit was read whole; else so many bytes were read that it is none
-whole : (t : Tree) (path text : List ℕ) (before : ℕ) (cause : TextFault) → IsReadAt t path text → length text ≤ 65536 → IsNoScriptFor text before cause → IsNoScriptFor (bytes_at t path) before cause
+whole : (t : Tree) (path text : List ℕ) (before : ℕ) (cause : TextFault) → IsReadAt t path source_limit text → length text ≤ 65536 → IsNoScriptFor text before cause → IsNoScriptFor (bytes_at t path) before cause
 whole t path text before cause read short is = subst (λ x. IsNoScriptFor x before cause) (read.whole short) is
 
-too_large : (t : Tree) (path text : List ℕ) (before : ℕ) → IsReadAt t path text → 65536 < length text → IsNoScriptFor (bytes_at t path) before fault.TooLarge
+too_large : (t : Tree) (path text : List ℕ) (before : ℕ) → IsReadAt t path source_limit text → 65536 < length text → IsNoScriptFor (bytes_at t path) before fault.TooLarge
 too_large t path text before read large = record {
   none = λ txns is. absurd (omega (arith, large, read.within, is.read.short));
   cause = omega (arith, large, read.within);
 }
 
-refused_whole : (t : Tree) (path text : List ℕ) (before : ℕ) (cause : TextFault) → IsReadAt t path text → IsNoScriptFor text before cause → IsNoScriptFor (bytes_at t path) before cause
+refused_whole : (t : Tree) (path text : List ℕ) (before : ℕ) (cause : TextFault) → IsReadAt t path source_limit text → IsNoScriptFor text before cause → IsNoScriptFor (bytes_at t path) before cause
 refused_whole t path text before fault.TooLarge read is = too_large t path text before read is.cause
 refused_whole t path text before (fault.BadToken n) read is = whole t path text before (fault.BadToken n) read is.cause.0 is
 refused_whole t path text before (fault.Unexpected n) read is = whole t path text before (fault.Unexpected n) read is.cause.short is
@@ -51,12 +52,12 @@ refused_whole t path text before (fault.TypeDiffers a b) read is = whole t path 
 refused_whole t path text before (fault.Repeated w) read is = whole t path text before (fault.Repeated w) read is.cause.read.short is
 refused_whole t path text before fault.TooMany read is = whole t path text before fault.TooMany read is.cause.read.short is
 
-no_script : (t : Tree) (path text : List ℕ) (before : ℕ) (cause : TextFault) → IsReadAt t path text → IsNoScriptFor text before cause → HasNoScript cause t path before
+no_script : (t : Tree) (path text : List ℕ) (before : ℕ) (cause : TextFault) → IsReadAt t path source_limit text → IsNoScriptFor text before cause → HasNoScript cause t path before
 no_script t path text before cause read is = record { file = read.file; refused = refused_whole t path text before cause read is }
 
-pub script_refused : (path text : List ℕ) (before : ℕ) (host host' : HostView) (refused : ScriptFault) → IfSome host.told (λ t. IsReadAt t path text) → IsUnscripted text before refused → ScriptCause path before host host' (of_script refused)
+pub script_refused : (path text : List ℕ) (before : ℕ) (host host' : HostView) (refused : ScriptFault) → IfSome host.told (λ t. IsReadAt t path source_limit text) → IsUnscripted text before refused → ScriptCause path before host host' (of_script refused)
 script_refused path text before host host' (refusal.Refused cause) read is =
-    if_some_map (λ t. IsReadAt t path text) (λ t. HasNoScript cause t path before) host.told (λ t read. no_script t path text before cause read is) read
+    if_some_map (λ t. IsReadAt t path source_limit text) (λ t. HasNoScript cause t path before) host.told (λ t read. no_script t path text before cause read is) read
 script_refused path text before host host' refusal.NoMemory read is = tt
 
 pub script_unread : (path : List ℕ) (before : ℕ) (host host' : HostView) (fault : HostFault) → (fault ≡ fails.Failed → HasFailed (FaultAt path) (λ t. is_file_at t path) host host') → ScriptCause path before host host' (of_host fault)

@@ -15,6 +15,7 @@ use Rattle.fx_command.specs.declared.status.Status.{Status}
 use Rattle.fx_command.specs.declared.status.Status.TheVariants as status
 use Rattle.fx_command.specs.declared.status.TextFault.{TextFault}
 use Rattle.fx_command.specs.StatusOf.{read_status, load_status}
+use Rattle.fx_base.specs.Limits.{source_limit}
 use Rattle.fx_command.specs.Texts.{IsReadAt}
 use Rattle.fx_command.proofs.Told.{if_some_map, if_some_both, some_and, some_unit, cause_back, some_back, left_true, right_true}
 use Rattle.fx_show.specs.Described.{Describes, IsRefusedFor, IsUndescribed}
@@ -42,19 +43,19 @@ spec_unread inputs host host' fails.Failed failed =
     read_failed inputs (FaultAt inputs.spec) (λ t. is_file_at t inputs.spec) (λ _. Unit {0}) host host' (λ fault. inl fault) (λ t _ none. inl none) (some_unit host.told) (failed refl)
 spec_unread inputs host host' fails.NoMemory failed = tt
 
-spec_refused_for : (inputs : Inputs) (text : List ℕ) (cause : TextFault) (t : Tree) → IsReadAt t inputs.spec text → IsRefusedFor text cause → HasNoSpec t inputs cause
+spec_refused_for : (inputs : Inputs) (text : List ℕ) (cause : TextFault) (t : Tree) → IsReadAt t inputs.spec source_limit text → IsRefusedFor text cause → HasNoSpec t inputs cause
 spec_refused_for inputs text cause t read is = record { file = read.file; refused = refused_whole t inputs.spec text cause read is }
 
-pub spec_refused : (inputs : Inputs) (host host' : HostView) (text : List ℕ) (refusal : DescriptionFault) → IfSome host.told (λ t. IsReadAt t inputs.spec text) → IsUndescribed text refusal → ReadRow inputs host host' (status_of_fault refusal)
+pub spec_refused : (inputs : Inputs) (host host' : HostView) (text : List ℕ) (refusal : DescriptionFault) → IfSome host.told (λ t. IsReadAt t inputs.spec source_limit text) → IsUndescribed text refusal → ReadRow inputs host host' (status_of_fault refusal)
 spec_refused inputs host host' text (description.Refused cause) read is =
-    if_some_map (λ t. IsReadAt t inputs.spec text) (λ t. IsFirstRefused t inputs 1 cause) host.told (λ t read. inl (refl, spec_refused_for inputs text cause t read is)) read
+    if_some_map (λ t. IsReadAt t inputs.spec source_limit text) (λ t. IsFirstRefused t inputs 1 cause) host.told (λ t read. inl (refl, spec_refused_for inputs text cause t read is)) read
 spec_refused inputs host host' text description.NoMemory read is = tt
 
-spec_there : (inputs : Inputs) (text : List ℕ) (spec : SpecTree) (t : Tree) → IsReadAt t inputs.spec text → Describes text spec → HasSpec t inputs spec
+spec_there : (inputs : Inputs) (text : List ℕ) (spec : SpecTree) (t : Tree) → IsReadAt t inputs.spec source_limit text → Describes text spec → HasSpec t inputs spec
 spec_there inputs text spec t read is = record { file = read.file; describes = subst (λ x. Describes x spec) (read.whole is.read.short) is }
 
-pub spec_read : (inputs : Inputs) (host : HostView) (text : List ℕ) (spec : SpecTree) → IfSome host.told (λ t. IsReadAt t inputs.spec text) → Describes text spec → IfSome host.told (λ t. HasSpec t inputs spec)
-spec_read inputs host text spec read is = if_some_map (λ t. IsReadAt t inputs.spec text) (λ t. HasSpec t inputs spec) host.told (λ t read. spec_there inputs text spec t read is) read
+pub spec_read : (inputs : Inputs) (host : HostView) (text : List ℕ) (spec : SpecTree) → IfSome host.told (λ t. IsReadAt t inputs.spec source_limit text) → Describes text spec → IfSome host.told (λ t. HasSpec t inputs spec)
+spec_read inputs host text spec read is = if_some_map (λ t. IsReadAt t inputs.spec source_limit text) (λ t. HasSpec t inputs spec) host.told (λ t read. spec_there inputs text spec t read is) read
 
 -- the scripts are not read, or refused
 pub scripts_unread : (inputs : Inputs) (host host' : HostView) (fault : Unread) → IfSome host.told (λ t. HasSomeSpec t inputs) → UnreadCause inputs host host' fault → ReadRow inputs host host' (unread_status fault)
@@ -97,6 +98,7 @@ read_row_back inputs a b c status.ReadFault reads row = cause_back (HasReadFault
 read_row_back inputs a b c status.NotEmpty reads row = row
 read_row_back inputs a b c status.WriteFault reads row = row
 read_row_back inputs a b c status.NoMemory reads row = row
+read_row_back inputs a b c (status.BadJournal place) reads row = row
 
 -- a fault of reading is one of the host
 pub read_fault_rose : (inputs : Inputs) (host host' : HostView) → HasReadFault inputs host host' → Rose host.faults host'.faults

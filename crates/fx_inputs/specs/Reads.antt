@@ -32,6 +32,7 @@ ReadRow inputs host host' status.ReadFault = HasReadFault inputs host host' ⊎ 
 ReadRow inputs host host' status.NotEmpty = ⊥
 ReadRow inputs host host' status.WriteFault = ⊥
 ReadRow inputs host host' status.NoMemory = ⊤
+ReadRow inputs host host' (status.BadJournal place) = ⊥
 
 -- where all these paths are fit, no call is made at an unfit one
 abbrev pub AsksAllFit : List (List ℕ) → HostView → HostView → Type 0

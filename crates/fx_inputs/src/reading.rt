@@ -8,7 +8,7 @@ ghost use Rattle.fx_inputs.specs.Inputs.{HasSpec, HasScripts, HasSomeSpec, HasTe
 ghost use Rattle.fx_inputs.specs.Reads.{ReadRow, InputsAskFit};
 
 use crate::scripts::read_plan;
-use fx_base::NoMemory;
+use fx_base::{NoMemory, SOURCE_LIMIT};
 use fx_command::{Status, read_text};
 use fx_folder::load;
 use fx_outside::Host;
@@ -32,7 +32,7 @@ fn read_description<H: Host>(
     ensures ends { IfErr result
         (ReadRow (asked_inputs inputs.now) (H.view host.old) (H.view host.new)) }
 {
-    let text = read_text(alloc, host, inputs.spec)?;
+    let text = read_text(alloc, host, inputs.spec, SOURCE_LIMIT as u64)?;
     let spec = description_of(alloc, &text)?;
     Ok(spec)
 }

@@ -9,6 +9,7 @@ ghost use Rattle.fx_inputs.specs.Causes.{ScriptCause, UnreadCause};
 ghost use Rattle.fx_inputs.specs.Reads.{AsksAllFit};
 ghost use Rattle.fx_inputs.specs.Unread.{unread_at};
 
+use fx_base::SOURCE_LIMIT;
 use fx_command::{Status, TextFault, read_text};
 use fx_outside::{Host, HostFault, HostText};
 use fx_scripts::{ScriptFault, script_of};
@@ -92,7 +93,7 @@ fn read_script_at<H: Host>(
     ensures unread { IfErr result
         (ScriptCause path.now before (H.view host.old) (H.view host.new)) }
 {
-    let text = read_text(alloc, host, path)?;
+    let text = read_text(alloc, host, path, SOURCE_LIMIT as u64)?;
     let script = script_of(alloc, &text, before)?;
     Ok(script)
 }

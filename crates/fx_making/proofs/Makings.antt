@@ -42,6 +42,7 @@ module _ {A : Type 0} (m : Making A) where
   making_unready host host' status.WriteFault reads failed sink =
       inl (record { cause = unready_cause host host' failed; unprinted = refl; left = untouched host host' reads })
   making_unready host host' status.NoMemory reads why sink = making_no_memory host host' reads sink
+  making_unready host host' (status.BadJournal place) reads why sink = absurd why
 
   -- ---- the last stage
 
@@ -104,6 +105,7 @@ module _ {A : Type 0} (m : Making A) where
   making_row_back a b c sink sink' status.WriteFault reads (inr row) =
       inr (record { cause = row.cause; grows = row.grows; left = told_back (λ t t'. IsMadeUnprinted m t t' sink.written sink'.written) a b c reads row.left })
   making_row_back a b c sink sink' status.NoMemory reads row = (row.0, told_back (MayBeBegun m) a b c reads row.1)
+  making_row_back a b c sink sink' (status.BadJournal place) reads row = row
 
   -- ---- with an OUT that can be written, and no fault of host or sink, all is done, or memory runs out
 
@@ -125,3 +127,4 @@ module _ {A : Type 0} (m : Making A) where
       not_unmade (inr cannot) = can_write t m.out proper.there proper.free proper.above (subst (λ o. IsSomeAnd o (λ t. CannotWrite t m.out)) is cannot)
   making_completes t host host' sink sink' status.WriteFault is proper none quiet (inr row) = absurd (quiet row.cause)
   making_completes t host host' sink sink' status.NoMemory is proper none quiet row = inr refl
+  making_completes t host host' sink sink' (status.BadJournal place) is proper none quiet row = absurd row

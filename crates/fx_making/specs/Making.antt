@@ -72,6 +72,7 @@ MakingRow m host host' sink sink' status.ReadFault = ⊥
 MakingRow m host host' sink sink' status.NotEmpty = IsSame host host' sink sink' × IfSome host.told (λ t. IsTaken t m.out)
 MakingRow m host host' sink sink' status.WriteFault = IsUnmade m host host' sink sink' ⊎ IsUntold m host host' sink sink'
 MakingRow m host host' sink sink' status.NoMemory = (sink' ≡ sink) × IfTold host.told host'.told (MayBeBegun m)
+MakingRow m host host' sink sink' (status.BadJournal place) = ⊥
 
 -- a stage that only reads ends the command so, whatever the sink
 abbrev pub MakingEndsAs : {A : Type 0} → Making A → HostView → HostView → Status → Type 0

@@ -32,3 +32,4 @@ IsUnready out host host' status.ReadFault = ⊥
 IsUnready out host host' status.NotEmpty = IfSome host.told (λ t. IsTaken t out)
 IsUnready out host host' status.WriteFault = HasFailed (FaultIn out) (λ _. is_fit out) host host'
 IsUnready out host host' status.NoMemory = ⊤
+IsUnready out host host' (status.BadJournal place) = ⊥

@@ -42,6 +42,7 @@ impl Display for Message<'_> {
             Status::NotEmpty => f.write_str("output is not empty"),
             Status::WriteFault => f.write_str("write fault"),
             Status::NoMemory => f.write_str("out of memory"),
+            Status::BadJournal { place: _ } => f.write_str("bad journal"),
         }
     }
 }

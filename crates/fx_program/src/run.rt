@@ -7,6 +7,7 @@ use fx_base::NoMemory;
 use fx_disk::{Disk, Output};
 use fx_message::Message;
 use fx_outside::{HostText, OpenGate, Words};
+use fx_real_disk::RealDisk;
 use fx_top::status::Status;
 use fx_top::top::top;
 use std::alloc::Global;
@@ -34,17 +35,34 @@ fn words_of(alloc: Global, args: Args) -> Result<Words, NoMemory> {
     Ok(words)
 }
 
-/// Runs the words over the machine's files and the standard output.
+/// Runs the words over the machine's files, the file of a journal and the standard output.
+fn run_over<R>(rt: &R, words: &Words, files: R, file: R) -> Status
+where
+    R: Files + Print + AllocGlobal + Clone + Drop + Threads + Wait + Sync,
+{
+    let mut host = Disk::new(files);
+    let mut out = Output::new(rt);
+    let mut disk = RealDisk::new(file);
+    top(
+        rt,
+        rt.alloc(),
+        words,
+        &mut host,
+        &mut out,
+        &OpenGate,
+        &mut disk,
+    )
+}
+
 fn run<R>(rt: &R, words: &Words) -> Status
 where
     R: Files + Print + AllocGlobal + Clone + Drop + Threads + Wait + Sync,
 {
+    let Ok(files) = rt.clone() else {
+        return Status::NoMemory;
+    };
     match rt.clone() {
-        Ok(files) => {
-            let mut host = Disk::new(files);
-            let mut out = Output::new(rt);
-            top(rt, rt.alloc(), words, &mut host, &mut out, &OpenGate)
-        }
+        Ok(file) => run_over(rt, words, files, file),
         Err(_) => Status::NoMemory,
     }
 }

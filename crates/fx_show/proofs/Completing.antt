@@ -42,3 +42,4 @@ show_completes j t host host' sink sink' status.ReadFault is proper none quiet (
 show_completes j t host host' sink sink' status.NotEmpty is proper none quiet row = absurd row
 show_completes j t host host' sink sink' status.WriteFault is proper none quiet row = absurd (quiet row.cause)
 show_completes j t host host' sink sink' status.NoMemory is proper none quiet row = inr refl
+show_completes j t host host' sink sink' (status.BadJournal place) is proper none quiet row = absurd row

@@ -27,29 +27,30 @@ use Rattle.fx_show.specs.Rows.{ShowReadFault, ShowRow, ShowEndsAs, IsShown, IsSh
 use Rattle.fx_show.specs.Shows.{HasDescription, HasNoDescription, HasSomeDescription, IsShowing, CannotShow}
 use Rattle.fx_command.specs.StatusOf.{read_status, load_status}
 use Rattle.fx_show.specs.Faults.{status_of_fault}
+use Rattle.fx_base.specs.Limits.{source_limit}
 use Rattle.fx_command.specs.Texts.{IsReadAt}
 use Rattle.fx_command.proofs.Told.{if_some_map, if_some_both, some_and, some_unit, same, grows_front, grows_all, cause_back, some_back, same_back, left_true, right_true}
 use Rattle.fx_words.specs.Job.{ShowJob}
 
 -- ---- the text
 
-described : (t : Tree) (j : ShowJob) (text : List ℕ) (spec : SpecTree) → Describes text spec → IsReadAt t j.spec text → HasDescription t j spec
+described : (t : Tree) (j : ShowJob) (text : List ℕ) (spec : SpecTree) → Describes text spec → IsReadAt t j.spec source_limit text → HasDescription t j spec
 described t j text spec is read = record { file = read.file; describes = subst (λ x. Describes x spec) (read.whole is.read.short) is }
 
-pub description_read : (j : ShowJob) (host : HostView) (text : List ℕ) (spec : SpecTree) → IfSome host.told (λ t. IsReadAt t j.spec text) → Describes text spec → IfSome host.told (λ t. HasDescription t j spec)
-description_read j host text spec read is = if_some_map (λ t. IsReadAt t j.spec text) (λ t. HasDescription t j spec) host.told (λ t read. described t j text spec is read) read
+pub description_read : (j : ShowJob) (host : HostView) (text : List ℕ) (spec : SpecTree) → IfSome host.told (λ t. IsReadAt t j.spec source_limit text) → Describes text spec → IfSome host.told (λ t. HasDescription t j spec)
+description_read j host text spec read is = if_some_map (λ t. IsReadAt t j.spec source_limit text) (λ t. HasDescription t j spec) host.told (λ t read. described t j text spec is read) read
 
 -- a text that is within its limit was read whole; else so many bytes were read that it is none
-whole : (t : Tree) (path text : List ℕ) (cause : TextFault) → IsReadAt t path text → length text ≤ 65536 → IsRefusedFor text cause → IsRefusedFor (bytes_at t path) cause
+whole : (t : Tree) (path text : List ℕ) (cause : TextFault) → IsReadAt t path source_limit text → length text ≤ 65536 → IsRefusedFor text cause → IsRefusedFor (bytes_at t path) cause
 whole t path text cause read short is = subst (λ x. IsRefusedFor x cause) (read.whole short) is
 
-too_large : (t : Tree) (path text : List ℕ) → IsReadAt t path text → 65536 < length text → IsRefusedFor (bytes_at t path) fault.TooLarge
+too_large : (t : Tree) (path text : List ℕ) → IsReadAt t path source_limit text → 65536 < length text → IsRefusedFor (bytes_at t path) fault.TooLarge
 too_large t path text read large = record {
   none = λ spec is. absurd (omega (arith, large, read.within, is.read.short));
   cause = omega (arith, large, read.within);
 }
 
-pub refused_whole : (t : Tree) (path text : List ℕ) (cause : TextFault) → IsReadAt t path text → IsRefusedFor text cause → IsRefusedFor (bytes_at t path) cause
+pub refused_whole : (t : Tree) (path text : List ℕ) (cause : TextFault) → IsReadAt t path source_limit text → IsRefusedFor text cause → IsRefusedFor (bytes_at t path) cause
 refused_whole t path text fault.TooLarge read is = too_large t path text read is.cause
 refused_whole t path text (fault.BadToken n) read is = whole t path text (fault.BadToken n) read is.cause.0 is
 refused_whole t path text (fault.Unexpected n) read is = whole t path text (fault.Unexpected n) read is.cause.short is
@@ -75,9 +76,9 @@ text_unread j host host' fails.Failed reads failed =
     show_read_failed j (FaultAt j.spec) (λ t. is_file_at t j.spec) (λ _. Unit {0}) host host' reads (λ fault. inl fault) (λ t _ none. inl none) (some_unit host.told) (failed refl)
 text_unread j host host' fails.NoMemory reads failed = show_no_memory j host host' reads
 
-pub text_refused : (j : ShowJob) (host host' : HostView) (text : List ℕ) (refusal : DescriptionFault) → ReadsOnly host host' → IfSome host.told (λ t. IsReadAt t j.spec text) → IsUndescribed text refusal → ShowEndsAs j host host' (status_of_fault refusal)
+pub text_refused : (j : ShowJob) (host host' : HostView) (text : List ℕ) (refusal : DescriptionFault) → ReadsOnly host host' → IfSome host.told (λ t. IsReadAt t j.spec source_limit text) → IsUndescribed text refusal → ShowEndsAs j host host' (status_of_fault refusal)
 text_refused j host host' text (description.Refused cause) reads read is sink =
-    (same host host' sink reads, refl, if_some_map (λ t. IsReadAt t j.spec text) (λ t. HasNoDescription t j cause) host.told (λ t read. record { file = read.file; refused = refused_whole t j.spec text cause read is }) read)
+    (same host host' sink reads, refl, if_some_map (λ t. IsReadAt t j.spec source_limit text) (λ t. HasNoDescription t j cause) host.told (λ t read. record { file = read.file; refused = refused_whole t j.spec text cause read is }) read)
 text_refused j host host' text description.NoMemory reads read is sink = show_no_memory j host host' reads sink
 
 -- the folder is not loaded
@@ -122,6 +123,7 @@ show_row_back j a b c sink sink' status.WriteFault reads row = record {
   left = some_back (λ t. IsShownInPart t j sink.written sink'.written) a b reads row.left;
 }
 show_row_back j a b c sink sink' status.NoMemory reads row = same_back a b c sink sink' reads row
+show_row_back j a b c sink sink' (status.BadJournal place) reads row = row
 
 pub show_ends_back : (j : ShowJob) (a b c : HostView) (st : Status) → ReadsOnly a b → ShowEndsAs j b c st → ShowEndsAs j a c st
 show_ends_back j a b c st reads ends sink = show_row_back j a b c sink sink st reads (ends sink)

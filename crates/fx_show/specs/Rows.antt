@@ -45,6 +45,7 @@ ShowRow j host host' sink sink' status.ReadFault = IsSame host host' sink sink' 
 ShowRow j host host' sink sink' status.NotEmpty = ⊥
 ShowRow j host host' sink sink' status.WriteFault = IsUnshown j host host' sink sink'
 ShowRow j host host' sink sink' status.NoMemory = IsSame host host' sink sink'
+ShowRow j host host' sink sink' (status.BadJournal place) = ⊥
 
 -- a stage that only reads ends the command so, whatever the sink
 abbrev pub ShowEndsAs : ShowJob → HostView → HostView → Status → Type 0

@@ -9,6 +9,7 @@ ghost use Rattle.fx_command.specs.StatusOf.{status_of};
 
 use crate::described::description_of;
 use crate::values::shown;
+use fx_base::SOURCE_LIMIT;
 use fx_command::{Status, print_all, read_text};
 use fx_folder::load;
 use fx_outside::{Host, Sink, SinkFailed};
@@ -26,7 +27,7 @@ fn read_description<H: Host>(alloc: Global, job: &ShowJob, host: &mut H) -> Resu
     ensures ends { IfErr result
         (ShowEndsAs (asked_show job.now) (H.view host.old) (H.view host.new)) }
 {
-    let text = read_text(alloc, host, job.spec)?;
+    let text = read_text(alloc, host, job.spec, SOURCE_LIMIT as u64)?;
     let spec = description_of(alloc, &text)?;
     Ok(spec)
 }

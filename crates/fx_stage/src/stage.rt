@@ -1,7 +1,9 @@
-//! What a case sets up: a host, the calls on it that are to fail, and the sink that a run prints to.
+//! What a case sets up: a host and a disk, the calls on them that are to fail, and the sink that a run prints to.
 
+use crate::disks::{disk_of, empty_disk};
 use crate::telling::Detail;
 use fx_base::NoMemory;
+use fx_durable::MemoryDisk;
 use fx_outside::{HostKind, HostText, MemoryHost, MemorySink};
 use fx_telling::unescaped;
 use std::alloc::Global;
@@ -20,7 +22,7 @@ struct Placed {
     bytes: Vec<u8>,
 }
 
-/// The stage of a case. The host is kept from one line to the next, and a sink is made anew for each run.
+/// The stage of a case. The host and the disk are kept from one line to the next, and a sink is made anew for each run.
 #[derive(Drop)]
 pub struct Stage {
     /// The host of all lines of the case.
@@ -30,6 +32,7 @@ pub struct Stage {
     placed: Vec<Placed>,
     room: u64,
     failing_writes: Vec<u64>,
+    disk: Option<MemoryDisk>,
 }
 
 /// A text as hosts take one.
@@ -75,6 +78,7 @@ impl Stage {
             placed: Vec::new(alloc),
             room: ROOM,
             failing_writes: Vec::new(alloc),
+            disk: None,
         }
     }
 
@@ -112,6 +116,34 @@ impl Stage {
     /// Has a write of each further sink fail.
     pub fn fail_write(&mut self, call: u64) -> Result<(), NoMemory> {
         self.failing_writes.push(call)?;
+        Ok(())
+    }
+
+    /// The disk of the case, which is put back behind a run.
+    pub fn take_disk(&mut self, alloc: Global) -> Result<MemoryDisk, NoMemory> {
+        match self.disk.take() {
+            Some(disk) => Ok(disk),
+            None => empty_disk(alloc),
+        }
+    }
+
+    /// Puts a disk back.
+    pub fn put_disk(&mut self, disk: MemoryDisk) {
+        self.disk = Some(disk);
+    }
+
+    /// Has the file on the disk have these bytes.
+    pub fn put_image(&mut self, alloc: Global, text: &str) -> Result<(), NoMemory> {
+        let image = unescaped(alloc, text)?;
+        self.put_disk(disk_of(alloc, &image)?);
+        Ok(())
+    }
+
+    /// Has a call on the disk fail.
+    pub fn fail_disk(&mut self, alloc: Global, call: u64) -> Result<(), NoMemory> {
+        let mut disk = self.take_disk(alloc)?;
+        disk.fail(call)?;
+        self.put_disk(disk);
         Ok(())
     }
 

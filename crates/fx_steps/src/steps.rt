@@ -15,7 +15,7 @@ use std::alloc::Global;
 use std::fmt::Write;
 use std::sync::Arc;
 
-fn tell_refused(out: &mut String, status: &Status) -> Result<(), NoMemory> {
+pub(crate) fn tell_refused(out: &mut String, status: &Status) -> Result<(), NoMemory> {
     let code = status.code();
     writeln!(out, "> status {code}")?;
     Ok(())

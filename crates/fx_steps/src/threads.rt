@@ -100,7 +100,7 @@ fn add_left<P: Program>(
     mut sink: MemorySink,
     left: &mut String,
 ) -> Result<(), NoMemory> {
-    run_quietly(program, alloc, words, host, &mut sink);
+    run_quietly(program, alloc, words, host, &mut sink)?;
     add_entries(left, sink.written())?;
     tell_tree(alloc, host, OUT, left)
 }

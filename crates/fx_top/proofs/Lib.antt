@@ -1,3 +1,1 @@
 pub mod Completing
-pub mod Ending
-pub mod Stages

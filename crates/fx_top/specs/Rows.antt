@@ -1,127 +1,85 @@
--- What each status of a command says: where it comes, and what is then left at the host and at the sink.
-use Rattle.std.specs.Prelude.{◌≡◌, ◌⊎◌, ◌&&◌, ℕ, Bool, true, List, ◌++◌, take, Option, Some, IfSome, IsSomeAnd}
+-- What each status of a command says: where it comes, and what is then left at the host, at the sink and on the disk.
+use Rattle.std.specs.Prelude.{◌≡◌, ◌⊎◌, IfSome}
 use Rattle.fx_base.specs.Causes.{Rose}
-use Rattle.fx_store.specs.Whole.{Nodes}
-use Rattle.fx_outside.specs.Host.{HostView, FaultIn, AsksFit}
-use Rattle.fx_outside.specs.Path.{parts, is_fit}
+use Rattle.fx_outside.specs.Host.{HostView, AsksFit}
 use Rattle.fx_outside.specs.Sink.{SinkView}
 use Rattle.fx_outside.specs.Tree.{Tree}
-use Rattle.fx_folder.specs.Folder.{IfTold, IsReady, IsTaken, IsSaved, IsPartlySaved}
-use Rattle.fx_folder.specs.Loads.{IsRefused}
-use Rattle.fx_words.specs.Job.{Job, Run, Show, Gen, Large, RunJob}
+use Rattle.fx_words.specs.Job.{Job, Run, Show, Gen, Large, Audit, Journal, Recover}
+use Rattle.fx_audit_command.specs.Rows.{AuditRow, AuditAsksFit, IsProperAudit}
 use Rattle.fx_command.specs.declared.status.Status.{Status}
 use Rattle.fx_command.specs.declared.status.Status.TheVariants as status
-use Rattle.fx_command.specs.Left.{IsSame, Grows}
+use Rattle.fx_durable.specs.Disk.{DiskView}
 use Rattle.fx_gen_command.specs.Rows.{gen_making}
+use Rattle.fx_journal_command.specs.Rows.{JournalRow, JournalAsksFit, KeepsJournal, IsProperJournal}
 use Rattle.fx_large.specs.Rows.{large_making}
 use Rattle.fx_making.specs.Making.{MakingRow}
-use Rattle.fx_making.specs.Out.{CannotWrite, FitsOut, IsProperOut}
+use Rattle.fx_making.specs.Out.{IsProperOut}
+use Rattle.fx_recover_command.specs.Rows.{RecoverRow, RecoverAsksFit, IsProperRecover}
+use Rattle.fx_run_command.specs.Rows.{RunRow, RunAsksFit, IsProperRun}
 use Rattle.fx_show.specs.Rows.{ShowRow, ShowAsksFit}
 use Rattle.fx_show.specs.Shows.{IsProperShow}
-use Rattle.fx_inputs.specs.Inputs.{HasTexts, HasInputs, CannotRead, IsFirstRefused}
-use Rattle.fx_inputs.specs.Reads.{HasReadFault, has_fit_inputs}
-use Rattle.fx_top.specs.Outcome.{IsOutcome}
-
--- all is done: the report is written after what was written before, and the last filestore's folder stands at OUT; all else
--- of the host is as before
-pub record IsDone (t t' : Tree) (j : RunJob) (before after : Option (List ℕ)) : Type 0 where
-  pub nodes : Nodes
-  pub output : List ℕ
-  pub there : Bool
-  pub outcome : IsOutcome t j nodes output
-  pub free : IsReady t j.out there
-  pub saved : IsSaved t t' (parts j.out) nodes
-  pub written : IfSome before (λ w. after ≡ Some (w ++ output))
-
--- OUT is whole, and a front of the output is written: the folder and the output of one run that could have been done
-pub record IsCutShort (t t' : Tree) (j : RunJob) (before after : Option (List ℕ)) : Type 0 where
-  pub nodes : Nodes
-  pub output : List ℕ
-  pub there : Bool
-  pub outcome : IsOutcome t j nodes output
-  pub free : IsReady t j.out there
-  pub saved : IsSaved t t' (parts j.out) nodes
-  pub written : IfSome before (λ w. (n : ℕ) × (after ≡ Some (w ++ take n output)))
-
--- OUT holds a part of the last filestore's folder
-pub record IsPartThere (t t' : Tree) (j : RunJob) : Type 0 where
-  pub nodes : Nodes
-  pub output : List ℕ
-  pub there : Bool
-  pub outcome : IsOutcome t j nodes output
-  pub free : IsReady t j.out there
-  pub part : IsPartlySaved t t' (parts j.out) nodes
-
--- OUT is as before, or holds such a part
-abbrev pub MayHoldPart : RunJob → Tree → Tree → Type 0
-MayHoldPart j t t' = (t' ≡ t) ⊎ IsPartThere t t' j
-
--- OUT is unfit, or nothing stands there and no folder above
-abbrev pub CannotSave : Tree → RunJob → Type 0
-CannotSave t j = HasInputs t j.inputs × CannotWrite t j.out
-
--- OUT was not written whole, and nothing is printed
-pub record IsUnsaved (j : RunJob) (host host' : HostView) (sink sink' : SinkView) : Type 0 where
-  pub cause : FaultIn j.out host host' ⊎ IsSomeAnd host.told (λ t. CannotSave t j)
-  pub unprinted : sink' ≡ sink
-  pub left : IfTold host.told host'.told (λ t t'. HasInputs t j.inputs × MayHoldPart j t t')
-
--- the sink failed, OUT is whole, and a front of the output is printed
-pub record IsUnprinted (j : RunJob) (host host' : HostView) (sink sink' : SinkView) : Type 0 where
-  pub cause : Rose sink.faults sink'.faults
-  pub grows : Grows sink sink'
-  pub left : IfTold host.told host'.told (λ t t'. IsCutShort t t' j sink.written sink'.written)
-
--- the table of the statuses, for a run
-abbrev pub RunRow : RunJob → HostView → HostView → SinkView → SinkView → Status → Type 0
-RunRow j host host' sink sink' status.Done = Grows sink sink' × IfTold host.told host'.told (λ t t'. IsDone t t' j sink.written sink'.written)
-RunRow j host host' sink sink' status.Usage = ⊥
-RunRow j host host' sink sink' (status.TextRefused word cause) = IsSame host host' sink sink' × IfSome host.told (λ t. IsFirstRefused t j.inputs word cause)
-RunRow j host host' sink sink' (status.FolderRefused cause) = IsSame host host' sink sink' × IfSome host.told (λ t. HasTexts t j.inputs × IsRefused t j.inputs.folder cause)
-RunRow j host host' sink sink' status.ReadFault = IsSame host host' sink sink' × (HasReadFault j.inputs host host' ⊎ IsSomeAnd host.told (λ t. CannotRead t j.inputs))
-RunRow j host host' sink sink' status.NotEmpty = IsSame host host' sink sink' × IfSome host.told (λ t. HasInputs t j.inputs × IsTaken t j.out)
-RunRow j host host' sink sink' status.WriteFault = IsUnsaved j host host' sink sink' ⊎ IsUnprinted j host host' sink sink'
-RunRow j host host' sink sink' status.NoMemory = (sink' ≡ sink) × IfTold host.told host'.told (MayHoldPart j)
 
 -- the table, by the command
-abbrev pub Row : Job → HostView → HostView → SinkView → SinkView → Status → Type 0
-Row (Run j) host host' sink sink' st = RunRow j host host' sink sink' st
-Row (Show j) host host' sink sink' st = ShowRow j host host' sink sink' st
-Row (Gen j) host host' sink sink' st = MakingRow (gen_making j.number j.out) host host' sink sink' st
-Row (Large j) host host' sink sink' st = MakingRow (large_making j.number j.out) host host' sink sink' st
+abbrev pub Row : Job → HostView → HostView → SinkView → SinkView → DiskView → DiskView → Status → Type 0
+Row (Run j) host host' sink sink' disk disk' st = RunRow j host host' sink sink' st
+Row (Show j) host host' sink sink' disk disk' st = ShowRow j host host' sink sink' st
+Row (Gen j) host host' sink sink' disk disk' st = MakingRow (gen_making j.number j.out) host host' sink sink' st
+Row (Large j) host host' sink sink' disk disk' st = MakingRow (large_making j.number j.out) host host' sink sink' st
+Row (Audit j) host host' sink sink' disk disk' st = AuditRow j host host' sink sink' st
+Row (Journal j) host host' sink sink' disk disk' st = JournalRow j host host' sink sink' disk disk' st
+Row (Recover j) host host' sink sink' disk disk' st = RecoverRow j host host' sink sink' disk disk' st
 
--- a stage that only reads ends a run so, whatever the sink
-abbrev pub EndsAs : RunJob → HostView → HostView → Status → Type 0
-EndsAs j host host' st = (sink : SinkView) → RunRow j host host' sink sink st
+-- a command that neither keeps nor reads a journal leaves the disk as it was
+abbrev pub LeavesDisk : Job → DiskView → DiskView → Type 0
+LeavesDisk (Run j) disk disk' = disk' ≡ disk
+LeavesDisk (Show j) disk disk' = disk' ≡ disk
+LeavesDisk (Gen j) disk disk' = disk' ≡ disk
+LeavesDisk (Large j) disk disk' = disk' ≡ disk
+LeavesDisk (Audit j) disk disk' = disk' ≡ disk
+LeavesDisk (Journal j) disk disk' = Unit {0}
+LeavesDisk (Recover j) disk disk' = Unit {0}
 
--- the paths of a command are fit
-abbrev pub has_fit_paths : RunJob → Bool
-has_fit_paths j = has_fit_inputs j.inputs && is_fit j.out
+-- a command that keeps a journal leaves on the disk the order of what it wrote, however it ends
+abbrev pub KeepsOrder : Job → HostView → SinkView → SinkView → DiskView → DiskView → Type 0
+KeepsOrder (Run j) host sink sink' disk disk' = Unit {0}
+KeepsOrder (Show j) host sink sink' disk disk' = Unit {0}
+KeepsOrder (Gen j) host sink sink' disk disk' = Unit {0}
+KeepsOrder (Large j) host sink sink' disk disk' = Unit {0}
+KeepsOrder (Audit j) host sink sink' disk disk' = Unit {0}
+KeepsOrder (Journal j) host sink sink' disk disk' = KeepsJournal j host sink sink' disk disk'
+KeepsOrder (Recover j) host sink sink' disk disk' = Unit {0}
 
--- where they are, no call is made at an unfit path
-abbrev pub RunAsksFit : RunJob → HostView → HostView → Type 0
-RunAsksFit j host host' = has_fit_paths j ≡ true → host'.unfit ≡ host.unfit
-
+-- where the paths of a command are fit, no call is made at an unfit path
 abbrev pub AsksFitPaths : Job → HostView → HostView → Type 0
 AsksFitPaths (Run j) host host' = RunAsksFit j host host'
 AsksFitPaths (Show j) host host' = ShowAsksFit j host host'
 AsksFitPaths (Gen j) host host' = AsksFit j.out host host'
 AsksFitPaths (Large j) host host' = AsksFit j.out host host'
+AsksFitPaths (Audit j) host host' = AuditAsksFit j host host'
+AsksFitPaths (Journal j) host host' = JournalAsksFit j host host'
+AsksFitPaths (Recover j) host host' = RecoverAsksFit j host host'
 
--- texts that stand for a description and scripts, a folder that loads, and an OUT that is an empty folder or can be made
-pub record IsProperRun (t : Tree) (j : RunJob) : Type 0 where
-  pub inputs : HasInputs t j.inputs
-  pub there : Bool
-  pub free : IsReady t j.out there
-  pub above : FitsOut t j.out there
+-- a host, and a disk where the command asks it, at which nothing keeps the command from being done
+abbrev pub IsProper : Tree → DiskView → Job → Type 0
+IsProper t disk (Run j) = IsProperRun t j
+IsProper t disk (Show j) = IsProperShow t j
+IsProper t disk (Gen j) = IsProperOut t j.out
+IsProper t disk (Large j) = IsProperOut t j.out
+IsProper t disk (Audit j) = IsProperAudit t j
+IsProper t disk (Journal j) = IsProperJournal t disk j
+IsProper t disk (Recover j) = IsProperRecover t j disk
 
-abbrev pub IsProper : Tree → Job → Type 0
-IsProper t (Run j) = IsProperRun t j
-IsProper t (Show j) = IsProperShow t j
-IsProper t (Gen j) = IsProperOut t j.out
-IsProper t (Large j) = IsProperOut t j.out
+-- the disk failed while the command asked it
+abbrev pub HasDiskFault : Job → DiskView → DiskView → Type 0
+HasDiskFault (Run j) disk disk' = ⊥
+HasDiskFault (Show j) disk disk' = ⊥
+HasDiskFault (Gen j) disk disk' = ⊥
+HasDiskFault (Large j) disk disk' = ⊥
+HasDiskFault (Audit j) disk disk' = ⊥
+HasDiskFault (Journal j) disk disk' = Rose disk.faults disk'.faults
+HasDiskFault (Recover j) disk disk' = Rose disk.faults disk'.faults
 
--- with fit inputs and no fault of the host or the sink all is done, or memory runs out
-abbrev pub Completes : Job → HostView → HostView → SinkView → SinkView → Status → Type 0
-Completes j host host' sink sink' st =
-    IfSome host.told (λ t. IsProper t j → (Rose host.faults host'.faults → ⊥) → (Rose sink.faults sink'.faults → ⊥) → (st ≡ status.Done) ⊎ (st ≡ status.NoMemory))
+-- with fit inputs and no fault of the host, the sink or the disk all is done, or memory runs out
+abbrev pub Completes : Job → HostView → HostView → SinkView → SinkView → DiskView → DiskView → Status → Type 0
+Completes j host host' sink sink' disk disk' st =
+    IfSome host.told (λ t. IsProper t disk j → (Rose host.faults host'.faults → ⊥) → (Rose sink.faults sink'.faults → ⊥) → (HasDiskFault j disk disk' → ⊥) → (st ≡ status.Done) ⊎ (st ≡ status.NoMemory))

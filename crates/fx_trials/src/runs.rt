@@ -1,27 +1,44 @@
-//! Single runs of a program over a host and a sink in memory.
+//! Single runs of a program over a host, a sink and a disk in memory.
 
 use fx_base::NoMemory;
+use fx_durable::MemoryDisk;
 use fx_outside::{MemoryHost, MemorySink, Words};
-use fx_stage::{Detail, OUT, Program, Stage, tell_end, tell_left, words_of};
+use fx_stage::{Detail, OUT, Program, Stage, empty_disk, tell_end_over, tell_left, words_of};
 use fx_telling::tell_bytes;
 use std::alloc::Global;
 
-/// Runs a command, and tells its status, its line on standard error, what it printed, and what stands at OUT.
-pub fn tell_run<P: Program>(
+/// Runs a command over a disk, and tells its status, its line on standard error, what it printed, and what stands at OUT.
+fn tell_run_over<P: Program>(
     program: &P,
     alloc: Global,
     words: &Words,
     host: &mut MemoryHost,
     mut sink: MemorySink,
+    disk: &mut MemoryDisk,
     detail: Detail,
     out: &mut String,
 ) -> Result<(), NoMemory> {
-    tell_end(program, alloc, words, host, &mut sink, out)?;
+    tell_end_over(program, alloc, words, host, &mut sink, disk, out)?;
     tell_bytes(out, sink.written())?;
     tell_left(alloc, host, detail, OUT, out)
 }
 
-/// Runs a command over the host of a stage, and tells what it gives.
+/// Runs a command over a disk of its own, and tells its status, its line on standard error, what it printed, and what stands
+/// at OUT.
+pub fn tell_run<P: Program>(
+    program: &P,
+    alloc: Global,
+    words: &Words,
+    host: &mut MemoryHost,
+    sink: MemorySink,
+    detail: Detail,
+    out: &mut String,
+) -> Result<(), NoMemory> {
+    let mut disk = empty_disk(alloc)?;
+    tell_run_over(program, alloc, words, host, sink, &mut disk, detail, out)
+}
+
+/// Runs a command over the host and the disk of a stage, and tells what it gives.
 pub fn tell_top<P: Program>(
     program: &P,
     alloc: Global,
@@ -31,6 +48,18 @@ pub fn tell_top<P: Program>(
 ) -> Result<(), NoMemory> {
     let words = words_of(alloc, line)?;
     let sink = stage.fresh_sink(alloc)?;
+    let mut disk = stage.take_disk(alloc)?;
     let detail = stage.detail;
-    tell_run(program, alloc, &words, &mut stage.host, sink, detail, out)
+    tell_run_over(
+        program,
+        alloc,
+        &words,
+        &mut stage.host,
+        sink,
+        &mut disk,
+        detail,
+        out,
+    )?;
+    stage.put_disk(disk);
+    Ok(())
 }

@@ -75,7 +75,7 @@ fn sink_after<P: Program>(
 ) -> Result<MemorySink, NoMemory> {
     let mut host = stage.fresh_host(alloc)?;
     let mut sink = stage.fresh_sink(alloc)?;
-    run_quietly(program, alloc, words, &mut host, &mut sink);
+    run_quietly(program, alloc, words, &mut host, &mut sink)?;
     Ok(sink)
 }
 

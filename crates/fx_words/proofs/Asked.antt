@@ -1,54 +1,79 @@
 -- What the words ask for, by the form that they have.
-use Rattle.std.proofs.Common.{◌≡◌, ℕ, Bool, true, false, cond, ◌&&◌, List, [], ◌∷◌, Option, None, refl, sym, ap, ◌∙◌, codes}
-use Rattle.std.specs.Option.{option_map}
-use Rattle.std.specs.Str.{bytes_eq}
-use Rattle.std.proofs.lemmas.Slice.Eq.{bytes_eq-Decides}
-use Rattle.fx_command_line.specs.Forms.{are_of_run, are_of_trace, are_two, has_form}
-use Rattle.fx_words.specs.Job.{Job, Run, Show, Gen, Large, are_plain, gen_job, is_plain, job_of, named_job, run_job, show_job, trace_job}
+use Rattle.std.proofs.Common.{◌≡◌, ℕ, suc, ◌+◌, ◌≤◌, Bool, true, false, cond, ◌&&◌, List, [], ◌∷◌, length, Option, Some, None, refl, sym, ap, ◌∙◌, arith}
+use Rattle.std.specs.Option.{option_map, option_map_or, option_and_then}
+use Rattle.std.proofs.lemmas.Bool.Decides.{nat_tests}
+use Rattle.fx_command_line.specs.declared.form.CommandName.{CommandName}
+use Rattle.fx_command_line.specs.declared.form.CommandName.TheVariants as command
+use Rattle.fx_command_line.specs.Forms.{command_named, has_form, is_within, takes, word_of}
+use Rattle.fx_command_line.proofs.Names.{command_is}
+use Rattle.fx_words.specs.Job.{Job, Mode, Run, Show, Gen, Large, Audit, Journal, Recover, Scheduled, Watched, are_plain, audit_job, command_job, gen_job, is_count, is_plain, job_of, journal_job, named_job, recover_job, run_job, scheduled_job, show_job}
 
 -- ---- words without a form ask for nothing
 
-run_none : (args : List (List ℕ)) → are_of_run args ≡ false → run_job args ≡ None
+-- so many scripts after some texts
+counted : (texts n all : ℕ) → all ≡ texts + n → is_within (texts + 1) (texts + 64) all ≡ is_count n
+counted texts n all e = grind (arith, nat_tests)
+
+run_none : (args : List (List ℕ)) → takes command.Run (length args) ≡ false → run_job args ≡ None
 run_none [] e = refl
 run_none (a ∷ []) e = refl
 run_none (a ∷ b ∷ []) e = refl
-run_none (a ∷ b ∷ c ∷ scripts) e = rw e refl
+run_none (a ∷ b ∷ c ∷ scripts) e = rw (sym (counted 3 (length scripts) (length (a ∷ b ∷ c ∷ scripts)) (omega arith)) ∙ e) refl
 
-trace_none : (args : List (List ℕ)) → are_of_trace args ≡ false → trace_job args ≡ None
-trace_none [] e = refl
-trace_none (a ∷ []) e = refl
-trace_none (a ∷ b ∷ []) e = refl
-trace_none (a ∷ b ∷ c ∷ []) e = refl
-trace_none (a ∷ b ∷ c ∷ d ∷ scripts) e = rw e refl
+scheduled_none : (mode : List ℕ → Mode) (args : List (List ℕ)) → is_within 5 68 (length args) ≡ false → scheduled_job mode args ≡ None
+scheduled_none mode [] e = refl
+scheduled_none mode (a ∷ []) e = refl
+scheduled_none mode (a ∷ b ∷ []) e = refl
+scheduled_none mode (a ∷ b ∷ c ∷ []) e = refl
+scheduled_none mode (a ∷ b ∷ c ∷ d ∷ scripts) e = rw (sym (counted 4 (length scripts) (length (a ∷ b ∷ c ∷ d ∷ scripts)) (omega arith)) ∙ e) refl
 
-show_none : (args : List (List ℕ)) → are_two args ≡ false → show_job args ≡ None
+show_none : (args : List (List ℕ)) → takes command.Show (length args) ≡ false → show_job args ≡ None
 show_none [] e = refl
 show_none (a ∷ []) e = refl
 show_none (a ∷ b ∷ []) e = cc
 show_none (a ∷ b ∷ c ∷ rest) e = refl
 
-gen_none : (args : List (List ℕ)) → are_two args ≡ false → gen_job args ≡ None
+gen_none : (args : List (List ℕ)) → is_within 2 2 (length args) ≡ false → gen_job args ≡ None
 gen_none [] e = refl
 gen_none (a ∷ []) e = refl
 gen_none (a ∷ b ∷ []) e = cc
 gen_none (a ∷ b ∷ c ∷ rest) e = refl
 
-abbrev takes_by : Bool → Bool → Bool → Bool → Bool → List (List ℕ) → Bool
-takes_by r t s g l args =
-    cond r (are_of_run args) (cond t (are_of_trace args) (cond s (are_two args) (cond g (are_two args) (cond l (are_two args) false))))
+audit_none : (args : List (List ℕ)) → takes command.Audit (length args) ≡ false → audit_job args ≡ None
+audit_none [] e = refl
+audit_none (a ∷ []) e = refl
+audit_none (a ∷ b ∷ []) e = refl
+audit_none (a ∷ b ∷ c ∷ scripts) e = rw (sym (counted 3 (length scripts) (length (a ∷ b ∷ c ∷ scripts)) (omega arith)) ∙ e) refl
 
-abbrev job_by : Bool → Bool → Bool → Bool → Bool → List (List ℕ) → Option Job
-job_by r t s g l args =
-    cond r (option_map Run (run_job args)) (cond t (option_map Run (trace_job args))
-    (cond s (option_map Show (show_job args)) (cond g (option_map Gen (gen_job args)) (cond l (option_map Large (gen_job args)) None))))
+journal_none : (args : List (List ℕ)) → takes command.Journal (length args) ≡ false → journal_job args ≡ None
+journal_none [] e = refl
+journal_none (a ∷ []) e = refl
+journal_none (a ∷ b ∷ []) e = refl
+journal_none (a ∷ b ∷ c ∷ []) e = refl
+journal_none (a ∷ b ∷ c ∷ d ∷ []) e = refl
+journal_none (a ∷ b ∷ c ∷ d ∷ s ∷ scripts) e = rw (sym (counted 5 (length scripts) (length (a ∷ b ∷ c ∷ d ∷ s ∷ scripts)) (omega arith)) ∙ e) refl
 
-by_none : (r t s g l : Bool) (args : List (List ℕ)) → takes_by r t s g l args ≡ false → job_by r t s g l args ≡ None
-by_none true t s g l args e = ap (option_map Run) (run_none args e)
-by_none false true s g l args e = ap (option_map Run) (trace_none args e)
-by_none false false true g l args e = ap (option_map Show) (show_none args e)
-by_none false false false true l args e = ap (option_map Gen) (gen_none args e)
-by_none false false false false true args e = ap (option_map Large) (gen_none args e)
-by_none false false false false false args e = refl
+recover_none : (args : List (List ℕ)) → takes command.Recover (length args) ≡ false → recover_job args ≡ None
+recover_none [] e = refl
+recover_none (a ∷ []) e = refl
+recover_none (a ∷ b ∷ []) e = refl
+recover_none (a ∷ b ∷ c ∷ []) e = refl
+recover_none (a ∷ b ∷ c ∷ d ∷ scripts) e = rw (sym (counted 4 (length scripts) (length (a ∷ b ∷ c ∷ d ∷ scripts)) (omega arith)) ∙ e) refl
+
+command_none : (name : CommandName) (args : List (List ℕ)) → takes name (length args) ≡ false → command_job name args ≡ None
+command_none command.Run args e = ap (option_map Run) (run_none args e)
+command_none command.Trace args e = ap (option_map Run) (scheduled_none Scheduled args e)
+command_none command.Show args e = ap (option_map Show) (show_none args e)
+command_none command.Gen args e = ap (option_map Gen) (gen_none args e)
+command_none command.Large args e = ap (option_map Large) (gen_none args e)
+command_none command.Audit args e = ap (option_map Audit) (audit_none args e)
+command_none command.Watch args e = ap (option_map Run) (scheduled_none Watched args e)
+command_none command.Journal args e = ap (option_map Journal) (journal_none args e)
+command_none command.Recover args e = ap (option_map Recover) (recover_none args e)
+
+by_none : (o : Option CommandName) (args : List (List ℕ)) → option_map_or (λ name. takes name (length args)) o false ≡ false → option_and_then (λ name. command_job name args) o ≡ None
+by_none None args e = refl
+by_none (Some name) args e = command_none name args e
 
 either_none : (b : Bool) → ◌≡◌ {A = Option Job} (cond b None None) None
 either_none true = refl
@@ -56,21 +81,28 @@ either_none false = refl
 
 pub no_form : (words : List (List ℕ)) → has_form words ≡ false → job_of words ≡ None
 no_form [] e = refl
-no_form (w ∷ args) e =
-    ap (λ j. cond (are_plain args) j None)
-    (by_none (bytes_eq w (codes "run")) (bytes_eq w (codes "trace")) (bytes_eq w (codes "show")) (bytes_eq w (codes "gen")) (bytes_eq w (codes "large")) args e)
-    ∙ either_none (are_plain args)
+no_form (w ∷ args) e = ap (λ j. cond (are_plain args) j None) (by_none (command_named w) args e) ∙ either_none (are_plain args)
 
 -- ---- nor do words of which one is empty or begins with `-`
 
-unnamed : (w name : List ℕ) → is_plain w ≡ false → is_plain name ≡ true → bytes_eq w name ≡ false
-unnamed w name not_plain plain = at (bytes_eq w name) refl
+plain_name : (name : CommandName) → is_plain (word_of name) ≡ true
+plain_name command.Run = refl
+plain_name command.Trace = refl
+plain_name command.Show = refl
+plain_name command.Gen = refl
+plain_name command.Large = refl
+plain_name command.Audit = refl
+plain_name command.Watch = refl
+plain_name command.Journal = refl
+plain_name command.Recover = refl
+
+unnamed : (w : List ℕ) → is_plain w ≡ false → command_named w ≡ None
+unnamed w not_plain = at (command_named w) refl
   where
-    at : (b : Bool) → bytes_eq w name ≡ b → b ≡ false
-    at false e = refl
-    at true e =
-        let same : w ≡ name = (bytes_eq-Decides w name).0 e in
-        let bad : true ≡ false = sym plain ∙ ap is_plain (sym same) ∙ not_plain in
+    at : (o : Option CommandName) → command_named w ≡ o → o ≡ None
+    at None e = refl
+    at (Some name) e =
+        let bad : true ≡ false = sym (plain_name name) ∙ ap is_plain (command_is w name e) ∙ not_plain in
         cc
 
 pub not_all_plain : (words : List (List ℕ)) → are_plain words ≡ false → job_of words ≡ None
@@ -80,10 +112,4 @@ not_all_plain (w ∷ args) e = at (is_plain w) (are_plain args) refl e
     at : (b rest : Bool) → is_plain w ≡ b → b && rest ≡ false → cond rest (named_job w args) None ≡ None
     at true true i e = cc
     at b false i e = refl
-    at false true i e =
-        let r = unnamed w (codes "run") i refl in
-        let t = unnamed w (codes "trace") i refl in
-        let s = unnamed w (codes "show") i refl in
-        let g = unnamed w (codes "gen") i refl in
-        let l = unnamed w (codes "large") i refl in
-        λ i. job_by (r i) (t i) (s i) (g i) (l i) args
+    at false true i e = ap (option_and_then (λ name. command_job name args)) (unnamed w i)

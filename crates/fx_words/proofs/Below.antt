@@ -7,8 +7,10 @@ use Rattle.std.specs.Option.{option_map, option_and_then, unwrap_or}
 use Rattle.std.specs.Str.{bytes_eq}
 use Rattle.std.proofs.lemmas.List.Elements.{All-cons, All-nil}
 use Rattle.fx_words.specs.declared.job.RunJob as code
+use Rattle.fx_words.specs.declared.job.RunMode as code_mode
+use Rattle.fx_words.specs.declared.job.RunMode.TheVariants as by
 use Rattle.fx_words.specs.Job.{numbered, shell_named, shells_named, schedule_of, is_comma, shells_of, shells_in}
-use Rattle.fx_words.specs.JobOf.{asked, IsJob, IsScheduleOf, scripts_in, schedule_text, mode_of}
+use Rattle.fx_words.specs.JobOf.{asked, IsJob, IsModeOf, scripts_in, mode_of}
 
 numbered_below : (k n : ℕ) (text : List ℕ) (j : ℕ) → numbered k n text ≡ Some j → j < k + n
 numbered_below k zero text j e = cc
@@ -47,10 +49,11 @@ read_below : (count : ℕ) (text : List ℕ) (o : Option (List ℕ)) → schedul
 read_below count text None e some = cc
 read_below count text (Some ks) e some = schedule_below count text ks e
 
-mode_below : (count : ℕ) (o : Option (List ℕ)) → IsScheduleOf count o → Below count (shells_in (mode_of count o))
-mode_below count None is = All-nil (λ k. k < count)
-mode_below count (Some text) is = read_below count text (schedule_of count text) refl is
+mode_below : (count : ℕ) (mode : code_mode.RunMode) → IsModeOf count mode → Below count (shells_in (mode_of count mode))
+mode_below count by.Plain is = All-nil (λ k. k < count)
+mode_below count (by.Scheduled text) is = read_below count text.now (schedule_of count text.now) refl is
+mode_below count (by.Watched text) is = read_below count text.now (schedule_of count text.now) refl is
 
 -- the shells that a job asks for are below its number of scripts
 pub job_below : (j : code.RunJob) → IsJob j → All (λ k. k < length (scripts_in j.inputs)) (shells_of (asked j))
-job_below j is = mode_below (length (scripts_in j.inputs)) (schedule_text j) is.schedule
+job_below j is = mode_below (length (scripts_in j.inputs)) j.mode is.mode

@@ -5,12 +5,16 @@ use Rattle.std.specs.List.{list_all, slice_split}
 use Rattle.std.specs.Option.{option_map, option_and_then}
 use Rattle.std.specs.Str.{bytes_eq}
 use Rattle.std.specs.Str.Parse.{digits_value}
+use Rattle.fx_command_line.specs.declared.form.CommandName.{CommandName}
+use Rattle.fx_command_line.specs.declared.form.CommandName.TheVariants as command
+use Rattle.fx_command_line.specs.Forms.{command_named}
 pub use Rattle.fx_command_line.specs.Forms.{is_count, is_plain}
 
--- a thread for each script, or by a schedule of shells
+-- a thread for each script, or by a schedule of shells, which says after each commit whether the tree has a value or not
 pub data Mode : Type 0 where
   Plain : Mode
   Scheduled : List ℕ → Mode
+  Watched : List ℕ → Mode
 
 -- what a run reads: a description, a folder and scripts, and the place of the first script's word, the command being 0
 pub record Inputs : Type 0 where
@@ -24,6 +28,22 @@ pub record RunJob : Type 0 where
   pub inputs : Inputs
   pub out : List ℕ
   pub mode : Mode
+
+-- whether the text at `report` is the report of a run of these
+pub record AuditJob : Type 0 where
+  pub inputs : Inputs
+  pub report : List ℕ
+
+-- a run by a schedule, whose order the file at `journal` keeps
+pub record JournalJob : Type 0 where
+  pub run : RunJob
+  pub journal : List ℕ
+
+-- the folder after the order that the file at `journal` keeps, into `out`
+pub record RecoverJob : Type 0 where
+  pub inputs : Inputs
+  pub journal : List ℕ
+  pub out : List ℕ
 
 -- whether the folder has a value by the description, and which
 pub record ShowJob : Type 0 where
@@ -41,6 +61,9 @@ pub data Job : Type 0 where
   Show : ShowJob → Job
   Gen : GenJob → Job
   Large : GenJob → Job
+  Audit : AuditJob → Job
+  Journal : JournalJob → Job
+  Recover : RecoverJob → Job
 
 -- the least number from `k` on, of so many, whose decimal text this is
 abbrev pub numbered : ℕ → ℕ → List ℕ → Option ℕ
@@ -65,15 +88,34 @@ schedule_of count text = cond (bytes_eq text (codes "none")) (Some []) (shells_n
 abbrev pub are_plain : List (List ℕ) → Bool
 are_plain words = list_all is_plain words
 
+-- SPEC FOLDER OUT SCRIPT...
 abbrev pub run_job : List (List ℕ) → Option RunJob
 run_job (spec ∷ folder ∷ out ∷ scripts) = cond (is_count (length scripts)) (Some (record { inputs = record { spec = spec; folder = folder; scripts = scripts; first = 4 }; out = out; mode = Plain })) None
 run_job _ = None
 
-abbrev pub trace_job : List (List ℕ) → Option RunJob
-trace_job (spec ∷ folder ∷ out ∷ schedule ∷ scripts) =
-    let job : List ℕ → RunJob = λ shells. record { inputs = record { spec = spec; folder = folder; scripts = scripts; first = 5 }; out = out; mode = Scheduled shells } in
+-- SPEC FOLDER OUT SCHEDULE SCRIPT..., in the mode that a schedule gives
+abbrev pub scheduled_job : (List ℕ → Mode) → List (List ℕ) → Option RunJob
+scheduled_job mode (spec ∷ folder ∷ out ∷ schedule ∷ scripts) =
+    let job : List ℕ → RunJob = λ shells. record { inputs = record { spec = spec; folder = folder; scripts = scripts; first = 5 }; out = out; mode = mode shells } in
     cond (is_count (length scripts)) (option_map job (schedule_of (length scripts) schedule)) None
-trace_job _ = None
+scheduled_job mode _ = None
+
+-- SPEC FOLDER REPORT SCRIPT...
+abbrev pub audit_job : List (List ℕ) → Option AuditJob
+audit_job (spec ∷ folder ∷ report ∷ scripts) = cond (is_count (length scripts)) (Some (record { inputs = record { spec = spec; folder = folder; scripts = scripts; first = 4 }; report = report })) None
+audit_job _ = None
+
+-- SPEC FOLDER OUT JOURNAL SCHEDULE SCRIPT...
+abbrev pub journal_job : List (List ℕ) → Option JournalJob
+journal_job (spec ∷ folder ∷ out ∷ journal ∷ schedule ∷ scripts) =
+    let job : List ℕ → JournalJob = λ shells. record { run = record { inputs = record { spec = spec; folder = folder; scripts = scripts; first = 6 }; out = out; mode = Scheduled shells }; journal = journal } in
+    cond (is_count (length scripts)) (option_map job (schedule_of (length scripts) schedule)) None
+journal_job _ = None
+
+-- SPEC FOLDER JOURNAL OUT SCRIPT...
+abbrev pub recover_job : List (List ℕ) → Option RecoverJob
+recover_job (spec ∷ folder ∷ journal ∷ out ∷ scripts) = cond (is_count (length scripts)) (Some (record { inputs = record { spec = spec; folder = folder; scripts = scripts; first = 5 }; journal = journal; out = out })) None
+recover_job _ = None
 
 abbrev pub show_job : List (List ℕ) → Option ShowJob
 show_job (spec ∷ folder ∷ []) = Some (record { spec = spec; folder = folder })
@@ -91,19 +133,26 @@ gen_job (number ∷ out ∷ []) =
     option_map job (number_of number)
 gen_job _ = None
 
+-- what a command asks for with these arguments
+abbrev pub command_job : CommandName → List (List ℕ) → Option Job
+command_job command.Run arguments = option_map Run (run_job arguments)
+command_job command.Trace arguments = option_map Run (scheduled_job Scheduled arguments)
+command_job command.Show arguments = option_map Show (show_job arguments)
+command_job command.Gen arguments = option_map Gen (gen_job arguments)
+command_job command.Large arguments = option_map Large (gen_job arguments)
+command_job command.Audit arguments = option_map Audit (audit_job arguments)
+command_job command.Watch arguments = option_map Run (scheduled_job Watched arguments)
+command_job command.Journal arguments = option_map Journal (journal_job arguments)
+command_job command.Recover arguments = option_map Recover (recover_job arguments)
+
 -- the command that a word names, with its arguments
 abbrev pub named_job : List ℕ → List (List ℕ) → Option Job
-named_job command arguments =
-    cond (bytes_eq command (codes "run")) (option_map Run (run_job arguments))
-    (cond (bytes_eq command (codes "trace")) (option_map Run (trace_job arguments))
-    (cond (bytes_eq command (codes "show")) (option_map Show (show_job arguments))
-    (cond (bytes_eq command (codes "gen")) (option_map Gen (gen_job arguments))
-    (cond (bytes_eq command (codes "large")) (option_map Large (gen_job arguments)) None))))
+named_job word arguments = option_and_then (λ name. command_job name arguments) (command_named word)
 
 -- the command that the words ask for, if they have a command's form
 abbrev pub job_of : List (List ℕ) → Option Job
 job_of [] = None
-job_of (command ∷ arguments) = cond (are_plain arguments) (named_job command arguments) None
+job_of (word ∷ arguments) = cond (are_plain arguments) (named_job word arguments) None
 
 -- the place of a script's word among the words
 abbrev pub place_of : Inputs → ℕ → ℕ
@@ -112,6 +161,7 @@ place_of inputs i = inputs.first + i
 abbrev pub shells_in : Mode → List ℕ
 shells_in Plain = []
 shells_in (Scheduled shells) = shells
+shells_in (Watched shells) = shells
 
 abbrev pub shells_of : RunJob → List ℕ
 shells_of job = shells_in job.mode

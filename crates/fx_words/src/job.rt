@@ -1,14 +1,14 @@
-ghost use Rattle.std.specs.Prelude.{◌≡◌, ◌+◌, ◌≤◌, ◌<◌, IfOk, IfSome, Some, None, Err, true, slice_get, option_copied, option_map, length, drop};
+ghost use Rattle.std.specs.Prelude.{◌≡◌, ◌+◌, ◌≤◌, ◌<◌, IfOk, IfSome, Some, None, Err, slice_get, option_copied, option_map, is_some, length, drop};
 ghost use Rattle.fx_base.specs.Limits.{shell_limit};
-ghost use Rattle.fx_command_line.specs.Forms.{has_form};
-ghost use Rattle.fx_command_line.specs.WordsOf.{texts_of, words_of};
+ghost use Rattle.fx_command_line.specs.Forms.{least_of, most_of};
+ghost use Rattle.fx_command_line.specs.WordsOf.{texts_of};
 ghost use Rattle.fx_words.specs.Job as job;
-ghost use Rattle.fx_words.specs.JobOf.{asked, asked_inputs, asked_show, asked_gen, asked_job, AreInputs, IsJob, IsAnyJob};
+ghost use Rattle.fx_words.specs.JobOf.{asked, asked_audit, asked_gen, asked_inputs, asked_job, asked_journal, asked_recover, asked_show, has_schedule, AreInputs, BeginAt, IsAnyJob, IsJob, IsJournalJob};
 
 use crate::decimal::number_of;
 use crate::schedule::{is_schedule, read_schedule};
 use fx_base::NoMemory;
-use fx_command_line::{Form, WordsFault, read_words};
+use fx_command_line::{CommandName, WordsFault, read_words};
 use fx_outside::{HostText, Words};
 use std::alloc::Global;
 
@@ -19,6 +19,9 @@ pub enum Job<'a> {
     Show(ShowJob<'a>),
     Gen(GenJob<'a>),
     Large(GenJob<'a>),
+    Audit(AuditJob<'a>),
+    Journal(JournalJob<'a>),
+    Recover(RecoverJob<'a>),
 }
 
 /// What a run reads: a description, a folder, and scripts, which are the last of the words.
@@ -30,13 +33,45 @@ pub struct Inputs<'a> {
     first: u64,
 }
 
-/// The arguments of `run SPEC FOLDER OUT SCRIPT...`, or of `trace SPEC FOLDER OUT SCHEDULE SCRIPT...`, which alone has a
-/// schedule.
+/// How the scripts run, with the text of the schedule.
+#[derive(Clone, Copy)]
+pub enum RunMode<'a> {
+    /// A thread for each script.
+    Plain,
+    /// One thread, by a schedule of shells.
+    Scheduled(&'a HostText),
+    /// The same, and each commit is followed by whether the tree has a value.
+    Watched(&'a HostText),
+}
+
+/// The arguments of `run SPEC FOLDER OUT SCRIPT...`, or of `trace` or `watch SPEC FOLDER OUT SCHEDULE SCRIPT...`.
 #[derive(Clone, Copy)]
 pub struct RunJob<'a> {
     pub inputs: Inputs<'a>,
     pub out: &'a HostText,
-    pub schedule: Option<&'a HostText>,
+    pub mode: RunMode<'a>,
+}
+
+/// The arguments of `audit SPEC FOLDER REPORT SCRIPT...`.
+#[derive(Clone, Copy)]
+pub struct AuditJob<'a> {
+    pub inputs: Inputs<'a>,
+    pub report: &'a HostText,
+}
+
+/// The arguments of `journal SPEC FOLDER OUT JOURNAL SCHEDULE SCRIPT...`. Its run is by the schedule.
+#[derive(Clone, Copy)]
+pub struct JournalJob<'a> {
+    pub run: RunJob<'a>,
+    pub journal: &'a HostText,
+}
+
+/// The arguments of `recover SPEC FOLDER JOURNAL OUT SCRIPT...`.
+#[derive(Clone, Copy)]
+pub struct RecoverJob<'a> {
+    pub inputs: Inputs<'a>,
+    pub journal: &'a HostText,
+    pub out: &'a HostText,
 }
 
 /// The arguments of `show SPEC FOLDER`.
@@ -94,93 +129,176 @@ fn texts(alloc: Global, words: &Words) -> Result<Vec<&str>, NoMemory>
     Ok(texts)
 }
 
-/// The arguments of `run`.
-fn run_job(words: &Words) -> Option<RunJob<'_>>
-    requires some { 5 ≤ length words.now }
-    requires few { length words.now ≤ 68 }
-    ensures asked { option_map asked result ≡ job.run_job (drop 1 words.now) }
-    ensures job { IfSome result IsJob }
+/// The word at a place where one is.
+fn word(words: &Words, place: u64) -> &HostText
+    requires { place < length words.now }
+    ensures { slice_get words.now place ≡ Some result.now }
 {
-    let spec = words.at(1)?;
-    let folder = words.at(2)?;
-    let out = words.at(3)?;
-    let inputs = Inputs {
-        spec,
-        folder,
+    match words.at(place) {
+        Some(word) => word,
+        None => unreachable!(),
+    }
+}
+
+/// SPEC and FOLDER, and the scripts from a place on.
+fn inputs_from(words: &Words, first: u64) -> Inputs<'_>
+    requires late { 3 ≤ first }
+    requires early { first ≤ 6 }
+    requires some { first < length words.now }
+    requires few { length words.now ≤ first + shell_limit }
+    ensures begin { BeginAt words.now first result }
+    ensures inputs { AreInputs result }
+{
+    Inputs {
+        spec: word(words, 1),
+        folder: word(words, 2),
         words,
-        first: 4,
-    };
-    Some(RunJob {
-        inputs,
-        out,
-        schedule: None,
-    })
+        first,
+    }
+}
+
+/// The word at a place, if it is a schedule of as many shells as words follow.
+fn schedule_at(words: &Words, place: u64) -> Option<&HostText>
+    requires early { place ≤ 5 }
+    requires some { place + 1 < length words.now }
+    requires few { length words.now ≤ place + 1 + shell_limit }
+    ensures word { IfSome result (λ schedule. slice_get words.now place ≡ Some schedule.now) }
+    ensures read { is_some result ≡ has_schedule words.now place }
+{
+    let schedule = word(words, place);
+    let count = (words.len() - (place + 1)) as u32;
+    if is_schedule(count, schedule.as_str().as_bytes()) {
+        return Some(schedule);
+    }
+    None
+}
+
+/// The arguments of `run`.
+fn run_job(words: &Words) -> RunJob<'_>
+    requires some { 4 < length words.now }
+    requires few { length words.now ≤ 4 + shell_limit }
+    ensures asked { job.run_job (drop 1 words.now) ≡ Some (asked result) }
+    ensures job { IsJob result }
+{
+    RunJob {
+        inputs: inputs_from(words, 4),
+        out: word(words, 3),
+        mode: RunMode::Plain,
+    }
 }
 
 /// The arguments of `trace`, if the schedule can be read.
-fn trace_job<'a>(words: &'a Words, shells: &str) -> Option<RunJob<'a>>
-    requires some { 6 ≤ length words.now }
-    requires few { length words.now ≤ 69 }
-    requires shells { slice_get words.now 4 ≡ Some shells.now }
-    ensures asked { option_map asked result ≡ job.trace_job (drop 1 words.now) }
+fn trace_job(words: &Words) -> Option<RunJob<'_>>
+    requires some { 5 < length words.now }
+    requires few { length words.now ≤ 5 + shell_limit }
+    ensures asked { option_map asked result ≡ job.scheduled_job job.Scheduled (drop 1 words.now) }
     ensures job { IfSome result IsJob }
 {
-    let spec = words.at(1)?;
-    let folder = words.at(2)?;
-    let out = words.at(3)?;
-    let schedule = words.at(4)?;
-    let count = (words.len() - 5) as u32;
-    if !is_schedule(count, shells.as_bytes()) {
-        return None;
-    }
-    let inputs = Inputs {
-        spec,
-        folder,
-        words,
-        first: 5,
-    };
+    let schedule = schedule_at(words, 4)?;
     Some(RunJob {
-        inputs,
-        out,
-        schedule: Some(schedule),
+        inputs: inputs_from(words, 5),
+        out: word(words, 3),
+        mode: RunMode::Scheduled(schedule),
     })
 }
 
-/// The arguments of `show`.
-fn show_job(words: &Words) -> Option<ShowJob<'_>>
-    requires { length words.now ≡ 3 }
-    ensures { option_map asked_show result ≡ job.show_job (drop 1 words.now) }
+/// The arguments of `watch`, if the schedule can be read.
+fn watch_job(words: &Words) -> Option<RunJob<'_>>
+    requires some { 5 < length words.now }
+    requires few { length words.now ≤ 5 + shell_limit }
+    ensures asked { option_map asked result ≡ job.scheduled_job job.Watched (drop 1 words.now) }
+    ensures job { IfSome result IsJob }
 {
-    let spec = words.at(1)?;
-    let folder = words.at(2)?;
-    Some(ShowJob { spec, folder })
+    let schedule = schedule_at(words, 4)?;
+    Some(RunJob {
+        inputs: inputs_from(words, 5),
+        out: word(words, 3),
+        mode: RunMode::Watched(schedule),
+    })
+}
+
+/// The arguments of `audit`.
+fn audit_job(words: &Words) -> AuditJob<'_>
+    requires some { 4 < length words.now }
+    requires few { length words.now ≤ 4 + shell_limit }
+    ensures asked { job.audit_job (drop 1 words.now) ≡ Some (asked_audit result) }
+    ensures job { AreInputs result.inputs }
+{
+    AuditJob {
+        inputs: inputs_from(words, 4),
+        report: word(words, 3),
+    }
+}
+
+/// The arguments of `journal`, if the schedule can be read.
+fn journal_job(words: &Words) -> Option<JournalJob<'_>>
+    requires some { 6 < length words.now }
+    requires few { length words.now ≤ 6 + shell_limit }
+    ensures asked { option_map asked_journal result ≡ job.journal_job (drop 1 words.now) }
+    ensures job { IfSome result IsJournalJob }
+{
+    let schedule = schedule_at(words, 5)?;
+    let run = RunJob {
+        inputs: inputs_from(words, 6),
+        out: word(words, 3),
+        mode: RunMode::Scheduled(schedule),
+    };
+    let journal = word(words, 4);
+    Some(JournalJob { run, journal })
+}
+
+/// The arguments of `recover`.
+fn recover_job(words: &Words) -> RecoverJob<'_>
+    requires some { 5 < length words.now }
+    requires few { length words.now ≤ 5 + shell_limit }
+    ensures asked { job.recover_job (drop 1 words.now) ≡ Some (asked_recover result) }
+    ensures job { AreInputs result.inputs }
+{
+    RecoverJob {
+        inputs: inputs_from(words, 5),
+        journal: word(words, 3),
+        out: word(words, 4),
+    }
+}
+
+/// The arguments of `show`.
+fn show_job(words: &Words) -> ShowJob<'_>
+    requires { length words.now ≡ 3 }
+    ensures { job.show_job (drop 1 words.now) ≡ Some (asked_show result) }
+{
+    ShowJob {
+        spec: word(words, 1),
+        folder: word(words, 2),
+    }
 }
 
 /// The arguments of `gen` or of `large`, if the number can be read.
-fn gen_job<'a>(words: &'a Words, number: &str) -> Option<GenJob<'a>>
-    requires length { length words.now ≡ 3 }
-    requires number { slice_get words.now 1 ≡ Some number.now }
+fn gen_job(words: &Words) -> Option<GenJob<'_>>
+    requires { length words.now ≡ 3 }
     ensures { option_map asked_gen result ≡ job.gen_job (drop 1 words.now) }
 {
-    let out = words.at(2)?;
-    let number = number_of(number)?;
+    let number = number_of(word(words, 1).as_str())?;
+    let out = word(words, 2);
     Some(GenJob { number, out })
 }
 
-/// What the words ask for, whose form is this; none where a schedule or a number can't be read.
-fn job_in<'a>(words: &'a Words, form: &Form) -> Option<Job<'a>>
-    requires plain { job.are_plain words.now ≡ true }
-    requires form { has_form words.now ≡ true }
-    requires words { words_of form.now ≡ words.now }
-    ensures asked { option_map asked_job result ≡ job.job_of words.now }
+/// What a command asks for with as many arguments as it takes; none where a schedule or a number can't be read.
+fn job_in(words: &Words, command: CommandName) -> Option<Job<'_>>
+    requires some { least_of command < length words.now }
+    requires few { length words.now ≤ most_of command + 1 }
+    ensures asked { option_map asked_job result ≡ job.command_job command (drop 1 words.now) }
     ensures job { IfSome result IsAnyJob }
 {
-    match form {
-        Form::Run(_) => Some(Job::Run(run_job(words)?)),
-        Form::Trace(form) => Some(Job::Run(trace_job(words, form.schedule)?)),
-        Form::Show(_) => Some(Job::Show(show_job(words)?)),
-        Form::Gen(form) => Some(Job::Gen(gen_job(words, form.number)?)),
-        Form::Large(form) => Some(Job::Large(gen_job(words, form.number)?)),
+    match command {
+        CommandName::Run => Some(Job::Run(run_job(words))),
+        CommandName::Trace => Some(Job::Run(trace_job(words)?)),
+        CommandName::Show => Some(Job::Show(show_job(words))),
+        CommandName::Gen => Some(Job::Gen(gen_job(words)?)),
+        CommandName::Large => Some(Job::Large(gen_job(words)?)),
+        CommandName::Audit => Some(Job::Audit(audit_job(words))),
+        CommandName::Watch => Some(Job::Run(watch_job(words)?)),
+        CommandName::Journal => Some(Job::Journal(journal_job(words)?)),
+        CommandName::Recover => Some(Job::Recover(recover_job(words))),
     }
 }
 
@@ -196,7 +314,7 @@ pub fn job_of(alloc: Global, words: &Words) -> Result<Job<'_>, WordsFault>
     }
     let texts = texts(alloc, words)?;
     let form = read_words(alloc, texts.as_slice())?;
-    match job_in(words, &form) {
+    match job_in(words, form.command) {
         Some(job) => Ok(job),
         None => Err(WordsFault::Usage),
     }
@@ -237,9 +355,9 @@ impl<'a> RunJob<'a> {
         requires { IsJob self.now }
         ensures { IfOk result (λ shells. shells.items ≡ job.shells_of (asked self.now)) }
     {
-        match self.schedule {
-            None => Ok(Vec::new(alloc)),
-            Some(schedule) => {
+        match self.mode {
+            RunMode::Plain => Ok(Vec::new(alloc)),
+            RunMode::Scheduled(schedule) | RunMode::Watched(schedule) => {
                 read_schedule(alloc, self.inputs.scripts(), schedule.as_str().as_bytes())
             }
         }

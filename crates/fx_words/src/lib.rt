@@ -6,4 +6,6 @@ mod job;
 mod schedule;
 
 pub use fx_command_line::WordsFault;
-pub use job::{GenJob, Inputs, Job, RunJob, ShowJob, job_of};
+pub use job::{
+    AuditJob, GenJob, Inputs, Job, JournalJob, RecoverJob, RunJob, RunMode, ShowJob, job_of,
+};

@@ -1,7 +1,7 @@
 use Rattle.std.proofs.Common.{◌≡◌, ◌++◌, ℕ, take, Some, IfSome, sym, subst}
 use Rattle.fx_base.proofs.Errors.{err_of}
 use Rattle.fx_command.specs.StatusOf.{status_of}
-use Rattle.fx_audit_command.specs.Job.{asked_audit}
+use Rattle.fx_words.specs.JobOf.{asked_audit}
 use Rattle.fx_audit_command.specs.Rows.{AuditRow}
 use Rattle.fx_audit_command.proofs.Auditing.{audit_done, audit_unprinted}
 use Rattle.fx_audit_command.proofs.command.audit.Goals as goal

@@ -1,5 +1,5 @@
 use Rattle.fx_spec.specs.Bases.{base_tree}
-use Rattle.fx_audit_command.specs.Job.{asked_audit}
+use Rattle.fx_words.specs.JobOf.{asked_audit}
 use Rattle.fx_audit_command.proofs.Auditing.{auditing, has_inputs}
 use Rattle.fx_audit_command.proofs.command.line_by.Goals as goal
 

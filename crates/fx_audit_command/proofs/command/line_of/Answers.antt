@@ -3,7 +3,7 @@ use Rattle.fx_base.proofs.Errors.{if_err_of}
 use Rattle.fx_spec.specs.Bases.{base_tree}
 use Rattle.fx_inputs.specs.Inputs.{HasBase}
 use Rattle.fx_inputs.proofs.Stages.{then_told}
-use Rattle.fx_audit_command.specs.Job.{asked_audit}
+use Rattle.fx_words.specs.JobOf.{asked_audit}
 use Rattle.fx_audit_command.specs.Rows.{AuditEndsAs}
 use Rattle.fx_audit_command.proofs.Auditing.{audit_ends_before, audit_fit_inputs, auditing_before, inputs_unread}
 use Rattle.fx_audit_command.proofs.command.line_of.Goals as goal

@@ -1,7 +1,7 @@
 use Rattle.std.proofs.Common.{IfSome, sym, subst}
 use Rattle.fx_base.proofs.Errors.{if_err_of}
 use Rattle.fx_command.specs.StatusOf.{read_status}
-use Rattle.fx_audit_command.specs.Job.{asked_audit}
+use Rattle.fx_words.specs.JobOf.{asked_audit}
 use Rattle.fx_audit_command.specs.Rows.{AuditEndsAs}
 use Rattle.fx_audit_command.proofs.Auditing.{audit_fit_report, report_large, report_read, report_unread}
 use Rattle.fx_audit_command.proofs.reading.read_report.Goals as goal

@@ -1,4 +1,4 @@
-use Rattle.std.proofs.Common.{◌-◌, length}
+use Rattle.std.proofs.Common.{◌+◌, ◌-◌, length}
 use Rattle.fx_command.proofs.Pieces.{IsReading}
 use Rattle.fx_command.proofs.texts.read_text.Given as goal
 
@@ -6,4 +6,4 @@ abbrev pub invariant-reading : goal.invariant-reading
 invariant-reading g l = IsReading (g.H.Host.view l.initial.host) (g.H.Host.view l.host) l.path l.text.items
 
 abbrev pub decreases-reading : goal.decreases-reading
-decreases-reading g l = 65537 - length l.text.items
+decreases-reading g l = l.limit + 1 - length l.text.items

@@ -1,4 +1,5 @@
 use Rattle.std.proofs.Common.{IfSome, sym, subst}
+use Rattle.fx_base.specs.Limits.{source_limit}
 use Rattle.fx_command.specs.Texts.{IsReadAt}
 use Rattle.fx_base.proofs.Errors.{if_err_of}
 use Rattle.fx_words.specs.JobOf.{asked_inputs}
@@ -13,6 +14,6 @@ returns-in_err-spec-clause-ends g c =
     let a = g.H.Host.view c.args.host.now in
     let b = g.H.Host.view c.read_text.new.host in
     let refusal = c.in_err-spec.field-0.0 in
-    let read = subst (λ x. IfSome a.told (λ t. IsReadAt t inputs.spec x)) (sym c.deref.ensures.value) c.in_ok-text.ensures.read in
+    let read = subst (λ x. IfSome a.told (λ t. IsReadAt t inputs.spec source_limit x)) (sym c.deref.ensures.value) c.in_ok-text.ensures.read in
     if_err_of (ReadRow inputs a b) c.from_residual-in_err-spec.result (status_of_fault refusal) c.from_residual-in_err-spec.ensures.1
     (spec_refused inputs a b c.deref.result.now refusal read c.in_err-spec.ensures.refused)

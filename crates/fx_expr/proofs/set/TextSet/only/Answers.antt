@@ -13,4 +13,4 @@ from_ascending-requires c =
     sym (append-nil c.loop-text.kept.items)
     ∙ ap (λ xs. c.loop-text.kept.items ++ filter (λ text. glob_matches c.args.glob.now text) xs) (sym c.in-None.ensures.steps.0)
     ∙ c.loop-text.invariant in
-    rw (kept, ← c.self.view_is) (IsStrictlySortedBy-filter (slice_cmp nat_cmp) (λ text. glob_matches c.args.glob.now text) c.self.inside.texts c.self.invariant)
+    rw (kept, ← c.self.view_is) (IsStrictlySortedBy-filter (slice_cmp nat_cmp) (λ text. glob_matches c.args.glob.now text) c.self.inside.texts c.self.invariant.ascending)

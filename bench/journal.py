@@ -1,0 +1,101 @@
+"""A commit by `txforest journal` on a disk, beside a commit by SQLite with its rollback journal and `synchronous=full`, measured in
+turns on the same file system; and in memory, where a sync costs nothing, beside `trace` of the same scripts.
+
+The time of a run that settles nothing, with its loading and saving, is left out on the side of `journal`. SQLite with a WAL,
+which syncs less at a commit, is told beside. `JOURNAL_DISK` names another folder on a disk.
+"""
+
+import os
+import shutil
+import sqlite3
+import sys
+import tempfile
+import time
+
+import measure
+import trace
+
+SIZES = [500]
+IN_MEMORY = 10_000
+REPEATS = 3
+MEMORY = "/dev/shm"
+RECORD = 9
+
+
+def case(scratch, count):
+    """A folder of one file, its description and scripts of so many transactions that store in it."""
+    folder = os.path.join(scratch, "in")
+    os.makedirs(folder, exist_ok=True)
+    measure.write(folder, "a", "0")
+    spec = measure.write(scratch, "spec", '("a" :: file)\n')
+    return spec, folder, trace.write_scripts(scratch, [trace.TRANSACTION] * count)
+
+
+def journaled(scratch, spec, folder, scripts, count):
+    """A journal of so many commits, of which each has its record."""
+    out, journal = os.path.join(scratch, "out"), os.path.join(scratch, "journal")
+    shutil.rmtree(out, ignore_errors=True)
+    if os.path.exists(journal):
+        os.remove(journal)
+    ran = measure.done([measure.program(), "journal", spec, folder, out, journal, "none", *scripts], scratch)
+    if os.path.getsize(journal) != RECORD * count + 1:
+        sys.exit(f"the journal has not {count} records")
+    return ran
+
+
+def committed(scratch, mode, count):
+    """The seconds of so many commits of SQLite with a journal of this mode, each of which stores one row."""
+    path = os.path.join(scratch, "peer.db")
+    for end in ("", "-wal", "-shm", "-journal"):
+        if os.path.exists(path + end):
+            os.remove(path + end)
+    connection = sqlite3.connect(path, isolation_level=None)
+    connection.execute(f"PRAGMA journal_mode={mode}").fetchone()
+    connection.execute("PRAGMA synchronous=FULL")
+    connection.execute("CREATE TABLE files (name TEXT PRIMARY KEY, text TEXT)")
+    connection.execute("INSERT INTO files VALUES ('a', '0')")
+    begin = time.monotonic()
+    for i in range(count):
+        connection.execute("BEGIN IMMEDIATE")
+        connection.execute("UPDATE files SET text = ? WHERE name = 'a'", (str(i),))
+        connection.execute("COMMIT")
+    seconds = time.monotonic() - begin
+    connection.close()
+    return seconds
+
+
+def on_disk(parent, count):
+    with tempfile.TemporaryDirectory(dir=parent) as scratch:
+        spec, folder, scripts = case(scratch, count)
+        nothing = [measure.write(scratch, "nothing", "")]
+        ours, rollback, wal, idle, peak = [], [], [], [], 0
+        for _ in range(REPEATS):
+            ran = journaled(scratch, spec, folder, scripts, count)
+            ours.append(ran.seconds)
+            peak = max(peak, ran.peak_kib)
+            rollback.append(committed(scratch, "DELETE", count))
+            wal.append(committed(scratch, "WAL", count))
+            idle.append(journaled(scratch, spec, folder, nothing, 0).seconds)
+    seconds = max(min(ours) - min(idle), 0.001)
+    more = f"load and save, {min(idle):.3f} s, left out; SQLite with a WAL {min(wal):.3f} s"
+    return measure.Line("journal: commits on a disk", count, seconds, peak, "SQLite, rollback journal, full", min(rollback), more)
+
+
+def in_memory(count):
+    with tempfile.TemporaryDirectory(dir=MEMORY) as scratch:
+        spec, folder, scripts = case(scratch, count)
+        pairs = []
+        for _ in range(REPEATS):
+            ran = journaled(scratch, spec, folder, scripts, count)
+            shutil.rmtree(os.path.join(scratch, "out"), ignore_errors=True)
+            pairs.append((ran, trace.traced(scratch, spec, folder, scripts, count)))
+    ours = min((pair[0] for pair in pairs), key=lambda ran: ran.seconds)
+    plain = min(pair[1].seconds for pair in pairs)
+    return measure.Line("journal: commits in memory", count, ours.seconds, ours.peak_kib, "trace", plain)
+
+
+def lines(sizes):
+    parent = os.environ.get("JOURNAL_DISK") or tempfile.gettempdir()
+    for count in sizes or SIZES:
+        yield on_disk(parent, count)
+    yield in_memory(IN_MEMORY)

@@ -1,0 +1,57 @@
+"""`txforest watch` beside `txforest trace` of the same scripts, in a folder of 50,000 files: many entries that change no path on
+which the answer rests, and a few that do, which are told by the walk.
+"""
+
+import os
+import sys
+import tempfile
+
+import measure
+from folders import directories
+from trace import write_scripts
+
+ENTRIES = [1_000, 10_000]
+FILES = 50_000
+WALKED = [5_000, 50_000]
+WALKS = 10
+REPEATS = 3
+# The file `a` is not there, so the answer rests on it alone.
+FEW = '{(n :: file) | n in (one("a") union one("b"))}\n'
+STORE = 'txn{to("b")down store("%d")}\n'
+WHOLE = "<d : dir, {(x :: <f : dir, {(n :: file) | n in f}>) | x in d}>\n"
+LOOK = 'txn{into next to("d0000")down into next to("f00000")down fetch x:str}\n'
+STORE_INSIDE = 'txn{into next to("d0000")down into next to("f00000")down store("%d")}\n'
+
+
+def beside_trace(description, transactions, files):
+    """The fastest runs of `watch` and of `trace`."""
+    with tempfile.TemporaryDirectory() as scratch:
+        folder = os.path.join(scratch, "in")
+        directories(folder, files)
+        spec = measure.write(scratch, "spec", description)
+        scripts = write_scripts(scratch, transactions)
+        makers = [lambda out, word=word: [measure.program(), word, spec, folder, out, "none", *scripts] for word in ("watch", "trace")]
+        (watched, _), (traced, _) = measure.best(scratch, makers, REPEATS)
+    if watched.out.count(b"\nvalid ") != len(transactions) or watched.out.count(b" done\n") != len(transactions):
+        sys.exit(f"not every transaction is done and watched: {watched.out[:200]!r}")
+    return watched, traced
+
+
+def spared(kind, description, transactions):
+    watched, traced = beside_trace(description, transactions, FILES)
+    return measure.Line(kind, len(transactions), watched.seconds, watched.peak_kib, "trace", traced.seconds)
+
+
+def walked(files):
+    """The time of one walk: that of the folder as it was read, and one behind each entry."""
+    watched, traced = beside_trace(WHOLE, [STORE_INSIDE % i for i in range(WALKS)], files)
+    seconds = max(watched.seconds - traced.seconds, 0.001) / (WALKS + 1)
+    return measure.Line("watch: one walk, by files", files, seconds, watched.peak_kib, more=f"of {WALKS + 1}; trace, {traced.seconds:.3f} s, left out")
+
+
+def lines(sizes):
+    for count in sizes or ENTRIES:
+        yield spared("watch: stores that the answer does not rest on", FEW, [STORE % i for i in range(count)])
+    for count in sizes or ENTRIES:
+        yield spared("watch: transactions that only read", WHOLE, [LOOK] * count)
+    yield from (walked(files) for files in WALKED)

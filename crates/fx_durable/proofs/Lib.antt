@@ -1,0 +1,10 @@
+pub mod Told
+pub mod Moments
+pub mod Records
+pub mod Crash
+pub mod Append
+pub mod Continuing
+pub mod Replays
+pub mod Texts
+pub mod Pieces
+pub mod Spelling

@@ -1,0 +1,127 @@
+-- What each status of `journal` says: where it comes, and what is then left at the host, at the sink and on the disk.
+use Rattle.std.specs.Prelude.{◌≡◌, ◌⊎◌, ◌≤◌, ◌<◌, ◌&&◌, ℕ, Bool, true, List, [], ◌∷◌, ◌++◌, length, take, map, Option, Some, IfSome, IsSomeAnd}
+use Rattle.fx_base.specs.Causes.{Rose}
+use Rattle.fx_store.specs.Whole.{Nodes}
+use Rattle.fx_outside.specs.Host.{HostView, FaultIn}
+use Rattle.fx_outside.specs.Path.{parts}
+use Rattle.fx_outside.specs.Sink.{SinkView}
+use Rattle.fx_outside.specs.Tree.{Tree}
+use Rattle.fx_folder.specs.Folder.{IfTold, IsReady, IsTaken, IsSaved, IsPartlySaved}
+use Rattle.fx_folder.specs.Loads.{IsRefused}
+use Rattle.fx_spec.specs.Plans.{Turn}
+use Rattle.fx_spec.specs.Order.{BaseTree, state}
+use Rattle.fx_machine.specs.Machine.{Machine}
+use Rattle.fx_words.specs.Job.{RunJob, JournalJob, shells_of}
+use Rattle.fx_command.specs.declared.status.Status.{Status}
+use Rattle.fx_command.specs.declared.status.Status.TheVariants as status
+use Rattle.fx_command.specs.Left.{IsSame, Grows}
+use Rattle.fx_inputs.specs.Inputs.{HasTexts, HasInputs, HasBase, CannotRead, IsFirstRefused}
+use Rattle.fx_inputs.specs.Reads.{HasReadFault}
+use Rattle.fx_run_command.specs.Rows.{IsDone, IsProperRun, CannotSave, RunAsksFit}
+use Rattle.fx_durable.specs.Disk.{File, DiskView, LeftSince, GoesOn, IsAsTold, TellsOther, moment}
+use Rattle.fx_journaling.specs.Kept.{IfFile, KeepsOrder}
+use Rattle.fx_journaling.specs.Written.{HasWritten, HasWrittenEvents, HasWrittenReport}
+
+-- some of a run's events are written, and OUT is as before
+pub record IsStopped (t t' : Tree) (j : RunJob) (before after : Option (List ℕ)) : Type 0 where
+  pub base : BaseTree
+  pub begins : HasBase t j.inputs base
+  pub machine : Machine
+  pub bytes : List ℕ
+  pub events : HasWrittenEvents base (shells_of j) machine bytes
+  pub written : IfSome before (λ w. after ≡ Some (w ++ bytes))
+  pub same : t' ≡ t
+
+-- all events of a run are written, and a front of its report
+pub record HasWrittenAll (t : Tree) (j : RunJob) (base : BaseTree) (report_length : ℕ) (nodes : Nodes) (before after : Option (List ℕ)) : Type 0 where
+  pub begins : HasBase t j.inputs base
+  pub machine : Machine
+  pub bytes : List ℕ
+  pub report : HasWrittenReport base (shells_of j) machine bytes
+  pub front : report.count ≡ report_length
+  pub last : nodes ≡ state base report.order (length report.order)
+  pub written : IfSome before (λ w. after ≡ Some (w ++ bytes))
+
+-- all events are written and no byte of the report, and OUT holds a part of the last filestore's folder at most
+pub record IsPartlyLeft (t t' : Tree) (j : RunJob) (before after : Option (List ℕ)) : Type 0 where
+  pub base : BaseTree
+  pub nodes : Nodes
+  pub there : Bool
+  pub all : HasWrittenAll t j base 0 nodes before after
+  pub free : IsReady t j.out there
+  pub part : IsPartlySaved t t' (parts j.out) nodes
+
+-- all events and a front of the report are written, and OUT is whole
+pub record IsWholeLeft (t t' : Tree) (j : RunJob) (before after : Option (List ℕ)) : Type 0 where
+  pub base : BaseTree
+  pub nodes : Nodes
+  pub there : Bool
+  pub count : ℕ
+  pub all : HasWrittenAll t j base count nodes before after
+  pub free : IsReady t j.out there
+  pub saved : IsSaved t t' (parts j.out) nodes
+
+-- nothing was begun: OUT, the output and, but for its opening, the journal are as before
+abbrev pub IsUnbegun : HostView → HostView → SinkView → SinkView → Type 0
+IsUnbegun host host' sink sink' = IsSame host host' sink sink'
+
+-- the disk failed, or tells a file at another path
+abbrev pub HasJournalFault : List ℕ → DiskView → DiskView → Type 0
+HasJournalFault path disk disk' = Rose disk.faults disk'.faults ⊎ TellsOther disk path
+
+-- what keeps OUT, the output or the journal from being written
+abbrev pub CannotKeep : JournalJob → HostView → HostView → SinkView → SinkView → DiskView → DiskView → Type 0
+CannotKeep j host host' sink sink' disk disk' =
+    (FaultIn j.run.out host host' ⊎ IsSomeAnd host.told (λ t. CannotSave t j.run)) ⊎ (Rose sink.faults sink'.faults ⊎ HasJournalFault j.journal disk disk')
+
+-- what is left where a run ends before its end
+abbrev pub IsLeft : JournalJob → HostView → HostView → SinkView → SinkView → Type 0
+IsLeft j host host' sink sink' =
+    IsUnbegun host host' sink sink' ⊎ IfTold host.told host'.told (λ t t'. IsStopped t t' j.run sink.written sink'.written ⊎ IsPartlyLeft t t' j.run sink.written sink'.written)
+
+-- the same, or OUT is whole and a front of the report is written
+abbrev pub IsLeftOrWhole : JournalJob → HostView → HostView → SinkView → SinkView → Type 0
+IsLeftOrWhole j host host' sink sink' = IsLeft j host host' sink sink' ⊎ IfTold host.told host'.told (λ t t'. IsWholeLeft t t' j.run sink.written sink'.written)
+
+-- the journal's file holds something already
+abbrev pub HoldsBytes : DiskView → Type 0
+HoldsBytes disk = IfSome disk.told (λ file. 0 < length file.seen)
+
+abbrev pub JournalRow : JournalJob → HostView → HostView → SinkView → SinkView → DiskView → DiskView → Status → Type 0
+JournalRow j host host' sink sink' disk disk' status.Done = Grows sink sink' × IfTold host.told host'.told (λ t t'. IsDone t t' j.run sink.written sink'.written)
+JournalRow j host host' sink sink' disk disk' status.Usage = ⊥
+JournalRow j host host' sink sink' disk disk' (status.TextRefused word cause) = IsSame host host' sink sink' × (disk' ≡ disk) × IfSome host.told (λ t. IsFirstRefused t j.run.inputs word cause)
+JournalRow j host host' sink sink' disk disk' (status.FolderRefused cause) = IsSame host host' sink sink' × (disk' ≡ disk) × IfSome host.told (λ t. HasTexts t j.run.inputs × IsRefused t j.run.inputs.folder cause)
+JournalRow j host host' sink sink' disk disk' status.ReadFault = IsSame host host' sink sink' × (disk' ≡ disk) × (HasReadFault j.run.inputs host host' ⊎ IsSomeAnd host.told (λ t. CannotRead t j.run.inputs))
+JournalRow j host host' sink sink' disk disk' status.NotEmpty =
+    IsSame host host' sink sink' × IsAsTold disk disk' × IfSome host.told (λ t. HasInputs t j.run.inputs × (IsTaken t j.run.out ⊎ (((there : Bool) × IsReady t j.run.out there) × HoldsBytes disk)))
+JournalRow j host host' sink sink' disk disk' status.WriteFault = CannotKeep j host host' sink sink' disk disk' × IsLeftOrWhole j host host' sink sink'
+JournalRow j host host' sink sink' disk disk' status.NoMemory = IsLeft j host host' sink sink'
+JournalRow j host host' sink sink' disk disk' (status.BadJournal place) = ⊥
+
+-- The journal was started at a moment of this call, and from then on keeps the order of the settled lines that were written.
+pub record IsKept (j : JournalJob) (host : HostView) (sink sink' : SinkView) (old new : File) : Type 0 where
+  pub base : BaseTree
+  pub begins : IfSome host.told (λ t. HasBase t j.run.inputs base)
+  pub started : File
+  pub later : GoesOn old started
+  pub gate : LeftSince (moment started) new.steps (0 ∷ [])
+  pub machine : Machine
+  pub bytes : List ℕ
+  pub written : HasWritten base (shells_of j.run) machine bytes
+  pub printed : IfSome sink.written (λ w. sink'.written ≡ Some (w ++ bytes))
+  pub keeps : KeepsOrder base machine.order started new
+
+-- where a byte was written, the journal keeps the order of what was written, whatever the status
+abbrev pub KeepsJournal : JournalJob → HostView → SinkView → SinkView → DiskView → DiskView → Type 0
+KeepsJournal j host sink sink' disk disk' =
+    IfFile (λ old new. GoesOn old new × ((sink'.written ≡ sink.written) ⊎ IsKept j host sink sink' old new)) disk.told disk'.told
+
+-- where the paths are fit, no call is made at an unfit path of the host
+abbrev pub JournalAsksFit : JournalJob → HostView → HostView → Type 0
+JournalAsksFit j host host' = RunAsksFit j.run host host'
+
+-- what a run needs, and an empty journal at the path that the disk tells
+pub record IsProperJournal (t : Tree) (disk : DiskView) (j : JournalJob) : Type 0 where
+  pub run : IsProperRun t j.run
+  pub empty : IsSomeAnd disk.told (λ file. (file.path ≡ j.journal) × (file.seen ≡ []))

@@ -1,0 +1,104 @@
+//! The command `journal`, stage by stage.
+ghost use Rattle.std.specs.Prelude.{◌≡◌, ◌⊎◌, ◌≤◌, ◌++◌, ℕ, Ok, Some, IfOk, IfErr, IfSome, OnOk, OnErr, take};
+ghost use Rattle.fx_base.specs.Causes.{Rose};
+ghost use Rattle.fx_spec.specs.Bases.{base_tree};
+ghost use Rattle.fx_words.specs.Job.{shells_of};
+ghost use Rattle.fx_words.specs.JobOf.{asked, asked_journal, IsJob, IsJournalJob};
+ghost use Rattle.fx_command.specs.StatusOf.{status_of};
+ghost use Rattle.fx_inputs.specs.Inputs.{HasEachScript};
+ghost use Rattle.fx_durable.specs.Disk.{Continues, IsAsTold};
+ghost use Rattle.fx_journaling.specs.Recorded.{IsStarted, HasRecorded, HasBrokenOff};
+ghost use Rattle.fx_journal_command.specs.Rows.{JournalRow, JournalAsksFit, KeepsJournal, HoldsBytes, HasJournalFault};
+ghost use Rattle.fx_journal_command.specs.Stages.{StartCause, RecordCause};
+
+use fx_command::{Status, print_all};
+use fx_durable::{Disk, Journal, StartFault};
+use fx_folder::save;
+use fx_inputs::read_base;
+use fx_journaling::{RecordFault, Recorded, record};
+use fx_outside::{Host, HostText, Sink, SinkFailed};
+use fx_report::report;
+use fx_run_command::make_ready;
+use fx_spec::Base;
+use fx_words::{JournalJob, RunJob};
+use std::alloc::Global;
+use std::sync::Arc;
+
+/// Starts the journal on an empty file.
+fn start<D: Disk>(path: &HostText, disk: &mut D) -> Result<Journal, Status>
+    ensures started { IfOk result (λ journal. IsStarted journal (D.view disk.new)) }
+    ensures goes_on { Continues (D.view disk.old) (D.view disk.new) }
+    ensures later { (D.view disk.old).faults ≤ (D.view disk.new).faults }
+    ensures unstarted { IfErr result (StartCause path.now (D.view disk.old) (D.view disk.new)) }
+{
+    match Journal::start(disk, path) {
+        Ok(journal) => Ok(journal),
+        Err(StartFault::NotEmpty) => Err(Status::NotEmpty),
+        Err(StartFault::Failed) => Err(Status::WriteFault),
+    }
+}
+
+/// Runs the scripts by the job's schedule, over a journal that was just started.
+fn run_on<D: Disk, S: Sink>(
+    alloc: Global,
+    job: &RunJob,
+    base: Arc<Base>,
+    journal: Journal,
+    disk: &mut D,
+    out: &mut S,
+) -> Result<Recorded, Status>
+    requires job { IsJob job.now }
+    requires count { HasEachScript (asked job.now).inputs (base_tree base.value) }
+    requires started { IsStarted journal (D.view disk.old) }
+    ensures done { IfOk result (λ r. HasRecorded (base_tree base.value) (shells_of (asked job.now))
+        (D.view disk.old) (D.view disk.new) (S.view out.old) (S.view out.new) r.board r.retries) }
+    ensures broken { IfErr result (RecordCause (base_tree base.value) (shells_of (asked job.now))
+        (D.view disk.old) (D.view disk.new) (S.view out.old) (S.view out.new)) }
+{
+    let schedule = job.shells(alloc)?;
+    match record(alloc, base, &schedule, journal, disk, out) {
+        Ok(recorded) => Ok(recorded),
+        Err(RecordFault::NoMemory) => Err(Status::NoMemory),
+        Err(RecordFault::DiskFailed | RecordFault::SinkFailed) => Err(Status::WriteFault),
+    }
+}
+
+/// Makes the report, saves the last filestore, and then prints the report.
+fn finish<H: Host, S: Sink>(
+    alloc: Global,
+    job: &RunJob,
+    there: bool,
+    recorded: &Recorded,
+    host: &mut H,
+    out: &mut S,
+) -> Result<(), Status> {
+    let report = report(alloc, &recorded.board, &recorded.retries)?;
+    save(alloc, host, job.out, there, recorded.board.store())?;
+    match print_all(out, report.as_slice()) {
+        Ok(()) => Ok(()),
+        Err(SinkFailed) => Err(Status::WriteFault),
+    }
+}
+
+/// Runs the scripts on the folder by a schedule, keeps each commit in the journal before its line is written, and leaves the
+/// folder that they make at OUT.
+pub fn journal<H: Host, S: Sink, D: Disk>(
+    alloc: Global,
+    job: &JournalJob,
+    host: &mut H,
+    out: &mut S,
+    disk: &mut D,
+) -> Result<(), Status>
+    requires { IsJournalJob job.now }
+    ensures row { JournalRow (asked_journal job.now) (H.view host.old) (H.view host.new)
+        (S.view out.old) (S.view out.new) (D.view disk.old) (D.view disk.new) (status_of result) }
+    ensures keeps { KeepsJournal (asked_journal job.now) (H.view host.old)
+        (S.view out.old) (S.view out.new) (D.view disk.old) (D.view disk.new) }
+    ensures fit { JournalAsksFit (asked_journal job.now) (H.view host.old) (H.view host.new) }
+{
+    let base = read_base(alloc, &job.run.inputs, host)?;
+    let there = make_ready(alloc, &job.run, host)?;
+    let journal = start(job.journal, disk)?;
+    let recorded = run_on(alloc, &job.run, base, journal, disk, out)?;
+    finish(alloc, &job.run, there, &recorded, host, out)
+}

@@ -1,0 +1,180 @@
+-- How a recorded run ends.
+use Rattle.std.proofs.Common.{◌≡◌, ◌⊎◌, inl, inr, ⊎_elim, ℕ, ◌≤◌, ◌<◌, List, [], ◌∷◌, ◌++◌, length, take, Option, Some, None, refl, sym, ◌∙◌, ap, subst, arith}
+use Rattle.std.specs.Prelude.{IfSome}
+use Rattle.std.proofs.lemmas.Bool.{cases_lt}
+use Rattle.std.proofs.lemmas.List.{append-nil, take_all}
+use Rattle.fx_outside.specs.Sink.{SinkView}
+use Rattle.fx_spec.specs.Plans.{Turn}
+use Rattle.fx_spec.specs.Order.{BaseTree}
+use Rattle.fx_spec.proofs.Orders.{legal_none}
+use Rattle.fx_machine.specs.declared.event.Event.{Event}
+use Rattle.fx_machine.specs.declared.event.Event.TheVariants as event
+use Rattle.fx_machine.specs.declared.retry.Retry.{Retry}
+use Rattle.fx_machine.specs.Machine.{Machine, Step, Run, resting}
+use Rattle.fx_machine.specs.Turns.{BeginsTurns}
+use Rattle.fx_board.specs.Log.{Log}
+use Rattle.fx_durable.specs.Disk.{File, DiskView, MayLeave}
+use Rattle.fx_durable.specs.Journal.{JournalView, RestsAt}
+use Rattle.fx_durable.proofs.Moments.{only_now}
+use Rattle.fx_report.specs.Events.{event_line, lines}
+use Rattle.fx_sched.specs.Running.{Running}
+use Rattle.fx_sched.specs.Taking.{a_start, HasEndedSomewhere}
+use Rattle.fx_sched.specs.declared.taking.Ended.{Ended}
+use Rattle.fx_sched.specs.declared.taking.Ended.TheVariants as end
+use Rattle.fx_sched.specs.Traced.{IsTraced}
+use Rattle.fx_sched.specs.World as World
+use Rattle.fx_journaling.specs.declared.fault.RecordFault.{RecordFault}
+use Rattle.fx_journaling.specs.declared.fault.RecordFault.TheVariants as fault
+use Rattle.fx_journaling.specs.Kept.{HasAtMostOneMore, IfFile, HoldsOrder, LeavesEither, KeepsOrder, RestsWhileGood, order_seen}
+use Rattle.fx_journaling.specs.Written.{IsPartOfLine}
+use Rattle.fx_journaling.specs.Taken.{Beginning, beginning, HasTaken, HasRefused}
+use Rattle.fx_journaling.specs.Recorded.{IsStarted, HasRecorded, HasBrokenOff, fault_in}
+use Rattle.fx_journaling.proofs.Holding.{holds_leaves, if_file_map, spells_rested, rests_as_seen}
+use Rattle.fx_journaling.proofs.Taking.{lines_more, grown_none, grown_as, run_more}
+
+-- ---- runs
+
+-- an event leads to one state alone
+step_same : (base : BaseTree) (m : Machine) (e : Event) (a b : Machine) → Step base m e a → Step base m e b → a ≡ b
+step_same base m (event.Look shell path position) a b s t = s.after ∙ sym t.after
+step_same base m (event.Settled shell entry) a b s t = s.after ∙ sym t.after
+step_same base m (event.Conflict shell entry path) a b s t = s.after ∙ sym t.after
+
+pub run_same : (base : BaseTree) (m : Machine) (events : List Event) (a b : Machine) → Run base m events a → Run base m events b → a ≡ b
+run_same base m [] a b r q = sym r ∙ q
+run_same base m (e ∷ events) a b r q =
+    let same : q.0 ≡ r.0 = step_same base m e q.0 r.0 q.1 r.1 in
+    run_same base r.0 events a b r.2 (subst (λ m. Run base m events b) same q.2)
+
+-- the order grows by one entry, or not
+step_more : (base : BaseTree) (m : Machine) (e : Event) (m' : Machine) → Step base m e m' → HasAtMostOneMore m.order m'.order
+step_more base m (event.Look shell path position) m' s = inl (ap (λ (m : Machine). m.order) s.after)
+step_more base m (event.Settled shell entry) m' s = inr (_, ap (λ (m : Machine). m.order) s.after)
+step_more base m (event.Conflict shell entry path) m' s = inl (ap (λ (m : Machine). m.order) s.after)
+
+-- ---- what is written
+
+module _ (base : BaseTree) (schedule : List ℕ) (disk disk' : DiskView) (sink sink' : SinkView) (disk_name sink_name : ℕ) where
+  abbrev began : Beginning
+  began = beginning base disk sink disk_name sink_name
+
+  keeps : (order longer : List Turn) → HasAtMostOneMore order longer → IfFile (LeavesEither base order longer) disk.told disk'.told → IfFile (KeepsOrder base order) disk.told disk'.told
+  keeps order longer more leaves =
+      if_file_map (LeavesEither base order longer) (KeepsOrder base order) (λ old new leaves. record { longer = longer; more = more; leaves = leaves }) disk.told disk'.told leaves
+
+  held_leaves : (before order : List Turn) → IfFile (HoldsOrder base order) disk.told disk'.told → IfFile (LeavesEither base before order) disk.told disk'.told
+  held_leaves before order held = if_file_map (HoldsOrder base order) (LeavesEither base before order) (λ old new holds. holds_leaves base order before old new holds) disk.told disk'.told held
+
+  -- a run that stops between two events
+  module _ (events : List Event) (running : Running) (journal : JournalView) (taken : HasTaken began events running journal disk' sink') where
+    pub paused : BeginsTurns base [] schedule events → HasBrokenOff base schedule disk disk' sink sink' fault.NoMemory
+    paused begins = record {
+      machine = running.machine;
+      bytes = lines events;
+      written = record { events = events; run = taken.run; turns = ([], subst (BeginsTurns base [] schedule) (sym (append-nil events)) begins); rest = []; printed = sym (append-nil (lines events)); behind = inl refl };
+      printed = taken.printed;
+      keeps = keeps running.machine.order running.machine.order (inl refl) (held_leaves running.machine.order running.machine.order taken.held.told);
+      cause = tt;
+    }
+
+    pub recorded : (board : Log) (retries : List Retry) → IsTraced base schedule (record { board = board; retries = retries; events = events }) → HasRecorded base schedule disk disk' sink sink' board retries
+    recorded board retries traced =
+        let same : running.machine ≡ resting base board.order = run_same base (resting base []) events running.machine (resting base board.order) taken.run traced.run in
+        let order : running.machine.order ≡ board.order = ap (λ (m : Machine). m.order) same in
+        record {
+          events = events;
+          traced = traced;
+          printed = taken.printed;
+          keeps = subst (λ o. IfFile (KeepsOrder base o) disk.told disk'.told) order (keeps running.machine.order running.machine.order (inl refl) (held_leaves running.machine.order running.machine.order taken.held.told));
+        }
+
+  -- a run of which an event is refused
+  module _ (stop : RecordFault) (events : List Event) (e : Event) (running : Running) (refused : HasRefused began stop events e running disk' sink') (begins : BeginsTurns base [] schedule (events ++ e ∷ [])) where
+    part : List ℕ
+    part = take refused.count (event_line e)
+
+    -- no more than a part of its line is written
+    cut : (behind : (take refused.count (event_line e) ≡ []) ⊎ IsPartOfLine base schedule events refused.before (take refused.count (event_line e))) → IfFile (LeavesEither base refused.before.order running.machine.order) disk.told disk'.told → HasBrokenOff base schedule disk disk' sink sink' stop
+    cut behind leaves = record {
+      machine = refused.before;
+      bytes = lines events ++ take refused.count (event_line e);
+      written = record { events = events; run = refused.run; turns = (e ∷ [], begins); rest = take refused.count (event_line e); printed = refl; behind = behind };
+      printed = refused.printed;
+      keeps = keeps refused.before.order running.machine.order (step_more base refused.before e running.machine refused.step) leaves;
+      cause = refused.cause;
+    }
+
+    -- all of it is written
+    whole : length (event_line e) ≤ refused.count → IfFile (HoldsOrder base running.machine.order) disk.told disk'.told → HasBrokenOff base schedule disk disk' sink sink' stop
+    whole all held =
+        let line : lines events ++ take refused.count (event_line e) ≡ lines (events ++ e ∷ []) = ap (λ l. lines events ++ l) (take_all refused.count (event_line e) all) ∙ sym (lines_more events e) in
+        record {
+          machine = running.machine;
+          bytes = lines (events ++ e ∷ []);
+          written = record {
+            events = events ++ e ∷ [];
+            run = run_more base (resting base []) events refused.before e running.machine refused.run refused.step;
+            turns = ([], subst (BeginsTurns base [] schedule) (sym (append-nil (events ++ e ∷ []))) begins);
+            rest = [];
+            printed = sym (append-nil (lines (events ++ e ∷ [])));
+            behind = inl refl;
+          };
+          printed = grown_as (lines events ++ take refused.count (event_line e)) (lines (events ++ e ∷ [])) sink sink' line refused.printed;
+          keeps = keeps running.machine.order running.machine.order (inl refl) (held_leaves running.machine.order running.machine.order held);
+          cause = refused.cause;
+        }
+
+    pub broken : HasBrokenOff base schedule disk disk' sink sink' stop
+    broken = ⊎_elim
+        (λ lost. cut (inl (ap (λ n. take n (event_line e)) lost.0)) lost.1)
+        (λ held.
+        ⊎_elim
+        (λ (short : refused.count < length (event_line e)). cut (inr (record { next = e; after = running.machine; step = refused.step; turns = begins; count = refused.count; short = short; is = refl })) (held_leaves refused.before.order running.machine.order held))
+        (λ (all : length (event_line e) ≤ refused.count). whole all held) (cases_lt refused.count (length (event_line e)))) refused.told
+
+-- ---- nothing has come yet
+
+front_none : (base : BaseTree) (file : File) → RestsAt 0 [] file → HoldsOrder base [] file file
+front_none base file rests = record {
+  legal = legal_none base;
+  few = omega arith;
+  goes_on = record { path = refl; steps = ([], refl) };
+  rests = rests;
+  since = λ image left. record {
+    front = [];
+    rest = [];
+    whole = refl;
+    spells = record { spells = spells_rested 0 [] file image rests (omega arith) (only_now file.steps image left); legal = legal_none base };
+  };
+}
+
+held_none : (base : BaseTree) (o : Option File) → IfSome o (RestsAt 0 []) → IfFile (HoldsOrder base []) o o
+held_none base None rests = refl
+held_none base (Some file) rests = front_none base file rests
+
+pub begun : (base : BaseTree) (disk : DiskView) (sink : SinkView) (disk_name sink_name : ℕ) (journal : JournalView) → IsStarted journal disk → HasTaken (beginning base disk sink disk_name sink_name) [] (World.began base) journal disk sink
+begun base disk sink disk_name sink_name journal started = record {
+  base = refl;
+  run = refl;
+  held = record { count = started.count; good = started.good; later = omega arith; told = held_none base disk.told started.rests };
+  printed = grown_none sink;
+  later = omega arith;
+}
+
+seen_none : (o : Option File) → IfSome o (RestsAt 0 []) → IfSome o (λ file. MayLeave file.steps file.seen) → IfSome o (λ file. RestsAt 0 (order_seen file) file)
+seen_none None rests image = tt
+seen_none (Some file) rests image = rests_as_seen 0 [] file rests (omega arith) image
+
+pub rests_begun : (disk : DiskView) (journal : JournalView) → IsStarted journal disk → IfSome disk.told (λ file. MayLeave file.steps file.seen) → RestsWhileGood journal disk
+rests_begun disk journal started image = λ good. subst (λ n. IfSome disk.told (λ file. RestsAt n (order_seen file) file)) (sym started.count) (seen_none disk.told started.rests image)
+
+-- ---- a run that ends before its end
+
+module _ {T : Type 0} (took : T → List Event → Running → Type 0) (refused : T → RecordFault → List Event → Event → Running → Type 0) (base : BaseTree) (schedule : List ℕ) (disk disk' : DiskView) (sink sink' : SinkView) (disk_name sink_name : ℕ) (journal : JournalView) (taker : T)
+    (taken : (events : List Event) (running : Running) → took taker events running → HasTaken (beginning base disk sink disk_name sink_name) events running journal disk' sink')
+    (lost : (stop : RecordFault) (events : List Event) (e : Event) (running : Running) → refused taker stop events e running → HasRefused (beginning base disk sink disk_name sink_name) stop events e running disk' sink') where
+  pub ended : (why : Ended RecordFault) → HasEndedSomewhere took refused (a_start base) schedule taker why → HasBrokenOff base schedule disk disk' sink sink' (fault_in why)
+  ended end.NoMemory (world, had) =
+      paused base schedule disk disk' sink sink' disk_name sink_name had.play.events had.play.world journal (taken had.play.events had.play.world had.taken) (subst (BeginsTurns base [] schedule) (sym had.had.events) had.had.begins)
+  ended (end.Stopped stop) (world, had) =
+      broken base schedule disk disk' sink sink' disk_name sink_name stop had.events had.event world (lost stop had.events had.event world had.why) (subst (BeginsTurns base [] schedule) (sym had.had.events) had.had.begins)

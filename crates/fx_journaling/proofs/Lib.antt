@@ -1,0 +1,5 @@
+pub mod Holding
+pub mod Appending
+pub mod Taking
+pub mod Ending
+pub mod Legal

@@ -1,0 +1,5 @@
+pub mod Kept
+pub mod Written
+pub mod Taken
+pub mod Recorded
+pub mod Laws

@@ -1,0 +1,46 @@
+-- What a run whose commits a journal keeps has left on the disk and at the sink.
+use Rattle.std.specs.Prelude.{◌≡◌, ℕ, true, List, [], IfSome}
+use Rattle.fx_outside.specs.Sink.{SinkView}
+use Rattle.fx_spec.specs.Order.{BaseTree}
+use Rattle.fx_machine.specs.declared.event.Event.{Event}
+use Rattle.fx_machine.specs.declared.retry.Retry.{Retry}
+use Rattle.fx_machine.specs.Machine.{Machine}
+use Rattle.fx_board.specs.Log.{Log}
+use Rattle.fx_durable.specs.Disk.{DiskView}
+use Rattle.fx_durable.specs.Journal.{JournalView, RestsAt}
+use Rattle.fx_report.specs.Events.{lines}
+use Rattle.fx_sched.specs.Traced.{IsTraced}
+use Rattle.fx_sched.specs.declared.taking.Ended.{Ended}
+use Rattle.fx_sched.specs.declared.taking.Ended.TheVariants as ended
+use Rattle.fx_journaling.specs.declared.fault.RecordFault.{RecordFault}
+use Rattle.fx_journaling.specs.declared.fault.RecordFault.TheVariants as fault
+use Rattle.fx_journaling.specs.Kept.{IfFile, KeepsOrder}
+use Rattle.fx_journaling.specs.Taken.{HasGrown, FaultCause}
+use Rattle.fx_journaling.specs.Written.{HasWrittenEvents}
+
+-- a journal that was just started
+pub record IsStarted (journal : JournalView) (disk : DiskView) : Type 0 where
+  pub count : journal.count ≡ 0
+  pub good : journal.good ≡ true
+  pub rests : IfSome disk.told (RestsAt 0 [])
+
+-- the run has come to its end, and the lines of all its events are written
+pub record HasRecorded (base : BaseTree) (schedule : List ℕ) (disk disk' : DiskView) (sink sink' : SinkView) (board : Log) (retries : List Retry) : Type 0 where
+  pub events : List Event
+  pub traced : IsTraced base schedule (record { board = board; retries = retries; events = events })
+  pub printed : HasGrown (lines events) sink sink'
+  pub keeps : IfFile (KeepsOrder base board.order) disk.told disk'.told
+
+-- the run has ended before, and the journal keeps the order of the settled lines that are written
+pub record HasBrokenOff (base : BaseTree) (schedule : List ℕ) (disk disk' : DiskView) (sink sink' : SinkView) (stop : RecordFault) : Type 0 where
+  pub machine : Machine
+  pub bytes : List ℕ
+  pub written : HasWrittenEvents base schedule machine bytes
+  pub printed : HasGrown bytes sink sink'
+  pub keeps : IfFile (KeepsOrder base machine.order) disk.told disk'.told
+  pub cause : FaultCause stop disk disk' sink sink'
+
+-- why a run has ended
+abbrev pub fault_in : Ended RecordFault → RecordFault
+fault_in ended.NoMemory = fault.NoMemory
+fault_in (ended.Stopped stop) = stop

@@ -1,0 +1,4 @@
+pub mod Orders
+pub mod Recovered
+pub mod Rows
+pub mod Unread

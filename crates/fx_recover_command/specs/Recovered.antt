@@ -1,0 +1,46 @@
+-- What `recover` comes to: the order that the journal spells, the filestore after it, and the line that tells its length.
+use Rattle.std.specs.Prelude.{◌≡◌, ◌++◌, ℕ, Bool, List, codes, length, IfSome}
+use Rattle.std.specs.Fmt.{decimal}
+use Rattle.fx_store.specs.Whole.{Nodes}
+use Rattle.fx_outside.specs.Tree.{Tree}
+use Rattle.fx_folder.specs.Folder.{IsReady}
+use Rattle.fx_spec.specs.Plans.{Turn}
+use Rattle.fx_spec.specs.Order.{BaseTree, IsLegal, state}
+use Rattle.fx_report.specs.Report.{line}
+use Rattle.fx_words.specs.Job.{RecoverJob}
+use Rattle.fx_inputs.specs.Inputs.{HasBase}
+use Rattle.fx_durable.specs.Disk.{DiskView, File}
+use Rattle.fx_durable.specs.Journal.{Spells}
+use Rattle.fx_recover_command.specs.Unread.{GoesWrong}
+
+-- the line that is printed after so many transactions
+abbrev pub recovered_line : ℕ → List ℕ
+recovered_line count = line (codes "recovered " ++ decimal count)
+
+-- the texts and the folder stand for this base, and the journal, if the disk tells it, spells this legal order of it
+pub record HasOrder (t : Tree) (j : RecoverJob) (disk : DiskView) (base : BaseTree) (order : List Turn) : Type 0 where
+  pub begins : HasBase t j.inputs base
+  pub spelled : IfSome disk.told (λ file. Spells order file.seen)
+  pub legal : IsLegal base order
+
+abbrev pub HasSomeOrder : Tree → RecoverJob → DiskView → Type 0
+HasSomeOrder t j disk = (base : BaseTree) × (order : List Turn) × HasOrder t j disk base order
+
+-- the filestore after the order's transactions, run whole one after another, and the line
+pub record IsOutcome (t : Tree) (j : RecoverJob) (disk : DiskView) (nodes : Nodes) (output : List ℕ) : Type 0 where
+  pub base : BaseTree
+  pub order : List Turn
+  pub read : HasOrder t j disk base order
+  pub last : nodes ≡ state base order (length order)
+  pub printed : output ≡ recovered_line (length order)
+
+-- it is made, and OUT can be written
+pub record IsAnswered (t : Tree) (j : RecoverJob) (disk : DiskView) (nodes : Nodes) (output : List ℕ) (there : Bool) : Type 0 where
+  pub outcome : IsOutcome t j disk nodes output
+  pub free : IsReady t j.out there
+
+-- The inputs are read, and the record of this number, counted from 0, is the first that is cut short or is one too many, or
+-- with whose transaction the order is not legal.
+abbrev pub IsBad : Tree → RecoverJob → File → ℕ → Type 0
+IsBad t j file place =
+    (base : BaseTree) × HasBase t j.inputs base × GoesWrong base file.seen place

@@ -1,0 +1,64 @@
+//! The command `recover`.
+ghost use Rattle.std.specs.Prelude.{◌≡◌, IfSome};
+ghost use Rattle.fx_outside.specs.Host.{AsksFit};
+ghost use Rattle.fx_spec.specs.Bases.{base_tree};
+ghost use Rattle.fx_spec.specs.Order.{IsLegal};
+ghost use Rattle.fx_words.specs.JobOf.{asked_recover, AreInputs};
+ghost use Rattle.fx_command.specs.StatusOf.{status_of};
+ghost use Rattle.fx_durable.specs.Disk.{DiskView};
+ghost use Rattle.fx_durable.specs.Journal.{turns_of};
+ghost use Rattle.fx_recover_command.specs.Recovered.{HasOrder};
+ghost use Rattle.fx_recover_command.specs.Rows.{RecoverEnd, RecoverRow, RecoverAsksFit};
+
+use crate::journal::read_order;
+use crate::replaying::{replayed, save_and_print};
+use fx_command::Status;
+use fx_durable::{Disk, Pairs};
+use fx_inputs::read_base;
+use fx_making::ready_out;
+use fx_outside::{Host, Sink};
+use fx_spec::Base;
+use fx_words::RecoverJob;
+use std::alloc::Global;
+use std::sync::Arc;
+
+/// Leaves the folder after a legal order at OUT, and prints how many transactions it has.
+fn leave<H: Host, S: Sink>(
+    alloc: Global,
+    job: &RecoverJob,
+    base: &Arc<Base>,
+    order: &Pairs,
+    host: &mut H,
+    out: &mut S,
+) -> Result<(), Status>
+    requires { IsLegal (base_tree base.now.value) (turns_of order.now) }
+    ensures end { (disk disk' : DiskView) → IfSome (H.view host.old).told
+        (λ t. HasOrder t (asked_recover job.now) disk
+        (base_tree base.now.value) (turns_of order.now))
+        → RecoverEnd (asked_recover job.now) (H.view host.old) (H.view host.new)
+        (S.view out.old) (S.view out.new) disk disk' (status_of result) }
+    ensures fit { AsksFit (asked_recover job.now).out (H.view host.old) (H.view host.new) }
+{
+    let there = ready_out(alloc, job.out, host)?;
+    let recovered = replayed(alloc, base, order)?;
+    save_and_print(alloc, job, there, &recovered, host, out)
+}
+
+/// Leaves at OUT the folder after the commits that the journal keeps, and prints how many they are. A journal that breaks, or
+/// that spells an order which is not legal, is refused with the number of its first such record.
+pub fn recover<H: Host, S: Sink, D: Disk>(
+    alloc: Global,
+    job: &RecoverJob,
+    host: &mut H,
+    out: &mut S,
+    disk: &mut D,
+) -> Result<(), Status>
+    requires { AreInputs job.now.inputs }
+    ensures row { RecoverRow (asked_recover job.now) (H.view host.old) (H.view host.new)
+        (S.view out.old) (S.view out.new) (D.view disk.old) (D.view disk.new) (status_of result) }
+    ensures fit { RecoverAsksFit (asked_recover job.now) (H.view host.old) (H.view host.new) }
+{
+    let base = read_base(alloc, &job.inputs, host)?;
+    let order = read_order(alloc, job.journal, &base, disk)?;
+    leave(alloc, job, &base, &order, host, out)
+}

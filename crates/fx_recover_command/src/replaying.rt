@@ -1,0 +1,85 @@
+//! The stage that replays the order, and the one that saves and prints.
+ghost use Rattle.std.specs.Prelude.{◌≡◌, ◌++◌, IfOk, OnOk, IfSome, length};
+ghost use Rattle.std.specs.Fmt.{decimal};
+ghost use Rattle.fx_outside.specs.Host.{AsksFit};
+ghost use Rattle.fx_folder.specs.Folder.{IsReady};
+ghost use Rattle.fx_spec.specs.Bases.{base_tree};
+ghost use Rattle.fx_spec.specs.Order.{IsLegal, state};
+ghost use Rattle.fx_command.specs.StatusOf.{status_of};
+ghost use Rattle.fx_durable.specs.Disk.{DiskView};
+ghost use Rattle.fx_durable.specs.Journal.{turns_of};
+ghost use Rattle.fx_words.specs.JobOf.{asked_recover};
+ghost use Rattle.fx_recover_command.specs.Recovered.{recovered_line, IsAnswered};
+ghost use Rattle.fx_recover_command.specs.Rows.{RecoverEnd};
+
+use fx_base::NoMemory;
+use fx_command::{Status, print_all};
+use fx_durable::Pairs;
+use fx_folder::save;
+use fx_outside::{Host, Sink, SinkFailed};
+use fx_replay_log::replay;
+use fx_spec::Base;
+use fx_store::Filestore;
+use fx_words::RecoverJob;
+use std::alloc::Global;
+use std::sync::Arc;
+
+/// The filestore after an order, and the line that tells its length.
+#[derive(Drop)]
+pub(crate) struct Recovered {
+    pub store: Filestore,
+    pub line: Vec<u8>,
+}
+
+/// The line that tells how many transactions there are.
+fn line_of(alloc: Global, count: u64) -> Result<Vec<u8>, NoMemory>
+    ensures { IfOk result (λ line. line.items ≡ recovered_line count) }
+{
+    let digits = count.to_string(alloc)?;
+    let mut line = Vec::new(alloc);
+    line.extend_from_slice(b"recovered ")?;
+    line.extend_from_slice(digits.as_bytes())?;
+    line.extend_from_slice(b"\n")?;
+    Ok(line)
+}
+
+/// Runs the transactions of a legal order whole, one after another, on the loaded filestore.
+pub(crate) fn replayed(
+    alloc: Global,
+    base: &Arc<Base>,
+    order: &Pairs,
+) -> Result<Recovered, NoMemory>
+    requires { IsLegal (base_tree base.now.value) (turns_of order.now) }
+    ensures last { IfOk result (λ r. r.store.nodes
+        ≡ state (base_tree base.now.value) (turns_of order.now) (length (turns_of order.now))) }
+    ensures line { IfOk result (λ r. r.line.items ≡ recovered_line (length (turns_of order.now))) }
+{
+    let line = line_of(alloc, order.len() as u64)?;
+    let store = replay(alloc, base, order)?;
+    Ok(Recovered { store, line })
+}
+
+/// Saves the filestore, and then prints the line.
+pub(crate) fn save_and_print<H: Host, S: Sink>(
+    alloc: Global,
+    job: &RecoverJob,
+    there: bool,
+    recovered: &Recovered,
+    host: &mut H,
+    out: &mut S,
+) -> Result<(), Status>
+    requires { IfSome (H.view host.old).told
+        (λ t. IsReady t (asked_recover job.now).out there) }
+    ensures end { (disk disk' : DiskView) → IfSome (H.view host.old).told
+        (λ t. IsAnswered t (asked_recover job.now) disk recovered.now.store.nodes
+        recovered.now.line.items there)
+        → RecoverEnd (asked_recover job.now) (H.view host.old) (H.view host.new)
+        (S.view out.old) (S.view out.new) disk disk' (status_of result) }
+    ensures fit { AsksFit (asked_recover job.now).out (H.view host.old) (H.view host.new) }
+{
+    save(alloc, host, job.out, there, &recovered.store)?;
+    match print_all(out, &recovered.line) {
+        Ok(()) => Ok(()),
+        Err(SinkFailed) => Err(Status::WriteFault),
+    }
+}

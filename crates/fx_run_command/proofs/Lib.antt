@@ -1,0 +1,4 @@
+pub mod Completing
+pub mod Ending
+pub mod Stages
+pub mod Watching

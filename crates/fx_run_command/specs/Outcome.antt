@@ -1,0 +1,43 @@
+-- What a run comes to: the output, and the last filestore.
+use Rattle.std.specs.Prelude.{◌≡◌, ℕ, List, [], ◌++◌, map, length}
+use Rattle.fx_store.specs.Whole.{Nodes}
+use Rattle.fx_outside.specs.Tree.{Tree}
+use Rattle.fx_spec.specs.Plans.{Turn}
+use Rattle.fx_spec.specs.Order.{BaseTree, IsComplete, RetriesOk, state}
+use Rattle.fx_machine.specs.declared.event.Event.{Event}
+use Rattle.fx_machine.specs.declared.retry.Retry.{Retry}
+use Rattle.fx_machine.specs.Machine.{Run, resting}
+use Rattle.fx_machine.specs.Tried.{retries_of, retry_tree}
+use Rattle.fx_machine.specs.Turns.{FollowsSchedule}
+use Rattle.fx_report.specs.Entries.{report}
+use Rattle.fx_report.specs.Events.{lines}
+use Rattle.fx_watched.specs.Outcome.{IsWatchedAs}
+use Rattle.fx_words.specs.Job.{RunJob, Mode, Plain, Scheduled, Watched}
+use Rattle.fx_inputs.specs.Inputs.{HasBase}
+
+-- the events lead from the empty order to this one by the schedule's turns, the retries are their conflicts by shell, and
+-- the events are printed before the report
+pub record IsTracedAs (base : BaseTree) (schedule : List ℕ) (order : List Turn) (retries : List Retry) (output : List ℕ) : Type 0 where
+  pub events : List Event
+  pub run : Run base (resting base []) events (resting base order)
+  pub turns : FollowsSchedule base schedule events
+  pub conflicts : retries ≡ retries_of base events
+  pub printed : output ≡ lines events ++ report base order retries
+
+-- the report alone, or the events and the report, with what is said of the tree after each commit where it is watched
+abbrev pub IsPrintedAs : Mode → BaseTree → List Turn → List Retry → List ℕ → Type 0
+IsPrintedAs Plain base order retries output = output ≡ report base order retries
+IsPrintedAs (Scheduled schedule) base order retries output = IsTracedAs base schedule order retries output
+IsPrintedAs (Watched schedule) base order retries output = IsWatchedAs base schedule order retries output
+
+-- a commit order holds every transaction of every script exactly once, each script's in its order; the printed answers and
+-- the last filestore are those of these transactions run whole, one after another in that order, on the loaded filestore
+pub record IsOutcome (t : Tree) (j : RunJob) (nodes : Nodes) (output : List ℕ) : Type 0 where
+  pub base : BaseTree
+  pub order : List Turn
+  pub retries : List Retry
+  pub begins : HasBase t j.inputs base
+  pub complete : IsComplete base order
+  pub tried : RetriesOk base order (map retry_tree retries)
+  pub printed : IsPrintedAs j.mode base order retries output
+  pub last : nodes ≡ state base order (length order)

@@ -1,0 +1,8 @@
+//! The commands `run`, `trace` and `watch`, stage by stage: whole runs of scripts on a folder, and what each leaves at OUT and prints.
+#![tactic(auto)]
+
+mod command;
+mod runs;
+
+pub use command::{make_ready, run, save_and_print};
+pub use runs::{Answer, run_base};

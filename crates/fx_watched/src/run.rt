@@ -1,0 +1,96 @@
+//! A whole watched run.
+ghost use Rattle.std.specs.Prelude.{◌≡◌, ◌<◌, ◌++◌, [], All, IfOk, length};
+ghost use Rattle.fx_report.specs.Entries.{report};
+ghost use Rattle.fx_spec.specs.Bases.{base_tree};
+ghost use Rattle.fx_sched.specs.World.{began};
+ghost use Rattle.fx_watched.specs.Outcome.{IsWatched};
+ghost use Rattle.fx_watched.specs.Watching.{HasWatched};
+
+use crate::based::Based;
+use crate::lines::add_valid;
+use crate::watching::Watching;
+use fx_base::{NoMemory, Steps};
+use fx_board::{Board, Retries};
+use fx_report::report;
+use fx_sched::play;
+use fx_spec::Base;
+use fx_store::LongText;
+use fx_watch::Watch;
+use std::alloc::Global;
+use std::marker::{Brand, PhantomData};
+use std::sync::Arc;
+use std::sync::ledger::{Blank, Ledger};
+
+/// The start of a watched run: the loaded filestore was told, and its line is printed.
+fn begin<L: Ledger, B: Based>(
+    alloc: Global,
+    base: Arc<Base>,
+    mut steps: Steps<L>,
+) -> Result<Watching<L, B>, NoMemory>
+    requires { base_tree base.value ≡ B.base }
+    ensures { IfOk result (λ w. HasWatched B.base w.watch w.output.items [] (began B.base)) }
+{
+    let watch = Watch::new(alloc, base, &mut steps)?;
+    let mut output = Vec::new(alloc);
+    add_valid(&mut output, watch.valid())?;
+    Ok(Watching {
+        watch,
+        output,
+        steps,
+        of: PhantomData,
+    })
+}
+
+/// A watched run that counts the evaluations of its walks.
+fn run_by<L: Ledger, B: Based>(
+    alloc: Global,
+    base: Arc<Base>,
+    schedule: &[u32],
+    blank: Blank,
+) -> Result<(Board, LongText), NoMemory>
+    requires name { blank.name ≡ L.name }
+    requires parts { blank.parts ≡ L.parts }
+    requires some { 0 < L.parts }
+    requires base { base_tree base.value ≡ B.base }
+    requires shells { All (λ k. k < length base.value.plan) schedule.now }
+    ensures { IfOk result (λ run. IsWatched B.base schedule.now run.0 run.1) }
+{
+    let steps = Steps::<L>::open(blank);
+    let mut watching = begin::<L, B>(alloc, base.clone()?, steps)?;
+    match play(alloc, base, schedule, &mut watching) {
+        Ok((board, retries)) => {
+            let output = with_report(alloc, watching.output, &board, &retries)?;
+            Ok((board, output))
+        }
+        Err(_) => Err(NoMemory),
+    }
+}
+
+/// Lines, and behind them the report of a log.
+fn with_report(
+    alloc: Global,
+    mut lines: Vec<u8>,
+    board: &Board,
+    retries: &Retries,
+) -> Result<LongText, NoMemory>
+    ensures { IfOk result (λ output. output
+        ≡ lines.items ++ report board.now.base board.now.order retries.now) }
+{
+    let report = report(alloc, board, retries)?;
+    lines.extend_from_slice(report.as_slice())?;
+    Ok(LongText::from_vec(lines))
+}
+
+/// Steps the shells of the schedule in order, and then all shells in rounds from 0 on, until none has a transaction left,
+/// and watches whether the description has a value after each entry. It answers the log, and what is printed. Each number of
+/// the schedule needs to be below the number of scripts.
+pub fn run_watched(
+    alloc: Global,
+    base: Arc<Base>,
+    schedule: &[u32],
+) -> Result<(Board, LongText), NoMemory>
+    requires { All (λ k. k < length base.value.plan) schedule.now }
+    ensures { IfOk result (λ run. IsWatched (base_tree base.value) schedule.now run.0 run.1) }
+{
+    run_by::<Brand, Brand>(alloc, base, schedule, Blank::new(1))
+}
