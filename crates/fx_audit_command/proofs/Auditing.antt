@@ -27,7 +27,7 @@ use Rattle.fx_audit_command.specs.declared.reading.TheConstants.{REPORT_LIMIT, R
 use Rattle.fx_words.specs.Job.{AuditJob}
 use Rattle.fx_audit_command.specs.Lines.{verdict_line}
 use Rattle.fx_audit_command.specs.Rows.{AuditEndsAs, AuditReadFault, AuditRow, CannotAudit, HasLargeReport, HasReport, IsAudited, IsAuditedInPart, IsAuditing, IsFirstRefusedOf, has_fit_audit}
-use Rattle.fx_audit_command.specs.Texts.{IsReadAt}
+use Rattle.fx_command.specs.Texts.{IsReadAt}
 
 -- ---- stages that only read
 
@@ -51,6 +51,7 @@ inputs_unread j host host' status.ReadFault reads (inr none) sink =
 inputs_unread j host host' status.NotEmpty reads row sink = absurd row
 inputs_unread j host host' status.WriteFault reads row sink = absurd row
 inputs_unread j host host' status.NoMemory reads row sink = no_memory j host host' reads sink
+inputs_unread j host host' (status.BadJournal place) reads row sink = absurd row
 
 -- the report is not read
 pub report_unread : (j : AuditJob) (host host' : HostView) (f : HostFault) → ReadsOnly host host' → IfSome host.told (λ t. HasInputs t j.inputs) → (f ≡ fails.Failed → HasFailed (FaultAt j.report) (λ t. is_file_at t j.report) host host') → AuditEndsAs j host host' (read_status f)
@@ -66,7 +67,7 @@ pub report_large : (j : AuditJob) (host host' : HostView) (text : List ℕ) → 
 report_large j host host' text reads inputs read large sink = (
   same host host' sink reads,
   if_some_both (λ t. HasInputs t j.inputs) (λ t. IsReadAt t j.report REPORT_LIMIT text) (λ t. IsFirstRefusedOf t j REPORT_WORD fault.TooLarge) host.told
-      (λ t inputs read. inr (record { word = refl; cause = refl; inputs = inputs; large = record { file = read.file; large = longer (length text) (length (bytes_at t j.report)) large read.within } })) inputs read,
+      (λ t inputs read. inr (record { at = refl; why = refl; inputs = inputs; large = record { file = read.file; large = longer (length text) (length (bytes_at t j.report)) large read.within } })) inputs read,
 )
   where
     longer : (n m : ℕ) → REPORT_LIMIT < n → n ≤ m → REPORT_LIMIT < m
@@ -113,6 +114,7 @@ audit_row_back j a b c sink sink' status.WriteFault reads row = record {
   left = some_back (λ t. IsAuditedInPart t j sink.written sink'.written) a b reads row.left;
 }
 audit_row_back j a b c sink sink' status.NoMemory reads row = same_back a b c sink sink' reads row
+audit_row_back j a b c sink sink' (status.BadJournal place) reads row = row
 
 pub audit_ends_back : (j : AuditJob) (a b c : HostView) (st : Status) → ReadsOnly a b → AuditEndsAs j b c st → AuditEndsAs j a c st
 audit_ends_back j a b c st reads ends sink = audit_row_back j a b c sink sink st reads (ends sink)

@@ -1,3 +1,3 @@
 pub mod Auditing
 pub mod Completing
-pub mod Pieces
+

@@ -16,7 +16,7 @@ use Rattle.fx_inputs.specs.Inputs.{HasBase, HasInputs, HasTexts, CannotRead, IsF
 use Rattle.fx_inputs.specs.Reads.{HasReadFault, has_fit_inputs}
 use Rattle.fx_audit.specs.Audits.{IsVerdictOn, IsTrueReport}
 use Rattle.fx_audit.specs.declared.verdict.Verdict.{Verdict}
-use Rattle.fx_audit.specs.declared.verdict.Verdict.TheVariants as verdict
+use Rattle.fx_audit.specs.declared.verdict.Verdict.TheVariants as verdicts
 use Rattle.fx_audit_command.specs.declared.reading.TheConstants.{REPORT_LIMIT, REPORT_WORD}
 use Rattle.fx_words.specs.Job.{AuditJob}
 use Rattle.fx_audit_command.specs.Lines.{verdict_line}
@@ -41,7 +41,7 @@ pub record IsAuditing (t : Tree) (j : AuditJob) (output : List ℕ) : Type 0 whe
   pub begins : HasBase t j.inputs base
   pub report : HasReport t j bytes
   pub said : IsVerdictOn base bytes verdict
-  pub exact : (verdict ≡ verdict.Yes) ↔ IsTrueReport base bytes
+  pub exact : (verdict ≡ verdicts.Yes) ↔ IsTrueReport base bytes
   pub printed : output ≡ verdict_line verdict
 
 -- the line stands after what was written before
@@ -73,8 +73,8 @@ CannotAudit t j = CannotRead t j.inputs ⊎ (HasInputs t j.inputs × (is_file_at
 
 -- the text of REPORT is too large, and all that comes before it is read
 pub record IsTooLarge (t : Tree) (j : AuditJob) (word : ℕ) (cause : TextFault) : Type 0 where
-  pub word : word ≡ REPORT_WORD
-  pub cause : cause ≡ fault.TooLarge
+  pub at : word ≡ REPORT_WORD
+  pub why : cause ≡ fault.TooLarge
   pub inputs : HasInputs t j.inputs
   pub large : HasLargeReport t j
 
@@ -92,6 +92,7 @@ AuditRow j host host' sink sink' status.ReadFault = IsSame host host' sink sink'
 AuditRow j host host' sink sink' status.NotEmpty = ⊥
 AuditRow j host host' sink sink' status.WriteFault = IsUnsaid j host host' sink sink'
 AuditRow j host host' sink sink' status.NoMemory = IsSame host host' sink sink'
+AuditRow j host host' sink sink' (status.BadJournal place) = ⊥
 
 -- a stage that only reads ends the command so, whatever the sink
 abbrev pub AuditEndsAs : AuditJob → HostView → HostView → Status → Type 0

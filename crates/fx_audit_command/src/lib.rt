@@ -4,6 +4,5 @@
 mod command;
 mod line;
 mod reading;
-mod texts;
 
 pub use command::audit;

@@ -5,8 +5,7 @@ ghost use Rattle.fx_inputs.specs.Inputs.{HasInputs};
 ghost use Rattle.fx_words.specs.JobOf.{asked_audit};
 ghost use Rattle.fx_audit_command.specs.Rows.{AuditAsksFit, AuditEndsAs, HasReport};
 
-use crate::texts::read_text;
-use fx_command::{Status, TextFault};
+use fx_command::{Status, TextFault, read_text};
 use fx_outside::Host;
 use fx_words::AuditJob;
 use std::alloc::Global;
@@ -31,7 +30,7 @@ pub(crate) fn read_report<H: Host>(
     ensures ends { IfErr result
         (AuditEndsAs (asked_audit job.now) (H.view host.old) (H.view host.new)) }
 {
-    let bytes = read_text(alloc, host, job.report, REPORT_LIMIT)?;
+    let bytes = read_text(alloc, host, job.report, REPORT_LIMIT as u64)?;
     if bytes.len() > REPORT_LIMIT {
         return Err(Status::TextRefused {
             word: REPORT_WORD,

@@ -23,8 +23,8 @@ returns-in-Ok-clause-row g c =
     audit_done (asked_audit c.args.job.now) c.in_ok-line.line.items a b sink sink' c.in_ok-line.ensures.same c.in_ok-line.ensures.said
     (subst (λ b. IfSome sink.written (λ w. sink'.written ≡ Some (w ++ b))) c.deref.ensures.value c.in-Ok.ensures.written)
 
-pub returns-in-Err-clause-row : goal.returns-in-Err-clause-row
-returns-in-Err-clause-row g c =
+pub returns-clause-row : goal.returns-clause-row
+returns-clause-row g c =
     let a = g.H.Host.view c.args.host.now in
     let b = g.H.Host.view c.line_of.new.host in
     let sink = g.S.Sink.view c.args.out.now in
