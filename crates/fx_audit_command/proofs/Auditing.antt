@@ -1,5 +1,5 @@
 -- The rows of the table of statuses for `audit`, from what its stages ensure.
-use Rattle.std.proofs.Common.{◌≡◌, ◌⊎◌, inl, inr, ℕ, ◌≤◌, ◌<◌, Bool, true, false, ◌&&◌, List, ◌++◌, take, length, Option, Some, None, Result, Ok, Err, IfOk, IfErr, IfSome, IsSomeAnd, refl, sym, ◌∙◌, subst, arith}
+use Rattle.std.proofs.Common.{◌≡◌, ◌⊎◌, inl, inr, ℕ, ◌≤◌, ◌<◌, true, false, List, ◌++◌, take, length, Option, Some, None, Result, Ok, Err, IfOk, IfErr, IfSome, IsSomeAnd, refl, subst, arith}
 use Rattle.std.specs.Prelude.{◌↔◌}
 use Rattle.fx_base.specs.Causes.{Rose}
 use Rattle.fx_outside.specs.declared.kind.HostFault.{HostFault}
@@ -14,11 +14,10 @@ use Rattle.fx_spec.specs.Order.{BaseTree}
 use Rattle.fx_command.specs.declared.status.Status.{Status}
 use Rattle.fx_command.specs.declared.status.Status.TheVariants as status
 use Rattle.fx_command.specs.declared.status.TextFault.TheVariants as fault
-use Rattle.fx_command.specs.Left.{IsSame, Grows}
 use Rattle.fx_command.specs.StatusOf.{read_status}
 use Rattle.fx_command.proofs.Told.{if_some_map, if_some_both, some_and, same, grows_front, grows_all, cause_back, some_back, same_back, left_true, right_true}
 use Rattle.fx_inputs.specs.Inputs.{HasBase, HasInputs, CannotRead, IsFirstRefused, HasTexts}
-use Rattle.fx_inputs.specs.Reads.{HasReadFault, ReadRow, has_fit_inputs}
+use Rattle.fx_inputs.specs.Reads.{ReadRow, has_fit_inputs}
 use Rattle.fx_inputs.proofs.ReadRows.{read_fault_back}
 use Rattle.fx_audit.specs.Audits.{IsVerdictOn, IsTrueReport}
 use Rattle.fx_audit.specs.declared.verdict.Verdict.{Verdict}
@@ -26,7 +25,7 @@ use Rattle.fx_audit.specs.declared.verdict.Verdict.TheVariants as verdict
 use Rattle.fx_audit_command.specs.declared.reading.TheConstants.{REPORT_LIMIT, REPORT_WORD}
 use Rattle.fx_words.specs.Job.{AuditJob}
 use Rattle.fx_audit_command.specs.Lines.{verdict_line}
-use Rattle.fx_audit_command.specs.Rows.{AuditEndsAs, AuditReadFault, AuditRow, CannotAudit, HasLargeReport, HasReport, IsAudited, IsAuditedInPart, IsAuditing, IsFirstRefusedOf, has_fit_audit}
+use Rattle.fx_audit_command.specs.Rows.{AuditEndsAs, AuditReadFault, AuditRow, CannotAudit, HasReport, IsAudited, IsAuditedInPart, IsAuditing, IsFirstRefusedOf, has_fit_audit}
 use Rattle.fx_command.specs.Texts.{IsReadAt}
 
 -- ---- stages that only read

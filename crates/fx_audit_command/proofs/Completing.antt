@@ -1,5 +1,5 @@
 -- With all that `audit` reads in order, and no fault of host or sink, it is done, or memory runs out.
-use Rattle.std.proofs.Common.{◌≡◌, ◌⊎◌, inl, inr, ℕ, ◌+◌, ◌≤◌, ◌<◌, length, subst, Bool, true, false, List, [], ◌∷◌, Option, Some, None, Ok, Err, IfSome, IsSomeAnd, refl, sym, ◌∙◌, arith}
+use Rattle.std.proofs.Common.{◌≡◌, ◌⊎◌, inl, inr, ℕ, ◌+◌, ◌≤◌, ◌<◌, length, subst, Bool, true, false, List, [], ◌∷◌, Some, Ok, Err, IfSome, IsSomeAnd, refl, sym, ◌∙◌, arith}
 use Rattle.fx_base.specs.Causes.{Rose}
 use Rattle.fx_outside.specs.Host.{HostView}
 use Rattle.fx_outside.specs.Sink.{SinkView}

@@ -1,4 +1,4 @@
-use Rattle.std.proofs.Common.{List, ℕ, ◌∙◌}
+use Rattle.std.proofs.Common.{◌∙◌}
 use Rattle.fx_base.proofs.Errors.{if_err_of}
 use Rattle.fx_spec.specs.Bases.{base_tree}
 use Rattle.fx_inputs.specs.Inputs.{HasBase}

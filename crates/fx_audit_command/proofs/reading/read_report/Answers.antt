@@ -1,9 +1,9 @@
-use Rattle.std.proofs.Common.{IfSome, sym, subst, arith}
+use Rattle.std.proofs.Common.{arith}
 use Rattle.fx_base.proofs.Errors.{if_err_of}
 use Rattle.fx_command.specs.StatusOf.{read_status}
 use Rattle.fx_words.specs.JobOf.{asked_audit}
 use Rattle.fx_audit_command.specs.Rows.{AuditEndsAs}
-use Rattle.fx_audit_command.proofs.Auditing.{audit_fit_report, report_large, report_read, report_unread}
+use Rattle.fx_audit_command.proofs.Auditing.{report_large, report_unread}
 use Rattle.fx_audit_command.proofs.reading.read_report.Goals as goal
 
 pub returns-in_err-bytes-clause-ends : goal.returns-in_err-bytes-clause-ends
