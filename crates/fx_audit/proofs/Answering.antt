@@ -74,9 +74,9 @@ yes_answered base o log told b is yes_ h = h.0 yes_ ∙ ap (λ (l : Log). entry 
 pub not_answered : (base : BaseTree) (o : List Turn) (log : Log) (told : PrintedEntry) (b : Bool) → log ≡ logged base o → b ≡ false
     → (IsTrue b → told ≡ entry log.base log.order (length log.order) (turn_told told)) × (told ≡ entry log.base log.order (length log.order) (turn_told told) → IsTrue b)
     → told ≡ entry base o (length o) (turn_told told) → ⊥
-not_answered base o log told b is no h same =
+not_answered base o log told b is isnt h same =
     let right : b ≡ true = h.1 (same ∙ sym (ap (λ (l : Log). entry l.base l.order (length l.order) (turn_told told)) is)) in
-    let both : true ≡ false = sym right ∙ no in
+    let both : true ≡ false = sym right ∙ isnt in
     cc
 
 -- ---- entry by entry
