@@ -1,15 +1,14 @@
 -- The answers that entries tell, and those of their transactions.
-use Rattle.std.proofs.Common.{◌≡◌, ◌⊎◌, inl, inr, ℕ, zero, suc, ◌+◌, ◌<◌, ◌≤◌, Bool, true, false, List, [], ◌∷◌, ◌++◌, length, take, drop, map, slice_get, Option, Some, None, refl, sym, ap, subst, ◌∙◌, arith}
+use Rattle.std.proofs.Common.{◌≡◌, ◌⊎◌, inl, inr, ℕ, zero, suc, ◌+◌, ◌<◌, ◌≤◌, Bool, true, false, List, [], ◌∷◌, ◌++◌, length, take, drop, slice_get, Some, refl, sym, ap, subst, ◌∙◌, arith}
 use Rattle.std.specs.Prelude.{IsTrue}
 use Rattle.std.specs.FinMap.{get}
 use Rattle.std.proofs.lemmas.Bool.{cases_lt}
 use Rattle.std.proofs.lemmas.Option.{same_Some, none-some, slice_get_within}
-use Rattle.fx_store.specs.Whole.{Nodes}
 use Rattle.fx_expr.specs.Tree.{Tree}
 use Rattle.fx_spec.specs.declared.refusal.End.{End}
 use Rattle.fx_spec.specs.CommandTree.{CommandTree}
 use Rattle.fx_spec.specs.Plans.{Turn, txn_of}
-use Rattle.fx_spec.specs.Order.{BaseTree, IsLegal, state}
+use Rattle.fx_spec.specs.Order.{BaseTree, state}
 use Rattle.fx_spec.specs.Transaction.{outputs, end}
 use Rattle.fx_spec.proofs.Orders.{state-front}
 use Rattle.fx_machine.specs.declared.entry.Entry.{Entry}
@@ -19,7 +18,6 @@ use Rattle.fx_board.specs.Board.{IsEntry, settled, turn_of}
 use Rattle.fx_board.specs.Log.{Log}
 use Rattle.fx_replay_log.specs.Orders.{logged}
 use Rattle.fx_audit.specs.Verdicts.{turn_told, order_told, IsAnswered, AllAnswered, IsFirstUnanswered}
-use Rattle.fx_audit.proofs.Lists.{split, take_more}
 use Rattle.fx_audit.proofs.Fronts.{told_length, told_more, told_split}
 
 -- ---- one entry

@@ -1,17 +1,16 @@
 -- The verdict is yes exactly on the reports of complete orders with good retries.
-use Rattle.std.proofs.Common.{◌≡◌, ◌⊎◌, inl, inr, ℕ, zero, suc, ◌+◌, ◌<◌, ◌≤◌, Bool, true, false, not, List, [], ◌∷◌, ◌++◌, length, take, map, slice_get, Some, Result, Ok, Err, IfOk, refl, sym, ap, subst, ◌∙◌, arith}
+use Rattle.std.proofs.Common.{◌≡◌, ℕ, suc, ◌<◌, Bool, true, false, not, List, [], ◌∷◌, length, map, Result, Ok, Err, IfOk, refl, sym, ap, subst, ◌∙◌}
 use Rattle.std.specs.Prelude.{◌↔◌, nat_lt}
 use Rattle.std.specs.List.{All, list_any}
 use Rattle.std.specs.Str.{is_utf8}
 use Rattle.std.proofs.lemmas.Bool.{and_parts, or_parts, false≢true}
 use Rattle.std.proofs.lemmas.List.Elements.{All-head, All-tail}
 use Rattle.fx_expr.specs.Tree.{Tree}
-use Rattle.fx_store.specs.Names.{is_name, is_slash, IsName, IsPath}
+use Rattle.fx_store.specs.Names.{is_name, is_slash, IsName}
 use Rattle.fx_spec.specs.declared.refusal.Refusal.{Refusal}
 use Rattle.fx_spec.specs.declared.refusal.Refusal.TheVariants as refusal
 use Rattle.fx_spec.specs.declared.refusal.End.{End}
 use Rattle.fx_spec.specs.declared.refusal.End.TheVariants as end
-use Rattle.fx_spec.specs.Plans.{Turn}
 use Rattle.fx_spec.specs.Order.{BaseTree, IsComplete, RetriesOk}
 use Rattle.fx_machine.specs.declared.retry.Retry.{Retry}
 use Rattle.fx_machine.specs.Tried.{retry_tree}
@@ -21,7 +20,7 @@ use Rattle.fx_report.specs.Readable.{AreEntries, AreEntryNames, AreRetries, AreT
 use Rattle.fx_report.proofs.CancelReport.{report_cancel}
 use Rattle.fx_read_values.proofs.Cancels.{held}
 use Rattle.fx_read_values.specs.declared.values.TheConstants.{VALUE_LEVELS}
-use Rattle.fx_read_report.specs.Form.{AreFormEntries, AreFormRetries, ArePrinted, IsForm, IsFormEnd, IsFormRefusal, IsFirstBadLine, IsReportOf}
+use Rattle.fx_read_report.specs.Form.{AreFormEntries, AreFormRetries, ArePrinted, IsForm, IsFormEnd, IsFormRefusal, IsReportOf}
 use Rattle.fx_read_report.proofs.NameBytes.{name_bytes}
 use Rattle.fx_audit.specs.declared.verdict.Verdict.{Verdict}
 use Rattle.fx_audit.specs.declared.verdict.Verdict.TheVariants as verdict

@@ -1,5 +1,5 @@
 -- Retries, one by one and all together.
-use Rattle.std.proofs.Common.{◌≡◌, ◌≢◌, ◌⊎◌, inl, inr, ℕ, zero, suc, ◌+◌, ◌<◌, ◌≤◌, Bool, true, List, [], ◌∷◌, ◌++◌, length, take, drop, map, slice_get, Option, Some, None, refl, sym, ap, subst, ◌∙◌, arith}
+use Rattle.std.proofs.Common.{◌≡◌, inl, inr, ℕ, zero, suc, ◌+◌, ◌<◌, ◌≤◌, Bool, true, List, [], ◌∷◌, ◌++◌, length, take, drop, map, slice_get, Option, Some, None, refl, sym, ap, subst, ◌∙◌, arith}
 use Rattle.std.specs.Prelude.{IsTrue}
 use Rattle.std.specs.List.{All, Contains}
 use Rattle.std.proofs.lemmas.List.{map-append}
@@ -10,7 +10,7 @@ use Rattle.std.proofs.lemmas.Map.Views.{list_any-from_Contains, Contains-from_an
 use Rattle.fx_store.specs.Names.{has_path}
 use Rattle.fx_store.specs.Orders.{path_eq_same, path_total}
 use Rattle.fx_spec.specs.Plans.{Turn}
-use Rattle.fx_spec.specs.Order.{BaseTree, Changes, InOrder, IsRetry, Precedes, RetriesOk, RetryTree}
+use Rattle.fx_spec.specs.Order.{BaseTree, InOrder, IsRetry, Precedes, RetriesOk, RetryTree}
 use Rattle.fx_machine.specs.declared.entry.Entry.{Entry}
 use Rattle.fx_machine.specs.declared.retry.Retry.{Retry}
 use Rattle.fx_machine.specs.Tried.{retry_tree}
@@ -19,7 +19,7 @@ use Rattle.fx_board.specs.Log.{Log}
 use Rattle.fx_audit.specs.Places.{ArePlaces, places_of}
 use Rattle.fx_audit.specs.Retries.{IsCause, IsNextRetry, MayFollow}
 use Rattle.fx_audit.specs.Verdicts.{IsFirstUntrue}
-use Rattle.fx_audit.proofs.Lists.{map_take, split, take_more}
+use Rattle.fx_audit.proofs.Lists.{split, take_more}
 
 -- ---- one retry
 

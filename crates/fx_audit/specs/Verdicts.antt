@@ -1,5 +1,5 @@
 -- The verdict on what a report tells: the first of its faults.
-use Rattle.std.specs.Prelude.{◌≡◌, ℕ, suc, ◌<◌, List, map, take, length, slice_get, Some, Contains}
+use Rattle.std.specs.Prelude.{◌≡◌, ℕ, suc, ◌<◌, List, map, take, slice_get, Some, Contains}
 use Rattle.fx_spec.specs.Plans.{Turn, count_of}
 use Rattle.fx_spec.specs.Order.{BaseTree, IsLegal, IsComplete, RetriesOk}
 use Rattle.fx_machine.specs.declared.retry.Retry.{Retry}

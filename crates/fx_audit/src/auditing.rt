@@ -1,13 +1,15 @@
 //! The verdict on a report.
-ghost use Rattle.std.specs.Prelude.{◌≡◌, ◌↔◌, IfOk};
+ghost use Rattle.std.specs.Prelude.{◌≡◌, ◌↔◌, IfOk, List};
 ghost use Rattle.fx_spec.specs.Bases.{base_tree};
+ghost use Rattle.fx_report.specs.declared.printed.PrintedEntry.{PrintedEntry};
 ghost use Rattle.fx_audit.specs.declared.verdict.Verdict.TheVariants as verdict;
 ghost use Rattle.fx_audit.specs.Audits.{IsVerdictOn, IsTrueReport};
-ghost use Rattle.fx_audit.specs.Verdicts.{IsVerdict};
+ghost use Rattle.fx_audit.specs.Places.{ArePlaces};
+ghost use Rattle.fx_audit.specs.Verdicts.{order_told, AllAnswered, IsVerdict};
 
 use crate::answers::first_unanswered;
 use crate::order::{first_missing, first_unordered};
-use crate::places::no_places;
+use crate::places::{Places, no_places};
 use crate::retries::first_untrue;
 use crate::verdict::Verdict;
 use fx_base::NoMemory;
@@ -18,6 +20,25 @@ use fx_report::PrintedEntries;
 use fx_spec::Base;
 use std::alloc::Global;
 use std::sync::Arc;
+
+/// The verdict on a report whose entries are the log's, and tell its answers.
+fn verdict_behind(board: &Board, table: &[Places], retries: &Retries) -> Verdict
+    requires { ArePlaces board.now.base board.now.order table.now }
+    ensures { (entries : List PrintedEntry) → order_told entries ≡ board.now.order
+        → AllAnswered board.now.base entries
+        → IsVerdict board.now.base entries retries.now result }
+{
+    match first_missing(board.base(), table) {
+        Some(pair) => Verdict::Missing {
+            shell: pair.shell,
+            txn: pair.txn,
+        },
+        None => match first_untrue(board, table, retries) {
+            Some(m) => Verdict::Retry(m),
+            None => Verdict::Yes,
+        },
+    }
+}
 
 /// The verdict on what a report tells.
 fn verdict_on(
@@ -36,16 +57,7 @@ fn verdict_on(
     if let Some(i) = first_unanswered(alloc, base, &mut board, entries)? {
         return Ok(Verdict::Answer(i));
     }
-    if let Some(pair) = first_missing(base, &table) {
-        return Ok(Verdict::Missing {
-            shell: pair.shell,
-            txn: pair.txn,
-        });
-    }
-    match first_untrue(&board, &table, retries) {
-        Some(m) => Ok(Verdict::Retry(m)),
-        None => Ok(Verdict::Yes),
-    }
+    Ok(verdict_behind(&board, &table, retries))
 }
 
 /// The verdict on bytes as a report of a run of this base: the first of their faults. They have none exactly where they are

@@ -1,6 +1,5 @@
 use Rattle.fx_spec.specs.Bases.{base_tree}
-use Rattle.fx_audit.specs.declared.verdict.Verdict.TheVariants as verdict
-use Rattle.fx_audit.proofs.Exact.{exact_is, exact_result, said_result}
+use Rattle.fx_audit.proofs.Exact.{exact_result, said_result}
 use Rattle.fx_audit.proofs.auditing.audit.Goals as goal
 
 pub returns-in-Ok-clause-verdict : goal.returns-in-Ok-clause-verdict
