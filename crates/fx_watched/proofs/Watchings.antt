@@ -1,7 +1,6 @@
 -- A watched run: its start, one more event, and its end.
-use Rattle.std.proofs.Common.{◌≡◌, ℕ, suc, ◌≤◌, Bool, List, [], ◌∷◌, ◌++◌, length, Option, Some, None, refl, ap, sym, subst, ◌∙◌, arith, append_assoc, length-append}
+use Rattle.std.proofs.Common.{◌≡◌, ℕ, suc, ◌+◌, Bool, List, [], ◌∷◌, ◌++◌, length, Some, None, refl, ap, sym, subst, ◌∙◌, arith, append_assoc, length-append}
 use Rattle.std.specs.FinMap.{get}
-use Rattle.std.specs.List.{flat_map}
 use Rattle.std.proofs.lemmas.List.{append-nil, flat_map_more}
 use Rattle.std.proofs.lemmas.Option.{none-some, same_Some}
 use Rattle.fx_spec.specs.Plans.{Turn}
@@ -56,7 +55,7 @@ plain_line base o (event.Conflict k entry path) none = refl
 
 state_behind : (base : BaseTree) (o : List Turn) (e : Event) (entry : ℕ) → settled_entry e ≡ Some entry → watched_line base o e ≡ event_line e ++ state_line base o (suc entry)
 state_behind base o (event.Look k path position) entry some = absurd (none-some entry some)
-state_behind base o (event.Settled k i) entry some = ap (λ i. event_line (event.Settled k entry) ++ state_line base o (suc i)) (same_Some i entry some)
+state_behind base o (event.Settled k i) entry some = ap (λ n. event_line (event.Settled k i) ++ state_line base o (suc n)) (same_Some i entry some)
 state_behind base o (event.Conflict k i path) entry some = absurd (none-some entry some)
 
 order_stays : (base : BaseTree) (m n : Machine) (e : Event) → settled_entry e ≡ None → Step base m e n → n.order ≡ m.order
