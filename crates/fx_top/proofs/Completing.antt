@@ -30,7 +30,7 @@ told (Show j) t host host' sink sink' disk disk' st is proper none quiet calm ro
 told (Gen j) t host host' sink sink' disk disk' st is proper none quiet calm row = making_completes (gen_making j.number j.out) t host host' sink sink' st is proper none quiet row
 told (Large j) t host host' sink sink' disk disk' st is proper none quiet calm row = making_completes (large_making j.number j.out) t host host' sink sink' st is proper none quiet row
 told (Audit j) t host host' sink sink' disk disk' st is proper none quiet calm row = audit_completes j t host host' sink sink' st is proper none quiet row
-told (Journal j) t host host' sink sink' disk disk' st is proper none quiet calm row = journal_completes j t host host' sink sink' disk disk' is proper none quiet calm st row
+told (Journal j) t host host' sink sink' disk disk' st is proper none quiet calm row = journal_completes j t host host' sink sink' disk disk' st is proper none quiet calm row
 told (Recover j) t host host' sink sink' disk disk' st is proper none quiet calm row = recover_completes j t host host' sink sink' disk disk' is proper none quiet calm st row
 
 pub completes : (j : Job) (host host' : HostView) (sink sink' : SinkView) (disk disk' : DiskView) (st : Status) → Row j host host' sink sink' disk disk' st → Completes j host host' sink sink' disk disk' st
@@ -64,7 +64,7 @@ unread_row (Show j) host sink disk = same host host sink (still host)
 unread_row (Gen j) host sink disk = making_no_memory (gen_making j.number j.out) host host (still host) sink
 unread_row (Large j) host sink disk = making_no_memory (large_making j.number j.out) host host (still host) sink
 unread_row (Audit j) host sink disk = same host host sink (still host)
-unread_row (Journal j) host sink disk = journal_no_memory j host (still host) sink disk
+unread_row (Journal j) host sink disk = journal_no_memory j host sink disk
 unread_row (Recover j) host sink disk = (refl, recovering.no_memory j host host (still host) sink disk disk)
 
 pub unread_fit : (j : Job) (host : HostView) → AsksFitPaths j host host
