@@ -51,6 +51,7 @@ inputs_unread j host host' status.ReadFault reads (inr none) sink =
 inputs_unread j host host' status.NotEmpty reads row sink = absurd row
 inputs_unread j host host' status.WriteFault reads row sink = absurd row
 inputs_unread j host host' status.NoMemory reads row sink = no_memory j host host' reads sink
+inputs_unread j host host' (status.BadJournal place) reads row sink = absurd row
 
 -- the report is not read
 pub report_unread : (j : AuditJob) (host host' : HostView) (f : HostFault) → ReadsOnly host host' → IfSome host.told (λ t. HasInputs t j.inputs) → (f ≡ fails.Failed → HasFailed (FaultAt j.report) (λ t. is_file_at t j.report) host host') → AuditEndsAs j host host' (read_status f)
@@ -113,6 +114,7 @@ audit_row_back j a b c sink sink' status.WriteFault reads row = record {
   left = some_back (λ t. IsAuditedInPart t j sink.written sink'.written) a b reads row.left;
 }
 audit_row_back j a b c sink sink' status.NoMemory reads row = same_back a b c sink sink' reads row
+audit_row_back j a b c sink sink' (status.BadJournal place) reads row = row
 
 pub audit_ends_back : (j : AuditJob) (a b c : HostView) (st : Status) → ReadsOnly a b → AuditEndsAs j b c st → AuditEndsAs j a c st
 audit_ends_back j a b c st reads ends sink = audit_row_back j a b c sink sink st reads (ends sink)

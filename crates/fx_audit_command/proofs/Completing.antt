@@ -69,3 +69,4 @@ audit_completes j t host host' sink sink' status.ReadFault is proper none quiet 
 audit_completes j t host host' sink sink' status.NotEmpty is proper none quiet row = absurd row
 audit_completes j t host host' sink sink' status.WriteFault is proper none quiet row = absurd (quiet row.cause)
 audit_completes j t host host' sink sink' status.NoMemory is proper none quiet row = inr refl
+audit_completes j t host host' sink sink' (status.BadJournal place) is proper none quiet row = absurd row

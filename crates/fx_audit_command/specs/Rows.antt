@@ -92,6 +92,7 @@ AuditRow j host host' sink sink' status.ReadFault = IsSame host host' sink sink'
 AuditRow j host host' sink sink' status.NotEmpty = ⊥
 AuditRow j host host' sink sink' status.WriteFault = IsUnsaid j host host' sink sink'
 AuditRow j host host' sink sink' status.NoMemory = IsSame host host' sink sink'
+AuditRow j host host' sink sink' (status.BadJournal place) = ⊥
 
 -- a stage that only reads ends the command so, whatever the sink
 abbrev pub AuditEndsAs : AuditJob → HostView → HostView → Status → Type 0
