@@ -13,7 +13,8 @@ use Rattle.fx_gen_command.specs.Rows.{gen_making}
 use Rattle.fx_journal_command.proofs.Completing.{journal_completes, journal_no_memory, journal_not_begun}
 use Rattle.fx_large.specs.Rows.{large_making}
 use Rattle.fx_making.proofs.Makings.{making_completes, making_no_memory}
-use Rattle.fx_recover_command.proofs.Completing.{recover_completes, recover_no_memory}
+use Rattle.fx_recover_command.proofs.Completing.{recover_completes}
+use Rattle.fx_recover_command.proofs.Ending as recovering
 use Rattle.fx_run_command.proofs.Completing.{run_completes}
 use Rattle.fx_run_command.proofs.Ending.{no_memory}
 use Rattle.fx_show.proofs.Completing.{show_completes}
@@ -30,7 +31,7 @@ told (Gen j) t host host' sink sink' disk disk' st is proper none quiet calm row
 told (Large j) t host host' sink sink' disk disk' st is proper none quiet calm row = making_completes (large_making j.number j.out) t host host' sink sink' st is proper none quiet row
 told (Audit j) t host host' sink sink' disk disk' st is proper none quiet calm row = audit_completes j t host host' sink sink' st is proper none quiet row
 told (Journal j) t host host' sink sink' disk disk' st is proper none quiet calm row = journal_completes j t host host' sink sink' disk disk' st is proper none quiet calm row
-told (Recover j) t host host' sink sink' disk disk' st is proper none quiet calm row = recover_completes j t host host' sink sink' disk disk' st is proper none quiet calm row
+told (Recover j) t host host' sink sink' disk disk' st is proper none quiet calm row = recover_completes j t host host' sink sink' disk disk' is proper none quiet calm st row
 
 pub completes : (j : Job) (host host' : HostView) (sink sink' : SinkView) (disk disk' : DiskView) (st : Status) → Row j host host' sink sink' disk disk' st → Completes j host host' sink sink' disk disk' st
 completes j host host' sink sink' disk disk' st row = by host.told refl
@@ -64,7 +65,7 @@ unread_row (Gen j) host sink disk = making_no_memory (gen_making j.number j.out)
 unread_row (Large j) host sink disk = making_no_memory (large_making j.number j.out) host host (still host) sink
 unread_row (Audit j) host sink disk = same host host sink (still host)
 unread_row (Journal j) host sink disk = journal_no_memory j host sink disk
-unread_row (Recover j) host sink disk = recover_no_memory j host sink disk
+unread_row (Recover j) host sink disk = (refl, recovering.no_memory j host host (still host) sink disk disk)
 
 pub unread_fit : (j : Job) (host : HostView) → AsksFitPaths j host host
 unread_fit (Run j) host = λ fit. refl
