@@ -92,13 +92,13 @@ not_recorded j base host sink sink' disk mid disk' st begins later cause =
 -- ---- a whole run
 
 module _ (j : JournalJob) (base : BaseTree) (there : Bool) (host host' : HostView) (sink mid sink' : SinkView) (disk started disk' : DiskView) (board : Log) (retries : List Retry) (scheduled : j.run.mode ≡ Scheduled (shells_of j.run)) (begins : IfSome host.told (λ t. HasBase t j.run.inputs base)) (free : IfSome host.told (λ t. IsReady t j.run.out there)) (had : HasRecorded base (shells_of j.run) started disk' sink mid board retries) where
-  text : List ℕ
+  abbrev pub text : List ℕ
   text = report board.base board.order retries
 
-  nodes : Nodes
+  abbrev pub nodes : Nodes
   nodes = last_state board
 
-  bytes : ℕ → List ℕ
+  abbrev bytes : ℕ → List ℕ
   bytes n = bytes_of base (shells_of j.run) started disk' sink mid board retries had n
 
   abbrev Begins : Tree → Type 0
@@ -145,7 +145,7 @@ module _ (j : JournalJob) (base : BaseTree) (there : Bool) (host host' : HostVie
       (λ t t' is saved. record { base = base; nodes = nodes; there = there; count = n; all = all_written t n is.0 (grown_with n grown); free = is.1; saved = saved }) both saved
 
   -- all is done
-  output : List ℕ
+  abbrev output : List ℕ
   output = lines had.events ++ report base board.order retries
 
   traced : IsTracedAs base (shells_of j.run) board.order retries output

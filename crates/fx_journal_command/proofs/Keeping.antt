@@ -8,22 +8,27 @@ use Rattle.fx_spec.specs.Order.{BaseTree}
 use Rattle.fx_machine.specs.declared.retry.Retry.{Retry}
 use Rattle.fx_machine.specs.Machine.{Machine, resting}
 use Rattle.fx_machine.specs.Tried.{retries_of}
+use Rattle.fx_machine.specs.Turns.{stops}
 use Rattle.fx_store.specs.Whole.{Nodes}
 use Rattle.fx_board.specs.Board.{last_state}
 use Rattle.fx_board.specs.Log.{Log}
 use Rattle.fx_report.specs.Entries.{report}
 use Rattle.fx_report.specs.Events.{lines}
 use Rattle.fx_command.specs.declared.status.Status.{Status}
+use Rattle.fx_command.specs.declared.status.Status.TheVariants as status
 use Rattle.fx_command.proofs.Told.{some_back}
 use Rattle.fx_inputs.specs.Inputs.{HasBase}
 use Rattle.fx_words.specs.Job.{JournalJob, shells_of}
 use Rattle.fx_durable.specs.Disk.{File, DiskView, MayLeave, GoesOn, StaysTold, Continues, moment}
-use Rattle.fx_durable.specs.Journal.{RestsAt}
+use Rattle.fx_durable.specs.Journal.{JournalView, RestsAt}
 use Rattle.fx_durable.proofs.Moments.{goes_over, stays}
+use Rattle.fx_sched.specs.World as World
+use Rattle.fx_journaling.specs.declared.fault.RecordFault.TheVariants as fault
 use Rattle.fx_journaling.specs.Kept.{IfFile, KeepsOrder}
 use Rattle.fx_journaling.specs.Recorded.{IsStarted, HasRecorded, HasBrokenOff}
 use Rattle.fx_journaling.specs.Taken.{HasGrown}
 use Rattle.fx_journaling.specs.Written.{HasWritten, HasWrittenReport}
+use Rattle.fx_journaling.proofs.Ending.{begun, paused}
 use Rattle.fx_journaling.proofs.Holding.{at_present, some_and_map, if_file_map}
 use Rattle.fx_journaling.proofs.Taking.{grown_none, grown_as, grown_more}
 use Rattle.fx_journal_command.specs.Rows.{KeepsJournal, IsKept}
@@ -89,6 +94,11 @@ broken_keeps j base host sink sink' disk mid disk' st begins continues gate caus
     let broken = cause.broken in
     told_kept j base host sink sink' begins broken.machine broken.bytes (inl broken.written) broken.printed disk.told mid.told disk'.told continues gate broken.keeps
 
+-- a run that has not begun, as its schedule was not read
+pub unread : (base : BaseTree) (schedule : List ℕ) (disk : DiskView) (sink : SinkView) (journal : JournalView) → IsStarted journal disk → RecordCause base schedule disk disk sink sink status.NoMemory
+unread base schedule disk sink journal started =
+    record { stop = fault.NoMemory; is = refl; broken = paused base schedule disk disk sink sink 0 0 [] (World.began base) journal (begun base disk sink 0 0 journal started) stops }
+
 -- ---- a whole run
 
 none_taken : (text : List ℕ) → [] ≡ take 0 text
@@ -125,7 +135,7 @@ module _ (base : BaseTree) (schedule : List ℕ) (disk disk' : DiskView) (sink m
   text_same : text ≡ text_by_events
   text_same = λ i. report (had.traced.begun i) board.order (had.traced.conflicts i)
 
-  pub report_of : (n : ℕ) → HasWrittenReport base schedule (resting base board.order) (bytes_of n)
+  abbrev pub report_of : (n : ℕ) → HasWrittenReport base schedule (resting base board.order) (bytes_of n)
   report_of n = record { events = had.events; order = board.order; over = refl; run = had.traced.run; complete = had.traced.complete; turns = had.traced.turns; count = n; printed = refl }
 
   pub grown_by : (n : ℕ) (sink' : SinkView) → HasGrown (take n text) mid sink' → HasGrown (bytes_of n) sink sink'
