@@ -2,7 +2,7 @@
 use Rattle.std.proofs.Common.{◌≡◌, ◌⊎◌, inl, inr, ℕ, Bool, ◌<◌, List, [], length, ap, subst, Option, Some, None, refl, arith}
 use Rattle.std.specs.Prelude.{IfSome, IsSomeAnd}
 use Rattle.fx_base.specs.Causes.{Rose}
-use Rattle.fx_outside.specs.Host.{HostView, FaultIn}
+use Rattle.fx_outside.specs.Host.{HostView}
 use Rattle.fx_outside.specs.Sink.{SinkView}
 use Rattle.fx_outside.specs.Tree.{Tree}
 use Rattle.fx_outside.proofs.Views.{reads_none}
@@ -17,7 +17,7 @@ use Rattle.fx_inputs.proofs.ReadRows.{read_fault_rose}
 use Rattle.fx_words.specs.Job.{JournalJob}
 use Rattle.fx_run_command.specs.Rows.{CannotSave}
 use Rattle.fx_run_command.proofs.Completing.{none_refused, not_both, can_read}
-use Rattle.fx_durable.specs.Disk.{File, DiskView, TellsOther}
+use Rattle.fx_durable.specs.Disk.{File, DiskView}
 use Rattle.fx_journal_command.specs.Rows.{JournalRow, KeepsJournal, CannotKeep, HoldsBytes, IsProperJournal}
 use Rattle.fx_journal_command.proofs.Keeping.{unbegun_keeps}
 

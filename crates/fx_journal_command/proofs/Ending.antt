@@ -1,5 +1,5 @@
 -- The rows of the table of statuses, from what the stages ensure.
-use Rattle.std.proofs.Common.{◌≡◌, ◌⊎◌, inl, inr, ℕ, Bool, true, false, ◌≤◌, List, [], ◌∷◌, ◌++◌, length, take, Option, Some, None, refl, sym, ◌∙◌, ap, subst, arith}
+use Rattle.std.proofs.Common.{◌≡◌, ◌⊎◌, inl, inr, ℕ, Bool, ◌≤◌, List, ◌++◌, length, take, refl, sym, subst, arith}
 use Rattle.std.specs.Prelude.{IfSome, IsSomeAnd}
 use Rattle.fx_base.specs.Causes.{Rose}
 use Rattle.fx_store.specs.Whole.{Nodes}
@@ -19,12 +19,11 @@ use Rattle.fx_report.specs.Entries.{report}
 use Rattle.fx_report.specs.Events.{lines}
 use Rattle.fx_command.specs.declared.status.Status.{Status}
 use Rattle.fx_command.specs.declared.status.Status.TheVariants as status
-use Rattle.fx_command.specs.Left.{IsSame}
 use Rattle.fx_command.proofs.Told.{if_some_map, if_some_both, some_and, if_told_same, if_told_map, same, grows_all, cause_back, told_back, some_back, same_back}
 use Rattle.fx_inputs.specs.Inputs.{HasInputs, HasBase, CannotRead}
 use Rattle.fx_inputs.specs.Reads.{HasReadFault}
 use Rattle.fx_inputs.proofs.ReadRows.{read_fault_back}
-use Rattle.fx_words.specs.Job.{RunJob, JournalJob, Mode, Scheduled, shells_of}
+use Rattle.fx_words.specs.Job.{RunJob, JournalJob, Scheduled, shells_of}
 use Rattle.fx_run_command.specs.Outcome.{IsPrintedAs, IsTracedAs}
 use Rattle.fx_run_command.specs.Rows.{RunRow, EndsAs, IsDone, CannotSave}
 use Rattle.fx_durable.specs.Disk.{DiskView}
@@ -33,7 +32,7 @@ use Rattle.fx_journaling.specs.declared.fault.RecordFault.TheVariants as fault
 use Rattle.fx_journaling.specs.Recorded.{HasRecorded, HasBrokenOff}
 use Rattle.fx_journaling.specs.Taken.{HasGrown}
 use Rattle.fx_journaling.proofs.Taking.{grown_as, grown_more}
-use Rattle.fx_journal_command.specs.Rows.{IsStopped, HasWrittenAll, IsPartlyLeft, IsWholeLeft, HasJournalFault, IsLeft, IsLeftOrWhole, CannotKeep, JournalRow}
+use Rattle.fx_journal_command.specs.Rows.{IsStopped, HasWrittenAll, IsPartlyLeft, IsWholeLeft, IsLeft, IsLeftOrWhole, CannotKeep, JournalRow}
 use Rattle.fx_journal_command.specs.Stages.{StartCause, holds, fails, status_in, RecordCause, FinishEnd, done, unmade, unsaved, unwritten}
 use Rattle.fx_journal_command.proofs.Keeping.{nothing_more, front_of, bytes_of, report_of, grown_by}
 

@@ -1,6 +1,6 @@
 -- What the journal keeps, from what the stages ensure.
-use Rattle.std.proofs.Common.{◌≡◌, ◌⊎◌, inl, inr, ℕ, Bool, ◌≤◌, List, [], ◌∷◌, ◌++◌, length, take, Option, Some, None, refl, sym, ◌∙◌, ap, subst, arith}
-use Rattle.std.specs.Prelude.{IfSome, IsSomeAnd}
+use Rattle.std.proofs.Common.{◌≡◌, ◌⊎◌, inl, inr, ℕ, Bool, List, [], ◌∷◌, ◌++◌, length, take, Option, Some, None, refl, sym, ap, subst, arith}
+use Rattle.std.specs.Prelude.{IfSome}
 use Rattle.std.proofs.lemmas.List.{take_all}
 use Rattle.fx_outside.specs.Host.{HostView, ReadsOnly}
 use Rattle.fx_outside.specs.Sink.{SinkView}
@@ -25,7 +25,7 @@ use Rattle.fx_durable.proofs.Moments.{goes_over, stays}
 use Rattle.fx_sched.specs.World as World
 use Rattle.fx_journaling.specs.declared.fault.RecordFault.TheVariants as fault
 use Rattle.fx_journaling.specs.Kept.{IfFile, KeepsOrder}
-use Rattle.fx_journaling.specs.Recorded.{IsStarted, HasRecorded, HasBrokenOff}
+use Rattle.fx_journaling.specs.Recorded.{IsStarted, HasRecorded}
 use Rattle.fx_journaling.specs.Taken.{HasGrown}
 use Rattle.fx_journaling.specs.Written.{HasWritten, HasWrittenReport}
 use Rattle.fx_journaling.proofs.Ending.{begun, paused}

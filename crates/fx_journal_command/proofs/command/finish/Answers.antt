@@ -1,4 +1,4 @@
-use Rattle.std.proofs.Common.{◌≡◌, ◌++◌, ℕ, take, Some, IfSome, refl, sym, subst}
+use Rattle.std.proofs.Common.{◌≡◌, ◌++◌, ℕ, take, Some, IfSome, sym, subst}
 use Rattle.fx_folder.specs.Folder.{Saves, SavesPart}
 use Rattle.fx_board.specs.Board.{last_state}
 use Rattle.fx_report.specs.Entries.{report}

@@ -1,4 +1,4 @@
-use Rattle.std.proofs.Common.{refl, sym, subst}
+use Rattle.std.proofs.Common.{sym, subst}
 use Rattle.fx_spec.specs.Bases.{base_tree}
 use Rattle.fx_words.specs.JobOf.{asked_journal}
 use Rattle.fx_command.specs.StatusOf.{status_of}
