@@ -1,0 +1,4 @@
+pub mod Ending
+pub mod Finishing
+pub mod Keeping
+pub mod Completing

@@ -1,15 +1,18 @@
 //! The command `journal`, stage by stage.
-ghost use Rattle.std.specs.Prelude.{◌≡◌, ◌⊎◌, ◌≤◌, ◌++◌, ℕ, Ok, Some, IfOk, IfErr, IfSome, OnOk, OnErr, take};
-ghost use Rattle.fx_base.specs.Causes.{Rose};
+ghost use Rattle.std.specs.Prelude.{◌≤◌, IfOk, IfErr, IfSome};
+ghost use Rattle.fx_outside.specs.Host.{AsksFit};
+ghost use Rattle.fx_folder.specs.Folder.{IsReady};
 ghost use Rattle.fx_spec.specs.Bases.{base_tree};
+ghost use Rattle.fx_board.specs.Board.{last_state};
+ghost use Rattle.fx_report.specs.Entries.{report};
 ghost use Rattle.fx_words.specs.Job.{shells_of};
 ghost use Rattle.fx_words.specs.JobOf.{asked, asked_journal, IsJob, IsJournalJob};
 ghost use Rattle.fx_command.specs.StatusOf.{status_of};
-ghost use Rattle.fx_inputs.specs.Inputs.{HasEachScript};
-ghost use Rattle.fx_durable.specs.Disk.{Continues, IsAsTold};
-ghost use Rattle.fx_journaling.specs.Recorded.{IsStarted, HasRecorded, HasBrokenOff};
-ghost use Rattle.fx_journal_command.specs.Rows.{JournalRow, JournalAsksFit, KeepsJournal, HoldsBytes, HasJournalFault};
-ghost use Rattle.fx_journal_command.specs.Stages.{StartCause, RecordCause};
+ghost use Rattle.fx_inputs.specs.Inputs.{HasBase, HasEachScript};
+ghost use Rattle.fx_durable.specs.Disk.{Continues};
+ghost use Rattle.fx_journaling.specs.Recorded.{IsStarted, HasRecorded};
+ghost use Rattle.fx_journal_command.specs.Rows.{JournalRow, JournalAsksFit, KeepsJournal};
+ghost use Rattle.fx_journal_command.specs.Stages.{MayLeaveGate, StartCause, RecordCause, FinishEnd};
 
 use fx_command::{Status, print_all};
 use fx_durable::{Disk, Journal, StartFault};
@@ -27,6 +30,7 @@ use std::sync::Arc;
 /// Starts the journal on an empty file.
 fn start<D: Disk>(path: &HostText, disk: &mut D) -> Result<Journal, Status>
     ensures started { IfOk result (λ journal. IsStarted journal (D.view disk.new)) }
+    ensures gate { IfOk result (λ _. MayLeaveGate (D.view disk.new)) }
     ensures goes_on { Continues (D.view disk.old) (D.view disk.new) }
     ensures later { (D.view disk.old).faults ≤ (D.view disk.new).faults }
     ensures unstarted { IfErr result (StartCause path.now (D.view disk.old) (D.view disk.new)) }
@@ -66,18 +70,50 @@ fn run_on<D: Disk, S: Sink>(
 /// Makes the report, saves the last filestore, and then prints the report.
 fn finish<H: Host, S: Sink>(
     alloc: Global,
-    job: &RunJob,
+    out_path: &HostText,
     there: bool,
     recorded: &Recorded,
     host: &mut H,
     out: &mut S,
-) -> Result<(), Status> {
+) -> Result<(), Status>
+    requires { IfSome (H.view host.old).told (λ t. IsReady t out_path.now there) }
+    ensures end { FinishEnd out_path.now there (last_state recorded.now.board)
+        (report recorded.now.board.base recorded.now.board.order recorded.now.retries)
+        (H.view host.old) (H.view host.new) (S.view out.old) (S.view out.new) (status_of result) }
+    ensures fit { AsksFit out_path.now (H.view host.old) (H.view host.new) }
+{
     let report = report(alloc, &recorded.board, &recorded.retries)?;
-    save(alloc, host, job.out, there, recorded.board.store())?;
+    save(alloc, host, out_path, there, recorded.board.store())?;
     match print_all(out, report.as_slice()) {
         Ok(()) => Ok(()),
         Err(SinkFailed) => Err(Status::WriteFault),
     }
+}
+
+/// Starts the journal, runs the scripts over it, and leaves the folder that they make.
+fn keep<H: Host, S: Sink, D: Disk>(
+    alloc: Global,
+    job: &JournalJob,
+    base: Arc<Base>,
+    there: bool,
+    host: &mut H,
+    out: &mut S,
+    disk: &mut D,
+) -> Result<(), Status>
+    requires job { IsJournalJob job.now }
+    requires begins { IfSome (H.view host.old).told (λ t.
+        HasBase t (asked job.now.run).inputs (base_tree base.value)) }
+    requires count { HasEachScript (asked job.now.run).inputs (base_tree base.value) }
+    requires free { IfSome (H.view host.old).told (λ t. IsReady t (asked job.now.run).out there) }
+    ensures row { JournalRow (asked_journal job.now) (H.view host.old) (H.view host.new)
+        (S.view out.old) (S.view out.new) (D.view disk.old) (D.view disk.new) (status_of result) }
+    ensures keeps { KeepsJournal (asked_journal job.now) (H.view host.old)
+        (S.view out.old) (S.view out.new) (D.view disk.old) (D.view disk.new) }
+    ensures fit { AsksFit job.now.run.out.now (H.view host.old) (H.view host.new) }
+{
+    let journal = start(job.journal, disk)?;
+    let recorded = run_on(alloc, &job.run, base, journal, disk, out)?;
+    finish(alloc, job.run.out, there, &recorded, host, out)
 }
 
 /// Runs the scripts on the folder by a schedule, keeps each commit in the journal before its line is written, and leaves the
@@ -98,7 +134,5 @@ pub fn journal<H: Host, S: Sink, D: Disk>(
 {
     let base = read_base(alloc, &job.run.inputs, host)?;
     let there = make_ready(alloc, &job.run, host)?;
-    let journal = start(job.journal, disk)?;
-    let recorded = run_on(alloc, &job.run, base, journal, disk, out)?;
-    finish(alloc, &job.run, there, &recorded, host, out)
+    keep(alloc, job, base, there, host, out, disk)
 }

@@ -85,6 +85,7 @@ module _ (base : BaseTree) (schedule : List ℕ) (disk disk' : DiskView) (sink s
           events = events;
           traced = traced;
           printed = taken.printed;
+          later = taken.later;
           keeps = subst (λ o. IfFile (KeepsOrder base o) disk.told disk'.told) order (keeps running.machine.order running.machine.order (inl refl) (held_leaves running.machine.order running.machine.order taken.held.told));
         }
 

@@ -1,5 +1,5 @@
 -- What a run whose commits a journal keeps has left on the disk and at the sink.
-use Rattle.std.specs.Prelude.{◌≡◌, ℕ, true, List, [], IfSome}
+use Rattle.std.specs.Prelude.{◌≡◌, ◌≤◌, ℕ, true, List, [], IfSome}
 use Rattle.fx_outside.specs.Sink.{SinkView}
 use Rattle.fx_spec.specs.Order.{BaseTree}
 use Rattle.fx_machine.specs.declared.event.Event.{Event}
@@ -29,6 +29,7 @@ pub record HasRecorded (base : BaseTree) (schedule : List ℕ) (disk disk' : Dis
   pub events : List Event
   pub traced : IsTraced base schedule (record { board = board; retries = retries; events = events })
   pub printed : HasGrown (lines events) sink sink'
+  pub later : sink.faults ≤ sink'.faults
   pub keeps : IfFile (KeepsOrder base board.order) disk.told disk'.told
 
 -- the run has ended before, and the journal keeps the order of the settled lines that are written

@@ -1,0 +1,70 @@
+-- With fit inputs, an empty journal and no fault of host, sink or disk `journal` is done, or memory runs out.
+use Rattle.std.proofs.Common.{◌≡◌, ◌⊎◌, inl, inr, ℕ, Bool, ◌<◌, List, [], length, ap, subst, Option, Some, None, refl, arith}
+use Rattle.std.specs.Prelude.{IfSome, IsSomeAnd}
+use Rattle.fx_base.specs.Causes.{Rose}
+use Rattle.fx_outside.specs.Host.{HostView}
+use Rattle.fx_outside.specs.Sink.{SinkView}
+use Rattle.fx_outside.specs.Tree.{Tree}
+use Rattle.fx_outside.proofs.Views.{reads_none}
+use Rattle.fx_folder.specs.Folder.{IsReady, IsTaken}
+use Rattle.fx_folder.specs.Loads.{IsRefused}
+use Rattle.fx_command.specs.declared.status.Status.{Status}
+use Rattle.fx_command.specs.declared.status.Status.TheVariants as status
+use Rattle.fx_command.proofs.Told.{same}
+use Rattle.fx_making.proofs.Outs.{not_taken, can_write}
+use Rattle.fx_inputs.specs.Inputs.{HasTexts, HasInputs, CannotRead, IsFirstRefused}
+use Rattle.fx_inputs.proofs.ReadRows.{read_fault_rose}
+use Rattle.fx_words.specs.Job.{JournalJob}
+use Rattle.fx_run_command.specs.Rows.{CannotSave}
+use Rattle.fx_run_command.proofs.Completing.{none_refused, not_both, can_read}
+use Rattle.fx_durable.specs.Disk.{File, DiskView}
+use Rattle.fx_journal_command.specs.Rows.{JournalRow, KeepsJournal, CannotKeep, HoldsBytes, IsProperJournal}
+use Rattle.fx_journal_command.proofs.Keeping.{unbegun_keeps}
+
+abbrev Ends : Status → Type 0
+Ends st = (st ≡ status.Done) ⊎ (st ≡ status.NoMemory)
+
+-- an empty journal at its path holds nothing, and is at no other
+not_held : (path : List ℕ) (o : Option File) → IsSomeAnd o (λ file. (file.path ≡ path) × (file.seen ≡ [])) → IfSome o (λ file. 0 < length file.seen) → ⊥
+not_held path None empty bytes = empty
+not_held path (Some file) empty bytes = omega (arith, ap length empty.1, bytes)
+
+not_other : (path : List ℕ) (o : Option File) → IsSomeAnd o (λ file. (file.path ≡ path) × (file.seen ≡ [])) → IsSomeAnd o (λ file. file.path ≡ path → ⊥) → ⊥
+not_other path None empty other = other
+not_other path (Some file) empty other = other empty.0
+
+module _ (j : JournalJob) (t : Tree) (host host' : HostView) (sink sink' : SinkView) (disk disk' : DiskView) (is : host.told ≡ Some t) (proper : IsProperJournal t disk j) (none : Rose host.faults host'.faults → ⊥) (quiet : Rose sink.faults sink'.faults → ⊥) (calm : Rose disk.faults disk'.faults → ⊥) where
+  not_kept : CannotKeep j host host' sink sink' disk disk' → ⊥
+  not_kept (inl (inl fault)) = none fault.rose
+  not_kept (inl (inr cannot)) = can_write t j.run.out proper.run.there proper.run.free proper.run.above (subst (λ o. IsSomeAnd o (λ t. CannotSave t j.run)) is cannot).1
+  not_kept (inr (inl rose)) = quiet rose
+  not_kept (inr (inr (inl rose))) = calm rose
+  not_kept (inr (inr (inr other))) = not_other j.journal disk.told proper.empty other
+
+  not_full : IsTaken t j.run.out ⊎ (((there : Bool) × IsReady t j.run.out there) × HoldsBytes disk) → ⊥
+  not_full (inl taken) = not_taken t j.run.out proper.run.there proper.run.free taken
+  not_full (inr held) = not_held j.journal disk.told proper.empty held.1
+
+pub journal_completes : (j : JournalJob) (t : Tree) (host host' : HostView) (sink sink' : SinkView) (disk disk' : DiskView) (st : Status) → host.told ≡ Some t → IsProperJournal t disk j → (Rose host.faults host'.faults → ⊥) → (Rose sink.faults sink'.faults → ⊥) → (Rose disk.faults disk'.faults → ⊥) → JournalRow j host host' sink sink' disk disk' st → Ends st
+journal_completes j t host host' sink sink' disk disk' status.Done is proper none quiet calm row = inl refl
+journal_completes j t host host' sink sink' disk disk' status.Usage is proper none quiet calm row = absurd row
+journal_completes j t host host' sink sink' disk disk' (status.TextRefused word cause) is proper none quiet calm row =
+    absurd (none_refused t j.run.inputs word cause proper.run.inputs.0 (subst (λ o. IfSome o (λ t. IsFirstRefused t j.run.inputs word cause)) is row.2))
+journal_completes j t host host' sink sink' disk disk' (status.FolderRefused cause) is proper none quiet calm row =
+    absurd (not_both t j.run.inputs.folder proper.run.inputs.1.0 cause proper.run.inputs.1.1 (subst (λ o. IfSome o (λ t. HasTexts t j.run.inputs × IsRefused t j.run.inputs.folder cause)) is row.2).1)
+journal_completes j t host host' sink sink' disk disk' status.ReadFault is proper none quiet calm (same, told, inl fault) = absurd (none (read_fault_rose j.run.inputs host host' fault))
+journal_completes j t host host' sink sink' disk disk' status.ReadFault is proper none quiet calm (same, told, inr cannot) =
+    absurd (can_read t j.run.inputs proper.run.inputs (subst (λ o. IsSomeAnd o (λ t. CannotRead t j.run.inputs)) is cannot))
+journal_completes j t host host' sink sink' disk disk' status.NotEmpty is proper none quiet calm row =
+    absurd (not_full j t host host' sink sink' disk disk' is proper none quiet calm (subst (λ o. IfSome o (λ t. HasInputs t j.run.inputs × (IsTaken t j.run.out ⊎ (((there : Bool) × IsReady t j.run.out there) × HoldsBytes disk)))) is row.2).1)
+journal_completes j t host host' sink sink' disk disk' status.WriteFault is proper none quiet calm row = absurd (not_kept j t host host' sink sink' disk disk' is proper none quiet calm row.0)
+journal_completes j t host host' sink sink' disk disk' status.NoMemory is proper none quiet calm row = inr refl
+journal_completes j t host host' sink sink' disk disk' (status.BadJournal place) is proper none quiet calm row = absurd row
+
+-- ---- words that want of memory keeps from being read
+
+pub journal_no_memory : (j : JournalJob) (host : HostView) (sink : SinkView) (disk : DiskView) → JournalRow j host host sink sink disk disk status.NoMemory
+journal_no_memory j host sink disk = inl (same host host sink (reads_none host))
+
+pub journal_not_begun : (j : JournalJob) (host : HostView) (sink : SinkView) (disk : DiskView) → KeepsJournal j host sink sink disk disk
+journal_not_begun j host sink disk = unbegun_keeps j host sink disk

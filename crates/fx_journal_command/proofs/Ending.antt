@@ -1,0 +1,207 @@
+-- The rows of the table of statuses, from what the stages ensure.
+use Rattle.std.proofs.Common.{◌≡◌, ◌⊎◌, inl, inr, ℕ, Bool, ◌≤◌, List, ◌++◌, length, take, refl, sym, subst, arith}
+use Rattle.std.specs.Prelude.{IfSome, IsSomeAnd}
+use Rattle.fx_base.specs.Causes.{Rose}
+use Rattle.fx_store.specs.Whole.{Nodes}
+use Rattle.fx_outside.specs.Host.{HostView, ReadsOnly, FaultIn}
+use Rattle.fx_outside.specs.Path.{parts}
+use Rattle.fx_outside.specs.Sink.{SinkView}
+use Rattle.fx_outside.specs.Tree.{Tree}
+use Rattle.fx_outside.proofs.Views.{reads_none, fault_in_back}
+use Rattle.fx_folder.specs.Folder.{IfTold, IsReady, IsSaved, IsPartlySaved, Saves, SavesPart, SaveCause, LacksFolder}
+use Rattle.fx_folder.specs.declared.fault.SaveFault.TheVariants as save
+use Rattle.fx_spec.specs.Order.{BaseTree, state}
+use Rattle.fx_machine.specs.declared.retry.Retry.{Retry}
+use Rattle.fx_machine.specs.Machine.{resting}
+use Rattle.fx_board.specs.Board.{last_state}
+use Rattle.fx_board.specs.Log.{Log}
+use Rattle.fx_report.specs.Entries.{report}
+use Rattle.fx_report.specs.Events.{lines}
+use Rattle.fx_command.specs.declared.status.Status.{Status}
+use Rattle.fx_command.specs.declared.status.Status.TheVariants as status
+use Rattle.fx_command.proofs.Told.{if_some_map, if_some_both, some_and, if_told_same, if_told_map, same, grows_all, cause_back, told_back, some_back, same_back}
+use Rattle.fx_inputs.specs.Inputs.{HasInputs, HasBase, CannotRead}
+use Rattle.fx_inputs.specs.Reads.{HasReadFault}
+use Rattle.fx_inputs.proofs.ReadRows.{read_fault_back}
+use Rattle.fx_words.specs.Job.{RunJob, JournalJob, Scheduled, shells_of}
+use Rattle.fx_run_command.specs.Outcome.{IsPrintedAs, IsTracedAs}
+use Rattle.fx_run_command.specs.Rows.{RunRow, EndsAs, IsDone, CannotSave}
+use Rattle.fx_durable.specs.Disk.{DiskView}
+use Rattle.fx_journaling.specs.declared.fault.RecordFault.{RecordFault}
+use Rattle.fx_journaling.specs.declared.fault.RecordFault.TheVariants as fault
+use Rattle.fx_journaling.specs.Recorded.{HasRecorded, HasBrokenOff}
+use Rattle.fx_journaling.specs.Taken.{HasGrown}
+use Rattle.fx_journaling.proofs.Taking.{grown_as, grown_more}
+use Rattle.fx_journal_command.specs.Rows.{IsStopped, HasWrittenAll, IsPartlyLeft, IsWholeLeft, IsLeft, IsLeftOrWhole, CannotKeep, JournalRow}
+use Rattle.fx_journal_command.specs.Stages.{StartCause, holds, fails, status_in, RecordCause, FinishEnd, done, unmade, unsaved, unwritten}
+use Rattle.fx_journal_command.proofs.Keeping.{nothing_more, front_of, bytes_of, report_of, grown_by}
+
+-- ---- before the journal is started
+
+-- a stage that only reads ends as one of a run
+as_run_row : (j : JournalJob) (host host' : HostView) (sink : SinkView) (disk : DiskView) (st : Status) → ReadsOnly host host' → RunRow j.run host host' sink sink st → JournalRow j host host' sink sink disk disk st
+as_run_row j host host' sink disk status.Done reads row = row
+as_run_row j host host' sink disk status.Usage reads row = row
+as_run_row j host host' sink disk (status.TextRefused word cause) reads row = (row.0, refl, row.1)
+as_run_row j host host' sink disk (status.FolderRefused cause) reads row = (row.0, refl, row.1)
+as_run_row j host host' sink disk status.ReadFault reads row = (row.0, refl, row.1)
+as_run_row j host host' sink disk status.NotEmpty reads row = (row.0, refl, if_some_map _ _ host.told (λ t is. (is.0, inl is.1)) row.1)
+as_run_row j host host' sink disk status.WriteFault reads (inl row) = (inl row.cause, inl (inl (same host host' sink reads)))
+as_run_row j host host' sink disk status.WriteFault reads (inr row) = (inr (inl row.cause), inl (inl (same host host' sink reads)))
+as_run_row j host host' sink disk status.NoMemory reads row = inl (same host host' sink reads)
+as_run_row j host host' sink disk (status.BadJournal place) reads row = row
+
+pub as_run : (j : JournalJob) (host host' : HostView) (sink : SinkView) (disk : DiskView) (st : Status) → ReadsOnly host host' → EndsAs j.run host host' st → JournalRow j host host' sink sink disk disk st
+as_run j host host' sink disk st reads ends = as_run_row j host host' sink disk st reads (ends sink)
+
+-- ---- a journal that is not started
+
+inputs_of : (t : Tree) (j : RunJob) (base : BaseTree) → HasBase t j.inputs base → HasInputs t j.inputs
+inputs_of t j base is = (((base.description, is.spec), (base.plan, is.scripts)), (base.loaded, is.folder))
+
+pub not_started : (j : JournalJob) (base : BaseTree) (there : Bool) (host : HostView) (sink : SinkView) (disk disk' : DiskView) (st : Status) → IfSome host.told (λ t. HasBase t j.run.inputs base) → IfSome host.told (λ t. IsReady t j.run.out there) → StartCause j.journal disk disk' st → JournalRow j host host sink sink disk disk' st
+not_started j base there host sink disk disk' st begins free (holds told bytes) = (
+  same host host sink (reads_none host),
+  told,
+  if_some_both (λ t. HasBase t j.run.inputs base) (λ t. IsReady t j.run.out there) _ host.told (λ t is free. (inputs_of t j.run base is, inr ((there, free), bytes))) begins free,
+)
+not_started j base there host sink disk disk' st begins free (fails cause) = (inr (inr cause), inl (inl (same host host sink (reads_none host))))
+
+-- ---- a run that ends before its end
+
+stopped : (j : JournalJob) (base : BaseTree) (host : HostView) (sink sink' : SinkView) (disk disk' : DiskView) (stop : RecordFault) → IfSome host.told (λ t. HasBase t j.run.inputs base) → HasBrokenOff base (shells_of j.run) disk disk' sink sink' stop
+    → IfTold host.told host.told (λ t t'. IsStopped t t' j.run sink.written sink'.written ⊎ IsPartlyLeft t t' j.run sink.written sink'.written)
+stopped j base host sink sink' disk disk' stop begins broken =
+    if_told_same (λ t t'. IsStopped t t' j.run sink.written sink'.written ⊎ IsPartlyLeft t t' j.run sink.written sink'.written) host.told host.told refl
+    (if_some_map (λ t. HasBase t j.run.inputs base) _ host.told (λ t is. inl (record { base = base; begins = is; machine = broken.machine; bytes = broken.bytes; events = broken.written; written = broken.printed; same = refl })) begins)
+
+broken_row : (j : JournalJob) (base : BaseTree) (host : HostView) (sink sink' : SinkView) (disk mid disk' : DiskView) (stop : RecordFault) → IfSome host.told (λ t. HasBase t j.run.inputs base) → disk.faults ≤ mid.faults → HasBrokenOff base (shells_of j.run) mid disk' sink sink' stop
+    → JournalRow j host host sink sink' disk disk' (status_in stop)
+broken_row j base host sink sink' disk mid disk' fault.NoMemory begins later broken = inr (stopped j base host sink sink' mid disk' fault.NoMemory begins broken)
+broken_row j base host sink sink' disk mid disk' fault.DiskFailed begins later broken =
+    let rose : Rose mid.faults disk'.faults = broken.cause in
+    let all : Rose disk.faults disk'.faults = omega (arith, later, rose) in
+    (inr (inr (inl all)), inl (inr (stopped j base host sink sink' mid disk' fault.DiskFailed begins broken)))
+broken_row j base host sink sink' disk mid disk' fault.SinkFailed begins later broken = (inr (inl broken.cause), inl (inr (stopped j base host sink sink' mid disk' fault.SinkFailed begins broken)))
+
+pub not_recorded : (j : JournalJob) (base : BaseTree) (host : HostView) (sink sink' : SinkView) (disk mid disk' : DiskView) (st : Status) → IfSome host.told (λ t. HasBase t j.run.inputs base) → disk.faults ≤ mid.faults → RecordCause base (shells_of j.run) mid disk' sink sink' st → JournalRow j host host sink sink' disk disk' st
+not_recorded j base host sink sink' disk mid disk' st begins later cause =
+    subst (λ st. JournalRow j host host sink sink' disk disk' st) (sym cause.is) (broken_row j base host sink sink' disk mid disk' cause.stop begins later cause.broken)
+
+-- ---- a whole run
+
+module _ (j : JournalJob) (base : BaseTree) (there : Bool) (host host' : HostView) (sink mid sink' : SinkView) (disk started disk' : DiskView) (board : Log) (retries : List Retry) (scheduled : j.run.mode ≡ Scheduled (shells_of j.run)) (begins : IfSome host.told (λ t. HasBase t j.run.inputs base)) (free : IfSome host.told (λ t. IsReady t j.run.out there)) (had : HasRecorded base (shells_of j.run) started disk' sink mid board retries) where
+  abbrev pub text : List ℕ
+  text = report board.base board.order retries
+
+  abbrev pub nodes : Nodes
+  nodes = last_state board
+
+  abbrev bytes : ℕ → List ℕ
+  bytes n = bytes_of base (shells_of j.run) started disk' sink mid board retries had n
+
+  abbrev Begins : Tree → Type 0
+  Begins t = HasBase t j.run.inputs base × IsReady t j.run.out there
+
+  both : IfSome host.told Begins
+  both = if_some_both (λ t. HasBase t j.run.inputs base) (λ t. IsReady t j.run.out there) Begins host.told (λ t is free. (is, free)) begins free
+
+  last : nodes ≡ state base board.order (length board.order)
+  last = λ i. state (had.traced.begun i) board.order (length board.order)
+
+  all_written : (t : Tree) (n : ℕ) → HasBase t j.run.inputs base → HasGrown (bytes n) sink sink' → HasWrittenAll t j.run base n nodes sink.written sink'.written
+  all_written t n is grown = record {
+    begins = is;
+    machine = resting base board.order;
+    bytes = bytes n;
+    report = report_of base (shells_of j.run) started disk' sink mid board retries had n;
+    front = refl;
+    last = last;
+    written = grown;
+  }
+
+  grown_with : (n : ℕ) → HasGrown (take n text) mid sink' → HasGrown (bytes n) sink sink'
+  grown_with n grown = grown_by base (shells_of j.run) started disk' sink mid board retries had n sink' grown
+
+  -- OUT is not saved
+  partly : SavesPart j.run.out nodes host host' → sink' ≡ mid → IfTold host.told host'.told (λ t t'. IsStopped t t' j.run sink.written sink'.written ⊎ IsPartlyLeft t t' j.run sink.written sink'.written)
+  partly part none =
+      let grown = grown_with 0 (nothing_more text mid sink' none) in
+      if_told_map (λ t t'. IsPartlySaved t t' (parts j.run.out) nodes) (λ t t'. IsStopped t t' j.run sink.written sink'.written ⊎ IsPartlyLeft t t' j.run sink.written sink'.written) Begins host.told host'.told
+      (λ t t' is part. inr (record { base = base; nodes = nodes; there = there; all = all_written t 0 is.0 grown; free = is.1; part = part })) both part
+
+  no_folder : (t : Tree) → Begins t → LacksFolder t j.run.out there → CannotSave t j.run
+  no_folder t is lacks = (inputs_of t j.run base is.0, inr (subst (λ b. IsReady t j.run.out b) lacks.0 is.1, lacks.1))
+
+  unsaved_cause : SaveCause j.run.out there host host' save.WriteFault → FaultIn j.run.out host host' ⊎ IsSomeAnd host.told (λ t. CannotSave t j.run)
+  unsaved_cause (inl fault) = inl fault
+  unsaved_cause (inr lacks) = inr (some_and Begins (λ t. LacksFolder t j.run.out there) (λ t. CannotSave t j.run) host.told no_folder both lacks)
+
+  -- the report is not written whole
+  whole : (n : ℕ) → Saves j.run.out nodes host host' → HasGrown (take n text) mid sink' → IfTold host.told host'.told (λ t t'. IsWholeLeft t t' j.run sink.written sink'.written)
+  whole n saved grown =
+      if_told_map (λ t t'. IsSaved t t' (parts j.run.out) nodes) (λ t t'. IsWholeLeft t t' j.run sink.written sink'.written) Begins host.told host'.told
+      (λ t t' is saved. record { base = base; nodes = nodes; there = there; count = n; all = all_written t n is.0 (grown_with n grown); free = is.1; saved = saved }) both saved
+
+  -- all is done
+  abbrev output : List ℕ
+  output = lines had.events ++ report base board.order retries
+
+  traced : IsTracedAs base (shells_of j.run) board.order retries output
+  traced = record { events = had.events; run = had.traced.run; turns = had.traced.turns; conflicts = had.traced.conflicts; printed = refl }
+
+  printed : IsPrintedAs j.run.mode base board.order retries output
+  printed = subst (λ m. IsPrintedAs m base board.order retries output) (sym scheduled) traced
+
+  text_as : text ≡ report base board.order retries
+  text_as = λ i. report (had.traced.begun i) board.order retries
+
+  all_grown : HasGrown text mid sink' → HasGrown output sink sink'
+  all_grown grown = grown_more (lines had.events) (report base board.order retries) sink mid sink' had.printed (grown_as text (report base board.order retries) mid sink' text_as grown)
+
+  is_done : (t t' : Tree) → HasGrown output sink sink' → Begins t → IsSaved t t' (parts j.run.out) nodes → IsDone t t' j.run sink.written sink'.written
+  is_done t t' grown is saved = record {
+    nodes = nodes;
+    output = output;
+    there = there;
+    outcome = record { base = base; order = board.order; retries = retries; begins = is.0; complete = had.traced.complete; tried = had.traced.tried; printed = printed; last = last };
+    free = is.1;
+    saved = saved;
+    written = grown;
+  }
+
+  pub finished : (st : Status) → FinishEnd j.run.out there nodes text host host' mid sink' st → JournalRow j host host' sink sink' disk disk' st
+  finished st (done saves grown) =
+      let grows = all_grown grown in
+      (grows_all sink sink' output grows, if_told_map (λ t t'. IsSaved t t' (parts j.run.out) nodes) (λ t t'. IsDone t t' j.run sink.written sink'.written) Begins host.told host'.told (λ t t' is saved. is_done t t' grows is saved) both saves)
+  finished st (unmade part none) = inr (partly part none)
+  finished st (unsaved part cause none) = (inl (unsaved_cause cause), inl (inr (partly part none)))
+  finished st (unwritten saves front rose) =
+      let count = front_of text mid sink' front in
+      let all : Rose sink.faults sink'.faults = omega (arith, had.later, rose) in
+      (inr (inl all), inr (whole count.0 saves count.1))
+
+-- ---- a row from a later moment on is one from an earlier moment on, where only reads lie between
+
+cannot_back : (j : JournalJob) (a b c : HostView) (sink sink' : SinkView) (disk disk' : DiskView) → ReadsOnly a b → CannotKeep j b c sink sink' disk disk' → CannotKeep j a c sink sink' disk disk'
+cannot_back j a b c sink sink' disk disk' reads (inl cannot) = inl (cause_back (FaultIn j.run.out) (λ t. CannotSave t j.run) a b c reads (fault_in_back j.run.out a b c reads.later) cannot)
+cannot_back j a b c sink sink' disk disk' reads (inr fault) = inr fault
+
+left_back : (j : JournalJob) (a b c : HostView) (sink sink' : SinkView) → ReadsOnly a b → IsLeft j b c sink sink' → IsLeft j a c sink sink'
+left_back j a b c sink sink' reads (inl none) = inl (same_back a b c sink sink' reads none)
+left_back j a b c sink sink' reads (inr left) = inr (told_back _ a b c reads left)
+
+whole_back : (j : JournalJob) (a b c : HostView) (sink sink' : SinkView) → ReadsOnly a b → IsLeftOrWhole j b c sink sink' → IsLeftOrWhole j a c sink sink'
+whole_back j a b c sink sink' reads (inl left) = inl (left_back j a b c sink sink' reads left)
+whole_back j a b c sink sink' reads (inr whole) = inr (told_back _ a b c reads whole)
+
+pub row_back : (j : JournalJob) (a b c : HostView) (sink sink' : SinkView) (disk disk' : DiskView) (st : Status) → ReadsOnly a b → JournalRow j b c sink sink' disk disk' st → JournalRow j a c sink sink' disk disk' st
+row_back j a b c sink sink' disk disk' status.Done reads row = (row.0, told_back _ a b c reads row.1)
+row_back j a b c sink sink' disk disk' status.Usage reads row = row
+row_back j a b c sink sink' disk disk' (status.TextRefused word cause) reads row = (same_back a b c sink sink' reads row.0, row.1, some_back _ a b reads row.2)
+row_back j a b c sink sink' disk disk' (status.FolderRefused cause) reads row = (same_back a b c sink sink' reads row.0, row.1, some_back _ a b reads row.2)
+row_back j a b c sink sink' disk disk' status.ReadFault reads row = (same_back a b c sink sink' reads row.0, row.1, cause_back (HasReadFault j.run.inputs) (λ t. CannotRead t j.run.inputs) a b c reads (read_fault_back j.run.inputs a b c reads) row.2)
+row_back j a b c sink sink' disk disk' status.NotEmpty reads row = (same_back a b c sink sink' reads row.0, row.1, some_back _ a b reads row.2)
+row_back j a b c sink sink' disk disk' status.WriteFault reads row = (cannot_back j a b c sink sink' disk disk' reads row.0, whole_back j a b c sink sink' reads row.1)
+row_back j a b c sink sink' disk disk' status.NoMemory reads row = left_back j a b c sink sink' reads row
+row_back j a b c sink sink' disk disk' (status.BadJournal place) reads row = row

@@ -1,0 +1,160 @@
+-- What the journal keeps, from what the stages ensure.
+use Rattle.std.proofs.Common.{◌≡◌, ◌⊎◌, inl, inr, ℕ, Bool, List, [], ◌∷◌, ◌++◌, length, take, Option, Some, None, refl, sym, ap, subst, arith}
+use Rattle.std.specs.Prelude.{IfSome}
+use Rattle.std.proofs.lemmas.List.{take_all}
+use Rattle.fx_outside.specs.Host.{HostView, ReadsOnly}
+use Rattle.fx_outside.specs.Sink.{SinkView}
+use Rattle.fx_spec.specs.Order.{BaseTree}
+use Rattle.fx_machine.specs.declared.retry.Retry.{Retry}
+use Rattle.fx_machine.specs.Machine.{Machine, resting}
+use Rattle.fx_machine.specs.Tried.{retries_of}
+use Rattle.fx_machine.specs.Turns.{stops}
+use Rattle.fx_store.specs.Whole.{Nodes}
+use Rattle.fx_board.specs.Board.{last_state}
+use Rattle.fx_board.specs.Log.{Log}
+use Rattle.fx_report.specs.Entries.{report}
+use Rattle.fx_report.specs.Events.{lines}
+use Rattle.fx_command.specs.declared.status.Status.{Status}
+use Rattle.fx_command.specs.declared.status.Status.TheVariants as status
+use Rattle.fx_command.proofs.Told.{some_back}
+use Rattle.fx_inputs.specs.Inputs.{HasBase}
+use Rattle.fx_words.specs.Job.{JournalJob, shells_of}
+use Rattle.fx_durable.specs.Disk.{File, DiskView, MayLeave, GoesOn, StaysTold, Continues, moment}
+use Rattle.fx_durable.specs.Journal.{JournalView, RestsAt}
+use Rattle.fx_durable.proofs.Moments.{goes_over, stays}
+use Rattle.fx_sched.specs.World as World
+use Rattle.fx_journaling.specs.declared.fault.RecordFault.TheVariants as fault
+use Rattle.fx_journaling.specs.Kept.{IfFile, KeepsOrder}
+use Rattle.fx_journaling.specs.Recorded.{IsStarted, HasRecorded}
+use Rattle.fx_journaling.specs.Taken.{HasGrown}
+use Rattle.fx_journaling.specs.Written.{HasWritten, HasWrittenReport}
+use Rattle.fx_journaling.proofs.Ending.{begun, paused}
+use Rattle.fx_journaling.proofs.Holding.{at_present, some_and_map, if_file_map}
+use Rattle.fx_journaling.proofs.Taking.{grown_none, grown_as, grown_more}
+use Rattle.fx_journal_command.specs.Rows.{KeepsJournal, IsKept}
+use Rattle.fx_journal_command.specs.Stages.{MayLeaveGate, RecordCause, FinishEnd, done, unmade, unsaved, unwritten}
+
+-- ---- before the first byte
+
+goes_none : (file : File) → GoesOn file file
+goes_none file = record { path = refl; steps = ([], refl) }
+
+told_untouched : (P : File → File → Type 0) → ((file : File) → P file file) → (o : Option File) → IfFile P o o
+told_untouched P each None = refl
+told_untouched P each (Some file) = each file
+
+pub unbegun_keeps : (j : JournalJob) (host : HostView) (sink : SinkView) (disk : DiskView) → KeepsJournal j host sink sink disk disk
+unbegun_keeps j host sink disk = told_untouched (λ old new. GoesOn old new × ((sink.written ≡ sink.written) ⊎ IsKept j host sink sink old new)) (λ file. (goes_none file, inl refl)) disk.told
+
+told_unwritten : (P : File → File → Type 0) → ((old new : File) → GoesOn old new → P old new) → (o o' : Option File) → StaysTold o o' → IfFile P o o'
+told_unwritten P each None o' stays = stays
+told_unwritten P each (Some file) o' stays = some_and_map o' (GoesOn file) (P file) (each file) stays
+
+pub unstarted_keeps : (j : JournalJob) (host : HostView) (sink : SinkView) (disk disk' : DiskView) → Continues disk disk' → KeepsJournal j host sink sink disk disk'
+unstarted_keeps j host sink disk disk' continues =
+    told_unwritten (λ old new. GoesOn old new × ((sink.written ≡ sink.written) ⊎ IsKept j host sink sink old new)) (λ old new goes. (goes, inl refl)) disk.told disk'.told continues
+
+-- ---- a journal that was just started
+
+gate_at : (file : File) → RestsAt 0 [] file → MayLeave file.steps file.seen → MayLeave file.steps (0 ∷ [])
+gate_at file rests image = subst (MayLeave file.steps) (rests.only file.seen image) image
+
+pub gate_left : (o : Option File) → IfSome o (RestsAt 0 []) → IfSome o (λ file. MayLeave file.steps file.seen) → IfSome o (λ file. MayLeave file.steps (0 ∷ []))
+gate_left None rests image = tt
+gate_left (Some file) rests image = gate_at file rests image
+
+-- ---- once it was started
+
+module _ (j : JournalJob) (base : BaseTree) (host : HostView) (sink sink' : SinkView) (begins : IfSome host.told (λ t. HasBase t j.run.inputs base)) (machine : Machine) (bytes : List ℕ) (written : HasWritten base (shells_of j.run) machine bytes) (printed : HasGrown bytes sink sink') where
+  kept_at : (old started new : File) → GoesOn old started → MayLeave started.steps (0 ∷ []) → KeepsOrder base machine.order started new → IsKept j host sink sink' old new
+  kept_at old started new later gate keeps = record {
+    base = base;
+    begins = begins;
+    started = started;
+    later = later;
+    gate = stays started new (moment started) (0 ∷ []) keeps.leaves.goes_on (omega arith) (at_present (moment started) started.steps (0 ∷ []) gate);
+    machine = machine;
+    bytes = bytes;
+    written = written;
+    printed = printed;
+    keeps = keeps;
+  }
+
+  abbrev pub Kept : File → File → Type 0
+  Kept old new = GoesOn old new × ((sink'.written ≡ sink.written) ⊎ IsKept j host sink sink' old new)
+
+  pub told_kept : (a b c : Option File) → StaysTold a b → IfSome b (λ file. MayLeave file.steps (0 ∷ [])) → IfFile (KeepsOrder base machine.order) b c → IfFile Kept a c
+  told_kept None b c told gate keeps = subst (λ o. IfFile (KeepsOrder base machine.order) o c) told keeps
+  told_kept (Some old) None c told gate keeps = absurd told
+  told_kept (Some old) (Some started) c told gate keeps =
+      some_and_map c (KeepsOrder base machine.order started) (Kept old) (λ new keeps. (goes_over old started new told keeps.leaves.goes_on, inr (kept_at old started new told gate keeps))) keeps
+
+pub broken_keeps : (j : JournalJob) (base : BaseTree) (host : HostView) (sink sink' : SinkView) (disk mid disk' : DiskView) (st : Status) → IfSome host.told (λ t. HasBase t j.run.inputs base) → Continues disk mid → MayLeaveGate mid → RecordCause base (shells_of j.run) mid disk' sink sink' st → KeepsJournal j host sink sink' disk disk'
+broken_keeps j base host sink sink' disk mid disk' st begins continues gate cause =
+    let broken = cause.broken in
+    told_kept j base host sink sink' begins broken.machine broken.bytes (inl broken.written) broken.printed disk.told mid.told disk'.told continues gate broken.keeps
+
+-- a run that has not begun, as its schedule was not read
+pub unread : (base : BaseTree) (schedule : List ℕ) (disk : DiskView) (sink : SinkView) (journal : JournalView) → IsStarted journal disk → RecordCause base schedule disk disk sink sink status.NoMemory
+unread base schedule disk sink journal started =
+    record { stop = fault.NoMemory; is = refl; broken = paused base schedule disk disk sink sink 0 0 [] (World.began base) journal (begun base disk sink 0 0 journal started) stops }
+
+-- ---- a whole run
+
+none_taken : (text : List ℕ) → [] ≡ take 0 text
+none_taken [] = refl
+none_taken (x ∷ text) = refl
+
+pub nothing_more : (text : List ℕ) (sink sink' : SinkView) → sink' ≡ sink → HasGrown (take 0 text) sink sink'
+nothing_more text sink sink' same = subst (λ s. HasGrown (take 0 text) sink s) (sym same) (grown_as [] (take 0 text) sink sink (none_taken text) (grown_none sink))
+
+count_of : (o : Option (List ℕ)) (P : List ℕ → ℕ → Type 0) → IfSome o (λ w. (n : ℕ) × P w n) → (n : ℕ) × IfSome o (λ w. P w n)
+count_of None P some = (0, tt)
+count_of (Some w) P some = some
+
+pub front_of : (text : List ℕ) (sink sink' : SinkView) → IfSome sink.written (λ w. (n : ℕ) × (sink'.written ≡ Some (w ++ take n text))) → (n : ℕ) × HasGrown (take n text) sink sink'
+front_of text sink sink' front = count_of sink.written (λ w n. sink'.written ≡ Some (w ++ take n text)) front
+
+-- how much of the report is written
+pub front_left : (out : List ℕ) (there : Bool) (nodes : Nodes) (text : List ℕ) (host host' : HostView) (sink sink' : SinkView) (st : Status) → FinishEnd out there nodes text host host' sink sink' st → (n : ℕ) × HasGrown (take n text) sink sink'
+front_left out there nodes text host host' sink sink' st (done saves grown) = (length text, grown_as text (take (length text) text) sink sink' (sym (take_all (length text) text (omega arith))) grown)
+front_left out there nodes text host host' sink sink' st (unmade part same) = (0, nothing_more text sink sink' same)
+front_left out there nodes text host host' sink sink' st (unsaved part cause same) = (0, nothing_more text sink sink' same)
+front_left out there nodes text host host' sink sink' st (unwritten saves front rose) = front_of text sink sink' front
+
+module _ (base : BaseTree) (schedule : List ℕ) (disk disk' : DiskView) (sink mid : SinkView) (board : Log) (retries : List Retry) (had : HasRecorded base schedule disk disk' sink mid board retries) where
+  abbrev pub text : List ℕ
+  text = report board.base board.order retries
+
+  abbrev pub text_by_events : List ℕ
+  text_by_events = report base board.order (retries_of base had.events)
+
+  abbrev pub bytes_of : ℕ → List ℕ
+  bytes_of n = lines had.events ++ take n text_by_events
+
+  text_same : text ≡ text_by_events
+  text_same = λ i. report (had.traced.begun i) board.order (had.traced.conflicts i)
+
+  abbrev pub report_of : (n : ℕ) → HasWrittenReport base schedule (resting base board.order) (bytes_of n)
+  report_of n = record { events = had.events; order = board.order; over = refl; run = had.traced.run; complete = had.traced.complete; turns = had.traced.turns; count = n; printed = refl }
+
+  pub grown_by : (n : ℕ) (sink' : SinkView) → HasGrown (take n text) mid sink' → HasGrown (bytes_of n) sink sink'
+  grown_by n sink' grown = grown_more (lines had.events) (take n text_by_events) sink mid sink' had.printed (grown_as (take n text) (take n text_by_events) mid sink' (ap (λ l. take n l) text_same) grown)
+
+pub finished_keeps : (j : JournalJob) (base : BaseTree) (there : Bool) (host host' : HostView) (sink mid sink' : SinkView) (disk started disk' : DiskView) (board : Log) (retries : List Retry) (st : Status) → IfSome host.told (λ t. HasBase t j.run.inputs base) → Continues disk started → MayLeaveGate started → HasRecorded base (shells_of j.run) started disk' sink mid board retries
+    → FinishEnd j.run.out there (last_state board) (report board.base board.order retries) host host' mid sink' st → KeepsJournal j host sink sink' disk disk'
+finished_keeps j base there host host' sink mid sink' disk started disk' board retries st begins continues gate had end =
+    let front = front_left j.run.out there (last_state board) (report board.base board.order retries) host host' mid sink' st end in
+    told_kept j base host sink sink' begins (resting base board.order) (bytes_of base (shells_of j.run) started disk' sink mid board retries had front.0) (inr (report_of base (shells_of j.run) started disk' sink mid board retries had front.0))
+    (grown_by base (shells_of j.run) started disk' sink mid board retries had front.0 sink' front.1) disk.told started.told disk'.told continues gate had.keeps
+
+-- ---- what is kept from a later moment on is kept from an earlier one on, where only reads lie between
+
+pub keeps_back : (j : JournalJob) (a b : HostView) (sink sink' : SinkView) (disk disk' : DiskView) → ReadsOnly a b → KeepsJournal j b sink sink' disk disk' → KeepsJournal j a sink sink' disk disk'
+keeps_back j a b sink sink' disk disk' reads keeps =
+    if_file_map (λ old new. GoesOn old new × ((sink'.written ≡ sink.written) ⊎ IsKept j b sink sink' old new)) (λ old new. GoesOn old new × ((sink'.written ≡ sink.written) ⊎ IsKept j a sink sink' old new))
+    (λ old new is. (is.0, back old new is.1)) disk.told disk'.told keeps
+  where
+    back : (old new : File) → (sink'.written ≡ sink.written) ⊎ IsKept j b sink sink' old new → (sink'.written ≡ sink.written) ⊎ IsKept j a sink sink' old new
+    back old new (inl none) = inl none
+    back old new (inr kept) = inr (record { base = kept.base; begins = some_back (λ t. HasBase t j.run.inputs kept.base) a b reads kept.begins; started = kept.started; later = kept.later; gate = kept.gate; machine = kept.machine; bytes = kept.bytes; written = kept.written; printed = kept.printed; keeps = kept.keeps })
