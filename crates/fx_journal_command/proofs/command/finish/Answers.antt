@@ -1,4 +1,4 @@
-use Rattle.std.proofs.Common.{◌≡◌, ◌++◌, ℕ, take, Some, IfSome, sym, subst}
+use Rattle.std.proofs.Common.{◌≡◌, ◌++◌, ℕ, take, Some, IfSome, sym, subst, ◌∙◌}
 use Rattle.fx_folder.specs.Folder.{Saves, SavesPart}
 use Rattle.fx_board.specs.Board.{last_state}
 use Rattle.fx_report.specs.Entries.{report}
@@ -37,7 +37,7 @@ returns-in-Ok-clause-end g c =
     let sink = g.S.Sink.view c.args.out.now in
     let sink' = g.S.Sink.view c.print_all.new.out in
     done (subst (λ n. Saves c.args.out_path.now n host host') c.store.ensures.nodes c.in_ok-save.ensures.saved)
-    (subst (λ b. IfSome sink.written (λ w. sink'.written ≡ Some (w ++ b))) c.in_ok-report.ensures (subst (λ b. IfSome sink.written (λ w. sink'.written ≡ Some (w ++ b))) c.as_slice.ensures c.in-Ok.ensures.written))
+    (subst (λ b. IfSome sink.written (λ w. sink'.written ≡ Some (w ++ b))) (c.as_slice.ensures ∙ c.in_ok-report.ensures) c.in-Ok.ensures.written)
 
 pub returns-clause-end : goal.returns-clause-end
 returns-clause-end g c =
@@ -46,4 +46,4 @@ returns-clause-end g c =
     let sink = g.S.Sink.view c.args.out.now in
     let sink' = g.S.Sink.view c.print_all.new.out in
     unwritten (subst (λ n. Saves c.args.out_path.now n host host') c.store.ensures.nodes c.in_ok-save.ensures.saved)
-    (subst (λ b. IfSome sink.written (λ w. (n : ℕ) × (sink'.written ≡ Some (w ++ take n b)))) c.in_ok-report.ensures (subst (λ b. IfSome sink.written (λ w. (n : ℕ) × (sink'.written ≡ Some (w ++ take n b)))) c.as_slice.ensures c.in-Err.ensures.front)) c.in-Err.ensures.cause.failed
+    (subst (λ b. IfSome sink.written (λ w. (n : ℕ) × (sink'.written ≡ Some (w ++ take n b)))) (c.as_slice.ensures ∙ c.in_ok-report.ensures) c.in-Err.ensures.front) c.in-Err.ensures.cause.failed
