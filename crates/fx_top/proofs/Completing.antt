@@ -48,7 +48,7 @@ not_usage (Gen j) host host' sink sink' disk disk' row = row
 not_usage (Large j) host host' sink sink' disk disk' row = row
 not_usage (Audit j) host host' sink sink' disk disk' row = row
 not_usage (Journal j) host host' sink sink' disk disk' row = row
-not_usage (Recover j) host host' sink sink' disk disk' row = row
+not_usage (Recover j) host host' sink sink' disk disk' row = row.1
 
 pub row_usage : (j : Job) (host host' : HostView) (sink sink' : SinkView) (disk disk' : DiskView) (st : Status) → Row j host host' sink sink' disk disk' st → st ≡ status.Usage → ⊥
 row_usage j host host' sink sink' disk disk' st row is = not_usage j host host' sink sink' disk disk' (subst (λ st. Row j host host' sink sink' disk disk' st) is row)
