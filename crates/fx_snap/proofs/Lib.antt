@@ -1,0 +1,4 @@
+mod Searched
+mod Rooms
+mod Versionings
+pub mod Crosses

@@ -1,0 +1,3 @@
+pub mod Versions
+pub mod Tables
+pub mod Kept

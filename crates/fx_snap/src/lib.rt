@@ -1,0 +1,8 @@
+//! A log that keeps what each of its entries has left at each path, so that each state since the first can be looked at.
+#![tactic(auto)]
+
+mod keeping;
+mod versioned;
+mod versions;
+
+pub use versioned::Versioned;
