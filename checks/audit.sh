@@ -29,7 +29,7 @@ cd "$top/examples/audit"
 expect "audit yes" description folder report sell restock
 expect "audit no Answer 1" description folder changed sell restock
 expect "audit no Answer 0" description folder elsewhere sell restock
-expect "audit no Answer 0" description folder report restock sell
+expect "audit no Order 2" description folder report restock sell
 ./check.sh "$program" description folder report sell restock >"$room/line"
 ! ./check.sh "$program" description folder changed sell restock >>"$room/line"
 echo "the reports of the examples are those of runs, but for the two that are changed"
