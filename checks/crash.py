@@ -231,7 +231,7 @@ def try_kills(place, around, r):
     while True:
         stage = Stage(around, '("a" :: file)', {"a": b"0"}, "none", [[COUNTS] * txns, [COUNTS] * txns])
         whole = timed(stage)
-        if whole > 0.15 or txns > 2_000:
+        if whole > 0.15 or txns >= 640:
             break
         txns *= 2
     for _ in range(KILLS):
