@@ -10,7 +10,7 @@ import tempfile
 
 import measure
 
-BENCHES = ["run", "folders", "show", "trace", "watch", "names", "looks", "walks", "engine", "threads", "large", "audit", "journal"]
+BENCHES = ["run", "folders", "show", "definitions", "trace", "watch", "names", "looks", "walks", "engine", "threads", "views", "large", "audit", "journal"]
 
 
 def lines(words):

@@ -86,3 +86,41 @@ def with_journal(counters, shells):
         for thread in threads:
             thread.join()
         return time.monotonic() - begin
+
+
+def with_reader(rows, writers, each):
+    """So many threads that count so often in a row of their own, and a reader beside them that looks at every row in one
+    transaction. The seconds of the writers, and those of the reader.
+    """
+    with tempfile.TemporaryDirectory() as scratch:
+        path = os.path.join(scratch, "db")
+        first = connected(path)
+        made(first, rows + writers)
+        first.close()
+        reading = []
+
+        def work(steps):
+            connection = connected(path)
+            do_all(connection, steps)
+            connection.close()
+
+        def look():
+            connection = connected(path)
+            begin = time.monotonic()
+            connection.execute("BEGIN")
+            for _ in connection.execute("SELECT id, n FROM counts"):
+                pass
+            connection.execute("COMMIT")
+            reading.append(time.monotonic() - begin)
+            connection.close()
+
+        reader = threading.Thread(target=look)
+        threads = [threading.Thread(target=work, args=([(rows + i, None)] * each,)) for i in range(writers)]
+        begin = time.monotonic()
+        for thread in [*threads, reader]:
+            thread.start()
+        for thread in threads:
+            thread.join()
+        seconds = time.monotonic() - begin
+        reader.join()
+        return seconds, reading[0]

@@ -2,11 +2,12 @@
 
 usage: compare.py PROGRAM [SEED] [COUNT]
 
-Each case is a random folder with links and flags, a description, some scripts and a schedule: `show`, `trace`, `watch` and
-`run` have to print, write and refuse what the model says. In every third case the scripts work on the same few files, so that they
-meet. Of `run` the order and the retries are those that it prints: the answers
-and OUT are those of its transactions run whole in that order, and `audit` says of its report, and of changed ones, what the model says. Some texts are broken before, so that refusals are compared
-too. Then four cases from numbers: what `gen` writes, and what `large` leaves and prints. Prints how many cases there were of each kind, and ends with 1 at the first difference, which it tells.
+Each case is a random folder with links and flags, a description with definitions, some scripts and a schedule: `show`, `trace`,
+`watch`, `journal` and `run` have to print, write and refuse what the model says, and `recover` from the journal and from
+changed ones. In every third case the scripts work on the same few files, so that they meet. Of `run` the order and the
+retries are those that it prints: the answers and OUT are those of its transactions run whole in that order, and `audit` says
+of its report, and of changed ones, what the model says. Some texts are broken before, so that refusals are compared too. Then
+four cases from numbers: what `gen` writes, and what `large` leaves and prints. Prints how many cases there were of each kind, and ends with 1 at the first difference, which it tells.
 """
 
 import os
@@ -38,7 +39,7 @@ class Maker:
     """Random texts that are mostly well shaped."""
 
     def __init__(self, random_):
-        self.r = random_
+        self.r, self.defs = random_, []
 
     def words(self, scope, shape):
         return [word for word, found in scope if found == shape]
@@ -85,12 +86,59 @@ class Maker:
         return r.choice(choices)()
 
     def fresh(self, scope, letter):
-        return f"{letter}{len(scope)}"
+        often = 0.05 if letter in "vwxy" else 0.003
+        return "def" if self.r.random() < often and not any(word == "def" for word, _ in scope) else f"{letter}{len(scope)}"
+
+    def call(self, scope):
+        """A call of a definition; now and then of none, with too many arguments, or with one of another shape."""
+        r = self.r
+        name, params = r.choice(self.defs)
+        if r.random() < 0.01:
+            name = "none"
+        shapes = [shape for _, shape in params]
+        if r.random() < 0.01:
+            shapes = [*shapes, model.STR] if r.random() < 0.5 else shapes[1:]
+        if shapes and r.random() < 0.01:
+            shapes[r.randrange(len(shapes))] = r.choice([model.STR, model.INTEGER, model.BOOL, model.NAMES])
+        args = [f"({r.choice(words)} + 1)" if shape == model.INTEGER and (words := self.words(scope, shape)) and r.random() < 0.7 else self.expr(scope, shape) for shape in shapes]
+        return f"{name}({', '.join(args)})"
+
+    def body(self, params):
+        """The body of a definition: often one that calls a definition again."""
+        r = self.r
+        numbers = self.words(params, model.INTEGER)
+        choices = [
+            lambda: self.spec(params, 2)[0],
+            lambda: f'<d : dir, {{(k :: {self.call([*params, ("d", model.NAMES), ("k", model.STR)])}) | k in (d only "{r.choice(["a*", "b", "?", "*", "c"])}")}}>',
+            lambda: f"opt(({quoted(r.choice(NAMES))} :: {self.call(params)}))",
+            lambda: f"<x : {self.call(params)}, {self.call([*params, ('x', model.BOOL)])}>",
+        ]
+        if numbers:
+            choices.append(lambda: f'{{{self.call([*params, ("k", model.STR)])} | k in if(({r.choice(numbers)} < 2), (one("a") union one("b")), empty)}}')
+        if r.random() < 0.1:
+            choices.append(lambda: self.call(params))
+        return r.choice(choices)()
+
+    def description(self):
+        """A text with a few definitions before its root; their names may be names of bindings too."""
+        r = self.r
+        self.defs = []
+        for name in r.sample(["f", "g", "tree", "p0", "c1", "d"], r.choice([0, 0, 0, 1, 1, 2, 3])):
+            shapes = [r.choice([model.INTEGER, model.INTEGER, model.STR, model.NAMES, model.BOOL]) for _ in range(r.choice([0, 1, 1, 2]))]
+            self.defs.append((name, [(f"{'nst'[i]}", shape) for i, shape in enumerate(shapes)]))
+        texts = []
+        for name, params in self.defs:
+            told = ", ".join(f"{'n' if r.random() < 0.01 else word} : {model.shape_text(shape)}" for word, shape in params)
+            name = r.choice(self.defs)[0] if r.random() < 0.01 else name
+            texts.append(f"def {name}({told}) = {self.body(params)}")
+        return "\n".join([*texts, self.call([]) if self.defs and r.random() < 0.4 else self.spec([])[0]])
 
     def spec(self, scope, depth=0):
         """A description and its value's shape."""
         r = self.r
         kind = r.choice(["file", "dir", "focus", "focus", "pair", "pair", "comp", "opt", "link", "pred"]) if depth < 5 else r.choice(["file", "dir", "link"])
+        if self.defs and r.random() < 0.25:
+            return self.call(scope), model.BOOL
         if depth == 0 and r.random() < 0.8:
             kind = r.choice(["focus", "pair", "pair", "comp"])
         if kind in ("file", "link"):
@@ -166,7 +214,11 @@ class Maker:
         return " ".join(found)
 
     def script(self):
-        return "\n".join(f"txn {{ {self.block([])} }}" for _ in range(self.r.randrange(0, 4))).encode()
+        r, found = self.r, []
+        for _ in range(r.randrange(0, 4)):
+            into = "into " * r.choice([2, 3, 5, 64, 65, 66]) if self.defs and r.random() < 0.3 else ""
+            found.append(f"txn {{ {into}{self.block([])} }}")
+        return "\n".join(found).encode()
 
     def meeting_folder(self, top):
         os.mkdir(top)
@@ -193,7 +245,7 @@ class Maker:
         if not text or r.random() < 0.85:
             return text
         i = r.randrange(len(text))
-        piece = r.choice([b"", text[i : i + 1] * 2, bytes([r.randrange(256)]), b" file ", b"(", b"}", b"zz", b"1", b'"'])
+        piece = r.choice([b"", text[i : i + 1] * 2, bytes([r.randrange(256)]), b" file ", b"(", b"}", b"zz", b"1", b'"', b" def ", b"f()", b","])
         return text[:i] + piece + text[i + 1 :]
 
     def folder(self, top):
@@ -283,7 +335,7 @@ def compare(room, maker, counts):
     r, meet = maker.r, maker.r.random() < 0.33
     maker.meeting_folder(os.path.join(room, "in")) if meet else maker.folder(os.path.join(room, "in"))
     with open(os.path.join(room, "spec"), "wb") as it:
-        it.write(MEETING.encode() if meet else maker.broken(maker.spec([])[0].encode()))
+        it.write(MEETING.encode() if meet else maker.broken(maker.description().encode()))
     scripts = [f"s{i}" for i in range(r.choice([2, 3, 4] if meet else [1, 1, 2, 2, 3]))]
     for name in scripts:
         with open(os.path.join(room, name), "wb") as it:
@@ -297,7 +349,7 @@ def compare(room, maker, counts):
         counts[f"show refused {read[0]}"] += 1
     else:
         try:
-            v = model.value(model.View(read[2].get), (), [], read[0])
+            v = model.top_value(model.View(read[2].get), read[0])
             wanted = f"valid yes\nvalue {model.printed(v)}\n"
         except model.NoValue:
             wanted = "valid no\n"
@@ -326,6 +378,7 @@ def compare(room, maker, counts):
     for _, _, _, end in order:
         counts[re.sub(r"stopped \d+ (\d+ \w+).*", r"stopped \1", end)] += 1
     counts["conflicts"] += len(retries)
+    compare_journal(room, scripts, read, words, order, counts)
     shutil.rmtree(os.path.join(room, "out"))
 
     status, printed, line = run(["run", "spec", "in", "out", *scripts], room)
@@ -363,6 +416,48 @@ def changed_reports(r, report):
     yield report[:at] + b"%d" % r.randrange(10) + report[at + 1 :]
 
 
+def changed_journals(r, journal):
+    """The journal, none, what a stop may leave of it, and some with a byte or a record changed."""
+    i, cut = r.randrange(len(journal)), r.randrange(len(journal))
+    yield journal
+    yield None
+    yield journal[:cut]
+    yield journal[: cut - cut % 9] + b"\0" + r.randbytes(r.randrange(12))
+    yield journal[:i] + bytes([r.choice([0, 1, 2, 255])]) + journal[i + 1 :]
+    yield journal[:-1] + model.journal_of([(r.randrange(3), r.randrange(4))])
+
+
+def compare_journal(room, scripts, read, traced, order, counts):
+    """`journal` prints and leaves what `trace` does, and its journal spells the order; `recover` gives what a journal tells."""
+    root, plan, store = read
+    there = lambda name: os.path.join(room, name)
+    found = run(["journal", *traced[1:3], "journaled", "journal", *traced[4:]], room)
+    expect("journal", found, run(["trace", *traced[1:3], "again", *traced[4:]], room))
+    expect("OUT of journal", model.saved(there("journaled")), model.saved(there("out")))
+    with open(there("journal"), "rb") as it:
+        journal = it.read()
+    expect("the journal's bytes", journal, model.journal_of([turn[:2] for turn in order]))
+    for image in changed_journals(random.Random(len(journal) + len(store)), journal):
+        shutil.rmtree(there("recovered"), ignore_errors=True)
+        os.remove(there("journal"))
+        if image is not None:
+            with open(there("journal"), "wb") as it:
+                it.write(image)
+        found = run(["recover", "spec", "in", "journal", "recovered", *scripts], room)
+        try:
+            count, last = model.recover(root, plan, store, image or b"")
+        except model.BadJournal:
+            expect(f"recover from {image!r}", found, (9, "", "txforest: bad journal\n"))
+            expect("OUT of a bad journal", os.path.exists(there("recovered")), False)
+            counts["bad journals"] += 1
+        else:
+            expect(f"recover from {image!r}", found, (0, f"recovered {count}\n", ""))
+            expect("OUT of recover", model.saved(there("recovered")), model.folder_of(last))
+            counts["recovered"] += 1
+        with open(there("journal"), "rb") as it:
+            expect("the journal after recover", it.read(), image or b"")
+
+
 def compare_audit(room, scripts, read, report, counts):
     root, plan, store = read
     with open(os.path.join(room, "report"), "wb") as it:
@@ -390,10 +485,13 @@ def compare_generated(room, number, counts):
 
 
 counts = Counter()
+model.View.most = 3_000
 for case in range(SEED, SEED + COUNT):
     with tempfile.TemporaryDirectory(prefix="compare-") as room:
         try:
             compare(room, Maker(random.Random(case)), counts)
+        except model.TooMuch:
+            counts["left out: too many parts to value"] += 1
         except Different as different:
             kept = f"/tmp/compare-{case}"
             shutil.rmtree(kept, ignore_errors=True)

@@ -4,7 +4,7 @@
  *   memory     a call for memory: it gives none
  *   thread     a call for a thread: there is none
  *   read       a call that opens, reads, lists or asks: an error of the disk
- *   write      a call that makes a file or folder or writes, standard error left out: the disk is full
+ *   write      a call that makes a file or folder, writes or syncs, standard error left out: the disk is full
  *   interrupt  a call that opens a file, reads or writes: a signal interrupts it
  *   short      a call that reads or writes several bytes: it moves one
  * At the end the number of counted calls goes to the file FAULT_COUNT, if it is set. */
@@ -181,6 +181,34 @@ ssize_t write(int file, const void *bytes, size_t count)
     if (wrong(WRITE))
         return failed(ENOSPC);
     return REAL(write)(file, bytes, count > 1 && wrong(SHORT) ? 1 : count);
+}
+
+ssize_t pread(int file, void *bytes, size_t count, off_t from)
+{
+    if (wrong(INTERRUPT))
+        return failed(EINTR);
+    if (wrong(READ))
+        return failed(EIO);
+    return REAL(pread)(file, bytes, count > 1 && wrong(SHORT) ? 1 : count, from);
+}
+
+ssize_t pwrite(int file, const void *bytes, size_t count, off_t from)
+{
+    if (wrong(INTERRUPT))
+        return failed(EINTR);
+    if (wrong(WRITE))
+        return failed(ENOSPC);
+    return REAL(pwrite)(file, bytes, count > 1 && wrong(SHORT) ? 1 : count, from);
+}
+
+int fsync(int kept)
+{
+    return wrong(WRITE) ? failed(EIO) : REAL(fsync)(kept);
+}
+
+int fdatasync(int kept)
+{
+    return wrong(WRITE) ? failed(EIO) : REAL(fdatasync)(kept);
 }
 
 ssize_t getdents64(int folder, void *entries, size_t size)

@@ -57,6 +57,15 @@ INPUTS = {
     "show, folders and links": ["show", "deep", "in3"],
     "gen": ["gen", "7", "out"],
     "large": ["large", "7", "out"],
+    "audit": ["audit", "two", "in2", "report", "first", "second"],
+    "watch": ["watch", "two", "in2", "out", "0,0,1,1,0,1", "first", "second"],
+    "journal": ["journal", "two", "in2", "out", "log", "0,0,1,1,0,1", "first", "second"],
+    "recover": ["recover", "two", "in2", "kept", "out", "first", "second"],
+}
+# What stands in the stage besides, made by the program: the report that `audit` reads, the journal that `recover` reads.
+MADE = {
+    "report": ["run", "two", "in2", "out", "first", "second"],
+    "kept": ["journal", "two", "in2", "out", "kept", "0,0,1,1,0,1", "first", "second"],
 }
 ORDERS = ["0,0,0,0", "1,1,1,1"]
 
@@ -103,10 +112,15 @@ class Stage:
             os.makedirs(os.path.dirname(path), exist_ok=True)
             with open(path, "w") as it:
                 it.write(text)
+        for name, words in MADE.items():
+            _, printed, _, _, _ = self.run(words, "", 0)
+            if name not in words:
+                with open(os.path.join(self.top, name), "wb") as it:
+                    it.write(printed)
 
     def run(self, words, kind, at):
         """One run: status, what is printed, the line on standard error, what stands at OUT, and how many calls were counted."""
-        subprocess.run(["rm", "-rf", f"{self.top}/out", f"{self.top}/count"], check=True)
+        subprocess.run(["rm", "-rf", f"{self.top}/out", f"{self.top}/log", f"{self.top}/count"], check=True)
         given = {"LD_PRELOAD": LIBRARY, "FAULT_KIND": kind, "FAULT_AT": f"{at}", "FAULT_COUNT": f"{self.top}/count"}
         try:
             ran = subprocess.run([PROGRAM, *words], cwd=self.top, stdin=subprocess.DEVNULL, capture_output=True, env=given, timeout=SECONDS)
@@ -123,10 +137,10 @@ class Stage:
         return ran.returncode, ran.stdout, ran.stderr, out, counted
 
 
-def check(ran, kind, wholes):
+def check(ran, allowed, wholes):
     """Compares a run with those without a fault, of which there is one for each order of the scripts."""
     status, printed, line, out, _ = ran
-    if status not in KINDS[kind] or line != LINES[status]:
+    if status not in allowed or line != LINES[status]:
         raise Wrong(f"status {status} with {line!r}")
     if status == DONE:
         if all((answers(printed), out) != (answers(whole), tree_) for whole, tree_ in wholes):
@@ -138,6 +152,29 @@ def check(ran, kind, wholes):
         raise Wrong(f"status {status}, and something is printed or written")
     if printed and all(out != tree_ or not answers(whole).startswith(answers(printed)) for whole, tree_ in wholes):
         raise Wrong(f"status {status}, printed is {printed!r}, and OUT {out}")
+
+
+def check_journal(stage, ran, kind, whole):
+    """Compares a run of `journal` with the one without a fault, and sees that no commit that it told is lost."""
+    status, printed, line, out, _ = ran
+    if status not in KINDS[kind] or line != LINES[status]:
+        raise Wrong(f"status {status} with {line!r}")
+    text, tree_ = whole
+    events = text.index(b"forest report")
+    fits = {
+        DONE: (printed, out) == (text, tree_),
+        READ: (printed, out) == (b"", None),
+    }
+    if len(printed) < events:
+        begun = out is None
+    else:
+        begun = out is None or is_part(out, tree_) if len(printed) == events else out == tree_
+    if not fits.get(status, text.startswith(printed) and begun):
+        raise Wrong(f"status {status}, printed is {printed!r}, and OUT {out}")
+    told = sum(1 for it in printed.splitlines(True) if it.startswith(b"settled") and it.endswith(b"\n"))
+    status, printed, line, _, _ = stage.run(["recover", "two", "in2", "log.kept", "out", "first", "second"], "", 0)
+    if status != DONE or not told <= int(printed.split()[1]) <= told + 1:
+        raise Wrong(f"{told} commits were told, and recover ends with {status}, {printed!r}, {line!r}")
 
 
 def wholes_of(stage, words):
@@ -158,7 +195,15 @@ def swept(stage, words, kind, wholes):
     tried = range(1, counted + 1) if counted <= MOST else sorted({1 + i * (counted - 1) // (MOST - 1) for i in range(MOST)})
     for at in tried:
         try:
-            check(stage.run(words, kind, at), kind, wholes)
+            ran = stage.run(words, kind, at)
+            if words[0] == "journal":
+                keep = ["mv", f"{stage.top}/log", f"{stage.top}/log.kept"]
+                if not os.path.exists(f"{stage.top}/log"):
+                    keep = ["rm", "-f", f"{stage.top}/log.kept"]
+                subprocess.run(keep, check=True)
+                check_journal(stage, ran, kind, wholes[0])
+            else:
+                check(ran, KINDS[kind] | ({READ} if words[0] == "recover" else set()), wholes)
         except Wrong as wrong:
             raise Wrong(f"call {at} of {counted}: {wrong}") from None
     return counted, len(tried)

@@ -11,6 +11,7 @@ part made, and ends with 1 at the first that is not so.
 import contextlib
 import hashlib
 import os
+import random
 import resource
 import signal
 import socket
@@ -25,7 +26,7 @@ PROGRAM = os.path.abspath(sys.argv[1])
 SECONDS = 120
 
 # What each status may be called for: everything that reads, everything that may be done.
-DONE, USAGE, TEXT, FOLDER, READ, TAKEN, WRITE, MEMORY = 0, 2, 3, 4, 5, 6, 7, 8
+DONE, USAGE, TEXT, FOLDER, READ, TAKEN, WRITE, MEMORY, JOURNAL = 0, 2, 3, 4, 5, 6, 7, 8, 9
 TEXT_LIMIT = 65_536
 FILE_LIMIT = 1_048_576
 
@@ -38,6 +39,7 @@ DESCRIPTIONS = [
     '<x : ("list" :: file), {(y :: opt(file)) | y in lines(x)}>',
     '<d : dir, {(n :: file) | n in (d only "*.txt")}>',
     '(("cur" ++ "/x") :: opt(<s : file, pred((size(s) < 10))>))',
+    'def t(n : int, s : str) = <d : dir, {(k :: t((n + 1), k)) | k in (d only s)}> t(0, "d")',
 ]
 SCRIPTS = [
     'txn { down fetch x : str print(x) }',
@@ -126,7 +128,7 @@ class Stage:
             raise Wrong(f"{words}: status {status} with {line!r} on standard error")
         if keeps and tree_sum(self.top, self.out) != before:
             raise Wrong(f"{words}: something besides OUT changed")
-        if status in (USAGE, TEXT, FOLDER, READ, TAKEN) and (printed or os.path.lexists(self.out) and status != TAKEN):
+        if status in (USAGE, TEXT, FOLDER, READ, TAKEN, JOURNAL) and (printed or os.path.lexists(self.out) and status != TAKEN):
             raise Wrong(f"{words}: status {status}, and something was printed or written")
         return status, printed
 
@@ -162,6 +164,24 @@ def limits():
     for depth, allowed in ((63, {DONE}), (64, {TEXT}), (16_000, {TEXT})):
         with Stage(description=nested("opt(", "file", ")", depth)) as stage:
             stage.run(allowed, show)
+    # The deepest values and walks: calls 64 deep, each of as many forms as nest.
+    deep = f"def f() = {nested('opt(', 'f()', ')', 62)} f()"
+    with Stage(description=deep) as stage:
+        stage.run({DONE}, show)
+    with Stage(description=deep, script="txn { validate v print(v) }") as stage:
+        stage.run({DONE})
+    with Stage(description="def f() = f() f()", script=f"txn {{ {'into ' * 13_000} }}") as stage:
+        stage.run({DONE})
+    many = " ".join(f"def f{i}() = f{i + 1}()" for i in range(2_000))
+    for last, allowed in (("def f2000() = dir f0()", {DONE}), ("f0()", {TEXT})):
+        with Stage(description=f"{many} {last}") as stage:
+            stage.run(allowed, show)
+    args = ", ".join(["1"] * 5_000)
+    params = ", ".join(f"x{i} : int" for i in range(5_000))
+    with Stage(description=f"def f({params}) = dir dir") as stage:
+        stage.run({DONE, TEXT}, show)
+    with Stage(description=f"def f() = dir f({args})") as stage:
+        stage.run({TEXT}, show)
     for depth in (62, 63, 64, 9_000):
         with Stage(description=f'({nested("(", chr(34) + "a" + chr(34), " ++ " + chr(34) * 2 + ")", depth)} :: file)') as stage:
             stage.run({DONE} if depth < 63 else {TEXT}, show)
@@ -204,6 +224,20 @@ def tables():
         b"/l -> a", b"/%6C -> a\n", b"/l  -> a\n", b"/ -> a\n", b"/l -> a/\n", b"/a/l -> a\n", b"/a -> a\n",
         b"/m -> a\n/l -> a\n", b"\n", b"/l -> \n", b"/l\0 -> a\n", b"\xff\n", b"/l -> a\r\n", b"/gone/l -> a\n",
         b"/l -> " + b"a" * 4_097 + b"\n", b"/l -> " + b"/".join([b"a"] * 65) + b"\n", b"/" + b"n" * 256 + b" -> a\n",
+    ):
+        with Stage(table=text) as stage:
+            stage.run({FOLDER})
+    flags = b"version 2\n/a *\n/cur -> d\n/d/e/y *\n"
+    with Stage(table=flags) as stage:
+        stage.run({DONE})
+    for i, byte in enumerate(flags):
+        for piece in (b"", bytes([byte, byte]), bytes([byte ^ 1]), bytes([byte ^ 0x20]), b"\n", b"\0"):
+            with Stage(table=flags[:i] + piece + flags[i + 1 :]) as stage:
+                stage.run({DONE, FOLDER})
+    for text in (
+        b"version 2\n", b"version 2\n/cur -> d\n", b"version 2\n/a *", b"version 1\n/a *\n", b"version 3\n/a *\n", b"/a *\n",
+        b"version 2\n/a *\n/a *\n", b"version 2\n/d *\n", b"version 2\n/gone *\n", b"version 2\n/cur -> d\n/cur *\n", b"version 2\n/n *\n/a *\n",
+        b"version 2\nversion 2\n/a *\n", b"version 2\n/ *\n", b"version 2\n/a  *\n", b"version 2\n/a **\n",
     ):
         with Stage(table=text) as stage:
             stage.run({FOLDER})
@@ -365,8 +399,61 @@ def generated():
             stage.run({WRITE}, [command, "7", "out"], stdout=full)
 
 
+def journals():
+    """Journals with each byte changed, cut short anywhere, too long, and in places that are none."""
+    script = 'txn { down fetch x : str store((x ++ "1")) }' * 3
+    recover = ["recover", "spec", "in", "log", "out", "script", "script"]
+    records = b"".join(b"\1" + bytes([0, 0, 0, k, 0, 0, 0, j]) for k, j in ((0, 0), (1, 0), (0, 1), (1, 1), (1, 2)))
+    good = records + b"\0"
+    images = [good[:i] + bytes([b]) + good[i + 1 :] for i in range(len(good)) for b in (0, 1, 2, 3, 128, 255) if b != good[i]]
+    images += [good[:i] for i in range(len(good))] + [b"", records + records, records + os.urandom(5_000), os.urandom(5_000), b"\1" * 1_000_000]
+    for image in images:
+        with Stage(script=script) as stage:
+            stage.put("log", image)
+            status, printed = stage.run({DONE, JOURNAL}, recover)
+            if (status == JOURNAL) != (printed == b"" and not os.path.lexists(stage.out)):
+                raise Wrong(f"{recover}: status {status} from {image[:90]!r}, and {printed!r} is printed")
+    for name in ("in", "gone/log", "/dev/zero", "/proc/self/mem"):
+        for command, words in (("recover", recover), ("journal", ["journal", "spec", "in", "out", "log", "none", "script"])):
+            with Stage() as stage:
+                stage.run({READ, WRITE, TAKEN, JOURNAL, MEMORY} - {WRITE if command == "recover" else READ}, [name if word == "log" else word for word in words])
+    with Stage() as stage:
+        stage.put("log", b"\0")
+        stage.run({TAKEN}, ["journal", "spec", "in", "out", "log", "none", "script"])
+    with Stage(script='txn { print("hello") }' * 2_000) as stage, open("/dev/full", "wb") as full:
+        stage.run({WRITE}, ["journal", "spec", "in", "out", "log", "none", "script"], stdout=full, keeps=False)
+
+
+def reports():
+    """Reports with each byte changed and pieces moved: `audit` says yes to none that the second program refuses."""
+    sys.path.insert(0, os.path.join(os.path.dirname(os.path.abspath(__file__)), "..", "tools", "lib"))
+    import model
+
+    scripts = ['txn { into down fetch a : str up next down store((a ++ "0")) print(a) }', 'txn { into next down fetch b : str up prev down store((b ++ "0")) print(b) }' * 2]
+    spec, files = '<x : ("x" :: file), ("y" :: file)>', {"x": b"1", "y": b"2"}
+    audit = ["audit", "spec", "in", "report", "script", "second"]
+    with Stage(files=files, description=spec, script=scripts[0]) as stage:
+        stage.put("second", scripts[1])
+        root, plan, store = model.read_description(spec.encode()), [model.read_script(text.encode()) for text in scripts], model.load(stage.path("in"))
+        _, good = stage.run({DONE}, ["trace", "spec", "in", "out", "0,1,0,1,1,0,1", "script", "second"])
+        good = good[good.index(b"forest report") :]
+        subprocess.run(["rm", "-r", stage.out], check=True)
+        chance = random.Random(1)
+        changed = [good[:i] + bytes([b]) + good[i + 1 :] for i in range(len(good)) for b in {good[i] ^ 1, good[i] ^ 0x20, 48 + chance.randrange(10), 10} - {good[i]}]
+        for _ in range(500):
+            a, b, c = sorted(chance.randrange(len(good) + 1) for _ in range(3))
+            changed.append(good[:a] + good[b:c] + good[a:b] + good[c:])
+        for report in changed + [b"", good * 2, good[:-1], os.urandom(10_000), b"forest report 18446744073709551616\n"]:
+            stage.put("report", report)
+            _, printed = stage.run({DONE}, audit)
+            if printed.decode() != model.audit(root, plan, store, report):
+                raise Wrong(f"{audit}: {printed!r} of {report!r}")
+        for other in ("gone", "in", "/dev/zero"):
+            stage.run({TEXT, READ}, [other if word == "report" else word for word in audit])
+
+
 tries = 0
-for part in (words, broken_texts, limits, tables, strange_entries, outputs, places, machine, generated):
+for part in (words, broken_texts, limits, tables, strange_entries, outputs, places, machine, generated, journals, reports):
     first = tries
     try:
         part()

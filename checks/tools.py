@@ -506,6 +506,8 @@ def explain(room):
         ("<x : dir, (x :: file)>", "t:1:12: TypeDiffers str names", "of shape names, and str is expected"), ("<dir : file, dir>", "t:1:2: Unexpected 1", "`dir` is a word of the language"),
         ('{dir | x in ("a" only x)}', "t:1:23: Unexpected 22", "takes a glob"), ('("a\n" :: file)', "t:1:2: BadToken 1", "no closing quote"), ("opt(" * 70, "t:1:257: TooNested 256", "at most 64 deep"),
         ("", "t:1:1: Unexpected 0", "expected a description"), ("(01 :: file)", "t:1:2: BadToken 1", "leading zero"), (" " * 65537, "t: TooLarge", "65,536 bytes"), ("pred((1 = 2))", "t:1:9: Unexpected 8", "equality is =="),
+        ("def f() = dir\nf(1)", "t:2:1: Unknown f", "f takes 0 arguments; here is 1"), ("g()", "t:1:1: Unknown g", "no definition of g"), ("def f() = dir def f() = dir dir", "t:1:19: Repeated f", "defined already"),
+        ("def f(n : int, n : str) = dir dir", "t:1:16: Repeated n", "another name"), ('def f(n : int) = dir f("a")', "t:1:24: TypeDiffers int str", "int is expected"), ("<def : dir, dir>", "t:1:2: Unexpected 1", "`def` is a word of the language"),
     ]
     for text, head, hint in texts:
         write(f"{room}/t", text)
@@ -535,6 +537,10 @@ def explain(room):
         tool("explain", "description", "f", status=1, say=say, room=room)
     write(f"{room}/p", '<r : ("api/replicas" :: file), pred((int(r) < 2))>')
     tool("explain", "p", "folder", status=1, say=["p:1:32: no value at /", "2 is not below 2", 'r = "2\\n"'], room=room)
+    write(f"{room}/c", 'def all(n : names) = {(k :: pair_of()) | k in n} def pair_of() = <p : ("port" :: file), ("gone" :: file)> <s : ("services" :: file), all(lines(s))>')
+    tool("explain", "c", "folder", status=1, say=["no value at /api/gone", "/api has no entry gone"], room=room)
+    told = tool("explain", "--walk", "c", "folder", room=room)
+    same("a walk into a call", [line.split("  ")[0] for line in told.splitlines()][-3:], ['into next into to("api") down into into down', 'into next into to("api") down into into next', 'into next into to("api") down into into next down'])
     write(f"{room}/stops", "".join(f"txn {{ {body.replace('§', '')} }}\n" for body, _ in STOPS))
     told = tool("explain", "description", "folder", "stops", status=1, say=[f"0 transactions done, {len(STOPS)} not done"], room=room)
     for line, (body, say) in enumerate(STOPS, 1):

@@ -3,14 +3,14 @@
 _txforest() {
     local word=${COMP_WORDS[COMP_CWORD]} at=$COMP_CWORD
     if ((at == 1)); then
-        COMPREPLY=($(compgen -W "run trace watch journal recover audit show gen large" -- "$word"))
+        COMPREPLY=($(compgen -W "run trace watch views journal recover audit show gen large" -- "$word"))
         return
     fi
     case ${COMP_WORDS[1]}:$at in
-    run:3 | trace:3 | watch:3 | journal:3 | recover:3 | audit:3 | show:3) _txforest_paths -d ;;
-    run:4 | trace:4 | watch:4 | journal:4 | recover:5 | gen:3 | large:3) _txforest_paths -d ;;
+    run:3 | trace:3 | watch:3 | views:3 | journal:3 | recover:3 | audit:3 | show:3) _txforest_paths -d ;;
+    run:4 | trace:4 | watch:4 | views:4 | journal:4 | recover:5 | gen:3 | large:3) _txforest_paths -d ;;
     trace:5 | watch:5 | journal:6) COMPREPLY=($(compgen -W "none" -- "$word")) ;;
-    run:* | trace:* | watch:* | journal:* | recover:* | audit:* | show:2) _txforest_paths -f ;;
+    run:* | trace:* | watch:* | views:* | journal:* | recover:* | audit:* | show:2) _txforest_paths -f ;;
     esac
 }
 

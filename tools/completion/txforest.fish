@@ -1,6 +1,6 @@
 # Completion of fish for txforest and its tools.
 
-complete -c txforest -f -n 'test (count (commandline -opc)) -eq 1' -a 'run\t"run scripts on threads" trace\t"run scripts by a schedule" watch\t"run by a schedule, and tell whether the folder has a value" journal\t"run by a schedule, and keep each commit" recover\t"the folder after the commits of a journal" audit\t"check a report" show\t"print the value of a folder" gen\t"write a generated case" large\t"run a generated case"'
+complete -c txforest -f -n 'test (count (commandline -opc)) -eq 1' -a 'run\t"run scripts on threads" trace\t"run scripts by a schedule" watch\t"run by a schedule, and tell whether the folder has a value" views\t"run scripts on threads while others look on" journal\t"run by a schedule, and keep each commit" recover\t"the folder after the commits of a journal" audit\t"check a report" show\t"print the value of a folder" gen\t"write a generated case" large\t"run a generated case"'
 complete -c txforest -F -n 'test (count (commandline -opc)) -gt 1'
 
 complete -c txforest-import -l leave-out -d 'take the tree without what can not be taken'

@@ -7,6 +7,11 @@ of names) or ("link", bytes). Values are bytes, int, bool, frozenset of bytes, (
 
 import os
 import re
+import sys
+from collections import namedtuple
+
+# A value may be 64 calls deep, each of up to 62 forms.
+sys.setrecursionlimit(50_000)
 
 TEXT_LIMIT, FILE_LIMIT, NODES, LOADED, WEIGHT, TABLE_LIMIT = 65_536, 1_048_576, 100_000, 67_108_864, 33_554_432, 33_554_432
 INT = range(-(2**63), 2**63)
@@ -40,6 +45,7 @@ class Needs(Exception):
 
 NO_STEP, NO_ELEMENT, NO_PLACE, LACKS, WRONG_FORM = [(i + 1, n) for i, n in enumerate(("NoStep", "NoElement", "NoPlace", "Lacks", "WrongForm"))]
 TOO_DEEP, BAD_NAME, NO_DEFAULT, ABSENT, EXISTS = (7, "TooDeep"), (8, "BadName"), (9, "NoDefault"), (11, "Absent"), (12, "Exists")
+TOO_UNFOLDED = (13, "TooUnfolded")
 
 
 def blocked(path):
@@ -116,7 +122,10 @@ def lex(text):
     return found
 
 
-# ---- trees: tuples whose first part names the form
+# ---- trees: tuples whose first part names the form; a description has its definitions before its root
+
+Def = namedtuple("Def", "name params body")
+Description = namedtuple("Description", "defs root")
 
 BINARY = ["++", "+", "-", "==", "<", "and", "or", "in", "union", "minus"]
 UNARY = ["not", "one", "lines", "size", "int", "text", "first", "second", "keys", "present"]
@@ -124,8 +133,8 @@ MOVES = ["into", "next", "prev", "out", "down", "up", "top", "create", "remove"]
 
 
 class Parser:
-    def __init__(self, text):
-        self.tokens, self.i = lex(text), 0
+    def __init__(self, text, kept=KEPT):
+        self.tokens, self.i, self.kept = lex(text), 0, kept
 
     def peek(self):
         kind, value, _ = self.tokens[self.i]
@@ -148,7 +157,7 @@ class Parser:
 
     def is_name(self):
         kind, value, _ = self.tokens[self.i]
-        return kind == "word" and value not in KEPT
+        return kind == "word" and value not in self.kept
 
     def name(self):
         if not self.is_name():
@@ -217,8 +226,11 @@ class Parser:
         return (word,)
 
     def spec(self, level):
-        self.form(level, lambda: self.tokens[self.i][0] in ("word", "mark") and self.peek() in ("file", "dir", "link", "(", "<", "{", "opt", "pred"))
+        named = self.is_name()
+        self.form(level, lambda: named or self.tokens[self.i][0] in ("word", "mark") and self.peek() in ("file", "dir", "link", "(", "<", "{", "opt", "pred"))
         word = self.take(self.peek())
+        if named:
+            return ("call", word, self.listed(lambda: self.expr(level + 1)))
         if word in ("file", "dir", "link"):
             return (word,)
         if word == "(":
@@ -247,6 +259,38 @@ class Parser:
         inner = self.spec(level + 1) if word == "opt" else self.expr(level + 1)
         self.take(")")
         return (word, inner)
+
+    def sees(self, what):
+        return self.tokens[self.i][0] in ("word", "mark") and self.peek() == what
+
+    def listed(self, item):
+        """Items in brackets, with a comma between them; there may be none."""
+        self.take("(")
+        found = []
+        while found and self.sees(",") or not found and not self.sees(")"):
+            if found:
+                self.take(",")
+            found.append(item())
+        self.take(")")
+        return found
+
+    def param(self):
+        word = self.name()
+        self.take(":")
+        return word, self.shape(2)
+
+    def definition(self):
+        self.take("def")
+        word = self.name()
+        params = self.listed(self.param)
+        self.take("=")
+        return Def(word, params, self.spec(2))
+
+    def description(self):
+        defs = []
+        while self.sees("def"):
+            defs.append(self.definition())
+        return Description(defs, self.spec(1))
 
     def act(self, level, begins=True):
         starts = (*MOVES, "to", "store")
@@ -315,11 +359,14 @@ class Parser:
             self.unexpected()
 
 
+KEPT_OF_DESCRIPTIONS = KEPT | {"def"}
+
+
 def parse_description(text):
-    it = Parser(text)
-    spec = it.spec(1)
+    it = Parser(text, KEPT_OF_DESCRIPTIONS)
+    found = it.description()
     it.end()
-    return spec
+    return found
 
 
 def parse_script(text):
@@ -406,7 +453,8 @@ def shape_of(scope, e):
             raise differs((wanted, STR), a, e[2])
         return NAMES if op == "keys" else BOOL
     takes, gives = {"not": (BOOL, BOOL), "one": (STR, NAMES), "lines": (STR, NAMES), "int": (STR, INTEGER), "text": (INTEGER, STR)}[op]
-    need(takes, scope, e[2])
+    if a != takes:
+        raise differs(takes, a, e[2])
     return gives
 
 
@@ -415,7 +463,25 @@ def free(scope, name, at):
         raise Refused(f"Repeated {name}", at)
 
 
-def check_spec(scope, s):
+def definition_of(defs, name):
+    """The definition of a name; where several have it, the first."""
+    return next((definition for definition in defs if definition.name == name), None)
+
+
+def check_description(description):
+    defs = description.defs
+    for i, definition in enumerate(defs):
+        if definition_of(defs[:i], definition.name):
+            raise Refused(f"Repeated {definition.name}", definition)
+        scope = []
+        for place, (word, shape) in enumerate(definition.params):
+            free(scope, word, ("param", definition, place))
+            scope.append((word, shape))
+        check_spec(scope, definition.body, defs)
+    check_spec([], description.root, defs)
+
+
+def check_spec(scope, s, defs):
     kind = s[0]
     if kind in ("file", "link"):
         return STR
@@ -423,17 +489,24 @@ def check_spec(scope, s):
         return NAMES
     if kind == "focus":
         need(STR, scope, s[1])
-        return check_spec(scope, s[2])
+        return check_spec(scope, s[2], defs)
     if kind == "pair":
-        a = check_spec(scope, s[2])
+        a = check_spec(scope, s[2], defs)
         free(scope, s[1], s)
-        return ("pair", a, check_spec([*scope, (s[1], a)], s[3]))
+        return ("pair", a, check_spec([*scope, (s[1], a)], s[3], defs))
     if kind == "comp":
         need(NAMES, scope, s[3])
         free(scope, s[2], s)
-        return ("table", check_spec([*scope, (s[2], STR)], s[1]))
+        return ("table", check_spec([*scope, (s[2], STR)], s[1], defs))
     if kind == "opt":
-        return ("opt", check_spec(scope, s[1]))
+        return ("opt", check_spec(scope, s[1], defs))
+    if kind == "call":
+        called = definition_of(defs, s[1])
+        if called is None or len(called.params) != len(s[2]):
+            raise Refused(f"Unknown {s[1]}", s)
+        for (_, shape), e in zip(called.params, s[2]):
+            need(shape, scope, e)
+        return BOOL
     need(BOOL, scope, s[1])
     return BOOL
 
@@ -442,7 +515,7 @@ def spec_shape(s):
     """The shape of a description's value, which does not depend on what is bound."""
     kind = s[0]
     return {
-        "file": lambda: STR, "link": lambda: STR, "dir": lambda: NAMES, "pred": lambda: BOOL, "focus": lambda: spec_shape(s[2]),
+        "file": lambda: STR, "link": lambda: STR, "dir": lambda: NAMES, "pred": lambda: BOOL, "call": lambda: BOOL, "focus": lambda: spec_shape(s[2]),
         "pair": lambda: ("pair", spec_shape(s[2]), spec_shape(s[3])), "comp": lambda: ("table", spec_shape(s[1])),
         "opt": lambda: ("opt", spec_shape(s[1])),
     }[kind]()
@@ -495,9 +568,9 @@ def check_block(scope, commands):
 
 
 def read_description(text):
-    spec = parse_description(text)
-    check_spec([], spec)
-    return spec
+    description = parse_description(text)
+    check_description(description)
+    return description
 
 
 def read_script(text, before=0):
@@ -625,11 +698,23 @@ def resolve(get, path, follow):
     return ("at", here)
 
 
+class TooMuch(Exception):
+    """More parts are to be valued than the view allows."""
+
+
 class View:
     """What a transaction sees: what is known, with its own changes on top. It keeps the paths that it was asked for."""
 
+    most = None
+
     def __init__(self, known):
-        self.known, self.own, self.way = known, {}, {}
+        self.known, self.own, self.way, self.valued = known, {}, {}, 0
+
+    def pay(self):
+        """Counts a part whose value is asked for: with calls they can be more than anyone waits for."""
+        self.valued += 1
+        if self.most is not None and self.valued > self.most:
+            raise TooMuch
 
     def get(self, path):
         base = self.known(path)
@@ -673,7 +758,27 @@ class NoValue(Exception):
     pass
 
 
-def value(view, path, env, s):
+# A call with this many calls around it has no value, and no zipper goes into it.
+UNFOLDED = 64
+
+
+class Calls(namedtuple("Calls", "defs level")):
+    """The definitions that a part may call, and how many calls are around it."""
+
+    def called(self, env, s):
+        """The bindings and the part to which a call leads, and the calls there; a Fault where an argument has one."""
+        definition = definition_of(self.defs, s[1])
+        inner = [(word, evaluate(env, e)) for (word, _), e in zip(definition.params, s[2])]
+        return inner, definition.body, Calls(self.defs, self.level + 1)
+
+
+def top_value(view, description):
+    """The value of a whole description."""
+    return value(view, (), [], description.root, Calls(description.defs, 0))
+
+
+def value(view, path, env, s, calls):
+    view.pay()
     kind = s[0]
     if kind in KINDS:
         found = found_at(view, path, kind)
@@ -689,30 +794,41 @@ def value(view, path, env, s):
             if not evaluate(env, s[1]):
                 raise NoValue
             return True
+        elif kind == "call":
+            if calls.level == UNFOLDED:
+                raise NoValue
+            inner = calls.called(env, s)
     except (Fault, Stop):
         raise NoValue from None
     if kind == "focus":
-        return value(view, below, env, s[2])
+        return value(view, below, env, s[2], calls)
     if kind == "pair":
-        a = value(view, path, env, s[2])
-        return ("pair", a, value(view, path, [*env, (s[1], a)], s[3]))
+        a = value(view, path, env, s[2], calls)
+        return ("pair", a, value(view, path, [*env, (s[1], a)], s[3], calls))
     if kind == "comp":
-        return {t: value(view, path, [*env, (s[2], t)], s[1]) for t in texts}
+        return {t: value(view, path, [*env, (s[2], t)], s[1], calls) for t in texts}
+    if kind == "call":
+        value(view, path, *inner)
+        return True
     if not exists(view, path):
         return None
-    return ("some", value(view, path, env, s[1]))
+    return ("some", value(view, path, env, s[1], calls))
 
 
-def place(view, root, address):
-    """Path, environment and description of an address; the refusal NoPlace where it has none."""
-    path, env, s = (), [], root
+def place(view, description, address):
+    """Path, environment, part and calls of an address; the refusal NoPlace where it has none."""
+    path, env, s, calls = (), [], description.root, Calls(description.defs, 0)
     for step in address:
         try:
             if step == "first":
                 s = s[2]
             elif step == "second":
-                a = value(view, path, env, s[2])
+                a = value(view, path, env, s[2], calls)
                 env, s = [*env, (s[1], a)], s[3]
+            elif step == "body":
+                if calls.level == UNFOLDED:
+                    raise NoValue
+                env, s, calls = calls.called(env, s)
             elif step == "inside":
                 if not exists(view, path):
                     raise NoValue
@@ -725,7 +841,7 @@ def place(view, root, address):
                 env, s = [*env, (s[2], step[1])], s[1]
         except (NoValue, Fault, Stop):
             raise Stop(*NO_PLACE) from None
-    return path, env, s
+    return path, env, s, calls
 
 
 def guarded(env, e):
@@ -742,7 +858,7 @@ def move(view, root, address, act, variables):
     if word == "top":
         return ()
     if word == "out":
-        if last in ("first", "second", "inside") or element:
+        if last in ("first", "second", "inside", "body") or element:
             return address[:-1]
         raise Stop(*NO_STEP)
     if word == "up":
@@ -750,7 +866,7 @@ def move(view, root, address, act, variables):
             return address[:-1]
         raise Stop(*NO_STEP)
     text = guarded(variables, act[1]) if word == "to" else None
-    path, env, s = place(view, root, address)
+    path, env, s, calls = place(view, root, address)
     if word == "into":
         if s[0] == "pair":
             return (*address, "first")
@@ -763,6 +879,12 @@ def move(view, root, address, act, variables):
             if not exists(view, path):
                 raise Stop(*LACKS)
             return (*address, "inside")
+        if s[0] == "call":
+            for e in s[2]:
+                guarded(env, e)
+            if address.count("body") == UNFOLDED:
+                raise Stop(*TOO_UNFOLDED)
+            return (*address, "body")
         raise Stop(*NO_STEP)
     if word == "to":
         if s[0] != "comp":
@@ -780,7 +902,7 @@ def move(view, root, address, act, variables):
         return (*address, "down")
     if word == "next" and last == "first":
         try:
-            value(view, path, env, s)
+            value(view, path, env, s, calls)
         except NoValue:
             raise Stop(*LACKS) from None
         return (*address[:-1], "second")
@@ -788,7 +910,7 @@ def move(view, root, address, act, variables):
         return (*address[:-1], "first")
     if not element:
         raise Stop(*NO_STEP)
-    _, above_env, above = place(Quiet(view), root, address[:-1])
+    _, above_env, above, _ = place(Quiet(view), root, address[:-1])
     texts = sorted(guarded(above_env, above[3]))
     others = [t for t in texts if t > last[1]] if word == "next" else [t for t in reversed(texts) if t < last[1]]
     if not others:
@@ -802,16 +924,19 @@ class Quiet:
     def __init__(self, view):
         self.view = view
 
+    def pay(self):
+        self.view.pay()
+
     def get(self, path):
         return self.view.own[path] if path in self.view.own else self.view.known(path)
 
 
 def fetch(view, root, address, shape):
-    path, env, s = place(view, root, address)
+    path, env, s, _ = place(view, root, address)
     kind = s[0]
     shapes = {"file": STR, "link": STR, "focus": STR, "dir": NAMES, "comp": NAMES, "opt": BOOL, "pred": BOOL}
     of_flag = kind == "file" and shape == BOOL
-    if kind == "pair" or shapes[kind] != shape and not of_flag:
+    if kind in ("pair", "call") or shapes[kind] != shape and not of_flag:
         raise Stop(*WRONG_FORM)
     if kind in KINDS:
         found = found_at(view, path, kind)
@@ -855,7 +980,7 @@ def made(view, directory, names, node):
 def edit(view, root, address, act, variables):
     word = act[0]
     stored = guarded(variables, act[1]) if word == "store" else None
-    path, env, s = place(view, root, address)
+    path, env, s, _ = place(view, root, address)
     if word == "store":
         kind = s[0]
         if kind not in KINDS or type(stored) not in {"file": (bytes, bool), "link": (bytes,), "dir": (frozenset,)}[kind]:
@@ -979,11 +1104,11 @@ class Transaction:
         elif kind == "fetch":
             self.bind(c[1], fetch(self.view, self.root, self.address, c[2]))
         elif kind in ("value", "validate"):
-            path, env, s = place(self.view, self.root, self.address)
+            path, env, s, calls = place(self.view, self.root, self.address)
             if kind == "value" and spec_shape(s) != c[2]:
                 raise Stop(*WRONG_FORM)
             try:
-                found = value(self.view, path, env, s)
+                found = value(self.view, path, env, s, calls)
             except NoValue:
                 if kind == "value":
                     raise Stop(*LACKS) from None
@@ -1039,6 +1164,41 @@ def whole_run(root, txns, store):
         answers.append((outputs, end))
         store = over(store, changes)
     return answers, store
+
+
+# ---- a journal, and what is recovered from it
+
+RECORDS_LIMIT = 100_000
+
+
+class BadJournal(Exception):
+    """A record that is cut short, one too many, or one that no run has there."""
+
+
+def journal_of(order):
+    """The bytes of the journal of a run with this order of turns: a record each, then a closed gate."""
+    return b"".join(b"\1" + shell.to_bytes(4, "big") + txn.to_bytes(4, "big") for shell, txn in order) + b"\0"
+
+
+def order_of(image):
+    """The turns that the bytes of a journal spell, up to the first gate that is not 1."""
+    order = []
+    while image[9 * len(order) : 9 * len(order) + 1] == b"\1":
+        record = image[9 * len(order) + 1 : 9 * len(order) + 9]
+        if len(record) < 8 or len(order) == RECORDS_LIMIT:
+            raise BadJournal(len(order))
+        order.append((int.from_bytes(record[:4], "big"), int.from_bytes(record[4:], "big")))
+    return order
+
+
+def recover(root, plan, store, image):
+    """How many commits a journal tells, and the filestore after them."""
+    order, done = order_of(image), [0] * len(plan)
+    for i, (shell, txn) in enumerate(order):
+        if shell >= len(plan) or txn != done[shell] or txn >= len(plan[shell]):
+            raise BadJournal(i)
+        done[shell] += 1
+    return len(order), whole_run(root, [plan[shell][txn] for shell, txn in order], store)[1]
 
 
 # ---- several shells on one thread
@@ -1100,7 +1260,7 @@ def trace(root, plan, store, schedule):
 def valid_line(root, store):
     """Whether the description has a value at the root of a filestore."""
     try:
-        value(View(store.get), (), [], root)
+        top_value(View(store.get), root)
     except NoValue:
         return "valid no"
     return "valid yes"
@@ -1231,7 +1391,7 @@ def told_path(text):
 
 
 def is_told_end(text):
-    names = [NO_STEP, NO_ELEMENT, NO_PLACE, LACKS, WRONG_FORM, TOO_DEEP, BAD_NAME, NO_DEFAULT, ABSENT, EXISTS]
+    names = [NO_STEP, NO_ELEMENT, NO_PLACE, LACKS, WRONG_FORM, TOO_DEEP, BAD_NAME, NO_DEFAULT, ABSENT, EXISTS, TOO_UNFOLDED]
     if text in (b"done", b"aborted"):
         return True
     found = re.fullmatch(rb"stopped (0|[1-9][0-9]*) ([0-9]+ .*)", text, re.S)

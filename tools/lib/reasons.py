@@ -39,11 +39,12 @@ def landed(view, path, follow):
 
 
 class Why(Exception):
-    """The first part without a value: its path, its names, the part of the description, and the reason."""
+    """The first part without a value: its path, its names, the part of the description, and the reason; of a place also
+    the calls around it."""
 
-    def __init__(self, path, env, part, reason):
+    def __init__(self, path, env, part, reason, calls=None):
         super().__init__(reason)
-        self.path, self.env, self.part, self.reason = path, env, part, reason
+        self.path, self.env, self.part, self.reason, self.calls = path, env, part, reason, calls
 
 
 def faulty(env, e):
@@ -82,8 +83,18 @@ def untrue(env, e):
     return "it is false"
 
 
-def valued(view, path, env, s):
-    """The value of a description; raises Why where there is none."""
+def into_call(path, env, s, calls):
+    """What a call leads to; raises Why where it leads nowhere."""
+    fault = next((found for e in s[2] if (found := faulty(env, e))), None)
+    if fault:
+        raise Why(path, env, *fault)
+    if calls.level == model.UNFOLDED:
+        raise Why(path, env, s, f"the call is inside {model.UNFOLDED} others, and is not unfolded any more")
+    return calls.called(env, s)
+
+
+def valued(view, path, env, s, calls):
+    """The value of a part; raises Why where there is none."""
     kind = s[0]
     if kind in model.KINDS:
         found = model.found_at(view, path, kind)
@@ -95,19 +106,22 @@ def valued(view, path, env, s):
     if fault:
         raise Why(path, env, fault[0], fault[1])
     if kind == "focus":
-        return valued(view, focused(path, env, s), env, s[2])
+        return valued(view, focused(path, env, s), env, s[2], calls)
     if kind == "pair":
-        a = valued(view, path, env, s[2])
-        return ("pair", a, valued(view, path, [*env, (s[1], a)], s[3]))
+        a = valued(view, path, env, s[2], calls)
+        return ("pair", a, valued(view, path, [*env, (s[1], a)], s[3], calls))
     if kind == "comp":
-        return {t: valued(view, path, [*env, (s[2], t)], s[1]) for t in sorted(model.evaluate(env, e))}
+        return {t: valued(view, path, [*env, (s[2], t)], s[1], calls) for t in sorted(model.evaluate(env, e))}
+    if kind == "call":
+        valued(view, path, *into_call(path, env, s, calls))
+        return True
     if kind == "pred":
         if not model.evaluate(env, e):
             raise Why(path, env, s, f"the predicate is not true: {untrue(env, e)}")
         return True
     if not model.exists(view, path):
         return None
-    return ("some", valued(view, path, env, s[1]))
+    return ("some", valued(view, path, env, s[1], calls))
 
 
 def focused(path, env, s):
@@ -121,21 +135,26 @@ def focused(path, env, s):
         raise Why(path, env, s, f"{worth(text)} is no path below: names with one / between them, without . and ..") from None
 
 
-def lost(view, root, address):
+def lost(view, description, address):
     """Where an address leaves the tree, and why: the first step that leads nowhere."""
-    path, env, s = (), [], root
+    path, env, s, calls = (), [], description.root, model.Calls(description.defs, 0)
     for step in address:
         if step == "first":
             s = s[2]
         elif step == "second":
             try:
-                env, s = [*env, (s[1], valued(view, path, env, s[2]))], s[3]
+                env, s = [*env, (s[1], valued(view, path, env, s[2], calls))], s[3]
             except Why as why:
                 return Why(why.path, why.env, why.part, f"the second part of a pair needs the value of the first: {why.reason}")
         elif step == "inside":
             if not model.exists(view, path):
                 return Why(path, env, s, f"the option's entry is not there: {landed(view, path, False)}")
             s = s[1]
+        elif step == "body":
+            try:
+                env, s, calls = into_call(path, env, s, calls)
+            except Why as why:
+                return why
         elif step == "down":
             fault = faulty(env, s[1])
             if fault:
@@ -152,15 +171,15 @@ def lost(view, root, address):
             if step[1] not in texts:
                 return Why(path, env, s, f"the set has no {worth(step[1])}: {worth(texts)}")
             env, s = [*env, (s[2], step[1])], s[1]
-    return Why(path, env, s, "")
+    return Why(path, env, s, "", calls)
 
 
 FETCHED = {"file": "str or bool", "link": "str", "focus": "str", "dir": "names", "comp": "names", "opt": "bool", "pred": "bool"}
-WORDS = {"first": "to the first part of a pair", "second": "to the second part of a pair", "inside": "into an option", "down": "down a focus", None: "none: it stands at the root"}
+WORDS = {"first": "to the first part of a pair", "second": "to the second part of a pair", "inside": "into an option", "body": "into a call", "down": "down a focus", None: "none: it stands at the root"}
 
 
 def form(s):
-    return {"focus": "a focus", "pair": "a pair", "comp": "a comprehension", "opt": "an option", "pred": "a predicate"}.get(s[0], f"`{s[0]}`")
+    return {"focus": "a focus", "pair": "a pair", "comp": "a comprehension", "opt": "an option", "pred": "a predicate", "call": "a call"}.get(s[0], f"`{s[0]}`")
 
 
 def met(it, command, stop):
@@ -181,9 +200,9 @@ def met(it, command, stop):
     more = []
     if stop.name == "NoStep":
         more = {
-            "into": [f"`into` leads into a pair, a comprehension or an option; here is {form(s)}"], "to": [f"`to` leads to an element of a comprehension; here is {form(s)}"],
+            "into": [f"`into` leads into a pair, a comprehension, an option or a call; here is {form(s)}"], "to": [f"`to` leads to an element of a comprehension; here is {form(s)}"],
             "down": [f"`down` leads down a focus; here is {form(s)}"], "up": [f"`up` takes back a `down`; the last step is {step}"],
-            "out": [f"`out` takes back a step to a part, to an element or into an option; the last step is {step}"],
+            "out": [f"`out` takes back a step to a part, to an element, into an option or into a call; the last step is {step}"],
         }.get(act[0], [f"`{act[0]}` goes on from a part of a pair or an element; the last step is {step}"])
     elif stop.name == "NoElement":
         comp = lost(view, it.root, address[:-1]) if act[0] in ("next", "prev") else here
@@ -194,7 +213,7 @@ def met(it, command, stop):
         more = [landed(view, path, model.KINDS.get(s[0], ("", False))[1])]
     elif stop.name == "Lacks":
         try:
-            valued(view, path, env, s)
+            valued(view, path, env, s, here.calls)
         except Why as why:
             more = [f"at {below(why.path)}: {why.reason}", f"names: {bindings(why.env)}"]
     elif stop.name == "WrongForm":
@@ -214,8 +233,11 @@ def met(it, command, stop):
         more = ["a path has at most 64 names, and a link's text as many components"]
     elif stop.name == "NoDefault":
         more = [f"`create` makes a file or a directory; here is {form(s)}"]
+    elif stop.name == "TooUnfolded":
+        more = [f"the address has gone into {model.UNFOLDED} calls, and goes into no more"]
     elif stop.name == "Expr":
         of = s if act[0] in ("down", "into", "to", "fetch") else None
-        found = faulty(env, s[3] if s[0] == "comp" else s[1]) if of else None
+        asked = s[2] if s[0] == "call" else [s[3] if s[0] == "comp" else s[1]]
+        found = next((found for e in asked if (found := faulty(env, e))), None) if of else None
         more = [found[1], f"names: {bindings(env)}"] if found else []
     return [at, *more]

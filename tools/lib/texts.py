@@ -7,15 +7,15 @@ from common import many
 class Placed(model.Parser):
     """A parser that keeps where each part of the tree stands: the bytes from its first to behind its last token."""
 
-    def __init__(self, text):
-        super().__init__(text)
-        self.spans, self.kept = {}, []
+    def __init__(self, text, kept):
+        super().__init__(text, kept)
+        self.spans, self.trees = {}, []
 
     def placed(self, read, *given):
         start = self.tokens[self.i][2]
         tree = read(*given)
         self.spans[id(tree)] = (start, self.tokens[self.i - 1][2])
-        self.kept.append(tree)
+        self.trees.append(tree)
         return tree
 
     def expr(self, level):
@@ -27,6 +27,9 @@ class Placed(model.Parser):
     def command(self, level):
         return self.placed(super().command, level)
 
+    def definition(self):
+        return self.placed(super().definition)
+
 
 class Text:
     """A text with its tree, `spec` or `txns`, and the places of its parts; or its mistake."""
@@ -34,12 +37,13 @@ class Text:
     def __init__(self, file, bytes_, is_script, before=0):
         self.file, self.bytes, self.is_script, self.spans = file, bytes_, is_script, {}
         self.mistake = self.tree = None
+        self.kept = model.KEPT if is_script else model.KEPT_OF_DESCRIPTIONS
         try:
-            it = Placed(bytes_)
-            self.spans, self.kept = it.spans, it.kept
+            it = Placed(bytes_, self.kept)
+            self.spans, self.trees = it.spans, it.trees
             self.tree = script(it) if is_script else description(it)
             if not is_script:
-                model.check_spec([], self.tree)
+                model.check_description(self.tree)
             elif before + len(self.tree) > 100_000:
                 raise model.Refused("TooMany")
             else:
@@ -84,14 +88,21 @@ class Text:
     def place_of(self, cause, more):
         """Where a mistake of names or shapes stands: at the part that is meant, or at the name that it binds."""
         at = self.mistake.at
+        if isinstance(at, model.Def) or at[0] == "param":
+            return self.head_of(at if isinstance(at, model.Def) else at[1])[0 if isinstance(at, model.Def) else at[2] + 1]
         byte = self.where(at)
-        if cause == "TypeDiffers" or at[0] == "var":
+        if cause == "TypeDiffers" or at[0] in ("var", "call"):
             return byte
         names = [place for kind, value, place in model.lex(self.bytes) if place >= byte and kind == "word" and value == more[0]]
         if at[0] == "comp":
             inside = self.spans[id(at[1])][1]
             names = [place for place in names if place > inside]
         return names[0] if names else byte
+
+    def head_of(self, definition):
+        """The places of a definition's name and of its parameters."""
+        byte = self.where(definition)
+        return [place for kind, value, place in model.lex(self.bytes) if place >= byte and kind == "word" and value not in self.kept]
 
     def hints(self, cause, byte, more):
         if cause == "Unexpected":
@@ -100,6 +111,11 @@ class Text:
             yield bad_token(self.bytes[byte:])
         elif cause == "TooNested":
             yield "the form that begins here is the 65th in one another; forms nest at most 64 deep"
+        elif cause == "Unknown" and self.mistake.at[0] == "call":
+            found = model.definition_of(self.tree.defs, more[0])
+            yield f"{more[0]} takes {many(len(found.params), 'argument')}; here {'is' if len(self.mistake.at[2]) == 1 else 'are'} {len(self.mistake.at[2])}" if found else f"the text has no definition of {more[0]}"
+        elif cause == "Repeated" and isinstance(self.mistake.at, model.Def):
+            yield f"{more[0]} is defined already; another name is needed"
         elif cause == "Unknown":
             yield f"no name {more[0]} is bound here" + ("; scripts do not see the names of the description" if self.is_script else "")
         elif cause == "Repeated":
@@ -114,10 +130,10 @@ class Text:
         i = next(i for i, token in enumerate(tokens) if token[2] == byte)
         # Of a script the transactions before the last one are whole, and say nothing of it.
         begin = max((k for k in range(i) if tokens[k][:2] == ("word", "txn")), default=0)
-        could = {token[1] if token[0] in ("word", "mark") else token[0] for token in CANDIDATES if self.begins(tokens[begin:i], token, byte)}
+        could = {token[1] if token[0] in ("word", "mark") else token[0] for token in [*CANDIDATES, *([] if self.is_script else [("word", "def")])] if self.begins(tokens[begin:i], token, byte)}
         found = tokens[i][1] if tokens[i][0] in ("word", "mark") else None
         yield "expected " + listed(grouped(could))
-        if "a_name" in could and found in model.KEPT:
+        if "a_name" in could and found in self.kept:
             yield f"`{found}` is a word of the language, so it names nothing"
         if found in (*model.BINARY, "only") and not could & {"::", "a_name", found}:
             yield "each operation has brackets of its own: ((a ++ b) ++ c), if ((a == b)) { .. }"
@@ -132,7 +148,7 @@ class Text:
 
     def begins(self, front, token, byte):
         """Whether some tree begins with these tokens and this one."""
-        it = model.Parser(b"")
+        it = model.Parser(b"", self.kept)
         it.tokens = [*front, (*token, byte), ("end", None, byte + 1)] if token[0] != "end" else [*front, ("end", None, byte)]
         try:
             script(it) if self.is_script else description(it)
@@ -142,9 +158,9 @@ class Text:
 
 
 def description(it):
-    tree = it.spec(1)
+    found = it.description()
     it.end()
-    return tree
+    return found
 
 
 def script(it):
@@ -158,7 +174,7 @@ def script(it):
 
 CANDIDATES = [*(("word", w) for w in sorted(model.KEPT)), *(("mark", m) for m in model.MARKS), ("word", "a_name"), ("number", 0), ("string", b""), ("end", None)]
 EXPRESSION = {"string", "number", "a_name", "true", "false", "empty", "(", "if", *model.UNARY}
-DESCRIPTION = {"file", "dir", "link", "(", "<", "{", "opt", "pred"}
+DESCRIPTION = {"file", "dir", "link", "(", "<", "{", "opt", "pred", "a_name"}
 COMMAND = set(model.Parser.COMMANDS)
 GROUPS = [
     (EXPRESSION, "an expression"), (DESCRIPTION, "a description"), (COMMAND, "a command"), ({"str", "int", "bool", "names", "pair", "opt", "table"}, "a shape"),

@@ -1,5 +1,5 @@
 -- The verdict is yes exactly on the reports of complete orders with good retries.
-use Rattle.std.proofs.Common.{◌≡◌, ℕ, suc, ◌<◌, Bool, true, false, not, List, [], ◌∷◌, length, map, Result, Ok, Err, IfOk, refl, sym, ap, subst, ◌∙◌}
+use Rattle.std.proofs.Common.{◌≡◌, ℕ, suc, ◌+◌, ◌<◌, Bool, true, false, not, List, [], ◌∷◌, length, map, Result, Ok, Err, IfOk, refl, sym, ap, subst, ◌∙◌}
 use Rattle.std.specs.Prelude.{◌↔◌, nat_lt}
 use Rattle.std.specs.List.{All, list_any}
 use Rattle.std.specs.Str.{is_utf8}
@@ -27,7 +27,7 @@ use Rattle.fx_audit.specs.declared.verdict.Verdict.TheVariants as verdict
 use Rattle.fx_audit.specs.Audits.{IsReadAs, IsTrueReport, IsVerdictOn}
 use Rattle.fx_audit.specs.Verdicts.{order_told, AllAnswered, IsVerdict}
 use Rattle.fx_audit.proofs.Answering.{answers_are, entries_answered, order_of_entries}
-use Rattle.fx_audit.proofs.Fronts.{legal_take}
+use Rattle.fx_replay_log.proofs.Legal.{legal_take}
 use Rattle.fx_audit.proofs.Trying.{ok_take}
 
 -- ---- what is in a report's form is what a report tells without doubt
@@ -76,6 +76,7 @@ refusal_held refusal.NoDefault p = tt
 refusal_held (refusal.Expr fault) p = tt
 refusal_held refusal.Absent p = tt
 refusal_held refusal.Exists p = tt
+refusal_held refusal.TooUnfolded p = tt
 
 end_held : (e : End) → IsFormEnd e → IsHeldEnd e
 end_held end.Done p = tt
@@ -137,7 +138,7 @@ only_yes : (base : BaseTree) (bytes : List ℕ) (v : Verdict) → IsVerdictOn ba
 only_yes base bytes verdict.Yes said is = refl
 only_yes base bytes (verdict.BadLine n) said is = absurd (said.none (entries_of base is.order) is.retries is.report)
 only_yes base bytes (verdict.Order i) said is =
-    let t = told base bytes said.entries said.retries said.report is in absurd (said.said.here (legal_take base (order_told said.entries) (suc i) t.complete.legal))
+    let t = told base bytes said.entries said.retries said.report is in absurd (said.said.here (legal_take base (order_told said.entries) (i + 1) t.complete.legal))
 only_yes base bytes (verdict.Answer i) said is =
     let t = told base bytes said.entries said.retries said.report is in absurd (said.said.1.here (t.answered i))
 only_yes base bytes (verdict.Missing shell txn) said is =

@@ -10,7 +10,8 @@ use Rattle.fx_spec.proofs.Orders.{legal_none, legal-next}
 use Rattle.fx_machine.specs.Machine.{next_number}
 use Rattle.fx_machine.proofs.Complete.{next_after}
 use Rattle.fx_machine.proofs.Reached.{shell_within}
-use Rattle.fx_audit.specs.Places.{AddsNext, ArePlaces, AreShellPlaces, IsNextIn, places_of}
+use Rattle.fx_replay_log.specs.Legal.{IsNextIn}
+use Rattle.fx_audit.specs.Places.{AddsNext, ArePlaces, AreShellPlaces, places_of}
 use Rattle.fx_audit.specs.Verdicts.{IsFirstMissing}
 use Rattle.fx_audit.proofs.Lists.{at_middle, from_place, get_before, get_front, last_is, none_there, place_of}
 

@@ -1,8 +1,9 @@
 -- The table of places: for each shell, the entries of an order that are its transactions.
-use Rattle.std.specs.Prelude.{◌≡◌, ℕ, ◌<◌, Bool, true, false, List, [], ◌∷◌, ◌++◌, length, slice_get, slice_index_or, Some}
-use Rattle.fx_spec.specs.Plans.{Turn, count_of}
+use Rattle.std.specs.Prelude.{◌≡◌, ℕ, Bool, true, false, List, [], ◌∷◌, ◌++◌, length, slice_get, slice_index_or, Some}
+use Rattle.fx_spec.specs.Plans.{Turn}
 use Rattle.fx_spec.specs.Order.{BaseTree, IsLegal}
 use Rattle.fx_machine.specs.Machine.{next_number}
+use Rattle.fx_replay_log.specs.Legal.{IsNextIn}
 
 abbrev pub places_of : List (List ℕ) → ℕ → List ℕ
 places_of table shell = slice_index_or table shell []
@@ -17,11 +18,6 @@ pub record ArePlaces (base : BaseTree) (o : List Turn) (table : List (List ℕ))
   pub shells : length table ≡ length base.plan
   pub legal : IsLegal base o
   pub each : (shell : ℕ) → AreShellPlaces o shell (places_of table shell)
-
--- the transaction is its shell's next one, and stands in the script
-pub record IsNextIn (base : BaseTree) (o : List Turn) (turn : Turn) : Type 0 where
-  pub next : turn.1 ≡ next_number o turn.0
-  pub planned : turn.1 < count_of base.plan turn.0
 
 -- with the transaction the table has one place more, where it is such a one; otherwise it is none
 abbrev pub AddsNext : BaseTree → List Turn → Turn → List (List ℕ) → Bool → Type 0

@@ -4,6 +4,7 @@ use Rattle.fx_spec.specs.Plans.{Turn, count_of}
 use Rattle.fx_spec.specs.Order.{BaseTree, IsLegal, IsComplete, RetriesOk}
 use Rattle.fx_machine.specs.declared.retry.Retry.{Retry}
 use Rattle.fx_machine.specs.Tried.{retry_tree}
+use Rattle.fx_replay_log.specs.Legal.{IsFirstIllegal}
 use Rattle.fx_report.specs.declared.printed.PrintedEntry.{PrintedEntry}
 use Rattle.fx_report.specs.Entries.{entry}
 use Rattle.fx_audit.specs.declared.verdict.Verdict.{Verdict}
@@ -23,11 +24,6 @@ IsAnswered base entries i =
 
 abbrev pub AllAnswered : BaseTree → List PrintedEntry → Type 0
 AllAnswered base entries = (i : ℕ) → IsAnswered base entries i
-
--- with entry `i`, and with none before it, the order is not legal
-pub record IsFirstUnordered (base : BaseTree) (o : List Turn) (i : ℕ) : Type 0 where
-  pub before : (k : ℕ) → k < i → IsLegal base (take (suc k) o)
-  pub here : IsLegal base (take (suc i) o) → ⊥
 
 -- entry `i` is the first that tells another answer than its transaction gives
 pub record IsFirstUnanswered (base : BaseTree) (entries : List PrintedEntry) (i : ℕ) : Type 0 where
@@ -50,7 +46,7 @@ pub record IsFirstUntrue (base : BaseTree) (o : List Turn) (retries : List Retry
 abbrev pub IsVerdict : BaseTree → List PrintedEntry → List Retry → Verdict → Type 0
 IsVerdict base entries retries verdict.Yes = IsComplete base (order_told entries) × AllAnswered base entries × RetriesOk base (order_told entries) (map retry_tree retries)
 IsVerdict base entries retries (verdict.BadLine n) = ⊥
-IsVerdict base entries retries (verdict.Order i) = IsFirstUnordered base (order_told entries) i
+IsVerdict base entries retries (verdict.Order i) = IsFirstIllegal base (order_told entries) i
 IsVerdict base entries retries (verdict.Answer i) = IsLegal base (order_told entries) × IsFirstUnanswered base entries i
 IsVerdict base entries retries (verdict.Missing shell txn) = IsLegal base (order_told entries) × AllAnswered base entries × IsFirstMissing base (order_told entries) shell txn
 IsVerdict base entries retries (verdict.Retry m) = IsComplete base (order_told entries) × AllAnswered base entries × IsFirstUntrue base (order_told entries) retries m

@@ -1,6 +1,7 @@
 //! The verdict on a report.
 ghost use Rattle.std.specs.Prelude.{◌≡◌, ◌↔◌, IfOk, List};
 ghost use Rattle.fx_spec.specs.Bases.{base_tree};
+ghost use Rattle.fx_board.specs.Board.{started};
 ghost use Rattle.fx_report.specs.declared.printed.PrintedEntry.{PrintedEntry};
 ghost use Rattle.fx_audit.specs.declared.verdict.Verdict.TheVariants as verdict;
 ghost use Rattle.fx_audit.specs.Audits.{IsVerdictOn, IsTrueReport};
@@ -8,7 +9,7 @@ ghost use Rattle.fx_audit.specs.Places.{ArePlaces};
 ghost use Rattle.fx_audit.specs.Verdicts.{order_told, AllAnswered, IsVerdict};
 
 use crate::answers::first_unanswered;
-use crate::order::{first_missing, first_unordered};
+use crate::order::{first_illegal, first_missing};
 use crate::places::{Places, no_places};
 use crate::retries::first_untrue;
 use crate::verdict::Verdict;
@@ -50,14 +51,30 @@ fn verdict_on(
     ensures { IfOk result (IsVerdict (base_tree base.now.value) entries.now retries.now) }
 {
     let mut table = no_places(alloc, base.plan.len())?;
-    if let Some(i) = first_unordered(base, entries, &mut table)? {
+    if let Some(i) = first_illegal(base, entries, &mut table)? {
         return Ok(Verdict::Order(i));
     }
     let mut board = Board::new(alloc, Arc::try_clone(base)?)?;
-    if let Some(i) = first_unanswered(alloc, base, &mut board, entries)? {
-        return Ok(Verdict::Answer(i));
+    verdict_over(alloc, base, &mut board, &table, entries, retries)
+}
+
+/// The verdict on entries in a legal order, over a log that has none yet.
+fn verdict_over(
+    alloc: Global,
+    base: &Arc<Base>,
+    board: &mut Board,
+    table: &[Places],
+    entries: &PrintedEntries,
+    retries: &Retries,
+) -> Result<Verdict, NoMemory>
+    requires begun { board.old ≡ started (base_tree base.now.value) }
+    requires places { ArePlaces (base_tree base.now.value) (order_told entries.now) table.now }
+    ensures { IfOk result (IsVerdict (base_tree base.now.value) entries.now retries.now) }
+{
+    match first_unanswered(alloc, base, board, entries)? {
+        Some(i) => Ok(Verdict::Answer(i)),
+        None => Ok(verdict_behind(board, table, retries)),
     }
-    Ok(verdict_behind(&board, &table, retries))
 }
 
 /// The verdict on bytes as a report of a run of this base: the first of their faults. They have none exactly where they are

@@ -3,8 +3,9 @@ ghost use Rattle.std.specs.Prelude.{◌≡◌, [], List, IfOk, MatchOption, leng
 ghost use Rattle.fx_spec.specs.Bases.{base_tree};
 ghost use Rattle.fx_spec.specs.Order.{IsComplete};
 ghost use Rattle.fx_spec.specs.Plans.{Turn};
+ghost use Rattle.fx_replay_log.specs.Legal.{IsFirstIllegal};
 ghost use Rattle.fx_audit.specs.Places.{AddsNext, ArePlaces};
-ghost use Rattle.fx_audit.specs.Verdicts.{turn_told, order_told, IsFirstUnordered, IsFirstMissing};
+ghost use Rattle.fx_audit.specs.Verdicts.{turn_told, order_told, IsFirstMissing};
 
 use crate::places::{Places, add, count};
 use fx_base::NoMemory;
@@ -35,7 +36,7 @@ fn add_next(
 }
 
 /// The first entry with which the order is not legal; where there is none, the table has the places of all entries.
-pub(crate) fn first_unordered(
+pub(crate) fn first_illegal(
     base: &Base,
     entries: &PrintedEntries,
     table: &mut [Places],
@@ -43,7 +44,7 @@ pub(crate) fn first_unordered(
     requires { ArePlaces (base_tree base.now) [] table.old }
     ensures { IfOk result (λ found. MatchOption found
         (ArePlaces (base_tree base.now) (order_told entries.now) table.new)
-        (IsFirstUnordered (base_tree base.now) (order_told entries.now))) }
+        (IsFirstIllegal (base_tree base.now) (order_told entries.now))) }
 {
     for (i, told) in entries.as_slice().iter().enumerate() {
         if !add_next(base, table, i as u64, told)? {

@@ -82,7 +82,7 @@ pub record IsTooLarge (t : Tree) (j : AuditJob) (word : ℕ) (cause : TextFault)
 abbrev pub IsFirstRefusedOf : Tree → AuditJob → ℕ → TextFault → Type 0
 IsFirstRefusedOf t j word cause = IsFirstRefused t j.inputs word cause ⊎ IsTooLarge t j word cause
 
--- the table for `audit`: it asks nothing but reads of the host, however it ends, and ends alike for every verdict
+-- the table for `audit`: however it ends, the tree that the host tells is as it was; and it ends alike for every verdict
 abbrev pub AuditRow : AuditJob → HostView → HostView → SinkView → SinkView → Status → Type 0
 AuditRow j host host' sink sink' status.Done = ReadsOnly host host' × Grows sink sink' × IfSome host.told (λ t. IsAudited t j sink.written sink'.written)
 AuditRow j host host' sink sink' status.Usage = ⊥

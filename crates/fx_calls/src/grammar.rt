@@ -53,6 +53,10 @@ fn add_token(out: &mut String, token: &Token) -> Result<(), NoMemory> {
             write!(out, "{mark:?}")?;
             Ok(())
         }
+        Token::Def => {
+            out.push_str("def")?;
+            Ok(())
+        }
     }
 }
 

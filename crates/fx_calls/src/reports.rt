@@ -119,7 +119,8 @@ fn plain_refusal(name: &str) -> Refusal {
         "BadName" => Refusal::BadName,
         "NoDefault" => Refusal::NoDefault,
         "Absent" => Refusal::Absent,
-        _ => Refusal::Exists,
+        "Exists" => Refusal::Exists,
+        _ => Refusal::TooUnfolded,
     }
 }
 

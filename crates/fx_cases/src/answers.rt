@@ -5,7 +5,7 @@ use fx_base::NoMemory;
 use fx_hosts::{Call, tell_call, tell_message};
 use fx_outside::HostKind;
 use fx_stage::{Program, Stage, tell_disk, tell_tree};
-use fx_steps::{tell_attempt, tell_steps, tell_threads, tell_watch};
+use fx_steps::{tell_attempt, tell_steps, tell_threads, tell_views, tell_watch};
 use fx_telling::{Case, number, split_word, tell};
 use fx_trials::{tell_changes, tell_faults, tell_rooms, tell_schedules, tell_stops, tell_top};
 use std::alloc::Global;
@@ -36,6 +36,7 @@ enum Trial {
     Schedules,
     Stops,
     Threads,
+    Views,
     Tree,
     Disk,
     Attempt,
@@ -75,6 +76,7 @@ const VERBS: &[(&str, Verb)] = &[
     ("schedules", Verb::Try(Trial::Schedules)),
     ("stops", Verb::Try(Trial::Stops)),
     ("threads", Verb::Try(Trial::Threads)),
+    ("views", Verb::Try(Trial::Views)),
     ("tree", Verb::Try(Trial::Tree)),
     ("disk", Verb::Try(Trial::Disk)),
     ("attempt", Verb::Try(Trial::Attempt)),
@@ -156,6 +158,7 @@ fn try_out<P: Program>(
         Trial::Schedules => tell_schedules(program, alloc, stage, out),
         Trial::Stops => tell_stops(program, alloc, stage, rest, out),
         Trial::Threads => tell_threads(program, alloc, stage, rest, out),
+        Trial::Views => tell_views(program, alloc, stage, rest, out),
         Trial::Tree => tell_tree(alloc, &mut stage.host, rest, out),
         Trial::Disk => tell_disk_of(alloc, stage, out),
         Trial::Attempt => tell_attempt(program, alloc, stage, rest, out),

@@ -26,31 +26,50 @@ struct Hold {
 pub struct Door {
     first: Hold,
     second: Hold,
+    looked: AtomicU64,
 }
 
-/// A shell at a moment, as a number other than that of nowhere.
-fn place_of(shell: u32, moment: Moment) -> u64 {
-    let moment = match moment {
-        Moment::BeforeLook => 1,
-        Moment::BeforeSettle => 2,
-        Moment::Settled => 3,
+/// When a shell passes a gate.
+#[derive(Clone, Copy)]
+enum When {
+    /// Before its first look.
+    Looks,
+    /// Before a later one.
+    LooksAgain,
+    Settles,
+    Settled,
+}
+
+/// A shell at a time, as a number other than that of nowhere.
+fn place_of(shell: u32, when: When) -> u64 {
+    let when = match when {
+        When::Looks => 1,
+        When::LooksAgain => 2,
+        When::Settles => 3,
+        When::Settled => 4,
     };
-    u64::from(shell) * 4 + moment
+    u64::from(shell) * 8 + when
 }
 
-fn moment_of(name: &str) -> Moment {
+fn when_of(name: &str) -> When {
     match name {
-        "looks" => Moment::BeforeLook,
-        "settles" => Moment::BeforeSettle,
-        _ => Moment::Settled,
+        "looks" => When::Looks,
+        "looks-again" => When::LooksAgain,
+        "settles" => When::Settles,
+        _ => When::Settled,
     }
+}
+
+/// The bit of a shell.
+fn bit_of(shell: u32) -> u64 {
+    1u64.checked_shl(shell).unwrap_or(0)
 }
 
 /// The place that the first two words of a line name, and what is left.
 fn read_place(line: &str) -> (u64, &str) {
     let (shell, rest) = split_word(line);
-    let (moment, rest) = split_word(rest);
-    (place_of(number(shell), moment_of(moment)), rest)
+    let (when, rest) = split_word(rest);
+    (place_of(number(shell), when_of(when)), rest)
 }
 
 impl Hold {
@@ -107,6 +126,7 @@ impl Door {
         Door {
             first: Hold::new(),
             second: Hold::new(),
+            looked: AtomicU64::new(0),
         }
     }
 
@@ -114,9 +134,10 @@ impl Door {
     pub fn open(&self) {
         self.first.set(NOWHERE, NOWHERE);
         self.second.set(NOWHERE, NOWHERE);
+        self.looked.store(0, Ordering::SeqCst);
     }
 
-    /// Holds a shell at a moment until another has come to a moment of its own: `1 settles 0 settled`.
+    /// Holds a shell at a time until another has come to a time of its own: `1 settles 0 settled`.
     pub fn hold(&self, line: &str) {
         let (at, rest) = read_place(line);
         let (until, _) = read_place(rest);
@@ -128,6 +149,22 @@ impl Door {
         hold.set(at, until);
     }
 
+    /// When this is, of a shell that passes. Its first look is noted.
+    fn when(&self, shell: u32, moment: Moment) -> When {
+        match moment {
+            Moment::BeforeLook => {
+                let bit = bit_of(shell);
+                let before = self.looked.fetch_or(bit, Ordering::SeqCst);
+                if before & bit == 0 {
+                    return When::Looks;
+                }
+                When::LooksAgain
+            }
+            Moment::BeforeSettle => When::Settles,
+            Moment::Settled => When::Settled,
+        }
+    }
+
     /// Whether a hold had no shell that saw the other come.
     pub fn is_missed(&self) -> bool {
         self.first.is_missed() || self.second.is_missed()
@@ -136,7 +173,7 @@ impl Door {
 
 impl Gate for Door {
     fn pass<R: Wait>(&self, _rt: &R, shell: u32, _txn: u32, moment: Moment) {
-        let place = place_of(shell, moment);
+        let place = place_of(shell, self.when(shell, moment));
         self.first.note(place);
         self.second.note(place);
         self.first.hold(place);

@@ -1,25 +1,27 @@
 -- The checks against what is well shaped.
-use Rattle.std.proofs.Common.{◌≡◌, ℕ, zero, suc, ◌≤◌, take, length, slice_get, arith, append_assoc, Bool, true, false, cond, ◌&&◌, All, List, [], ◌∷◌, ◌++◌, Option, Some, None, Result, Ok, Err, IsErrAnd, refl, sym, ap, subst, ◌∙◌}
+use Rattle.std.proofs.Common.{◌≡◌, ℕ, zero, suc, ◌≤◌, take, length, slice_get, arith, append_assoc, Bool, true, false, cond, ◌&&◌, nat_eq, All, List, [], ◌∷◌, ◌++◌, Option, Some, None, Result, Ok, Err, IsErrAnd, refl, sym, ap, subst, ◌∙◌}
+use Rattle.std.proofs.lemmas.Bool.Decides.{nat_tests}
 use Rattle.std.proofs.lemmas.List.{append-nil}
 use Rattle.std.proofs.Math.Seq.{take-append_seam}
 use Rattle.std.proofs.lemmas.List.Elements.{All-nil, All-cons, All-head, All-tail}
 use Rattle.fx_expr.specs.declared.expr.BinOp.{BinOp}
 use Rattle.fx_expr.specs.declared.expr.UnOp.{UnOp}
 use Rattle.fx_expr.specs.Bindings.{bind, bound}
+use Rattle.fx_expr.specs.Closed.{IsShaped}
 use Rattle.fx_expr.specs.ExprTree.{ExprTree}
 use Rattle.fx_expr.specs.ShapeTree.{ShapeTree}
 use Rattle.fx_expr.specs.Shapes.{HasShape, BinShape, UnShape, IsComparable, IsOrdered, IsSized}
 use Rattle.fx_spec.proofs.Shaped.{same_shapes}
-use Rattle.fx_spec.specs.SpecTree.{SpecTree}
-use Rattle.fx_spec.specs.Move.{same_shape, value_shape}
+use Rattle.fx_spec.specs.Written.{WrittenTree, DefTree, definition}
+use Rattle.fx_spec.specs.Move.{same_shape}
 use Rattle.fx_spec.specs.CommandTree.{ActTree, CommandTree, Block, block, count, commands_size}
-use Rattle.fx_spec.specs.WellShaped.{Scope, IsDescription, IsAct, IsCommand, IsBlock}
+use Rattle.fx_spec.specs.WellShaped.{Scope, AreArguments, IsWritten, IsAct, IsCommand, IsBlock, written_shape}
 use Rattle.fx_check.specs.declared.fault.CheckFault.{CheckFault}
 use Rattle.fx_check.specs.declared.fault.CheckFault.TheVariants as check
 use Rattle.fx_check.specs.Gives.{Gives, IsFault}
 use Rattle.fx_check.specs.Faults.{Fault, OrFault, ◌>>=◌}
 use Rattle.fx_check.specs.Shaped.{needed, allowed, is_comparable, is_ordered, is_sized, is_pair, is_table, is_option, first_part, second_needed, result_shape, two_shape, one_shape, followed_by, first_of, second_of, keys_of, present_of, named, shaped}
-use Rattle.fx_check.specs.Checked.{unless_bound, with_name, shaped_as, checked, checked_act, assigned, checked_command, checked_block, checked_inner, checked_txns}
+use Rattle.fx_check.specs.Checked.{unless_bound, with_name, shaped_as, asked_of, checked_arguments, checked, checked_act, assigned, checked_command, checked_block, checked_inner, checked_txns}
 
 -- ---- one check after another
 
@@ -335,7 +337,7 @@ is_shaped g (ExprTree.choose c a b) s (hc, ha, hb) =
 is_shaped g (ExprTree.only a glob) s (es, ha) =
     given (shaped g a) (λ found. needed ShapeTree.names found) ShapeTree.names (is_shaped g a ShapeTree.names ha) ∙ ap (λ x. Ok x) (sym es)
 
--- ---- descriptions
+-- ---- names and expected shapes
 
 shaped_as_is : (g : Scope) (e : ExprTree) (expected s : ShapeTree) → shaped_as g expected e ≡ Ok s → HasShape g e expected × (s ≡ expected)
 shaped_as_is g e expected s h =
@@ -358,59 +360,137 @@ name_is_free g word shape inner e = by (bound g word) refl e
     by None f e = record { free = f; is = cc }
     by (Some t) f e = absurd (cc)
 
-free_is_named : (g : Scope) (word : List ℕ) (shape : ShapeTree) → bound g word ≡ None → with_name g word shape ≡ Ok (bind g word shape)
+pub free_is_named : (g : Scope) (word : List ℕ) (shape : ShapeTree) → bound g word ≡ None → with_name g word shape ≡ Ok (bind g word shape)
 free_is_named g word shape e = ap (λ o. unless_bound word o (bind g word shape)) e
 
-pub is_description : (g : Scope) (d : SpecTree) (s : ShapeTree) → checked g d ≡ Ok s → IsDescription g d × (s ≡ value_shape d)
-is_description g SpecTree.file s e = (tt, cc)
-is_description g SpecTree.dir s e = (tt, cc)
-is_description g SpecTree.link s e = (tt, cc)
-is_description g (SpecTree.focus e d) s h =
-    let x = both (shaped_as g ShapeTree.str e) (λ _. checked g d) s h in
-    let text : HasShape g e ShapeTree.str × (x.first ≡ ShapeTree.str) = shaped_as_is g e ShapeTree.str x.first x.is in
-    let part : IsDescription g d × (s ≡ value_shape d) = is_description g d s x.then in
-    ((text.0, part.0), part.1)
-is_description g (SpecTree.pair x a b) s h =
-    let p = both (checked g a) (λ first. with_name g x first >>= λ inner. checked inner b >>= λ second. Ok (ShapeTree.pair first second)) s h in
-    let q = both (with_name g x p.first) (λ inner. checked inner b >>= λ second. Ok (ShapeTree.pair p.first second)) s p.then in
-    let r = both (checked q.first b) (λ second. Ok (ShapeTree.pair p.first second)) s q.then in
-    let first : IsDescription g a × (p.first ≡ value_shape a) = is_description g a p.first p.is in
-    let name : Named g x p.first q.first = name_is_free g x p.first q.first q.is in
-    let second : IsDescription q.first b × (r.first ≡ value_shape b) = is_description q.first b r.first r.is in
-    let inner : q.first ≡ bind g x (value_shape a) = name.is ∙ ap (λ t. bind g x t) first.1 in
-    let shape : ShapeTree.pair p.first r.first ≡ s = let then = r.then in cc in
-    ((first.0, name.free, subst (λ (t : Scope). IsDescription t b) inner second.0), sym shape ∙ (λ i. ShapeTree.pair (first.1 i) (second.1 i)))
-is_description g (SpecTree.comp d x e) s h =
-    let p = both (shaped_as g ShapeTree.names e) (λ _. with_name g x ShapeTree.str >>= λ inner. checked inner d >>= λ part. Ok (ShapeTree.table part)) s h in
-    let q = both (with_name g x ShapeTree.str) (λ inner. checked inner d >>= λ part. Ok (ShapeTree.table part)) s p.then in
-    let r = both (checked q.first d) (λ part. Ok (ShapeTree.table part)) s q.then in
-    let set : HasShape g e ShapeTree.names × (p.first ≡ ShapeTree.names) = shaped_as_is g e ShapeTree.names p.first p.is in
-    let name : Named g x ShapeTree.str q.first = name_is_free g x ShapeTree.str q.first q.is in
-    let part : IsDescription q.first d × (r.first ≡ value_shape d) = is_description q.first d r.first r.is in
-    let shape : ShapeTree.table r.first ≡ s = let then = r.then in cc in
-    ((set.0, name.free, subst (λ (t : Scope). IsDescription t d) name.is part.0), sym shape ∙ ap ShapeTree.table part.1)
-is_description g (SpecTree.opt d) s h =
-    let p = both (checked g d) (λ part. Ok (ShapeTree.opt part)) s h in
-    let part : IsDescription g d × (p.first ≡ value_shape d) = is_description g d p.first p.is in
-    let shape : ShapeTree.opt p.first ≡ s = let then = p.then in cc in
-    (part.0, sym shape ∙ ap ShapeTree.opt part.1)
-is_description g (SpecTree.pred e) s h = shaped_as_is g e ShapeTree.bool s h
+-- ---- calls
 
-pub is_checked : (g : Scope) (d : SpecTree) → IsDescription g d → checked g d ≡ Ok (value_shape d)
-is_checked g SpecTree.file h = refl
-is_checked g SpecTree.dir h = refl
-is_checked g SpecTree.link h = refl
-is_checked g (SpecTree.focus e d) (he, hd) = given (shaped_as g ShapeTree.str e) (λ _. checked g d) ShapeTree.str (is_shaped_as g e ShapeTree.str he) ∙ is_checked g d hd
-is_checked g (SpecTree.pair x a b) (ha, free, hb) =
-    given (checked g a) (λ first. with_name g x first >>= λ inner. checked inner b >>= λ second. Ok (ShapeTree.pair first second)) (value_shape a) (is_checked g a ha)
-    ∙ given (with_name g x (value_shape a)) (λ inner. checked inner b >>= λ second. Ok (ShapeTree.pair (value_shape a) second)) (bind g x (value_shape a)) (free_is_named g x (value_shape a) free)
-    ∙ given (checked (bind g x (value_shape a)) b) (λ second. Ok (ShapeTree.pair (value_shape a) second)) (value_shape b) (is_checked (bind g x (value_shape a)) b hb)
-is_checked g (SpecTree.comp d x e) (he, free, hd) =
-    given (shaped_as g ShapeTree.names e) (λ _. with_name g x ShapeTree.str >>= λ inner. checked inner d >>= λ part. Ok (ShapeTree.table part)) ShapeTree.names (is_shaped_as g e ShapeTree.names he)
-    ∙ given (with_name g x ShapeTree.str) (λ inner. checked inner d >>= λ part. Ok (ShapeTree.table part)) (bind g x ShapeTree.str) (free_is_named g x ShapeTree.str free)
-    ∙ given (checked (bind g x ShapeTree.str) d) (λ part. Ok (ShapeTree.table part)) (value_shape d) (is_checked (bind g x ShapeTree.str) d hd)
-is_checked g (SpecTree.opt d) h = given (checked g d) (λ part. Ok (ShapeTree.opt part)) (value_shape d) (is_checked g d h)
-is_checked g (SpecTree.pred e) h = is_shaped_as g e ShapeTree.bool h
+-- the definition whose parameters a call's arguments are for
+pub record Asked (n : ℕ) (o : Option DefTree) (given : List (List ℕ × ShapeTree)) : Type 0 where
+  pub def : DefTree
+  pub is : o ≡ Some def
+  pub params : given ≡ def.params
+  pub count : n ≡ length def.params
+
+pub asked_is : (f : List ℕ) (n : ℕ) (o : Option DefTree) (params : List (List ℕ × ShapeTree)) → asked_of f n o ≡ Ok params → Asked n o params
+asked_is f n None params h = absurd (cc)
+asked_is f n (Some d) params h = by (nat_eq n (length d.params)) refl h
+  where
+    by : (b : Bool) → nat_eq n (length d.params) ≡ b → cond {A = OrFault (List (List ℕ × ShapeTree))} b (Ok d.params) (Err (Fault.unknown f)) ≡ Ok params
+        → Asked n (Some d) params
+    by true e h = record { def = d; is = refl; params = cc; count = grind (arith, nat_tests) }
+    by false e h = absurd (cc)
+
+pub is_asked : (f : List ℕ) (n : ℕ) (o : Option DefTree) (d : DefTree) → o ≡ Some d → n ≡ length d.params → asked_of f n o ≡ Ok d.params
+is_asked f n o d found count =
+    let same : nat_eq n (length d.params) ≡ true = grind (arith, nat_tests) in
+    ap (λ o. asked_of f n o) found ∙ ap (λ b. cond {A = OrFault (List (List ℕ × ShapeTree))} b (Ok d.params) (Err (Fault.unknown f))) same
+
+pub not_asked : (f : List ℕ) (n : ℕ) (o : Option DefTree) (d : DefTree) → o ≡ Some d → (n ≡ length d.params → ⊥) → asked_of f n o ≡ Err (Fault.unknown f)
+not_asked f n o d found other =
+    let differ : nat_eq n (length d.params) ≡ false = by (nat_eq n (length d.params)) refl in
+    ap (λ o. asked_of f n o) found ∙ ap (λ b. cond {A = OrFault (List (List ℕ × ShapeTree))} b (Ok d.params) (Err (Fault.unknown f))) differ
+  where
+    by : (b : Bool) → nat_eq n (length d.params) ≡ b → b ≡ false
+    by true e = absurd (other (grind (arith, nat_tests)))
+    by false e = refl
+
+pub arguments_shaped : (g : Scope) (es : List ExprTree) (ps : List (List ℕ × ShapeTree)) → AreArguments g es ps → All IsShaped es
+arguments_shaped g [] [] h = All-nil IsShaped
+arguments_shaped g [] (p ∷ ps) h = absurd h
+arguments_shaped g (e ∷ es) [] h = absurd h
+arguments_shaped g (e ∷ es) (p ∷ ps) h = All-cons IsShaped e es (record { names = g; shape = p.1; has = h.0 }) (arguments_shaped g es ps h.1)
+
+same_count : (g : Scope) (es : List ExprTree) (ps : List (List ℕ × ShapeTree)) → AreArguments g es ps → length es ≡ length ps
+same_count g [] [] h = refl
+same_count g [] (p ∷ ps) h = absurd h
+same_count g (e ∷ es) [] h = absurd h
+same_count g (e ∷ es) (p ∷ ps) h = ap (λ n. suc n) (same_count g es ps h.1)
+
+arguments_are : (g : Scope) (es : List ExprTree) (ps : List (List ℕ × ShapeTree)) (s : ShapeTree) → length es ≡ length ps → checked_arguments g es ps ≡ Ok s
+    → AreArguments g es ps × (s ≡ ShapeTree.bool)
+arguments_are g [] [] s n h = (tt, cc)
+arguments_are g [] (p ∷ ps) s n h = absurd (let e : 0 ≡ suc (length ps) = n in omega arith)
+arguments_are g (e ∷ es) [] s n h = absurd (let e : suc (length es) ≡ 0 = n in omega arith)
+arguments_are g (e ∷ es) (p ∷ ps) s n h =
+    let x = both (shaped_as g p.1 e) (λ _. checked_arguments g es ps) s h in
+    let count : length es ≡ length ps = let e : suc (length es) ≡ suc (length ps) = n in omega arith in
+    let rest : AreArguments g es ps × (s ≡ ShapeTree.bool) = arguments_are g es ps s count x.then in
+    (((shaped_as_is g e p.1 x.first x.is).0, rest.0), rest.1)
+
+are_arguments : (g : Scope) (es : List ExprTree) (ps : List (List ℕ × ShapeTree)) → AreArguments g es ps → checked_arguments g es ps ≡ Ok ShapeTree.bool
+are_arguments g [] [] h = refl
+are_arguments g [] (p ∷ ps) h = absurd h
+are_arguments g (e ∷ es) [] h = absurd h
+are_arguments g (e ∷ es) (p ∷ ps) h =
+    given (shaped_as g p.1 e) (λ _. checked_arguments g es ps) p.1 (is_shaped_as g e p.1 h.0) ∙ are_arguments g es ps h.1
+
+-- ---- descriptions
+
+module _ (defs : List DefTree) where
+  pub is_description : (g : Scope) (d : WrittenTree) (s : ShapeTree) → checked defs g d ≡ Ok s → IsWritten defs g d × (s ≡ written_shape d)
+  is_description g WrittenTree.file s e = (tt, cc)
+  is_description g WrittenTree.dir s e = (tt, cc)
+  is_description g WrittenTree.link s e = (tt, cc)
+  is_description g (WrittenTree.focus e d) s h =
+      let x = both (shaped_as g ShapeTree.str e) (λ _. checked defs g d) s h in
+      let text : HasShape g e ShapeTree.str × (x.first ≡ ShapeTree.str) = shaped_as_is g e ShapeTree.str x.first x.is in
+      let part : IsWritten defs g d × (s ≡ written_shape d) = is_description g d s x.then in
+      ((text.0, part.0), part.1)
+  is_description g (WrittenTree.pair x a b) s h =
+      let p = both (checked defs g a) (λ first. with_name g x first >>= λ inner. checked defs inner b >>= λ second. Ok (ShapeTree.pair first second)) s h in
+      let q = both (with_name g x p.first) (λ inner. checked defs inner b >>= λ second. Ok (ShapeTree.pair p.first second)) s p.then in
+      let r = both (checked defs q.first b) (λ second. Ok (ShapeTree.pair p.first second)) s q.then in
+      let first : IsWritten defs g a × (p.first ≡ written_shape a) = is_description g a p.first p.is in
+      let name : Named g x p.first q.first = name_is_free g x p.first q.first q.is in
+      let second : IsWritten defs q.first b × (r.first ≡ written_shape b) = is_description q.first b r.first r.is in
+      let inner : q.first ≡ bind g x (written_shape a) = name.is ∙ ap (λ t. bind g x t) first.1 in
+      let shape : ShapeTree.pair p.first r.first ≡ s = let then = r.then in cc in
+      ((first.0, name.free, subst (λ (t : Scope). IsWritten defs t b) inner second.0), sym shape ∙ (λ i. ShapeTree.pair (first.1 i) (second.1 i)))
+  is_description g (WrittenTree.comp d x e) s h =
+      let p = both (shaped_as g ShapeTree.names e) (λ _. with_name g x ShapeTree.str >>= λ inner. checked defs inner d >>= λ part. Ok (ShapeTree.table part)) s h in
+      let q = both (with_name g x ShapeTree.str) (λ inner. checked defs inner d >>= λ part. Ok (ShapeTree.table part)) s p.then in
+      let r = both (checked defs q.first d) (λ part. Ok (ShapeTree.table part)) s q.then in
+      let set : HasShape g e ShapeTree.names × (p.first ≡ ShapeTree.names) = shaped_as_is g e ShapeTree.names p.first p.is in
+      let name : Named g x ShapeTree.str q.first = name_is_free g x ShapeTree.str q.first q.is in
+      let part : IsWritten defs q.first d × (r.first ≡ written_shape d) = is_description q.first d r.first r.is in
+      let shape : ShapeTree.table r.first ≡ s = let then = r.then in cc in
+      ((set.0, name.free, subst (λ (t : Scope). IsWritten defs t d) name.is part.0), sym shape ∙ ap ShapeTree.table part.1)
+  is_description g (WrittenTree.opt d) s h =
+      let p = both (checked defs g d) (λ part. Ok (ShapeTree.opt part)) s h in
+      let part : IsWritten defs g d × (p.first ≡ written_shape d) = is_description g d p.first p.is in
+      let shape : ShapeTree.opt p.first ≡ s = let then = p.then in cc in
+      (part.0, sym shape ∙ ap ShapeTree.opt part.1)
+  is_description g (WrittenTree.pred e) s h = shaped_as_is g e ShapeTree.bool s h
+  is_description g (WrittenTree.call f args) s h =
+      let x = both (asked_of f (length args) (definition f defs)) (λ params. checked_arguments g args params) s h in
+      let asked : Asked (length args) (definition f defs) x.first = asked_is f (length args) (definition f defs) x.first x.is in
+      let count : length args ≡ length x.first = asked.count ∙ ap length (sym asked.params) in
+      let parts : AreArguments g args x.first × (s ≡ ShapeTree.bool) = arguments_are g args x.first s count x.then in
+      (record { named = asked.def; found = asked.is; arguments = subst (λ (ps : List (List ℕ × ShapeTree)). AreArguments g args ps) asked.params parts.0 }, parts.1)
+
+  pub is_checked : (g : Scope) (d : WrittenTree) → IsWritten defs g d → checked defs g d ≡ Ok (written_shape d)
+  is_checked g WrittenTree.file h = refl
+  is_checked g WrittenTree.dir h = refl
+  is_checked g WrittenTree.link h = refl
+  is_checked g (WrittenTree.focus e d) (he, hd) =
+      given (shaped_as g ShapeTree.str e) (λ _. checked defs g d) ShapeTree.str (is_shaped_as g e ShapeTree.str he) ∙ is_checked g d hd
+  is_checked g (WrittenTree.pair x a b) (ha, free, hb) =
+      given (checked defs g a) (λ first. with_name g x first >>= λ inner. checked defs inner b >>= λ second. Ok (ShapeTree.pair first second)) (written_shape a) (is_checked g a ha)
+      ∙ given (with_name g x (written_shape a)) (λ inner. checked defs inner b >>= λ second. Ok (ShapeTree.pair (written_shape a) second)) (bind g x (written_shape a))
+      (free_is_named g x (written_shape a) free)
+      ∙ given (checked defs (bind g x (written_shape a)) b) (λ second. Ok (ShapeTree.pair (written_shape a) second)) (written_shape b) (is_checked (bind g x (written_shape a)) b hb)
+  is_checked g (WrittenTree.comp d x e) (he, free, hd) =
+      given (shaped_as g ShapeTree.names e) (λ _. with_name g x ShapeTree.str >>= λ inner. checked defs inner d >>= λ part. Ok (ShapeTree.table part)) ShapeTree.names
+      (is_shaped_as g e ShapeTree.names he)
+      ∙ given (with_name g x ShapeTree.str) (λ inner. checked defs inner d >>= λ part. Ok (ShapeTree.table part)) (bind g x ShapeTree.str) (free_is_named g x ShapeTree.str free)
+      ∙ given (checked defs (bind g x ShapeTree.str) d) (λ part. Ok (ShapeTree.table part)) (written_shape d) (is_checked (bind g x ShapeTree.str) d hd)
+  is_checked g (WrittenTree.opt d) h = given (checked defs g d) (λ part. Ok (ShapeTree.opt part)) (written_shape d) (is_checked g d h)
+  is_checked g (WrittenTree.pred e) h = is_shaped_as g e ShapeTree.bool h
+  is_checked g (WrittenTree.call f args) h =
+      given (asked_of f (length args) (definition f defs)) (λ params. checked_arguments g args params) h.named.params
+      (is_asked f (length args) (definition f defs) h.named h.found (same_count g args h.named.params h.arguments))
+      ∙ are_arguments g args h.named.params h.arguments
 
 -- ---- commands
 
@@ -613,12 +693,12 @@ last_is (a ∷ xs) (b ∷ ys) x y e =
     let same : a ≡ b = cc in
     ((λ i. same i ∷ rest.0 i), rest.1)
 
-pub pair_checked : (g inner : Scope) (x : List ℕ) (a b : SpecTree) (s t : ShapeTree) → checked g a ≡ Ok s → with_name g x s ≡ Ok inner → checked inner b ≡ Ok t
-    → checked g (SpecTree.pair x a b) ≡ Ok (ShapeTree.pair s t)
-pair_checked g inner x a b s t first name second =
-    given (checked g a) (λ first. with_name g x first >>= λ inner. checked inner b >>= λ second. Ok (ShapeTree.pair first second)) s first
-    ∙ given (with_name g x s) (λ inner. checked inner b >>= λ second. Ok (ShapeTree.pair s second)) inner name
-    ∙ given (checked inner b) (λ second. Ok (ShapeTree.pair s second)) t second
+pub pair_checked : (defs : List DefTree) (g inner : Scope) (x : List ℕ) (a b : WrittenTree) (s t : ShapeTree) → checked defs g a ≡ Ok s → with_name g x s ≡ Ok inner
+    → checked defs inner b ≡ Ok t → checked defs g (WrittenTree.pair x a b) ≡ Ok (ShapeTree.pair s t)
+pair_checked defs g inner x a b s t first name second =
+    given (checked defs g a) (λ first. with_name g x first >>= λ inner. checked defs inner b >>= λ second. Ok (ShapeTree.pair first second)) s first
+    ∙ given (with_name g x s) (λ inner. checked defs inner b >>= λ second. Ok (ShapeTree.pair s second)) inner name
+    ∙ given (checked defs inner b) (λ second. Ok (ShapeTree.pair s second)) t second
 
 -- ---- commands one after another
 

@@ -1,12 +1,13 @@
--- The shape of a description's value, or its first fault, and the first fault of transactions: of a focus the text comes first, of a comprehension the set, then
--- the name, then the part; of a pair the first part, then the name, then the second.
-use Rattle.std.specs.Prelude.{ℕ, ◌+◌, nat_le, cond, List, [], ◌∷◌, length, Option, Some, None, Ok, Err}
+-- The shape of a description's value, or its first fault, and the first fault of a text and of transactions: of a focus the
+-- text comes first, of a comprehension the set, then the name, then the part; of a pair the first part, then the name, then
+-- the second; of a call the name with the number of arguments, then these from left to right.
+use Rattle.std.specs.Prelude.{ℕ, ◌+◌, nat_le, nat_eq, cond, List, [], ◌∷◌, ◌++◌, length, Option, Some, None, Ok, Err}
 use Rattle.fx_base.specs.Limits.{txn_limit}
 use Rattle.fx_expr.specs.Bindings.{bind, bound}
 use Rattle.fx_expr.specs.ExprTree.{ExprTree}
 use Rattle.fx_expr.specs.ShapeTree.{ShapeTree}
 use Rattle.fx_spec.specs.CommandTree.{ActTree, CommandTree, Block, block}
-use Rattle.fx_spec.specs.SpecTree.{SpecTree}
+use Rattle.fx_spec.specs.Written.{WrittenTree, DefTree, TextTree, definition}
 use Rattle.fx_spec.specs.WellShaped.{Scope}
 use Rattle.fx_check.specs.Faults.{Fault, OrFault, ◌>>=◌}
 use Rattle.fx_check.specs.Shaped.{named, needed, shaped}
@@ -23,17 +24,53 @@ with_name scope word shape = unless_bound word (bound scope word) (bind scope wo
 abbrev pub shaped_as : Scope → ShapeTree → ExprTree → OrFault ShapeTree
 shaped_as scope expected e = shaped scope e >>= λ found. needed expected found
 
-abbrev pub checked : Scope → SpecTree → OrFault ShapeTree
-checked scope SpecTree.file = Ok ShapeTree.str
-checked scope SpecTree.dir = Ok ShapeTree.names
-checked scope SpecTree.link = Ok ShapeTree.str
-checked scope (SpecTree.focus e s) = shaped_as scope ShapeTree.str e >>= λ _. checked scope s
-checked scope (SpecTree.pair x a b) =
-    checked scope a >>= λ first. with_name scope x first >>= λ inner. checked inner b >>= λ second. Ok (ShapeTree.pair first second)
-checked scope (SpecTree.comp s x e) =
-    shaped_as scope ShapeTree.names e >>= λ _. with_name scope x ShapeTree.str >>= λ inner. checked inner s >>= λ part. Ok (ShapeTree.table part)
-checked scope (SpecTree.opt s) = checked scope s >>= λ part. Ok (ShapeTree.opt part)
-checked scope (SpecTree.pred e) = shaped_as scope ShapeTree.bool e
+-- the parameters that a call's arguments are for: none where the name has no definition, or one for another number of them
+abbrev pub asked_of : List ℕ → ℕ → Option DefTree → OrFault (List (List ℕ × ShapeTree))
+asked_of f count None = Err (Fault.unknown f)
+asked_of f count (Some d) = cond (nat_eq count (length d.params)) (Ok d.params) (Err (Fault.unknown f))
+
+-- arguments, each of which is expected to have its parameter's shape; a call has the shape of a truth value
+abbrev pub checked_arguments : Scope → List ExprTree → List (List ℕ × ShapeTree) → OrFault ShapeTree
+checked_arguments scope [] params = Ok ShapeTree.bool
+checked_arguments scope (e ∷ es) [] = Ok ShapeTree.bool
+checked_arguments scope (e ∷ es) (p ∷ ps) = shaped_as scope p.1 e >>= λ _. checked_arguments scope es ps
+
+abbrev pub checked : List DefTree → Scope → WrittenTree → OrFault ShapeTree
+checked defs scope WrittenTree.file = Ok ShapeTree.str
+checked defs scope WrittenTree.dir = Ok ShapeTree.names
+checked defs scope WrittenTree.link = Ok ShapeTree.str
+checked defs scope (WrittenTree.focus e s) = shaped_as scope ShapeTree.str e >>= λ _. checked defs scope s
+checked defs scope (WrittenTree.pair x a b) =
+    checked defs scope a >>= λ first. with_name scope x first >>= λ inner. checked defs inner b >>= λ second. Ok (ShapeTree.pair first second)
+checked defs scope (WrittenTree.comp s x e) =
+    shaped_as scope ShapeTree.names e >>= λ _. with_name scope x ShapeTree.str >>= λ inner. checked defs inner s >>= λ part. Ok (ShapeTree.table part)
+checked defs scope (WrittenTree.opt s) = checked defs scope s >>= λ part. Ok (ShapeTree.opt part)
+checked defs scope (WrittenTree.pred e) = shaped_as scope ShapeTree.bool e
+checked defs scope (WrittenTree.call f args) =
+    asked_of f (length args) (definition f defs) >>= λ params. checked_arguments scope args params
+
+-- the names of parameters, the newest last, none of which is bound twice
+abbrev pub with_params : Scope → List (List ℕ × ShapeTree) → OrFault Scope
+with_params scope [] = Ok scope
+with_params scope (p ∷ ps) = with_name scope p.0 p.1 >>= λ inner. with_params inner ps
+
+abbrev pub unless_defined : {X : Type 0} → List ℕ → Option DefTree → X → OrFault X
+unless_defined f None x = Ok x
+unless_defined f (Some d) x = Err (Fault.repeated f)
+
+-- a definition behind those before it: its name comes first, then its parameters, then its body, in which these alone are bound
+abbrev pub checked_def : List DefTree → List DefTree → DefTree → OrFault ShapeTree
+checked_def defs before d =
+    unless_defined d.name (definition d.name before) d >>= λ _. with_params [] d.params >>= λ scope. checked defs scope d.body
+
+-- of a text's definitions those from one on, behind those before it
+abbrev pub checked_defs : List DefTree → List DefTree → List DefTree → OrFault (List DefTree)
+checked_defs defs before [] = Ok before
+checked_defs defs before (d ∷ rest) = checked_def defs before d >>= λ _. checked_defs defs (before ++ d ∷ []) rest
+
+-- the definitions in their order, then the root
+abbrev pub checked_text : TextTree → OrFault ShapeTree
+checked_text t = checked_defs t.defs [] t.defs >>= λ _. checked t.defs [] t.root
 
 -- an act's own expression; an act binds no name
 abbrev pub checked_act : Scope → ActTree → OrFault Scope

@@ -5,11 +5,12 @@ use Rattle.fx_expr.specs.Views.{shape_tree}
 use Rattle.fx_check.specs.declared.fault.CheckFault.{CheckFault}
 use Rattle.fx_check.specs.declared.fault.CheckFault.TheVariants as check
 use Rattle.fx_spec.specs.SpecTree.{SpecTree}
+use Rattle.fx_spec.specs.Written.{TextTree, text_tree}
 use Rattle.fx_spec.specs.CommandTree.{CommandTree, block, count_block}
 use Rattle.fx_spec.specs.Levels.{txn_levels}
-use Rattle.fx_spec.specs.WellShaped.{IsDescription, IsBlock}
+use Rattle.fx_spec.specs.WellShaped.{IsChecked, IsBlock}
 use Rattle.fx_check.specs.Faults.{Fault, OrFault}
-use Rattle.fx_check.specs.Checked.{checked, checked_script}
+use Rattle.fx_check.specs.Checked.{checked_text, checked_script}
 
 -- the fault is this one exactly; want of memory is free
 abbrev pub IsFault : {Y : Type 0} → CheckFault → OrFault Y → Type 0
@@ -24,10 +25,10 @@ abbrev pub Gives : {X Y : Type 0} → (X → Y) → Result X CheckFault → OrFa
 Gives view (Ok x) o = o ≡ Ok (view x)
 Gives view (Err fault) o = IsFault fault o
 
--- the description itself where it is well shaped, or its first fault
-abbrev pub IsAnswer : SpecTree → Result SpecTree CheckFault → Type 0
-IsAnswer d (Ok found) = (found ≡ d) × IsDescription [] d
-IsAnswer d (Err fault) = IsFault fault (checked [] d)
+-- what the text means where it is well shaped, or its first fault
+abbrev pub IsAnswer : TextTree → Result SpecTree CheckFault → Type 0
+IsAnswer t (Ok found) = (found ≡ text_tree t) × IsChecked t
+IsAnswer t (Err fault) = IsFault fault (checked_text t)
 
 -- transactions that a parsed script can have: nested at most 64 deep, with fewer than 2^32 commands, nested ones included
 pub record IsSmall (commands : List CommandTree) : Type 0 where

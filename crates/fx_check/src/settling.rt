@@ -1,16 +1,19 @@
 //! The values of a description's expressions without names, each evaluated once.
-ghost use Rattle.std.specs.Prelude.{◌≡◌, IfOk};
+ghost use Rattle.std.specs.Prelude.{◌≡◌, All, IfOk, List};
+ghost use Rattle.fx_spec.specs.DefViews.{def_tree};
 ghost use Rattle.fx_spec.specs.Views.{spec_tree};
-ghost use Rattle.fx_spec.specs.WellShaped.{IsDescription, Scope};
+ghost use Rattle.fx_spec.specs.Written.{DefTree};
+ghost use Rattle.fx_spec.specs.WellShaped.{IsWritten, Scope};
+ghost use Rattle.fx_check.specs.Fitting.{IsFitting};
 
 use fx_base::NoMemory;
-use fx_spec::Spec;
+use fx_spec::{Def, Defs, Spec};
 use std::alloc::Global;
 
 /// The same description, in which the value of each expression without names stands beside it.
 #[cycle(settled)]
 pub(crate) fn settled(alloc: Global, spec: Spec) -> Result<Spec, NoMemory>
-    requires { (scope : Scope) × IsDescription scope (spec_tree spec) }
+    requires { (defs : List DefTree) × (scope : Scope) × IsWritten defs scope (spec_tree spec) }
     ensures { IfOk result (λ settled. spec_tree settled ≡ spec_tree spec) }
 {
     match spec {
@@ -31,14 +34,38 @@ pub(crate) fn settled(alloc: Global, spec: Spec) -> Result<Spec, NoMemory>
         }
         Spec::Opt(part) => Ok(Spec::Opt(settled_part(alloc, part)?)),
         Spec::Pred(test) => Ok(Spec::Pred(test.settled(alloc)?)),
+        Spec::Call(name, args) => Ok(Spec::Call(name, args.settled(alloc)?)),
     }
 }
 
 #[cycle(settled)]
 fn settled_part(alloc: Global, part: Box<Spec>) -> Result<Box<Spec>, NoMemory>
-    requires { (scope : Scope) × IsDescription scope (spec_tree part.value) }
+    requires { (defs : List DefTree) × (scope : Scope)
+        × IsWritten defs scope (spec_tree part.value) }
     ensures { IfOk result (λ settled. spec_tree settled.value ≡ spec_tree part.value) }
 {
     let part = settled(alloc, Box::into_inner(part))?;
     Ok(Box::new(alloc, part)?)
+}
+
+fn settled_def(alloc: Global, def: Def) -> Result<Def, NoMemory>
+    requires { IsFitting (def_tree def) }
+    ensures { IfOk result (λ settled. def_tree settled ≡ def_tree def) }
+{
+    let Def { name, params, body } = def;
+    let body = settled(alloc, body)?;
+    Ok(Def { name, params, body })
+}
+
+/// The same definitions, each with its body settled.
+pub(crate) fn settled_defs(alloc: Global, defs: Defs) -> Result<Defs, NoMemory>
+    requires { All IsFitting defs }
+    ensures { IfOk result (λ settled. settled ≡ defs) }
+{
+    let mut settled = Defs::new(alloc);
+    for def in defs.into_vec() {
+        let def = settled_def(alloc, def)?;
+        settled.add(alloc, def)?;
+    }
+    Ok(settled)
 }

@@ -1,21 +1,19 @@
-//! The check of a description.
-ghost use Rattle.std.specs.Prelude.{◌≡◌, ◌<◌, ◌≤◌, ℕ, List, [], length, Ok, OnOk};
+//! The check of a description, with a text's definitions.
+ghost use Rattle.std.specs.Prelude.{◌≡◌, ◌<◌, ℕ, List, length, Ok, OnOk};
 ghost use Rattle.fx_expr.specs.Bindings.{bind};
 ghost use Rattle.fx_expr.specs.ShapeTree.{ShapeTree};
 ghost use Rattle.fx_expr.specs.Views.{expr_tree, shape_tree};
-ghost use Rattle.fx_spec.specs.Levels.{spec_levels};
 ghost use Rattle.fx_spec.specs.Views.{spec_tree};
-ghost use Rattle.fx_check.specs.Checked.{checked, shaped_as};
-ghost use Rattle.fx_check.specs.Gives.{Gives, IsAnswer};
+ghost use Rattle.fx_spec.specs.Written.{WrittenTree};
+ghost use Rattle.fx_check.specs.Checked.{checked, checked_arguments, shaped_as};
+ghost use Rattle.fx_check.specs.Gives.{Gives};
 ghost use Rattle.fx_spec.specs.WellShaped.{Scope};
 
 use crate::expr::{boxed, needed, shape_of};
 use crate::fault::CheckFault;
 use crate::scope::{Scope, let_go};
-use crate::settling::settled;
-use fx_base::NoMemory;
 use fx_expr::{Expr, Shape, Word};
-use fx_spec::{Checked, Spec};
+use fx_spec::{Defs, Exprs, Params, Spec};
 use std::alloc::Global;
 
 /// The shape of an expression, where it is the one that is expected.
@@ -54,9 +52,57 @@ fn pair_shape(alloc: Global, scope: &mut Scope, second: Shape) -> Result<Shape, 
     Ok(Shape::Pair(first, second))
 }
 
+/// The arguments of a call, each of which has the shape of its parameter. The call has the shape Bool.
+fn arguments_shape(
+    alloc: Global,
+    scope: &Scope,
+    args: &Exprs,
+    params: &Params,
+) -> Result<Shape, CheckFault>
+    requires { length args.now ≡ length params.now }
+    ensures { Gives shape_tree result (checked_arguments scope.now args.now params.now) }
+{
+    for i in 0..args.len() {
+        let Some(arg) = args.at(i) else {
+            unreachable!()
+        };
+        let Some(param) = params.at(i) else {
+            unreachable!()
+        };
+        let expected = param.1.copy(alloc)?;
+        let_go(Some(check_shape(alloc, scope, expected, arg.expr())?));
+    }
+    Ok(Shape::Bool)
+}
+
+/// The shape of a call, which names a definition for as many arguments.
+fn call_shape(
+    alloc: Global,
+    defs: &Defs,
+    scope: &Scope,
+    name: &Word,
+    args: &Exprs,
+) -> Result<Shape, CheckFault>
+    ensures { Gives shape_tree result
+        (checked defs.now scope.now (WrittenTree.call name.now args.now)) }
+{
+    let Some(def) = defs.get(name) else {
+        return Err(CheckFault::Unknown(name.copy(alloc)?));
+    };
+    if args.len() != def.params.len() {
+        return Err(CheckFault::Unknown(name.copy(alloc)?));
+    }
+    arguments_shape(alloc, scope, args, &def.params)
+}
+
 /// The shape of a description's value, or its first fault.
-fn value_shape(alloc: Global, scope: &mut Scope, spec: &Spec) -> Result<Shape, CheckFault>
-    ensures shape { Gives shape_tree result (checked scope.old (spec_tree spec.now)) }
+pub(crate) fn value_shape(
+    alloc: Global,
+    defs: &Defs,
+    scope: &mut Scope,
+    spec: &Spec,
+) -> Result<Shape, CheckFault>
+    ensures shape { Gives shape_tree result (checked defs.now scope.old (spec_tree spec.now)) }
     ensures same { OnOk result (scope.new ≡ scope.old) }
 {
     match spec {
@@ -64,45 +110,26 @@ fn value_shape(alloc: Global, scope: &mut Scope, spec: &Spec) -> Result<Shape, C
         Spec::Dir => Ok(Shape::Names),
         Spec::Focus(text, part) => {
             let_go(Some(check_shape(alloc, scope, Shape::Str, text.expr())?));
-            value_shape(alloc, scope, part)
+            value_shape(alloc, defs, scope, part)
         }
         Spec::Pair(word, first, second) => {
-            let shape = value_shape(alloc, scope, first)?;
+            let shape = value_shape(alloc, defs, scope, first)?;
             scope.bind(alloc, word, shape)?;
-            let shape = value_shape(alloc, scope, second)?;
+            let shape = value_shape(alloc, defs, scope, second)?;
             pair_shape(alloc, scope, shape)
         }
         Spec::Comp(part, word, set) => {
             let_go(Some(check_shape(alloc, scope, Shape::Names, set.expr())?));
             scope.bind(alloc, word, Shape::Str)?;
-            let shape = value_shape(alloc, scope, part)?;
+            let shape = value_shape(alloc, defs, scope, part)?;
             let_go(scope.unbind());
             Ok(Shape::Table(boxed(alloc, shape)?))
         }
         Spec::Opt(part) => {
-            let shape = value_shape(alloc, scope, part)?;
+            let shape = value_shape(alloc, defs, scope, part)?;
             Ok(Shape::Opt(boxed(alloc, shape)?))
         }
         Spec::Pred(test) => check_shape(alloc, scope, Shape::Bool, test.expr()),
+        Spec::Call(name, args) => call_shape(alloc, defs, scope, name, args),
     }
 }
-
-/// A description that is well shaped, or its first fault: the parts are checked in the order of evaluation.
-pub fn check(alloc: Global, spec: Spec) -> Result<Checked, CheckFault>
-    requires { spec_levels (spec_tree spec) ≤ 64 }
-    ensures { IsAnswer (spec_tree spec) result }
-{
-    let mut scope = Scope::new(alloc);
-    match value_shape(alloc, &mut scope, &spec) {
-        Ok(shape) => {
-            let_go(Some(shape));
-            Ok(Checked::of(settled(alloc, spec)?))
-        }
-        Err(fault) => {
-            let_go_spec(spec);
-            Err(fault)
-        }
-    }
-}
-
-fn let_go_spec(_: Spec) {}

@@ -11,7 +11,7 @@ use Rattle.clap.specs.Faults.{defaults_fault, step_fault}
 use Rattle.clap.specs.declared.builder.value_parser.ValueParser.TheVariants as parser
 use Rattle.clap.specs.declared.error.kind.ErrorKind.TheVariants as kind
 use Rattle.fx_command_line.specs.declared.form.CommandName.{CommandName}
-use Rattle.fx_command_line.specs.declared.form.CommandName.TheVariants.{Run, Trace, Show, Gen, Large, Audit, Watch, Journal, Recover}
+use Rattle.fx_command_line.specs.declared.form.CommandName.TheVariants.{Run, Trace, Show, Gen, Large, Audit, Watch, Journal, Recover, Views}
 use Rattle.fx_command_line.specs.Forms.{is_within, least_of, most_of, takes}
 use Rattle.fx_command_line.specs.Parser.{command, program}
 use Rattle.fx_command_line.proofs.Walks.{end_fault, leaf_fault, leaf_rows, start, step, steps_fault}
@@ -145,6 +145,7 @@ command_shape Audit = record { some = omega arith; order = omega arith; first = 
 command_shape Watch = record { some = omega arith; order = omega arith; first = λ x. refl; turn = λ vs x. refl; begins = refl; fine = λ vs. refl; none = refl; end = λ x xs. refl; found = λ x xs. refl }
 command_shape Journal = record { some = omega arith; order = omega arith; first = λ x. refl; turn = λ vs x. refl; begins = refl; fine = λ vs. refl; none = refl; end = λ x xs. refl; found = λ x xs. refl }
 command_shape Recover = record { some = omega arith; order = omega arith; first = λ x. refl; turn = λ vs x. refl; begins = refl; fine = λ vs. refl; none = refl; end = λ x xs. refl; found = λ x xs. refl }
+command_shape Views = record { some = omega arith; order = omega arith; first = λ x. refl; turn = λ vs x. refl; begins = refl; fine = λ vs. refl; none = refl; end = λ x xs. refl; found = λ x xs. refl }
 
 pub command_takes : (name : CommandName) (words : List Text) → is_empty (leaf_fault (ready name) words) ≡ takes name (length words)
 command_takes name words = shape_takes (ready name) (least_of name) (most_of name) (command_shape name) words

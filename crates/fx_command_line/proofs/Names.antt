@@ -5,7 +5,7 @@ use Rattle.std.specs.Str.{bytes_eq}
 use Rattle.std.proofs.lemmas.Slice.Eq.{bytes_eq-Decides}
 use Rattle.clap.specs.Walk.{Names, Text, answers_to}
 use Rattle.fx_command_line.specs.declared.form.CommandName.{CommandName}
-use Rattle.fx_command_line.specs.declared.form.CommandName.TheVariants.{Run, Trace, Show, Gen, Large, Audit, Watch, Journal, Recover}
+use Rattle.fx_command_line.specs.declared.form.CommandName.TheVariants.{Run, Trace, Show, Gen, Large, Audit, Watch, Journal, Recover, Views}
 use Rattle.fx_command_line.specs.Forms.{command_named, commands, named_in, word_of}
 
 -- a word that names a command is its name
@@ -30,6 +30,7 @@ named_so Audit = refl
 named_so Watch = refl
 named_so Journal = refl
 named_so Recover = refl
+named_so Views = refl
 
 abbrev pub labels : List CommandName → Names
 labels names = map (λ name. (word_of name, [])) names

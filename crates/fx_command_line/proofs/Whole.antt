@@ -10,7 +10,7 @@ use Rattle.clap.specs.Faults.{check_fault, defaults_fault, entered_fault, fault_
 use Rattle.clap.proofs.WalkLemmas.{walk_stopped}
 use Rattle.clap.proofs.FaultLemmas.{stopped_fault}
 use Rattle.fx_command_line.specs.declared.form.CommandName.{CommandName}
-use Rattle.fx_command_line.specs.declared.form.CommandName.TheVariants.{Run, Trace, Show, Gen, Large, Audit, Watch, Journal, Recover}
+use Rattle.fx_command_line.specs.declared.form.CommandName.TheVariants.{Run, Trace, Show, Gen, Large, Audit, Watch, Journal, Recover, Views}
 use Rattle.fx_command_line.specs.Forms.{command_named, commands, has_form, is_plain, takes, word_of}
 use Rattle.fx_command_line.specs.Matched.{command_in, words_in}
 use Rattle.fx_command_line.specs.Parser.{program}
@@ -37,6 +37,7 @@ first_stops Audit = refl
 first_stops Watch = refl
 first_stops Journal = refl
 first_stops Recover = refl
+first_stops Views = refl
 
 first_passes : (name : CommandName) → turn_fault top names start (word_of name) ≡ []
 first_passes Run = refl
@@ -48,6 +49,7 @@ first_passes Audit = refl
 first_passes Watch = refl
 first_passes Journal = refl
 first_passes Recover = refl
+first_passes Views = refl
 
 found : (name : CommandName) → find (λ s. answers_to (word_of name) (label_of s)) (built program).subs ≡ Some (ready name)
 found Run = refl
@@ -59,6 +61,7 @@ found Audit = refl
 found Watch = refl
 found Journal = refl
 found Recover = refl
+found Views = refl
 
 -- after a command's name the words are left to it
 left_to : (name : CommandName) (words : List Text) → fold (walked top.rules names) start (word_of name ∷ words) ≡ record start { stopped = Some (word_of name, words) }

@@ -1,10 +1,10 @@
 -- The forms of the commands: a name, and as many arguments as the command takes.
-use Rattle.std.specs.Prelude.{ℕ, ◌+◌, Bool, true, false, not, ◌&&◌, ◌==◌, List, [], ◌∷◌, length, Option, codes, find, nat_le}
+use Rattle.std.specs.Prelude.{ℕ, ◌+◌, ◌-◌, Bool, true, false, not, ◌&&◌, ◌==◌, List, [], ◌∷◌, length, Option, codes, find, nat_le}
 use Rattle.std.specs.Option.{option_map_or}
 use Rattle.std.specs.Str.{bytes_eq}
 use Rattle.fx_base.specs.Limits.{shell_limit}
 use Rattle.fx_command_line.specs.declared.form.CommandName.{CommandName}
-use Rattle.fx_command_line.specs.declared.form.CommandName.TheVariants.{Run, Trace, Show, Gen, Large, Audit, Watch, Journal, Recover}
+use Rattle.fx_command_line.specs.declared.form.CommandName.TheVariants.{Run, Trace, Show, Gen, Large, Audit, Watch, Journal, Recover, Views}
 
 -- a word may be an argument: it is not empty and does not begin with `-`
 abbrev pub is_plain : List ℕ → Bool
@@ -22,9 +22,10 @@ word_of Audit = codes "audit"
 word_of Watch = codes "watch"
 word_of Journal = codes "journal"
 word_of Recover = codes "recover"
+word_of Views = codes "views"
 
 abbrev pub commands : List CommandName
-commands = Run ∷ Trace ∷ Show ∷ Gen ∷ Large ∷ Audit ∷ Watch ∷ Journal ∷ Recover ∷ []
+commands = Run ∷ Trace ∷ Show ∷ Gen ∷ Large ∷ Audit ∷ Watch ∷ Journal ∷ Recover ∷ Views ∷ []
 
 -- the one of these commands that a word names
 abbrev pub named_in : List CommandName → List ℕ → Option CommandName
@@ -40,6 +41,10 @@ is_within least most n = nat_le least n && nat_le n most
 abbrev pub is_count : ℕ → Bool
 is_count n = is_within 1 shell_limit n
 
+-- 1 to 63 scripts, which leave a place for the views
+abbrev pub is_count_with_views : ℕ → Bool
+is_count_with_views n = is_within 1 (shell_limit - 1) n
+
 -- the fewest arguments of a command: SPEC, FOLDER and so on, and a script; or two texts
 abbrev pub least_of : CommandName → ℕ
 least_of Run = 4
@@ -51,8 +56,9 @@ least_of Audit = 4
 least_of Watch = 5
 least_of Journal = 6
 least_of Recover = 5
+least_of Views = 5
 
--- and the most, with 64 scripts
+-- and the most, with 64 scripts, or 63 beside the views
 abbrev pub most_of : CommandName → ℕ
 most_of Run = 3 + shell_limit
 most_of Trace = 4 + shell_limit
@@ -63,6 +69,7 @@ most_of Audit = 3 + shell_limit
 most_of Watch = 4 + shell_limit
 most_of Journal = 5 + shell_limit
 most_of Recover = 4 + shell_limit
+most_of Views = 3 + shell_limit
 
 -- a command takes so many arguments
 abbrev pub takes : CommandName → ℕ → Bool

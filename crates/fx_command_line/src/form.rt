@@ -21,6 +21,7 @@ pub enum CommandName {
     Watch,
     Journal,
     Recover,
+    Views,
 }
 
 /// A command that the words name, with its arguments as they stand there.
@@ -31,7 +32,7 @@ pub struct Form<'a> {
 }
 
 /// Every command.
-pub(crate) const COMMANDS: [CommandName; 9] = [
+pub(crate) const COMMANDS: [CommandName; 10] = [
     CommandName::Run,
     CommandName::Trace,
     CommandName::Show,
@@ -41,6 +42,7 @@ pub(crate) const COMMANDS: [CommandName; 9] = [
     CommandName::Watch,
     CommandName::Journal,
     CommandName::Recover,
+    CommandName::Views,
 ];
 
 impl CommandName {
@@ -58,6 +60,7 @@ impl CommandName {
             CommandName::Watch => "watch",
             CommandName::Journal => "journal",
             CommandName::Recover => "recover",
+            CommandName::Views => "views",
         }
     }
 
@@ -70,6 +73,7 @@ impl CommandName {
             CommandName::Show | CommandName::Gen | CommandName::Large => 2..=2,
             CommandName::Run | CommandName::Audit => 4..=3 + SCRIPT_LIMIT,
             CommandName::Trace | CommandName::Watch | CommandName::Recover => 5..=4 + SCRIPT_LIMIT,
+            CommandName::Views => 5..=3 + SCRIPT_LIMIT,
             CommandName::Journal => 6..=5 + SCRIPT_LIMIT,
         }
     }

@@ -53,7 +53,7 @@ fn created<R: Reader>(
     ensures { GoesBy R.meaning (answered (λ e. e)) (own_at overlay.now) reader.old reader.new
         (edit.create_at (place_tree place.now)) (split result) }
 {
-    let node = bare_node(alloc, place.spec)?;
+    let node = bare_node(alloc, &place.part())?;
     create_node(alloc, reader, overlay, place.path, &node)
 }
 

@@ -9,14 +9,14 @@ ghost use Rattle.fx_expr.specs.Views.{tree_of};
 ghost use Rattle.fx_spec.specs.Edit as edit;
 ghost use Rattle.fx_spec.specs.Move.{needed};
 ghost use Rattle.fx_spec.specs.SpecTree.{SpecTree};
-ghost use Rattle.fx_spec.specs.Views.{spec_tree};
+ghost use Rattle.fx_spec.specs.Parts.{part_of};
 ghost use Rattle.fx_spec.specs.declared.refusal.Refusal.TheVariants as refusal;
 ghost use Rattle.fx_edit.specs.Values.{text_of, texts_of, flag_of, name_read, Tells};
 
 use fx_base::{Items, NoMemory};
 use fx_expr::{Text, TextSet, Value};
 use fx_rules::Halt;
-use fx_spec::{Refusal, Spec};
+use fx_spec::{Form, Part, Refusal};
 use fx_store::{Bytes, LinkText, Name, Names, Node, PathFault};
 use fx_view::Stop;
 use std::alloc::Global;
@@ -26,21 +26,23 @@ use std::cmp::Ordering;
 /// ones.
 pub(crate) fn stored_node(
     alloc: Global,
-    form: &Spec,
+    form: &Part<'_>,
     value: &Value,
     likely: &Names,
 ) -> Result<Node, Halt>
-    ensures { Tells (λ n. n) (edit.stored_node (spec_tree form.now) (tree_of value.now)) result }
+    ensures { Tells (λ n. n) (edit.stored_node (part_of form.now) (tree_of value.now)) result }
 {
-    match form {
-        Spec::File => file_node(alloc, value),
-        Spec::Dir => dir_node(alloc, value, likely),
-        Spec::Link => link_node(alloc, value),
-        Spec::Focus(_, _)
-        | Spec::Pair(_, _, _)
-        | Spec::Comp(_, _, _)
-        | Spec::Opt(_)
-        | Spec::Pred(_) => Err(Halt::Refused(Refusal::WrongForm)),
+    match form.form() {
+        Form::File => file_node(alloc, value),
+        Form::Dir => dir_node(alloc, value, likely),
+        Form::Link => link_node(alloc, value),
+        Form::Focus(_, _)
+        | Form::Pair(_, _, _)
+        | Form::Comp(_, _, _)
+        | Form::Opt(_)
+        | Form::Pred(_)
+        | Form::Call(_, _, _)
+        | Form::Last(_) => Err(Halt::Refused(Refusal::WrongForm)),
     }
 }
 
@@ -237,9 +239,9 @@ fn name_of(alloc: Global, text: &Text) -> Result<Name, Halt>
 }
 
 /// The empty node of a form, or that it has none.
-pub(crate) fn bare_node(alloc: Global, form: &Spec) -> Result<Node, Halt>
+pub(crate) fn bare_node(alloc: Global, form: &Part<'_>) -> Result<Node, Halt>
     ensures { Tells (λ n. n)
-        (needed refusal.NoDefault (edit.bare_node (spec_tree form.now))) result }
+        (needed refusal.NoDefault (edit.bare_node (part_of form.now))) result }
 {
     match bare(alloc, form) {
         Some(node) => Ok(node),
@@ -248,14 +250,19 @@ pub(crate) fn bare_node(alloc: Global, form: &Spec) -> Result<Node, Halt>
 }
 
 #[cycle(bare)]
-fn bare(alloc: Global, form: &Spec) -> Option<Node>
-    ensures { result ≡ edit.bare_node (spec_tree form.now) }
+fn bare(alloc: Global, form: &Part<'_>) -> Option<Node>
+    ensures { result ≡ edit.bare_node (part_of form.now) }
 {
-    match form {
-        Spec::File => Some(empty_file(alloc)),
-        Spec::Dir => Some(Node::Dir(Names::new(alloc))),
-        Spec::Pair(_, first, _) => bare(alloc, first),
-        Spec::Opt(part) => bare(alloc, part),
-        Spec::Link | Spec::Focus(_, _) | Spec::Comp(_, _, _) | Spec::Pred(_) => None,
+    match form.form() {
+        Form::File => Some(empty_file(alloc)),
+        Form::Dir => Some(Node::Dir(Names::new(alloc))),
+        Form::Pair(_, first, _) => bare(alloc, &first),
+        Form::Opt(part) => bare(alloc, &part),
+        Form::Link
+        | Form::Focus(_, _)
+        | Form::Comp(_, _, _)
+        | Form::Pred(_)
+        | Form::Call(_, _, _)
+        | Form::Last(_) => None,
     }
 }

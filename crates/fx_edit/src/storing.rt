@@ -66,7 +66,7 @@ fn stored<R: Reader>(
 {
     let none = Names::new(alloc);
     let likely = likely_names(reader.reads(), overlay, place.path, &none);
-    let node = stored_node(alloc, place.spec, value, likely)?;
+    let node = stored_node(alloc, &place.part(), value, likely)?;
     store_node(alloc, reader, overlay, place.path, is_flag(value), node)
 }
 

@@ -1,11 +1,12 @@
 -- The description's text, cut into its tokens.
-use Rattle.std.proofs.Common.{◌≡◌, ℕ, true, List, [], ◌∷◌, ◌++◌, refl, codes}
+use Rattle.std.proofs.Common.{◌≡◌, ℕ, true, List, [], ◌∷◌, ◌++◌, map, refl, ap, ◌∙◌, codes}
 use Rattle.std.proofs.lemmas.Bool.{leb-true}
 use Rattle.fx_expr.specs.ShapeTree.{ShapeTree}
-use Rattle.fx_grammar.specs.Texts.{HasTokens}
-use Rattle.fx_grammar.specs.Tokens.{spec_tokens}
+use Rattle.fx_lex.specs.Kept.{kept}
+use Rattle.fx_grammar.specs.Texts.{HasTokens, HasKeptTokens}
+use Rattle.fx_grammar.specs.Tokens.{text_tokens}
 use Rattle.fx_gen.specs.Scripts.{description}
-use Rattle.fx_gen_laws.specs.Trees.{description_tree, DescriptionStands}
+use Rattle.fx_gen_laws.specs.Trees.{description_text, DescriptionStands}
 use Rattle.fx_gen_laws.proofs.Cutting.{Bit, blank, word, one, two, text, pieces_of, bytes_of, goods, goods_at, tokens_in, has_tokens}
 
 abbrev pub sp : Bit
@@ -36,17 +37,21 @@ bits_text = refl
 bits_good : goods bits 0 ≡ true
 bits_good = refl
 
-bits_tokens : tokens_in (pieces_of bits) ≡ spec_tokens description_tree
+bits_tokens : map kept (tokens_in (pieces_of bits)) ≡ text_tokens description_text
 bits_tokens = refl
 
-description_tokens : HasTokens description (spec_tokens description_tree)
-description_tokens = has_tokens (pieces_of bits) (goods_at bits [] bits_good)
+cut : HasTokens description (tokens_in (pieces_of bits))
+cut = has_tokens (pieces_of bits) (goods_at bits [] bits_good)
+
+description_tokens : HasKeptTokens description (text_tokens description_text)
+description_tokens = (cut.0, cut.1, ap (λ ts. map kept ts) cut.2 ∙ bits_tokens)
 
 pub description_stands : DescriptionStands
 description_stands = record {
   text = record { short = leb-true _ _ refl; tokens = description_tokens; names = refl; nested = leb-true _ _ refl };
   shapes = record {
-    shapes =
+    defs = tt;
+    root =
         ((refl, tt), refl, (((ShapeTree.str, (refl, refl), refl), refl, (refl, ((refl, tt), refl, ((refl, tt), refl, (refl, tt))))), refl, (refl, tt)));
     nested = leb-true _ _ refl;
   };

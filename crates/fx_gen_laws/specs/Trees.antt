@@ -6,6 +6,7 @@ use Rattle.fx_expr.specs.declared.expr.UnOp.{UnOp}
 use Rattle.fx_expr.specs.ExprTree.{ExprTree}
 use Rattle.fx_expr.specs.ShapeTree.{ShapeTree}
 use Rattle.fx_spec.specs.SpecTree.{SpecTree}
+use Rattle.fx_spec.specs.Written.{WrittenTree, TextTree, text_tree}
 use Rattle.fx_spec.specs.CommandTree.{ActTree, CommandTree}
 use Rattle.fx_spec.specs.WellShaped as shaped
 use Rattle.fx_grammar.specs.Texts.{IsDescription, IsScript}
@@ -14,20 +15,27 @@ use Rattle.fx_gen.specs.Scripts.{description, count_line, log_line, tag, kind_of
 
 -- ---- the description
 
-abbrev pub entry : List ℕ → SpecTree → SpecTree
-entry name s = SpecTree.focus (ExprTree.str name) s
+abbrev pub entry : List ℕ → WrittenTree → WrittenTree
+entry name s = WrittenTree.focus (ExprTree.str name) s
 
 -- a project: its count, its log and its notes
-abbrev pub project_tree : SpecTree
-project_tree = SpecTree.pair (codes "n") (entry (codes "count") SpecTree.file) (SpecTree.pair (codes "l") (entry (codes "log") SpecTree.dir) (entry (codes "notes") SpecTree.dir))
+abbrev pub project_tree : WrittenTree
+project_tree = WrittenTree.pair (codes "n") (entry (codes "count") WrittenTree.file) (WrittenTree.pair (codes "l") (entry (codes "log") WrittenTree.dir) (entry (codes "notes") WrittenTree.dir))
 
 -- the projects that the list names
-abbrev pub projects_tree : SpecTree
-projects_tree = SpecTree.comp (SpecTree.focus (ExprTree.var (codes "p")) project_tree) (codes "p") (ExprTree.un UnOp.Lines (ExprTree.var (codes "c")))
+abbrev pub projects_tree : WrittenTree
+projects_tree = WrittenTree.comp (WrittenTree.focus (ExprTree.var (codes "p")) project_tree) (codes "p") (ExprTree.un UnOp.Lines (ExprTree.var (codes "c")))
 
+-- it has no definitions
+abbrev pub description_text : TextTree
+description_text = record {
+  defs = [];
+  root = WrittenTree.pair (codes "c") (entry (codes "config") WrittenTree.file) (WrittenTree.pair (codes "t") projects_tree (entry (codes "current") WrittenTree.link));
+}
+
+-- what it means
 abbrev pub description_tree : SpecTree
-description_tree =
-    SpecTree.pair (codes "c") (entry (codes "config") SpecTree.file) (SpecTree.pair (codes "t") projects_tree (entry (codes "current") SpecTree.link))
+description_tree = text_tree description_text
 
 -- ---- transactions
 
@@ -60,8 +68,8 @@ script_tree number k = map (λ j. txn_tree (kind_of number (200 * k + j)) (proje
 -- ---- the laws
 
 pub record DescriptionStands : Type 0 where
-  pub text : IsDescription description description_tree
-  pub shapes : shaped.IsChecked description_tree
+  pub text : IsDescription description description_text
+  pub shapes : shaped.IsChecked description_text
 
 -- the text stands for this transaction, which is well shaped
 pub record StandsForTxn (text : List ℕ) (commands : List CommandTree) : Type 0 where

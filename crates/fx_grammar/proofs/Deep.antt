@@ -1,19 +1,20 @@
 -- The levels of tokens are those of the forms.
 use Rattle.std.proofs.Common.{◌≡◌, ℕ, suc, ◌+◌, ◌-◌, ◌≤◌, true, List, [], ◌∷◌, ◌++◌, refl, ◌∙◌, arith}
 use Rattle.std.specs.Prelude.{max}
+use Rattle.std.specs.List.{flat_map}
 use Rattle.std.proofs.Math.Nat.{max-le, le-max_left, le-max_right}
 use Rattle.std.proofs.lemmas.Bool.{and_parts, and_from, leb-true, le-leb}
 use Rattle.std.proofs.lemmas.List.Folds.{list_all-append}
 use Rattle.fx_expr.specs.ExprTree.{ExprTree}
 use Rattle.fx_expr.specs.ShapeTree.{ShapeTree}
-use Rattle.fx_spec.specs.SpecTree.{SpecTree}
+use Rattle.fx_spec.specs.Written.{WrittenTree, DefTree, TextTree}
 use Rattle.fx_spec.specs.CommandTree.{ActTree, CommandTree, Block, block}
-use Rattle.fx_spec.specs.Levels.{expr_levels as expr_depth, shape_levels as shape_depth, spec_levels as spec_depth, act_levels as act_depth, command_levels as command_depth, block_levels as block_depth, txn_levels as txn_depth}
+use Rattle.fx_spec.specs.Levels.{expr_levels as expr_depth, shape_levels as shape_depth, exprs_levels as exprs_depth, spec_levels as spec_depth, params_levels as params_depth, def_levels as def_depth, defs_levels as defs_depth, text_levels as text_depth, act_levels as act_depth, command_levels as command_depth, block_levels as block_depth, txn_levels as txn_depth}
 use Rattle.fx_parse.specs.Grammars.{expr_levels, shape_levels}
 use Rattle.fx_parse.proofs.Machine.{at_most}
 use Rattle.fx_parse.proofs.ExprLink.{front_low, rest_low, tail_low}
 use Rattle.fx_grammar.specs.Agree.{script_levels as script_depth}
-use Rattle.fx_grammar.specs.TokenLevels.{spec_token_levels, act_rest_levels, command_token_levels, block_token_levels, txn_token_levels, script_token_levels}
+use Rattle.fx_grammar.specs.TokenLevels.{listed_levels, spec_token_levels, param_token_levels, def_token_levels, text_token_levels, act_rest_levels, command_token_levels, block_token_levels, txn_token_levels, script_token_levels}
 
 -- no level is above a bound
 pub record Low (b : ℕ) (l : List ℕ) : Type 0 where
@@ -61,6 +62,21 @@ here b d m h = omega arith
 
 inside : (b d m : ℕ) → d + (1 + m) ≤ suc b → suc d + m ≤ suc b
 inside b d m h = omega arith
+
+head : {b d : ℕ} {l : List ℕ} → Low b (d ∷ l) → d ≤ b
+head {b} {d} h = leb-true d b (and_parts _ _ h.low).0
+
+next : (b d : ℕ) → d ≤ b → suc d ≤ suc b
+next b d h = omega arith
+
+both : (b d m n : ℕ) → d + m ≤ b → d + n ≤ b → d + max m n ≤ b
+both b d m n h i = let most = max-le {a = m} {b = n} {k = b - d} (omega arith) (omega arith) in omega (arith, most, h)
+
+left : (b d m n : ℕ) → d + max m n ≤ b → d + m ≤ b
+left b d m n h = omega (arith, le-max_left m n)
+
+right : (b d m n : ℕ) → d + max m n ≤ b → d + n ≤ b
+right b d m n h = omega (arith, le-max_right m n)
 
 pub expr_deep : (b d : ℕ) (e : ExprTree) → Low b (expr_levels d e) → d + expr_depth e ≤ suc b
 expr_deep b d (ExprTree.bin op x y) h =
@@ -127,43 +143,120 @@ shape_low b d ShapeTree.int h = leaf_low b d h
 shape_low b d ShapeTree.bool h = leaf_low b d h
 shape_low b d ShapeTree.names h = leaf_low b d h
 
-pub spec_deep : (b d : ℕ) (s : SpecTree) → Low b (spec_token_levels d s) → d + spec_depth s ≤ suc b
-spec_deep b d (SpecTree.focus e s) h =
+-- parts of level d with commas between them, the deepest of which is so deep
+module _ {Part : Type 0} (levels : Part → List ℕ) (depth : Part → ℕ) (all : List Part → ℕ) (nothing : all [] ≡ 0) (more : (p : Part) (ps : List Part) → all (p ∷ ps) ≡ max (depth p) (all ps)) (b d : ℕ) where
+  first_of : (p : Part) (ps : List Part) → d + all (p ∷ ps) ≤ suc b → d + depth p ≤ suc b
+  first_of p ps h = left (suc b) d (depth p) (all ps) (omega (arith, h, more p ps))
+
+  others_of : (p : Part) (ps : List Part) → d + all (p ∷ ps) ≤ suc b → d + all ps ≤ suc b
+  others_of p ps h = right (suc b) d (depth p) (all ps) (omega (arith, h, more p ps))
+
+  all_of : (p : Part) (ps : List Part) → d + depth p ≤ suc b → d + all ps ≤ suc b → d + all (p ∷ ps) ≤ suc b
+  all_of p ps h i = let most = both (suc b) d (depth p) (all ps) h i in omega (arith, most, more p ps)
+
+  module _ (deep : (p : Part) → Low b (levels p) → d + depth p ≤ suc b) (fits : d ≤ suc b) where
+    behind_deep : (ps : List Part) → Low b (flat_map (λ q. 0 ∷ levels q) ps) → d + all ps ≤ suc b
+    behind_deep [] h = omega (arith, nothing, fits)
+    behind_deep (p ∷ ps) h =
+        let inner = tail h in
+        all_of p ps (deep p (front (levels p) _ inner)) (behind_deep ps (rest (levels p) _ inner))
+
+    pub listed_deep : (ps : List Part) → Low b (listed_levels levels ps) → d + all ps ≤ suc b
+    listed_deep [] h = omega (arith, nothing, fits)
+    listed_deep (p ∷ ps) h = all_of p ps (deep p (front (levels p) _ h)) (behind_deep ps (rest (levels p) _ h))
+
+  module _ (low : (p : Part) → d + depth p ≤ suc b → Low b (levels p)) where
+    behind_low : (ps : List Part) → d + all ps ≤ suc b → Low b (flat_map (λ q. 0 ∷ levels q) ps)
+    behind_low [] h = none
+    behind_low (p ∷ ps) h = zero (join (low p (first_of p ps h)) (behind_low ps (others_of p ps h)))
+
+    pub listed_low : (ps : List Part) → d + all ps ≤ suc b → Low b (listed_levels levels ps)
+    listed_low [] h = none
+    listed_low (p ∷ ps) h = join (low p (first_of p ps h)) (behind_low ps (others_of p ps h))
+
+args_deep : (b d : ℕ) (es : List ExprTree) → d ≤ suc b → Low b (listed_levels (expr_levels d) es) → d + exprs_depth es ≤ suc b
+args_deep b d es fits h = listed_deep (expr_levels d) expr_depth exprs_depth refl (λ e es. refl) b d (λ e low. expr_deep b d e low) fits es h
+
+args_low : (b d : ℕ) (es : List ExprTree) → d + exprs_depth es ≤ suc b → Low b (listed_levels (expr_levels d) es)
+args_low b d es h = listed_low (expr_levels d) expr_depth exprs_depth refl (λ e es. refl) b d (λ e deep. expr_low b d e deep) es h
+
+params_deep : (b d : ℕ) (ps : List (List ℕ × ShapeTree)) → d ≤ suc b → Low b (listed_levels (param_token_levels d) ps) → d + params_depth ps ≤ suc b
+params_deep b d ps fits h =
+    listed_deep (param_token_levels d) (λ p. shape_depth p.1) params_depth refl (λ p ps. refl) b d (λ p low. shape_deep b d p.1 (tail (tail low))) fits ps h
+
+params_low : (b d : ℕ) (ps : List (List ℕ × ShapeTree)) → d + params_depth ps ≤ suc b → Low b (listed_levels (param_token_levels d) ps)
+params_low b d ps h =
+    listed_low (param_token_levels d) (λ p. shape_depth p.1) params_depth refl (λ p ps. refl) b d (λ p deep. zero (zero (shape_low b d p.1 deep))) ps h
+
+pub spec_deep : (b d : ℕ) (s : WrittenTree) → Low b (spec_token_levels d s) → d + spec_depth s ≤ suc b
+spec_deep b d (WrittenTree.focus e s) h =
     let inner = tail h in
     let behind = tail (rest (expr_levels (suc d) e) _ inner) in
     two b d (expr_depth e) (spec_depth s) (expr_deep b (suc d) e (front (expr_levels (suc d) e) _ inner)) (spec_deep b (suc d) s (front (spec_token_levels (suc d) s) _ behind))
-spec_deep b d (SpecTree.pair x s t) h =
+spec_deep b d (WrittenTree.pair x s t) h =
     let inner = tail (tail (tail h)) in
     let behind = tail (rest (spec_token_levels (suc d) s) _ inner) in
     two b d (spec_depth s) (spec_depth t) (spec_deep b (suc d) s (front (spec_token_levels (suc d) s) _ inner)) (spec_deep b (suc d) t (front (spec_token_levels (suc d) t) _ behind))
-spec_deep b d (SpecTree.comp s x e) h =
+spec_deep b d (WrittenTree.comp s x e) h =
     let inner = tail h in
     let behind = tail (tail (tail (rest (spec_token_levels (suc d) s) _ inner))) in
     two b d (spec_depth s) (expr_depth e) (spec_deep b (suc d) s (front (spec_token_levels (suc d) s) _ inner)) (expr_deep b (suc d) e (front (expr_levels (suc d) e) _ behind))
-spec_deep b d (SpecTree.opt s) h = one b d (spec_depth s) (spec_deep b (suc d) s (front (spec_token_levels (suc d) s) _ (tail (tail h))))
-spec_deep b d (SpecTree.pred e) h = one b d (expr_depth e) (expr_deep b (suc d) e (front (expr_levels (suc d) e) _ (tail (tail h))))
-spec_deep b d SpecTree.file h = leaf_deep h
-spec_deep b d SpecTree.dir h = leaf_deep h
-spec_deep b d SpecTree.link h = leaf_deep h
+spec_deep b d (WrittenTree.opt s) h = one b d (spec_depth s) (spec_deep b (suc d) s (front (spec_token_levels (suc d) s) _ (tail (tail h))))
+spec_deep b d (WrittenTree.pred e) h = one b d (expr_depth e) (expr_deep b (suc d) e (front (expr_levels (suc d) e) _ (tail (tail h))))
+spec_deep b d (WrittenTree.call f es) h = one b d (exprs_depth es) (args_deep b (suc d) es (next b d (head h)) (front (listed_levels (expr_levels (suc d)) es) _ (tail (tail h))))
+spec_deep b d WrittenTree.file h = leaf_deep h
+spec_deep b d WrittenTree.dir h = leaf_deep h
+spec_deep b d WrittenTree.link h = leaf_deep h
 
-pub spec_low : (b d : ℕ) (s : SpecTree) → d + spec_depth s ≤ suc b → Low b (spec_token_levels d s)
-spec_low b d (SpecTree.focus e s) h =
+pub spec_low : (b d : ℕ) (s : WrittenTree) → d + spec_depth s ≤ suc b → Low b (spec_token_levels d s)
+spec_low b d (WrittenTree.focus e s) h =
     let left = expr_low b (suc d) e (first b d (expr_depth e) (spec_depth s) h) in
     let right = spec_low b (suc d) s (second b d (expr_depth e) (spec_depth s) h) in
     cons (here b d (max (expr_depth e) (spec_depth s)) h) (join left (zero (join right (zero none))))
-spec_low b d (SpecTree.pair x s t) h =
+spec_low b d (WrittenTree.pair x s t) h =
     let left = spec_low b (suc d) s (first b d (spec_depth s) (spec_depth t) h) in
     let right = spec_low b (suc d) t (second b d (spec_depth s) (spec_depth t) h) in
     cons (here b d (max (spec_depth s) (spec_depth t)) h) (zero (zero (join left (zero (join right (zero none))))))
-spec_low b d (SpecTree.comp s x e) h =
+spec_low b d (WrittenTree.comp s x e) h =
     let left = spec_low b (suc d) s (first b d (spec_depth s) (expr_depth e) h) in
     let right = expr_low b (suc d) e (second b d (spec_depth s) (expr_depth e) h) in
     cons (here b d (max (spec_depth s) (expr_depth e)) h) (join left (zero (zero (zero (join right (zero none))))))
-spec_low b d (SpecTree.opt s) h = cons (here b d (spec_depth s) h) (zero (join (spec_low b (suc d) s (inside b d (spec_depth s) h)) (zero none)))
-spec_low b d (SpecTree.pred e) h = cons (here b d (expr_depth e) h) (zero (join (expr_low b (suc d) e (inside b d (expr_depth e) h)) (zero none)))
-spec_low b d SpecTree.file h = leaf_low b d h
-spec_low b d SpecTree.dir h = leaf_low b d h
-spec_low b d SpecTree.link h = leaf_low b d h
+spec_low b d (WrittenTree.opt s) h = cons (here b d (spec_depth s) h) (zero (join (spec_low b (suc d) s (inside b d (spec_depth s) h)) (zero none)))
+spec_low b d (WrittenTree.pred e) h = cons (here b d (expr_depth e) h) (zero (join (expr_low b (suc d) e (inside b d (expr_depth e) h)) (zero none)))
+spec_low b d (WrittenTree.call f es) h = cons (here b d (exprs_depth es) h) (zero (join (args_low b (suc d) es (inside b d (exprs_depth es) h)) (zero none)))
+spec_low b d WrittenTree.file h = leaf_low b d h
+spec_low b d WrittenTree.dir h = leaf_low b d h
+spec_low b d WrittenTree.link h = leaf_low b d h
+
+def_deep : (b d : ℕ) (f : DefTree) → Low b (def_token_levels d f) → d + def_depth f ≤ suc b
+def_deep b d f h =
+    let inner = tail (tail (tail h)) in
+    let params = listed_levels (param_token_levels (suc d)) f.params in
+    two b d (params_depth f.params) (spec_depth f.body) (params_deep b (suc d) f.params (next b d (head h)) (front params _ inner)) (spec_deep b (suc d) f.body (tail (tail (rest params _ inner))))
+
+def_low : (b d : ℕ) (f : DefTree) → d + def_depth f ≤ suc b → Low b (def_token_levels d f)
+def_low b d f h =
+    let params = params_low b (suc d) f.params (first b d (params_depth f.params) (spec_depth f.body) h) in
+    let body = spec_low b (suc d) f.body (second b d (params_depth f.params) (spec_depth f.body) h) in
+    cons (here b d (max (params_depth f.params) (spec_depth f.body)) h) (zero (zero (join params (zero (zero body)))))
+
+defs_deep : (b d : ℕ) (fs : List DefTree) → d ≤ suc b → Low b (flat_map (def_token_levels d) fs) → d + defs_depth fs ≤ suc b
+defs_deep b d [] fits h = omega (arith, fits)
+defs_deep b d (f ∷ fs) fits h =
+    both (suc b) d (def_depth f) (defs_depth fs) (def_deep b d f (front (def_token_levels d f) _ h)) (defs_deep b d fs fits (rest (def_token_levels d f) _ h))
+
+defs_low : (b d : ℕ) (fs : List DefTree) → d + defs_depth fs ≤ suc b → Low b (flat_map (def_token_levels d) fs)
+defs_low b d [] h = none
+defs_low b d (f ∷ fs) h = join (def_low b d f (left (suc b) d (def_depth f) (defs_depth fs) h)) (defs_low b d fs (right (suc b) d (def_depth f) (defs_depth fs) h))
+
+pub text_deep : (b d : ℕ) (t : TextTree) → Low b (text_token_levels d t) → d + text_depth t ≤ suc b
+text_deep b d t h =
+    let root = spec_deep b d t.root (rest (flat_map (def_token_levels d) t.defs) _ h) in
+    both (suc b) d (defs_depth t.defs) (spec_depth t.root) (defs_deep b d t.defs (omega (arith, root)) (front (flat_map (def_token_levels d) t.defs) _ h)) root
+
+pub text_low : (b d : ℕ) (t : TextTree) → d + text_depth t ≤ suc b → Low b (text_token_levels d t)
+text_low b d t h =
+    join (defs_low b d t.defs (left (suc b) d (defs_depth t.defs) (spec_depth t.root) h)) (spec_low b d t.root (right (suc b) d (defs_depth t.defs) (spec_depth t.root) h))
 
 -- an act at the end of a command of level d
 pub act_deep : (b d : ℕ) (a : ActTree) → d ≤ b → Low b (act_rest_levels d a) → d + act_depth a ≤ suc b
@@ -191,21 +284,6 @@ act_low b d ActTree.up h = none
 act_low b d ActTree.top h = none
 act_low b d ActTree.create h = none
 act_low b d ActTree.remove h = none
-
-head : {b d : ℕ} {l : List ℕ} → Low b (d ∷ l) → d ≤ b
-head {b} {d} h = leb-true d b (and_parts _ _ h.low).0
-
-next : (b d : ℕ) → d ≤ b → suc d ≤ suc b
-next b d h = omega arith
-
-both : (b d m n : ℕ) → d + m ≤ b → d + n ≤ b → d + max m n ≤ b
-both b d m n h i = let most = max-le {a = m} {b = n} {k = b - d} (omega arith) (omega arith) in omega (arith, most, h)
-
-left : (b d m n : ℕ) → d + max m n ≤ b → d + m ≤ b
-left b d m n h = omega (arith, le-max_left m n)
-
-right : (b d m n : ℕ) → d + max m n ≤ b → d + n ≤ b
-right b d m n h = omega (arith, le-max_right m n)
 
 leaf_here : (b d : ℕ) → d + 1 ≤ suc b → d ≤ b
 leaf_here b d h = omega arith

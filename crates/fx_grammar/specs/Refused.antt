@@ -1,14 +1,16 @@
 -- Why a text is not one whole tree, and where.
-use Rattle.std.specs.Prelude.{◌≡◌, ◌<◌, ◌≤◌, ◌⊎◌, ℕ, true, List, [], ◌∷◌, ◌++◌, length}
+use Rattle.std.specs.Prelude.{◌≡◌, ◌<◌, ◌≤◌, ◌⊎◌, ℕ, true, List, [], ◌∷◌, ◌++◌, length, map}
 use Rattle.fx_base.specs.Limits.{source_limit}
 use Rattle.fx_lex.specs.declared.token.Token.{Token}
 use Rattle.fx_lex.specs.declared.token.Spanned.{Spanned}
+use Rattle.fx_lex.specs.Kept.{kept}
 use Rattle.fx_lex.specs.Reading.{AreTokensOf, IsBadAt}
 use Rattle.fx_parse.specs.declared.fault.ParseFault.{ParseFault}
 use Rattle.fx_parse.specs.declared.fault.ParseFault.TheVariants as fault
 use Rattle.fx_parse.specs.Readable.{Grammar, Stands, Begins, IsShallow, IsTooNested}
 use Rattle.fx_parse.specs.Reader.{kinds}
 use Rattle.fx_parse.specs.ReadAt.{place_left}
+use Rattle.fx_grammar.specs.Grammars.{descriptions}
 
 module _ {Tree : Type 0} (g : Grammar Tree) where
   -- With k tokens left, the first of them is the first with which the tokens so far begin no tree, or the tokens end too
@@ -42,11 +44,20 @@ module _ {Tree : Type 0} (g : Grammar Tree) where
     pub wrong : Wrong (kinds spanned) left
     pub stands : place ≡ place_left (record { spanned = spanned; text_len = length text }) left
 
-  -- A refusal of a text that is to be one tree and nothing else: it is longer than 65,536 bytes; or it has no tokens, and
-  -- this is the first place where none begins; or this is the place where its tokens go wrong first. Or memory ran out.
+  -- A refusal of a text that is to be one tree and nothing else, and whose tokens are read so: it is longer than 65,536
+  -- bytes; or it has no tokens, and this is the first place where none begins; or this is the place where its tokens go
+  -- wrong first. Or memory ran out.
+  abbrev pub IsRefusedAs : (List Token → List Token) → List ℕ → ParseFault → Type 0
+  IsRefusedAs read text fault.TooLarge = source_limit < length text
+  IsRefusedAs read text (fault.BadToken place) = (length text ≤ source_limit) × IsBadAt text place
+  IsRefusedAs read text (fault.Unexpected place) = GoesWrong (λ ts. IsMisplaced (read ts)) text place
+  IsRefusedAs read text (fault.TooNested place) = GoesWrong (λ ts. IsTooNested g 1 (read ts)) text place
+  IsRefusedAs read text fault.NoMemory = Unit {0}
+
+  -- the tokens are read as they are
   abbrev pub IsRefused : List ℕ → ParseFault → Type 0
-  IsRefused text fault.TooLarge = source_limit < length text
-  IsRefused text (fault.BadToken place) = (length text ≤ source_limit) × IsBadAt text place
-  IsRefused text (fault.Unexpected place) = GoesWrong IsMisplaced text place
-  IsRefused text (fault.TooNested place) = GoesWrong (IsTooNested g 1) text place
-  IsRefused text fault.NoMemory = Unit {0}
+  IsRefused text fault = IsRefusedAs (λ ts. ts) text fault
+
+-- a refusal of a text that is to be a description: it keeps the word `def`
+abbrev pub IsRefusedDescription : List ℕ → ParseFault → Type 0
+IsRefusedDescription text fault = IsRefusedAs descriptions (λ ts. map kept ts) text fault

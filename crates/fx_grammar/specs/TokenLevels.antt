@@ -1,20 +1,37 @@
 -- The level of the form that each token of a description or a script begins, 0 where it begins none.
 use Rattle.std.specs.Prelude.{ℕ, suc, List, [], ◌∷◌, ◌++◌}
 use Rattle.std.specs.List.{flat_map}
+use Rattle.fx_expr.specs.ShapeTree.{ShapeTree}
 use Rattle.fx_parse.specs.Grammars.{expr_levels, shape_levels}
-use Rattle.fx_spec.specs.SpecTree.{SpecTree}
+use Rattle.fx_spec.specs.Written.{WrittenTree, DefTree, TextTree}
 use Rattle.fx_spec.specs.CommandTree.{ActTree, CommandTree, Block, block}
 
+-- a comma begins no form
+abbrev pub listed_levels : {Part : Type 0} → (Part → List ℕ) → List Part → List ℕ
+listed_levels levels [] = []
+listed_levels levels (p ∷ ps) = levels p ++ flat_map (λ q. 0 ∷ levels q) ps
+
 -- each part of a form is a form of the next level
-abbrev pub spec_token_levels : ℕ → SpecTree → List ℕ
-spec_token_levels d SpecTree.file = d ∷ []
-spec_token_levels d SpecTree.dir = d ∷ []
-spec_token_levels d SpecTree.link = d ∷ []
-spec_token_levels d (SpecTree.focus e s) = d ∷ (expr_levels (suc d) e ++ (0 ∷ (spec_token_levels (suc d) s ++ 0 ∷ [])))
-spec_token_levels d (SpecTree.pair x a b) = d ∷ 0 ∷ 0 ∷ (spec_token_levels (suc d) a ++ (0 ∷ (spec_token_levels (suc d) b ++ 0 ∷ [])))
-spec_token_levels d (SpecTree.comp s x e) = d ∷ (spec_token_levels (suc d) s ++ (0 ∷ 0 ∷ 0 ∷ (expr_levels (suc d) e ++ 0 ∷ [])))
-spec_token_levels d (SpecTree.opt s) = d ∷ 0 ∷ (spec_token_levels (suc d) s ++ 0 ∷ [])
-spec_token_levels d (SpecTree.pred e) = d ∷ 0 ∷ (expr_levels (suc d) e ++ 0 ∷ [])
+abbrev pub spec_token_levels : ℕ → WrittenTree → List ℕ
+spec_token_levels d WrittenTree.file = d ∷ []
+spec_token_levels d WrittenTree.dir = d ∷ []
+spec_token_levels d WrittenTree.link = d ∷ []
+spec_token_levels d (WrittenTree.focus e s) = d ∷ (expr_levels (suc d) e ++ (0 ∷ (spec_token_levels (suc d) s ++ 0 ∷ [])))
+spec_token_levels d (WrittenTree.pair x a b) = d ∷ 0 ∷ 0 ∷ (spec_token_levels (suc d) a ++ (0 ∷ (spec_token_levels (suc d) b ++ 0 ∷ [])))
+spec_token_levels d (WrittenTree.comp s x e) = d ∷ (spec_token_levels (suc d) s ++ (0 ∷ 0 ∷ 0 ∷ (expr_levels (suc d) e ++ 0 ∷ [])))
+spec_token_levels d (WrittenTree.opt s) = d ∷ 0 ∷ (spec_token_levels (suc d) s ++ 0 ∷ [])
+spec_token_levels d (WrittenTree.pred e) = d ∷ 0 ∷ (expr_levels (suc d) e ++ 0 ∷ [])
+spec_token_levels d (WrittenTree.call f args) = d ∷ 0 ∷ (listed_levels (expr_levels (suc d)) args ++ 0 ∷ [])
+
+abbrev pub param_token_levels : ℕ → List ℕ × ShapeTree → List ℕ
+param_token_levels d p = 0 ∷ 0 ∷ shape_levels d p.1
+
+abbrev pub def_token_levels : ℕ → DefTree → List ℕ
+def_token_levels d f = d ∷ 0 ∷ 0 ∷ (listed_levels (param_token_levels (suc d)) f.params ++ (0 ∷ 0 ∷ spec_token_levels (suc d) f.body))
+
+-- a text itself is no form
+abbrev pub text_token_levels : ℕ → TextTree → List ℕ
+text_token_levels d t = flat_map (def_token_levels d) t.defs ++ spec_token_levels d t.root
 
 -- behind its first token an act has the parts of a form of level d
 abbrev pub act_rest_levels : ℕ → ActTree → List ℕ

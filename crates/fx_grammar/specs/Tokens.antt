@@ -1,12 +1,13 @@
 -- The tokens of descriptions and scripts, form by form; those of expressions and shapes are the parser's.
-use Rattle.std.specs.Prelude.{Bool, true, ◌&&◌, List, [], ◌∷◌, ◌++◌}
+use Rattle.std.specs.Prelude.{ℕ, Bool, true, ◌&&◌, List, [], ◌∷◌, ◌++◌}
 use Rattle.std.specs.List.{flat_map, list_all}
 use Rattle.fx_lex.specs.declared.token.Token.{Token}
 use Rattle.fx_lex.specs.declared.token.Token.TheVariants as token
 use Rattle.fx_lex.specs.declared.token.Mark.TheVariants as mark
 use Rattle.fx_parse.specs.declared.keyword.Keyword.TheVariants as keyword
 use Rattle.fx_parse.specs.Grammars.{word, opening, closing, comma, expr_tokens, shape_tokens, is_name, has_names}
-use Rattle.fx_spec.specs.SpecTree.{SpecTree}
+use Rattle.fx_expr.specs.ShapeTree.{ShapeTree}
+use Rattle.fx_spec.specs.Written.{WrittenTree, DefTree, TextTree}
 use Rattle.fx_spec.specs.CommandTree.{ActTree, CommandTree, Block, block}
 
 abbrev pub Tokens : Type 0
@@ -20,16 +21,34 @@ bracketed inside = opening ∷ inside ++ closing ∷ []
 abbrev pub braced : Tokens → Tokens
 braced inside = token.Mark mark.LeftBrace ∷ inside ++ token.Mark mark.RightBrace ∷ []
 
-abbrev pub spec_tokens : SpecTree → Tokens
-spec_tokens SpecTree.file = word keyword.File ∷ []
-spec_tokens SpecTree.dir = word keyword.Dir ∷ []
-spec_tokens SpecTree.link = word keyword.Link ∷ []
-spec_tokens (SpecTree.focus e s) = bracketed (expr_tokens e ++ token.Mark mark.ColonColon ∷ spec_tokens s)
-spec_tokens (SpecTree.pair x a b) =
+-- parts with commas between them, which may be none
+abbrev pub listed : {Part : Type 0} → (Part → Tokens) → List Part → Tokens
+listed tokens [] = []
+listed tokens (p ∷ ps) = tokens p ++ flat_map (λ q. comma ∷ tokens q) ps
+
+abbrev pub spec_tokens : WrittenTree → Tokens
+spec_tokens WrittenTree.file = word keyword.File ∷ []
+spec_tokens WrittenTree.dir = word keyword.Dir ∷ []
+spec_tokens WrittenTree.link = word keyword.Link ∷ []
+spec_tokens (WrittenTree.focus e s) = bracketed (expr_tokens e ++ token.Mark mark.ColonColon ∷ spec_tokens s)
+spec_tokens (WrittenTree.pair x a b) =
     token.Mark mark.LeftAngle ∷ token.Word x ∷ token.Mark mark.Colon ∷ spec_tokens a ++ comma ∷ spec_tokens b ++ token.Mark mark.RightAngle ∷ []
-spec_tokens (SpecTree.comp s x e) = braced (spec_tokens s ++ token.Mark mark.Bar ∷ token.Word x ∷ word keyword.In ∷ expr_tokens e)
-spec_tokens (SpecTree.opt s) = word keyword.Opt ∷ bracketed (spec_tokens s)
-spec_tokens (SpecTree.pred e) = word keyword.Pred ∷ bracketed (expr_tokens e)
+spec_tokens (WrittenTree.comp s x e) = braced (spec_tokens s ++ token.Mark mark.Bar ∷ token.Word x ∷ word keyword.In ∷ expr_tokens e)
+spec_tokens (WrittenTree.opt s) = word keyword.Opt ∷ bracketed (spec_tokens s)
+spec_tokens (WrittenTree.pred e) = word keyword.Pred ∷ bracketed (expr_tokens e)
+spec_tokens (WrittenTree.call f args) = token.Word f ∷ bracketed (listed expr_tokens args)
+
+-- `NAME : shape`
+abbrev pub param_tokens : List ℕ × ShapeTree → Tokens
+param_tokens p = token.Word p.0 ∷ token.Mark mark.Colon ∷ shape_tokens p.1
+
+-- `def NAME ( .. ) = spec`
+abbrev pub def_tokens : DefTree → Tokens
+def_tokens d = token.Def ∷ token.Word d.name ∷ bracketed (listed param_tokens d.params) ++ token.Mark mark.Equal ∷ spec_tokens d.body
+
+-- the definitions one after another, and the root behind them
+abbrev pub text_tokens : TextTree → Tokens
+text_tokens t = flat_map def_tokens t.defs ++ spec_tokens t.root
 
 abbrev pub act_tokens : ActTree → Tokens
 act_tokens ActTree.into = word keyword.Into ∷ []
@@ -73,15 +92,25 @@ abbrev pub script_tokens : List (List CommandTree) → Tokens
 script_tokens txns = flat_map txn_tokens txns
 
 -- no name of the description is a kept word
-abbrev pub spec_names : SpecTree → Bool
-spec_names SpecTree.file = true
-spec_names SpecTree.dir = true
-spec_names SpecTree.link = true
-spec_names (SpecTree.focus e s) = has_names e && spec_names s
-spec_names (SpecTree.pair x a b) = is_name x && (spec_names a && spec_names b)
-spec_names (SpecTree.comp s x e) = spec_names s && (is_name x && has_names e)
-spec_names (SpecTree.opt s) = spec_names s
-spec_names (SpecTree.pred e) = has_names e
+abbrev pub spec_names : WrittenTree → Bool
+spec_names WrittenTree.file = true
+spec_names WrittenTree.dir = true
+spec_names WrittenTree.link = true
+spec_names (WrittenTree.focus e s) = has_names e && spec_names s
+spec_names (WrittenTree.pair x a b) = is_name x && (spec_names a && spec_names b)
+spec_names (WrittenTree.comp s x e) = spec_names s && (is_name x && has_names e)
+spec_names (WrittenTree.opt s) = spec_names s
+spec_names (WrittenTree.pred e) = has_names e
+spec_names (WrittenTree.call f args) = is_name f && list_all has_names args
+
+abbrev pub param_names : List ℕ × ShapeTree → Bool
+param_names p = is_name p.0
+
+abbrev pub def_names : DefTree → Bool
+def_names d = is_name d.name && (list_all param_names d.params && spec_names d.body)
+
+abbrev pub text_names : TextTree → Bool
+text_names t = list_all def_names t.defs && spec_names t.root
 
 abbrev pub act_names : ActTree → Bool
 act_names (ActTree.to e) = has_names e

@@ -1,4 +1,4 @@
-ghost use Rattle.fx_spec.specs.Levels.{expr_levels, shape_levels, spec_levels, txn_levels};
+ghost use Rattle.fx_spec.specs.Levels.{expr_levels, shape_levels, text_levels, txn_levels};
 ghost use Rattle.fx_parse.specs.Grammars.{exprs, shapes};
 ghost use Rattle.fx_grammar.specs.Agree.{LevelsAgree, script_levels};
 ghost use Rattle.fx_grammar.specs.Grammars.{descriptions, transactions, scripts};
@@ -7,7 +7,7 @@ ghost use Rattle.fx_grammar.specs.Grammars.{descriptions, transactions, scripts}
 pub fn levels_agree()
     ensures expression { LevelsAgree exprs expr_levels }
     ensures shape { LevelsAgree shapes shape_levels }
-    ensures description { LevelsAgree descriptions spec_levels }
+    ensures description { LevelsAgree descriptions text_levels }
     ensures transaction { LevelsAgree transactions txn_levels }
     ensures script { LevelsAgree scripts script_levels }
 {}

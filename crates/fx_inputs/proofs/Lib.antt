@@ -1,4 +1,6 @@
+pub mod AllRead
 pub mod OneScript
 pub mod Plans
 pub mod ReadRows
 pub mod Stages
+pub mod ViewsRows

@@ -102,6 +102,11 @@ fits plan script before was sum is room few = record {
   few = omega (arith, few, sum, sum_by_push length plan script);
 }
 
+-- a script alone
+pub fits_alone : (plan : Plan) (script : List (List CommandTree)) → plan ≡ [] → IsScript script → length script ≤ 100000 → IsPlan (plan ++ script ∷ [])
+fits_alone plan script none is few =
+    subst (λ p. IsPlan (p ++ script ∷ [])) (sym none) (fits [] script 0 (record { scripts = All-nil IsScript; shells = omega arith; few = omega arith }) refl is (omega arith) (omega (arith, few)))
+
 front_goes_on : (told told' : Option Tree) (paths : Paths) (plan : Plan) (i before : ℕ) (path : List ℕ) (script : List (List CommandTree)) → told' ≡ told → slice_get paths i ≡ Some path → IfSome told (λ t. IsFront t paths plan i before) → IfSome told' (λ t. GoesOn t path before script) → IfSome told (λ t. IsFront t paths (plan ++ script ∷ []) (i + 1) (before + length script))
 front_goes_on None told' paths plan i before path script same at was goes = tt
 front_goes_on (Some t) told' paths plan i before path script same at was goes = front_more t paths plan i before path script at (subst (λ o. IfSome o (λ t. GoesOn t path before script)) same goes) was

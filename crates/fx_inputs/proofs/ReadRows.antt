@@ -43,7 +43,7 @@ spec_unread inputs host host' fails.Failed failed =
     read_failed inputs (FaultAt inputs.spec) (λ t. is_file_at t inputs.spec) (λ _. Unit {0}) host host' (λ fault. inl fault) (λ t _ none. inl none) (some_unit host.told) (failed refl)
 spec_unread inputs host host' fails.NoMemory failed = tt
 
-spec_refused_for : (inputs : Inputs) (text : List ℕ) (cause : TextFault) (t : Tree) → IsReadAt t inputs.spec source_limit text → IsRefusedFor text cause → HasNoSpec t inputs cause
+pub spec_refused_for : (inputs : Inputs) (text : List ℕ) (cause : TextFault) (t : Tree) → IsReadAt t inputs.spec source_limit text → IsRefusedFor text cause → HasNoSpec t inputs cause
 spec_refused_for inputs text cause t read is = record { file = read.file; refused = refused_whole t inputs.spec text cause read is }
 
 pub spec_refused : (inputs : Inputs) (host host' : HostView) (text : List ℕ) (refusal : DescriptionFault) → IfSome host.told (λ t. IsReadAt t inputs.spec source_limit text) → IsUndescribed text refusal → ReadRow inputs host host' (status_of_fault refusal)

@@ -2,3 +2,4 @@ pub mod Causes
 pub mod Inputs
 pub mod Reads
 pub mod Unread
+pub mod Views

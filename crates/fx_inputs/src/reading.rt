@@ -68,7 +68,7 @@ fn read_folder<H: Host>(alloc: Global, inputs: &Inputs, host: &mut H) -> Result<
     Ok(store)
 }
 
-fn gathered(
+pub(crate) fn gathered(
     alloc: Global,
     description: Checked,
     plan: Plan,
@@ -85,6 +85,32 @@ fn gathered(
     Ok(Arc::new(alloc, base)?)
 }
 
+/// Reads what a run begins with besides its description: the scripts in order, and the folder.
+pub(crate) fn read_rest<H: Host>(
+    alloc: Global,
+    inputs: &Inputs,
+    description: Checked,
+    host: &mut H,
+) -> Result<Arc<Base>, Status>
+    requires inputs { AreInputs inputs.now }
+    requires spec { IfSome (H.view host.old).told
+        (λ t. HasSpec t (asked_inputs inputs.now) description) }
+    ensures read { IfOk result (λ base. IfSome (H.view host.old).told
+        (λ t. HasBase t (asked_inputs inputs.now) (base_tree base.value))) }
+    ensures count { IfOk result
+        (λ base. HasEachScript (asked_inputs inputs.now) (base_tree base.value)) }
+    ensures described { IfOk result (λ base. base.value.description ≡ description) }
+    ensures same { ReadsOnly (H.view host.old) (H.view host.new) }
+    ensures fit { InputsAskFit (asked_inputs inputs.now) (H.view host.old) (H.view host.new) }
+    ensures ends { IfErr result
+        (ReadRow (asked_inputs inputs.now) (H.view host.old) (H.view host.new)) }
+{
+    let plan = read_scripts(alloc, inputs, host)?;
+    let loaded = read_folder(alloc, inputs, host)?;
+    let base = gathered(alloc, description, plan, loaded)?;
+    Ok(base)
+}
+
 /// Reads what a run begins with: the description, the scripts in order, and the folder. It asks nothing but reads, and
 /// ends for no other cause than that one of these is not read or is refused, or that memory runs out.
 pub fn read_base<H: Host>(alloc: Global, inputs: &Inputs, host: &mut H) -> Result<Arc<Base>, Status>
@@ -99,8 +125,6 @@ pub fn read_base<H: Host>(alloc: Global, inputs: &Inputs, host: &mut H) -> Resul
         (ReadRow (asked_inputs inputs.now) (H.view host.old) (H.view host.new)) }
 {
     let description = read_description(alloc, inputs, host)?;
-    let plan = read_scripts(alloc, inputs, host)?;
-    let loaded = read_folder(alloc, inputs, host)?;
-    let base = gathered(alloc, description, plan, loaded)?;
+    let base = read_rest(alloc, inputs, description, host)?;
     Ok(base)
 }

@@ -65,7 +65,7 @@ pub enum Unread {
 
 impl ScriptUnread {
     /// Why the scripts of a run are not read, where this word names the script.
-    fn at(self, word: u32) -> Unread
+    pub(crate) fn at(self, word: u32) -> Unread
         ensures { result ≡ unread_at word self }
     {
         match self {
@@ -77,7 +77,7 @@ impl ScriptUnread {
 }
 
 /// The script at a path, after so many transactions.
-fn read_script_at<H: Host>(
+pub(crate) fn read_script_at<H: Host>(
     alloc: Global,
     host: &mut H,
     path: &HostText,

@@ -18,7 +18,7 @@ use Rattle.fx_words.specs.Job.{JournalJob}
 use Rattle.fx_run_command.specs.Rows.{CannotSave}
 use Rattle.fx_run_command.proofs.Completing.{none_refused, not_both, can_read}
 use Rattle.fx_durable.specs.Disk.{File, DiskView}
-use Rattle.fx_journal_command.specs.Rows.{JournalRow, KeepsJournal, CannotKeep, HoldsBytes, IsProperJournal}
+use Rattle.fx_journal_command.specs.Rows.{JournalRow, KeepsJournal, CannotLeave, CannotStart, HoldsBytes, IsProperJournal}
 use Rattle.fx_journal_command.proofs.Keeping.{unbegun_keeps}
 
 abbrev Ends : Status → Type 0
@@ -34,12 +34,19 @@ not_other path None empty other = other
 not_other path (Some file) empty other = other empty.0
 
 module _ (j : JournalJob) (t : Tree) (host host' : HostView) (sink sink' : SinkView) (disk disk' : DiskView) (is : host.told ≡ Some t) (proper : IsProperJournal t disk j) (none : Rose host.faults host'.faults → ⊥) (quiet : Rose sink.faults sink'.faults → ⊥) (calm : Rose disk.faults disk'.faults → ⊥) where
-  not_kept : CannotKeep j host host' sink sink' disk disk' → ⊥
-  not_kept (inl (inl fault)) = none fault.rose
-  not_kept (inl (inr cannot)) = can_write t j.run.out proper.run.there proper.run.free proper.run.above (subst (λ o. IsSomeAnd o (λ t. CannotSave t j.run)) is cannot).1
-  not_kept (inr (inl rose)) = quiet rose
-  not_kept (inr (inr (inl rose))) = calm rose
-  not_kept (inr (inr (inr other))) = not_other j.journal disk.told proper.empty other
+  not_left : CannotLeave j.run host host' → ⊥
+  not_left (inl fault) = none fault.rose
+  not_left (inr cannot) = can_write t j.run.out proper.run.there proper.run.free proper.run.above (subst (λ o. IsSomeAnd o (λ t. CannotSave t j.run)) is cannot).1
+
+  not_unbegun : CannotLeave j.run host host' ⊎ CannotStart j host disk disk' → ⊥
+  not_unbegun (inl cannot) = not_left cannot
+  not_unbegun (inr (inl rose, free)) = calm rose
+  not_unbegun (inr (inr other, free)) = not_other j.journal disk.told proper.empty other
+
+  not_broken : CannotLeave j.run host host' ⊎ (Rose sink.faults sink'.faults ⊎ Rose disk.faults disk'.faults) → ⊥
+  not_broken (inl cannot) = not_left cannot
+  not_broken (inr (inl rose)) = quiet rose
+  not_broken (inr (inr rose)) = calm rose
 
   not_full : IsTaken t j.run.out ⊎ (((there : Bool) × IsReady t j.run.out there) × HoldsBytes disk) → ⊥
   not_full (inl taken) = not_taken t j.run.out proper.run.there proper.run.free taken
@@ -57,7 +64,8 @@ journal_completes j t host host' sink sink' disk disk' status.ReadFault is prope
     absurd (can_read t j.run.inputs proper.run.inputs (subst (λ o. IsSomeAnd o (λ t. CannotRead t j.run.inputs)) is cannot))
 journal_completes j t host host' sink sink' disk disk' status.NotEmpty is proper none quiet calm row =
     absurd (not_full j t host host' sink sink' disk disk' is proper none quiet calm (subst (λ o. IfSome o (λ t. HasInputs t j.run.inputs × (IsTaken t j.run.out ⊎ (((there : Bool) × IsReady t j.run.out there) × HoldsBytes disk)))) is row.2).1)
-journal_completes j t host host' sink sink' disk disk' status.WriteFault is proper none quiet calm row = absurd (not_kept j t host host' sink sink' disk disk' is proper none quiet calm row.0)
+journal_completes j t host host' sink sink' disk disk' status.WriteFault is proper none quiet calm (inl row) = absurd (not_unbegun j t host host' sink sink' disk disk' is proper none quiet calm row.cause)
+journal_completes j t host host' sink sink' disk disk' status.WriteFault is proper none quiet calm (inr row) = absurd (not_broken j t host host' sink sink' disk disk' is proper none quiet calm row.cause)
 journal_completes j t host host' sink sink' disk disk' status.NoMemory is proper none quiet calm row = inr refl
 journal_completes j t host host' sink sink' disk disk' (status.BadJournal place) is proper none quiet calm row = absurd row
 

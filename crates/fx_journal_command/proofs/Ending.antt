@@ -1,14 +1,14 @@
 -- The rows of the table of statuses, from what the stages ensure.
-use Rattle.std.proofs.Common.{◌≡◌, ◌⊎◌, inl, inr, ℕ, Bool, ◌≤◌, List, ◌++◌, length, take, refl, sym, subst, arith}
-use Rattle.std.specs.Prelude.{IfSome, IsSomeAnd}
+use Rattle.std.proofs.Common.{◌≡◌, ◌⊎◌, inl, inr, ℕ, Bool, false, ◌≤◌, List, ◌++◌, length, take, Option, Some, None, refl, sym, subst, arith}
+use Rattle.std.specs.Prelude.{IfSome}
 use Rattle.fx_base.specs.Causes.{Rose}
 use Rattle.fx_store.specs.Whole.{Nodes}
-use Rattle.fx_outside.specs.Host.{HostView, ReadsOnly, FaultIn}
-use Rattle.fx_outside.specs.Path.{parts}
+use Rattle.fx_outside.specs.Host.{HostView, ReadsOnly, FaultIn, HasFailed}
+use Rattle.fx_outside.specs.Path.{parts, is_fit}
 use Rattle.fx_outside.specs.Sink.{SinkView}
 use Rattle.fx_outside.specs.Tree.{Tree}
 use Rattle.fx_outside.proofs.Views.{reads_none, fault_in_back}
-use Rattle.fx_folder.specs.Folder.{IfTold, IsReady, IsSaved, IsPartlySaved, Saves, SavesPart, SaveCause, LacksFolder}
+use Rattle.fx_folder.specs.Folder.{IfTold, IsReady, IsTaken, IsSaved, IsPartlySaved, Saves, SavesPart, SaveCause, LacksFolder}
 use Rattle.fx_folder.specs.declared.fault.SaveFault.TheVariants as save
 use Rattle.fx_spec.specs.Order.{BaseTree, state}
 use Rattle.fx_machine.specs.declared.retry.Retry.{Retry}
@@ -21,38 +21,62 @@ use Rattle.fx_command.specs.declared.status.Status.{Status}
 use Rattle.fx_command.specs.declared.status.Status.TheVariants as status
 use Rattle.fx_command.proofs.Told.{if_some_map, if_some_both, some_and, if_told_same, if_told_map, same, grows_all, cause_back, told_back, some_back, same_back}
 use Rattle.fx_inputs.specs.Inputs.{HasInputs, HasBase, CannotRead}
-use Rattle.fx_inputs.specs.Reads.{HasReadFault}
+use Rattle.fx_inputs.specs.Reads.{HasReadFault, ReadRow}
 use Rattle.fx_inputs.proofs.ReadRows.{read_fault_back}
+use Rattle.fx_making.specs.Out.{IsUnready}
 use Rattle.fx_words.specs.Job.{RunJob, JournalJob, Scheduled, shells_of}
 use Rattle.fx_run_command.specs.Outcome.{IsPrintedAs, IsTracedAs}
-use Rattle.fx_run_command.specs.Rows.{RunRow, EndsAs, IsDone, CannotSave}
+use Rattle.fx_run_command.specs.Rows.{IsDone, CannotSave}
 use Rattle.fx_durable.specs.Disk.{DiskView}
 use Rattle.fx_journaling.specs.declared.fault.RecordFault.{RecordFault}
 use Rattle.fx_journaling.specs.declared.fault.RecordFault.TheVariants as fault
 use Rattle.fx_journaling.specs.Recorded.{HasRecorded, HasBrokenOff}
 use Rattle.fx_journaling.specs.Taken.{HasGrown}
 use Rattle.fx_journaling.proofs.Taking.{grown_as, grown_more}
-use Rattle.fx_journal_command.specs.Rows.{IsStopped, HasWrittenAll, IsPartlyLeft, IsWholeLeft, IsLeft, IsLeftOrWhole, CannotKeep, JournalRow}
+use Rattle.fx_journal_command.specs.Rows.{HasWrittenAll, IsLeft, IsLeftOrWhole, CannotLeave, CannotStart, HasEmptyJournal, IsUnbegun, IsBrokenOff, JournalRow}
 use Rattle.fx_journal_command.specs.Stages.{StartCause, holds, fails, status_in, RecordCause, FinishEnd, done, unmade, unsaved, unwritten}
 use Rattle.fx_journal_command.proofs.Keeping.{nothing_more, front_of, bytes_of, report_of, grown_by}
 
+-- what a run has left that is cut before its report
+part_at_most : (j : RunJob) (sink sink' : SinkView) (told told' : Option Tree) → IfTold told told' (IsLeft j sink.written sink'.written) → IfTold told told' (IsLeftOrWhole j sink.written sink'.written)
+part_at_most j sink sink' None told' left = left
+part_at_most j sink sink' (Some t) None left = left
+part_at_most j sink sink' (Some t) (Some t') left = inl left
+
 -- ---- before the journal is started
 
--- a stage that only reads ends as one of a run
-as_run_row : (j : JournalJob) (host host' : HostView) (sink : SinkView) (disk : DiskView) (st : Status) → ReadsOnly host host' → RunRow j.run host host' sink sink st → JournalRow j host host' sink sink disk disk st
-as_run_row j host host' sink disk status.Done reads row = row
-as_run_row j host host' sink disk status.Usage reads row = row
-as_run_row j host host' sink disk (status.TextRefused word cause) reads row = (row.0, refl, row.1)
-as_run_row j host host' sink disk (status.FolderRefused cause) reads row = (row.0, refl, row.1)
-as_run_row j host host' sink disk status.ReadFault reads row = (row.0, refl, row.1)
-as_run_row j host host' sink disk status.NotEmpty reads row = (row.0, refl, if_some_map _ _ host.told (λ t is. (is.0, inl is.1)) row.1)
-as_run_row j host host' sink disk status.WriteFault reads (inl row) = (inl row.cause, inl (inl (same host host' sink reads)))
-as_run_row j host host' sink disk status.WriteFault reads (inr row) = (inr (inl row.cause), inl (inl (same host host' sink reads)))
-as_run_row j host host' sink disk status.NoMemory reads row = inl (same host host' sink reads)
-as_run_row j host host' sink disk (status.BadJournal place) reads row = row
+-- the inputs are not read
+pub inputs_unread : (j : JournalJob) (host host' : HostView) (sink : SinkView) (disk : DiskView) (st : Status) → ReadsOnly host host' → ReadRow j.run.inputs host host' st → JournalRow j host host' sink sink disk disk st
+inputs_unread j host host' sink disk status.Done reads row = absurd row
+inputs_unread j host host' sink disk status.Usage reads row = absurd row
+inputs_unread j host host' sink disk (status.TextRefused word cause) reads row = (same host host' sink reads, refl, row)
+inputs_unread j host host' sink disk (status.FolderRefused cause) reads row = (same host host' sink reads, refl, row)
+inputs_unread j host host' sink disk status.ReadFault reads row = (same host host' sink reads, refl, row)
+inputs_unread j host host' sink disk status.NotEmpty reads row = absurd row
+inputs_unread j host host' sink disk status.WriteFault reads row = absurd row
+inputs_unread j host host' sink disk status.NoMemory reads row = inl (same host host' sink reads)
+inputs_unread j host host' sink disk (status.BadJournal place) reads row = absurd row
 
-pub as_run : (j : JournalJob) (host host' : HostView) (sink : SinkView) (disk : DiskView) (st : Status) → ReadsOnly host host' → EndsAs j.run host host' st → JournalRow j host host' sink sink disk disk st
-as_run j host host' sink disk st reads ends = as_run_row j host host' sink disk st reads (ends sink)
+-- OUT cannot be written
+unready_cause : (j : RunJob) (host host' : HostView) → IfSome host.told (λ t. HasInputs t j.inputs) → HasFailed (FaultIn j.out) (λ _. is_fit j.out) host host' → CannotLeave j host host'
+unready_cause j host host' inputs (inl fault) = inl fault
+unready_cause j host host' inputs (inr unfit) = inr (some_and (λ t. HasInputs t j.inputs) (λ t. is_fit j.out ≡ false) (λ t. CannotSave t j) host.told (λ t has unfit. (has, inl unfit)) inputs unfit)
+
+pub out_unready : (j : JournalJob) (host host' : HostView) (sink : SinkView) (disk : DiskView) (st : Status) → ReadsOnly host host' → IfSome host.told (λ t. HasInputs t j.run.inputs) → IsUnready j.run.out host host' st → JournalRow j host host' sink sink disk disk st
+out_unready j host host' sink disk status.Done reads inputs cause = absurd cause
+out_unready j host host' sink disk status.Usage reads inputs cause = absurd cause
+out_unready j host host' sink disk (status.TextRefused word why) reads inputs cause = absurd cause
+out_unready j host host' sink disk (status.FolderRefused why) reads inputs cause = absurd cause
+out_unready j host host' sink disk status.ReadFault reads inputs cause = absurd cause
+out_unready j host host' sink disk status.NotEmpty reads inputs taken = (
+  same host host' sink reads,
+  refl,
+  if_some_both (λ t. HasInputs t j.run.inputs) (λ t. IsTaken t j.run.out) _ host.told (λ t has taken. (has, inl taken)) inputs taken,
+)
+out_unready j host host' sink disk status.WriteFault reads inputs failed =
+    inl (record { inputs = inputs; cause = inl (unready_cause j.run host host' inputs failed); same = same host host' sink reads })
+out_unready j host host' sink disk status.NoMemory reads inputs cause = inl (same host host' sink reads)
+out_unready j host host' sink disk (status.BadJournal place) reads inputs cause = absurd cause
 
 -- ---- a journal that is not started
 
@@ -65,32 +89,38 @@ not_started j base there host sink disk disk' st begins free (holds told bytes) 
   told,
   if_some_both (λ t. HasBase t j.run.inputs base) (λ t. IsReady t j.run.out there) _ host.told (λ t is free. (inputs_of t j.run base is, inr ((there, free), bytes))) begins free,
 )
-not_started j base there host sink disk disk' st begins free (fails cause) = (inr (inr cause), inl (inl (same host host sink (reads_none host))))
+not_started j base there host sink disk disk' st begins free (fails cause) = inl (record {
+  inputs = if_some_map (λ t. HasBase t j.run.inputs base) (λ t. HasInputs t j.run.inputs) host.told (λ t is. inputs_of t j.run base is) begins;
+  cause = inr (cause, if_some_map (λ t. IsReady t j.run.out there) (λ t. (there : Bool) × IsReady t j.run.out there) host.told (λ t free. (there, free)) free);
+  same = same host host sink (reads_none host);
+})
 
 -- ---- a run that ends before its end
 
-stopped : (j : JournalJob) (base : BaseTree) (host : HostView) (sink sink' : SinkView) (disk disk' : DiskView) (stop : RecordFault) → IfSome host.told (λ t. HasBase t j.run.inputs base) → HasBrokenOff base (shells_of j.run) disk disk' sink sink' stop
-    → IfTold host.told host.told (λ t t'. IsStopped t t' j.run sink.written sink'.written ⊎ IsPartlyLeft t t' j.run sink.written sink'.written)
-stopped j base host sink sink' disk disk' stop begins broken =
-    if_told_same (λ t t'. IsStopped t t' j.run sink.written sink'.written ⊎ IsPartlyLeft t t' j.run sink.written sink'.written) host.told host.told refl
-    (if_some_map (λ t. HasBase t j.run.inputs base) _ host.told (λ t is. inl (record { base = base; begins = is; machine = broken.machine; bytes = broken.bytes; events = broken.written; written = broken.printed; same = refl })) begins)
+module _ (j : JournalJob) (base : BaseTree) (there : Bool) (host : HostView) (sink sink' : SinkView) (disk mid disk' : DiskView) (begins : IfSome host.told (λ t. HasBase t j.run.inputs base)) (free : IfSome host.told (λ t. IsReady t j.run.out there)) (empty : HasEmptyJournal j disk) (later : disk.faults ≤ mid.faults) where
+  stopped : (stop : RecordFault) → HasBrokenOff base (shells_of j.run) mid disk' sink sink' stop → IfTold host.told host.told (IsLeft j.run sink.written sink'.written)
+  stopped stop broken =
+      if_told_same (IsLeft j.run sink.written sink'.written) host.told host.told refl
+      (if_some_both (λ t. HasBase t j.run.inputs base) (λ t. IsReady t j.run.out there) (λ t. IsLeft j.run sink.written sink'.written t t) host.told
+      (λ t is free. inl (record { base = base; there = there; begins = is; free = free; machine = broken.machine; bytes = broken.bytes; events = broken.written; written = broken.printed; same = refl })) begins free)
 
-broken_row : (j : JournalJob) (base : BaseTree) (host : HostView) (sink sink' : SinkView) (disk mid disk' : DiskView) (stop : RecordFault) → IfSome host.told (λ t. HasBase t j.run.inputs base) → disk.faults ≤ mid.faults → HasBrokenOff base (shells_of j.run) mid disk' sink sink' stop
-    → JournalRow j host host sink sink' disk disk' (status_in stop)
-broken_row j base host sink sink' disk mid disk' fault.NoMemory begins later broken = inr (stopped j base host sink sink' mid disk' fault.NoMemory begins broken)
-broken_row j base host sink sink' disk mid disk' fault.DiskFailed begins later broken =
-    let rose : Rose mid.faults disk'.faults = broken.cause in
-    let all : Rose disk.faults disk'.faults = omega (arith, later, rose) in
-    (inr (inr (inl all)), inl (inr (stopped j base host sink sink' mid disk' fault.DiskFailed begins broken)))
-broken_row j base host sink sink' disk mid disk' fault.SinkFailed begins later broken = (inr (inl broken.cause), inl (inr (stopped j base host sink sink' mid disk' fault.SinkFailed begins broken)))
+  left : (stop : RecordFault) → HasBrokenOff base (shells_of j.run) mid disk' sink sink' stop → IfTold host.told host.told (IsLeftOrWhole j.run sink.written sink'.written)
+  left stop broken = part_at_most j.run sink sink' host.told host.told (stopped stop broken)
 
-pub not_recorded : (j : JournalJob) (base : BaseTree) (host : HostView) (sink sink' : SinkView) (disk mid disk' : DiskView) (st : Status) → IfSome host.told (λ t. HasBase t j.run.inputs base) → disk.faults ≤ mid.faults → RecordCause base (shells_of j.run) mid disk' sink sink' st → JournalRow j host host sink sink' disk disk' st
-not_recorded j base host sink sink' disk mid disk' st begins later cause =
-    subst (λ st. JournalRow j host host sink sink' disk disk' st) (sym cause.is) (broken_row j base host sink sink' disk mid disk' cause.stop begins later cause.broken)
+  broken_row : (stop : RecordFault) → HasBrokenOff base (shells_of j.run) mid disk' sink sink' stop → JournalRow j host host sink sink' disk disk' (status_in stop)
+  broken_row fault.NoMemory broken = inr (empty, stopped fault.NoMemory broken)
+  broken_row fault.DiskFailed broken =
+      let rose : Rose mid.faults disk'.faults = broken.cause in
+      let all : Rose disk.faults disk'.faults = omega (arith, later, rose) in
+      inr (record { empty = empty; cause = inr (inr all); left = left fault.DiskFailed broken })
+  broken_row fault.SinkFailed broken = inr (record { empty = empty; cause = inr (inl broken.cause); left = left fault.SinkFailed broken })
+
+  pub not_recorded : (st : Status) → RecordCause base (shells_of j.run) mid disk' sink sink' st → JournalRow j host host sink sink' disk disk' st
+  not_recorded st cause = subst (λ st. JournalRow j host host sink sink' disk disk' st) (sym cause.is) (broken_row cause.stop cause.broken)
 
 -- ---- a whole run
 
-module _ (j : JournalJob) (base : BaseTree) (there : Bool) (host host' : HostView) (sink mid sink' : SinkView) (disk started disk' : DiskView) (board : Log) (retries : List Retry) (scheduled : j.run.mode ≡ Scheduled (shells_of j.run)) (begins : IfSome host.told (λ t. HasBase t j.run.inputs base)) (free : IfSome host.told (λ t. IsReady t j.run.out there)) (had : HasRecorded base (shells_of j.run) started disk' sink mid board retries) where
+module _ (j : JournalJob) (base : BaseTree) (there : Bool) (host host' : HostView) (sink mid sink' : SinkView) (disk started disk' : DiskView) (board : Log) (retries : List Retry) (scheduled : j.run.mode ≡ Scheduled (shells_of j.run)) (empty : HasEmptyJournal j disk) (begins : IfSome host.told (λ t. HasBase t j.run.inputs base)) (free : IfSome host.told (λ t. IsReady t j.run.out there)) (had : HasRecorded base (shells_of j.run) started disk' sink mid board retries) where
   abbrev pub text : List ℕ
   text = report board.base board.order retries
 
@@ -124,24 +154,24 @@ module _ (j : JournalJob) (base : BaseTree) (there : Bool) (host host' : HostVie
   grown_with n grown = grown_by base (shells_of j.run) started disk' sink mid board retries had n sink' grown
 
   -- OUT is not saved
-  partly : SavesPart j.run.out nodes host host' → sink' ≡ mid → IfTold host.told host'.told (λ t t'. IsStopped t t' j.run sink.written sink'.written ⊎ IsPartlyLeft t t' j.run sink.written sink'.written)
+  partly : SavesPart j.run.out nodes host host' → sink' ≡ mid → IfTold host.told host'.told (IsLeft j.run sink.written sink'.written)
   partly part none =
       let grown = grown_with 0 (nothing_more text mid sink' none) in
-      if_told_map (λ t t'. IsPartlySaved t t' (parts j.run.out) nodes) (λ t t'. IsStopped t t' j.run sink.written sink'.written ⊎ IsPartlyLeft t t' j.run sink.written sink'.written) Begins host.told host'.told
+      if_told_map (λ t t'. IsPartlySaved t t' (parts j.run.out) nodes) (IsLeft j.run sink.written sink'.written) Begins host.told host'.told
       (λ t t' is part. inr (record { base = base; nodes = nodes; there = there; all = all_written t 0 is.0 grown; free = is.1; part = part })) both part
 
   no_folder : (t : Tree) → Begins t → LacksFolder t j.run.out there → CannotSave t j.run
   no_folder t is lacks = (inputs_of t j.run base is.0, inr (subst (λ b. IsReady t j.run.out b) lacks.0 is.1, lacks.1))
 
-  unsaved_cause : SaveCause j.run.out there host host' save.WriteFault → FaultIn j.run.out host host' ⊎ IsSomeAnd host.told (λ t. CannotSave t j.run)
+  unsaved_cause : SaveCause j.run.out there host host' save.WriteFault → CannotLeave j.run host host'
   unsaved_cause (inl fault) = inl fault
   unsaved_cause (inr lacks) = inr (some_and Begins (λ t. LacksFolder t j.run.out there) (λ t. CannotSave t j.run) host.told no_folder both lacks)
 
   -- the report is not written whole
-  whole : (n : ℕ) → Saves j.run.out nodes host host' → HasGrown (take n text) mid sink' → IfTold host.told host'.told (λ t t'. IsWholeLeft t t' j.run sink.written sink'.written)
+  whole : (n : ℕ) → Saves j.run.out nodes host host' → HasGrown (take n text) mid sink' → IfTold host.told host'.told (IsLeftOrWhole j.run sink.written sink'.written)
   whole n saved grown =
-      if_told_map (λ t t'. IsSaved t t' (parts j.run.out) nodes) (λ t t'. IsWholeLeft t t' j.run sink.written sink'.written) Begins host.told host'.told
-      (λ t t' is saved. record { base = base; nodes = nodes; there = there; count = n; all = all_written t n is.0 (grown_with n grown); free = is.1; saved = saved }) both saved
+      if_told_map (λ t t'. IsSaved t t' (parts j.run.out) nodes) (IsLeftOrWhole j.run sink.written sink'.written) Begins host.told host'.told
+      (λ t t' is saved. inr (record { base = base; nodes = nodes; there = there; count = n; all = all_written t n is.0 (grown_with n grown); free = is.1; saved = saved })) both saved
 
   -- all is done
   abbrev output : List ℕ
@@ -172,36 +202,50 @@ module _ (j : JournalJob) (base : BaseTree) (there : Bool) (host host' : HostVie
 
   pub finished : (st : Status) → FinishEnd j.run.out there nodes text host host' mid sink' st → JournalRow j host host' sink sink' disk disk' st
   finished st (done saves grown) =
-      let grows = all_grown grown in
-      (grows_all sink sink' output grows, if_told_map (λ t t'. IsSaved t t' (parts j.run.out) nodes) (λ t t'. IsDone t t' j.run sink.written sink'.written) Begins host.told host'.told (λ t t' is saved. is_done t t' grows is saved) both saves)
-  finished st (unmade part none) = inr (partly part none)
-  finished st (unsaved part cause none) = (inl (unsaved_cause cause), inl (inr (partly part none)))
+      let grows = all_grown grown in (
+        empty,
+        grows_all sink sink' output grows,
+        if_told_map (λ t t'. IsSaved t t' (parts j.run.out) nodes) (λ t t'. IsDone t t' j.run sink.written sink'.written) Begins host.told host'.told (λ t t' is saved. is_done t t' grows is saved) both saves,
+      )
+  finished st (unmade part none) = inr (empty, partly part none)
+  finished st (unsaved part cause none) = inr (record { empty = empty; cause = inl (unsaved_cause cause); left = part_at_most j.run sink sink' host.told host'.told (partly part none) })
   finished st (unwritten saves front rose) =
       let count = front_of text mid sink' front in
       let all : Rose sink.faults sink'.faults = omega (arith, had.later, rose) in
-      (inr (inl all), inr (whole count.0 saves count.1))
+      inr (record { empty = empty; cause = inr (inl all); left = whole count.0 saves count.1 })
 
 -- ---- a row from a later moment on is one from an earlier moment on, where only reads lie between
 
-cannot_back : (j : JournalJob) (a b c : HostView) (sink sink' : SinkView) (disk disk' : DiskView) → ReadsOnly a b → CannotKeep j b c sink sink' disk disk' → CannotKeep j a c sink sink' disk disk'
-cannot_back j a b c sink sink' disk disk' reads (inl cannot) = inl (cause_back (FaultIn j.run.out) (λ t. CannotSave t j.run) a b c reads (fault_in_back j.run.out a b c reads.later) cannot)
-cannot_back j a b c sink sink' disk disk' reads (inr fault) = inr fault
+leave_back : (j : RunJob) (a b c : HostView) → ReadsOnly a b → CannotLeave j b c → CannotLeave j a c
+leave_back j a b c reads cannot = cause_back (FaultIn j.out) (λ t. CannotSave t j) a b c reads (fault_in_back j.out a b c reads.later) cannot
 
-left_back : (j : JournalJob) (a b c : HostView) (sink sink' : SinkView) → ReadsOnly a b → IsLeft j b c sink sink' → IsLeft j a c sink sink'
-left_back j a b c sink sink' reads (inl none) = inl (same_back a b c sink sink' reads none)
-left_back j a b c sink sink' reads (inr left) = inr (told_back _ a b c reads left)
+unbegun_back : (j : JournalJob) (a b c : HostView) (sink sink' : SinkView) (disk disk' : DiskView) → ReadsOnly a b → IsUnbegun j b c sink sink' disk disk' → IsUnbegun j a c sink sink' disk disk'
+unbegun_back j a b c sink sink' disk disk' reads is = record {
+  inputs = some_back (λ t. HasInputs t j.run.inputs) a b reads is.inputs;
+  cause = back is.cause;
+  same = same_back a b c sink sink' reads is.same;
+}
+  where
+    back : CannotLeave j.run b c ⊎ CannotStart j b disk disk' → CannotLeave j.run a c ⊎ CannotStart j a disk disk'
+    back (inl cannot) = inl (leave_back j.run a b c reads cannot)
+    back (inr (fault, free)) = inr (fault, some_back (λ t. (there : Bool) × IsReady t j.run.out there) a b reads free)
 
-whole_back : (j : JournalJob) (a b c : HostView) (sink sink' : SinkView) → ReadsOnly a b → IsLeftOrWhole j b c sink sink' → IsLeftOrWhole j a c sink sink'
-whole_back j a b c sink sink' reads (inl left) = inl (left_back j a b c sink sink' reads left)
-whole_back j a b c sink sink' reads (inr whole) = inr (told_back _ a b c reads whole)
+broken_back : (j : JournalJob) (a b c : HostView) (sink sink' : SinkView) (disk disk' : DiskView) → ReadsOnly a b → IsBrokenOff j b c sink sink' disk disk' → IsBrokenOff j a c sink sink' disk disk'
+broken_back j a b c sink sink' disk disk' reads is = record { empty = is.empty; cause = back is.cause; left = told_back _ a b c reads is.left }
+  where
+    back : CannotLeave j.run b c ⊎ (Rose sink.faults sink'.faults ⊎ Rose disk.faults disk'.faults) → CannotLeave j.run a c ⊎ (Rose sink.faults sink'.faults ⊎ Rose disk.faults disk'.faults)
+    back (inl cannot) = inl (leave_back j.run a b c reads cannot)
+    back (inr fault) = inr fault
 
 pub row_back : (j : JournalJob) (a b c : HostView) (sink sink' : SinkView) (disk disk' : DiskView) (st : Status) → ReadsOnly a b → JournalRow j b c sink sink' disk disk' st → JournalRow j a c sink sink' disk disk' st
-row_back j a b c sink sink' disk disk' status.Done reads row = (row.0, told_back _ a b c reads row.1)
+row_back j a b c sink sink' disk disk' status.Done reads row = (row.0, row.1, told_back _ a b c reads row.2)
 row_back j a b c sink sink' disk disk' status.Usage reads row = row
 row_back j a b c sink sink' disk disk' (status.TextRefused word cause) reads row = (same_back a b c sink sink' reads row.0, row.1, some_back _ a b reads row.2)
 row_back j a b c sink sink' disk disk' (status.FolderRefused cause) reads row = (same_back a b c sink sink' reads row.0, row.1, some_back _ a b reads row.2)
 row_back j a b c sink sink' disk disk' status.ReadFault reads row = (same_back a b c sink sink' reads row.0, row.1, cause_back (HasReadFault j.run.inputs) (λ t. CannotRead t j.run.inputs) a b c reads (read_fault_back j.run.inputs a b c reads) row.2)
 row_back j a b c sink sink' disk disk' status.NotEmpty reads row = (same_back a b c sink sink' reads row.0, row.1, some_back _ a b reads row.2)
-row_back j a b c sink sink' disk disk' status.WriteFault reads row = (cannot_back j a b c sink sink' disk disk' reads row.0, whole_back j a b c sink sink' reads row.1)
-row_back j a b c sink sink' disk disk' status.NoMemory reads row = left_back j a b c sink sink' reads row
+row_back j a b c sink sink' disk disk' status.WriteFault reads (inl row) = inl (unbegun_back j a b c sink sink' disk disk' reads row)
+row_back j a b c sink sink' disk disk' status.WriteFault reads (inr row) = inr (broken_back j a b c sink sink' disk disk' reads row)
+row_back j a b c sink sink' disk disk' status.NoMemory reads (inl row) = inl (same_back a b c sink sink' reads row)
+row_back j a b c sink sink' disk disk' status.NoMemory reads (inr row) = inr (row.0, told_back _ a b c reads row.1)
 row_back j a b c sink sink' disk disk' (status.BadJournal place) reads row = row

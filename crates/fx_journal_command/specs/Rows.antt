@@ -17,14 +17,16 @@ use Rattle.fx_command.specs.Left.{IsSame, Grows}
 use Rattle.fx_inputs.specs.Inputs.{HasTexts, HasInputs, HasBase, CannotRead, IsFirstRefused}
 use Rattle.fx_inputs.specs.Reads.{HasReadFault}
 use Rattle.fx_run_command.specs.Rows.{IsDone, IsProperRun, CannotSave, RunAsksFit}
-use Rattle.fx_durable.specs.Disk.{File, DiskView, LeftSince, GoesOn, IsAsTold, TellsOther, moment}
+use Rattle.fx_durable.specs.Disk.{File, DiskView, LeftSince, GoesOn, IsAsTold, TellsLength, TellsOther, moment}
 use Rattle.fx_journaling.specs.Kept.{IfFile, KeepsOrder}
 use Rattle.fx_journaling.specs.Written.{HasWritten, HasWrittenEvents, HasWrittenReport}
 
 -- some of a run's events are written, and OUT is as before
 pub record IsStopped (t t' : Tree) (j : RunJob) (before after : Option (List ℕ)) : Type 0 where
   pub base : BaseTree
+  pub there : Bool
   pub begins : HasBase t j.inputs base
+  pub free : IsReady t j.out there
   pub machine : Machine
   pub bytes : List ℕ
   pub events : HasWrittenEvents base (shells_of j) machine bytes
@@ -60,42 +62,60 @@ pub record IsWholeLeft (t t' : Tree) (j : RunJob) (before after : Option (List �
   pub free : IsReady t j.out there
   pub saved : IsSaved t t' (parts j.out) nodes
 
--- nothing was begun: OUT, the output and, but for its opening, the journal are as before
-abbrev pub IsUnbegun : HostView → HostView → SinkView → SinkView → Type 0
-IsUnbegun host host' sink sink' = IsSame host host' sink sink'
+-- what is left of a run that ends before a byte of its report is written
+abbrev pub IsLeft : RunJob → Option (List ℕ) → Option (List ℕ) → Tree → Tree → Type 0
+IsLeft j before after t t' = IsStopped t t' j before after ⊎ IsPartlyLeft t t' j before after
+
+-- the same, or OUT is whole and a front of the report is written
+abbrev pub IsLeftOrWhole : RunJob → Option (List ℕ) → Option (List ℕ) → Tree → Tree → Type 0
+IsLeftOrWhole j before after t t' = IsLeft j before after t t' ⊎ IsWholeLeft t t' j before after
+
+-- a call at OUT failed, OUT is unfit, or nothing stands there and no folder above
+abbrev pub CannotLeave : RunJob → HostView → HostView → Type 0
+CannotLeave j host host' = FaultIn j.out host host' ⊎ IsSomeAnd host.told (λ t. CannotSave t j)
 
 -- the disk failed, or tells a file at another path
 abbrev pub HasJournalFault : List ℕ → DiskView → DiskView → Type 0
 HasJournalFault path disk disk' = Rose disk.faults disk'.faults ⊎ TellsOther disk path
 
--- what keeps OUT, the output or the journal from being written
-abbrev pub CannotKeep : JournalJob → HostView → HostView → SinkView → SinkView → DiskView → DiskView → Type 0
-CannotKeep j host host' sink sink' disk disk' =
-    (FaultIn j.run.out host host' ⊎ IsSomeAnd host.told (λ t. CannotSave t j.run)) ⊎ (Rose sink.faults sink'.faults ⊎ HasJournalFault j.journal disk disk')
+-- the journal is not started, and OUT is free
+abbrev pub CannotStart : JournalJob → HostView → DiskView → DiskView → Type 0
+CannotStart j host disk disk' = HasJournalFault j.journal disk disk' × IfSome host.told (λ t. (there : Bool) × IsReady t j.run.out there)
 
--- what is left where a run ends before its end
-abbrev pub IsLeft : JournalJob → HostView → HostView → SinkView → SinkView → Type 0
-IsLeft j host host' sink sink' =
-    IsUnbegun host host' sink sink' ⊎ IfTold host.told host'.told (λ t t'. IsStopped t t' j.run sink.written sink'.written ⊎ IsPartlyLeft t t' j.run sink.written sink'.written)
+-- the inputs are read and no run was begun: OUT and the output are as before
+pub record IsUnbegun (j : JournalJob) (host host' : HostView) (sink sink' : SinkView) (disk disk' : DiskView) : Type 0 where
+  pub inputs : IfSome host.told (λ t. HasInputs t j.run.inputs)
+  pub cause : CannotLeave j.run host host' ⊎ CannotStart j host disk disk'
+  pub same : IsSame host host' sink sink'
 
--- the same, or OUT is whole and a front of the report is written
-abbrev pub IsLeftOrWhole : JournalJob → HostView → HostView → SinkView → SinkView → Type 0
-IsLeftOrWhole j host host' sink sink' = IsLeft j host host' sink sink' ⊎ IfTold host.told host'.told (λ t t'. IsWholeLeft t t' j.run sink.written sink'.written)
+-- the file that the disk tells is the journal's, and is empty
+abbrev pub HasEmptyJournal : JournalJob → DiskView → Type 0
+HasEmptyJournal j disk = TellsLength disk j.journal 0
+
+-- a run was begun on an empty journal and is not brought to its end, as OUT, the output or the journal is not written
+pub record IsBrokenOff (j : JournalJob) (host host' : HostView) (sink sink' : SinkView) (disk disk' : DiskView) : Type 0 where
+  pub empty : HasEmptyJournal j disk
+  pub cause : CannotLeave j.run host host' ⊎ (Rose sink.faults sink'.faults ⊎ Rose disk.faults disk'.faults)
+  pub left : IfTold host.told host'.told (IsLeftOrWhole j.run sink.written sink'.written)
+
+-- memory ran out before a byte of the report was written: before a run was begun on an empty journal, or after
+abbrev pub HasNoMemory : JournalJob → HostView → HostView → SinkView → SinkView → DiskView → Type 0
+HasNoMemory j host host' sink sink' disk = IsSame host host' sink sink' ⊎ (HasEmptyJournal j disk × IfTold host.told host'.told (IsLeft j.run sink.written sink'.written))
 
 -- the journal's file holds something already
 abbrev pub HoldsBytes : DiskView → Type 0
 HoldsBytes disk = IfSome disk.told (λ file. 0 < length file.seen)
 
 abbrev pub JournalRow : JournalJob → HostView → HostView → SinkView → SinkView → DiskView → DiskView → Status → Type 0
-JournalRow j host host' sink sink' disk disk' status.Done = Grows sink sink' × IfTold host.told host'.told (λ t t'. IsDone t t' j.run sink.written sink'.written)
+JournalRow j host host' sink sink' disk disk' status.Done = HasEmptyJournal j disk × Grows sink sink' × IfTold host.told host'.told (λ t t'. IsDone t t' j.run sink.written sink'.written)
 JournalRow j host host' sink sink' disk disk' status.Usage = ⊥
 JournalRow j host host' sink sink' disk disk' (status.TextRefused word cause) = IsSame host host' sink sink' × (disk' ≡ disk) × IfSome host.told (λ t. IsFirstRefused t j.run.inputs word cause)
 JournalRow j host host' sink sink' disk disk' (status.FolderRefused cause) = IsSame host host' sink sink' × (disk' ≡ disk) × IfSome host.told (λ t. HasTexts t j.run.inputs × IsRefused t j.run.inputs.folder cause)
 JournalRow j host host' sink sink' disk disk' status.ReadFault = IsSame host host' sink sink' × (disk' ≡ disk) × (HasReadFault j.run.inputs host host' ⊎ IsSomeAnd host.told (λ t. CannotRead t j.run.inputs))
 JournalRow j host host' sink sink' disk disk' status.NotEmpty =
     IsSame host host' sink sink' × IsAsTold disk disk' × IfSome host.told (λ t. HasInputs t j.run.inputs × (IsTaken t j.run.out ⊎ (((there : Bool) × IsReady t j.run.out there) × HoldsBytes disk)))
-JournalRow j host host' sink sink' disk disk' status.WriteFault = CannotKeep j host host' sink sink' disk disk' × IsLeftOrWhole j host host' sink sink'
-JournalRow j host host' sink sink' disk disk' status.NoMemory = IsLeft j host host' sink sink'
+JournalRow j host host' sink sink' disk disk' status.WriteFault = IsUnbegun j host host' sink sink' disk disk' ⊎ IsBrokenOff j host host' sink sink' disk disk'
+JournalRow j host host' sink sink' disk disk' status.NoMemory = HasNoMemory j host host' sink sink' disk
 JournalRow j host host' sink sink' disk disk' (status.BadJournal place) = ⊥
 
 -- The journal was started at a moment of this call, and from then on keeps the order of the settled lines that were written.

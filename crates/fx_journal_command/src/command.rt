@@ -9,7 +9,7 @@ ghost use Rattle.fx_words.specs.Job.{shells_of};
 ghost use Rattle.fx_words.specs.JobOf.{asked, asked_journal, IsJob, IsJournalJob};
 ghost use Rattle.fx_command.specs.StatusOf.{status_of};
 ghost use Rattle.fx_inputs.specs.Inputs.{HasBase, HasEachScript};
-ghost use Rattle.fx_durable.specs.Disk.{Continues};
+ghost use Rattle.fx_durable.specs.Disk.{Continues, TellsLength};
 ghost use Rattle.fx_journaling.specs.Recorded.{IsStarted, HasRecorded};
 ghost use Rattle.fx_journal_command.specs.Rows.{JournalRow, JournalAsksFit, KeepsJournal};
 ghost use Rattle.fx_journal_command.specs.Stages.{MayLeaveGate, StartCause, RecordCause, FinishEnd};
@@ -19,9 +19,9 @@ use fx_durable::{Disk, Journal, StartFault};
 use fx_folder::save;
 use fx_inputs::read_base;
 use fx_journaling::{RecordFault, Recorded, record};
+use fx_making::ready_out;
 use fx_outside::{Host, HostText, Sink, SinkFailed};
 use fx_report::report;
-use fx_run_command::make_ready;
 use fx_spec::Base;
 use fx_words::{JournalJob, RunJob};
 use std::alloc::Global;
@@ -30,6 +30,7 @@ use std::sync::Arc;
 /// Starts the journal on an empty file.
 fn start<D: Disk>(path: &HostText, disk: &mut D) -> Result<Journal, Status>
     ensures started { IfOk result (λ journal. IsStarted journal (D.view disk.new)) }
+    ensures empty { IfOk result (λ _. TellsLength (D.view disk.old) path.now 0) }
     ensures gate { IfOk result (λ _. MayLeaveGate (D.view disk.new)) }
     ensures goes_on { Continues (D.view disk.old) (D.view disk.new) }
     ensures later { (D.view disk.old).faults ≤ (D.view disk.new).faults }
@@ -133,6 +134,6 @@ pub fn journal<H: Host, S: Sink, D: Disk>(
     ensures fit { JournalAsksFit (asked_journal job.now) (H.view host.old) (H.view host.new) }
 {
     let base = read_base(alloc, &job.run.inputs, host)?;
-    let there = make_ready(alloc, &job.run, host)?;
+    let there = ready_out(alloc, job.run.out, host)?;
     keep(alloc, job, base, there, host, out, disk)
 }

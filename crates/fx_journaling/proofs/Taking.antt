@@ -20,13 +20,13 @@ use Rattle.fx_machine.proofs.Sums.{order_fits}
 use Rattle.fx_board.specs.Board.{IsLog}
 use Rattle.fx_board.specs.Log.{Log}
 use Rattle.fx_durable.specs.Disk.{DiskView}
-use Rattle.fx_durable.specs.Journal.{JournalView}
+use Rattle.fx_durable.specs.Journal.{JournalView, turn_of}
 use Rattle.fx_report.specs.Events.{event_line, lines}
 use Rattle.fx_sched.specs.Running.{Running}
 use Rattle.fx_sched.specs.World.{Leads}
 use Rattle.fx_journaling.specs.declared.fault.RecordFault.{RecordFault}
 use Rattle.fx_journaling.specs.declared.fault.RecordFault.TheVariants as fault
-use Rattle.fx_journaling.specs.Kept.{IfFile, HoldsOrder, LeavesEither, IsHeld, IsLost, MayAdd, turn_of}
+use Rattle.fx_journaling.specs.Kept.{IfFile, HoldsOrder, LeavesEither, IsHeld, IsLost, MayAdd}
 use Rattle.fx_journaling.specs.Taken.{Beginning, Extends, HasGrown, FaultCause, TellCause, HasTaken, HasRefused}
 
 -- ---- the entry of an event

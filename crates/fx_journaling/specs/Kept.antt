@@ -5,7 +5,6 @@ use Rattle.fx_base.specs.Causes.{Rose}
 use Rattle.fx_base.specs.Limits.{txn_limit}
 use Rattle.fx_spec.specs.Plans.{Turn}
 use Rattle.fx_spec.specs.Order.{BaseTree, IsLegal}
-use Rattle.fx_machine.specs.declared.entry.Pair.{Pair}
 use Rattle.fx_durable.specs.Disk.{File, DiskView, MayLeave, LeftSince, GoesOn, moment}
 use Rattle.fx_durable.specs.Journal.{JournalView, RestsAt, Spells, spelled}
 
@@ -66,10 +65,6 @@ pub record IsLost (base : BaseTree) (order longer : List Turn) (began disk : Dis
 pub record MayAdd (base : BaseTree) (order : List Turn) (turn : Turn) : Type 0 where
   pub legal : IsLegal base (order ++ turn ∷ [])
   pub room : length order < txn_limit
-
--- the turn that a pair names
-abbrev pub turn_of : Pair → Turn
-turn_of pair = (pair.shell, pair.txn)
 
 -- the order that the bytes of a file spell
 abbrev pub order_seen : File → List Turn

@@ -6,9 +6,10 @@ ghost use Rattle.fx_machine.specs.Laws.{IsReached};
 ghost use Rattle.fx_machine.specs.Machine.{shell_of};
 ghost use Rattle.fx_board.specs.Board.{IsLog};
 ghost use Rattle.fx_durable.specs.Disk.{DiskView};
+ghost use Rattle.fx_durable.specs.Journal.{turn_of};
 ghost use Rattle.fx_sched.specs.Running.{Running};
 ghost use Rattle.fx_sched.specs.World.{Leads};
-ghost use Rattle.fx_journaling.specs.Kept.{IsHeld, IsLost, MayAdd, RestsWhileGood, turn_of};
+ghost use Rattle.fx_journaling.specs.Kept.{IsHeld, IsLost, MayAdd, RestsWhileGood};
 ghost use Rattle.fx_journaling.specs.Taken.{Extends};
 
 use fx_base::TXN_LIMIT;

@@ -16,7 +16,7 @@ use Rattle.fx_gen.specs.Notes.{nodes}
 use Rattle.fx_gen.specs.Scripts as gen
 use Rattle.fx_gen.specs.Scripts.{scripts, scripts_to}
 use Rattle.fx_gen.proofs.Ranges.{map_more}
-use Rattle.fx_gen_laws.specs.Trees.{description_tree, script_tree}
+use Rattle.fx_gen_laws.specs.Trees.{description_text, description_tree, script_tree}
 use Rattle.fx_gen_laws.proofs.Described.{description_stands}
 use Rattle.fx_gen_laws.proofs.Scripted.{scripts_stand}
 use Rattle.fx_show.specs.declared.fault.DescriptionFault.{DescriptionFault}
@@ -28,7 +28,7 @@ use Rattle.fx_scripts.specs.Scripted.{Scripts, IsUnscripted}
 use Rattle.fx_large.specs.Base.{generated_base, plan_to, AreGenerated, IsPlanOf, IsReading}
 
 pub described : (text : List ℕ) → text ≡ gen.description → Describes text description_tree
-described text is = subst (λ t. Describes t description_tree) (sym is) (record { read = description_stands.text; shapes = description_stands.shapes.shapes })
+described text is = subst (λ t. Describes t description_tree) (sym is) (record { written = description_text; read = description_stands.text; shapes = description_stands.shapes; means = refl })
 
 pub undescribed_is : (text : List ℕ) (fault : DescriptionFault) → text ≡ gen.description → IsUndescribed text fault → fault ≡ description.NoMemory
 undescribed_is text (description.Refused cause) is refused = absurd (refused.none description_tree (described text is))

@@ -15,14 +15,13 @@ use Rattle.fx_store.specs.Resolve.{lands}
 use Rattle.fx_store.specs.Rule.{Ask, answer}
 use Rattle.fx_store.specs.Whole.{Store, IsWhole, IsNode}
 use Rattle.fx_expr.specs.Sets.{set_of}
-use Rattle.fx_expr.specs.ShapeTree.{ShapeTree}
 use Rattle.fx_expr.specs.Tree.{Tree}
 use Rattle.fx_expr.proofs.Canon.{ascending_set, has_set, same_sets}
 use Rattle.fx_expr.proofs.Order.{same_text}
 use Rattle.fx_spec.specs.declared.refusal.Refusal.{Refusal}
 use Rattle.fx_spec.specs.SpecTree.{SpecTree}
 use Rattle.fx_spec.specs.Describe.{file_value, flag_value, dir_value, link_value}
-use Rattle.fx_spec.specs.Move.{Answered, fetch_shape, has_fetch_shape, fetched, of_shape, asks_flag, flag_at, fetch_at}
+use Rattle.fx_spec.specs.Move.{Answered, fetch_shape, has_fetch_shape, fetched, of_shape, asks_flag, flag_at}
 use Rattle.fx_spec.specs.Edit.{set_to, names_node, link_node, is_content, stored_node, store_at}
 use Rattle.fx_spec.specs.Place.{PlaceTree}
 use Rattle.fx_laws.specs.Stored.{IsHeld, has_content, FetchedIsAccepted}
@@ -102,6 +101,8 @@ by_form S whole at v (SpecTree.pair x a b) is form e = absurd (true≢false (sym
 by_form S whole at v (SpecTree.comp s x t) is form e = absurd (true≢false (sym form))
 by_form S whole at v (SpecTree.opt s) is form e = absurd (true≢false (sym form))
 by_form S whole at v (SpecTree.pred t) is form e = absurd (true≢false (sym form))
+by_form S whole at v (SpecTree.call es ps s) is form e = absurd (true≢false (sym form))
+by_form S whole at v (SpecTree.last es ps) is form e = absurd (true≢false (sym form))
 
 -- a flag can be stored at each file
 by_flag : (S : Store) → IsWhole S → (at : PlaceTree) (v : Tree) → at.spec ≡ SpecTree.file → answer S (flag_at at.path) ≡ Ok v → Accepts S at v

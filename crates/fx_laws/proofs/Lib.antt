@@ -7,6 +7,7 @@ pub mod Limited
 pub mod Small
 pub mod Parts
 pub mod Tokened
+pub mod Listed
 pub mod Described
 pub mod Commanded
 pub mod Texted

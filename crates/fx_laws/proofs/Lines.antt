@@ -10,7 +10,7 @@ use Rattle.fx_expr.specs.declared.fault.ExprFault.TheVariants.{TooLong, Overflow
 use Rattle.fx_store.specs.Names.{path_text}
 use Rattle.fx_spec.specs.Refusals.{refusal_number}
 use Rattle.fx_spec.specs.declared.refusal.Refusal.{Refusal}
-use Rattle.fx_spec.specs.declared.refusal.Refusal.TheVariants.{NoStep, NoElement, NoPlace, Lacks, WrongForm, Blocked, TooDeep, BadName, NoDefault, Expr, Absent, Exists}
+use Rattle.fx_spec.specs.declared.refusal.Refusal.TheVariants.{NoStep, NoElement, NoPlace, Lacks, WrongForm, Blocked, TooDeep, BadName, NoDefault, Expr, Absent, Exists, TooUnfolded}
 use Rattle.fx_spec.specs.declared.refusal.End.{End}
 use Rattle.fx_spec.specs.declared.refusal.End.TheVariants.{Done, Stopped, Aborted}
 use Rattle.fx_report.specs.Print.{comma, is_printable, joined, quote, row_texts, spelled, value_text}
@@ -140,6 +140,7 @@ refusal_line NoDefault = refl
 refusal_line (Expr f) = fault_line f
 refusal_line Absent = refl
 refusal_line Exists = refl
+refusal_line TooUnfolded = refl
 
 pub end_line : (d : End) → IsLine (end_text d)
 end_line Done = refl

@@ -326,6 +326,8 @@ fetched_held S at v made (SpecTree.pair x a b) is e f = absurd (no_node (is_stor
 fetched_held S at v made (SpecTree.comp s x t) is e f = absurd (no_node (is_storable v) made e)
 fetched_held S at v made (SpecTree.opt s) is e f = absurd (no_node (is_storable v) made e)
 fetched_held S at v made (SpecTree.pred t) is e f = absurd (no_node (is_storable v) made e)
+fetched_held S at v made (SpecTree.call es ps s) is e f = absurd (no_node (is_storable v) made e)
+fetched_held S at v made (SpecTree.last es ps) is e f = absurd (no_node (is_storable v) made e)
 
 -- the flag that was fetched at a file
 flag_held : (S : Store) (at : PlaceTree) (v : Tree) (made : Node) → at.spec ≡ SpecTree.file → stored_node SpecTree.file v ≡ Ok made → answer S (flag_at at.path) ≡ Ok v → HoldsIt S at v
@@ -344,6 +346,8 @@ flag_of_file ShapeTree.bool (SpecTree.pair x a b) e = absurd (true≢false (sym 
 flag_of_file ShapeTree.bool (SpecTree.comp s x t) e = absurd (true≢false (sym e))
 flag_of_file ShapeTree.bool (SpecTree.opt s) e = absurd (true≢false (sym e))
 flag_of_file ShapeTree.bool (SpecTree.pred t) e = absurd (true≢false (sym e))
+flag_of_file ShapeTree.bool (SpecTree.call es ps s) e = absurd (true≢false (sym e))
+flag_of_file ShapeTree.bool (SpecTree.last es ps) e = absurd (true≢false (sym e))
 flag_of_file ShapeTree.str spec e = absurd (true≢false (sym e))
 flag_of_file ShapeTree.int spec e = absurd (true≢false (sym e))
 flag_of_file ShapeTree.names spec e = absurd (true≢false (sym e))

@@ -1,12 +1,13 @@
 -- Lists of tokens taken apart, and the numbers by which their first tokens are told apart.
 use Rattle.std.proofs.Common.{◌≡◌, ℕ, Bool, true, false, ◌&&◌, List, [], ◌∷◌, ◌++◌, Option, Some, None, refl, sym, ap, ◌∙◌, append_assoc, nat_eq, eq-eqb}
+use Rattle.std.specs.Prelude.{is_none}
 use Rattle.std.proofs.lemmas.Bool.{true≢false}
 use Rattle.fx_lex.specs.declared.token.Mark.{Mark}
 use Rattle.fx_lex.specs.declared.token.Token.{Token}
 use Rattle.fx_lex.specs.declared.token.Token.TheVariants as token
 use Rattle.fx_parse.specs.declared.keyword.Keyword.{Keyword}
 use Rattle.fx_parse.specs.Keywords.{keyword_of}
-use Rattle.fx_parse.specs.Grammars.{word, comma}
+use Rattle.fx_parse.specs.Grammars.{word, comma, is_name}
 use Rattle.fx_parse.proofs.KeywordLaws.{keyword_again}
 use Rattle.fx_grammar.specs.Tokens.{Tokens}
 
@@ -31,6 +32,11 @@ pub right_of : (a b : Bool) → a && b ≡ true → b ≡ true
 right_of true b is = is
 right_of false b is = cc
 
+-- of three the first, and the other two
+pub and_then : (a b c : Bool) → (a && b) && c ≡ true → (a ≡ true) × (b && c ≡ true)
+and_then true b c is = (refl, is)
+and_then false b c is = absurd (cc)
+
 -- the first token, if there is one
 abbrev pub first : Tokens → Token
 first [] = comma
@@ -48,6 +54,14 @@ number keys marks _ = 0
 
 pub number_word : (keys : Keyword → ℕ) (marks : Mark → ℕ) (k : Keyword) → number keys marks (word k) ≡ keys k
 number_word keys marks k = ap (by_word keys) (keyword_again k)
+
+-- a name has none
+pub number_name : (keys : Keyword → ℕ) (marks : Mark → ℕ) (w : List ℕ) → is_name w ≡ true → number keys marks (token.Word w) ≡ 0
+number_name keys marks w is = none_of (keyword_of w) is
+  where
+    none_of : (o : Option Keyword) → is_none o ≡ true → by_word keys o ≡ 0
+    none_of None is = refl
+    none_of (Some k) is = absurd (cc)
 
 -- equal tokens have equal first numbers
 pub same_number : (keys : Keyword → ℕ) (marks : Mark → ℕ) (x y : Tokens) (m n : ℕ) → number keys marks (first x) ≡ m → number keys marks (first y) ≡ n → x ≡ y → m ≡ n

@@ -3,7 +3,7 @@ use Rattle.std.specs.Prelude.{◌≡◌, ℕ, Bool, true, List, ◌∷◌, ◌++
 use Rattle.std.specs.List.{list_all}
 use Rattle.fx_lex.specs.declared.token.Token.TheVariants as token
 use Rattle.fx_lex.specs.declared.token.Mark.TheVariants as mark
-use Rattle.fx_spec.specs.SpecTree.{SpecTree}
+use Rattle.fx_spec.specs.Written.{TextTree}
 use Rattle.fx_spec.specs.CommandTree.{CommandTree, Block, block}
 use Rattle.fx_grammar.specs.Tokens.{Tokens, block_tokens, script_tokens, block_names}
 use Rattle.fx_grammar.specs.Texts.{IsDescription, IsScript}
@@ -30,7 +30,7 @@ ScriptsDiffer =
 
 -- a text stands for one description at most
 abbrev pub TextsHaveOneDescription : Type 0
-TextsHaveOneDescription = (text : List ℕ) (s t : SpecTree) → IsDescription text s → IsDescription text t → s ≡ t
+TextsHaveOneDescription = (text : List ℕ) (s t : TextTree) → IsDescription text s → IsDescription text t → s ≡ t
 
 -- and for the transactions of one script at most
 abbrev pub TextsHaveOneScript : Type 0

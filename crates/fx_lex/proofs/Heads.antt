@@ -118,21 +118,25 @@ token_kind (token.Word _) = 2
 token_kind (token.Number _) = 3
 token_kind (token.Str _) = 4
 token_kind (token.Mark _) = 5
+token_kind token.Def = 2
 
 pub spells_kind : (b : ℕ) (bytes : List ℕ) (t : Token) → Spells (b ∷ bytes) t → byte_kind b ≡ token_kind t
 spells_kind b bytes (token.Word w) s = kind_word b s.0.0
 spells_kind b bytes (token.Number n) s = kind_digit b (and_parts _ _ s.0.1).0
 spells_kind b bytes (token.Str v) s = ap byte_kind (string_head b bytes v s)
 spells_kind b bytes (token.Mark m) s = mark_lexeme b bytes m s
+spells_kind b bytes token.Def s = absurd s
 
 pub spells_some : (t : Token) → Spells [] t → ⊥
 spells_some (token.Word w) s = false≢true s.0.0
 spells_some (token.Number n) s = s.0.0 refl
 spells_some (token.Str v) s = let e = s.spelled in cc
 spells_some (token.Mark m) s = elim (mark_head m).1.bytes [ inl one ↦ let e = one.0 in cc | inr two ↦ let e = two.0 in cc ]
+spells_some token.Def s = s
 
 pub spells_lexeme : (bytes : List ℕ) (t : Token) → Spells bytes t → IsLexeme bytes
 spells_lexeme bytes (token.Word w) s = inl (inl s.0)
 spells_lexeme bytes (token.Number n) s = inl (inr s.0)
 spells_lexeme bytes (token.Str v) s = inr (inl (v, s))
 spells_lexeme bytes (token.Mark m) s = inr (inr (m, s))
+spells_lexeme bytes token.Def s = absurd s

@@ -91,6 +91,7 @@ word_fits b bytes s more (token.Word w) h e stands =
 word_fits b bytes s more (token.Number n) h e stands = let k = sym (kind_word b h) ∙ spells_kind b s (token.Number n) stands.spells in absurd cc
 word_fits b bytes s more (token.Str v) h e stands = let k = sym (kind_word b h) ∙ spells_kind b s (token.Str v) stands.spells in absurd cc
 word_fits b bytes s more (token.Mark m) h e stands = let k = sym (kind_word b h) ∙ spells_kind b s (token.Mark m) stands.spells in absurd cc
+word_fits b bytes s more token.Def h e stands = absurd stands.spells
 
 -- a word that is too long
 pub word_none : (bytes : List ℕ) (n : ℕ) → has_word_start bytes ≡ true → n ≡ prefix_len is_word_byte bytes → 64 < n → HasNoPiece bytes
@@ -131,6 +132,7 @@ number_fits b bytes s more (token.Number z) h e stands =
 number_fits b bytes s more (token.Word w) h e stands = let k = sym (kind_digit b h) ∙ spells_kind b s (token.Word w) stands.spells in absurd cc
 number_fits b bytes s more (token.Str v) h e stands = let k = sym (kind_digit b h) ∙ spells_kind b s (token.Str v) stands.spells in absurd cc
 number_fits b bytes s more (token.Mark m) h e stands = let k = sym (kind_digit b h) ∙ spells_kind b s (token.Mark m) stands.spells in absurd cc
+number_fits b bytes s more token.Def h e stands = absurd stands.spells
 
 -- a number with a leading zero or above the limit
 pub number_none : (bytes : List ℕ) (n : ℕ) → 0 < length bytes → is_digit (get_or bytes 0 0) ≡ true → n ≡ prefix_len is_digit bytes → (HasNoLeadingZero (take n bytes) → digits_value (take n bytes) ≤ number_limit → ⊥) → HasNoPiece bytes

@@ -44,6 +44,8 @@ spells_one bytes (token.Word v) (token.Word w) s r k = ap token.Word (s.2 ∙ sy
 spells_one bytes (token.Number m) (token.Number n) s r k = ap token.Number (s.3 ∙ sym r.3)
 spells_one bytes (token.Str v) (token.Str w) s r k = ap token.Str (string_unique bytes v w s r)
 spells_one bytes (token.Mark m) (token.Mark n) s r k = ap token.Mark (same_mark m n (sym s ∙ r))
+spells_one bytes token.Def u s r k = absurd s
+spells_one bytes t token.Def s r k = absurd r
 spells_one bytes _ _ s r k = absurd cc
 
 -- bytes spell one token
@@ -74,6 +76,7 @@ gap_no_token (b ∷ g) (c ∷ s) x y t p q e =
     high (token.Number n) h = omega (arith, h)
     high (token.Str v) h = omega (arith, h)
     high (token.Mark m) h = omega (arith, h)
+    high token.Def h = omega (arith, h)
 
 -- one piece stands at a place
 pub same_piece : (p q : Piece) (x y : List ℕ) → IsPiece p x → IsPiece q y → piece_bytes p ++ x ≡ piece_bytes q ++ y → p ≡ q

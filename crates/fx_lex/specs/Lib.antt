@@ -1,6 +1,7 @@
 pub mod Faults
 pub mod Found
 pub mod Items
+pub mod Kept
 pub mod Kinds
 pub mod Laws
 pub mod Marks

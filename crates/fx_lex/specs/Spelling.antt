@@ -86,9 +86,11 @@ mark_bytes Minus = 45 ∷ []
 abbrev pub IsLexeme : List ℕ → Type 0
 IsLexeme bytes = (IsWordRun bytes ⊎ IsDigitRun bytes) ⊎ (((value : List ℕ) × IsString bytes value) ⊎ ((mark : Mark) × (bytes ≡ mark_bytes mark)))
 
--- the bytes spell the token: a word has at most 64 bytes, a number is within its limit and has no leading zero
+-- the bytes spell the token: a word has at most 64 bytes, a number is within its limit and has no leading zero; `def` is a
+-- word before it is kept
 abbrev pub Spells : List ℕ → Token → Type 0
 Spells bytes (token.Word word) = IsWordRun bytes × (length bytes ≤ 64) × (word ≡ bytes)
 Spells bytes (token.Number n) = IsDigitRun bytes × HasNoLeadingZero bytes × (digits_value bytes ≤ number_limit) × (n ≡ pos (digits_value bytes))
 Spells bytes (token.Str value) = IsString bytes value
 Spells bytes (token.Mark mark) = bytes ≡ mark_bytes mark
+Spells bytes token.Def = ⊥

@@ -2,6 +2,7 @@
 #![tactic(auto)]
 
 mod byte;
+mod keep;
 mod lexer;
 mod list;
 mod mark;

@@ -1,7 +1,9 @@
-ghost use Rattle.std.specs.Prelude.{◌≡◌, ◌≤◌, length, slice_get};
+ghost use Rattle.std.specs.Prelude.{◌≡◌, ◌≤◌, length, map, slice_get};
 ghost use Rattle.std.specs.Option.{option_copied};
 ghost use Rattle.fx_base.specs.Limits.{source_limit};
+ghost use Rattle.fx_lex.specs.Kept.{kept_at};
 
+use crate::keep::keep_all;
 use crate::token::Spanned;
 use std::marker::Model;
 
@@ -31,6 +33,16 @@ impl Tokens {
         ensures { result ≡ record { spanned = items.items; text_len = text_len } }
     {
         Tokens { items, text_len }
+    }
+
+    /// Keeps the word `def`, so that it names nothing: [`Token::Def`](crate::Token::Def) stands in its place from now on.
+    pub fn keep_def(&mut self)
+        ensures { self.new ≡ record {
+          spanned = map kept_at self.old.spanned;
+          text_len = self.old.text_len;
+        } }
+    {
+        keep_all(self.items.as_mut_slice());
     }
 
     /// How many tokens there are: at most [`SOURCE_LIMIT`](fx_base::SOURCE_LIMIT).

@@ -11,6 +11,9 @@ pub enum Token {
     Number(i64),
     Str(Text),
     Mark(Mark),
+    /// The word `def` where it is kept. [`lex`](crate::lex) gives a word instead, and
+    /// [`Tokens::keep_def`](crate::Tokens::keep_def) this in its place.
+    Def,
 }
 
 /// A mark, named by what it looks like.

@@ -4,7 +4,7 @@ use fx_base::NoMemory;
 use fx_check::check;
 use fx_folder::load;
 use fx_outside::{HostKind, MemoryHost};
-use fx_spec::{Base, Checked, Plan, Spec};
+use fx_spec::{Base, Checked, Defs, Description, Plan, Spec};
 use fx_spec_parse::parse;
 use fx_stage::{Stage, host_text};
 use fx_store::Filestore;
@@ -67,11 +67,19 @@ fn description_text(case: &str) -> &str {
     "file"
 }
 
+/// The description of a file where one stands.
+fn file_alone(alloc: Global) -> Checked {
+    Checked::of(Description {
+        defs: Defs::new(alloc),
+        root: Spec::File,
+    })
+}
+
 /// The description of a text; that of a file where it is refused.
 fn described(alloc: Global, text: &[u8]) -> Checked {
     match parse(alloc, text) {
-        Ok(spec) => check(alloc, spec).unwrap_or(Checked::of(Spec::File)),
-        Err(_) => Checked::of(Spec::File),
+        Ok(description) => check(alloc, description).unwrap_or(file_alone(alloc)),
+        Err(_) => file_alone(alloc),
     }
 }
 

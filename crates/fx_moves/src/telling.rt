@@ -55,6 +55,7 @@ fn name_of(refusal: &Refusal) -> &'static str {
         Refusal::Expr(_) => "Expr",
         Refusal::Absent => "Absent",
         Refusal::Exists => "Exists",
+        Refusal::TooUnfolded => "TooUnfolded",
     }
 }
 

@@ -48,6 +48,7 @@ scan_text stack (token.Word w ∷ ts) = refl
 scan_text stack (token.Number n ∷ ts) = refl
 scan_text stack (token.Str v ∷ ts) = refl
 scan_text stack (token.Mark m ∷ ts) = refl
+scan_text stack (token.Def ∷ ts) = refl
 
 -- what a reader does, the machine does from its start at a level
 abbrev Follows : ℕ → ReadExpr → Type 0

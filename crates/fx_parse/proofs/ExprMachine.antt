@@ -213,6 +213,7 @@ head_spells (token.Word w) = word_spells w (keyword_of w) refl
 head_spells (token.Number n) = (refl, refl)
 head_spells (token.Str v) = (refl, refl)
 head_spells (token.Mark m) = mark_spells m
+head_spells token.Def = tt
 
 abbrev MiddleSpells : Middle → Token → Type 0
 MiddleSpells (Binary op) x = x ≡ binary_token op
@@ -245,6 +246,7 @@ middle_spells (token.Word w) = word_middle_spells w (keyword_of w) refl
 middle_spells (token.Number n) = tt
 middle_spells (token.Str v) = tt
 middle_spells (token.Mark m) = mark_middle_spells m
+middle_spells token.Def = tt
 
 pub is_open : (x : Token) → is_opening x ≡ true → x ≡ opening
 is_open (token.Mark mark.LeftParen) e = refl

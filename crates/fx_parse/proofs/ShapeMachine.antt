@@ -107,6 +107,7 @@ start_spells (token.Word w) = word_spells w (keyword_of w) refl
 start_spells (token.Number n) = tt
 start_spells (token.Str v) = tt
 start_spells (token.Mark m) = tt
+start_spells token.Def = tt
 
 abbrev Reads : List Sym → List Token → Type 0
 Reads stack ts = MeansAll table Means stack ts

@@ -18,6 +18,7 @@ word_is k (token.Word w) is = ap token.Word ((bytes_eq-Decides w (keyword_bytes 
 word_is k (token.Number n) is = cc
 word_is k (token.Str t) is = cc
 word_is k (token.Mark m) is = cc
+word_is k token.Def is = cc
 
 pub sign_is : (s : Sign) (t : Token) → is_sign s t ≡ true → t ≡ sign_token s
 sign_is sign.LeftParen (token.Mark mark.LeftParen) is = refl
@@ -43,6 +44,8 @@ sign_is sign.Equal t is = cc
 sign_is sign.In t is = word_is keyword.In t is
 sign_is sign.Else t is = word_is keyword.Else t is
 sign_is sign.Txn t is = word_is keyword.Txn t is
+sign_is sign.Def token.Def is = refl
+sign_is sign.Def t is = cc
 
 pub sign_again : (s : Sign) → is_sign s (sign_token s) ≡ true
 sign_again sign.LeftParen = refl
@@ -58,6 +61,7 @@ sign_again sign.Equal = refl
 sign_again sign.In = refl
 sign_again sign.Else = refl
 sign_again sign.Txn = refl
+sign_again sign.Def = refl
 
 -- the token is a name
 abbrev pub names : Token → Bool
@@ -65,12 +69,14 @@ names (token.Word w) = is_name w
 names (token.Number n) = false
 names (token.Str t) = false
 names (token.Mark m) = false
+names token.Def = false
 
 pub name_is : (t : Token) → names t ≡ true → (w : List ℕ) × (is_name w ≡ true) × (t ≡ token.Word w)
 name_is (token.Word w) is = (w, is, refl)
 name_is (token.Number n) is = absurd cc
 name_is (token.Str t) is = absurd cc
 name_is (token.Mark m) is = absurd cc
+name_is token.Def is = absurd cc
 
 -- where a kept word stands, no name is read
 pub no_name : (ts rest : List Token) (w : List ℕ) → ts ≡ token.Word w ∷ rest → is_name w ≡ false → name_at ts ≡ Err (Unexpected (length ts))

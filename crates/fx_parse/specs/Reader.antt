@@ -75,6 +75,7 @@ head_of (token.Number n) = Leaf (ExprTree.int n)
 head_of (token.Str v) = Leaf (ExprTree.str v)
 head_of (token.Mark mark.LeftParen) = Bracket
 head_of (token.Mark _) = Nothing
+head_of token.Def = Nothing
 
 -- what may follow the first part in brackets
 pub data Middle : Type 0 where
@@ -108,6 +109,7 @@ middle_of (token.Word w) = word_middle (keyword_of w)
 middle_of (token.Number n) = Neither
 middle_of (token.Str v) = Neither
 middle_of (token.Mark m) = mark_middle m
+middle_of token.Def = Neither
 
 abbrev pub glob_at : List Token → Result (List ℕ × List Token) Stuck
 glob_at [] = Err (Unexpected 0)

@@ -31,6 +31,7 @@ shape_of (token.Word w) = word_shape (keyword_of w)
 shape_of (token.Number n) = Nothing
 shape_of (token.Str v) = Nothing
 shape_of (token.Mark m) = Nothing
+shape_of token.Def = Nothing
 
 abbrev pub ReadShape : Type 0
 ReadShape = List Token → Result (ShapeTree × List Token) Stuck

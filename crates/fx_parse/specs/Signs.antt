@@ -25,12 +25,14 @@ sign_token sign.Equal = token.Mark mark.Equal
 sign_token sign.In = word keyword.In
 sign_token sign.Else = word keyword.Else
 sign_token sign.Txn = word keyword.Txn
+sign_token sign.Def = token.Def
 
 abbrev pub is_word : List ℕ → Token → Bool
 is_word wanted (token.Word w) = bytes_eq w wanted
 is_word wanted (token.Number n) = false
 is_word wanted (token.Str t) = false
 is_word wanted (token.Mark m) = false
+is_word wanted token.Def = false
 
 abbrev pub is_sign : Sign → Token → Bool
 is_sign sign.LeftParen (token.Mark mark.LeftParen) = true
@@ -56,6 +58,8 @@ is_sign sign.Equal _ = false
 is_sign sign.In t = is_word (keyword_bytes keyword.In) t
 is_sign sign.Else t = is_word (keyword_bytes keyword.Else) t
 is_sign sign.Txn t = is_word (keyword_bytes keyword.Txn) t
+is_sign sign.Def token.Def = true
+is_sign sign.Def _ = false
 
 -- a name, and what follows
 abbrev pub name_at : List Token → Result (List ℕ × List Token) Stuck

@@ -92,6 +92,7 @@ pub(crate) fn glob_at(alloc: Global, tokens: &[Spanned]) -> Result<(Text, &[Span
         Some((Token::Word(_), _)) => Err(Stop::Unexpected(tokens.len())),
         Some((Token::Number(_), _)) => Err(Stop::Unexpected(tokens.len())),
         Some((Token::Mark(_), _)) => Err(Stop::Unexpected(tokens.len())),
+        Some((Token::Def, _)) => Err(Stop::Unexpected(tokens.len())),
         None => Err(Stop::Unexpected(0)),
     }
 }

@@ -61,6 +61,7 @@ pub(crate) fn start_of(alloc: Global, token: &Token) -> Result<Start, NoMemory>
         Token::Str(text) => Ok(Start::Leaf(Expr::Str(text.copy(alloc)?))),
         Token::Mark(Mark::LeftParen) => Ok(Start::Bracket),
         Token::Mark(_) => Ok(Start::Nothing),
+        Token::Def => Ok(Start::Nothing),
     }
 }
 
@@ -102,5 +103,6 @@ pub(crate) fn operator_of(token: &Token) -> Operator
         Token::Mark(mark) => mark_operator(*mark),
         Token::Number(_) => Operator::Neither,
         Token::Str(_) => Operator::Neither,
+        Token::Def => Operator::Neither,
     }
 }

@@ -41,6 +41,7 @@ pub(crate) fn shape_of(token: &Token) -> ShapeStart
             None => ShapeStart::Nothing,
         },
         Token::Mark(_) => ShapeStart::Nothing,
+        Token::Def => ShapeStart::Nothing,
         Token::Number(_) => ShapeStart::Nothing,
         Token::Str(_) => ShapeStart::Nothing,
     }

@@ -30,6 +30,8 @@ pub enum Sign {
     Else,
     /// The kept word `txn`.
     Txn,
+    /// The word `def` where it is kept.
+    Def,
 }
 
 fn is_word(token: &Token, wanted: &[u8]) -> bool
@@ -40,6 +42,7 @@ fn is_word(token: &Token, wanted: &[u8]) -> bool
         Token::Number(_) => false,
         Token::Str(_) => false,
         Token::Mark(_) => false,
+        Token::Def => false,
     }
 }
 
@@ -60,6 +63,7 @@ fn is_sign(token: &Token, sign: Sign) -> bool
         Sign::In => is_word(token, Keyword::In.bytes()),
         Sign::Else => is_word(token, Keyword::Else.bytes()),
         Sign::Txn => is_word(token, Keyword::Txn.bytes()),
+        Sign::Def => matches!(token, Token::Def),
     }
 }
 
@@ -98,6 +102,7 @@ pub fn name_at(alloc: Global, tokens: &[Spanned]) -> Result<(Word, &[Spanned]), 
         Some((Token::Number(_), _)) => Err(Stop::Unexpected(tokens.len())),
         Some((Token::Str(_), _)) => Err(Stop::Unexpected(tokens.len())),
         Some((Token::Mark(_), _)) => Err(Stop::Unexpected(tokens.len())),
+        Some((Token::Def, _)) => Err(Stop::Unexpected(tokens.len())),
         None => Err(Stop::Unexpected(0)),
     }
 }

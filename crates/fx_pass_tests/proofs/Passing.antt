@@ -7,14 +7,14 @@ use Rattle.fx_turn.specs.declared.kept.Kept.{Ghosts}
 use Rattle.fx_turn.specs.declared.seat.Seat.{Seat}
 use Rattle.fx_turn.specs.Views.{newcomer}
 use Rattle.fx_turn.specs.Seats.{view}
-use Rattle.fx_shared.specs.declared.shared.Shared.{Shared}
+use Rattle.fx_shared.specs.declared.shares.Shares.{Shares}
 use Rattle.fx_shared.specs.Passes.{LogView}
 use Rattle.fx_shared.specs.Shared.{IsPassOf}
 use Rattle.fx_pass_tests.specs.Workings.{IsFresh}
 
 module _ {g : Ghosts Log BaseTree Turn} where
   -- a new pass has settled nothing
-  pub fresh : (base : BaseTree) (shared : Shared) (maker : LogView) (pass : Seat Log BaseTree Turn g) → IsPassOf shared pass → maker.base ≡ Some base → view pass ≡ newcomer maker → IsFresh base shared pass
+  pub fresh : (base : BaseTree) (shared : Shares Log) (maker : LogView) (pass : Seat Log BaseTree Turn g) → IsPassOf shared pass → maker.base ≡ Some base → view pass ≡ newcomer maker → IsFresh base shared pass
   fresh base shared maker pass turn based new = record {
     ready = record {
       turn = turn;

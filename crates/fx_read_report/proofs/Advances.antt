@@ -1,5 +1,5 @@
 -- A line is taken exactly where a report goes on with it.
-use Rattle.std.proofs.Common.{◌≡◌, ℕ, zero, suc, ◌+◌, ◌-◌, ◌^◌, ◌<◌, ◌≤◌, Bool, true, false, ◌&&◌, nat_eq, nat_lt, List, [], ◌∷◌, ◌++◌, length, map, refl, sym, ap, subst, ◌∙◌, ◌⊎◌, inl, inr, append_assoc, append-nil, length-append, arith}
+use Rattle.std.proofs.Common.{◌≡◌, ℕ, suc, ◌+◌, ◌^◌, ◌<◌, ◌≤◌, Bool, true, false, ◌&&◌, nat_eq, nat_lt, List, [], ◌∷◌, ◌++◌, length, map, refl, sym, ap, subst, ◌∙◌, ◌⊎◌, inl, inr, append_assoc, append-nil, length-append, arith}
 use Rattle.std.proofs.lemmas.Bool.{and_parts, eqb-true, ltb-true, lt-ltb}
 use Rattle.std.proofs.lemmas.Bool.Decides.{nat_tests}
 use Rattle.fx_expr.specs.Tree.{Tree}
@@ -10,7 +10,7 @@ use Rattle.fx_read_report.specs.Form.{AreFormEntries, AreFormRetries, ArePrinted
 use Rattle.fx_read_values.specs.Values.{IsPrinted}
 use Rattle.fx_read_values.specs.declared.values.TheConstants.{VALUE_LEVELS}
 use Rattle.fx_read_report.specs.Lines.{Line, IsLine, head, entries, entry, print, retries, retry, final, entry_lines, report_lines}
-use Rattle.fx_read_report.specs.Stages.{Fits, IsState, State, advanced, allows, counts, ends, entered, enters, is_headed, is_start, lines_at, lines_in, printed, prints, repeats}
+use Rattle.fx_read_report.specs.Stages.{IsState, State, advanced, allows, entered, lines_at, lines_in, printed}
 use Rattle.fx_read_report.specs.declared.reading.Stage.{Stage}
 use Rattle.fx_read_report.specs.declared.reading.Stage.TheVariants as stage
 use Rattle.fx_read_report.proofs.Tokens as tokens

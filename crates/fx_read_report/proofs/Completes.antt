@@ -1,11 +1,11 @@
 -- What was read can be completed to a report.
-use Rattle.std.proofs.Common.{◌≡◌, ℕ, zero, suc, ◌+◌, ◌-◌, ◌^◌, ◌<◌, ◌≤◌, List, [], ◌∷◌, ◌++◌, length, map, refl, sym, ap, subst, ◌∙◌, append_assoc, append-nil, length-append, arith, All, lit<}
+use Rattle.std.proofs.Common.{◌≡◌, ℕ, zero, suc, ◌+◌, ◌-◌, ◌^◌, ◌<◌, ◌≤◌, List, [], ◌∷◌, ◌++◌, length, map, refl, sym, ap, subst, ◌∙◌, append_assoc, append-nil, length-append, arith, lit<}
 use Rattle.std.proofs.lemmas.List.Elements.{All-nil}
 use Rattle.fx_spec.specs.declared.refusal.End.TheVariants as end
 use Rattle.fx_machine.specs.declared.retry.Retry.{Retry}
 use Rattle.fx_report.specs.declared.printed.PrintedEntry.{PrintedEntry}
 use Rattle.fx_store.specs.Names.{IsName, IsPath}
-use Rattle.fx_read_report.specs.Form.{AreFormEntries, AreFormRetries, IsForm, IsFormEntry, IsFormRetry}
+use Rattle.fx_read_report.specs.Form.{AreFormEntries, AreFormRetries, IsForm}
 use Rattle.fx_read_report.specs.Lines.{Line, head, entries, entry, print, retries, retry, final, entry_lines, report_lines}
 use Rattle.fx_read_report.specs.Stages.{IsState, State, lines_in, entered}
 use Rattle.fx_read_report.specs.declared.reading.Stage.{Stage}

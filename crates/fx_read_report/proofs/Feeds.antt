@@ -1,5 +1,5 @@
 -- The lines of a report hold no line feed.
-use Rattle.std.proofs.Common.{◌≡◌, ℕ, zero, suc, ◌+◌, ◌-◌, ◌*◌, ◌/◌, ◌%◌, ◌^◌, ◌<◌, ◌≤◌, Bool, true, false, cond, ◌&&◌, nat_eq, nat_le, ℤ, pos, negsuc, List, [], ◌∷◌, ◌++◌, codes, refl, sym, ap, subst, ◌∙◌, ◌⊎◌, inl, inr, arith}
+use Rattle.std.proofs.Common.{◌≡◌, ℕ, zero, suc, ◌/◌, ◌%◌, ◌^◌, ◌<◌, Bool, true, false, cond, nat_eq, ℤ, pos, negsuc, List, [], ◌∷◌, ◌++◌, codes, refl, arith}
 use Rattle.std.specs.Fmt.{decimal, digit_glyph, signed_decimal}
 use Rattle.std.specs.List.{flat_map, join_by, list_all}
 use Rattle.std.proofs.lemmas.Bool.{and_parts}
@@ -15,12 +15,12 @@ use Rattle.fx_spec.specs.declared.refusal.Refusal.TheVariants as refusal
 use Rattle.fx_spec.specs.declared.refusal.End.{End}
 use Rattle.fx_spec.specs.declared.refusal.End.TheVariants as end
 use Rattle.fx_report.specs.Print.{comma, hex_pair, is_printable, joined, quote, row_texts, spelled, truth_text, value_text}
-use Rattle.fx_report.specs.Readable.{AreBytes, IsInteger}
+use Rattle.fx_report.specs.Readable.{IsInteger}
 use Rattle.fx_report.specs.Report.{end_text, fault_name, field, refusal_text}
 use Rattle.fx_read_words.specs.Numbers.{is_digit}
 use Rattle.fx_read_words.proofs.Digits.{own}
-use Rattle.fx_read_values.specs.Values.{ArePrintedRows, ArePrintedTexts, IsPrinted}
-use Rattle.fx_read_report.specs.Form.{IsFormEnd, IsFormRefusal, LacksFeed}
+use Rattle.fx_read_values.specs.Values.{ArePrintedRows, IsPrinted}
+use Rattle.fx_read_report.specs.Form.{IsFormEnd, LacksFeed}
 use Rattle.fx_read_report.specs.Lines.{Line, IsLine, head, entries, entry, print, retries, retry, final, line_text}
 use Rattle.fx_read_report.proofs.PartLaws.{number_small}
 
@@ -160,6 +160,7 @@ refusal_lacks refusal.NoDefault = tested (codes "NoDefault") refl
 refusal_lacks (refusal.Expr f) = lacks_append (codes "Expr ") (fault_name f) (tested (codes "Expr ") refl) (fault_lacks f)
 refusal_lacks refusal.Absent = tested (codes "Absent") refl
 refusal_lacks refusal.Exists = tested (codes "Exists") refl
+refusal_lacks refusal.TooUnfolded = tested (codes "TooUnfolded") refl
 
 space_lacks : LacksFeed (codes " ")
 space_lacks = (λ e. omega arith, tt)

@@ -1,5 +1,5 @@
 -- The lines of entries and retries are read as they are spelled, and in no other way.
-use Rattle.std.proofs.Common.{◌≡◌, ℕ, ◌^◌, ◌<◌, List, [], ◌∷◌, ◌++◌, Option, Some, None, Result, Ok, Err, IfOk, Bool, true, false, codes, refl, sym, ap, subst, ◌∙◌, append_assoc, append-nil}
+use Rattle.std.proofs.Common.{◌≡◌, ℕ, ◌^◌, ◌<◌, List, [], ◌++◌, Option, Some, None, Result, Ok, Err, IfOk, Bool, true, false, codes, refl, sym, ap, subst, ◌∙◌, append_assoc, append-nil}
 use Rattle.std.specs.Option.{option_map, option_and_then}
 use Rattle.std.specs.Prelude.{bytes_eq}
 use Rattle.std.specs.Cmp.Lexicographic.{bytes_decides}
@@ -12,7 +12,7 @@ use Rattle.fx_read_words.specs.Numbers.{EndsDigits, after}
 use Rattle.fx_read_words.proofs.Digits.{after_read, after_spelled, chained, mapped}
 use Rattle.fx_read_report.specs.Form.{IsFormEnd, IsFormRetry}
 use Rattle.fx_read_report.specs.Lines.{FindsLine, Line, IsLine, head, entries, entry, print, retries, retry, final, line_of, line_text}
-use Rattle.fx_read_report.specs.Kinds.{kind_by, kind_of}
+use Rattle.fx_read_report.specs.Kinds.{kind_of}
 use Rattle.fx_read_report.specs.declared.lines.Line as held
 use Rattle.fx_read_report.specs.declared.lines.Kind.{Kind}
 use Rattle.fx_read_report.specs.declared.lines.Kind.TheVariants as kind

@@ -1,11 +1,11 @@
 -- The parts of a line are read as they are spelled, and in no other way.
-use Rattle.std.proofs.Common.{◌≡◌, ℕ, suc, ◌+◌, ◌*◌, ◌^◌, ◌<◌, ◌≤◌, Bool, true, false, cond, not, nat_eq, nat_lt, List, [], ◌∷◌, ◌++◌, map, length, All, Option, Some, None, Result, Ok, Err, codes, refl, sym, ap, subst, ◌∙◌, ◌⊎◌, inl, inr, append_assoc, append-nil, arith, lit<}
+use Rattle.std.proofs.Common.{◌≡◌, ℕ, ◌^◌, ◌<◌, ◌≤◌, Bool, true, false, cond, nat_eq, nat_lt, List, [], ◌∷◌, ◌++◌, length, All, Option, Some, None, Result, Ok, Err, codes, refl, sym, ap, subst, ◌∙◌, append_assoc, append-nil, arith, lit<}
 use Rattle.std.specs.Prelude.{bytes_eq}
 use Rattle.std.specs.Fmt.{decimal}
 use Rattle.std.specs.List.{flat_map}
 use Rattle.std.specs.Option.{option_map, option_and_then}
 use Rattle.std.specs.Cmp.Lexicographic.{bytes_decides}
-use Rattle.std.proofs.lemmas.Bool.{ltb-true, lt-ltb, eqb-true, le-ltb}
+use Rattle.std.proofs.lemmas.Bool.{ltb-true, lt-ltb, eqb-true}
 use Rattle.std.proofs.lemmas.Bool.Decides.{nat_tests}
 use Rattle.std.proofs.lemmas.List.Elements.{All-head, All-tail}
 use Rattle.std.proofs.lemmas.Option.{cond_some}
@@ -13,7 +13,7 @@ use Rattle.fx_expr.specs.declared.fault.ExprFault.{ExprFault}
 use Rattle.fx_expr.specs.declared.fault.ExprFault.TheVariants as fault
 use Rattle.fx_store.specs.declared.name.PathFault.{PathFault}
 use Rattle.fx_store.specs.declared.name.PathFault.TheVariants.{TooDeep}
-use Rattle.fx_store.specs.Faults.{read_path, path_of}
+use Rattle.fx_store.specs.Faults.{read_path}
 use Rattle.fx_store.specs.Names.{IsName, IsPath, path_text}
 use Rattle.fx_store.proofs.SpellingLaws.{path_texts_read}
 use Rattle.fx_spec.specs.Refusals.{refusal_number}
@@ -23,7 +23,7 @@ use Rattle.fx_spec.specs.declared.refusal.End.{End}
 use Rattle.fx_spec.specs.declared.refusal.End.TheVariants as end
 use Rattle.fx_report.specs.Print.{quote}
 use Rattle.fx_report.specs.Readable.{AreBytes}
-use Rattle.fx_report.specs.Report.{end_text, fault_name, field, refusal_text}
+use Rattle.fx_report.specs.Report.{end_text, field, refusal_text}
 use Rattle.fx_read_words.specs.Numbers.{EndsDigits, after, leading_number}
 use Rattle.fx_read_words.specs.Quotes.{unquoted}
 use Rattle.fx_read_words.proofs.Digits.{after_read, after_spelled, chained, leading_read, leading_spelled, mapped}
@@ -165,7 +165,7 @@ plain_is n r e =
     pick n 1 refusal.NoStep r _ (refl, refl, tt) e λ e. pick n 2 refusal.NoElement r _ (refl, refl, tt) e λ e. pick n 3 refusal.NoPlace r _ (refl, refl, tt) e λ e.
     pick n 4 refusal.Lacks r _ (refl, refl, tt) e λ e. pick n 5 refusal.WrongForm r _ (refl, refl, tt) e λ e. pick n 7 refusal.TooDeep r _ (refl, refl, tt) e λ e.
     pick n 8 refusal.BadName r _ (refl, refl, tt) e λ e. pick n 9 refusal.NoDefault r _ (refl, refl, tt) e λ e. pick n 11 refusal.Absent r _ (refl, refl, tt) e λ e.
-    pick n 12 refusal.Exists r _ (refl, refl, tt) e λ e. absurd (cc)
+    pick n 12 refusal.Exists r _ (refl, refl, tt) e λ e. pick n 13 refusal.TooUnfolded r _ (refl, refl, tt) e λ e. absurd (cc)
 
 named_is : (name : List ℕ) (o : Option Refusal) (r : Refusal) → when_named name o ≡ Some r → (o ≡ Some r) × (name ≡ plain_name r)
 named_is name None r e = absurd (cc)
@@ -245,6 +245,7 @@ refusal_read (refusal.Expr fault.Overflow) p = refl
 refusal_read (refusal.Expr fault.NotNumber) p = refl
 refusal_read refusal.Absent p = refl
 refusal_read refusal.Exists p = refl
+refusal_read refusal.TooUnfolded p = refl
 
 -- ---- ends
 
@@ -261,6 +262,7 @@ number_small refusal.NoDefault = lit< tt
 number_small (refusal.Expr f) = lit< tt
 number_small refusal.Absent = lit< tt
 number_small refusal.Exists = lit< tt
+number_small refusal.TooUnfolded = lit< tt
 
 stop_form : (a b r : List ℕ) → ((a ++ b) ++ codes " ") ++ r ≡ a ++ (b ++ (codes " " ++ r))
 stop_form a b r = simp append_assoc

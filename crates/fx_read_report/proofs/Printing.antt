@@ -1,9 +1,9 @@
 -- What the steps of the program give.
-use Rattle.std.proofs.Common.{◌≡◌, ℕ, zero, suc, ◌+◌, ◌<◌, ◌≤◌, Bool, true, false, List, [], ◌∷◌, ◌++◌, length, take, drop, get_or, Result, Ok, Err, IfOk, refl, sym, ap, subst, ◌∙◌, arith}
+use Rattle.std.proofs.Common.{◌≡◌, ℕ, zero, suc, ◌+◌, ◌<◌, ◌≤◌, List, [], ◌∷◌, ◌++◌, length, take, drop, get_or, refl, sym, ap, subst, ◌∙◌, arith}
 use Rattle.std.proofs.lemmas.List.{take_all}
 use Rattle.fx_expr.specs.Tree.{Tree}
 use Rattle.fx_report.specs.declared.printed.PrintedEntry.{PrintedEntry}
-use Rattle.fx_read_report.specs.Feeds.{FindsFeed, IsFeedAt}
+use Rattle.fx_read_report.specs.Feeds.{IsFeedAt}
 use Rattle.fx_read_report.specs.Form.{LacksFeed}
 use Rattle.fx_read_report.specs.Stages.{printed}
 

@@ -1,13 +1,13 @@
 -- The first line that goes wrong.
-use Rattle.std.proofs.Common.{◌≡◌, ℕ, zero, suc, ◌+◌, ◌<◌, ◌≤◌, Bool, true, false, List, [], ◌∷◌, ◌++◌, length, map, take, drop, refl, sym, ap, subst, ◌∙◌, append_assoc, append-nil, length-append, take-append-drop, length-drop, ◌-◌, arith}
+use Rattle.std.proofs.Common.{◌≡◌, ℕ, ◌+◌, ◌<◌, ◌≤◌, true, false, List, [], ◌∷◌, ◌++◌, length, map, take, drop, refl, sym, ap, subst, ◌∙◌, append_assoc, append-nil, length-append, take-append-drop, length-drop, ◌-◌, arith}
 use Rattle.std.specs.List.{flat_map}
 use Rattle.std.proofs.lemmas.List.{length-map, length-take-le, take_all}
 use Rattle.fx_expr.specs.Tree.{Tree}
 use Rattle.fx_machine.specs.declared.retry.Retry.{Retry}
 use Rattle.fx_report.specs.declared.printed.PrintedEntry.{PrintedEntry}
-use Rattle.fx_report.specs.Report.{line, report_text}
+use Rattle.fx_report.specs.Report.{line}
 use Rattle.fx_read_report.specs.Feeds.{IsFeedAt}
-use Rattle.fx_read_report.specs.Form.{AllLackFeed, BeginsReport, IsFirstBadLine, IsForm, IsReportOf, LacksFeed}
+use Rattle.fx_read_report.specs.Form.{AllLackFeed, BeginsReport, IsFirstBadLine, IsReportOf, LacksFeed}
 use Rattle.fx_read_report.specs.Lines.{Line, IsLine, head, entries, entry, print, retries, retry, final, entry_lines, line_text, report_lines}
 use Rattle.fx_read_report.specs.Stages.{IsState, State, TakesText, is_ended, lines_at, lines_in, start}
 use Rattle.fx_read_report.specs.declared.reading.Stage.{Stage}

@@ -1,8 +1,6 @@
 -- A line is taken, or no report goes on with it.
-use Rattle.std.proofs.Common.{◌≡◌, ℕ, true, false, List, [], ◌∷◌, ◌++◌, Some, refl, sym, ap, subst, ◌∙◌}
-use Rattle.fx_machine.specs.declared.retry.Retry.{Retry}
-use Rattle.fx_report.specs.declared.printed.PrintedEntry.{PrintedEntry}
-use Rattle.fx_read_report.specs.Lines.{FindsLine, IsLine, Line, line_text, report_lines}
+use Rattle.std.proofs.Common.{◌≡◌, ℕ, true, false, List, ◌∷◌, ◌++◌, Some, sym, ap, subst, ◌∙◌}
+use Rattle.fx_read_report.specs.Lines.{FindsLine, Line}
 use Rattle.fx_read_report.specs.Stages.{IsState, State, TakesText, advanced, lines_in, may_follow}
 use Rattle.fx_read_report.proofs.Advances.{not_next, steps}
 use Rattle.fx_read_report.proofs.LineLaws.{one_line}

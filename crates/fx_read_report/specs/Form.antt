@@ -1,5 +1,5 @@
 -- The form of a report, and the first line at which bytes leave it.
-use Rattle.std.specs.Prelude.{◌≡◌, ℕ, ◌+◌, ◌-◌, ◌^◌, ◌<◌, ◌≤◌, List, [], ◌∷◌, ◌++◌, length}
+use Rattle.std.specs.Prelude.{◌≡◌, ℕ, ◌^◌, ◌<◌, List, [], ◌∷◌, ◌++◌, length}
 use Rattle.std.specs.List.{flat_map}
 use Rattle.fx_expr.specs.Tree.{Tree}
 use Rattle.fx_store.specs.Names.{IsPath}
@@ -29,6 +29,7 @@ IsFormRefusal refusal.NoDefault = Unit {0}
 IsFormRefusal (refusal.Expr fault) = Unit {0}
 IsFormRefusal refusal.Absent = Unit {0}
 IsFormRefusal refusal.Exists = Unit {0}
+IsFormRefusal refusal.TooUnfolded = Unit {0}
 
 -- the number of a command has 32 bits
 abbrev pub IsFormEnd : End → Type 0

@@ -1,5 +1,5 @@
 -- How the parts of a line are read.
-use Rattle.std.specs.Prelude.{ℕ, ◌^◌, Bool, cond, List, [], ◌∷◌, nat_eq, nat_lt, bytes_eq, Option, Some, None, Result, Ok, Err, codes}
+use Rattle.std.specs.Prelude.{ℕ, ◌^◌, cond, List, [], ◌∷◌, nat_eq, nat_lt, bytes_eq, Option, Some, None, Result, Ok, Err, codes}
 use Rattle.std.specs.Option.{option_map, option_and_then}
 use Rattle.fx_expr.specs.declared.fault.ExprFault.TheVariants as fault
 use Rattle.fx_store.specs.declared.name.PathFault.{PathFault}
@@ -8,7 +8,6 @@ use Rattle.fx_spec.specs.declared.refusal.Refusal.{Refusal}
 use Rattle.fx_spec.specs.declared.refusal.Refusal.TheVariants as refusal
 use Rattle.fx_spec.specs.declared.refusal.End.{End}
 use Rattle.fx_spec.specs.declared.refusal.End.TheVariants as end
-use Rattle.fx_machine.specs.declared.retry.Retry.{Retry}
 use Rattle.fx_read_words.specs.Numbers.{after, leading_number}
 use Rattle.fx_read_words.specs.Quotes.{unquoted}
 use Rattle.fx_read_report.specs.Lines.{Line, entry, retry}
@@ -46,7 +45,7 @@ path_at bytes = path_alone (unquoted bytes)
 -- the refusals that carry nothing, by their numbers
 abbrev pub plain_of : ℕ → Option Refusal
 plain_of n =
-    cond (nat_eq n 1) (Some refusal.NoStep) (cond (nat_eq n 2) (Some refusal.NoElement) (cond (nat_eq n 3) (Some refusal.NoPlace) (cond (nat_eq n 4) (Some refusal.Lacks) (cond (nat_eq n 5) (Some refusal.WrongForm) (cond (nat_eq n 7) (Some refusal.TooDeep) (cond (nat_eq n 8) (Some refusal.BadName) (cond (nat_eq n 9) (Some refusal.NoDefault) (cond (nat_eq n 11) (Some refusal.Absent) (cond (nat_eq n 12) (Some refusal.Exists) None)))))))))
+    cond (nat_eq n 1) (Some refusal.NoStep) (cond (nat_eq n 2) (Some refusal.NoElement) (cond (nat_eq n 3) (Some refusal.NoPlace) (cond (nat_eq n 4) (Some refusal.Lacks) (cond (nat_eq n 5) (Some refusal.WrongForm) (cond (nat_eq n 7) (Some refusal.TooDeep) (cond (nat_eq n 8) (Some refusal.BadName) (cond (nat_eq n 9) (Some refusal.NoDefault) (cond (nat_eq n 11) (Some refusal.Absent) (cond (nat_eq n 12) (Some refusal.Exists) (cond (nat_eq n 13) (Some refusal.TooUnfolded) None))))))))))
 
 abbrev pub plain_name : Refusal → List ℕ
 plain_name refusal.NoStep = codes "NoStep"
@@ -61,6 +60,7 @@ plain_name refusal.NoDefault = codes "NoDefault"
 plain_name (refusal.Expr f) = []
 plain_name refusal.Absent = codes "Absent"
 plain_name refusal.Exists = codes "Exists"
+plain_name refusal.TooUnfolded = codes "TooUnfolded"
 
 abbrev pub when_named : List ℕ → Option Refusal → Option Refusal
 when_named name None = None

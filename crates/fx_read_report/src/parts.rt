@@ -88,6 +88,7 @@ fn plain_of(number: u64) -> Option<Refusal>
         9 => Some(Refusal::NoDefault),
         11 => Some(Refusal::Absent),
         12 => Some(Refusal::Exists),
+        13 => Some(Refusal::TooUnfolded),
         _ => None,
     }
 }
@@ -108,6 +109,7 @@ fn is_named(refusal: &Refusal, name: &[u8]) -> bool
         Refusal::Expr(_) => name == b"".as_slice(),
         Refusal::Absent => name == b"Absent".as_slice(),
         Refusal::Exists => name == b"Exists".as_slice(),
+        Refusal::TooUnfolded => name == b"TooUnfolded".as_slice(),
     }
 }
 

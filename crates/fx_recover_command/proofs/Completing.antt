@@ -1,6 +1,5 @@
 -- With all that `recover` reads in order, and no fault of host, sink or disk, it is done, or memory runs out.
-use Rattle.std.proofs.Common.{◌≡◌, ◌⊎◌, inl, inr, ℕ, ◌+◌, length, subst, List, [], ◌∷◌, Some, Ok, Err, IfSome, IsSomeAnd, refl, sym, ◌∙◌, ap}
-use Rattle.std.proofs.lemmas.Option.{same_Some}
+use Rattle.std.proofs.Common.{◌≡◌, ◌⊎◌, inl, inr, ℕ, ◌+◌, length, subst, List, [], ◌∷◌, Some, Ok, Err, IfSome, IsSomeAnd, refl, sym, ◌∙◌}
 use Rattle.fx_base.specs.Causes.{Rose}
 use Rattle.fx_outside.specs.Host.{HostView, FaultIn}
 use Rattle.fx_outside.specs.Sink.{SinkView}
@@ -10,8 +9,6 @@ use Rattle.fx_folder.specs.Loads.{Loads, IsRefused}
 use Rattle.fx_table.specs.declared.fault.FolderCause.{FolderCause}
 use Rattle.fx_store.specs.Whole.{Nodes}
 use Rattle.fx_spec.specs.CommandTree.{CommandTree}
-use Rattle.fx_spec.specs.Plans.{Turn}
-use Rattle.fx_spec.specs.Order.{IsLegal}
 use Rattle.fx_command.specs.declared.status.Status.{Status}
 use Rattle.fx_command.specs.declared.status.TextFault.{TextFault}
 use Rattle.fx_command.specs.declared.status.Status.TheVariants as status
@@ -20,10 +17,9 @@ use Rattle.fx_inputs.specs.Inputs.{HasTexts, HasInputs, CannotRead, IsFirstRefus
 use Rattle.fx_inputs.proofs.ReadRows.{read_fault_rose}
 use Rattle.fx_words.specs.Job.{Inputs, RecoverJob}
 use Rattle.fx_durable.specs.Disk.{DiskView, TellsOther}
-use Rattle.fx_durable.specs.Journal.{value_of, Spells, Breaks}
+use Rattle.fx_journaling.proofs.Legal.{legal_images_are_good}
 use Rattle.fx_recover_command.specs.Recovered.{HasSomeOrder, IsBad}
 use Rattle.fx_recover_command.specs.Rows.{RecoverReadFault, RecoverEnd, RecoverRow, CannotSave, HasJournal, IsProperRecover}
-use Rattle.fx_recover_command.proofs.Counting.{legal_take}
 
 -- ---- inputs that are all read
 
@@ -51,14 +47,9 @@ can_read t inputs has (inr (inr folder)) = two (is_folder_at t inputs.folder) ha
 
 -- ---- a journal that spells a legal order
 
-not_broken : (place : ℕ) (order : List Turn) (image : List ℕ) → Spells order image → Breaks place image → ⊥
-not_broken place order image spells breaks = let both : Some order ≡ value_of (Err place) = sym spells ∙ ap value_of breaks in cc
-
 not_bad : (t : Tree) (j : RecoverJob) (disk : DiskView) (has : HasJournal t j disk) (place : ℕ) → IsBad t j has.file place → ⊥
-not_bad t j disk has place (base, begins, inl breaks) = not_broken place has.order has.file.seen has.spelled breaks
-not_bad t j disk has place (base, begins, inr (order, spells, illegal)) =
-    let same : has.order ≡ order = same_Some has.order order (sym has.spelled ∙ spells) in
-    illegal.here (legal_take base order (place + 1) (subst (λ o. IsLegal base o) same (has.legal base begins)))
+not_bad t j disk has place (base, begins, wrong) =
+    legal_images_are_good base has.order has.file.seen place (record { spells = has.spelled; legal = has.legal base begins }) wrong
 
 not_other : (t : Tree) (j : RecoverJob) (disk : DiskView) → HasJournal t j disk → TellsOther disk j.journal → ⊥
 not_other t j disk has other = subst (λ o. IsSomeAnd o (λ file. file.path ≡ j.journal → ⊥)) has.told other has.path

@@ -24,9 +24,10 @@ use Rattle.fx_inputs.proofs.Stages.{then_told}
 use Rattle.fx_words.specs.Job.{RecoverJob}
 use Rattle.fx_durable.specs.Disk.{DiskView}
 use Rattle.fx_durable.specs.Journal.{Spells}
+use Rattle.fx_journaling.specs.Laws.{GoesWrong}
 use Rattle.fx_recover_command.specs.Recovered.{recovered_line, HasOrder, HasSomeOrder, IsOutcome, IsAnswered, IsBad}
 use Rattle.fx_recover_command.specs.Rows.{MayHoldPart, IsDone, IsCutShort, RecoverReadFault, CannotSave, RecoverEnd, has_fit_recover}
-use Rattle.fx_recover_command.specs.Unread.{GoesWrong, OrderCause}
+use Rattle.fx_recover_command.specs.Unread.{OrderCause}
 
 -- ---- stages that only read
 

@@ -11,7 +11,7 @@ use Rattle.fx_words.specs.Job.{RecoverJob}
 use Rattle.fx_inputs.specs.Inputs.{HasBase}
 use Rattle.fx_durable.specs.Disk.{DiskView, File}
 use Rattle.fx_durable.specs.Journal.{Spells}
-use Rattle.fx_recover_command.specs.Unread.{GoesWrong}
+use Rattle.fx_journaling.specs.Laws.{GoesWrong}
 
 -- the line that is printed after so many transactions
 abbrev pub recovered_line : ℕ → List ℕ

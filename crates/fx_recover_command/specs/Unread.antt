@@ -1,24 +1,18 @@
 -- How `recover` ends where the journal is not read, or does not spell a legal order.
 use Rattle.std.specs.Prelude.{◌⊎◌, ℕ, List, IfSome, ⊤}
 use Rattle.fx_base.specs.Causes.{Rose}
-use Rattle.fx_spec.specs.Plans.{Turn}
 use Rattle.fx_spec.specs.Order.{BaseTree}
 use Rattle.fx_command.specs.declared.status.Status.{Status}
 use Rattle.fx_command.specs.declared.status.Status.TheVariants as status
 use Rattle.fx_durable.specs.Disk.{DiskView, TellsOther}
-use Rattle.fx_durable.specs.Journal.{Spells, Breaks}
 use Rattle.fx_durable.specs.declared.journal_fault.JournalFault.{JournalFault}
 use Rattle.fx_durable.specs.declared.journal_fault.JournalFault.TheVariants as fault
-use Rattle.fx_recover_command.specs.Orders.{IsFirstIllegal}
+use Rattle.fx_journaling.specs.Laws.{GoesWrong}
 
 abbrev pub unread_status : JournalFault → Status
 unread_status (fault.Broken place) = status.BadJournal place
 unread_status fault.Failed = status.ReadFault
 unread_status fault.NoMemory = status.NoMemory
-
--- the record of this number breaks, or its transaction is the first with which the order is not legal
-abbrev pub GoesWrong : BaseTree → List ℕ → ℕ → Type 0
-GoesWrong base seen place = Breaks place seen ⊎ ((order : List Turn) × Spells order seen × IsFirstIllegal base order place)
 
 abbrev pub OrderCause : List ℕ → BaseTree → DiskView → DiskView → Status → Type 0
 OrderCause path base disk disk' status.Done = ⊥

@@ -4,7 +4,8 @@ ghost use Rattle.fx_spec.specs.Bases.{base_tree};
 ghost use Rattle.fx_spec.specs.Order.{IsLegal};
 ghost use Rattle.fx_spec.specs.Plans.{Turn};
 ghost use Rattle.fx_durable.specs.Journal.{turn_of, turns_of};
-ghost use Rattle.fx_recover_command.specs.Orders.{AddsNext, AreCounts, IsFirstIllegal};
+ghost use Rattle.fx_replay_log.specs.Legal.{IsFirstIllegal};
+ghost use Rattle.fx_recover_command.specs.Orders.{AddsNext, AreCounts};
 
 use fx_base::NoMemory;
 use fx_durable::Pairs;

@@ -4,7 +4,7 @@ use fx_check::check;
 use fx_folder::load;
 use fx_outside::{HostKind, HostText, MemoryHost};
 use fx_scripts::{ScriptFault, script_of};
-use fx_spec::{Base, Checked, Plan, Spec};
+use fx_spec::{Base, Checked, Defs, Description, Plan, Spec};
 use fx_spec_parse::parse;
 use fx_store::Filestore;
 use std::alloc::Global;
@@ -64,11 +64,19 @@ fn store_of(alloc: Global, ground: &Ground) -> Result<Filestore, NoMemory> {
     }
 }
 
+/// The description of a file where one stands.
+fn file_alone(alloc: Global) -> Checked {
+    Checked::of(Description {
+        defs: Defs::new(alloc),
+        root: Spec::File,
+    })
+}
+
 /// The description of a text, and that of a file where it is refused.
 fn description_of(alloc: Global, text: &str) -> Checked {
     match parse(alloc, text.as_bytes()) {
-        Ok(spec) => check(alloc, spec).unwrap_or(Checked::of(Spec::File)),
-        Err(_) => Checked::of(Spec::File),
+        Ok(description) => check(alloc, description).unwrap_or(file_alone(alloc)),
+        Err(_) => file_alone(alloc),
     }
 }
 

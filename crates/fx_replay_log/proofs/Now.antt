@@ -1,5 +1,5 @@
 -- Reads of what stands after all entries are true, and no entry was made after them.
-use Rattle.std.proofs.Common.{◌≡◌, ◌⊎◌, inl, inr, ℕ, ◌≤◌, ◌<◌, Bool, true, false, cond, List, [], ◌∷◌, ◌++◌, length, Option, Some, None, refl, sym, ap, subst, ◌∙◌, arith}
+use Rattle.std.proofs.Common.{◌≡◌, ◌⊎◌, inl, inr, ℕ, Bool, true, false, cond, List, [], ◌∷◌, ◌++◌, length, Option, Some, None, refl, sym, ap, subst, ◌∙◌, arith}
 use Rattle.std.specs.FinMap.{get}
 use Rattle.std.specs.Ordering.{eq_by_cmp}
 use Rattle.std.proofs.lemmas.Bool.{false≢true}
@@ -11,10 +11,9 @@ use Rattle.fx_view.specs.ReadList.{ReadList}
 use Rattle.fx_view.specs.Reads.{read_at}
 use Rattle.fx_spec.specs.Plans.{Turn}
 use Rattle.fx_spec.specs.Order.{BaseTree, state}
-use Rattle.fx_machine.specs.declared.attempt.Attempt.{Attempt}
 use Rattle.fx_machine.specs.Passes.{AreTrueReads}
 use Rattle.fx_run.specs.Running.{ReadsFit}
-use Rattle.fx_board.specs.Board.{last_state, IsStaleRead, IsNamed}
+use Rattle.fx_board.specs.Board.{last_state, IsNamed}
 use Rattle.fx_board.specs.Log.{Log}
 use Rattle.fx_replay_log.specs.Present.{AreNow}
 

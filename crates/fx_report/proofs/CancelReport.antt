@@ -8,7 +8,7 @@ use Rattle.fx_expr.specs.declared.fault.ExprFault.TheVariants.{TooLong, Overflow
 use Rattle.fx_store.specs.Names.{path_text}
 use Rattle.fx_spec.specs.Refusals.{refusal_number}
 use Rattle.fx_spec.specs.declared.refusal.Refusal.{Refusal}
-use Rattle.fx_spec.specs.declared.refusal.Refusal.TheVariants.{NoStep, NoElement, NoPlace, Lacks, WrongForm, Blocked, TooDeep, BadName, NoDefault, Expr, Absent, Exists}
+use Rattle.fx_spec.specs.declared.refusal.Refusal.TheVariants.{NoStep, NoElement, NoPlace, Lacks, WrongForm, Blocked, TooDeep, BadName, NoDefault, Expr, Absent, Exists, TooUnfolded}
 use Rattle.fx_spec.specs.declared.refusal.End.{End}
 use Rattle.fx_spec.specs.declared.refusal.End.TheVariants.{Done, Stopped, Aborted}
 use Rattle.fx_report.specs.Print.{quote, value_text}
@@ -130,6 +130,8 @@ refusal_cancel Absent Absent x y p q n e = (refl, same_front (codes "Absent") x 
 refusal_cancel Absent s x y p q n e = absurd (apart _ _ n refl)
 refusal_cancel Exists Exists x y p q n e = (refl, same_front (codes "Exists") x y e)
 refusal_cancel Exists s x y p q n e = absurd (apart _ _ n refl)
+refusal_cancel TooUnfolded TooUnfolded x y p q n e = (refl, same_front (codes "TooUnfolded") x y e)
+refusal_cancel TooUnfolded s x y p q n e = absurd (apart _ _ n refl)
 
 small_number : (r : Refusal) → refusal_number r < 2 ^ 64
 small_number NoStep = lit< tt
@@ -144,6 +146,7 @@ small_number NoDefault = lit< tt
 small_number (Expr a) = lit< tt
 small_number Absent = lit< tt
 small_number Exists = lit< tt
+small_number TooUnfolded = lit< tt
 
 -- a field that begins with the same words
 field_cancel : (words : List ℕ) (m n : ℕ) (x y : List ℕ) → m < 2 ^ 64 → n < 2 ^ 64 → Stops x → Stops y → field words m ++ x ≡ field words n ++ y → (m ≡ n) × (x ≡ y)

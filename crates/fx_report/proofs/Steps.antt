@@ -7,7 +7,9 @@ use Rattle.std.proofs.lemmas.Grind.{flat_map-append}
 use Rattle.fx_store.specs.Names.{path_text}
 use Rattle.fx_report.specs.Print.{spelled}
 use Rattle.fx_report.specs.Report.{entries_text, entry_text}
+use Rattle.fx_report.specs.Views.{view_text, view_texts}
 use Rattle.fx_report.specs.declared.printed.PrintedEntry.{PrintedEntry}
+use Rattle.fx_report.specs.declared.printed.View.{View}
 
 -- the front of a list and its next element
 pub take_next : {X : Type 0} (xs : List X) (i : ℕ) (x : X) → slice_get xs i ≡ Some x → take (i + 1) xs ≡ take i xs ++ x ∷ []
@@ -53,6 +55,21 @@ entries_text_next xs i x e =
     let inside = slice_get_within xs i x e in
     let len : 0 + length (take i xs) ≡ i = omega (arith, length-take-le i xs (omega arith)) in
     ap (entries_text 0) (take_next xs i x e) ∙ (entries_text_push 0 (take i xs) x ∙ ap (λ n. entries_text 0 (take i xs) ++ entry_text n x) len)
+
+-- the text of views, and one more after them
+view_texts_push : (k : ℕ) (xs : List View) (x : View) → view_texts k (xs ++ x ∷ []) ≡ view_texts k xs ++ view_text (k + length xs) x
+view_texts_push k [] x = append-nil (view_text k x) ∙ ap (λ n. view_text n x) (omega arith)
+view_texts_push k (y ∷ ys) x =
+    let rest = view_texts_push (k + 1) ys x in
+    let same : k + 1 + length ys ≡ k + length (y ∷ ys) = omega arith in
+    rw (rest, same) (sym (append_assoc (view_text k y) (view_texts (k + 1) ys) (view_text (k + length (y ∷ ys)) x)))
+
+-- the text of a front of the views, and of the next
+pub view_texts_next : (xs : List View) (i : ℕ) (x : View) → slice_get xs i ≡ Some x → view_texts 0 (take (i + 1) xs) ≡ view_texts 0 (take i xs) ++ view_text i x
+view_texts_next xs i x e =
+    let inside = slice_get_within xs i x e in
+    let len : 0 + length (take i xs) ≡ i = omega (arith, length-take-le i xs (omega arith)) in
+    ap (view_texts 0) (take_next xs i x e) ∙ (view_texts_push 0 (take i xs) x ∙ ap (λ n. view_texts 0 (take i xs) ++ view_text n x) len)
 
 -- a path with a name in it
 pub path_text_of_names : (path : List (List ℕ)) → (length path ≡ 0 → ⊥) → path_text path ≡ flat_map (λ name. 47 ∷ name) path

@@ -1,5 +1,6 @@
 pub mod Print
 pub mod Readable
 pub mod Report
+pub mod Views
 pub mod Entries
 pub mod Events

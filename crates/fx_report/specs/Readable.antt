@@ -2,7 +2,7 @@
 use Rattle.std.specs.Prelude.{◌≡◌, ℕ, ◌^◌, ◌<◌, false, nat_eq, ℤ, pos, negsuc, List, [], ◌∷◌, ◌++◌, length}
 use Rattle.fx_expr.specs.Tree.{Tree, TreeRows, str, int, bool, names, pair, nothing, some, table, no_rows, row}
 use Rattle.fx_spec.specs.declared.refusal.Refusal.{Refusal}
-use Rattle.fx_spec.specs.declared.refusal.Refusal.TheVariants.{NoStep, NoElement, NoPlace, Lacks, WrongForm, Blocked, TooDeep, BadName, NoDefault, Expr, Absent, Exists}
+use Rattle.fx_spec.specs.declared.refusal.Refusal.TheVariants.{NoStep, NoElement, NoPlace, Lacks, WrongForm, Blocked, TooDeep, BadName, NoDefault, Expr, Absent, Exists, TooUnfolded}
 use Rattle.fx_spec.specs.declared.refusal.End.{End}
 use Rattle.fx_spec.specs.declared.refusal.End.TheVariants.{Done, Stopped, Aborted}
 use Rattle.fx_report.specs.Print.{quote, value_text}
@@ -76,6 +76,7 @@ IsHeldRefusal NoDefault = Unit {0}
 IsHeldRefusal (Expr fault) = Unit {0}
 IsHeldRefusal Absent = Unit {0}
 IsHeldRefusal Exists = Unit {0}
+IsHeldRefusal TooUnfolded = Unit {0}
 
 abbrev pub IsHeldEnd : End → Type 0
 IsHeldEnd Done = Unit {0}

@@ -7,7 +7,7 @@ use Rattle.fx_expr.specs.declared.fault.ExprFault.{ExprFault}
 use Rattle.fx_expr.specs.declared.fault.ExprFault.TheVariants.{TooLong, Overflow, NotNumber}
 use Rattle.fx_spec.specs.Refusals.{refusal_number}
 use Rattle.fx_spec.specs.declared.refusal.Refusal.{Refusal}
-use Rattle.fx_spec.specs.declared.refusal.Refusal.TheVariants.{NoStep, NoElement, NoPlace, Lacks, WrongForm, Blocked, TooDeep, BadName, NoDefault, Expr, Absent, Exists}
+use Rattle.fx_spec.specs.declared.refusal.Refusal.TheVariants.{NoStep, NoElement, NoPlace, Lacks, WrongForm, Blocked, TooDeep, BadName, NoDefault, Expr, Absent, Exists, TooUnfolded}
 use Rattle.fx_spec.specs.declared.refusal.End.{End}
 use Rattle.fx_spec.specs.declared.refusal.End.TheVariants.{Done, Stopped, Aborted}
 use Rattle.fx_store.specs.Names.{path_text}
@@ -42,6 +42,7 @@ refusal_text NoDefault = codes "NoDefault"
 refusal_text (Expr fault) = codes "Expr " ++ fault_name fault
 refusal_text Absent = codes "Absent"
 refusal_text Exists = codes "Exists"
+refusal_text TooUnfolded = codes "TooUnfolded"
 
 -- how a transaction ended: a stop has the command's number, and the refusal's number before its name
 abbrev pub end_text : End → List ℕ

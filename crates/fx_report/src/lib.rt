@@ -1,4 +1,4 @@
-//! The printed forms: values, events, and the report of a run.
+//! The printed forms: values, events, the report of a run, and views.
 #![tactic(auto)]
 
 pub mod laws;
@@ -6,7 +6,9 @@ mod lines;
 mod printed;
 mod quotes;
 mod values;
+mod views;
 
 pub use fx_board::{Retries, Retry};
 pub use lines::{event_lines, printed_report, report, value_line};
-pub use printed::{PrintedEntries, PrintedEntry};
+pub use printed::{PrintedEntries, PrintedEntry, View, Viewed};
+pub use views::views_text;

@@ -17,7 +17,7 @@ use std::alloc::Global;
 
 /// Adds the words and the number after them.
 #[tactic(auto, unfolding(crate::specs::Report::field))]
-fn add_field(out: &mut Vec<u8>, words: &[u8], number: u64) -> Result<(), NoMemory>
+pub(crate) fn add_field(out: &mut Vec<u8>, words: &[u8], number: u64) -> Result<(), NoMemory>
     ensures { OnOk result (out.new.items ≡ out.old.items ++ report.field words.now number) }
 {
     add_bytes(out, words)?;
@@ -25,7 +25,7 @@ fn add_field(out: &mut Vec<u8>, words: &[u8], number: u64) -> Result<(), NoMemor
 }
 
 /// Adds a line of words and a number.
-fn add_count_line(out: &mut Vec<u8>, words: &[u8], count: u64) -> Result<(), NoMemory>
+pub(crate) fn add_count_line(out: &mut Vec<u8>, words: &[u8], count: u64) -> Result<(), NoMemory>
     ensures { OnOk result
         (out.new.items ≡ out.old.items ++ report.line (report.field words.now count)) }
 {
@@ -65,6 +65,7 @@ fn add_refusal(out: &mut Vec<u8>, refusal: &Refusal) -> Result<(), NoMemory>
         }
         Refusal::Absent => add_bytes(out, b"Absent"),
         Refusal::Exists => add_bytes(out, b"Exists"),
+        Refusal::TooUnfolded => add_bytes(out, b"TooUnfolded"),
     }
 }
 
@@ -78,7 +79,7 @@ fn add_stop(out: &mut Vec<u8>, command: u32, refusal: &Refusal) -> Result<(), No
     add_refusal(out, refusal)
 }
 
-fn add_end(out: &mut Vec<u8>, end: &End) -> Result<(), NoMemory>
+pub(crate) fn add_end(out: &mut Vec<u8>, end: &End) -> Result<(), NoMemory>
     ensures { OnOk result (out.new.items ≡ out.old.items ++ report.end_text end.now) }
 {
     match end {
@@ -116,7 +117,7 @@ fn add_print_line(out: &mut Vec<u8>, value: &Value) -> Result<(), NoMemory>
     Ok(())
 }
 
-fn add_print_lines(out: &mut Vec<u8>, outputs: &Values) -> Result<(), NoMemory>
+pub(crate) fn add_print_lines(out: &mut Vec<u8>, outputs: &Values) -> Result<(), NoMemory>
     ensures { OnOk result
         (out.new.items ≡ out.old.items ++ flat_map report.print_line outputs.now) }
 {

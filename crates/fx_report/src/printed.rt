@@ -11,5 +11,16 @@ pub struct PrintedEntry {
     pub end: End,
 }
 
+/// A transaction that only looked: after how many entries of the run, what it printed, and how it ended.
+#[derive(Drop)]
+pub struct View {
+    pub position: u64,
+    pub outputs: Values,
+    pub end: End,
+}
+
+/// Views, in the order in which they looked.
+pub type Viewed = Listed<View>;
+
 /// The entries of a run, in their order.
 pub type PrintedEntries = Listed<PrintedEntry>;

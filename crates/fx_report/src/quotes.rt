@@ -6,6 +6,7 @@ ghost use Rattle.fx_report.specs.Print.{hex_pair, quote, spelled};
 
 use fx_base::NoMemory;
 use fx_store::{Name, Path};
+use itoa::Buffer;
 
 /// Adds the bytes at the end of the text.
 pub(crate) fn add_bytes(out: &mut Vec<u8>, bytes: &[u8]) -> Result<(), NoMemory>
@@ -19,8 +20,8 @@ pub(crate) fn add_bytes(out: &mut Vec<u8>, bytes: &[u8]) -> Result<(), NoMemory>
 pub(crate) fn add_number(out: &mut Vec<u8>, number: u64) -> Result<(), NoMemory>
     ensures { OnOk result (out.new.items ≡ out.old.items ++ decimal number) }
 {
-    let digits = number.to_string(*out.allocator())?;
-    add_bytes(out, digits.as_bytes())
+    let mut buffer = Buffer::new();
+    add_bytes(out, buffer.format(number).as_bytes())
 }
 
 fn hex_digit(value: u8) -> u8

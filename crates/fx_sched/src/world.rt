@@ -11,7 +11,7 @@ ghost use Rattle.fx_sched.specs.World.{began, Stepped, IsWorld, new_shell, machi
 use crate::moves::advance;
 use crate::shell::Shell;
 use fx_base::NoMemory;
-use fx_board::{Board, Event, Retries, Retry};
+use fx_board::{Board, Event, Retries};
 use fx_spec::Base;
 use fx_view::Reads;
 use std::alloc::Global;
@@ -126,21 +126,16 @@ fn join(alloc: Global, shells: Vec<Shell>) -> Result<Retries, NoMemory>
 {
     let mut retries = Retries::new(alloc);
     for shell in shells {
-        append(alloc, &mut retries, &shell.retries)?;
+        append(&mut retries, shell.retries)?;
     }
     Ok(retries)
 }
 
-fn append(alloc: Global, retries: &mut Retries, items: &Retries) -> Result<(), NoMemory>
-    ensures { IfOk result (λ _. retries.new ≡ retries.old ++ items.now) }
+fn append(retries: &mut Retries, items: Retries) -> Result<(), NoMemory>
+    ensures { IfOk result (λ _. retries.new ≡ retries.old ++ items) }
 {
-    for retry in items {
-        retries.push(Retry {
-            shell: retry.shell,
-            txn: retry.txn,
-            entry: retry.entry,
-            path: retry.path.copy(alloc)?,
-        })?;
+    for retry in items.into_vec() {
+        retries.push(retry)?;
     }
     Ok(())
 }

@@ -46,6 +46,7 @@ scan_name stack (token.Word w ∷ ts) = from_passed table (is_name w) stack ts (
 scan_name stack (token.Number n ∷ ts) = refl
 scan_name stack (token.Str v ∷ ts) = refl
 scan_name stack (token.Mark m ∷ ts) = refl
+scan_name stack (token.Def ∷ ts) = refl
 
 -- what readers do, the machine does from their starts at a level
 abbrev pub GoesAs : ℕ → Read CommandTree → Type 0

@@ -242,6 +242,7 @@ no_brace d (token.Mark m) true more e f = absurd cc
 no_brace d (token.Word w) true more e f = absurd cc
 no_brace d (token.Number n) true more e f = absurd cc
 no_brace d (token.Str v) true more e f = absurd cc
+no_brace d token.Def true more e f = absurd cc
 
 -- a command at the front of commands
 items_run : (d : ℕ) (stack : List Sym) (ts : List Token) (l : List ℕ) → Runs table (Command d ∷ Commands d ∷ stack) ts l (Commands d ∷ stack) → Runs table (Commands d ∷ stack) ts l (Commands d ∷ stack)

@@ -225,6 +225,7 @@ start_spells (token.Word w) = word_spells w (keyword_of w) refl
 start_spells (token.Number n) = tt
 start_spells (token.Str v) = tt
 start_spells (token.Mark m) = tt
+start_spells token.Def = tt
 
 -- the parts of a form
 parts_of : (stack more : List Sym) (ts : List Token) → Some stack ≡ Some more → All more ts → Reads stack ts

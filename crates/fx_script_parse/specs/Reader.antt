@@ -65,6 +65,7 @@ start_of (token.Word w) = word_start (keyword_of w)
 start_of (token.Number n) = start.Nothing
 start_of (token.Str v) = start.Nothing
 start_of (token.Mark m) = start.Nothing
+start_of token.Def = start.Nothing
 
 -- the act that begins so
 abbrev pub act_start : Start → Option ActStart

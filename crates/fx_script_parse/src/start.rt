@@ -100,6 +100,7 @@ pub(crate) fn start_of(token: &Token) -> Start
         },
         Token::Number(_) => Start::Nothing,
         Token::Str(_) => Start::Nothing,
+        Token::Def => Start::Nothing,
         Token::Mark(_) => Start::Nothing,
     }
 }

@@ -1,2 +1,3 @@
 pub mod Truths
+mod Taken
 mod Takings

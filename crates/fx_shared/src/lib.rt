@@ -1,8 +1,10 @@
-//! A log that threads share. A thread has a pass, with which it looks and settles by turns; the pass knows the base of the
-//! log, which entries it has seen, and how many of them are its own.
+//! A log that threads share, whatever keeps it. A thread has a pass, with which it looks and settles by turns; the pass knows
+//! the base of the log, which entries it has seen, and how many of them are its own.
 #![tactic(auto)]
 
-mod shared;
+mod logged;
+mod shares;
 
 pub use fx_board::{Board, Settle};
-pub use shared::{Pass, Shared};
+pub use logged::{Logged, Versions};
+pub use shares::{Pass, Shared, Shares};

@@ -17,7 +17,7 @@ pub fn description_of(alloc: Global, text: &[u8]) -> Result<Checked, Description
         → Describes text.now other → other ≡ spec) }
     ensures refused { IfErr result (IsUndescribed text.now) }
 {
-    let spec = parse(alloc, text)?;
-    let checked = check(alloc, spec)?;
+    let description = parse(alloc, text)?;
+    let checked = check(alloc, description)?;
     Ok(checked)
 }

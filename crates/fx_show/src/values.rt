@@ -55,10 +55,13 @@ fn value_of(alloc: Global, spec: &Checked, store: &Filestore) -> Result<Option<V
     let overlay = Overlay::new(alloc);
     let path = Path::root(alloc);
     let env = Env::new(alloc);
+    let root = spec.root();
     let place = Place {
         path: &path,
         env: &env,
-        spec: spec.spec(),
+        spec: root.spec,
+        defs: root.defs,
+        level: root.level,
     };
     value_at::<Brand>(alloc, &mut reader, &overlay, &place, Blank::new(1))
 }

@@ -2,7 +2,9 @@
 #![tactic(auto)]
 
 mod keeping;
+mod snaps;
 mod versioned;
 mod versions;
 
+pub use snaps::Snaps;
 pub use versioned::Versioned;

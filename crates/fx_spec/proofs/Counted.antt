@@ -11,13 +11,16 @@ use Rattle.fx_store.proofs.Asks.{ticks-bind}
 use Rattle.fx_store.proofs.Quiet.{ticks-resolve}
 use Rattle.fx_expr.specs.Bindings.{bind}
 use Rattle.fx_expr.specs.Eval.{Outcome, eval_of, names_in}
+use Rattle.fx_expr.specs.declared.fault.ExprFault.{ExprFault}
+use Rattle.fx_expr.specs.ShapeTree.{ShapeTree}
 use Rattle.fx_expr.specs.Tree.{Tree, row}
 use Rattle.fx_spec.specs.declared.refusal.Refusal.{Refusal}
 use Rattle.fx_spec.specs.SpecTree.{SpecTree}
-use Rattle.fx_spec.specs.Describe.{Bindings, with_some, file_value, flag_value, dir_value, link_value, landed_value, content, is_at, exists, focus_path, at_focus, rows, table, option, value}
-use Rattle.fx_spec.specs.Move.{needed, go_into, go_to, go_down, another, fetched}
-use Rattle.fx_spec.specs.Place.{Step, First, Second, Inside, Down, Elem, Address, placed, where_true, lead, place}
-use Rattle.fx_spec.specs.Evals.{focus_evals, evals_with, rows_evals, table_evals, evals, ValuesEvaluate, step_evals, address_evals, table_move_evals, down_evals, fetch_evals, PlacesEvaluate, MovesEvaluateOnce}
+use Rattle.fx_spec.specs.Describe.{Bindings, with_some, file_value, flag_value, dir_value, link_value, landed_value, content, is_at, exists, focus_path, at_focus, rows, table, option, arguments, argument_evals, with_values, behind, is_true, at_body, value}
+use Rattle.fx_spec.proofs.Behind.{ticks-behind}
+use Rattle.fx_spec.specs.Move.{needed, with_arguments, go_into, go_to, go_down, another, fetched}
+use Rattle.fx_spec.specs.Place.{Step, First, Second, Inside, Down, Body, Elem, Address, placed, where_true, in_body, lead, place}
+use Rattle.fx_spec.specs.Evals.{focus_evals, evals_with, rows_evals, table_evals, body_evals, evals, ValuesEvaluate, step_evals, address_evals, into_evals, table_move_evals, down_evals, fetch_evals, PlacesEvaluate, MovesEvaluateOnce}
 
 module _ (S : Store) where
   -- an answer made of a rule's answer costs nothing more
@@ -66,6 +69,14 @@ module _ (S : Store) where
   ticks-option part n same false = refl
   ticks-option part n same true = ticks-mapped part (option_map Tree.some) ∙ same
 
+  ticks-body : (params : List (List ℕ × ShapeTree)) (body : Bindings → Ask (Option Tree)) (count : Bindings → ℕ) → ((inner : Bindings) → ticks S (body inner) ≡ count inner) → (vs : Result (List Tree) ExprFault) → ticks S (at_body params body vs) ≡ body_evals params count vs
+  ticks-body params body count same (Ok vs) = ticks-mapped (body (with_values params vs)) (option_map is_true) ∙ same (with_values params vs)
+  ticks-body params body count same (Err f) = refl
+
+  -- an answer behind some evaluations
+  ticks-answer : {A : Type 0} (n : ℕ) (a : A) → ticks S (behind n (Answer a)) ≡ n
+  ticks-answer n a = ticks-behind S n (Answer a) ∙ (omega arith)
+
   pub ticks-value : (p : List (List ℕ)) (env : Bindings) (s : SpecTree) → ticks S (value p env s) ≡ evals S p env s
   unfolding value evals
   ticks-value p env SpecTree.file = ticks-content file_value true p
@@ -79,6 +90,10 @@ module _ (S : Store) where
   ticks-value p env (SpecTree.opt s) =
       ticks-after (exists p) (option (value p env s)) (ticks-exists p) ∙ ticks-option (value p env s) (evals S p env s) (ticks-value p env s) (answer S (exists p))
   ticks-value p env (SpecTree.pred e) = refl
+  ticks-value p env (SpecTree.call args params s) =
+      ticks-behind S (argument_evals env args) (at_body params (λ inner. value p inner s) (arguments env args))
+      ∙ ap (λ n. argument_evals env args + n) (ticks-body params (λ inner. value p inner s) (λ inner. evals S p inner s) (λ inner. ticks-value p inner s) (arguments env args))
+  ticks-value p env (SpecTree.last args params) = refl
 
   -- ---- places
 
@@ -92,6 +107,8 @@ module _ (S : Store) where
   ticks-lead Inside p env (SpecTree.opt s) = ticks-mapped (exists p) (λ there. where_true there (placed p env s)) ∙ ticks-exists p
   ticks-lead Inside p env s = refl
   ticks-lead Down p env (SpecTree.focus e s) = refl
+  ticks-lead Body p env (SpecTree.call args params s) = ticks-answer (argument_evals env args) (in_body p params s (arguments env args))
+  ticks-lead Body p env s = refl
   ticks-lead Down p env s = refl
 
   pub ticks-place : (root : SpecTree) (a : Address) → ticks S (place root a) ≡ address_evals S root a
@@ -103,8 +120,10 @@ module _ (S : Store) where
 
   -- ---- moves and fetches
 
-  ticks-into : (a : Address) (p : List (List ℕ)) (env : Bindings) (s : SpecTree) → ticks S (go_into a p env s) ≡ table_move_evals s
+  ticks-into : (a : Address) (p : List (List ℕ)) (env : Bindings) (s : SpecTree) → ticks S (go_into a p env s) ≡ into_evals env s
   ticks-into a p env (SpecTree.opt s) = ticks-mapped (exists p) (λ there. cond there (Ok (Inside ∷ a)) (Err Refusal.Lacks)) ∙ ticks-exists p
+  ticks-into a p env (SpecTree.call args params s) = ticks-answer (argument_evals env args) (with_arguments (Ok (Body ∷ a)) (arguments env args))
+  ticks-into a p env (SpecTree.last args params) = ticks-answer (argument_evals env args) (with_arguments (Err Refusal.TooUnfolded) (arguments env args))
   ticks-into a p env s = refl
 
   ticks-to : (t : List ℕ) (a : Address) (p : List (List ℕ)) (env : Bindings) (s : SpecTree) → ticks S (go_to t a p env s) ≡ table_move_evals s

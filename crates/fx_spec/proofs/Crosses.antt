@@ -4,6 +4,11 @@ use Rattle.std.proofs.Crossing.{crosses}
 use Rattle.fx_store.proofs.Crosses.{Path-send, Path-sync, Filestore-send, Filestore-sync}
 use Rattle.fx_expr.proofs.Crosses.{Expr-send, Expr-sync, Formula-send, Formula-sync, Word-send, Word-sync, Shape-send, Shape-sync}
 use Rattle.fx_spec.specs.contracts.spec.Spec as spec
+use Rattle.fx_spec.specs.contracts.exprs.Exprs as exprs
+use Rattle.fx_spec.specs.contracts.description.Params as params
+use Rattle.fx_spec.specs.contracts.description.Def as def
+use Rattle.fx_spec.specs.contracts.description.Defs as defs
+use Rattle.fx_spec.specs.contracts.description.Description as description
 use Rattle.fx_spec.specs.contracts.checked.Checked as checked
 use Rattle.fx_spec.specs.contracts.command.Act as act
 use Rattle.fx_spec.specs.contracts.command.Commands as commands
@@ -17,17 +22,47 @@ use Rattle.fx_spec.specs.contracts.refusal.End as end
 use Rattle.fx_spec.proofs.spec.Spec.TheLaws.TheKnot.{send-Spec, sync-Spec}
 use Rattle.fx_spec.proofs.command.Commands.TheLaws.TheKnot.{send-Commands, sync-Commands}
 
+pub Exprs-send : IsSend (exprs.the_field).row
+Exprs-send = search (sendable, crosses, Formula-send) depth 40
+
+pub Exprs-sync : IsSync (exprs.the_field).row
+Exprs-sync = search (sendable, crosses, Formula-sync) depth 40
+
 pub Spec-send : IsSend (spec.the_field).row
-Spec-send = search (sendable, crosses, send-Spec, Formula-send, Word-send) depth 40
+Spec-send = search (sendable, crosses, send-Spec, Exprs-send, Formula-send, Word-send) depth 40
 
 pub Spec-sync : IsSync (spec.the_field).row
-Spec-sync = search (sendable, crosses, sync-Spec, Formula-sync, Word-sync) depth 40
+Spec-sync = search (sendable, crosses, sync-Spec, Exprs-sync, Formula-sync, Word-sync) depth 40
+
+pub Params-send : IsSend (params.the_field).row
+Params-send = search (sendable, crosses, Word-send, Shape-send) depth 40
+
+pub Params-sync : IsSync (params.the_field).row
+Params-sync = search (sendable, crosses, Word-sync, Shape-sync) depth 40
+
+pub Def-send : IsSend (def.the_field).row
+Def-send = search (sendable, crosses, Word-send, Params-send, Spec-send) depth 40
+
+pub Def-sync : IsSync (def.the_field).row
+Def-sync = search (sendable, crosses, Word-sync, Params-sync, Spec-sync) depth 40
+
+pub Defs-send : IsSend (defs.the_field).row
+Defs-send = search (sendable, crosses, Def-send) depth 40
+
+pub Defs-sync : IsSync (defs.the_field).row
+Defs-sync = search (sendable, crosses, Def-sync) depth 40
+
+pub Description-send : IsSend (description.the_field).row
+Description-send = search (sendable, crosses, Defs-send, Spec-send) depth 40
+
+pub Description-sync : IsSync (description.the_field).row
+Description-sync = search (sendable, crosses, Defs-sync, Spec-sync) depth 40
 
 pub Checked-send : IsSend (checked.the_field).row
-Checked-send = search (sendable, crosses, Spec-send) depth 40
+Checked-send = search (sendable, crosses, Description-send) depth 40
 
 pub Checked-sync : IsSync (checked.the_field).row
-Checked-sync = search (sendable, crosses, Spec-sync) depth 40
+Checked-sync = search (sendable, crosses, Description-sync) depth 40
 
 pub Act-send : IsSend (act.the_field).row
 Act-send = search (sendable, crosses, Expr-send) depth 40

@@ -24,15 +24,18 @@ use Rattle.fx_store.proofs.Landings.{lands_by_the_rules, landings_are_true}
 use Rattle.fx_expr.specs.Bindings.{bind}
 use Rattle.fx_expr.specs.Eval.{Outcome, eval_of, text_in}
 use Rattle.fx_expr.specs.Sets.{IsAscending, set_of}
+use Rattle.fx_expr.specs.declared.fault.ExprFault.{ExprFault}
+use Rattle.fx_expr.specs.ShapeTree.{ShapeTree}
 use Rattle.fx_expr.specs.Tree.{Tree}
 use Rattle.fx_expr.proofs.Canon.{ascending_set}
 use Rattle.fx_spec.specs.declared.refusal.Refusal.{Refusal}
 use Rattle.fx_spec.specs.SpecTree.{SpecTree}
-use Rattle.fx_spec.specs.Describe.{Bindings, with_some, exists, extension, focus_path, value}
-use Rattle.fx_spec.specs.Place.{Step, First, Second, Inside, Down, Elem, PlaceTree, placed, where_true, has_element, at_path, lead, place}
+use Rattle.fx_spec.specs.Describe.{Bindings, with_some, exists, extension, focus_path, arguments, argument_evals, with_values, value}
+use Rattle.fx_spec.specs.Place.{Step, First, Second, Inside, Down, Body, Elem, PlaceTree, placed, where_true, has_element, at_path, in_body, lead, place}
 use Rattle.fx_spec.specs.Move.{Answered, unrefused, needed}
 use Rattle.fx_spec.specs.Edit.{set_to, replaced, lacks_room, unless_deep, is_too_deep, new_names, renewed, is_flag, make, store_landed, names_node, link_node, form_node, is_content, is_storable, stored_node, follows_last, store_at, bare_node, create_landed, create_at, remove_landed}
 use Rattle.fx_spec.specs.Laws.{KeepsWhole, EditsKeepWhole, PlacesHavePaths}
+use Rattle.fx_spec.proofs.Behind.{answer-behind}
 use Rattle.fx_spec.proofs.EditsWhole.{IsWhole-put}
 use Rattle.fx_spec.proofs.EditsKeep.{same_ok, new_names_keep, remove_keeps}
 use Rattle.fx_spec.proofs.EditsMake.{CanMake, make_keeps}
@@ -81,6 +84,10 @@ true_path : (b : Bool) (here at : PlaceTree) → IsPath here.path → where_true
 true_path true here at ok e = subst (λ (a : PlaceTree). IsPath a.path) (some_same here at e) ok
 true_path false here at ok e = cc
 
+body_path : (p : List (List ℕ)) (params : List (List ℕ × ShapeTree)) (s : SpecTree) (vs : Result (List Tree) ExprFault) (at : PlaceTree) → IsPath p → in_body p params s vs ≡ Some at → IsPath at.path
+body_path p params s (Ok vs) at ok e = subst (λ (a : PlaceTree). IsPath a.path) (some_same (placed p (with_values params vs) s) at e) ok
+body_path p params s (Err f) at ok e = cc
+
 leads_to_path : (S : Store) (step : Step) (p : List (List ℕ)) (env : Bindings) (spec : SpecTree) (at : PlaceTree) → IsPath p → answer S (lead step p env spec) ≡ Some at → IsPath at.path
 leads_to_path S First p env (SpecTree.pair x a b) at ok e = subst (λ (a : PlaceTree). IsPath a.path) (some_same _ at e) ok
 leads_to_path S Second p env (SpecTree.pair x a b) at ok e =
@@ -89,6 +96,8 @@ leads_to_path S (Elem t) p env (SpecTree.comp s x e) at ok h = true_path (has_el
 leads_to_path S Inside p env (SpecTree.opt s) at ok e =
     true_path (answer S (exists p)) (placed p env s) at ok (sym (answer-bind S (exists p) (λ there. Answer (where_true there (placed p env s)))) ∙ e)
 leads_to_path S Down p env (SpecTree.focus e s) at ok h = focus_has_path p (eval_of env e) env s at ok h
+leads_to_path S Body p env (SpecTree.call args params s) at ok h =
+    body_path p params s (arguments env args) at ok (sym (answer-behind S (argument_evals env args) (Answer (in_body p params s (arguments env args)))) ∙ h)
 leads_to_path S _ p env _ at ok e = cc
 
 root_path : IsPath []

@@ -8,7 +8,7 @@ use Rattle.fx_spec.specs.Describe.{value}
 use Rattle.fx_spec.specs.Place.{place}
 use Rattle.fx_spec.specs.Edit.{clear}
 use Rattle.fx_spec.specs.Transaction.{transaction}
-use Rattle.fx_spec.specs.Examples.{FetchesFile, StopsAfterStore, StoreAtRoot, StoresNames, CreatesEntry, JoinsFiles}
+use Rattle.fx_spec.specs.Examples.{FetchesFile, StopsAfterStore, StoreAtRoot, StoresNames, CreatesEntry, JoinsFiles, ValuesCall, EntersBodies, StopsUnfolded, NoEndNoValue}
 
 pub fetches_file : FetchesFile
 unfolding is_utf8 chars encode is_name resolve value place clear transaction
@@ -33,3 +33,19 @@ creates_entry = record { outputs = refl; end = refl; way = refl; kept = refl }
 pub joins_files : JoinsFiles
 unfolding is_utf8 chars encode is_name resolve value place clear transaction
 joins_files = record { outputs = refl; end = refl; way = refl; kept = refl }
+
+pub values_call : ValuesCall
+unfolding is_utf8 chars encode is_name resolve value place clear transaction
+values_call = record { outputs = refl; end = refl; way = refl; kept = refl }
+
+pub enters_bodies : EntersBodies
+unfolding is_utf8 chars encode is_name resolve value place clear transaction
+enters_bodies = record { outputs = refl; end = refl; way = refl; kept = refl }
+
+pub stops_unfolded : StopsUnfolded
+unfolding is_utf8 chars encode is_name resolve value place clear transaction
+stops_unfolded = record { outputs = refl; end = refl; way = refl; kept = refl }
+
+pub no_end_no_value : NoEndNoValue
+unfolding is_utf8 chars encode is_name resolve value place clear transaction
+no_end_no_value = record { outputs = refl; end = refl; way = refl; kept = refl }

@@ -9,6 +9,10 @@ pub mod EditLaws
 pub mod EditLooks
 pub mod Transactions
 pub mod Shaped
+pub mod Behind
+pub mod Meaning
+pub mod Calls
+pub mod Namings
 pub mod Counted
 pub mod Asking
 pub mod Crosses

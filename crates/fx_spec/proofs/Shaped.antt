@@ -13,15 +13,18 @@ use Rattle.fx_store.proofs.Asks.{answer-bind}
 use Rattle.fx_expr.specs.Bindings.{bind}
 use Rattle.fx_expr.specs.Eval.{Outcome, eval_of, names_in, truth_in}
 use Rattle.fx_expr.specs.Shapes.{ValueHas, RowsHave, BindingsHave}
+use Rattle.fx_expr.specs.declared.fault.ExprFault.{ExprFault}
+use Rattle.fx_expr.specs.ExprTree.{ExprTree}
 use Rattle.fx_expr.specs.ShapeTree.{ShapeTree}
 use Rattle.fx_expr.specs.Tree.{Tree, row}
 use Rattle.fx_expr.proofs.Shaping.{eval_has}
 use Rattle.fx_spec.specs.declared.refusal.Refusal.{Refusal}
 use Rattle.fx_spec.specs.SpecTree.{SpecTree}
-use Rattle.fx_spec.specs.Describe.{Bindings, with_some, file_value, flag_value, dir_value, link_value, landed_value, content, exists, focus_path, at_focus, rows, table, option, truth, value}
+use Rattle.fx_spec.specs.Describe.{Bindings, with_some, file_value, flag_value, dir_value, link_value, landed_value, content, exists, focus_path, at_focus, rows, table, option, truth, then_others, arguments, argument_evals, with_values, is_true, at_body, value}
 use Rattle.fx_spec.specs.Move.{Answered, evaluated, needed, unrefused, value_shape, fetch_shape, same_shape, has_fetch_shape, fetched, of_shape, asks_flag, flag_at, at_place, fetch_at, whole_at}
-use Rattle.fx_spec.specs.Place.{Step, First, Second, Inside, Down, Elem, Address, PlaceTree, placed, where_true, has_element, at_path, lead, place}
-use Rattle.fx_spec.specs.WellShaped.{Scope, IsDescription}
+use Rattle.fx_spec.specs.Place.{Step, First, Second, Inside, Down, Body, Elem, Address, PlaceTree, placed, where_true, has_element, at_path, in_body, lead, place}
+use Rattle.fx_spec.specs.WellShaped.{Scope, AreArguments, IsDescription}
+use Rattle.fx_spec.proofs.Behind.{answer-behind}
 use Rattle.fx_spec.specs.Shaped.{IsDescribed, DescribedHaveShapes, RootsHaveShapes, FetchedHaveShapes, IsDescribedPlace, PlacesAreDescribed, FetchesHaveShapes, WholesHaveShapes}
 
 -- ------------------------------------------------------------------------------------------------------------ bindings
@@ -113,6 +116,31 @@ truth_has (Ok v) = at (truth_in v)
     at true = refl
     at false = tt
 
+-- a call's value is a truth value, whatever its body has
+body_has : (S : Store) (params : List (List ℕ × ShapeTree)) (body : Bindings → Ask (Option Tree)) (vs : Result (List Tree) ExprFault) → Has ShapeTree.bool (answer S (at_body params body vs))
+body_has S params body (Ok vs) = subst (Has ShapeTree.bool) (sym (answer-bind S (body (with_values params vs)) (λ v. Answer (option_map is_true v)))) (at (answer S (body (with_values params vs))))
+  where
+    at : (o : Option Tree) → Has ShapeTree.bool (option_map is_true o)
+    at None = tt
+    at (Some v) = refl
+body_has S params body (Err f) = tt
+
+-- the values of arguments have the shapes of their parameters
+abbrev ValuesHave : List Tree → List (List ℕ × ShapeTree) → Type 0
+ValuesHave vs params = BindingsHave (with_values params vs) params
+
+values_then : (p : List ℕ × ShapeTree) (params : List (List ℕ × ShapeTree)) (o : Outcome) (others : Result (List Tree) ExprFault) → IfOk o (λ v. ValueHas v p.1) → IfOk others (λ vs. ValuesHave vs params) → IfOk (then_others o others) (λ vs. ValuesHave vs (p ∷ params))
+values_then p params (Ok v) (Ok vs) h hs = (refl, h, hs)
+values_then p params (Ok v) (Err f) h hs = tt
+values_then p params (Err f) others h hs = tt
+
+pub arguments_have : (scope : Scope) (env : Bindings) (args : List ExprTree) (params : List (List ℕ × ShapeTree)) → BindingsHave env scope → AreArguments scope args params → IfOk (arguments env args) (λ vs. ValuesHave vs params)
+arguments_have scope env [] [] b d = tt
+arguments_have scope env [] (p ∷ ps) b d = absurd d
+arguments_have scope env (e ∷ es) [] b d = absurd d
+arguments_have scope env (e ∷ es) (p ∷ ps) b d =
+    values_then p ps (eval_of env e) (arguments env es) (eval_has scope env e p.1 b d.0) (arguments_have scope env es ps b d.1)
+
 value_has : (S : Store) (spec : SpecTree) (scope : Scope) (env : Bindings) (p : List (List ℕ)) → IsDescription scope spec → BindingsHave env scope → Has (value_shape spec) (answer S (value p env spec))
 unfolding value
 value_has S SpecTree.file scope env p d b = content_has S file_value true p ShapeTree.str file_has
@@ -130,6 +158,9 @@ value_has S (SpecTree.comp s x e) scope env p d b =
 value_has S (SpecTree.opt s) scope env p d b =
     subst (Has (ShapeTree.opt (value_shape s))) (sym (answer-bind S (exists p) (option (value p env s)))) (option_has S (value p env s) (value_shape s) (value_has S s scope env p d b) (answer S (exists p)))
 value_has S (SpecTree.pred e) scope env p d b = truth_has (eval_of env e)
+value_has S (SpecTree.call args params s) scope env p d b =
+    subst (Has ShapeTree.bool) (sym (answer-behind S (argument_evals env args) (at_body params (λ inner. value p inner s) (arguments env args)))) (body_has S params (λ inner. value p inner s) (arguments env args))
+value_has S (SpecTree.last args params) scope env p d b = tt
 
 pub described_have_shapes : DescribedHaveShapes
 described_have_shapes scope env spec d S p = value_has S spec scope env p d.shapes d.bindings
@@ -167,6 +198,8 @@ fetched_have_shapes scope env (SpecTree.comp s x t) d shape e S p = of_that_shap
 fetched_have_shapes scope env (SpecTree.opt s) d shape e S p =
     of_that_shape ShapeTree.bool shape _ e (subst (Gets ShapeTree.bool) (sym (answer-bind S (exists p) (λ there. Answer (Ok (Tree.bool there))))) refl)
 fetched_have_shapes scope env (SpecTree.pred t) d shape e S p = of_that_shape ShapeTree.bool shape _ e (evaluated_has (eval_of env t) ShapeTree.bool (eval_has scope env t ShapeTree.bool d.bindings d.shapes))
+fetched_have_shapes scope env (SpecTree.call args params s) d shape e S p = tt
+fetched_have_shapes scope env (SpecTree.last args params) d shape e S p = tt
 
 -- -------------------------------------------------------------------------------------------------------------- places
 
@@ -177,6 +210,10 @@ true_described false at h = tt
 path_described : (env : Bindings) (s : SpecTree) (q : Result (List (List ℕ)) Refusal) (scope : Scope) → IsDescribed scope env s → IfSome (at_path env s q) IsDescribedPlace
 path_described env s (Ok q) scope d = (scope, d)
 path_described env s (Err f) scope d = tt
+
+body_described : (p : List (List ℕ)) (params : List (List ℕ × ShapeTree)) (s : SpecTree) (vs : Result (List Tree) ExprFault) → IsDescription params s → IfOk vs (λ vs. ValuesHave vs params) → IfSome (in_body p params s vs) IsDescribedPlace
+body_described p params s (Ok vs) d h = (params, record { shapes = d; bindings = h })
+body_described p params s (Err f) d h = tt
 
 lead_described : (S : Store) (step : Step) (p : List (List ℕ)) (env : Bindings) (spec : SpecTree) (scope : Scope) → IsDescribed scope env spec → IfSome (answer S (lead step p env spec)) IsDescribedPlace
 lead_described S First p env (SpecTree.pair x a b) scope d = (scope, record { shapes = d.shapes.0; bindings = d.bindings })
@@ -190,6 +227,9 @@ lead_described S Inside p env (SpecTree.opt s) scope d =
     subst (λ o. IfSome o IsDescribedPlace) (sym (answer-bind S (exists p) (λ there. Answer (where_true there (placed p env s)))))
     (true_described (answer S (exists p)) (placed p env s) (scope, record { shapes = d.shapes; bindings = d.bindings }))
 lead_described S Down p env (SpecTree.focus e s) scope d = path_described env s (focus_path p (eval_of env e)) scope (record { shapes = d.shapes.1; bindings = d.bindings })
+lead_described S Body p env (SpecTree.call args params s) scope d =
+    subst (λ o. IfSome o IsDescribedPlace) (sym (answer-behind S (argument_evals env args) (Answer (in_body p params s (arguments env args)))))
+    (body_described p params s (arguments env args) d.shapes.1 (arguments_have scope env args params d.bindings d.shapes.0))
 lead_described S _ p env _ scope d = tt
 
 pub places_are_described : PlacesAreDescribed

@@ -1,10 +1,19 @@
 -- How the logic stores descriptions and commands: a number for the form, then its parts.
-use Rattle.std.proofs.Common.{◌≡◌, List, refl, ap, arith}
-use Rattle.std.specs.Coded.{Coded, coded_list}
+use Rattle.std.proofs.Common.{◌≡◌, ℕ, List, refl, ap, arith}
+use Rattle.std.specs.Coded.{Coded, code_by, coded×, coded_list}
 use base.Stored.{Gv, gnil, gnum, gcons}
 use Rattle.fx_expr.specs.Codes.{head, tail, apart, coded_bytes, coded_expr, coded_shape}
+use Rattle.fx_expr.specs.ExprTree.{ExprTree}
+use Rattle.fx_expr.specs.ShapeTree.{ShapeTree}
 use Rattle.fx_spec.specs.SpecTree.{SpecTree}
+use Rattle.fx_spec.specs.Written.{WrittenTree, DefTree}
 use Rattle.fx_spec.specs.CommandTree.{ActTree, CommandTree, Block}
+
+abbrev pub coded_exprs : Coded (List ExprTree)
+coded_exprs = coded_list coded_expr
+
+abbrev pub coded_params : Coded (List (List ℕ × ShapeTree))
+coded_params = coded_list (coded× coded_bytes coded_shape)
 
 abbrev pub spec_code : SpecTree → Gv
 spec_code SpecTree.file = gcons (gnum 0) gnil
@@ -15,6 +24,8 @@ spec_code (SpecTree.pair a0 a1 a2) = gcons (gnum 4) (gcons (coded_bytes.code a0)
 spec_code (SpecTree.comp a0 a1 a2) = gcons (gnum 5) (gcons (spec_code a0) (gcons (coded_bytes.code a1) (coded_expr.code a2)))
 spec_code (SpecTree.opt a0) = gcons (gnum 6) (spec_code a0)
 spec_code (SpecTree.pred a0) = gcons (gnum 7) (coded_expr.code a0)
+spec_code (SpecTree.call a0 a1 a2) = gcons (gnum 8) (gcons (coded_exprs.code a0) (gcons (coded_params.code a1) (spec_code a2)))
+spec_code (SpecTree.last a0 a1) = gcons (gnum 9) (gcons (coded_exprs.code a0) (coded_params.code a1))
 
 pub spec_inj : (x y : SpecTree) → spec_code x ≡ spec_code y → x ≡ y
 spec_inj SpecTree.file SpecTree.file p = refl
@@ -25,6 +36,8 @@ spec_inj SpecTree.file (SpecTree.pair b0 b1 b2) p = absurd (apart 0 4 p (omega a
 spec_inj SpecTree.file (SpecTree.comp b0 b1 b2) p = absurd (apart 0 5 p (omega arith))
 spec_inj SpecTree.file (SpecTree.opt b0) p = absurd (apart 0 6 p (omega arith))
 spec_inj SpecTree.file (SpecTree.pred b0) p = absurd (apart 0 7 p (omega arith))
+spec_inj SpecTree.file (SpecTree.call b0 b1 b2) p = absurd (apart 0 8 p (omega arith))
+spec_inj SpecTree.file (SpecTree.last b0 b1) p = absurd (apart 0 9 p (omega arith))
 spec_inj SpecTree.dir SpecTree.file p = absurd (apart 1 0 p (omega arith))
 spec_inj SpecTree.dir SpecTree.dir p = refl
 spec_inj SpecTree.dir SpecTree.link p = absurd (apart 1 2 p (omega arith))
@@ -33,6 +46,8 @@ spec_inj SpecTree.dir (SpecTree.pair b0 b1 b2) p = absurd (apart 1 4 p (omega ar
 spec_inj SpecTree.dir (SpecTree.comp b0 b1 b2) p = absurd (apart 1 5 p (omega arith))
 spec_inj SpecTree.dir (SpecTree.opt b0) p = absurd (apart 1 6 p (omega arith))
 spec_inj SpecTree.dir (SpecTree.pred b0) p = absurd (apart 1 7 p (omega arith))
+spec_inj SpecTree.dir (SpecTree.call b0 b1 b2) p = absurd (apart 1 8 p (omega arith))
+spec_inj SpecTree.dir (SpecTree.last b0 b1) p = absurd (apart 1 9 p (omega arith))
 spec_inj SpecTree.link SpecTree.file p = absurd (apart 2 0 p (omega arith))
 spec_inj SpecTree.link SpecTree.dir p = absurd (apart 2 1 p (omega arith))
 spec_inj SpecTree.link SpecTree.link p = refl
@@ -41,6 +56,8 @@ spec_inj SpecTree.link (SpecTree.pair b0 b1 b2) p = absurd (apart 2 4 p (omega a
 spec_inj SpecTree.link (SpecTree.comp b0 b1 b2) p = absurd (apart 2 5 p (omega arith))
 spec_inj SpecTree.link (SpecTree.opt b0) p = absurd (apart 2 6 p (omega arith))
 spec_inj SpecTree.link (SpecTree.pred b0) p = absurd (apart 2 7 p (omega arith))
+spec_inj SpecTree.link (SpecTree.call b0 b1 b2) p = absurd (apart 2 8 p (omega arith))
+spec_inj SpecTree.link (SpecTree.last b0 b1) p = absurd (apart 2 9 p (omega arith))
 spec_inj (SpecTree.focus a0 a1) SpecTree.file p = absurd (apart 3 0 p (omega arith))
 spec_inj (SpecTree.focus a0 a1) SpecTree.dir p = absurd (apart 3 1 p (omega arith))
 spec_inj (SpecTree.focus a0 a1) SpecTree.link p = absurd (apart 3 2 p (omega arith))
@@ -49,6 +66,8 @@ spec_inj (SpecTree.focus a0 a1) (SpecTree.pair b0 b1 b2) p = absurd (apart 3 4 p
 spec_inj (SpecTree.focus a0 a1) (SpecTree.comp b0 b1 b2) p = absurd (apart 3 5 p (omega arith))
 spec_inj (SpecTree.focus a0 a1) (SpecTree.opt b0) p = absurd (apart 3 6 p (omega arith))
 spec_inj (SpecTree.focus a0 a1) (SpecTree.pred b0) p = absurd (apart 3 7 p (omega arith))
+spec_inj (SpecTree.focus a0 a1) (SpecTree.call b0 b1 b2) p = absurd (apart 3 8 p (omega arith))
+spec_inj (SpecTree.focus a0 a1) (SpecTree.last b0 b1) p = absurd (apart 3 9 p (omega arith))
 spec_inj (SpecTree.pair a0 a1 a2) SpecTree.file p = absurd (apart 4 0 p (omega arith))
 spec_inj (SpecTree.pair a0 a1 a2) SpecTree.dir p = absurd (apart 4 1 p (omega arith))
 spec_inj (SpecTree.pair a0 a1 a2) SpecTree.link p = absurd (apart 4 2 p (omega arith))
@@ -57,6 +76,8 @@ spec_inj (SpecTree.pair a0 a1 a2) (SpecTree.pair b0 b1 b2) p = λ i. SpecTree.pa
 spec_inj (SpecTree.pair a0 a1 a2) (SpecTree.comp b0 b1 b2) p = absurd (apart 4 5 p (omega arith))
 spec_inj (SpecTree.pair a0 a1 a2) (SpecTree.opt b0) p = absurd (apart 4 6 p (omega arith))
 spec_inj (SpecTree.pair a0 a1 a2) (SpecTree.pred b0) p = absurd (apart 4 7 p (omega arith))
+spec_inj (SpecTree.pair a0 a1 a2) (SpecTree.call b0 b1 b2) p = absurd (apart 4 8 p (omega arith))
+spec_inj (SpecTree.pair a0 a1 a2) (SpecTree.last b0 b1) p = absurd (apart 4 9 p (omega arith))
 spec_inj (SpecTree.comp a0 a1 a2) SpecTree.file p = absurd (apart 5 0 p (omega arith))
 spec_inj (SpecTree.comp a0 a1 a2) SpecTree.dir p = absurd (apart 5 1 p (omega arith))
 spec_inj (SpecTree.comp a0 a1 a2) SpecTree.link p = absurd (apart 5 2 p (omega arith))
@@ -65,6 +86,8 @@ spec_inj (SpecTree.comp a0 a1 a2) (SpecTree.pair b0 b1 b2) p = absurd (apart 5 4
 spec_inj (SpecTree.comp a0 a1 a2) (SpecTree.comp b0 b1 b2) p = λ i. SpecTree.comp (spec_inj a0 b0 (ap (λ g. head (tail g)) p) i) (coded_bytes.inj a1 b1 (ap (λ g. head (tail (tail g))) p) i) (coded_expr.inj a2 b2 (ap (λ g. tail (tail (tail g))) p) i)
 spec_inj (SpecTree.comp a0 a1 a2) (SpecTree.opt b0) p = absurd (apart 5 6 p (omega arith))
 spec_inj (SpecTree.comp a0 a1 a2) (SpecTree.pred b0) p = absurd (apart 5 7 p (omega arith))
+spec_inj (SpecTree.comp a0 a1 a2) (SpecTree.call b0 b1 b2) p = absurd (apart 5 8 p (omega arith))
+spec_inj (SpecTree.comp a0 a1 a2) (SpecTree.last b0 b1) p = absurd (apart 5 9 p (omega arith))
 spec_inj (SpecTree.opt a0) SpecTree.file p = absurd (apart 6 0 p (omega arith))
 spec_inj (SpecTree.opt a0) SpecTree.dir p = absurd (apart 6 1 p (omega arith))
 spec_inj (SpecTree.opt a0) SpecTree.link p = absurd (apart 6 2 p (omega arith))
@@ -73,6 +96,8 @@ spec_inj (SpecTree.opt a0) (SpecTree.pair b0 b1 b2) p = absurd (apart 6 4 p (ome
 spec_inj (SpecTree.opt a0) (SpecTree.comp b0 b1 b2) p = absurd (apart 6 5 p (omega arith))
 spec_inj (SpecTree.opt a0) (SpecTree.opt b0) p = λ i. SpecTree.opt (spec_inj a0 b0 (ap (λ g. tail g) p) i)
 spec_inj (SpecTree.opt a0) (SpecTree.pred b0) p = absurd (apart 6 7 p (omega arith))
+spec_inj (SpecTree.opt a0) (SpecTree.call b0 b1 b2) p = absurd (apart 6 8 p (omega arith))
+spec_inj (SpecTree.opt a0) (SpecTree.last b0 b1) p = absurd (apart 6 9 p (omega arith))
 spec_inj (SpecTree.pred a0) SpecTree.file p = absurd (apart 7 0 p (omega arith))
 spec_inj (SpecTree.pred a0) SpecTree.dir p = absurd (apart 7 1 p (omega arith))
 spec_inj (SpecTree.pred a0) SpecTree.link p = absurd (apart 7 2 p (omega arith))
@@ -81,9 +106,136 @@ spec_inj (SpecTree.pred a0) (SpecTree.pair b0 b1 b2) p = absurd (apart 7 4 p (om
 spec_inj (SpecTree.pred a0) (SpecTree.comp b0 b1 b2) p = absurd (apart 7 5 p (omega arith))
 spec_inj (SpecTree.pred a0) (SpecTree.opt b0) p = absurd (apart 7 6 p (omega arith))
 spec_inj (SpecTree.pred a0) (SpecTree.pred b0) p = λ i. SpecTree.pred (coded_expr.inj a0 b0 (ap (λ g. tail g) p) i)
+spec_inj (SpecTree.pred a0) (SpecTree.call b0 b1 b2) p = absurd (apart 7 8 p (omega arith))
+spec_inj (SpecTree.pred a0) (SpecTree.last b0 b1) p = absurd (apart 7 9 p (omega arith))
+spec_inj (SpecTree.call a0 a1 a2) SpecTree.file p = absurd (apart 8 0 p (omega arith))
+spec_inj (SpecTree.call a0 a1 a2) SpecTree.dir p = absurd (apart 8 1 p (omega arith))
+spec_inj (SpecTree.call a0 a1 a2) SpecTree.link p = absurd (apart 8 2 p (omega arith))
+spec_inj (SpecTree.call a0 a1 a2) (SpecTree.focus b0 b1) p = absurd (apart 8 3 p (omega arith))
+spec_inj (SpecTree.call a0 a1 a2) (SpecTree.pair b0 b1 b2) p = absurd (apart 8 4 p (omega arith))
+spec_inj (SpecTree.call a0 a1 a2) (SpecTree.comp b0 b1 b2) p = absurd (apart 8 5 p (omega arith))
+spec_inj (SpecTree.call a0 a1 a2) (SpecTree.opt b0) p = absurd (apart 8 6 p (omega arith))
+spec_inj (SpecTree.call a0 a1 a2) (SpecTree.pred b0) p = absurd (apart 8 7 p (omega arith))
+spec_inj (SpecTree.call a0 a1 a2) (SpecTree.call b0 b1 b2) p = λ i. SpecTree.call (coded_exprs.inj a0 b0 (ap (λ g. head (tail g)) p) i) (coded_params.inj a1 b1 (ap (λ g. head (tail (tail g))) p) i) (spec_inj a2 b2 (ap (λ g. tail (tail (tail g))) p) i)
+spec_inj (SpecTree.call a0 a1 a2) (SpecTree.last b0 b1) p = absurd (apart 8 9 p (omega arith))
+spec_inj (SpecTree.last a0 a1) SpecTree.file p = absurd (apart 9 0 p (omega arith))
+spec_inj (SpecTree.last a0 a1) SpecTree.dir p = absurd (apart 9 1 p (omega arith))
+spec_inj (SpecTree.last a0 a1) SpecTree.link p = absurd (apart 9 2 p (omega arith))
+spec_inj (SpecTree.last a0 a1) (SpecTree.focus b0 b1) p = absurd (apart 9 3 p (omega arith))
+spec_inj (SpecTree.last a0 a1) (SpecTree.pair b0 b1 b2) p = absurd (apart 9 4 p (omega arith))
+spec_inj (SpecTree.last a0 a1) (SpecTree.comp b0 b1 b2) p = absurd (apart 9 5 p (omega arith))
+spec_inj (SpecTree.last a0 a1) (SpecTree.opt b0) p = absurd (apart 9 6 p (omega arith))
+spec_inj (SpecTree.last a0 a1) (SpecTree.pred b0) p = absurd (apart 9 7 p (omega arith))
+spec_inj (SpecTree.last a0 a1) (SpecTree.call b0 b1 b2) p = absurd (apart 9 8 p (omega arith))
+spec_inj (SpecTree.last a0 a1) (SpecTree.last b0 b1) p = λ i. SpecTree.last (coded_exprs.inj a0 b0 (ap (λ g. head (tail g)) p) i) (coded_params.inj a1 b1 (ap (λ g. tail (tail g)) p) i)
 
 abbrev pub coded_spec : Coded SpecTree
 coded_spec = record { code = spec_code; inj = spec_inj }
+
+abbrev pub written_code : WrittenTree → Gv
+written_code WrittenTree.file = gcons (gnum 0) gnil
+written_code WrittenTree.dir = gcons (gnum 1) gnil
+written_code WrittenTree.link = gcons (gnum 2) gnil
+written_code (WrittenTree.focus a0 a1) = gcons (gnum 3) (gcons (coded_expr.code a0) (written_code a1))
+written_code (WrittenTree.pair a0 a1 a2) = gcons (gnum 4) (gcons (coded_bytes.code a0) (gcons (written_code a1) (written_code a2)))
+written_code (WrittenTree.comp a0 a1 a2) = gcons (gnum 5) (gcons (written_code a0) (gcons (coded_bytes.code a1) (coded_expr.code a2)))
+written_code (WrittenTree.opt a0) = gcons (gnum 6) (written_code a0)
+written_code (WrittenTree.pred a0) = gcons (gnum 7) (coded_expr.code a0)
+written_code (WrittenTree.call a0 a1) = gcons (gnum 8) (gcons (coded_bytes.code a0) (coded_exprs.code a1))
+
+pub written_inj : (x y : WrittenTree) → written_code x ≡ written_code y → x ≡ y
+written_inj WrittenTree.file WrittenTree.file p = refl
+written_inj WrittenTree.file WrittenTree.dir p = absurd (apart 0 1 p (omega arith))
+written_inj WrittenTree.file WrittenTree.link p = absurd (apart 0 2 p (omega arith))
+written_inj WrittenTree.file (WrittenTree.focus b0 b1) p = absurd (apart 0 3 p (omega arith))
+written_inj WrittenTree.file (WrittenTree.pair b0 b1 b2) p = absurd (apart 0 4 p (omega arith))
+written_inj WrittenTree.file (WrittenTree.comp b0 b1 b2) p = absurd (apart 0 5 p (omega arith))
+written_inj WrittenTree.file (WrittenTree.opt b0) p = absurd (apart 0 6 p (omega arith))
+written_inj WrittenTree.file (WrittenTree.pred b0) p = absurd (apart 0 7 p (omega arith))
+written_inj WrittenTree.file (WrittenTree.call b0 b1) p = absurd (apart 0 8 p (omega arith))
+written_inj WrittenTree.dir WrittenTree.file p = absurd (apart 1 0 p (omega arith))
+written_inj WrittenTree.dir WrittenTree.dir p = refl
+written_inj WrittenTree.dir WrittenTree.link p = absurd (apart 1 2 p (omega arith))
+written_inj WrittenTree.dir (WrittenTree.focus b0 b1) p = absurd (apart 1 3 p (omega arith))
+written_inj WrittenTree.dir (WrittenTree.pair b0 b1 b2) p = absurd (apart 1 4 p (omega arith))
+written_inj WrittenTree.dir (WrittenTree.comp b0 b1 b2) p = absurd (apart 1 5 p (omega arith))
+written_inj WrittenTree.dir (WrittenTree.opt b0) p = absurd (apart 1 6 p (omega arith))
+written_inj WrittenTree.dir (WrittenTree.pred b0) p = absurd (apart 1 7 p (omega arith))
+written_inj WrittenTree.dir (WrittenTree.call b0 b1) p = absurd (apart 1 8 p (omega arith))
+written_inj WrittenTree.link WrittenTree.file p = absurd (apart 2 0 p (omega arith))
+written_inj WrittenTree.link WrittenTree.dir p = absurd (apart 2 1 p (omega arith))
+written_inj WrittenTree.link WrittenTree.link p = refl
+written_inj WrittenTree.link (WrittenTree.focus b0 b1) p = absurd (apart 2 3 p (omega arith))
+written_inj WrittenTree.link (WrittenTree.pair b0 b1 b2) p = absurd (apart 2 4 p (omega arith))
+written_inj WrittenTree.link (WrittenTree.comp b0 b1 b2) p = absurd (apart 2 5 p (omega arith))
+written_inj WrittenTree.link (WrittenTree.opt b0) p = absurd (apart 2 6 p (omega arith))
+written_inj WrittenTree.link (WrittenTree.pred b0) p = absurd (apart 2 7 p (omega arith))
+written_inj WrittenTree.link (WrittenTree.call b0 b1) p = absurd (apart 2 8 p (omega arith))
+written_inj (WrittenTree.focus a0 a1) WrittenTree.file p = absurd (apart 3 0 p (omega arith))
+written_inj (WrittenTree.focus a0 a1) WrittenTree.dir p = absurd (apart 3 1 p (omega arith))
+written_inj (WrittenTree.focus a0 a1) WrittenTree.link p = absurd (apart 3 2 p (omega arith))
+written_inj (WrittenTree.focus a0 a1) (WrittenTree.focus b0 b1) p = λ i. WrittenTree.focus (coded_expr.inj a0 b0 (ap (λ g. head (tail g)) p) i) (written_inj a1 b1 (ap (λ g. tail (tail g)) p) i)
+written_inj (WrittenTree.focus a0 a1) (WrittenTree.pair b0 b1 b2) p = absurd (apart 3 4 p (omega arith))
+written_inj (WrittenTree.focus a0 a1) (WrittenTree.comp b0 b1 b2) p = absurd (apart 3 5 p (omega arith))
+written_inj (WrittenTree.focus a0 a1) (WrittenTree.opt b0) p = absurd (apart 3 6 p (omega arith))
+written_inj (WrittenTree.focus a0 a1) (WrittenTree.pred b0) p = absurd (apart 3 7 p (omega arith))
+written_inj (WrittenTree.focus a0 a1) (WrittenTree.call b0 b1) p = absurd (apart 3 8 p (omega arith))
+written_inj (WrittenTree.pair a0 a1 a2) WrittenTree.file p = absurd (apart 4 0 p (omega arith))
+written_inj (WrittenTree.pair a0 a1 a2) WrittenTree.dir p = absurd (apart 4 1 p (omega arith))
+written_inj (WrittenTree.pair a0 a1 a2) WrittenTree.link p = absurd (apart 4 2 p (omega arith))
+written_inj (WrittenTree.pair a0 a1 a2) (WrittenTree.focus b0 b1) p = absurd (apart 4 3 p (omega arith))
+written_inj (WrittenTree.pair a0 a1 a2) (WrittenTree.pair b0 b1 b2) p = λ i. WrittenTree.pair (coded_bytes.inj a0 b0 (ap (λ g. head (tail g)) p) i) (written_inj a1 b1 (ap (λ g. head (tail (tail g))) p) i) (written_inj a2 b2 (ap (λ g. tail (tail (tail g))) p) i)
+written_inj (WrittenTree.pair a0 a1 a2) (WrittenTree.comp b0 b1 b2) p = absurd (apart 4 5 p (omega arith))
+written_inj (WrittenTree.pair a0 a1 a2) (WrittenTree.opt b0) p = absurd (apart 4 6 p (omega arith))
+written_inj (WrittenTree.pair a0 a1 a2) (WrittenTree.pred b0) p = absurd (apart 4 7 p (omega arith))
+written_inj (WrittenTree.pair a0 a1 a2) (WrittenTree.call b0 b1) p = absurd (apart 4 8 p (omega arith))
+written_inj (WrittenTree.comp a0 a1 a2) WrittenTree.file p = absurd (apart 5 0 p (omega arith))
+written_inj (WrittenTree.comp a0 a1 a2) WrittenTree.dir p = absurd (apart 5 1 p (omega arith))
+written_inj (WrittenTree.comp a0 a1 a2) WrittenTree.link p = absurd (apart 5 2 p (omega arith))
+written_inj (WrittenTree.comp a0 a1 a2) (WrittenTree.focus b0 b1) p = absurd (apart 5 3 p (omega arith))
+written_inj (WrittenTree.comp a0 a1 a2) (WrittenTree.pair b0 b1 b2) p = absurd (apart 5 4 p (omega arith))
+written_inj (WrittenTree.comp a0 a1 a2) (WrittenTree.comp b0 b1 b2) p = λ i. WrittenTree.comp (written_inj a0 b0 (ap (λ g. head (tail g)) p) i) (coded_bytes.inj a1 b1 (ap (λ g. head (tail (tail g))) p) i) (coded_expr.inj a2 b2 (ap (λ g. tail (tail (tail g))) p) i)
+written_inj (WrittenTree.comp a0 a1 a2) (WrittenTree.opt b0) p = absurd (apart 5 6 p (omega arith))
+written_inj (WrittenTree.comp a0 a1 a2) (WrittenTree.pred b0) p = absurd (apart 5 7 p (omega arith))
+written_inj (WrittenTree.comp a0 a1 a2) (WrittenTree.call b0 b1) p = absurd (apart 5 8 p (omega arith))
+written_inj (WrittenTree.opt a0) WrittenTree.file p = absurd (apart 6 0 p (omega arith))
+written_inj (WrittenTree.opt a0) WrittenTree.dir p = absurd (apart 6 1 p (omega arith))
+written_inj (WrittenTree.opt a0) WrittenTree.link p = absurd (apart 6 2 p (omega arith))
+written_inj (WrittenTree.opt a0) (WrittenTree.focus b0 b1) p = absurd (apart 6 3 p (omega arith))
+written_inj (WrittenTree.opt a0) (WrittenTree.pair b0 b1 b2) p = absurd (apart 6 4 p (omega arith))
+written_inj (WrittenTree.opt a0) (WrittenTree.comp b0 b1 b2) p = absurd (apart 6 5 p (omega arith))
+written_inj (WrittenTree.opt a0) (WrittenTree.opt b0) p = λ i. WrittenTree.opt (written_inj a0 b0 (ap (λ g. tail g) p) i)
+written_inj (WrittenTree.opt a0) (WrittenTree.pred b0) p = absurd (apart 6 7 p (omega arith))
+written_inj (WrittenTree.opt a0) (WrittenTree.call b0 b1) p = absurd (apart 6 8 p (omega arith))
+written_inj (WrittenTree.pred a0) WrittenTree.file p = absurd (apart 7 0 p (omega arith))
+written_inj (WrittenTree.pred a0) WrittenTree.dir p = absurd (apart 7 1 p (omega arith))
+written_inj (WrittenTree.pred a0) WrittenTree.link p = absurd (apart 7 2 p (omega arith))
+written_inj (WrittenTree.pred a0) (WrittenTree.focus b0 b1) p = absurd (apart 7 3 p (omega arith))
+written_inj (WrittenTree.pred a0) (WrittenTree.pair b0 b1 b2) p = absurd (apart 7 4 p (omega arith))
+written_inj (WrittenTree.pred a0) (WrittenTree.comp b0 b1 b2) p = absurd (apart 7 5 p (omega arith))
+written_inj (WrittenTree.pred a0) (WrittenTree.opt b0) p = absurd (apart 7 6 p (omega arith))
+written_inj (WrittenTree.pred a0) (WrittenTree.pred b0) p = λ i. WrittenTree.pred (coded_expr.inj a0 b0 (ap (λ g. tail g) p) i)
+written_inj (WrittenTree.pred a0) (WrittenTree.call b0 b1) p = absurd (apart 7 8 p (omega arith))
+written_inj (WrittenTree.call a0 a1) WrittenTree.file p = absurd (apart 8 0 p (omega arith))
+written_inj (WrittenTree.call a0 a1) WrittenTree.dir p = absurd (apart 8 1 p (omega arith))
+written_inj (WrittenTree.call a0 a1) WrittenTree.link p = absurd (apart 8 2 p (omega arith))
+written_inj (WrittenTree.call a0 a1) (WrittenTree.focus b0 b1) p = absurd (apart 8 3 p (omega arith))
+written_inj (WrittenTree.call a0 a1) (WrittenTree.pair b0 b1 b2) p = absurd (apart 8 4 p (omega arith))
+written_inj (WrittenTree.call a0 a1) (WrittenTree.comp b0 b1 b2) p = absurd (apart 8 5 p (omega arith))
+written_inj (WrittenTree.call a0 a1) (WrittenTree.opt b0) p = absurd (apart 8 6 p (omega arith))
+written_inj (WrittenTree.call a0 a1) (WrittenTree.pred b0) p = absurd (apart 8 7 p (omega arith))
+written_inj (WrittenTree.call a0 a1) (WrittenTree.call b0 b1) p = λ i. WrittenTree.call (coded_bytes.inj a0 b0 (ap (λ g. head (tail g)) p) i) (coded_exprs.inj a1 b1 (ap (λ g. tail (tail g)) p) i)
+
+abbrev pub coded_written : Coded WrittenTree
+coded_written = record { code = written_code; inj = written_inj }
+
+abbrev pub coded_def : Coded DefTree
+coded_def =
+    code_by (List ℕ × (List (List ℕ × ShapeTree) × WrittenTree)) (coded× coded_bytes (coded× coded_params coded_written))
+    (λ d. (d.name, (d.params, d.body))) (λ p. record { name = p.0; params = p.1.0; body = p.1.1 }) (λ _. refl)
+
+abbrev pub coded_defs : Coded (List DefTree)
+coded_defs = coded_list coded_def
 
 abbrev pub act_code : ActTree → Gv
 act_code ActTree.into = gcons (gnum 0) gnil

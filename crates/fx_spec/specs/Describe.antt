@@ -1,6 +1,6 @@
 -- The value of a description at a path, as a rule that consults a filestore. It is partial: a description whose file is not
 -- there, say, has none.
-use Rattle.std.specs.Prelude.{ℕ, Bool, true, false, cond, List, [], ◌∷◌, Option, Some, None, Result, Ok, Err}
+use Rattle.std.specs.Prelude.{ℕ, zero, suc, ◌+◌, Bool, true, false, cond, List, [], ◌∷◌, Option, Some, None, Result, Ok, Err}
 use Rattle.std.specs.Option.{option_map}
 use Rattle.fx_store.specs.declared.node.Node.{Node}
 use Rattle.fx_store.specs.declared.node.Node.TheVariants.{File, Dir, Link}
@@ -13,6 +13,9 @@ use Rattle.fx_store.specs.Rule.{Ask, Answer, Look, Tick, ◌>>=◌}
 use Rattle.fx_store.specs.Resolve.{resolve}
 use Rattle.fx_expr.specs.Bindings.{bind}
 use Rattle.fx_expr.specs.Eval.{Outcome, eval_of, text_in, names_in, truth_in}
+use Rattle.fx_expr.specs.declared.fault.ExprFault.{ExprFault}
+use Rattle.fx_expr.specs.ExprTree.{ExprTree}
+use Rattle.fx_expr.specs.ShapeTree.{ShapeTree}
 use Rattle.fx_expr.specs.Tree.{Tree, TreeRows, no_rows, row}
 use Rattle.fx_spec.specs.declared.refusal.Refusal.{Refusal}
 use Rattle.fx_spec.specs.SpecTree.{SpecTree}
@@ -94,8 +97,49 @@ abbrev pub truth : Outcome → Option Tree
 truth (Ok v) = cond (truth_in v) (Some (Tree.bool true)) None
 truth (Err f) = None
 
+-- the values of a call's arguments, or the first fault
+abbrev pub onto : Tree → Result (List Tree) ExprFault → Result (List Tree) ExprFault
+onto v (Ok vs) = Ok (v ∷ vs)
+onto v (Err f) = Err f
+
+abbrev pub then_others : Outcome → Result (List Tree) ExprFault → Result (List Tree) ExprFault
+then_others (Ok v) others = onto v others
+then_others (Err f) others = Err f
+
+abbrev pub arguments : Bindings → List ExprTree → Result (List Tree) ExprFault
+arguments env [] = Ok []
+arguments env (e ∷ es) = then_others (eval_of env e) (arguments env es)
+
+-- how many of them are evaluated: up to the first that faults, that one too
+abbrev pub unless_fault : Outcome → ℕ → ℕ
+unless_fault (Ok v) n = n
+unless_fault (Err f) n = 0
+
+abbrev pub argument_evals : Bindings → List ExprTree → ℕ
+argument_evals env [] = 0
+argument_evals env (e ∷ es) = 1 + unless_fault (eval_of env e) (argument_evals env es)
+
+-- the parameters with these values
+abbrev pub with_values : List (List ℕ × ShapeTree) → List Tree → Bindings
+with_values [] vs = []
+with_values (p ∷ ps) [] = []
+with_values (p ∷ ps) (v ∷ vs) = (p.0, v) ∷ with_values ps vs
+
+-- a rule behind so many evaluations
+abbrev pub behind : {A : Type 0} → ℕ → Ask A → Ask A
+behind zero rule = rule
+behind (suc n) rule = Tick (behind n rule)
+
+-- a call has the value true where its body has a value, in which the parameters alone are bound
+abbrev pub is_true : Tree → Tree
+is_true v = Tree.bool true
+
+abbrev pub at_body : List (List ℕ × ShapeTree) → (Bindings → Ask (Option Tree)) → Result (List Tree) ExprFault → Ask (Option Tree)
+at_body params body (Ok vs) = body (with_values params vs) >>= λ v. Answer (option_map is_true v)
+at_body params body (Err f) = Answer None
+
 -- the value of a description at a path, where these names are bound; a focus, a comprehension and a predicate evaluate their
--- expression
+-- expression, and a call its arguments
 unfoldable pub value : List (List ℕ) → Bindings → SpecTree → Ask (Option Tree)
 value p env SpecTree.file = content file_value true p
 value p env SpecTree.dir = content dir_value true p
@@ -106,3 +150,5 @@ value p env (SpecTree.pair x a b) =
 value p env (SpecTree.comp s x e) = Tick (table (λ t. value p (bind env x (Tree.str t)) s) (eval_of env e))
 value p env (SpecTree.opt s) = exists p >>= option (value p env s)
 value p env (SpecTree.pred e) = Tick (Answer (truth (eval_of env e)))
+value p env (SpecTree.call args params s) = behind (argument_evals env args) (at_body params (λ inner. value p inner s) (arguments env args))
+value p env (SpecTree.last args params) = Answer None

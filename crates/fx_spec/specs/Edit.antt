@@ -174,6 +174,8 @@ bare_node (SpecTree.pair x a b) = bare_node a
 bare_node (SpecTree.comp s x e) = None
 bare_node (SpecTree.opt s) = bare_node s
 bare_node (SpecTree.pred e) = None
+bare_node (SpecTree.call args params s) = None
+bare_node (SpecTree.last args params) = None
 
 abbrev pub create_landed : List (List ℕ) → Node → Landing → Ask (Answered (List Change))
 create_landed p node (At q) = Answer (Err Refusal.Exists)

@@ -1,5 +1,5 @@
 -- Worked transactions on small filestores.
-use Rattle.std.specs.Prelude.{◌≡◌, ℕ, false, List, [], ◌∷◌, codes}
+use Rattle.std.specs.Prelude.{◌≡◌, ℕ, pos, true, false, List, [], ◌∷◌, replicate, codes}
 use Rattle.fx_store.specs.declared.node.Node.TheVariants.{File, Dir}
 use Rattle.fx_store.specs.declared.changes.Change.{Change}
 use Rattle.fx_store.specs.Examples.{store_of}
@@ -12,6 +12,7 @@ use Rattle.fx_expr.specs.Tree.{Tree}
 use Rattle.fx_spec.specs.declared.refusal.Refusal.{Refusal}
 use Rattle.fx_spec.specs.declared.refusal.End.{End}
 use Rattle.fx_spec.specs.SpecTree.{SpecTree}
+use Rattle.fx_spec.specs.Written.{WrittenTree, DefTree, text_tree}
 use Rattle.fx_spec.specs.CommandTree.{ActTree, CommandTree, block}
 use Rattle.fx_spec.specs.Edit.{set_to, removed}
 use Rattle.fx_spec.specs.Transaction.{outputs, end, way, kept}
@@ -79,3 +80,47 @@ JoinsFiles =
     CommandTree.assign (codes "t") (ExprTree.bin BinOp.Join (ExprTree.var (codes "t")) (ExprTree.var (codes "v"))) ∷ go ActTree.up ∷ go ActTree.out ∷ [])) ∷
     CommandTree.print (ExprTree.var (codes "t")) ∷ [])
     (Tree.str (codes "AB") ∷ []) End.Done ([] ∷ (codes "a" ∷ []) ∷ (codes "b" ∷ []) ∷ []) []
+
+-- a directory and its entries whose names begin with d, each of them by the same definition again
+abbrev pub tree_of_folders : DefTree
+tree_of_folders = record {
+  name = codes "tree";
+  params = (codes "n", ShapeTree.int) ∷ [];
+  body =
+      WrittenTree.pair (codes "d") WrittenTree.dir
+      (WrittenTree.comp
+      (WrittenTree.focus (ExprTree.var (codes "k")) (WrittenTree.call (codes "tree") (ExprTree.bin BinOp.Plus (ExprTree.var (codes "n")) (ExprTree.int (pos 1)) ∷ [])))
+      (codes "k") (ExprTree.only (ExprTree.var (codes "d")) (codes "d*")));
+}
+
+abbrev pub folders : SpecTree
+folders = text_tree (record { defs = tree_of_folders ∷ []; root = WrittenTree.call (codes "tree") (ExprTree.int (pos 0) ∷ []) })
+
+abbrev pub two_folders : Store
+two_folders = store_of (
+    ([], Dir (codes "d1" ∷ codes "y" ∷ [])) ∷ (codes "d1" ∷ [], Dir (codes "d2" ∷ [])) ∷ (codes "d1" ∷ codes "d2" ∷ [], Dir (codes "x" ∷ [])) ∷
+    (codes "d1" ∷ codes "d2" ∷ codes "x" ∷ [], File (codes "1") false) ∷ (codes "y" ∷ [], File (codes "2") false) ∷ [])
+
+-- the value of a call is a truth value, whatever its body has
+abbrev pub ValuesCall : Type 0
+ValuesCall =
+    Does folders two_folders (CommandTree.whole (codes "v") ShapeTree.bool ∷ CommandTree.print (ExprTree.var (codes "v")) ∷ []) (Tree.bool true ∷ []) End.Done
+    ([] ∷ (codes "d1" ∷ []) ∷ (codes "d1" ∷ codes "d2" ∷ []) ∷ []) []
+
+-- what is inside is reached step by step, through one body into the next
+abbrev pub EntersBodies : Type 0
+EntersBodies =
+    Does folders two_folders
+    (go ActTree.into ∷ go ActTree.into ∷ go ActTree.next ∷ go ActTree.into ∷ go ActTree.down ∷ go ActTree.into ∷ go ActTree.into ∷
+    CommandTree.fetch (codes "s") ShapeTree.names ∷ CommandTree.print (ExprTree.var (codes "s")) ∷ [])
+    (Tree.names (codes "d2" ∷ []) ∷ []) End.Done ([] ∷ (codes "d1" ∷ []) ∷ []) []
+
+-- a definition that calls itself with nothing between has no value, and 64 calls inside one another are the last
+abbrev pub itself : SpecTree
+itself = text_tree (record { defs = record { name = codes "f"; params = []; body = WrittenTree.call (codes "f") [] } ∷ []; root = WrittenTree.call (codes "f") [] })
+
+abbrev pub StopsUnfolded : Type 0
+StopsUnfolded = Does itself (store_of (([], Dir []) ∷ [])) (replicate 65 (go ActTree.into)) [] (End.Stopped 64 Refusal.TooUnfolded) [] []
+
+abbrev pub NoEndNoValue : Type 0
+NoEndNoValue = Does itself (store_of (([], Dir []) ∷ [])) (CommandTree.validate (codes "v") ∷ CommandTree.print (ExprTree.var (codes "v")) ∷ []) (Tree.bool false ∷ []) End.Done [] []

@@ -1,9 +1,9 @@
 -- How deep the forms of a description and of a transaction are nested. A form's level is one more than that of the form
 -- around it; a move or an edit is one form with its command.
-use Rattle.std.specs.Prelude.{ℕ, ◌+◌, max, List}
+use Rattle.std.specs.Prelude.{ℕ, ◌+◌, max, List, [], ◌∷◌}
 use Rattle.fx_expr.specs.ExprTree.{ExprTree}
 use Rattle.fx_expr.specs.ShapeTree.{ShapeTree}
-use Rattle.fx_spec.specs.SpecTree.{SpecTree}
+use Rattle.fx_spec.specs.Written.{WrittenTree, DefTree, TextTree}
 use Rattle.fx_spec.specs.CommandTree.{ActTree, CommandTree, Block, block}
 
 abbrev pub expr_levels : ExprTree → ℕ
@@ -19,13 +19,33 @@ shape_levels (ShapeTree.opt a) = 1 + shape_levels a
 shape_levels (ShapeTree.table a) = 1 + shape_levels a
 shape_levels _ = 1
 
-abbrev pub spec_levels : SpecTree → ℕ
-spec_levels (SpecTree.focus e s) = 1 + max (expr_levels e) (spec_levels s)
-spec_levels (SpecTree.pair x a b) = 1 + max (spec_levels a) (spec_levels b)
-spec_levels (SpecTree.comp s x e) = 1 + max (spec_levels s) (expr_levels e)
-spec_levels (SpecTree.opt s) = 1 + spec_levels s
-spec_levels (SpecTree.pred e) = 1 + expr_levels e
+abbrev pub exprs_levels : List ExprTree → ℕ
+exprs_levels [] = 0
+exprs_levels (e ∷ es) = max (expr_levels e) (exprs_levels es)
+
+abbrev pub spec_levels : WrittenTree → ℕ
+spec_levels (WrittenTree.focus e s) = 1 + max (expr_levels e) (spec_levels s)
+spec_levels (WrittenTree.pair x a b) = 1 + max (spec_levels a) (spec_levels b)
+spec_levels (WrittenTree.comp s x e) = 1 + max (spec_levels s) (expr_levels e)
+spec_levels (WrittenTree.opt s) = 1 + spec_levels s
+spec_levels (WrittenTree.pred e) = 1 + expr_levels e
+spec_levels (WrittenTree.call f args) = 1 + exprs_levels args
 spec_levels _ = 1
+
+abbrev pub params_levels : List (List ℕ × ShapeTree) → ℕ
+params_levels [] = 0
+params_levels (p ∷ ps) = max (shape_levels p.1) (params_levels ps)
+
+-- a definition is a form, and so are the shapes of its parameters and its body inside it
+abbrev pub def_levels : DefTree → ℕ
+def_levels d = 1 + max (params_levels d.params) (spec_levels d.body)
+
+abbrev pub defs_levels : List DefTree → ℕ
+defs_levels [] = 0
+defs_levels (d ∷ ds) = max (def_levels d) (defs_levels ds)
+
+abbrev pub text_levels : TextTree → ℕ
+text_levels t = max (defs_levels t.defs) (spec_levels t.root)
 
 abbrev pub act_levels : ActTree → ℕ
 act_levels (ActTree.to e) = 1 + expr_levels e

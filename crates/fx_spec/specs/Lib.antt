@@ -1,7 +1,14 @@
 pub mod SpecTree
+pub mod Written
 pub mod CommandTree
 pub mod Codes
 pub mod Views
+pub mod ParamViews
+pub mod DefViews
+pub mod Naming
+pub mod TextViews
+pub mod Parts
+pub mod Forms
 pub mod Falls
 pub mod Refusals
 pub mod Describe
@@ -17,6 +24,7 @@ pub mod WellShaped
 pub mod Examples
 pub mod Bases
 pub mod Laws
+pub mod Calls
 pub mod EditLooks
 pub mod Shaped
 pub mod Evals

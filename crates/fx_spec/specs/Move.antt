@@ -4,12 +4,13 @@ use Rattle.std.specs.Prelude.{ℕ, Bool, true, false, cond, ◌&&◌, List, [], 
 use Rattle.fx_store.specs.Rule.{Ask, Answer, Tick, ◌>>=◌}
 use Rattle.fx_expr.specs.Eval.{Outcome, eval_of, names_in}
 use Rattle.fx_expr.specs.Sets.{has_text, least, least_above, greatest_below}
+use Rattle.fx_expr.specs.declared.fault.ExprFault.{ExprFault}
 use Rattle.fx_expr.specs.ShapeTree.{ShapeTree}
 use Rattle.fx_expr.specs.Tree.{Tree}
 use Rattle.fx_spec.specs.declared.refusal.Refusal.{Refusal}
 use Rattle.fx_spec.specs.SpecTree.{SpecTree}
-use Rattle.fx_spec.specs.Describe.{Bindings, content, file_value, flag_value, dir_value, link_value, exists, focus_path, value}
-use Rattle.fx_spec.specs.Place.{Step, First, Second, Inside, Down, Elem, Address, PlaceTree, place}
+use Rattle.fx_spec.specs.Describe.{Bindings, content, file_value, flag_value, dir_value, link_value, exists, focus_path, arguments, argument_evals, behind, value}
+use Rattle.fx_spec.specs.Place.{Step, First, Second, Inside, Down, Body, Elem, Address, PlaceTree, place}
 
 -- an answer or a refusal
 abbrev pub Answered : Type 0 → Type 0
@@ -54,11 +55,19 @@ abbrev pub chosen : Address → (List (List ℕ) → Option (List ℕ)) → Outc
 chosen a choice (Ok set) = element a (choice (names_in set))
 chosen a choice (Err f) = Err (Refusal.Expr f)
 
--- `into`: to the first part, to the least element, or inside an entry
+-- the answer where a call's arguments have values, or their first fault
+abbrev pub with_arguments : {A : Type 0} → Answered A → Result (List Tree) ExprFault → Answered A
+with_arguments answer (Ok vs) = answer
+with_arguments answer (Err f) = Err (Refusal.Expr f)
+
+-- `into`: to the first part, to the least element, inside an entry, or into a call's body
 abbrev pub go_into : Address → List (List ℕ) → Bindings → SpecTree → Ask (Answered Address)
 go_into a p env (SpecTree.pair x s₁ s₂) = Answer (Ok (First ∷ a))
 go_into a p env (SpecTree.comp s x e) = Tick (Answer (chosen a least (eval_of env e)))
 go_into a p env (SpecTree.opt s) = exists p >>= λ there. Answer (cond there (Ok (Inside ∷ a)) (Err Refusal.Lacks))
+go_into a p env (SpecTree.call args params s) = behind (argument_evals env args) (Answer (with_arguments (Ok (Body ∷ a)) (arguments env args)))
+go_into a p env (SpecTree.last args params) =
+    behind (argument_evals env args) (Answer (with_arguments (Err Refusal.TooUnfolded) (arguments env args)))
 go_into a p env _ = Answer (Err Refusal.NoStep)
 
 -- `to`: to the element that is this text
@@ -91,7 +100,7 @@ go_prev root (Elem t ∷ a) =
     at_place root (Elem t ∷ a) λ at. at_place root a λ above. another a (greatest_below t) above.path above.env above.spec
 go_prev root a = at_place root a λ at. Answer (Err Refusal.NoStep)
 
--- `out`: back from a part, an element or an entry; `up`: back from a focus's path
+-- `out`: back from a part, an element, an entry or a body; `up`: back from a focus's path
 abbrev pub go_out : Address → Answered Address
 go_out [] = Err Refusal.NoStep
 go_out (Down ∷ a) = Err Refusal.NoStep
@@ -111,8 +120,10 @@ value_shape (SpecTree.pair x a b) = ShapeTree.pair (value_shape a) (value_shape 
 value_shape (SpecTree.comp s x e) = ShapeTree.table (value_shape s)
 value_shape (SpecTree.opt s) = ShapeTree.opt (value_shape s)
 value_shape (SpecTree.pred e) = ShapeTree.bool
+value_shape (SpecTree.call args params s) = ShapeTree.bool
+value_shape (SpecTree.last args params) = ShapeTree.bool
 
--- the shape of what a fetch gives at a form; a pair has no fetch, and a file has another, of its flag
+-- the shape of what a fetch gives at a form; a pair and a call have no fetch, and a file has another, of its flag
 abbrev pub fetch_shape : SpecTree → Option ShapeTree
 fetch_shape SpecTree.file = Some ShapeTree.str
 fetch_shape SpecTree.dir = Some ShapeTree.names
@@ -122,6 +133,8 @@ fetch_shape (SpecTree.pair x a b) = None
 fetch_shape (SpecTree.comp s x e) = Some ShapeTree.names
 fetch_shape (SpecTree.opt s) = Some ShapeTree.bool
 fetch_shape (SpecTree.pred e) = Some ShapeTree.bool
+fetch_shape (SpecTree.call args params s) = None
+fetch_shape (SpecTree.last args params) = None
 
 abbrev pub same_shape : ShapeTree → ShapeTree → Bool
 same_shape ShapeTree.str ShapeTree.str = true
@@ -148,6 +161,8 @@ fetched p env (SpecTree.pair x a b) = Answer (Err Refusal.WrongForm)
 fetched p env (SpecTree.comp s x e) = Tick (Answer (evaluated (eval_of env e)))
 fetched p env (SpecTree.opt s) = exists p >>= λ there. Answer (Ok (Tree.bool there))
 fetched p env (SpecTree.pred e) = Tick (Answer (evaluated (eval_of env e)))
+fetched p env (SpecTree.call args params s) = Answer (Err Refusal.WrongForm)
+fetched p env (SpecTree.last args params) = Answer (Err Refusal.WrongForm)
 
 -- the rule, where the form has the wanted shape
 abbrev pub of_shape : Bool → Ask (Answered Tree) → Ask (Answered Tree)

@@ -5,14 +5,16 @@ use Rattle.fx_store.specs.Rule.{Ask, Answer, Tick, ◌>>=◌}
 use Rattle.fx_expr.specs.Bindings.{bind}
 use Rattle.fx_expr.specs.Eval.{Outcome, eval_of, names_in}
 use Rattle.fx_expr.specs.Sets.{has_text}
+use Rattle.fx_expr.specs.declared.fault.ExprFault.{ExprFault}
+use Rattle.fx_expr.specs.ShapeTree.{ShapeTree}
 use Rattle.fx_expr.specs.Tree.{Tree}
 use Rattle.fx_spec.specs.declared.refusal.Refusal.{Refusal}
 use Rattle.fx_spec.specs.SpecTree.{SpecTree}
-use Rattle.fx_spec.specs.Describe.{Bindings, with_some, exists, focus_path, value}
+use Rattle.fx_spec.specs.Describe.{Bindings, with_some, exists, focus_path, arguments, argument_evals, with_values, behind, value}
 
 -- a step from a place to one inside it
 pub data Step : Type 0 where
-  First Second Inside Down : Step
+  First Second Inside Down Body : Step
   Elem : List ℕ → Step
 
 -- the steps from the root description, the last one first
@@ -40,6 +42,10 @@ abbrev pub at_path : Bindings → SpecTree → Result (List (List ℕ)) Refusal 
 at_path env s (Ok q) = Some (placed q env s)
 at_path env s (Err f) = None
 
+abbrev pub in_body : List (List ℕ) → List (List ℕ × ShapeTree) → SpecTree → Result (List Tree) ExprFault → Option PlaceTree
+in_body p params s (Ok vs) = Some (placed p (with_values params vs) s)
+in_body p params s (Err f) = None
+
 -- where a step leads from a place; a step that the form lacks leads nowhere
 abbrev pub lead : Step → List (List ℕ) → Bindings → SpecTree → Ask (Option PlaceTree)
 lead First p env (SpecTree.pair x a b) = Answer (Some (placed p env a))
@@ -48,6 +54,7 @@ lead (Elem t) p env (SpecTree.comp s x e) =
     Tick (Answer (where_true (has_element t (eval_of env e)) (placed p (bind env x (Tree.str t)) s)))
 lead Inside p env (SpecTree.opt s) = exists p >>= λ there. Answer (where_true there (placed p env s))
 lead Down p env (SpecTree.focus e s) = Tick (Answer (at_path env s (focus_path p (eval_of env e))))
+lead Body p env (SpecTree.call args params s) = behind (argument_evals env args) (Answer (in_body p params s (arguments env args)))
 lead _ p env _ = Answer None
 
 -- the place of an address, if it has one

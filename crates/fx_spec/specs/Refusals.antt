@@ -15,3 +15,4 @@ refusal_number Refusal.NoDefault = 9
 refusal_number (Refusal.Expr f) = 10
 refusal_number Refusal.Absent = 11
 refusal_number Refusal.Exists = 12
+refusal_number Refusal.TooUnfolded = 13

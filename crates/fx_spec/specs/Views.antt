@@ -4,22 +4,23 @@ use Rattle.fx_spec.specs.declared.spec.Spec.{Spec, fold-Spec}
 use Rattle.fx_spec.specs.declared.spec.Spec.TheOpen.{Spec-F}
 use Rattle.fx_spec.specs.declared.command.Act.{Act}
 use Rattle.fx_spec.specs.declared.command.Command.{Command}
-use Rattle.fx_spec.specs.SpecTree.{SpecTree}
+use Rattle.fx_spec.specs.Written.{WrittenTree}
 use Rattle.fx_spec.specs.CommandTree.{ActTree, CommandTree, block}
 
 -- one level of a description, with each part seen as its tree already
-abbrev pub spec_step : Spec-F SpecTree → SpecTree
-spec_step Spec-F.File = SpecTree.file
-spec_step Spec-F.Dir = SpecTree.dir
-spec_step Spec-F.Link = SpecTree.link
-spec_step (Spec-F.Focus e s) = SpecTree.focus e s.value
-spec_step (Spec-F.Pair x a b) = SpecTree.pair x a.value b.value
-spec_step (Spec-F.Comp s x e) = SpecTree.comp s.value x e
-spec_step (Spec-F.Opt s) = SpecTree.opt s.value
-spec_step (Spec-F.Pred e) = SpecTree.pred e
+abbrev pub spec_step : Spec-F WrittenTree → WrittenTree
+spec_step Spec-F.File = WrittenTree.file
+spec_step Spec-F.Dir = WrittenTree.dir
+spec_step Spec-F.Link = WrittenTree.link
+spec_step (Spec-F.Focus e s) = WrittenTree.focus e s.value
+spec_step (Spec-F.Pair x a b) = WrittenTree.pair x a.value b.value
+spec_step (Spec-F.Comp s x e) = WrittenTree.comp s.value x e
+spec_step (Spec-F.Opt s) = WrittenTree.opt s.value
+spec_step (Spec-F.Pred e) = WrittenTree.pred e
+spec_step (Spec-F.Call f args) = WrittenTree.call f args
 
-abbrev pub spec_tree : Spec → SpecTree
-spec_tree = fold-Spec SpecTree spec_step
+abbrev pub spec_tree : Spec → WrittenTree
+spec_tree = fold-Spec WrittenTree spec_step
 
 abbrev pub act_tree : Act → ActTree
 act_tree Act.Into = ActTree.into

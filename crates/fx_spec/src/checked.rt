@@ -1,15 +1,21 @@
 ghost use Rattle.std.specs.Prelude.{◌≡◌};
+ghost use Rattle.std.specs.Prelude.{[]};
 ghost use Rattle.fx_spec.specs.Views.{spec_tree};
-ghost use Rattle.fx_spec.specs.WellShaped.{IsChecked, IsScript};
+ghost use Rattle.fx_spec.specs.Parts.{part_of};
+ghost use Rattle.fx_spec.specs.TextViews.{written};
+ghost use Rattle.fx_spec.specs.Written.{TextTree, text_tree};
+ghost use Rattle.fx_spec.specs.WellShaped.{IsChecked, IsTextOf, IsScript, IsDescription};
 
+use crate::description::{Defs, Description};
+use crate::part::Part;
 use crate::spec::Spec;
 use crate::txn::Txns;
 use std::marker::Model;
 
-/// A well-shaped description, nested at most 64 deep. Contracts see its tree.
+/// A well-shaped description, nested at most 64 deep. Contracts see what it means.
 #[derive(Drop)]
 pub struct Checked {
-    spec: Spec,
+    description: Description,
 }
 
 impl Model for Checked {
@@ -20,28 +26,48 @@ impl Model for Checked {
 
     ghost coded = { coded_spec };
 
-    ghost use Rattle.fx_spec.specs.Views.{spec_tree};
+    ghost use Rattle.fx_spec.specs.TextViews.{written};
+    ghost use Rattle.fx_spec.specs.Written.{text_tree};
     ghost use Rattle.fx_spec.specs.WellShaped.{IsChecked};
 
-    ghost view = { λ c. spec_tree c.spec };
+    ghost view = { λ c. text_tree (written c.description) };
 
-    ghost invariant = { λ c. IsChecked (spec_tree c.spec) };
+    ghost invariant = { λ c. IsChecked (written c.description) };
 }
 
 impl Checked {
     /// The description, which the caller has found to be well shaped.
-    pub fn of(spec: Spec) -> Checked
-        requires { IsChecked (spec_tree spec) }
-        ensures { result ≡ spec_tree spec }
+    pub fn of(description: Description) -> Checked
+        requires { IsChecked (written description) }
+        ensures { result ≡ text_tree (written description) }
     {
-        Checked { spec }
+        Checked { description }
     }
 
+    /// The root description, as it is written.
     pub fn spec(&self) -> &Spec
-        ensures tree { spec_tree result.now ≡ self.now }
-        ensures checked { IsChecked self.now }
+        ensures { (text : TextTree) × IsTextOf text self.now × (text.root ≡ spec_tree result.now) }
     {
-        &self.spec
+        &self.description.root
+    }
+
+    /// The definitions, as they are written.
+    pub fn defs(&self) -> &Defs
+        ensures { (text : TextTree) × IsTextOf text self.now × (text.defs ≡ result.now) }
+    {
+        &self.description.defs
+    }
+
+    /// The root description, with its definitions.
+    pub fn root(&self) -> Part<'_>
+        ensures tree { part_of result ≡ self.now }
+        ensures described { IsDescription [] self.now }
+    {
+        Part {
+            spec: &self.description.root,
+            defs: &self.description.defs,
+            level: 0,
+        }
     }
 }
 

@@ -1,7 +1,8 @@
 //! Laws of what descriptions and transactions mean. Each stands on a function that does nothing, so that it is proved with
 //! the crate.
+ghost use Rattle.fx_spec.specs.Calls.{CallsStandForBodies};
 ghost use Rattle.fx_spec.specs.EditLooks.{EditsLookAtChanges};
-ghost use Rattle.fx_spec.specs.Examples.{FetchesFile, StopsAfterStore, StoreAtRoot, StoresNames, CreatesEntry, JoinsFiles};
+ghost use Rattle.fx_spec.specs.Examples.{FetchesFile, StopsAfterStore, StoreAtRoot, StoresNames, CreatesEntry, JoinsFiles, ValuesCall, EntersBodies, StopsUnfolded, NoEndNoValue};
 ghost use Rattle.fx_spec.specs.Evals.{ValuesEvaluate, PlacesEvaluate, MovesEvaluateOnce};
 ghost use Rattle.fx_spec.specs.Laws.{UndoneLeavesAll, DependsOnWay, LeavesAsData, CompleteHasEachOnce, PlacesHavePaths, EditsKeepWhole, TransactionsKeepWhole, StatesAreWhole};
 
@@ -13,6 +14,15 @@ pub fn worked_transactions()
     ensures stores_names { StoresNames }
     ensures creates_entry { CreatesEntry }
     ensures joins_files { JoinsFiles }
+    ensures values_call { ValuesCall }
+    ensures enters_bodies { EntersBodies }
+    ensures stops_unfolded { StopsUnfolded }
+    ensures no_end_no_value { NoEndNoValue }
+{}
+
+/// A call has the value true where its body has a value, inside one call more.
+pub fn a_call_stands_for_its_body()
+    ensures { CallsStandForBodies }
 {}
 
 /// A transaction that stops or aborts leaves the filestore as it was.

@@ -29,6 +29,8 @@ pub enum Refusal {
     Absent,
     /// Something stands there already.
     Exists,
+    /// There are 64 calls around the call already.
+    TooUnfolded,
 }
 
 impl Refusal {
@@ -49,6 +51,7 @@ impl Refusal {
             Refusal::Expr(_) => 10,
             Refusal::Absent => 11,
             Refusal::Exists => 12,
+            Refusal::TooUnfolded => 13,
         }
     }
 }

@@ -1,3 +1,4 @@
+use crate::exprs::Exprs;
 use fx_expr::{Formula, Word};
 
 /// A description of what stands at a path.
@@ -16,4 +17,6 @@ pub enum Spec {
     Opt(Box<Spec>),
     /// Whether the expression is true; there is no value where it is false.
     Pred(Formula),
+    /// A named description, with the values of its parameters.
+    Call(Word, Exprs),
 }

@@ -1,35 +1,33 @@
--- Reading a description goes as its machine does, and reads the tokens of each description.
-use Rattle.std.proofs.Common.{◌≡◌, ℕ, zero, suc, ◌-◌, ◌≤◌, Bool, true, false, cond, Result, Ok, Err, List, [], ◌∷◌, ◌++◌, length, refl, sym, ap, ◌∙◌, arith}
-use Rattle.std.proofs.lemmas.Bool.{and_parts, leb-true, lt-ltb, le-ltb}
-use Rattle.fx_expr.specs.ExprTree.{ExprTree}
+-- Reading a description and its definitions goes as their machine does.
+use Rattle.std.proofs.Common.{◌≡◌, ℕ, zero, suc, ◌-◌, ◌+◌, ◌≤◌, ◌<◌, Bool, true, false, ltb, cond, Option, Some, None, Result, Ok, Err, List, [], ◌∷◌, ◌++◌, length, refl, sym, ap, ◌∙◌, subst, arith, length-append}
+use Rattle.std.proofs.lemmas.Bool.{lt-ltb, le-ltb}
+use Rattle.fx_expr.specs.ShapeTree.{ShapeTree}
 use Rattle.fx_lex.specs.declared.token.Token.{Token}
 use Rattle.fx_lex.specs.declared.token.Token.TheVariants as token
-use Rattle.fx_lex.specs.declared.token.Mark.TheVariants as mark
-use Rattle.fx_parse.specs.declared.keyword.Keyword.TheVariants as keyword
 use Rattle.fx_parse.specs.declared.sign.Sign.{Sign}
 use Rattle.fx_parse.specs.declared.sign.Sign.TheVariants as sign
 use Rattle.fx_parse.specs.Stuck.{Stuck, Unexpected, TooNested, ◌>>=◌}
-use Rattle.fx_parse.specs.Grammars.{word, opening, closing, comma, expr_tokens, expr_levels, is_name, has_names}
+use Rattle.fx_parse.specs.Grammars.{is_name}
 use Rattle.fx_parse.specs.Reader.{expect, ReadExpr, read_expr}
+use Rattle.fx_parse.specs.ShapeReader.{read_shape}
 use Rattle.fx_parse.specs.Signs.{is_sign, name_at}
-use Rattle.fx_parse.proofs.Machine.{at_most, scan, scan_from}
-use Rattle.fx_parse.proofs.ReaderPlaces.{Follows}
+use Rattle.fx_parse.proofs.Machine.{scan, scan_from, scan_says, Outcome, Empties, Runs}
 use Rattle.fx_parse.proofs.ExprMachine as inner
 use Rattle.fx_parse.proofs.ExprMachine.{Expr}
-use Rattle.fx_parse.proofs.ExprLink.{expr_follows, expr_again, front_low, rest_low, tail_low}
-use Rattle.fx_parse.proofs.Signs.{name_then}
-use Rattle.fx_parse.proofs.Steps.{from_passed, on, part_then}
+use Rattle.fx_parse.proofs.ExprLink.{expr_follows, then_then}
+use Rattle.fx_parse.proofs.ShapeMachine as shape
+use Rattle.fx_parse.proofs.ShapeMachine.{Shape}
+use Rattle.fx_parse.proofs.ShapeLink.{shape_reader}
+use Rattle.fx_parse.proofs.Steps.{passed, from_passed, on}
 use Rattle.fx_parse.proofs.Within.{goes_within}
-use Rattle.fx_spec.specs.SpecTree.{SpecTree}
-use Rattle.fx_grammar.specs.Tokens.{spec_tokens, spec_names}
-use Rattle.fx_grammar.specs.TokenLevels.{spec_token_levels}
-use Rattle.fx_grammar.specs.Grammars.{descriptions}
+use Rattle.fx_spec.specs.Written.{DefTree, TextTree}
 use Rattle.fx_spec_parse.specs.declared.start.Start.{Start}
 use Rattle.fx_spec_parse.specs.declared.start.Start.TheVariants as start
-use Rattle.fx_spec_parse.specs.Reader.{start_of, ReadSpec, focus_at, pair_at, comp_at, opt_at, pred_at, form_at, is_nothing, too_nested, read_spec}
-use Rattle.fx_spec_parse.proofs.Machine.{Sym, Spec, Part, Name, Fixed, table, holds, start_stack, start_word, spec_fits, focus_tokens, pair_tokens, comp_tokens}
+use Rattle.fx_spec_parse.specs.Lists.{Read, closed_by, closed, ended_or, added_at, another_at, others_at, rest_at, listed_at}
+use Rattle.fx_spec_parse.specs.Reader.{start_of, ReadSpec, focus_at, pair_at, comp_at, opt_at, pred_at, call_at, form_at, is_nothing, too_nested, read_spec, param_at, def_at, read_def, begins_def, defs_from, defs_at, read_text}
+use Rattle.fx_spec_parse.proofs.Machine.{Kind, Arg, Param, Sym, Text, Def, Spec, First, More, Part, Shaped, Name, Fixed, start_stack, part_top, part_after, top_stack, top_level, first_stack, more_stack, def_stack, text_stack, table, holds, shape_holds, top_expands, top_levels, regroup}
 
-abbrev go : List Sym → List Token → Result (List Token) Stuck
+abbrev pub go : List Sym → List Token → Result (List Token) Stuck
 go stack ts = scan table stack ts
 
 scan_sign : (s : Sign) (stack : List Sym) (ts : List Token) → go (Fixed s ∷ stack) ts ≡ (expect (is_sign s) ts >>= (λ r. go stack r))
@@ -46,6 +44,27 @@ scan_name stack (token.Word w ∷ ts) = from_passed table (is_name w) stack ts (
 scan_name stack (token.Number n ∷ ts) = refl
 scan_name stack (token.Str v ∷ ts) = refl
 scan_name stack (token.Mark m ∷ ts) = refl
+scan_name stack (token.Def ∷ ts) = refl
+
+-- a reading that goes on only where it gives something
+on_ok : {A B C : Type 0} {start : Result C Stuck} (r : Result A Stuck) (go : A → Result C Stuck) (k : A → Result B Stuck) (end : B → Result C Stuck) → start ≡ (r >>= go) → ((a : A) → r ≡ Ok a → go a ≡ (k a >>= end)) → start ≡ ((r >>= k) >>= end)
+on_ok (Ok a) go k end first rest = first ∙ rest a refl
+on_ok (Err e) go k end first rest = first
+
+-- what empties a stack with a symbol on it leaves fewer tokens
+shorter : (s : Sym) (stack : List Sym) (ts rest : List Token) → Empties table (s ∷ stack) ts rest → length rest < length ts
+shorter s stack ts rest o = at o.front o.levels o.runs o.parts
+  where
+    at : (front : List Token) (levels : List ℕ) → Runs table (s ∷ stack) front levels [] → ts ≡ front ++ rest → length rest < length ts
+    at [] levels r e = let no : [] ≡ s ∷ stack = r.1 in absurd cc
+    at (x ∷ front) levels r e =
+        let size : length ts ≡ suc (length front + length rest) = ap length e ∙ ap suc (length-append front rest) in
+        omega (arith, size)
+
+shrinks : {A : Type 0} (s : Sym) (stack : List Sym) (read : Read A) → ((ts : List Token) → go (s ∷ stack) ts ≡ (read ts >>= (λ r. go [] r.1))) → (ts : List Token) (r : A × List Token) → read ts ≡ Ok r → length r.1 < length ts
+shrinks s stack read goes ts r e =
+    let given : go (s ∷ stack) ts ≡ Ok r.1 = goes ts ∙ ap (λ z. z >>= (λ r. go [] r.1)) e in
+    shorter s stack ts r.1 (subst (λ z. Outcome table (s ∷ stack) ts z) given (scan_says table ts (s ∷ stack)))
 
 -- what readers do, the machine does from their starts at a level
 abbrev GoesAs : ℕ → ReadSpec → Type 0
@@ -54,8 +73,108 @@ GoesAs d read = (stack : List Sym) (ts : List Token) → go (Spec d ∷ stack) t
 abbrev ExprGoesAs : ℕ → ReadExpr → Type 0
 ExprGoesAs d read = (stack : List Sym) (ts : List Token) → go (Part (Expr d) ∷ stack) ts ≡ (read ts >>= (λ r. go stack r.1))
 
+abbrev ShapeGoesAs : ℕ → Read ShapeTree → Type 0
+ShapeGoesAs d read = (stack : List Sym) (ts : List Token) → go (Shaped (Shape d) ∷ stack) ts ≡ (read ts >>= (λ r. go stack r.1))
+
 expr_goes : (left d : ℕ) → left ≡ 65 - d → ExprGoesAs d (read_expr left)
 expr_goes left d e stack ts = goes_within inner.table table Part holds (read_expr left) (Expr d) (λ ts. expr_follows left d e [] ts) stack ts
+
+shape_goes : (left d : ℕ) → left ≡ 65 - d → ShapeGoesAs d (read_shape left)
+shape_goes left d e stack ts = goes_within shape.table table Shaped shape_holds (read_shape left) (Shape d) (λ ts. shape_reader.follows left d e [] ts) stack ts
+
+-- parts with commas between them, where it is said of each
+module _ (k : Kind) (d : ℕ) where
+  closes_first : (stack : List Sym) (x : Token) (ts rest : List Token) (b : Bool) → is_sign sign.RightParen x ≡ b → closed_by b ts ≡ Some rest → go (First k d ∷ stack) (x ∷ ts) ≡ go stack rest
+  closes_first stack x ts rest true h e =
+      let same : ts ≡ rest = cc in
+      ap (λ b. scan_from table (first_stack k d b (top_stack k d x)) (ltb 64 (cond b 0 (top_level k d))) (suc (length ts)) (λ more. go (more ++ stack) ts)) h ∙ ap (go stack) same
+  closes_first stack x ts rest false h e = absurd cc
+
+  first_closed : (stack : List Sym) (ts rest : List Token) → closed ts ≡ Some rest → go (First k d ∷ stack) ts ≡ go stack rest
+  first_closed stack [] rest e = absurd cc
+  first_closed stack (x ∷ ts) rest e = closes_first stack x ts rest (is_sign sign.RightParen x) refl e
+
+  not_closed : (stack : List Sym) (ts : List Token) (n : ℕ) (deep : Bool) (o : Option (List Sym)) → scan_from table (first_stack k d false o) deep n (λ more. go (more ++ stack) ts) ≡ scan_from table o deep n (λ more. go (more ++ (part_after k d ++ More k d ∷ stack)) ts)
+  not_closed stack ts n deep None = refl
+  not_closed stack ts n true (Some more) = refl
+  not_closed stack ts n false (Some more) = ap (λ z. go z ts) (regroup more (part_after k d) (More k d) stack)
+
+  top_goes : (below : List Sym) (x : Token) (ts : List Token) → go (part_top k d ∷ below) (x ∷ ts) ≡ scan_from table (top_stack k d x) (ltb 64 (top_level k d)) (suc (length ts)) (λ more. go (more ++ below) ts)
+  top_goes below x ts =
+      ap (λ o. scan_from table o (ltb 64 (table.level (part_top k d) x)) (suc (length ts)) (λ more. go (more ++ below) ts)) (top_expands k d x) ∙ ap (λ n. scan_from table (top_stack k d x) (ltb 64 n) (suc (length ts)) (λ more. go (more ++ below) ts)) (top_levels k d x)
+
+  opens_first : (stack : List Sym) (x : Token) (ts : List Token) (b : Bool) → is_sign sign.RightParen x ≡ b → closed_by b ts ≡ None → go (First k d ∷ stack) (x ∷ ts) ≡ go (part_top k d ∷ (part_after k d ++ More k d ∷ stack)) (x ∷ ts)
+  opens_first stack x ts true h e = absurd cc
+  opens_first stack x ts false h e =
+      ap (λ b. scan_from table (first_stack k d b (top_stack k d x)) (ltb 64 (cond b 0 (top_level k d))) (suc (length ts)) (λ more. go (more ++ stack) ts)) h ∙ not_closed stack ts (suc (length ts)) (ltb 64 (top_level k d)) (top_stack k d x) ∙ sym (top_goes (part_after k d ++ More k d ∷ stack) x ts)
+
+  first_open : (stack : List Sym) (ts : List Token) → closed ts ≡ None → go (First k d ∷ stack) ts ≡ go (part_top k d ∷ (part_after k d ++ More k d ∷ stack)) ts
+  first_open stack [] e = refl
+  first_open stack (x ∷ ts) e = opens_first stack x ts (is_sign sign.RightParen x) refl e
+
+  closes_more : (stack : List Sym) (x : Token) (ts rest : List Token) (b : Bool) → is_sign sign.RightParen x ≡ b → closed_by b ts ≡ Some rest → go (More k d ∷ stack) (x ∷ ts) ≡ go stack rest
+  closes_more stack x ts rest true h e =
+      let same : ts ≡ rest = cc in
+      ap (λ b. scan_from table (more_stack k d b (is_sign sign.Comma x)) false (suc (length ts)) (λ more. go (more ++ stack) ts)) h ∙ ap (go stack) same
+  closes_more stack x ts rest false h e = absurd cc
+
+  more_closed : (stack : List Sym) (ts rest : List Token) → closed ts ≡ Some rest → go (More k d ∷ stack) ts ≡ go stack rest
+  more_closed stack [] rest e = absurd cc
+  more_closed stack (x ∷ ts) rest e = closes_more stack x ts rest (is_sign sign.RightParen x) refl e
+
+  another : (stack : List Sym) (ts : List Token) (n : ℕ) (b : Bool) → scan_from table (more_stack k d false b) false n (λ more. go (more ++ stack) ts) ≡ scan_from table (passed b) false n (λ more. go (more ++ (part_top k d ∷ (part_after k d ++ More k d ∷ stack))) ts)
+  another stack ts n true = ap (λ z. go z ts) (regroup (part_top k d ∷ []) (part_after k d) (More k d) stack)
+  another stack ts n false = refl
+
+  opens_more : (stack : List Sym) (x : Token) (ts : List Token) (b : Bool) → is_sign sign.RightParen x ≡ b → closed_by b ts ≡ None → go (More k d ∷ stack) (x ∷ ts) ≡ go (Fixed sign.Comma ∷ part_top k d ∷ (part_after k d ++ More k d ∷ stack)) (x ∷ ts)
+  opens_more stack x ts true h e = absurd cc
+  opens_more stack x ts false h e =
+      ap (λ b. scan_from table (more_stack k d b (is_sign sign.Comma x)) false (suc (length ts)) (λ more. go (more ++ stack) ts)) h ∙ another stack ts (suc (length ts)) (is_sign sign.Comma x)
+
+  more_open : (stack : List Sym) (ts : List Token) → closed ts ≡ None → go (More k d ∷ stack) ts ≡ go (Fixed sign.Comma ∷ part_top k d ∷ (part_after k d ++ More k d ∷ stack)) ts
+  more_open stack [] e = refl
+  more_open stack (x ∷ ts) e = opens_more stack x ts (is_sign sign.RightParen x) refl e
+
+  module _ {X : Type 0} (part : Read X) (part_as : (stack : List Sym) (ts : List Token) → go (part_top k d ∷ (part_after k d ++ stack)) ts ≡ (part ts >>= (λ r. go stack r.1))) where
+    scan_added : (stack : List Sym) (done : List X) (ts : List Token) → go (part_top k d ∷ (part_after k d ++ stack)) ts ≡ (added_at part done ts >>= (λ c. go stack c.1))
+    unfolding added_at
+    scan_added stack done ts = on (part ts) _ _ _ (part_as stack ts) (λ c. refl)
+
+    scan_another : (stack : List Sym) (done : List X) (ts : List Token) → go (Fixed sign.Comma ∷ part_top k d ∷ (part_after k d ++ stack)) ts ≡ (another_at part done ts >>= (λ c. go stack c.1))
+    unfolding another_at
+    scan_another stack done ts =
+        on (expect (is_sign sign.Comma) ts) _ _ _ (scan_sign sign.Comma _ ts) (λ next. scan_added stack done next)
+
+    another_shrinks : (done : List X) (ts : List Token) (c : List X × List Token) → another_at part done ts ≡ Ok c → length c.1 < length ts
+    another_shrinks done ts c e =
+        shrinks (Fixed sign.Comma) (part_top k d ∷ (part_after k d ++ [])) (another_at part done) (λ ts. scan_another [] done ts) ts c e
+
+    scan_next : (n : ℕ) (stack : List Sym) (done : List X) (ts : List Token) → length ts ≤ suc n → ((c : List X × List Token) → length c.1 ≤ n → go (More k d ∷ stack) c.1 ≡ (others_at part n c.0 c.1 >>= (λ r. go stack r.1))) → (o : Option (List Token)) → closed ts ≡ o → go (More k d ∷ stack) ts ≡ (ended_or o done (another_at part done ts >>= (λ c. others_at part n c.0 c.1)) >>= (λ r. go stack r.1))
+    scan_next n stack done ts few next (Some rest) e = more_closed stack ts rest e
+    scan_next n stack done ts few next None e =
+        more_open stack ts e ∙ on_ok (another_at part done ts) (λ c. go (More k d ∷ stack) c.1) (λ c. others_at part n c.0 c.1) (λ r. go stack r.1) (scan_another (More k d ∷ stack) done ts) (λ c f.
+        let less = another_shrinks done ts c f in
+        next c (omega (arith, less, few)))
+
+    -- further parts, so many tokens of which are enough
+    scan_others : (n : ℕ) (stack : List Sym) (done : List X) (ts : List Token) → length ts ≤ n → go (More k d ∷ stack) ts ≡ (others_at part n done ts >>= (λ r. go stack r.1))
+    unfolding others_at
+    scan_others zero stack done [] few = refl
+    scan_others zero stack done (x ∷ ts) few = absurd (omega (arith, few))
+    scan_others (suc n) stack done ts few = scan_next n stack done ts few (λ c less. scan_others n stack c.0 c.1 less) (closed ts) refl
+
+    scan_rest : (stack : List Sym) (done : List X) (ts : List Token) → go (More k d ∷ stack) ts ≡ (rest_at part done ts >>= (λ r. go stack r.1))
+    unfolding rest_at
+    scan_rest stack done ts = scan_others (length ts) stack done ts (omega arith)
+
+    listed_by : (stack : List Sym) (ts : List Token) (o : Option (List Token)) → closed ts ≡ o → go (First k d ∷ stack) ts ≡ (ended_or o [] (added_at part [] ts >>= (λ c. rest_at part c.0 c.1)) >>= (λ r. go stack r.1))
+    listed_by stack ts (Some rest) e = first_closed stack ts rest e
+    listed_by stack ts None e =
+        first_open stack ts e ∙ on (added_at part [] ts) _ _ _ (scan_added (More k d ∷ stack) [] ts) (λ c. scan_rest stack c.0 c.1)
+
+    pub scan_listed : (stack : List Sym) (ts : List Token) → go (First k d ∷ stack) ts ≡ (listed_at part ts >>= (λ r. go stack r.1))
+    unfolding listed_at
+    scan_listed stack ts = listed_by stack ts (closed ts) refl
 
 module _ (d : ℕ) (expr : ReadExpr) (spec : ReadSpec) (expr_as : ExprGoesAs d expr) (spec_as : GoesAs d spec) where
   scan_focus : (stack : List Sym) (ts : List Token) → go (Part (Expr d) ∷ Fixed sign.ColonColon ∷ Spec d ∷ Fixed sign.RightParen ∷ stack) ts ≡ (focus_at expr spec ts >>= (λ r. go stack r.1))
@@ -100,6 +219,12 @@ module _ (d : ℕ) (expr : ReadExpr) (spec : ReadSpec) (expr_as : ExprGoesAs d e
       on (expr inside) _ _ _ (expr_as _ inside) (λ e.
       on (expect (is_sign sign.RightParen) e.1) _ _ _ (scan_sign sign.RightParen stack e.1) (λ rest. refl)))
 
+  scan_call : (f : List ℕ) (stack : List Sym) (ts : List Token) → go (Fixed sign.LeftParen ∷ First Arg d ∷ stack) ts ≡ (call_at expr f ts >>= (λ r. go stack r.1))
+  unfolding call_at
+  scan_call f stack ts =
+      on (expect (is_sign sign.LeftParen) ts) _ _ _ (scan_sign sign.LeftParen _ ts) (λ inside.
+      on (listed_at expr inside) _ _ _ (scan_listed Arg d expr expr_as stack inside) (λ args. refl))
+
   -- one level
   form_from : (stack : List Sym) (ts : List Token) (n : ℕ) (h : Start) → suc n ≡ d → scan_from table (start_stack n h) false (suc (length ts)) (λ more. go (more ++ stack) ts) ≡ (cond (is_nothing h) (Err (Unexpected (suc (length ts)))) (form_at expr spec h ts) >>= (λ r. go stack r.1))
   unfolding form_at
@@ -111,6 +236,7 @@ module _ (d : ℕ) (expr : ReadExpr) (spec : ReadSpec) (expr_as : ExprGoesAs d e
   form_from stack ts n start.Comp e = ap (λ d. go (Spec d ∷ Fixed sign.Bar ∷ Name ∷ Fixed sign.In ∷ Part (Expr d) ∷ Fixed sign.RightBrace ∷ stack) ts) e ∙ scan_comp stack ts
   form_from stack ts n start.Opt e = ap (λ d. go (Fixed sign.LeftParen ∷ Spec d ∷ Fixed sign.RightParen ∷ stack) ts) e ∙ scan_opt stack ts
   form_from stack ts n start.Pred e = ap (λ d. go (Fixed sign.LeftParen ∷ Part (Expr d) ∷ Fixed sign.RightParen ∷ stack) ts) e ∙ scan_pred stack ts
+  form_from stack ts n (start.Call f) e = ap (λ d. go (Fixed sign.LeftParen ∷ First Arg d ∷ stack) ts) e ∙ scan_call f stack ts
   form_from stack ts n start.Nothing e = refl
 
 -- no level is left
@@ -123,6 +249,7 @@ deep_from d stack x ts start.Pair = refl
 deep_from d stack x ts start.Comp = refl
 deep_from d stack x ts start.Opt = refl
 deep_from d stack x ts start.Pred = refl
+deep_from d stack x ts (start.Call f) = refl
 deep_from d stack x ts start.Nothing = refl
 
 spec_follows : (left d : ℕ) → left ≡ 65 - d → GoesAs d (read_spec left)
@@ -135,136 +262,83 @@ spec_follows (suc n) d e stack (x ∷ ts) =
     let next : n ≡ 65 - suc d = omega (arith, e) in
     ap (λ b. scan_from table (start_stack d (start_of x)) b (suc (length ts)) (λ more. go (more ++ stack) ts)) (le-ltb 64 d (omega (arith, e))) ∙ form_from (suc d) (read_expr n) (read_spec n) (expr_goes n (suc d) next) (spec_follows n (suc d) next) stack ts d (start_of x) refl
 
-level_fits : (bound d : ℕ) (t : SpecTree) → at_most bound (spec_token_levels d t) ≡ true → d ≤ bound
-level_fits bound d SpecTree.file h = leb-true d bound (and_parts _ _ h).0
-level_fits bound d SpecTree.dir h = leb-true d bound (and_parts _ _ h).0
-level_fits bound d SpecTree.link h = leb-true d bound (and_parts _ _ h).0
-level_fits bound d (SpecTree.focus e s) h = leb-true d bound (and_parts _ _ h).0
-level_fits bound d (SpecTree.pair x s t) h = leb-true d bound (and_parts _ _ h).0
-level_fits bound d (SpecTree.comp s x e) h = leb-true d bound (and_parts _ _ h).0
-level_fits bound d (SpecTree.opt s) h = leb-true d bound (and_parts _ _ h).0
-level_fits bound d (SpecTree.pred e) h = leb-true d bound (and_parts _ _ h).0
+-- definitions, and the description behind them
+module _ (d : ℕ) (shape : Read ShapeTree) (shape_as : ShapeGoesAs d shape) where
+  scan_param : (stack : List Sym) (ts : List Token) → go (Name ∷ Fixed sign.Colon ∷ Shaped (Shape d) ∷ stack) ts ≡ (param_at shape ts >>= (λ r. go stack r.1))
+  unfolding param_at
+  scan_param stack ts =
+      on (name_at ts) _ _ _ (scan_name _ ts) (λ x.
+      on (expect (is_sign sign.Colon) x.1) _ _ _ (scan_sign sign.Colon _ x.1) (λ typed.
+      on (shape typed) _ _ _ (shape_as _ typed) (λ s. refl)))
 
--- one level of the reader, at a token that begins a form
-opens : (n : ℕ) (x : Token) (ts : List Token) (h : Start) → start_of x ≡ h → is_nothing h ≡ false → read_spec (suc n) (x ∷ ts) ≡ form_at (read_expr n) (read_spec n) h ts
-unfolding read_spec
-opens n x ts h e some =
-    ap (λ k. cond (is_nothing k) (Err (Unexpected (suc (length ts)))) (form_at (read_expr n) (read_spec n) k ts)) e ∙ ap (λ b. cond b (Err (Unexpected (suc (length ts)))) (form_at (read_expr n) (read_spec n) h ts)) some
+  scan_def : (spec : ReadSpec) (spec_as : GoesAs d spec) (stack : List Sym) (ts : List Token) → go (Name ∷ Fixed sign.LeftParen ∷ First Param d ∷ Fixed sign.Equal ∷ Spec d ∷ stack) ts ≡ (def_at shape spec ts >>= (λ r. go stack r.1))
+  unfolding def_at
+  scan_def spec spec_as stack ts =
+      on (name_at ts) _ _ _ (scan_name _ ts) (λ f.
+      on (expect (is_sign sign.LeftParen) f.1) _ _ _ (scan_sign sign.LeftParen _ f.1) (λ inside.
+      on (listed_at (param_at shape) inside) _ _ _ (scan_listed Param d (param_at shape) scan_param _ inside) (λ ps.
+      on (expect (is_sign sign.Equal) ps.1) _ _ _ (scan_sign sign.Equal _ ps.1) (λ body.
+      on (spec body) _ _ _ (spec_as stack body) (λ s. refl)))))
 
--- what readers read again
-abbrev SpecAgain : ReadSpec → SpecTree → Type 0
-SpecAgain read s = (r : List Token) → read (spec_tokens s ++ r) ≡ Ok (s, r)
+def_deep : (d : ℕ) (stack : List Sym) (ts : List Token) (b : Bool) (n : ℕ) → scan_from table (def_stack d b) true n (λ more. go (more ++ stack) ts) ≡ ((cond b (Ok ts) (Err (Unexpected n)) >>= (λ rest. let r : Result (DefTree × List Token) Stuck = Err (TooNested n) in r)) >>= (λ r. go stack r.1))
+def_deep d stack ts true n = refl
+def_deep d stack ts false n = refl
 
-abbrev ExprAgain : ReadExpr → ExprTree → Type 0
-ExprAgain read e = (r : List Token) → read (expr_tokens e ++ r) ≡ Ok (e, r)
+def_from : (d : ℕ) (shape : Read ShapeTree) (shape_as : ShapeGoesAs (suc d) shape) (spec : ReadSpec) (spec_as : GoesAs (suc d) spec) (stack : List Sym) (ts : List Token) (b : Bool) (n : ℕ) → scan_from table (def_stack d b) false n (λ more. go (more ++ stack) ts) ≡ ((cond b (Ok ts) (Err (Unexpected n)) >>= (λ rest. def_at shape spec rest)) >>= (λ r. go stack r.1))
+def_from d shape shape_as spec spec_as stack ts true n = scan_def (suc d) shape shape_as spec spec_as stack ts
+def_from d shape shape_as spec spec_as stack ts false n = refl
 
-module _ (expr : ReadExpr) (spec : ReadSpec) where
-  again_focus : (e : ExprTree) (s : SpecTree) (rest : List Token) → ExprAgain expr e → SpecAgain spec s → focus_at expr spec ((expr_tokens e ++ (token.Mark mark.ColonColon ∷ (spec_tokens s ++ closing ∷ []))) ++ rest) ≡ Ok (SpecTree.focus e s, rest)
-  unfolding focus_at
-  again_focus e s rest one two =
-      part_then expr (expr_tokens e) (token.Mark mark.ColonColon ∷ (spec_tokens s ++ closing ∷ [])) rest e _ one ∙ part_then spec (spec_tokens s) (closing ∷ []) rest s _ two
+def_follows : (left d : ℕ) → left ≡ 65 - d → (stack : List Sym) (ts : List Token) → go (Def d ∷ stack) ts ≡ (read_def left ts >>= (λ r. go stack r.1))
+unfolding read_def
+def_follows zero d e stack [] = refl
+def_follows zero d e stack (x ∷ ts) =
+    ap (λ b. scan_from table (def_stack d (is_sign sign.Def x)) b (suc (length ts)) (λ more. go (more ++ stack) ts)) (lt-ltb 64 d (omega (arith, e))) ∙ def_deep d stack ts (is_sign sign.Def x) (suc (length ts))
+def_follows (suc n) d e stack [] = refl
+def_follows (suc n) d e stack (x ∷ ts) =
+    let next : n ≡ 65 - suc d = omega (arith, e) in
+    ap (λ b. scan_from table (def_stack d (is_sign sign.Def x)) b (suc (length ts)) (λ more. go (more ++ stack) ts)) (le-ltb 64 d (omega (arith, e))) ∙ def_from d (read_shape n) (shape_goes n (suc d) next) (read_spec n) (spec_follows n (suc d) next) stack ts (is_sign sign.Def x) (suc (length ts))
 
-  again_pair : (x : List ℕ) (s t : SpecTree) (rest : List Token) → is_name x ≡ true → SpecAgain spec s → SpecAgain spec t → pair_at spec (token.Word x ∷ token.Mark mark.Colon ∷ ((spec_tokens s ++ (comma ∷ (spec_tokens t ++ token.Mark mark.RightAngle ∷ []))) ++ rest)) ≡ Ok (SpecTree.pair x s t, rest)
-  unfolding pair_at
-  again_pair x s t rest h one two =
-      name_then x _ _ h ∙ part_then spec (spec_tokens s) (comma ∷ (spec_tokens t ++ token.Mark mark.RightAngle ∷ [])) rest s _ one ∙ part_then spec (spec_tokens t) (token.Mark mark.RightAngle ∷ []) rest t _ two
+-- a text that begins with `def` begins with a definition, and another with a description
+text_defined : (d : ℕ) (stack : List Sym) (ts : List Token) (n : ℕ) (deep : Bool) (root : Option (List Sym)) (b : Bool) → b ≡ true → scan_from table (text_stack d (def_stack d b) root) deep n (λ more. go (more ++ stack) ts) ≡ scan_from table (def_stack d b) deep n (λ more. go (more ++ Text d ∷ stack) ts)
+text_defined d stack ts n true root true e = refl
+text_defined d stack ts n false root true e = refl
+text_defined d stack ts n deep root false e = absurd cc
 
-  again_comp : (s : SpecTree) (x : List ℕ) (e : ExprTree) (rest : List Token) → is_name x ≡ true → SpecAgain spec s → ExprAgain expr e → comp_at expr spec ((spec_tokens s ++ (token.Mark mark.Bar ∷ token.Word x ∷ word keyword.In ∷ (expr_tokens e ++ token.Mark mark.RightBrace ∷ []))) ++ rest) ≡ Ok (SpecTree.comp s x e, rest)
-  unfolding comp_at
-  again_comp s x e rest h one two =
-      part_then spec (spec_tokens s) (token.Mark mark.Bar ∷ token.Word x ∷ word keyword.In ∷ (expr_tokens e ++ token.Mark mark.RightBrace ∷ [])) rest s _ one ∙ name_then x _ _ h ∙ part_then expr (expr_tokens e) (token.Mark mark.RightBrace ∷ []) rest e _ two
+begins_so : (d : ℕ) (stack : List Sym) (ts : List Token) → begins_def ts ≡ true → go (Text d ∷ stack) ts ≡ go (Def d ∷ Text d ∷ stack) ts
+begins_so d stack [] e = absurd cc
+begins_so d stack (x ∷ ts) e = text_defined d stack ts (suc (length ts)) (ltb 64 d) (start_stack d (start_of x)) (is_sign sign.Def x) e
 
-  again_opt : (s : SpecTree) (rest : List Token) → SpecAgain spec s → opt_at spec (opening ∷ ((spec_tokens s ++ closing ∷ []) ++ rest)) ≡ Ok (SpecTree.opt s, rest)
-  unfolding opt_at
-  again_opt s rest one = part_then spec (spec_tokens s) (closing ∷ []) rest s _ one
+begins_not : (d : ℕ) (stack : List Sym) (ts : List Token) → begins_def ts ≡ false → go (Text d ∷ stack) ts ≡ go (Spec d ∷ stack) ts
+begins_not d stack [] e = refl
+begins_not d stack (x ∷ ts) e =
+    ap (λ b. scan_from table (text_stack d (def_stack d b) (start_stack d (start_of x))) (ltb 64 d) (suc (length ts)) (λ more. go (more ++ stack) ts)) e
 
-  again_pred : (e : ExprTree) (rest : List Token) → ExprAgain expr e → pred_at expr (opening ∷ ((expr_tokens e ++ closing ∷ []) ++ rest)) ≡ Ok (SpecTree.pred e, rest)
-  unfolding pred_at
-  again_pred e rest one = part_then expr (expr_tokens e) (closing ∷ []) rest e _ one
+module _ (left d : ℕ) (e : left ≡ 65 - d) where
+  scan_more : (stack : List Sym) (done : List DefTree) (ts : List Token) → go (Def d ∷ stack) ts ≡ (added_at (read_def left) done ts >>= (λ c. go stack c.1))
+  unfolding added_at
+  scan_more stack done ts = on (read_def left ts) _ _ _ (def_follows left d e stack ts) (λ c. refl)
 
-spec_again : (t : SpecTree) (bound left d : ℕ) (rest : List Token) → left ≡ suc bound - d → spec_names t ≡ true → at_most bound (spec_token_levels d t) ≡ true → read_spec left (spec_tokens t ++ rest) ≡ Ok (t, rest)
-unfolding form_at
-spec_again t bound zero d rest e h low = let fits = level_fits bound d t low in absurd (omega (arith, e, fits))
-spec_again SpecTree.file bound (suc n) d rest e h low = opens n (word keyword.File) rest start.File (start_word keyword.File) refl
-spec_again SpecTree.dir bound (suc n) d rest e h low = opens n (word keyword.Dir) rest start.Dir (start_word keyword.Dir) refl
-spec_again SpecTree.link bound (suc n) d rest e h low = opens n (word keyword.Link) rest start.Link (start_word keyword.Link) refl
-spec_again (SpecTree.focus x s) bound (suc n) d rest e h low =
-    let hs = and_parts (has_names x) (spec_names s) h in
-    let ls = spec_token_levels (suc d) s ++ 0 ∷ [] in
-    let inner = tail_low bound d (expr_levels (suc d) x ++ (0 ∷ ls)) low in
-    let behind = tail_low bound 0 ls (rest_low bound (expr_levels (suc d) x) (0 ∷ ls) inner) in
-    let next : n ≡ suc bound - suc d = omega (arith, e) in
-    ap (λ l. read_spec (suc n) (l ++ rest)) (focus_tokens x s) ∙ opens n opening _ start.Focus refl refl ∙ again_focus (read_expr n) (read_spec n) x s rest (λ r. expr_again x bound n (suc d) r next hs.0 (front_low bound (expr_levels (suc d) x) (0 ∷ ls) inner)) (λ r. spec_again s bound n (suc d) r next hs.1 (front_low bound (spec_token_levels (suc d) s) (0 ∷ []) behind))
-spec_again (SpecTree.pair x s t) bound (suc n) d rest e h low =
-    let hs = and_parts (is_name x) _ h in
-    let is = and_parts (spec_names s) (spec_names t) hs.1 in
-    let lt = spec_token_levels (suc d) t ++ 0 ∷ [] in
-    let ls = spec_token_levels (suc d) s ++ (0 ∷ lt) in
-    let inner = tail_low bound 0 ls (tail_low bound 0 (0 ∷ ls) (tail_low bound d (0 ∷ 0 ∷ ls) low)) in
-    let behind = tail_low bound 0 lt (rest_low bound (spec_token_levels (suc d) s) (0 ∷ lt) inner) in
-    let next : n ≡ suc bound - suc d = omega (arith, e) in
-    ap (λ l. read_spec (suc n) (l ++ rest)) (pair_tokens x s t) ∙ opens n (token.Mark mark.LeftAngle) _ start.Pair refl refl ∙ again_pair (read_expr n) (read_spec n) x s t rest hs.0 (λ r. spec_again s bound n (suc d) r next is.0 (front_low bound (spec_token_levels (suc d) s) (0 ∷ lt) inner)) (λ r. spec_again t bound n (suc d) r next is.1 (front_low bound (spec_token_levels (suc d) t) (0 ∷ []) behind))
-spec_again (SpecTree.comp s x y) bound (suc n) d rest e h low =
-    let hs = and_parts (spec_names s) _ h in
-    let is = and_parts (is_name x) (has_names y) hs.1 in
-    let ly = expr_levels (suc d) y ++ 0 ∷ [] in
-    let inner = tail_low bound d (spec_token_levels (suc d) s ++ (0 ∷ 0 ∷ 0 ∷ ly)) low in
-    let behind = tail_low bound 0 ly (tail_low bound 0 (0 ∷ ly) (tail_low bound 0 (0 ∷ 0 ∷ ly) (rest_low bound (spec_token_levels (suc d) s) (0 ∷ 0 ∷ 0 ∷ ly) inner))) in
-    let next : n ≡ suc bound - suc d = omega (arith, e) in
-    ap (λ l. read_spec (suc n) (l ++ rest)) (comp_tokens s x y) ∙ opens n (token.Mark mark.LeftBrace) _ start.Comp refl refl ∙ again_comp (read_expr n) (read_spec n) s x y rest is.0 (λ r. spec_again s bound n (suc d) r next hs.0 (front_low bound (spec_token_levels (suc d) s) (0 ∷ 0 ∷ 0 ∷ ly) inner)) (λ r. expr_again y bound n (suc d) r next is.1 (front_low bound (expr_levels (suc d) y) (0 ∷ []) behind))
-spec_again (SpecTree.opt s) bound (suc n) d rest e h low =
-    let ls = spec_token_levels (suc d) s ++ 0 ∷ [] in
-    let inner = tail_low bound 0 ls (tail_low bound d (0 ∷ ls) low) in
-    let next : n ≡ suc bound - suc d = omega (arith, e) in
-    opens n (word keyword.Opt) _ start.Opt (start_word keyword.Opt) refl ∙ again_opt (read_expr n) (read_spec n) s rest (λ r. spec_again s bound n (suc d) r next h (front_low bound (spec_token_levels (suc d) s) (0 ∷ []) inner))
-spec_again (SpecTree.pred x) bound (suc n) d rest e h low =
-    let lx = expr_levels (suc d) x ++ 0 ∷ [] in
-    let inner = tail_low bound 0 lx (tail_low bound d (0 ∷ lx) low) in
-    let next : n ≡ suc bound - suc d = omega (arith, e) in
-    opens n (word keyword.Pred) _ start.Pred (start_word keyword.Pred) refl ∙ again_pred (read_expr n) (read_spec n) x rest (λ r. expr_again x bound n (suc d) r next h (front_low bound (expr_levels (suc d) x) (0 ∷ []) inner))
+  -- behind the definitions that were read
+  abbrev rooted : List DefTree × List Token → Result (TextTree × List Token) Stuck
+  rooted ds = read_spec left ds.1 >>= (λ s. Ok (record { defs = ds.0; root = s.0 }, s.1))
 
-pub spec_reader : Follows table descriptions Spec read_spec
-spec_reader = record { fits = spec_fits; follows = spec_follows; again = spec_again }
+  scan_root : (stack : List Sym) (done : List DefTree) (ts : List Token) → begins_def ts ≡ false → go (Text d ∷ stack) ts ≡ (rooted (done, ts) >>= (λ r. go stack r.1))
+  scan_root stack done ts other = begins_not d stack ts other ∙ on (read_spec left ts) _ _ _ (spec_follows left d e stack ts) (λ s. refl)
 
--- the reader at each kind of first token
-pub read_end : (left : ℕ) → read_spec left [] ≡ Err (Unexpected 0)
-unfolding read_spec
-read_end zero = refl
-read_end (suc n) = refl
+  scan_text : (n : ℕ) (stack : List Sym) (done : List DefTree) (ts : List Token) → length ts ≤ suc n → ((c : List DefTree × List Token) → length c.1 ≤ n → go (Text d ∷ stack) c.1 ≡ ((defs_from left n c.0 c.1 >>= rooted) >>= (λ r. go stack r.1))) → (b : Bool) → begins_def ts ≡ b → go (Text d ∷ stack) ts ≡ ((cond b (added_at (read_def left) done ts >>= (λ c. defs_from left n c.0 c.1)) (Ok (done, ts)) >>= rooted) >>= (λ r. go stack r.1))
+  scan_text n stack done ts few next false other = scan_root stack done ts other
+  scan_text n stack done ts few next true begun =
+      let added = added_at (read_def left) done ts in
+      begins_so d stack ts begun ∙ on_ok added (λ c. go (Text d ∷ stack) c.1) (λ c. defs_from left n c.0 c.1 >>= rooted) (λ r. go stack r.1) (scan_more (Text d ∷ stack) done ts) (λ c f.
+      let less = shrinks (Def d) [] (added_at (read_def left) done) (λ ts. scan_more [] done ts) ts c f in
+      next c (omega (arith, less, few))) ∙ ap (λ r. r >>= (λ r. go stack r.1)) (sym (then_then added (λ c. defs_from left n c.0 c.1) rooted))
 
-nested_nothing : (h : Start) (ts : List Token) → is_nothing h ≡ true → too_nested h ts ≡ Err (Unexpected (length ts))
-nested_nothing start.Nothing ts e = refl
-nested_nothing _ ts e = absurd cc
+  scan_defs : (n : ℕ) (stack : List Sym) (done : List DefTree) (ts : List Token) → length ts ≤ n → go (Text d ∷ stack) ts ≡ ((defs_from left n done ts >>= rooted) >>= (λ r. go stack r.1))
+  unfolding defs_from
+  scan_defs zero stack done [] few = scan_root stack done [] refl
+  scan_defs zero stack done (x ∷ ts) few = absurd (omega (arith, few))
+  scan_defs (suc n) stack done ts few = scan_text n stack done ts few (λ c less. scan_defs n stack c.0 c.1 less) (begins_def ts) refl
 
-nested_some : (h : Start) (ts : List Token) → is_nothing h ≡ false → too_nested h ts ≡ Err (TooNested (length ts))
-nested_some start.Nothing ts e = absurd cc
-nested_some start.File ts e = refl
-nested_some start.Dir ts e = refl
-nested_some start.Link ts e = refl
-nested_some start.Focus ts e = refl
-nested_some start.Pair ts e = refl
-nested_some start.Comp ts e = refl
-nested_some start.Opt ts e = refl
-nested_some start.Pred ts e = refl
-
-nothing_at : (left : ℕ) (x : Token) (rest : List Token) → is_nothing (start_of x) ≡ true → read_spec left (x ∷ rest) ≡ Err (Unexpected (length (x ∷ rest)))
-unfolding read_spec
-nothing_at zero x rest e = nested_nothing (start_of x) (x ∷ rest) e
-nothing_at (suc n) x rest e = ap (λ b. cond b (Err (Unexpected (length (x ∷ rest)))) (form_at (read_expr n) (read_spec n) (start_of x) rest)) e
-
-deep_at : (x : Token) (rest : List Token) → is_nothing (start_of x) ≡ false → read_spec 0 (x ∷ rest) ≡ Err (TooNested (length (x ∷ rest)))
-unfolding read_spec
-deep_at x rest e = nested_some (start_of x) (x ∷ rest) e
-
-module _ (x : Token) (rest all : List Token) (h : Start) (parts : all ≡ x ∷ rest) (kind : h ≡ start_of x) where
-  pub read_nothing : (left : ℕ) → is_nothing h ≡ true → read_spec left all ≡ Err (Unexpected (length all))
-  read_nothing left e =
-      ap (read_spec left) parts ∙ nothing_at left x rest (ap is_nothing (sym kind) ∙ e) ∙ ap (λ l. Err (Unexpected (length l))) (sym parts)
-
-  pub read_deep : (left : ℕ) → left ≡ 0 → is_nothing h ≡ false → read_spec left all ≡ Err (TooNested (length all))
-  read_deep left is_zero e =
-      ap (λ n. read_spec n all) is_zero ∙ ap (read_spec 0) parts ∙ deep_at x rest (ap is_nothing (sym kind) ∙ e) ∙ ap (λ l. Err (TooNested (length l))) (sym parts)
-
-  pub read_form : (left n : ℕ) → left ≡ suc n → is_nothing h ≡ false → read_spec left all ≡ form_at (read_expr n) (read_spec n) h rest
-  read_form left n more e =
-      ap (λ n. read_spec n all) more ∙ ap (read_spec (suc n)) parts ∙ opens n x rest h (sym kind) e
+pub text_follows : (left d : ℕ) → left ≡ 65 - d → (stack : List Sym) (ts : List Token) → go (Text d ∷ stack) ts ≡ (read_text left ts >>= (λ r. go stack r.1))
+unfolding read_text defs_at
+text_follows left d e stack ts = scan_defs left d e (length ts) stack [] ts (omega arith)

@@ -1,5 +1,6 @@
--- Reading a description from the front of tokens, with so many levels left.
+-- Reading a description and its definitions from the front of tokens, with so many levels left.
 use Rattle.std.specs.Prelude.{ℕ, zero, suc, Bool, true, false, Option, Some, None, Result, Ok, Err, List, [], ◌∷◌, length, if◌then◌else◌}
+use Rattle.fx_expr.specs.ShapeTree.{ShapeTree}
 use Rattle.fx_lex.specs.declared.token.Token.{Token}
 use Rattle.fx_lex.specs.declared.token.Token.TheVariants as token
 use Rattle.fx_lex.specs.declared.token.Mark.{Mark}
@@ -10,10 +11,12 @@ use Rattle.fx_parse.specs.declared.sign.Sign.TheVariants as sign
 use Rattle.fx_parse.specs.Keywords.{keyword_of}
 use Rattle.fx_parse.specs.Stuck.{Stuck, Unexpected, TooNested, ◌>>=◌}
 use Rattle.fx_parse.specs.Reader.{unexpected, expect, ReadExpr, read_expr}
+use Rattle.fx_parse.specs.ShapeReader.{read_shape}
 use Rattle.fx_parse.specs.Signs.{is_sign, name_at}
-use Rattle.fx_spec.specs.SpecTree.{SpecTree}
+use Rattle.fx_spec.specs.Written.{WrittenTree, DefTree, TextTree}
 use Rattle.fx_spec_parse.specs.declared.start.Start.{Start}
 use Rattle.fx_spec_parse.specs.declared.start.Start.TheVariants as start
+use Rattle.fx_spec_parse.specs.Lists.{Read, added_at, listed_at}
 
 abbrev pub keyword_start : Keyword → Start
 keyword_start keyword.File = start.File
@@ -23,9 +26,9 @@ keyword_start keyword.Opt = start.Opt
 keyword_start keyword.Pred = start.Pred
 keyword_start _ = start.Nothing
 
-abbrev pub word_start : Option Keyword → Start
-word_start None = start.Nothing
-word_start (Some k) = keyword_start k
+abbrev pub word_start : List ℕ → Option Keyword → Start
+word_start w None = start.Call w
+word_start w (Some k) = keyword_start k
 
 abbrev pub mark_start : Mark → Start
 mark_start mark.LeftParen = start.Focus
@@ -35,13 +38,14 @@ mark_start _ = start.Nothing
 
 -- what a token begins
 abbrev pub start_of : Token → Start
-start_of (token.Word w) = word_start (keyword_of w)
+start_of (token.Word w) = word_start w (keyword_of w)
 start_of (token.Number n) = start.Nothing
 start_of (token.Str v) = start.Nothing
 start_of (token.Mark m) = mark_start m
+start_of token.Def = start.Nothing
 
 abbrev pub ReadSpec : Type 0
-ReadSpec = List Token → Result (SpecTree × List Token) Stuck
+ReadSpec = Read WrittenTree
 
 -- behind `(`
 unfoldable pub focus_at : ReadExpr → ReadSpec → ReadSpec
@@ -50,7 +54,7 @@ focus_at expr spec ts = do
   below ← expect (is_sign sign.ColonColon) e.1
   s ← spec below
   rest ← expect (is_sign sign.RightParen) s.1
-  Ok (SpecTree.focus e.0 s.0, rest)
+  Ok (WrittenTree.focus e.0 s.0, rest)
 
 -- behind `<`
 unfoldable pub pair_at : ReadSpec → ReadSpec
@@ -61,7 +65,7 @@ pair_at spec ts = do
   second ← expect (is_sign sign.Comma) s.1
   t ← spec second
   rest ← expect (is_sign sign.RightAngle) t.1
-  Ok (SpecTree.pair x.0 s.0 t.0, rest)
+  Ok (WrittenTree.pair x.0 s.0 t.0, rest)
 
 -- behind `{`
 unfoldable pub comp_at : ReadExpr → ReadSpec → ReadSpec
@@ -72,7 +76,7 @@ comp_at expr spec ts = do
   set ← expect (is_sign sign.In) x.1
   e ← expr set
   rest ← expect (is_sign sign.RightBrace) e.1
-  Ok (SpecTree.comp s.0 x.0 e.0, rest)
+  Ok (WrittenTree.comp s.0 x.0 e.0, rest)
 
 -- behind `opt`
 unfoldable pub opt_at : ReadSpec → ReadSpec
@@ -80,7 +84,7 @@ opt_at spec ts = do
   inside ← expect (is_sign sign.LeftParen) ts
   s ← spec inside
   rest ← expect (is_sign sign.RightParen) s.1
-  Ok (SpecTree.opt s.0, rest)
+  Ok (WrittenTree.opt s.0, rest)
 
 -- behind `pred`
 unfoldable pub pred_at : ReadExpr → ReadSpec
@@ -88,18 +92,26 @@ pred_at expr ts = do
   inside ← expect (is_sign sign.LeftParen) ts
   e ← expr inside
   rest ← expect (is_sign sign.RightParen) e.1
-  Ok (SpecTree.pred e.0, rest)
+  Ok (WrittenTree.pred e.0, rest)
+
+-- behind a name: `( args )`
+unfoldable pub call_at : ReadExpr → List ℕ → ReadSpec
+call_at expr f ts = do
+  inside ← expect (is_sign sign.LeftParen) ts
+  args ← listed_at expr inside
+  Ok (WrittenTree.call f args.0, args.1)
 
 -- behind the first token
 unfoldable pub form_at : ReadExpr → ReadSpec → Start → ReadSpec
-form_at expr spec start.File ts = Ok (SpecTree.file, ts)
-form_at expr spec start.Dir ts = Ok (SpecTree.dir, ts)
-form_at expr spec start.Link ts = Ok (SpecTree.link, ts)
+form_at expr spec start.File ts = Ok (WrittenTree.file, ts)
+form_at expr spec start.Dir ts = Ok (WrittenTree.dir, ts)
+form_at expr spec start.Link ts = Ok (WrittenTree.link, ts)
 form_at expr spec start.Focus ts = focus_at expr spec ts
 form_at expr spec start.Pair ts = pair_at spec ts
 form_at expr spec start.Comp ts = comp_at expr spec ts
 form_at expr spec start.Opt ts = opt_at spec ts
 form_at expr spec start.Pred ts = pred_at expr ts
+form_at expr spec (start.Call f) ts = call_at expr f ts
 form_at expr spec start.Nothing ts = unexpected ts
 
 abbrev pub is_nothing : Start → Bool
@@ -107,7 +119,7 @@ is_nothing start.Nothing = true
 is_nothing _ = false
 
 -- a description at a level that is none any more
-abbrev pub too_nested : Start → List Token → Result (SpecTree × List Token) Stuck
+abbrev pub too_nested : Start → List Token → Result (WrittenTree × List Token) Stuck
 too_nested start.Nothing ts = Err (Unexpected (length ts))
 too_nested _ ts = Err (TooNested (length ts))
 
@@ -116,10 +128,57 @@ read_spec left [] = Err (Unexpected 0)
 read_spec zero (x ∷ ts) = too_nested (start_of x) (x ∷ ts)
 read_spec (suc n) (x ∷ ts) = if is_nothing (start_of x) then unexpected (x ∷ ts) else form_at (read_expr n) (read_spec n) (start_of x) ts
 
--- a description and nothing behind it
-abbrev pub ended : SpecTree × List Token → Result SpecTree Stuck
-ended (s, []) = Ok s
-ended (s, x ∷ ts) = unexpected (x ∷ ts)
+-- `NAME : shape`
+unfoldable pub param_at : Read ShapeTree → Read (List ℕ × ShapeTree)
+param_at shape ts = do
+  x ← name_at ts
+  typed ← expect (is_sign sign.Colon) x.1
+  s ← shape typed
+  Ok ((x.0, s.0), s.1)
 
-unfoldable pub read_whole : List Token → Result SpecTree Stuck
-read_whole ts = read_spec 64 ts >>= ended
+-- behind `def`: `NAME ( params ) = spec`
+unfoldable pub def_at : Read ShapeTree → ReadSpec → Read DefTree
+def_at shape spec ts = do
+  f ← name_at ts
+  inside ← expect (is_sign sign.LeftParen) f.1
+  ps ← listed_at (param_at shape) inside
+  body ← expect (is_sign sign.Equal) ps.1
+  s ← spec body
+  Ok (record { name = f.0; params = ps.0; body = s.0 }, s.1)
+
+-- a definition
+unfoldable pub read_def : ℕ → Read DefTree
+read_def zero ts = do
+  rest ← expect (is_sign sign.Def) ts
+  Err (TooNested (length ts))
+read_def (suc n) ts = do
+  rest ← expect (is_sign sign.Def) ts
+  def_at (read_shape n) (read_spec n) rest
+
+abbrev pub begins_def : List Token → Bool
+begins_def [] = false
+begins_def (x ∷ ts) = is_sign sign.Def x
+
+-- the definitions at the front behind those that were read, so many at most
+unfoldable pub defs_from : ℕ → ℕ → List DefTree → Read (List DefTree)
+defs_from left zero done ts = Ok (done, ts)
+defs_from left (suc n) done ts = if begins_def ts then (added_at (read_def left) done ts >>= (λ c. defs_from left n c.0 c.1)) else Ok (done, ts)
+
+-- the definitions at the front: each has a token at least
+unfoldable pub defs_at : ℕ → Read (List DefTree)
+defs_at left ts = defs_from left (length ts) [] ts
+
+-- a description behind its definitions
+unfoldable pub read_text : ℕ → Read TextTree
+read_text left ts = do
+  ds ← defs_at left ts
+  s ← read_spec left ds.1
+  Ok (record { defs = ds.0; root = s.0 }, s.1)
+
+-- a description and nothing behind it
+abbrev pub ended : TextTree × List Token → Result TextTree Stuck
+ended (t, []) = Ok t
+ended (t, x ∷ ts) = unexpected (x ∷ ts)
+
+unfoldable pub read_whole : List Token → Result TextTree Stuck
+read_whole ts = read_text 64 ts >>= ended

@@ -2,11 +2,12 @@ ghost use Rattle.std.specs.Prelude.{◌≡◌, IfOk};
 ghost use Rattle.fx_parse.specs.Reader.{kinds, read_expr};
 ghost use Rattle.fx_parse.specs.Stuck.{Gives};
 ghost use Rattle.fx_spec.specs.Views.{spec_tree};
-ghost use Rattle.fx_spec_parse.specs.Reader.{read_spec, focus_at, pair_at, comp_at, opt_at, pred_at, form_at};
+ghost use Rattle.fx_spec_parse.specs.Reader.{read_spec, focus_at, pair_at, comp_at, opt_at, pred_at, call_at, form_at};
 
-use crate::start::{Start, is_nothing, start_of};
+use crate::args::args_at;
+use crate::start::{Start, is_nothing, let_go, start_of};
 use fx_base::NoMemory;
-use fx_expr::Formula;
+use fx_expr::{Formula, Word};
 use fx_lex::Spanned;
 use fx_parse::{Sign, Stop, behind, expr_at, first_of, name_at};
 use fx_spec::Spec;
@@ -99,6 +100,22 @@ fn pred_at(alloc: Global, left: u32, tokens: &[Spanned]) -> Result<(Spec, &[Span
     Ok((Spec::Pred(Formula::of(test)), rest))
 }
 
+/// What follows a name: `( args )`.
+#[tactic(auto, unfolding(crate::specs::Reader::call_at))]
+fn call_at(
+    alloc: Global,
+    left: u32,
+    name: Word,
+    tokens: &[Spanned],
+) -> Result<(Spec, &[Spanned]), Stop>
+    ensures { Gives (λ x. (spec_tree x.0, kinds x.1.now)) result
+        (call_at (read_expr left) name (kinds tokens.now)) }
+{
+    let rest = behind(tokens, Sign::LeftParen)?;
+    let (args, rest) = args_at(alloc, left, rest)?;
+    Ok((Spec::Call(name, args), rest))
+}
+
 /// What follows the first token of a description.
 #[cycle(spec)]
 #[tactic(auto, unfolding(crate::specs::Reader::form_at))]
@@ -120,6 +137,7 @@ fn form_at(
         Start::Comp => comp_at(alloc, left, tokens),
         Start::Opt => opt_at(alloc, left, tokens),
         Start::Pred => pred_at(alloc, left, tokens),
+        Start::Call(name) => call_at(alloc, left, name, tokens),
         Start::Nothing => Err(Stop::Unexpected(tokens.len())),
     }
 }
@@ -137,11 +155,13 @@ pub(crate) fn spec_at(
     let Some((first, rest)) = first_of(tokens) else {
         return Err(Stop::Unexpected(0));
     };
-    let start = start_of(first);
-    if is_nothing(start) {
+    let start = start_of(alloc, first)?;
+    if is_nothing(&start) {
+        let_go(start);
         return Err(Stop::Unexpected(tokens.len()));
     }
     if left == 0 {
+        let_go(start);
         return Err(Stop::TooNested(tokens.len()));
     }
     form_at(alloc, left - 1, start, rest)

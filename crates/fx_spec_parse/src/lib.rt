@@ -1,8 +1,12 @@
-//! Descriptions, read from their texts.
+//! Descriptions with their definitions, read from their texts.
 #![tactic(auto)]
 
+mod args;
+mod cursor;
+mod defs;
 mod form;
 mod laws;
+mod params;
 mod start;
 mod text;
 

@@ -1,11 +1,14 @@
-ghost use Rattle.std.specs.Prelude.{◌≡◌};
+ghost use Rattle.std.specs.Prelude.{◌≡◌, IfOk};
 ghost use Rattle.fx_spec_parse.specs.Reader.{keyword_start, mark_start, start_of, is_nothing};
 
+use fx_base::NoMemory;
+use fx_expr::Word;
 use fx_lex::{Mark, Token};
 use fx_parse::{Keyword, keyword_of};
+use std::alloc::Global;
 
 /// What the first token of a description begins.
-#[derive(Clone, Copy)]
+#[derive(Drop)]
 pub(crate) enum Start {
     File,
     Dir,
@@ -15,6 +18,7 @@ pub(crate) enum Start {
     Comp,
     Opt,
     Pred,
+    Call(Word),
     Nothing,
 }
 
@@ -42,22 +46,26 @@ fn mark_start(mark: Mark) -> Start
     }
 }
 
-pub(crate) fn start_of(token: &Token) -> Start
-    ensures { result ≡ start_of token.now }
+/// What a token begins; a name is copied.
+pub(crate) fn start_of(alloc: Global, token: &Token) -> Result<Start, NoMemory>
+    ensures { IfOk result (λ start. start ≡ start_of token.now) }
 {
     match token {
         Token::Word(word) => match keyword_of(word.as_slice()) {
-            Some(keyword) => keyword_start(keyword),
-            None => Start::Nothing,
+            Some(keyword) => Ok(keyword_start(keyword)),
+            None => Ok(Start::Call(word.copy(alloc)?)),
         },
-        Token::Mark(mark) => mark_start(*mark),
-        Token::Number(_) => Start::Nothing,
-        Token::Str(_) => Start::Nothing,
+        Token::Mark(mark) => Ok(mark_start(*mark)),
+        Token::Number(_) => Ok(Start::Nothing),
+        Token::Str(_) => Ok(Start::Nothing),
+        Token::Def => Ok(Start::Nothing),
     }
 }
 
-pub(crate) fn is_nothing(start: Start) -> bool
-    ensures { result ≡ is_nothing start }
+pub(crate) fn is_nothing(start: &Start) -> bool
+    ensures { result ≡ is_nothing start.now }
 {
     matches!(start, Start::Nothing)
 }
+
+pub(crate) fn let_go(_start: Start) {}

@@ -165,11 +165,17 @@ fn tell_at(
     out: &mut String,
 ) -> Result<(), NoMemory> {
     let (kind, position) = seen(alloc, board, path)?;
-    writeln!(out, "> {text} is {kind} at {position}")?;
+    match board.last_change(path) {
+        Some(entry) => writeln!(
+            out,
+            "> {text} is {kind} at {position}, changed by entry {entry}"
+        )?,
+        None => writeln!(out, "> {text} is {kind} at {position}, not changed")?,
+    }
     Ok(())
 }
 
-/// Tells what stands at a path, and the position of the look.
+/// Tells what stands at a path, the position of the look, and the last entry that changed it.
 fn tell_look(alloc: Global, board: &Board, text: &str, out: &mut String) -> Result<(), NoMemory> {
     let bytes = unescaped(alloc, text)?;
     match Path::read(alloc, &bytes) {
@@ -213,8 +219,8 @@ fn tell_from(
     tell_world(alloc, &mut world, turns, paths, out)
 }
 
-/// Tells the events of the turns between commas, and then the log, with what stands at the paths between commas: a line is
-/// turns, paths and scripts.
+/// Tells the events of the turns between commas, and then the log, with what stands at the paths between commas and which
+/// entries were the last to change it: a line is turns, paths and scripts.
 pub fn tell_steps<P: Program>(
     program: &P,
     alloc: Global,

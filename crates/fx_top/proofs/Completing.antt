@@ -18,8 +18,10 @@ use Rattle.fx_recover_command.proofs.Ending as recovering
 use Rattle.fx_run_command.proofs.Completing.{run_completes}
 use Rattle.fx_run_command.proofs.Ending.{no_memory}
 use Rattle.fx_show.proofs.Completing.{show_completes}
+use Rattle.fx_views_command.proofs.Completing.{views_completes}
+use Rattle.fx_views_command.proofs.Ending as viewing
 use Rattle.fx_top.specs.Rows.{AsksFitPaths, Row, LeavesDisk, KeepsOrder, IsProper, HasDiskFault, Completes}
-use Rattle.fx_words.specs.Job.{Job, Run, Show, Gen, Large, Audit, Journal, Recover}
+use Rattle.fx_words.specs.Job.{Job, Run, Show, Gen, Large, Audit, Journal, Recover, Views}
 
 abbrev Ends : Status → Type 0
 Ends st = (st ≡ status.Done) ⊎ (st ≡ status.NoMemory)
@@ -32,6 +34,7 @@ told (Large j) t host host' sink sink' disk disk' st is proper none quiet calm r
 told (Audit j) t host host' sink sink' disk disk' st is proper none quiet calm row = audit_completes j t host host' sink sink' st is proper none quiet row
 told (Journal j) t host host' sink sink' disk disk' st is proper none quiet calm row = journal_completes j t host host' sink sink' disk disk' st is proper none quiet calm row
 told (Recover j) t host host' sink sink' disk disk' st is proper none quiet calm row = recover_completes j t host host' sink sink' disk disk' is proper none quiet calm st row
+told (Views j) t host host' sink sink' disk disk' st is proper none quiet calm row = views_completes j t host host' sink sink' st is proper none quiet row
 
 pub completes : (j : Job) (host host' : HostView) (sink sink' : SinkView) (disk disk' : DiskView) (st : Status) → Row j host host' sink sink' disk disk' st → Completes j host host' sink sink' disk disk' st
 completes j host host' sink sink' disk disk' st row = by host.told refl
@@ -49,6 +52,7 @@ not_usage (Large j) host host' sink sink' disk disk' row = row
 not_usage (Audit j) host host' sink sink' disk disk' row = row
 not_usage (Journal j) host host' sink sink' disk disk' row = row
 not_usage (Recover j) host host' sink sink' disk disk' row = row.1
+not_usage (Views j) host host' sink sink' disk disk' row = row
 
 pub row_usage : (j : Job) (host host' : HostView) (sink sink' : SinkView) (disk disk' : DiskView) (st : Status) → Row j host host' sink sink' disk disk' st → st ≡ status.Usage → ⊥
 row_usage j host host' sink sink' disk disk' st row is = not_usage j host host' sink sink' disk disk' (subst (λ st. Row j host host' sink sink' disk disk' st) is row)
@@ -66,6 +70,7 @@ unread_row (Large j) host sink disk = making_no_memory (large_making j.number j.
 unread_row (Audit j) host sink disk = same host host sink (still host)
 unread_row (Journal j) host sink disk = journal_no_memory j host sink disk
 unread_row (Recover j) host sink disk = (refl, recovering.no_memory j host host (still host) sink disk disk)
+unread_row (Views j) host sink disk = viewing.no_memory j host host (still host) sink
 
 pub unread_fit : (j : Job) (host : HostView) → AsksFitPaths j host host
 unread_fit (Run j) host = λ fit. refl
@@ -75,6 +80,7 @@ unread_fit (Large j) host = λ fit. refl
 unread_fit (Audit j) host = λ fit. refl
 unread_fit (Journal j) host = λ fit. refl
 unread_fit (Recover j) host = λ fit. refl
+unread_fit (Views j) host = λ fit. refl
 
 pub unread_disk : (j : Job) (disk : DiskView) → LeavesDisk j disk disk
 unread_disk (Run j) disk = refl
@@ -84,6 +90,7 @@ unread_disk (Large j) disk = refl
 unread_disk (Audit j) disk = refl
 unread_disk (Journal j) disk = tt
 unread_disk (Recover j) disk = tt
+unread_disk (Views j) disk = refl
 
 pub unread_order : (j : Job) (host : HostView) (sink : SinkView) (disk : DiskView) → KeepsOrder j host sink sink disk disk
 unread_order (Run j) host sink disk = tt
@@ -93,6 +100,7 @@ unread_order (Large j) host sink disk = tt
 unread_order (Audit j) host sink disk = tt
 unread_order (Journal j) host sink disk = journal_not_begun j host sink disk
 unread_order (Recover j) host sink disk = tt
+unread_order (Views j) host sink disk = tt
 
 pub unread_completes : (j : Job) (host : HostView) (sink : SinkView) (disk : DiskView) → Completes j host host sink sink disk disk status.NoMemory
 unread_completes j host sink disk = if_some_map (λ _. Unit {0}) _ host.told (λ t _ proper none quiet calm. inr refl) (some_unit host.told)

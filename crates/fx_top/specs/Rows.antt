@@ -4,7 +4,7 @@ use Rattle.fx_base.specs.Causes.{Rose}
 use Rattle.fx_outside.specs.Host.{HostView, AsksFit}
 use Rattle.fx_outside.specs.Sink.{SinkView}
 use Rattle.fx_outside.specs.Tree.{Tree}
-use Rattle.fx_words.specs.Job.{Job, Run, Show, Gen, Large, Audit, Journal, Recover}
+use Rattle.fx_words.specs.Job.{Job, Run, Show, Gen, Large, Audit, Journal, Recover, Views}
 use Rattle.fx_audit_command.specs.Rows.{AuditRow, AuditAsksFit, IsProperAudit}
 use Rattle.fx_command.specs.declared.status.Status.{Status}
 use Rattle.fx_command.specs.declared.status.Status.TheVariants as status
@@ -18,6 +18,7 @@ use Rattle.fx_recover_command.specs.Rows.{RecoverRow, RecoverAsksFit, IsProperRe
 use Rattle.fx_run_command.specs.Rows.{RunRow, RunAsksFit, IsProperRun}
 use Rattle.fx_show.specs.Rows.{ShowRow, ShowAsksFit}
 use Rattle.fx_show.specs.Shows.{IsProperShow}
+use Rattle.fx_views_command.specs.Rows.{ViewsRow, ViewsAskFit, IsProperViews}
 
 -- the table, by the command
 abbrev pub Row : Job → HostView → HostView → SinkView → SinkView → DiskView → DiskView → Status → Type 0
@@ -28,6 +29,7 @@ Row (Large j) host host' sink sink' disk disk' st = MakingRow (large_making j.nu
 Row (Audit j) host host' sink sink' disk disk' st = AuditRow j host host' sink sink' st
 Row (Journal j) host host' sink sink' disk disk' st = JournalRow j host host' sink sink' disk disk' st
 Row (Recover j) host host' sink sink' disk disk' st = RecoverRow j host host' sink sink' disk disk' st
+Row (Views j) host host' sink sink' disk disk' st = ViewsRow j host host' sink sink' st
 
 -- a command that neither keeps nor reads a journal leaves the disk as it was
 abbrev pub LeavesDisk : Job → DiskView → DiskView → Type 0
@@ -38,6 +40,7 @@ LeavesDisk (Large j) disk disk' = disk' ≡ disk
 LeavesDisk (Audit j) disk disk' = disk' ≡ disk
 LeavesDisk (Journal j) disk disk' = Unit {0}
 LeavesDisk (Recover j) disk disk' = Unit {0}
+LeavesDisk (Views j) disk disk' = disk' ≡ disk
 
 -- a command that keeps a journal leaves on the disk the order of what it wrote, however it ends
 abbrev pub KeepsOrder : Job → HostView → SinkView → SinkView → DiskView → DiskView → Type 0
@@ -48,6 +51,7 @@ KeepsOrder (Large j) host sink sink' disk disk' = Unit {0}
 KeepsOrder (Audit j) host sink sink' disk disk' = Unit {0}
 KeepsOrder (Journal j) host sink sink' disk disk' = KeepsJournal j host sink sink' disk disk'
 KeepsOrder (Recover j) host sink sink' disk disk' = Unit {0}
+KeepsOrder (Views j) host sink sink' disk disk' = Unit {0}
 
 -- where the paths of a command are fit, no call is made at an unfit path
 abbrev pub AsksFitPaths : Job → HostView → HostView → Type 0
@@ -58,6 +62,7 @@ AsksFitPaths (Large j) host host' = AsksFit j.out host host'
 AsksFitPaths (Audit j) host host' = AuditAsksFit j host host'
 AsksFitPaths (Journal j) host host' = JournalAsksFit j host host'
 AsksFitPaths (Recover j) host host' = RecoverAsksFit j host host'
+AsksFitPaths (Views j) host host' = ViewsAskFit j host host'
 
 -- a host, and a disk where the command asks it, at which nothing keeps the command from being done
 abbrev pub IsProper : Tree → DiskView → Job → Type 0
@@ -68,6 +73,7 @@ IsProper t disk (Large j) = IsProperOut t j.out
 IsProper t disk (Audit j) = IsProperAudit t j
 IsProper t disk (Journal j) = IsProperJournal t disk j
 IsProper t disk (Recover j) = IsProperRecover t j disk
+IsProper t disk (Views j) = IsProperViews t j
 
 -- the disk failed while the command asked it
 abbrev pub HasDiskFault : Job → DiskView → DiskView → Type 0
@@ -78,6 +84,7 @@ HasDiskFault (Large j) disk disk' = ⊥
 HasDiskFault (Audit j) disk disk' = ⊥
 HasDiskFault (Journal j) disk disk' = Rose disk.faults disk'.faults
 HasDiskFault (Recover j) disk disk' = Rose disk.faults disk'.faults
+HasDiskFault (Views j) disk disk' = ⊥
 
 -- with fit inputs and no fault of the host, the sink or the disk all is done, or memory runs out
 abbrev pub Completes : Job → HostView → HostView → SinkView → SinkView → DiskView → DiskView → Status → Type 0

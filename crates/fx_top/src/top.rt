@@ -16,6 +16,7 @@ use fx_outside::{Gate, Host, Sink, Words};
 use fx_recover_command::recover;
 use fx_run_command::run;
 use fx_show::show;
+use fx_views_command::views;
 use fx_words::{Job, WordsFault, job_of};
 use std::alloc::Global;
 use std::sync::Wait;
@@ -47,6 +48,7 @@ fn run_job<R: Threads + Wait + Sync, H: Host, S: Sink, G: Gate + Sync, D: Disk>(
         Job::Audit(job) => audit(alloc, job, host, out),
         Job::Journal(job) => journal(alloc, job, host, out, disk),
         Job::Recover(job) => recover(alloc, job, host, out, disk),
+        Job::Views(job) => views(rt, alloc, job, host, out, gate),
     }
 }
 

@@ -63,6 +63,9 @@ impl Overlay {
         ensures change { option_copied result ≡ own_at self.now path.now }
         ensures own { IsOwn self.now }
     {
+        if self.table.is_empty() {
+            return None;
+        }
         self.table.get(path)
     }
 

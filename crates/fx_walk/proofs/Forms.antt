@@ -1,16 +1,18 @@
 -- The value of each form, by the calls for its parts.
-use Rattle.std.proofs.Common.{◌≡◌, ℕ, ◌+◌, Bool, true, false, List, Option, Some, None, Result, Ok, Err, refl, sym, ap, ◌∙◌, subst}
-use Rattle.std.specs.Prelude.{IsErrAnd}
+use Rattle.std.proofs.Common.{◌≡◌, ℕ, zero, suc, ◌+◌, ◌≤◌, Bool, true, false, List, Option, Some, None, Result, Ok, Err, refl, sym, ap, ◌∙◌, subst, arith}
+use Rattle.std.specs.Prelude.{IsErrAnd, IfOk, IfErr}
 use Rattle.std.specs.Option.{option_map}
 use Rattle.fx_store.specs.Rule.{Known, Ask, Answer, Tick, ◌>>=◌}
 use Rattle.fx_expr.specs.Bindings.{bind}
 use Rattle.fx_expr.specs.Eval.{Outcome, eval_of}
 use Rattle.fx_expr.specs.ExprTree.{ExprTree}
+use Rattle.fx_expr.specs.ShapeTree.{ShapeTree}
+use Rattle.fx_expr.specs.declared.fault.ExprFault.{ExprFault}
 use Rattle.fx_expr.specs.Tree.{Tree}
 use Rattle.fx_expr.specs.Views.{tree_of}
 use Rattle.fx_expr.specs.declared.value.Value.{Value}
 use Rattle.fx_spec.specs.declared.refusal.Refusal.{Refusal}
-use Rattle.fx_spec.specs.Describe.{Bindings, with_some, file_value, dir_value, link_value, content, exists, focus_path, at_focus, rows, table, option, truth, value}
+use Rattle.fx_spec.specs.Describe.{Bindings, with_some, file_value, dir_value, link_value, content, exists, focus_path, at_focus, rows, table, option, truth, arguments, argument_evals, behind, is_true, at_body, value}
 use Rattle.fx_spec.specs.SpecTree.{SpecTree}
 use Rattle.fx_view.specs.declared.reader.Stop.{Stop}
 use Rattle.fx_view.specs.declared.reader.Stop.TheVariants as stop
@@ -19,6 +21,7 @@ use Rattle.fx_view.specs.Meaning.{Meaning}
 use Rattle.fx_view.proofs.Calls.{follows_answer, follows_refused, follows_tick, follows_then, follows_stop, follows_then_answer, follows_then_refused}
 use Rattle.fx_base.proofs.Errors.{err_of}
 use Rattle.fx_rules.proofs.Passing.{stop_passes, no_memory_passes}
+use Rattle.fx_walk.specs.Arguments.{with_each, inner_names}
 use Rattle.fx_walk.specs.Given.{path_given, set_given, mapped, Pairs}
 use Rattle.fx_walk.proofs.Rows.{FollowsValue, table_rule}
 
@@ -39,6 +42,16 @@ table_is part (Err f) ts e = absurd (cc)
 table_has_none : (part : List ℕ → Ask (Option Tree)) (o : Outcome) → None ≡ set_given o → table part o ≡ Answer None
 table_has_none part (Ok v) e = absurd (cc)
 table_has_none part (Err f) e = refl
+
+-- ---- what the arguments of a call gave
+
+body_is : (params : List (List ℕ × ShapeTree)) (body : Bindings → Ask (Option Tree)) (vs : Result (List Tree) ExprFault) (names : Bindings) → with_each params vs ≡ Ok names → at_body params body vs ≡ mapped is_true (body names)
+body_is params body (Ok vs) names e = let same : _ ≡ names = cc in ap (λ names. mapped is_true (body names)) same
+body_is params body (Err f) names e = absurd (cc)
+
+body_has_none : (params : List (List ℕ × ShapeTree)) (body : Bindings → Ask (Option Tree)) (vs : Result (List Tree) ExprFault) (f : ExprFault) → with_each params vs ≡ Err f → at_body params body vs ≡ Answer None
+body_has_none params body (Ok vs) f e = absurd (cc)
+body_has_none params body (Err g) f e = refl
 
 module _ {R : Type 0} (m : Meaning R) (own : Known) where
   -- ---- memory is refused before anything, and the same spelled in another way
@@ -66,6 +79,11 @@ module _ {R : Type 0} (m : Meaning R) (own : Known) where
     ticked_answer : (v : Option Value) → rule ≡ Answer (option_map tree_of v) → FollowsValue m own (old, n) (old, k) (Tick rule) (Ok v)
     ticked_answer v e =
         ticked (old, k) (Ok v) (subst (λ (rule : Ask (Option Tree)). FollowsValue m own (old, k) (old, k) rule (Ok v)) (sym e) (follows_answer m (option_map tree_of) own (old, k) (option_map tree_of v) v refl))
+
+  -- a rule behind so many evaluations, of which no more were counted
+  behind_follows : (old : R) (new : R × ℕ) (rule : Ask (Option Tree)) (r : Result (Option Value) Stop) (evals n k : ℕ) → k ≤ n + evals → FollowsValue m own (old, k) new rule r → FollowsValue m own (old, n) new (behind evals rule) r
+  behind_follows old new rule r zero n k few h = record { goes = h.goes; most = λ S agrees. omega (arith, few, h.most S agrees) }
+  behind_follows old new rule r (suc evals) n k few h = follows_tick m (option_map tree_of) own old n new (behind evals rule) r (behind_follows old new rule r evals (n + 1) k (omega (arith, few)) h)
 
   module _ (p : List (List ℕ)) (env : Bindings) where
     -- ---- files, directories and links
@@ -121,13 +139,38 @@ module _ {R : Type 0} (m : Meaning R) (own : Known) where
             ticked old n k one (table (λ t. value p (bind env x (Tree.str t)) s) (eval_of env e)) new r
             (subst (λ (rule : Ask (Option Tree)). FollowsValue m own (old, k) new rule r) (sym (table_is (λ t. value p (bind env x (Tree.str t)) s) (eval_of env e) ts is)) h)
 
-      pub pred_refused : (e : ExprTree) (r : Result (Option Value) Stop) → IsErrAnd r (λ d. d ≡ stop.NoMemory) → FollowsValue m own (old, n) (old, k) (value p env (SpecTree.pred e)) r
+      pub pred_follows : (e : ExprTree) (r : Result (Option Value) Stop) → IfOk r (λ v. option_map tree_of v ≡ truth (eval_of env e)) → IfErr r (λ why. why ≡ stop.NoMemory) → FollowsValue m own (old, n) (old, k) (value p env (SpecTree.pred e)) r
       unfolding value
-      pred_refused e r is = ticked_refused old n k one (Answer (truth (eval_of env e))) r is
+      pred_follows e (Ok v) is refused = ticked_answer old n k one (Answer (truth (eval_of env e))) v (ap Answer (sym is))
+      pred_follows e (Err why) is refused = ticked_refused old n k one (Answer (truth (eval_of env e))) (Err why) refused
 
-      pub pred_answers : (e : ExprTree) (v : Option Value) → option_map tree_of v ≡ truth (eval_of env e) → FollowsValue m own (old, n) (old, k) (value p env (SpecTree.pred e)) (Ok v)
+    -- ---- calls
+
+    module _ (args : List ExprTree) (params : List (List ℕ × ShapeTree)) where
+      module _ (s : SpecTree) (old : R) (n k : ℕ) (few : k ≤ n + argument_evals env args) where
+        abbrev body : Ask (Option Tree)
+        body = at_body params (λ inner. value p inner s) (arguments env args)
+
+        call_of_body : (new : R × ℕ) (r : Result (Option Value) Stop) → FollowsValue m own (old, k) new body r → FollowsValue m own (old, n) new (value p env (SpecTree.call args params s)) r
+        unfolding value
+        call_of_body new r h = behind_follows old new body r (argument_evals env args) n k few h
+
+        pub call_refused : FollowsValue m own (old, n) (old, k) (value p env (SpecTree.call args params s)) (Err stop.NoMemory)
+        call_refused = call_of_body (old, k) (Err stop.NoMemory) (follows_refused m (option_map tree_of) own (old, k) body)
+
+        pub call_none : (f : ExprFault) → inner_names env params args ≡ Err f → FollowsValue m own (old, n) (old, k) (value p env (SpecTree.call args params s)) (Ok None)
+        call_none f is =
+            call_of_body (old, k) (Ok None)
+            (subst (λ (rule : Ask (Option Tree)). FollowsValue m own (old, k) (old, k) rule (Ok None)) (sym (body_has_none params (λ inner. value p inner s) (arguments env args) f is)) (follows_answer m (option_map tree_of) own (old, k) None None refl))
+
+        pub call_follows : (names : Bindings) (new : R × ℕ) (r : Result (Option Value) Stop) → inner_names env params args ≡ Ok names → FollowsValue m own (old, k) new (mapped is_true (value p names s)) r → FollowsValue m own (old, n) new (value p env (SpecTree.call args params s)) r
+        call_follows names new r is h =
+            call_of_body new r
+            (subst (λ (rule : Ask (Option Tree)). FollowsValue m own (old, k) new rule r) (sym (body_is params (λ inner. value p inner s) (arguments env args) names is)) h)
+
+      pub last_none : (old : R × ℕ) → FollowsValue m own old old (value p env (SpecTree.last args params)) (Ok None)
       unfolding value
-      pred_answers e v is = ticked_answer old n k one (Answer (truth (eval_of env e))) v (ap Answer (sym is))
+      last_none old = follows_answer m (option_map tree_of) own old None None refl
 
     -- ---- pairs
 

@@ -21,7 +21,9 @@ use Rattle.fx_view.specs.Follows.{Follows}
 use Rattle.fx_view.specs.Meaning.{Meaning}
 use Rattle.fx_view.specs.Reads.{known_of}
 use Rattle.fx_view.proofs.Rules.{found_answer}
+use Rattle.fx_walk.specs.Arguments.{HaveShapes, inner_names}
 use Rattle.fx_walk.specs.Scopes.{HasScope, HasTextScope}
+use Rattle.fx_walk.proofs.ArgumentsLemmas.{names_have}
 
 -- one name more, with a value of its shape
 bind_has : (env : Bindings) (g : Scope) (x : List ℕ) (v : Tree) (s : ShapeTree) → BindingsHave env g → ValueHas v s → BindingsHave (bind env x v) (bind g x s)
@@ -55,6 +57,17 @@ module _ (env : Bindings) where
 
   pub pred_test : (e : ExprTree) → HasScope env (SpecTree.pred e) → IsWellShaped env e
   pred_test e h = record { shapes = h.scope; shape = ShapeTree.bool; bindings = h.described.bindings; expression = h.described.shapes }
+
+  module _ (args : List ExprTree) (params : List (List ℕ × ShapeTree)) where
+    pub call_arguments : (s : SpecTree) → HasScope env (SpecTree.call args params s) → HaveShapes env params args
+    call_arguments s h = record { scope = h.scope; bindings = h.described.bindings; arguments = h.described.shapes.0 }
+
+    pub last_arguments : HasScope env (SpecTree.last args params) → HaveShapes env params args
+    last_arguments h = record { scope = h.scope; bindings = h.described.bindings; arguments = h.described.shapes }
+
+    -- in the body the parameters alone are bound
+    pub call_body : (s : SpecTree) (names : Bindings) → HasScope env (SpecTree.call args params s) → inner_names env params args ≡ Ok names → HasScope names s
+    call_body s names h is = of_scope params names s h.described.shapes.1 (names_have env params args (call_arguments s h) names is)
 
   -- the first part's value has its shape, since the answer that was found is the rule's at a filestore
   pub pair_second : {R : Type 0} (m : Meaning R) (own : Known) (old new : R × ℕ) (p : List (List ℕ)) (x : List ℕ) (a b : SpecTree) (v : Value) → HasScope env (SpecTree.pair x a b)

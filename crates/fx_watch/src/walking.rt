@@ -61,10 +61,13 @@ pub(crate) fn walk<L: Ledger>(
     let overlay = Overlay::new(alloc);
     let path = Path::root(alloc);
     let env = Env::new(alloc);
+    let root = spec.root();
     let place = Place {
         path: &path,
         env: &env,
-        spec: spec.spec(),
+        spec: root.spec,
+        defs: root.defs,
+        level: root.level,
     };
     let valid = valid_at(alloc, &mut reader, &overlay, &place, steps)?;
     Ok(Walked {

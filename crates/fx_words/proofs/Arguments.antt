@@ -8,7 +8,7 @@ use Rattle.fx_command_line.specs.declared.form.CommandName.{CommandName}
 use Rattle.fx_command_line.specs.Forms.{command_named, has_form, is_within, least_of, most_of, takes, word_of}
 use Rattle.fx_command_line.proofs.Names.{named_so}
 use Rattle.fx_words.specs.declared.job.Inputs as code_inputs
-use Rattle.fx_words.specs.Job.{Inputs, Mode, RunJob, AuditJob, JournalJob, RecoverJob, ShowJob, GenJob, Plain, Scheduled, are_plain, audit_job, command_job, gen_job, is_count, is_plain, job_of, journal_job, named_job, number_of, recover_job, run_job, schedule_of, scheduled_job, show_job}
+use Rattle.fx_words.specs.Job.{Inputs, Mode, RunJob, AuditJob, JournalJob, RecoverJob, ViewsJob, ShowJob, GenJob, Plain, Scheduled, are_plain, audit_job, command_job, gen_job, is_count, is_count_with_views, is_plain, job_of, journal_job, named_job, number_of, recover_job, run_job, schedule_of, scheduled_job, show_job, views_job}
 use Rattle.fx_words.specs.JobOf.{BeginAt, asked_inputs, has_schedule, scripts_in, shells_read}
 use Rattle.fx_words.proofs.Lists.{drop_there}
 
@@ -33,6 +33,12 @@ five ws a b c d s e f g h k = four ws a b c d e f g h ∙ ap (λ r. a ∷ b ∷ 
 -- the rest is of 1 to 64 scripts
 fits : (k : ℕ) (ws : List Text) → k < length ws → length ws ≤ k + 64 → is_count (length (drop k ws)) ≡ true
 fits k ws some few =
+    let rest : length (drop k ws) ≡ length ws - k = length-drop k ws in
+    grind (arith, nat_tests)
+
+-- or of 1 to 63 scripts
+fits_beside : (k : ℕ) (ws : List Text) → k < length ws → length ws < k + 64 → is_count_with_views (length (drop k ws)) ≡ true
+fits_beside k ws some few =
     let rest : length (drop k ws) ≡ length ws - k = length-drop k ws in
     grind (arith, nat_tests)
 
@@ -67,6 +73,20 @@ recover_is ws i journal out begin e f some few =
     ap recover_job (four ws i.spec.now i.folder.now journal out begin.spec begin.folder e f)
     ∙ ap (λ b. cond b (Some (job (inputs i.spec.now i.folder.now (drop 5 ws) 5))) None) (fits 5 ws some few)
     ∙ ap (λ x. Some (job x)) (inputs_are ws 5 i begin)
+
+pub views_is : (ws : List Text) (i : code_inputs.Inputs) (out views : Text) → BeginAt ws 5 i → slice_get ws 3 ≡ Some out → slice_get ws 4 ≡ Some views → 5 < length ws → length ws < 69 → views_job (drop 1 ws) ≡ Some (record { inputs = asked_inputs i; out = out; views = views })
+views_is ws i out views begin e f some few =
+    let job : Inputs → ViewsJob = λ x. record { inputs = x; out = out; views = views } in
+    ap views_job (four ws i.spec.now i.folder.now out views begin.spec begin.folder e f)
+    ∙ ap (λ b. cond b (Some (job (inputs i.spec.now i.folder.now (drop 5 ws) 5))) None) (fits_beside 5 ws some few)
+    ∙ ap (λ x. Some (job x)) (inputs_are ws 5 i begin)
+
+-- so many scripts leave a place
+pub beside : (ws : List Text) (i : code_inputs.Inputs) → BeginAt ws 5 i → 5 < length ws → length ws < 69 → length (scripts_in i) < 64
+beside ws i begin some few =
+    let rest : length (drop 5 ws) ≡ length ws - 5 = length-drop 5 ws in
+    let same : length (drop 5 ws) ≡ length (scripts_in i) = ap length (scripts_are ws 5 i begin) in
+    omega (arith, rest, same, some, few)
 
 -- ---- with one
 

@@ -6,7 +6,7 @@ use Rattle.fx_command_line.specs.declared.form.CommandName.{CommandName}
 use Rattle.fx_command_line.specs.declared.form.CommandName.TheVariants as command
 use Rattle.fx_command_line.specs.Forms.{command_named, has_form, is_within, takes, word_of}
 use Rattle.fx_command_line.proofs.Names.{command_is}
-use Rattle.fx_words.specs.Job.{Job, Mode, Run, Show, Gen, Large, Audit, Journal, Recover, Scheduled, Watched, are_plain, audit_job, command_job, gen_job, is_count, is_plain, job_of, journal_job, named_job, recover_job, run_job, scheduled_job, show_job}
+use Rattle.fx_words.specs.Job.{Job, Mode, Run, Show, Gen, Large, Audit, Journal, Recover, Views, Scheduled, Watched, are_plain, audit_job, command_job, gen_job, is_count, is_count_with_views, is_plain, job_of, journal_job, named_job, recover_job, run_job, scheduled_job, show_job, views_job}
 
 -- ---- words without a form ask for nothing
 
@@ -60,6 +60,16 @@ recover_none (a ∷ b ∷ []) e = refl
 recover_none (a ∷ b ∷ c ∷ []) e = refl
 recover_none (a ∷ b ∷ c ∷ d ∷ scripts) e = rw (sym (counted 4 (length scripts) (length (a ∷ b ∷ c ∷ d ∷ scripts)) (omega arith)) ∙ e) refl
 
+counted_beside : (n all : ℕ) → all ≡ 4 + n → is_within 5 67 all ≡ is_count_with_views n
+counted_beside n all e = grind (arith, nat_tests)
+
+views_none : (args : List (List ℕ)) → takes command.Views (length args) ≡ false → views_job args ≡ None
+views_none [] e = refl
+views_none (a ∷ []) e = refl
+views_none (a ∷ b ∷ []) e = refl
+views_none (a ∷ b ∷ c ∷ []) e = refl
+views_none (a ∷ b ∷ c ∷ d ∷ scripts) e = rw (sym (counted_beside (length scripts) (length (a ∷ b ∷ c ∷ d ∷ scripts)) (omega arith)) ∙ e) refl
+
 command_none : (name : CommandName) (args : List (List ℕ)) → takes name (length args) ≡ false → command_job name args ≡ None
 command_none command.Run args e = ap (option_map Run) (run_none args e)
 command_none command.Trace args e = ap (option_map Run) (scheduled_none Scheduled args e)
@@ -70,6 +80,7 @@ command_none command.Audit args e = ap (option_map Audit) (audit_none args e)
 command_none command.Watch args e = ap (option_map Run) (scheduled_none Watched args e)
 command_none command.Journal args e = ap (option_map Journal) (journal_none args e)
 command_none command.Recover args e = ap (option_map Recover) (recover_none args e)
+command_none command.Views args e = ap (option_map Views) (views_none args e)
 
 by_none : (o : Option CommandName) (args : List (List ℕ)) → option_map_or (λ name. takes name (length args)) o false ≡ false → option_and_then (λ name. command_job name args) o ≡ None
 by_none None args e = refl
@@ -95,6 +106,7 @@ plain_name command.Audit = refl
 plain_name command.Watch = refl
 plain_name command.Journal = refl
 plain_name command.Recover = refl
+plain_name command.Views = refl
 
 unnamed : (w : List ℕ) → is_plain w ≡ false → command_named w ≡ None
 unnamed w not_plain = at (command_named w) refl

@@ -8,7 +8,7 @@ use Rattle.std.specs.Str.Parse.{digits_value}
 use Rattle.fx_command_line.specs.declared.form.CommandName.{CommandName}
 use Rattle.fx_command_line.specs.declared.form.CommandName.TheVariants as command
 use Rattle.fx_command_line.specs.Forms.{command_named}
-pub use Rattle.fx_command_line.specs.Forms.{is_count, is_plain}
+pub use Rattle.fx_command_line.specs.Forms.{is_count, is_count_with_views, is_plain}
 
 -- a thread for each script, or by a schedule of shells, which says after each commit whether the tree has a value or not
 pub data Mode : Type 0 where
@@ -45,6 +45,12 @@ pub record RecoverJob : Type 0 where
   pub journal : List ℕ
   pub out : List ℕ
 
+-- a run of these on threads while the transactions at `views` look on, and the folder that the run leaves into `out`
+pub record ViewsJob : Type 0 where
+  pub inputs : Inputs
+  pub out : List ℕ
+  pub views : List ℕ
+
 -- whether the folder has a value by the description, and which
 pub record ShowJob : Type 0 where
   pub spec : List ℕ
@@ -64,6 +70,7 @@ pub data Job : Type 0 where
   Audit : AuditJob → Job
   Journal : JournalJob → Job
   Recover : RecoverJob → Job
+  Views : ViewsJob → Job
 
 -- the least number from `k` on, of so many, whose decimal text this is
 abbrev pub numbered : ℕ → ℕ → List ℕ → Option ℕ
@@ -117,6 +124,11 @@ abbrev pub recover_job : List (List ℕ) → Option RecoverJob
 recover_job (spec ∷ folder ∷ journal ∷ out ∷ scripts) = cond (is_count (length scripts)) (Some (record { inputs = record { spec = spec; folder = folder; scripts = scripts; first = 5 }; journal = journal; out = out })) None
 recover_job _ = None
 
+-- SPEC FOLDER OUT VIEWS SCRIPT...
+abbrev pub views_job : List (List ℕ) → Option ViewsJob
+views_job (spec ∷ folder ∷ out ∷ views ∷ scripts) = cond (is_count_with_views (length scripts)) (Some (record { inputs = record { spec = spec; folder = folder; scripts = scripts; first = 5 }; out = out; views = views })) None
+views_job _ = None
+
 abbrev pub show_job : List (List ℕ) → Option ShowJob
 show_job (spec ∷ folder ∷ []) = Some (record { spec = spec; folder = folder })
 show_job _ = None
@@ -144,6 +156,7 @@ command_job command.Audit arguments = option_map Audit (audit_job arguments)
 command_job command.Watch arguments = option_map Run (scheduled_job Watched arguments)
 command_job command.Journal arguments = option_map Journal (journal_job arguments)
 command_job command.Recover arguments = option_map Recover (recover_job arguments)
+command_job command.Views arguments = option_map Views (views_job arguments)
 
 -- the command that a word names, with its arguments
 abbrev pub named_job : List ℕ → List (List ℕ) → Option Job

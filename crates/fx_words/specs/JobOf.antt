@@ -1,5 +1,5 @@
 -- What the program's own commands stand for.
-use Rattle.std.specs.Prelude.{◌≡◌, ℕ, ◌+◌, ◌≤◌, Bool, true, false, List, [], drop, length, Some, is_some, slice_get}
+use Rattle.std.specs.Prelude.{◌≡◌, ℕ, ◌+◌, ◌≤◌, ◌<◌, Bool, true, false, List, [], drop, length, Some, is_some, slice_get}
 use Rattle.std.specs.Option.{option_map_or, unwrap_or}
 use Rattle.fx_base.specs.Limits.{shell_limit}
 use Rattle.fx_words.specs.declared.job.Job as every
@@ -11,9 +11,10 @@ use Rattle.fx_words.specs.declared.job.RunMode.TheVariants as by
 use Rattle.fx_words.specs.declared.job.AuditJob as code_audit
 use Rattle.fx_words.specs.declared.job.JournalJob as code_journal
 use Rattle.fx_words.specs.declared.job.RecoverJob as code_recover
+use Rattle.fx_words.specs.declared.job.ViewsJob as code_views
 use Rattle.fx_words.specs.declared.job.ShowJob as code_show
 use Rattle.fx_words.specs.declared.job.GenJob as code_gen
-use Rattle.fx_words.specs.Job.{Job, Run, Show, Gen, Large, Audit, Journal, Recover, Inputs, RunJob, ShowJob, GenJob, AuditJob, JournalJob, RecoverJob, Mode, Plain, Scheduled, Watched, schedule_of, shells_of}
+use Rattle.fx_words.specs.Job.{Job, Run, Show, Gen, Large, Audit, Journal, Recover, Views, Inputs, RunJob, ShowJob, GenJob, AuditJob, JournalJob, RecoverJob, ViewsJob, Mode, Plain, Scheduled, Watched, schedule_of, shells_of}
 
 abbrev pub scripts_in : code_inputs.Inputs → List (List ℕ)
 scripts_in i = drop i.first i.words.now
@@ -81,6 +82,14 @@ pub record IsJournalJob (j : code_journal.JournalJob) : Type 0 where
 abbrev pub asked_recover : code_recover.RecoverJob → RecoverJob
 asked_recover j = record { inputs = asked_inputs j.inputs; journal = j.journal.now; out = j.out.now }
 
+abbrev pub asked_views : code_views.ViewsJob → ViewsJob
+asked_views j = record { inputs = asked_inputs j.inputs; out = j.out.now; views = j.views.now }
+
+-- its scripts leave a place for the views
+pub record IsViewsJob (j : code_views.ViewsJob) : Type 0 where
+  pub inputs : AreInputs j.inputs
+  pub beside : length (scripts_in j.inputs) < shell_limit
+
 abbrev pub asked_job : every.Job → Job
 asked_job (any.Run j) = Run (asked j)
 asked_job (any.Show j) = Show (asked_show j)
@@ -89,6 +98,7 @@ asked_job (any.Large j) = Large (asked_gen j)
 asked_job (any.Audit j) = Audit (asked_audit j)
 asked_job (any.Journal j) = Journal (asked_journal j)
 asked_job (any.Recover j) = Recover (asked_recover j)
+asked_job (any.Views j) = Views (asked_views j)
 
 abbrev pub IsAnyJob : every.Job → Type 0
 IsAnyJob (any.Run j) = IsJob j
@@ -98,3 +108,4 @@ IsAnyJob (any.Large j) = Unit {0}
 IsAnyJob (any.Audit j) = AreInputs j.inputs
 IsAnyJob (any.Journal j) = IsJournalJob j
 IsAnyJob (any.Recover j) = AreInputs j.inputs
+IsAnyJob (any.Views j) = IsViewsJob j

@@ -3,7 +3,7 @@ ghost use Rattle.fx_base.specs.Limits.{shell_limit};
 ghost use Rattle.fx_command_line.specs.Forms.{least_of, most_of};
 ghost use Rattle.fx_command_line.specs.WordsOf.{texts_of};
 ghost use Rattle.fx_words.specs.Job as job;
-ghost use Rattle.fx_words.specs.JobOf.{asked, asked_audit, asked_gen, asked_inputs, asked_job, asked_journal, asked_recover, asked_show, has_schedule, AreInputs, BeginAt, IsAnyJob, IsJob, IsJournalJob};
+ghost use Rattle.fx_words.specs.JobOf.{asked, asked_audit, asked_gen, asked_inputs, asked_job, asked_journal, asked_recover, asked_show, asked_views, has_schedule, AreInputs, BeginAt, IsAnyJob, IsJob, IsJournalJob, IsViewsJob};
 
 use crate::decimal::number_of;
 use crate::schedule::{is_schedule, read_schedule};
@@ -22,6 +22,7 @@ pub enum Job<'a> {
     Audit(AuditJob<'a>),
     Journal(JournalJob<'a>),
     Recover(RecoverJob<'a>),
+    Views(ViewsJob<'a>),
 }
 
 /// What a run reads: a description, a folder, and scripts, which are the last of the words.
@@ -72,6 +73,14 @@ pub struct RecoverJob<'a> {
     pub inputs: Inputs<'a>,
     pub journal: &'a HostText,
     pub out: &'a HostText,
+}
+
+/// The arguments of `views SPEC FOLDER OUT VIEWS SCRIPT...`.
+#[derive(Clone, Copy)]
+pub struct ViewsJob<'a> {
+    pub inputs: Inputs<'a>,
+    pub out: &'a HostText,
+    pub views: &'a HostText,
 }
 
 /// The arguments of `show SPEC FOLDER`.
@@ -261,6 +270,20 @@ fn recover_job(words: &Words) -> RecoverJob<'_>
     }
 }
 
+/// The arguments of `views`.
+fn views_job(words: &Words) -> ViewsJob<'_>
+    requires some { 5 < length words.now }
+    requires few { length words.now < 5 + shell_limit }
+    ensures asked { job.views_job (drop 1 words.now) ≡ Some (asked_views result) }
+    ensures job { IsViewsJob result }
+{
+    ViewsJob {
+        inputs: inputs_from(words, 5),
+        out: word(words, 3),
+        views: word(words, 4),
+    }
+}
+
 /// The arguments of `show`.
 fn show_job(words: &Words) -> ShowJob<'_>
     requires { length words.now ≡ 3 }
@@ -299,6 +322,7 @@ fn job_in(words: &Words, command: CommandName) -> Option<Job<'_>>
         CommandName::Watch => Some(Job::Run(watch_job(words)?)),
         CommandName::Journal => Some(Job::Journal(journal_job(words)?)),
         CommandName::Recover => Some(Job::Recover(recover_job(words))),
+        CommandName::Views => Some(Job::Views(views_job(words))),
     }
 }
 

@@ -7,5 +7,6 @@ mod schedule;
 
 pub use fx_command_line::WordsFault;
 pub use job::{
-    AuditJob, GenJob, Inputs, Job, JournalJob, RecoverJob, RunJob, RunMode, ShowJob, job_of,
+    AuditJob, GenJob, Inputs, Job, JournalJob, RecoverJob, RunJob, RunMode, ShowJob, ViewsJob,
+    job_of,
 };

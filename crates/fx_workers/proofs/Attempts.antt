@@ -9,7 +9,7 @@ use Rattle.fx_machine.specs.Explained.{IsExplained}
 use Rattle.fx_run.specs.Running.{ReadsFit}
 use Rattle.fx_shared.specs.Passes.{LogView}
 use Rattle.fx_workers.specs.Live.{Vouches}
-use Rattle.fx_workers.specs.Workers.{HasTried}
+use Rattle.fx_workers.specs.Working.{HasTried}
 
 -- no reads fit every transaction
 pub none_fit : (base : BaseTree) (turn : Turn) (reads : ReadList) → reads ≡ [] → ReadsFit base turn reads

@@ -69,9 +69,10 @@ each_below plan P (suc n) all shell h =
     (λ (g : n ≤ shell). let same : n ≡ shell = omega (arith, h, g) in subst (λ k. P k (count_of plan k)) same (All-head (λ (j : ℕ × ℕ). P j.0 j.1) (n, count_of plan n) (counts_below plan n) all)) (cases_lt shell n)
 
 -- all shells are done
-pub is_complete : (base : BaseTree) (v : LogView) (rs : List Retry) (o : List Turn) → HasGathered base v rs → joins v ≡ length base.plan → IsLegal base o → All (λ (j : ℕ × ℕ). next_number o j.0 ≡ j.1) v.joined → IsComplete base o
+pub is_complete : (base : BaseTree) (v : LogView) (rs : List Retry) (o : List Turn) → HasGathered base v rs → length base.plan ≤ joins v → IsLegal base o → All (λ (j : ℕ × ℕ). next_number o j.0 ≡ j.1) v.joined → IsComplete base o
 is_complete base v rs o g all legal counts =
-    completes base o legal (each_below base.plan (λ k n. next_number o k ≡ n) (length base.plan) (subst (All (λ (j : ℕ × ℕ). next_number o j.0 ≡ j.1)) (g.joined ∙ ap (counts_below base.plan) all) counts))
+    let below = each_below base.plan (λ k n. next_number o k ≡ n) (joins v) (subst (All (λ (j : ℕ × ℕ). next_number o j.0 ≡ j.1)) g.joined counts) in
+    completes base o legal (λ shell within. below shell (omega (arith, within, all)))
 
 pub are_ok : (base : BaseTree) (v : LogView) (rs : List Retry) (o : List Turn) → HasGathered base v rs → Begins v.seen o → IsComplete base o → RetriesOk base o (map retry_tree rs)
 are_ok base v rs o g b complete = record {
@@ -80,7 +81,7 @@ are_ok base v rs o g b complete = record {
 }
 
 -- the same of the log that is closed
-module _ (base : BaseTree) (v : LogView) (rs : List Retry) (log : Log) (g : HasGathered base v rs) (all : joins v ≡ length base.plan) (same : v.base ≡ Some log.base) (is : IsLog log) (counts : All (λ (j : ℕ × ℕ). next_number log.order j.0 ≡ j.1) v.joined) where
+module _ (base : BaseTree) (v : LogView) (rs : List Retry) (log : Log) (g : HasGathered base v rs) (all : length base.plan ≤ joins v) (same : v.base ≡ Some log.base) (is : IsLog log) (counts : All (λ (j : ℕ × ℕ). next_number log.order j.0 ≡ j.1) v.joined) where
   is_base : base ≡ log.base
   is_base = same_Some base log.base (sym g.based ∙ same)
 

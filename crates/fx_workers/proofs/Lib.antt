@@ -3,6 +3,6 @@ mod Tries
 mod Steps
 mod Attempts
 pub mod Looks
-mod Gathers
-mod Works
-mod Crosses
+pub mod Gathers
+pub mod Works
+pub mod Crosses

@@ -12,11 +12,10 @@ use Rattle.fx_view.specs.ReadList.{ReadList}
 use Rattle.fx_view.specs.Reads.{read_at}
 use Rattle.fx_spec.specs.Plans.{Turn}
 use Rattle.fx_spec.specs.Order.{BaseTree, state}
-use Rattle.fx_board.specs.Log.{Log}
 use Rattle.fx_turn.specs.declared.kept.Kept.{Ghosts}
 use Rattle.fx_turn.specs.declared.seat.Seat.{Seat}
 use Rattle.fx_turn.specs.Seats.{view}
-use Rattle.fx_shared.specs.declared.shared.Shared.{Shared}
+use Rattle.fx_shared.specs.declared.shares.Shares.{Shares}
 use Rattle.fx_shared.specs.Shared.{IsPassOf, IsReadyPass}
 use Rattle.fx_turn.proofs.Growth.{begins_on}
 use Rattle.fx_shared.specs.Passes.{LogView, HasSeenMore, IsLook}
@@ -105,12 +104,12 @@ based_by None e = absurd (false≢true e)
 is_based : (o : Option BaseTree) (base : BaseTree) → o ≡ Some base → is_some o ≡ true
 is_based o base e = ap (λ o. is_some o) e
 
-module _ {g : Ghosts Log BaseTree Turn} where
-  pub ready_by : (shared : Shared) (pass : Seat Log BaseTree Turn g) (shell : ℕ) → IsPassOf shared pass → (view pass).number ≡ Some shell → (view pass).in_turn ≡ false → is_some (view pass).base ≡ true → IsReadyPass shared pass
-  ready_by shared pass shell turn number idle based = record { turn = turn; numbered = (shell, number); idle = idle; based = based_by (view pass).base based }
+module _ {T : Type 0} {g : Ghosts T BaseTree Turn} where
+  pub ready_by : (shares : Shares T) (pass : Seat T BaseTree Turn g) (shell : ℕ) → IsPassOf shares pass → (view pass).number ≡ Some shell → (view pass).in_turn ≡ false → is_some (view pass).base ≡ true → IsReadyPass shares pass
+  ready_by shares pass shell turn number idle based = record { turn = turn; numbered = (shell, number); idle = idle; based = based_by (view pass).base based }
 
-  pub some_base : (shared : Shared) (pass : Seat Log BaseTree Turn g) → IsReadyPass shared pass → is_some (view pass).base ≡ true
-  some_base shared pass ready = is_based (view pass).base ready.based.0 ready.based.1
+  pub some_base : (shares : Shares T) (pass : Seat T BaseTree Turn g) → IsReadyPass shares pass → is_some (view pass).base ≡ true
+  some_base shares pass ready = is_based (view pass).base ready.based.0 ready.based.1
 
 -- a look is noted, or it is not
 pub stand_noted : {E : Type 0} (v : LogView) (old new : ReadList) (path : Path) (read : Read) (r : Result (Unit {0}) E) → AreTrueOver v old → IsLook v path read → OnOk r (new ≡ old ++ (path, read) ∷ []) → OnErr r (new ≡ old) → AreTrueOver v new

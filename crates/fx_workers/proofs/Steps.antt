@@ -10,19 +10,16 @@ use Rattle.fx_machine.specs.declared.retry.Retry.{Retry}
 use Rattle.fx_machine.specs.Machine.{next_number}
 use Rattle.fx_machine.specs.Tried.{retry_tree}
 use Rattle.fx_board.specs.Board.{IsStaleRead}
-use Rattle.fx_turn.specs.Histories.{Begins, own}
-use Rattle.fx_turn.specs.Seats.{view}
+use Rattle.fx_turn.specs.Histories.{Begins}
 use Rattle.fx_turn.proofs.Growth.{begins_on, begins_more}
-use Rattle.fx_shared.specs.declared.shared.Shared.{Shared}
 use Rattle.fx_shared.specs.Passes.{LogView, HasBase, HasLegal, HasSeenMore, HasSettled}
-use Rattle.fx_shared.specs.Shared.{IsReadyPass}
-use Rattle.fx_shared.proofs.Truths.{begins_short, count_own}
+use Rattle.fx_shared.proofs.Truths.{begins_short}
 use Rattle.fx_workers.specs.declared.attempting.Outcome.TheVariants.{Settled, Conflict}
 use Rattle.fx_workers.specs.declared.worker.Worker.{Worker}
 use Rattle.fx_workers.specs.Tried.{IsTried, AreTried}
-use Rattle.fx_workers.specs.Workers.{HasTried, ComesTo, IsWorker, HasEntry, HasRetry, HasGone}
+use Rattle.fx_workers.specs.Working.{HasTried, ComesTo, IsWorker, HasEntry, HasRetry, HasGone}
 use Rattle.fx_workers.proofs.Orders.{none_new, below_next, legal_fits, entry_at}
-use Rattle.fx_workers.proofs.Tries.{all_later, tried_more}
+use Rattle.fx_workers.proofs.Tries.{all_later, tried_none, tried_more}
 use Rattle.fx_workers.proofs.Looks.{see_on}
 
 -- what a step comes to, in views alone: the pass at the start, and in the end
@@ -102,32 +99,37 @@ module _ (base : BaseTree) (shell txn : ℕ) (start now new : LogView) (a : Atte
 
 -- ---- the same of workers
 
-counted : (v : LogView) (shell : ℕ) → own (λ (turn : Turn). turn.0) v.number v.seen ≡ v.mine → v.number ≡ Some shell → next_number v.seen shell ≡ v.mine
-counted v shell mine number = sym (count_own shell v.seen) ∙ (ap (λ n. own (λ (turn : Turn). turn.0) n v.seen) (sym number) ∙ mine)
+module _ {D : Type 0} (view : D → LogView) where
+  pub begun : (base : BaseTree) (shell : ℕ) (w : Worker D) → (view w.desk).number ≡ Some shell → (view w.desk).base ≡ Some base → (view w.desk).mine ≡ 0 → w.next ≡ 0 → w.retries.items ≡ [] → IsWorker view base shell w
+  begun base shell w number based none first empty = record {
+    number = number;
+    based = based;
+    next = first ∙ sym none;
+    tried = subst (λ rs. AreTried base (view w.desk).seen shell w.next (map retry_tree rs)) (sym empty) (tried_none base (view w.desk).seen shell w.next);
+  }
 
-gone_on : (base : BaseTree) (shared : Shared) (shell : ℕ) (old new : Worker) (next : ℕ) (retries : List Retry) → IsReadyPass shared new.pass → IsOn base shell next (view old.pass) (view new.pass) (map retry_tree retries) → new.next ≡ next → new.retries.items ≡ retries → HasEntry old new ⊎ HasRetry old new → HasGone base shared shell old new
-gone_on base shared shell old new next retries ready on is_next are noted = record {
-  worker = record {
-    ready = ready;
-    number = on.number;
-    based = on.based;
-    next = is_next ∙ on.next_is;
-    tried = subst (λ rs. AreTried base (view new.pass).seen shell new.next (map retry_tree rs)) (sym are) (subst (λ n. AreTried base (view new.pass).seen shell n (map retry_tree retries)) (sym is_next) on.tried);
-  };
-  more = on.more;
-  few = on.few;
-  noted = noted;
-}
+  gone_on : (base : BaseTree) (shell : ℕ) (old new : Worker D) (next : ℕ) (retries : List Retry) → IsOn base shell next (view old.desk) (view new.desk) (map retry_tree retries) → new.next ≡ next → new.retries.items ≡ retries → HasEntry old new ⊎ HasRetry old new → HasGone view base shell old new
+  gone_on base shell old new next retries on is_next are noted = record {
+    worker = record {
+      number = on.number;
+      based = on.based;
+      next = is_next ∙ on.next_is;
+      tried = subst (λ rs. AreTried base (view new.desk).seen shell new.next (map retry_tree rs)) (sym are) (subst (λ n. AreTried base (view new.desk).seen shell n (map retry_tree retries)) (sym is_next) on.tried);
+    };
+    more = on.more;
+    few = on.few;
+    noted = noted;
+  }
 
-module _ (base : BaseTree) (shared : Shared) (shell : ℕ) (old new : Worker) (now : LogView) (a : Attempt) (worker : IsWorker base shared shell old) (has : HasTried base shell old.next (view old.pass) now a) (ready : IsReadyPass shared new.pass) (legal : HasLegal (view new.pass)) where
-  pub gone_settled : ComesTo now (view new.pass) a Settled → new.next ≡ old.next + 1 → new.retries.items ≡ old.retries.items → HasGone base shared shell old new
-  gone_settled s next retries =
-      let on = settled_on base shell old.next (view old.pass) now (view new.pass) a old.retries.items worker.number worker.based worker.next worker.tried has legal s.0 s.1 in
-      gone_on base shared shell old new (old.next + 1) old.retries.items ready on next retries (inl (record { next = next; retries = retries }))
+  module _ (base : BaseTree) (shell : ℕ) (old new : Worker D) (now : LogView) (a : Attempt) (worker : IsWorker view base shell old) (has : HasTried base shell old.next (view old.desk) now a) (legal : HasLegal (view new.desk)) where
+    pub gone_settled : ComesTo now (view new.desk) a Settled → new.next ≡ old.next + 1 → new.retries.items ≡ old.retries.items → HasGone view base shell old new
+    gone_settled s next retries =
+        let on = settled_on base shell old.next (view old.desk) now (view new.desk) a old.retries.items worker.number worker.based worker.next worker.tried has legal s.0 s.1 in
+        gone_on base shell old new (old.next + 1) old.retries.items on next retries (inl (record { next = next; retries = retries }))
 
-  pub gone_retried : (entry : ℕ) (path : List (List ℕ)) → old.next < count_of base.plan shell → ComesTo now (view new.pass) a (Conflict entry path) → new.next ≡ old.next → new.retries.items ≡ old.retries.items ++ record { shell = shell; txn = old.next; entry = entry; path = path } ∷ [] → HasGone base shared shell old new
-  gone_retried entry path planned s next retries =
-      let number : (view new.pass).number ≡ Some shell = s.0.number ∙ (has.seen.number ∙ worker.number) in
-      let on = retries_on base shell old.next (view old.pass) now (view new.pass) a old.retries.items worker.number worker.based worker.next worker.tried has legal planned
-      (counted (view old.pass) shell old.pass.mine_is worker.number) (counted (view new.pass) shell new.pass.mine_is number) s.0 entry path s.1 in
-      gone_on base shared shell old new old.next (old.retries.items ++ record { shell = shell; txn = old.next; entry = entry; path = path } ∷ []) ready on next retries (inr (record { next = next; retry = record { shell = shell; txn = old.next; entry = entry; path = path }; retries = retries }))
+    pub gone_retried : ((desk : D) (shell : ℕ) → (view desk).number ≡ Some shell → next_number (view desk).seen shell ≡ (view desk).mine) → (entry : ℕ) (path : List (List ℕ)) → old.next < count_of base.plan shell → ComesTo now (view new.desk) a (Conflict entry path) → new.next ≡ old.next → new.retries.items ≡ old.retries.items ++ record { shell = shell; txn = old.next; entry = entry; path = path } ∷ [] → HasGone view base shell old new
+    gone_retried counted entry path planned s next retries =
+        let number : (view new.desk).number ≡ Some shell = s.0.number ∙ (has.seen.number ∙ worker.number) in
+        let on = retries_on base shell old.next (view old.desk) now (view new.desk) a old.retries.items worker.number worker.based worker.next worker.tried has legal planned
+        (counted old.desk shell worker.number) (counted new.desk shell number) s.0 entry path s.1 in
+        gone_on base shell old new old.next (old.retries.items ++ record { shell = shell; txn = old.next; entry = entry; path = path } ∷ []) on next retries (inr (record { next = next; retry = record { shell = shell; txn = old.next; entry = entry; path = path }; retries = retries }))

@@ -1,4 +1,6 @@
 pub mod Live
 pub mod Tried
+pub mod Desks
+pub mod Working
 pub mod Crews
 pub mod Workers

@@ -1,24 +1,23 @@
 //! Attempts at the transactions of a script, one after another.
 ghost use Rattle.std.specs.Prelude.{◌≡◌, ◌<◌, ◌^◌, ◌+◌, Some, IfOk};
+ghost use Rattle.fx_spec.specs.Bases.{base_tree};
 ghost use Rattle.fx_spec.specs.Plans.{count_of};
 ghost use Rattle.fx_machine.specs.Explained.{IsExplained};
-ghost use Rattle.fx_turn.specs.Seats.{view};
 ghost use Rattle.fx_shared.specs.Passes.{HasBase, HasLegal, AreTrueFor};
-ghost use Rattle.fx_shared.specs.Shared.{IsReadyPass};
-ghost use Rattle.fx_workers.specs.Crews.{base_of};
-ghost use Rattle.fx_workers.specs.Workers.{IsWorker, HasTried, ComesTo, HasGone};
+ghost use Rattle.fx_workers.specs.Working.{HasTried, ComesTo, IsWorker, HasGone, HasWorkedOff};
 
-use crate::crew::Crew;
-use crate::live::Live;
+use crate::desk::Desk;
+use crate::live::DeskReader;
 use crate::worker::Worker;
 use fx_base::NoMemory;
 use fx_machine::{Attempt, Retry};
-use fx_outside::{Gate, Moment};
 use fx_run::run;
-use fx_shared::{Pass, Settle};
+use fx_shared::Settle;
+use fx_spec::Base;
 use fx_store::Path;
 use fx_view::Stop;
-use std::sync::Wait;
+use std::alloc::Global;
+use std::sync::Arc;
 
 /// What an attempt comes to: it is an entry, or an entry stands in its way, which has changed this path.
 #[derive(Drop)]
@@ -28,49 +27,38 @@ pub(crate) enum Outcome {
 }
 
 /// Runs a transaction over looks of the pass, as an attempt.
-fn attempt<R: Wait, G: Gate>(
-    crew: &Crew<'_, R, G>,
-    pass: Pass,
+fn attempt<D: Desk>(
+    alloc: Global,
+    base: &Arc<Base>,
+    desk: D,
     shell: u32,
     txn: u32,
-) -> Result<(Pass, Attempt), NoMemory>
-    requires ready { IsReadyPass crew.now.shared.now pass }
-    requires planned { txn < count_of (base_of crew.now).plan shell }
-    ensures ready { IfOk result (λ r. IsReadyPass crew.now.shared.now r.0) }
+) -> Result<(D, Attempt), NoMemory>
+    requires planned { txn < count_of (base_tree base.now.value).plan shell }
+    ensures table { IfOk result (λ r. D.table r.0 ≡ D.table desk) }
     ensures tried { IfOk result (λ r.
-        HasTried (base_of crew.now) shell txn (view pass) (view r.0) r.1) }
+        HasTried (base_tree base.now.value) shell txn (D.view desk) (D.view r.0) r.1) }
 {
-    let mut live = Live::new(crew.rt, crew.alloc, crew.shared, pass, txn, crew.gate);
-    match run(crew.alloc, crew.base, shell, txn, &mut live) {
-        Ok(attempt) => Ok((live.into_pass(), attempt)),
+    let mut live = DeskReader::over(alloc, desk, txn);
+    match run(alloc, base, shell, txn, &mut live) {
+        Ok(attempt) => Ok((live.into_desk(), attempt)),
         Err(Stop::Needs(_)) => unreachable!(),
         Err(Stop::NoMemory) => Err(NoMemory),
     }
 }
 
-/// Settles an attempt, between two moments at the gate. What a conflict hands back is dropped once the turn is over.
-fn settle<R: Wait, G: Gate>(
-    crew: &Crew<'_, R, G>,
-    pass: &mut Pass,
-    attempt: Attempt,
-) -> Result<Outcome, NoMemory>
-    requires ready { IsReadyPass crew.now.shared.now pass.old }
-    requires whose { (view pass.old).number ≡ Some attempt.shell }
-    requires next { attempt.txn ≡ (view pass.old).mine }
-    requires explained { HasBase (view pass.old) (λ base. IsExplained base attempt) }
-    requires reads { AreTrueFor (view pass.old) attempt.reads }
-    ensures ready { IsReadyPass crew.now.shared.now pass.new }
-    ensures legal { HasLegal (view pass.new) }
-    ensures outcome { IfOk result (ComesTo (view pass.old) (view pass.new) attempt) }
+/// Settles an attempt. What a conflict hands back is dropped once the turn is over.
+fn settle<D: Desk>(alloc: Global, desk: &mut D, attempt: Attempt) -> Result<Outcome, NoMemory>
+    requires whose { (D.view desk.old).number ≡ Some attempt.shell }
+    requires next { attempt.txn ≡ (D.view desk.old).mine }
+    requires explained { HasBase (D.view desk.old) (λ base. IsExplained base attempt) }
+    requires reads { AreTrueFor (D.view desk.old) attempt.reads }
+    ensures table { D.table desk.new ≡ D.table desk.old }
+    ensures legal { HasLegal (D.view desk.new) }
+    ensures outcome { IfOk result (ComesTo (D.view desk.old) (D.view desk.new) attempt) }
 {
-    let shell = attempt.shell;
-    let txn = attempt.txn;
-    crew.gate.pass(crew.rt, shell, txn, Moment::BeforeSettle);
-    match crew.shared.settle(crew.rt, crew.alloc, pass, attempt) {
-        Ok(_) => {
-            crew.gate.pass(crew.rt, shell, txn, Moment::Settled);
-            Ok(Outcome::Settled)
-        }
+    match desk.settle(alloc, attempt) {
+        Ok(_) => Ok(Outcome::Settled),
         Err(
             Settle::Conflict {
                 entry,
@@ -86,25 +74,27 @@ fn settle<R: Wait, G: Gate>(
 }
 
 /// One attempt at the next transaction: it is settled, or noted as one that starts again.
-pub(crate) fn advance<R: Wait, G: Gate>(
-    crew: &Crew<'_, R, G>,
+fn advance<D: Desk>(
+    alloc: Global,
+    base: &Arc<Base>,
     shell: u32,
-    worker: Worker,
-) -> Result<Worker, NoMemory>
-    requires worker { IsWorker (base_of crew.now) crew.now.shared.now shell worker }
-    requires left { worker.next < count_of (base_of crew.now).plan shell }
+    worker: Worker<D>,
+) -> Result<Worker<D>, NoMemory>
+    requires worker { IsWorker D.view (base_tree base.now.value) shell worker }
+    requires left { worker.next < count_of (base_tree base.now.value).plan shell }
     requires room { worker.next + 1 < 2 ^ 32 }
-    ensures { IfOk result (HasGone (base_of crew.now) crew.now.shared.now shell worker) }
+    ensures table { IfOk result (λ new. D.table new.desk ≡ D.table worker.desk) }
+    ensures gone { IfOk result (HasGone D.view (base_tree base.now.value) shell worker) }
 {
     let Worker {
-        pass,
+        desk,
         next,
         mut retries,
     } = worker;
-    let (mut pass, attempt) = attempt(crew, pass, shell, next)?;
-    match settle(crew, &mut pass, attempt)? {
+    let (mut desk, attempt) = attempt(alloc, base, desk, shell, next)?;
+    match settle(alloc, &mut desk, attempt)? {
         Outcome::Settled => Ok(Worker {
-            pass,
+            desk,
             next: next + 1,
             retries,
         }),
@@ -117,10 +107,31 @@ pub(crate) fn advance<R: Wait, G: Gate>(
             };
             retries.push(retry)?;
             Ok(Worker {
-                pass,
+                desk,
                 next,
                 retries,
             })
         }
     }
+}
+
+/// Settles the transactions of the pass's script, one after another.
+pub(crate) fn work<D: Desk>(alloc: Global, base: &Arc<Base>, desk: D) -> Result<Worker<D>, NoMemory>
+    requires based { (D.view desk).base ≡ Some (base_tree base.now.value) }
+    requires none { (D.view desk).mine ≡ 0 }
+    ensures table { IfOk result (λ worker. D.table worker.desk ≡ D.table desk) }
+    ensures done { IfOk result
+        (HasWorkedOff D.view (base_tree base.now.value) (D.view desk).number) }
+{
+    let shell = desk.shell();
+    let count = base.plan.count(shell);
+    let mut worker = Worker {
+        desk,
+        next: 0,
+        retries: Vec::new(alloc),
+    };
+    while worker.next < count {
+        worker = advance(alloc, base, shell, worker)?;
+    }
+    Ok(worker)
 }

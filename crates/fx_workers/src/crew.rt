@@ -3,12 +3,15 @@ ghost use Rattle.std.specs.Prelude.{◌≡◌, IfOk, length};
 ghost use Rattle.fx_workers.specs.Crews.{base_of};
 ghost use Rattle.fx_workers.specs.Workers.{IsFresh, AreFresh, IsDoneBy, AreDone};
 
-use crate::attempting::advance;
-use crate::worker::Worker;
+use crate::attempting::work;
+use crate::desk::LogDesk;
+use crate::worker::{Worked, Worker};
 use fx_base::NoMemory;
 use fx_outside::Gate;
-use fx_shared::{Pass, Shared};
+use fx_shared::{Board, Logged, Pass, Shares};
+use fx_snap::Versioned;
 use fx_spec::Base;
+use fx_turn::Seat;
 use std::alloc::{AllocError, Global};
 use std::sync::{Arc, Wait};
 use std::thread;
@@ -16,50 +19,70 @@ use std::thread::Threads;
 
 /// What the workers of a run share: the runtime, the base, the log and the gate.
 #[derive(Drop)]
-pub(crate) struct Crew<'a, R, G> {
+pub struct Crew<'a, R, G, T: Logged> {
     pub rt: &'a R,
     pub alloc: Global,
     pub base: &'a Arc<Base>,
-    pub shared: &'a Shared,
+    pub shares: &'a Shares<T>,
     pub gate: &'a G,
 }
 
 /// Settles the transactions of the pass's script, one after another.
-fn work<R: Wait, G: Gate>(crew: &Crew<'_, R, G>, pass: Pass) -> Result<Worker, NoMemory>
-    requires pass { IsFresh (base_of crew.now) crew.now.shared.now pass }
-    ensures { IfOk result (IsDoneBy (base_of crew.now) crew.now.shared.now pass) }
+pub fn work_on_board<R: Wait, G: Gate>(
+    crew: &Crew<'_, R, G, Board>,
+    pass: Seat<Board>,
+) -> Result<Worked<Board>, NoMemory>
+    requires { IsFresh (base_of crew.now) crew.now.shares.now pass }
+    ensures { IfOk result (IsDoneBy (base_of crew.now) crew.now.shares.now pass) }
 {
-    let Some(shell) = pass.number() else {
-        unreachable!()
-    };
-    let count = crew.base.plan.count(shell);
-    let mut worker = Worker {
-        pass,
-        next: 0,
-        retries: Vec::new(crew.alloc),
-    };
-    while worker.next < count {
-        worker = advance(crew, shell, worker)?;
-    }
-    Ok(worker)
+    let desk = LogDesk::new(crew.rt, crew.gate, crew.shares, pass);
+    let Worker {
+        desk,
+        next: _,
+        retries,
+    } = work(crew.alloc, crew.base, desk)?;
+    Ok(Worked {
+        pass: desk.into_pass(),
+        retries,
+    })
+}
+
+/// Settles the transactions of the pass's script, one after another.
+pub fn work_on_versions<R: Wait, G: Gate>(
+    crew: &Crew<'_, R, G, Versioned>,
+    pass: Seat<Versioned>,
+) -> Result<Worked<Versioned>, NoMemory>
+    requires { IsFresh (base_of crew.now) crew.now.shares.now pass }
+    ensures { IfOk result (IsDoneBy (base_of crew.now) crew.now.shares.now pass) }
+{
+    let desk = LogDesk::new(crew.rt, crew.gate, crew.shares, pass);
+    let Worker {
+        desk,
+        next: _,
+        retries,
+    } = work(crew.alloc, crew.base, desk)?;
+    Ok(Worked {
+        pass: desk.into_pass(),
+        retries,
+    })
 }
 
 /// Each script in a thread of its own; where none can be started, the caller's thread does its work.
 pub(crate) fn work_all<R: Threads + Wait + Sync, G: Gate + Sync>(
-    crew: &Crew<'_, R, G>,
+    crew: &Crew<'_, R, G, Board>,
     passes: Vec<Pass>,
-) -> Result<Vec<Result<Worker, NoMemory>>, AllocError>
-    requires passes { AreFresh (base_of crew.now) crew.now.shared.now passes.items }
+) -> Result<Vec<Result<Worked<Board>, NoMemory>>, AllocError>
+    requires passes { AreFresh (base_of crew.now) crew.now.shares.now passes.items }
     ensures all { IfOk result (λ all. length all.items ≡ length passes.items) }
-    ensures done { IfOk result (λ all. AreDone (base_of crew.now) crew.now.shared.now all.items) }
+    ensures done { IfOk result (λ all. AreDone (base_of crew.now) crew.now.shares.now all.items) }
 {
     thread::map_vec(
         crew.rt,
         passes,
-        &|pass: Pass| -> Result<Worker, NoMemory>
-            requires { IsFresh (base_of crew.now) crew.now.shared.now pass }
+        &|pass: Pass| -> Result<Worked<Board>, NoMemory>
+            requires { IsFresh (base_of crew.now) crew.now.shares.now pass }
             ensures { IfOk result
-                (IsDoneBy (base_of crew.entry.now) crew.entry.now.shared.now pass) }
-        { work(crew, pass) },
+                (IsDoneBy (base_of crew.entry.now) crew.entry.now.shares.now pass) }
+        { work_on_board(crew, pass) },
     )
 }

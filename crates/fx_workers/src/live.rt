@@ -1,41 +1,69 @@
 //! A reader of a shared log.
-ghost use Rattle.std.specs.Prelude.{◌≡◌, ◌∷◌, ◌++◌, [], true, false, Some, None, is_some, IfOk, OnOk, OnErr, refl};
+ghost use Rattle.std.specs.Prelude.{◌≡◌, ◌∷◌, ◌++◌, [], true, None, IfOk, OnOk, OnErr, refl};
 ghost use Rattle.fx_view.specs.Reads.{read_at};
-ghost use Rattle.fx_turn.specs.Seats.{view};
 ghost use Rattle.fx_shared.specs.Passes.{HasSeenMore, IsLook};
-ghost use Rattle.fx_shared.specs.Shared.{IsPassOf, IsReadyPass};
+ghost use Rattle.fx_shared.specs.Shared.{IsReadyPass};
 ghost use Rattle.fx_workers.specs.Live.{AreTrueOver, AreTrueOver-prop, Vouches, begins_to_vouch};
 
+use crate::desk::{Desk, LogDesk};
 use fx_base::NoMemory;
-use fx_outside::{Gate, Moment};
-use fx_shared::{Pass, Shared};
+use fx_outside::Gate;
+use fx_shared::{Board, Pass, Shared};
 use fx_store::{Node, Path};
 use fx_view::{Reader, Reads, Stop};
 use std::alloc::Global;
 use std::sync::Wait;
 
-/// A reader over a shared log, with a pass of its own: it looks once at each path that it has not read, and never answers
-/// `Needs`. Before each look it passes the gate. What it has read is true for its pass.
+/// A reader over a shared log, through a desk that it owns: it looks once at each path that it has not read, and never
+/// answers `Needs`. What it has read is true for its pass.
 ///
 /// It vouches that its reads are true for its pass, that the pass is the one from the start, with all that it had seen
 /// there and as many entries of its own, and that what was read since was looked at after all that had been seen there.
 #[derive(Drop)]
-pub struct Live<'a, R: Wait, G: Gate> {
-    rt: &'a R,
-    shared: &'a Shared,
-    gate: &'a G,
-    pass: Pass,
-    shell: u32,
+pub struct DeskReader<D: Desk> {
+    desk: D,
     txn: u32,
     reads: Reads,
-    ghost turn: { IsPassOf shared.now pass },
-    ghost number: { (view pass).number ≡ Some shell },
-    ghost idle: { (view pass).in_turn ≡ false },
-    ghost based: { is_some (view pass).base ≡ true },
-    ghost true_reads: { AreTrueOver (view pass) reads } by { AreTrueOver-prop (view pass) reads },
+    ghost true_reads: { AreTrueOver (D.view desk) reads } by { AreTrueOver-prop (D.view desk) reads },
 }
 
-impl<'a, R: Wait, G: Gate> Live<'a, R, G> {
+impl<D: Desk> DeskReader<D> {
+    /// Nothing read yet, for a transaction of the pass's shell.
+    pub fn over(alloc: Global, desk: D, txn: u32) -> DeskReader<D>
+        ensures desk { result.desk ≡ desk }
+        ensures reads { result.reads ≡ [] }
+    {
+        DeskReader {
+            desk,
+            txn,
+            reads: Reads::new(alloc),
+        }
+    }
+
+    /// The desk, whose pass has seen all that was looked at.
+    pub fn into_desk(self) -> D
+        ensures { result ≡ self.desk }
+    {
+        let DeskReader { desk, reads, .. } = self;
+        drop(reads);
+        desk
+    }
+
+    /// What stands at a path, and the position of the look. It is not read yet.
+    fn look(&mut self, alloc: Global, path: &Path) -> Result<(Option<Node>, u64), NoMemory>
+        ensures table { D.table self.new.desk ≡ D.table self.old.desk }
+        ensures more { HasSeenMore (D.view self.old.desk) (D.view self.new.desk) }
+        ensures reads { self.new.reads ≡ self.old.reads }
+        ensures look { IfOk result (IsLook (D.view self.new.desk) path.now) }
+    {
+        self.desk.look(alloc, self.txn, path)
+    }
+}
+
+/// A reader over a shared log with a pass of its own. Before each look it passes the gate.
+pub type Live<'a, R: Wait, G: Gate> = DeskReader<LogDesk<'a, R, G, Board>>;
+
+impl<'a, R: Wait, G: Gate> DeskReader<LogDesk<'a, R, G, Board>> {
     /// Nothing read yet, for a transaction of the pass's shell.
     pub fn new(
         rt: &'a R,
@@ -46,44 +74,19 @@ impl<'a, R: Wait, G: Gate> Live<'a, R, G> {
         gate: &'a G,
     ) -> Live<'a, R, G>
         requires { IsReadyPass shared.now pass }
-        ensures shared { result.shared.now ≡ shared.now }
-        ensures pass { result.pass ≡ pass }
+        ensures shared { result.desk.shares.now ≡ shared.now }
+        ensures pass { result.desk.pass ≡ pass }
         ensures reads { result.reads ≡ [] }
     {
-        let Some(shell) = pass.number() else {
-            unreachable!()
-        };
-        Live {
-            rt,
-            shared,
-            gate,
-            pass,
-            shell,
-            txn,
-            reads: Reads::new(alloc),
-        }
+        DeskReader::over(alloc, LogDesk::new(rt, gate, shared, pass), txn)
     }
 
     /// The pass, with all that it has seen.
     pub fn into_pass(self) -> Pass
-        ensures ready { IsReadyPass self.entry.shared.now result }
-        ensures pass { result ≡ self.entry.pass }
+        ensures ready { IsReadyPass self.entry.desk.shares.now result }
+        ensures pass { result ≡ self.entry.desk.pass }
     {
-        let Live { pass, reads, .. } = self;
-        drop(reads);
-        pass
-    }
-
-    /// What stands at a path, once the gate is passed, and the position of the look. It is not read yet.
-    fn look(&mut self, alloc: Global, path: &Path) -> Result<(Option<Node>, u64), NoMemory>
-        ensures shared { self.new.shared.now ≡ self.old.shared.now }
-        ensures more { HasSeenMore (view self.old.pass) (view self.new.pass) }
-        ensures reads { self.new.reads ≡ self.old.reads }
-        ensures look { IfOk result (IsLook (view self.new.pass) path.now) }
-    {
-        self.gate
-            .pass(self.rt, self.shell, self.txn, Moment::BeforeLook);
-        self.shared.look(self.rt, alloc, &mut self.pass, path)
+        self.into_desk().into_pass()
     }
 }
 
@@ -104,12 +107,12 @@ fn note(
     reads.add(alloc, path, node, position)
 }
 
-impl<R: Wait, G: Gate> Reader for Live<'_, R, G> {
+impl<D: Desk> Reader for DeskReader<D> {
     ghost meaning = { record {
       reads = λ l. l.reads;
       complete = λ _. true;
-      vouches = λ start now reads. (now.shared.now ≡ start.shared.now)
-          × Vouches (view start.pass) (view now.pass) start.reads reads;
+      vouches = λ start now reads. (D.table now.desk ≡ D.table start.desk)
+          × Vouches (D.view start.desk) (D.view now.desk) start.reads reads;
     } };
 
     fn read(&mut self, alloc: Global, path: &Path) -> Result<Option<Node>, Stop> {
@@ -132,5 +135,5 @@ impl<R: Wait, G: Gate> Reader for Live<'_, R, G> {
     }
 
     ghost begins = { λ reader.
-        (refl, begins_to_vouch (view reader.pass) reader.reads reader.true_reads) };
+        (refl, begins_to_vouch (D.view reader.desk) reader.reads reader.true_reads) };
 }

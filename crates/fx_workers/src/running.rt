@@ -1,5 +1,6 @@
 //! A run of all scripts of a plan.
-ghost use Rattle.std.specs.Prelude.{◌≡◌, ◌+◌, ◌++◌, [], IfOk, OnOk, length, map};
+ghost use Rattle.std.specs.Prelude.{◌≡◌, ◌+◌, ◌++◌, ◌≤◌, [], IfOk, OnOk, length, map};
+ghost use Rattle.fx_base.specs.Limits.{shell_limit};
 ghost use Rattle.fx_spec.specs.Bases.{base_tree};
 ghost use Rattle.fx_spec.specs.Order.{IsComplete, RetriesOk};
 ghost use Rattle.fx_machine.specs.Tried.{retry_tree};
@@ -10,31 +11,35 @@ ghost use Rattle.fx_workers.specs.Crews.{base_of};
 ghost use Rattle.fx_workers.specs.Workers.{AreFresh, IsDone, AreDone, HasGathered, IsMakerOf};
 
 use crate::crew::{Crew, work_all};
-use crate::worker::Worker;
+use crate::worker::Worked;
 use fx_base::NoMemory;
 use fx_board::Board;
 use fx_machine::{Retries, Retry};
 use fx_outside::Gate;
-use fx_shared::{Pass, Shared};
+use fx_shared::{Logged, Pass, Shared};
 use fx_spec::Base;
+use fx_turn::Seat;
 use std::alloc::Global;
 use std::sync::{Arc, Wait};
 use std::thread::Threads;
 
 /// A pass for each shell, in order.
-fn passes_of<R, G>(crew: &Crew<'_, R, G>, maker: &mut Pass) -> Result<Vec<Pass>, NoMemory>
-    requires maker { IsMakerOf (base_of crew.now) crew.now.shared.now maker.old }
+pub fn passes_of<R, G, T: Logged>(
+    crew: &Crew<'_, R, G, T>,
+    maker: &mut Seat<T>,
+) -> Result<Vec<Seat<T>>, NoMemory>
+    requires maker { IsMakerOf (base_of crew.now) crew.now.shares.now maker.old }
     requires none { (view maker.old).splits ≡ 0 }
-    ensures maker { IsMakerOf (base_of crew.now) crew.now.shared.now maker.new }
+    ensures maker { IsMakerOf (base_of crew.now) crew.now.shares.now maker.new }
     ensures splits { OnOk result ((view maker.new).splits ≡ length (base_of crew.now).plan) }
     ensures joined { (view maker.new).joined ≡ (view maker.old).joined }
     ensures all { IfOk result (λ passes. length passes.items ≡ length (base_of crew.now).plan) }
     ensures fresh { IfOk result (λ passes.
-        AreFresh (base_of crew.now) crew.now.shared.now passes.items) }
+        AreFresh (base_of crew.now) crew.now.shares.now passes.items) }
 {
     let mut passes = Vec::new(crew.alloc);
     for _shell in 0..crew.base.plan.len() {
-        passes.push(crew.shared.pass(maker))?;
+        passes.push(crew.shares.pass(maker))?;
     }
     Ok(passes)
 }
@@ -50,60 +55,59 @@ fn add_all(retries: &mut Retries, more: Vec<Retry>) -> Result<(), NoMemory>
 }
 
 /// Takes in the pass of a worker that is done, and adds its retries.
-fn take_in<R, G>(
-    crew: &Crew<'_, R, G>,
-    maker: &mut Pass,
+pub fn take_in<R, G, T: Logged>(
+    crew: &Crew<'_, R, G, T>,
+    maker: &mut Seat<T>,
     retries: &mut Retries,
-    worker: Worker,
+    worked: Worked<T>,
 ) -> Result<(), NoMemory>
-    requires pass { IsPassOf crew.now.shared.now maker.old }
+    requires pass { IsPassOf crew.now.shares.now maker.old }
     requires gathered { HasGathered (base_of crew.now) (view maker.old) retries.old }
-    requires done { IsDone (base_of crew.now) crew.now.shared.now (joins (view maker.old)) worker }
-    ensures pass { IsPassOf crew.now.shared.now maker.new }
+    requires done { IsDone (base_of crew.now) crew.now.shares.now (joins (view maker.old)) worked }
+    ensures pass { IsPassOf crew.now.shares.now maker.new }
     ensures splits { (view maker.new).splits ≡ (view maker.old).splits }
     ensures joins { joins (view maker.new) ≡ joins (view maker.old) + 1 }
     ensures gathered { OnOk result (HasGathered (base_of crew.now) (view maker.new) retries.new) }
 {
-    let Worker {
+    let Worked {
         pass,
-        next: _,
         retries: more,
-    } = worker;
-    crew.shared.join(maker, pass);
+    } = worked;
+    crew.shares.join(maker, pass);
     add_all(retries, more)
 }
 
 /// Takes in the passes of all workers, and answers their retries by shell.
 fn gather<R, G>(
-    crew: &Crew<'_, R, G>,
+    crew: &Crew<'_, R, G, Board>,
     maker: &mut Pass,
-    all: Vec<Result<Worker, NoMemory>>,
+    all: Vec<Result<Worked<Board>, NoMemory>>,
 ) -> Result<Retries, NoMemory>
-    requires pass { IsPassOf crew.now.shared.now maker.old }
+    requires pass { IsPassOf crew.now.shares.now maker.old }
     requires none { HasGathered (base_of crew.now) (view maker.old) [] }
     requires first { joins (view maker.old) ≡ 0 }
-    requires done { AreDone (base_of crew.now) crew.now.shared.now all.items }
-    ensures pass { OnOk result (IsPassOf crew.now.shared.now maker.new) }
+    requires done { AreDone (base_of crew.now) crew.now.shares.now all.items }
+    ensures pass { OnOk result (IsPassOf crew.now.shares.now maker.new) }
     ensures splits { OnOk result ((view maker.new).splits ≡ (view maker.old).splits) }
     ensures joins { OnOk result (joins (view maker.new) ≡ length all.items) }
     ensures gathered { IfOk result (HasGathered (base_of crew.now) (view maker.new)) }
 {
     let mut retries = Retries::new(crew.alloc);
     for worked in all {
-        let worker = worked?;
-        take_in(crew, maker, &mut retries, worker)?;
+        let worked = worked?;
+        take_in(crew, maker, &mut retries, worked)?;
     }
     Ok(retries)
 }
 
 /// Gives out a pass for each script, has the scripts worked off, and takes the passes in.
 fn work_over<R: Threads + Wait + Sync, G: Gate + Sync>(
-    crew: &Crew<'_, R, G>,
+    crew: &Crew<'_, R, G, Board>,
     maker: &mut Pass,
 ) -> Result<Retries, NoMemory>
-    requires maker { IsMakerOf (base_of crew.now) crew.now.shared.now maker.old }
+    requires maker { IsMakerOf (base_of crew.now) crew.now.shares.now maker.old }
     requires first { ((view maker.old).splits ≡ 0) × ((view maker.old).joined ≡ []) }
-    ensures pass { OnOk result (IsPassOf crew.now.shared.now maker.new) }
+    ensures pass { OnOk result (IsPassOf crew.now.shares.now maker.new) }
     ensures splits { OnOk result ((view maker.new).splits ≡ length (base_of crew.now).plan) }
     ensures joins { OnOk result (joins (view maker.new) ≡ length (base_of crew.now).plan) }
     ensures gathered { IfOk result (HasGathered (base_of crew.now) (view maker.new)) }
@@ -125,14 +129,14 @@ pub fn run_all<R: Threads + Wait + Sync, G: Gate + Sync>(
     ensures complete { IfOk result (λ r. IsComplete r.0.base r.0.order) }
     ensures retries { IfOk result (λ r. RetriesOk r.0.base r.0.order (map retry_tree r.1)) }
 {
-    let (shared, mut maker) = Shared::new(alloc, Arc::try_clone(&base)?)?;
+    let (shares, mut maker) = Shared::new(alloc, Arc::try_clone(&base)?)?;
     let crew = Crew {
         rt,
         alloc,
         base: &base,
-        shared: &shared,
+        shares: &shares,
         gate,
     };
     let retries = work_over(&crew, &mut maker)?;
-    Ok((shared.close(maker), retries))
+    Ok((shares.close(maker), retries))
 }

@@ -1,11 +1,20 @@
 //! A shell at work on its script.
+use crate::desk::Desk;
 use fx_machine::Retry;
-use fx_shared::Pass;
+use fx_shared::Logged;
+use fx_turn::Seat;
 
-/// A shell's pass, the number of its next transaction, and the attempts that had to start again, in order.
+/// A shell's desk, the number of its next transaction, and the attempts that had to start again, in order.
 #[derive(Drop)]
-pub(crate) struct Worker {
-    pub pass: Pass,
+pub struct Worker<D: Drop> {
+    pub desk: D,
     pub next: u32,
+    pub retries: Vec<Retry>,
+}
+
+/// The pass of a shell whose script is done, and the attempts that had to start again, in order.
+#[derive(Drop)]
+pub struct Worked<T: Logged> {
+    pub pass: Seat<T>,
     pub retries: Vec<Retry>,
 }

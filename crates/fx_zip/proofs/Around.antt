@@ -10,7 +10,7 @@ use Rattle.fx_spec.specs.declared.refusal.Refusal.{Refusal}
 use Rattle.fx_spec.specs.Describe.{Bindings, value}
 use Rattle.fx_spec.specs.Evals.{evals_with}
 use Rattle.fx_spec.specs.Move.{at_place, go_next, go_prev}
-use Rattle.fx_spec.specs.Place.{Step, First, Second, Inside, Down, Elem, Address, PlaceTree, placed, lead, place}
+use Rattle.fx_spec.specs.Place.{Step, First, Second, Inside, Down, Body, Elem, Address, PlaceTree, placed, lead, place}
 use Rattle.fx_spec.specs.SpecTree.{SpecTree}
 use Rattle.fx_spec.specs.WellShaped.{IsDescription}
 use Rattle.fx_view.specs.declared.reader.Stop.{Stop}
@@ -41,12 +41,15 @@ first_pair known own p env at (SpecTree.pair x a b) found = is_pair x a b refl
 first_pair known own p env at (SpecTree.comp s x e) found = absurd (cc)
 first_pair known own p env at (SpecTree.opt s) found = absurd (cc)
 first_pair known own p env at (SpecTree.pred e) found = absurd (cc)
+first_pair known own p env at (SpecTree.call args params s) found = absurd (cc)
+first_pair known own p env at (SpecTree.last args params) found = absurd (cc)
 
 pair_around : (known : ReadList) (own : Known) (root : SpecTree) (a : Address) (fs : List Frame) (env : Bindings) → last_step a ≡ Some First → AreFound known own root a fs env → IsPair (part root (drop 1 a))
 pair_around known own root [] fs env e found = absurd (cc)
 pair_around known own root (Second ∷ a) fs env e found = absurd (cc)
 pair_around known own root (Inside ∷ a) fs env e found = absurd (cc)
 pair_around known own root (Down ∷ a) fs env e found = absurd (cc)
+pair_around known own root (Body ∷ a) fs env e found = absurd (cc)
 pair_around known own root (Elem t ∷ a) fs env e found = absurd (cc)
 pair_around known own root (First ∷ a) [] env e found = absurd found
 pair_around known own root (First ∷ a) (g ∷ fs) env e found = first_pair (known_of (take g.reads known)) own (path_of fs) env (placed g.path env (child First (part root a))) (part root a) found.0
@@ -67,7 +70,7 @@ module _ (known : ReadList) (own : Known) (z : ZipTree) (stands : Stands known o
         subst (λ e. HasScope e a) (sym bound) (subst (HasScope z.env) is (stands_scope known own z d stands))
 
     pub first_leads_on : {R : Type 0} (m : Meaning R) (was now : R × ℕ) (r : Result (Option Spot) Stop) (p : List (List ℕ)) (env : Bindings) → p ≡ path_of (drop 1 z.frames) → env ≡ z.env
-        → Follows m (option_map bound_value) own was now (value p env a) r → IfOk r (λ o. IfSome o (λ spot. BindsValue p x (bound_value spot) spot × (spot.frame.reads ≡ length (m.reads now.0)))) → FirstLeads m own z was now r
+        → Follows m (option_map bound_value) own was now (value p env a) r → IfOk r (λ o. IfSome o (λ spot. BindsValue p x (bound_value spot) spot × (spot.reads ≡ length (m.reads now.0)))) → FirstLeads m own z was now r
     first_leads_on m was now r p env path bound follows spot = record {
       name = x;
       first = a;
@@ -76,7 +79,7 @@ module _ (known : ReadList) (own : Known) (z : ZipTree) (stands : Stands known o
       follows =
           subst (λ q. Follows m (option_map bound_value) own was now (value q z.env a) r) path
           (subst (λ e. Follows m (option_map bound_value) own was now (value p e a) r) bound follows);
-      spot = subst (λ q. IfOk r (λ o. IfSome o (λ spot. BindsValue q x (bound_value spot) spot × (spot.frame.reads ≡ length (m.reads now.0))))) path spot;
+      spot = subst (λ q. IfOk r (λ o. IfSome o (λ spot. BindsValue q x (bound_value spot) spot × (spot.reads ≡ length (m.reads now.0))))) path spot;
     }
 
 module _ {R : Type 0} (m : Meaning R) (own : Known) (z : ZipTree) (was now : R × ℕ) (stands : Stands (m.reads was.0) own z) (first : last_step z.address ≡ Some First) (mid : ZipTree) (same : mid ≡ z) where
@@ -107,6 +110,7 @@ next_rule root (First ∷ a) = refl
 next_rule root (Second ∷ a) = refl
 next_rule root (Inside ∷ a) = refl
 next_rule root (Down ∷ a) = refl
+next_rule root (Body ∷ a) = refl
 next_rule root (Elem t ∷ a) = refl
 
 pub prev_rule : (root : SpecTree) (a : Address) → at_place root a (prev_at root a) ≡ go_prev root a
@@ -115,6 +119,7 @@ prev_rule root (First ∷ a) = refl
 prev_rule root (Second ∷ a) = refl
 prev_rule root (Inside ∷ a) = refl
 prev_rule root (Down ∷ a) = refl
+prev_rule root (Body ∷ a) = refl
 prev_rule root (Elem t ∷ a) = refl
 
 next_counted : (z : ZipTree) (w : Address) (at : PlaceTree) (S : Store) → answer S (place z.root z.address) ≡ Some at → sideways_evals z w S ≡ next_evals w at S
@@ -123,6 +128,7 @@ next_counted z (First ∷ a) at S is = ap (evals_with (λ at. ticks S (value at.
 next_counted z (Second ∷ a) at S is = refl
 next_counted z (Inside ∷ a) at S is = refl
 next_counted z (Down ∷ a) at S is = refl
+next_counted z (Body ∷ a) at S is = refl
 next_counted z (Elem t ∷ a) at S is = refl
 
 next_other : (root : SpecTree) (a : Address) (at : PlaceTree) → is_first (last_step a) ≡ false → beside root least_above a ≡ next_at root a at
@@ -131,6 +137,7 @@ next_other root (First ∷ a) at e = absurd (cc)
 next_other root (Second ∷ a) at e = refl
 next_other root (Inside ∷ a) at e = refl
 next_other root (Down ∷ a) at e = refl
+next_other root (Body ∷ a) at e = refl
 next_other root (Elem t ∷ a) at e = refl
 
 prev_other : (root : SpecTree) (a : Address) (at : PlaceTree) → is_second (last_step a) ≡ false → beside root greatest_below a ≡ prev_at root a at
@@ -139,6 +146,7 @@ prev_other root (First ∷ a) at e = refl
 prev_other root (Second ∷ a) at e = absurd (cc)
 prev_other root (Inside ∷ a) at e = refl
 prev_other root (Down ∷ a) at e = refl
+prev_other root (Body ∷ a) at e = refl
 prev_other root (Elem t ∷ a) at e = refl
 
 pub first_of_true : (o : Option Step) → is_first o ≡ true → o ≡ Some First
@@ -147,6 +155,7 @@ first_of_true (Some First) e = refl
 first_of_true (Some Second) e = absurd (cc)
 first_of_true (Some Inside) e = absurd (cc)
 first_of_true (Some Down) e = absurd (cc)
+first_of_true (Some Body) e = absurd (cc)
 first_of_true (Some (Elem t)) e = absurd (cc)
 
 pub second_of_true : (o : Option Step) → is_second o ≡ true → o ≡ Some Second
@@ -155,6 +164,7 @@ second_of_true (Some First) e = absurd (cc)
 second_of_true (Some Second) e = refl
 second_of_true (Some Inside) e = absurd (cc)
 second_of_true (Some Down) e = absurd (cc)
+second_of_true (Some Body) e = absurd (cc)
 second_of_true (Some (Elem t)) e = absurd (cc)
 
 module _ {R : Type 0} (m : Meaning R) (own : Known) (old mid : ZipTree) (was then : R × ℕ) (finds : Finds m own old mid was then (Ok tt)) (new : ZipTree) (r : Result (Unit {0}) Halt) where

@@ -12,7 +12,7 @@ use Rattle.fx_expr.specs.Tree.{Tree}
 use Rattle.fx_spec.specs.declared.refusal.Refusal.{Refusal}
 use Rattle.fx_spec.specs.Describe.{Bindings, value}
 use Rattle.fx_spec.specs.Move.{Answered, unrefused, needed, at_place, another, chosen, element}
-use Rattle.fx_spec.specs.Place.{Step, First, Second, Inside, Down, Elem, Address, PlaceTree, placed, lead, place}
+use Rattle.fx_spec.specs.Place.{Step, First, Second, Inside, Down, Body, Elem, Address, PlaceTree, placed, lead, place}
 use Rattle.fx_spec.specs.SpecTree.{SpecTree}
 use Rattle.fx_view.specs.declared.reader.Stop.{Stop}
 use Rattle.fx_view.specs.declared.reader.Stop.TheVariants as stop
@@ -28,9 +28,10 @@ use Rattle.fx_rules.specs.Answering.{answered}
 use Rattle.fx_rules.specs.Halts.{split}
 use Rattle.fx_zip.specs.declared.frame.Entry.{Entry}
 use Rattle.fx_zip.specs.declared.frame.Frame.{Frame}
+use Rattle.fx_zip.specs.declared.frame.Bound.TheVariants as bounds
 use Rattle.fx_zip.specs.declared.frame.Spot.{Spot}
 use Rattle.fx_zip.specs.Calls.{OnRefused, SaysFound, Turns, Turned, Besides, beside, next_at, prev_at, next_evals}
-use Rattle.fx_zip.specs.Fresh.{around, around_last, HasSet, IsHeld, AreFound, Stands, IsNoElement, last_step, last_set, left}
+use Rattle.fx_zip.specs.Fresh.{around, around_last, HasSet, IsHeld, AreFound, Stands, IsNoElement, last_step, last_set, last_caller, left}
 use Rattle.fx_zip.specs.Parts.{child, part, comp_name}
 use Rattle.fx_zip.specs.Spots.{bound_value, Leads, LeadsFrom, Chooses, BindsValue, entered}
 use Rattle.fx_zip.specs.Steps.{step_tree}
@@ -69,6 +70,8 @@ module _ (known own : Known) (p : List (List ℕ)) (env : Bindings) (t : List �
   element_in (SpecTree.comp d x a) kept found e h = in_set d x a refl (held_set (eval_of env a) kept e h)
   element_in (SpecTree.opt s) kept found e h = absurd (cc)
   element_in (SpecTree.pred a) kept found e h = absurd (cc)
+  element_in (SpecTree.call args params s) kept found e h = absurd (cc)
+  element_in (SpecTree.last args params) kept found e h = absurd (cc)
 
   -- without a kept set there is no such place
   pub no_element : (s : SpecTree) → follow known own (lead (Elem t) p env s) ≡ Found (Some at) → IsHeld (Elem t) None env s → ⊥
@@ -80,6 +83,8 @@ module _ (known own : Known) (p : List (List ℕ)) (env : Bindings) (t : List �
   no_element (SpecTree.comp d x a) found h = h
   no_element (SpecTree.opt s) found h = absurd (cc)
   no_element (SpecTree.pred a) found h = absurd (cc)
+  no_element (SpecTree.call args params s) found h = absurd (cc)
+  no_element (SpecTree.last args params) found h = absurd (cc)
 
 chosen_is : (a : Address) (f : List (List ℕ) → Option (List ℕ)) (o : Outcome) (set : List (List ℕ)) → set_answer o ≡ Ok set → chosen a f o ≡ element a (f set)
 chosen_is a f (Ok v) set h = let same : names_in v ≡ set = cc in ap (λ set. element a (f set)) same
@@ -125,18 +130,18 @@ module _ (known : ReadList) (own : Known) (root : SpecTree) (f : List ℕ → Li
   -- over the address and the frames of a zipper
   module _ (t : List ℕ) (set : List (List ℕ)) (member : (u : List ℕ) → f t set ≡ Some u → has_text u set ≡ true) (choice : Option (List ℕ)) (same : choice ≡ f t set) (r : Result Entry Halt) where
     abbrev Both : Address → List Frame → Bindings → Type 0
-    Both a fs env = SaysFound (known_of known) own (answered (λ e. step_tree e.step ∷ drop 1 a)) (beside root f a) (split r) × IfOk r (λ e. Leads known own (step_tree e.step) (path_of (drop 1 fs)) (around_last a env) (part root (drop 1 a)) e.spot)
+    Both a fs env = SaysFound (known_of known) own (answered (λ e. step_tree e.step ∷ drop 1 a)) (beside root f a) (split r) × IfOk r (λ e. Leads known own (step_tree e.step) (path_of (drop 1 fs)) (around_last a (last_caller fs) env) (part root (drop 1 a)) e.spot)
 
     both_of : (step : Step) (a : Address) (g : Frame) (fs : List Frame) (env : Bindings) → step ≡ Elem t → g.set ≡ Some set → AreFound known own root (step ∷ a) (g ∷ fs) env → MatchOption (comp_name (part root a)) (Unit {0}) (λ x. Chooses (path_of fs) x set choice r) → Both (step ∷ a) (g ∷ fs) env
     both_of step a g fs env is held found chooses =
         let found' : AreFound known own root (Elem t ∷ a) (g ∷ fs) env = subst (λ s. AreFound known own root (s ∷ a) (g ∷ fs) env) is found in
-        let inside' : InSet (known_of (take g.reads known)) own (path_of fs) (around (Elem t) env) t (placed g.path env (child (Elem t) (part root a))) set (part root a) =
-        element_in (known_of (take g.reads known)) own (path_of fs) (around (Elem t) env) t (placed g.path env (child (Elem t) (part root a))) set (part root a) g.set found'.0 held found'.1 in
-        let inside : InSet (known_of known) own (path_of fs) (around (Elem t) env) t (placed (path_of fs) (around (Elem t) env) (part root a)) set (part root a) = set_of inside' in
+        let inside' : InSet (known_of (take g.reads known)) own (path_of fs) (around (Elem t) g.caller env) t (placed g.path env (child (Elem t) (part root a))) set (part root a) =
+        element_in (known_of (take g.reads known)) own (path_of fs) (around (Elem t) g.caller env) t (placed g.path env (child (Elem t) (part root a))) set (part root a) g.set found'.0 held found'.1 in
+        let inside : InSet (known_of known) own (path_of fs) (around (Elem t) g.caller env) t (placed (path_of fs) (around (Elem t) g.caller env) (part root a)) set (part root a) = set_of inside' in
         subst (λ s. Both (s ∷ a) (g ∷ fs) env) (sym is)
-        (says_other a fs (around (Elem t) env) t set found'.2 inside choice same r chooses, leads_other a fs (around (Elem t) env) t set inside member choice same r chooses)
+        (says_other a fs (around (Elem t) g.caller env) t set found'.2 inside choice same r chooses, leads_other a fs (around (Elem t) g.caller env) t set inside member choice same r chooses)
       where
-        set_of : {at other : PlaceTree} → InSet (known_of (take g.reads known)) own (path_of fs) (around (Elem t) env) t at set (part root a) → InSet (known_of known) own (path_of fs) (around (Elem t) env) t other set (part root a)
+        set_of : {at other : PlaceTree} → InSet (known_of (take g.reads known)) own (path_of fs) (around (Elem t) g.caller env) t at set (part root a) → InSet (known_of known) own (path_of fs) (around (Elem t) g.caller env) t other set (part root a)
         set_of (in_set d x e form answer) = in_set d x e form answer
 
     both : (a : Address) (fs : List Frame) (env : Bindings) → last_step a ≡ Some (Elem t) → last_set fs ≡ Some set → AreFound known own root a fs env → MatchOption (comp_name (part root (drop 1 a))) (Unit {0}) (λ x. Chooses (path_of (drop 1 fs)) x set choice r) → Both a fs env
@@ -145,7 +150,7 @@ module _ (known : ReadList) (own : Known) (root : SpecTree) (f : List ℕ → Li
     both (step ∷ a) (g ∷ fs) env e held found chooses = both_of step a g fs env (cc) held found chooses
 
 -- what leads from the zipper without its last step
-leads_left : (known : ReadList) (own : Known) (z : ZipTree) → Stands known own z → (r : Result Entry Halt) → IfOk r (λ e. Leads known own (step_tree e.step) (path_of (drop 1 z.frames)) (around_last z.address z.env) (part z.root (drop 1 z.address)) e.spot) → IfOk r (λ e. LeadsFrom known own (left z) e)
+leads_left : (known : ReadList) (own : Known) (z : ZipTree) → Stands known own z → (r : Result Entry Halt) → IfOk r (λ e. Leads known own (step_tree e.step) (path_of (drop 1 z.frames)) (around_last z.address (last_caller z.frames) z.env) (part z.root (drop 1 z.address)) e.spot) → IfOk r (λ e. LeadsFrom known own (left z) e)
 leads_left known own z stands r h =
     subst (λ (w : ZipTree). IfOk r (λ e. LeadsFrom known own w e)) (sym (left_settled z (stands_settled known own z stands))) h
 
@@ -162,9 +167,10 @@ module _ (known : ReadList) (own : Known) (z : ZipTree) (stands : Stands known o
   none_beside f (Second ∷ a) fs env none found = refl
   none_beside f (Inside ∷ a) fs env none found = refl
   none_beside f (Down ∷ a) fs env none found = refl
+  none_beside f (Body ∷ a) fs env none found = refl
   none_beside f (Elem t ∷ a) [] env none found = absurd found
   none_beside f (Elem t ∷ a) (g ∷ fs) env none found =
-      absurd (no_element (known_of (take g.reads known)) own (path_of fs) (around (Elem t) env) t (placed g.path env (child (Elem t) (part z.root a))) [] (part z.root a) found.0 (subst (λ s. IsHeld (Elem t) s (around (Elem t) env) (part z.root a)) (none t refl) found.1))
+      absurd (no_element (known_of (take g.reads known)) own (path_of fs) (around (Elem t) g.caller env) t (placed g.path env (child (Elem t) (part z.root a))) [] (part z.root a) found.0 (subst (λ s. IsHeld (Elem t) s (around (Elem t) g.caller env) (part z.root a)) (none t refl) found.1))
 
   pub none_besides : (f : List ℕ → List (List ℕ) → Option (List ℕ)) → IsNoElement z → Besides known own z (beside z.root f z.address) (Err (halt.Refused Refusal.NoStep))
   none_besides f none = record { says = ap (follow (known_of known) own) (none_beside f z.address z.frames z.env none stands.found); leads = tt }
@@ -215,26 +221,29 @@ second_pair known own p env at (SpecTree.pair x a b) found = is_pair x a b refl
 second_pair known own p env at (SpecTree.comp s x e) found = absurd (cc)
 second_pair known own p env at (SpecTree.opt s) found = absurd (cc)
 second_pair known own p env at (SpecTree.pred e) found = absurd (cc)
+second_pair known own p env at (SpecTree.call args params s) found = absurd (cc)
+second_pair known own p env at (SpecTree.last args params) found = absurd (cc)
 
-module _ (known : ReadList) (own : Known) (root : SpecTree) (entry : Entry) (step : step_tree entry.step ≡ First) (bound : entry.spot.bound ≡ None) where
-  first_from : (p : List (List ℕ)) (env : Bindings) (s : SpecTree) → entry.spot.frame.path ≡ p → IsPair s → Leads known own (step_tree entry.step) p env s entry.spot
+module _ (known : ReadList) (own : Known) (root : SpecTree) (entry : Entry) (step : step_tree entry.step ≡ First) (bound : entry.spot.bound ≡ bounds.Nothing) where
+  first_from : (p : List (List ℕ)) (env : Bindings) (s : SpecTree) → entry.spot.path ≡ p → IsPair s → Leads known own (step_tree entry.step) p env s entry.spot
   first_from p env s path (is_pair x a b form) =
       leads_step known own First (step_tree entry.step) p env s entry.spot step (leads_at known own First p env s 0 0 entry.spot (first_leads p env s x a b 0 entry.spot form path bound))
 
-  first_both : (a : Address) (fs : List Frame) (env : Bindings) (at : PlaceTree) → last_step a ≡ Some Second → entry.spot.frame.path ≡ path_of (drop 1 fs) → AreFound known own root a fs env
-      → (follow (known_of known) own (prev_at root a at) ≡ Found (Ok (step_tree entry.step ∷ drop 1 a))) × Leads known own (step_tree entry.step) (path_of (drop 1 fs)) (around_last a env) (part root (drop 1 a)) entry.spot
+  first_both : (a : Address) (fs : List Frame) (env : Bindings) (at : PlaceTree) → last_step a ≡ Some Second → entry.spot.path ≡ path_of (drop 1 fs) → AreFound known own root a fs env
+      → (follow (known_of known) own (prev_at root a at) ≡ Found (Ok (step_tree entry.step ∷ drop 1 a))) × Leads known own (step_tree entry.step) (path_of (drop 1 fs)) (around_last a (last_caller fs) env) (part root (drop 1 a)) entry.spot
   first_both [] fs env at e path found = absurd (cc)
   first_both (First ∷ a) fs env at e path found = absurd (cc)
   first_both (Inside ∷ a) fs env at e path found = absurd (cc)
   first_both (Down ∷ a) fs env at e path found = absurd (cc)
+  first_both (Body ∷ a) fs env at e path found = absurd (cc)
   first_both (Elem t ∷ a) fs env at e path found = absurd (cc)
   first_both (Second ∷ a) [] env at e path found = absurd found
   first_both (Second ∷ a) (g ∷ fs) env at e path found = (
     ap (λ s. Found (Ok (s ∷ a))) (sym step),
-    first_from (path_of fs) (around Second env) (part root a) path (second_pair (known_of (take g.reads known)) own (path_of fs) (around Second env) (placed g.path env (child Second (part root a))) (part root a) found.0),
+    first_from (path_of fs) (around Second g.caller env) (part root a) path (second_pair (known_of (take g.reads known)) own (path_of fs) (around Second g.caller env) (placed g.path env (child Second (part root a))) (part root a) found.0),
   )
 
-pub first_besides : (known : ReadList) (own : Known) (z : ZipTree) → Stands known own z → (entry : Entry) → step_tree entry.step ≡ First → entry.spot.bound ≡ None → last_step z.address ≡ Some Second → entry.spot.frame.path ≡ path_of (drop 1 z.frames) → Besides known own z (prev_at z.root z.address (here z)) (Ok entry)
+pub first_besides : (known : ReadList) (own : Known) (z : ZipTree) → Stands known own z → (entry : Entry) → step_tree entry.step ≡ First → entry.spot.bound ≡ bounds.Nothing → last_step z.address ≡ Some Second → entry.spot.path ≡ path_of (drop 1 z.frames) → Besides known own z (prev_at z.root z.address (here z)) (Ok entry)
 first_besides known own z stands entry step bound second path =
     let b = first_both known own z.root entry step bound z.address z.frames z.env (here z) second path stands.found in
     record { says = b.0; leads = leads_left known own z stands (Ok entry) b.1 }
@@ -242,25 +251,26 @@ first_besides known own z stands entry step bound second path =
 -- ---- from a first part to the second
 
 -- what is found by all reads, as many as the frame tells
-pub by_all : {A : Type 0} (reads : ReadList) (spot : Spot) (own : Known) (rule : Ask A) (a : A) → spot.frame.reads ≡ length reads → follow (known_of reads) own rule ≡ Found a → follow (known_of (take spot.frame.reads reads)) own rule ≡ Found a
+pub by_all : {A : Type 0} (reads : ReadList) (spot : Spot) (own : Known) (rule : Ask A) (a : A) → spot.reads ≡ length reads → follow (known_of reads) own rule ≡ Found a → follow (known_of (take spot.reads reads)) own rule ≡ Found a
 by_all reads spot own rule a all h = ap (λ rs. follow (known_of rs) own rule) (ap (λ k. take k reads) all ∙ all_taken reads) ∙ h
 
-pub leads_second : (known : ReadList) (own : Known) (p : List (List ℕ)) (env : Bindings) (s : SpecTree) (x : List ℕ) (a b : SpecTree) (spot : Spot) → s ≡ SpecTree.pair x a b → follow (known_of (take spot.frame.reads known)) own (value p env a) ≡ Found (Some (bound_value spot)) → BindsValue p x (bound_value spot) spot → Leads known own Second p env s spot
+pub leads_second : (known : ReadList) (own : Known) (p : List (List ℕ)) (env : Bindings) (s : SpecTree) (x : List ℕ) (a b : SpecTree) (spot : Spot) → s ≡ SpecTree.pair x a b → follow (known_of (take spot.reads known)) own (value p env a) ≡ Found (Some (bound_value spot)) → BindsValue p x (bound_value spot) spot → Leads known own Second p env s spot
 leads_second known own p env s x a b spot form found binds =
     subst (λ s. Leads known own Second p env s spot) (sym form)
     (record {
       found =
-          follow-bind (known_of (take spot.frame.reads known)) own (value p env a) (λ v. Answer (option_map (λ v. placed p (bind env x v) b) v)) (Some (bound_value spot)) found
+          follow-bind (known_of (take spot.reads known)) own (value p env a) (λ v. Answer (option_map (λ v. placed p (bind env x v) b) v)) (Some (bound_value spot)) found
           ∙ (λ i. Found (Some (placed (sym binds.path i) (sym (grown_is env spot.bound (x, bound_value spot) binds.bound) i) b)));
       fits = record { held = tt; back = ap (λ g. take (length g - 1) g) (grown_is env spot.bound (x, bound_value spot) binds.bound) ∙ front_last env (x, bound_value spot) };
     })
 
 pub first_at : (known : ReadList) (own : Known) (root : SpecTree) (a : Address) (fs : List Frame) (env : Bindings) (x : List ℕ) (l r : SpecTree) → last_step a ≡ Some First → part root (drop 1 a) ≡ SpecTree.pair x l r → AreFound known own root a fs env
-    → (placed (path_of fs) env (part root a) ≡ placed (path_of (drop 1 fs)) env l) × (around_last a env ≡ env) × (a ≡ First ∷ drop 1 a)
+    → (placed (path_of fs) env (part root a) ≡ placed (path_of (drop 1 fs)) env l) × (around_last a (last_caller fs) env ≡ env) × (a ≡ First ∷ drop 1 a)
 first_at known own root [] fs env x l r e form found = absurd (cc)
 first_at known own root (Second ∷ a) fs env x l r e form found = absurd (cc)
 first_at known own root (Inside ∷ a) fs env x l r e form found = absurd (cc)
 first_at known own root (Down ∷ a) fs env x l r e form found = absurd (cc)
+first_at known own root (Body ∷ a) fs env x l r e form found = absurd (cc)
 first_at known own root (Elem t ∷ a) fs env x l r e form found = absurd (cc)
 first_at known own root (First ∷ a) [] env x l r e form found = absurd found
 first_at known own root (First ∷ a) (g ∷ fs) env x l r e form found =
@@ -278,7 +288,7 @@ module _ {R : Type 0} (m : Meaning R) (own : Known) (z : ZipTree) (was now : R �
   abbrev ToSecond : ZipTree → Result (Unit {0}) Halt → Type 0
   ToSecond new r = Turns m own z new was now (next_at z.root z.address (here z)) (next_evals z.address (here z)) r
 
-  at_first : (here z ≡ placed (path_of (drop 1 z.frames)) z.env a) × (around_last z.address z.env ≡ z.env) × (z.address ≡ First ∷ drop 1 z.address)
+  at_first : (here z ≡ placed (path_of (drop 1 z.frames)) z.env a) × (around_last z.address (last_caller z.frames) z.env ≡ z.env) × (z.address ≡ First ∷ drop 1 z.address)
   at_first = first_at (m.reads was.0) own z.root z.address z.frames z.env x a b first form stands.found
 
   rule_is : (Value >>= then_second) ≡ next_at z.root z.address (here z)
@@ -302,16 +312,16 @@ module _ {R : Type 0} (m : Meaning R) (own : Known) (z : ZipTree) (was now : R �
   stands_now : (o : Result (Option Spot) Stop) → First_ o → Stands (m.reads now.0) own z
   stands_now o h = stands_grows (m.reads was.0) own z (m.reads now.0) (follows_grows m own (option_map bound_value) was now Value o h) stands
 
-  second_from : (spot : Spot) → First_ (Ok (Some spot)) → (BindsValue (path_of (drop 1 z.frames)) x (bound_value spot) spot × (spot.frame.reads ≡ length (m.reads now.0))) → Leads (m.reads now.0) own Second (path_of (left z).frames) (left z).env (part (left z).root (left z).address) spot
+  second_from : (spot : Spot) → First_ (Ok (Some spot)) → (BindsValue (path_of (drop 1 z.frames)) x (bound_value spot) spot × (spot.reads ≡ length (m.reads now.0))) → Leads (m.reads now.0) own Second (path_of (left z).frames) (left z).env (part (left z).root (left z).address) spot
   second_from spot h binds =
       let leads : Leads (m.reads now.0) own Second (path_of (drop 1 z.frames)) z.env (part z.root (drop 1 z.address)) spot =
       leads_second (m.reads now.0) own (path_of (drop 1 z.frames)) z.env (part z.root (drop 1 z.address)) x a b spot form (by_all (m.reads now.0) spot own (value (path_of (drop 1 z.frames)) z.env a) (Some (bound_value spot)) binds.1 h.goes.0) binds.0 in
-      let around : Leads (m.reads now.0) own Second (path_of (drop 1 z.frames)) (around_last z.address z.env) (part z.root (drop 1 z.address)) spot =
+      let around : Leads (m.reads now.0) own Second (path_of (drop 1 z.frames)) (around_last z.address (last_caller z.frames) z.env) (part z.root (drop 1 z.address)) spot =
       subst (λ e. Leads (m.reads now.0) own Second (path_of (drop 1 z.frames)) e (part z.root (drop 1 z.address)) spot) (sym at_first.1) leads in
       subst (λ (w : ZipTree). Leads (m.reads now.0) own Second (path_of w.frames) w.env (part w.root w.address) spot)
       (sym (left_settled z (stands_settled (m.reads was.0) own z stands))) around
 
-  pub second_turns : (spot : Spot) (new : ZipTree) → First_ (Ok (Some spot)) → (BindsValue (path_of (drop 1 z.frames)) x (bound_value spot) spot × (spot.frame.reads ≡ length (m.reads now.0))) → new ≡ entered (left z) Second spot → ToSecond new (Ok tt)
+  pub second_turns : (spot : Spot) (new : ZipTree) → First_ (Ok (Some spot)) → (BindsValue (path_of (drop 1 z.frames)) x (bound_value spot) spot × (spot.reads ≡ length (m.reads now.0))) → new ≡ entered (left z) Second spot → ToSecond new (Ok tt)
   second_turns spot new h binds same = subst (λ w. ToSecond w (Ok tt)) (sym same) (
       turns_by (entered (left z) Second spot) (Ok tt) (Ok (Some spot)) h refl tt
       (stands_entered (m.reads now.0) own (left z) Second spot (stands_left (m.reads now.0) own z (stands_now (Ok (Some spot)) h)) (second_from spot h binds))

@@ -23,6 +23,7 @@ use Rattle.fx_rules.specs.declared.halt.Halt.{Halt}
 use Rattle.fx_rules.specs.declared.halt.Halt.TheVariants as halt
 use Rattle.fx_rules.specs.Answering.{answered}
 use Rattle.fx_zip.specs.declared.frame.Entry.{Entry}
+use Rattle.fx_zip.specs.declared.frame.Bound.TheVariants as bounds
 use Rattle.fx_zip.specs.declared.frame.Spot.{Spot}
 use Rattle.fx_zip.specs.Spots.{grown, spot_place, LeadsTo, Enters, BindsValue, bound_value}
 use Rattle.fx_zip.specs.Steps.{step_tree}
@@ -71,7 +72,7 @@ module _ {R : Type 0} (m : Meaning R) (own : Known) (p : List (List ℕ)) (env :
       spot = tt;
     }))
 
-    pub inside_leads : (there : Bool) (spot : Spot) → there ≡ true → spot.frame.path ≡ p → spot.bound ≡ None → spot.frame.reads ≡ length (m.reads new.0) → There (Ok there) → LeadsInside (Ok (Some spot))
+    pub inside_leads : (there : Bool) (spot : Spot) → there ≡ true → spot.path ≡ p → spot.bound ≡ bounds.Nothing → spot.reads ≡ length (m.reads new.0) → There (Ok there) → LeadsInside (Ok (Some spot))
     inside_leads there spot held path bound all h = leads_form (Ok (Some spot)) (record {
       follows = at_place;
       spot = record {
@@ -116,7 +117,7 @@ module _ {R : Type 0} (m : Meaning R) (own : Known) (p : List (List ℕ)) (env :
       leads = tt;
     }
 
-    pub entry_inside : (there : Bool) (entry : Entry) → there ≡ true → step_tree entry.step ≡ Inside → entry.spot.frame.path ≡ p → entry.spot.bound ≡ None → entry.spot.frame.reads ≡ length (m.reads new.0) → There (Ok there) → EntersInside (Ok entry)
+    pub entry_inside : (there : Bool) (entry : Entry) → there ≡ true → step_tree entry.step ≡ Inside → entry.spot.path ≡ p → entry.spot.bound ≡ bounds.Nothing → entry.spot.reads ≡ length (m.reads new.0) → There (Ok there) → EntersInside (Ok entry)
     entry_inside there entry held step path bound all h =
         let led = inside_leads (SpecTree.opt d) d refl there entry.spot held path bound all h in
         record {
@@ -132,7 +133,7 @@ module _ {R : Type 0} (m : Meaning R) (own : Known) (p : List (List ℕ)) (env :
     abbrev then_pair : Option Tree → Ask (Option PlaceTree)
     then_pair v = Answer (option_map (λ v. placed p (bind env x v) b) v)
 
-    at_pair : (r : Result (Option Spot) Stop) → Follows m (option_map bound_value) own old new (value p env a) r → IfOk r (λ o. IfSome o (λ spot. BindsValue p x (bound_value spot) spot × (spot.frame.reads ≡ length (m.reads new.0)))) → LeadsTo m own Second p env (SpecTree.pair x a b) old new r
+    at_pair : (r : Result (Option Spot) Stop) → Follows m (option_map bound_value) own old new (value p env a) r → IfOk r (λ o. IfSome o (λ spot. BindsValue p x (bound_value spot) spot × (spot.reads ≡ length (m.reads new.0)))) → LeadsTo m own Second p env (SpecTree.pair x a b) old new r
     at_pair (Err why) h binds = record { follows = follows_stop m (option_map bound_value) (option_map (spot_place env b)) own old new (value p env a) then_pair why h; spot = tt }
     at_pair (Ok None) h binds = record { follows = follows_then_answer m (option_map bound_value) (option_map (spot_place env b)) own old new (value p env a) then_pair None None h refl; spot = tt }
     at_pair (Ok (Some spot)) h binds =
@@ -144,5 +145,5 @@ module _ {R : Type 0} (m : Meaning R) (own : Known) (p : List (List ℕ)) (env :
           spot = leads;
         }
 
-    pub second_leads : (r : Result (Option Spot) Stop) → Follows m (option_map bound_value) own old new (value p env a) r → IfOk r (λ o. IfSome o (λ spot. BindsValue p x (bound_value spot) spot × (spot.frame.reads ≡ length (m.reads new.0)))) → LeadsTo m own Second p env s old new r
+    pub second_leads : (r : Result (Option Spot) Stop) → Follows m (option_map bound_value) own old new (value p env a) r → IfOk r (λ o. IfSome o (λ spot. BindsValue p x (bound_value spot) spot × (spot.reads ≡ length (m.reads new.0)))) → LeadsTo m own Second p env s old new r
     second_leads r h binds = subst (λ s. LeadsTo m own Second p env s old new r) (sym form) (at_pair r h binds)

@@ -6,10 +6,11 @@ use Rattle.fx_store.specs.Rule.{Known, Ask, Answer, Tick}
 use Rattle.fx_expr.specs.Eval.{Outcome, eval_of, names_in}
 use Rattle.fx_expr.specs.ExprTree.{ExprTree}
 use Rattle.fx_expr.specs.Sets.{has_text}
+use Rattle.fx_expr.specs.ShapeTree.{ShapeTree}
 use Rattle.fx_spec.specs.declared.refusal.Refusal.{Refusal}
-use Rattle.fx_spec.specs.Describe.{Bindings}
-use Rattle.fx_spec.specs.Move.{Answered, element, chosen, go_into}
-use Rattle.fx_spec.specs.Place.{Step, First, Elem, Address, lead}
+use Rattle.fx_spec.specs.Describe.{Bindings, arguments, argument_evals, behind}
+use Rattle.fx_spec.specs.Move.{Answered, element, chosen, with_arguments, go_into}
+use Rattle.fx_spec.specs.Place.{Step, First, Body, Elem, Address, lead}
 use Rattle.fx_spec.specs.SpecTree.{SpecTree}
 use Rattle.fx_view.specs.declared.reader.Stop.{Stop}
 use Rattle.fx_view.specs.declared.reader.Stop.TheVariants as stop
@@ -19,17 +20,20 @@ use Rattle.fx_rules.specs.declared.halt.Halt.TheVariants as halt
 use Rattle.fx_rules.specs.Answering.{answered}
 use Rattle.fx_rules.specs.Halts.{split}
 use Rattle.fx_zip.specs.declared.frame.Entry.{Entry}
+use Rattle.fx_zip.specs.declared.frame.Bound.TheVariants as bounds
 use Rattle.fx_zip.specs.declared.frame.Spot.{Spot}
-use Rattle.fx_zip.specs.Parts.{IsNoPair, IsNoComp, IsNoOption}
-use Rattle.fx_zip.specs.Spots.{Leads, LeadsAt, EntersAt, Chooses}
+use Rattle.fx_zip.specs.Spots.{Leads, LeadsAt, Enters, EntersAt, Chooses, BindsNames}
 use Rattle.fx_zip.specs.Steps.{step_tree}
-use Rattle.fx_zip.specs.Telling.{told, costs, Says, set_answer}
-use Rattle.fx_zip.proofs.Leads.{first_leads, element_leads}
+use Rattle.fx_zip.specs.Telling.{told, costs, Says, set_answer, names_answer, tried}
+use Rattle.fx_walk.specs.Arguments.{inner_names}
+use Rattle.fx_zip.proofs.Arguments.{told_behind, costs_behind, with_names, without_names, with_all, with_fault}
+use Rattle.fx_zip.proofs.Leads.{first_leads, element_leads, body_leads}
+use Rattle.fx_view.specs.Meaning.{Meaning}
 use Rattle.fx_view.specs.Reads.{known_of}
 use Rattle.fx_zip.proofs.Telling.{told_found}
 
 pub leads_at : (known : ReadList) (own : Known) (step : Step) (p : List (List ℕ)) (env : Bindings) (s : SpecTree) (was now : ℕ) (spot : Spot) → LeadsAt step p env s was now (Ok (Some spot)) → Leads known own step p env s spot
-leads_at known own step p env s was now spot h = record { found = told_found (known_of (take spot.frame.reads known)) own (lead step p env s) _ h.tells.says; fits = h.spot }
+leads_at known own step p env s was now spot h = record { found = told_found (known_of (take spot.reads known)) own (lead step p env s) _ h.tells.says; fits = h.spot }
 
 -- the step of an entry, spelled in another way
 pub leads_step : (known : ReadList) (own : Known) (step other : Step) (p : List (List ℕ)) (env : Bindings) (s : SpecTree) (spot : Spot) → other ≡ step → Leads known own step p env s spot → Leads known own other p env s spot
@@ -105,27 +109,96 @@ module _ (p : List (List ℕ)) (env : Bindings) (rule : Address → Ask (Answere
 -- ---- first parts
 
 module _ (p : List (List ℕ)) (env : Bindings) (n : ℕ) where
-  pub first_enters : (s : SpecTree) (x : List ℕ) (a b : SpecTree) (entry : Entry) → s ≡ SpecTree.pair x a b → step_tree entry.step ≡ First → entry.spot.frame.path ≡ p → entry.spot.bound ≡ None → EntersAt (λ a. go_into a p env s) p env s n n (Ok entry)
+  pub first_enters : (s : SpecTree) (x : List ℕ) (a b : SpecTree) (entry : Entry) → s ≡ SpecTree.pair x a b → step_tree entry.step ≡ First → entry.spot.path ≡ p → entry.spot.bound ≡ bounds.Nothing → EntersAt (λ a. go_into a p env s) p env s n n (Ok entry)
   first_enters s x a b entry is step path bound = record {
     tells = λ above. record { says = ap (λ s. told (go_into above p env s)) is ∙ (λ i. Some (Ok (sym step i ∷ above))); most = omega arith };
     leads = λ known own.
         leads_step known own First (step_tree entry.step) p env s entry.spot step (leads_at known own First p env s n n entry.spot (first_leads p env s x a b n entry.spot is path bound));
   }
 
-  none_into : (s : SpecTree) → IsNoPair s → IsNoComp s → IsNoOption s → (a : Address) → go_into a p env s ≡ Answer (Err Refusal.NoStep)
-  none_into SpecTree.file u v w a = refl
-  none_into SpecTree.dir u v w a = refl
-  none_into SpecTree.link u v w a = refl
-  none_into (SpecTree.focus e s) u v w a = refl
-  none_into (SpecTree.pair x s t) u v w a = absurd u
-  none_into (SpecTree.comp s x e) u v w a = absurd v
-  none_into (SpecTree.opt s) u v w a = absurd w
-  none_into (SpecTree.pred e) u v w a = refl
-
-  pub first_no_step : (s : SpecTree) → IsNoPair s → IsNoComp s → IsNoOption s → EntersAt (λ a. go_into a p env s) p env s n n (Err (halt.Refused Refusal.NoStep))
-  first_no_step s u v w = enters_none p env (λ a. go_into a p env s) s (none_into s u v w) n
-
   pub first_memory : (s : SpecTree) (r : Result Entry Halt) → IsErrAnd r (λ h. h ≡ halt.Stopped stop.NoMemory) → EntersAt (λ a. go_into a p env s) p env s n n r
   first_memory s r none =
       subst (λ (r : Result Entry Halt). EntersAt (λ a. go_into a p env s) p env s n n r) (sym (err_of r (halt.Stopped stop.NoMemory) none))
       (record { tells = λ a. record { says = tt; most = omega arith }; leads = λ known own. tt })
+
+-- no step from the form
+pub none_from : (p : List (List ℕ)) (env : Bindings) (s other : SpecTree) (n : ℕ) → s ≡ other → ((a : Address) → go_into a p env other ≡ Answer (Err Refusal.NoStep)) → EntersAt (λ a. go_into a p env s) p env s n n (Err (halt.Refused Refusal.NoStep))
+none_from p env s other n is none = enters_none p env (λ a. go_into a p env s) s (λ a. ap (go_into a p env) is ∙ none a) n
+
+-- the form is spelled in another way
+pub enters_form : {R : Type 0} (m : Meaning R) (own : Known) (p : List (List ℕ)) (env : Bindings) (s form : SpecTree) (was now : R × ℕ) (r : Result Entry Halt) → s ≡ form → Enters m own (λ a. go_into a p env form) p env form was now r → Enters m own (λ a. go_into a p env s) p env s was now r
+enters_form m own p env s form was now r is h = subst (λ s. Enters m own (λ a. go_into a p env s) p env s was now r) (sym is) h
+
+-- ---- bodies
+
+module _ (p : List (List ℕ)) (env : Bindings) (args : List ExprTree) (params : List (List ℕ × ShapeTree)) (was now : ℕ) (most : now ≤ was + argument_evals env args) where
+  behind_most : {A : Type 0} (a : A) → now ≤ was + costs (behind (argument_evals env args) (Answer a))
+  behind_most a = subst (λ n. now ≤ was + n) (sym (costs_behind (argument_evals env args) a)) most
+
+  module _ (d : SpecTree) where
+    abbrev EntersBody : Result Entry Halt → Type 0
+    EntersBody r = EntersAt (λ a. go_into a p env (SpecTree.call args params d)) p env (SpecTree.call args params d) was now r
+
+    abbrev in_its_body : Address → Answered Address
+    in_its_body a = with_arguments (Ok (Body ∷ a)) (arguments env args)
+
+    pub body_enters : (names : Bindings) (entry : Entry) → names_answer (inner_names env params args) ≡ Ok names → step_tree entry.step ≡ Body → BindsNames p names entry.spot → EntersBody (Ok entry)
+    body_enters names entry answer step binds = record {
+      tells = λ a. record {
+        says =
+            told_behind (argument_evals env args) (in_its_body a)
+            ∙ ap Some (with_names params (Ok (Body ∷ a)) (arguments env args) names answer)
+            ∙ (λ i. Some (Ok (sym step i ∷ a)));
+        most = behind_most (in_its_body a);
+      };
+      leads = λ known own.
+          leads_step known own Body (step_tree entry.step) p env (SpecTree.call args params d) entry.spot step
+          (leads_at known own Body p env (SpecTree.call args params d) was now entry.spot (body_leads p env (SpecTree.call args params d) args params d refl was now most names entry.spot answer binds));
+    }
+
+    pub body_err : (h : Halt) (r : Result Entry Halt) → IsErrAnd r (λ d. d ≡ h) → Says (answered (λ (names : Bindings). names)) (Some (names_answer (inner_names env params args))) (split (Err h)) → EntersBody r
+    body_err h r none says = subst EntersBody (sym (err_of r h none)) (at h says)
+      where
+        at : (h : Halt) → Says (answered (λ (names : Bindings). names)) (Some (names_answer (inner_names env params args))) (split (Err h)) → EntersBody (Err h)
+        at (halt.Refused f) says = record {
+          tells = λ a. record {
+            says = told_behind (argument_evals env args) (in_its_body a) ∙ (let fault : names_answer (inner_names env params args) ≡ Err f = cc in ap Some (without_names params (Ok (Body ∷ a)) (arguments env args) f fault));
+            most = behind_most (in_its_body a);
+          };
+          leads = λ known own. tt;
+        }
+        at (halt.Stopped stop.NoMemory) says = record { tells = λ a. record { says = tt; most = behind_most (in_its_body a) }; leads = λ known own. tt }
+        at (halt.Stopped (stop.Needs q)) says = absurd says
+
+    pub body_memory : (r : Result Entry Halt) → IsErrAnd r (λ h. h ≡ halt.Stopped stop.NoMemory) → EntersBody r
+    body_memory r none = body_err (halt.Stopped stop.NoMemory) r none tt
+
+  -- at a call inside 64 others
+  abbrev EntersLast : Result Entry Halt → Type 0
+  EntersLast r = EntersAt (λ a. go_into a p env (SpecTree.last args params)) p env (SpecTree.last args params) was now r
+
+  abbrev too_unfolded : Answered Address
+  too_unfolded = with_arguments (Err Refusal.TooUnfolded) (arguments env args)
+
+  pub last_refused : tried (arguments env args) ≡ Ok tt → EntersLast (Err (halt.Refused Refusal.TooUnfolded))
+  last_refused all = record {
+    tells = λ a. record {
+      says = told_behind (argument_evals env args) too_unfolded ∙ ap Some (with_all (Err Refusal.TooUnfolded) (arguments env args) all);
+      most = behind_most too_unfolded;
+    };
+    leads = λ known own. tt;
+  }
+
+  pub last_err : (h : Halt) (r : Result Entry Halt) → IsErrAnd r (λ d. d ≡ h) → Says (answered (λ (u : Unit {0}). u)) (Some (tried (arguments env args))) (split (Err h)) → EntersLast r
+  last_err h r none says = subst EntersLast (sym (err_of r h none)) (at h says)
+    where
+      at : (h : Halt) → Says (answered (λ (u : Unit {0}). u)) (Some (tried (arguments env args))) (split (Err h)) → EntersLast (Err h)
+      at (halt.Refused f) says = record {
+        tells = λ a. record {
+          says = told_behind (argument_evals env args) too_unfolded ∙ (let fault : tried (arguments env args) ≡ Err f = cc in ap Some (with_fault (Err Refusal.TooUnfolded) (arguments env args) f fault));
+          most = behind_most too_unfolded;
+        };
+        leads = λ known own. tt;
+      }
+      at (halt.Stopped stop.NoMemory) says = record { tells = λ a. record { says = tt; most = behind_most too_unfolded }; leads = λ known own. tt }
+      at (halt.Stopped (stop.Needs q)) says = absurd says

@@ -71,9 +71,9 @@ module _ (n : ℕ) (reads : ReadList) (own now : Known) (same : SameOver (take n
   found_lasts [] (f ∷ fs) env told h = absurd h
   found_lasts (step ∷ a) [] env told h = absurd h
   found_lasts (step ∷ a) (f ∷ fs) env told h = (
-    sym (follow_over (known_of (take f.reads reads)) own now (same_within f.reads n reads own now (is_within f.reads n (first_true (nat_le f.reads n) (are_told n fs) told)) same) (lead step (path_of fs) (around step env) (part root a))) ∙ h.0,
+    sym (follow_over (known_of (take f.reads reads)) own now (same_within f.reads n reads own now (is_within f.reads n (first_true (nat_le f.reads n) (are_told n fs) told)) same) (lead step (path_of fs) (around step f.caller env) (part root a))) ∙ h.0,
     h.1,
-    found_lasts a fs (around step env) (then_true (nat_le f.reads n) (are_told n fs) told) h.2,
+    found_lasts a fs (around step f.caller env) (then_true (nat_le f.reads n) (are_told n fs) told) h.2,
   )
 
 pub fresh_lasts : (n : ℕ) (reads : ReadList) (own now : Known) (z : ZipTree) → SameOver (take n reads) own now → are_told n z.frames ≡ true → IsFresh reads own z → IsFresh reads now z
@@ -106,13 +106,13 @@ module _ (reads : ReadList) (own : Known) (z : ZipTree) where
     whole = whole;
     found =
         subst (λ fs. AreFound reads own z.root [] (drop 1 fs) (around_frame z.address fs z.env)) at
-        (ap (λ a. around_last a z.env) (drop_whole z.address (length z.address - 0) (omega arith)) ∙ found);
+        (ap (λ a. around_last a None z.env) (drop_whole z.address (length z.address - 0) (omega arith)) ∙ found);
     set = tt;
   }
   shorter_from ahead [] (f ∷ fs) at whole found = absurd found
   shorter_from ahead (step ∷ kept) [] at whole found = absurd found
   shorter_from ahead (step ∷ kept) (f ∷ fs) at whole found =
-      let long : length fs ≡ length kept = found_length reads own z.root kept fs (around step z.env) found.2 in
+      let long : length fs ≡ length kept = found_length reads own z.root kept fs (around step f.caller z.env) found.2 in
       let both : length (ahead ++ step ∷ kept) ≡ length ahead + length (step ∷ kept) = length-append ahead (step ∷ kept) in
       let all = ap length whole in
       let front : drop (length z.address - length (f ∷ fs)) z.address ≡ step ∷ kept =
@@ -123,7 +123,7 @@ module _ (reads : ReadList) (own : Known) (z : ZipTree) where
         whole = whole ∙ sym (append_assoc ahead (step ∷ []) kept);
         found =
             subst (λ gs. AreFound reads own z.root kept (drop 1 gs) (around_frame z.address gs z.env)) at
-            (subst (λ a. AreFound reads own z.root kept fs (around_last a z.env)) (sym front) found.2);
+            (subst (λ a. AreFound reads own z.root kept fs (around_last a f.caller z.env)) (sym front) found.2);
         set = tt;
       }
 

@@ -1,19 +1,18 @@
 -- Where the steps lead, form by form.
-use Rattle.std.proofs.Common.{◌≡◌, ℕ, ◌+◌, ◌-◌, ◌≤◌, true, false, List, [], ◌∷◌, ◌++◌, length, take, Option, Some, None, option_map, Result, Ok, Err, refl, sym, ap, ◌∙◌, subst, arith, length-append}
+use Rattle.std.proofs.Common.{◌≡◌, ℕ, ◌+◌, ◌-◌, ◌≤◌, true, false, List, [], ◌∷◌, ◌++◌, length, take, Option, Some, None, Result, Ok, Err, refl, sym, ap, ◌∙◌, subst, arith, length-append}
 use Rattle.std.specs.Prelude.{IsErrAnd}
-use Rattle.std.specs.Option.{unwrap_or}
 use Rattle.std.proofs.Math.Seq.{take-append_seam}
 use Rattle.fx_expr.specs.Bindings.{bind}
 use Rattle.fx_expr.specs.Eval.{Outcome, eval_of, names_in}
 use Rattle.fx_expr.specs.ExprTree.{ExprTree}
 use Rattle.fx_expr.specs.Sets.{has_text}
+use Rattle.fx_expr.specs.ShapeTree.{ShapeTree}
 use Rattle.fx_expr.specs.Tree.{Tree}
-use Rattle.fx_expr.specs.Views.{entry_tree, tree_of}
-use Rattle.fx_expr.specs.declared.value.Value.{Value}
+use Rattle.fx_expr.specs.Views.{tree_of}
 use Rattle.fx_spec.specs.declared.refusal.Refusal.{Refusal}
-use Rattle.fx_spec.specs.Describe.{Bindings, focus_path}
+use Rattle.fx_spec.specs.Describe.{Bindings, focus_path, arguments, argument_evals}
 use Rattle.fx_spec.specs.Move.{Answered}
-use Rattle.fx_spec.specs.Place.{Step, First, Down, Elem, placed, where_true, has_element, at_path, lead}
+use Rattle.fx_spec.specs.Place.{Step, First, Down, Body, Elem, PlaceTree, placed, where_true, has_element, at_path, in_body, lead}
 use Rattle.fx_spec.specs.SpecTree.{SpecTree}
 use Rattle.fx_view.specs.declared.reader.Stop.{Stop}
 use Rattle.fx_view.specs.declared.reader.Stop.TheVariants as stop
@@ -22,11 +21,15 @@ use Rattle.fx_rules.specs.declared.halt.Halt.{Halt}
 use Rattle.fx_rules.specs.declared.halt.Halt.TheVariants as halt
 use Rattle.fx_rules.specs.Answering.{answered}
 use Rattle.fx_rules.specs.Halts.{split}
+use Rattle.fx_zip.specs.declared.frame.Bound.{Bound}
+use Rattle.fx_zip.specs.declared.frame.Bound.TheVariants as bounds
 use Rattle.fx_zip.specs.declared.frame.Spot.{Spot}
-use Rattle.fx_zip.specs.Fresh.{HasSet}
-use Rattle.fx_zip.specs.Parts.{IsNoPair, IsNoComp, IsNoFocus}
-use Rattle.fx_zip.specs.Spots.{grown, spot_place, IsSpot, LeadsAt, BindsText}
-use Rattle.fx_zip.specs.Telling.{costs, Says, set_answer, given}
+use Rattle.fx_zip.specs.Fresh.{around, HasSet}
+use Rattle.fx_zip.specs.Parts.{IsNoPair, IsNoComp, IsNoFocus, IsNoCall}
+use Rattle.fx_zip.specs.Spots.{grown, name_in, caller_in, spot_place, IsSpot, LeadsAt, BindsText, BindsNames}
+use Rattle.fx_zip.specs.Telling.{costs, Says, set_answer, names_answer, given}
+use Rattle.fx_walk.specs.Arguments.{inner_names}
+use Rattle.fx_zip.proofs.Arguments.{told_behind, costs_behind, body_place, body_no_place}
 
 -- ---- what is given where a call is not refused
 
@@ -49,9 +52,10 @@ module _ {A X : Type 0} (view : X → A) (o : Answered A) where
 
 -- ---- names bound and given back
 
-pub grown_is : (env : Bindings) (b : Option (List ℕ × Value)) (e : List ℕ × Tree) → option_map entry_tree b ≡ Some e → grown env b ≡ env ++ e ∷ []
-grown_is env None e h = absurd (cc)
-grown_is env (Some b) e h = let same : entry_tree b ≡ e = cc in ap (λ e. env ++ e ∷ []) same
+pub grown_is : (env : Bindings) (b : Bound) (e : List ℕ × Tree) → name_in b ≡ Some e → grown env b ≡ env ++ e ∷ []
+grown_is env bounds.Nothing e h = absurd (cc)
+grown_is env (bounds.Name x v) e h = let same : ◌≡◌ {A = List ℕ × Tree} (x, tree_of v) e = cc in ap (λ e. env ++ e ∷ []) same
+grown_is env (bounds.Names names) e h = absurd (cc)
 
 pub front_last : (env : Bindings) (e : List ℕ × Tree) → take (length (env ++ e ∷ []) - 1) (env ++ e ∷ []) ≡ env
 front_last env e =
@@ -59,12 +63,8 @@ front_last env e =
     let n : length (env ++ e ∷ []) - 1 ≡ length env = omega (arith, long) in
     ap (λ n. take n (env ++ e ∷ [])) n ∙ take-append_seam env (e ∷ [])
 
-front_grown : (env : Bindings) (b : Option (List ℕ × Value)) (e : List ℕ × Tree) → option_map entry_tree b ≡ Some e → take (length (grown env b) - 1) (grown env b) ≡ env
+front_grown : (env : Bindings) (b : Bound) (e : List ℕ × Tree) → name_in b ≡ Some e → take (length (grown env b) - 1) (grown env b) ≡ env
 front_grown env b e h = ap (λ g. take (length g - 1) g) (grown_is env b e h) ∙ front_last env e
-
-pub bound_is : (b : Option (List ℕ × Value)) (x : List ℕ) (v : Tree) → option_map entry_tree b ≡ Some (x, v) → unwrap_or (option_map (λ (b : List ℕ × Value). tree_of b.1) b) Tree.nothing ≡ v
-bound_is None x v h = absurd (cc)
-bound_is (Some b) x v h = let same : ◌≡◌ {A = List ℕ × Tree} (entry_tree b) (x, v) = cc in ap (λ (e : List ℕ × Tree). e.1) same
 
 module _ (p : List (List ℕ)) (env : Bindings) where
   -- ---- memory is refused
@@ -76,7 +76,7 @@ module _ (p : List (List ℕ)) (env : Bindings) where
 
   -- ---- first parts
 
-  pub first_leads : (s : SpecTree) (x : List ℕ) (a b : SpecTree) (n : ℕ) (spot : Spot) → s ≡ SpecTree.pair x a b → spot.frame.path ≡ p → spot.bound ≡ None → LeadsAt First p env s n n (Ok (Some spot))
+  pub first_leads : (s : SpecTree) (x : List ℕ) (a b : SpecTree) (n : ℕ) (spot : Spot) → s ≡ SpecTree.pair x a b → spot.path ≡ p → spot.bound ≡ bounds.Nothing → LeadsAt First p env s n n (Ok (Some spot))
   first_leads s x a b n spot is path bound =
       subst (λ s. LeadsAt First p env s n n (Ok (Some spot))) (sym is)
       (record {
@@ -93,6 +93,8 @@ module _ (p : List (List ℕ)) (env : Bindings) where
   first_none (SpecTree.comp s x e) n none = record { tells = record { says = refl; most = omega arith }; spot = tt }
   first_none (SpecTree.opt s) n none = record { tells = record { says = refl; most = omega arith }; spot = tt }
   first_none (SpecTree.pred e) n none = record { tells = record { says = refl; most = omega arith }; spot = tt }
+  first_none (SpecTree.call args params s) n none = record { tells = record { says = refl; most = omega arith }; spot = tt }
+  first_none (SpecTree.last args params) n none = record { tells = record { says = refl; most = omega arith }; spot = tt }
 
   -- ---- the paths of focuses
 
@@ -103,7 +105,7 @@ module _ (p : List (List ℕ)) (env : Bindings) where
     pub down_refused : (r : Result (Option Spot) Stop) → IsErrAnd r (λ d. d ≡ stop.NoMemory) → LeadsAt Down p env s was now r
     down_refused r none = leads_refused Down s was now r down_cost none
 
-    pub down_leads : (q : List (List ℕ)) (spot : Spot) → focus_path p (eval_of env e) ≡ Ok q → spot.frame.path ≡ q → spot.bound ≡ None → LeadsAt Down p env s was now (Ok (Some spot))
+    pub down_leads : (q : List (List ℕ)) (spot : Spot) → focus_path p (eval_of env e) ≡ Ok q → spot.path ≡ q → spot.bound ≡ bounds.Nothing → LeadsAt Down p env s was now (Ok (Some spot))
     down_leads q spot formed path bound =
         subst (λ s. LeadsAt Down p env s was now (Ok (Some spot))) (sym is)
         (record {
@@ -128,6 +130,60 @@ module _ (p : List (List ℕ)) (env : Bindings) where
   down_form (SpecTree.comp s x e) n none = record { tells = record { says = refl; most = omega arith }; spot = tt }
   down_form (SpecTree.opt s) n none = record { tells = record { says = refl; most = omega arith }; spot = tt }
   down_form (SpecTree.pred e) n none = record { tells = record { says = refl; most = omega arith }; spot = tt }
+  down_form (SpecTree.call args params s) n none = record { tells = record { says = refl; most = omega arith }; spot = tt }
+  down_form (SpecTree.last args params) n none = record { tells = record { says = refl; most = omega arith }; spot = tt }
+
+  -- ---- bodies
+
+  module _ (s : SpecTree) (args : List ExprTree) (params : List (List ℕ × ShapeTree)) (d : SpecTree) (is : s ≡ SpecTree.call args params d) (was now : ℕ) (most : now ≤ was + argument_evals env args) where
+    abbrev at_body : Option PlaceTree
+    at_body = in_body p params d (arguments env args)
+
+    called_cost : now ≤ was + costs (lead Body p env (SpecTree.call args params d))
+    called_cost = subst (λ n. now ≤ was + n) (sym (costs_behind (argument_evals env args) at_body)) most
+
+    body_cost : now ≤ was + costs (lead Body p env s)
+    body_cost = subst (λ s. now ≤ was + costs (lead Body p env s)) (sym is) called_cost
+
+    pub body_refused : (r : Result (Option Spot) Stop) → IsErrAnd r (λ d. d ≡ stop.NoMemory) → LeadsAt Body p env s was now r
+    body_refused r none = leads_refused Body s was now r body_cost none
+
+    pub body_leads : (names : Bindings) (spot : Spot) → names_answer (inner_names env params args) ≡ Ok names → BindsNames p names spot → LeadsAt Body p env s was now (Ok (Some spot))
+    body_leads names spot answer binds =
+        subst (λ s. LeadsAt Body p env s was now (Ok (Some spot))) (sym is)
+        (record {
+          tells = record {
+            says =
+                told_behind (argument_evals env args) at_body
+                ∙ ap Some (body_place params p d (arguments env args) names answer)
+                ∙ (λ i. Some (Some (placed (sym binds.path i) (grown env (sym binds.bound i)) d)));
+            most = called_cost;
+          };
+          spot = record { held = tt; back = ap (λ b. around Body (caller_in env b) (grown env b)) binds.bound };
+        })
+
+    pub body_none : (f : Refusal) → names_answer (inner_names env params args) ≡ Err f → LeadsAt Body p env s was now (Ok None)
+    body_none f answer =
+        subst (λ s. LeadsAt Body p env s was now (Ok None)) (sym is)
+        (record {
+          tells = record {
+            says = told_behind (argument_evals env args) at_body ∙ ap Some (body_no_place params p d (arguments env args) f answer);
+            most = called_cost;
+          };
+          spot = tt;
+        })
+
+  pub body_form : (s : SpecTree) (n : ℕ) → IsNoCall s → LeadsAt Body p env s n n (Ok None)
+  body_form SpecTree.file n none = record { tells = record { says = refl; most = omega arith }; spot = tt }
+  body_form SpecTree.dir n none = record { tells = record { says = refl; most = omega arith }; spot = tt }
+  body_form SpecTree.link n none = record { tells = record { says = refl; most = omega arith }; spot = tt }
+  body_form (SpecTree.focus e s) n none = record { tells = record { says = refl; most = omega arith }; spot = tt }
+  body_form (SpecTree.pair x a b) n none = record { tells = record { says = refl; most = omega arith }; spot = tt }
+  body_form (SpecTree.comp s x e) n none = record { tells = record { says = refl; most = omega arith }; spot = tt }
+  body_form (SpecTree.opt s) n none = record { tells = record { says = refl; most = omega arith }; spot = tt }
+  body_form (SpecTree.pred e) n none = record { tells = record { says = refl; most = omega arith }; spot = tt }
+  body_form (SpecTree.call args params s) n none = absurd none
+  body_form (SpecTree.last args params) n none = record { tells = record { says = refl; most = omega arith }; spot = tt }
 
   -- ---- elements
 
@@ -186,3 +242,5 @@ module _ (p : List (List ℕ)) (env : Bindings) where
   element_form t (SpecTree.comp s x e) n none = absurd none
   element_form t (SpecTree.opt s) n none = record { tells = record { says = refl; most = omega arith }; spot = tt }
   element_form t (SpecTree.pred e) n none = record { tells = record { says = refl; most = omega arith }; spot = tt }
+  element_form t (SpecTree.call args params s) n none = record { tells = record { says = refl; most = omega arith }; spot = tt }
+  element_form t (SpecTree.last args params) n none = record { tells = record { says = refl; most = omega arith }; spot = tt }

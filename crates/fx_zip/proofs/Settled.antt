@@ -87,8 +87,8 @@ module _ {R : Type 0} (m : Meaning R) (own : Known) (start was now : R × ℕ) (
         set = tt;
         so_far =
             follows_then m (λ at. at) (λ at. at) own start was (place z.root at.kept) (with_some λ at. lead step at.path at.env at.spec) now (Some (placed (path_of z.frames) z.env (part z.root at.kept)))
-            (Ok (Some (placed spot.frame.path (grown z.env spot.bound) (child step (part z.root at.kept))))) at.so_far
-            (follows_as m own (option_map (spot_place z.env (child step (part z.root at.kept)))) was now (lead step (path_of z.frames) z.env (part z.root at.kept)) (λ at. at) (Some spot) (Some (placed spot.frame.path (grown z.env spot.bound) (child step (part z.root at.kept)))) refl leads.follows);
+            (Ok (Some (placed spot.path (grown z.env spot.bound) (child step (part z.root at.kept))))) at.so_far
+            (follows_as m own (option_map (spot_place z.env (child step (part z.root at.kept)))) was now (lead step (path_of z.frames) z.env (part z.root at.kept)) (λ at. at) (Some spot) (Some (placed spot.path (grown z.env spot.bound) (child step (part z.root at.kept)))) refl leads.follows);
       }
 
   place_on : (r : Result (Option PlaceTree) Stop) → Follows {A = Option PlaceTree} {X = Option PlaceTree} m (λ at. at) own was now (lead step (path_of z.frames) z.env (part z.root at.kept)) r → PlaceOr m own z.root start now (step ∷ at.kept) r

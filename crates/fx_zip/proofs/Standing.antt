@@ -12,7 +12,7 @@ use Rattle.fx_expr.specs.Eval.{eval_of}
 use Rattle.fx_expr.specs.ExprTree.{ExprTree}
 use Rattle.fx_zip.specs.Telling.{set_answer}
 use Rattle.fx_spec.specs.Describe.{Bindings, with_some}
-use Rattle.fx_spec.specs.Place.{Step, First, Second, Inside, Down, Elem, Address, placed, lead, place}
+use Rattle.fx_spec.specs.Place.{Step, First, Second, Inside, Down, Body, Elem, Address, placed, lead, place}
 use Rattle.fx_spec.specs.Shaped.{IsDescribedPlace}
 use Rattle.fx_spec.specs.SpecTree.{SpecTree}
 use Rattle.fx_spec.specs.WellShaped.{IsDescription}
@@ -23,9 +23,9 @@ use Rattle.fx_view.proofs.Rules.{follow-bind, found_more, found_answer}
 use Rattle.fx_walk.specs.Scopes.{HasScope}
 use Rattle.fx_zip.specs.declared.frame.Frame.{Frame}
 use Rattle.fx_zip.specs.declared.frame.Spot.{Spot}
-use Rattle.fx_zip.specs.Fresh.{around, around_last, IsHeld, IsSetOf, AreFound, IsFresh, Stands, left, last_step, last_set, is_element, set_behind}
+use Rattle.fx_zip.specs.Fresh.{around, around_last, IsHeld, IsSetOf, AreFound, IsFresh, Stands, left, last_step, last_set, last_caller, is_element, set_behind}
 use Rattle.fx_zip.specs.Parts.{child, part}
-use Rattle.fx_zip.specs.Spots.{grown, Leads, entered}
+use Rattle.fx_zip.specs.Spots.{grown, framed, Leads, entered}
 use Rattle.fx_zip.specs.Trees.{ZipTree, path_of, is_settled, IsSettled, here}
 
 -- ---- reads
@@ -57,7 +57,7 @@ module _ (known : ReadList) (own : Known) (root : SpecTree) where
   found_length [] [] env h = refl
   found_length [] (f ∷ fs) env h = absurd h
   found_length (step ∷ a) [] env h = absurd h
-  found_length (step ∷ a) (f ∷ fs) env h = ap suc (found_length a fs (around step env) h.2)
+  found_length (step ∷ a) (f ∷ fs) env h = ap suc (found_length a fs (around step f.caller env) h.2)
 
   -- the place of the steps
   pub found_place : (a : Address) (fs : List Frame) (env : Bindings) → AreFound known own root a fs env → follow (known_of known) own (place root a) ≡ Found (Some (placed (path_of fs) env (part root a)))
@@ -66,15 +66,15 @@ module _ (known : ReadList) (own : Known) (root : SpecTree) where
   found_place [] (f ∷ fs) env h = absurd h
   found_place (step ∷ a) [] env h = absurd h
   found_place (step ∷ a) (f ∷ fs) env h =
-      follow-bind (known_of known) own (place root a) (with_some λ at. lead step at.path at.env at.spec) (Some (placed (path_of fs) (around step env) (part root a))) (found_place a fs (around step env) h.2)
-      ∙ found_more (known_of (take f.reads known)) (known_of known) own (grows_first f.reads known) (lead step (path_of fs) (around step env) (part root a)) (Some (placed f.path env (child step (part root a)))) h.0
+      follow-bind (known_of known) own (place root a) (with_some λ at. lead step at.path at.env at.spec) (Some (placed (path_of fs) (around step f.caller env) (part root a))) (found_place a fs (around step f.caller env) h.2)
+      ∙ found_more (known_of (take f.reads known)) (known_of known) own (grows_first f.reads known) (lead step (path_of fs) (around step f.caller env) (part root a)) (Some (placed f.path env (child step (part root a)))) h.0
 
   pub found_grows : (more : ReadList) → IsMore known more → (a : Address) (fs : List Frame) (env : Bindings) → AreFound known own root a fs env → AreFound more own root a fs env
   found_grows more grows [] [] env h = h
   found_grows more grows [] (f ∷ fs) env h = absurd h
   found_grows more grows (step ∷ a) [] env h = absurd h
   found_grows more grows (step ∷ a) (f ∷ fs) env h =
-      (found_more (known_of (take f.reads known)) (known_of (take f.reads more)) own (first_grows f.reads known more grows) (lead step (path_of fs) (around step env) (part root a)) (Some (placed f.path env (child step (part root a)))) h.0, h.1, found_grows more grows a fs (around step env) h.2)
+      (found_more (known_of (take f.reads known)) (known_of (take f.reads more)) own (first_grows f.reads known more grows) (lead step (path_of fs) (around step f.caller env) (part root a)) (Some (placed f.path env (child step (part root a)))) h.0, h.1, found_grows more grows a fs (around step f.caller env) h.2)
 
   -- it is described
   pub found_described : IsDescription [] root → (a : Address) (fs : List Frame) (env : Bindings) → AreFound known own root a fs env → IsDescribedPlace (placed (path_of fs) env (part root a))
@@ -88,9 +88,9 @@ module _ (known : ReadList) (own : Known) (root : SpecTree) where
   found_scope d a fs env h = let at = found_described d a fs env h in record { scope = at.0; described = at.1 }
 
   -- one frame more
-  pub found_entered : (a : Address) (fs : List Frame) (env : Bindings) (step : Step) (spot : Spot) → AreFound known own root a fs env → Leads known own step (path_of fs) env (part root a) spot → AreFound known own root (step ∷ a) (spot.frame ∷ fs) (grown env spot.bound)
+  pub found_entered : (a : Address) (fs : List Frame) (env : Bindings) (step : Step) (spot : Spot) → AreFound known own root a fs env → Leads known own step (path_of fs) env (part root a) spot → AreFound known own root (step ∷ a) (framed env spot ∷ fs) (grown env spot.bound)
   found_entered a fs env step spot h leads =
-      subst (λ e. (follow (known_of (take spot.frame.reads known)) own (lead step (path_of fs) e (part root a)) ≡ Found (Some (placed spot.frame.path (grown env spot.bound) (child step (part root a))))) × IsHeld step spot.frame.set e (part root a) × AreFound known own root a fs e)
+      subst (λ e. (follow (known_of (take spot.reads known)) own (lead step (path_of fs) e (part root a)) ≡ Found (Some (placed spot.path (grown env spot.bound) (child step (part root a))))) × IsHeld step spot.set e (part root a) × AreFound known own root a fs e)
       (sym leads.fits.back) (leads.found, leads.fits.held, h)
 
 module _ (known : ReadList) (own : Known) (z : ZipTree) where
@@ -137,18 +137,18 @@ is_below m n e = grind (arith, nat_tests)
 
 -- what is left of a settled zipper
 abbrev pub without_last : ZipTree → ZipTree
-without_last z = record { root = z.root; address = drop 1 z.address; frames = drop 1 z.frames; env = around_last z.address z.env; set = set_behind z }
+without_last z = record { root = z.root; address = drop 1 z.address; frames = drop 1 z.frames; env = around_last z.address (last_caller z.frames) z.env; set = set_behind z }
 
 abbrev pub without_step : ZipTree → ZipTree
 without_step z = record { root = z.root; address = drop 1 z.address; frames = z.frames; env = z.env; set = None }
 
 pub left_settled : (z : ZipTree) → is_settled z ≡ true → left z ≡ without_last z
-left_settled z e = ap (λ b. record { root = z.root; address = drop 1 z.address; frames = cond b (drop 1 z.frames) z.frames; env = cond b (around_last z.address z.env) z.env; set = cond b (set_behind z) None }) e
+left_settled z e = ap (λ b. record { root = z.root; address = drop 1 z.address; frames = cond b (drop 1 z.frames) z.frames; env = cond b (around_last z.address (last_caller z.frames) z.env) z.env; set = cond b (set_behind z) None }) e
 
 pub left_unsettled : (z : ZipTree) → is_settled z ≡ false → left z ≡ without_step z
-left_unsettled z e = ap (λ b. record { root = z.root; address = drop 1 z.address; frames = cond b (drop 1 z.frames) z.frames; env = cond b (around_last z.address z.env) z.env; set = cond b (set_behind z) None }) e
+left_unsettled z e = ap (λ b. record { root = z.root; address = drop 1 z.address; frames = cond b (drop 1 z.frames) z.frames; env = cond b (around_last z.address (last_caller z.frames) z.env) z.env; set = cond b (set_behind z) None }) e
 
-found_without : (known : ReadList) (own : Known) (root : SpecTree) (a : Address) (fs : List Frame) (env : Bindings) → AreFound known own root a fs env → AreFound known own root (drop 1 a) (drop 1 fs) (around_last a env)
+found_without : (known : ReadList) (own : Known) (root : SpecTree) (a : Address) (fs : List Frame) (env : Bindings) → AreFound known own root a fs env → AreFound known own root (drop 1 a) (drop 1 fs) (around_last a (last_caller fs) env)
 found_without known own root [] [] env h = h
 found_without known own root [] (f ∷ fs) env h = absurd h
 found_without known own root (step ∷ a) [] env h = absurd h
@@ -164,16 +164,19 @@ held_is (Some set) t env (SpecTree.pair x a b) h = tt
 held_is (Some set) t env (SpecTree.comp s x e) h = h
 held_is (Some set) t env (SpecTree.opt s) h = tt
 held_is (Some set) t env (SpecTree.pred e) h = tt
+held_is (Some set) t env (SpecTree.call args params s) h = tt
+held_is (Some set) t env (SpecTree.last args params) h = tt
 
 -- the set that an element's frame keeps is that of the comprehension around
-set_without : (known : ReadList) (own : Known) (root : SpecTree) (a : Address) (fs : List Frame) (env : Bindings) → AreFound known own root a fs env → IsSetOf (cond (is_element (last_step a)) (last_set fs) None) (around_last a env) (part root (drop 1 a))
+set_without : (known : ReadList) (own : Known) (root : SpecTree) (a : Address) (fs : List Frame) (env : Bindings) → AreFound known own root a fs env → IsSetOf (cond (is_element (last_step a)) (last_set fs) None) (around_last a (last_caller fs) env) (part root (drop 1 a))
 set_without known own root [] fs env h = tt
 set_without known own root (First ∷ a) fs env h = tt
 set_without known own root (Second ∷ a) fs env h = tt
 set_without known own root (Inside ∷ a) fs env h = tt
 set_without known own root (Down ∷ a) fs env h = tt
+set_without known own root (Body ∷ a) fs env h = tt
 set_without known own root (Elem t ∷ a) [] env h = tt
-set_without known own root (Elem t ∷ a) (f ∷ fs) env h = held_is f.set t (around (Elem t) env) (part root a) h.1
+set_without known own root (Elem t ∷ a) (f ∷ fs) env h = held_is f.set t (around (Elem t) f.caller env) (part root a) h.1
 
 module _ (known : ReadList) (own : Known) (z : ZipTree) where
   pub stands_left : Stands known own z → Stands known own (left z)

@@ -78,7 +78,7 @@ module _ {R : Type 0} (m : Meaning R) (own : Known) where
   spots_of : (step : Step) (p : List (List ℕ)) (env : Bindings) (spec : SpecTree) (r : R) (was now : ℕ) (result : Result (Option Spot) Stop) → LeadsAt step p env spec was now result → IfOk result (λ o. IfSome o (Leads (m.reads r) own step p env spec))
   spots_of step p env spec r was now (Err why) h = tt
   spots_of step p env spec r was now (Ok None) h = tt
-  spots_of step p env spec r was now (Ok (Some spot)) h = record { found = told_found (known_of (take spot.frame.reads (m.reads r))) own (lead step p env spec) _ h.tells.says; fits = h.spot }
+  spots_of step p env spec r was now (Ok (Some spot)) h = record { found = told_found (known_of (take spot.reads (m.reads r))) own (lead step p env spec) _ h.tells.says; fits = h.spot }
 
   pub leads_of : (step : Step) (p : List (List ℕ)) (env : Bindings) (spec : SpecTree) (r : R) (was now : ℕ) (result : Result (Option Spot) Stop) → LeadsAt step p env spec was now result → LeadsTo m own step p env spec (r, was) (r, now) result
   leads_of step p env spec r was now result h = record { follows = tells_follows _ r was now (lead step p env spec) result h.tells; spot = spots_of step p env spec r was now result h }

@@ -1,8 +1,9 @@
 -- Lists with the last first.
 use Rattle.std.proofs.Common.{◌≡◌, ℕ, zero, suc, ◌+◌, ◌-◌, ◌<◌, ◌≤◌, List, [], ◌∷◌, ◌++◌, length, take, drop, true, false, Option, Some, None, refl, sym, ap, ◌∙◌, append_assoc, arith, length-append, length-drop}
 use Rattle.std.specs.Prelude.{slice_get, IsSome, MatchOption}
+use Rattle.fx_spec.specs.Describe.{Bindings}
 use Rattle.fx_zip.specs.declared.frame.Frame.{Frame}
-use Rattle.fx_zip.specs.Fresh.{last_set}
+use Rattle.fx_zip.specs.Fresh.{last_set, last_caller}
 use Rattle.std.specs.Option.{option_to_list}
 use Rattle.std.proofs.lemmas.List.{take-append-drop}
 use Rattle.fx_view.proofs.Lists.{drop_at}
@@ -72,8 +73,13 @@ popped f [] [] None items some = refl
 popped f [] (y ∷ new) None items some = absurd (cc)
 popped f (x ∷ old) new None items some = let more : false ≡ true = some (omega arith) in absurd (cc)
 
--- the set in the one that was taken off
+-- the set and the caller's names in the one that was taken off
 pub popped_set : (old new : List Frame) (r : Option Frame) → old ≡ new ++ option_to_list r → (0 < length old → IsSome r) → (set : Option (List (List ℕ))) → MatchOption r (set ≡ None) (λ f. set ≡ f.set) → set ≡ last_set (turned (λ f. f) old)
 popped_set old new (Some x) items some set h = h ∙ sym (ap (λ xs. last_set (turned (λ f. f) xs)) items ∙ ap last_set (turned-last (λ f. f) new x))
 popped_set [] new None items some set h = h
 popped_set (x ∷ old) new None items some set h = let more : false ≡ true = some (omega arith) in absurd (cc)
+
+pub popped_caller : (old new : List Frame) (r : Option Frame) → old ≡ new ++ option_to_list r → (0 < length old → IsSome r) → (caller : Option Bindings) → MatchOption r (caller ≡ None) (λ f. caller ≡ f.caller) → caller ≡ last_caller (turned (λ f. f) old)
+popped_caller old new (Some x) items some caller h = h ∙ sym (ap (λ xs. last_caller (turned (λ f. f) xs)) items ∙ ap last_caller (turned-last (λ f. f) new x))
+popped_caller [] new None items some caller h = h
+popped_caller (x ∷ old) new None items some caller h = let more : false ≡ true = some (omega arith) in absurd (cc)

@@ -12,7 +12,7 @@ use Rattle.fx_expr.specs.declared.value.Value.{Value}
 use Rattle.fx_spec.specs.declared.refusal.Refusal.{Refusal}
 use Rattle.fx_spec.specs.Describe.{value}
 use Rattle.fx_spec.specs.Move.{Answered, at_place, go_into, go_to, go_next, go_down, go_out, go_up, fetch_at}
-use Rattle.fx_spec.specs.Place.{First, Second, Inside, Elem, Address, place}
+use Rattle.fx_spec.specs.Place.{First, Second, Inside, Body, Elem, Address, place}
 use Rattle.fx_spec.specs.Place as steps
 use Rattle.fx_spec.specs.Transaction.{from_place}
 use Rattle.fx_view.specs.Meaning.{Meaning}
@@ -46,6 +46,7 @@ next_same z S (First ∷ a) e = ap (λ w. evals_at z.root w (λ at. value at.pat
 next_same z S (Second ∷ a) e = refl
 next_same z S (Inside ∷ a) e = refl
 next_same z S (steps.Down ∷ a) e = refl
+next_same z S (Body ∷ a) e = refl
 next_same z S (Elem t ∷ a) e = refl
 
 module _ {R : Type 0} (m : Meaning R) (own : Known) (old new : ZipTree) (was now : R × ℕ) (S : Store) (agrees : Agrees (m.reads now.0) S) where

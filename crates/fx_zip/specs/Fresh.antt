@@ -2,21 +2,24 @@
 use Rattle.fx_view.specs.ReadList.{ReadList}
 use Rattle.fx_view.specs.Reads.{known_of}
 use Rattle.std.specs.Prelude.{◌≡◌, ℕ, ◌-◌, Bool, true, false, cond, List, [], ◌∷◌, ◌++◌, length, take, drop, Option, Some, None, Ok, ◌&&◌, nat_le}
+use Rattle.std.specs.Option.{unwrap_or}
 use Rattle.fx_store.specs.Rule.{Known, Found, follow}
 use Rattle.fx_expr.specs.Eval.{Outcome, eval_of}
 use Rattle.fx_spec.specs.Describe.{Bindings}
-use Rattle.fx_spec.specs.Place.{Step, First, Second, Elem, Address, placed, lead}
+use Rattle.fx_spec.specs.Place.{Step, First, Second, Body, Elem, Address, placed, lead}
 use Rattle.fx_spec.specs.SpecTree.{SpecTree}
 use Rattle.fx_zip.specs.declared.frame.Frame.{Frame}
 use Rattle.fx_zip.specs.Parts.{child, part}
 use Rattle.fx_zip.specs.Telling.{set_answer}
 use Rattle.fx_zip.specs.Trees.{ZipTree, path_of, is_settled}
 
--- the names bound around a step: to a second part and to an element it binds one more
-abbrev pub around : Step → Bindings → Bindings
-around Second env = take (length env - 1) env
-around (Elem t) env = take (length env - 1) env
-around _ env = env
+-- the names bound around a step: to a second part and to an element it binds one more, and in a body the parameters alone are
+-- bound, so that its frame keeps the caller's names
+abbrev pub around : Step → Option Bindings → Bindings → Bindings
+around Second caller env = take (length env - 1) env
+around (Elem t) caller env = take (length env - 1) env
+around Body caller env = unwrap_or caller env
+around _ caller env = env
 
 -- at an element, the set that the comprehension around it has
 abbrev pub HasSet : Option (List (List ℕ)) → Outcome → Type 0
@@ -39,9 +42,9 @@ AreFound reads own root [] [] env = env ≡ []
 AreFound reads own root [] (f ∷ fs) env = ⊥
 AreFound reads own root (step ∷ above) [] env = ⊥
 AreFound reads own root (step ∷ above) (f ∷ fs) env =
-    (follow (known_of (take f.reads reads)) own (lead step (path_of fs) (around step env) (part root above)) ≡ Found (Some (placed f.path env (child step (part root above)))))
-    × IsHeld step f.set (around step env) (part root above)
-    × AreFound reads own root above fs (around step env)
+    (follow (known_of (take f.reads reads)) own (lead step (path_of fs) (around step f.caller env) (part root above)) ≡ Found (Some (placed f.path env (child step (part root above)))))
+    × IsHeld step f.set (around step f.caller env) (part root above)
+    × AreFound reads own root above fs (around step f.caller env)
 
 -- the frames are those of the first steps; those of the others are not kept
 pub record IsFresh (reads : ReadList) (own : Known) (z : ZipTree) : Type 0 where
@@ -81,13 +84,17 @@ last_set (f ∷ fs) = f.set
 abbrev pub set_behind : ZipTree → Option (List (List ℕ))
 set_behind z = cond (is_element (last_step z.address)) (last_set z.frames) None
 
-abbrev pub around_last : Address → Bindings → Bindings
-around_last [] env = env
-around_last (step ∷ above) env = around step env
+abbrev pub last_caller : List Frame → Option Bindings
+last_caller [] = None
+last_caller (f ∷ fs) = f.caller
+
+abbrev pub around_last : Address → Option Bindings → Bindings → Bindings
+around_last [] caller env = env
+around_last (step ∷ above) caller env = around step caller env
 
 -- without the last step's frame
 abbrev pub unframed : ZipTree → ZipTree
-unframed z = record { root = z.root; address = z.address; frames = drop 1 z.frames; env = around_last z.address z.env; set = set_behind z }
+unframed z = record { root = z.root; address = z.address; frames = drop 1 z.frames; env = around_last z.address (last_caller z.frames) z.env; set = set_behind z }
 
 -- without any frame
 abbrev pub unkept : ZipTree → ZipTree
@@ -100,7 +107,7 @@ left z =
       root = z.root;
       address = drop 1 z.address;
       frames = cond (is_settled z) (drop 1 z.frames) z.frames;
-      env = cond (is_settled z) (around_last z.address z.env) z.env;
+      env = cond (is_settled z) (around_last z.address (last_caller z.frames) z.env) z.env;
       set = cond (is_settled z) (set_behind z) None;
     }
 
@@ -115,7 +122,7 @@ are_told n (f ∷ fs) = nat_le f.reads n && are_told n fs
 
 -- the names bound before the last of so many steps
 abbrev pub around_frame : Address → List Frame → Bindings → Bindings
-around_frame a fs env = around_last (drop (length a - length fs) a) env
+around_frame a fs env = around_last (drop (length a - length fs) a) (last_caller fs) env
 
 -- without the last frame
 abbrev pub shorter : ZipTree → ZipTree

@@ -1,6 +1,6 @@
 -- The part of a description to which an address leads, whatever a filestore has.
 use Rattle.std.specs.Prelude.{ℕ, List, [], ◌∷◌, Option, Some, None}
-use Rattle.fx_spec.specs.Place.{Step, First, Second, Inside, Down, Elem, Address}
+use Rattle.fx_spec.specs.Place.{Step, First, Second, Inside, Down, Body, Elem, Address}
 use Rattle.fx_spec.specs.SpecTree.{SpecTree}
 
 -- a step that the form lacks leads back to it
@@ -10,6 +10,7 @@ child Second (SpecTree.pair x a b) = b
 child (Elem t) (SpecTree.comp s x e) = s
 child Inside (SpecTree.opt s) = s
 child Down (SpecTree.focus e s) = s
+child Body (SpecTree.call args params s) = s
 child _ spec = spec
 
 abbrev pub part : SpecTree → Address → SpecTree
@@ -32,6 +33,10 @@ IsNoFocus _ = Unit {0}
 abbrev pub IsNoOption : SpecTree → Type 0
 IsNoOption (SpecTree.opt s) = ⊥
 IsNoOption _ = Unit {0}
+
+abbrev pub IsNoCall : SpecTree → Type 0
+IsNoCall (SpecTree.call args params s) = ⊥
+IsNoCall _ = Unit {0}
 
 -- the name of a comprehension
 abbrev pub comp_name : SpecTree → Option (List ℕ)

@@ -4,8 +4,7 @@ use Rattle.std.specs.Prelude.{◌≡◌, ℕ, List, [], ◌∷◌, ◌++◌, len
 use Rattle.std.specs.Option.{IfSome, option_map, unwrap_or}
 use Rattle.fx_store.specs.Rule.{Known, Ask, Found, follow}
 use Rattle.fx_expr.specs.Tree.{Tree}
-use Rattle.fx_expr.specs.Views.{entry_tree, tree_of}
-use Rattle.fx_expr.specs.declared.value.Value.{Value}
+use Rattle.fx_expr.specs.Views.{tree_of}
 use Rattle.fx_spec.specs.Describe.{Bindings, value}
 use Rattle.fx_spec.specs.Move.{Answered, element}
 use Rattle.fx_spec.specs.Place.{Step, Elem, Address, PlaceTree, placed, lead}
@@ -17,6 +16,9 @@ use Rattle.fx_view.specs.Reads.{known_of}
 use Rattle.fx_rules.specs.declared.halt.Halt.{Halt}
 use Rattle.fx_rules.specs.Answering.{answered}
 use Rattle.fx_rules.specs.Halts.{split}
+use Rattle.fx_zip.specs.declared.frame.Bound.{Bound}
+use Rattle.fx_zip.specs.declared.frame.Bound.TheVariants as bounds
+use Rattle.fx_zip.specs.declared.frame.Frame.{Frame}
 use Rattle.fx_zip.specs.declared.frame.Spot.{Spot}
 use Rattle.fx_zip.specs.declared.frame.Entry.{Entry}
 use Rattle.fx_zip.specs.Fresh.{around, IsHeld}
@@ -25,47 +27,69 @@ use Rattle.fx_zip.specs.Steps.{step_tree}
 use Rattle.fx_zip.specs.Telling.{Says, Tells}
 use Rattle.fx_zip.specs.Trees.{ZipTree, path_of}
 
--- with one name more, where there is one
-abbrev pub grown : Bindings → Option (List ℕ × Value) → Bindings
-grown env None = env
-grown env (Some b) = env ++ entry_tree b ∷ []
+-- the names after a step: the same, one more, or others
+abbrev pub grown : Bindings → Bound → Bindings
+grown env bounds.Nothing = env
+grown env (bounds.Name x v) = env ++ (x, tree_of v) ∷ []
+grown env (bounds.Names names) = names
+
+-- the one name more
+abbrev pub name_in : Bound → Option (List ℕ × Tree)
+name_in bounds.Nothing = None
+name_in (bounds.Name x v) = Some (x, tree_of v)
+name_in (bounds.Names names) = None
+
+-- the names before the step, where it binds others
+abbrev pub caller_in : Bindings → Bound → Option Bindings
+caller_in env bounds.Nothing = None
+caller_in env (bounds.Name x v) = None
+caller_in env (bounds.Names names) = Some env
+
+-- the frame of a spot
+abbrev pub framed : Bindings → Spot → Frame
+framed env spot = record { path = spot.path; set = spot.set; reads = spot.reads; caller = caller_in env spot.bound }
 
 -- the place of a spot
 abbrev pub spot_place : Bindings → SpecTree → Spot → PlaceTree
-spot_place env spec spot = placed spot.frame.path (grown env spot.bound) spec
+spot_place env spec spot = placed spot.path (grown env spot.bound) spec
 
--- the spot keeps the set of the comprehension, and binds a name where the step does
+-- the spot keeps the set of the comprehension, and from its names those before it come back
 pub record IsSpot (step : Step) (env : Bindings) (spec : SpecTree) (spot : Spot) : Type 0 where
-  pub held : IsHeld step spot.frame.set env spec
-  pub back : around step (grown env spot.bound) ≡ env
+  pub held : IsHeld step spot.set env spec
+  pub back : around step (caller_in env spot.bound) (grown env spot.bound) ≡ env
 
 -- the step leads from a place to the spot
 pub record Leads (reads : ReadList) (own : Known) (step : Step) (p : List (List ℕ)) (env : Bindings) (spec : SpecTree) (spot : Spot) : Type 0 where
-  pub found : follow (known_of (take spot.frame.reads reads)) own (lead step p env spec) ≡ Found (Some (spot_place env (child step spec) spot))
+  pub found : follow (known_of (take spot.reads reads)) own (lead step p env spec) ≡ Found (Some (spot_place env (child step spec) spot))
   pub fits : IsSpot step env spec spot
 
 -- one frame more
 abbrev pub kept_too : ZipTree → Spot → ZipTree
-kept_too z spot = record { root = z.root; address = z.address; frames = spot.frame ∷ z.frames; env = grown z.env spot.bound; set = None }
+kept_too z spot = record { root = z.root; address = z.address; frames = framed z.env spot ∷ z.frames; env = grown z.env spot.bound; set = None }
 
 -- one step more, with its frame
 abbrev pub entered : ZipTree → Step → Spot → ZipTree
-entered z step spot = record { root = z.root; address = step ∷ z.address; frames = spot.frame ∷ z.frames; env = grown z.env spot.bound; set = None }
+entered z step spot = record { root = z.root; address = step ∷ z.address; frames = framed z.env spot ∷ z.frames; env = grown z.env spot.bound; set = None }
 
 -- a spot at the path that binds the name to the text, with the set
 pub record BindsText (p : List (List ℕ)) (x t : List ℕ) (set : List (List ℕ)) (spot : Spot) : Type 0 where
-  pub path : spot.frame.path ≡ p
-  pub held : spot.frame.set ≡ Some set
-  pub bound : option_map entry_tree spot.bound ≡ Some (x, Tree.str t)
+  pub path : spot.path ≡ p
+  pub held : spot.set ≡ Some set
+  pub bound : name_in spot.bound ≡ Some (x, Tree.str t)
 
 -- one that binds the name to the value
 pub record BindsValue (p : List (List ℕ)) (x : List ℕ) (v : Tree) (spot : Spot) : Type 0 where
-  pub path : spot.frame.path ≡ p
-  pub bound : option_map entry_tree spot.bound ≡ Some (x, v)
+  pub path : spot.path ≡ p
+  pub bound : name_in spot.bound ≡ Some (x, v)
+
+-- one that binds these names alone
+pub record BindsNames (p : List (List ℕ)) (names : Bindings) (spot : Spot) : Type 0 where
+  pub path : spot.path ≡ p
+  pub bound : spot.bound ≡ bounds.Names names
 
 -- the value that a spot binds
 abbrev pub bound_value : Spot → Tree
-bound_value spot = unwrap_or (option_map (λ b. tree_of b.1) spot.bound) Tree.nothing
+bound_value spot = unwrap_or (option_map (λ (b : List ℕ × Tree). b.1) (name_in spot.bound)) Tree.nothing
 
 -- the call answers the spot to which the step leads, where it leads to one
 pub record LeadsTo {R : Type 0} (m : Meaning R) (own : Known) (step : Step) (p : List (List ℕ)) (env : Bindings) (spec : SpecTree) (was now : R × ℕ) (result : Result (Option Spot) Stop) : Type 0 where
@@ -93,7 +117,7 @@ pub record FirstLeads {R : Type 0} (m : Meaning R) (own : Known) (z : ZipTree) (
   pub second : SpecTree
   pub form : part z.root (drop 1 z.address) ≡ SpecTree.pair name first second
   pub follows : Follows m (option_map bound_value) own was now (value (path_of (drop 1 z.frames)) z.env first) result
-  pub spot : IfOk result (λ o. IfSome o (λ spot. BindsValue (path_of (drop 1 z.frames)) name (bound_value spot) spot × (spot.frame.reads ≡ length (m.reads now.0))))
+  pub spot : IfOk result (λ o. IfSome o (λ spot. BindsValue (path_of (drop 1 z.frames)) name (bound_value spot) spot × (spot.reads ≡ length (m.reads now.0))))
 
 -- the call answers the entry of the step that the rule of a move adds
 pub record Enters {R : Type 0} (m : Meaning R) (own : Known) (rule : Address → Ask (Answered Address)) (p : List (List ℕ)) (env : Bindings) (spec : SpecTree) (was now : R × ℕ) (result : Result Entry Halt) : Type 0 where

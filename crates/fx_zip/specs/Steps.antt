@@ -9,6 +9,7 @@ step_tree step.First = place.First
 step_tree step.Second = place.Second
 step_tree step.Inside = place.Inside
 step_tree step.Down = place.Down
+step_tree step.Body = place.Body
 step_tree (step.Elem text) = place.Elem text
 
 -- these in front of others, the last one first

@@ -1,8 +1,13 @@
 -- What a call says that consults nothing: it answers what a rule answers, and evaluates no more often.
-use Rattle.std.specs.Prelude.{◌≡◌, ℕ, ◌+◌, ◌≤◌, List, Option, Some, None, Result, Ok, Err}
+use Rattle.std.specs.Prelude.{◌≡◌, ℕ, ◌+◌, ◌≤◌, List, [], ◌∷◌, Option, Some, None, Result, Ok, Err}
 use Rattle.fx_store.specs.Rule.{Ask, Answer, Look, Tick}
 use Rattle.fx_expr.specs.Eval.{Outcome, names_in}
+use Rattle.fx_expr.specs.ExprTree.{ExprTree}
+use Rattle.fx_expr.specs.Shapes.{IsWellShaped}
+use Rattle.fx_expr.specs.Tree.{Tree}
+use Rattle.fx_expr.specs.declared.fault.ExprFault.{ExprFault}
 use Rattle.fx_spec.specs.declared.refusal.Refusal.{Refusal}
+use Rattle.fx_spec.specs.Describe.{Bindings}
 use Rattle.fx_spec.specs.Move.{Answered}
 use Rattle.fx_view.specs.declared.reader.Stop.{Stop}
 use Rattle.fx_view.specs.declared.reader.Stop.TheVariants as stop
@@ -35,6 +40,21 @@ pub record Tells {A X : Type 0} (view : X → A) (was now : ℕ) (rule : Ask A) 
 abbrev pub set_answer : Outcome → Answered (List (List ℕ))
 set_answer (Ok v) = Ok (names_in v)
 set_answer (Err f) = Err (Refusal.Expr f)
+
+-- the names in a call's body, or the first fault of its arguments
+abbrev pub names_answer : Result Bindings ExprFault → Answered Bindings
+names_answer (Ok names) = Ok names
+names_answer (Err f) = Err (Refusal.Expr f)
+
+-- nothing, where each argument has a value, or their first fault
+abbrev pub tried : Result (List Tree) ExprFault → Answered (Unit {0})
+tried (Ok vs) = Ok tt
+tried (Err f) = Err (Refusal.Expr f)
+
+-- each argument of a call is well shaped
+abbrev pub AreWellShaped : Bindings → List ExprTree → Type 0
+AreWellShaped env [] = Unit {0}
+AreWellShaped env (e ∷ es) = IsWellShaped env e × AreWellShaped env es
 
 -- what there is where a call is not refused
 abbrev pub given : {X : Type 0} → Result X Halt → Result (Option X) Stop

@@ -4,7 +4,7 @@ use Rattle.std.specs.Coded.{Coded, code_by, coded×, coded_ℕ, coded_list, code
 use Rattle.fx_expr.specs.Codes.{coded_bytes, coded_bindings}
 use Rattle.fx_spec.specs.Codes.{coded_spec}
 use Rattle.fx_spec.specs.Describe.{Bindings}
-use Rattle.fx_spec.specs.Place.{Step, First, Second, Inside, Down, Elem, Address, PlaceTree, placed}
+use Rattle.fx_spec.specs.Place.{Step, First, Second, Inside, Down, Body, Elem, Address, PlaceTree, placed}
 use Rattle.fx_spec.specs.SpecTree.{SpecTree}
 use Rattle.fx_zip.specs.contracts.frame.Frame as frame
 use Rattle.fx_zip.specs.declared.frame.Frame.{Frame}
@@ -42,7 +42,8 @@ step_number First = 0
 step_number Second = 1
 step_number Inside = 2
 step_number Down = 3
-step_number (Elem t) = 4
+step_number Body = 4
+step_number (Elem t) = 5
 
 abbrev pub step_text : Step → List ℕ
 step_text (Elem t) = t
@@ -53,13 +54,15 @@ step_from zero t = First
 step_from (suc zero) t = Second
 step_from (suc (suc zero)) t = Inside
 step_from (suc (suc (suc zero))) t = Down
-step_from (suc (suc (suc (suc n)))) t = Elem t
+step_from (suc (suc (suc (suc zero)))) t = Body
+step_from (suc (suc (suc (suc (suc n))))) t = Elem t
 
 pub step_back : (s : Step) → step_from (step_number s) (step_text s) ≡ s
 step_back First = refl
 step_back Second = refl
 step_back Inside = refl
 step_back Down = refl
+step_back Body = refl
 step_back (Elem t) = refl
 
 abbrev pub coded_step : Coded Step

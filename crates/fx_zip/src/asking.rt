@@ -26,7 +26,8 @@ use std::sync::ledger::Ledger;
 impl Zip {
     /// What the form at the place gives: a file's bytes, or whether it is executable where a truth value is asked for; a
     /// directory's names, a link's text, a focus's text, a comprehension's set, whether an option's entry is there, or
-    /// whether a predicate is true. It is of the wrong form where that has another shape.
+    /// whether a predicate is true. A pair and a call give nothing. It is of the wrong form there, and where what the form
+    /// gives has another shape.
     pub fn fetch<R: Reader, L: Ledger>(
         &mut self,
         alloc: Global,
@@ -108,14 +109,14 @@ impl Zip {
         ensures described { IsDescription [] self.old.root }
     {
         let path = last_path(&self.top, self.frames.as_slice());
-        let spec = part(self.base.description.spec(), self.steps.as_slice());
+        let spec = part(&self.base.description.root(), self.steps.as_slice());
         fetch_at(
             alloc,
             reader,
             overlay,
             path,
             &mut self.env,
-            spec,
+            &spec,
             shape,
             steps,
         )
@@ -139,14 +140,14 @@ impl Zip {
         ensures described { IsDescription [] self.old.root }
     {
         let path = last_path(&self.top, self.frames.as_slice());
-        let spec = part(self.base.description.spec(), self.steps.as_slice());
+        let spec = part(&self.base.description.root(), self.steps.as_slice());
         whole_at(
             alloc,
             reader,
             overlay,
             path,
             &mut self.env,
-            spec,
+            &spec,
             shape,
             steps,
         )
@@ -168,7 +169,7 @@ impl Zip {
             (validate_at (here self.old)) (split result) }
     {
         let path = last_path(&self.top, self.frames.as_slice());
-        let spec = part(self.base.description.spec(), self.steps.as_slice());
-        validate_at(alloc, reader, overlay, path, &mut self.env, spec, steps)
+        let spec = part(&self.base.description.root(), self.steps.as_slice());
+        validate_at(alloc, reader, overlay, path, &mut self.env, &spec, steps)
     }
 }

@@ -1,5 +1,5 @@
 //! What expressions of a description give, with their faults.
-ghost use Rattle.std.specs.Prelude.{◌≡◌, ◌+◌, ◌≤◌, List, ℕ, Ok, Some};
+ghost use Rattle.std.specs.Prelude.{◌≡◌, ◌+◌, ◌≤◌, ◌<◌, List, ℕ, Ok, Some, length, slice_get};
 ghost use Rattle.std.specs.Option.{option_copied};
 ghost use Rattle.fx_expr.specs.Eval as eval;
 ghost use Rattle.fx_expr.specs.Eval.{eval_of};
@@ -10,14 +10,16 @@ ghost use Rattle.fx_spec.specs.Describe as describe;
 ghost use Rattle.fx_spec.specs.Move.{evaluated};
 ghost use Rattle.fx_rules.specs.Answering.{answered};
 ghost use Rattle.fx_rules.specs.Halts.{split};
-ghost use Rattle.fx_zip.specs.Telling.{Says, set_answer, given};
+ghost use Rattle.fx_walk.specs.Arguments.{HaveShapes, inner_names};
+ghost use Rattle.fx_zip.specs.Telling.{Says, AreWellShaped, set_answer, names_answer, tried, given};
 
 use fx_base::Steps;
 use fx_expr::{Env, EvalFault, Formula, TextSet, Value};
 use fx_rules::Halt;
-use fx_spec::Refusal;
+use fx_spec::{Exprs, Params, Refusal};
 use fx_store::{Path, PathFault};
 use fx_view::Stop;
+use fx_walk::inner_env;
 use std::alloc::Global;
 use std::sync::ledger::Ledger;
 
@@ -113,6 +115,55 @@ fn extended(alloc: Global, path: &Path, value: &Value) -> Result<Path, Halt>
     }
 }
 
+/// The names in a call's body: its parameters, with the values of the arguments.
+pub(crate) fn names_of<L: Ledger>(
+    alloc: Global,
+    env: &Env,
+    params: &Params,
+    args: &Exprs,
+    steps: &mut Steps<L>,
+) -> Result<Env, Halt>
+    requires { HaveShapes env.now params.now args.now }
+    ensures names { Says (answered (λ names. names))
+        (Some (names_answer (inner_names env.now params.now args.now))) (split result) }
+    ensures most { steps.new ≤ steps.old + describe.argument_evals env.now args.now }
+{
+    match inner_env(alloc, env, params, args, steps) {
+        Ok(names) => Ok(names),
+        Err(EvalFault::Fault(fault)) => Err(Halt::Refused(Refusal::Expr(fault))),
+        Err(EvalFault::NoMemory) => Err(Halt::Stopped(Stop::NoMemory)),
+    }
+}
+
+/// Evaluates the arguments of a call, up to the first that faults.
+pub(crate) fn try_arguments<L: Ledger>(
+    alloc: Global,
+    env: &Env,
+    args: &Exprs,
+    steps: &mut Steps<L>,
+) -> Result<(), Halt>
+    requires { AreWellShaped env.now args.now }
+    ensures faults { Says (answered (λ u. u))
+        (Some (tried (describe.arguments env.now args.now))) (split result) }
+    ensures most { steps.new ≤ steps.old + describe.argument_evals env.now args.now }
+{
+    for i in 0..args.len() {
+        let value = evaluate(alloc, env, argument(args, i), steps)?;
+        let_go(value);
+    }
+    Ok(())
+}
+
+fn argument(args: &Exprs, i: u64) -> &Formula
+    requires { i < length args.now }
+    ensures { slice_get args.now i ≡ Some result.now }
+{
+    match args.at(i) {
+        Some(argument) => argument,
+        None => unreachable!(),
+    }
+}
+
 /// What there is where a call is not refused.
 pub(crate) fn if_given<T: Drop>(answer: Result<T, Halt>) -> Result<Option<T>, Stop>
     ensures { result ≡ given answer }
@@ -145,3 +196,5 @@ fn into_names(alloc: Global, value: Value) -> TextSet
         ),
     }
 }
+
+fn let_go(_: Value) {}

@@ -9,7 +9,7 @@ ghost use Rattle.fx_spec.specs.Describe.{Bindings};
 ghost use Rattle.fx_spec.specs.Move as move;
 ghost use Rattle.fx_spec.specs.Place.{placed};
 ghost use Rattle.fx_spec.specs.SpecTree.{SpecTree};
-ghost use Rattle.fx_spec.specs.Views.{spec_tree};
+ghost use Rattle.fx_spec.specs.Parts.{part_of};
 ghost use Rattle.fx_view.specs.Follows.{Follows, Consults};
 ghost use Rattle.fx_view.specs.Own.{own_at};
 ghost use Rattle.fx_walk.specs.Scopes.{HasScope};
@@ -20,9 +20,9 @@ use crate::shapes::{asks_flag, has_fetch_shape, has_value_shape};
 use fx_base::Steps;
 use fx_expr::{Env, Shape, Value};
 use fx_rules::Halt;
-use fx_spec::{Refusal, Spec};
+use fx_spec::{Form, Part, Refusal};
 use fx_store::Path;
-use fx_view::{Overlay, Reader, Stop};
+use fx_view::{Overlay, Reader};
 use fx_walk::{exists, file_flag, value_in};
 use std::alloc::Global;
 use std::sync::ledger::Ledger;
@@ -34,15 +34,15 @@ pub(crate) fn fetch_at<R: Reader, L: Ledger>(
     overlay: &Overlay,
     path: &Path,
     env: &mut Env,
-    spec: &Spec,
+    spec: &Part<'_>,
     shape: &Shape,
     steps: &mut Steps<L>,
 ) -> Result<Value, Halt>
-    requires described { HasScope env.old (spec_tree spec.now) }
+    requires described { HasScope env.old (part_of spec.now) }
     ensures env { env.new ≡ env.old }
     ensures follows { Follows R.meaning (answered tree_of) (own_at overlay.now)
         (reader.old, steps.old) (reader.new, steps.new)
-        (move.fetch_at (shape_tree shape.now) (placed path.now env.old (spec_tree spec.now)))
+        (move.fetch_at (shape_tree shape.now) (placed path.now env.old (part_of spec.now)))
         (split result) }
 {
     if asks_flag(spec, shape) {
@@ -61,15 +61,15 @@ pub(crate) fn whole_at<R: Reader, L: Ledger>(
     overlay: &Overlay,
     path: &Path,
     env: &mut Env,
-    spec: &Spec,
+    spec: &Part<'_>,
     shape: &Shape,
     steps: &mut Steps<L>,
 ) -> Result<Value, Halt>
-    requires described { HasScope env.old (spec_tree spec.now) }
+    requires described { HasScope env.old (part_of spec.now) }
     ensures env { env.new ≡ env.old }
     ensures follows { Follows R.meaning (answered tree_of) (own_at overlay.now)
         (reader.old, steps.old) (reader.new, steps.new)
-        (move.whole_at (shape_tree shape.now) (placed path.now env.old (spec_tree spec.now)))
+        (move.whole_at (shape_tree shape.now) (placed path.now env.old (part_of spec.now)))
         (split result) }
 {
     if has_value_shape(spec, shape) {
@@ -86,14 +86,14 @@ pub(crate) fn validate_at<R: Reader, L: Ledger>(
     overlay: &Overlay,
     path: &Path,
     env: &mut Env,
-    spec: &Spec,
+    spec: &Part<'_>,
     steps: &mut Steps<L>,
 ) -> Result<bool, Halt>
-    requires described { HasScope env.old (spec_tree spec.now) }
+    requires described { HasScope env.old (part_of spec.now) }
     ensures env { env.new ≡ env.old }
     ensures follows { Follows R.meaning (answered (λ b. Tree.bool b)) (own_at overlay.now)
         (reader.old, steps.old) (reader.new, steps.new)
-        (move.validate_at (placed path.now env.old (spec_tree spec.now))) (split result) }
+        (move.validate_at (placed path.now env.old (part_of spec.now))) (split result) }
 {
     let value = value_in(alloc, reader, overlay, path, env, spec, steps)?;
     Ok(is_there(value))
@@ -105,24 +105,26 @@ fn fetched<R: Reader, L: Ledger>(
     overlay: &Overlay,
     path: &Path,
     env: &mut Env,
-    spec: &Spec,
+    spec: &Part<'_>,
     steps: &mut Steps<L>,
 ) -> Result<Value, Halt>
-    requires described { HasScope env.old (spec_tree spec.now) }
+    requires described { HasScope env.old (part_of spec.now) }
     ensures env { env.new ≡ env.old }
     ensures follows { Follows R.meaning (answered tree_of) (own_at overlay.now)
         (reader.old, steps.old) (reader.new, steps.new)
-        (move.fetched path.now env.old (spec_tree spec.now)) (split result) }
+        (move.fetched path.now env.old (part_of spec.now)) (split result) }
 {
-    match spec {
-        Spec::File => value_at(alloc, reader, overlay, path, env, spec, steps),
-        Spec::Dir => value_at(alloc, reader, overlay, path, env, spec, steps),
-        Spec::Link => value_at(alloc, reader, overlay, path, env, spec, steps),
-        Spec::Focus(text, _) => evaluate(alloc, env, text, steps),
-        Spec::Comp(_, _, set) => evaluate(alloc, env, set, steps),
-        Spec::Pred(test) => evaluate(alloc, env, test, steps),
-        Spec::Opt(_) => entry_at(alloc, reader, overlay, path),
-        Spec::Pair(_, _, _) => Err(Halt::Refused(Refusal::WrongForm)),
+    match spec.form() {
+        Form::File => value_at(alloc, reader, overlay, path, env, spec, steps),
+        Form::Dir => value_at(alloc, reader, overlay, path, env, spec, steps),
+        Form::Link => value_at(alloc, reader, overlay, path, env, spec, steps),
+        Form::Focus(text, _) => evaluate(alloc, env, text, steps),
+        Form::Comp(_, _, set) => evaluate(alloc, env, set, steps),
+        Form::Pred(test) => evaluate(alloc, env, test, steps),
+        Form::Opt(_) => entry_at(alloc, reader, overlay, path),
+        Form::Pair(_, _, _) => Err(Halt::Refused(Refusal::WrongForm)),
+        Form::Call(_, _, _) => Err(Halt::Refused(Refusal::WrongForm)),
+        Form::Last(_) => Err(Halt::Refused(Refusal::WrongForm)),
     }
 }
 
@@ -164,14 +166,14 @@ fn value_at<R: Reader, L: Ledger>(
     overlay: &Overlay,
     path: &Path,
     env: &mut Env,
-    spec: &Spec,
+    spec: &Part<'_>,
     steps: &mut Steps<L>,
 ) -> Result<Value, Halt>
-    requires described { HasScope env.old (spec_tree spec.now) }
+    requires described { HasScope env.old (part_of spec.now) }
     ensures env { env.new ≡ env.old }
     ensures follows { Follows R.meaning (answered tree_of) (own_at overlay.now)
         (reader.old, steps.old) (reader.new, steps.new)
-        (value_needed path.now env.old (spec_tree spec.now)) (split result) }
+        (value_needed path.now env.old (part_of spec.now)) (split result) }
 {
     match value_in(alloc, reader, overlay, path, env, spec, steps)? {
         Some(value) => Ok(value),

@@ -1,56 +1,68 @@
 //! The parts of a description of a form.
 ghost use Rattle.std.specs.Prelude.{◌≡◌, MatchOption};
+ghost use Rattle.fx_spec.specs.Parts.{part_of};
 ghost use Rattle.fx_spec.specs.SpecTree.{SpecTree};
-ghost use Rattle.fx_spec.specs.Views.{spec_tree};
-ghost use Rattle.fx_zip.specs.Parts.{IsNoPair, IsNoComp, IsNoFocus, IsNoOption};
+ghost use Rattle.fx_zip.specs.Parts.{IsNoPair, IsNoComp, IsNoFocus, IsNoOption, IsNoCall};
 
 use fx_expr::{Formula, Word};
-use fx_spec::Spec;
+use fx_spec::{Exprs, Form, Params, Part};
 
 /// The name and the parts of a pair.
-pub(crate) fn pair_of(spec: &Spec) -> Option<(&Word, &Spec, &Spec)>
-    ensures { MatchOption result (IsNoPair (spec_tree spec.now)) (λ r.
-        spec_tree spec.now ≡ SpecTree.pair r.0.now (spec_tree r.1.now) (spec_tree r.2.now)) }
+pub(crate) fn pair_of<'a>(spec: &Part<'a>) -> Option<(&'a Word, Part<'a>, Part<'a>)>
+    ensures { MatchOption result (IsNoPair (part_of spec.now)) (λ r.
+        part_of spec.now ≡ SpecTree.pair r.0.now (part_of r.1) (part_of r.2)) }
 {
-    match spec {
-        Spec::Pair(name, first, second) => Some((name, first, second)),
-        Spec::File | Spec::Dir | Spec::Link | Spec::Focus(_, _) => None,
-        Spec::Comp(_, _, _) | Spec::Opt(_) | Spec::Pred(_) => None,
+    match spec.form() {
+        Form::Pair(name, first, second) => Some((name, first, second)),
+        Form::File | Form::Dir | Form::Link | Form::Focus(_, _) | Form::Comp(_, _, _) => None,
+        Form::Opt(_) | Form::Pred(_) | Form::Call(_, _, _) | Form::Last(_) => None,
     }
 }
 
 /// The part, the name and the set of a comprehension.
-pub(crate) fn comp_of(spec: &Spec) -> Option<(&Spec, &Word, &Formula)>
-    ensures { MatchOption result (IsNoComp (spec_tree spec.now)) (λ r.
-        spec_tree spec.now ≡ SpecTree.comp (spec_tree r.0.now) r.1.now r.2.now) }
+pub(crate) fn comp_of<'a>(spec: &Part<'a>) -> Option<(Part<'a>, &'a Word, &'a Formula)>
+    ensures { MatchOption result (IsNoComp (part_of spec.now)) (λ r.
+        part_of spec.now ≡ SpecTree.comp (part_of r.0) r.1.now r.2.now) }
 {
-    match spec {
-        Spec::Comp(part, name, set) => Some((part, name, set)),
-        Spec::File | Spec::Dir | Spec::Link | Spec::Focus(_, _) => None,
-        Spec::Pair(_, _, _) | Spec::Opt(_) | Spec::Pred(_) => None,
+    match spec.form() {
+        Form::Comp(part, name, set) => Some((part, name, set)),
+        Form::File | Form::Dir | Form::Link | Form::Focus(_, _) | Form::Pair(_, _, _) => None,
+        Form::Opt(_) | Form::Pred(_) | Form::Call(_, _, _) | Form::Last(_) => None,
     }
 }
 
 /// The text and the part of a focus.
-pub(crate) fn focus_of(spec: &Spec) -> Option<(&Formula, &Spec)>
-    ensures { MatchOption result (IsNoFocus (spec_tree spec.now)) (λ r.
-        spec_tree spec.now ≡ SpecTree.focus r.0.now (spec_tree r.1.now)) }
+pub(crate) fn focus_of<'a>(spec: &Part<'a>) -> Option<(&'a Formula, Part<'a>)>
+    ensures { MatchOption result (IsNoFocus (part_of spec.now)) (λ r.
+        part_of spec.now ≡ SpecTree.focus r.0.now (part_of r.1)) }
 {
-    match spec {
-        Spec::Focus(text, part) => Some((text, part)),
-        Spec::File | Spec::Dir | Spec::Link | Spec::Pair(_, _, _) => None,
-        Spec::Comp(_, _, _) | Spec::Opt(_) | Spec::Pred(_) => None,
+    match spec.form() {
+        Form::Focus(text, part) => Some((text, part)),
+        Form::File | Form::Dir | Form::Link | Form::Pair(_, _, _) | Form::Comp(_, _, _) => None,
+        Form::Opt(_) | Form::Pred(_) | Form::Call(_, _, _) | Form::Last(_) => None,
     }
 }
 
 /// The part of an option.
-pub(crate) fn option_of(spec: &Spec) -> Option<&Spec>
-    ensures { MatchOption result (IsNoOption (spec_tree spec.now)) (λ part.
-        spec_tree spec.now ≡ SpecTree.opt (spec_tree part.now)) }
+pub(crate) fn option_of<'a>(spec: &Part<'a>) -> Option<Part<'a>>
+    ensures { MatchOption result (IsNoOption (part_of spec.now)) (λ part.
+        part_of spec.now ≡ SpecTree.opt (part_of part)) }
 {
-    match spec {
-        Spec::Opt(part) => Some(part),
-        Spec::File | Spec::Dir | Spec::Link | Spec::Focus(_, _) => None,
-        Spec::Pair(_, _, _) | Spec::Comp(_, _, _) | Spec::Pred(_) => None,
+    match spec.form() {
+        Form::Opt(part) => Some(part),
+        Form::File | Form::Dir | Form::Link | Form::Focus(_, _) | Form::Pair(_, _, _) => None,
+        Form::Comp(_, _, _) | Form::Pred(_) | Form::Call(_, _, _) | Form::Last(_) => None,
+    }
+}
+
+/// The arguments, the parameters and the body of a call that is unfolded.
+pub(crate) fn call_of<'a>(spec: &Part<'a>) -> Option<(&'a Exprs, &'a Params, Part<'a>)>
+    ensures { MatchOption result (IsNoCall (part_of spec.now)) (λ r.
+        part_of spec.now ≡ SpecTree.call r.0.now r.1.now (part_of r.2)) }
+{
+    match spec.form() {
+        Form::Call(args, params, body) => Some((args, params, body)),
+        Form::File | Form::Dir | Form::Link | Form::Focus(_, _) | Form::Pair(_, _, _) => None,
+        Form::Comp(_, _, _) | Form::Opt(_) | Form::Pred(_) | Form::Last(_) => None,
     }
 }

@@ -1,32 +1,43 @@
 //! What a zipper keeps of a step.
 ghost use Rattle.std.specs.Prelude.{◌≡◌, IfOk, None, Some};
-ghost use Rattle.fx_expr.specs.Tree.{Tree};
-ghost use Rattle.fx_expr.specs.Views.{entry_tree, tree_of};
-ghost use Rattle.fx_zip.specs.Spots.{BindsText, BindsValue};
+ghost use Rattle.fx_expr.specs.Views.{tree_of};
+ghost use Rattle.fx_zip.specs.Spots.{BindsText, BindsValue, BindsNames};
+ghost use Rattle.fx_zip.specs.declared.frame.Bound.TheVariants as bounds;
 
 use crate::step::Step;
 use fx_base::NoMemory;
-use fx_expr::{Text, TextSet, Value, Word};
+use fx_expr::{Env, Text, TextSet, Value, Word};
 use fx_store::Path;
 use std::alloc::Global;
 
-/// The path to which a step leads; at an element, the set of the comprehension around it; and the number of the reader's
-/// first reads by which the place is known.
+/// The path to which a step leads; at an element, the set of the comprehension around it; the number of the reader's first
+/// reads by which the place is known; and in a body, the names bound around the call.
 #[derive(Drop)]
 pub struct Frame {
     pub path: Path,
     pub set: Option<TextSet>,
     pub reads: u64,
+    pub caller: Option<Env>,
 }
 
-/// A frame, and the name that its step binds.
+/// What a step binds: nothing, one name more, or other names in place of those before it.
+#[derive(Drop)]
+pub enum Bound {
+    Nothing,
+    Name(Word, Value),
+    Names(Env),
+}
+
+/// What a frame is made of, and what its step binds.
 #[derive(Drop)]
 pub struct Spot {
-    pub frame: Frame,
-    pub bound: Option<(Word, Value)>,
+    pub path: Path,
+    pub set: Option<TextSet>,
+    pub reads: u64,
+    pub bound: Bound,
 }
 
-/// A step with the frame to which it leads.
+/// A step with the spot to which it leads.
 #[derive(Drop)]
 pub struct Entry {
     pub step: Step,
@@ -35,18 +46,29 @@ pub struct Entry {
 
 /// The spot at a path, for a step that binds nothing.
 pub(crate) fn spot_at(path: Path, reads: u64) -> Spot
-    ensures path { result.frame.path ≡ path }
-    ensures reads { result.frame.reads ≡ reads }
-    ensures bound { result.bound ≡ None }
+    ensures path { result.path ≡ path }
+    ensures reads { result.reads ≡ reads }
+    ensures bound { result.bound ≡ bounds.Nothing }
 {
     Spot {
-        frame: Frame {
-            path,
-            set: None,
-            reads,
-        },
-        bound: None,
+        path,
+        set: None,
+        reads,
+        bound: Bound::Nothing,
     }
+}
+
+/// The spot in a body, where these names are bound.
+pub(crate) fn body_spot(alloc: Global, path: &Path, names: Env) -> Result<Spot, NoMemory>
+    ensures { IfOk result (BindsNames path.now names) }
+{
+    let path = path.copy(alloc)?;
+    Ok(Spot {
+        path,
+        set: None,
+        reads: 0,
+        bound: Bound::Names(names),
+    })
 }
 
 /// The spot at an element of a set.
@@ -64,12 +86,10 @@ pub(crate) fn element_spot(
     let word = name.copy(alloc)?;
     let text = text.copy(alloc)?;
     Ok(Spot {
-        frame: Frame {
-            path,
-            set: Some(set),
-            reads: 0,
-        },
-        bound: Some((word, Value::Str(text))),
+        path,
+        set: Some(set),
+        reads: 0,
+        bound: Bound::Name(word, Value::Str(text)),
     })
 }
 
@@ -82,16 +102,14 @@ pub(crate) fn second_spot(
     reads: u64,
 ) -> Result<Spot, NoMemory>
     ensures binds { IfOk result (BindsValue path.now name.now (tree_of value)) }
-    ensures reads { IfOk result (λ spot. spot.frame.reads ≡ reads) }
+    ensures reads { IfOk result (λ spot. spot.reads ≡ reads) }
 {
     let path = path.copy(alloc)?;
     let word = name.copy(alloc)?;
     Ok(Spot {
-        frame: Frame {
-            path,
-            set: None,
-            reads,
-        },
-        bound: Some((word, value)),
+        path,
+        set: None,
+        reads,
+        bound: Bound::Name(word, value),
     })
 }

@@ -2,7 +2,7 @@
 ghost use Rattle.fx_spec.specs.Move as move;
 ghost use Rattle.fx_spec.specs.Transaction.{from_place};
 ghost use Rattle.fx_view.specs.Own.{own_at};
-ghost use Rattle.fx_zip.specs.Calls.{Moves, place_evals, sideways_evals};
+ghost use Rattle.fx_zip.specs.Calls.{Moves, place_evals};
 ghost use Rattle.fx_zip.specs.Fresh.{IsFresh};
 
 use crate::moving::{down, into, to};
@@ -32,7 +32,7 @@ impl Zip {
             (λ at. move.go_down self.old.address at.path at.env at.spec)) result }
     {
         self.find(alloc, reader, overlay, steps)?;
-        let entry = down(alloc, self.path(), self.env(), self.spec(), steps)?;
+        let entry = down(alloc, self.path(), self.env(), &self.spec(), steps)?;
         Ok(self.enter(alloc, entry)?)
     }
 
@@ -58,7 +58,7 @@ impl Zip {
             alloc,
             self.path(),
             self.env(),
-            self.spec(),
+            &self.spec(),
             self.kept(),
             text,
             steps,
@@ -66,7 +66,7 @@ impl Zip {
         Ok(self.enter(alloc, entry)?)
     }
 
-    /// To a first part, to the least element, or inside an entry.
+    /// To a first part, to the least element, inside an entry, or into a call's body.
     pub fn go_into<R: Reader, L: Ledger>(
         &mut self,
         alloc: Global,
@@ -89,7 +89,7 @@ impl Zip {
             overlay,
             self.path(),
             self.env(),
-            self.spec(),
+            &self.spec(),
             self.kept(),
             steps,
         )?;

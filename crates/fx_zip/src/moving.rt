@@ -2,28 +2,29 @@
 ghost use Rattle.std.specs.Prelude.{◌≡◌, List, ℕ, IfOk, Ok, Some};
 ghost use Rattle.std.specs.Option.{option_copied};
 ghost use Rattle.fx_expr.specs.Eval.{eval_of};
+ghost use Rattle.fx_expr.specs.ShapeTree.{ShapeTree};
 ghost use Rattle.fx_expr.specs.Shapes.{IsWellShaped};
 ghost use Rattle.fx_spec.specs.Describe.{Bindings};
 ghost use Rattle.fx_spec.specs.Move as move;
 ghost use Rattle.fx_spec.specs.Place as place;
 ghost use Rattle.fx_spec.specs.SpecTree.{SpecTree};
-ghost use Rattle.fx_spec.specs.Views.{spec_tree};
+ghost use Rattle.fx_spec.specs.Parts.{part_of};
 ghost use Rattle.fx_view.specs.Own.{own_at};
+ghost use Rattle.fx_walk.specs.Arguments.{HaveShapes};
 ghost use Rattle.fx_walk.specs.Scopes.{HasScope};
 ghost use Rattle.fx_zip.specs.Fresh.{IsSetOf};
-ghost use Rattle.fx_zip.specs.Telling.{set_answer};
+ghost use Rattle.fx_zip.specs.Telling.{AreWellShaped, set_answer};
 ghost use Rattle.fx_zip.specs.Spots.{Enters, EntersAt, Chooses, BindsText};
-ghost use Rattle.fx_zip.specs.Parts.{IsNoComp, IsNoOption};
 ghost use Rattle.fx_zip.specs.Steps.{step_tree};
 
-use crate::evaluating::{inner_path, set_again};
-use crate::forms::{comp_of, focus_of, option_of, pair_of};
-use crate::frame::{Entry, element_spot, spot_at};
+use crate::evaluating::{inner_path, names_of, set_again, try_arguments};
+use crate::forms::{comp_of, focus_of};
+use crate::frame::{Entry, body_spot, element_spot, spot_at};
 use crate::step::Step;
 use fx_base::{NoMemory, Steps};
 use fx_expr::{Env, Formula, Text, TextSet, Word};
 use fx_rules::Halt;
-use fx_spec::{Refusal, Spec};
+use fx_spec::{Exprs, Form, Params, Part, Refusal};
 use fx_store::Path;
 use fx_view::{Overlay, Reader};
 use fx_walk::exists;
@@ -35,12 +36,12 @@ pub(crate) fn down<L: Ledger>(
     alloc: Global,
     path: &Path,
     env: &Env,
-    spec: &Spec,
+    spec: &Part<'_>,
     steps: &mut Steps<L>,
 ) -> Result<Entry, Halt>
-    requires described { HasScope env.now (spec_tree spec.now) }
-    ensures enters { EntersAt (λ a. move.go_down a path.now env.now (spec_tree spec.now))
-        path.now env.now (spec_tree spec.now) steps.old steps.new result }
+    requires described { HasScope env.now (part_of spec.now) }
+    ensures enters { EntersAt (λ a. move.go_down a path.now env.now (part_of spec.now))
+        path.now env.now (part_of spec.now) steps.old steps.new result }
 {
     match focus_of(spec) {
         Some((text, _)) => {
@@ -59,15 +60,15 @@ pub(crate) fn to<L: Ledger>(
     alloc: Global,
     path: &Path,
     env: &Env,
-    spec: &Spec,
+    spec: &Part<'_>,
     kept: Option<&TextSet>,
     text: &Text,
     steps: &mut Steps<L>,
 ) -> Result<Entry, Halt>
-    requires described { HasScope env.now (spec_tree spec.now) }
-    requires kept { IsSetOf (option_copied kept) env.now (spec_tree spec.now) }
-    ensures enters { EntersAt (λ a. move.go_to text.now a path.now env.now (spec_tree spec.now))
-        path.now env.now (spec_tree spec.now) steps.old steps.new result }
+    requires described { HasScope env.now (part_of spec.now) }
+    requires kept { IsSetOf (option_copied kept) env.now (part_of spec.now) }
+    ensures enters { EntersAt (λ a. move.go_to text.now a path.now env.now (part_of spec.now))
+        path.now env.now (part_of spec.now) steps.old steps.new result }
 {
     match comp_of(spec) {
         Some((_, name, set)) => {
@@ -79,47 +80,84 @@ pub(crate) fn to<L: Ledger>(
     }
 }
 
-/// The entry at a first part, at a least element or inside an entry.
+/// The entry at a first part, at a least element, inside an entry, or in a call's body.
 pub(crate) fn into<R: Reader, L: Ledger>(
     alloc: Global,
     reader: &mut R,
     overlay: &Overlay,
     path: &Path,
     env: &Env,
-    spec: &Spec,
+    spec: &Part<'_>,
     kept: Option<&TextSet>,
     steps: &mut Steps<L>,
 ) -> Result<Entry, Halt>
-    requires described { HasScope env.now (spec_tree spec.now) }
-    requires kept { IsSetOf (option_copied kept) env.now (spec_tree spec.now) }
+    requires described { HasScope env.now (part_of spec.now) }
+    requires kept { IsSetOf (option_copied kept) env.now (part_of spec.now) }
     ensures enters { Enters R.meaning (own_at overlay.now)
-        (λ a. move.go_into a path.now env.now (spec_tree spec.now))
-        path.now env.now (spec_tree spec.now) (reader.old, steps.old)
+        (λ a. move.go_into a path.now env.now (part_of spec.now))
+        path.now env.now (part_of spec.now) (reader.old, steps.old)
         (reader.new, steps.new) result }
 {
-    match comp_of(spec) {
-        Some((_, name, set)) => least(alloc, path, env, name, set, kept, steps),
-        None => match option_of(spec) {
-            Some(_) => inside(alloc, reader, overlay, path),
-            None => first(alloc, path, spec),
-        },
+    match spec.form() {
+        Form::Pair(_, _, _) => first(alloc, path),
+        Form::Comp(_, name, set) => least(alloc, path, env, name, set, kept, steps),
+        Form::Opt(_) => inside(alloc, reader, overlay, path),
+        Form::Call(args, params, _) => body(alloc, path, env, params, args, steps),
+        Form::Last(args) => too_unfolded(alloc, env, args, steps),
+        Form::File => Err(Halt::Refused(Refusal::NoStep)),
+        Form::Dir => Err(Halt::Refused(Refusal::NoStep)),
+        Form::Link => Err(Halt::Refused(Refusal::NoStep)),
+        Form::Focus(_, _) => Err(Halt::Refused(Refusal::NoStep)),
+        Form::Pred(_) => Err(Halt::Refused(Refusal::NoStep)),
     }
 }
 
-fn first(alloc: Global, path: &Path, spec: &Spec) -> Result<Entry, Halt>
-    requires no_comp { IsNoComp (spec_tree spec.now) }
-    requires no_option { IsNoOption (spec_tree spec.now) }
-    ensures enters { (env : Bindings) (n : ℕ)
-        → EntersAt (λ a. move.go_into a path.now env (spec_tree spec.now))
-        path.now env (spec_tree spec.now) n n result }
+fn first(alloc: Global, path: &Path) -> Result<Entry, Halt>
+    ensures enters { (env : Bindings) (name : List ℕ) (one two : SpecTree) (n : ℕ) → EntersAt
+        (λ a. move.go_into a path.now env (SpecTree.pair name one two))
+        path.now env (SpecTree.pair name one two) n n result }
 {
-    match pair_of(spec) {
-        Some(_) => Ok(Entry {
-            step: Step::First,
-            spot: spot_at(path.copy(alloc)?, 0),
-        }),
-        None => Err(Halt::Refused(Refusal::NoStep)),
-    }
+    Ok(Entry {
+        step: Step::First,
+        spot: spot_at(path.copy(alloc)?, 0),
+    })
+}
+
+fn body<L: Ledger>(
+    alloc: Global,
+    path: &Path,
+    env: &Env,
+    params: &Params,
+    args: &Exprs,
+    steps: &mut Steps<L>,
+) -> Result<Entry, Halt>
+    requires shaped { HaveShapes env.now params.now args.now }
+    ensures enters { (inner : SpecTree) → EntersAt
+        (λ a. move.go_into a path.now env.now (SpecTree.call args.now params.now inner))
+        path.now env.now (SpecTree.call args.now params.now inner)
+        steps.old steps.new result }
+{
+    let names = names_of(alloc, env, params, args, steps)?;
+    Ok(Entry {
+        step: Step::Body,
+        spot: body_spot(alloc, path, names)?,
+    })
+}
+
+/// At a call inside 64 others the arguments are evaluated too.
+fn too_unfolded<L: Ledger>(
+    alloc: Global,
+    env: &Env,
+    args: &Exprs,
+    steps: &mut Steps<L>,
+) -> Result<Entry, Halt>
+    requires shaped { AreWellShaped env.now args.now }
+    ensures enters { (path : List (List ℕ)) (params : List (List ℕ × ShapeTree)) → EntersAt
+        (λ a. move.go_into a path env.now (SpecTree.last args.now params))
+        path env.now (SpecTree.last args.now params) steps.old steps.new result }
+{
+    try_arguments(alloc, env, args, steps)?;
+    Err(Halt::Refused(Refusal::TooUnfolded))
 }
 
 fn least<L: Ledger>(

@@ -105,7 +105,7 @@ impl Zip {
             (reader.old, steps.old) (reader.new, steps.new) result }
     {
         let done = self.frames.len();
-        let spec = part(self.base.description.spec(), &self.steps[..done]);
+        let spec = part(&self.base.description.root(), &self.steps[..done]);
         let path = last_path(&self.top, self.frames.as_slice());
         led(
             alloc,
@@ -114,7 +114,7 @@ impl Zip {
             &self.steps[done],
             path,
             &mut self.env,
-            spec,
+            &spec,
             steps,
         )
     }

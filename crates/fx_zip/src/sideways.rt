@@ -122,8 +122,8 @@ impl Zip {
             (reader.old, steps.old) (reader.new, steps.new) result }
     {
         let path = path_around(&self.top, self.frames.as_slice());
-        let around = part_around(self.base.description.spec(), self.steps.as_slice());
-        match pair_of(around) {
+        let around = part_around(&self.base.description.root(), self.steps.as_slice());
+        match pair_of(&around) {
             Some((name, first, _)) => after_first(
                 alloc,
                 reader,
@@ -131,7 +131,7 @@ impl Zip {
                 path,
                 &mut self.env,
                 name,
-                first,
+                &first,
                 steps,
             ),
             None => Ok(None),
@@ -144,9 +144,8 @@ impl Zip {
     {
         match self.last() {
             Some(Step::First) => true,
-            Some(Step::Second) | Some(Step::Inside) | Some(Step::Down) | Some(Step::Elem(_)) =>
-                false,
-            None => false,
+            Some(Step::Second) | Some(Step::Inside) | Some(Step::Down) => false,
+            Some(Step::Body) | Some(Step::Elem(_)) | None => false,
         }
     }
 
@@ -156,9 +155,8 @@ impl Zip {
     {
         match self.last() {
             Some(Step::Second) => true,
-            Some(Step::First) | Some(Step::Inside) | Some(Step::Down) | Some(Step::Elem(_)) =>
-                false,
-            None => false,
+            Some(Step::First) | Some(Step::Inside) | Some(Step::Down) => false,
+            Some(Step::Body) | Some(Step::Elem(_)) | None => false,
         }
     }
 
@@ -233,7 +231,7 @@ impl Zip {
             (λ x. Chooses (path_of (drop 1 self.now.frames)) x set.now
             (option_copied choice.entry) result) }
     {
-        match comp_of(self.around()) {
+        match comp_of(&self.around()) {
             Some((_, name, _)) => chosen(alloc, self.outer_path(), name, set, choice),
             None => Err(Halt::Refused(Refusal::NoStep)),
         }
@@ -250,8 +248,8 @@ impl Zip {
                 Some(set) => Some((text, set)),
                 None => None,
             },
-            Some(Step::First) | Some(Step::Second) | Some(Step::Inside) | Some(Step::Down) => None,
-            None => None,
+            Some(Step::First) | Some(Step::Second) | Some(Step::Inside) => None,
+            Some(Step::Down) | Some(Step::Body) | None => None,
         }
     }
 }

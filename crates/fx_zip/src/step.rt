@@ -8,5 +8,6 @@ pub enum Step {
     Second,
     Inside,
     Down,
+    Body,
     Elem(Text),
 }

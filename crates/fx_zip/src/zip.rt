@@ -1,26 +1,27 @@
 //! The zipper: its steps, its frames, and the names that they bind.
 ghost use Rattle.std.specs.Prelude.{◌≡◌, ◌-◌, ◌∷◌, [], IfOk, OnErr, MatchOption, None, cond, drop, length, nat_eq, take};
-ghost use Rattle.std.specs.Option.{option_copied, option_map};
-ghost use Rattle.fx_spec.specs.Views.{spec_tree};
+ghost use Rattle.std.specs.Option.{option_copied, option_map, unwrap_or};
+ghost use Rattle.fx_spec.specs.Parts.{part_of};
 ghost use Rattle.fx_spec.specs.WellShaped.{IsDescription};
 ghost use Rattle.fx_walk.specs.Places.{place_tree};
 ghost use Rattle.fx_view.specs.Own.{SameOver};
 ghost use Rattle.fx_view.specs.ReadList.{ReadList};
-ghost use Rattle.fx_zip.specs.Fresh.{around, around_last, left, unframed, unkept, last_step, last_set, is_element, shorter, are_told};
+ghost use Rattle.fx_zip.specs.Fresh.{around, around_last, left, unframed, unkept, last_step, last_set, last_caller, is_element, shorter, are_told};
 ghost use Rattle.fx_zip.specs.Parts as parts;
-ghost use Rattle.fx_zip.specs.Spots.{entered, kept_too, grown};
+ghost use Rattle.fx_zip.specs.Spots.{entered, kept_too, grown, caller_in};
 ghost use Rattle.fx_zip.specs.Steps.{step_tree, turned};
 ghost use Rattle.fx_zip.specs.Trees.{here, is_settled, IsSettled, path_of};
 
-use crate::frame::{Entry, Frame, Spot};
+use crate::frame::{Bound, Entry, Frame, Spot};
 use crate::part::{part, part_around};
 use crate::step::Step;
 use fx_base::NoMemory;
-use fx_expr::{Env, TextSet, Value, Word};
-use fx_spec::{Base, Place, Refusal, Spec};
+use fx_expr::{Env, TextSet};
+use fx_spec::{Base, Part, Place, Refusal};
 use fx_store::Path;
 use std::alloc::Global;
 use std::marker::Model;
+use std::mem;
 use std::sync::Arc;
 
 /// An address in a described filestore, with a frame for each of its first steps: the path there, and the values of the
@@ -113,7 +114,7 @@ impl Zip {
         }
     }
 
-    /// Back from a part, an element or an entry.
+    /// Back from a part, an element, an entry or a body.
     pub fn go_out(&mut self) -> Result<(), Refusal>
         ensures root { self.new.root ≡ self.old.root }
         ensures address { answered (λ _. self.new.address) result ≡ go_out self.old.address }
@@ -123,7 +124,11 @@ impl Zip {
         ensures settled { IsSettled self.old → IsSettled self.new }
     {
         match self.last() {
-            Some(Step::First) | Some(Step::Second) | Some(Step::Inside) | Some(Step::Elem(_)) => {
+            Some(Step::First)
+            | Some(Step::Second)
+            | Some(Step::Inside)
+            | Some(Step::Body)
+            | Some(Step::Elem(_)) => {
                 self.leave();
                 Ok(())
             }
@@ -145,10 +150,8 @@ impl Zip {
                 self.leave();
                 Ok(())
             }
-            Some(Step::First) | Some(Step::Second) | Some(Step::Inside) | Some(Step::Elem(_)) => {
-                Err(Refusal::NoStep)
-            }
-            None => Err(Refusal::NoStep),
+            Some(Step::First) | Some(Step::Second) | Some(Step::Inside) => Err(Refusal::NoStep),
+            Some(Step::Body) | Some(Step::Elem(_)) | None => Err(Refusal::NoStep),
         }
     }
 
@@ -158,10 +161,13 @@ impl Zip {
         ensures described { (reads : ReadList) (own : Known) → Stands reads own self.now
             → IsDescribedPlace (place_tree result) }
     {
+        let part = self.spec();
         Place {
             path: self.path(),
             env: self.env(),
-            spec: self.spec(),
+            spec: part.spec,
+            defs: part.defs,
+            level: part.level,
         }
     }
 }
@@ -179,26 +185,26 @@ impl Zip {
         &self.env
     }
 
-    pub(crate) fn spec(&self) -> &Spec
-        ensures part { spec_tree result.now ≡ parts.part self.now.root self.now.address }
+    pub(crate) fn spec(&self) -> Part<'_>
+        ensures part { part_of result ≡ parts.part self.now.root self.now.address }
         ensures described { IsDescription [] self.now.root }
     {
-        part(self.root(), self.steps.as_slice())
+        part(&self.root(), self.steps.as_slice())
     }
 
-    pub(crate) fn root(&self) -> &Spec
-        ensures root { spec_tree result.now ≡ self.now.root }
+    pub(crate) fn root(&self) -> Part<'_>
+        ensures root { part_of result ≡ self.now.root }
         ensures described { IsDescription [] self.now.root }
     {
-        self.base.description.spec()
+        self.base.description.root()
     }
 
     /// The part around the last step.
-    pub(crate) fn around(&self) -> &Spec
-        ensures part { spec_tree result.now ≡ parts.part self.now.root (drop 1 self.now.address) }
+    pub(crate) fn around(&self) -> Part<'_>
+        ensures part { part_of result ≡ parts.part self.now.root (drop 1 self.now.address) }
         ensures described { IsDescription [] self.now.root }
     {
-        part_around(self.root(), self.steps.as_slice())
+        part_around(&self.root(), self.steps.as_slice())
     }
 
     /// The set that the last frame keeps.
@@ -262,9 +268,23 @@ impl Zip {
         ensures root { self.new.root ≡ self.old.root }
         ensures address { self.new.address ≡ self.old.address }
     {
-        push_frame(&mut self.frames, spot.frame)?;
+        let Spot {
+            path,
+            set,
+            reads,
+            bound,
+        } = spot;
         self.set = None;
-        bind(alloc, &mut self.env, spot.bound)
+        let caller = bind(alloc, &mut self.env, bound)?;
+        push_frame(
+            &mut self.frames,
+            Frame {
+                path,
+                set,
+                reads,
+                caller,
+            },
+        )
     }
 
     /// Drops all frames.
@@ -292,8 +312,9 @@ impl Zip {
         ensures { self.new ≡ unframed self.old }
     {
         let at_element = is_element(self.last());
-        unbind_last(&mut self.env, self.steps.as_slice());
-        self.set = set_if(at_element, pop_frame(&mut self.frames));
+        let (set, caller) = pop_frame(&mut self.frames);
+        unbind_last(&mut self.env, self.steps.as_slice(), caller);
+        self.set = set_if(at_element, set);
     }
 
     /// Whether each frame's place is told by as many reads at most.
@@ -307,8 +328,9 @@ impl Zip {
     fn shorten(&mut self)
         ensures { self.new ≡ shorter self.old }
     {
-        unbind_at(&mut self.env, self.steps.as_slice(), self.frames.len());
-        pop_frame(&mut self.frames);
+        let place = self.frames.len();
+        let (_, caller) = pop_frame(&mut self.frames);
+        unbind_at(&mut self.env, self.steps.as_slice(), place, caller);
         self.set = None;
     }
 
@@ -350,21 +372,38 @@ fn held_set(frames: &[Frame]) -> Option<&TextSet>
     }
 }
 
-fn bind(alloc: Global, env: &mut Env, bound: Option<(Word, Value)>) -> Result<(), NoMemory>
-    ensures { IfOk result (λ _. env.new ≡ grown env.old bound) }
+/// Binds what a step binds, and answers the names before, where others take their place.
+fn bind(alloc: Global, env: &mut Env, bound: Bound) -> Result<Option<Env>, NoMemory>
+    ensures grown { IfOk result (λ _. env.new ≡ grown env.old bound) }
+    ensures caller { IfOk result (λ caller. caller ≡ caller_in env.old bound) }
 {
     match bound {
-        Some(binding) => env.add(alloc, binding),
-        None => Ok(()),
+        Bound::Nothing => Ok(None),
+        Bound::Name(word, value) => {
+            env.add(alloc, (word, value))?;
+            Ok(None)
+        }
+        Bound::Names(names) => Ok(Some(mem::replace(env, names))),
     }
 }
 
-fn unbind(env: &mut Env, step: &Step)
-    ensures { env.new ≡ around (step_tree step.now) env.old }
+/// Gives back the names that were bound before a step, where its frame keeps this.
+fn unbind(env: &mut Env, step: &Step, caller: Option<Env>)
+    ensures { env.new ≡ around (step_tree step.now) caller env.old }
 {
     match step {
         Step::Second | Step::Elem(_) => drop_last(env),
+        Step::Body => restore(env, caller),
         Step::First | Step::Inside | Step::Down => {}
+    }
+}
+
+fn restore(env: &mut Env, caller: Option<Env>)
+    ensures { env.new ≡ unwrap_or caller env.old }
+{
+    match caller {
+        Some(names) => *env = names,
+        None => {}
     }
 }
 
@@ -377,24 +416,24 @@ fn drop_last(env: &mut Env)
     }
 }
 
-fn unbind_last(env: &mut Env, steps: &[Step])
-    ensures { env.new ≡ around_last (turned step_tree steps.now) env.old }
+fn unbind_last(env: &mut Env, steps: &[Step], caller: Option<Env>)
+    ensures { env.new ≡ around_last (turned step_tree steps.now) caller env.old }
 {
     match steps.split_last() {
-        Some((step, _)) => unbind(env, step),
+        Some((step, _)) => unbind(env, step, caller),
         None => {}
     }
 }
 
-/// Gives back the name that the step before a place binds.
-fn unbind_at(env: &mut Env, steps: &[Step], place: usize)
+/// Gives back the names that were bound before the step before a place.
+fn unbind_at(env: &mut Env, steps: &[Step], place: usize, caller: Option<Env>)
     ensures { env.new ≡ around_last
-        (drop (length steps.now - place) (turned step_tree steps.now)) env.old }
+        (drop (length steps.now - place) (turned step_tree steps.now)) caller env.old }
 {
     if place <= steps.len() {
-        unbind_last(env, &steps[..place]);
+        unbind_last(env, &steps[..place], caller);
     } else {
-        unbind_last(env, steps);
+        unbind_last(env, steps, caller);
     }
 }
 
@@ -450,34 +489,38 @@ fn pop_step(steps: &mut Vec<Step>)
     let_go_step(last);
 }
 
-/// Takes off the last frame, and answers the set that it keeps.
-fn pop_frame(frames: &mut Vec<Frame>) -> Option<TextSet>
+/// Takes off the last frame, and answers the set and the caller's names that it keeps.
+fn pop_frame(frames: &mut Vec<Frame>) -> (Option<TextSet>, Option<Env>)
     ensures frames { turned (λ f. f) frames.new.items
         ≡ drop 1 (turned (λ f. f) frames.old.items) }
-    ensures set { result ≡ last_set (turned (λ f. f) frames.old.items) }
+    ensures set { result.0 ≡ last_set (turned (λ f. f) frames.old.items) }
+    ensures caller { result.1 ≡ last_caller (turned (λ f. f) frames.old.items) }
 {
     let last = frames.pop();
-    set_in(last)
+    kept_in(last)
 }
 
-fn set_in(last: Option<Frame>) -> Option<TextSet>
-    ensures { MatchOption last (result ≡ None) (λ f. result ≡ f.set) }
+fn kept_in(last: Option<Frame>) -> (Option<TextSet>, Option<Env>)
+    ensures set { MatchOption last (result.0 ≡ None) (λ f. result.0 ≡ f.set) }
+    ensures caller { MatchOption last (result.1 ≡ None) (λ f. result.1 ≡ f.caller) }
 {
     match last {
-        Some(frame) => set_of(frame),
-        None => None,
+        Some(frame) => kept_of(frame),
+        None => (None, None),
     }
 }
 
-fn set_of(frame: Frame) -> Option<TextSet>
-    ensures { result ≡ frame.set }
+fn kept_of(frame: Frame) -> (Option<TextSet>, Option<Env>)
+    ensures set { result.0 ≡ frame.set }
+    ensures caller { result.1 ≡ frame.caller }
 {
     let Frame {
         path: _,
         set,
         reads: _,
+        caller,
     } = frame;
-    set
+    (set, caller)
 }
 
 fn set_if(holds: bool, set: Option<TextSet>) -> Option<TextSet>
@@ -491,8 +534,8 @@ fn is_element(step: Option<&Step>) -> bool
 {
     match step {
         Some(Step::Elem(_)) => true,
-        Some(Step::First) | Some(Step::Second) | Some(Step::Inside) | Some(Step::Down) => false,
-        None => false,
+        Some(Step::First) | Some(Step::Second) | Some(Step::Inside) => false,
+        Some(Step::Down) | Some(Step::Body) | None => false,
     }
 }
 

@@ -5,6 +5,7 @@ endif
 
 syntax keyword forestForm file dir link opt pred
 syntax keyword forestTransaction txn
+syntax keyword forestDefinition def
 syntax keyword forestMove into to next prev out down up top
 syntax keyword forestCommand let set fetch value validate print store create remove try abort
 syntax keyword forestControl if else each in
@@ -19,6 +20,7 @@ syntax match forestComment "#.*$"
 
 highlight default link forestForm Type
 highlight default link forestTransaction Structure
+highlight default link forestDefinition Structure
 highlight default link forestMove Statement
 highlight default link forestCommand Statement
 highlight default link forestControl Conditional

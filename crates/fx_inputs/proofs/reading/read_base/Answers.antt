@@ -1,38 +1,22 @@
-use Rattle.std.proofs.Common.{ap}
-use Rattle.fx_outside.proofs.Views.{reads_then}
 use Rattle.fx_spec.specs.Bases.{base_tree}
 use Rattle.fx_words.specs.JobOf.{asked_inputs}
+use Rattle.fx_inputs.specs.Inputs.{HasBase}
 use Rattle.fx_inputs.specs.Reads.{ReadRow}
 use Rattle.fx_base.proofs.Errors.{if_err_of}
+use Rattle.fx_command.proofs.Told.{some_back}
 use Rattle.fx_inputs.proofs.ReadRows.{read_row_back}
-use Rattle.fx_inputs.proofs.Stages.{whole_base}
 use Rattle.fx_inputs.proofs.reading.read_base.Goals as goal
 
-pub returns-in_err-plan-clause-ends : goal.returns-in_err-plan-clause-ends
-returns-in_err-plan-clause-ends g c =
+pub returns-in_err-base-clause-ends : goal.returns-in_err-base-clause-ends
+returns-in_err-base-clause-ends g c =
     let inputs = asked_inputs c.args.inputs.now in
     let a = g.H.Host.view c.args.host.now in
     let b = g.H.Host.view c.read_description.new.host in
-    let d = g.H.Host.view c.read_scripts.new.host in
-    let status = c.in_err-plan.field-0.0 in
-    if_err_of (ReadRow inputs a d) c.from_residual-in_err-plan.result status c.from_residual-in_err-plan.ensures.1
-    (read_row_back inputs a b d status c.in_ok-description.ensures.same c.in_err-plan.ensures.ends)
-
-pub returns-in_err-loaded-clause-ends : goal.returns-in_err-loaded-clause-ends
-returns-in_err-loaded-clause-ends g c =
-    let inputs = asked_inputs c.args.inputs.now in
-    let a = g.H.Host.view c.args.host.now in
-    let b = g.H.Host.view c.read_description.new.host in
-    let d = g.H.Host.view c.read_scripts.new.host in
-    let e = g.H.Host.view c.read_folder.new.host in
-    let status = c.in_err-loaded.field-0.0 in
-    if_err_of (ReadRow inputs a e) c.from_residual-in_err-loaded.result status c.from_residual-in_err-loaded.ensures.1
-    (read_row_back inputs a d e status (reads_then a b d c.in_ok-description.ensures.same c.in_ok-plan.ensures.same) c.in_err-loaded.ensures.ends)
+    let d = g.H.Host.view c.read_rest.new.host in
+    let status = c.in_err-base.field-0.0 in
+    if_err_of (ReadRow inputs a d) c.from_residual-in_err-base.result status c.from_residual-in_err-base.ensures.1
+    (read_row_back inputs a b d status c.in_ok-description.ensures.same c.in_err-base.ensures.ends)
 
 pub returns-clause-read : goal.returns-clause-read
 returns-clause-read g c =
-    let a = g.H.Host.view c.args.host.now in
-    let b = g.H.Host.view c.read_description.new.host in
-    let d = g.H.Host.view c.read_scripts.new.host in
-    whole_base (asked_inputs c.args.inputs.now) (base_tree c.in_ok-base.base.value) c.in_ok-description.description c.in_ok-plan.plan c.in_ok-loaded.loaded.nodes a b d
-    c.in_ok-description.ensures.same c.in_ok-plan.ensures.same (ap base_tree c.in_ok-base.ensures) c.in_ok-description.ensures.read c.in_ok-plan.ensures.read c.in_ok-loaded.ensures.loaded
+    some_back (λ t. HasBase t (asked_inputs c.args.inputs.now) (base_tree c.in_ok-base.base.value)) (g.H.Host.view c.args.host.now) (g.H.Host.view c.read_description.new.host) c.in_ok-description.ensures.same c.in_ok-base.ensures.read

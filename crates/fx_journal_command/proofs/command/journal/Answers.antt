@@ -7,9 +7,9 @@ use Rattle.fx_base.proofs.Errors.{err_of}
 use Rattle.fx_inputs.proofs.Stages.{inputs_read, then_told}
 use Rattle.fx_inputs.specs.Inputs.{HasBase}
 use Rattle.fx_folder.specs.Folder.{IsReady}
-use Rattle.fx_run_command.proofs.Ending.{read_row, ends_back, fit_inputs, fit_out}
+use Rattle.fx_run_command.proofs.Ending.{fit_inputs, fit_out}
 use Rattle.fx_journal_command.specs.Rows.{JournalRow}
-use Rattle.fx_journal_command.proofs.Ending.{as_run, row_back}
+use Rattle.fx_journal_command.proofs.Ending.{inputs_unread, out_unready, row_back}
 use Rattle.fx_journal_command.proofs.Keeping.{keeps_back, unbegun_keeps}
 use Rattle.fx_journal_command.proofs.command.journal.Goals as goal
 
@@ -22,27 +22,24 @@ returns-in_err-base-clause-row g c =
     let disk = g.D.Disk.view c.args.disk.now in
     let st = c.in_err-base.field-0.0 in
     let is = err_of c.from_residual.result st c.from_residual.ensures.1 in
-    subst (λ r. JournalRow j a b sink sink disk disk (status_of r)) (sym is) (as_run j a b sink disk st c.in_err-base.ensures.same (read_row j.run a b st c.in_err-base.ensures.same c.in_err-base.ensures.ends))
+    subst (λ r. JournalRow j a b sink sink disk disk (status_of r)) (sym is) (inputs_unread j a b sink disk st c.in_err-base.ensures.same c.in_err-base.ensures.ends)
 
 pub returns-in_err-base-clause-keeps : goal.returns-in_err-base-clause-keeps
 returns-in_err-base-clause-keeps g c = unbegun_keeps (asked_journal c.args.job.now) (g.H.Host.view c.args.host.now) (g.S.Sink.view c.args.out.now) (g.D.Disk.view c.args.disk.now)
-
-pub make_ready-requires : goal.make_ready-requires
-make_ready-requires g c =
-    inputs_read (asked c.args.job.now.run).inputs (base_tree c.in_ok-base.base.value) (g.H.Host.view c.args.host.now) (g.H.Host.view c.read_base.new.host) c.in_ok-base.ensures.same c.in_ok-base.ensures.read
 
 pub returns-in_err-there-clause-row : goal.returns-in_err-there-clause-row
 returns-in_err-there-clause-row g c =
     let j = asked_journal c.args.job.now in
     let a = g.H.Host.view c.args.host.now in
     let b = g.H.Host.view c.read_base.new.host in
-    let d = g.H.Host.view c.make_ready.new.host in
+    let d = g.H.Host.view c.ready_out.new.host in
     let sink = g.S.Sink.view c.args.out.now in
     let disk = g.D.Disk.view c.args.disk.now in
     let st = c.in_err-there.field-0.0 in
     let is = err_of c.from_residual-in_err-there.result st c.from_residual-in_err-there.ensures.1 in
+    let inputs = inputs_read j.run.inputs (base_tree c.in_ok-base.base.value) a b c.in_ok-base.ensures.same c.in_ok-base.ensures.read in
     subst (λ r. JournalRow j a d sink sink disk disk (status_of r)) (sym is)
-    (as_run j a d sink disk st (reads_then a b d c.in_ok-base.ensures.same c.in_err-there.ensures.same) (ends_back j.run a b d st c.in_ok-base.ensures.same c.in_err-there.ensures.ends))
+    (row_back j a b d sink sink disk disk st c.in_ok-base.ensures.same (out_unready j b d sink disk st c.in_err-there.ensures.same inputs c.in_err-there.ensures.unready))
 
 pub returns-in_err-there-clause-keeps : goal.returns-in_err-there-clause-keeps
 returns-in_err-there-clause-keeps g c = unbegun_keeps (asked_journal c.args.job.now) (g.H.Host.view c.args.host.now) (g.S.Sink.view c.args.out.now) (g.D.Disk.view c.args.disk.now)
@@ -51,26 +48,26 @@ pub keep-requires-clause-begins : goal.keep-requires-clause-begins
 keep-requires-clause-begins g c =
     let a = g.H.Host.view c.args.host.now in
     let b = g.H.Host.view c.read_base.new.host in
-    let d = g.H.Host.view c.make_ready.new.host in
+    let d = g.H.Host.view c.ready_out.new.host in
     then_told (λ t. HasBase t (asked c.args.job.now.run).inputs (base_tree c.in_ok-base.base.value)) a d (reads_then a b d c.in_ok-base.ensures.same c.in_ok-there.ensures.same) c.in_ok-base.ensures.read
 
 pub keep-requires-clause-free : goal.keep-requires-clause-free
 keep-requires-clause-free g c =
-    then_told (λ t. IsReady t (asked c.args.job.now.run).out c.in_ok-there.there) (g.H.Host.view c.read_base.new.host) (g.H.Host.view c.make_ready.new.host) c.in_ok-there.ensures.same c.in_ok-there.ensures.ready
+    then_told (λ t. IsReady t (asked c.args.job.now.run).out c.in_ok-there.there) (g.H.Host.view c.read_base.new.host) (g.H.Host.view c.ready_out.new.host) c.in_ok-there.ensures.same c.in_ok-there.ensures.ready
 
 pub returns-clause-row : goal.returns-clause-row
 returns-clause-row g c =
     let a = g.H.Host.view c.args.host.now in
     let b = g.H.Host.view c.read_base.new.host in
-    let d = g.H.Host.view c.make_ready.new.host in
+    let d = g.H.Host.view c.ready_out.new.host in
     row_back (asked_journal c.args.job.now) a d (g.H.Host.view c.keep.new.host) (g.S.Sink.view c.args.out.now) (g.S.Sink.view c.keep.new.out) (g.D.Disk.view c.args.disk.now) (g.D.Disk.view c.keep.new.disk) (status_of c.keep.result) (reads_then a b d c.in_ok-base.ensures.same c.in_ok-there.ensures.same) c.keep.ensures.row
 
 pub returns-clause-keeps : goal.returns-clause-keeps
 returns-clause-keeps g c =
     let a = g.H.Host.view c.args.host.now in
     let b = g.H.Host.view c.read_base.new.host in
-    let d = g.H.Host.view c.make_ready.new.host in
+    let d = g.H.Host.view c.ready_out.new.host in
     keeps_back (asked_journal c.args.job.now) a d (g.S.Sink.view c.args.out.now) (g.S.Sink.view c.keep.new.out) (g.D.Disk.view c.args.disk.now) (g.D.Disk.view c.keep.new.disk) (reads_then a b d c.in_ok-base.ensures.same c.in_ok-there.ensures.same) c.keep.ensures.keeps
 
 pub returns-clause-fit : goal.returns-clause-fit
-returns-clause-fit g c = λ fit. c.keep.ensures.fit (fit_out (asked c.args.job.now.run) fit) ∙ c.in_ok-there.ensures.fit fit ∙ c.in_ok-base.ensures.fit (fit_inputs (asked c.args.job.now.run) fit)
+returns-clause-fit g c = λ fit. c.keep.ensures.fit (fit_out (asked c.args.job.now.run) fit) ∙ c.in_ok-there.ensures.fit (fit_out (asked c.args.job.now.run) fit) ∙ c.in_ok-base.ensures.fit (fit_inputs (asked c.args.job.now.run) fit)

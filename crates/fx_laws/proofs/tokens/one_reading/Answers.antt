@@ -1,6 +1,12 @@
-use Rattle.fx_laws.proofs.Described.{spec_reading}
+use Rattle.fx_laws.proofs.Described.{spec_reading, def_reading, text_reading}
 use Rattle.fx_laws.proofs.Commanded.{act_reading, command_reading, block_reading, txn_reading, scripts_differ}
 use Rattle.fx_laws.proofs.tokens.one_reading.Goals as goal
+
+pub returns-clause-text : goal.returns-clause-text
+returns-clause-text c = text_reading
+
+pub returns-clause-definition : goal.returns-clause-definition
+returns-clause-definition c = def_reading
 
 pub returns-clause-description : goal.returns-clause-description
 returns-clause-description c = spec_reading

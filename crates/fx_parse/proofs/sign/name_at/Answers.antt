@@ -1,6 +1,5 @@
-use Rattle.std.proofs.Common.{◌≡◌, Err, ◌∷◌, sym, ap, ◌∙◌}
+use Rattle.std.proofs.Common.{Err, ◌∷◌, sym, ap, ◌∙◌}
 use Rattle.std.proofs.lemmas.List.{length-map}
-use Rattle.fx_lex.specs.declared.token.Token.TheVariants as token
 use Rattle.fx_parse.specs.Grammars.{is_name}
 use Rattle.fx_parse.specs.Reader.{kinds}
 use Rattle.fx_parse.specs.Stuck.{Unexpected}

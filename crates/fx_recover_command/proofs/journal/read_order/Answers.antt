@@ -4,8 +4,8 @@ use Rattle.fx_spec.specs.Bases.{base_tree}
 use Rattle.fx_spec.specs.Order.{IsLegal}
 use Rattle.fx_command.proofs.Told.{if_some_map}
 use Rattle.fx_durable.specs.Journal.{turns_of, Spells}
-use Rattle.fx_recover_command.specs.Orders.{IsFirstIllegal}
-use Rattle.fx_recover_command.specs.Unread.{GoesWrong}
+use Rattle.fx_journaling.specs.Laws.{GoesWrong}
+use Rattle.fx_replay_log.specs.Legal.{IsFirstIllegal}
 use Rattle.fx_recover_command.proofs.journal.read_order.Goals as goal
 
 pub returns-in-Some-clause-cause : goal.returns-in-Some-clause-cause

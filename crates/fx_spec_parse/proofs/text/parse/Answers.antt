@@ -1,15 +1,18 @@
 use Rattle.std.proofs.Common.{◌≡◌, ◌≤◌, length, Ok, sym, ap, ◌∙◌, subst, arith}
+use Rattle.std.specs.Prelude.{map}
 use Rattle.fx_base.specs.Limits.{source_limit}
 use Rattle.fx_base.proofs.Errors.{err_of, if_err_of}
+use Rattle.fx_lex.specs.Kept.{kept, kept_at}
 use Rattle.fx_parse.specs.Faults.{of_lex}
 use Rattle.fx_parse.specs.Reader.{kinds}
+use Rattle.fx_parse.specs.ReadAt.{fault_at}
 use Rattle.fx_parse.specs.Stuck.{Stops}
-use Rattle.fx_spec.specs.Views.{spec_tree}
+use Rattle.fx_spec.specs.TextViews.{written}
 use Rattle.fx_grammar.specs.Grammars.{descriptions}
-use Rattle.fx_grammar.specs.Refused.{IsRefused}
-use Rattle.fx_grammar.proofs.Unlexed.{unlexed}
+use Rattle.fx_grammar.specs.Refused.{IsRefusedDescription}
+use Rattle.fx_grammar.proofs.Unlexed.{unlexed_as}
 use Rattle.fx_spec_parse.specs.Reader.{read_whole}
-use Rattle.fx_spec_parse.proofs.Texts.{described, refused, read_again, same_whole, stop_only}
+use Rattle.fx_spec_parse.proofs.Texts.{keeping, described, refused, read_again, same_whole, stop_only}
 use Rattle.fx_spec_parse.proofs.text.parse.Goals as goal
 
 pub returns-in_err-tokens-clause-only : goal.returns-in_err-tokens-clause-only
@@ -20,31 +23,37 @@ returns-in_err-tokens-clause-only c =
 pub returns-in_err-tokens-clause-fault : goal.returns-in_err-tokens-clause-fault
 returns-in_err-tokens-clause-fault c =
     let short : length c.args.text.now ≤ source_limit = omega (arith, c.if-text-gt-SOURCE_LIMIT.false) in
-    if_err_of (IsRefused descriptions c.args.text.now) c.from_residual.result (of_lex c.in_err-tokens.field-0.0) c.from_residual.ensures.1
-    (unlexed descriptions c.args.text.now c.in_err-tokens.field-0.0 short c.in_err-tokens.ensures.fault)
+    if_err_of (IsRefusedDescription c.args.text.now) c.from_residual.result (of_lex c.in_err-tokens.field-0.0) c.from_residual.ensures.1
+    (unlexed_as descriptions (λ ts. map kept ts) c.args.text.now c.in_err-tokens.field-0.0 short c.in_err-tokens.ensures.fault)
 
-read_ok : (c : goal.After-drop-tokens-inside) → read_whole (kinds c.in_ok-tokens.tokens.spanned) ≡ Ok (spec_tree c.in-Ok.spec)
-read_ok c = ap (λ l. read_whole (kinds l)) (sym c.as_slice.ensures.value) ∙ c.in-Ok.ensures
+read_ok : (c : goal.After-drop-tokens-inside) → read_whole (kinds (map kept_at c.in_ok-tokens.tokens.spanned)) ≡ Ok (written c.in-Ok.description)
+read_ok c =
+    ap (λ l. read_whole (kinds l)) (sym (c.as_slice.ensures.value ∙ ap (λ t. t.spanned) c.keep_def.ensures)) ∙ c.in-Ok.ensures
 
 pub returns-in-Ok-clause-ok : goal.returns-in-Ok-clause-ok
 returns-in-Ok-clause-ok c =
     let short : length c.args.text.now ≤ source_limit = omega (arith, c.if-text-gt-SOURCE_LIMIT.false) in
-    described c.args.text.now c.in_ok-tokens.tokens short c.in_ok-tokens.ensures.tokens (spec_tree c.in-Ok.spec) (read_ok c)
+    described c.args.text.now c.in_ok-tokens.tokens.spanned short c.in_ok-tokens.ensures.tokens (written c.in-Ok.description) (read_ok c)
 
 pub returns-in-Ok-clause-only : goal.returns-in-Ok-clause-only
 returns-in-Ok-clause-only c = λ t d.
-    let again = read_again c.args.text.now c.in_ok-tokens.tokens t (λ spanned tokens. (c.in_ok-tokens.ensures.given spanned tokens).0) d in
-    (same_whole (spec_tree c.in-Ok.spec) t (sym (read_ok c) ∙ again), tt)
+    let again = read_again c.args.text.now c.in_ok-tokens.tokens.spanned t (λ spanned tokens. (c.in_ok-tokens.ensures.given spanned tokens).0) d in
+    (same_whole (written c.in-Ok.description) t (sym (read_ok c) ∙ again), tt)
 
-stopped : (c : goal.After-drop-tokens-inside-2) → Stops c.in-Err.stop (read_whole (kinds c.in_ok-tokens.tokens.spanned))
-stopped c = subst (λ l. Stops c.in-Err.stop (read_whole (kinds l))) c.as_slice.ensures.value c.in-Err.ensures
+stopped : (c : goal.After-drop-tokens-inside-2) → Stops c.in-Err.stop (read_whole (kinds (map kept_at c.in_ok-tokens.tokens.spanned)))
+stopped c =
+    subst (λ l. Stops c.in-Err.stop (read_whole (kinds l))) (c.as_slice.ensures.value ∙ ap (λ t. t.spanned) c.keep_def.ensures) c.in-Err.ensures
+
+told : (c : goal.After-drop-tokens-inside-2) → c.fault_at.result ≡ fault_at (keeping c.in_ok-tokens.tokens.spanned (length c.args.text.now)) c.in-Err.stop
+told c =
+    c.fault_at.ensures ∙ ap (λ l. fault_at l c.in-Err.stop) (c.keep_def.ensures ∙ ap (keeping c.in_ok-tokens.tokens.spanned) c.in_ok-tokens.ensures.length)
 
 pub returns-clause-only : goal.returns-clause-only
 returns-clause-only c = λ t d.
-    let again = read_again c.args.text.now c.in_ok-tokens.tokens t (λ spanned tokens. (c.in_ok-tokens.ensures.given spanned tokens).0) d in
-    (tt, c.fault_at.ensures ∙ stop_only c.in_ok-tokens.tokens c.in-Err.stop (kinds c.in_ok-tokens.tokens.spanned) t (stopped c) again)
+    let again = read_again c.args.text.now c.in_ok-tokens.tokens.spanned t (λ spanned tokens. (c.in_ok-tokens.ensures.given spanned tokens).0) d in
+    (tt, told c ∙ stop_only (keeping c.in_ok-tokens.tokens.spanned (length c.args.text.now)) c.in-Err.stop (kinds (map kept_at c.in_ok-tokens.tokens.spanned)) t (stopped c) again)
 
 pub returns-clause-fault : goal.returns-clause-fault
 returns-clause-fault c =
     let short : length c.args.text.now ≤ source_limit = omega (arith, c.if-text-gt-SOURCE_LIMIT.false) in
-    subst (λ f. IsRefused descriptions c.args.text.now f) (sym c.fault_at.ensures) (refused c.args.text.now c.in_ok-tokens.tokens short c.in_ok-tokens.ensures.tokens c.in_ok-tokens.ensures.length c.in-Err.stop (stopped c))
+    subst (λ f. IsRefusedDescription c.args.text.now f) (sym (told c)) (refused c.args.text.now c.in_ok-tokens.tokens.spanned short c.in_ok-tokens.ensures.tokens c.in-Err.stop (stopped c))

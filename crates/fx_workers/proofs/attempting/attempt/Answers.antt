@@ -1,21 +1,22 @@
-use Rattle.std.proofs.Common.{refl, sym, ap, subst, ◌∙◌}
-use Rattle.fx_turn.specs.Seats.{view}
-use Rattle.fx_shared.specs.Shared.{IsReadyPass}
-use Rattle.fx_workers.specs.Crews.{base_of}
+use Rattle.std.proofs.Common.{refl, sym, ap, ◌∙◌}
+use Rattle.fx_spec.specs.Bases.{base_tree}
 use Rattle.fx_workers.specs.Live.{begins_to_vouch}
 use Rattle.fx_workers.proofs.Attempts.{tried_by}
 use Rattle.fx_workers.proofs.attempting.attempt.Goals as goal
 
-pub returns-in-Ok-clause-ready : goal.returns-in-Ok-clause-ready
-returns-in-Ok-clause-ready g c =
-    let start = c.new-live.result in
-    let vouched = c.in-Ok.ensures.attempted.vouched start (refl, begins_to_vouch (view start.pass) start.reads start.true_reads) in
-    subst (λ shared. IsReadyPass shared c.into_pass.result) (vouched.0 ∙ c.new-live.ensures.shared) c.into_pass.ensures.ready
+pub returns-in-Ok-clause-table : goal.returns-in-Ok-clause-table
+returns-in-Ok-clause-table g c =
+    let at = g.D.Desk.view in
+    let table = g.D.Desk.table in
+    let start = c.over-live.result in
+    let vouched = c.in-Ok.ensures.attempted.vouched start (refl, begins_to_vouch (at start.desk) start.reads start.true_reads) in
+    ap table c.into_desk.ensures ∙ (vouched.0 ∙ ap table c.over-live.ensures.desk)
 
 pub returns-in-Ok-clause-tried : goal.returns-in-Ok-clause-tried
 returns-in-Ok-clause-tried g c =
-    let start = c.new-live.result in
+    let at = g.D.Desk.view in
+    let start = c.over-live.result in
     let attempted = c.in-Ok.ensures.attempted in
-    let vouched = attempted.vouched start (refl, begins_to_vouch (view start.pass) start.reads start.true_reads) in
-    tried_by (base_of c.args.crew.now) c.args.shell c.args.txn (view c.args.pass) (view c.into_pass.result) (view start.pass) (view c.run.new.reader.pass) start.reads c.in-Ok.attempt
-    (ap view c.new-live.ensures.pass) (sym (ap view c.into_pass.ensures.pass)) c.new-live.ensures.reads attempted.whose attempted.number c.in-Ok.ensures.explained vouched.1
+    let vouched = attempted.vouched start (refl, begins_to_vouch (at start.desk) start.reads start.true_reads) in
+    tried_by (base_tree c.args.base.now.value) c.args.shell c.args.txn (at c.args.desk) (at c.into_desk.result) (at start.desk) (at c.run.new.reader.desk) start.reads c.in-Ok.attempt
+    (ap at c.over-live.ensures.desk) (sym (ap at c.into_desk.ensures)) c.over-live.ensures.reads attempted.whose attempted.number c.in-Ok.ensures.explained vouched.1

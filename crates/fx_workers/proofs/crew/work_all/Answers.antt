@@ -8,7 +8,8 @@ use Rattle.fx_board.proofs.Crosses.{Board-send}
 use Rattle.fx_turn.specs.Seats.{view}
 use Rattle.fx_workers.specs.Crews.{base_of}
 use Rattle.fx_workers.specs.Workers.{IsFresh, AreDone}
-use Rattle.fx_workers.proofs.Crosses.{Worker-send, Crew-sync}
+use Rattle.fx_machine.proofs.Crosses.{Retry-send}
+use Rattle.fx_workers.proofs.Crosses.{Crew-sync}
 use Rattle.fx_workers.proofs.Works.{mapped, done_by}
 use Rattle.fx_workers.proofs.crew.work_all.Goals as goal
 
@@ -16,7 +17,7 @@ pub map_vec-requires-send-J : goal.map_vec-requires-send-J
 map_vec-requires-send-J g c κs within = search (sendable, crosses, Board-send, table_seat) depth 40
 
 pub map_vec-requires-send-X : goal.map_vec-requires-send-X
-map_vec-requires-send-X g c κs within = search (sendable, crosses, Worker-send) depth 40
+map_vec-requires-send-X g c κs within = search (sendable, crosses, Board-send, Retry-send, table_seat) depth 40
 
 pub map_vec-requires-sync-F : goal.map_vec-requires-sync-F
 map_vec-requires-sync-F g c κs within =
@@ -25,13 +26,13 @@ map_vec-requires-sync-F g c κs within =
 pub map_vec-requires-after_bounds : goal.map_vec-requires-after_bounds
 map_vec-requires-after_bounds g c κs within = λ i x h e.
     let fresh = c.requires.passes.each i x h in
-    subst (IsFresh (base_of c.args.crew.now) c.args.crew.now.shared.now) (sym e) fresh
+    subst (IsFresh (base_of c.args.crew.now) c.args.crew.now.shares.now) (sym e) fresh
 
 pub returns-clause-done : goal.returns-clause-done
 returns-clause-done g c =
-    mapped _ _ (λ v. AreDone (base_of c.args.crew.now) c.args.crew.now.shared.now v.items) (λ v len each k d h.
+    mapped _ _ (λ v. AreDone (base_of c.args.crew.now) c.args.crew.now.shares.now v.items) (λ v len each k d h.
     let j = (each k d (omega (arith, len, h))).1 in
     let passes = c.args.passes.items in
     let number = subst (λ p. (view p).number ≡ Some k) (j.job_is j.job) (c.requires.passes.numbered k j.job (omega (arith, len, h))) in
-    done_by (base_of c.args.crew.now) c.args.crew.now.shared.now j.job k (slice_index_or v.items k d) number j.call.met)
+    done_by (base_of c.args.crew.now) c.args.crew.now.shares.now j.job k (slice_index_or v.items k d) number j.call.met)
     c.map_vec.result c.map_vec.ensures.len c.map_vec.ensures.each

@@ -1,18 +1,23 @@
+use denote.Param.Send.{sendable}
 use Rattle.std.proofs.Common.{rules, [], ◌∷◌, length, subst, sym, ◌∙◌, arith, length-append}
 use Rattle.std.proofs.lemmas.Iterator.Consumers.{YieldsList-turn, YieldsList-end}
 use Rattle.std.proofs.lemmas.Iterator.Adapters.{YieldsList-from_vec}
+use Rattle.fx_board.proofs.Crosses.{Board-send}
 use Rattle.fx_workers.specs.Crews.{base_of}
 use Rattle.fx_workers.specs.Workers.{IsDone}
 use Rattle.fx_workers.proofs.Works.{done_at}
 use Rattle.fx_workers.proofs.running.gather.Goals as goal
 
+pub take_in-requires-send-T : goal.take_in-requires-send-T
+take_in-requires-send-T g c κs within = search (sendable, Board-send) depth 40
+
 pub take_in-requires-clause-done : goal.take_in-requires-clause-done
-take_in-requires-clause-done g c =
+take_in-requires-clause-done g c κs within =
     let base = base_of c.args.crew.now in
-    let shared = c.args.crew.now.shared.now in
+    let shares = c.args.crew.now.shares.now in
     let turn = YieldsList-turn (YieldsList-from_vec {s = c.into_iter-worked-iterator.result} c.args.all.items (search rules) (search rules)) c.loop-worked.yielded c.loop-worked.worked-iterator c.loop-worked.yielded_by c.next.result c.next.new.self c.in-Some.worked c.in-Some.is c.next.ensures.steps in
-    subst (λ k. IsDone base shared k c.in_ok-worker.worker) (sym c.loop-worked.invariant.joins)
-    (done_at base shared c.args.all.items (length c.loop-worked.yielded) c.in-Some.worked c.in_ok-worker.worker c.requires.done turn.0 turn.1 c.in_ok-worker.was)
+    subst (λ k. IsDone base shares k c.in_ok-worked.worked) (sym c.loop-worked.invariant.joins)
+    (done_at base shares c.args.all.items (length c.loop-worked.yielded) c.in-Some.worked c.in_ok-worked.worked c.requires.done turn.0 turn.1 c.in_ok-worked.was)
 
 pub loop-worked-preserved : goal.loop-worked-preserved
 loop-worked-preserved g c =

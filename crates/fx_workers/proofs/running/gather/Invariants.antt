@@ -8,7 +8,7 @@ use Rattle.fx_workers.proofs.running.gather.Given as goal
 
 abbrev pub invariant-loop-worked : goal.invariant-loop-worked
 invariant-loop-worked g l = record {
-  pass : IsPassOf l.crew.shared.now l.maker;
+  pass : IsPassOf l.crew.shares.now l.maker;
   splits : (view l.maker).splits ≡ (view l.initial.maker).splits;
   joins : joins (view l.maker) ≡ length l.yielded;
   gathered : HasGathered (base_of l.crew) (view l.maker) l.retries;

@@ -6,9 +6,9 @@ use Rattle.fx_workers.proofs.running.passes_of.Given as goal
 
 abbrev pub invariant-loop-shell : goal.invariant-loop-shell
 invariant-loop-shell g l = record {
-  maker : IsMakerOf (base_of l.crew) l.crew.shared.now l.maker;
+  maker : IsMakerOf (base_of l.crew) l.crew.shares.now l.maker;
   splits : (view l.maker).splits ≡ l._shell;
   joined : (view l.maker).joined ≡ (view l.initial.maker).joined;
   all : length l.passes.items ≡ l._shell;
-  fresh : AreFresh (base_of l.crew) l.crew.shared.now l.passes.items;
+  fresh : AreFresh (base_of l.crew) l.crew.shares.now l.passes.items;
 }

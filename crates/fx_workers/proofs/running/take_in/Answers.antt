@@ -1,4 +1,3 @@
-use Rattle.std.proofs.Common.{sym, ◌∙◌}
 use Rattle.fx_turn.specs.Seats.{view}
 use Rattle.fx_workers.specs.Crews.{base_of}
 use Rattle.fx_workers.proofs.Gathers.{gathered_noted}
@@ -7,5 +6,5 @@ use Rattle.fx_workers.proofs.running.take_in.Goals as goal
 pub returns-clause-gathered : goal.returns-clause-gathered
 returns-clause-gathered g c =
     let w = c.requires.done in
-    gathered_noted (base_of c.args.crew.now) (view c.args.maker.now) (view c.args.worker.pass) (view c.join.new.maker) c.args.retries.now c.args.worker.retries.items c.add_all.new.retries c.args.worker.next c.add_all.result c.requires.gathered
-    c.join.ensures.maker w.worker.number (sym w.worker.next ∙ w.all) w.worker.tried c.join.ensures.seen c.join.ensures.told c.add_all.ensures
+    gathered_noted (base_of c.args.crew.now) (view c.args.maker.now) (view c.args.worked.pass) (view c.join.new.maker) c.args.retries.now c.args.worked.retries.items c.add_all.new.retries (view c.args.worked.pass).mine c.add_all.result c.requires.gathered
+    c.join.ensures.maker w.number w.all w.tried c.join.ensures.seen c.join.ensures.told c.add_all.ensures

@@ -3,7 +3,7 @@ use Rattle.std.specs.Option.{option_copied}
 use Rattle.fx_expr.specs.Eval.{eval_of}
 use Rattle.fx_expr.specs.Sets.{has_text}
 use Rattle.fx_spec.specs.Move.{go_to, this_if}
-use Rattle.fx_spec.specs.Views.{spec_tree}
+use Rattle.fx_spec.specs.Parts.{part_of}
 use Rattle.fx_zip.specs.Telling.{set_answer}
 use Rattle.fx_zip.proofs.Consulting.{has_asked}
 use Rattle.fx_zip.proofs.Entering.{chosen_enters}
@@ -14,9 +14,9 @@ pub returns-in_ok-set-in-Some : goal.returns-in_ok-set-in-Some
 returns-in_ok-set-in-Some g c = record {
   enters =
       let set : set_answer (eval_of c.args.env.now c.in-Some.set.now) ≡ Ok c.in_ok-set-in-Some.set = cc (c.in_ok-set-in-Some.ensures.set) in
-      chosen_enters c.args.path.now c.args.env.now (λ a. go_to c.args.text.now a c.args.path.now c.args.env.now (spec_tree c.args.spec.now)) (spec_tree c.args.spec.now) (spec_tree c.in-Some.field-0-0.now) c.in-Some.name.now c.in-Some.set.now c.in-Some.ensures (λ set. this_if c.args.text.now (has_text c.args.text.now set))
+      chosen_enters c.args.path.now c.args.env.now (λ a. go_to c.args.text.now a c.args.path.now c.args.env.now (part_of c.args.spec.now)) (part_of c.args.spec.now) (part_of c.in-Some.field-0-0) c.in-Some.name.now c.in-Some.set.now c.in-Some.ensures (λ set. this_if c.args.text.now (has_text c.args.text.now set))
       (λ a. ap (λ s. go_to c.args.text.now a c.args.path.now c.args.env.now s) c.in-Some.ensures) c.args.steps.now c.set_again.new.steps c.in_ok-set-in-Some.ensures.tick c.in_ok-set-in-Some.set set (has_asked c.args.text.now c.in_ok-set-in-Some.set) (option_copied c.this_if-choice.result) (c.this_if-choice.ensures ∙ ap (this_if c.args.text.now) c.has.ensures) c.chosen.result c.chosen.ensures;
 }
 
 pub set_again-requires-clause-kept : goal.set_again-requires-clause-kept
-set_again-requires-clause-kept g c = kept_set (option_copied c.args.kept) c.args.env.now (spec_tree c.args.spec.now) (spec_tree c.in-Some.field-0-0.now) c.in-Some.name.now c.in-Some.set.now c.in-Some.ensures c.requires.kept
+set_again-requires-clause-kept g c = kept_set (option_copied c.args.kept) c.args.env.now (part_of c.args.spec.now) (part_of c.in-Some.field-0-0) c.in-Some.name.now c.in-Some.set.now c.in-Some.ensures c.requires.kept

@@ -1,8 +1,8 @@
 use Rattle.std.proofs.Common.{sym, ap, ◌∙◌}
-use Rattle.fx_spec.specs.Views.{spec_tree}
+use Rattle.fx_spec.specs.Parts.{part_of}
 use Rattle.fx_zip.specs.Parts as parts
 use Rattle.fx_zip.specs.Steps.{step_tree}
 use Rattle.fx_zip.proofs.part.child.Goals as goal
 
 pub returns-in-Elem : goal.returns-in-Elem
-returns-in-Elem c = c.row_part.ensures c.in-Elem.field-0 ∙ ap (λ s. parts.child (step_tree s) (spec_tree c.args.spec.now)) (sym c.in-Elem.is)
+returns-in-Elem c = c.row_part.ensures c.in-Elem.field-0 ∙ ap (λ s. parts.child (step_tree s) (part_of c.args.spec.now)) (sym c.in-Elem.is)

@@ -1,5 +1,5 @@
 use Rattle.std.proofs.Common.{sym, ap, ◌∙◌, drop}
-use Rattle.fx_spec.specs.Views.{spec_tree}
+use Rattle.fx_spec.specs.Parts.{part_of}
 use Rattle.fx_zip.specs.Parts.{part}
 use Rattle.fx_zip.specs.Steps.{step_tree, turned}
 use Rattle.fx_zip.proofs.Turning.{turned-last}
@@ -8,4 +8,4 @@ use Rattle.fx_zip.proofs.part.part_around.Goals as goal
 pub returns-in-Some : goal.returns-in-Some
 returns-in-Some c =
     c.part.ensures
-    ∙ ap (λ a. part (spec_tree c.args.root.now) (drop 1 a)) (sym (ap (turned step_tree) c.in-Some.ensures.cases.0 ∙ turned-last step_tree c.in-Some.front.now c.in-Some.field-0-0.now))
+    ∙ ap (λ a. part (part_of c.args.root.now) (drop 1 a)) (sym (ap (turned step_tree) c.in-Some.ensures.cases.0 ∙ turned-last step_tree c.in-Some.front.now c.in-Some.field-0-0.now))

@@ -1,7 +1,7 @@
 use Rattle.std.proofs.Common.{Ok, Err, refl}
 use Rattle.fx_spec.specs.Move.{go_to}
 use Rattle.fx_spec.specs.Transaction.{from_place}
-use Rattle.fx_spec.specs.Views.{spec_tree}
+use Rattle.fx_spec.specs.Parts.{part_of}
 use Rattle.fx_view.specs.Own.{own_at}
 use Rattle.fx_zip.specs.Calls.{place_evals}
 use Rattle.std.specs.Option.{option_copied}
@@ -16,19 +16,19 @@ returns-in_err-find g c = record {
 }
 
 pub to-requires : goal.to-requires
-to-requires g c = record { described = here_scope (g.R.Reader.meaning.reads c.find.new.reader) (own_at c.args.overlay.now) c.find.new.self c.path.result.now c.env.result.now (spec_tree c.spec.result.now) c.path.ensures c.env.ensures c.spec.ensures.part c.spec.ensures.described c.in_ok-find.ensures.stands; kept = kept_here (g.R.Reader.meaning.reads c.find.new.reader) (own_at c.args.overlay.now) c.find.new.self c.env.result.now (spec_tree c.spec.result.now) (option_copied c.kept.result) c.env.ensures c.spec.ensures.part c.kept.ensures c.in_ok-find.ensures.stands }
+to-requires g c = record { described = here_scope (g.R.Reader.meaning.reads c.find.new.reader) (own_at c.args.overlay.now) c.find.new.self c.path.result.now c.env.result.now (part_of c.spec.result) c.path.ensures c.env.ensures c.spec.ensures.part c.spec.ensures.described c.in_ok-find.ensures.stands; kept = kept_here (g.R.Reader.meaning.reads c.find.new.reader) (own_at c.args.overlay.now) c.find.new.self c.env.result.now (part_of c.spec.result) (option_copied c.kept.result) c.env.ensures c.spec.ensures.part c.kept.ensures c.in_ok-find.ensures.stands }
 
 pub returns-in_err-entry : goal.returns-in_err-entry
 returns-in_err-entry g c = record {
-  moves = moved_not g.R.Reader.meaning (own_at c.args.overlay.now) c.args.self.now c.find.new.self (c.args.reader.now, c.args.steps.now) (c.find.new.reader, c.find.new.steps) (c.find.new.reader, c.to.new.steps) c.in_ok-find.ensures (go_to c.args.text.now) c.in_err-entry.field-0.0 c.from_residual-in_err-entry.result (enters_here (g.R.Reader.meaning.reads c.find.new.reader) (own_at c.args.overlay.now) c.find.new.self c.path.result.now c.env.result.now (spec_tree c.spec.result.now) c.path.ensures c.env.ensures c.spec.ensures.part (go_to c.args.text.now) (Err c.in_err-entry.field-0.0) g.R.Reader.meaning (c.find.new.reader, c.find.new.steps) (c.find.new.reader, c.to.new.steps) (enters_of g.R.Reader.meaning (own_at c.args.overlay.now) (λ a. go_to c.args.text.now a c.path.result.now c.env.result.now (spec_tree c.spec.result.now)) c.path.result.now c.env.result.now (spec_tree c.spec.result.now) c.find.new.reader c.find.new.steps c.to.new.steps (Err c.in_err-entry.field-0.0) c.in_err-entry.ensures.enters)) c.from_residual-in_err-entry.ensures.1;
+  moves = moved_not g.R.Reader.meaning (own_at c.args.overlay.now) c.args.self.now c.find.new.self (c.args.reader.now, c.args.steps.now) (c.find.new.reader, c.find.new.steps) (c.find.new.reader, c.to.new.steps) c.in_ok-find.ensures (go_to c.args.text.now) c.in_err-entry.field-0.0 c.from_residual-in_err-entry.result (enters_here (g.R.Reader.meaning.reads c.find.new.reader) (own_at c.args.overlay.now) c.find.new.self c.path.result.now c.env.result.now (part_of c.spec.result) c.path.ensures c.env.ensures c.spec.ensures.part (go_to c.args.text.now) (Err c.in_err-entry.field-0.0) g.R.Reader.meaning (c.find.new.reader, c.find.new.steps) (c.find.new.reader, c.to.new.steps) (enters_of g.R.Reader.meaning (own_at c.args.overlay.now) (λ a. go_to c.args.text.now a c.path.result.now c.env.result.now (part_of c.spec.result)) c.path.result.now c.env.result.now (part_of c.spec.result) c.find.new.reader c.find.new.steps c.to.new.steps (Err c.in_err-entry.field-0.0) c.in_err-entry.ensures.enters)) c.from_residual-in_err-entry.ensures.1;
 }
 
 pub returns-in_err-enter : goal.returns-in_err-enter
 returns-in_err-enter g c = record {
-  moves = moved_memory g.R.Reader.meaning (own_at c.args.overlay.now) c.args.self.now c.find.new.self (c.args.reader.now, c.args.steps.now) (c.find.new.reader, c.find.new.steps) (c.find.new.reader, c.to.new.steps) c.in_ok-find.ensures (go_to c.args.text.now) c.in_ok-entry.entry c.enter.new.self c.from_residual-in_err-enter.result (enters_here (g.R.Reader.meaning.reads c.find.new.reader) (own_at c.args.overlay.now) c.find.new.self c.path.result.now c.env.result.now (spec_tree c.spec.result.now) c.path.ensures c.env.ensures c.spec.ensures.part (go_to c.args.text.now) (Ok c.in_ok-entry.entry) g.R.Reader.meaning (c.find.new.reader, c.find.new.steps) (c.find.new.reader, c.to.new.steps) (enters_of g.R.Reader.meaning (own_at c.args.overlay.now) (λ a. go_to c.args.text.now a c.path.result.now c.env.result.now (spec_tree c.spec.result.now)) c.path.result.now c.env.result.now (spec_tree c.spec.result.now) c.find.new.reader c.find.new.steps c.to.new.steps (Ok c.in_ok-entry.entry) c.in_ok-entry.ensures.enters)) c.in_err-enter.ensures.root c.from_residual-in_err-enter.ensures.1;
+  moves = moved_memory g.R.Reader.meaning (own_at c.args.overlay.now) c.args.self.now c.find.new.self (c.args.reader.now, c.args.steps.now) (c.find.new.reader, c.find.new.steps) (c.find.new.reader, c.to.new.steps) c.in_ok-find.ensures (go_to c.args.text.now) c.in_ok-entry.entry c.enter.new.self c.from_residual-in_err-enter.result (enters_here (g.R.Reader.meaning.reads c.find.new.reader) (own_at c.args.overlay.now) c.find.new.self c.path.result.now c.env.result.now (part_of c.spec.result) c.path.ensures c.env.ensures c.spec.ensures.part (go_to c.args.text.now) (Ok c.in_ok-entry.entry) g.R.Reader.meaning (c.find.new.reader, c.find.new.steps) (c.find.new.reader, c.to.new.steps) (enters_of g.R.Reader.meaning (own_at c.args.overlay.now) (λ a. go_to c.args.text.now a c.path.result.now c.env.result.now (part_of c.spec.result)) c.path.result.now c.env.result.now (part_of c.spec.result) c.find.new.reader c.find.new.steps c.to.new.steps (Ok c.in_ok-entry.entry) c.in_ok-entry.ensures.enters)) c.in_err-enter.ensures.root c.from_residual-in_err-enter.ensures.1;
 }
 
 pub returns : goal.returns
 returns g c = record {
-  moves = moved_in g.R.Reader.meaning (own_at c.args.overlay.now) c.args.self.now c.find.new.self (c.args.reader.now, c.args.steps.now) (c.find.new.reader, c.find.new.steps) (c.find.new.reader, c.to.new.steps) c.in_ok-find.ensures (go_to c.args.text.now) c.in_ok-entry.entry c.enter.new.self (enters_here (g.R.Reader.meaning.reads c.find.new.reader) (own_at c.args.overlay.now) c.find.new.self c.path.result.now c.env.result.now (spec_tree c.spec.result.now) c.path.ensures c.env.ensures c.spec.ensures.part (go_to c.args.text.now) (Ok c.in_ok-entry.entry) g.R.Reader.meaning (c.find.new.reader, c.find.new.steps) (c.find.new.reader, c.to.new.steps) (enters_of g.R.Reader.meaning (own_at c.args.overlay.now) (λ a. go_to c.args.text.now a c.path.result.now c.env.result.now (spec_tree c.spec.result.now)) c.path.result.now c.env.result.now (spec_tree c.spec.result.now) c.find.new.reader c.find.new.steps c.to.new.steps (Ok c.in_ok-entry.entry) c.in_ok-entry.ensures.enters)) c.in_ok-enter.ensures.entered;
+  moves = moved_in g.R.Reader.meaning (own_at c.args.overlay.now) c.args.self.now c.find.new.self (c.args.reader.now, c.args.steps.now) (c.find.new.reader, c.find.new.steps) (c.find.new.reader, c.to.new.steps) c.in_ok-find.ensures (go_to c.args.text.now) c.in_ok-entry.entry c.enter.new.self (enters_here (g.R.Reader.meaning.reads c.find.new.reader) (own_at c.args.overlay.now) c.find.new.self c.path.result.now c.env.result.now (part_of c.spec.result) c.path.ensures c.env.ensures c.spec.ensures.part (go_to c.args.text.now) (Ok c.in_ok-entry.entry) g.R.Reader.meaning (c.find.new.reader, c.find.new.steps) (c.find.new.reader, c.to.new.steps) (enters_of g.R.Reader.meaning (own_at c.args.overlay.now) (λ a. go_to c.args.text.now a c.path.result.now c.env.result.now (part_of c.spec.result)) c.path.result.now c.env.result.now (part_of c.spec.result) c.find.new.reader c.find.new.steps c.to.new.steps (Ok c.in_ok-entry.entry) c.in_ok-entry.ensures.enters)) c.in_ok-enter.ensures.entered;
 }

@@ -1,12 +1,12 @@
 use Rattle.std.proofs.Common.{◌≡◌, sym, subst}
 use Rattle.fx_spec.specs.Place.{placed}
 use Rattle.fx_spec.specs.Shaped.{IsDescribedPlace}
-use Rattle.fx_spec.specs.Views.{spec_tree}
+use Rattle.fx_spec.specs.Parts.{part_of}
 use Rattle.fx_zip.specs.Trees.{here}
 use Rattle.fx_zip.proofs.Standing.{stands_described}
 use Rattle.fx_zip.proofs.zip.Zip.here.Goals as goal
 
 pub returns-clause-described : goal.returns-clause-described
 returns-clause-described c known own stands =
-    let is : placed c.path.result.now c.env.result.now (spec_tree c.spec.result.now) ≡ here c.args.self.now = λ i. placed (c.path.ensures i) (c.env.ensures i) (c.spec.ensures.part i) in
-    subst IsDescribedPlace (sym is) (stands_described known own c.args.self.now c.spec.ensures.described stands)
+    let is : placed c.path.result.now c.env.result.now (part_of c.spec-part.result) ≡ here c.args.self.now = λ i. placed (c.path.ensures i) (c.env.ensures i) (c.spec-part.ensures.part i) in
+    subst IsDescribedPlace (sym is) (stands_described known own c.args.self.now c.spec-part.ensures.described stands)

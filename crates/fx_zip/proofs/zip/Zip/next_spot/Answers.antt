@@ -1,6 +1,6 @@
 use Rattle.std.proofs.Common.{◌≡◌, List, length, take, [], subst, ap, ◌∙◌, sym, arith, rules, length-take}
 use Rattle.fx_spec.specs.Describe.{Bindings}
-use Rattle.fx_spec.specs.Views.{spec_tree}
+use Rattle.fx_spec.specs.Parts.{part_of}
 use Rattle.fx_spec.specs.WellShaped.{IsDescription}
 use Rattle.fx_view.specs.Own.{own_at}
 use Rattle.fx_zip.specs.declared.frame.Frame.{Frame}
@@ -29,22 +29,22 @@ index-requires g c =
 pub led-requires : goal.led-requires
 led-requires g c =
     let long : c.len-done.result ≡ length c.self.inside.frames.items = omega (arith, c.self.inside.frames.ok.0, c.len-done.ensures) in
-    let rooted : spec_tree c.spec.result.now ≡ c.args.self.now.root = search rules in
-    let form : spec_tree c.part-spec.result.now ≡ part (spec_tree c.spec.result.now) (turned step_tree (take c.len-done.result c.self.inside.steps.items)) = c.part-spec.ensures ∙ ap (λ (xs : List Step). part (spec_tree c.spec.result.now) (turned step_tree (take c.len-done.result xs))) c.deref-2.ensures.value in
+    let rooted : part_of c.root.result ≡ c.args.self.now.root = search rules in
+    let form : part_of c.part-spec.result ≡ part (part_of c.root.result) (turned step_tree (take c.len-done.result c.self.inside.steps.items)) = c.part-spec.ensures ∙ ap (λ (xs : List Step). part (part_of c.root.result) (turned step_tree (take c.len-done.result xs))) c.deref-2.ensures.value in
     record {
       described =
           scope_next (g.R.Reader.meaning.reads c.args.reader.now) (own_at c.args.overlay.now) c.args.self.now c.requires.fresh c.requires.unsettled c.self.inside.steps.items c.self.inside.frames.items (ap (λ (z : ZipTree). z.address) c.self.view_is) (ap (λ (z : ZipTree). z.frames) c.self.view_is) c.len-done.result long
-          c.index.result.now c.index.ensures (spec_tree c.spec.result.now) rooted (spec_tree c.part-spec.result.now) form c.self.inside.env (ap (λ (z : ZipTree). z.env) c.self.view_is) (subst (IsDescription []) (sym c.spec.ensures.tree) c.spec.ensures.checked.shapes);
+          c.index.result.now c.index.ensures (part_of c.root.result) rooted (part_of c.part-spec.result) form c.self.inside.env (ap (λ (z : ZipTree). z.env) c.self.view_is) (subst (IsDescription []) (sym c.root.ensures.tree) c.root.ensures.described);
     }
 
 pub returns-clause-leads : goal.returns-clause-leads
 returns-clause-leads g c =
     let long : c.len-done.result ≡ length c.self.inside.frames.items = omega (arith, c.self.inside.frames.ok.0, c.len-done.ensures) in
-    let rooted : spec_tree c.spec.result.now ≡ c.args.self.now.root = search rules in
-    let form : spec_tree c.part-spec.result.now ≡ part (spec_tree c.spec.result.now) (turned step_tree (take c.len-done.result c.self.inside.steps.items)) = c.part-spec.ensures ∙ ap (λ (xs : List Step). part (spec_tree c.spec.result.now) (turned step_tree (take c.len-done.result xs))) c.deref-2.ensures.value in
+    let rooted : part_of c.root.result ≡ c.args.self.now.root = search rules in
+    let form : part_of c.part-spec.result ≡ part (part_of c.root.result) (turned step_tree (take c.len-done.result c.self.inside.steps.items)) = c.part-spec.ensures ∙ ap (λ (xs : List Step). part (part_of c.root.result) (turned step_tree (take c.len-done.result xs))) c.deref-2.ensures.value in
     let at : c.last_path-path.result.now ≡ path_of c.args.self.now.frames = c.last_path-path.ensures ∙ ap (λ (fs : List Frame). path_of (turned (λ f. f) fs)) c.as_slice.ensures.value ∙ ap (λ (z : ZipTree). path_of z.frames) c.self.view_is in
     leads_next (g.R.Reader.meaning.reads c.args.reader.now) (own_at c.args.overlay.now) c.args.self.now c.requires.fresh c.requires.unsettled c.self.inside.steps.items c.self.inside.frames.items (ap (λ (z : ZipTree). z.address) c.self.view_is) (ap (λ (z : ZipTree). z.frames) c.self.view_is) c.len-done.result long
-    c.index.result.now c.index.ensures (spec_tree c.spec.result.now) rooted (spec_tree c.part-spec.result.now) form c.self.inside.env (ap (λ (z : ZipTree). z.env) c.self.view_is)
+    c.index.result.now c.index.ensures (part_of c.root.result) rooted (part_of c.part-spec.result) form c.self.inside.env (ap (λ (z : ZipTree). z.env) c.self.view_is)
     g.R.Reader.meaning (c.args.reader.now, c.args.steps.now) (c.led.new.reader, c.led.new.steps) c.led.result c.last_path-path.result.now at c.led.ensures.leads
 
 pub returns-clause-same : goal.returns-clause-same

@@ -1,0 +1,130 @@
+-- How the stages of a run with views end that read, from what each of them asks.
+use Rattle.std.proofs.Common.{◌≡◌, inl, inr, ℕ, Bool, true, false, List, [], ◌∷◌, IfSome, refl, sym, subst}
+use Rattle.fx_base.specs.Causes.{Rose}
+use Rattle.fx_base.specs.Limits.{source_limit}
+use Rattle.fx_outside.specs.declared.kind.HostFault.{HostFault}
+use Rattle.fx_outside.specs.declared.kind.HostFault.TheVariants as fails
+use Rattle.fx_outside.specs.Host.{HostView, ReadsOnly, FaultAt, HasFailed}
+use Rattle.fx_outside.specs.Path.{is_fit}
+use Rattle.fx_spec.specs.CommandTree.{CommandTree}
+use Rattle.fx_spec.specs.SpecTree.{SpecTree}
+use Rattle.fx_spec.specs.Order.{BaseTree}
+use Rattle.fx_spec.specs.Plans.{script_of}
+use Rattle.fx_outside.specs.Tree.{Tree, is_file_at}
+use Rattle.fx_outside.proofs.Views.{fault_back}
+use Rattle.fx_command.specs.declared.status.Status.{Status}
+use Rattle.fx_command.specs.declared.status.Status.TheVariants as status
+use Rattle.fx_command.specs.declared.status.TextFault.{TextFault}
+use Rattle.fx_command.specs.StatusOf.{read_status}
+use Rattle.fx_command.specs.Texts.{IsReadAt}
+use Rattle.fx_command.proofs.Told.{if_some_map, if_some_both, some_and, some_unit, cause_back, some_back, left_true, right_true}
+use Rattle.fx_show.specs.Described.{Describes, IsUndescribed}
+use Rattle.fx_show.specs.Faults.{status_of_fault}
+use Rattle.fx_show.specs.declared.fault.DescriptionFault.{DescriptionFault}
+use Rattle.fx_show.specs.declared.fault.DescriptionFault.TheVariants as description
+use Rattle.fx_inputs.specs.declared.scripts.ScriptUnread.{ScriptUnread}
+use Rattle.fx_inputs.specs.declared.scripts.ScriptUnread.TheVariants as script
+use Rattle.fx_inputs.specs.declared.views.TheConstants.{VIEWS_WORD}
+use Rattle.fx_inputs.specs.Causes.{ScriptCause}
+use Rattle.fx_inputs.specs.Inputs.{HasBase, HasScript, HasSpec, HasSomeSpec, HasNoScript, CannotRead, GoesOn, IsFirstRefused}
+use Rattle.fx_inputs.specs.Reads.{HasReadFault, ReadRow, has_fit_inputs}
+use Rattle.fx_inputs.specs.Unread.{unread_at, unread_status}
+use Rattle.fx_inputs.specs.Views.{CannotReadViews, HasBases, HasSomeViews, HasViewsAlone, HasViewsReadFault, ViewsFirstRefused, ViewsReadRow, has_fit_views}
+use Rattle.fx_inputs.proofs.ReadRows.{read_fault_back, read_fault_rose, spec_refused_for}
+use Rattle.fx_words.specs.Job.{ViewsJob}
+
+-- ---- the description is not read, or refused
+
+pub spec_unread : (j : ViewsJob) (host host' : HostView) (fault : HostFault) → (fault ≡ fails.Failed → HasFailed (FaultAt j.inputs.spec) (λ t. is_file_at t j.inputs.spec) host host') → ViewsReadRow j host host' (read_status fault)
+spec_unread j host host' fails.Failed failed = by (failed refl)
+  where
+    by : HasFailed (FaultAt j.inputs.spec) (λ t. is_file_at t j.inputs.spec) host host' → ViewsReadRow j host host' status.ReadFault
+    by (inl fault) = inl (inl fault)
+    by (inr none) = inr (some_and (λ _. Unit {0}) (λ t. is_file_at t j.inputs.spec ≡ false) (λ t. CannotReadViews t j) host.told (λ t _ none. inl none) (some_unit host.told) none)
+spec_unread j host host' fails.NoMemory failed = tt
+
+pub spec_refused : (j : ViewsJob) (host host' : HostView) (text : List ℕ) (refusal : DescriptionFault) → IfSome host.told (λ t. IsReadAt t j.inputs.spec source_limit text) → IsUndescribed text refusal → ViewsReadRow j host host' (status_of_fault refusal)
+spec_refused j host host' text (description.Refused cause) read is =
+    if_some_map (λ t. IsReadAt t j.inputs.spec source_limit text) (λ t. ViewsFirstRefused t j 1 cause) host.told (λ t read. inl (refl, spec_refused_for j.inputs text cause t read is)) read
+spec_refused j host host' text description.NoMemory read is = tt
+
+-- ---- the views are not read, or refused
+
+pub views_unread : (j : ViewsJob) (host host' : HostView) (fault : ScriptUnread) → IfSome host.told (λ t. HasSomeSpec t j.inputs) → ScriptCause j.views 0 host host' fault → ViewsReadRow j host host' (unread_status (unread_at VIEWS_WORD fault))
+views_unread j host host' (script.Refused cause) spec refused =
+    if_some_both (λ t. HasSomeSpec t j.inputs) (λ t. HasNoScript cause t j.views 0) (λ t. ViewsFirstRefused t j VIEWS_WORD cause) host.told (λ t spec none. inr (inl (refl, spec, none))) spec refused
+views_unread j host host' script.ReadFault spec (inl fault) = inl (inr (inl (fault, spec)))
+views_unread j host host' script.ReadFault spec (inr none) =
+    inr (some_and (λ t. HasSomeSpec t j.inputs) (λ t. is_file_at t j.views ≡ false) (λ t. CannotReadViews t j) host.told (λ t spec none. inr (inl (spec, none))) spec none)
+views_unread j host host' script.NoMemory spec none = tt
+
+-- ---- they are read
+
+abbrev Plan : Type 0
+Plan = List (List (List CommandTree))
+
+pub views_alone : (j : ViewsJob) (host : HostView) (script : List (List CommandTree)) (plan : Plan) → plan ≡ script ∷ [] → IfSome host.told (λ t. GoesOn t j.views 0 script) → IfSome host.told (λ t. HasViewsAlone t j plan)
+views_alone j host script plan is goes =
+    if_some_map (λ t. GoesOn t j.views 0 script) (λ t. HasViewsAlone t j plan) host.told (λ t goes. subst (λ p. HasScript t j.views 0 (script_of p 0)) (sym is) goes.script) goes
+
+pub some_views : (j : ViewsJob) (spec : SpecTree) (plan : Plan) (a b c : HostView) → ReadsOnly a b → ReadsOnly b c → IfSome a.told (λ t. HasSpec t j.inputs spec) → IfSome b.told (λ t. HasViewsAlone t j plan) → IfSome c.told (λ t. HasSomeViews t j)
+some_views j spec plan a b c first then has alone =
+    subst (λ o. IfSome o (λ t. HasSomeViews t j)) (sym then.same)
+    (if_some_both (λ t. HasSpec t j.inputs spec) (λ t. HasViewsAlone t j plan) (λ t. HasSomeViews t j) b.told (λ t spec_is alone. ((spec, spec_is), (script_of plan 0, alone)))
+    (subst (λ o. IfSome o (λ t. HasSpec t j.inputs spec)) (sym first.same) has) alone)
+
+pub whole_bases : (j : ViewsJob) (scripts views : BaseTree) (plan : Plan) (a b c : HostView) → ReadsOnly a b → ReadsOnly b c → views.plan ≡ plan → IfSome b.told (λ t. HasViewsAlone t j plan) → IfSome c.told (λ t. HasBase t j.inputs scripts) → IfSome a.told (λ t. HasBases t j scripts views)
+whole_bases j scripts views plan a b c first then is alone begins =
+    if_some_both (λ t. HasViewsAlone t j plan) (λ t. HasBase t j.inputs scripts) (λ t. HasBases t j scripts views) a.told
+    (λ t alone begins. record { begins = begins; alone = subst (λ p. HasViewsAlone t j p) (sym is) alone })
+    (some_back (λ t. HasViewsAlone t j plan) a b first alone) (some_back (λ t. HasBase t j.inputs scripts) a b first (some_back (λ t. HasBase t j.inputs scripts) b c then begins))
+
+-- ---- what comes after them is not read, or refused
+
+pub after_views : (j : ViewsJob) (host host' : HostView) (st : Status) → IfSome host.told (λ t. HasSomeViews t j) → ReadRow j.inputs host host' st → ViewsReadRow j host host' st
+after_views j host host' status.Done views row = row
+after_views j host host' status.Usage views row = row
+after_views j host host' (status.TextRefused word cause) views row =
+    if_some_both (λ t. HasSomeViews t j) (λ t. IsFirstRefused t j.inputs word cause) (λ t. ViewsFirstRefused t j word cause) host.told (λ t views first. inr (inr (views, first))) views row
+after_views j host host' (status.FolderRefused cause) views row =
+    if_some_both (λ t. HasSomeViews t j) _ _ host.told (λ t views refused. ((views, refused.0), refused.1)) views row
+after_views j host host' status.ReadFault views (inl fault) = inl (inr (inr (fault, views)))
+after_views j host host' status.ReadFault views (inr cannot) =
+    inr (some_and (λ t. HasSomeViews t j) (λ t. CannotRead t j.inputs) (λ t. CannotReadViews t j) host.told (λ t views cannot. inr (inr (views, cannot))) views cannot)
+after_views j host host' status.NotEmpty views row = row
+after_views j host host' status.WriteFault views row = row
+after_views j host host' status.NoMemory views row = tt
+after_views j host host' (status.BadJournal place) views row = row
+
+-- ---- a row from a later moment on is one from an earlier moment on, where only reads lie between
+
+pub views_fault_back : (j : ViewsJob) (a b c : HostView) → ReadsOnly a b → HasViewsReadFault j b c → HasViewsReadFault j a c
+views_fault_back j a b c reads (inl fault) = inl (fault_back j.inputs.spec a b c reads.later fault)
+views_fault_back j a b c reads (inr (inl (fault, spec))) = inr (inl (fault_back j.views a b c reads.later fault, some_back (λ t. HasSomeSpec t j.inputs) a b reads spec))
+views_fault_back j a b c reads (inr (inr (fault, views))) = inr (inr (read_fault_back j.inputs a b c reads fault, some_back (λ t. HasSomeViews t j) a b reads views))
+
+pub views_row_back : (j : ViewsJob) (a b c : HostView) (st : Status) → ReadsOnly a b → ViewsReadRow j b c st → ViewsReadRow j a c st
+views_row_back j a b c status.Done reads row = row
+views_row_back j a b c status.Usage reads row = row
+views_row_back j a b c (status.TextRefused word cause) reads row = some_back _ a b reads row
+views_row_back j a b c (status.FolderRefused cause) reads row = some_back _ a b reads row
+views_row_back j a b c status.ReadFault reads row = cause_back (HasViewsReadFault j) (λ t. CannotReadViews t j) a b c reads (views_fault_back j a b c reads) row
+views_row_back j a b c status.NotEmpty reads row = row
+views_row_back j a b c status.WriteFault reads row = row
+views_row_back j a b c status.NoMemory reads row = row
+views_row_back j a b c (status.BadJournal place) reads row = row
+
+-- a fault of reading is one of the host
+pub views_fault_rose : (j : ViewsJob) (host host' : HostView) → HasViewsReadFault j host host' → Rose host.faults host'.faults
+views_fault_rose j host host' (inl fault) = fault.rose
+views_fault_rose j host host' (inr (inl (fault, spec))) = fault.rose
+views_fault_rose j host host' (inr (inr (fault, views))) = read_fault_rose j.inputs host host' fault
+
+-- ---- fit paths
+
+module _ (j : ViewsJob) (fit : has_fit_views j ≡ true) where
+  pub fit_inputs : has_fit_inputs j.inputs ≡ true
+  fit_inputs = left_true (has_fit_inputs j.inputs) _ fit
+
+  pub fit_views : is_fit j.views ≡ true
+  fit_views = right_true (has_fit_inputs j.inputs) _ fit

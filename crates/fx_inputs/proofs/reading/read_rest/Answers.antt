@@ -1,0 +1,26 @@
+use Rattle.std.proofs.Common.{ap}
+use Rattle.fx_outside.proofs.Views.{reads_none}
+use Rattle.fx_spec.specs.Bases.{base_tree}
+use Rattle.fx_words.specs.JobOf.{asked_inputs}
+use Rattle.fx_inputs.specs.Reads.{ReadRow}
+use Rattle.fx_base.proofs.Errors.{if_err_of}
+use Rattle.fx_inputs.proofs.ReadRows.{read_row_back}
+use Rattle.fx_inputs.proofs.Stages.{whole_base}
+use Rattle.fx_inputs.proofs.reading.read_rest.Goals as goal
+
+pub returns-in_err-loaded-clause-ends : goal.returns-in_err-loaded-clause-ends
+returns-in_err-loaded-clause-ends g c =
+    let inputs = asked_inputs c.args.inputs.now in
+    let a = g.H.Host.view c.args.host.now in
+    let b = g.H.Host.view c.read_scripts.new.host in
+    let d = g.H.Host.view c.read_folder.new.host in
+    let status = c.in_err-loaded.field-0.0 in
+    if_err_of (ReadRow inputs a d) c.from_residual-in_err-loaded.result status c.from_residual-in_err-loaded.ensures.1
+    (read_row_back inputs a b d status c.in_ok-plan.ensures.same c.in_err-loaded.ensures.ends)
+
+pub returns-clause-read : goal.returns-clause-read
+returns-clause-read g c =
+    let a = g.H.Host.view c.args.host.now in
+    let b = g.H.Host.view c.read_scripts.new.host in
+    whole_base (asked_inputs c.args.inputs.now) (base_tree c.in_ok-base.base.value) c.args.description c.in_ok-plan.plan c.in_ok-loaded.loaded.nodes a a b
+    (reads_none a) c.in_ok-plan.ensures.same (ap base_tree c.in_ok-base.ensures) c.requires.spec c.in_ok-plan.ensures.read c.in_ok-loaded.ensures.loaded

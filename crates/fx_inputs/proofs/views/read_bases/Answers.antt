@@ -1,0 +1,63 @@
+use Rattle.std.proofs.Common.{sym, subst, ◌∙◌}
+use Rattle.fx_base.proofs.Errors.{if_err_of}
+use Rattle.fx_outside.proofs.Views.{reads_then}
+use Rattle.fx_spec.specs.Bases.{base_tree}
+use Rattle.fx_words.specs.JobOf.{asked_views}
+use Rattle.fx_show.specs.Described.{Describes}
+use Rattle.fx_inputs.specs.Inputs.{HasSpec}
+use Rattle.fx_inputs.specs.Views.{ViewsReadRow}
+use Rattle.fx_inputs.proofs.Stages.{some_spec, then_told}
+use Rattle.fx_inputs.proofs.ViewsRows.{after_views, fit_inputs, some_views, views_row_back, whole_bases}
+use Rattle.fx_inputs.proofs.views.read_bases.Goals as goal
+
+pub read_views-requires : goal.read_views-requires
+read_views-requires g c =
+    some_spec (asked_views c.args.job.now).inputs c.in_ok-description.description (g.H.Host.view c.args.host.now) (g.H.Host.view c.read_description.new.host) c.in_ok-description.ensures.same c.in_ok-description.ensures.read
+
+pub returns-in_err-plan-clause-ends : goal.returns-in_err-plan-clause-ends
+returns-in_err-plan-clause-ends g c =
+    let j = asked_views c.args.job.now in
+    let a = g.H.Host.view c.args.host.now in
+    let b = g.H.Host.view c.read_description.new.host in
+    let d = g.H.Host.view c.read_views.new.host in
+    let status = c.in_err-plan.field-0.0 in
+    if_err_of (ViewsReadRow j a d) c.from_residual-in_err-plan.result status c.from_residual-in_err-plan.ensures.1
+    (views_row_back j a b d status c.in_ok-description.ensures.same c.in_err-plan.ensures.ends)
+
+pub read_rest-requires-clause-spec : goal.read_rest-requires-clause-spec
+read_rest-requires-clause-spec g c =
+    let j = asked_views c.args.job.now in
+    let a = g.H.Host.view c.args.host.now in
+    let b = g.H.Host.view c.read_description.new.host in
+    let d = g.H.Host.view c.read_views.new.host in
+    then_told (λ t. HasSpec t j.inputs c.in_ok-description.description) a d (reads_then a b d c.in_ok-description.ensures.same c.in_ok-plan.ensures.same) c.in_ok-description.ensures.read
+
+pub returns-in_err-scripts-clause-ends : goal.returns-in_err-scripts-clause-ends
+returns-in_err-scripts-clause-ends g c =
+    let j = asked_views c.args.job.now in
+    let a = g.H.Host.view c.args.host.now in
+    let b = g.H.Host.view c.read_description.new.host in
+    let d = g.H.Host.view c.read_views.new.host in
+    let e = g.H.Host.view c.read_rest.new.host in
+    let status = c.in_err-scripts.field-0.0 in
+    let views = some_views j c.in_ok-description.description c.in_ok-plan.plan a b d c.in_ok-description.ensures.same c.in_ok-plan.ensures.same c.in_ok-description.ensures.read c.in_ok-plan.ensures.read in
+    if_err_of (ViewsReadRow j a e) c.from_residual-in_err-scripts.result status c.from_residual-in_err-scripts.ensures.1
+    (views_row_back j a d e status (reads_then a b d c.in_ok-description.ensures.same c.in_ok-plan.ensures.same) (after_views j d e status views c.in_err-scripts.ensures.ends))
+
+pub returns-clause-read : goal.returns-clause-read
+returns-clause-read g c =
+    let a = g.H.Host.view c.args.host.now in
+    let b = g.H.Host.view c.read_description.new.host in
+    let d = g.H.Host.view c.read_views.new.host in
+    whole_bases (asked_views c.args.job.now) (base_tree c.in_ok-scripts.scripts.value) (base_tree c.in_ok-views.views.value) c.in_ok-plan.plan a b d c.in_ok-description.ensures.same c.in_ok-plan.ensures.same
+    c.in_ok-views.ensures.plan c.in_ok-plan.ensures.read c.in_ok-scripts.ensures.read
+
+pub beside-requires : goal.beside-requires
+beside-requires g c =
+    subst (Describes c.deref.result.now) (sym c.in_ok-scripts.ensures.described) (subst (λ x. Describes x c.in_ok-description.description) (sym c.deref.ensures.value) c.in_ok-description.ensures.text)
+
+pub returns-in_err-scripts-clause-fit : goal.returns-in_err-scripts-clause-fit
+returns-in_err-scripts-clause-fit g c = λ fit. c.in_err-scripts.ensures.fit (fit_inputs (asked_views c.args.job.now) fit) ∙ c.in_ok-plan.ensures.fit fit ∙ c.in_ok-description.ensures.fit fit
+
+pub returns-clause-fit : goal.returns-clause-fit
+returns-clause-fit g c = λ fit. c.in_ok-scripts.ensures.fit (fit_inputs (asked_views c.args.job.now) fit) ∙ c.in_ok-plan.ensures.fit fit ∙ c.in_ok-description.ensures.fit fit

@@ -1,0 +1,136 @@
+//! What a run with views reads: the description, the views, the scripts and the folder.
+ghost use Rattle.std.specs.Prelude.{◌≡◌, ◌≤◌, ◌∷◌, [], length, IfOk, IfErr, IfSome};
+ghost use Rattle.fx_base.specs.Limits.{txn_limit};
+ghost use Rattle.fx_outside.specs.Host.{ReadsOnly};
+ghost use Rattle.fx_spec.specs.Bases.{base_tree};
+ghost use Rattle.fx_spec.specs.WellShaped.{IsScript};
+ghost use Rattle.fx_words.specs.JobOf.{asked_views, IsViewsJob};
+ghost use Rattle.fx_show.specs.Described.{Describes};
+ghost use Rattle.fx_inputs.specs.Inputs.{HasSpec, HasSomeSpec, HasEachScript};
+ghost use Rattle.fx_inputs.specs.Views.{HasBases, HasViewsAlone, IsBeside, ViewsInputsAskFit, ViewsReadRow};
+
+use crate::reading::{gathered, read_rest};
+use crate::scripts::{ScriptUnread, read_script_at};
+use fx_base::{NoMemory, SOURCE_LIMIT};
+use fx_command::{Status, read_text};
+use fx_outside::Host;
+use fx_show::{DescriptionFault, description_of};
+use fx_spec::{Base, Checked, Plan, Script};
+use fx_words::ViewsJob;
+use std::alloc::Global;
+use std::sync::Arc;
+
+/// The place of VIEWS among the words, the command being 0.
+pub const VIEWS_WORD: u32 = 4;
+
+/// What a run with views begins with: the scripts, and the views as the one script of a plan of their own, each with the
+/// description and the folder.
+#[derive(Drop)]
+pub struct Bases {
+    pub scripts: Arc<Base>,
+    pub views: Arc<Base>,
+}
+
+/// Reads the description, and keeps its text.
+fn read_description<H: Host>(
+    alloc: Global,
+    job: &ViewsJob,
+    host: &mut H,
+) -> Result<(Checked, Vec<u8>), Status>
+    ensures read { IfOk result (λ r. IfSome (H.view host.old).told
+        (λ t. HasSpec t (asked_views job.now).inputs r.0)) }
+    ensures text { IfOk result (λ r. Describes r.1.items r.0) }
+    ensures same { ReadsOnly (H.view host.old) (H.view host.new) }
+    ensures fit { ViewsInputsAskFit (asked_views job.now) (H.view host.old) (H.view host.new) }
+    ensures ends { IfErr result
+        (ViewsReadRow (asked_views job.now) (H.view host.old) (H.view host.new)) }
+{
+    let text = read_text(alloc, host, job.inputs.spec, SOURCE_LIMIT as u64)?;
+    let spec = description_of(alloc, &text)?;
+    Ok((spec, text))
+}
+
+/// The plan of one script.
+fn plan_of(alloc: Global, script: Script) -> Result<Plan, NoMemory>
+    requires shaped { IsScript script }
+    requires few { length script ≤ txn_limit }
+    ensures { IfOk result (λ plan. plan ≡ script ∷ []) }
+{
+    let mut plan = Plan::new(alloc);
+    match plan.push(alloc, script) {
+        Ok(()) => Ok(plan),
+        Err(_) => Err(NoMemory),
+    }
+}
+
+/// Reads the views, after the description. They are counted by themselves.
+fn read_views<H: Host>(alloc: Global, job: &ViewsJob, host: &mut H) -> Result<Plan, Status>
+    requires { IfSome (H.view host.old).told (λ t. HasSomeSpec t (asked_views job.now).inputs) }
+    ensures read { IfOk result (λ plan. IfSome (H.view host.old).told
+        (λ t. HasViewsAlone t (asked_views job.now) plan)) }
+    ensures one { IfOk result (λ plan. length plan ≡ 1) }
+    ensures same { ReadsOnly (H.view host.old) (H.view host.new) }
+    ensures fit { ViewsInputsAskFit (asked_views job.now) (H.view host.old) (H.view host.new) }
+    ensures ends { IfErr result
+        (ViewsReadRow (asked_views job.now) (H.view host.old) (H.view host.new)) }
+{
+    let script = match read_script_at(alloc, host, job.views, 0) {
+        Ok(script) => script,
+        Err(unread) => return Err(Status::from(unread.at(VIEWS_WORD))),
+    };
+    let plan = plan_of(alloc, script)?;
+    Ok(plan)
+}
+
+/// The description of a run that is read, once more from its text.
+fn description_again(alloc: Global, scripts: &Arc<Base>, text: &[u8]) -> Result<Checked, NoMemory>
+    requires { Describes text.now scripts.now.value.description }
+    ensures { IfOk result (λ spec. spec ≡ scripts.now.value.description) }
+{
+    match description_of(alloc, text) {
+        Ok(spec) => Ok(spec),
+        Err(DescriptionFault::Refused(_)) => unreachable!(),
+        Err(DescriptionFault::NoMemory) => Err(NoMemory),
+    }
+}
+
+/// The views beside a run that is read, whose description has this text.
+fn beside(
+    alloc: Global,
+    scripts: &Arc<Base>,
+    text: &[u8],
+    views: Plan,
+) -> Result<Arc<Base>, NoMemory>
+    requires { Describes text.now scripts.now.value.description }
+    ensures plan { IfOk result (λ base. base.value.plan ≡ views) }
+    ensures description { IfOk result
+        (λ base. base.value.description ≡ scripts.now.value.description) }
+    ensures loaded { IfOk result (λ base. base.value.loaded.nodes ≡ scripts.now.value.loaded.nodes) }
+{
+    let loaded = scripts.loaded.copy(alloc)?;
+    let description = description_again(alloc, scripts, text)?;
+    gathered(alloc, description, views, loaded)
+}
+
+/// Reads what a run with views begins with: the description, the views, the scripts in order, and the folder. It asks
+/// nothing but reads, and ends for no other cause than that one of these is not read or is refused, or that memory runs out.
+pub fn read_bases<H: Host>(alloc: Global, job: &ViewsJob, host: &mut H) -> Result<Bases, Status>
+    requires { IsViewsJob job.now }
+    ensures read { IfOk result (λ bases. IfSome (H.view host.old).told
+        (λ t. HasBases t (asked_views job.now)
+        (base_tree bases.scripts.value) (base_tree bases.views.value))) }
+    ensures count { IfOk result
+        (λ bases. HasEachScript (asked_views job.now).inputs (base_tree bases.scripts.value)) }
+    ensures beside { IfOk result
+        (λ bases. IsBeside (base_tree bases.scripts.value) (base_tree bases.views.value)) }
+    ensures same { ReadsOnly (H.view host.old) (H.view host.new) }
+    ensures fit { ViewsInputsAskFit (asked_views job.now) (H.view host.old) (H.view host.new) }
+    ensures ends { IfErr result
+        (ViewsReadRow (asked_views job.now) (H.view host.old) (H.view host.new)) }
+{
+    let (description, text) = read_description(alloc, job, host)?;
+    let plan = read_views(alloc, job, host)?;
+    let scripts = read_rest(alloc, &job.inputs, description, host)?;
+    let views = beside(alloc, &scripts, &text, plan)?;
+    Ok(Bases { scripts, views })
+}

@@ -1,0 +1,4 @@
+mod Closings
+mod Crosses
+pub mod Pasts
+pub mod Viewings

@@ -1,0 +1,32 @@
+use Rattle.std.proofs.Common.{◌∙◌}
+use Rattle.fx_turn.specs.Seats.{view}
+use Rattle.fx_views.proofs.Pasts.{at_noted, vouches_looked, vouches_missed}
+use Rattle.fx_views.proofs.past.PastReader.read.Goals as goal
+
+pub invariant_of-self : goal.invariant_of-self
+invariant_of-self g c =
+    let s = c.look.new.self in
+    record {
+      turn = s.turn;
+      number = s.number;
+      idle = s.idle;
+      based = s.based;
+      within = s.within;
+      true_reads = at_noted (view s.pass) s.position s.reads c.note.new.reads c.args.path.now c.in_ok-node.node s.position c.note.result s.true_reads c.in_ok-node.ensures.look c.note.ensures.ok c.note.ensures.err;
+    }
+
+pub returns-in_err-note-clause-vouched : goal.returns-in_err-note-clause-vouched
+returns-in_err-note-clause-vouched g c = λ start v. (
+  c.look.ensures.snaps ∙ v.0,
+  c.look.ensures.position ∙ v.1,
+  vouches_missed (view start.pass) (view c.args.self.now.pass) (view c.look.new.self.pass) c.args.self.now.position c.look.new.self.position c.args.self.now.reads c.note.new.reads
+      c.look.ensures.position c.look.ensures.more c.args.self.now.within v.2 (c.in_err-note.ensures.err ∙ c.look.ensures.reads),
+)
+
+pub returns-clause-vouched : goal.returns-clause-vouched
+returns-clause-vouched g c = λ start v. (
+  c.look.ensures.snaps ∙ v.0,
+  c.look.ensures.position ∙ v.1,
+  vouches_looked (view start.pass) (view c.args.self.now.pass) (view c.look.new.self.pass) c.args.self.now.position c.look.new.self.position c.args.self.now.reads c.look.new.self.reads c.note.new.reads c.args.path.now c.in_ok-node.node c.look.new.self.position
+      c.look.ensures.position c.look.ensures.more c.args.self.now.within c.in_ok-node.ensures.look v.2 c.look.ensures.reads c.in_ok-note.ensures.ok,
+)

@@ -1,0 +1,24 @@
+use denote.Param.Send.{sendable}
+use Rattle.fx_spec.specs.Bases.{base_tree}
+use Rattle.fx_snap.proofs.Crosses.{Versioned-send}
+use Rattle.fx_turn.specs.Seats.{view}
+use Rattle.fx_views.proofs.Closings.{complete_over, retries_over, viewed_over}
+use Rattle.fx_views.proofs.running.run_views.Goals as goal
+
+pub new-requires-send-T : goal.new-requires-send-T
+new-requires-send-T g c κs = search (sendable, Versioned-send) depth 40
+
+pub close-requires-send-T : goal.close-requires-send-T
+close-requires-send-T g c κs = search (sendable, Versioned-send) depth 40
+
+pub returns-clause-complete : goal.returns-clause-complete
+returns-clause-complete g c =
+    complete_over (base_tree c.args.base.value) (base_tree c.args.views.value) (view c.look_over.new.maker) c.in_ok-retries.retries c.in_ok-retries.viewed c.close.result c.in_ok-retries.ensures.over c.close.ensures.base c.close.ensures.log c.close.ensures.joined
+
+pub returns-clause-retries : goal.returns-clause-retries
+returns-clause-retries g c =
+    retries_over (base_tree c.args.base.value) (base_tree c.args.views.value) (view c.look_over.new.maker) c.in_ok-retries.retries c.in_ok-retries.viewed c.close.result c.in_ok-retries.ensures.over c.close.ensures.base c.close.ensures.log c.close.ensures.joined c.close.ensures.seen
+
+pub returns-clause-viewed : goal.returns-clause-viewed
+returns-clause-viewed g c =
+    viewed_over (base_tree c.args.base.value) (base_tree c.args.views.value) (view c.look_over.new.maker) c.in_ok-retries.retries c.in_ok-retries.viewed c.close.result c.in_ok-retries.ensures.over c.close.ensures.base c.close.ensures.seen

@@ -1,0 +1,152 @@
+//! A reader of one state of a shared log.
+ghost use Rattle.std.specs.Prelude.{◌≡◌, ◌≤◌, ◌∷◌, ◌++◌, [], true, false, Some, None, is_some, length, IfOk, OnOk, OnErr, refl};
+ghost use Rattle.fx_view.specs.Reads.{read_at};
+ghost use Rattle.fx_turn.specs.Seats.{view};
+ghost use Rattle.fx_shared.specs.Passes.{HasSeenMore};
+ghost use Rattle.fx_shared.specs.Shared.{IsPassOf, IsReadyPass};
+ghost use Rattle.fx_views.specs.Past.{AreAt, AreAt-prop, WasAt, VouchesAt, begins_to_vouch};
+
+use fx_base::NoMemory;
+use fx_outside::{Gate, Moment};
+use fx_snap::{Snaps, Versioned};
+use fx_store::{Node, Path};
+use fx_turn::Seat;
+use fx_view::{Reader, Reads, Stop};
+use std::alloc::Global;
+use std::sync::Wait;
+
+/// A pass of a shared log of which each state can be looked at.
+pub type SnapPass = Seat<Versioned>;
+
+/// A reader of what stood after so many entries of a shared log, with a pass of its own: it looks once at each path that it
+/// has not read, and never answers `Needs`. Before each look it passes the gate.
+///
+/// It vouches that its reads are of what stood then, that the position is the one from the start, and that the pass is the
+/// one from the start, with all that it had seen there and as many entries of its own.
+#[derive(Drop)]
+pub struct Past<'a, R: Wait, G: Gate> {
+    rt: &'a R,
+    snaps: &'a Snaps,
+    gate: &'a G,
+    pass: SnapPass,
+    shell: u32,
+    txn: u32,
+    position: u64,
+    reads: Reads,
+    ghost turn: { IsPassOf snaps.now pass },
+    ghost number: { (view pass).number ≡ Some shell },
+    ghost idle: { (view pass).in_turn ≡ false },
+    ghost based: { is_some (view pass).base ≡ true },
+    ghost within: { position ≤ length (view pass).seen },
+    ghost true_reads: { AreAt (view pass) position reads } by { AreAt-prop (view pass) position reads },
+}
+
+impl<'a, R: Wait, G: Gate> Past<'a, R, G> {
+    /// Nothing read yet, after so many of the entries that the pass has seen.
+    pub fn new(
+        rt: &'a R,
+        alloc: Global,
+        snaps: &'a Snaps,
+        pass: SnapPass,
+        txn: u32,
+        position: u64,
+        gate: &'a G,
+    ) -> Past<'a, R, G>
+        requires ready { IsReadyPass snaps.now pass }
+        requires within { position ≤ length (view pass).seen }
+        ensures snaps { result.snaps.now ≡ snaps.now }
+        ensures pass { result.pass ≡ pass }
+        ensures position { result.position ≡ position }
+        ensures reads { result.reads ≡ [] }
+    {
+        let Some(shell) = pass.number() else {
+            unreachable!()
+        };
+        Past {
+            rt,
+            snaps,
+            gate,
+            pass,
+            shell,
+            txn,
+            position,
+            reads: Reads::new(alloc),
+        }
+    }
+
+    /// The pass, with all that it has seen.
+    pub fn into_pass(self) -> SnapPass
+        ensures ready { IsReadyPass self.entry.snaps.now result }
+        ensures pass { result ≡ self.entry.pass }
+    {
+        let Past { pass, reads, .. } = self;
+        drop(reads);
+        pass
+    }
+
+    /// What stood at a path, once the gate is passed. It is not read yet.
+    fn look(&mut self, alloc: Global, path: &Path) -> Result<Option<Node>, NoMemory>
+        ensures snaps { self.new.snaps.now ≡ self.old.snaps.now }
+        ensures position { self.new.position ≡ self.old.position }
+        ensures more { HasSeenMore (view self.old.pass) (view self.new.pass) }
+        ensures reads { self.new.reads ≡ self.old.reads }
+        ensures look { IfOk result (WasAt (view self.new.pass) self.new.position path.now) }
+    {
+        self.gate
+            .pass(self.rt, self.shell, self.txn, Moment::BeforeLook);
+        self.snaps
+            .look_at(self.rt, alloc, &mut self.pass, path, self.position)
+    }
+}
+
+/// Adds a look at a new path to the reads.
+fn note(
+    alloc: Global,
+    reads: &mut Reads,
+    path: &Path,
+    node: &Option<Node>,
+    position: u64,
+) -> Result<(), NoMemory>
+    requires { read_at reads.old path.now ≡ None }
+    ensures ok { OnOk result (reads.new ≡ reads.old ++ (path.now, (node.now, position)) ∷ []) }
+    ensures err { OnErr result (reads.new ≡ reads.old) }
+{
+    let path = path.copy(alloc)?;
+    let node = node.clone()?;
+    reads.add(alloc, path, node, position)
+}
+
+impl<R: Wait, G: Gate> Reader for Past<'_, R, G> {
+    ghost meaning = { record {
+      reads = λ p. p.reads;
+      complete = λ _. true;
+      vouches = λ start now reads. (now.snaps.now ≡ start.snaps.now)
+          × (now.position ≡ start.position)
+          × VouchesAt (view start.pass) (view now.pass) now.position reads;
+    } };
+
+    fn read(&mut self, alloc: Global, path: &Path) -> Result<Option<Node>, Stop> {
+        if let Some((node, _)) = self.reads.get(path) {
+            return Ok(node.clone()?);
+        }
+        let node = self.look(alloc, path)?;
+        note(alloc, &mut self.reads, path, &node, self.position)?;
+        Ok(node)
+    }
+
+    fn reads(&self) -> &Reads {
+        &self.reads
+    }
+
+    fn take_reads(&mut self, alloc: Global) -> Reads {
+        let mut taken = Reads::new(alloc);
+        std::mem::swap(&mut self.reads, &mut taken);
+        taken
+    }
+
+    ghost begins = { λ reader. (
+      refl,
+      refl,
+      begins_to_vouch (view reader.pass) reader.position reader.reads reader.true_reads,
+    ) };
+}

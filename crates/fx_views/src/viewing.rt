@@ -1,0 +1,130 @@
+//! Views, one after another.
+ghost use Rattle.std.specs.Prelude.{◌≡◌, ◌<◌, ◌≤◌, ◌+◌, IfOk, length};
+ghost use Rattle.fx_spec.specs.Bases.{base_tree};
+ghost use Rattle.fx_spec.specs.Plans.{count_of};
+ghost use Rattle.fx_turn.specs.Seats.{view};
+ghost use Rattle.fx_shared.specs.Passes.{HasSeenMore};
+ghost use Rattle.fx_shared.specs.Shared.{IsReadyPass};
+ghost use Rattle.fx_workers.specs.Crews.{base_of};
+ghost use Rattle.fx_workers.specs.Workers.{IsFresh};
+ghost use Rattle.fx_views.specs.Viewing.{AreAlike, IsOnlooker, HasLookedOn, IsViewSeen};
+
+use crate::past::{Past, SnapPass};
+use fx_base::NoMemory;
+use fx_machine::Attempt;
+use fx_outside::{Gate, Moment};
+use fx_report::{View, Viewed};
+use fx_run::run;
+use fx_snap::Versioned;
+use fx_spec::Base;
+use fx_view::Stop;
+use fx_workers::Crew;
+use std::sync::{Arc, Wait};
+
+/// The worker of the views between two of them: its pass, and what was viewed.
+#[derive(Drop)]
+pub struct Onlooker {
+    pub pass: SnapPass,
+    pub viewed: Viewed,
+}
+
+/// Runs a view at the state after so many entries.
+fn view_at<R: Wait, G: Gate>(
+    crew: &Crew<'_, R, G, Versioned>,
+    views: &Arc<Base>,
+    pass: SnapPass,
+    txn: u32,
+    position: u64,
+) -> Result<(SnapPass, View), NoMemory>
+    requires ready { IsReadyPass crew.now.shares.now pass }
+    requires based { (view pass).base ≡ Some (base_of crew.now) }
+    requires alike { AreAlike (base_of crew.now) (base_tree views.now.value) }
+    requires within { position ≤ length (view pass).seen }
+    requires planned { txn < count_of (base_tree views.now.value).plan 0 }
+    ensures ready { IfOk result (λ r. IsReadyPass crew.now.shares.now r.0) }
+    ensures more { IfOk result (λ r. HasSeenMore (view pass) (view r.0)) }
+    ensures position { IfOk result (λ r. r.1.position ≡ position) }
+    ensures view { IfOk result (λ r.
+        IsViewSeen (base_of crew.now) (base_tree views.now.value) txn (view r.0) r.1) }
+{
+    let _whole = views.loaded.places();
+    let mut past = Past::new(
+        crew.rt,
+        crew.alloc,
+        crew.shares,
+        pass,
+        txn,
+        position,
+        crew.gate,
+    );
+    match run(crew.alloc, views, 0, txn, &mut past) {
+        Ok(attempt) => Ok((past.into_pass(), view_of(attempt, position))),
+        Err(Stop::Needs(_)) => unreachable!(),
+        Err(Stop::NoMemory) => Err(NoMemory),
+    }
+}
+
+/// What an attempt comes to, as a view. What it has read and what it would change are dropped.
+fn view_of(attempt: Attempt, position: u64) -> View
+    ensures position { result.position ≡ position }
+    ensures outputs { result.outputs ≡ attempt.outputs }
+    ensures end { result.end ≡ attempt.end }
+{
+    let Attempt { outputs, end, .. } = attempt;
+    View {
+        position,
+        outputs,
+        end,
+    }
+}
+
+/// Runs the next view at the state that is then the last.
+fn look_once<R: Wait, G: Gate>(
+    crew: &Crew<'_, R, G, Versioned>,
+    views: &Arc<Base>,
+    onlooker: Onlooker,
+    shell: u32,
+    txn: u32,
+) -> Result<Onlooker, NoMemory>
+    requires alike { AreAlike (base_of crew.now) (base_tree views.now.value) }
+    requires planned { txn < count_of (base_tree views.now.value).plan 0 }
+    requires onlooker { IsOnlooker (base_of crew.now) (base_tree views.now.value)
+        crew.now.shares.now shell txn onlooker }
+    ensures { IfOk result (IsOnlooker (base_of crew.now) (base_tree views.now.value)
+        crew.now.shares.now shell (txn + 1)) }
+{
+    let Onlooker {
+        mut pass,
+        mut viewed,
+    } = onlooker;
+    crew.gate.pass(crew.rt, shell, txn, Moment::BeforeLook);
+    let position = crew.shares.begin(crew.rt, &mut pass);
+    let (pass, view) = view_at(crew, views, pass, txn, position)?;
+    viewed.push(view)?;
+    Ok(Onlooker { pass, viewed })
+}
+
+/// Runs the views, one after another.
+pub fn look_on<R: Wait, G: Gate>(
+    crew: &Crew<'_, R, G, Versioned>,
+    views: &Arc<Base>,
+    pass: SnapPass,
+) -> Result<Onlooker, NoMemory>
+    requires alike { AreAlike (base_of crew.now) (base_tree views.now.value) }
+    requires pass { IsFresh (base_of crew.now) crew.now.shares.now pass }
+    ensures { IfOk result (HasLookedOn (base_of crew.now) (base_tree views.now.value)
+        crew.now.shares.now (view pass).number) }
+{
+    let Some(shell) = pass.number() else {
+        unreachable!()
+    };
+    let count = views.plan.count(0);
+    let mut onlooker = Onlooker {
+        pass,
+        viewed: Viewed::new(crew.alloc),
+    };
+    for txn in 0..count {
+        onlooker = look_once(crew, views, onlooker, shell, txn)?;
+    }
+    Ok(onlooker)
+}

@@ -1,0 +1,23 @@
+use Rattle.std.proofs.Common.{◌∙◌}
+use Rattle.fx_workers.proofs.Looks.{stand_noted, vouches_looked, vouches_missed}
+use Rattle.fx_workers.proofs.live.DeskReaderReader.read.Goals as goal
+
+pub invariant_of-self : goal.invariant_of-self
+invariant_of-self g c =
+    let s = c.look.new.self in
+    record {
+      true_reads = stand_noted (g.D.Desk.view s.desk) s.reads c.note.new.reads c.args.path.now (c.in_ok-node.node, c.in_ok-node.position) c.note.result s.true_reads c.in_ok-node.ensures.look c.note.ensures.ok c.note.ensures.err;
+    }
+
+pub returns-in_err-note-clause-vouched : goal.returns-in_err-note-clause-vouched
+returns-in_err-note-clause-vouched g c = λ start v. (
+  c.look.ensures.table ∙ v.0,
+  vouches_missed (g.D.Desk.view start.desk) (g.D.Desk.view c.args.self.now.desk) (g.D.Desk.view c.look.new.self.desk) start.reads c.args.self.now.reads c.note.new.reads c.look.ensures.more v.1 (c.in_err-note.ensures.err ∙ c.look.ensures.reads),
+)
+
+pub returns-clause-vouched : goal.returns-clause-vouched
+returns-clause-vouched g c = λ start v. (
+  c.look.ensures.table ∙ v.0,
+  vouches_looked (g.D.Desk.view start.desk) (g.D.Desk.view c.args.self.now.desk) (g.D.Desk.view c.look.new.self.desk) start.reads c.args.self.now.reads c.look.new.self.reads c.note.new.reads c.args.path.now c.in_ok-node.node c.in_ok-node.position
+      c.look.ensures.more c.in_ok-node.ensures.look v.1 c.look.ensures.reads c.in_ok-note.ensures.ok,
+)
