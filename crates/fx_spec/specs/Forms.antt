@@ -17,3 +17,12 @@ IsForm s (form.Opt part) = s ≡ SpecTree.opt (part_of part)
 IsForm s (form.Pred e) = s ≡ SpecTree.pred e.now
 IsForm s (form.Call args params body) = s ≡ SpecTree.call args.now params.now (part_of body)
 IsForm s (form.Last args) = (params : List (List ℕ × ShapeTree)) × (s ≡ SpecTree.last args.now params)
+
+-- the parts of a form see these definitions
+abbrev pub HasDefs : List DefTree → Form → Type 0
+HasDefs defs (form.Focus e part) = part.defs.now ≡ defs
+HasDefs defs (form.Pair x a b) = (a.defs.now ≡ defs) × (b.defs.now ≡ defs)
+HasDefs defs (form.Comp part x e) = part.defs.now ≡ defs
+HasDefs defs (form.Opt part) = part.defs.now ≡ defs
+HasDefs defs (form.Call args params body) = body.defs.now ≡ defs
+HasDefs defs _ = Unit {0}

@@ -86,6 +86,10 @@ abbrev pub AreDefs : List DefTree → List DefTree → List DefTree → Type 0
 AreDefs defs before [] = Unit {0}
 AreDefs defs before (d ∷ rest) = IsDef before defs d × AreDefs defs (before ++ d ∷ []) rest
 
+-- the definitions of a text, all of them
+abbrev pub AreDefined : List DefTree → Type 0
+AreDefined defs = AreDefs defs [] defs
+
 -- an act's own expression
 abbrev pub IsAct : Scope → ActTree → Type 0
 IsAct scope (ActTree.to e) = HasShape scope e ShapeTree.str
@@ -113,7 +117,7 @@ abbrev mutual
 
 -- a text that is well shaped, and nested at most 64 deep
 pub record IsChecked (t : TextTree) : Type 0 where
-  pub defs : AreDefs t.defs [] t.defs
+  pub defs : AreDefined t.defs
   pub root : IsWritten t.defs [] t.root
   pub nested : text_levels t ≤ 64
 

@@ -4,7 +4,7 @@ ghost use Rattle.fx_spec.specs.Views.{spec_tree};
 ghost use Rattle.fx_spec.specs.Parts.{part_of};
 ghost use Rattle.fx_spec.specs.TextViews.{written};
 ghost use Rattle.fx_spec.specs.Written.{TextTree, text_tree};
-ghost use Rattle.fx_spec.specs.WellShaped.{IsChecked, IsTextOf, IsScript, IsDescription};
+ghost use Rattle.fx_spec.specs.WellShaped.{IsChecked, IsTextOf, IsScript, IsDescription, AreDefined};
 
 use crate::description::{Defs, Description};
 use crate::part::Part;
@@ -62,6 +62,7 @@ impl Checked {
     pub fn root(&self) -> Part<'_>
         ensures tree { part_of result ≡ self.now }
         ensures described { IsDescription [] self.now }
+        ensures defined { AreDefined result.defs.now }
     {
         Part {
             spec: &self.description.root,

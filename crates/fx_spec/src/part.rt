@@ -1,6 +1,6 @@
 //! A part of a description with its definitions, and the form that it has.
 ghost use Rattle.std.specs.Prelude.{◌≡◌, ◌-◌};
-ghost use Rattle.fx_spec.specs.Forms.{IsForm};
+ghost use Rattle.fx_spec.specs.Forms.{IsForm, HasDefs};
 ghost use Rattle.fx_spec.specs.Views.{spec_tree};
 ghost use Rattle.fx_spec.specs.Written.{part_tree, WrittenTree};
 ghost use Rattle.fx_spec.specs.Parts.{part_of};
@@ -37,7 +37,9 @@ pub enum Form<'a> {
 impl<'a> Part<'a> {
     /// Another part of the same text, inside the same calls.
     fn with(&self, spec: &'a Spec) -> Part<'a>
-        ensures { part_of result ≡ part_tree self.now.defs.now (64 - self.now.level) (spec_tree spec.now) }
+        ensures part { part_of result
+            ≡ part_tree self.now.defs.now (64 - self.now.level) (spec_tree spec.now) }
+        ensures defs { result.defs.now ≡ self.now.defs.now }
     {
         Part {
             spec,
@@ -48,7 +50,8 @@ impl<'a> Part<'a> {
 
     /// The form of the part.
     pub fn form(&self) -> Form<'a>
-        ensures { IsForm (part_of self.now) result }
+        ensures form { IsForm (part_of self.now) result }
+        ensures defs { HasDefs self.now.defs.now result }
     {
         match self.spec {
             Spec::File => Form::File,
@@ -67,8 +70,9 @@ impl<'a> Part<'a> {
 
     /// The form of a call.
     fn called(&self, name: &Word, args: &'a Exprs) -> Form<'a>
-        ensures { IsForm (part_tree self.now.defs.now (64 - self.now.level)
+        ensures form { IsForm (part_tree self.now.defs.now (64 - self.now.level)
             (WrittenTree.call name.now args.now)) result }
+        ensures defs { HasDefs self.now.defs.now result }
     {
         match self.defs.get(name) {
             Some(def) => {
