@@ -12,9 +12,9 @@ use Rattle.fx_view.specs.ReadList.{ReadList}
 use Rattle.fx_view.proofs.Calls.{went_by}
 use Rattle.fx_view.proofs.Owning.{read_more}
 use Rattle.fx_view.proofs.Rulings.{by_then_answer, by_stop}
-use Rattle.fx_rules.specs.declared.halt.Halt.{Halt}
-use Rattle.fx_rules.specs.declared.halt.Halt.TheVariants as halt
-use Rattle.fx_rules.specs.Halts.{split, parted}
+use Rattle.fx_session.specs.declared.halt.Halt.{Halt}
+use Rattle.fx_session.specs.declared.halt.Halt.TheVariants as halt
+use Rattle.fx_session.specs.Halts.{split, parted}
 
 -- what holds of a call however its answer is told apart
 pub parted_as : (r : Result (Unit {0}) Halt) (P : Type 0) → IfOk (split r) (λ _. P) → IfOk (parted r) (λ _. P)

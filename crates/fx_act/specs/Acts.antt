@@ -7,9 +7,9 @@ use Rattle.fx_spec.specs.Describe.{Bindings}
 use Rattle.fx_spec.specs.Move.{Answered}
 use Rattle.fx_spec.specs.Transaction.{Effect, Moves, Changes}
 use Rattle.fx_spec.specs.WellShaped.{Scope, IsAct}
-use Rattle.fx_rules.specs.declared.halt.Halt.{Halt}
-use Rattle.fx_rules.specs.declared.halt.Halt.TheVariants as halt
-use Rattle.fx_rules.specs.Halts.{parted}
+use Rattle.fx_session.specs.declared.halt.Halt.{Halt}
+use Rattle.fx_session.specs.declared.halt.Halt.TheVariants as halt
+use Rattle.fx_session.specs.Halts.{parted}
 use Rattle.fx_view.specs.Follows.{GoesBy}
 use Rattle.fx_view.specs.Meaning.{Meaning}
 use Rattle.fx_view.specs.Own.{own_at, put_all, AreRead}

@@ -12,7 +12,7 @@ use crate::evaluating::{evaluated, into_text};
 use crate::walk::Walk;
 use fx_base::Steps;
 use fx_expr::{Env, Expr};
-use fx_rules::Halt;
+use fx_session::Halt;
 use fx_spec::Act;
 use fx_view::Reader;
 use std::alloc::Global;

@@ -14,7 +14,7 @@ use crate::walk::Walk;
 use fx_base::Steps;
 use fx_edit::{create, remove, store};
 use fx_expr::{Env, Expr, Value};
-use fx_rules::Halt;
+use fx_session::Halt;
 use fx_view::Reader;
 use std::alloc::Global;
 use std::sync::ledger::Ledger;

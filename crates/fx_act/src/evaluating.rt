@@ -8,7 +8,7 @@ ghost use Rattle.fx_spec.specs.Move as move;
 ghost use Rattle.fx_edit.specs.Values.{Tells};
 
 use fx_expr::{Env, EvalFault, Expr, Text, Value};
-use fx_rules::Halt;
+use fx_session::Halt;
 use fx_spec::Refusal;
 use fx_view::Stop;
 use std::alloc::Global;
@@ -18,7 +18,7 @@ pub(crate) fn evaluated(alloc: Global, variables: &Env, expr: &Expr) -> Result<V
     requires { IsWellShaped variables.now (expr_tree expr.now) }
     ensures { Tells tree_of (move.evaluated (eval_of variables.now (expr_tree expr.now))) result }
 {
-    match fx_rules::evaluated(alloc, expr, variables) {
+    match fx_session::evaluated(alloc, expr, variables) {
         Ok(value) => Ok(value),
         Err(EvalFault::Fault(fault)) => Err(Halt::Refused(Refusal::Expr(fault))),
         Err(EvalFault::NoMemory) => Err(Halt::Stopped(Stop::NoMemory)),

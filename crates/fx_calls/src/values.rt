@@ -7,7 +7,7 @@ ghost use Rattle.fx_expr.specs.Views.{expr_tree};
 use fx_base::NoMemory;
 use fx_expr::{BinOp, Env, EvalFault, Expr, TEXT_LIMIT, Text, UnOp, Value, matches};
 use fx_report::value_line;
-use fx_rules::evaluated;
+use fx_session::evaluated;
 use fx_telling::{tell_bytes, unescaped};
 use std::alloc::Global;
 use std::fmt::Write;

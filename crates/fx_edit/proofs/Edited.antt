@@ -14,11 +14,11 @@ use Rattle.fx_view.specs.declared.reader.Stop.TheVariants as stop
 use Rattle.fx_view.specs.Follows.{GoesBy}
 use Rattle.fx_view.specs.Meaning.{Meaning}
 use Rattle.fx_view.proofs.Rulings.{by_answer, by_refused, by_then, by_then_answer}
-use Rattle.fx_rules.specs.declared.halt.Halt.{Halt}
-use Rattle.fx_rules.specs.declared.halt.Halt.TheVariants as halt
-use Rattle.fx_rules.specs.Answering.{answered}
-use Rattle.fx_rules.specs.Halts.{split}
-use Rattle.fx_rules.proofs.Halting.{split_halt}
+use Rattle.fx_session.specs.declared.halt.Halt.{Halt}
+use Rattle.fx_session.specs.declared.halt.Halt.TheVariants as halt
+use Rattle.fx_session.specs.Answering.{answered}
+use Rattle.fx_session.specs.Halts.{split}
+use Rattle.fx_session.proofs.Halting.{split_halt}
 use Rattle.fx_edit.specs.Rules.{editing, looking, made_in}
 use Rattle.fx_edit.specs.Values.{Tells}
 use Rattle.fx_edit.proofs.Exits.{by_rule, halts_by, stops_by, tires_by}

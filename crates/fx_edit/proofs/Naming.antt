@@ -14,8 +14,8 @@ use Rattle.fx_spec.specs.declared.refusal.Refusal.{Refusal}
 use Rattle.fx_spec.specs.Edit.{names_node}
 use Rattle.fx_spec.specs.Move.{Answered}
 use Rattle.fx_base.proofs.Errors.{err_of}
-use Rattle.fx_rules.specs.declared.halt.Halt.{Halt}
-use Rattle.fx_rules.specs.declared.halt.Halt.TheVariants as halt
+use Rattle.fx_session.specs.declared.halt.Halt.{Halt}
+use Rattle.fx_session.specs.declared.halt.Halt.TheVariants as halt
 use Rattle.fx_edit.specs.Values.{name_read, Tells}
 
 both_true : (a b : Bool) → a ≡ true → b ≡ true → a && b ≡ true

@@ -4,9 +4,9 @@ use Rattle.fx_store.specs.declared.changes.Change.{Change}
 use Rattle.fx_store.specs.Rule.{Ask, changed}
 use Rattle.fx_store.specs.Whole.{Store, IsWhole}
 use Rattle.fx_spec.specs.Move.{Answered}
-use Rattle.fx_rules.specs.declared.halt.Halt.{Halt}
-use Rattle.fx_rules.specs.declared.halt.Halt.TheVariants as halt
-use Rattle.fx_rules.specs.Halts.{parted}
+use Rattle.fx_session.specs.declared.halt.Halt.{Halt}
+use Rattle.fx_session.specs.declared.halt.Halt.TheVariants as halt
+use Rattle.fx_session.specs.Halts.{parted}
 use Rattle.fx_view.specs.Follows.{Consults}
 use Rattle.fx_view.specs.Meaning.{Meaning}
 use Rattle.fx_view.specs.Own.{own_at, put_all, AreRead}

@@ -1,7 +1,7 @@
 //! `create`: an empty file or directory, where nothing is yet.
 ghost use Rattle.std.specs.Prelude.{◌≡◌, false, take, IfOk};
-ghost use Rattle.fx_rules.specs.Answering.{answered};
-ghost use Rattle.fx_rules.specs.Halts.{split};
+ghost use Rattle.fx_session.specs.Answering.{answered};
+ghost use Rattle.fx_session.specs.Halts.{split};
 ghost use Rattle.fx_spec.specs.Edit as edit;
 ghost use Rattle.fx_view.specs.Follows.{GoesBy};
 ghost use Rattle.fx_view.specs.Own.{own_at, SameOver};
@@ -13,7 +13,7 @@ ghost use Rattle.fx_edit.specs.Rules.{create_there};
 use crate::edits::Edits;
 use crate::making::make;
 use crate::nodes::bare_node;
-use fx_rules::Halt;
+use fx_session::Halt;
 use fx_spec::{Place, Refusal};
 use fx_store::{Landing, Node, Path};
 use fx_view::{Overlay, Reader, resolve};

@@ -14,6 +14,6 @@ mod removing;
 mod storing;
 
 pub use creating::create;
-pub use fx_rules::Halt;
+pub use fx_session::Halt;
 pub use removing::remove;
 pub use storing::store;

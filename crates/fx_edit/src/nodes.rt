@@ -15,7 +15,7 @@ ghost use Rattle.fx_edit.specs.Values.{text_of, texts_of, flag_of, name_read, Te
 
 use fx_base::{Items, NoMemory};
 use fx_expr::{Text, TextSet, Value};
-use fx_rules::Halt;
+use fx_session::Halt;
 use fx_spec::{Form, Part, Refusal};
 use fx_store::{Bytes, LinkText, Name, Names, Node, PathFault};
 use fx_view::Stop;

@@ -1,13 +1,13 @@
 //! The commands at a zipper, as the lines of cases name them.
 ghost use Rattle.std.specs.Prelude.{IfOk};
-ghost use Rattle.fx_rules.specs.Halts.{split};
+ghost use Rattle.fx_session.specs.Halts.{split};
 ghost use Rattle.fx_moves.specs.Ready.{IsReady};
 
 use crate::verbs::{Edit, Move, Question};
 use crate::walk::Walk;
 use fx_base::Steps;
 use fx_expr::{Shape, Text, Value};
-use fx_rules::Halt;
+use fx_session::Halt;
 use std::alloc::Global;
 use std::sync::ledger::Ledger;
 

@@ -1,11 +1,11 @@
 //! What is told of answers, refusals, places, reads and own changes.
 ghost use Rattle.std.specs.Prelude.{IfOk, IsOk};
-ghost use Rattle.fx_rules.specs.Halts.{split};
+ghost use Rattle.fx_session.specs.Halts.{split};
 
 use fx_base::NoMemory;
 use fx_expr::{Env, Value, Word};
 use fx_report::value_line;
-use fx_rules::Halt;
+use fx_session::Halt;
 use fx_spec::{Place, Refusal};
 use fx_store::{Names, Node, Path};
 use fx_telling::{add_bytes, tell, tell_bytes};

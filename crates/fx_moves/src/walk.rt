@@ -1,6 +1,6 @@
 //! A zipper that goes through the commands of a case.
 ghost use Rattle.std.specs.Prelude.{◌≡◌, ◌<◌, IfOk, IsOk};
-ghost use Rattle.fx_rules.specs.Halts.{split};
+ghost use Rattle.fx_session.specs.Halts.{split};
 ghost use Rattle.fx_moves.specs.Ready.{IsReady};
 
 use crate::acts::{ask, edit_by, move_by};
@@ -8,7 +8,7 @@ use crate::spelled::{node_of, path_of, shape_of, text_of, value_of};
 use crate::telling::{tell_answer, tell_done, tell_own, tell_place, tell_reads, tell_refusal};
 use crate::verbs::{Edit, Move, Put, Question, Verb, verb_of};
 use fx_base::{NoMemory, Steps};
-use fx_rules::Halt;
+use fx_session::Halt;
 use fx_spec::Base;
 use fx_store::Path;
 use fx_telling::split_word;

@@ -18,9 +18,9 @@ use Rattle.fx_view.specs.OwnList.{OwnList}
 use Rattle.fx_view.specs.Own.{AreRead, own_at}
 use Rattle.fx_base.proofs.Errors.{err_of}
 use Rattle.fx_view.proofs.Owning.{read_more}
-use Rattle.fx_rules.specs.declared.halt.Halt.{Halt}
-use Rattle.fx_rules.specs.declared.halt.Halt.TheVariants as halt
-use Rattle.fx_rules.specs.Answering.{answered}
+use Rattle.fx_session.specs.declared.halt.Halt.{Halt}
+use Rattle.fx_session.specs.declared.halt.Halt.TheVariants as halt
+use Rattle.fx_session.specs.Answering.{answered}
 use Rattle.fx_act.specs.declared.walk.Walk.{Walk}
 use Rattle.fx_act.specs.Acts.{Acts, Took}
 use Rattle.fx_obey.specs.declared.leave.Leave.{Leave}

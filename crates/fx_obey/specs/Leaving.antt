@@ -6,8 +6,8 @@ use Rattle.fx_spec.specs.Move.{Answered}
 use Rattle.fx_spec.specs.Refusals.{refusal_number}
 use Rattle.fx_view.specs.declared.reader.Stop.{Stop}
 use Rattle.fx_view.specs.declared.reader.Stop.TheVariants as stop
-use Rattle.fx_rules.specs.declared.halt.Halt.{Halt}
-use Rattle.fx_rules.specs.declared.halt.Halt.TheVariants as halt
+use Rattle.fx_session.specs.declared.halt.Halt.{Halt}
+use Rattle.fx_session.specs.declared.halt.Halt.TheVariants as halt
 use Rattle.fx_obey.specs.declared.leave.Leave.{Leave}
 use Rattle.fx_obey.specs.declared.leave.Leave.TheVariants as leave
 

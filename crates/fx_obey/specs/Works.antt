@@ -17,9 +17,9 @@ use Rattle.fx_view.specs.Follows.{GoesBy}
 use Rattle.fx_view.specs.Meaning.{Meaning}
 use Rattle.fx_view.specs.Own.{AreRead, no_own, own_at}
 use Rattle.fx_view.specs.ReadList.{ReadList}
-use Rattle.fx_rules.specs.declared.halt.Halt.{Halt}
-use Rattle.fx_rules.specs.Answering.{answered}
-use Rattle.fx_rules.specs.Halts.{split}
+use Rattle.fx_session.specs.declared.halt.Halt.{Halt}
+use Rattle.fx_session.specs.Answering.{answered}
+use Rattle.fx_session.specs.Halts.{split}
 use Rattle.fx_zip.specs.Fresh.{IsFresh}
 use Rattle.fx_act.specs.declared.walk.Walk.{Walk}
 use Rattle.fx_obey.specs.declared.leave.Leave.{Leave}

@@ -16,7 +16,7 @@ use crate::work::Work;
 use fx_act::Walk;
 use fx_base::Steps;
 use fx_expr::{Shape, Value, Word};
-use fx_rules::Halt;
+use fx_session::Halt;
 use fx_view::Reader;
 use std::alloc::Global;
 use std::marker::Brand;

@@ -24,7 +24,7 @@ pub(crate) fn evaluated(
     ensures { OrStops number tree_of
         (move.evaluated (eval_of variables.now (expr_tree expr.now))) result }
 {
-    match fx_rules::evaluated(alloc, expr, variables) {
+    match fx_session::evaluated(alloc, expr, variables) {
         Ok(value) => Ok(value),
         Err(EvalFault::Fault(fault)) => Err(Leave::Over(End::Stopped {
             command: number,

@@ -5,7 +5,7 @@ ghost use Rattle.fx_obey.specs.declared.leave.Leave.TheVariants.{Stopped as IsSt
 ghost use Rattle.fx_obey.specs.Leaving.{left_by, or_left, tried_number};
 
 use fx_base::NoMemory;
-use fx_rules::Halt;
+use fx_session::Halt;
 use fx_spec::End;
 use fx_view::Stop;
 

@@ -20,7 +20,7 @@ use Rattle.fx_view.specs.Follows.{Follows}
 use Rattle.fx_view.specs.Meaning.{Meaning}
 use Rattle.fx_view.proofs.Calls.{follows_answer, follows_refused, follows_tick, follows_then, follows_stop, follows_then_answer, follows_then_refused}
 use Rattle.fx_base.proofs.Errors.{err_of}
-use Rattle.fx_rules.proofs.Passing.{stop_passes, no_memory_passes}
+use Rattle.fx_session.proofs.Passing.{stop_passes, no_memory_passes}
 use Rattle.fx_walk.specs.Arguments.{with_each, inner_names}
 use Rattle.fx_walk.specs.Given.{path_given, set_given, mapped, Pairs}
 use Rattle.fx_walk.proofs.Rows.{FollowsValue, table_rule}

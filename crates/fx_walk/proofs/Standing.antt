@@ -20,7 +20,7 @@ use Rattle.fx_view.specs.declared.reader.Stop.TheVariants as stop
 use Rattle.fx_view.specs.Follows.{Follows}
 use Rattle.fx_view.specs.Meaning.{Meaning}
 use Rattle.fx_view.proofs.Calls.{follows_same, follows_then_answer}
-use Rattle.fx_rules.proofs.Passing.{stop_passes, no_memory_passes}
+use Rattle.fx_session.proofs.Passing.{stop_passes, no_memory_passes}
 use Rattle.fx_walk.specs.Landings.{standing, landed}
 
 -- a name is no long text

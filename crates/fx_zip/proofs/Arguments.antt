@@ -20,10 +20,10 @@ use Rattle.fx_spec.specs.WellShaped.{AreArguments}
 use Rattle.fx_view.specs.declared.reader.Stop.TheVariants as stop
 use Rattle.fx_view.proofs.Lists.{drop_at}
 use Rattle.fx_base.proofs.Errors.{err_of}
-use Rattle.fx_rules.specs.declared.halt.Halt.{Halt}
-use Rattle.fx_rules.specs.declared.halt.Halt.TheVariants as halt
-use Rattle.fx_rules.specs.Answering.{answered}
-use Rattle.fx_rules.specs.Halts.{split}
+use Rattle.fx_session.specs.declared.halt.Halt.{Halt}
+use Rattle.fx_session.specs.declared.halt.Halt.TheVariants as halt
+use Rattle.fx_session.specs.Answering.{answered}
+use Rattle.fx_session.specs.Halts.{split}
 use Rattle.fx_walk.specs.Arguments.{with_each, HaveShapes}
 use Rattle.fx_walk.specs.Scopes.{HasScope}
 use Rattle.fx_zip.specs.Telling.{told, costs, Says, AreWellShaped, names_answer, tried}

@@ -11,10 +11,10 @@ use Rattle.fx_view.specs.Follows.{Follows}
 use Rattle.fx_view.specs.Meaning.{Meaning}
 use Rattle.fx_view.proofs.Calls.{follows_then_answer, follows_stop}
 use Rattle.fx_base.proofs.Errors.{err_of}
-use Rattle.fx_rules.specs.declared.halt.Halt.{Halt}
-use Rattle.fx_rules.specs.declared.halt.Halt.TheVariants as halt
-use Rattle.fx_rules.specs.Answering.{answered}
-use Rattle.fx_rules.specs.Halts.{split}
+use Rattle.fx_session.specs.declared.halt.Halt.{Halt}
+use Rattle.fx_session.specs.declared.halt.Halt.TheVariants as halt
+use Rattle.fx_session.specs.Answering.{answered}
+use Rattle.fx_session.specs.Halts.{split}
 use Rattle.fx_zip.specs.Calls.{IsSettling, SettlesTo, Settles, Finds, Evaluates, place_needed}
 use Rattle.fx_zip.specs.Fresh.{IsFresh}
 use Rattle.fx_zip.specs.Parts.{part}

@@ -22,11 +22,11 @@ use Rattle.fx_view.specs.Reads.{known_of, Agrees}
 use Rattle.fx_view.proofs.Calls.{agrees_by, follows_then, follows_same}
 use Rattle.fx_base.proofs.Errors.{err_of}
 use Rattle.fx_view.proofs.Rules.{found_answer}
-use Rattle.fx_rules.specs.declared.halt.Halt.{Halt}
-use Rattle.fx_rules.specs.declared.halt.Halt.TheVariants as halt
-use Rattle.fx_rules.specs.Answering.{answered}
-use Rattle.fx_rules.specs.Halts.{split}
-use Rattle.fx_rules.proofs.Halting.{step_halt}
+use Rattle.fx_session.specs.declared.halt.Halt.{Halt}
+use Rattle.fx_session.specs.declared.halt.Halt.TheVariants as halt
+use Rattle.fx_session.specs.Answering.{answered}
+use Rattle.fx_session.specs.Halts.{split}
+use Rattle.fx_session.proofs.Halting.{step_halt}
 use Rattle.fx_zip.specs.declared.frame.Entry.{Entry}
 use Rattle.fx_zip.specs.Calls.{OnRefused, place_needed, place_evals, Evaluates, Finds, Moves, Turns, Asks}
 use Rattle.fx_zip.specs.Fresh.{IsSetOf, IsFresh, Stands}

@@ -21,9 +21,9 @@ use Rattle.fx_view.specs.Meaning.{Meaning}
 use Rattle.fx_view.specs.Reads.{known_of}
 use Rattle.fx_view.proofs.Calls.{follows_answer, follows_same}
 use Rattle.fx_view.proofs.Rules.{found_answer}
-use Rattle.fx_rules.specs.declared.halt.Halt.{Halt}
-use Rattle.fx_rules.specs.Answering.{answered}
-use Rattle.fx_rules.specs.Halts.{split}
+use Rattle.fx_session.specs.declared.halt.Halt.{Halt}
+use Rattle.fx_session.specs.Answering.{answered}
+use Rattle.fx_session.specs.Halts.{split}
 use Rattle.fx_zip.specs.Calls.{value_needed}
 use Rattle.fx_zip.specs.Telling.{Says}
 use Rattle.fx_zip.proofs.Telling.{tells_follows}

@@ -20,7 +20,7 @@ use Rattle.fx_view.specs.Reads.{known_of, Agrees}
 use Rattle.fx_view.specs.Follows.{Follows}
 use Rattle.fx_view.proofs.Calls.{agrees_by}
 use Rattle.fx_view.proofs.Rules.{found_answer}
-use Rattle.fx_rules.specs.Answering.{answered}
+use Rattle.fx_session.specs.Answering.{answered}
 use Rattle.fx_zip.specs.Calls.{Moves, Asks, settling_evals, place_evals, sideways_evals}
 use Rattle.fx_zip.specs.Trees.{ZipTree, is_settled, IsSettled}
 use Rattle.fx_zip.specs.Worked.{Call, Into, To, Next, Down, Out, Up, Fetch, leads_to, still, call_evals, evals_at, where_accepted, calls_eval, Leaves, Accepts, Accept, CallsEvaluate, WalksInFive}

@@ -16,10 +16,10 @@ use Rattle.fx_view.specs.declared.reader.Stop.TheVariants as stop
 use Rattle.fx_view.specs.Follows.{Follows}
 use Rattle.fx_view.specs.Meaning.{Meaning}
 use Rattle.fx_view.specs.Reads.{known_of, Agrees}
-use Rattle.fx_rules.specs.declared.halt.Halt.{Halt}
-use Rattle.fx_rules.specs.declared.halt.Halt.TheVariants as halt
-use Rattle.fx_rules.specs.Answering.{answered}
-use Rattle.fx_rules.specs.Halts.{split}
+use Rattle.fx_session.specs.declared.halt.Halt.{Halt}
+use Rattle.fx_session.specs.declared.halt.Halt.TheVariants as halt
+use Rattle.fx_session.specs.Answering.{answered}
+use Rattle.fx_session.specs.Halts.{split}
 use Rattle.fx_zip.specs.declared.frame.Entry.{Entry}
 use Rattle.fx_zip.specs.Fresh.{IsSetOf, AreFound, IsFresh, Stands, left}
 use Rattle.fx_zip.specs.Parts.{part}

@@ -8,14 +8,14 @@ ghost use Rattle.fx_expr.specs.Views.{tree_of};
 ghost use Rattle.fx_store.specs.Faults as paths;
 ghost use Rattle.fx_spec.specs.Describe as describe;
 ghost use Rattle.fx_spec.specs.Move.{evaluated};
-ghost use Rattle.fx_rules.specs.Answering.{answered};
-ghost use Rattle.fx_rules.specs.Halts.{split};
+ghost use Rattle.fx_session.specs.Answering.{answered};
+ghost use Rattle.fx_session.specs.Halts.{split};
 ghost use Rattle.fx_walk.specs.Arguments.{HaveShapes, inner_names};
 ghost use Rattle.fx_zip.specs.Telling.{Says, AreWellShaped, set_answer, names_answer, tried, given};
 
 use fx_base::Steps;
 use fx_expr::{Env, EvalFault, Formula, TextSet, Value};
-use fx_rules::Halt;
+use fx_session::Halt;
 use fx_spec::{Exprs, Params, Refusal};
 use fx_store::{Path, PathFault};
 use fx_view::Stop;

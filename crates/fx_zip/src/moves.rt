@@ -9,7 +9,7 @@ use crate::moving::{down, into, to};
 use crate::zip::Zip;
 use fx_base::Steps;
 use fx_expr::Text;
-use fx_rules::Halt;
+use fx_session::Halt;
 use fx_view::{Overlay, Reader};
 use std::alloc::Global;
 use std::sync::ledger::Ledger;

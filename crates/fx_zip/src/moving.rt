@@ -23,7 +23,7 @@ use crate::frame::{Entry, body_spot, element_spot, spot_at};
 use crate::step::Step;
 use fx_base::{NoMemory, Steps};
 use fx_expr::{Env, Formula, Text, TextSet, Word};
-use fx_rules::Halt;
+use fx_session::Halt;
 use fx_spec::{Exprs, Form, Params, Part, Refusal};
 use fx_store::Path;
 use fx_view::{Overlay, Reader};

@@ -1,8 +1,8 @@
 //! The place of a zipper, found step by step.
 ghost use Rattle.std.specs.Prelude.{◌≡◌, IfOk, false};
 ghost use Rattle.fx_spec.specs.Shaped.{IsDescribedPlace};
-ghost use Rattle.fx_rules.specs.Answering.{answered};
-ghost use Rattle.fx_rules.specs.Halts.{split};
+ghost use Rattle.fx_session.specs.Answering.{answered};
+ghost use Rattle.fx_session.specs.Halts.{split};
 ghost use Rattle.fx_view.specs.Follows.{Follows};
 ghost use Rattle.fx_view.specs.Own.{own_at};
 ghost use Rattle.fx_walk.specs.Places.{place_tree};
@@ -16,7 +16,7 @@ use crate::leading::led;
 use crate::part::part;
 use crate::zip::{Zip, last_path};
 use fx_base::Steps;
-use fx_rules::Halt;
+use fx_session::Halt;
 use fx_spec::{Place, Refusal};
 use fx_view::{Overlay, Reader, Stop};
 use std::alloc::Global;

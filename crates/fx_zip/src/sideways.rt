@@ -23,7 +23,7 @@ use crate::step::Step;
 use crate::zip::{Zip, path_around};
 use fx_base::Steps;
 use fx_expr::{Text, TextSet};
-use fx_rules::Halt;
+use fx_session::Halt;
 use fx_spec::Refusal;
 use fx_store::Path;
 use fx_view::{Overlay, Reader, Stop};

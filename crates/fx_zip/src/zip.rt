@@ -62,7 +62,7 @@ impl Model for Zip {
 impl Zip {
     ghost use Rattle.fx_spec.specs.Move.{go_out, go_up};
     ghost use Rattle.fx_store.specs.Rule.{Known};
-    ghost use Rattle.fx_rules.specs.Answering.{answered};
+    ghost use Rattle.fx_session.specs.Answering.{answered};
     ghost use Rattle.fx_spec.specs.Shaped.{IsDescribedPlace};
     ghost use Rattle.fx_zip.specs.Fresh.{IsFresh, Stands};
 

@@ -2,8 +2,8 @@ use Rattle.std.proofs.Common.{List, ap}
 use Rattle.fx_store.specs.declared.changes.Change.{Change}
 use Rattle.fx_store.specs.declared.node.Landing.{Landing}
 use Rattle.fx_store.specs.declared.node.Landing.TheVariants.{Absent}
-use Rattle.fx_rules.specs.Answering.{answered}
-use Rattle.fx_rules.specs.Halts.{split}
+use Rattle.fx_session.specs.Answering.{answered}
+use Rattle.fx_session.specs.Halts.{split}
 use Rattle.fx_spec.specs.declared.refusal.Refusal.{Refusal}
 use Rattle.fx_spec.specs.Edit as edit
 use Rattle.fx_view.specs.Own.{own_at}

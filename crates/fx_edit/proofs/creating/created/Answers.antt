@@ -2,7 +2,7 @@ use Rattle.std.proofs.Common.{false, Err, ap, subst, sym, ◌∙◌}
 use Rattle.fx_store.specs.declared.node.Node.{Node}
 use Rattle.fx_store.specs.Resolve.{resolve}
 use Rattle.fx_store.specs.Rule.{◌>>=◌}
-use Rattle.fx_rules.specs.Halts.{split}
+use Rattle.fx_session.specs.Halts.{split}
 use Rattle.fx_spec.specs.declared.refusal.Refusal.{Refusal}
 use Rattle.fx_spec.specs.Edit as edit
 use Rattle.fx_spec.specs.Move.{needed}

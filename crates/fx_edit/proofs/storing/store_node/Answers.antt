@@ -3,8 +3,8 @@ use Rattle.fx_store.specs.declared.changes.Change.{Change}
 use Rattle.fx_store.specs.declared.node.Landing.{Landing}
 use Rattle.fx_store.specs.Resolve.{resolve}
 use Rattle.fx_store.specs.Rule.{◌>>=◌}
-use Rattle.fx_rules.specs.Answering.{answered}
-use Rattle.fx_rules.specs.Halts.{split}
+use Rattle.fx_session.specs.Answering.{answered}
+use Rattle.fx_session.specs.Halts.{split}
 use Rattle.fx_spec.specs.Edit as edit
 use Rattle.fx_view.specs.Own.{own_at}
 use Rattle.fx_view.proofs.Rulings.{by_then}

@@ -1,13 +1,13 @@
 use Rattle.std.proofs.Common.{Bool, List, Err, ap, subst, sym, ◌∙◌}
 use Rattle.fx_store.specs.declared.changes.Change.{Change}
-use Rattle.fx_rules.specs.Answering.{answered}
+use Rattle.fx_session.specs.Answering.{answered}
 use Rattle.fx_view.specs.Follows.{GoesBy}
 use Rattle.fx_edit.specs.Rules.{store_there}
 use Rattle.fx_store.specs.declared.node.Node.{Node}
 use Rattle.fx_store.specs.Resolve.{resolve}
 use Rattle.fx_store.specs.Rule.{◌>>=◌}
 use Rattle.fx_expr.specs.Views.{tree_of}
-use Rattle.fx_rules.specs.Halts.{split}
+use Rattle.fx_session.specs.Halts.{split}
 use Rattle.fx_spec.specs.Edit as edit
 use Rattle.fx_spec.specs.Parts.{place_part}
 use Rattle.fx_spec.specs.SpecTree.{SpecTree}

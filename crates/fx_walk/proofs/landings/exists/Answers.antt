@@ -4,7 +4,7 @@ use Rattle.fx_store.specs.Rule.{Answer}
 use Rattle.fx_spec.specs.Describe as describe
 use Rattle.fx_view.specs.Own.{own_at}
 use Rattle.fx_view.proofs.Calls.{follows_then_answer}
-use Rattle.fx_rules.proofs.Passing.{stop_passes}
+use Rattle.fx_session.proofs.Passing.{stop_passes}
 use Rattle.fx_walk.proofs.landings.exists.Goals as goal
 
 pub returns-in_err-landing : goal.returns-in_err-landing

@@ -1,7 +1,7 @@
 use Rattle.fx_store.specs.Resolve.{resolve}
 use Rattle.fx_view.specs.Own.{own_at}
 use Rattle.fx_view.proofs.Calls.{follows_then}
-use Rattle.fx_rules.proofs.Passing.{stop_passes}
+use Rattle.fx_session.proofs.Passing.{stop_passes}
 use Rattle.fx_walk.specs.Landings.{landed}
 use Rattle.fx_walk.proofs.landings.found.Goals as goal
 

@@ -4,7 +4,7 @@ use Rattle.fx_store.specs.Rule.{Answer}
 use Rattle.fx_expr.specs.Views.{tree_of}
 use Rattle.fx_view.specs.Own.{own_at}
 use Rattle.fx_view.proofs.Calls.{follows_then_answer}
-use Rattle.fx_rules.proofs.Passing.{stop_passes}
+use Rattle.fx_session.proofs.Passing.{stop_passes}
 use Rattle.fx_walk.specs.Places.{place_tree, value_at}
 use Rattle.fx_walk.proofs.places.validate.Goals as goal
 

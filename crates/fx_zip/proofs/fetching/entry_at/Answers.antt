@@ -7,8 +7,8 @@ use Rattle.fx_expr.specs.declared.value.Value.TheVariants.{Bool}
 use Rattle.fx_spec.specs.Describe.{exists}
 use Rattle.fx_view.specs.Own.{own_at}
 use Rattle.fx_view.proofs.Calls.{follows_then_answer}
-use Rattle.fx_rules.specs.Answering.{answered}
-use Rattle.fx_rules.proofs.Passing.{stop_halts}
+use Rattle.fx_session.specs.Answering.{answered}
+use Rattle.fx_session.proofs.Passing.{stop_halts}
 use Rattle.fx_zip.proofs.fetching.entry_at.Goals as goal
 
 pub returns-in_err-there : goal.returns-in_err-there

@@ -8,8 +8,8 @@ use Rattle.fx_spec.specs.SpecTree.{SpecTree}
 use Rattle.fx_spec.specs.Parts.{part_of}
 use Rattle.fx_view.specs.Own.{own_at}
 use Rattle.fx_view.proofs.Calls.{follows_answer, follows_same}
-use Rattle.fx_rules.specs.Answering.{answered}
-use Rattle.fx_rules.specs.Halts.{split}
+use Rattle.fx_session.specs.Answering.{answered}
+use Rattle.fx_session.specs.Halts.{split}
 use Rattle.fx_zip.specs.Calls.{value_needed}
 use Rattle.fx_zip.proofs.Questions.{file_fetched, dir_fetched, link_fetched, evaluated_follows}
 use Rattle.fx_zip.proofs.fetching.fetched.Goals as goal

@@ -5,7 +5,7 @@ use Rattle.fx_spec.specs.SpecTree.{SpecTree}
 use Rattle.fx_spec.specs.Parts.{part_of}
 use Rattle.fx_spec.specs.declared.refusal.Refusal.{Refusal}
 use Rattle.fx_view.specs.Own.{own_at}
-use Rattle.fx_rules.specs.declared.halt.Halt.TheVariants as halt
+use Rattle.fx_session.specs.declared.halt.Halt.TheVariants as halt
 use Rattle.fx_walk.specs.Scopes.{HasScope}
 use Rattle.fx_zip.proofs.Arguments.{call_shapes, last_shapes}
 use Rattle.fx_zip.proofs.Entering.{enters_form, none_from}

@@ -1,7 +1,7 @@
 //! The error of a call that may be refused by the rules, or stopped for now.
 ghost use Rattle.std.specs.Prelude.{◌≡◌};
 ghost use Rattle.fx_view.specs.declared.reader.Stop.TheVariants.{NoMemory as OutOfMemory};
-ghost use Rattle.fx_rules.specs.declared.halt.Halt.TheVariants.{Refused as IsRefused, Stopped as IsStopped};
+ghost use Rattle.fx_session.specs.declared.halt.Halt.TheVariants.{Refused as IsRefused, Stopped as IsStopped};
 
 use fx_base::NoMemory;
 use fx_spec::Refusal;
