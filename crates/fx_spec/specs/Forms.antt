@@ -5,6 +5,7 @@ use Rattle.fx_spec.specs.declared.part.Form.{Form}
 use Rattle.fx_spec.specs.declared.part.Form.TheVariants as form
 use Rattle.fx_spec.specs.Parts.{part_of}
 use Rattle.fx_spec.specs.SpecTree.{SpecTree}
+use Rattle.fx_spec.specs.Written.{DefTree}
 
 abbrev pub IsForm : SpecTree → Form → Type 0
 IsForm s form.File = s ≡ SpecTree.file
