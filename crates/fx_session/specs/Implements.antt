@@ -1,5 +1,5 @@
 -- What a call says that follows a rule through a session.
-use Rattle.std.specs.Prelude.{◌≡◌, ◌+◌, Result}
+use Rattle.std.specs.Prelude.{◌≡◌, ℕ, ◌+◌, Result}
 use Rattle.fx_store.specs.Rule.{Ask}
 use Rattle.fx_view.specs.declared.reader.Stop.{Stop}
 use Rattle.fx_view.specs.Follows.{Follows}
@@ -18,9 +18,12 @@ pub record Implements {R L A X : Type 0} (m : Meaning R) (view : X → A) (old n
   -- the same reader stays lent
   pub lent : new.reader.ghost_name ≡ old.reader.ghost_name
 
--- the session after one evaluation
+-- the session after so many evaluations
+abbrev pub ticked_by : {R L : Type 0} → ℕ → Session R L → Session R L
+ticked_by n s = record { alloc = s.alloc; reader = s.reader; own = s.own; steps = s.steps + n }
+
 abbrev pub ticked : {R L : Type 0} → Session R L → Session R L
-ticked s = record { alloc = s.alloc; reader = s.reader; own = s.own; steps = s.steps + 1 }
+ticked s = ticked_by 1 s
 
 -- the same of a call that the rules may refuse
 abbrev pub Answers : {R L A X : Type 0} → Meaning R → (X → A) → Session R L → Session R L → Ask (Answered A) → Result X Halt → Type 0
