@@ -1,41 +1,72 @@
-//! What a node lists.
+//! What stands at a path, where a path lands, and what a node lists: none of it evaluates anything.
 ghost use Rattle.std.specs.Prelude.{◌≡◌, ◌<◌, Some, length, slice_get};
+ghost use Rattle.fx_store.specs.Resolve as resolution;
 ghost use Rattle.fx_store.specs.Rule as rule;
 ghost use Rattle.fx_spec.specs.Edit.{names_of};
-ghost use Rattle.fx_view.specs.Follows.{GoesBy};
-ghost use Rattle.fx_view.specs.Own.{own_at};
+ghost use Rattle.fx_session.specs.Implements.{Implements};
 ghost use Rattle.fx_edit.specs.Rules as parts;
 
+use fx_session::Session;
 use fx_store::{Name, Names, Node, Path};
-use fx_view::{Overlay, Reader, Stop, look};
+use fx_view::{Landing, Reader, Stop};
 use std::alloc::Global;
+use std::sync::ledger::Ledger;
+
+/// What stands at a path, with the own changes on top.
+pub(crate) fn look<R: Reader, L: Ledger>(
+    session: &mut Session<'_, R, L>,
+    path: &Path,
+) -> Result<Option<Node>, Stop>
+    ensures follows { Implements R.meaning (λ n. n) session.old session.new
+        (rule.look path.now) result }
+    ensures count { session.new.steps ≡ session.old.steps }
+{
+    fx_view::look(session.alloc, &mut *session.reader, &session.own, path)
+}
+
+/// Where a path lands; `follow` says whether a last link is followed.
+pub(crate) fn resolve<R: Reader, L: Ledger>(
+    session: &mut Session<'_, R, L>,
+    path: &Path,
+    follow: bool,
+) -> Result<Landing, Stop>
+    ensures follows { Implements R.meaning (λ l. l) session.old session.new
+        (resolution.resolve path.now follow) result }
+    ensures count { session.new.steps ≡ session.old.steps }
+{
+    fx_view::resolve(
+        session.alloc,
+        &mut *session.reader,
+        &session.own,
+        path,
+        follow,
+    )
+}
 
 /// The names below a path; `None` where nothing is there.
-pub(crate) fn listing<R: Reader>(
-    alloc: Global,
-    reader: &mut R,
-    overlay: &Overlay,
+pub(crate) fn listing<R: Reader, L: Ledger>(
+    session: &mut Session<'_, R, L>,
     path: &Path,
 ) -> Result<Option<Names>, Stop>
-    ensures { GoesBy R.meaning (λ n. n) (own_at overlay.now) reader.old reader.new
+    ensures follows { Implements R.meaning (λ n. n) session.old session.new
         (rule.Look path.now (λ node. rule.Answer (parts.listing node))) result }
+    ensures count { session.new.steps ≡ session.old.steps }
 {
-    let node = look(alloc, reader, overlay, path)?;
-    Ok(listed(alloc, node))
+    let node = look(session, path)?;
+    Ok(listed(session.alloc, node))
 }
 
 /// The names that a directory at a path lists; none where there is no directory.
-pub(crate) fn names_at<R: Reader>(
-    alloc: Global,
-    reader: &mut R,
-    overlay: &Overlay,
+pub(crate) fn names_at<R: Reader, L: Ledger>(
+    session: &mut Session<'_, R, L>,
     path: &Path,
 ) -> Result<Names, Stop>
-    ensures { GoesBy R.meaning (λ n. n) (own_at overlay.now) reader.old reader.new
+    ensures follows { Implements R.meaning (λ n. n) session.old session.new
         (rule.Look path.now (λ node. rule.Answer (names_of node))) result }
+    ensures count { session.new.steps ≡ session.old.steps }
 {
-    let node = look(alloc, reader, overlay, path)?;
-    Ok(names_in(alloc, node))
+    let node = look(session, path)?;
+    Ok(names_in(session.alloc, node))
 }
 
 fn listed(alloc: Global, node: Option<Node>) -> Option<Names>
