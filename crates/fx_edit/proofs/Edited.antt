@@ -32,6 +32,9 @@ unless_deep-room b rule is = ap (λ b. unless_deep b rule) is
 pub edit_refused : {R L : Type 0} {m : Meaning R} {s : Session R L} {other : Ask (Answered (List Change))} (refusal : Refusal) → other ≡ Answer (Err refusal) → Answers {X = List Change} m (λ e. e) s s other (Err (halt.Refused refusal))
 edit_refused refusal is = by_rule is (answers (Err refusal) (Err refusal) refl)
 
+pub edit_answered : {R L : Type 0} {m : Meaning R} {s : Session R L} {other : Ask (Answered (List Change))} (cs : List Change) → other ≡ Answer (Ok cs) → Answers {X = List Change} m (λ e. e) s s other (Ok cs)
+edit_answered cs is = by_rule is (answers (Ok cs) (Ok cs) refl)
+
 module _ {R L : Type 0} {m : Meaning R} {old mid : Session R L} {other : Ask (Answered (List Change))} {rule : Ask (List Change)} (is : other ≡ editing rule) where
   pub edit_stops : {why : Stop} (r : Result (List Change) Halt) → IsErrAnd r (λ h. h ≡ halt.Stopped why) → Implements {X = List Change} m (λ e. e) old mid rule (Err why) → Answers m (λ e. e) old mid other r
   edit_stops r e h = by_rule is (stop_halts rule (λ (cs : List Change). Answer (Ok cs)) r e h)

@@ -41,8 +41,8 @@ clears path name names = adding (set_to (parent path) (Dir (without_name name na
 moved : {R L : Type 0} {m : Meaning R} {old mid : Session R L} {p q : Path} {r : Result (List (List ℕ)) Stop} → p ≡ q → Implements m (λ n. n) old mid (lists p) r → Implements m (λ n. n) old mid (lists q) r
 moved same h = by_rule (ap lists (sym same)) h
 
-begun : (path : Path) (name : List ℕ) {above : Path} {names fewer : List (List ℕ)} {edits : List Change} → above ≡ parent path → fewer ≡ without_name name names → edits ≡ set_to above (Dir fewer) ∷ [] → clears path name names ≡ adding edits (clear path)
-begun path name same less made = ap (λ cs. adding cs (clear path)) (sym (made ∙ (λ i. set_to (same i) (Dir (less i)) ∷ [])))
+begun : (path : Path) (name : List ℕ) (names : List (List ℕ)) {above : Path} {fewer : List (List ℕ)} {edits : List Change} → above ≡ parent path → fewer ≡ without_name name names → edits ≡ set_to above (Dir fewer) ∷ [] → clears path name names ≡ adding edits (clear path)
+begun path name names same less made = ap (λ cs. adding cs (clear path)) (sym (made ∙ (λ i. set_to (same i) (Dir (less i)) ∷ [])))
 
 module _ {R L : Type 0} {m : Meaning R} {old mid : Session R L} (path : Path) (name : List ℕ) {above : Path} (same : above ≡ parent path) where
   pub removing_stops : {why : Stop} (r : Result (List Change) Stop) → IsErrAnd r (λ d. d ≡ why) → Implements {X = List (List ℕ)} m (λ n. n) old mid (lists above) (Err why) → Implements m (λ e. e) old mid (removing path name) r
@@ -53,7 +53,7 @@ module _ {R L : Type 0} {m : Meaning R} {old mid : Session R L} (path : Path) (n
 
   module _ {new : Session R L} {names fewer : List (List ℕ)} {edits after : List Change} (less : fewer ≡ without_name name names) (made : edits ≡ set_to above (Dir fewer) ∷ []) (first : Implements m (λ n. n) old mid (lists above) (Ok names)) where
     pub removing_late : {why : Stop} (r : Result (List Change) Stop) → IsErrAnd r (λ d. d ≡ why) → Implements {X = Unit {0}} m (λ u. after) mid new (adding edits (clear path)) (Err why) → Implements m (λ e. e) old new (removing path name) r
-    removing_late r is h = then_on (lists (parent path)) (clears path name) (moved same first) (by_rule (begun path name same less made) (ungathered r is h))
+    removing_late r is h = then_on (lists (parent path)) (clears path name) (moved same first) (by_rule (begun path name names same less made) (ungathered r is h))
 
     pub removing_done : Implements {X = Unit {0}} m (λ u. after) mid new (adding edits (clear path)) (Ok tt) → Implements m (λ e. e) old new (removing path name) (Ok after)
-    removing_done h = then_on (lists (parent path)) (clears path name) (moved same first) (by_rule (begun path name same less made) (gathered h))
+    removing_done h = then_on (lists (parent path)) (clears path name) (moved same first) (by_rule (begun path name names same less made) (gathered h))

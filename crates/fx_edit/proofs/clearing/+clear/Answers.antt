@@ -1,6 +1,9 @@
-use Rattle.std.proofs.Common.{arith}
+use Rattle.std.proofs.Common.{Err, refl, arith}
 use Rattle.fx_store.specs.Resolve.{◌/ₚ◌}
 use Rattle.fx_spec.specs.Edit as edit
+use Rattle.fx_view.specs.declared.reader.Stop.TheVariants as stop
+use Rattle.fx_session.proofs.Calls.{refused}
+use Rattle.fx_edit.specs.Rules.{adding}
 use Rattle.fx_edit.proofs.Addings.{clear-deep}
 use Rattle.fx_edit.proofs.Changing.{changing_next, changing_stops, changing_ends}
 use Rattle.fx_edit.proofs.Clears.{adds_none, clear_stops, clear_tires, clear_none, clear_some}
@@ -28,6 +31,9 @@ clear-returns-in_ok-remove-in-Some-clause-follows g t c =
 pub clear_entry-returns-in-Err-TooDeep-clause-follows : goal.clear_entry-returns-in-Err-TooDeep-clause-follows
 clear_entry-returns-in-Err-TooDeep-clause-follows g t c =
     adds_none (edit.clear (c.args.path.now /ₚ c.args.name.now)) (clear-deep (c.args.path.now /ₚ c.args.name.now) (joined_deep c.args.path.now c.args.name.now (rw c.in-Err-TooDeep.field-0-is at c.in-Err-TooDeep.ensures)))
+
+pub clear_entry-returns-in-Err-NoMemory-clause-follows : goal.clear_entry-returns-in-Err-NoMemory-clause-follows
+clear_entry-returns-in-Err-NoMemory-clause-follows g t c = refused (adding c.args.edits.now (edit.clear (c.args.path.now /ₚ c.args.name.now))) (Err stop.NoMemory) refl
 
 pub clear_names-returns-in_err-clear_entry-clause-follows : goal.clear_names-returns-in_err-clear_entry-clause-follows
 clear_names-returns-in_err-clear_entry-clause-follows g t c = changing_stops c.loop-i.invariant c.from_residual.result c.name_at-name.ensures c.from_residual.ensures.1 c.in_err-clear_entry.ensures.follows

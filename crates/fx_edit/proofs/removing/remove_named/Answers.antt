@@ -1,8 +1,13 @@
 use Rattle.std.proofs.Common.{List, ℕ, ◌∷◌, [], ap, ◌∙◌}
 use Rattle.fx_store.specs.declared.node.Node.TheVariants.{Dir}
 use Rattle.fx_spec.specs.Edit.{set_to}
+use Rattle.fx_session.proofs.Calls.{refused}
+use Rattle.fx_edit.specs.Rules.{removing}
 use Rattle.fx_edit.proofs.Removes.{removing_stops, removing_tires, removing_late, removing_done}
 use Rattle.fx_edit.proofs.removing.remove_named.Goals as goal
+
+pub returns-in_err-above-clause-follows : goal.returns-in_err-above-clause-follows
+returns-in_err-above-clause-follows g c = refused (removing c.args.path.now c.args.name.now) c.from_residual.result c.from_residual.ensures.1
 
 pub returns-in_err-names-clause-follows : goal.returns-in_err-names-clause-follows
 returns-in_err-names-clause-follows g c = removing_stops c.args.path.now c.args.name.now c.in_ok-above.ensures c.from_residual-in_err-names.result c.from_residual-in_err-names.ensures.1 c.in_err-names.ensures.follows
