@@ -3,7 +3,7 @@ ghost use Rattle.std.specs.Prelude.{◌≡◌, ◌++◌, ◌∷◌, [], drop, If
 ghost use Rattle.fx_store.specs.Changes.{changed_paths};
 ghost use Rattle.fx_spec.specs.Edit.{set_to, removed};
 ghost use Rattle.fx_session.specs.Implements.{Implements};
-ghost use Rattle.fx_view.specs.Own.{own_at, put_all};
+ghost use Rattle.fx_view.specs.Own.{put_all};
 ghost use Rattle.fx_view.specs.Reads.{count_before};
 ghost use Rattle.fx_edit.specs.Rules.{looking};
 

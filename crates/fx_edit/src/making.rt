@@ -2,7 +2,6 @@
 ghost use Rattle.std.specs.Prelude.{◌≡◌, ◌++◌, ◌∷◌, ◌+◌, ◌≤◌, ◌<◌, [], Some, false, length, drop, map, slice_get, IfOk, OnOk};
 ghost use Rattle.fx_store.specs.declared.node.Node.TheVariants.{File, Dir};
 ghost use Rattle.fx_store.specs.Resolve.{◌/ₚ◌};
-ghost use Rattle.fx_expr.specs.Sets.{with_text};
 ghost use Rattle.fx_spec.specs.Edit as edit;
 ghost use Rattle.fx_session.specs.Implements.{Answers, Implements};
 ghost use Rattle.fx_edit.specs.Kinds.{lists_some};

@@ -1,8 +1,7 @@
 //! A directory that lists other names from now on.
 ghost use Rattle.std.specs.Prelude.{◌≡◌, ◌<◌, ◌++◌, ◌∷◌, [], true, false, length, IfOk, MatchOption};
-ghost use Rattle.fx_store.specs.declared.node.Node.TheVariants.{File, Dir};
+ghost use Rattle.fx_store.specs.declared.node.Node.TheVariants.{Dir};
 ghost use Rattle.fx_store.specs.Resolve.{◌/ₚ◌};
-ghost use Rattle.fx_store.specs.Rule as rule;
 ghost use Rattle.fx_expr.specs.Sets.{IsAscending, set_of};
 ghost use Rattle.fx_spec.specs.Edit as edit;
 ghost use Rattle.fx_session.specs.Implements.{Implements};

@@ -1,7 +1,5 @@
 //! `remove`: the entry at a place's own path goes, with all below it.
-ghost use Rattle.std.specs.Prelude.{◌≡◌, ◌∷◌, [], false, take, IfOk};
-ghost use Rattle.fx_store.specs.declared.node.Node.TheVariants.{Dir};
-ghost use Rattle.fx_store.specs.Rule as rule;
+ghost use Rattle.std.specs.Prelude.{◌≡◌, false, take, IfOk};
 ghost use Rattle.fx_spec.specs.Edit as edit;
 ghost use Rattle.fx_session.specs.Implements.{Answers, Implements};
 ghost use Rattle.fx_view.specs.Own.{own_at, SameOver};

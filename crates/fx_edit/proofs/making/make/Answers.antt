@@ -3,6 +3,7 @@ use Rattle.fx_store.specs.Rule.{Answer}
 use Rattle.fx_session.proofs.Halting.{no_memory_at_once}
 use Rattle.fx_spec.specs.declared.refusal.Refusal.{Refusal}
 use Rattle.fx_spec.specs.Edit as edit
+use Rattle.fx_edit.specs.Rules.{made_in, made_all}
 use Rattle.fx_edit.proofs.Edited.{unless_deep-room, edit_refused, edit_stops, edit_done}
 use Rattle.fx_edit.proofs.Makes.{make-is, make-none}
 use Rattle.fx_edit.proofs.making.make.Goals as goal
@@ -11,13 +12,13 @@ pub returns-in_err-make_in-in-Some-clause-follows : goal.returns-in_err-make_in-
 returns-in_err-make_in-in-Some-clause-follows g c =
     let room : edit.is_too_deep c.args.here.now c.args.names.now c.args.node.now ≡ false = cc in
     let is = unless_deep-room (edit.is_too_deep c.args.here.now c.args.names.now c.args.node.now) (edit.make c.args.here.now c.args.names.now c.args.node.now) room ∙ make-is c.args.here.now c.args.names.now c.in-Some.name.now c.args.node.now (sym c.in-Some.ensures.name) in
-    edit_stops is c.from_residual.result c.from_residual.ensures.1 c.in_err-make_in-in-Some.ensures.follows
+    edit_stops {rule = made_in c.args.here.now c.in-Some.name.now (made_all c.args.here.now c.args.names.now c.args.node.now)} is c.from_residual.result c.from_residual.ensures.1 c.in_err-make_in-in-Some.ensures.follows
 
 pub returns-in_ok-make_in-in-Some-clause-follows : goal.returns-in_ok-make_in-in-Some-clause-follows
 returns-in_ok-make_in-in-Some-clause-follows g c =
     let room : edit.is_too_deep c.args.here.now c.args.names.now c.args.node.now ≡ false = cc in
     let is = unless_deep-room (edit.is_too_deep c.args.here.now c.args.names.now c.args.node.now) (edit.make c.args.here.now c.args.names.now c.args.node.now) room ∙ make-is c.args.here.now c.args.names.now c.in-Some.name.now c.args.node.now (sym c.in-Some.ensures.name) in
-    edit_done is c.in_ok-make_in-in-Some.ensures.follows
+    edit_done {rule = made_in c.args.here.now c.in-Some.name.now (made_all c.args.here.now c.args.names.now c.args.node.now)} is c.in_ok-make_in-in-Some.ensures.follows
 
 pub returns-in_err-copy-in-None-clause-follows : goal.returns-in_err-copy-in-None-clause-follows
 returns-in_err-copy-in-None-clause-follows g c =

@@ -1,5 +1,4 @@
 use Rattle.fx_expr.specs.Views.{tree_of}
-use Rattle.fx_spec.specs.Edit as edit
 use Rattle.fx_spec.proofs.EditLaws.{edits_keep_whole}
 use Rattle.fx_spec.proofs.EditLooks.{edits_look_at_changes}
 use Rattle.fx_walk.specs.Places.{place_tree}
