@@ -43,8 +43,8 @@ changed-put_all S own (c ∷ cs) = changed-put_all S (put_own own c.path c.node)
 module _ {R L : Type 0} {m : Meaning R} {old mid : Session R L} {rule : Ask (Answered (List Change))} where
   -- its changes are put
   pub edits_done : {after : OwnList} {changes : List Change} → ((known own : Known) → LooksAtChanges known own rule) → ((S : Store) → IsWhole S → KeepsWhole S rule)
-      → Answers {X = List Change} m (λ e. e) old mid rule (Ok changes) → mid.steps ≡ old.steps → after ≡ put_all mid.own changes → Edits m old (under after mid) rule (Ok tt)
-  edits_done {changes = changes} looks keeps h count put_on = let put = put_on ∙ ap (λ own. put_all own changes) h.own in record {
+      → Answers {X = List Change} m (λ e. e) old mid rule (Ok changes) → after ≡ put_all mid.own changes → Edits m old (under after mid) rule (Ok tt)
+  edits_done {changes = changes} looks keeps h put_on = let put = put_on ∙ ap (λ own. put_all own changes) h.own in record {
     made = (changes, record { own = refl; follows = record { goes = h.follows.goes; most = h.follows.most }; lent = h.lent }, put);
     read = λ read.
         let goes = h.follows.goes in
@@ -54,47 +54,42 @@ module _ {R L : Type 0} {m : Meaning R} {old mid : Session R L} {rule : Ask (Ans
         subst (λ own. IsWhole (changed (own_at own) S)) (sym put)
         (subst IsWhole (sym (changed-put_all S old.own changes)) (keeps (changed (own_at old.own) S) whole changes (found_answer (known_of (m.reads mid.reader.now)) (own_at old.own) S agrees rule (Ok changes) h.follows.goes.0)));
     lent = h.lent;
-    count = count;
   }
 
   -- memory is refused while they are put
-  pub edits_late : {after : OwnList} {changes : List Change} (r : Result ℕ Halt) → IsErrAnd r (λ h. h ≡ halt.Stopped stop.NoMemory) → Answers {X = List Change} m (λ e. e) old mid rule (Ok changes) → mid.steps ≡ old.steps → Edits m old (under after mid) rule (done r)
-  edits_late {after = after} r is h count =
+  pub edits_late : {after : OwnList} {changes : List Change} (r : Result ℕ Halt) → IsErrAnd r (λ h. h ≡ halt.Stopped stop.NoMemory) → Answers {X = List Change} m (λ e. e) old mid rule (Ok changes) → Edits m old (under after mid) rule (done r)
+  edits_late {after = after} r is h =
       subst (λ (r : Result ℕ Halt). Edits m old (under after mid) rule (done r)) (sym (err_of r (halt.Stopped stop.NoMemory) is))
       (record {
         made = record { own = refl; follows = record { goes = h.follows.goes.1; most = h.follows.most }; lent = h.lent };
         read = λ read. tt;
         whole = λ S agrees whole. tt;
         lent = h.lent;
-        count = count;
       })
 
   -- it is refused or stops before
-  halted : (e : Halt) → Answers {X = List Change} m (λ e. e) old mid rule (Err e) → mid.steps ≡ old.steps → Edits m old mid rule (Err e)
-  halted (halt.Refused refusal) h count = record {
+  halted : (e : Halt) → Answers {X = List Change} m (λ e. e) old mid rule (Err e) → Edits m old mid rule (Err e)
+  halted (halt.Refused refusal) h = record {
     made = (record { own = refl; follows = record { goes = h.follows.goes; most = h.follows.most }; lent = h.lent }, h.own);
     read = λ read. let went = h.follows.goes.1 in subst (λ own. AreRead own (m.reads mid.reader.now)) (sym h.own) (read_more old.own (m.reads old.reader.now) (m.reads mid.reader.now) went.more went.kept read);
     whole = λ S agrees whole. subst (λ own. IsWhole (changed (own_at own) S)) (sym h.own) whole;
     lent = h.lent;
-    count = count;
   }
-  halted (halt.Stopped (stop.Needs p)) h count = record {
+  halted (halt.Stopped (stop.Needs p)) h = record {
     made = record { own = refl; follows = record { goes = h.follows.goes; most = h.follows.most }; lent = h.lent };
     read = λ read. tt;
     whole = λ S agrees whole. tt;
     lent = h.lent;
-    count = count;
   }
-  halted (halt.Stopped stop.NoMemory) h count = record {
+  halted (halt.Stopped stop.NoMemory) h = record {
     made = record { own = refl; follows = record { goes = h.follows.goes; most = h.follows.most }; lent = h.lent };
     read = λ read. tt;
     whole = λ S agrees whole. tt;
     lent = h.lent;
-    count = count;
   }
 
-  pub edits_halt : (e : Halt) (r : Result ℕ Halt) → IsErrAnd r (λ h. h ≡ e) → Answers {X = List Change} m (λ e. e) old mid rule (Err e) → mid.steps ≡ old.steps → Edits m old mid rule (done r)
-  edits_halt e r is h count = subst (λ (r : Result ℕ Halt). Edits m old mid rule (done r)) (sym (err_of r e is)) (halted e h count)
+  pub edits_halt : (e : Halt) (r : Result ℕ Halt) → IsErrAnd r (λ h. h ≡ e) → Answers {X = List Change} m (λ e. e) old mid rule (Err e) → Edits m old mid rule (done r)
+  edits_halt e r is h = subst (λ (r : Result ℕ Halt). Edits m old mid rule (done r)) (sym (err_of r e is)) (halted e h)
 
 -- one change more is put
 pub put_all-push : (own : OwnList) (cs : List Change) (c : Change) → put_all own (cs ++ c ∷ []) ≡ put_own (put_all own cs) c.path c.node

@@ -139,16 +139,15 @@ rest q a b cs = adding cs (changed_entries q a b)
 -- these names are left: what adds their changes now adds those of all at the start
 pub record IsRelisting {R L : Type 0} (m : Meaning R) (q old new : List (List ℕ)) (start now : Session R L) (begun so_far : List Change) (a b : List (List ℕ)) : Type 0 where
   pub goes : (final : List Change) → Goes m (λ (u : Unit {0}). final) start now (adding begun (changed_entries q old new)) (adding so_far (changed_entries q a b))
-  pub count : now.steps ≡ start.steps
 
 module _ {R L : Type 0} {m : Meaning R} {q old new : List (List ℕ)} {start : Session R L} {begun : List Change} where
   pub relisting_first : IsRelisting m q old new start start begun begun old new
-  relisting_first = record { goes = λ final new r h. h; count = refl }
+  relisting_first = record { goes = λ final new r h. h }
 
   module _ {now : Session R L} {so_far : List Change} {a b : List (List ℕ)} (is : IsRelisting m q old new start now begun so_far a b) where
     module _ {n : List ℕ} {x y : Bool} (next : IsNext a b n x y) where
-      pub relisting_next : {later : Session R L} {more : List Change} → Implements {X = Unit {0}} m (λ (u : Unit {0}). more) now later (adding so_far (change_of q n x y)) (Ok tt) → later.steps ≡ now.steps → IsRelisting m q old new start later begun more (left_of x a) (left_of y b)
-      relisting_next h same = record { goes = λ final. goes_on (rest q a b so_far) (is.goes final) (adding so_far (change_of q n x y)) (rest q (left_of x a) (left_of y b)) (left_next q a b n x y next so_far) h; count = same ∙ is.count }
+      pub relisting_next : {later : Session R L} {more : List Change} → Implements {X = Unit {0}} m (λ (u : Unit {0}). more) now later (adding so_far (change_of q n x y)) (Ok tt) → IsRelisting m q old new start later begun more (left_of x a) (left_of y b)
+      relisting_next h = record { goes = λ final. goes_on (rest q a b so_far) (is.goes final) (adding so_far (change_of q n x y)) (rest q (left_of x a) (left_of y b)) (left_next q a b n x y next so_far) h }
 
       pub relisting_stops : {later : Session R L} {more final : List Change} {why : Stop} (r : Result (Unit {0}) Stop) → IsErrAnd r (λ d. d ≡ why) → Implements {X = Unit {0}} m (λ (u : Unit {0}). more) now later (adding so_far (change_of q n x y)) (Err why)
           → Implements m (λ (u : Unit {0}). final) start later (adding begun (changed_entries q old new)) r

@@ -38,8 +38,6 @@ pub record Edits {R L : Type 0} (m : Meaning R) (old new : Session R L) (rule : 
   pub whole : (S : Store) → Agrees (m.reads new.reader.now) S → IsWhole (changed (own_at old.own) S) → IfOk (parted result) (λ _. IsWhole (changed (own_at new.own) S))
   -- the same reader stays lent
   pub lent : new.reader.ghost_name ≡ old.reader.ghost_name
-  -- nothing is evaluated
-  pub count : new.steps ≡ old.steps
 
 -- the answer without the number of reads
 abbrev pub done : Result ℕ Halt → Result (Unit {0}) Halt

@@ -1,5 +1,4 @@
 //! The removal of an entry with all below it.
-ghost use Rattle.std.specs.Prelude.{◌≡◌};
 ghost use Rattle.fx_store.specs.Resolve.{◌/ₚ◌};
 ghost use Rattle.fx_spec.specs.Edit as edit;
 ghost use Rattle.fx_session.specs.Implements.{Implements};
@@ -21,7 +20,6 @@ pub(crate) fn clear<R: Reader, L: Ledger>(
 ) -> Result<(), Stop>
     ensures follows { Implements R.meaning (λ u. edits.new) session.old session.new
         (adding edits.old (edit.clear path.now)) result }
-    ensures count { session.new.steps ≡ session.old.steps }
 {
     // A path has at most 64 names, so no more levels than that are below it.
     prove!(path.len() <= 64);
@@ -44,7 +42,6 @@ fn clear_names<R: Reader, L: Ledger>(
 ) -> Result<(), Stop>
     ensures follows { Implements R.meaning (λ u. edits.new) session.old session.new
         (adding edits.old (edit.entries (λ n. edit.clear (path.now /ₚ n)) names.now)) result }
-    ensures count { session.new.steps ≡ session.old.steps }
 {
     for i in 0..names.len() {
         let name = name_at(names, i);
@@ -63,7 +60,6 @@ pub(crate) fn clear_entry<R: Reader, L: Ledger>(
 ) -> Result<(), Stop>
     ensures follows { Implements R.meaning (λ u. edits.new) session.old session.new
         (adding edits.old (edit.clear (path.now /ₚ name.now))) result }
-    ensures count { session.new.steps ≡ session.old.steps }
 {
     match path.join(session.alloc, name) {
         Ok(entry) => clear(session, &entry, edits),

@@ -1,5 +1,5 @@
 //! `create`: an empty file or directory, where nothing is yet.
-ghost use Rattle.std.specs.Prelude.{◌≡◌, false, take, IfOk};
+ghost use Rattle.std.specs.Prelude.{false, take, IfOk};
 ghost use Rattle.fx_spec.specs.Edit as edit;
 ghost use Rattle.fx_session.specs.Implements.{Answers};
 ghost use Rattle.fx_view.specs.Own.{own_at, SameOver};
@@ -9,7 +9,6 @@ ghost use Rattle.fx_edit.specs.Edits.{done, IsNextSet};
 ghost use Rattle.fx_edit.specs.Rules.{create_there};
 
 use crate::edits::Edits;
-use crate::lookups::resolve;
 use crate::making::make;
 use crate::nodes::bare_node;
 use fx_session::{Halt, Session};
@@ -30,7 +29,8 @@ pub fn create<R: Reader, L: Ledger>(
         (edit.create_at (place_tree place.now)) (done result) }
     ensures untouched { IfOk result (λ n. SameOver (take n (R.meaning.reads session.new.reader.now))
         (own_at session.old.own) (own_at session.new.own)) }
-    ensures next { IfOk result (IsNextSet (R.meaning.reads session.new.reader.now) session.new.own) }
+    ensures next { IfOk result
+        (IsNextSet (R.meaning.reads session.new.reader.now) session.new.own) }
 {
     // The place's path is within its limits.
     prove!(place.path.len() <= 64);
@@ -47,7 +47,6 @@ fn created<R: Reader, L: Ledger>(
 ) -> Result<Edits, Halt>
     ensures follows { Answers R.meaning (λ e. e) session.old session.new
         (edit.create_at (place_tree place.now)) result }
-    ensures count { session.new.steps ≡ session.old.steps }
 {
     let node = bare_node(session.alloc, &place.part())?;
     create_node(session, place.path, &node)
@@ -61,9 +60,8 @@ fn create_node<R: Reader, L: Ledger>(
 ) -> Result<Edits, Halt>
     ensures follows { Answers R.meaning (λ e. e) session.old session.new
         (create_there path.now node.now) result }
-    ensures count { session.new.steps ≡ session.old.steps }
 {
-    let landing = resolve(session, path, false)?;
+    let landing = session.resolve(path, false)?;
     create_landed(session, path, landing, node)
 }
 
@@ -76,7 +74,6 @@ fn create_landed<R: Reader, L: Ledger>(
 ) -> Result<Edits, Halt>
     ensures follows { Answers R.meaning (λ e. e) session.old session.new
         (edit.create_landed path.now node.now landing) result }
-    ensures count { session.new.steps ≡ session.old.steps }
 {
     match landing {
         Landing::At(_) => Err(Halt::Refused(Refusal::Exists)),

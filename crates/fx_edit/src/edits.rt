@@ -7,7 +7,6 @@ ghost use Rattle.fx_view.specs.Own.{put_all};
 ghost use Rattle.fx_view.specs.Reads.{count_before};
 ghost use Rattle.fx_edit.specs.Rules.{looking};
 
-use crate::lookups::look;
 use fx_base::NoMemory;
 use fx_session::Session;
 use fx_store::{Change, Node, Path};
@@ -77,10 +76,9 @@ impl Edits {
     ) -> Result<(), Stop>
         ensures follows { Implements R.meaning (λ u. u) session.old session.new
             (looking (changed_paths (drop 1 self.now))) result }
-        ensures count { session.new.steps ≡ session.old.steps }
     {
         for i in 1..self.changes.len() {
-            let_go(look(session, &self.changes[i].path)?);
+            let_go(session.look(&self.changes[i].path)?);
         }
         Ok(())
     }

@@ -1,6 +1,5 @@
-//! What stands at a path, where a path lands, and what a node lists: none of it evaluates anything.
+//! What a node lists.
 ghost use Rattle.std.specs.Prelude.{◌≡◌, ◌<◌, Some, length, slice_get};
-ghost use Rattle.fx_store.specs.Resolve as resolution;
 ghost use Rattle.fx_store.specs.Rule as rule;
 ghost use Rattle.fx_spec.specs.Edit.{names_of};
 ghost use Rattle.fx_session.specs.Implements.{Implements};
@@ -8,40 +7,9 @@ ghost use Rattle.fx_edit.specs.Rules as parts;
 
 use fx_session::Session;
 use fx_store::{Name, Names, Node, Path};
-use fx_view::{Landing, Reader, Stop};
+use fx_view::{Reader, Stop};
 use std::alloc::Global;
 use std::sync::ledger::Ledger;
-
-/// What stands at a path, with the own changes on top.
-pub(crate) fn look<R: Reader, L: Ledger>(
-    session: &mut Session<'_, R, L>,
-    path: &Path,
-) -> Result<Option<Node>, Stop>
-    ensures follows { Implements R.meaning (λ n. n) session.old session.new
-        (rule.look path.now) result }
-    ensures count { session.new.steps ≡ session.old.steps }
-{
-    fx_view::look(session.alloc, &mut *session.reader, &session.own, path)
-}
-
-/// Where a path lands; `follow` says whether a last link is followed.
-pub(crate) fn resolve<R: Reader, L: Ledger>(
-    session: &mut Session<'_, R, L>,
-    path: &Path,
-    follow: bool,
-) -> Result<Landing, Stop>
-    ensures follows { Implements R.meaning (λ l. l) session.old session.new
-        (resolution.resolve path.now follow) result }
-    ensures count { session.new.steps ≡ session.old.steps }
-{
-    fx_view::resolve(
-        session.alloc,
-        &mut *session.reader,
-        &session.own,
-        path,
-        follow,
-    )
-}
 
 /// The names below a path; `None` where nothing is there.
 pub(crate) fn listing<R: Reader, L: Ledger>(
@@ -50,9 +18,8 @@ pub(crate) fn listing<R: Reader, L: Ledger>(
 ) -> Result<Option<Names>, Stop>
     ensures follows { Implements R.meaning (λ n. n) session.old session.new
         (rule.Look path.now (λ node. rule.Answer (parts.listing node))) result }
-    ensures count { session.new.steps ≡ session.old.steps }
 {
-    let node = look(session, path)?;
+    let node = session.look(path)?;
     Ok(listed(session.alloc, node))
 }
 
@@ -63,9 +30,8 @@ pub(crate) fn names_at<R: Reader, L: Ledger>(
 ) -> Result<Names, Stop>
     ensures follows { Implements R.meaning (λ n. n) session.old session.new
         (rule.Look path.now (λ node. rule.Answer (names_of node))) result }
-    ensures count { session.new.steps ≡ session.old.steps }
 {
-    let node = look(session, path)?;
+    let node = session.look(path)?;
     Ok(names_in(session.alloc, node))
 }
 

@@ -29,7 +29,6 @@ pub(crate) fn make<R: Reader, L: Ledger>(
     ensures follows { Answers R.meaning (λ e. e) session.old session.new
         (edit.unless_deep (edit.is_too_deep here.now names.now node.now)
         (edit.make here.now names.now node.now)) result }
-    ensures count { session.new.steps ≡ session.old.steps }
 {
     if is_too_deep(here, names, node) {
         return Err(Halt::Refused(Refusal::TooDeep));
@@ -81,7 +80,6 @@ fn make_in<R: Reader, L: Ledger>(
     requires room { edit.is_too_deep here.now names.now node.now ≡ false }
     ensures follows { Implements R.meaning (λ e. e) session.old session.new
         (made_in here.now name.now (made_all here.now names.now node.now)) result }
-    ensures count { session.new.steps ≡ session.old.steps }
 {
     let listed = names_at(session, here)?;
     let more = listed.with(session.alloc, name)?;

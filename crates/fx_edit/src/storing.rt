@@ -13,7 +13,7 @@ ghost use Rattle.fx_edit.specs.Kinds.{is_file, is_dir, is_link, is_alike, old_fi
 ghost use Rattle.fx_edit.specs.Rules.{store_there};
 
 use crate::edits::Edits;
-use crate::lookups::{look, names_in, resolve};
+use crate::lookups::names_in;
 use crate::making::make;
 use crate::nodes::{is_flag, stored_node};
 use crate::relisting::{Relist, relisted};
@@ -40,7 +40,8 @@ pub fn store<R: Reader, L: Ledger>(
         (edit.store_at (tree_of value.now) (place_tree place.now)) (done result) }
     ensures untouched { IfOk result (λ n. SameOver (take n (R.meaning.reads session.new.reader.now))
         (own_at session.old.own) (own_at session.new.own)) }
-    ensures next { IfOk result (IsNextSet (R.meaning.reads session.new.reader.now) session.new.own) }
+    ensures next { IfOk result
+        (IsNextSet (R.meaning.reads session.new.reader.now) session.new.own) }
 {
     // The place's path is within its limits.
     prove!(place.path.len() <= 64);
@@ -58,7 +59,6 @@ fn stored<R: Reader, L: Ledger>(
 ) -> Result<Edits, Halt>
     ensures follows { Answers R.meaning (λ e. e) session.old session.new
         (edit.store_at (tree_of value.now) (place_tree place.now)) result }
-    ensures count { session.new.steps ≡ session.old.steps }
 {
     let none = Names::new(session.alloc);
     let likely = likely_names(session.reader.reads(), &session.own, place.path, &none);
@@ -98,9 +98,8 @@ fn store_node<R: Reader, L: Ledger>(
 ) -> Result<Edits, Halt>
     ensures follows { Answers R.meaning (λ e. e) session.old session.new
         (store_there flag path.now node) result }
-    ensures count { session.new.steps ≡ session.old.steps }
 {
-    let landing = resolve(session, path, follows_last(&node))?;
+    let landing = session.resolve(path, follows_last(&node))?;
     store_landed(session, path, flag, landing, node)
 }
 
@@ -124,7 +123,6 @@ fn store_landed<R: Reader, L: Ledger>(
 ) -> Result<Edits, Halt>
     ensures follows { Answers R.meaning (λ e. e) session.old session.new
         (edit.store_landed flag path.now node landing) result }
-    ensures count { session.new.steps ≡ session.old.steps }
 {
     match landing {
         Landing::At(at) => replace(session, at, flag, node),
@@ -143,9 +141,8 @@ fn replace<R: Reader, L: Ledger>(
 ) -> Result<Edits, Halt>
     ensures follows { Answers R.meaning (λ e. e) session.old session.new
         (rule.Look path (edit.replaced flag path node)) result }
-    ensures count { session.new.steps ≡ session.old.steps }
 {
-    let found = look(session, &path)?;
+    let found = session.look(&path)?;
     replaced(session, path, flag, node, found)
 }
 
@@ -159,7 +156,6 @@ fn replaced<R: Reader, L: Ledger>(
 ) -> Result<Edits, Halt>
     ensures follows { Answers R.meaning (λ e. e) session.old session.new
         (edit.replaced flag path node found) result }
-    ensures count { session.new.steps ≡ session.old.steps }
 {
     if !is_alike(&node, &found) {
         return Err(Halt::Refused(Refusal::Blocked(path)));
@@ -185,7 +181,6 @@ fn relist<R: Reader, L: Ledger>(
     ensures follows { Answers R.meaning (λ e. e) session.old session.new
         (edit.unless_deep (edit.lacks_room list.path (Dir list.new))
         (edit.new_names list.path list.old list.new)) result }
-    ensures count { session.new.steps ≡ session.old.steps }
 {
     if lacks_room(&list.path, &list.new) {
         return Err(Halt::Refused(Refusal::TooDeep));

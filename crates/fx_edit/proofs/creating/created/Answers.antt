@@ -10,11 +10,17 @@ use Rattle.fx_edit.specs.Values.{Tells}
 use Rattle.fx_edit.proofs.Edited.{told_halts, told_goes}
 use Rattle.fx_edit.proofs.creating.created.Goals as goal
 
-pub returns-in_err-node-clause-follows : goal.returns-in_err-node-clause-follows
-returns-in_err-node-clause-follows g c =
-    told_halts (λ (n : Node). n) (needed Refusal.NoDefault (edit.bare_node (place_part c.args.place.now))) (create_there c.args.place.now.path.now) c.in_err-node.field-0.0 c.from_residual.result c.from_residual.ensures.1
-    (subst (λ (s : SpecTree). Tells (λ (n : Node). n) (needed Refusal.NoDefault (edit.bare_node s)) (Err c.in_err-node.field-0.0)) c.part.ensures c.in_err-node.ensures)
+pub returns-in_err-node : goal.returns-in_err-node
+returns-in_err-node g c =
+    record {
+      follows =
+          told_halts (λ (n : Node). n) (needed Refusal.NoDefault (edit.bare_node (place_part c.args.place.now))) (create_there c.args.place.now.path.now) c.in_err-node.field-0.0 c.from_residual.result c.from_residual.ensures.1
+          (subst (λ (s : SpecTree). Tells (λ (n : Node). n) (needed Refusal.NoDefault (edit.bare_node s)) (Err c.in_err-node.field-0.0)) c.part.ensures c.in_err-node.ensures);
+    }
 
-pub returns-clause-follows : goal.returns-clause-follows
-returns-clause-follows g c =
-    told_goes (λ (n : Node). n) (needed Refusal.NoDefault (edit.bare_node (place_part c.args.place.now))) (create_there c.args.place.now.path.now) c.create_node.result (ap (λ (s : SpecTree). needed Refusal.NoDefault (edit.bare_node s)) (sym c.part.ensures) ∙ c.in_ok-node.ensures) c.create_node.ensures.follows
+pub returns : goal.returns
+returns g c =
+    record {
+      follows =
+          told_goes (λ (n : Node). n) (needed Refusal.NoDefault (edit.bare_node (place_part c.args.place.now))) (create_there c.args.place.now.path.now) c.create_node.result (ap (λ (s : SpecTree). needed Refusal.NoDefault (edit.bare_node s)) (sym c.part.ensures) ∙ c.in_ok-node.ensures) c.create_node.ensures.follows;
+    }

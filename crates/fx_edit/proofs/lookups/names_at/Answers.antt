@@ -4,8 +4,8 @@ use Rattle.fx_session.proofs.Calls.{then_answers, stops}
 use Rattle.fx_spec.specs.Edit.{names_of}
 use Rattle.fx_edit.proofs.lookups.names_at.Goals as goal
 
-pub returns-in_err-node-clause-follows : goal.returns-in_err-node-clause-follows
-returns-in_err-node-clause-follows g c = stops (look c.args.path.now) (λ n. Answer (names_of n)) c.from_residual.result c.from_residual.ensures.1 c.in_err-node.ensures.follows
+pub returns-in_err-node : goal.returns-in_err-node
+returns-in_err-node g c = record { follows = stops (look c.args.path.now) (λ n. Answer (names_of n)) c.from_residual.result c.from_residual.ensures.1 c.in_err-node.ensures }
 
-pub returns-clause-follows : goal.returns-clause-follows
-returns-clause-follows g c = then_answers (look c.args.path.now) (λ n. Answer (names_of n)) c.names_in.result c.in_ok-node.ensures.follows (ap Answer (sym c.names_in.ensures))
+pub returns : goal.returns
+returns g c = record { follows = then_answers (look c.args.path.now) (λ n. Answer (names_of n)) c.names_in.result c.in_ok-node.ensures (ap Answer (sym c.names_in.ensures)) }

@@ -5,8 +5,8 @@ use Rattle.fx_session.proofs.Calls.{then_on}
 use Rattle.fx_session.proofs.Halting.{stop_halts}
 use Rattle.fx_edit.proofs.removing.gone.Goals as goal
 
-pub returns-in_err-landing-clause-follows : goal.returns-in_err-landing-clause-follows
-returns-in_err-landing-clause-follows g c = stop_halts (resolve c.args.path.now false) (edit.remove_landed c.args.path.now) c.from_residual.result c.from_residual.ensures.1 c.in_err-landing.ensures.follows
+pub returns-in_err-landing : goal.returns-in_err-landing
+returns-in_err-landing g c = record { follows = stop_halts (resolve c.args.path.now false) (edit.remove_landed c.args.path.now) c.from_residual.result c.from_residual.ensures.1 c.in_err-landing.ensures }
 
-pub returns-clause-follows : goal.returns-clause-follows
-returns-clause-follows g c = then_on (resolve c.args.path.now false) (edit.remove_landed c.args.path.now) c.in_ok-landing.ensures.follows c.remove_landed.ensures.follows
+pub returns : goal.returns
+returns g c = record { follows = then_on (resolve c.args.path.now false) (edit.remove_landed c.args.path.now) c.in_ok-landing.ensures c.remove_landed.ensures.follows }

@@ -11,12 +11,15 @@ loop-i-init g c = looking_first
 pub loop-i-preserved : goal.loop-i-preserved
 loop-i-preserved g c =
     let here : slice_get c.args.self.now c.loop-i.i ≡ Some c.index.result.now = at_index c.args.self.now c.loop-i.i c.index.result.now (omega (arith, c.loop-i-test.true, c.len-i-end.ensures, ap (λ (cs : List Change). length cs) c.self.view_is)) (subst (λ cs. c.index.result.now ≡ get_or cs c.loop-i.i c.index.result.now) c.self.view_is c.index.ensures) in
-    looking_next c.loop-i.invariant here c.in_ok-look.ensures.follows c.in_ok-look.ensures.count
+    looking_next c.loop-i.invariant here c.in_ok-look.ensures
 
-pub returns-in_err-look-clause-follows : goal.returns-in_err-look-clause-follows
-returns-in_err-look-clause-follows g c =
-    let here : slice_get c.args.self.now c.loop-i.i ≡ Some c.index.result.now = at_index c.args.self.now c.loop-i.i c.index.result.now (omega (arith, c.loop-i-test.true, c.len-i-end.ensures, ap (λ (cs : List Change). length cs) c.self.view_is)) (subst (λ cs. c.index.result.now ≡ get_or cs c.loop-i.i c.index.result.now) c.self.view_is c.index.ensures) in
-    looking_stops c.loop-i.invariant c.from_residual.result here c.from_residual.ensures.1 c.in_err-look.ensures.follows
+pub returns-in_err-look : goal.returns-in_err-look
+returns-in_err-look g c =
+    record {
+      follows =
+          let here : slice_get c.args.self.now c.loop-i.i ≡ Some c.index.result.now = at_index c.args.self.now c.loop-i.i c.index.result.now (omega (arith, c.loop-i-test.true, c.len-i-end.ensures, ap (λ (cs : List Change). length cs) c.self.view_is)) (subst (λ cs. c.index.result.now ≡ get_or cs c.loop-i.i c.index.result.now) c.self.view_is c.index.ensures) in
+          looking_stops c.loop-i.invariant c.from_residual.result here c.from_residual.ensures.1 c.in_err-look.ensures;
+    }
 
-pub returns-clause-follows : goal.returns-clause-follows
-returns-clause-follows g c = looking_ends c.loop-i.invariant (omega (arith, c.loop-i-test.false, c.len-i-end.ensures, ap (λ (cs : List Change). length cs) c.self.view_is))
+pub returns : goal.returns
+returns g c = record { follows = looking_ends c.loop-i.invariant (omega (arith, c.loop-i-test.false, c.len-i-end.ensures, ap (λ (cs : List Change). length cs) c.self.view_is)) }
