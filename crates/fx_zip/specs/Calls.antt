@@ -21,6 +21,7 @@ use Rattle.fx_session.specs.declared.halt.Halt.{Halt}
 use Rattle.fx_session.specs.declared.halt.Halt.TheVariants as halt
 use Rattle.fx_session.specs.declared.session.Session.{Session}
 use Rattle.fx_session.specs.Implements.{Implements, Answers}
+use Rattle.fx_session.specs.Answering.{answered}
 use Rattle.fx_session.specs.Halts.{split}
 use Rattle.fx_zip.specs.declared.frame.Entry.{Entry}
 use Rattle.fx_zip.specs.Fresh.{IsSetOf, AreFound, Stands, IsFreshIn, StandsIn, left}

@@ -95,7 +95,7 @@ bound_value spot = unwrap_or (option_map (λ (b : List ℕ × Tree). b.1) (name_
 
 -- the call answers the spot to which the step leads, where it leads to one
 pub record LeadsTo {R L : Type 0} (m : Meaning R) (step : Step) (p : List (List ℕ)) (env : Bindings) (spec : SpecTree) (was now : Session R L) (result : Result (Option Spot) Stop) : Type 0 where
-  pub follows : Follows m (option_map (spot_place env (child step spec))) own was now (lead step p env spec) result
+  pub follows : Implements m (option_map (spot_place env (child step spec))) was now (lead step p env spec) result
   pub spot : IfOk result (λ o. IfSome o (Leads (m.reads now.reader.now) (own_at now.own) step p env spec))
 
 -- the same of the first step that has no frame
