@@ -20,12 +20,11 @@ returns-in_err-value-clause-most g c =
     few_tried c.args.env.now c.args.args.now c.args.session.now.steps c.loop-i.session.steps c.loop-i.i c.loop-i.invariant.0 c.argument.result.now c.argument.ensures c.evaluate.new.session.steps (ap (λ s. s.steps) c.in_err-value.ensures.tick)
 
 pub loop-i-preserved : goal.loop-i-preserved
-loop-i-preserved g c =
-    (
-      try_next c.args.env.now c.args.args.now c.args.session.now.steps c.loop-i.session.steps c.loop-i.i c.loop-i.invariant.0 c.argument.result.now c.argument.ensures c.evaluate.new.session.steps (ap (λ s. s.steps) c.in_ok-value.ensures.tick)
-    (tree_of c.in_ok-value.value) c.in_ok-value.ensures.value,
-      counts_on c.args.session.now c.loop-i.session 1 c.loop-i.invariant.1 c.in_ok-value.ensures.tick,
-    )
+loop-i-preserved g c = (
+  try_next c.args.env.now c.args.args.now c.args.session.now.steps c.loop-i.session.steps c.loop-i.i c.loop-i.invariant.0 c.argument.result.now c.argument.ensures c.evaluate.new.session.steps (ap (λ s. s.steps) c.in_ok-value.ensures.tick)
+      (tree_of c.in_ok-value.value) c.in_ok-value.ensures.value,
+  counts_on c.args.session.now c.loop-i.session 1 c.loop-i.invariant.1 c.in_ok-value.ensures.tick,
+)
 
 pub returns-clause-faults : goal.returns-clause-faults
 returns-clause-faults g c =

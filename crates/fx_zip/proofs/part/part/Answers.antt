@@ -12,8 +12,7 @@ loop-step-preserved c =
     let i = c.loop-step.step-index in
     let item = c.step-item.result in
     let within : i < length steps = search rules in
-    let taken : take (i + 1) steps ≡ take i steps ++ item ∷ [] = take_more steps i item within ∙ ap (λ y. take i steps ++ y ∷ []) (sym c.step-item.is) in
-    (
+    let taken : take (i + 1) steps ≡ take i steps ++ item ∷ [] = take_more steps i item within ∙ ap (λ y. take i steps ++ y ∷ []) (sym c.step-item.is) in (
       c.child-spec.ensures.part ∙ ap (child (step_tree item)) c.loop-step.invariant.0 ∙ ap (part (part_of c.args.root.now)) (sym (ap (turned step_tree) taken ∙ turned-last step_tree (take i steps) item)),
       c.child-spec.ensures.defs ∙ c.loop-step.invariant.1,
     )
