@@ -15,7 +15,6 @@ use Rattle.fx_spec.specs.SpecTree.{SpecTree}
 use Rattle.fx_spec.specs.WellShaped.{IsDescription}
 use Rattle.fx_view.specs.declared.reader.Stop.{Stop}
 use Rattle.fx_view.specs.declared.reader.Stop.TheVariants as stop
-use Rattle.fx_view.specs.Follows.{Follows}
 use Rattle.fx_view.specs.Meaning.{Meaning}
 use Rattle.fx_view.specs.Reads.{known_of}
 use Rattle.fx_walk.specs.Scopes.{HasScope}
@@ -24,13 +23,16 @@ use Rattle.fx_session.specs.declared.halt.Halt.TheVariants as halt
 use Rattle.fx_zip.specs.declared.frame.Frame.{Frame}
 use Rattle.fx_zip.specs.declared.frame.Spot.{Spot}
 use Rattle.fx_zip.specs.Calls.{Finds, Moves, Turns, Turned, next_at, prev_at, next_evals, sideways_evals, beside}
-use Rattle.fx_zip.specs.Fresh.{AreFound, Stands, last_step, is_first, is_second, left}
+use Rattle.fx_zip.specs.Fresh.{AreFound, Stands, last_step, is_first, is_second, left, StandsIn}
 use Rattle.fx_zip.specs.Parts.{IsNoPair, child, part}
 use Rattle.fx_zip.specs.Spots.{bound_value, BindsValue, FirstLeads, entered}
 use Rattle.fx_zip.specs.Trees.{ZipTree, path_of, here}
 use Rattle.fx_zip.proofs.Beside.{IsPair, is_pair, first_at, second_turns, second_memory, second_none, second_stop, turned_turns}
 use Rattle.fx_zip.proofs.Places.{moves_on}
 use Rattle.fx_zip.proofs.Standing.{stands_scope}
+use Rattle.fx_session.specs.Implements.{Implements}
+use Rattle.fx_session.specs.declared.session.Session.{Session}
+use Rattle.fx_view.specs.Own.{own_at}
 
 first_pair : (known own : Known) (p : List (List ℕ)) (env : Bindings) (at : PlaceTree) (s : SpecTree) → follow known own (lead First p env s) ≡ Found (Some at) → IsPair s
 first_pair known own p env at SpecTree.file found = absurd (cc)
@@ -69,38 +71,38 @@ module _ (known : ReadList) (own : Known) (z : ZipTree) (stands : Stands known o
         let is : part z.root z.address ≡ a = ap (part z.root) at.2 ∙ ap (child First) (sym around ∙ form) in
         subst (λ e. HasScope e a) (sym bound) (subst (HasScope z.env) is (stands_scope known own z d stands))
 
-    pub first_leads_on : {R : Type 0} (m : Meaning R) (was now : R × ℕ) (r : Result (Option Spot) Stop) (p : List (List ℕ)) (env : Bindings) → p ≡ path_of (drop 1 z.frames) → env ≡ z.env
-        → Follows m (option_map bound_value) own was now (value p env a) r → IfOk r (λ o. IfSome o (λ spot. BindsValue p x (bound_value spot) spot × (spot.reads ≡ length (m.reads now.0)))) → FirstLeads m own z was now r
+    pub first_leads_on : {R L : Type 0} (m : Meaning R) (was now : Session R L) (r : Result (Option Spot) Stop) (p : List (List ℕ)) (env : Bindings) → p ≡ path_of (drop 1 z.frames) → env ≡ z.env
+        → Implements m (option_map bound_value) was now (value p env a) r → IfOk r (λ o. IfSome o (λ spot. BindsValue p x (bound_value spot) spot × (spot.reads ≡ length (m.reads now.reader.now)))) → FirstLeads m z was now r
     first_leads_on m was now r p env path bound follows spot = record {
       name = x;
       first = a;
       second = b;
       form = sym around ∙ form;
       follows =
-          subst (λ q. Follows m (option_map bound_value) own was now (value q z.env a) r) path
-          (subst (λ e. Follows m (option_map bound_value) own was now (value p e a) r) bound follows);
-      spot = subst (λ q. IfOk r (λ o. IfSome o (λ spot. BindsValue q x (bound_value spot) spot × (spot.reads ≡ length (m.reads now.0))))) path spot;
+          subst (λ q. Implements m (option_map bound_value) was now (value q z.env a) r) path
+          (subst (λ e. Implements m (option_map bound_value) was now (value p e a) r) bound follows);
+      spot = subst (λ q. IfOk r (λ o. IfSome o (λ spot. BindsValue q x (bound_value spot) spot × (spot.reads ≡ length (m.reads now.reader.now))))) path spot;
     }
 
-module _ {R : Type 0} (m : Meaning R) (own : Known) (z : ZipTree) (was now : R × ℕ) (stands : Stands (m.reads was.0) own z) (first : last_step z.address ≡ Some First) (mid : ZipTree) (same : mid ≡ z) where
+module _ {R L : Type 0} (m : Meaning R) (z : ZipTree) (was now : Session R L) (stands : StandsIn m was z) (first : last_step z.address ≡ Some First) (mid : ZipTree) (same : mid ≡ z) where
   abbrev SecondTo : ZipTree → Result (Unit {0}) Halt → Type 0
-  SecondTo new r = Turns m own z new was now (next_at z.root z.address (here z)) (next_evals z.address (here z)) r
+  SecondTo new r = Turns m z new was now (next_at z.root z.address (here z)) (next_evals z.address (here z)) r
 
-  pub to_second_on : (o : Option Spot) (spot : Spot) (new : ZipTree) → o ≡ Some spot → FirstLeads m own z was now (Ok o) → new ≡ entered (left mid) Second spot → SecondTo new (Ok tt)
+  pub to_second_on : (o : Option Spot) (spot : Spot) (new : ZipTree) → o ≡ Some spot → FirstLeads m z was now (Ok o) → new ≡ entered (left mid) Second spot → SecondTo new (Ok tt)
   to_second_on o spot new some leads is =
-      let h : FirstLeads m own z was now (Ok (Some spot)) = subst (λ o. FirstLeads m own z was now (Ok o)) some leads in
-      second_turns m own z was now stands first h.name h.first h.second h.form spot new h.follows h.spot (is ∙ ap (λ z. entered (left z) Second spot) same)
+      let h : FirstLeads m z was now (Ok (Some spot)) = subst (λ o. FirstLeads m z was now (Ok o)) some leads in
+      second_turns m z was now stands first h.name h.first h.second h.form spot new h.follows h.spot (is ∙ ap (λ z. entered (left z) Second spot) same)
 
-  pub to_second_memory : (o : Option Spot) (new : ZipTree) (r : Result (Unit {0}) Halt) → FirstLeads m own z was now (Ok o) → new.root ≡ mid.root → IsErrAnd r (λ d. d ≡ halt.Stopped stop.NoMemory) → SecondTo new r
-  to_second_memory o new r h root none = second_memory m own z was now stands first h.name h.first h.second h.form o new r h.follows (root ∙ ap (λ (z : ZipTree). z.root) same) none
+  pub to_second_memory : (o : Option Spot) (new : ZipTree) (r : Result (Unit {0}) Halt) → FirstLeads m z was now (Ok o) → new.root ≡ mid.root → IsErrAnd r (λ d. d ≡ halt.Stopped stop.NoMemory) → SecondTo new r
+  to_second_memory o new r h root none = second_memory m z was now stands first h.name h.first h.second h.form o new r h.follows (root ∙ ap (λ (z : ZipTree). z.root) same) none
 
-  pub to_second_none : (o : Option Spot) → o ≡ None → FirstLeads m own z was now (Ok o) → SecondTo mid (Err (halt.Refused Refusal.Lacks))
+  pub to_second_none : (o : Option Spot) → o ≡ None → FirstLeads m z was now (Ok o) → SecondTo mid (Err (halt.Refused Refusal.Lacks))
   to_second_none o none leads =
-      let h : FirstLeads m own z was now (Ok None) = subst (λ (o : Option Spot). FirstLeads m own z was now (Ok o)) none leads in
-      subst (λ z. SecondTo z (Err (halt.Refused Refusal.Lacks))) (sym same) (second_none m own z was now stands first h.name h.first h.second h.form h.follows)
+      let h : FirstLeads m z was now (Ok None) = subst (λ (o : Option Spot). FirstLeads m z was now (Ok o)) none leads in
+      subst (λ z. SecondTo z (Err (halt.Refused Refusal.Lacks))) (sym same) (second_none m z was now stands first h.name h.first h.second h.form h.follows)
 
-  pub to_second_stop : (why : Stop) (r : Result (Unit {0}) Halt) → FirstLeads m own z was now (Err why) → IsErrAnd r (λ d. d ≡ halt.Stopped why) → SecondTo mid r
-  to_second_stop why r h none = subst (λ z. SecondTo z r) (sym same) (second_stop m own z was now stands first h.name h.first h.second h.form why r h.follows none)
+  pub to_second_stop : (why : Stop) (r : Result (Unit {0}) Halt) → FirstLeads m z was now (Err why) → IsErrAnd r (λ d. d ≡ halt.Stopped why) → SecondTo mid r
+  to_second_stop why r h none = subst (λ z. SecondTo z r) (sym same) (second_stop m z was now stands first h.name h.first h.second h.form why r h.follows none)
 
 -- ---- the whole moves
 
@@ -167,28 +169,28 @@ second_of_true (Some Down) e = absurd (cc)
 second_of_true (Some Body) e = absurd (cc)
 second_of_true (Some (Elem t)) e = absurd (cc)
 
-module _ {R : Type 0} (m : Meaning R) (own : Known) (old mid : ZipTree) (was then : R × ℕ) (finds : Finds m own old mid was then (Ok tt)) (new : ZipTree) (r : Result (Unit {0}) Halt) where
-  pub moved_next : (now : R × ℕ) → Turns m own mid new then now (next_at mid.root mid.address (here mid)) (next_evals mid.address (here mid)) r → Moves m own old new was now (go_next old.root old.address) (sideways_evals old old.address) r
+module _ {R L : Type 0} (m : Meaning R) (old mid : ZipTree) (was then : Session R L) (finds : Finds m old mid was then (Ok tt)) (new : ZipTree) (r : Result (Unit {0}) Halt) where
+  pub moved_next : (now : Session R L) → Turns m mid new then now (next_at mid.root mid.address (here mid)) (next_evals mid.address (here mid)) r → Moves m old new was now (go_next old.root old.address) (sideways_evals old old.address) r
   moved_next now turns =
-      moves_on m own old mid was then finds new now (next_at old.root old.address) (go_next old.root old.address) (next_rule old.root old.address) (next_evals old.address (here mid)) (sideways_evals old old.address) (next_counted old old.address (here mid)) r
-      (subst (λ a. Turns m own mid new then now (next_at old.root a (here mid)) (next_evals a (here mid)) r) finds.address
-      (subst (λ root. Turns m own mid new then now (next_at root mid.address (here mid)) (next_evals mid.address (here mid)) r) finds.root turns))
+      moves_on m old mid was then finds new now (next_at old.root old.address) (go_next old.root old.address) (next_rule old.root old.address) (next_evals old.address (here mid)) (sideways_evals old old.address) (next_counted old old.address (here mid)) r
+      (subst (λ a. Turns m mid new then now (next_at old.root a (here mid)) (next_evals a (here mid)) r) finds.address
+      (subst (λ root. Turns m mid new then now (next_at root mid.address (here mid)) (next_evals mid.address (here mid)) r) finds.root turns))
 
-  pub moved_greater : is_first (last_step mid.address) ≡ false → Turned (m.reads then.0) own mid new (beside mid.root least_above mid.address) r → Moves m own old new was then (go_next old.root old.address) (sideways_evals old old.address) r
+  pub moved_greater : is_first (last_step mid.address) ≡ false → Turned (m.reads then.reader.now) (own_at then.own) mid new (beside mid.root least_above mid.address) r → Moves m old new was then (go_next old.root old.address) (sideways_evals old old.address) r
   moved_greater other turned =
       moved_next then
-      (turned_turns m own mid new then.0 then.1 (next_at mid.root mid.address (here mid)) (next_evals mid.address (here mid)) r
-      (subst (λ rule. Turned (m.reads then.0) own mid new rule r) (next_other mid.root mid.address (here mid) other) turned))
+      (turned_turns m mid new then (next_at mid.root mid.address (here mid)) (next_evals mid.address (here mid)) r
+      (subst (λ rule. Turned (m.reads then.reader.now) (own_at then.own) mid new rule r) (next_other mid.root mid.address (here mid) other) turned))
 
-  moved_prev : Turned (m.reads then.0) own mid new (prev_at mid.root mid.address (here mid)) r → Moves m own old new was then (go_prev old.root old.address) (λ S. 0) r
+  moved_prev : Turned (m.reads then.reader.now) (own_at then.own) mid new (prev_at mid.root mid.address (here mid)) r → Moves m old new was then (go_prev old.root old.address) (λ S. 0) r
   moved_prev turned =
-      moves_on m own old mid was then finds new then (prev_at old.root old.address) (go_prev old.root old.address) (prev_rule old.root old.address) (λ S. 0) (λ S. 0) (λ S is. refl) r
-      (subst (λ a. Turns m own mid new then then (prev_at old.root a (here mid)) (λ S. 0) r) finds.address
-      (subst (λ root. Turns m own mid new then then (prev_at root mid.address (here mid)) (λ S. 0) r) finds.root
-      (turned_turns m own mid new then.0 then.1 (prev_at mid.root mid.address (here mid)) (λ S. 0) r turned)))
+      moves_on m old mid was then finds new then (prev_at old.root old.address) (go_prev old.root old.address) (prev_rule old.root old.address) (λ S. 0) (λ S. 0) (λ S is. refl) r
+      (subst (λ a. Turns m mid new then then (prev_at old.root a (here mid)) (λ S. 0) r) finds.address
+      (subst (λ root. Turns m mid new then then (prev_at root mid.address (here mid)) (λ S. 0) r) finds.root
+      (turned_turns m mid new then (prev_at mid.root mid.address (here mid)) (λ S. 0) r turned)))
 
-  pub moved_first : Turned (m.reads then.0) own mid new (prev_at mid.root mid.address (here mid)) r → Moves m own old new was then (go_prev old.root old.address) (λ S. 0) r
+  pub moved_first : Turned (m.reads then.reader.now) (own_at then.own) mid new (prev_at mid.root mid.address (here mid)) r → Moves m old new was then (go_prev old.root old.address) (λ S. 0) r
   moved_first = moved_prev
 
-  pub moved_smaller : is_second (last_step mid.address) ≡ false → Turned (m.reads then.0) own mid new (beside mid.root greatest_below mid.address) r → Moves m own old new was then (go_prev old.root old.address) (λ S. 0) r
-  moved_smaller other turned = moved_prev (subst (λ rule. Turned (m.reads then.0) own mid new rule r) (prev_other mid.root mid.address (here mid) other) turned)
+  pub moved_smaller : is_second (last_step mid.address) ≡ false → Turned (m.reads then.reader.now) (own_at then.own) mid new (beside mid.root greatest_below mid.address) r → Moves m old new was then (go_prev old.root old.address) (λ S. 0) r
+  moved_smaller other turned = moved_prev (subst (λ rule. Turned (m.reads then.reader.now) (own_at then.own) mid new rule r) (prev_other mid.root mid.address (here mid) other) turned)

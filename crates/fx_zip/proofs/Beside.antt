@@ -16,10 +16,8 @@ use Rattle.fx_spec.specs.Place.{Step, First, Second, Inside, Down, Body, Elem, A
 use Rattle.fx_spec.specs.SpecTree.{SpecTree}
 use Rattle.fx_view.specs.declared.reader.Stop.{Stop}
 use Rattle.fx_view.specs.declared.reader.Stop.TheVariants as stop
-use Rattle.fx_view.specs.Follows.{Follows}
 use Rattle.fx_view.specs.Meaning.{Meaning}
 use Rattle.fx_view.specs.Reads.{known_of}
-use Rattle.fx_view.proofs.Calls.{follows_then_answer, follows_then_refused, follows_stop, follows_same}
 use Rattle.fx_base.proofs.Errors.{err_of}
 use Rattle.fx_view.proofs.Rules.{follow-bind}
 use Rattle.fx_session.specs.declared.halt.Halt.{Halt}
@@ -31,7 +29,7 @@ use Rattle.fx_zip.specs.declared.frame.Frame.{Frame}
 use Rattle.fx_zip.specs.declared.frame.Bound.TheVariants as bounds
 use Rattle.fx_zip.specs.declared.frame.Spot.{Spot}
 use Rattle.fx_zip.specs.Calls.{OnRefused, SaysFound, Turns, Turned, Besides, beside, next_at, prev_at, next_evals}
-use Rattle.fx_zip.specs.Fresh.{around, around_last, HasSet, IsHeld, AreFound, Stands, IsNoElement, last_step, last_set, last_caller, left}
+use Rattle.fx_zip.specs.Fresh.{around, around_last, HasSet, IsHeld, AreFound, Stands, IsNoElement, last_step, last_set, last_caller, left, StandsIn}
 use Rattle.fx_zip.specs.Parts.{child, part, comp_name}
 use Rattle.fx_zip.specs.Spots.{bound_value, Leads, LeadsFrom, Chooses, BindsValue, entered}
 use Rattle.fx_zip.specs.Steps.{step_tree}
@@ -39,8 +37,12 @@ use Rattle.fx_zip.specs.Telling.{Says, set_answer}
 use Rattle.fx_zip.specs.Trees.{ZipTree, path_of, here}
 use Rattle.fx_zip.proofs.Entering.{leads_at, leads_step}
 use Rattle.fx_zip.proofs.Leads.{first_leads, element_leads, grown_is, front_last}
-use Rattle.fx_zip.proofs.Standing.{found_place, stands_grows, stands_settled, stands_left, stands_entered, left_settled}
-use Rattle.fx_zip.proofs.Telling.{follows_grows, found_follows}
+use Rattle.fx_zip.proofs.Standing.{found_place, stands_settled, stands_left, stands_entered, left_settled}
+use Rattle.fx_session.specs.Implements.{Implements, Answers}
+use Rattle.fx_session.proofs.Calls.{then_answers, then_refused, stops, same_rule, refused}
+use Rattle.fx_session.specs.declared.session.Session.{Session}
+use Rattle.fx_view.specs.Own.{own_at}
+use Rattle.fx_zip.proofs.Sessions.{stands_on, found_by, found_on}
 
 all_taken : {A : Type 0} (xs : List A) → take (length xs) xs ≡ xs
 all_taken [] = refl
@@ -198,9 +200,9 @@ module _ (known : ReadList) (own : Known) (z : ZipTree) (stands : Stands known o
     none_replaced h r none b = subst (Turned known own z z rule) (sym (err_of r h none)) (none_turned h b)
 
 -- a call that consults nothing
-pub turned_turns : {R : Type 0} (m : Meaning R) (own : Known) (old new : ZipTree) (r : R) (n : ℕ) (rule : Ask (Answered Address)) (evals : Store → ℕ) (result : Result (Unit {0}) Halt) → Turned (m.reads r) own old new rule result → Turns m own old new (r, n) (r, n) rule evals result
-turned_turns m own old new r n rule evals result h = record {
-  follows = found_follows m own (answered (λ _. new.address)) r n rule (split result) h.says;
+pub turned_turns : {R L : Type 0} (m : Meaning R) (old new : ZipTree) (s : Session R L) (rule : Ask (Answered Address)) (evals : Store → ℕ) (result : Result (Unit {0}) Halt) → Turned (m.reads s.reader.now) (own_at s.own) old new rule result → Turns m old new s s rule evals result
+turned_turns m old new s rule evals result h = record {
+  follows = found_on (split result) h.says;
   stands = h.stands;
   root = h.root;
   refused = h.refused;
@@ -278,7 +280,7 @@ first_at known own root (First ∷ a) (g ∷ fs) env x l r e form found =
     let same : placed (path_of fs) env l ≡ placed g.path env (child First (part root a)) = cc in
     (sym same, refl, refl)
 
-module _ {R : Type 0} (m : Meaning R) (own : Known) (z : ZipTree) (was now : R × ℕ) (stands : Stands (m.reads was.0) own z) (first : last_step z.address ≡ Some First) (x : List ℕ) (a b : SpecTree) (form : part z.root (drop 1 z.address) ≡ SpecTree.pair x a b) where
+module _ {R L : Type 0} (m : Meaning R) (z : ZipTree) (was now : Session R L) (stands : StandsIn m was z) (first : last_step z.address ≡ Some First) (x : List ℕ) (a b : SpecTree) (form : part z.root (drop 1 z.address) ≡ SpecTree.pair x a b) where
   abbrev Value : Ask (Option Tree)
   Value = value (path_of (drop 1 z.frames)) z.env a
 
@@ -286,10 +288,10 @@ module _ {R : Type 0} (m : Meaning R) (own : Known) (z : ZipTree) (was now : R �
   then_second v = Answer (cond (is_some v) (Ok (Second ∷ drop 1 z.address)) (Err Refusal.Lacks))
 
   abbrev ToSecond : ZipTree → Result (Unit {0}) Halt → Type 0
-  ToSecond new r = Turns m own z new was now (next_at z.root z.address (here z)) (next_evals z.address (here z)) r
+  ToSecond new r = Turns m z new was now (next_at z.root z.address (here z)) (next_evals z.address (here z)) r
 
   at_first : (here z ≡ placed (path_of (drop 1 z.frames)) z.env a) × (around_last z.address (last_caller z.frames) z.env ≡ z.env) × (z.address ≡ First ∷ drop 1 z.address)
-  at_first = first_at (m.reads was.0) own z.root z.address z.frames z.env x a b first form stands.found
+  at_first = first_at (m.reads was.reader.now) (own_at was.own) z.root z.address z.frames z.env x a b first form stands.found
 
   rule_is : (Value >>= then_second) ≡ next_at z.root z.address (here z)
   rule_is = sym (ap (λ (w : Address). next_at z.root w (here z)) at_first.2 ∙ ap (λ (w : PlaceTree). next_at z.root (First ∷ drop 1 z.address) w) at_first.0)
@@ -298,46 +300,46 @@ module _ {R : Type 0} (m : Meaning R) (own : Known) (z : ZipTree) (was now : R �
   evals_is S = sym (ap (λ (w : Address). next_evals w (here z) S) at_first.2 ∙ ap (λ (w : PlaceTree). next_evals (First ∷ drop 1 z.address) w S) at_first.0)
 
   abbrev First_ : Result (Option Spot) Stop → Type 0
-  First_ r = Follows m (option_map bound_value) own was now Value r
+  First_ r = Implements m (option_map bound_value) was now Value r
 
-  turns_by : (new : ZipTree) (r : Result (Unit {0}) Halt) (o : Result (Option Spot) Stop) → First_ o → new.root ≡ z.root → OnRefused r (new.address ≡ z.address) → IfOk (split r) (λ _. Stands (m.reads now.0) own new) → Follows m (answered (λ _. new.address)) own was now (Value >>= then_second) (split r) → ToSecond new r
+  turns_by : (new : ZipTree) (r : Result (Unit {0}) Halt) (o : Result (Option Spot) Stop) → First_ o → new.root ≡ z.root → OnRefused r (new.address ≡ z.address) → IfOk (split r) (λ _. StandsIn m now new) → Answers m (λ _. new.address) was now (Value >>= then_second) r → ToSecond new r
   turns_by new r o h root refused stands follows = record {
-    follows = follows_same m (answered (λ _. new.address)) own was now (Value >>= then_second) (next_at z.root z.address (here z)) (split r) rule_is follows;
+    follows = same_rule (Value >>= then_second) (next_at z.root z.address (here z)) rule_is follows;
     stands = stands;
     root = root;
     refused = refused;
-    most = λ S agrees. let most = h.most S agrees in let is = evals_is (changed own S) in omega (arith, most, is);
+    most = λ S agrees. let most = h.follows.most S agrees in let is = evals_is (changed (own_at was.own) S) in omega (arith, most, is);
   }
 
-  stands_now : (o : Result (Option Spot) Stop) → First_ o → Stands (m.reads now.0) own z
-  stands_now o h = stands_grows (m.reads was.0) own z (m.reads now.0) (follows_grows m own (option_map bound_value) was now Value o h) stands
+  stands_now : (o : Result (Option Spot) Stop) → First_ o → StandsIn m now z
+  stands_now o h = stands_on h z stands
 
-  second_from : (spot : Spot) → First_ (Ok (Some spot)) → (BindsValue (path_of (drop 1 z.frames)) x (bound_value spot) spot × (spot.reads ≡ length (m.reads now.0))) → Leads (m.reads now.0) own Second (path_of (left z).frames) (left z).env (part (left z).root (left z).address) spot
+  second_from : (spot : Spot) → First_ (Ok (Some spot)) → (BindsValue (path_of (drop 1 z.frames)) x (bound_value spot) spot × (spot.reads ≡ length (m.reads now.reader.now))) → Leads (m.reads now.reader.now) (own_at now.own) Second (path_of (left z).frames) (left z).env (part (left z).root (left z).address) spot
   second_from spot h binds =
-      let leads : Leads (m.reads now.0) own Second (path_of (drop 1 z.frames)) z.env (part z.root (drop 1 z.address)) spot =
-      leads_second (m.reads now.0) own (path_of (drop 1 z.frames)) z.env (part z.root (drop 1 z.address)) x a b spot form (by_all (m.reads now.0) spot own (value (path_of (drop 1 z.frames)) z.env a) (Some (bound_value spot)) binds.1 h.goes.0) binds.0 in
-      let around : Leads (m.reads now.0) own Second (path_of (drop 1 z.frames)) (around_last z.address (last_caller z.frames) z.env) (part z.root (drop 1 z.address)) spot =
-      subst (λ e. Leads (m.reads now.0) own Second (path_of (drop 1 z.frames)) e (part z.root (drop 1 z.address)) spot) (sym at_first.1) leads in
-      subst (λ (w : ZipTree). Leads (m.reads now.0) own Second (path_of w.frames) w.env (part w.root w.address) spot)
-      (sym (left_settled z (stands_settled (m.reads was.0) own z stands))) around
+      let leads : Leads (m.reads now.reader.now) (own_at now.own) Second (path_of (drop 1 z.frames)) z.env (part z.root (drop 1 z.address)) spot =
+      leads_second (m.reads now.reader.now) (own_at now.own) (path_of (drop 1 z.frames)) z.env (part z.root (drop 1 z.address)) x a b spot form (by_all (m.reads now.reader.now) spot (own_at now.own) (value (path_of (drop 1 z.frames)) z.env a) (Some (bound_value spot)) binds.1 (found_by h)) binds.0 in
+      let around : Leads (m.reads now.reader.now) (own_at now.own) Second (path_of (drop 1 z.frames)) (around_last z.address (last_caller z.frames) z.env) (part z.root (drop 1 z.address)) spot =
+      subst (λ e. Leads (m.reads now.reader.now) (own_at now.own) Second (path_of (drop 1 z.frames)) e (part z.root (drop 1 z.address)) spot) (sym at_first.1) leads in
+      subst (λ (w : ZipTree). Leads (m.reads now.reader.now) (own_at now.own) Second (path_of w.frames) w.env (part w.root w.address) spot)
+      (sym (left_settled z (stands_settled (m.reads was.reader.now) (own_at was.own) z stands))) around
 
-  pub second_turns : (spot : Spot) (new : ZipTree) → First_ (Ok (Some spot)) → (BindsValue (path_of (drop 1 z.frames)) x (bound_value spot) spot × (spot.reads ≡ length (m.reads now.0))) → new ≡ entered (left z) Second spot → ToSecond new (Ok tt)
+  pub second_turns : (spot : Spot) (new : ZipTree) → First_ (Ok (Some spot)) → (BindsValue (path_of (drop 1 z.frames)) x (bound_value spot) spot × (spot.reads ≡ length (m.reads now.reader.now))) → new ≡ entered (left z) Second spot → ToSecond new (Ok tt)
   second_turns spot new h binds same = subst (λ w. ToSecond w (Ok tt)) (sym same) (
       turns_by (entered (left z) Second spot) (Ok tt) (Ok (Some spot)) h refl tt
-      (stands_entered (m.reads now.0) own (left z) Second spot (stands_left (m.reads now.0) own z (stands_now (Ok (Some spot)) h)) (second_from spot h binds))
-      (follows_then_answer m (option_map bound_value) (answered (λ _. Second ∷ drop 1 z.address)) own was now Value then_second (Some spot) (Ok tt) h refl))
+      (stands_entered (m.reads now.reader.now) (own_at now.own) (left z) Second spot (stands_left (m.reads now.reader.now) (own_at now.own) z (stands_now (Ok (Some spot)) h)) (second_from spot h binds))
+      (then_answers Value then_second (Ok tt) h refl))
 
   pub second_memory : (o : Option Spot) (new : ZipTree) (r : Result (Unit {0}) Halt) → First_ (Ok o) → new.root ≡ z.root → IsErrAnd r (λ d. d ≡ halt.Stopped stop.NoMemory) → ToSecond new r
   second_memory o new r h root none = subst (ToSecond new) (sym (err_of r (halt.Stopped stop.NoMemory) none)) (
       turns_by new (Err (halt.Stopped stop.NoMemory)) (Ok o) h root tt tt
-      (follows_then_refused m (option_map bound_value) (answered (λ _. new.address)) own was now Value then_second o h))
+      (then_refused Value then_second (Err stop.NoMemory) refl h))
 
   pub second_none : First_ (Ok None) → ToSecond z (Err (halt.Refused Refusal.Lacks))
   second_none h =
       turns_by z (Err (halt.Refused Refusal.Lacks)) (Ok None) h refl refl (stands_now (Ok None) h)
-      (follows_then_answer m (option_map bound_value) (answered (λ _. z.address)) own was now Value then_second None (Err Refusal.Lacks) h refl)
+      (then_answers Value then_second (Err Refusal.Lacks) h refl)
 
   pub second_stop : (why : Stop) (r : Result (Unit {0}) Halt) → First_ (Err why) → IsErrAnd r (λ d. d ≡ halt.Stopped why) → ToSecond z r
   second_stop why r h none = subst (ToSecond z) (sym (err_of r (halt.Stopped why) none)) (
       turns_by z (Err (halt.Stopped why)) (Err why) h refl tt tt
-      (follows_stop m (option_map bound_value) (answered (λ _. z.address)) own was now Value then_second why h))
+      (stops Value then_second (Err why) refl h))

@@ -3,7 +3,7 @@ use Rattle.std.proofs.Common.{◌≡◌, ℕ, Bool, true, false, cond, List, [],
 use Rattle.std.specs.Prelude.{IsErrAnd, IfOk, nat_eq}
 use Rattle.std.specs.Cmp.Lexicographic.{pointwise}
 use Rattle.std.specs.Option.{IfSome}
-use Rattle.fx_store.specs.Rule.{Known, Ask, Answer, ◌>>=◌}
+use Rattle.fx_store.specs.Rule.{Ask, Answer, ◌>>=◌}
 use Rattle.fx_expr.specs.Bindings.{bind}
 use Rattle.fx_expr.specs.Sets.{has_text, least}
 use Rattle.fx_expr.specs.Tree.{Tree}
@@ -15,21 +15,24 @@ use Rattle.fx_spec.specs.Place.{Second, Inside, Address, PlaceTree, placed, wher
 use Rattle.fx_spec.specs.SpecTree.{SpecTree}
 use Rattle.fx_view.specs.declared.reader.Stop.{Stop}
 use Rattle.fx_view.specs.declared.reader.Stop.TheVariants as stop
-use Rattle.fx_view.specs.Follows.{Follows}
 use Rattle.fx_view.specs.Meaning.{Meaning}
-use Rattle.fx_view.proofs.Calls.{follows_then_answer, follows_then_refused, follows_stop}
 use Rattle.fx_base.proofs.Errors.{err_of}
 use Rattle.fx_session.specs.declared.halt.Halt.{Halt}
 use Rattle.fx_session.specs.declared.halt.Halt.TheVariants as halt
-use Rattle.fx_session.specs.Answering.{answered}
 use Rattle.fx_zip.specs.declared.frame.Entry.{Entry}
 use Rattle.fx_zip.specs.declared.frame.Bound.TheVariants as bounds
 use Rattle.fx_zip.specs.declared.frame.Spot.{Spot}
+use Rattle.fx_zip.specs.Parts.{IsNoPair, IsNoOption}
 use Rattle.fx_zip.specs.Spots.{grown, spot_place, LeadsTo, Enters, BindsValue, bound_value}
 use Rattle.fx_zip.specs.Steps.{step_tree}
 use Rattle.fx_zip.proofs.Beside.{leads_second, by_all}
 use Rattle.fx_zip.proofs.Entering.{leads_step}
 use Rattle.fx_zip.proofs.Leads.{grown_is}
+use Rattle.fx_session.specs.Implements.{Implements}
+use Rattle.fx_session.proofs.Calls.{then_answers, then_refused, stops, answers}
+use Rattle.fx_session.specs.declared.session.Session.{Session}
+use Rattle.fx_view.specs.Own.{own_at}
+use Rattle.fx_zip.proofs.Sessions.{found_by}
 
 -- ---- elements that are chosen are elements
 
@@ -44,87 +47,111 @@ has_asked text set t e = at (has_text text set) refl e
     at false is e = absurd (cc)
     at true is e = let same : text ≡ t = cc in ap (λ u. has_text u set) (sym same) ∙ is
 
-module _ {R : Type 0} (m : Meaning R) (own : Known) (p : List (List ℕ)) (env : Bindings) (old new : R × ℕ) where
+-- ---- at another form no step leads inside, or to a second part
+
+pub inside_form : {R L : Type 0} (m : Meaning R) (p : List (List ℕ)) (env : Bindings) (s : Session R L) (spec : SpecTree) → IsNoOption spec → LeadsTo m Inside p env spec s s (Ok None)
+inside_form m p env s SpecTree.file none = record { follows = answers None None refl; spot = tt }
+inside_form m p env s SpecTree.dir none = record { follows = answers None None refl; spot = tt }
+inside_form m p env s SpecTree.link none = record { follows = answers None None refl; spot = tt }
+inside_form m p env s (SpecTree.focus e d) none = record { follows = answers None None refl; spot = tt }
+inside_form m p env s (SpecTree.pair x a b) none = record { follows = answers None None refl; spot = tt }
+inside_form m p env s (SpecTree.comp d x e) none = record { follows = answers None None refl; spot = tt }
+inside_form m p env s (SpecTree.opt d) none = absurd none
+inside_form m p env s (SpecTree.pred e) none = record { follows = answers None None refl; spot = tt }
+inside_form m p env s (SpecTree.call args params d) none = record { follows = answers None None refl; spot = tt }
+inside_form m p env s (SpecTree.last args params) none = record { follows = answers None None refl; spot = tt }
+
+pub second_form : {R L : Type 0} (m : Meaning R) (p : List (List ℕ)) (env : Bindings) (s : Session R L) (spec : SpecTree) → IsNoPair spec → LeadsTo m Second p env spec s s (Ok None)
+second_form m p env s SpecTree.file none = record { follows = answers None None refl; spot = tt }
+second_form m p env s SpecTree.dir none = record { follows = answers None None refl; spot = tt }
+second_form m p env s SpecTree.link none = record { follows = answers None None refl; spot = tt }
+second_form m p env s (SpecTree.focus e d) none = record { follows = answers None None refl; spot = tt }
+second_form m p env s (SpecTree.pair x a b) none = absurd none
+second_form m p env s (SpecTree.comp d x e) none = record { follows = answers None None refl; spot = tt }
+second_form m p env s (SpecTree.opt d) none = record { follows = answers None None refl; spot = tt }
+second_form m p env s (SpecTree.pred e) none = record { follows = answers None None refl; spot = tt }
+second_form m p env s (SpecTree.call args params d) none = record { follows = answers None None refl; spot = tt }
+second_form m p env s (SpecTree.last args params) none = record { follows = answers None None refl; spot = tt }
+
+module _ {R L : Type 0} (m : Meaning R) (p : List (List ℕ)) (env : Bindings) (old new : Session R L) where
   -- ---- inside an entry
 
   abbrev There : Result Bool Stop → Type 0
-  There r = Follows m (λ b. b) own old new (exists p) r
+  There r = Implements m (λ b. b) old new (exists p) r
 
   module _ (s d : SpecTree) (form : s ≡ SpecTree.opt d) where
     abbrev LeadsInside : Result (Option Spot) Stop → Type 0
-    LeadsInside r = LeadsTo m own Inside p env s old new r
+    LeadsInside r = LeadsTo m Inside p env s old new r
 
     abbrev in_place : Bool → Ask (Option PlaceTree)
     in_place there = Answer (where_true there (placed p env d))
 
-    leads_form : (r : Result (Option Spot) Stop) → LeadsTo m own Inside p env (SpecTree.opt d) old new r → LeadsInside r
-    leads_form r h = subst (λ s. LeadsTo m own Inside p env s old new r) (sym form) h
+    leads_form : (r : Result (Option Spot) Stop) → LeadsTo m Inside p env (SpecTree.opt d) old new r → LeadsInside r
+    leads_form r h = subst (λ s. LeadsTo m Inside p env s old new r) (sym form) h
 
     pub inside_stops : (why : Stop) (r : Result (Option Spot) Stop) → IsErrAnd r (λ d. d ≡ why) → There (Err why) → LeadsInside r
     inside_stops why r is h = subst LeadsInside (sym (err_of r why is)) (leads_form (Err why) (record {
-      follows = follows_stop m (λ b. b) (option_map (spot_place env d)) own old new (exists p) in_place why h;
+      follows = stops (exists p) in_place (Err why) refl h;
       spot = tt;
     }))
 
     pub inside_memory : (there : Bool) (r : Result (Option Spot) Stop) → IsErrAnd r (λ d. d ≡ stop.NoMemory) → There (Ok there) → LeadsInside r
     inside_memory there r is h = subst LeadsInside (sym (err_of r stop.NoMemory is)) (leads_form (Err stop.NoMemory) (record {
-      follows = follows_then_refused m (λ b. b) (option_map (spot_place env d)) own old new (exists p) in_place there h;
+      follows = then_refused (exists p) in_place (Err stop.NoMemory) refl h;
       spot = tt;
     }))
 
-    pub inside_leads : (there : Bool) (spot : Spot) → there ≡ true → spot.path ≡ p → spot.bound ≡ bounds.Nothing → spot.reads ≡ length (m.reads new.0) → There (Ok there) → LeadsInside (Ok (Some spot))
+    pub inside_leads : (there : Bool) (spot : Spot) → there ≡ true → spot.path ≡ p → spot.bound ≡ bounds.Nothing → spot.reads ≡ length (m.reads new.reader.now) → There (Ok there) → LeadsInside (Ok (Some spot))
     inside_leads there spot held path bound all h = leads_form (Ok (Some spot)) (record {
       follows = at_place;
       spot = record {
-        found = by_all (m.reads new.0) spot own (exists p >>= in_place) (Some (spot_place env d spot)) all at_place.goes.0;
+        found = by_all (m.reads new.reader.now) spot (own_at new.own) (exists p >>= in_place) (Some (spot_place env d spot)) all (found_by at_place);
         fits = record { held = tt; back = ap (grown env) bound };
       };
     })
       where
-        at_place : Follows m (option_map (spot_place env d)) own old new (exists p >>= in_place) (Ok (Some spot))
+        at_place : Implements m (option_map (spot_place env d)) old new (exists p >>= in_place) (Ok (Some spot))
         at_place =
-            follows_then_answer m (λ b. b) (option_map (spot_place env d)) own old new (exists p) in_place there (Some spot) h
-            (ap in_place held ∙ (λ i. Answer (Some (placed (sym path i) (grown env (sym bound i)) d))))
+            then_answers (exists p) in_place (Some spot) h (ap in_place held ∙ (λ i. Answer (Some (placed (sym path i) (grown env (sym bound i)) d))))
 
     pub inside_none : (there : Bool) → there ≡ false → There (Ok there) → LeadsInside (Ok None)
     inside_none there gone h = leads_form (Ok None) (record {
-      follows = follows_then_answer m (λ b. b) (option_map (spot_place env d)) own old new (exists p) in_place there None h (ap in_place gone);
+      follows = then_answers (exists p) in_place None h (ap in_place gone);
       spot = tt;
     })
 
   module _ (d : SpecTree) where
     abbrev EntersInside : Result Entry Halt → Type 0
-    EntersInside r = Enters m own (λ a. go_into a p env (SpecTree.opt d)) p env (SpecTree.opt d) old new r
+    EntersInside r = Enters m (λ a. go_into a p env (SpecTree.opt d)) p env (SpecTree.opt d) old new r
 
     abbrev then_inside : Address → Bool → Ask (Answered Address)
     then_inside a there = Answer (cond there (Ok (Inside ∷ a)) (Err Refusal.Lacks))
 
     pub entry_stops : (why : Stop) (r : Result Entry Halt) → IsErrAnd r (λ h. h ≡ halt.Stopped why) → There (Err why) → EntersInside r
     entry_stops why r is h = subst EntersInside (sym (err_of r (halt.Stopped why) is)) (record {
-      follows = λ a. follows_stop m (λ b. b) (answered (λ e. step_tree e.step ∷ a)) own old new (exists p) (then_inside a) why h;
+      follows = λ a. stops (exists p) (then_inside a) (Err why) refl h;
       leads = tt;
     })
 
     pub entry_memory : (there : Bool) (r : Result Entry Halt) → IsErrAnd r (λ h. h ≡ halt.Stopped stop.NoMemory) → There (Ok there) → EntersInside r
     entry_memory there r is h = subst EntersInside (sym (err_of r (halt.Stopped stop.NoMemory) is)) (record {
-      follows = λ a. follows_then_refused m (λ b. b) (answered (λ e. step_tree e.step ∷ a)) own old new (exists p) (then_inside a) there h;
+      follows = λ a. then_refused (exists p) (then_inside a) (Err stop.NoMemory) refl h;
       leads = tt;
     })
 
     pub entry_lacks : (there : Bool) → there ≡ false → There (Ok there) → EntersInside (Err (halt.Refused Refusal.Lacks))
     entry_lacks there gone h = record {
-      follows = λ a. follows_then_answer m (λ b. b) (answered (λ e. step_tree e.step ∷ a)) own old new (exists p) (then_inside a) there (Err Refusal.Lacks) h (ap (then_inside a) gone);
+      follows = λ a. then_answers (exists p) (then_inside a) (Err Refusal.Lacks) h (ap (then_inside a) gone);
       leads = tt;
     }
 
-    pub entry_inside : (there : Bool) (entry : Entry) → there ≡ true → step_tree entry.step ≡ Inside → entry.spot.path ≡ p → entry.spot.bound ≡ bounds.Nothing → entry.spot.reads ≡ length (m.reads new.0) → There (Ok there) → EntersInside (Ok entry)
+    pub entry_inside : (there : Bool) (entry : Entry) → there ≡ true → step_tree entry.step ≡ Inside → entry.spot.path ≡ p → entry.spot.bound ≡ bounds.Nothing → entry.spot.reads ≡ length (m.reads new.reader.now) → There (Ok there) → EntersInside (Ok entry)
     entry_inside there entry held step path bound all h =
         let led = inside_leads (SpecTree.opt d) d refl there entry.spot held path bound all h in
         record {
           follows = λ a.
-              follows_then_answer m (λ b. b) (answered (λ e. step_tree e.step ∷ a)) own old new (exists p) (then_inside a) there (Ok entry) h
-              (ap (then_inside a) held ∙ (λ i. Answer (Ok (sym step i ∷ a))));
-          leads = leads_step (m.reads new.0) own Inside (step_tree entry.step) p env (SpecTree.opt d) entry.spot step led.spot;
+              then_answers (exists p) (then_inside a) (Ok entry) h (ap (then_inside a) held ∙ (λ i. Answer (Ok (sym step i ∷ a))));
+          leads = leads_step (m.reads new.reader.now) (own_at new.own) Inside (step_tree entry.step) p env (SpecTree.opt d) entry.spot step led.spot;
         }
 
   -- ---- to a second part
@@ -133,17 +160,16 @@ module _ {R : Type 0} (m : Meaning R) (own : Known) (p : List (List ℕ)) (env :
     abbrev then_pair : Option Tree → Ask (Option PlaceTree)
     then_pair v = Answer (option_map (λ v. placed p (bind env x v) b) v)
 
-    at_pair : (r : Result (Option Spot) Stop) → Follows m (option_map bound_value) own old new (value p env a) r → IfOk r (λ o. IfSome o (λ spot. BindsValue p x (bound_value spot) spot × (spot.reads ≡ length (m.reads new.0)))) → LeadsTo m own Second p env (SpecTree.pair x a b) old new r
-    at_pair (Err why) h binds = record { follows = follows_stop m (option_map bound_value) (option_map (spot_place env b)) own old new (value p env a) then_pair why h; spot = tt }
-    at_pair (Ok None) h binds = record { follows = follows_then_answer m (option_map bound_value) (option_map (spot_place env b)) own old new (value p env a) then_pair None None h refl; spot = tt }
+    at_pair : (r : Result (Option Spot) Stop) → Implements m (option_map bound_value) old new (value p env a) r → IfOk r (λ o. IfSome o (λ spot. BindsValue p x (bound_value spot) spot × (spot.reads ≡ length (m.reads new.reader.now)))) → LeadsTo m Second p env (SpecTree.pair x a b) old new r
+    at_pair (Err why) h binds = record { follows = stops (value p env a) then_pair (Err why) refl h; spot = tt }
+    at_pair (Ok None) h binds = record { follows = then_answers (value p env a) then_pair None h refl; spot = tt }
     at_pair (Ok (Some spot)) h binds =
-        let leads = leads_second (m.reads new.0) own p env (SpecTree.pair x a b) x a b spot refl (by_all (m.reads new.0) spot own (value p env a) (Some (bound_value spot)) binds.1 h.goes.0) binds.0 in
+        let leads = leads_second (m.reads new.reader.now) (own_at new.own) p env (SpecTree.pair x a b) x a b spot refl (by_all (m.reads new.reader.now) spot (own_at new.own) (value p env a) (Some (bound_value spot)) binds.1 (found_by h)) binds.0 in
         record {
           follows =
-              follows_then_answer m (option_map bound_value) (option_map (spot_place env b)) own old new (value p env a) then_pair (Some spot) (Some spot) h
-              (λ i. Answer (Some (placed (sym binds.0.path i) (sym (grown_is env spot.bound (x, bound_value spot) binds.0.bound) i) b)));
+              then_answers (value p env a) then_pair (Some spot) h (λ i. Answer (Some (placed (sym binds.0.path i) (sym (grown_is env spot.bound (x, bound_value spot) binds.0.bound) i) b)));
           spot = leads;
         }
 
-    pub second_leads : (r : Result (Option Spot) Stop) → Follows m (option_map bound_value) own old new (value p env a) r → IfOk r (λ o. IfSome o (λ spot. BindsValue p x (bound_value spot) spot × (spot.reads ≡ length (m.reads new.0)))) → LeadsTo m own Second p env s old new r
-    second_leads r h binds = subst (λ s. LeadsTo m own Second p env s old new r) (sym form) (at_pair r h binds)
+    pub second_leads : (r : Result (Option Spot) Stop) → Implements m (option_map bound_value) old new (value p env a) r → IfOk r (λ o. IfSome o (λ spot. BindsValue p x (bound_value spot) spot × (spot.reads ≡ length (m.reads new.reader.now)))) → LeadsTo m Second p env s old new r
+    second_leads r h binds = subst (λ s. LeadsTo m Second p env s old new r) (sym form) (at_pair r h binds)

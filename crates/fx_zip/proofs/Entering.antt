@@ -31,6 +31,8 @@ use Rattle.fx_zip.proofs.Leads.{first_leads, element_leads, body_leads}
 use Rattle.fx_view.specs.Meaning.{Meaning}
 use Rattle.fx_view.specs.Reads.{known_of}
 use Rattle.fx_zip.proofs.Telling.{told_found}
+use Rattle.fx_session.specs.declared.session.Session.{Session}
+use Rattle.fx_session.proofs.Calls.{refused}
 
 pub leads_at : (known : ReadList) (own : Known) (step : Step) (p : List (List ℕ)) (env : Bindings) (s : SpecTree) (was now : ℕ) (spot : Spot) → LeadsAt step p env s was now (Ok (Some spot)) → Leads known own step p env s spot
 leads_at known own step p env s was now spot h = record { found = told_found (known_of (take spot.reads known)) own (lead step p env s) _ h.tells.says; fits = h.spot }
@@ -126,8 +128,8 @@ pub none_from : (p : List (List ℕ)) (env : Bindings) (s other : SpecTree) (n :
 none_from p env s other n is none = enters_none p env (λ a. go_into a p env s) s (λ a. ap (go_into a p env) is ∙ none a) n
 
 -- the form is spelled in another way
-pub enters_form : {R : Type 0} (m : Meaning R) (own : Known) (p : List (List ℕ)) (env : Bindings) (s form : SpecTree) (was now : R × ℕ) (r : Result Entry Halt) → s ≡ form → Enters m own (λ a. go_into a p env form) p env form was now r → Enters m own (λ a. go_into a p env s) p env s was now r
-enters_form m own p env s form was now r is h = subst (λ s. Enters m own (λ a. go_into a p env s) p env s was now r) (sym is) h
+pub enters_form : {R L : Type 0} (m : Meaning R) (p : List (List ℕ)) (env : Bindings) (s form : SpecTree) (was now : Session R L) (r : Result Entry Halt) → s ≡ form → Enters m (λ a. go_into a p env form) p env form was now r → Enters m (λ a. go_into a p env s) p env s was now r
+enters_form m p env s form was now r is h = subst (λ s. Enters m (λ a. go_into a p env s) p env s was now r) (sym is) h
 
 -- ---- bodies
 

@@ -3,6 +3,7 @@ pub mod Turning
 pub mod Standing
 pub mod Settled
 pub mod Telling
+pub mod Sessions
 pub mod Leads
 pub mod Entering
 pub mod Nexting

@@ -25,6 +25,8 @@ use Rattle.fx_zip.specs.Trees.{ZipTree, path_of, is_settled}
 use Rattle.fx_zip.proofs.Settled.{IsNext, next_step, settles_on, settles_none, settles_stop, settles_memory}
 use Rattle.fx_zip.proofs.Standing.{found_length, found_scope}
 use Rattle.fx_zip.proofs.Turning.{length-turned, same_ends}
+use Rattle.fx_session.specs.declared.session.Session.{Session}
+use Rattle.fx_view.specs.Own.{own_at}
 
 is_apart : (m n : ℕ) → nat_eq m n ≡ false → m ≡ n → ⊥
 is_apart m n e same = grind (arith, nat_tests)
@@ -71,7 +73,7 @@ module _ (known : ReadList) (own : Known) (z : ZipTree) (fresh : IsFresh known o
             subst (λ e. HasScope e s) (sym bound)
             (subst (HasScope z.env) (sym form_here) (found_scope known own z.root (subst (IsDescription []) rooted d) fresh.kept z.frames z.env fresh.found))
 
-        pub leads_next : {R : Type 0} (m : Meaning R) (was now : R × ℕ) (r : Result (Option Spot) Stop) (path : List (List ℕ)) → path ≡ path_of z.frames → LeadsTo m own (step_tree step) path env s was now r → LeadsNext m own z was now r
+        pub leads_next : {R L : Type 0} (m : Meaning R) (was now : Session R L) (r : Result (Option Spot) Stop) (path : List (List ℕ)) → path ≡ path_of z.frames → LeadsTo m (step_tree step) path env s was now r → LeadsNext m z was now r
         leads_next m was now r path at leads = record {
           ahead = kept_front.front;
           step = step_tree step;
@@ -79,47 +81,47 @@ module _ (known : ReadList) (own : Known) (z : ZipTree) (fresh : IsFresh known o
           whole = fresh.whole ∙ ap (λ a. a ++ fresh.kept) kept_front.is ∙ append_assoc kept_front.front (step_tree step ∷ []) fresh.kept;
           long = sym frames_kept;
           leads =
-              subst (λ q. LeadsTo m own (step_tree step) q z.env (part z.root fresh.kept) was now r) at
-              (subst (λ e. LeadsTo m own (step_tree step) path e (part z.root fresh.kept) was now r) bound
-              (subst (λ t. LeadsTo m own (step_tree step) path env t was now r) form_here leads));
+              subst (λ q. LeadsTo m (step_tree step) q z.env (part z.root fresh.kept) was now r) at
+              (subst (λ e. LeadsTo m (step_tree step) path e (part z.root fresh.kept) was now r) bound
+              (subst (λ t. LeadsTo m (step_tree step) path env t was now r) form_here leads));
         }
 
-module _ {R : Type 0} (m : Meaning R) (own : Known) (old : ZipTree) (was now : R × ℕ) where
-  module _ (r : Result (Option Spot) Stop) (h : LeadsNext m own old was now r) (start : R × ℕ) (at : IsSettling m own start was old) where
+module _ {R L : Type 0} (m : Meaning R) (old : ZipTree) (was now : Session R L) where
+  module _ (r : Result (Option Spot) Stop) (h : LeadsNext m old was now r) (start : Session R L) (at : IsSettling m start was old) where
     is_next : IsNext at.ahead at.kept h.step h.kept
     is_next =
-        let kept = found_length (m.reads was.0) own old.root at.kept old.frames old.env at.found in
+        let kept = found_length (m.reads was.reader.now) (own_at was.own) old.root at.kept old.frames old.env at.found in
         let same = same_ends at.ahead (h.ahead ++ h.step ∷ []) at.kept h.kept (sym at.whole ∙ h.whole ∙ sym (append_assoc h.ahead (h.step ∷ []) h.kept)) (sym kept ∙ sym h.long) in
         record { front = h.ahead; is = same.0; behind = same.1 }
 
-  pub settles_true : (mid new : ZipTree) (o : Option Spot) (spot : Spot) → o ≡ Some spot → LeadsNext m own old was now (Ok o) → mid ≡ old → new ≡ kept_too mid spot → Settles m own old new was now (Ok true)
-  settles_true mid new o spot some leads same is = let h : LeadsNext m own old was now (Ok (Some spot)) = subst (λ o. LeadsNext m own old was now (Ok o)) some leads in subst (λ z. Settles m own old z was now (Ok true)) (sym (is ∙ ap (λ z. kept_too z spot) same)) (record {
+  pub settles_true : (mid new : ZipTree) (o : Option Spot) (spot : Spot) → o ≡ Some spot → LeadsNext m old was now (Ok o) → mid ≡ old → new ≡ kept_too mid spot → Settles m old new was now (Ok true)
+  settles_true mid new o spot some leads same is = let h : LeadsNext m old was now (Ok (Some spot)) = subst (λ o. LeadsNext m old was now (Ok o)) some leads in subst (λ z. Settles m old z was now (Ok true)) (sym (is ∙ ap (λ z. kept_too z spot) same)) (record {
     root = refl;
     address = refl;
-    to = λ start at. settles_on m own start was now old at h.step h.kept (is_next (Ok (Some spot)) h start at) spot h.leads;
+    to = λ start at. settles_on m start was now old at h.step h.kept (is_next (Ok (Some spot)) h start at) spot h.leads;
     more = λ _. omega arith;
   })
 
-  pub settles_false : (mid : ZipTree) (o : Option Spot) → o ≡ None → LeadsNext m own old was now (Ok o) → mid ≡ old → Settles m own old mid was now (Ok false)
-  settles_false mid o none leads same = let h : LeadsNext m own old was now (Ok None) = subst (λ (o : Option Spot). LeadsNext m own old was now (Ok o)) none leads in subst (λ z. Settles m own old z was now (Ok false)) (sym same) (record {
+  pub settles_false : (mid : ZipTree) (o : Option Spot) → o ≡ None → LeadsNext m old was now (Ok o) → mid ≡ old → Settles m old mid was now (Ok false)
+  settles_false mid o none leads same = let h : LeadsNext m old was now (Ok None) = subst (λ (o : Option Spot). LeadsNext m old was now (Ok o)) none leads in subst (λ z. Settles m old z was now (Ok false)) (sym same) (record {
     root = refl;
     address = refl;
-    to = λ start at. settles_none m own start was now old at h.step h.kept (is_next (Ok None) h start at) h.leads;
+    to = λ start at. settles_none m start was now old at h.step h.kept (is_next (Ok None) h start at) h.leads;
     more = λ e. absurd (cc);
   })
 
-  pub settles_err : (mid : ZipTree) (why : Stop) (r : Result Bool Stop) → LeadsNext m own old was now (Err why) → mid ≡ old → IsErrAnd r (λ d. d ≡ why) → Settles m own old mid was now r
-  settles_err mid why r h same is = subst (λ z. Settles m own old z was now r) (sym same) (subst (Settles m own old old was now) (sym (err_of r why is)) (record {
+  pub settles_err : (mid : ZipTree) (why : Stop) (r : Result Bool Stop) → LeadsNext m old was now (Err why) → mid ≡ old → IsErrAnd r (λ d. d ≡ why) → Settles m old mid was now r
+  settles_err mid why r h same is = subst (λ z. Settles m old z was now r) (sym same) (subst (Settles m old old was now) (sym (err_of r why is)) (record {
     root = refl;
     address = refl;
-    to = λ start at. settles_stop m own start was now old at h.step h.kept (is_next (Err why) h start at) why h.leads;
+    to = λ start at. settles_stop m start was now old at h.step h.kept (is_next (Err why) h start at) why h.leads;
     more = tt;
   }))
 
-  pub settles_refused : (mid new : ZipTree) (o : Option Spot) (r : Result Bool Stop) → LeadsNext m own old was now (Ok o) → mid ≡ old → new.root ≡ mid.root → new.address ≡ mid.address → IsErrAnd r (λ d. d ≡ stop.NoMemory) → Settles m own old new was now r
-  settles_refused mid new o r h same root address is = subst (Settles m own old new was now) (sym (err_of r stop.NoMemory is)) (record {
+  pub settles_refused : (mid new : ZipTree) (o : Option Spot) (r : Result Bool Stop) → LeadsNext m old was now (Ok o) → mid ≡ old → new.root ≡ mid.root → new.address ≡ mid.address → IsErrAnd r (λ d. d ≡ stop.NoMemory) → Settles m old new was now r
+  settles_refused mid new o r h same root address is = subst (Settles m old new was now) (sym (err_of r stop.NoMemory is)) (record {
     root = root ∙ ap (λ (z : ZipTree). z.root) same;
     address = address ∙ ap (λ (z : ZipTree). z.address) same;
-    to = λ start at. settles_memory m own start was now old at h.step h.kept (is_next (Ok o) h start at) o h.leads;
+    to = λ start at. settles_memory m start was now old at h.step h.kept (is_next (Ok o) h start at) o h.leads;
     more = tt;
   })

@@ -1,6 +1,6 @@
 -- Moves and questions: the place is found, and then the rule is followed from there.
 use Rattle.fx_view.specs.ReadList.{ReadList}
-use Rattle.std.proofs.Common.{◌≡◌, ℕ, ◌+◌, ◌≤◌, List, [], ◌∷◌, Option, Some, Result, Ok, Err, refl, sym, ap, ◌∙◌, subst, arith}
+use Rattle.std.proofs.Common.{◌≡◌, ℕ, ◌+◌, ◌≤◌, List, [], Option, Some, Result, Ok, Err, refl, sym, ap, ◌∙◌, subst, arith}
 use Rattle.std.specs.Prelude.{IfOk, IsErrAnd}
 use Rattle.fx_store.specs.Rule.{Known, Ask, Answer, answer, ticks, changed, ◌>>=◌}
 use Rattle.fx_store.specs.Whole.{Store}
@@ -16,10 +16,8 @@ use Rattle.fx_spec.specs.WellShaped.{IsDescription}
 use Rattle.fx_walk.specs.Scopes.{HasScope}
 use Rattle.fx_view.specs.declared.reader.Stop.{Stop}
 use Rattle.fx_view.specs.declared.reader.Stop.TheVariants as stop
-use Rattle.fx_view.specs.Follows.{Follows}
 use Rattle.fx_view.specs.Meaning.{Meaning}
 use Rattle.fx_view.specs.Reads.{known_of, Agrees}
-use Rattle.fx_view.proofs.Calls.{agrees_by, follows_then, follows_same}
 use Rattle.fx_base.proofs.Errors.{err_of}
 use Rattle.fx_view.proofs.Rules.{found_answer}
 use Rattle.fx_session.specs.declared.halt.Halt.{Halt}
@@ -29,13 +27,19 @@ use Rattle.fx_session.specs.Halts.{split}
 use Rattle.fx_session.proofs.Halting.{step_halt}
 use Rattle.fx_zip.specs.declared.frame.Entry.{Entry}
 use Rattle.fx_zip.specs.Calls.{OnRefused, place_needed, place_evals, Evaluates, Finds, Moves, Turns, Asks}
-use Rattle.fx_zip.specs.Fresh.{IsSetOf, IsFresh, Stands}
+use Rattle.fx_zip.specs.Fresh.{IsSetOf, Stands, StandsIn, IsFreshIn}
 use Rattle.fx_zip.specs.Parts.{part}
 use Rattle.fx_zip.specs.Spots.{Enters, entered}
 use Rattle.fx_zip.specs.Steps.{step_tree}
 use Rattle.fx_zip.specs.Trees.{ZipTree, IsSettled, path_of, here}
-use Rattle.fx_zip.proofs.Standing.{stands_fresh, stands_settled, stands_grows, stands_here, stands_entered, stands_scope, fresh_grows}
-use Rattle.fx_zip.proofs.Telling.{follows_grows, follows_memory, follows_as}
+use Rattle.fx_zip.proofs.Standing.{stands_fresh, stands_settled, stands_here, stands_entered, stands_scope}
+use Rattle.fx_session.specs.Implements.{Implements, Answers}
+use Rattle.fx_session.proofs.Calls.{then_on, same_rule, refused}
+use Rattle.fx_zip.proofs.Sessions.{memory_after, answers_as}
+use Rattle.fx_session.specs.declared.session.Session.{Session}
+use Rattle.fx_view.specs.Own.{own_at}
+use Rattle.fx_view.specs.OwnList.{OwnList}
+use Rattle.fx_zip.proofs.Sessions.{agrees_on, fresh_on, stands_on, stops_as}
 
 at_place_is : {B : Type 0} (root : SpecTree) (a : Address) (rest : PlaceTree → Ask (Answered B)) → (place_needed root a >>= unrefused rest) ≡ at_place root a rest
 at_place_is root a rest = ask-bind-assoc (place root a) (λ at. Answer (needed Refusal.NoPlace at)) (unrefused rest)
@@ -72,26 +76,25 @@ always : {X : Type 0} (r : Result X Stop) (p : Type 0) → p → IfOk r (λ _. p
 always (Ok x) p h = h
 always (Err why) p h = tt
 
-module _ {R : Type 0} (m : Meaning R) (own : Known) where
+fresh_err : (X Y : Type 0) (e : Halt) (p : Type 0) → IfOk (split {X = X} (Err e)) (λ _. p) → IfOk (split {X = Y} (Err e)) (λ _. p)
+fresh_err X Y (halt.Refused refusal) p h = h
+fresh_err X Y (halt.Stopped why) p h = tt
+
+module _ {R L : Type 0} (m : Meaning R) where
   -- ---- the place is not found
 
-  fresh_err : (X Y : Type 0) (e : Halt) (p : Type 0) → IfOk (split {X = X} (Err e)) (λ _. p) → IfOk (split {X = Y} (Err e)) (λ _. p)
-  fresh_err X Y (halt.Refused refusal) p h = h
-  fresh_err X Y (halt.Stopped why) p h = tt
-
-  module _ {B Y : Type 0} (view : Y → B) (old mid : ZipTree) (was now : R × ℕ) (rest : PlaceTree → Ask (Answered B)) (evals : Store → ℕ) (e : Halt) (finds : Finds m own old mid was now (Err e)) where
-    unfound_follows : Follows {A = Answered B} {X = Result Y Refusal} m (answered view) own was now (at_place old.root old.address rest) (split (Err e))
+  module _ {B Y : Type 0} (view : Y → B) (old mid : ZipTree) (was now : Session R L) (rest : PlaceTree → Ask (Answered B)) (evals : Store → ℕ) (e : Halt) (finds : Finds m old mid was now (Err e)) where
+    unfound_follows : Implements {A = Answered B} {X = Result Y Refusal} m (answered view) was now (at_place old.root old.address rest) (split (Err e))
     unfound_follows =
-        follows_same m (answered view) own was now (place_needed old.root old.address >>= unrefused rest) (at_place old.root old.address rest) (split (Err e)) (at_place_is old.root old.address rest)
-        (step_halt m (λ _. here mid) view own was now (place_needed old.root old.address) rest e finds.follows)
+        same_rule (place_needed old.root old.address >>= unrefused rest) (at_place old.root old.address rest) (at_place_is old.root old.address rest) (step_halt (place_needed old.root old.address) rest e finds.follows)
 
-    unfound_most : Evaluates m own old was now evals
+    unfound_most : Evaluates m old was now evals
     unfound_most S agrees = let most = finds.most S agrees in omega (arith, most)
 
-    unfound_asks : Asks {X = Y} m view own old mid was now (at_place old.root old.address rest) evals (Err e)
+    unfound_asks : Asks {X = Y} m view old mid was now (at_place old.root old.address rest) evals (Err e)
     unfound_asks = record {
       follows = unfound_follows;
-      fresh = fresh_err (Unit {0}) Y e (IsFresh (m.reads now.0) own mid) finds.fresh;
+      fresh = fresh_err (Unit {0}) Y e (IsFreshIn m now mid) finds.fresh;
       settled = tt;
       kept = finds.kept;
       root = finds.root;
@@ -99,13 +102,13 @@ module _ {R : Type 0} (m : Meaning R) (own : Known) where
       most = unfound_most;
     }
 
-    pub asks_unfound : (r : Result Y Halt) → IsErrAnd r (λ h. h ≡ e) → Asks m view own old mid was now (at_place old.root old.address rest) evals r
-    asks_unfound r is = subst (λ (r : Result Y Halt). Asks m view own old mid was now (at_place old.root old.address rest) evals r) (sym (err_of r e is)) unfound_asks
+    pub asks_unfound : (r : Result Y Halt) → IsErrAnd r (λ h. h ≡ e) → Asks m view old mid was now (at_place old.root old.address rest) evals r
+    asks_unfound r is = subst (λ (r : Result Y Halt). Asks m view old mid was now (at_place old.root old.address rest) evals r) (sym (err_of r e is)) unfound_asks
 
-  module _ (old mid : ZipTree) (was now : R × ℕ) (rest : PlaceTree → Ask (Answered Address)) (rule : Ask (Answered Address)) (same : at_place old.root old.address rest ≡ rule) (evals : Store → ℕ) where
-    unfound_moves : (e : Halt) → Finds m own old mid was now (Err e) → Moves m own old mid was now rule evals (Err e)
+  module _ (old mid : ZipTree) (was now : Session R L) (rest : PlaceTree → Ask (Answered Address)) (rule : Ask (Answered Address)) (same : at_place old.root old.address rest ≡ rule) (evals : Store → ℕ) where
+    unfound_moves : (e : Halt) → Finds m old mid was now (Err e) → Moves m old mid was now rule evals (Err e)
     unfound_moves e finds = record {
-      follows = follows_same m (answered (λ _. mid.address)) own was now (at_place old.root old.address rest) rule (split (Err e)) same (unfound_follows (λ _. mid.address) old mid was now rest evals e finds);
+      follows = same_rule (at_place old.root old.address rest) rule same (unfound_follows (λ _. mid.address) old mid was now rest evals e finds);
       fresh = finds.fresh;
       settled = tt;
       kept = always_refused {X = Unit {0}} (Err e) (IsSettled old → IsSettled mid) finds.kept;
@@ -114,40 +117,39 @@ module _ {R : Type 0} (m : Meaning R) (own : Known) where
       most = unfound_most {Y = Unit {0}} (λ _. mid.address) old mid was now rest evals e finds;
     }
 
-    pub moves_unfound : (e : Halt) (r : Result (Unit {0}) Halt) → IsErrAnd r (λ h. h ≡ e) → Finds m own old mid was now (Err e) → Moves m own old mid was now rule evals r
-    moves_unfound e r is finds = subst (Moves m own old mid was now rule evals) (sym (err_of r e is)) (unfound_moves e finds)
+    pub moves_unfound : (e : Halt) (r : Result (Unit {0}) Halt) → IsErrAnd r (λ h. h ≡ e) → Finds m old mid was now (Err e) → Moves m old mid was now rule evals r
+    moves_unfound e r is finds = subst (Moves m old mid was now rule evals) (sym (err_of r e is)) (unfound_moves e finds)
 
   -- ---- it is found, and then
 
-  module _ (old mid : ZipTree) (was then : R × ℕ) (finds : Finds m own old mid was then (Ok tt)) where
+  module _ (old mid : ZipTree) (was then : Session R L) (finds : Finds m old mid was then (Ok tt)) where
     -- at each filestore that agrees the place is that one
-    here_at : (S : Store) → Agrees (m.reads then.0) S → answer (changed own S) (place old.root old.address) ≡ Some (here mid)
+    here_at : (S : Store) → Agrees (m.reads then.reader.now) S → answer (changed (own_at was.own) S) (place old.root old.address) ≡ Some (here mid)
     here_at S agrees =
-        let is = found_answer (known_of (m.reads then.0)) own S agrees (place mid.root mid.address) (Some (here mid)) (stands_here (m.reads then.0) own mid finds.stands) in
+        let is = found_answer (known_of (m.reads then.reader.now)) (own_at then.own) S agrees (place mid.root mid.address) (Some (here mid)) (stands_here (m.reads then.reader.now) (own_at then.own) mid finds.stands) in
         let same : place old.root old.address ≡ place mid.root mid.address = ap (λ root. place root old.address) (sym finds.root) ∙ ap (place mid.root) (sym finds.address) in
-        ap (answer (changed own S)) same ∙ is
+        ap (answer (changed (own_at was.own) S)) same ∙ subst (λ (own : OwnList). answer (changed (own_at own) S) (place mid.root mid.address) ≡ Some (here mid)) finds.follows.own is
 
-    module _ {B Y : Type 0} (view : Y → B) (rest : PlaceTree → Ask (Answered B)) (now : R × ℕ) (r : Result (Result Y Refusal) Stop) (next : Follows m (answered view) own then now (rest (here mid)) r) where
-      found_next : Follows m (answered view) own was now (at_place old.root old.address rest) r
+    module _ {B Y : Type 0} (view : Y → B) (rest : PlaceTree → Ask (Answered B)) (now : Session R L) (r : Result (Result Y Refusal) Stop) (next : Implements m (answered view) then now (rest (here mid)) r) where
+      found_next : Implements m (answered view) was now (at_place old.root old.address rest) r
       found_next =
-          follows_same m (answered view) own was now (place_needed old.root old.address >>= unrefused rest) (at_place old.root old.address rest) r (at_place_is old.root old.address rest)
-          (follows_then m (answered (λ _. here mid)) (answered view) own was then (place_needed old.root old.address) (unrefused rest) now (Ok tt) r finds.follows next)
+          same_rule (place_needed old.root old.address >>= unrefused rest) (at_place old.root old.address rest) (at_place_is old.root old.address rest) (then_on (place_needed old.root old.address) (unrefused rest) finds.follows next)
 
-      found_most : (evals_here evals : Store → ℕ) → ((S : Store) → Agrees (m.reads now.0) S → now.1 ≤ then.1 + evals_here (changed own S)) → ((S : Store) → answer S (place old.root old.address) ≡ Some (here mid) → evals S ≡ evals_here S) → Evaluates m own old was now evals
+      found_most : (evals_here evals : Store → ℕ) → ((S : Store) → Agrees (m.reads now.reader.now) S → now.steps ≤ then.steps + evals_here (changed (own_at then.own) S)) → ((S : Store) → answer S (place old.root old.address) ≡ Some (here mid) → evals S ≡ evals_here S) → Evaluates m old was now evals
       found_most evals_here evals most same S agrees =
-          let before = agrees_by m (answered view) own then.0 now.0 (rest (here mid)) r next.goes S agrees in
+          let before = agrees_on next S agrees in
           let first = finds.most S before in
-          let then_most = most S agrees in
-          let is = same (changed own S) (here_at S before) in
+          let then_most = subst (λ (own : OwnList). now.steps ≤ then.steps + evals_here (changed (own_at own) S)) finds.follows.own (most S agrees) in
+          let is = same (changed (own_at was.own) S) (here_at S before) in
           omega (arith, first, then_most, is)
 
-    pub moves_on : (new : ZipTree) (now : R × ℕ) (rest : PlaceTree → Ask (Answered Address)) (rule : Ask (Answered Address)) → at_place old.root old.address rest ≡ rule → (evals_here evals : Store → ℕ) → ((S : Store) → answer S (place old.root old.address) ≡ Some (here mid) → evals S ≡ evals_here S)
-        → (r : Result (Unit {0}) Halt) → Turns m own mid new then now (rest (here mid)) evals_here r → Moves m own old new was now rule evals r
+    pub moves_on : (new : ZipTree) (now : Session R L) (rest : PlaceTree → Ask (Answered Address)) (rule : Ask (Answered Address)) → at_place old.root old.address rest ≡ rule → (evals_here evals : Store → ℕ) → ((S : Store) → answer S (place old.root old.address) ≡ Some (here mid) → evals S ≡ evals_here S)
+        → (r : Result (Unit {0}) Halt) → Turns m mid new then now (rest (here mid)) evals_here r → Moves m old new was now rule evals r
     moves_on new now rest rule same evals_here evals counted r turns = record {
-      follows = follows_same m (answered (λ _. new.address)) own was now (at_place old.root old.address rest) rule (split r) same (found_next (λ _. new.address) rest now (split r) turns.follows);
-      fresh = unless_stopped r (Stands (m.reads now.0) own new) (IsFresh (m.reads now.0) own new) (stands_fresh (m.reads now.0) own new) turns.stands;
-      settled = if_accepted r (Stands (m.reads now.0) own new) (IsSettled new) (stands_settled (m.reads now.0) own new) turns.stands;
-      kept = if_refused r (Stands (m.reads now.0) own new) (IsSettled old → IsSettled new) (λ h _. stands_settled (m.reads now.0) own new h) turns.stands;
+      follows = same_rule (at_place old.root old.address rest) rule same (found_next (λ _. new.address) rest now (split r) turns.follows);
+      fresh = unless_stopped r (StandsIn m now new) (IsFreshIn m now new) (stands_fresh (m.reads now.reader.now) (own_at now.own) new) turns.stands;
+      settled = if_accepted r (StandsIn m now new) (IsSettled new) (stands_settled (m.reads now.reader.now) (own_at now.own) new) turns.stands;
+      kept = if_refused r (StandsIn m now new) (IsSettled old → IsSettled new) (λ h _. stands_settled (m.reads now.reader.now) (own_at now.own) new h) turns.stands;
       root = turns.root ∙ finds.root;
       refused = refused_as r (new.address ≡ mid.address) (new.address ≡ old.address) (λ e. e ∙ finds.address) turns.refused;
       most = found_most (λ _. new.address) rest now (split r) turns.follows evals_here evals turns.most counted;
@@ -157,74 +159,67 @@ module _ {R : Type 0} (m : Meaning R) (own : Known) where
     pub counted_here : {B : Type 0} (rest : PlaceTree → Ask B) (S : Store) → answer S (place old.root old.address) ≡ Some (here mid) → place_evals old rest S ≡ ticks S (rest (here mid))
     counted_here rest S is = ap (evals_with (λ at. ticks S (rest at))) is
 
-    pub asks_on : {B Y : Type 0} (view : Y → B) (rest : PlaceTree → Ask (Answered B)) (new : ZipTree) (now : R × ℕ) (r : Result Y Halt) → new ≡ mid → Follows m (answered view) own then now (rest (here mid)) (split r)
-        → Asks m view own old new was now (at_place old.root old.address rest) (place_evals old rest) r
+    pub asks_on : {B Y : Type 0} (view : Y → B) (rest : PlaceTree → Ask (Answered B)) (new : ZipTree) (now : Session R L) (r : Result Y Halt) → new ≡ mid → Answers m view then now (rest (here mid)) r
+        → Asks m view old new was now (at_place old.root old.address rest) (place_evals old rest) r
     asks_on view rest new now r same next =
-        let fresh = fresh_grows (m.reads then.0) own mid (m.reads now.0) (follows_grows m own (answered view) then now (rest (here mid)) (split r) next) (stands_fresh (m.reads then.0) own mid finds.stands) in
+        let fresh = fresh_on next mid (stands_fresh (m.reads then.reader.now) (own_at then.own) mid finds.stands) in
         record {
           follows = found_next view rest now (split r) next;
-          fresh = always (split r) (IsFresh (m.reads now.0) own new) (subst (IsFresh (m.reads now.0) own) (sym same) fresh);
+          fresh = always (split r) (IsFreshIn m now new) (subst (IsFreshIn m now) (sym same) fresh);
           settled = always_ok r (IsSettled new) (subst IsSettled (sym same) finds.settled);
           kept = λ _. subst IsSettled (sym same) finds.settled;
           root = ap (λ (z : ZipTree). z.root) same ∙ finds.root;
           address = ap (λ (z : ZipTree). z.address) same ∙ finds.address;
-          most = found_most view rest now (split r) next (λ S. ticks S (rest (here mid))) (place_evals old rest) next.most (counted_here rest);
+          most = found_most view rest now (split r) next (λ S. ticks S (rest (here mid))) (place_evals old rest) next.follows.most (counted_here rest);
         }
 
   -- ---- entries
 
-  module _ (mid : ZipTree) (was now : R × ℕ) (stands : Stands (m.reads was.0) own mid) (rule : Address → Ask (Answered Address)) where
+  module _ (mid : ZipTree) (was now : Session R L) (stands : StandsIn m was mid) (rule : Address → Ask (Answered Address)) where
     abbrev EntersHere : Result Entry Halt → Type 0
-    EntersHere r = Enters m own rule (path_of mid.frames) mid.env (part mid.root mid.address) was now r
+    EntersHere r = Enters m rule (path_of mid.frames) mid.env (part mid.root mid.address) was now r
 
     abbrev TurnsHere : ZipTree → Result (Unit {0}) Halt → Type 0
-    TurnsHere new r = Turns m own mid new was now (rule mid.address) (λ S. ticks S (rule mid.address)) r
+    TurnsHere new r = Turns m mid new was now (rule mid.address) (λ S. ticks S (rule mid.address)) r
 
-    grows_here : (r : Result Entry Halt) → EntersHere r → Stands (m.reads now.0) own mid
-    grows_here r h = stands_grows (m.reads was.0) own mid (m.reads now.0) (follows_grows m own (answered (λ e. step_tree e.step ∷ mid.address)) was now (rule mid.address) (split r) (h.follows mid.address)) stands
+    grows_here : (r : Result Entry Halt) → EntersHere r → StandsIn m now mid
+    grows_here r h = stands_on (h.follows mid.address) mid stands
 
     -- the step is added
     pub enter_turns : (e : Entry) (new : ZipTree) → EntersHere (Ok e) → new ≡ entered mid (step_tree e.step) e.spot → TurnsHere new (Ok tt)
     enter_turns e new h same = subst (λ z. TurnsHere z (Ok tt)) (sym same) (record {
-      follows = follows_as m own (answered (λ e. step_tree e.step ∷ mid.address)) was now (rule mid.address) (answered (λ _. step_tree e.step ∷ mid.address)) (Ok e) (Ok tt) refl (h.follows mid.address);
-      stands = stands_entered (m.reads now.0) own mid (step_tree e.step) e.spot (grows_here (Ok e) h) h.leads;
+      follows = answers_as refl (h.follows mid.address);
+      stands = stands_entered (m.reads now.reader.now) (own_at now.own) mid (step_tree e.step) e.spot (grows_here (Ok e) h) h.leads;
       root = refl;
       refused = tt;
-      most = (h.follows mid.address).most;
+      most = (h.follows mid.address).follows.most;
     })
 
     -- memory for it is refused
     pub enter_memory : (e : Result Entry Halt) (new : ZipTree) (r : Result (Unit {0}) Halt) → EntersHere e → new.root ≡ mid.root → IsErrAnd r (λ h. h ≡ halt.Stopped stop.NoMemory) → TurnsHere new r
     enter_memory e new r h root is = subst (TurnsHere new) (sym (err_of r (halt.Stopped stop.NoMemory) is)) (record {
-      follows = follows_memory m own (answered (λ e. step_tree e.step ∷ mid.address)) was now (rule mid.address) (answered (λ _. new.address)) (split e) (h.follows mid.address);
+      follows = memory_after (h.follows mid.address);
       stands = tt;
       root = root;
       refused = tt;
-      most = (h.follows mid.address).most;
+      most = (h.follows mid.address).follows.most;
     })
 
     -- there is no entry
     none_turns : (e : Halt) → EntersHere (Err e) → TurnsHere mid (Err e)
     none_turns (halt.Refused f) h = record {
-      follows = follows_as m own (answered (λ e. step_tree e.step ∷ mid.address)) was now (rule mid.address) (answered (λ _. mid.address)) (Err f) (Err f) refl (h.follows mid.address);
+      follows = answers_as refl (h.follows mid.address);
       stands = grows_here (Err (halt.Refused f)) h;
       root = refl;
       refused = refl;
-      most = (h.follows mid.address).most;
+      most = (h.follows mid.address).follows.most;
     }
-    none_turns (halt.Stopped stop.NoMemory) h = record {
-      follows = follows_memory m own (answered (λ e. step_tree e.step ∷ mid.address)) was now (rule mid.address) (answered (λ _. mid.address)) (Err stop.NoMemory) (h.follows mid.address);
+    none_turns (halt.Stopped why) h = record {
+      follows = stops_as why (h.follows mid.address);
       stands = tt;
       root = refl;
       refused = tt;
-      most = (h.follows mid.address).most;
-    }
-    none_turns (halt.Stopped (stop.Needs p)) h = record {
-      follows = record { goes = (h.follows mid.address).goes; most = (h.follows mid.address).most };
-      stands = tt;
-      root = refl;
-      refused = tt;
-      most = (h.follows mid.address).most;
+      most = (h.follows mid.address).follows.most;
     }
 
     pub no_entry : (e : Halt) (r : Result (Unit {0}) Halt) → EntersHere (Err e) → IsErrAnd r (λ h. h ≡ e) → TurnsHere mid r
@@ -244,33 +239,33 @@ module _ (known : ReadList) (own : Known) (z : ZipTree) (p : List (List ℕ)) (e
   here_scope d stands = scope_as env z.env s (part z.root z.address) bound form (stands_scope known own z d stands)
 
   module _ (move : Address → List (List ℕ) → Bindings → SpecTree → Ask (Answered Address)) (r : Result Entry Halt) where
-    pub enters_here : {R : Type 0} (m : Meaning R) (was now : R × ℕ) → Enters m own (λ a. move a p env s) p env s was now r → Enters m own (λ a. move a (path_of z.frames) z.env (part z.root z.address)) (path_of z.frames) z.env (part z.root z.address) was now r
+    pub enters_here : {R L : Type 0} (m : Meaning R) (was now : Session R L) → Enters m (λ a. move a p env s) p env s was now r → Enters m (λ a. move a (path_of z.frames) z.env (part z.root z.address)) (path_of z.frames) z.env (part z.root z.address) was now r
     enters_here m was now h =
-        subst (λ q. Enters m own (λ a. move a q z.env (part z.root z.address)) q z.env (part z.root z.address) was now r) path
-        (subst (λ e. Enters m own (λ a. move a p e (part z.root z.address)) p e (part z.root z.address) was now r) bound
-        (subst (λ t. Enters m own (λ a. move a p env t) p env t was now r) form h))
+        subst (λ q. Enters m (λ a. move a q z.env (part z.root z.address)) q z.env (part z.root z.address) was now r) path
+        (subst (λ e. Enters m (λ a. move a p e (part z.root z.address)) p e (part z.root z.address) was now r) bound
+        (subst (λ t. Enters m (λ a. move a p env t) p env t was now r) form h))
 
-module _ {R : Type 0} (m : Meaning R) (own : Known) (old mid : ZipTree) (was then now : R × ℕ) (finds : Finds m own old mid was then (Ok tt)) (move : Address → List (List ℕ) → Bindings → SpecTree → Ask (Answered Address)) where
+module _ {R L : Type 0} (m : Meaning R) (old mid : ZipTree) (was then now : Session R L) (finds : Finds m old mid was then (Ok tt)) (move : Address → List (List ℕ) → Bindings → SpecTree → Ask (Answered Address)) where
   abbrev move_here : Address → Ask (Answered Address)
   move_here a = move a (path_of mid.frames) mid.env (part mid.root mid.address)
 
   abbrev Moved : ZipTree → Result (Unit {0}) Halt → Type 0
-  Moved new r = Moves m own old new was now (from_place old.root old.address move) (place_evals old (λ at. move old.address at.path at.env at.spec)) r
+  Moved new r = Moves m old new was now (from_place old.root old.address move) (place_evals old (λ at. move old.address at.path at.env at.spec)) r
 
-  moved : (new : ZipTree) (r : Result (Unit {0}) Halt) → Turns m own mid new then now (move_here mid.address) (λ S. ticks S (move_here mid.address)) r → Moved new r
+  moved : (new : ZipTree) (r : Result (Unit {0}) Halt) → Turns m mid new then now (move_here mid.address) (λ S. ticks S (move_here mid.address)) r → Moved new r
   moved new r turns =
-      moves_on m own old mid was then finds new now (λ at. move old.address at.path at.env at.spec) (from_place old.root old.address move) refl (λ S. ticks S (move_here old.address)) (place_evals old (λ at. move old.address at.path at.env at.spec))
-      (counted_here m own old mid was then finds (λ at. move old.address at.path at.env at.spec)) r
-      (subst (λ a. Turns m own mid new then now (move_here a) (λ S. ticks S (move_here a)) r) finds.address turns)
+      moves_on m old mid was then finds new now (λ at. move old.address at.path at.env at.spec) (from_place old.root old.address move) refl (λ S. ticks S (move_here old.address)) (place_evals old (λ at. move old.address at.path at.env at.spec))
+      (counted_here m old mid was then finds (λ at. move old.address at.path at.env at.spec)) r
+      (subst (λ a. Turns m mid new then now (move_here a) (λ S. ticks S (move_here a)) r) finds.address turns)
 
   abbrev EntersFrom : Result Entry Halt → Type 0
-  EntersFrom r = Enters m own move_here (path_of mid.frames) mid.env (part mid.root mid.address) then now r
+  EntersFrom r = Enters m move_here (path_of mid.frames) mid.env (part mid.root mid.address) then now r
 
   pub moved_in : (e : Entry) (new : ZipTree) → EntersFrom (Ok e) → new ≡ entered mid (step_tree e.step) e.spot → Moved new (Ok tt)
-  moved_in e new h same = moved new (Ok tt) (enter_turns m own mid then now finds.stands move_here e new h same)
+  moved_in e new h same = moved new (Ok tt) (enter_turns m mid then now finds.stands move_here e new h same)
 
   pub moved_memory : (e : Entry) (new : ZipTree) (r : Result (Unit {0}) Halt) → EntersFrom (Ok e) → new.root ≡ mid.root → IsErrAnd r (λ h. h ≡ halt.Stopped stop.NoMemory) → Moved new r
-  moved_memory e new r h root is = moved new r (enter_memory m own mid then now finds.stands move_here (Ok e) new r h root is)
+  moved_memory e new r h root is = moved new r (enter_memory m mid then now finds.stands move_here (Ok e) new r h root is)
 
   pub moved_not : (e : Halt) (r : Result (Unit {0}) Halt) → EntersFrom (Err e) → IsErrAnd r (λ h. h ≡ e) → Moved mid r
-  moved_not e r h is = moved mid r (no_entry m own mid then now finds.stands move_here e r h is)
+  moved_not e r h is = moved mid r (no_entry m mid then now finds.stands move_here e r h is)

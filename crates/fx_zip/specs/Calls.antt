@@ -11,17 +11,20 @@ use Rattle.fx_expr.specs.Sets.{least_above, greatest_below}
 use Rattle.fx_spec.specs.Move.{Answered, needed, at_place, another}
 use Rattle.fx_spec.specs.Place.{First, Second, Elem, Address, PlaceTree, placed, place}
 use Rattle.fx_spec.specs.SpecTree.{SpecTree}
+use Rattle.fx_spec.specs.Transaction.{from_place}
 use Rattle.fx_view.specs.declared.reader.Stop.{Stop}
 use Rattle.fx_view.specs.declared.reader.Stop.TheVariants as stop
-use Rattle.fx_view.specs.Follows.{Follows}
 use Rattle.fx_view.specs.Meaning.{Meaning}
+use Rattle.fx_view.specs.Own.{own_at}
 use Rattle.fx_view.specs.Reads.{known_of, Agrees}
 use Rattle.fx_session.specs.declared.halt.Halt.{Halt}
 use Rattle.fx_session.specs.declared.halt.Halt.TheVariants as halt
+use Rattle.fx_session.specs.declared.session.Session.{Session}
+use Rattle.fx_session.specs.Implements.{Implements, Answers}
 use Rattle.fx_session.specs.Answering.{answered}
 use Rattle.fx_session.specs.Halts.{split}
 use Rattle.fx_zip.specs.declared.frame.Entry.{Entry}
-use Rattle.fx_zip.specs.Fresh.{IsSetOf, AreFound, IsFresh, Stands, left}
+use Rattle.fx_zip.specs.Fresh.{IsSetOf, AreFound, Stands, IsFreshIn, StandsIn, left}
 use Rattle.fx_zip.specs.Parts.{part}
 use Rattle.fx_zip.specs.Spots.{LeadsFrom}
 use Rattle.fx_zip.specs.Steps.{step_tree}
@@ -51,49 +54,58 @@ sideways_evals z (First ∷ a) S = place_evals z (λ at. value at.path at.env at
 sideways_evals z _ S = 0
 
 -- no more evaluations than these at each filestore that agrees with the reads, besides those until the zipper stands
-abbrev pub Evaluates : {R : Type 0} → Meaning R → Known → ZipTree → R × ℕ → R × ℕ → (Store → ℕ) → Type 0
-Evaluates m own z was now evals =
-    (S : Store) → Agrees (m.reads now.0) S → now.1 ≤ was.1 + (settling_evals z (changed own S) + evals (changed own S))
+abbrev pub Evaluates : {R L : Type 0} → Meaning R → ZipTree → Session R L → Session R L → (Store → ℕ) → Type 0
+Evaluates m z was now evals =
+    (S : Store) → Agrees (m.reads now.reader.now) S → now.steps ≤ was.steps + (settling_evals z (changed (own_at was.own) S) + evals (changed (own_at was.own) S))
 
 -- the zipper finds its place, and each step has its frame then, or there is none
-pub record Finds {R : Type 0} (m : Meaning R) (own : Known) (old new : ZipTree) (was now : R × ℕ) (result : Result (Unit {0}) Halt) : Type 0 where
-  pub follows : Follows m (answered (λ _. here new)) own was now (place_needed old.root old.address) (split result)
-  pub stands : IfOk result (λ _. Stands (m.reads now.0) own new)
-  pub fresh : IfOk (split result) (λ _. IsFresh (m.reads now.0) own new)
+pub record Finds {R L : Type 0} (m : Meaning R) (old new : ZipTree) (was now : Session R L) (result : Result (Unit {0}) Halt) : Type 0 where
+  pub follows : Answers m (λ _. here new) was now (place_needed old.root old.address) result
+  pub stands : IfOk result (λ _. StandsIn m now new)
+  pub fresh : IfOk (split result) (λ _. IsFreshIn m now new)
   pub settled : IfOk result (λ _. IsSettled new)
   pub kept : IsSettled old → IsSettled new
   pub root : new.root ≡ old.root
   pub address : new.address ≡ old.address
-  pub most : Evaluates m own old was now (λ S. 0)
+  pub most : Evaluates m old was now (λ S. 0)
 
 -- the zipper moves to the address that the rule answers, where each step has its frame, or stays where it is, with the frames
 -- that it had
-pub record Moves {R : Type 0} (m : Meaning R) (own : Known) (old new : ZipTree) (was now : R × ℕ) (rule : Ask (Answered Address)) (evals : Store → ℕ) (result : Result (Unit {0}) Halt) : Type 0 where
-  pub follows : Follows m (answered (λ _. new.address)) own was now rule (split result)
-  pub fresh : IfOk (split result) (λ _. IsFresh (m.reads now.0) own new)
+pub record Moves {R L : Type 0} (m : Meaning R) (old new : ZipTree) (was now : Session R L) (rule : Ask (Answered Address)) (evals : Store → ℕ) (result : Result (Unit {0}) Halt) : Type 0 where
+  pub follows : Answers m (λ _. new.address) was now rule result
+  pub fresh : IfOk (split result) (λ _. IsFreshIn m now new)
   pub settled : IfOk result (λ _. IsSettled new)
   pub kept : OnRefused result (IsSettled old → IsSettled new)
   pub root : new.root ≡ old.root
   pub refused : OnRefused result (new.address ≡ old.address)
-  pub most : Evaluates m own old was now evals
+  pub most : Evaluates m old was now evals
+
+-- the rule of a move from the place, wherever it is
+abbrev pub MovesBy : {R L : Type 0} → Meaning R → ZipTree → ZipTree → Session R L → Session R L → (Address → List (List ℕ) → Bindings → SpecTree → Ask (Answered Address)) → Result (Unit {0}) Halt → Type 0
+MovesBy m old new was now move result =
+    Moves m old new was now (from_place old.root old.address move) (place_evals old (λ at. move old.address at.path at.env at.spec)) result
 
 -- the zipper answers what the rule answers, and stays, where each step has its frame then
-pub record Asks {R A X : Type 0} (m : Meaning R) (view : X → A) (own : Known) (old new : ZipTree) (was now : R × ℕ) (rule : Ask (Answered A)) (evals : Store → ℕ) (result : Result X Halt) : Type 0 where
-  pub follows : Follows m (answered view) own was now rule (split result)
-  pub fresh : IfOk (split result) (λ _. IsFresh (m.reads now.0) own new)
+pub record Asks {R L A X : Type 0} (m : Meaning R) (view : X → A) (old new : ZipTree) (was now : Session R L) (rule : Ask (Answered A)) (evals : Store → ℕ) (result : Result X Halt) : Type 0 where
+  pub follows : Answers m view was now rule result
+  pub fresh : IfOk (split result) (λ _. IsFreshIn m now new)
   pub settled : IfOk result (λ _. IsSettled new)
   pub kept : IsSettled old → IsSettled new
   pub root : new.root ≡ old.root
   pub address : new.address ≡ old.address
-  pub most : Evaluates m own old was now evals
+  pub most : Evaluates m old was now evals
+
+-- the rule of a question at the place
+abbrev pub AsksAt : {R L A X : Type 0} → Meaning R → (X → A) → ZipTree → ZipTree → Session R L → Session R L → (PlaceTree → Ask (Answered A)) → Result X Halt → Type 0
+AsksAt m view old new was now rule result = Asks m view old new was now (at_place old.root old.address rule) (place_evals old rule) result
 
 -- the zipper stands, and moves to the address that the rule answers, or stays where it is
-pub record Turns {R : Type 0} (m : Meaning R) (own : Known) (old new : ZipTree) (was now : R × ℕ) (rule : Ask (Answered Address)) (evals : Store → ℕ) (result : Result (Unit {0}) Halt) : Type 0 where
-  pub follows : Follows m (answered (λ _. new.address)) own was now rule (split result)
-  pub stands : IfOk (split result) (λ _. Stands (m.reads now.0) own new)
+pub record Turns {R L : Type 0} (m : Meaning R) (old new : ZipTree) (was now : Session R L) (rule : Ask (Answered Address)) (evals : Store → ℕ) (result : Result (Unit {0}) Halt) : Type 0 where
+  pub follows : Answers m (λ _. new.address) was now rule result
+  pub stands : IfOk (split result) (λ _. StandsIn m now new)
   pub root : new.root ≡ old.root
   pub refused : OnRefused result (new.address ≡ old.address)
-  pub most : (S : Store) → Agrees (m.reads now.0) S → now.1 ≤ was.1 + evals (changed own S)
+  pub most : (S : Store) → Agrees (m.reads now.reader.now) S → now.steps ≤ was.steps + evals (changed (own_at was.own) S)
 
 -- what a call says that consults nothing: what the rule answers over what is known
 abbrev pub SaysFound : {A X : Type 0} → Known → Known → (X → A) → Ask A → Result X Stop → Type 0
@@ -134,26 +146,26 @@ next_evals (First ∷ a) at S = ticks S (value at.path at.env at.spec)
 next_evals a at S = 0
 
 -- the first steps have their frames, which were found on from a start
-pub record IsSettling {R : Type 0} (m : Meaning R) (own : Known) (start now : R × ℕ) (z : ZipTree) : Type 0 where
+pub record IsSettling {R L : Type 0} (m : Meaning R) (start now : Session R L) (z : ZipTree) : Type 0 where
   pub ahead : Address
   pub kept : Address
   pub whole : z.address ≡ ahead ++ kept
-  pub found : AreFound (m.reads now.0) own z.root kept z.frames z.env
+  pub found : AreFound (m.reads now.reader.now) (own_at now.own) z.root kept z.frames z.env
   pub set : IsSetOf z.set z.env (part z.root z.address)
-  pub so_far : Follows {A = Option PlaceTree} {X = Option PlaceTree} m (λ at. at) own start now (place z.root kept) (Ok (Some (placed (path_of z.frames) z.env (part z.root kept))))
+  pub so_far : Implements {A = Option PlaceTree} {X = Option PlaceTree} m (λ at. at) start now (place z.root kept) (Ok (Some (placed (path_of z.frames) z.env (part z.root kept))))
 
 -- one frame more, or no place at the address
-abbrev pub SettlesTo : {R : Type 0} → Meaning R → Known → R × ℕ → R × ℕ → ZipTree → ZipTree → Result Bool Stop → Type 0
-SettlesTo m own start now old new (Ok true) = IsSettling m own start now new
-SettlesTo m own start now old new (Ok false) =
-    Follows {A = Option PlaceTree} {X = Option PlaceTree} m (λ at. at) own start now (place old.root old.address) (Ok None) × IsFresh (m.reads now.0) own new
-SettlesTo m own start now old new (Err why) =
-    Follows {A = Option PlaceTree} {X = Option PlaceTree} m (λ at. at) own start now (place old.root old.address) (Err why)
+abbrev pub SettlesTo : {R L : Type 0} → Meaning R → Session R L → Session R L → ZipTree → ZipTree → Result Bool Stop → Type 0
+SettlesTo m start now old new (Ok true) = IsSettling m start now new
+SettlesTo m start now old new (Ok false) =
+    Implements {A = Option PlaceTree} {X = Option PlaceTree} m (λ at. at) start now (place old.root old.address) (Ok None) × IsFreshIn m now new
+SettlesTo m start now old new (Err why) =
+    Implements {A = Option PlaceTree} {X = Option PlaceTree} m (λ at. at) start now (place old.root old.address) (Err why)
 
-pub record Settles {R : Type 0} (m : Meaning R) (own : Known) (old new : ZipTree) (was now : R × ℕ) (result : Result Bool Stop) : Type 0 where
+pub record Settles {R L : Type 0} (m : Meaning R) (old new : ZipTree) (was now : Session R L) (result : Result Bool Stop) : Type 0 where
   pub root : new.root ≡ old.root
   pub address : new.address ≡ old.address
-  pub to : (start : R × ℕ) → IsSettling m own start was old → SettlesTo m own start now old new result
+  pub to : (start : Session R L) → IsSettling m start was old → SettlesTo m start now old new result
   pub more : IfOk result (λ more. more ≡ true → length new.frames ≡ length old.frames + 1)
 
 -- the value at a place, which has to be there

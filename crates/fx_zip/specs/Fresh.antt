@@ -1,5 +1,7 @@
 -- A zipper whose frames are those of the places that its steps have over what is known, with the own changes on top.
 use Rattle.fx_view.specs.ReadList.{ReadList}
+use Rattle.fx_view.specs.Meaning.{Meaning}
+use Rattle.fx_view.specs.Own.{own_at}
 use Rattle.fx_view.specs.Reads.{known_of}
 use Rattle.std.specs.Prelude.{◌≡◌, ℕ, ◌-◌, Bool, true, false, cond, List, [], ◌∷◌, ◌++◌, length, take, drop, Option, Some, None, Ok, ◌&&◌, nat_le}
 use Rattle.std.specs.Option.{unwrap_or}
@@ -8,6 +10,7 @@ use Rattle.fx_expr.specs.Eval.{Outcome, eval_of}
 use Rattle.fx_spec.specs.Describe.{Bindings}
 use Rattle.fx_spec.specs.Place.{Step, First, Second, Body, Elem, Address, placed, lead}
 use Rattle.fx_spec.specs.SpecTree.{SpecTree}
+use Rattle.fx_session.specs.declared.session.Session.{Session}
 use Rattle.fx_zip.specs.declared.frame.Frame.{Frame}
 use Rattle.fx_zip.specs.Parts.{child, part}
 use Rattle.fx_zip.specs.Telling.{set_answer}
@@ -58,6 +61,13 @@ pub record IsFresh (reads : ReadList) (own : Known) (z : ZipTree) : Type 0 where
 pub record Stands (reads : ReadList) (own : Known) (z : ZipTree) : Type 0 where
   pub found : AreFound reads own z.root z.address z.frames z.env
   pub set : IsSetOf z.set z.env (part z.root z.address)
+
+-- the same over what a session's reader knows, with its own changes on top
+abbrev pub IsFreshIn : {R L : Type 0} → Meaning R → Session R L → ZipTree → Type 0
+IsFreshIn m s z = IsFresh (m.reads s.reader.now) (own_at s.own) z
+
+abbrev pub StandsIn : {R L : Type 0} → Meaning R → Session R L → ZipTree → Type 0
+StandsIn m s z = Stands (m.reads s.reader.now) (own_at s.own) z
 
 abbrev pub last_step : Address → Option Step
 last_step [] = None

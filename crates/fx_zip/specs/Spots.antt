@@ -10,11 +10,13 @@ use Rattle.fx_spec.specs.Move.{Answered, element}
 use Rattle.fx_spec.specs.Place.{Step, Elem, Address, PlaceTree, placed, lead}
 use Rattle.fx_spec.specs.SpecTree.{SpecTree}
 use Rattle.fx_view.specs.declared.reader.Stop.{Stop}
-use Rattle.fx_view.specs.Follows.{Follows}
 use Rattle.fx_view.specs.Meaning.{Meaning}
+use Rattle.fx_view.specs.Own.{own_at}
 use Rattle.fx_view.specs.Reads.{known_of}
 use Rattle.fx_session.specs.declared.halt.Halt.{Halt}
 use Rattle.fx_session.specs.Answering.{answered}
+use Rattle.fx_session.specs.declared.session.Session.{Session}
+use Rattle.fx_session.specs.Implements.{Implements, Answers}
 use Rattle.fx_session.specs.Halts.{split}
 use Rattle.fx_zip.specs.declared.frame.Bound.{Bound}
 use Rattle.fx_zip.specs.declared.frame.Bound.TheVariants as bounds
@@ -92,18 +94,18 @@ abbrev pub bound_value : Spot → Tree
 bound_value spot = unwrap_or (option_map (λ (b : List ℕ × Tree). b.1) (name_in spot.bound)) Tree.nothing
 
 -- the call answers the spot to which the step leads, where it leads to one
-pub record LeadsTo {R : Type 0} (m : Meaning R) (own : Known) (step : Step) (p : List (List ℕ)) (env : Bindings) (spec : SpecTree) (was now : R × ℕ) (result : Result (Option Spot) Stop) : Type 0 where
-  pub follows : Follows m (option_map (spot_place env (child step spec))) own was now (lead step p env spec) result
-  pub spot : IfOk result (λ o. IfSome o (Leads (m.reads now.0) own step p env spec))
+pub record LeadsTo {R L : Type 0} (m : Meaning R) (step : Step) (p : List (List ℕ)) (env : Bindings) (spec : SpecTree) (was now : Session R L) (result : Result (Option Spot) Stop) : Type 0 where
+  pub follows : Implements m (option_map (spot_place env (child step spec))) was now (lead step p env spec) result
+  pub spot : IfOk result (λ o. IfSome o (Leads (m.reads now.reader.now) (own_at now.own) step p env spec))
 
 -- the same of the first step that has no frame
-pub record LeadsNext {R : Type 0} (m : Meaning R) (own : Known) (z : ZipTree) (was now : R × ℕ) (result : Result (Option Spot) Stop) : Type 0 where
+pub record LeadsNext {R L : Type 0} (m : Meaning R) (z : ZipTree) (was now : Session R L) (result : Result (Option Spot) Stop) : Type 0 where
   pub ahead : Address
   pub step : Step
   pub kept : Address
   pub whole : z.address ≡ ahead ++ (step ∷ kept)
   pub long : length kept ≡ length z.frames
-  pub leads : LeadsTo m own step (path_of z.frames) z.env (part z.root kept) was now result
+  pub leads : LeadsTo m step (path_of z.frames) z.env (part z.root kept) was now result
 
 -- and consults nothing
 pub record LeadsAt (step : Step) (p : List (List ℕ)) (env : Bindings) (spec : SpecTree) (was now : ℕ) (result : Result (Option Spot) Stop) : Type 0 where
@@ -111,18 +113,18 @@ pub record LeadsAt (step : Step) (p : List (List ℕ)) (env : Bindings) (spec : 
   pub spot : IfOk result (λ o. IfSome o (IsSpot step env spec))
 
 -- the call answers where the second part of the pair around a first part is, where the first part has a value
-pub record FirstLeads {R : Type 0} (m : Meaning R) (own : Known) (z : ZipTree) (was now : R × ℕ) (result : Result (Option Spot) Stop) : Type 0 where
+pub record FirstLeads {R L : Type 0} (m : Meaning R) (z : ZipTree) (was now : Session R L) (result : Result (Option Spot) Stop) : Type 0 where
   pub name : List ℕ
   pub first : SpecTree
   pub second : SpecTree
   pub form : part z.root (drop 1 z.address) ≡ SpecTree.pair name first second
-  pub follows : Follows m (option_map bound_value) own was now (value (path_of (drop 1 z.frames)) z.env first) result
-  pub spot : IfOk result (λ o. IfSome o (λ spot. BindsValue (path_of (drop 1 z.frames)) name (bound_value spot) spot × (spot.reads ≡ length (m.reads now.0))))
+  pub follows : Implements m (option_map bound_value) was now (value (path_of (drop 1 z.frames)) z.env first) result
+  pub spot : IfOk result (λ o. IfSome o (λ spot. BindsValue (path_of (drop 1 z.frames)) name (bound_value spot) spot × (spot.reads ≡ length (m.reads now.reader.now))))
 
 -- the call answers the entry of the step that the rule of a move adds
-pub record Enters {R : Type 0} (m : Meaning R) (own : Known) (rule : Address → Ask (Answered Address)) (p : List (List ℕ)) (env : Bindings) (spec : SpecTree) (was now : R × ℕ) (result : Result Entry Halt) : Type 0 where
-  pub follows : (a : Address) → Follows m (answered (λ e. step_tree e.step ∷ a)) own was now (rule a) (split result)
-  pub leads : IfOk result (λ e. Leads (m.reads now.0) own (step_tree e.step) p env spec e.spot)
+pub record Enters {R L : Type 0} (m : Meaning R) (rule : Address → Ask (Answered Address)) (p : List (List ℕ)) (env : Bindings) (spec : SpecTree) (was now : Session R L) (result : Result Entry Halt) : Type 0 where
+  pub follows : (a : Address) → Answers m (λ e. step_tree e.step ∷ a) was now (rule a) result
+  pub leads : IfOk result (λ e. Leads (m.reads now.reader.now) (own_at now.own) (step_tree e.step) p env spec e.spot)
 
 -- and consults nothing
 pub record EntersAt (rule : Address → Ask (Answered Address)) (p : List (List ℕ)) (env : Bindings) (spec : SpecTree) (was now : ℕ) (result : Result Entry Halt) : Type 0 where

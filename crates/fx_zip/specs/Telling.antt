@@ -12,6 +12,7 @@ use Rattle.fx_spec.specs.Move.{Answered}
 use Rattle.fx_view.specs.declared.reader.Stop.{Stop}
 use Rattle.fx_view.specs.declared.reader.Stop.TheVariants as stop
 use Rattle.fx_session.specs.declared.halt.Halt.{Halt}
+use Rattle.fx_session.specs.declared.session.Session.{Session}
 use Rattle.fx_session.specs.declared.halt.Halt.TheVariants as halt
 
 -- the answer of a rule that consults nothing
@@ -25,6 +26,10 @@ abbrev pub costs : {A : Type 0} → Ask A → ℕ
 costs (Answer a) = 0
 costs (Look p next) = 0
 costs (Tick rule) = 1 + costs rule
+
+-- nothing but the count of a session's evaluations changes
+abbrev pub OnlyCounts : {R L : Type 0} → Session R L → Session R L → Type 0
+OnlyCounts old new = new ≡ record { alloc = old.alloc; reader = old.reader; own = old.own; steps = new.steps }
 
 -- the answer, unless memory was refused
 abbrev pub Says : {A X : Type 0} → (X → A) → Option A → Result X Stop → Type 0

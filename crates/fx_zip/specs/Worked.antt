@@ -16,8 +16,10 @@ use Rattle.fx_spec.specs.Place as steps
 use Rattle.fx_spec.specs.SpecTree.{SpecTree}
 use Rattle.fx_spec.specs.Transaction.{from_place}
 use Rattle.fx_view.specs.Meaning.{Meaning}
+use Rattle.fx_view.specs.Own.{own_at}
 use Rattle.fx_view.specs.Reads.{Agrees}
-use Rattle.fx_zip.specs.Calls.{Moves, Asks, place_evals, sideways_evals}
+use Rattle.fx_session.specs.declared.session.Session.{Session}
+use Rattle.fx_zip.specs.Calls.{Moves, MovesBy, AsksAt, sideways_evals}
 use Rattle.fx_zip.specs.Trees.{ZipTree, IsSettled}
 
 pub data Call : Type 0 where
@@ -67,36 +69,32 @@ calls_eval root S a (c ∷ cs) = call_evals root S a c + where_accepted (λ b. c
 -- ---- what the clauses say of them
 
 -- a call that is accepted and reads nothing
-pub record Leaves {R : Type 0} (old new : ZipTree) (was now : R × ℕ) (told : Answered Address) : Type 0 where
+pub record Leaves {R L : Type 0} (old new : ZipTree) (was now : Session R L) (told : Answered Address) : Type 0 where
   pub same : now ≡ was
   pub root : new.root ≡ old.root
   pub address : told ≡ Ok new.address
   pub settled : IsSettled old → IsSettled new
 
 -- one that is accepted
-abbrev pub Accepts : {R : Type 0} → Meaning R → Known → ZipTree → ZipTree → R × ℕ → R × ℕ → Call → Type 0
-Accepts m own old new was now Into =
-    Moves m own old new was now (from_place old.root old.address go_into) (place_evals old (λ at. go_into old.address at.path at.env at.spec)) (Ok tt)
-Accepts m own old new was now (To t) =
-    Moves m own old new was now (from_place old.root old.address (go_to t)) (place_evals old (λ at. go_to t old.address at.path at.env at.spec)) (Ok tt)
-Accepts m own old new was now Next = Moves m own old new was now (go_next old.root old.address) (sideways_evals old old.address) (Ok tt)
-Accepts m own old new was now Down =
-    Moves m own old new was now (from_place old.root old.address go_down) (place_evals old (λ at. go_down old.address at.path at.env at.spec)) (Ok tt)
-Accepts m own old new was now Out = Leaves old new was now (go_out old.address)
-Accepts m own old new was now Up = Leaves old new was now (go_up old.address)
-Accepts m own old new was now (Fetch shape) =
-    (v : Value) × Asks m tree_of own old new was now (at_place old.root old.address (fetch_at shape)) (place_evals old (fetch_at shape)) (Ok v)
+abbrev pub Accepts : {R L : Type 0} → Meaning R → ZipTree → ZipTree → Session R L → Session R L → Call → Type 0
+Accepts m old new was now Into = MovesBy m old new was now go_into (Ok tt)
+Accepts m old new was now (To t) = MovesBy m old new was now (go_to t) (Ok tt)
+Accepts m old new was now Next = Moves m old new was now (go_next old.root old.address) (sideways_evals old old.address) (Ok tt)
+Accepts m old new was now Down = MovesBy m old new was now go_down (Ok tt)
+Accepts m old new was now Out = Leaves old new was now (go_out old.address)
+Accepts m old new was now Up = Leaves old new was now (go_up old.address)
+Accepts m old new was now (Fetch shape) = (v : Value) × AsksAt m tree_of old new was now (fetch_at shape) (Ok v)
 
 -- one after another
-abbrev pub Accept : {R : Type 0} → Meaning R → Known → List Call → ZipTree → ZipTree → R × ℕ → R × ℕ → Type 0
-Accept m own [] old new was now = (new ≡ old) × (now ≡ was)
-Accept {R} m own (c ∷ cs) old new was now = (mid : ZipTree) × (then : R × ℕ) × Accepts m own old mid was then c × Accept m own cs mid new then now
+abbrev pub Accept : {R L : Type 0} → Meaning R → List Call → ZipTree → ZipTree → Session R L → Session R L → Type 0
+Accept m [] old new was now = (new ≡ old) × (now ≡ was)
+Accept {R} {L} m (c ∷ cs) old new was now = (mid : ZipTree) × (then : Session R L) × Accepts m old mid was then c × Accept m cs mid new then now
 
 -- accepted calls from a settled zipper evaluate no more often than each by itself; nothing is evaluated to find places again
-abbrev pub CallsEvaluate : {R : Type 0} → Meaning R → Type 0
-CallsEvaluate {R} m =
-    (own : Known) (cs : List Call) (old new : ZipTree) (was now : R × ℕ) → IsSettled old → Accept m own cs old new was now
-    → (S : Store) → Agrees (m.reads now.0) S → (now.1 ≤ was.1 + calls_eval old.root (changed own S) old.address cs) × IsSettled new
+abbrev pub CallsEvaluate : {R : Type 0} → Type 0 → Meaning R → Type 0
+CallsEvaluate {R} L m =
+    (cs : List Call) (old new : ZipTree) (was now : Session R L) → IsSettled old → Accept m cs old new was now
+    → (S : Store) → Agrees (m.reads now.reader.now) S → (now.steps ≤ was.steps + calls_eval old.root (changed (own_at was.own) S) old.address cs) × IsSettled new
 
 -- ---- a worked walk
 

@@ -10,32 +10,31 @@ ghost use Rattle.fx_spec.specs.Describe as describe;
 ghost use Rattle.fx_spec.specs.Move.{evaluated};
 ghost use Rattle.fx_session.specs.Answering.{answered};
 ghost use Rattle.fx_session.specs.Halts.{split};
+ghost use Rattle.fx_session.specs.Implements.{ticked};
 ghost use Rattle.fx_walk.specs.Arguments.{HaveShapes, inner_names};
-ghost use Rattle.fx_zip.specs.Telling.{Says, AreWellShaped, set_answer, names_answer, tried, given};
+ghost use Rattle.fx_zip.specs.Telling.{OnlyCounts, Says, AreWellShaped, set_answer, names_answer, tried, given};
 
-use fx_base::Steps;
 use fx_expr::{Env, EvalFault, Formula, TextSet, Value};
-use fx_session::Halt;
+use fx_session::{Halt, Session};
 use fx_spec::{Exprs, Params, Refusal};
 use fx_store::{Path, PathFault};
-use fx_view::Stop;
+use fx_view::{Reader, Stop};
 use fx_walk::inner_env;
 use std::alloc::Global;
 use std::sync::ledger::Ledger;
 
 /// The value of an expression.
-pub(crate) fn evaluate<L: Ledger>(
-    alloc: Global,
+pub(crate) fn evaluate<R: Reader, L: Ledger>(
+    session: &mut Session<'_, R, L>,
     env: &Env,
     formula: &Formula,
-    steps: &mut Steps<L>,
 ) -> Result<Value, Halt>
     requires { IsWellShaped env.now formula.now }
     ensures value { Says (answered tree_of)
         (Some (evaluated (eval_of env.now formula.now))) (split result) }
-    ensures tick { steps.new ≡ steps.old + 1 }
+    ensures tick { session.new ≡ ticked session.old }
 {
-    match formula.eval(alloc, env, steps) {
+    match session.work_out(formula, env) {
         Ok(value) => Ok(value),
         Err(EvalFault::Fault(fault)) => Err(Halt::Refused(Refusal::Expr(fault))),
         Err(EvalFault::NoMemory) => Err(Halt::Stopped(Stop::NoMemory)),
@@ -43,61 +42,59 @@ pub(crate) fn evaluate<L: Ledger>(
 }
 
 /// The set of a comprehension.
-pub(crate) fn set_of<L: Ledger>(
-    alloc: Global,
+pub(crate) fn set_of<R: Reader, L: Ledger>(
+    session: &mut Session<'_, R, L>,
     env: &Env,
     formula: &Formula,
-    steps: &mut Steps<L>,
 ) -> Result<TextSet, Halt>
     requires { IsWellShaped env.now formula.now }
     ensures set { Says (answered (λ set. set))
         (Some (set_answer (eval_of env.now formula.now))) (split result) }
-    ensures tick { steps.new ≡ steps.old + 1 }
+    ensures tick { session.new ≡ ticked session.old }
 {
-    match formula.eval(alloc, env, steps) {
-        Ok(value) => Ok(into_names(alloc, value)),
+    match session.work_out(formula, env) {
+        Ok(value) => Ok(into_names(session.alloc, value)),
         Err(EvalFault::Fault(fault)) => Err(Halt::Refused(Refusal::Expr(fault))),
         Err(EvalFault::NoMemory) => Err(Halt::Stopped(Stop::NoMemory)),
     }
 }
 
 /// The set of a comprehension: the one that is kept, or else its expression's value.
-pub(crate) fn set_again<L: Ledger>(
-    alloc: Global,
+pub(crate) fn set_again<R: Reader, L: Ledger>(
+    session: &mut Session<'_, R, L>,
     kept: Option<&TextSet>,
     env: &Env,
     formula: &Formula,
-    steps: &mut Steps<L>,
 ) -> Result<TextSet, Halt>
     requires shaped { IsWellShaped env.now formula.now }
     requires kept { (set : List (List ℕ)) → option_copied kept ≡ Some set
         → set_answer (eval_of env.now formula.now) ≡ Ok set }
     ensures set { Says (answered (λ set. set))
         (Some (set_answer (eval_of env.now formula.now))) (split result) }
-    ensures tick { steps.new ≤ steps.old + 1 }
+    ensures most { session.new.steps ≤ session.old.steps + 1 }
+    ensures still { OnlyCounts session.old session.new }
 {
     match kept {
-        Some(set) => Ok(set.copy(alloc)?),
-        None => set_of(alloc, env, formula, steps),
+        Some(set) => Ok(set.copy(session.alloc)?),
+        None => set_of(session, env, formula),
     }
 }
 
 /// The path of a focus.
-pub(crate) fn inner_path<L: Ledger>(
-    alloc: Global,
+pub(crate) fn inner_path<R: Reader, L: Ledger>(
+    session: &mut Session<'_, R, L>,
     path: &Path,
     env: &Env,
     formula: &Formula,
-    steps: &mut Steps<L>,
 ) -> Result<Path, Halt>
     requires { IsWellShaped env.now formula.now }
     ensures path { Says (answered (λ q. q))
         (Some (describe.focus_path path.now (eval_of env.now formula.now)))
         (split result) }
-    ensures tick { steps.new ≡ steps.old + 1 }
+    ensures tick { session.new ≡ ticked session.old }
 {
-    match formula.eval(alloc, env, steps) {
-        Ok(value) => extended(alloc, path, &value),
+    match session.work_out(formula, env) {
+        Ok(value) => extended(session.alloc, path, &value),
         Err(EvalFault::Fault(fault)) => Err(Halt::Refused(Refusal::Expr(fault))),
         Err(EvalFault::NoMemory) => Err(Halt::Stopped(Stop::NoMemory)),
     }
@@ -116,19 +113,20 @@ fn extended(alloc: Global, path: &Path, value: &Value) -> Result<Path, Halt>
 }
 
 /// The names in a call's body: its parameters, with the values of the arguments.
-pub(crate) fn names_of<L: Ledger>(
-    alloc: Global,
+pub(crate) fn names_of<R: Reader, L: Ledger>(
+    session: &mut Session<'_, R, L>,
     env: &Env,
     params: &Params,
     args: &Exprs,
-    steps: &mut Steps<L>,
 ) -> Result<Env, Halt>
     requires { HaveShapes env.now params.now args.now }
     ensures names { Says (answered (λ names. names))
         (Some (names_answer (inner_names env.now params.now args.now))) (split result) }
-    ensures most { steps.new ≤ steps.old + describe.argument_evals env.now args.now }
+    ensures most { session.new.steps
+        ≤ session.old.steps + describe.argument_evals env.now args.now }
+    ensures still { OnlyCounts session.old session.new }
 {
-    match inner_env(alloc, env, params, args, steps) {
+    match inner_env(session, env, params, args) {
         Ok(names) => Ok(names),
         Err(EvalFault::Fault(fault)) => Err(Halt::Refused(Refusal::Expr(fault))),
         Err(EvalFault::NoMemory) => Err(Halt::Stopped(Stop::NoMemory)),
@@ -136,19 +134,20 @@ pub(crate) fn names_of<L: Ledger>(
 }
 
 /// Evaluates the arguments of a call, up to the first that faults.
-pub(crate) fn try_arguments<L: Ledger>(
-    alloc: Global,
+pub(crate) fn try_arguments<R: Reader, L: Ledger>(
+    session: &mut Session<'_, R, L>,
     env: &Env,
     args: &Exprs,
-    steps: &mut Steps<L>,
 ) -> Result<(), Halt>
     requires { AreWellShaped env.now args.now }
     ensures faults { Says (answered (λ u. u))
         (Some (tried (describe.arguments env.now args.now))) (split result) }
-    ensures most { steps.new ≤ steps.old + describe.argument_evals env.now args.now }
+    ensures most { session.new.steps
+        ≤ session.old.steps + describe.argument_evals env.now args.now }
+    ensures still { OnlyCounts session.old session.new }
 {
     for i in 0..args.len() {
-        let value = evaluate(alloc, env, argument(args, i), steps)?;
+        let value = evaluate(session, env, argument(args, i))?;
         let_go(value);
     }
     Ok(())

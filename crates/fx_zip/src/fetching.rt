@@ -3,52 +3,43 @@ ghost use Rattle.std.specs.Prelude.{◌≡◌, is_some};
 ghost use Rattle.std.specs.Option.{option_map};
 ghost use Rattle.fx_expr.specs.Tree.{Tree};
 ghost use Rattle.fx_expr.specs.Views.{shape_tree, tree_of};
-ghost use Rattle.fx_session.specs.Answering.{answered};
-ghost use Rattle.fx_session.specs.Halts.{split};
 ghost use Rattle.fx_spec.specs.Describe.{Bindings};
 ghost use Rattle.fx_spec.specs.Move as move;
 ghost use Rattle.fx_spec.specs.Place.{placed};
 ghost use Rattle.fx_spec.specs.SpecTree.{SpecTree};
 ghost use Rattle.fx_spec.specs.Parts.{part_of};
-ghost use Rattle.fx_view.specs.Follows.{Follows, Consults};
-ghost use Rattle.fx_view.specs.Own.{own_at};
+ghost use Rattle.fx_session.specs.Implements.{Answers};
 ghost use Rattle.fx_walk.specs.Scopes.{HasScope};
 ghost use Rattle.fx_zip.specs.Calls.{value_needed};
 
 use crate::evaluating::evaluate;
 use crate::shapes::{asks_flag, has_fetch_shape, has_value_shape};
-use fx_base::Steps;
 use fx_expr::{Env, Shape, Value};
-use fx_session::Halt;
+use fx_session::{Halt, Session};
 use fx_spec::{Form, Part, Refusal};
 use fx_store::Path;
-use fx_view::{Overlay, Reader};
+use fx_view::Reader;
 use fx_walk::{exists, file_flag, value_in};
-use std::alloc::Global;
 use std::sync::ledger::Ledger;
 
 /// What the form gives, where that has the shape; a file gives its flag too. The environment is as before on every way out.
 pub(crate) fn fetch_at<R: Reader, L: Ledger>(
-    alloc: Global,
-    reader: &mut R,
-    overlay: &Overlay,
+    session: &mut Session<'_, R, L>,
     path: &Path,
     env: &mut Env,
     spec: &Part<'_>,
     shape: &Shape,
-    steps: &mut Steps<L>,
 ) -> Result<Value, Halt>
     requires described { HasScope env.old (part_of spec.now) }
     ensures env { env.new ≡ env.old }
-    ensures follows { Follows R.meaning (answered tree_of) (own_at overlay.now)
-        (reader.old, steps.old) (reader.new, steps.new)
+    ensures follows { Answers R.meaning tree_of session.old session.new
         (move.fetch_at (shape_tree shape.now) (placed path.now env.old (part_of spec.now)))
-        (split result) }
+        result }
 {
     if asks_flag(spec, shape) {
-        flag_at(alloc, reader, overlay, path)
+        flag_at(session, path)
     } else if has_fetch_shape(spec, shape) {
-        fetched(alloc, reader, overlay, path, env, spec, steps)
+        fetched(session, path, env, spec)
     } else {
         Err(Halt::Refused(Refusal::WrongForm))
     }
@@ -56,24 +47,20 @@ pub(crate) fn fetch_at<R: Reader, L: Ledger>(
 
 /// The value of the description, where that has the shape. The environment is as before on every way out.
 pub(crate) fn whole_at<R: Reader, L: Ledger>(
-    alloc: Global,
-    reader: &mut R,
-    overlay: &Overlay,
+    session: &mut Session<'_, R, L>,
     path: &Path,
     env: &mut Env,
     spec: &Part<'_>,
     shape: &Shape,
-    steps: &mut Steps<L>,
 ) -> Result<Value, Halt>
     requires described { HasScope env.old (part_of spec.now) }
     ensures env { env.new ≡ env.old }
-    ensures follows { Follows R.meaning (answered tree_of) (own_at overlay.now)
-        (reader.old, steps.old) (reader.new, steps.new)
+    ensures follows { Answers R.meaning tree_of session.old session.new
         (move.whole_at (shape_tree shape.now) (placed path.now env.old (part_of spec.now)))
-        (split result) }
+        result }
 {
     if has_value_shape(spec, shape) {
-        value_at(alloc, reader, overlay, path, env, spec, steps)
+        value_at(session, path, env, spec)
     } else {
         Err(Halt::Refused(Refusal::WrongForm))
     }
@@ -81,47 +68,39 @@ pub(crate) fn whole_at<R: Reader, L: Ledger>(
 
 /// Whether the description has a value. The environment is as before on every way out.
 pub(crate) fn validate_at<R: Reader, L: Ledger>(
-    alloc: Global,
-    reader: &mut R,
-    overlay: &Overlay,
+    session: &mut Session<'_, R, L>,
     path: &Path,
     env: &mut Env,
     spec: &Part<'_>,
-    steps: &mut Steps<L>,
 ) -> Result<bool, Halt>
     requires described { HasScope env.old (part_of spec.now) }
     ensures env { env.new ≡ env.old }
-    ensures follows { Follows R.meaning (answered (λ b. Tree.bool b)) (own_at overlay.now)
-        (reader.old, steps.old) (reader.new, steps.new)
-        (move.validate_at (placed path.now env.old (part_of spec.now))) (split result) }
+    ensures follows { Answers R.meaning (λ b. Tree.bool b) session.old session.new
+        (move.validate_at (placed path.now env.old (part_of spec.now))) result }
 {
-    let value = value_in(alloc, reader, overlay, path, env, spec, steps)?;
+    let value = value_in(session, path, env, spec)?;
     Ok(is_there(value))
 }
 
 fn fetched<R: Reader, L: Ledger>(
-    alloc: Global,
-    reader: &mut R,
-    overlay: &Overlay,
+    session: &mut Session<'_, R, L>,
     path: &Path,
     env: &mut Env,
     spec: &Part<'_>,
-    steps: &mut Steps<L>,
 ) -> Result<Value, Halt>
     requires described { HasScope env.old (part_of spec.now) }
     ensures env { env.new ≡ env.old }
-    ensures follows { Follows R.meaning (answered tree_of) (own_at overlay.now)
-        (reader.old, steps.old) (reader.new, steps.new)
-        (move.fetched path.now env.old (part_of spec.now)) (split result) }
+    ensures follows { Answers R.meaning tree_of session.old session.new
+        (move.fetched path.now env.old (part_of spec.now)) result }
 {
     match spec.form() {
-        Form::File => value_at(alloc, reader, overlay, path, env, spec, steps),
-        Form::Dir => value_at(alloc, reader, overlay, path, env, spec, steps),
-        Form::Link => value_at(alloc, reader, overlay, path, env, spec, steps),
-        Form::Focus(text, _) => evaluate(alloc, env, text, steps),
-        Form::Comp(_, _, set) => evaluate(alloc, env, set, steps),
-        Form::Pred(test) => evaluate(alloc, env, test, steps),
-        Form::Opt(_) => entry_at(alloc, reader, overlay, path),
+        Form::File => value_at(session, path, env, spec),
+        Form::Dir => value_at(session, path, env, spec),
+        Form::Link => value_at(session, path, env, spec),
+        Form::Focus(text, _) => evaluate(session, env, text),
+        Form::Comp(_, _, set) => evaluate(session, env, set),
+        Form::Pred(test) => evaluate(session, env, test),
+        Form::Opt(_) => entry_at(session, path),
         Form::Pair(_, _, _) => Err(Halt::Refused(Refusal::WrongForm)),
         Form::Call(_, _, _) => Err(Halt::Refused(Refusal::WrongForm)),
         Form::Last(_) => Err(Halt::Refused(Refusal::WrongForm)),
@@ -129,31 +108,25 @@ fn fetched<R: Reader, L: Ledger>(
 }
 
 /// Whether there is an entry, as a value.
-fn entry_at<R: Reader>(
-    alloc: Global,
-    reader: &mut R,
-    overlay: &Overlay,
+fn entry_at<R: Reader, L: Ledger>(
+    session: &mut Session<'_, R, L>,
     path: &Path,
 ) -> Result<Value, Halt>
-    ensures follows { (env : Bindings) (part : SpecTree) → Consults R.meaning (answered tree_of)
-        (own_at overlay.now) reader.old reader.new
-        (move.fetched path.now env (SpecTree.opt part)) (split result) }
+    ensures follows { (env : Bindings) (part : SpecTree) → Answers R.meaning tree_of session.old session.new
+        (move.fetched path.now env (SpecTree.opt part)) result }
 {
-    let there = exists(alloc, reader, overlay, path)?;
+    let there = exists(session, path)?;
     Ok(Value::Bool(there))
 }
 
 /// The flag of the file, which has to be there.
-fn flag_at<R: Reader>(
-    alloc: Global,
-    reader: &mut R,
-    overlay: &Overlay,
+fn flag_at<R: Reader, L: Ledger>(
+    session: &mut Session<'_, R, L>,
     path: &Path,
 ) -> Result<Value, Halt>
-    ensures follows { Consults R.meaning (answered tree_of) (own_at overlay.now)
-        reader.old reader.new (move.flag_at path.now) (split result) }
+    ensures follows { Answers R.meaning tree_of session.old session.new (move.flag_at path.now) result }
 {
-    match file_flag(alloc, reader, overlay, path)? {
+    match file_flag(session, path)? {
         Some(flag) => Ok(flag),
         None => Err(Halt::Refused(Refusal::Lacks)),
     }
@@ -161,21 +134,17 @@ fn flag_at<R: Reader>(
 
 /// The value of the description, which has to be there.
 fn value_at<R: Reader, L: Ledger>(
-    alloc: Global,
-    reader: &mut R,
-    overlay: &Overlay,
+    session: &mut Session<'_, R, L>,
     path: &Path,
     env: &mut Env,
     spec: &Part<'_>,
-    steps: &mut Steps<L>,
 ) -> Result<Value, Halt>
     requires described { HasScope env.old (part_of spec.now) }
     ensures env { env.new ≡ env.old }
-    ensures follows { Follows R.meaning (answered tree_of) (own_at overlay.now)
-        (reader.old, steps.old) (reader.new, steps.new)
-        (value_needed path.now env.old (part_of spec.now)) (split result) }
+    ensures follows { Answers R.meaning tree_of session.old session.new
+        (value_needed path.now env.old (part_of spec.now)) result }
 {
-    match value_in(alloc, reader, overlay, path, env, spec, steps)? {
+    match value_in(session, path, env, spec)? {
         Some(value) => Ok(value),
         None => Err(Halt::Refused(Refusal::Lacks)),
     }

@@ -1,5 +1,6 @@
 //! The parts of a description of a form.
 ghost use Rattle.std.specs.Prelude.{◌≡◌, MatchOption};
+ghost use Rattle.std.specs.Option.{IfSome};
 ghost use Rattle.fx_spec.specs.Parts.{part_of};
 ghost use Rattle.fx_spec.specs.SpecTree.{SpecTree};
 ghost use Rattle.fx_zip.specs.Parts.{IsNoPair, IsNoComp, IsNoFocus, IsNoOption, IsNoCall};
@@ -9,8 +10,10 @@ use fx_spec::{Exprs, Form, Params, Part};
 
 /// The name and the parts of a pair.
 pub(crate) fn pair_of<'a>(spec: &Part<'a>) -> Option<(&'a Word, Part<'a>, Part<'a>)>
-    ensures { MatchOption result (IsNoPair (part_of spec.now)) (λ r.
+    ensures form { MatchOption result (IsNoPair (part_of spec.now)) (λ r.
         part_of spec.now ≡ SpecTree.pair r.0.now (part_of r.1) (part_of r.2)) }
+    ensures defs { IfSome result (λ r. (r.1.defs.now ≡ spec.now.defs.now)
+        × (r.2.defs.now ≡ spec.now.defs.now)) }
 {
     match spec.form() {
         Form::Pair(name, first, second) => Some((name, first, second)),
@@ -21,8 +24,9 @@ pub(crate) fn pair_of<'a>(spec: &Part<'a>) -> Option<(&'a Word, Part<'a>, Part<'
 
 /// The part, the name and the set of a comprehension.
 pub(crate) fn comp_of<'a>(spec: &Part<'a>) -> Option<(Part<'a>, &'a Word, &'a Formula)>
-    ensures { MatchOption result (IsNoComp (part_of spec.now)) (λ r.
+    ensures form { MatchOption result (IsNoComp (part_of spec.now)) (λ r.
         part_of spec.now ≡ SpecTree.comp (part_of r.0) r.1.now r.2.now) }
+    ensures defs { IfSome result (λ r. r.0.defs.now ≡ spec.now.defs.now) }
 {
     match spec.form() {
         Form::Comp(part, name, set) => Some((part, name, set)),
@@ -33,8 +37,9 @@ pub(crate) fn comp_of<'a>(spec: &Part<'a>) -> Option<(Part<'a>, &'a Word, &'a Fo
 
 /// The text and the part of a focus.
 pub(crate) fn focus_of<'a>(spec: &Part<'a>) -> Option<(&'a Formula, Part<'a>)>
-    ensures { MatchOption result (IsNoFocus (part_of spec.now)) (λ r.
+    ensures form { MatchOption result (IsNoFocus (part_of spec.now)) (λ r.
         part_of spec.now ≡ SpecTree.focus r.0.now (part_of r.1)) }
+    ensures defs { IfSome result (λ r. r.1.defs.now ≡ spec.now.defs.now) }
 {
     match spec.form() {
         Form::Focus(text, part) => Some((text, part)),
@@ -45,8 +50,9 @@ pub(crate) fn focus_of<'a>(spec: &Part<'a>) -> Option<(&'a Formula, Part<'a>)>
 
 /// The part of an option.
 pub(crate) fn option_of<'a>(spec: &Part<'a>) -> Option<Part<'a>>
-    ensures { MatchOption result (IsNoOption (part_of spec.now)) (λ part.
+    ensures form { MatchOption result (IsNoOption (part_of spec.now)) (λ part.
         part_of spec.now ≡ SpecTree.opt (part_of part)) }
+    ensures defs { IfSome result (λ part. part.defs.now ≡ spec.now.defs.now) }
 {
     match spec.form() {
         Form::Opt(part) => Some(part),
@@ -57,8 +63,9 @@ pub(crate) fn option_of<'a>(spec: &Part<'a>) -> Option<Part<'a>>
 
 /// The arguments, the parameters and the body of a call that is unfolded.
 pub(crate) fn call_of<'a>(spec: &Part<'a>) -> Option<(&'a Exprs, &'a Params, Part<'a>)>
-    ensures { MatchOption result (IsNoCall (part_of spec.now)) (λ r.
+    ensures form { MatchOption result (IsNoCall (part_of spec.now)) (λ r.
         part_of spec.now ≡ SpecTree.call r.0.now r.1.now (part_of r.2)) }
+    ensures defs { IfSome result (λ r. r.2.defs.now ≡ spec.now.defs.now) }
 {
     match spec.form() {
         Form::Call(args, params, body) => Some((args, params, body)),

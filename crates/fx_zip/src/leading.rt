@@ -5,48 +5,46 @@ ghost use Rattle.fx_expr.specs.Sets.{has_text};
 ghost use Rattle.fx_spec.specs.Describe.{Bindings, value};
 ghost use Rattle.fx_spec.specs.Place as place;
 ghost use Rattle.fx_spec.specs.Parts.{part_of};
-ghost use Rattle.fx_view.specs.Follows.{Follows};
-ghost use Rattle.fx_view.specs.Own.{own_at};
+ghost use Rattle.fx_session.specs.Implements.{Implements};
 ghost use Rattle.fx_walk.specs.Scopes.{HasScope};
 ghost use Rattle.fx_zip.specs.Spots.{LeadsTo, LeadsAt, BindsText, BindsValue, bound_value};
 ghost use Rattle.fx_zip.specs.Steps.{step_tree};
+ghost use Rattle.fx_zip.specs.Telling.{OnlyCounts};
 
 use crate::evaluating::{if_given, inner_path, names_of, set_of};
 use crate::forms::{call_of, comp_of, focus_of, option_of, pair_of};
 use crate::frame::{Spot, body_spot, element_spot, second_spot, spot_at};
 use crate::step::Step;
-use fx_base::{NoMemory, Steps};
+use fx_base::NoMemory;
 use fx_expr::{Env, Text, TextSet, Word};
+use fx_session::Session;
 use fx_spec::Part;
 use fx_store::Path;
-use fx_view::{Overlay, Reader, Stop};
+use fx_view::{Reader, Stop};
 use fx_walk::{exists, value_in};
 use std::alloc::Global;
 use std::sync::ledger::Ledger;
 
 /// The spot to which a step leads, where it leads to one. The environment is as before on every way out.
 pub(crate) fn led<R: Reader, L: Ledger>(
-    alloc: Global,
-    reader: &mut R,
-    overlay: &Overlay,
+    session: &mut Session<'_, R, L>,
     step: &Step,
     path: &Path,
     env: &mut Env,
     spec: &Part<'_>,
-    steps: &mut Steps<L>,
 ) -> Result<Option<Spot>, Stop>
     requires described { HasScope env.old (part_of spec.now) }
     ensures env { env.new ≡ env.old }
-    ensures leads { LeadsTo R.meaning (own_at overlay.now) (step_tree step.now) path.now env.old
-        (part_of spec.now) (reader.old, steps.old) (reader.new, steps.new) result }
+    ensures leads { LeadsTo R.meaning (step_tree step.now) path.now env.old
+        (part_of spec.now) session.old session.new result }
 {
     match step {
-        Step::First => first(alloc, path, spec),
-        Step::Second => second(alloc, reader, overlay, path, env, spec, steps),
-        Step::Inside => inside(alloc, reader, overlay, path, spec),
-        Step::Down => down(alloc, path, env, spec, steps),
-        Step::Body => body(alloc, path, env, spec, steps),
-        Step::Elem(text) => element(alloc, path, env, spec, text, steps),
+        Step::First => first(session.alloc, path, spec),
+        Step::Second => second(session, path, env, spec),
+        Step::Inside => inside(session, path, spec),
+        Step::Down => down(session, path, env, spec),
+        Step::Body => body(session, path, env, spec),
+        Step::Elem(text) => element(session, path, env, spec, text),
     }
 }
 
@@ -61,67 +59,60 @@ fn first(alloc: Global, path: &Path, spec: &Part<'_>) -> Result<Option<Spot>, St
 }
 
 fn second<R: Reader, L: Ledger>(
-    alloc: Global,
-    reader: &mut R,
-    overlay: &Overlay,
+    session: &mut Session<'_, R, L>,
     path: &Path,
     env: &mut Env,
     spec: &Part<'_>,
-    steps: &mut Steps<L>,
 ) -> Result<Option<Spot>, Stop>
     requires described { HasScope env.old (part_of spec.now) }
     ensures env { env.new ≡ env.old }
-    ensures leads { LeadsTo R.meaning (own_at overlay.now) place.Second path.now env.old
-        (part_of spec.now) (reader.old, steps.old) (reader.new, steps.new) result }
+    ensures leads { LeadsTo R.meaning place.Second path.now env.old
+        (part_of spec.now) session.old session.new result }
 {
     match pair_of(spec) {
-        Some((name, first, _)) => {
-            after_first(alloc, reader, overlay, path, env, name, &first, steps)
-        }
+        Some((name, first, _)) => { after_first(session, path, env, name, &first) }
         None => Ok(None),
     }
 }
 
 /// The spot at the second part of a pair, where the first part has a value.
 pub(crate) fn after_first<R: Reader, L: Ledger>(
-    alloc: Global,
-    reader: &mut R,
-    overlay: &Overlay,
+    session: &mut Session<'_, R, L>,
     path: &Path,
     env: &mut Env,
     name: &Word,
     first: &Part<'_>,
-    steps: &mut Steps<L>,
 ) -> Result<Option<Spot>, Stop>
     requires described { HasScope env.old (part_of first.now) }
     ensures env { env.new ≡ env.old }
-    ensures follows { Follows R.meaning (option_map bound_value) (own_at overlay.now)
-        (reader.old, steps.old) (reader.new, steps.new)
+    ensures follows { Implements R.meaning (option_map bound_value)
+        session.old session.new
         (value path.now env.old (part_of first.now)) result }
     ensures spot { IfOk result (λ o. IfSome o (λ spot.
         BindsValue path.now name.now (bound_value spot) spot
-        × (spot.reads ≡ length (R.meaning.reads reader.new)))) }
+        × (spot.reads ≡ length (R.meaning.reads session.new.reader.now)))) }
 {
-    match value_in(alloc, reader, overlay, path, env, first, steps)? {
-        Some(value) => Ok(Some(second_spot(alloc, path, name, value, reader.reads().len())?)),
+    match value_in(session, path, env, first)? {
+        Some(value) => {
+            let reads = session.reader.reads().len();
+            Ok(Some(second_spot(session.alloc, path, name, value, reads)?))
+        }
         None => Ok(None),
     }
 }
 
-fn inside<R: Reader>(
-    alloc: Global,
-    reader: &mut R,
-    overlay: &Overlay,
+fn inside<R: Reader, L: Ledger>(
+    session: &mut Session<'_, R, L>,
     path: &Path,
     spec: &Part<'_>,
 ) -> Result<Option<Spot>, Stop>
-    ensures leads { (env : Bindings) (n : ℕ) → LeadsTo R.meaning (own_at overlay.now) place.Inside
-        path.now env (part_of spec.now) (reader.old, n) (reader.new, n) result }
+    ensures leads { (env : Bindings) → LeadsTo R.meaning place.Inside
+        path.now env (part_of spec.now) session.old session.new result }
 {
     match option_of(spec) {
         Some(_) => {
-            if exists(alloc, reader, overlay, path)? {
-                Ok(Some(spot_at(path.copy(alloc)?, reader.reads().len())))
+            if exists(session, path)? {
+                Ok(Some(spot_at(path.copy(session.alloc)?, session.reader.reads().len())))
             } else {
                 Ok(None)
             }
@@ -130,19 +121,19 @@ fn inside<R: Reader>(
     }
 }
 
-fn down<L: Ledger>(
-    alloc: Global,
+fn down<R: Reader, L: Ledger>(
+    session: &mut Session<'_, R, L>,
     path: &Path,
     env: &Env,
     spec: &Part<'_>,
-    steps: &mut Steps<L>,
 ) -> Result<Option<Spot>, Stop>
     requires described { HasScope env.now (part_of spec.now) }
     ensures leads { LeadsAt place.Down path.now env.now (part_of spec.now)
-        steps.old steps.new result }
+        session.old.steps session.new.steps result }
+    ensures still { OnlyCounts session.old session.new }
 {
     match focus_of(spec) {
-        Some((text, _)) => match if_given(inner_path(alloc, path, env, text, steps))? {
+        Some((text, _)) => match if_given(inner_path(session, path, env, text))? {
             Some(inner) => Ok(Some(spot_at(inner, 0))),
             None => Ok(None),
         },
@@ -150,41 +141,41 @@ fn down<L: Ledger>(
     }
 }
 
-fn body<L: Ledger>(
-    alloc: Global,
+fn body<R: Reader, L: Ledger>(
+    session: &mut Session<'_, R, L>,
     path: &Path,
     env: &Env,
     spec: &Part<'_>,
-    steps: &mut Steps<L>,
 ) -> Result<Option<Spot>, Stop>
     requires described { HasScope env.now (part_of spec.now) }
     ensures leads { LeadsAt place.Body path.now env.now (part_of spec.now)
-        steps.old steps.new result }
+        session.old.steps session.new.steps result }
+    ensures still { OnlyCounts session.old session.new }
 {
     match call_of(spec) {
-        Some((args, params, _)) => match if_given(names_of(alloc, env, params, args, steps))? {
-            Some(names) => Ok(Some(body_spot(alloc, path, names)?)),
+        Some((args, params, _)) => match if_given(names_of(session, env, params, args))? {
+            Some(names) => Ok(Some(body_spot(session.alloc, path, names)?)),
             None => Ok(None),
         },
         None => Ok(None),
     }
 }
 
-fn element<L: Ledger>(
-    alloc: Global,
+fn element<R: Reader, L: Ledger>(
+    session: &mut Session<'_, R, L>,
     path: &Path,
     env: &Env,
     spec: &Part<'_>,
     text: &Text,
-    steps: &mut Steps<L>,
 ) -> Result<Option<Spot>, Stop>
     requires described { HasScope env.now (part_of spec.now) }
     ensures leads { LeadsAt (place.Elem text.now) path.now env.now (part_of spec.now)
-        steps.old steps.new result }
+        session.old.steps session.new.steps result }
+    ensures still { OnlyCounts session.old session.new }
 {
     match comp_of(spec) {
-        Some((_, name, set)) => match if_given(set_of(alloc, env, set, steps))? {
-            Some(set) => Ok(spot_in(alloc, path, name, text, &set)?),
+        Some((_, name, set)) => match if_given(set_of(session, env, set))? {
+            Some(set) => Ok(spot_in(session.alloc, path, name, text, &set)?),
             None => Ok(None),
         },
         None => Ok(None),

@@ -9,11 +9,10 @@ ghost use Rattle.fx_spec.specs.Move as move;
 ghost use Rattle.fx_spec.specs.Place as place;
 ghost use Rattle.fx_spec.specs.SpecTree.{SpecTree};
 ghost use Rattle.fx_spec.specs.Parts.{part_of};
-ghost use Rattle.fx_view.specs.Own.{own_at};
 ghost use Rattle.fx_walk.specs.Arguments.{HaveShapes};
 ghost use Rattle.fx_walk.specs.Scopes.{HasScope};
 ghost use Rattle.fx_zip.specs.Fresh.{IsSetOf};
-ghost use Rattle.fx_zip.specs.Telling.{AreWellShaped, set_answer};
+ghost use Rattle.fx_zip.specs.Telling.{OnlyCounts, AreWellShaped, set_answer};
 ghost use Rattle.fx_zip.specs.Spots.{Enters, EntersAt, Chooses, BindsText};
 ghost use Rattle.fx_zip.specs.Steps.{step_tree};
 
@@ -21,31 +20,31 @@ use crate::evaluating::{inner_path, names_of, set_again, try_arguments};
 use crate::forms::{comp_of, focus_of};
 use crate::frame::{Entry, body_spot, element_spot, spot_at};
 use crate::step::Step;
-use fx_base::{NoMemory, Steps};
+use fx_base::NoMemory;
 use fx_expr::{Env, Formula, Text, TextSet, Word};
-use fx_session::Halt;
+use fx_session::{Halt, Session};
 use fx_spec::{Exprs, Form, Params, Part, Refusal};
 use fx_store::Path;
-use fx_view::{Overlay, Reader};
+use fx_view::Reader;
 use fx_walk::exists;
 use std::alloc::Global;
 use std::sync::ledger::Ledger;
 
 /// The entry at a focus's path.
-pub(crate) fn down<L: Ledger>(
-    alloc: Global,
+pub(crate) fn down<R: Reader, L: Ledger>(
+    session: &mut Session<'_, R, L>,
     path: &Path,
     env: &Env,
     spec: &Part<'_>,
-    steps: &mut Steps<L>,
 ) -> Result<Entry, Halt>
     requires described { HasScope env.now (part_of spec.now) }
     ensures enters { EntersAt (λ a. move.go_down a path.now env.now (part_of spec.now))
-        path.now env.now (part_of spec.now) steps.old steps.new result }
+        path.now env.now (part_of spec.now) session.old.steps session.new.steps result }
+    ensures still { OnlyCounts session.old session.new }
 {
     match focus_of(spec) {
         Some((text, _)) => {
-            let inner = inner_path(alloc, path, env, text, steps)?;
+            let inner = inner_path(session, path, env, text)?;
             Ok(Entry {
                 step: Step::Down,
                 spot: spot_at(inner, 0),
@@ -56,25 +55,25 @@ pub(crate) fn down<L: Ledger>(
 }
 
 /// The entry at an element that is asked for.
-pub(crate) fn to<L: Ledger>(
-    alloc: Global,
+pub(crate) fn to<R: Reader, L: Ledger>(
+    session: &mut Session<'_, R, L>,
     path: &Path,
     env: &Env,
     spec: &Part<'_>,
     kept: Option<&TextSet>,
     text: &Text,
-    steps: &mut Steps<L>,
 ) -> Result<Entry, Halt>
     requires described { HasScope env.now (part_of spec.now) }
     requires kept { IsSetOf (option_copied kept) env.now (part_of spec.now) }
     ensures enters { EntersAt (λ a. move.go_to text.now a path.now env.now (part_of spec.now))
-        path.now env.now (part_of spec.now) steps.old steps.new result }
+        path.now env.now (part_of spec.now) session.old.steps session.new.steps result }
+    ensures still { OnlyCounts session.old session.new }
 {
     match comp_of(spec) {
         Some((_, name, set)) => {
-            let set = set_again(alloc, kept, env, set, steps)?;
+            let set = set_again(session, kept, env, set)?;
             let choice = this_if(text, set.has(text));
-            chosen(alloc, path, name, &set, choice)
+            chosen(session.alloc, path, name, &set, choice)
         }
         None => Err(Halt::Refused(Refusal::NoStep)),
     }
@@ -82,28 +81,24 @@ pub(crate) fn to<L: Ledger>(
 
 /// The entry at a first part, at a least element, inside an entry, or in a call's body.
 pub(crate) fn into<R: Reader, L: Ledger>(
-    alloc: Global,
-    reader: &mut R,
-    overlay: &Overlay,
+    session: &mut Session<'_, R, L>,
     path: &Path,
     env: &Env,
     spec: &Part<'_>,
     kept: Option<&TextSet>,
-    steps: &mut Steps<L>,
 ) -> Result<Entry, Halt>
     requires described { HasScope env.now (part_of spec.now) }
     requires kept { IsSetOf (option_copied kept) env.now (part_of spec.now) }
-    ensures enters { Enters R.meaning (own_at overlay.now)
+    ensures enters { Enters R.meaning
         (λ a. move.go_into a path.now env.now (part_of spec.now))
-        path.now env.now (part_of spec.now) (reader.old, steps.old)
-        (reader.new, steps.new) result }
+        path.now env.now (part_of spec.now) session.old session.new result }
 {
     match spec.form() {
-        Form::Pair(_, _, _) => first(alloc, path),
-        Form::Comp(_, name, set) => least(alloc, path, env, name, set, kept, steps),
-        Form::Opt(_) => inside(alloc, reader, overlay, path),
-        Form::Call(args, params, _) => body(alloc, path, env, params, args, steps),
-        Form::Last(args) => too_unfolded(alloc, env, args, steps),
+        Form::Pair(_, _, _) => first(session.alloc, path),
+        Form::Comp(_, name, set) => least(session, path, env, name, set, kept),
+        Form::Opt(_) => inside(session, path),
+        Form::Call(args, params, _) => body(session, path, env, params, args),
+        Form::Last(args) => too_unfolded(session, env, args),
         Form::File => Err(Halt::Refused(Refusal::NoStep)),
         Form::Dir => Err(Halt::Refused(Refusal::NoStep)),
         Form::Link => Err(Halt::Refused(Refusal::NoStep)),
@@ -123,51 +118,50 @@ fn first(alloc: Global, path: &Path) -> Result<Entry, Halt>
     })
 }
 
-fn body<L: Ledger>(
-    alloc: Global,
+fn body<R: Reader, L: Ledger>(
+    session: &mut Session<'_, R, L>,
     path: &Path,
     env: &Env,
     params: &Params,
     args: &Exprs,
-    steps: &mut Steps<L>,
 ) -> Result<Entry, Halt>
     requires shaped { HaveShapes env.now params.now args.now }
     ensures enters { (inner : SpecTree) → EntersAt
         (λ a. move.go_into a path.now env.now (SpecTree.call args.now params.now inner))
         path.now env.now (SpecTree.call args.now params.now inner)
-        steps.old steps.new result }
+        session.old.steps session.new.steps result }
+    ensures still { OnlyCounts session.old session.new }
 {
-    let names = names_of(alloc, env, params, args, steps)?;
+    let names = names_of(session, env, params, args)?;
     Ok(Entry {
         step: Step::Body,
-        spot: body_spot(alloc, path, names)?,
+        spot: body_spot(session.alloc, path, names)?,
     })
 }
 
 /// At a call inside 64 others the arguments are evaluated too.
-fn too_unfolded<L: Ledger>(
-    alloc: Global,
+fn too_unfolded<R: Reader, L: Ledger>(
+    session: &mut Session<'_, R, L>,
     env: &Env,
     args: &Exprs,
-    steps: &mut Steps<L>,
 ) -> Result<Entry, Halt>
     requires shaped { AreWellShaped env.now args.now }
     ensures enters { (path : List (List ℕ)) (params : List (List ℕ × ShapeTree)) → EntersAt
         (λ a. move.go_into a path env.now (SpecTree.last args.now params))
-        path env.now (SpecTree.last args.now params) steps.old steps.new result }
+        path env.now (SpecTree.last args.now params) session.old.steps session.new.steps result }
+    ensures still { OnlyCounts session.old session.new }
 {
-    try_arguments(alloc, env, args, steps)?;
+    try_arguments(session, env, args)?;
     Err(Halt::Refused(Refusal::TooUnfolded))
 }
 
-fn least<L: Ledger>(
-    alloc: Global,
+fn least<R: Reader, L: Ledger>(
+    session: &mut Session<'_, R, L>,
     path: &Path,
     env: &Env,
     name: &Word,
     set: &Formula,
     kept: Option<&TextSet>,
-    steps: &mut Steps<L>,
 ) -> Result<Entry, Halt>
     requires shaped { IsWellShaped env.now set.now }
     requires kept { (known : List (List ℕ)) → option_copied kept ≡ Some known
@@ -175,27 +169,22 @@ fn least<L: Ledger>(
     ensures enters { (part : SpecTree) → EntersAt
         (λ a. move.go_into a path.now env.now (SpecTree.comp part name.now set.now))
         path.now env.now (SpecTree.comp part name.now set.now)
-        steps.old steps.new result }
+        session.old.steps session.new.steps result }
+    ensures still { OnlyCounts session.old session.new }
 {
-    let set = set_again(alloc, kept, env, set, steps)?;
-    chosen(alloc, path, name, &set, set.first())
+    let set = set_again(session, kept, env, set)?;
+    chosen(session.alloc, path, name, &set, set.first())
 }
 
-fn inside<R: Reader>(
-    alloc: Global,
-    reader: &mut R,
-    overlay: &Overlay,
-    path: &Path,
-) -> Result<Entry, Halt>
-    ensures enters { (env : Bindings) (part : SpecTree) (n : ℕ)
-        → Enters R.meaning (own_at overlay.now)
+fn inside<R: Reader, L: Ledger>(session: &mut Session<'_, R, L>, path: &Path) -> Result<Entry, Halt>
+    ensures enters { (env : Bindings) (part : SpecTree) → Enters R.meaning
         (λ a. move.go_into a path.now env (SpecTree.opt part))
-        path.now env (SpecTree.opt part) (reader.old, n) (reader.new, n) result }
+        path.now env (SpecTree.opt part) session.old session.new result }
 {
-    if exists(alloc, reader, overlay, path)? {
+    if exists(session, path)? {
         Ok(Entry {
             step: Step::Inside,
-            spot: spot_at(path.copy(alloc)?, reader.reads().len()),
+            spot: spot_at(path.copy(session.alloc)?, session.reader.reads().len()),
         })
     } else {
         Err(Halt::Refused(Refusal::Lacks))

@@ -11,7 +11,8 @@ use fx_spec::Part;
 
 /// The part to which a step leads; a step that the form lacks leads back to it.
 pub(crate) fn child<'a>(step: &Step, spec: &Part<'a>) -> Part<'a>
-    ensures { part_of result ≡ parts.child (step_tree step.now) (part_of spec.now) }
+    ensures part { part_of result ≡ parts.child (step_tree step.now) (part_of spec.now) }
+    ensures defs { result.defs.now ≡ spec.now.defs.now }
 {
     match step {
         Step::First => first_part(spec),
@@ -24,7 +25,8 @@ pub(crate) fn child<'a>(step: &Step, spec: &Part<'a>) -> Part<'a>
 }
 
 fn first_part<'a>(spec: &Part<'a>) -> Part<'a>
-    ensures { part_of result ≡ parts.child place.First (part_of spec.now) }
+    ensures part { part_of result ≡ parts.child place.First (part_of spec.now) }
+    ensures defs { result.defs.now ≡ spec.now.defs.now }
 {
     match pair_of(spec) {
         Some((_, first, _)) => first,
@@ -33,7 +35,8 @@ fn first_part<'a>(spec: &Part<'a>) -> Part<'a>
 }
 
 fn second_part<'a>(spec: &Part<'a>) -> Part<'a>
-    ensures { part_of result ≡ parts.child place.Second (part_of spec.now) }
+    ensures part { part_of result ≡ parts.child place.Second (part_of spec.now) }
+    ensures defs { result.defs.now ≡ spec.now.defs.now }
 {
     match pair_of(spec) {
         Some((_, _, second)) => second,
@@ -42,7 +45,8 @@ fn second_part<'a>(spec: &Part<'a>) -> Part<'a>
 }
 
 fn present_part<'a>(spec: &Part<'a>) -> Part<'a>
-    ensures { part_of result ≡ parts.child place.Inside (part_of spec.now) }
+    ensures part { part_of result ≡ parts.child place.Inside (part_of spec.now) }
+    ensures defs { result.defs.now ≡ spec.now.defs.now }
 {
     match option_of(spec) {
         Some(part) => part,
@@ -51,7 +55,8 @@ fn present_part<'a>(spec: &Part<'a>) -> Part<'a>
 }
 
 fn focus_part<'a>(spec: &Part<'a>) -> Part<'a>
-    ensures { part_of result ≡ parts.child place.Down (part_of spec.now) }
+    ensures part { part_of result ≡ parts.child place.Down (part_of spec.now) }
+    ensures defs { result.defs.now ≡ spec.now.defs.now }
 {
     match focus_of(spec) {
         Some((_, part)) => part,
@@ -60,7 +65,8 @@ fn focus_part<'a>(spec: &Part<'a>) -> Part<'a>
 }
 
 fn body_part<'a>(spec: &Part<'a>) -> Part<'a>
-    ensures { part_of result ≡ parts.child place.Body (part_of spec.now) }
+    ensures part { part_of result ≡ parts.child place.Body (part_of spec.now) }
+    ensures defs { result.defs.now ≡ spec.now.defs.now }
 {
     match call_of(spec) {
         Some((_, _, body)) => body,
@@ -69,8 +75,9 @@ fn body_part<'a>(spec: &Part<'a>) -> Part<'a>
 }
 
 fn row_part<'a>(spec: &Part<'a>) -> Part<'a>
-    ensures { (text : List ℕ)
+    ensures part { (text : List ℕ)
         → part_of result ≡ parts.child (place.Elem text) (part_of spec.now) }
+    ensures defs { result.defs.now ≡ spec.now.defs.now }
 {
     match comp_of(spec) {
         Some((part, _, _)) => part,
@@ -80,7 +87,8 @@ fn row_part<'a>(spec: &Part<'a>) -> Part<'a>
 
 /// The part to which all of the steps lead.
 pub(crate) fn part<'a>(root: &Part<'a>, steps: &[Step]) -> Part<'a>
-    ensures { part_of result ≡ parts.part (part_of root.now) (turned step_tree steps.now) }
+    ensures part { part_of result ≡ parts.part (part_of root.now) (turned step_tree steps.now) }
+    ensures defs { result.defs.now ≡ root.now.defs.now }
 {
     let mut spec = *root;
     for step in steps {
@@ -91,8 +99,9 @@ pub(crate) fn part<'a>(root: &Part<'a>, steps: &[Step]) -> Part<'a>
 
 /// The part to which all steps but the last one lead.
 pub(crate) fn part_around<'a>(root: &Part<'a>, steps: &[Step]) -> Part<'a>
-    ensures { part_of result
+    ensures part { part_of result
         ≡ parts.part (part_of root.now) (drop 1 (turned step_tree steps.now)) }
+    ensures defs { result.defs.now ≡ root.now.defs.now }
 {
     match steps.split_last() {
         Some((_, front)) => part(root, front),

@@ -1,13 +1,11 @@
 //! The place of a zipper, found step by step.
 ghost use Rattle.std.specs.Prelude.{◌≡◌, IfOk, false};
 ghost use Rattle.fx_spec.specs.Shaped.{IsDescribedPlace};
-ghost use Rattle.fx_session.specs.Answering.{answered};
-ghost use Rattle.fx_session.specs.Halts.{split};
-ghost use Rattle.fx_view.specs.Follows.{Follows};
-ghost use Rattle.fx_view.specs.Own.{own_at};
+ghost use Rattle.fx_spec.specs.WellShaped.{AreDefined};
+ghost use Rattle.fx_session.specs.Implements.{Answers};
 ghost use Rattle.fx_walk.specs.Places.{place_tree};
 ghost use Rattle.fx_zip.specs.Calls.{Finds, Settles, Evaluates, place_needed};
-ghost use Rattle.fx_zip.specs.Fresh.{IsFresh};
+ghost use Rattle.fx_zip.specs.Fresh.{IsFreshIn};
 ghost use Rattle.fx_zip.specs.Spots.{LeadsNext};
 ghost use Rattle.fx_zip.specs.Trees.{is_settled};
 
@@ -15,29 +13,23 @@ use crate::frame::Spot;
 use crate::leading::led;
 use crate::part::part;
 use crate::zip::{Zip, last_path};
-use fx_base::Steps;
-use fx_session::Halt;
+use fx_session::{Halt, Session};
 use fx_spec::{Place, Refusal};
-use fx_view::{Overlay, Reader, Stop};
-use std::alloc::Global;
+use fx_view::{Reader, Stop};
 use std::sync::ledger::Ledger;
 
 impl Zip {
     /// Finds the place of the address, at which the zipper then stands: `NoPlace` where there is none.
     pub fn find<R: Reader, L: Ledger>(
         &mut self,
-        alloc: Global,
-        reader: &mut R,
-        overlay: &Overlay,
-        steps: &mut Steps<L>,
+        session: &mut Session<'_, R, L>,
     ) -> Result<(), Halt>
-        requires fresh { IsFresh (R.meaning.reads reader.old)
-            (own_at overlay.now) self.old }
-        ensures { Finds R.meaning (own_at overlay.now) self.old self.new
-            (reader.old, steps.old) (reader.new, steps.new) result }
+        requires fresh { IsFreshIn R.meaning session.old self.old }
+        ensures { Finds R.meaning self.old self.new
+            session.old session.new result }
     {
         'settling: while !self.is_settled() {
-            if !self.settle_next(alloc, reader, overlay, steps)? {
+            if !self.settle_next(session)? {
                 return Err(Halt::Refused(Refusal::NoPlace));
             }
         }
@@ -48,41 +40,33 @@ impl Zip {
     /// is afterwards.
     pub fn place<R: Reader, L: Ledger>(
         &mut self,
-        alloc: Global,
-        reader: &mut R,
-        overlay: &Overlay,
-        steps: &mut Steps<L>,
+        session: &mut Session<'_, R, L>,
     ) -> Result<Place<'_>, Halt>
-        requires fresh { IsFresh (R.meaning.reads reader.old)
-            (own_at overlay.now) self.old }
-        ensures follows { Follows R.meaning (answered place_tree) (own_at overlay.now)
-            (reader.old, steps.old) (reader.new, steps.new)
-            (place_needed self.old.root self.old.address) (split result) }
+        requires fresh { IsFreshIn R.meaning session.old self.old }
+        ensures follows { Answers R.meaning place_tree session.old session.new
+            (place_needed self.old.root self.old.address) result }
         ensures described { IfOk result (λ place. IsDescribedPlace (place_tree place)) }
-        ensures most { Evaluates R.meaning (own_at overlay.now) self.old
-            (reader.old, steps.old) (reader.new, steps.new) (λ S. 0) }
+        ensures defined { IfOk result (λ place. AreDefined place.defs.now) }
+        ensures most { Evaluates R.meaning self.old
+            session.old session.new (λ S. 0) }
     {
-        self.find(alloc, reader, overlay, steps)?;
+        self.find(session)?;
         Ok(self.here())
     }
 
     /// Finds the frame of the first step that has none, where its place is there.
     fn settle_next<R: Reader, L: Ledger>(
         &mut self,
-        alloc: Global,
-        reader: &mut R,
-        overlay: &Overlay,
-        steps: &mut Steps<L>,
+        session: &mut Session<'_, R, L>,
     ) -> Result<bool, Stop>
-        requires fresh { IsFresh (R.meaning.reads reader.old)
-            (own_at overlay.now) self.old }
+        requires fresh { IsFreshIn R.meaning session.old self.old }
         requires unsettled { is_settled self.old ≡ false }
-        ensures settles { Settles R.meaning (own_at overlay.now) self.old self.new
-            (reader.old, steps.old) (reader.new, steps.new) result }
+        ensures settles { Settles R.meaning self.old self.new
+            session.old session.new result }
     {
-        match self.next_spot(alloc, reader, overlay, steps)? {
+        match self.next_spot(session)? {
             Some(spot) => {
-                self.keep(alloc, spot)?;
+                self.keep(session.alloc, spot)?;
                 Ok(true)
             }
             None => Ok(false),
@@ -92,30 +76,17 @@ impl Zip {
     /// The spot to which the first step leads that has no frame, where it leads to one.
     fn next_spot<R: Reader, L: Ledger>(
         &mut self,
-        alloc: Global,
-        reader: &mut R,
-        overlay: &Overlay,
-        steps: &mut Steps<L>,
+        session: &mut Session<'_, R, L>,
     ) -> Result<Option<Spot>, Stop>
-        requires fresh { IsFresh (R.meaning.reads reader.old)
-            (own_at overlay.now) self.old }
+        requires fresh { IsFreshIn R.meaning session.old self.old }
         requires unsettled { is_settled self.old ≡ false }
         ensures same { self.new ≡ self.old }
-        ensures leads { LeadsNext R.meaning (own_at overlay.now) self.old
-            (reader.old, steps.old) (reader.new, steps.new) result }
+        ensures leads { LeadsNext R.meaning self.old
+            session.old session.new result }
     {
         let done = self.frames.len();
         let spec = part(&self.base.description.root(), &self.steps[..done]);
         let path = last_path(&self.top, self.frames.as_slice());
-        led(
-            alloc,
-            reader,
-            overlay,
-            &self.steps[done],
-            path,
-            &mut self.env,
-            &spec,
-            steps,
-        )
+        led(session, &self.steps[done], path, &mut self.env, &spec)
     }
 }

@@ -5,11 +5,10 @@ ghost use Rattle.fx_expr.specs.Sets.{least_above, greatest_below};
 ghost use Rattle.fx_spec.specs.Move as move;
 ghost use Rattle.fx_spec.specs.Place as place;
 ghost use Rattle.fx_store.specs.Rule.{Known};
-ghost use Rattle.fx_view.specs.Own.{own_at};
 ghost use Rattle.fx_view.specs.ReadList.{ReadList};
 ghost use Rattle.fx_zip.specs.Calls.{Moves, Turns, Turned, Besides};
 ghost use Rattle.fx_zip.specs.Calls.{sideways_evals, next_at, prev_at, next_evals, beside};
-ghost use Rattle.fx_zip.specs.Fresh.{IsFresh, Stands, IsNoElement, last_step, last_set, is_first, is_second};
+ghost use Rattle.fx_zip.specs.Fresh.{IsFreshIn, Stands, StandsIn, IsNoElement, last_step, last_set, is_first, is_second};
 ghost use Rattle.fx_zip.specs.Parts.{comp_name, part};
 ghost use Rattle.fx_zip.specs.Spots.{Chooses, FirstLeads};
 ghost use Rattle.fx_zip.specs.Trees.{here, path_of};
@@ -21,12 +20,11 @@ use crate::moving::chosen;
 use crate::part::part_around;
 use crate::step::Step;
 use crate::zip::{Zip, path_around};
-use fx_base::Steps;
 use fx_expr::{Text, TextSet};
-use fx_session::Halt;
+use fx_session::{Halt, Session};
 use fx_spec::Refusal;
 use fx_store::Path;
-use fx_view::{Overlay, Reader, Stop};
+use fx_view::{Reader, Stop};
 use std::alloc::Global;
 use std::sync::ledger::Ledger;
 
@@ -34,45 +32,37 @@ impl Zip {
     /// From a first part, which needs a value, to the second; or to the next greater element.
     pub fn go_next<R: Reader, L: Ledger>(
         &mut self,
-        alloc: Global,
-        reader: &mut R,
-        overlay: &Overlay,
-        steps: &mut Steps<L>,
+        session: &mut Session<'_, R, L>,
     ) -> Result<(), Halt>
-        requires fresh { IsFresh (R.meaning.reads reader.old)
-            (own_at overlay.now) self.old }
-        ensures moves { Moves R.meaning (own_at overlay.now) self.old self.new
-            (reader.old, steps.old) (reader.new, steps.new)
+        requires fresh { IsFreshIn R.meaning session.old self.old }
+        ensures moves { Moves R.meaning self.old self.new
+            session.old session.new
             (move.go_next self.old.root self.old.address)
             (sideways_evals self.old self.old.address) result }
     {
-        self.find(alloc, reader, overlay, steps)?;
+        self.find(session)?;
         if self.is_at_first() {
-            self.to_second(alloc, reader, overlay, steps)
+            self.to_second(session)
         } else {
-            self.to_greater(alloc)
+            self.to_greater(session.alloc)
         }
     }
 
     /// From a second part to the first, or to the next smaller element.
     pub fn go_prev<R: Reader, L: Ledger>(
         &mut self,
-        alloc: Global,
-        reader: &mut R,
-        overlay: &Overlay,
-        steps: &mut Steps<L>,
+        session: &mut Session<'_, R, L>,
     ) -> Result<(), Halt>
-        requires fresh { IsFresh (R.meaning.reads reader.old)
-            (own_at overlay.now) self.old }
-        ensures moves { Moves R.meaning (own_at overlay.now) self.old self.new
-            (reader.old, steps.old) (reader.new, steps.new)
+        requires fresh { IsFreshIn R.meaning session.old self.old }
+        ensures moves { Moves R.meaning self.old self.new
+            session.old session.new
             (move.go_prev self.old.root self.old.address) (λ S. 0) result }
     {
-        self.find(alloc, reader, overlay, steps)?;
+        self.find(session)?;
         if self.is_at_second() {
-            self.to_first(alloc)
+            self.to_first(session.alloc)
         } else {
-            self.to_smaller(alloc)
+            self.to_smaller(session.alloc)
         }
     }
 }
@@ -81,22 +71,18 @@ impl Zip {
     /// From a first part to the second.
     fn to_second<R: Reader, L: Ledger>(
         &mut self,
-        alloc: Global,
-        reader: &mut R,
-        overlay: &Overlay,
-        steps: &mut Steps<L>,
+        session: &mut Session<'_, R, L>,
     ) -> Result<(), Halt>
-        requires stands { Stands (R.meaning.reads reader.old)
-            (own_at overlay.now) self.old }
+        requires stands { StandsIn R.meaning session.old self.old }
         requires first { last_step self.old.address ≡ Some place.First }
-        ensures turns { Turns R.meaning (own_at overlay.now) self.old self.new
-            (reader.old, steps.old) (reader.new, steps.new)
+        ensures turns { Turns R.meaning self.old self.new
+            session.old session.new
             (next_at self.old.root self.old.address (here self.old))
             (next_evals self.old.address (here self.old)) result }
     {
-        match self.after_first(alloc, reader, overlay, steps)? {
+        match self.after_first(session)? {
             Some(spot) => Ok(self.replace(
-                alloc,
+                session.alloc,
                 Entry {
                     step: Step::Second,
                     spot,
@@ -109,31 +95,18 @@ impl Zip {
     /// The spot at the second part of the pair around, where the first part has a value.
     fn after_first<R: Reader, L: Ledger>(
         &mut self,
-        alloc: Global,
-        reader: &mut R,
-        overlay: &Overlay,
-        steps: &mut Steps<L>,
+        session: &mut Session<'_, R, L>,
     ) -> Result<Option<Spot>, Stop>
-        requires stands { Stands (R.meaning.reads reader.old)
-            (own_at overlay.now) self.old }
+        requires stands { StandsIn R.meaning session.old self.old }
         requires first { last_step self.old.address ≡ Some place.First }
         ensures same { self.new ≡ self.old }
-        ensures leads { FirstLeads R.meaning (own_at overlay.now) self.old
-            (reader.old, steps.old) (reader.new, steps.new) result }
+        ensures leads { FirstLeads R.meaning self.old
+            session.old session.new result }
     {
         let path = path_around(&self.top, self.frames.as_slice());
         let around = part_around(&self.base.description.root(), self.steps.as_slice());
         match pair_of(&around) {
-            Some((name, first, _)) => after_first(
-                alloc,
-                reader,
-                overlay,
-                path,
-                &mut self.env,
-                name,
-                &first,
-                steps,
-            ),
+            Some((name, first, _)) => after_first(session, path, &mut self.env, name, &first),
             None => Ok(None),
         }
     }

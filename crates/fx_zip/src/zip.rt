@@ -2,7 +2,7 @@
 ghost use Rattle.std.specs.Prelude.{◌≡◌, ◌-◌, ◌∷◌, [], IfOk, OnErr, MatchOption, None, cond, drop, length, nat_eq, take};
 ghost use Rattle.std.specs.Option.{option_copied, option_map, unwrap_or};
 ghost use Rattle.fx_spec.specs.Parts.{part_of};
-ghost use Rattle.fx_spec.specs.WellShaped.{IsDescription};
+ghost use Rattle.fx_spec.specs.WellShaped.{AreDefined, IsDescription};
 ghost use Rattle.fx_walk.specs.Places.{place_tree};
 ghost use Rattle.fx_view.specs.Own.{SameOver};
 ghost use Rattle.fx_view.specs.ReadList.{ReadList};
@@ -160,6 +160,7 @@ impl Zip {
         ensures place { place_tree result ≡ here self.now }
         ensures described { (reads : ReadList) (own : Known) → Stands reads own self.now
             → IsDescribedPlace (place_tree result) }
+        ensures defined { AreDefined result.defs.now }
     {
         let part = self.spec();
         Place {
@@ -188,6 +189,7 @@ impl Zip {
     pub(crate) fn spec(&self) -> Part<'_>
         ensures part { part_of result ≡ parts.part self.now.root self.now.address }
         ensures described { IsDescription [] self.now.root }
+        ensures defined { AreDefined result.defs.now }
     {
         part(&self.root(), self.steps.as_slice())
     }
@@ -195,6 +197,7 @@ impl Zip {
     pub(crate) fn root(&self) -> Part<'_>
         ensures root { part_of result ≡ self.now.root }
         ensures described { IsDescription [] self.now.root }
+        ensures defined { AreDefined result.defs.now }
     {
         self.base.description.root()
     }
@@ -203,6 +206,7 @@ impl Zip {
     pub(crate) fn around(&self) -> Part<'_>
         ensures part { part_of result ≡ parts.part self.now.root (drop 1 self.now.address) }
         ensures described { IsDescription [] self.now.root }
+        ensures defined { AreDefined result.defs.now }
     {
         part_around(&self.root(), self.steps.as_slice())
     }

@@ -1,4 +1,4 @@
-use Rattle.std.proofs.Common.{◌≡◌, ◌++◌, ◌∷◌, [], ◌+◌, ◌<◌, length, take, sym, ap, ◌∙◌, rules}
+use Rattle.std.proofs.Common.{◌≡◌, ◌++◌, ◌∷◌, [], ◌+◌, ◌<◌, length, take, refl, sym, ap, ◌∙◌, rules}
 use Rattle.std.proofs.lemmas.List.{take_more}
 use Rattle.fx_spec.specs.Parts.{part_of}
 use Rattle.fx_zip.specs.Parts.{child, part}
@@ -12,5 +12,13 @@ loop-step-preserved c =
     let i = c.loop-step.step-index in
     let item = c.step-item.result in
     let within : i < length steps = search rules in
-    let taken : take (i + 1) steps ≡ take i steps ++ item ∷ [] = take_more steps i item within ∙ ap (λ y. take i steps ++ y ∷ []) (sym c.step-item.is) in
-    c.child-spec.ensures ∙ ap (child (step_tree item)) c.loop-step.invariant ∙ ap (part (part_of c.args.root.now)) (sym (ap (turned step_tree) taken ∙ turned-last step_tree (take i steps) item))
+    let taken : take (i + 1) steps ≡ take i steps ++ item ∷ [] = take_more steps i item within ∙ ap (λ y. take i steps ++ y ∷ []) (sym c.step-item.is) in (
+      c.child-spec.ensures.part ∙ ap (child (step_tree item)) c.loop-step.invariant.0 ∙ ap (part (part_of c.args.root.now)) (sym (ap (turned step_tree) taken ∙ turned-last step_tree (take i steps) item)),
+      c.child-spec.ensures.defs ∙ c.loop-step.invariant.1,
+    )
+
+pub loop-step-init : goal.loop-step-init
+loop-step-init c = (refl, refl)
+
+pub returns-clause-defs : goal.returns-clause-defs
+returns-clause-defs c = c.loop-step.invariant.1

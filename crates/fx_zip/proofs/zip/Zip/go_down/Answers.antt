@@ -5,29 +5,29 @@ use Rattle.fx_spec.specs.Parts.{part_of}
 use Rattle.fx_view.specs.Own.{own_at}
 use Rattle.fx_zip.specs.Calls.{place_evals}
 use Rattle.fx_zip.proofs.Places.{moves_unfound, here_scope, enters_here, moved_in, moved_memory, moved_not}
-use Rattle.fx_zip.proofs.Telling.{enters_of}
+use Rattle.fx_zip.proofs.Sessions.{enters_of}
 use Rattle.fx_zip.proofs.zip.Zip.go_down.Goals as goal
 
 pub returns-in_err-find : goal.returns-in_err-find
 returns-in_err-find g c = record {
   moves =
-      moves_unfound g.R.Reader.meaning (own_at c.args.overlay.now) c.args.self.now c.find.new.self (c.args.reader.now, c.args.steps.now) (c.find.new.reader, c.find.new.steps) (λ at. go_down c.args.self.now.address at.path at.env at.spec) (from_place c.args.self.now.root c.args.self.now.address go_down) refl (place_evals c.args.self.now (λ at. go_down c.args.self.now.address at.path at.env at.spec)) c.in_err-find.field-0.0 c.from_residual.result c.from_residual.ensures.1 c.in_err-find.ensures;
+      moves_unfound g.R.Reader.meaning c.args.self.now c.find.new.self c.args.session.now c.find.new.session (λ at. go_down c.args.self.now.address at.path at.env at.spec) (from_place c.args.self.now.root c.args.self.now.address go_down) refl (place_evals c.args.self.now (λ at. go_down c.args.self.now.address at.path at.env at.spec)) c.in_err-find.field-0.0 c.from_residual.result c.from_residual.ensures.1 c.in_err-find.ensures;
 }
 
 pub down-requires : goal.down-requires
-down-requires g c = record { described = here_scope (g.R.Reader.meaning.reads c.find.new.reader) (own_at c.args.overlay.now) c.find.new.self c.path.result.now c.env.result.now (part_of c.spec.result) c.path.ensures c.env.ensures c.spec.ensures.part c.spec.ensures.described c.in_ok-find.ensures.stands }
+down-requires g c = record { described = here_scope (g.R.Reader.meaning.reads c.find.new.session.reader.now) (own_at c.find.new.session.own) c.find.new.self c.path.result.now c.env.result.now (part_of c.spec.result) c.path.ensures c.env.ensures c.spec.ensures.part c.spec.ensures.described c.in_ok-find.ensures.stands }
 
 pub returns-in_err-entry : goal.returns-in_err-entry
 returns-in_err-entry g c = record {
-  moves = moved_not g.R.Reader.meaning (own_at c.args.overlay.now) c.args.self.now c.find.new.self (c.args.reader.now, c.args.steps.now) (c.find.new.reader, c.find.new.steps) (c.find.new.reader, c.down.new.steps) c.in_ok-find.ensures go_down c.in_err-entry.field-0.0 c.from_residual-in_err-entry.result (enters_here (g.R.Reader.meaning.reads c.find.new.reader) (own_at c.args.overlay.now) c.find.new.self c.path.result.now c.env.result.now (part_of c.spec.result) c.path.ensures c.env.ensures c.spec.ensures.part go_down (Err c.in_err-entry.field-0.0) g.R.Reader.meaning (c.find.new.reader, c.find.new.steps) (c.find.new.reader, c.down.new.steps) (enters_of g.R.Reader.meaning (own_at c.args.overlay.now) (λ a. go_down a c.path.result.now c.env.result.now (part_of c.spec.result)) c.path.result.now c.env.result.now (part_of c.spec.result) c.find.new.reader c.find.new.steps c.down.new.steps (Err c.in_err-entry.field-0.0) c.in_err-entry.ensures.enters)) c.from_residual-in_err-entry.ensures.1;
+  moves = moved_not g.R.Reader.meaning c.args.self.now c.find.new.self c.args.session.now c.find.new.session c.down.new.session c.in_ok-find.ensures go_down c.in_err-entry.field-0.0 c.from_residual-in_err-entry.result (enters_here (g.R.Reader.meaning.reads c.find.new.session.reader.now) (own_at c.find.new.session.own) c.find.new.self c.path.result.now c.env.result.now (part_of c.spec.result) c.path.ensures c.env.ensures c.spec.ensures.part go_down (Err c.in_err-entry.field-0.0) g.R.Reader.meaning c.find.new.session c.down.new.session (enters_of c.in_err-entry.ensures.still c.in_err-entry.ensures.enters)) c.from_residual-in_err-entry.ensures.1;
 }
 
 pub returns-in_err-enter : goal.returns-in_err-enter
 returns-in_err-enter g c = record {
-  moves = moved_memory g.R.Reader.meaning (own_at c.args.overlay.now) c.args.self.now c.find.new.self (c.args.reader.now, c.args.steps.now) (c.find.new.reader, c.find.new.steps) (c.find.new.reader, c.down.new.steps) c.in_ok-find.ensures go_down c.in_ok-entry.entry c.enter.new.self c.from_residual-in_err-enter.result (enters_here (g.R.Reader.meaning.reads c.find.new.reader) (own_at c.args.overlay.now) c.find.new.self c.path.result.now c.env.result.now (part_of c.spec.result) c.path.ensures c.env.ensures c.spec.ensures.part go_down (Ok c.in_ok-entry.entry) g.R.Reader.meaning (c.find.new.reader, c.find.new.steps) (c.find.new.reader, c.down.new.steps) (enters_of g.R.Reader.meaning (own_at c.args.overlay.now) (λ a. go_down a c.path.result.now c.env.result.now (part_of c.spec.result)) c.path.result.now c.env.result.now (part_of c.spec.result) c.find.new.reader c.find.new.steps c.down.new.steps (Ok c.in_ok-entry.entry) c.in_ok-entry.ensures.enters)) c.in_err-enter.ensures.root c.from_residual-in_err-enter.ensures.1;
+  moves = moved_memory g.R.Reader.meaning c.args.self.now c.find.new.self c.args.session.now c.find.new.session c.down.new.session c.in_ok-find.ensures go_down c.in_ok-entry.entry c.enter.new.self c.from_residual-in_err-enter.result (enters_here (g.R.Reader.meaning.reads c.find.new.session.reader.now) (own_at c.find.new.session.own) c.find.new.self c.path.result.now c.env.result.now (part_of c.spec.result) c.path.ensures c.env.ensures c.spec.ensures.part go_down (Ok c.in_ok-entry.entry) g.R.Reader.meaning c.find.new.session c.down.new.session (enters_of c.in_ok-entry.ensures.still c.in_ok-entry.ensures.enters)) c.in_err-enter.ensures.root c.from_residual-in_err-enter.ensures.1;
 }
 
 pub returns : goal.returns
 returns g c = record {
-  moves = moved_in g.R.Reader.meaning (own_at c.args.overlay.now) c.args.self.now c.find.new.self (c.args.reader.now, c.args.steps.now) (c.find.new.reader, c.find.new.steps) (c.find.new.reader, c.down.new.steps) c.in_ok-find.ensures go_down c.in_ok-entry.entry c.enter.new.self (enters_here (g.R.Reader.meaning.reads c.find.new.reader) (own_at c.args.overlay.now) c.find.new.self c.path.result.now c.env.result.now (part_of c.spec.result) c.path.ensures c.env.ensures c.spec.ensures.part go_down (Ok c.in_ok-entry.entry) g.R.Reader.meaning (c.find.new.reader, c.find.new.steps) (c.find.new.reader, c.down.new.steps) (enters_of g.R.Reader.meaning (own_at c.args.overlay.now) (λ a. go_down a c.path.result.now c.env.result.now (part_of c.spec.result)) c.path.result.now c.env.result.now (part_of c.spec.result) c.find.new.reader c.find.new.steps c.down.new.steps (Ok c.in_ok-entry.entry) c.in_ok-entry.ensures.enters)) c.in_ok-enter.ensures.entered;
+  moves = moved_in g.R.Reader.meaning c.args.self.now c.find.new.self c.args.session.now c.find.new.session c.down.new.session c.in_ok-find.ensures go_down c.in_ok-entry.entry c.enter.new.self (enters_here (g.R.Reader.meaning.reads c.find.new.session.reader.now) (own_at c.find.new.session.own) c.find.new.self c.path.result.now c.env.result.now (part_of c.spec.result) c.path.ensures c.env.ensures c.spec.ensures.part go_down (Ok c.in_ok-entry.entry) g.R.Reader.meaning c.find.new.session c.down.new.session (enters_of c.in_ok-entry.ensures.still c.in_ok-entry.ensures.enters)) c.in_ok-enter.ensures.entered;
 }

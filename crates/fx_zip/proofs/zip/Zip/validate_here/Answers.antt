@@ -18,17 +18,17 @@ use Rattle.fx_zip.proofs.zip.Zip.validate_here.Goals as goal
 pub validate_at-requires : goal.validate_at-requires
 validate_at-requires g c =
     let rooted : part_of c.root.result ≡ c.args.self.now.root = search rules in
-    let form : part_of c.part-spec.result ≡ part c.args.self.now.root c.args.self.now.address = c.part-spec.ensures ∙ ap (λ (xs : List Step). part (part_of c.root.result) (turned step_tree xs)) c.as_slice-2.ensures.value ∙ ap (λ r. part r (turned step_tree c.self.inside.steps.items)) rooted ∙ ap (λ (z : ZipTree). part c.args.self.now.root z.address) c.self.view_is in
+    let form : part_of c.part-spec.result ≡ part c.args.self.now.root c.args.self.now.address = c.part-spec.ensures.part ∙ ap (λ (xs : List Step). part (part_of c.root.result) (turned step_tree xs)) c.as_slice-2.ensures.value ∙ ap (λ r. part r (turned step_tree c.self.inside.steps.items)) rooted ∙ ap (λ (z : ZipTree). part c.args.self.now.root z.address) c.self.view_is in
     let at : c.last_path-path.result.now ≡ path_of c.args.self.now.frames = c.last_path-path.ensures ∙ ap (λ (fs : List Frame). path_of (turned (λ f. f) fs)) c.as_slice.ensures.value ∙ ap (λ (z : ZipTree). path_of z.frames) c.self.view_is in
     let described : IsDescription [] c.args.self.now.root = subst (IsDescription []) rooted (subst (IsDescription []) (sym c.root.ensures.tree) c.root.ensures.described) in
-    record { described = here_scope (g.R.Reader.meaning.reads c.args.reader.now) (own_at c.args.overlay.now) c.args.self.now c.last_path-path.result.now c.self.inside.env (part_of c.part-spec.result) at (ap (λ (z : ZipTree). z.env) c.self.view_is) form described c.requires.stands }
+    record { described = here_scope (g.R.Reader.meaning.reads c.args.session.now.reader.now) (own_at c.args.session.now.own) c.args.self.now c.last_path-path.result.now c.self.inside.env (part_of c.part-spec.result) at (ap (λ (z : ZipTree). z.env) c.self.view_is) form described c.requires.stands }
 
 pub returns-clause-follows : goal.returns-clause-follows
 returns-clause-follows g c =
     let rooted : part_of c.root.result ≡ c.args.self.now.root = search rules in
-    let form : part_of c.part-spec.result ≡ part c.args.self.now.root c.args.self.now.address = c.part-spec.ensures ∙ ap (λ (xs : List Step). part (part_of c.root.result) (turned step_tree xs)) c.as_slice-2.ensures.value ∙ ap (λ r. part r (turned step_tree c.self.inside.steps.items)) rooted ∙ ap (λ (z : ZipTree). part c.args.self.now.root z.address) c.self.view_is in
+    let form : part_of c.part-spec.result ≡ part c.args.self.now.root c.args.self.now.address = c.part-spec.ensures.part ∙ ap (λ (xs : List Step). part (part_of c.root.result) (turned step_tree xs)) c.as_slice-2.ensures.value ∙ ap (λ r. part r (turned step_tree c.self.inside.steps.items)) rooted ∙ ap (λ (z : ZipTree). part c.args.self.now.root z.address) c.self.view_is in
     let at : c.last_path-path.result.now ≡ path_of c.args.self.now.frames = c.last_path-path.ensures ∙ ap (λ (fs : List Frame). path_of (turned (λ f. f) fs)) c.as_slice.ensures.value ∙ ap (λ (z : ZipTree). path_of z.frames) c.self.view_is in
-    followed_here g.R.Reader.meaning (λ b. Tree.bool b) (own_at c.args.overlay.now) (c.args.reader.now, c.args.steps.now) (c.validate_at.new.reader, c.validate_at.new.steps) validate_at c.validate_at.result c.last_path-path.result.now (path_of c.args.self.now.frames) c.self.inside.env c.args.self.now.env (part_of c.part-spec.result) (part c.args.self.now.root c.args.self.now.address) at (ap (λ (z : ZipTree). z.env) c.self.view_is) form c.validate_at.ensures.follows
+    followed_here g.R.Reader.meaning (λ b. Tree.bool b) c.args.session.now c.validate_at.new.session validate_at c.validate_at.result c.last_path-path.result.now (path_of c.args.self.now.frames) c.self.inside.env c.args.self.now.env (part_of c.part-spec.result) (part c.args.self.now.root c.args.self.now.address) at (ap (λ (z : ZipTree). z.env) c.self.view_is) form c.validate_at.ensures.follows
 
 pub returns-clause-same : goal.returns-clause-same
 returns-clause-same g c =
