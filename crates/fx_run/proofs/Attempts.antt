@@ -16,10 +16,10 @@ use Rattle.fx_view.specs.Follows.{Went, GoesBy, walked}
 use Rattle.fx_machine.specs.declared.attempt.Attempt.{Attempt}
 use Rattle.fx_machine.specs.Explained.{IsExplained}
 use Rattle.fx_run.specs.declared.finishing.Finished.{Finished}
-use Rattle.fx_obey.specs.declared.pursuing.Ran.{Ran}
-use Rattle.fx_obey.specs.declared.work.Work.{Work}
-use Rattle.fx_obey.specs.Course.{pursued, came_of}
-use Rattle.fx_obey.specs.Works.{flow_by}
+use Rattle.fx_run.specs.declared.pursuing.Ran.{Ran}
+use Rattle.fx_run.specs.declared.work.Work.{Work}
+use Rattle.fx_run.specs.Course.{pursued, came_of}
+use Rattle.fx_run.specs.Works.{flow_by}
 use Rattle.fx_run.specs.Finishing.{IsFinished, IsAttempt, Finishes}
 use Rattle.fx_run.specs.Running.{ReadsFit, Foretells, Attempted, KeepsOn, StoppedAt}
 use Rattle.fx_run.proofs.Explaining.{explained, next_needed, unread_needed, fit_again}
