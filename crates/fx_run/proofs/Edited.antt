@@ -10,26 +10,25 @@ use Rattle.fx_spec.specs.Place.{Address, PlaceTree, place}
 use Rattle.fx_spec.specs.SpecTree.{SpecTree}
 use Rattle.fx_spec.specs.Transaction.{edits, editing}
 use Rattle.fx_spec.specs.Transaction as txn
-use Rattle.fx_edit.specs.Edits.{Edits}
+use Rattle.fx_edit.specs.Edits.{Edits, under}
 use Rattle.fx_session.specs.declared.halt.Halt.{Halt}
 use Rattle.fx_session.specs.declared.halt.Halt.TheVariants as halt
-use Rattle.fx_session.specs.Answering.{answered}
+use Rattle.fx_session.specs.declared.session.Session.{Session}
+use Rattle.fx_session.specs.Implements.{Implements}
+use Rattle.fx_session.proofs.Calls.{same_rule, then_on, then_answers, stops}
 use Rattle.fx_view.specs.declared.reader.Stop.{Stop}
-use Rattle.fx_view.specs.Follows.{GoesBy}
 use Rattle.fx_view.specs.Meaning.{Meaning}
-use Rattle.fx_view.specs.Own.{own_at, AreRead, SameOver}
+use Rattle.fx_view.specs.Own.{own_at, put_all, SameOver}
 use Rattle.fx_view.specs.OwnList.{OwnList}
 use Rattle.fx_view.specs.ReadList.{ReadList}
 use Rattle.fx_base.proofs.Errors.{err_of}
-use Rattle.fx_view.proofs.Rulings.{by_same, by_then, by_then_answer, by_stop}
 use Rattle.fx_zip.specs.Calls.{Finds, place_needed}
 use Rattle.fx_zip.specs.Fresh.{IsFresh}
 use Rattle.fx_zip.specs.Trees.{ZipTree, here}
-use Rattle.fx_zip.proofs.Standing.{fresh_grows}
 use Rattle.fx_run.specs.declared.walk.Walk.{Walk}
 use Rattle.fx_run.specs.Acts.{Acts}
-use Rattle.fx_run.proofs.Going.{known_grows, read_on, goes_mapped, stop_as}
-use Rattle.fx_run.proofs.Taken.{moved}
+use Rattle.fx_run.proofs.Going.{mapped, read_with, fresh_with, stop_as}
+use Rattle.fx_run.proofs.Taken.{walk_of}
 
 abbrev Rest : Type 0
 Rest = PlaceTree → Ask (Answered (List Change))
@@ -37,90 +36,74 @@ Rest = PlaceTree → Ask (Answered (List Change))
 at_place_is : (root : SpecTree) (a : Address) (rest : Rest) → (place_needed root a >>= unrefused rest) ≡ at_place root a rest
 at_place_is root a rest = ask-bind-assoc (place root a) (λ at. Answer (needed Refusal.NoPlace at)) (unrefused rest)
 
--- the walk with another zipper and other own changes
-abbrev pub walk_of : ZipTree → OwnList → Walk
-walk_of z own = record { zip = z; overlay = own }
-
 -- the frames that the first reads tell last over own changes elsewhere
 abbrev Lasts : ℕ → ZipTree → ZipTree → Type 0
 Lasts n old new = (reads : ReadList) (own now : Known) → SameOver (take n reads) own now → IsFresh reads own old → IsFresh reads now new
 
-module _ {R : Type 0} (m : Meaning R) (old : Walk) (mid : ZipTree) (was then : R × ℕ) (rest : Rest) where
-  abbrev rule : Ask (Answered (List Change))
-  rule = at_place old.zip.root old.zip.address rest
-
-  abbrev found_view : Result (Unit {0}) Refusal → Answered PlaceTree
-  found_view = answered (λ (u : Unit {0}). here mid)
-
+module _ {R L : Type 0} {m : Meaning R} {old : Walk R L} {mid : ZipTree} {then : Session R L} (rest : Rest) where
   -- ---- the place is not found
 
-  unfound : (e : Halt) → Finds m (own_at old.overlay) old.zip mid was then (Err e) → Acts m old (moved old mid) was.0 then.0 (editing rule) (Err e)
+  unfound : (e : Halt) → Finds m old.zip mid old.session then (Err e) → Acts m old (walk_of mid then) (editing (at_place old.zip.root old.zip.address rest)) (Err e)
   unfound (halt.Refused f) h =
-      let goes = by_same m (λ (u : Unit {0}). Err f) (own_at old.overlay) was.0 then.0 (place_needed old.zip.root old.zip.address >>= unrefused rest) rule (Ok tt) (at_place_is old.zip.root old.zip.address rest)
-      (by_then_answer m found_view (λ (u : Unit {0}). Err f) (own_at old.overlay) was.0 then.0 (place_needed old.zip.root old.zip.address) (unrefused rest) (Err f) tt h.follows.goes refl) in
+      let goes : Implements {X = Unit {0}} m (λ u. Err f) old.session then (at_place old.zip.root old.zip.address rest) (Ok tt) =
+      same_rule (place_needed old.zip.root old.zip.address >>= unrefused rest) (at_place old.zip.root old.zip.address rest) (at_place_is old.zip.root old.zip.address rest)
+      (then_answers (place_needed old.zip.root old.zip.address) (unrefused rest) tt h.follows refl) in
       record {
-        taken = (goes_mapped m (λ (u : Unit {0}). Err f) (own_at old.overlay) was.0 then.0 rule edits (Ok tt) goes, h.address, refl);
+        taken = (mapped goes edits, h.address, goes.own);
         fresh = h.fresh;
         root = h.root;
-        read = λ read. read_on m (λ (u : Unit {0}). Err f) (own_at old.overlay) was.0 then.0 rule (Ok tt) goes old.overlay read;
+        read = read_with goes;
+        lent = goes.lent;
       }
   unfound (halt.Stopped why) h =
-      let goes = by_same m (λ (u : Unit {0}). Ok []) (own_at old.overlay) was.0 then.0 (place_needed old.zip.root old.zip.address >>= unrefused rest) rule (Err why) (at_place_is old.zip.root old.zip.address rest)
-      (by_stop m found_view (λ (u : Unit {0}). Ok []) (own_at old.overlay) was.0 then.0 (place_needed old.zip.root old.zip.address) (unrefused rest) why h.follows.goes) in
+      let goes : Implements {X = Unit {0}} m (λ u. Ok []) old.session then (at_place old.zip.root old.zip.address rest) (Err why) =
+      same_rule (place_needed old.zip.root old.zip.address >>= unrefused rest) (at_place old.zip.root old.zip.address rest) (at_place_is old.zip.root old.zip.address rest)
+      (stops (place_needed old.zip.root old.zip.address) (unrefused rest) (Err why) refl h.follows) in
       record {
-        taken = stop_as m (λ (u : Unit {0}). edits (Ok [])) (own_at old.overlay) was.0 then.0 (editing rule) (λ (u : Unit {0}). Ok (txn.Moves old.zip.address)) why (goes_mapped m (λ (u : Unit {0}). Ok []) (own_at old.overlay) was.0 then.0 rule edits (Err why) goes);
+        taken = stop_as m (λ (u : Unit {0}). edits (Ok [])) (own_at old.session.own) old.session.reader.now then.reader.now (editing (at_place old.zip.root old.zip.address rest)) (λ (u : Unit {0}). Ok (txn.Moves old.zip.address)) why (mapped goes edits);
         fresh = tt;
         root = h.root;
         read = λ read. tt;
+        lent = goes.lent;
       }
 
-  pub unfound_acts : (e : Halt) (r : Result (Unit {0}) Halt) → IsErrAnd r (λ h. h ≡ e) → Finds m (own_at old.overlay) old.zip mid was then (Err e) → Acts m old (moved old mid) was.0 then.0 (editing rule) r
-  unfound_acts e r is h = subst (Acts m old (moved old mid) was.0 then.0 (editing rule)) (sym (err_of r e is)) (unfound e h)
+  pub unfound_acts : {r : Result (Unit {0}) Halt} (e : Halt) → IsErrAnd r (λ h. h ≡ e) → Finds m old.zip mid old.session then (Err e) → Acts m old (walk_of mid then) (editing (at_place old.zip.root old.zip.address rest)) r
+  unfound_acts {r = r} e is h = subst (Acts m old (walk_of mid then) (editing (at_place old.zip.root old.zip.address rest))) (sym (err_of r e is)) (unfound e h)
 
   -- ---- it is found, and the edit goes on from there
 
-  module _ (finds : Finds m (own_at old.overlay) old.zip mid was then (Ok tt)) (now : R) (own : OwnList) (at : PlaceTree) (same : at ≡ here mid) where
-    goes_on : {Y : Type 0} (view : Y → Answered (List Change)) (r : Result Y Stop) → GoesBy m view (own_at old.overlay) then.0 now (rest at) r → GoesBy m view (own_at old.overlay) was.0 now rule r
-    goes_on view r h =
-        by_same m view (own_at old.overlay) was.0 now (place_needed old.zip.root old.zip.address >>= unrefused rest) rule r (at_place_is old.zip.root old.zip.address rest)
-        (by_then m found_view view (own_at old.overlay) was.0 then.0 (place_needed old.zip.root old.zip.address) (unrefused rest) now (Ok tt) r finds.follows.goes (by_same m view (own_at old.overlay) then.0 now (rest at) (rest (here mid)) r (ap rest same) h))
-
-    read_then : AreRead old.overlay (m.reads was.0) → AreRead old.overlay (m.reads then.0)
-    read_then read = read_on m found_view (own_at old.overlay) was.0 then.0 (place_needed old.zip.root old.zip.address) (Ok (Ok tt)) finds.follows.goes old.overlay read
+  module _ (finds : Finds m old.zip mid old.session then (Ok tt)) (at : PlaceTree) (same : at ≡ here mid) where
+    goes_on : (now : Session R L) {Y : Type 0} {view : Y → Answered (List Change)} {r : Result Y Stop} → Implements m view then (under then.own now) (rest at) r → Implements m view old.session (under then.own now) (at_place old.zip.root old.zip.address rest) r
+    goes_on now h =
+        same_rule (place_needed old.zip.root old.zip.address >>= unrefused rest) (at_place old.zip.root old.zip.address rest) (at_place_is old.zip.root old.zip.address rest)
+        (then_on (place_needed old.zip.root old.zip.address) (unrefused rest) finds.follows (same_rule (rest at) (rest (here mid)) (ap rest same) h))
 
     -- it is refused or stops
-    failed : (e : Halt) → Edits m old.overlay own then.0 now (rest at) (Err e) → Acts m old (walk_of mid own) was.0 now (editing rule) (Err e)
-    failed (halt.Refused f) h =
-        let goes = (h.made.0 0).goes in
-        record {
-          taken = (goes_mapped m (λ (u : Unit {0}). Err f) (own_at old.overlay) was.0 now rule edits (Ok tt) (goes_on (λ (u : Unit {0}). Err f) (Ok tt) goes), finds.address, h.made.1);
-          fresh =
-              subst (λ o. IsFresh (m.reads now) (own_at o) mid) (sym h.made.1)
-              (fresh_grows (m.reads then.0) (own_at old.overlay) mid (m.reads now) (known_grows m (λ (u : Unit {0}). Err f) (own_at old.overlay) then.0 now (rest at) (Ok tt) goes) finds.fresh);
-          root = finds.root;
-          read = λ read. h.read (read_then read);
-        }
-    failed (halt.Stopped why) h = record {
-      taken =
-          stop_as m (λ (u : Unit {0}). edits (Ok [])) (own_at old.overlay) was.0 now (editing rule) (λ (u : Unit {0}). Ok (txn.Moves old.zip.address)) why
-          (goes_mapped m (λ (u : Unit {0}). Ok []) (own_at old.overlay) was.0 now rule edits (Err why) (goes_on (λ (u : Unit {0}). Ok []) (Err why) (h.made 0).goes));
+    failed : (now : Session R L) (e : Halt) → Edits m then now (rest at) (Err e) → Acts m old (walk_of mid now) (editing (at_place old.zip.root old.zip.address rest)) (Err e)
+    failed now (halt.Refused f) h = record {
+      taken = (mapped (goes_on now h.made.0) edits, finds.address, h.made.1 ∙ finds.follows.own);
+      fresh = subst (λ (own : OwnList). IsFresh (m.reads now.reader.now) (own_at own) mid) (sym h.made.1) (fresh_with h.made.0 mid finds.fresh);
+      root = finds.root;
+      read = λ read. h.read (read_with finds.follows read);
+      lent = h.lent ∙ finds.follows.lent;
+    }
+    failed now (halt.Stopped why) h = record {
+      taken = stop_as m (λ (u : Unit {0}). edits (Ok [])) (own_at old.session.own) old.session.reader.now now.reader.now (editing (at_place old.zip.root old.zip.address rest)) (λ (u : Unit {0}). Ok (txn.Moves old.zip.address)) why (mapped (goes_on now h.made) edits);
       fresh = tt;
       root = finds.root;
       read = λ read. tt;
+      lent = h.lent ∙ finds.follows.lent;
     }
 
-    pub failed_acts : (e : Halt) (r : Result (Unit {0}) Halt) → IsErrAnd r (λ h. h ≡ e) → Edits m old.overlay own then.0 now (rest at) (Err e) → Acts m old (walk_of mid own) was.0 now (editing rule) r
-    failed_acts e r is h = subst (Acts m old (walk_of mid own) was.0 now (editing rule)) (sym (err_of r e is)) (failed e h)
+    pub failed_acts : {now : Session R L} {r : Result (Unit {0}) Halt} (e : Halt) → IsErrAnd r (λ h. h ≡ e) → Edits m then now (rest at) (Err e) → Acts m old (walk_of mid now) (editing (at_place old.zip.root old.zip.address rest)) r
+    failed_acts {now = now} {r = r} e is h = subst (Acts m old (walk_of mid now) (editing (at_place old.zip.root old.zip.address rest))) (sym (err_of r e is)) (failed now e h)
 
     -- it is made
-    pub edited_acts : (z : ZipTree) (n : ℕ) → z.root ≡ mid.root → z.address ≡ mid.address → Lasts n mid z → SameOver (take n (m.reads now)) (own_at old.overlay) (own_at own) → Edits m old.overlay own then.0 now (rest at) (Ok tt) → Acts m old (walk_of z own) was.0 now (editing rule) (Ok tt)
-    edited_acts z n root address lasts same h =
-        let goes = (h.made.1 0).goes in
-        record {
-          taken = (txn.Changes h.made.0, goes_mapped m (λ (u : Unit {0}). Ok h.made.0) (own_at old.overlay) was.0 now rule edits (Ok tt) (goes_on (λ (u : Unit {0}). Ok h.made.0) (Ok tt) goes), (address ∙ finds.address, h.made.2));
-          fresh =
-              lasts (m.reads now) (own_at old.overlay) (own_at own) same
-              (fresh_grows (m.reads then.0) (own_at old.overlay) mid (m.reads now) (known_grows m (λ (u : Unit {0}). Ok h.made.0) (own_at old.overlay) then.0 now (rest at) (Ok tt) goes) finds.fresh);
-          root = root ∙ finds.root;
-          read = λ read. h.read (read_then read);
-        }
+    pub edited_acts : {now : Session R L} {z : ZipTree} (n : ℕ) → z.root ≡ mid.root → z.address ≡ mid.address → Lasts n mid z → SameOver (take n (m.reads now.reader.now)) (own_at then.own) (own_at now.own) → Edits m then now (rest at) (Ok tt) → Acts m old (walk_of z now) (editing (at_place old.zip.root old.zip.address rest)) (Ok tt)
+    edited_acts {now = now} n root address lasts same h = record {
+      taken = (txn.Changes h.made.0, mapped (goes_on now h.made.1) edits, (address ∙ finds.address, h.made.2 ∙ ap (λ (own : OwnList). put_all own h.made.0) finds.follows.own));
+      fresh = lasts (m.reads now.reader.now) (own_at then.own) (own_at now.own) same (fresh_with h.made.1 mid finds.fresh);
+      root = root ∙ finds.root;
+      read = λ read. h.read (read_with finds.follows read);
+      lent = h.lent ∙ finds.follows.lent;
+    }

@@ -22,9 +22,9 @@ module _ (given written : Command) (is : given ≡ written) where
   pub scopes_as : (old new : Bindings) (r : Result (Unit {0}) Leave) → Scopes (command_tree written) old new r → Scopes (command_tree given) old new r
   scopes_as old new r h = subst (λ k. Scopes (command_tree k) old new r) (sym is) h
 
-  module _ {R : Type 0} (m : Meaning R) (i : ℕ) (old new : Work) (was : R) where
-    pub obeys_as : (now : R) (r : Result (Unit {0}) Leave) → Obeys m (run (root_of old) i (command_tree written) (standing_of old)) old new was now r → Obeys m (run (root_of old) i (command_tree given) (standing_of old)) old new was now r
-    obeys_as now r h = subst (λ k. Obeys m (run (root_of old) i (command_tree k) (standing_of old)) old new was now r) (sym is) h
+  module _ {R L : Type 0} {m : Meaning R} (i : ℕ) {old new : Work R L} {r : Result (Unit {0}) Leave} where
+    pub obeys_as : Obeys m (run (root_of old) i (command_tree written) (standing_of old)) old new r → Obeys m (run (root_of old) i (command_tree given) (standing_of old)) old new r
+    obeys_as h = subst (λ k. Obeys m (run (root_of old) i (command_tree k) (standing_of old)) old new r) (sym is) h
 
-    pub quiet_as : (r : Result (Unit {0}) Leave) → IsSound (m.reads was) old.walk → IsQuiet (run (root_of old) i (command_tree written) (standing_of old)) old new r → Obeys m (run (root_of old) i (command_tree given) (standing_of old)) old new was was r
-    quiet_as r sound h = obeys_as was r (obeys_quiet m (run (root_of old) i (command_tree written) (standing_of old)) old new was r sound h)
+    pub quiet_as : IsSound m old.walk → IsQuiet (run (root_of old) i (command_tree written) (standing_of old)) old new r → Obeys m (run (root_of old) i (command_tree given) (standing_of old)) old new r
+    quiet_as sound h = obeys_as (obeys_quiet sound h)

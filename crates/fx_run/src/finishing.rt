@@ -22,12 +22,7 @@ pub(crate) struct Finished {
 }
 
 /// The changes that a transaction keeps of its own ones: where it is done, those that set what was not read there; else none.
-fn changes_of(
-    alloc: Global,
-    reads: &Reads,
-    end: &End,
-    own: Overlay,
-) -> Result<Changes, NoMemory>
+fn changes_of(alloc: Global, reads: &Reads, end: &End, own: Overlay) -> Result<Changes, NoMemory>
     ensures { IfOk result (AreKept end.now own reads.now) }
 {
     match end {

@@ -58,7 +58,10 @@ pub(crate) fn pursue<R: Reader, L: Ledger>(
     } = work;
     let Walk { zip, session } = walk;
     let Session {
-        reader, own, steps, ..
+        reader,
+        own,
+        steps,
+        ..
     } = session;
     let _reader = &mut *reader;
     drop(zip);

@@ -23,7 +23,7 @@ impl<'a, R: Reader, L: Ledger> Walk<'a, R, L> {
     pub(crate) fn new(base: Arc<Base>, session: Session<'a, R, L>) -> Walk<'a, R, L>
         ensures root { result.zip.root ≡ base.value.description }
         ensures address { result.zip.address ≡ [] }
-        ensures session { result.session ≡ session }
+        ensures session { result.session ≡ session.entry }
         ensures fresh { (reads : ReadList) (own : Known) → IsFresh reads own result.zip }
     {
         Walk {

@@ -25,7 +25,7 @@ impl<'a, R: Reader, L: Ledger> Work<'a, R, L> {
     pub(crate) fn new(base: Arc<Base>, session: Session<'a, R, L>) -> Work<'a, R, L>
         ensures root { result.walk.zip.root ≡ base.value.description }
         ensures address { result.walk.zip.address ≡ [] }
-        ensures session { result.walk.session ≡ session }
+        ensures session { result.walk.session ≡ session.entry }
         ensures variables { result.variables ≡ [] }
         ensures outputs { result.outputs ≡ [] }
         ensures fresh { (reads : ReadList) (own : Known) → IsFresh reads own result.walk.zip }

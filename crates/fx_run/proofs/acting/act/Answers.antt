@@ -8,6 +8,6 @@ use Rattle.fx_run.proofs.acting.act.Goals as goal
 pub returns-clause-obeys : goal.returns-clause-obeys
 returns-clause-obeys g c =
     let w = c.args.work.now in
-    acted g.R.Reader.meaning (effect (root_of w) w.walk.zip.address w.variables (act_tree c.args.act.now)) w
+    acted (effect (root_of w) w.walk.zip.address w.variables (act_tree c.args.act.now)) w
     (record { walk = c.act.new.self; variables = w.variables; outputs = w.outputs })
-    c.args.reader.now c.act.new.reader c.requires.sound refl c.args.number c.act.result c.or_stop.result c.or_stop.ensures refl c.act.ensures.acts
+    c.requires.sound refl c.args.number c.act.result c.or_stop.result c.or_stop.ensures refl c.act.ensures.acts

@@ -26,7 +26,7 @@ abbrev pub decreases-turn : goal.decreases-turn
 decreases-turn g l = 5 * count_block (block l.body.now) + 2
 
 abbrev pub invariant-obey_all-obeying : goal.invariant-obey_all-obeying
-invariant-obey_all-obeying g l = IsObeying g.R.Reader.meaning l.initial.work l.initial.reader l.number l.commands l.i l.next l.work l.reader
+invariant-obey_all-obeying g l = IsObeying g.R.Reader.meaning l.initial.work l.number l.commands l.i l.next l.work
 
 abbrev pub invariant-repeat-repeating : goal.invariant-repeat-repeating
-invariant-repeat-repeating g l = IsTurning g.R.Reader.meaning l.initial.work l.initial.reader l.number (block l.body) l.word l.texts l.i l.work l.reader
+invariant-repeat-repeating g l = IsTurning g.R.Reader.meaning l.initial.work l.number (block l.body) l.word l.texts l.i l.work

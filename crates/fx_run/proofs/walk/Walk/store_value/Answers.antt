@@ -5,18 +5,16 @@ use Rattle.fx_run.proofs.Edited.{unfound_acts, failed_acts, edited_acts}
 use Rattle.fx_run.proofs.walk.Walk.store_value.Goals as goal
 
 pub returns-in_err-find : goal.returns-in_err-find
-returns-in_err-find g c = record {
-  acts = unfound_acts g.R.Reader.meaning c.args.self.now c.find.new.self (c.args.reader.now, c.args.steps.now) (c.find.new.reader, c.find.new.steps) (edit.store_at (tree_of c.args.value.now)) c.in_err-find.field-0.0 c.from_residual.result c.from_residual.ensures.1 c.in_err-find.ensures;
-}
+returns-in_err-find g c = record { acts = unfound_acts (edit.store_at (tree_of c.args.value.now)) c.in_err-find.field-0.0 c.from_residual.ensures.1 c.in_err-find.ensures }
 
 pub returns-in_err-untouched : goal.returns-in_err-untouched
 returns-in_err-untouched g c = record {
-  acts =
-      failed_acts g.R.Reader.meaning c.args.self.now c.find.new.self (c.args.reader.now, c.args.steps.now) (c.find.new.reader, c.find.new.steps) (edit.store_at (tree_of c.args.value.now)) c.in_ok-find.ensures c.store.new.reader c.store.new.overlay (place_tree c.here.result) c.here.ensures.place c.in_err-untouched.field-0.0 c.from_residual-in_err-untouched.result c.from_residual-in_err-untouched.ensures.1 c.in_err-untouched.ensures.edits;
+  acts = failed_acts (edit.store_at (tree_of c.args.value.now)) c.in_ok-find.ensures (place_tree c.here.result) c.here.ensures.place c.in_err-untouched.field-0.0 c.from_residual-in_err-untouched.ensures.1 c.in_err-untouched.ensures.edits;
 }
 
 pub returns : goal.returns
 returns g c = record {
   acts =
-      edited_acts g.R.Reader.meaning c.args.self.now c.find.new.self (c.args.reader.now, c.args.steps.now) (c.find.new.reader, c.find.new.steps) (edit.store_at (tree_of c.args.value.now)) c.in_ok-find.ensures c.store.new.reader c.store.new.overlay (place_tree c.here.result) c.here.ensures.place c.edited.new.self c.in_ok-untouched.untouched c.edited.ensures.root c.edited.ensures.address c.edited.ensures.fresh c.in_ok-untouched.ensures.untouched c.in_ok-untouched.ensures.edits;
+      edited_acts (edit.store_at (tree_of c.args.value.now)) c.in_ok-find.ensures (place_tree c.here.result) c.here.ensures.place c.in_ok-untouched.untouched c.edited.ensures.root c.edited.ensures.address c.edited.ensures.fresh
+      c.in_ok-untouched.ensures.untouched c.in_ok-untouched.ensures.edits;
 }
