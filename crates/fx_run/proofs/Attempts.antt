@@ -1,56 +1,52 @@
 -- A transaction that was pursued, and its attempt.
-use Rattle.std.proofs.Common.{◌≡◌, ℕ, List, [], Option, Some, None, Result, Ok, Err, refl, ◌∙◌, sym, subst}
+use Rattle.std.proofs.Common.{◌≡◌, ℕ, List, [], Some, Result, Ok, Err, refl, ◌∙◌, sym, subst}
 use Rattle.std.specs.Prelude.{IfOk, IfErr}
 use Rattle.fx_spec.specs.SpecTree.{SpecTree}
 use Rattle.fx_spec.specs.CommandTree.{CommandTree}
 use Rattle.fx_spec.specs.Plans.{txn_of}
 use Rattle.fx_spec.specs.Order.{BaseTree}
-use Rattle.fx_spec.specs.Transaction.{flow_outputs}
+use Rattle.fx_spec.specs.Transaction.{flow_end}
 use Rattle.fx_spec.specs.declared.refusal.End.{End}
 use Rattle.fx_view.specs.declared.reader.Stop.{Stop}
 use Rattle.fx_view.specs.declared.reader.Stop.TheVariants as stop
 use Rattle.fx_view.specs.Meaning.{Meaning}
+use Rattle.fx_view.specs.OwnList.{OwnList}
 use Rattle.fx_view.specs.Own.{AreRead, no_own}
 use Rattle.fx_view.specs.Reads.{known_of}
-use Rattle.fx_view.specs.Follows.{Went, GoesBy, walked}
+use Rattle.fx_view.specs.Follows.{Went, walked}
 use Rattle.fx_machine.specs.declared.attempt.Attempt.{Attempt}
 use Rattle.fx_machine.specs.Explained.{IsExplained}
 use Rattle.fx_run.specs.declared.finishing.Finished.{Finished}
-use Rattle.fx_obey.specs.declared.pursuing.Ran.{Ran}
-use Rattle.fx_obey.specs.declared.work.Work.{Work}
-use Rattle.fx_obey.specs.Course.{pursued, came_of}
-use Rattle.fx_obey.specs.Works.{flow_by}
+use Rattle.fx_run.specs.declared.pursuing.Ran.{Ran}
+use Rattle.fx_run.specs.Course.{pursued, HasCome}
+use Rattle.fx_run.specs.Keeping.{AreKept}
 use Rattle.fx_run.specs.Finishing.{IsFinished, IsAttempt, Finishes}
 use Rattle.fx_run.specs.Running.{ReadsFit, Foretells, Attempted, KeepsOn, StoppedAt}
 use Rattle.fx_run.proofs.Explaining.{explained, next_needed, unread_needed, fit_again}
 use Rattle.fx_run.proofs.Foretelling.{foretells}
 
-outputs_by : (w : Work) (o : Option End) → flow_outputs (flow_by w o) ≡ w.outputs
-outputs_by w None = refl
-outputs_by w (Some end) = refl
-
 module _ {R : Type 0} (m : Meaning R) (root : SpecTree) (t : List CommandTree) (shell txn : ℕ) (old mid new : R) where
   -- the reader gives its reads to the attempt
   pub attempted : (ran : Ran) (f : Finished) (a : Attempt) → a ≡ record { shell = shell; txn = txn; reads = m.reads mid; changes = f.changes; outputs = f.outputs; end = f.end }
-      → GoesBy m came_of no_own old mid (pursued root t) (Ok ran) → AreRead ran.work.walk.overlay (m.reads mid) → IsFinished ran (m.reads mid) f
+      → HasCome m root t old mid ran → IsFinished ran (m.reads mid) f
       → m.reads new ≡ [] → m.complete new ≡ m.complete mid → ((start : R) → m.vouches start mid (m.reads mid) → m.vouches start new (m.reads mid)) → IsAttempt m root t shell txn old new a
-  attempted ran f a is follows read finished none same vouched =
+  attempted ran f a is has finished none same vouched =
       subst (IsAttempt m root t shell txn old new) (sym is) (record {
         whose = refl;
         number = refl;
-        came = came_of ran;
-        found = follows.0;
-        more = follows.1.more;
-        kept = follows.1.kept;
-        walked = follows.1.only;
-        order = follows.1.order;
-        read = read;
-        changes = finished.kept;
-        outputs = finished.outputs ∙ sym (outputs_by ran.work ran.over);
-        end = finished.end;
+        came = has.came;
+        found = has.goes.0;
+        more = has.goes.1.more;
+        kept = has.goes.1.kept;
+        walked = has.goes.1.only;
+        order = has.goes.1.order;
+        read = subst (λ (own : OwnList). AreRead own (m.reads mid)) (sym has.own) has.read;
+        changes = subst (λ (own : OwnList). AreKept (flow_end has.came.end) own (m.reads mid) f.changes) (sym has.own) (subst (λ (e : End). AreKept e ran.own (m.reads mid) f.changes) (sym has.end) finished.kept);
+        outputs = finished.outputs ∙ sym has.outputs;
+        end = finished.end ∙ sym has.end;
         none = none;
-        same = same ∙ follows.1.same;
-        vouched = λ start v. vouched start (follows.1.vouched start v);
+        same = same ∙ has.goes.1.same;
+        vouched = λ start v. vouched start (has.goes.1.vouched start v);
       })
 
 module _ {R : Type 0} (m : Meaning R) (base : BaseTree) (shell txn : ℕ) (t : List CommandTree) (planned : txn_of base.plan (shell, txn) ≡ Some t) (old new : R) (fit : ReadsFit base (shell, txn) (m.reads old)) where

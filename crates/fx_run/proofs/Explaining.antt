@@ -28,11 +28,11 @@ use Rattle.fx_view.proofs.Growing.{agrees_before, read_known}
 use Rattle.fx_view.proofs.Rules.{walked_known, found_answer, found_asked, needs_asked, needs_first, needs_unknown}
 use Rattle.fx_machine.specs.declared.attempt.Attempt.{Attempt}
 use Rattle.fx_machine.specs.Explained.{IsNew, IsExplained}
-use Rattle.fx_obey.specs.Course.{pursued}
-use Rattle.fx_obey.specs.Pursuing.{Came}
+use Rattle.fx_run.specs.Course.{pursued}
+use Rattle.fx_run.specs.Pursuing.{Came}
 use Rattle.fx_run.specs.Keeping.{AreKept}
 use Rattle.fx_run.specs.Running.{ReadsFit, IsNeeded}
-use Rattle.fx_obey.proofs.Pursuits.{pursued_end, pursued_after, pursued_asked}
+use Rattle.fx_run.proofs.Pursuits.{pursued_end, pursued_after, pursued_asked}
 use Rattle.fx_run.proofs.Ways.{once-within, within-once, first-once, all_known, read_among}
 use Rattle.fx_run.proofs.Stable.{stable_node}
 

@@ -19,8 +19,8 @@ use Rattle.fx_view.specs.Follows.{walked, InOrder}
 use Rattle.fx_view.proofs.Growing.{Grows, Grows-reads}
 use Rattle.fx_view.proofs.Ordering.{order_at}
 use Rattle.fx_view.proofs.Rules.{follow_less, needs_unknown}
-use Rattle.fx_obey.specs.Course.{pursued}
-use Rattle.fx_obey.specs.Pursuing.{Came}
+use Rattle.fx_run.specs.Course.{pursued}
+use Rattle.fx_run.specs.Pursuing.{Came}
 use Rattle.fx_run.specs.Running.{IsNext, Foretells}
 use Rattle.fx_run.proofs.Explaining.{needs_way}
 

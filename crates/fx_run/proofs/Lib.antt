@@ -1,3 +1,16 @@
+pub mod Going
+pub mod Taken
+pub mod Edited
+pub mod Counts
+pub mod Pursuits
+pub mod Obeyed
+pub mod Asked
+pub mod Quiet
+pub mod Scoped
+pub mod Cycles
+pub mod Written
+pub mod Choices
+pub mod Starts
 pub mod Ways
 pub mod Stable
 pub mod Explaining

@@ -13,16 +13,15 @@ use Rattle.fx_view.specs.Own.{AreRead, no_own}
 use Rattle.fx_view.specs.Reads.{known_of}
 use Rattle.fx_machine.specs.declared.attempt.Attempt.{Attempt}
 use Rattle.fx_run.specs.declared.finishing.Finished.{Finished}
-use Rattle.fx_obey.specs.declared.pursuing.Ran.{Ran}
-use Rattle.fx_obey.specs.Course.{pursued, came_of}
-use Rattle.fx_obey.specs.Pursuing.{Came}
-use Rattle.fx_run.specs.Course.{KeptOf, end_of}
+use Rattle.fx_run.specs.declared.pursuing.Ran.{Ran}
+use Rattle.fx_run.specs.Pursuing.{Came}
+use Rattle.fx_run.specs.Course.{pursued, end_of}
 use Rattle.fx_run.specs.Keeping.{AreKept}
 
 -- the changes that the transaction keeps, its outputs and its end
 pub record IsFinished (r : Ran) (reads : ReadList) (f : Finished) : Type 0 where
-  pub kept : KeptOf r reads f.changes
-  pub outputs : f.outputs ≡ r.work.outputs
+  pub kept : AreKept (end_of r) r.own reads f.changes
+  pub outputs : f.outputs ≡ r.outputs
   pub end : f.end ≡ end_of r
 
 -- the attempt holds the reads at the end, which are those of before and some that were walked, in order; its own changes were read
@@ -46,4 +45,4 @@ pub record IsAttempt {R : Type 0} (m : Meaning R) (root : SpecTree) (t : List Co
 -- the transaction was pursued to an attempt, or up to a stop
 abbrev pub Finishes : {R : Type 0} → Meaning R → SpecTree → List CommandTree → ℕ → ℕ → R → R → Result Attempt Stop → Type 0
 Finishes m root t shell txn old new (Ok a) = IsAttempt m root t shell txn old new a
-Finishes m root t shell txn old new (Err why) = GoesBy {A = Came Flow} {X = Ran} m came_of no_own old new (pursued root t) (Err why)
+Finishes m root t shell txn old new (Err why) = GoesBy {X = Came Flow} m (λ c. c) no_own old new (pursued root t) (Err why)

@@ -1,3 +1,8 @@
+pub mod Acts
+pub mod Leaving
+pub mod Pursuing
+pub mod Works
+pub mod Scopes
 pub mod Keeping
 pub mod Course
 pub mod Finishing

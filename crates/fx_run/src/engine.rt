@@ -7,12 +7,14 @@ ghost use Rattle.fx_run.specs.Finishing.{Finishes};
 ghost use Rattle.fx_run.specs.Running.{ReadsFit, Foretells, Attempted, StoppedAt};
 
 use crate::finishing::finish;
+use crate::pursuing::pursue;
 use fx_machine::Attempt;
-use fx_obey::pursue;
 use fx_spec::{Base, Commands, Plan};
 use fx_view::{Reader, Stop};
 use std::alloc::Global;
+use std::marker::Brand;
 use std::sync::Arc;
+use std::sync::ledger::Blank;
 
 /// The commands of a transaction of the plan.
 fn commands_of(plan: &Plan, shell: u32, txn: u32) -> &Commands
@@ -40,7 +42,7 @@ fn attempt<R: Reader>(
     ensures { Finishes R.meaning base.now.value.description commands.now shell txn
         reader.old reader.new result }
 {
-    let ran = pursue(alloc, reader, base, commands)?;
+    let ran = pursue::<R, Brand>(alloc, reader, base, commands, Blank::new(1))?;
     let finished = finish(alloc, reader.reads(), ran)?;
     Ok(Attempt {
         shell,

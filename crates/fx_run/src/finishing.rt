@@ -5,10 +5,9 @@ ghost use Rattle.fx_spec.specs.declared.refusal.End.TheVariants.{Done};
 ghost use Rattle.fx_run.specs.Keeping.{AreKept};
 ghost use Rattle.fx_run.specs.Finishing.{IsFinished};
 
-use fx_act::Walk;
+use crate::pursuing::Ran;
 use fx_base::NoMemory;
 use fx_expr::Values;
-use fx_obey::{Ran, Work};
 use fx_spec::End;
 use fx_store::Changes;
 use fx_view::{Overlay, Reads};
@@ -23,16 +22,11 @@ pub(crate) struct Finished {
 }
 
 /// The changes that a transaction keeps of its own ones: where it is done, those that set what was not read there; else none.
-fn changes_of(
-    alloc: Global,
-    reads: &Reads,
-    end: &End,
-    overlay: Overlay,
-) -> Result<Changes, NoMemory>
-    ensures { IfOk result (AreKept end.now overlay reads.now) }
+fn changes_of(alloc: Global, reads: &Reads, end: &End, own: Overlay) -> Result<Changes, NoMemory>
+    ensures { IfOk result (AreKept end.now own reads.now) }
 {
     match end {
-        End::Done => overlay.changes(alloc, reads),
+        End::Done => own.changes(alloc, reads),
         End::Stopped { .. } => Ok(Changes::new(alloc)),
         End::Aborted => Ok(Changes::new(alloc)),
     }
@@ -51,11 +45,9 @@ fn end_of(over: Option<End>) -> End
 pub(crate) fn finish(alloc: Global, reads: &Reads, ran: Ran) -> Result<Finished, NoMemory>
     ensures { IfOk result (IsFinished ran reads.now) }
 {
-    let Ran { work, over } = ran;
-    let Work { walk, outputs, .. } = work;
-    let Walk { overlay, .. } = walk;
+    let Ran { own, outputs, over } = ran;
     let end = end_of(over);
-    let changes = changes_of(alloc, reads, &end, overlay)?;
+    let changes = changes_of(alloc, reads, &end, own)?;
     Ok(Finished {
         changes,
         outputs,

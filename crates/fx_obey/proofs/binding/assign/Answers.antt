@@ -1,6 +1,0 @@
-use Rattle.fx_expr.specs.Views.{expr_tree, tree_of}
-use Rattle.fx_obey.proofs.Scoped.{scopes_assign}
-use Rattle.fx_obey.proofs.binding.assign.Goals as goal
-
-pub returns-clause-scope : goal.returns-clause-scope
-returns-clause-scope c = scopes_assign c.args.work.now.variables c.set.new.self c.args.word.now (expr_tree c.args.expr.now) (tree_of c.in_ok-value.value) c.in_ok-value.ensures c.set.ensures

@@ -1,5 +1,0 @@
-pub mod Leaving
-pub mod Pursuing
-pub mod Works
-pub mod Scopes
-pub mod Course

@@ -1,0 +1,194 @@
+-- Variables of the shapes that a scope gives them, through commands and blocks.
+use Rattle.std.proofs.Common.{◌≡◌, ℕ, Bool, true, false, cond, List, [], ◌∷◌, ◌++◌, length, take, Some, None, Result, Ok, Err, refl, ap, ◌∙◌, sym, subst, append-nil, append_assoc}
+use Rattle.std.specs.Prelude.{IfOk, nat_eq, pos}
+use Rattle.std.specs.Cmp.Lexicographic.{pointwise}
+use Rattle.fx_expr.proofs.Canon.{nat_list_exact}
+use Rattle.fx_expr.specs.Bindings.{bind, bound, newer_or, assigned, assign_or, own_assigned, first_some, or_same}
+use Rattle.fx_expr.specs.Eval.{Outcome, eval_of}
+use Rattle.fx_expr.specs.ExprTree.{ExprTree}
+use Rattle.fx_expr.specs.ShapeTree.{ShapeTree}
+use Rattle.fx_expr.specs.Shapes.{HasShape, ValueHas, BindingsHave, IsWellShaped}
+use Rattle.fx_expr.specs.Tree.{Tree}
+use Rattle.fx_expr.proofs.Shaping.{eval_has}
+use Rattle.fx_spec.specs.CommandTree.{ActTree, CommandTree, Block}
+use Rattle.fx_spec.specs.Describe.{Bindings}
+use Rattle.fx_spec.specs.Move.{evaluated}
+use Rattle.fx_spec.specs.WellShaped.{Scope, IsBlock}
+use Rattle.fx_run.specs.Acts.{HasAct}
+use Rattle.fx_run.specs.declared.leave.Leave.{Leave}
+use Rattle.fx_run.specs.Scopes.{HasBlock, HasCommand, HasTurn, Opens, Scopes, ScopesBlock, Keeps, KeepsTurn}
+
+-- ---- values that are bound, and bound again
+
+pub bind_has : (env : Bindings) (g : Scope) (x : List ℕ) (v : Tree) (s : ShapeTree) → BindingsHave env g → ValueHas v s → BindingsHave (bind env x v) (bind g x s)
+bind_has [] [] x v s b h = (refl, h, tt)
+bind_has [] (t ∷ g) x v s b h = absurd b
+bind_has (e ∷ env) [] x v s b h = absurd b
+bind_has (e ∷ env) (t ∷ g) x v s b h = (b.0, b.1, bind_has env g x v s b.2 h)
+
+-- the word is bound nowhere, or to a shape, and then a value of that shape can be put there
+data IsPut (env : Bindings) (g : Scope) (x : List ℕ) (v : Tree) : Type 0 where
+  nowhere : bound g x ≡ None → assigned x v env ≡ None → IsPut env g x v
+  there : (s : ShapeTree) (new : Bindings) → bound g x ≡ Some s → assigned x v env ≡ Some new → (ValueHas v s → BindingsHave new g) → IsPut env g x v
+
+put_has : (env : Bindings) (g : Scope) (x : List ℕ) (v : Tree) → BindingsHave env g → IsPut env g x v
+put_has [] [] x v b = nowhere refl refl
+put_has [] (t ∷ g) x v b = absurd b
+put_has (e ∷ env) [] x v b = absurd b
+put_has (e ∷ env) (t ∷ g) x v b = by (put_has env g x v b.2)
+  where
+    here : (c d : Bool) → pointwise nat_eq t.0 x ≡ c → pointwise nat_eq e.0 x ≡ d → c ≡ d → bound g x ≡ None → assigned x v env ≡ None → IsPut (e ∷ env) (t ∷ g) x v
+    here true true c d same none left =
+        there t.1 ((x, v) ∷ env)
+        (ap (λ o. newer_or o (cond (pointwise nat_eq t.0 x) (Some t.1) None)) none ∙ ap (λ b. cond b (Some t.1) None) c)
+        (ap (λ o. first_some (assign_or e env o) (own_assigned (pointwise nat_eq e.0 x) x v env)) left ∙ ap (λ b. own_assigned b x v env) d)
+        (λ h. (sym (nat_list_exact t.0 x c), h, b.2))
+    here false false c d same none left =
+        nowhere
+        (ap (λ o. newer_or o (cond (pointwise nat_eq t.0 x) (Some t.1) None)) none ∙ ap (λ b. cond b (Some t.1) None) c)
+        (ap (λ o. first_some (assign_or e env o) (own_assigned (pointwise nat_eq e.0 x) x v env)) left ∙ ap (λ b. own_assigned b x v env) d)
+    here true false c d same none left = cc
+    here false true c d same none left = cc
+
+    by : IsPut env g x v → IsPut (e ∷ env) (t ∷ g) x v
+    by (nowhere none left) = here (pointwise nat_eq t.0 x) (pointwise nat_eq e.0 x) refl refl (ap (λ y. pointwise nat_eq y x) (sym b.0)) none left
+    by (there s new is made has) =
+        there s (e ∷ new)
+        (ap (λ o. newer_or o (cond (pointwise nat_eq t.0 x) (Some t.1) None)) is)
+        (ap (λ o. first_some (assign_or e env o) (own_assigned (pointwise nat_eq e.0 x) x v env)) made)
+        (λ h. (b.0, b.1, has h))
+
+set_has : (env : Bindings) (g : Scope) (x : List ℕ) (v : Tree) (s : ShapeTree) → BindingsHave env g → bound g x ≡ Some s → ValueHas v s → BindingsHave (or_same env (assigned x v env)) g
+set_has env g x v s b is h = by (put_has env g x v b)
+  where
+    by : IsPut env g x v → BindingsHave (or_same env (assigned x v env)) g
+    by (nowhere none left) = let wrong : None ≡ Some s = sym none ∙ is in cc
+    by (there t new at made has) =
+        let same : s ≡ t = cc in
+        subst (λ o. BindingsHave (or_same env o) g) (sym made) (has (subst (ValueHas v) same h))
+
+-- the oldest variables, as many as there were
+pub cut_has : (old env : Bindings) (g more : Scope) → BindingsHave old g → BindingsHave env (g ++ more) → BindingsHave (take (length old) env) g
+cut_has [] env [] more b c = tt
+cut_has [] env (t ∷ g) more b c = absurd b
+cut_has (e ∷ old) env [] more b c = absurd b
+cut_has (e ∷ old) [] (t ∷ g) more b c = absurd c
+cut_has (e ∷ old) (f ∷ env) (t ∷ g) more b c = (c.0, c.1, cut_has old env g more b.2 c.2)
+
+-- ---- what a command's own parts need
+
+module _ (vars : Bindings) where
+  expr_shaped : (scope : Scope) (s : ShapeTree) (e : ExprTree) → BindingsHave vars scope → HasShape scope e s → IsWellShaped vars e
+  expr_shaped scope s e b h = record { shapes = scope; shape = s; bindings = b; expression = h }
+
+  pub print_shaped : (e : ExprTree) → HasCommand vars (CommandTree.print e) → IsWellShaped vars e
+  print_shaped e h = expr_shaped h.next.scope h.next.shaped.0.0 e h.next.bindings h.next.shaped.0.1
+
+  pub bind_shaped : (x : List ℕ) (e : ExprTree) → HasCommand vars (CommandTree.bind x e) → IsWellShaped vars e
+  bind_shaped x e h = expr_shaped h.next.scope h.next.shaped.0 e h.next.bindings h.next.shaped.1
+
+  pub assign_shaped : (x : List ℕ) (e : ExprTree) → HasCommand vars (CommandTree.assign x e) → IsWellShaped vars e
+  assign_shaped x e h = expr_shaped h.next.scope h.next.shaped.0 e h.next.bindings h.next.shaped.1
+
+  pub act_shaped : (a : ActTree) → HasCommand vars (CommandTree.act a) → HasAct vars a
+  act_shaped a h = record { scope = h.next.scope; bindings = h.next.bindings; shaped = h.next.shaped.0 }
+
+  pub attempt_shaped : (x : List ℕ) (a : ActTree) → HasCommand vars (CommandTree.attempt x a) → HasAct vars a
+  attempt_shaped x a h = record { scope = h.next.scope; bindings = h.next.bindings; shaped = h.next.shaped.0 }
+
+  pub branch_shaped : (e : ExprTree) (a b : Block) → HasCommand vars (CommandTree.branch e a b) → IsWellShaped vars e
+  branch_shaped e a b h = expr_shaped h.next.scope ShapeTree.bool e h.next.bindings h.next.shaped.0
+
+  pub yes_shaped : (e : ExprTree) (a b : Block) → HasCommand vars (CommandTree.branch e a b) → HasBlock vars a
+  yes_shaped e a b h = record { scope = h.next.scope; bindings = h.next.bindings; shaped = h.next.shaped.1 }
+
+  pub no_shaped : (e : ExprTree) (a b : Block) → HasCommand vars (CommandTree.branch e a b) → HasBlock vars b
+  no_shaped e a b h = record { scope = h.next.scope; bindings = h.next.bindings; shaped = h.next.shaped.2 }
+
+  pub each_shaped : (x : List ℕ) (e : ExprTree) (a : Block) → HasCommand vars (CommandTree.each x e a) → IsWellShaped vars e
+  each_shaped x e a h = expr_shaped h.next.scope ShapeTree.names e h.next.bindings h.next.shaped.0
+
+  pub turn_shaped : (x : List ℕ) (e : ExprTree) (a : Block) → HasCommand vars (CommandTree.each x e a) → HasTurn vars x a
+  turn_shaped x e a h = record { scope = h.next.scope; bindings = h.next.bindings; shaped = h.next.shaped.2 }
+
+  -- a text is bound for the turn
+  pub turn_bound : (x : List ℕ) (b : Block) (t : List ℕ) (new : Bindings) → new ≡ bind vars x (Tree.str t) → HasTurn vars x b → HasBlock new b
+  turn_bound x b t new is h = record { scope = bind h.scope x ShapeTree.str; bindings = subst (λ e. BindingsHave e (bind h.scope x ShapeTree.str)) (sym is) (bind_has vars h.scope x (Tree.str t) ShapeTree.str h.bindings refl); shaped = h.shaped }
+
+-- ---- what a command leaves
+
+pub opens_same : (scope : Scope) (new : Bindings) (rest : Block) → BindingsHave new scope → IsBlock scope rest → Opens scope new rest
+opens_same scope new rest b h = record {
+  more = [];
+  bindings = subst (BindingsHave new) (sym (append-nil scope)) b;
+  shaped = subst (λ g. IsBlock g rest) (sym (append-nil scope)) h;
+}
+
+opens_bound : (scope : Scope) (old new : Bindings) (rest : Block) (x : List ℕ) (v : Tree) (s : ShapeTree) → BindingsHave old scope → ValueHas v s → new ≡ bind old x v → IsBlock (bind scope x s) rest → Opens scope new rest
+opens_bound scope old new rest x v s b has is h = record {
+  more = (x, s) ∷ [];
+  bindings = subst (λ e. BindingsHave e (bind scope x s)) (sym is) (bind_has old scope x v s b has);
+  shaped = h;
+}
+
+module _ (old new : Bindings) where
+  outcome_has : (o : Outcome) (v : Tree) (s : ShapeTree) → evaluated o ≡ Ok v → IfOk o (λ v. ValueHas v s) → ValueHas v s
+  outcome_has (Ok w) v s is has = let same : w ≡ v = cc in subst (λ v. ValueHas v s) same has
+  outcome_has (Err f) v s is has = cc
+
+  pub scopes_bind : (x : List ℕ) (e : ExprTree) (v : Tree) → evaluated (eval_of old e) ≡ Ok v → new ≡ bind old x v → Scopes (CommandTree.bind x e) old new (Ok tt)
+  scopes_bind x e v is bound scope rest b h = opens_bound scope old new rest x v h.0 b (outcome_has (eval_of old e) v h.0 is (eval_has scope old e h.0 b h.1)) bound h.3
+
+  pub scopes_assign : (x : List ℕ) (e : ExprTree) (v : Tree) → evaluated (eval_of old e) ≡ Ok v → new ≡ or_same old (assigned x v old) → Scopes (CommandTree.assign x e) old new (Ok tt)
+  scopes_assign x e v is put scope rest b h =
+      opens_same scope new rest (subst (λ n. BindingsHave n scope) (sym put) (set_has old scope x v h.0 b h.2 (outcome_has (eval_of old e) v h.0 is (eval_has scope old e h.0 b h.1)))) h.3
+
+  pub scopes_print : (e : ExprTree) → new ≡ old → Scopes (CommandTree.print e) old new (Ok tt)
+  scopes_print e same scope rest b h = opens_same scope new rest (subst (λ n. BindingsHave n scope) (sym same) b) h.1
+
+  pub scopes_attempt : (x : List ℕ) (a : ActTree) (n : ℕ) → new ≡ bind old x (Tree.int (pos n)) → Scopes (CommandTree.attempt x a) old new (Ok tt)
+  scopes_attempt x a n bound scope rest b h = opens_bound scope old new rest x (Tree.int (pos n)) ShapeTree.int b refl bound h.2
+
+  pub scopes_fetch : (x : List ℕ) (s : ShapeTree) (v : Tree) → ValueHas v s → new ≡ bind old x v → Scopes (CommandTree.fetch x s) old new (Ok tt)
+  scopes_fetch x s v has bound scope rest b h = opens_bound scope old new rest x v s b has bound h.1
+
+  pub scopes_whole : (x : List ℕ) (s : ShapeTree) (v : Tree) → ValueHas v s → new ≡ bind old x v → Scopes (CommandTree.whole x s) old new (Ok tt)
+  scopes_whole x s v has bound scope rest b h = opens_bound scope old new rest x v s b has bound h.1
+
+  pub scopes_validate : (x : List ℕ) (holds : Bool) → new ≡ bind old x (Tree.bool holds) → Scopes (CommandTree.validate x) old new (Ok tt)
+  scopes_validate x holds bound scope rest b h = opens_bound scope old new rest x (Tree.bool holds) ShapeTree.bool b refl bound h.1
+
+  module _ (r : Result (Unit {0}) Leave) where
+    on : (P Q : Type 0) (r : Result (Unit {0}) Leave) → (P → Q) → IfOk r (λ _. P) → IfOk r (λ _. Q)
+    on P Q (Ok u) f h = f h
+    on P Q (Err l) f h = tt
+
+    pub scopes_act : (a : ActTree) → new ≡ old → Scopes (CommandTree.act a) old new r
+    scopes_act a same scope rest b h = at r
+      where
+        at : (r : Result (Unit {0}) Leave) → IfOk r (λ _. Opens scope new rest)
+        at (Ok u) = opens_same scope new rest (subst (λ n. BindingsHave n scope) (sym same) b) h.1
+        at (Err l) = tt
+
+    pub scopes_yes : (e : ExprTree) (y n : Block) → Keeps y old new r → Scopes (CommandTree.branch e y n) old new r
+    scopes_yes e y n keeps scope rest b h = on (BindingsHave new scope) (Opens scope new rest) r (λ c. opens_same scope new rest c h.3) (keeps scope b h.1)
+
+    pub scopes_no : (e : ExprTree) (y n : Block) → Keeps n old new r → Scopes (CommandTree.branch e y n) old new r
+    scopes_no e y n keeps scope rest b h = on (BindingsHave new scope) (Opens scope new rest) r (λ c. opens_same scope new rest c h.3) (keeps scope b h.2)
+
+    pub scopes_each : (x : List ℕ) (e : ExprTree) (a : Block) → KeepsTurn x a old new r → Scopes (CommandTree.each x e a) old new r
+    scopes_each x e a keeps scope rest b h = on (BindingsHave new scope) (Opens scope new rest) r (λ c. opens_same scope new rest c h.3) (keeps scope b h.2)
+
+-- a block that is left, and a turn
+pub cut_by : (n : ℕ) (old mid new : Bindings) → new ≡ take n mid → n ≡ length old → new ≡ take (length old) mid
+cut_by n old mid new cut is = cut ∙ ap (λ n. take n mid) is
+
+pub keeps_cut : (old mid new : Bindings) (b : Block) → ScopesBlock b old mid (Ok tt) → new ≡ take (length old) mid → Keeps b old new (Ok tt)
+keeps_cut old mid new b scopes cut scope has h =
+    let o = scopes scope has h in
+    subst (λ n. BindingsHave n scope) (sym cut) (cut_has old mid scope o.more has o.bindings)
+
+pub keeps_turn : (old bound mid new : Bindings) (x : List ℕ) (t : List ℕ) (b : Block) → bound ≡ bind old x (Tree.str t) → ScopesBlock b bound mid (Ok tt) → new ≡ take (length old) mid → KeepsTurn x b old new (Ok tt)
+keeps_turn old bound mid new x t b is scopes cut scope has h =
+    let o = scopes (bind scope x ShapeTree.str) (subst (λ e. BindingsHave e (bind scope x ShapeTree.str)) (sym is) (bind_has old scope x (Tree.str t) ShapeTree.str has refl)) h in
+    subst (λ n. BindingsHave n scope) (sym cut) (cut_has old mid scope ((x, ShapeTree.str) ∷ o.more) has (subst (BindingsHave mid) (append_assoc scope ((x, ShapeTree.str) ∷ []) o.more) o.bindings))

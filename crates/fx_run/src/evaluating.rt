@@ -1,0 +1,115 @@
+//! The value of a command's own expression.
+ghost use Rattle.std.specs.Prelude.{◌≡◌};
+ghost use Rattle.fx_expr.specs.Eval as eval;
+ghost use Rattle.fx_expr.specs.Eval.{eval_of};
+ghost use Rattle.fx_expr.specs.Shapes.{IsWellShaped};
+ghost use Rattle.fx_expr.specs.Views.{expr_tree, tree_of};
+ghost use Rattle.fx_spec.specs.Move as move;
+ghost use Rattle.fx_session.specs.Implements.{ticked};
+ghost use Rattle.fx_edit.specs.Values.{Tells};
+ghost use Rattle.fx_run.specs.Leaving.{OrStops, part};
+
+use crate::leave::{Leave, or_stop};
+use fx_expr::{Env, EvalFault, Expr, Text, TextSet, Value};
+use fx_session::{Halt, Session};
+use fx_spec::Refusal;
+use fx_view::{Reader, Stop};
+use std::alloc::Global;
+use std::sync::ledger::Ledger;
+
+/// The value of the expression.
+pub(crate) fn evaluated<R: Reader, L: Ledger>(
+    session: &mut Session<'_, R, L>,
+    expr: &Expr,
+    variables: &Env,
+) -> Result<Value, Halt>
+    requires { IsWellShaped variables.now (expr_tree expr.now) }
+    ensures value { Tells tree_of
+        (move.evaluated (eval_of variables.now (expr_tree expr.now))) result }
+    ensures tick { session.new ≡ ticked session.old }
+{
+    match session.evaluate(expr, variables) {
+        Ok(value) => Ok(value),
+        Err(EvalFault::Fault(fault)) => Err(Halt::Refused(Refusal::Expr(fault))),
+        Err(EvalFault::NoMemory) => Err(Halt::Stopped(Stop::NoMemory)),
+    }
+}
+
+/// The value of the expression of the command with this number.
+pub(crate) fn value_of<R: Reader, L: Ledger>(
+    session: &mut Session<'_, R, L>,
+    number: u32,
+    expr: &Expr,
+    variables: &Env,
+) -> Result<Value, Leave>
+    requires { IsWellShaped variables.now (expr_tree expr.now) }
+    ensures value { OrStops number tree_of
+        (move.evaluated (eval_of variables.now (expr_tree expr.now))) result }
+    ensures tick { session.new ≡ ticked session.old }
+{
+    or_stop(number, evaluated(session, expr, variables))
+}
+
+/// Whether the expression is true.
+pub(crate) fn truth_of<R: Reader, L: Ledger>(
+    session: &mut Session<'_, R, L>,
+    number: u32,
+    expr: &Expr,
+    variables: &Env,
+) -> Result<bool, Leave>
+    requires { IsWellShaped variables.now (expr_tree expr.now) }
+    ensures value { OrStops number (λ b. b)
+        (part eval.truth_in (move.evaluated (eval_of variables.now (expr_tree expr.now)))) result }
+    ensures tick { session.new ≡ ticked session.old }
+{
+    Ok(truth_in(value_of(session, number, expr, variables)?))
+}
+
+/// The set that the expression gives.
+pub(crate) fn names_of<R: Reader, L: Ledger>(
+    session: &mut Session<'_, R, L>,
+    number: u32,
+    expr: &Expr,
+    variables: &Env,
+) -> Result<TextSet, Leave>
+    requires { IsWellShaped variables.now (expr_tree expr.now) }
+    ensures value { OrStops number (λ s. s)
+        (part eval.names_in (move.evaluated (eval_of variables.now (expr_tree expr.now)))) result }
+    ensures tick { session.new ≡ ticked session.old }
+{
+    let value = value_of(session, number, expr, variables)?;
+    Ok(names_in(session.alloc, value))
+}
+
+/// The text that a value is.
+pub(crate) fn into_text(alloc: Global, value: Value) -> Text
+    ensures { result ≡ eval.text_in (tree_of value) }
+{
+    match value {
+        Value::Str(text) => text,
+        Value::Int(_) | Value::Bool(_) | Value::Names(_) => Text::new(alloc),
+        Value::Pair(_, _) | Value::Nothing | Value::Some(_) | Value::Table(_) => Text::new(alloc),
+    }
+}
+
+fn truth_in(value: Value) -> bool
+    ensures { result ≡ eval.truth_in (tree_of value) }
+{
+    match value {
+        Value::Bool(b) => b,
+        Value::Str(_) | Value::Int(_) | Value::Names(_) => false,
+        Value::Pair(_, _) | Value::Nothing | Value::Some(_) | Value::Table(_) => false,
+    }
+}
+
+fn names_in(alloc: Global, value: Value) -> TextSet
+    ensures { result ≡ eval.names_in (tree_of value) }
+{
+    match value {
+        Value::Names(names) => names,
+        Value::Str(_) | Value::Int(_) | Value::Bool(_) => TextSet::new(alloc),
+        Value::Pair(_, _) | Value::Nothing | Value::Some(_) | Value::Table(_) => TextSet::new(
+            alloc,
+        ),
+    }
+}
