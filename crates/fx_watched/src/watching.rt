@@ -2,8 +2,7 @@
 ghost use Rattle.std.specs.Prelude.{◌≡◌, ◌<◌, IfOk, OnOk};
 ghost use Rattle.std.specs.FinMap.{get};
 ghost use Rattle.fx_board.specs.Board.{last_state};
-ghost use Rattle.fx_store.specs.Whole.{Store};
-ghost use Rattle.fx_watch.specs.Validity.{has_value, DiffersAt};
+ghost use Rattle.fx_watch.specs.Validity.{has_value};
 ghost use Rattle.fx_watch.specs.WatchView.{AnswersFor};
 ghost use Rattle.fx_watched.specs.Watching.{settled_entry, IsAtEntry};
 
@@ -12,7 +11,7 @@ use crate::lines::{add_event, add_valid};
 use fx_base::{NoMemory, Steps};
 use fx_board::{Board, Event};
 use fx_sched::{Taker, World};
-use fx_store::{Filestore, Paths};
+use fx_store::Paths;
 use fx_watch::Watch;
 use std::alloc::Global;
 use std::marker::{Brand, PhantomData};
@@ -41,7 +40,13 @@ impl<B: Based> Taker for Watching<B> {
         add_event(alloc, &mut self.output, event)?;
         match settled {
             Some(entry) => {
-                let valid = valid_after(alloc, &mut self.watch, world.board(), entry)?;
+                let valid = valid_after::<Brand>(
+                    alloc,
+                    &mut self.watch,
+                    world.board(),
+                    entry,
+                    Blank::new(1),
+                )?;
                 add_valid(&mut self.output, valid)
             }
             None => Ok(()),
@@ -60,51 +65,29 @@ fn settled_entry(event: &Event) -> Option<u64>
     }
 }
 
-/// Whether there is a value after the last entry, where the watch was told the filestore before it.
-fn valid_after(
+/// Whether there is a value after the last entry, where the watch was told the filestore before it. The evaluations of a walk
+/// are counted.
+fn valid_after<L: Ledger>(
     alloc: Global,
     watch: &mut Watch,
     board: &Board,
     entry: u64,
+    blank: Blank,
 ) -> Result<bool, NoMemory>
+    requires name { blank.name ≡ L.name }
+    requires parts { blank.parts ≡ L.parts }
+    requires some { 0 < L.parts }
     ensures valid { IsAtEntry board.now watch.old entry → IfOk result
         (λ valid. valid ≡ has_value watch.old.root (get (last_state board.now))) }
     ensures told { IsAtEntry board.now watch.old entry → OnOk result
         (AnswersFor watch.new (get (last_state board.now))) }
     ensures root { watch.new.root ≡ watch.old.root }
 {
+    let steps = Steps::<L>::open(blank);
     match board.entry(entry) {
-        Some(entry) => told::<Brand>(alloc, watch, &entry.changed, board.store(), Blank::new(1)),
-        None => told::<Brand>(
-            alloc,
-            watch,
-            &Paths::new(alloc),
-            board.store(),
-            Blank::new(1),
-        ),
+        Some(entry) => watch.after(alloc, &entry.changed, board.store(), steps).1,
+        None => watch
+            .after(alloc, &Paths::new(alloc), board.store(), steps)
+            .1,
     }
-}
-
-/// Whether there is a value on a filestore that a watch is told. Its evaluations are counted anew.
-fn told<L: Ledger>(
-    alloc: Global,
-    watch: &mut Watch,
-    changed: &Paths,
-    store: &Filestore,
-    blank: Blank,
-) -> Result<bool, NoMemory>
-    requires name { blank.name ≡ L.name }
-    requires parts { blank.parts ≡ L.parts }
-    requires some { 0 < L.parts }
-    ensures valid { (S : Store) → AnswersFor watch.old S
-        → DiffersAt changed.now S (get store.now.nodes)
-        → IfOk result (λ valid. valid ≡ has_value watch.old.root (get store.now.nodes)) }
-    ensures told { (S : Store) → AnswersFor watch.old S
-        → DiffersAt changed.now S (get store.now.nodes)
-        → OnOk result (AnswersFor watch.new (get store.now.nodes)) }
-    ensures root { watch.new.root ≡ watch.old.root }
-{
-    watch
-        .after(alloc, changed, store, Steps::<L>::open(blank))
-        .1
 }
