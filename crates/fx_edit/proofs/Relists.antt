@@ -8,23 +8,22 @@ use Rattle.std.specs.Cmp.Lexicographic.{pointwise, slice_cmp, texts_ties}
 use Rattle.std.specs.List.{AllByRecursion}
 use Rattle.std.specs.List.Sorted.{IsStrictlySortedBy}
 use Rattle.std.proofs.lemmas.Map.Lookups.{exact_bytes}
-use Rattle.fx_base.proofs.Errors.{err_of}
 use Rattle.fx_base.proofs.Placing.{flipped, flipped_less, all_below}
 use Rattle.fx_store.specs.declared.changes.Change.{Change}
 use Rattle.fx_store.specs.Names.{has, name_cmp}
 use Rattle.fx_store.specs.Orders.{name_total}
-use Rattle.fx_store.specs.Rule.{Known, Ask, Answer, ◌>>=◌}
+use Rattle.fx_store.specs.Rule.{Ask, Answer, ◌>>=◌}
 use Rattle.fx_expr.specs.Sets.{IsAscending, has_text, set_of}
 use Rattle.fx_expr.proofs.Canon.{ascending_set}
 use Rattle.fx_expr.proofs.Merging.{least_of_first, least_of_second, least_less, least_equal, least_greater}
 use Rattle.fx_expr.proofs.Order.{other_greater, other_less, same_text}
 use Rattle.fx_spec.specs.Edit.{entry, entries}
-use Rattle.fx_edit.specs.Rules.{adding, left_of, change_of, IsFirst, IsNext, IsNextOf}
+use Rattle.fx_edit.specs.Rules.{adding, changed_entries, left_of, change_of, IsFirst, IsNext, IsNextOf}
 use Rattle.fx_view.specs.declared.reader.Stop.{Stop}
-use Rattle.fx_view.specs.Follows.{GoesBy}
 use Rattle.fx_view.specs.Meaning.{Meaning}
-use Rattle.fx_view.proofs.Calls.{consults_by}
-use Rattle.fx_view.proofs.Courses.{Goes, goes_on, goes_stop, goes_end}
+use Rattle.fx_session.specs.declared.session.Session.{Session}
+use Rattle.fx_session.specs.Implements.{Implements}
+use Rattle.fx_session.proofs.Courses.{Goes, goes_on, goes_stop, goes_end}
 use Rattle.fx_edit.proofs.Addings.{adding-entries, adding-none}
 
 -- ---- which set has the least name
@@ -108,9 +107,6 @@ has_first : (x : Bool) (a : List (List ℕ)) (n : List ℕ) → IsFirst x a n �
 has_first true a n w = ap (λ l. has l n) w ∙ here n (drop 1 a)
 has_first false a n w = w
 
-abbrev pub left : List (List ℕ) → List (List ℕ) → List (List ℕ) → Ask (List Change)
-left q a b = entries (entry q a b) (set_of (a ++ b))
-
 module _ (q a b : List (List ℕ)) (n : List ℕ) (x y : Bool) (next : IsNext a b n x y) where
   abbrev c : List (List ℕ)
   c = left_of x a
@@ -126,46 +122,39 @@ module _ (q a b : List (List ℕ)) (n : List ℕ) (x y : Bool) (next : IsNext a 
   unfolding IsStrictlySortedBy
   above = (subst (λ l. IsAscending l) next.least.whole (ascending_set (a ++ b))).0
 
-  pub left_next : (so_far : List Change) → adding so_far (left q a b) ≡ (adding so_far (change_of q n x y) >>= λ cs. adding cs (left q c d))
+  pub left_next : (so_far : List Change) → adding so_far (changed_entries q a b) ≡ (adding so_far (change_of q n x y) >>= λ cs. adding cs (changed_entries q c d))
   left_next so_far =
       ap (λ ns. adding so_far (entries (entry q a b) ns)) next.least.whole
       ∙ adding-entries (entry q a b) so_far n (set_of (c ++ d))
       ∙ (λ i. adding so_far (change_of q n (has_first x a n next.first i) (has_first y b n next.second i)) >>= λ cs. adding cs (same_entries (entry q a b) (entry q c d) (set_of (c ++ d)) (alike (set_of (c ++ d)) above) i))
 
-pub none_left : (q a b : List (List ℕ)) (so_far : List Change) → set_of (a ++ b) ≡ [] → adding so_far (left q a b) ≡ Answer so_far
+pub none_left : (q a b : List (List ℕ)) (so_far : List Change) → set_of (a ++ b) ≡ [] → adding so_far (changed_entries q a b) ≡ Answer so_far
 none_left q a b so_far e = ap (λ ns. adding so_far (entries (entry q a b) ns)) e ∙ adding-none so_far
 
 -- ---- the loop
 
--- these names are left: what adds their changes now adds those of all at the start
-pub record IsRelisting {R : Type 0} (m : Meaning R) (own : Known) (q old new : List (List ℕ)) (start now : R) (begun so_far : List Change) (a b : List (List ℕ)) : Type 0 where
-  pub goes : (final : List Change) → Goes m (λ (u : Unit {0}). final) own (start, 0) (now, 0) (adding begun (left q old new)) (adding so_far (left q a b))
+abbrev rest : List (List ℕ) → List (List ℕ) → List (List ℕ) → List Change → Ask (List Change)
+rest q a b cs = adding cs (changed_entries q a b)
 
-module _ {R : Type 0} (m : Meaning R) (own : Known) (q old new : List (List ℕ)) (start : R) (begun : List Change) where
-  pub relisting_first : IsRelisting m own q old new start start begun begun old new
+-- these names are left: what adds their changes now adds those of all at the start
+pub record IsRelisting {R L : Type 0} (m : Meaning R) (q old new : List (List ℕ)) (start now : Session R L) (begun so_far : List Change) (a b : List (List ℕ)) : Type 0 where
+  pub goes : (final : List Change) → Goes m (λ (u : Unit {0}). final) start now (adding begun (changed_entries q old new)) (adding so_far (changed_entries q a b))
+
+module _ {R L : Type 0} {m : Meaning R} {q old new : List (List ℕ)} {start : Session R L} {begun : List Change} where
+  pub relisting_first : IsRelisting m q old new start start begun begun old new
   relisting_first = record { goes = λ final new r h. h }
 
-  module _ (now : R) (so_far : List Change) (a b : List (List ℕ)) (is : IsRelisting m own q old new start now begun so_far a b) where
-    pub relisting_next : (n : List ℕ) (x y : Bool) (later : R) (more : List Change) → IsNext a b n x y → GoesBy {X = Unit {0}} m (λ (u : Unit {0}). more) own now later (adding so_far (change_of q n x y)) (Ok tt) → IsRelisting m own q old new start later begun more (left_of x a) (left_of y b)
-    relisting_next n x y later more next h = record {
-      goes = λ final.
-          goes_on m (λ (u : Unit {0}). final) own (start, 0) (now, 0) (adding begun (left q old new)) (adding so_far (left q a b)) (is.goes final)
-          (λ (u : Unit {0}). more) (later, 0) (adding so_far (change_of q n x y)) (λ cs. adding cs (left q (left_of x a) (left_of y b))) tt (left_next q a b n x y next so_far)
-          (consults_by m (λ (u : Unit {0}). more) own now later (adding so_far (change_of q n x y)) (Ok tt) h 0);
-    }
+  module _ {now : Session R L} {so_far : List Change} {a b : List (List ℕ)} (is : IsRelisting m q old new start now begun so_far a b) where
+    module _ {n : List ℕ} {x y : Bool} (next : IsNext a b n x y) where
+      pub relisting_next : {later : Session R L} {more : List Change} → Implements {X = Unit {0}} m (λ (u : Unit {0}). more) now later (adding so_far (change_of q n x y)) (Ok tt) → IsRelisting m q old new start later begun more (left_of x a) (left_of y b)
+      relisting_next h = record { goes = λ final. goes_on (rest q a b so_far) (is.goes final) (adding so_far (change_of q n x y)) (rest q (left_of x a) (left_of y b)) (left_next q a b n x y next so_far) h }
 
-    pub relisting_stops : (n : List ℕ) (x y : Bool) (later : R) (more final : List Change) (why : Stop) (r : Result (Unit {0}) Stop) → IsNext a b n x y → IsErrAnd r (λ d. d ≡ why) → GoesBy {X = Unit {0}} m (λ (u : Unit {0}). more) own now later (adding so_far (change_of q n x y)) (Err why)
-        → GoesBy m (λ (u : Unit {0}). final) own start later (adding begun (left q old new)) r
-    relisting_stops n x y later more final why r next e h =
-        subst (λ (r : Result (Unit {0}) Stop). GoesBy m (λ (u : Unit {0}). final) own start later (adding begun (left q old new)) r) (sym (err_of r why e))
-        (goes_stop m (λ (u : Unit {0}). final) own (start, 0) (now, 0) (adding begun (left q old new)) (adding so_far (left q a b)) (is.goes final)
-        (λ (u : Unit {0}). more) (later, 0) (adding so_far (change_of q n x y)) (λ cs. adding cs (left q (left_of x a) (left_of y b))) why (left_next q a b n x y next so_far)
-        (consults_by m {X = Unit {0}} (λ (u : Unit {0}). more) own now later (adding so_far (change_of q n x y)) (Err why) h 0)).goes
+      pub relisting_stops : {later : Session R L} {more final : List Change} {why : Stop} (r : Result (Unit {0}) Stop) → IsErrAnd r (λ d. d ≡ why) → Implements {X = Unit {0}} m (λ (u : Unit {0}). more) now later (adding so_far (change_of q n x y)) (Err why)
+          → Implements m (λ (u : Unit {0}). final) start later (adding begun (changed_entries q old new)) r
+      relisting_stops {final = final} r e h = goes_stop (rest q a b so_far) (is.goes final) (adding so_far (change_of q n x y)) (rest q (left_of x a) (left_of y b)) (left_next q a b n x y next so_far) r e h
 
-    pub relisting_ends : set_of (a ++ b) ≡ [] → GoesBy {X = Unit {0}} m (λ (u : Unit {0}). so_far) own start now (adding begun (left q old new)) (Ok tt)
-    relisting_ends none =
-        (goes_end m (λ (u : Unit {0}). so_far) own (start, 0) (now, 0) (adding begun (left q old new)) (adding so_far (left q a b)) (is.goes so_far)
-        tt (none_left q a b so_far none)).goes
+    pub relisting_ends : set_of (a ++ b) ≡ [] → Implements {X = Unit {0}} m (λ (u : Unit {0}). so_far) start now (adding begun (changed_entries q old new)) (Ok tt)
+    relisting_ends none = goes_end (rest q a b so_far) (is.goes so_far) tt (none_left q a b so_far none)
 
 -- ---- what is left
 

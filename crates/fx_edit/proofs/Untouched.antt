@@ -19,7 +19,10 @@ count_push reads cs c n is =
     ∙ sym (count_append (changed_paths cs) (c.path ∷ []) reads)
     ∙ ap (λ ps. count_before ps reads) (sym (map-append (λ (c : Change). c.path) cs (c ∷ [])))
 
-module _ (own after : OwnList) (cs : List Change) (reads now : ReadList) (n : ℕ) (put : after ≡ put_all own cs) (same : reads ≡ now) (is : n ≡ count_before (changed_paths cs) reads) where
+module _ {own kept after : OwnList} {reads now : ReadList} {n : ℕ} (cs : List Change) (keeps : kept ≡ own) (put_on : after ≡ put_all kept cs) (same : reads ≡ now) (is : n ≡ count_before (changed_paths cs) reads) where
+  put : after ≡ put_all own cs
+  put = put_on ∙ ap (λ own. put_all own cs) keeps
+
   pub untouched_same : SameOver (take n now) (own_at own) (own_at after)
   untouched_same =
       subst (λ after. SameOver (take n now) (own_at own) (own_at after)) (sym put)

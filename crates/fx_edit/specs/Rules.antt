@@ -8,8 +8,8 @@ use Rattle.fx_store.specs.Resolve.{◌/ₚ◌, parent, resolve}
 use Rattle.fx_store.specs.Rule.{Ask, Answer, Look, look_all, ◌>>=◌}
 use Rattle.fx_store.specs.Names.{has}
 use Rattle.fx_expr.specs.Merges.{IsLeastOf}
-use Rattle.fx_expr.specs.Sets.{with_text}
-use Rattle.fx_spec.specs.Edit.{set_to, removed, names_of, entries, clear, children, without_name, follows_last, store_landed, create_landed, remove_landed}
+use Rattle.fx_expr.specs.Sets.{set_of, with_text}
+use Rattle.fx_spec.specs.Edit.{set_to, removed, names_of, entry, entries, clear, children, without_name, follows_last, store_landed, create_landed, remove_landed}
 use Rattle.fx_spec.specs.Move.{Answered}
 
 -- the changes of a rule, after some others
@@ -85,10 +85,18 @@ abbrev pub left_of : Bool → List (List ℕ) → List (List ℕ)
 left_of true names = drop 1 names
 left_of false names = names
 
+-- an empty file at a new name, where it is looked at before
+abbrev pub added_file : List (List ℕ) → Ask (List Change)
+added_file q = Look q (λ node. Answer (set_to q (File [] false) ∷ []))
+
+-- the changes of the entries of a directory that lists the new names in place of the old, in ascending order
+abbrev pub changed_entries : List (List ℕ) → List (List ℕ) → List (List ℕ) → Ask (List Change)
+changed_entries q old new = entries (entry q old new) (set_of (old ++ new))
+
 -- what is done at a name, by whether the old names have it and whether the new ones do
 abbrev pub change_of : List (List ℕ) → List ℕ → Bool → Bool → Ask (List Change)
 change_of q n old new =
-    let added = Look (q /ₚ n) (λ node. Answer (set_to (q /ₚ n) (File [] false) ∷ [])) in
+    let added = added_file (q /ₚ n) in
     let dropped = clear (q /ₚ n) in
     cond new (cond old (Answer []) added) dropped
 

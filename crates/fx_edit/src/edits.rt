@@ -2,16 +2,18 @@
 ghost use Rattle.std.specs.Prelude.{◌≡◌, ◌++◌, ◌∷◌, [], drop, IfOk, OnOk};
 ghost use Rattle.fx_store.specs.Changes.{changed_paths};
 ghost use Rattle.fx_spec.specs.Edit.{set_to, removed};
-ghost use Rattle.fx_view.specs.Follows.{GoesBy};
-ghost use Rattle.fx_view.specs.Own.{own_at, put_all};
+ghost use Rattle.fx_session.specs.Implements.{Implements};
+ghost use Rattle.fx_view.specs.Own.{put_all};
 ghost use Rattle.fx_view.specs.Reads.{count_before};
 ghost use Rattle.fx_edit.specs.Rules.{looking};
 
 use fx_base::NoMemory;
+use fx_session::Session;
 use fx_store::{Change, Node, Path};
-use fx_view::{Overlay, Reader, Reads, Stop, look};
+use fx_view::{Overlay, Reader, Reads, Stop};
 use std::alloc::Global;
 use std::marker::Model;
+use std::sync::ledger::Ledger;
 
 /// Changes that an edit makes, in its order.
 #[derive(Drop)]
@@ -68,17 +70,15 @@ impl Edits {
     }
 
     /// Looks at each changed path but the first, in order.
-    pub(crate) fn look_at_rest<R: Reader>(
+    pub(crate) fn look_at_rest<R: Reader, L: Ledger>(
         &self,
-        alloc: Global,
-        reader: &mut R,
-        overlay: &Overlay,
+        session: &mut Session<'_, R, L>,
     ) -> Result<(), Stop>
-        ensures { GoesBy R.meaning (λ u. u) (own_at overlay.now) reader.old reader.new
+        ensures follows { Implements R.meaning (λ u. u) session.old session.new
             (looking (changed_paths (drop 1 self.now))) result }
     {
         for i in 1..self.changes.len() {
-            let_go(look(alloc, reader, overlay, &self.changes[i].path)?);
+            let_go(session.look(&self.changes[i].path)?);
         }
         Ok(())
     }

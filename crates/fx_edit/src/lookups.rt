@@ -2,40 +2,37 @@
 ghost use Rattle.std.specs.Prelude.{◌≡◌, ◌<◌, Some, length, slice_get};
 ghost use Rattle.fx_store.specs.Rule as rule;
 ghost use Rattle.fx_spec.specs.Edit.{names_of};
-ghost use Rattle.fx_view.specs.Follows.{GoesBy};
-ghost use Rattle.fx_view.specs.Own.{own_at};
+ghost use Rattle.fx_session.specs.Implements.{Implements};
 ghost use Rattle.fx_edit.specs.Rules as parts;
 
+use fx_session::Session;
 use fx_store::{Name, Names, Node, Path};
-use fx_view::{Overlay, Reader, Stop, look};
+use fx_view::{Reader, Stop};
 use std::alloc::Global;
+use std::sync::ledger::Ledger;
 
 /// The names below a path; `None` where nothing is there.
-pub(crate) fn listing<R: Reader>(
-    alloc: Global,
-    reader: &mut R,
-    overlay: &Overlay,
+pub(crate) fn listing<R: Reader, L: Ledger>(
+    session: &mut Session<'_, R, L>,
     path: &Path,
 ) -> Result<Option<Names>, Stop>
-    ensures { GoesBy R.meaning (λ n. n) (own_at overlay.now) reader.old reader.new
+    ensures follows { Implements R.meaning (λ n. n) session.old session.new
         (rule.Look path.now (λ node. rule.Answer (parts.listing node))) result }
 {
-    let node = look(alloc, reader, overlay, path)?;
-    Ok(listed(alloc, node))
+    let node = session.look(path)?;
+    Ok(listed(session.alloc, node))
 }
 
 /// The names that a directory at a path lists; none where there is no directory.
-pub(crate) fn names_at<R: Reader>(
-    alloc: Global,
-    reader: &mut R,
-    overlay: &Overlay,
+pub(crate) fn names_at<R: Reader, L: Ledger>(
+    session: &mut Session<'_, R, L>,
     path: &Path,
 ) -> Result<Names, Stop>
-    ensures { GoesBy R.meaning (λ n. n) (own_at overlay.now) reader.old reader.new
+    ensures follows { Implements R.meaning (λ n. n) session.old session.new
         (rule.Look path.now (λ node. rule.Answer (names_of node))) result }
 {
-    let node = look(alloc, reader, overlay, path)?;
-    Ok(names_in(alloc, node))
+    let node = session.look(path)?;
+    Ok(names_in(session.alloc, node))
 }
 
 fn listed(alloc: Global, node: Option<Node>) -> Option<Names>

@@ -2,12 +2,8 @@
 ghost use Rattle.std.specs.Prelude.{◌≡◌, ◌++◌, ◌∷◌, ◌+◌, ◌≤◌, ◌<◌, [], Some, false, length, drop, map, slice_get, IfOk, OnOk};
 ghost use Rattle.fx_store.specs.declared.node.Node.TheVariants.{File, Dir};
 ghost use Rattle.fx_store.specs.Resolve.{◌/ₚ◌};
-ghost use Rattle.fx_expr.specs.Sets.{with_text};
-ghost use Rattle.fx_session.specs.Answering.{answered};
-ghost use Rattle.fx_session.specs.Halts.{split};
 ghost use Rattle.fx_spec.specs.Edit as edit;
-ghost use Rattle.fx_view.specs.Follows.{GoesBy};
-ghost use Rattle.fx_view.specs.Own.{own_at};
+ghost use Rattle.fx_session.specs.Implements.{Answers, Implements};
 ghost use Rattle.fx_edit.specs.Kinds.{lists_some};
 ghost use Rattle.fx_edit.specs.Rules.{made_in, made_node, made_along, made_all, IsNextMade};
 
@@ -16,31 +12,30 @@ use crate::lookups::{name_at, names_at};
 use crate::nodes::empty_file;
 use crate::paths::below;
 use fx_base::NoMemory;
-use fx_session::Halt;
+use fx_session::{Halt, Session};
 use fx_spec::Refusal;
 use fx_store::{Name, NameList, Names, Node, Path};
-use fx_view::{Overlay, Reader, Stop};
+use fx_view::{Reader, Stop};
 use std::alloc::Global;
+use std::sync::ledger::Ledger;
 
 /// The edit that makes a node at missing names of a directory, unless its path or its entries would be too deep.
-pub(crate) fn make<R: Reader>(
-    alloc: Global,
-    reader: &mut R,
-    overlay: &Overlay,
+pub(crate) fn make<R: Reader, L: Ledger>(
+    session: &mut Session<'_, R, L>,
     here: &Path,
     names: &NameList,
     node: &Node,
 ) -> Result<Edits, Halt>
-    ensures { GoesBy R.meaning (answered (λ e. e)) (own_at overlay.now) reader.old reader.new
+    ensures follows { Answers R.meaning (λ e. e) session.old session.new
         (edit.unless_deep (edit.is_too_deep here.now names.now node.now)
-        (edit.make here.now names.now node.now)) (split result) }
+        (edit.make here.now names.now node.now)) result }
 {
     if is_too_deep(here, names, node) {
         return Err(Halt::Refused(Refusal::TooDeep));
     }
     match names.at(0) {
-        Some(name) => Ok(make_in(alloc, reader, overlay, here, names, name, node)?),
-        None => Err(Halt::Refused(Refusal::Blocked(here.copy(alloc)?))),
+        Some(name) => Ok(make_in(session, here, names, name, node)?),
+        None => Err(Halt::Refused(Refusal::Blocked(here.copy(session.alloc)?))),
     }
 }
 
@@ -74,10 +69,8 @@ fn lists_some(node: &Node) -> bool
 }
 
 /// The same at a first name, with room for all.
-fn make_in<R: Reader>(
-    alloc: Global,
-    reader: &mut R,
-    overlay: &Overlay,
+fn make_in<R: Reader, L: Ledger>(
+    session: &mut Session<'_, R, L>,
     here: &Path,
     names: &NameList,
     name: &Name,
@@ -85,13 +78,13 @@ fn make_in<R: Reader>(
 ) -> Result<Edits, Stop>
     requires first { slice_get names.now 0 ≡ Some name.now }
     requires room { edit.is_too_deep here.now names.now node.now ≡ false }
-    ensures { GoesBy R.meaning (λ e. e) (own_at overlay.now) reader.old reader.new
+    ensures follows { Implements R.meaning (λ e. e) session.old session.new
         (made_in here.now name.now (made_all here.now names.now node.now)) result }
 {
-    let listed = names_at(alloc, reader, overlay, here)?;
-    let more = listed.with(alloc, name)?;
-    let edits = made(alloc, here, more, names, node)?;
-    edits.look_at_rest(alloc, reader, overlay)?;
+    let listed = names_at(session, here)?;
+    let more = listed.with(session.alloc, name)?;
+    let edits = made(session.alloc, here, more, names, node)?;
+    edits.look_at_rest(session)?;
     Ok(edits)
 }
 

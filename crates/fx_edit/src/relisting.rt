@@ -1,23 +1,23 @@
 //! A directory that lists other names from now on.
 ghost use Rattle.std.specs.Prelude.{◌≡◌, ◌<◌, ◌++◌, ◌∷◌, [], true, false, length, IfOk, MatchOption};
-ghost use Rattle.fx_store.specs.declared.node.Node.TheVariants.{File, Dir};
+ghost use Rattle.fx_store.specs.declared.node.Node.TheVariants.{Dir};
 ghost use Rattle.fx_store.specs.Resolve.{◌/ₚ◌};
-ghost use Rattle.fx_store.specs.Rule as rule;
 ghost use Rattle.fx_expr.specs.Sets.{IsAscending, set_of};
 ghost use Rattle.fx_spec.specs.Edit as edit;
-ghost use Rattle.fx_view.specs.Follows.{GoesBy};
-ghost use Rattle.fx_view.specs.Own.{own_at};
-ghost use Rattle.fx_edit.specs.Rules.{adding, change_of, IsNextOf};
+ghost use Rattle.fx_session.specs.Implements.{Implements};
+ghost use Rattle.fx_edit.specs.Rules.{adding, added_file, changed_entries, change_of, IsNextOf};
 
 use crate::clearing::clear_entry;
 use crate::edits::Edits;
 use crate::nodes::empty_file;
 use crate::paths::below;
 use fx_base::{Items, NoMemory};
+use fx_session::Session;
 use fx_store::{Name, Names, Node, Path};
-use fx_view::{Overlay, Reader, Stop, look};
+use fx_view::{Reader, Stop};
 use std::alloc::Global;
 use std::cmp::Ordering;
+use std::sync::ledger::Ledger;
 
 /// A directory's path, the names that it lists, and those that it is to list.
 #[derive(Drop)]
@@ -29,20 +29,17 @@ pub(crate) struct Relist {
 
 /// The directory with its new names, and then the changes of its entries, each looked at: a new name is an empty file, and a
 /// dropped one is removed with all below.
-pub(crate) fn relisted<R: Reader>(
-    alloc: Global,
-    reader: &mut R,
-    overlay: &Overlay,
+pub(crate) fn relisted<R: Reader, L: Ledger>(
+    session: &mut Session<'_, R, L>,
     list: &Relist,
 ) -> Result<Edits, Stop>
     requires { edit.lacks_room list.now.path (Dir list.now.new) ≡ false }
-    ensures { GoesBy R.meaning (λ e. e) (own_at overlay.now) reader.old reader.new
+    ensures follows { Implements R.meaning (λ e. e) session.old session.new
         (adding (edit.set_to list.now.path (Dir list.now.new) ∷ [])
-        (edit.entries (edit.entry list.now.path list.now.old list.now.new)
-        (set_of (list.now.old ++ list.now.new)))) result }
+        (changed_entries list.now.path list.now.old list.now.new)) result }
 {
-    let mut edits = relisting(alloc, list)?;
-    change_entries(alloc, reader, overlay, list, &mut edits)?;
+    let mut edits = relisting(session.alloc, list)?;
+    change_entries(session, list, &mut edits)?;
     Ok(edits)
 }
 
@@ -55,22 +52,19 @@ fn relisting(alloc: Global, list: &Relist) -> Result<Edits, NoMemory>
 }
 
 /// Adds the changes of the entries, in ascending order: both sets of names are gone through side by side.
-fn change_entries<R: Reader>(
-    alloc: Global,
-    reader: &mut R,
-    overlay: &Overlay,
+fn change_entries<R: Reader, L: Ledger>(
+    session: &mut Session<'_, R, L>,
     list: &Relist,
     edits: &mut Edits,
 ) -> Result<(), Stop>
     requires { edit.lacks_room list.now.path (Dir list.now.new) ≡ false }
-    ensures { GoesBy R.meaning (λ u. edits.new) (own_at overlay.now) reader.old reader.new
-        (adding edits.old (edit.entries (edit.entry list.now.path list.now.old list.now.new)
-        (set_of (list.now.old ++ list.now.new)))) result }
+    ensures follows { Implements R.meaning (λ u. edits.new) session.old session.new
+        (adding edits.old (changed_entries list.now.path list.now.old list.now.new)) result }
 {
     let mut olds = list.old.iter();
     let mut news = list.new.iter();
     while let Some((name, in_old, in_new, other_olds, other_news)) = next_name(olds, news) {
-        change_entry(alloc, reader, overlay, list, name, in_old, in_new, edits)?;
+        change_entry(session, list, name, in_old, in_new, edits)?;
         olds = other_olds;
         news = other_news;
     }
@@ -100,10 +94,8 @@ fn next_name<'a>(olds: Items<'a, Name>, news: Items<'a, Name>) -> Option<Next<'a
 }
 
 /// Adds the changes of one entry, by whether the old and the new names have it: one that stays is not touched.
-fn change_entry<R: Reader>(
-    alloc: Global,
-    reader: &mut R,
-    overlay: &Overlay,
+fn change_entry<R: Reader, L: Ledger>(
+    session: &mut Session<'_, R, L>,
     list: &Relist,
     name: &Name,
     in_old: bool,
@@ -112,36 +104,33 @@ fn change_entry<R: Reader>(
 ) -> Result<(), Stop>
     requires room { edit.lacks_room list.now.path (Dir list.now.new) ≡ false }
     requires new { in_new ≡ true → 0 < length list.now.new }
-    ensures { GoesBy R.meaning (λ u. edits.new) (own_at overlay.now) reader.old reader.new
+    ensures follows { Implements R.meaning (λ u. edits.new) session.old session.new
         (adding edits.old (change_of list.now.path name.now in_old in_new)) result }
 {
     if !in_new {
-        return clear_entry(alloc, reader, overlay, &list.path, name, edits);
+        return clear_entry(session, &list.path, name, edits);
     }
     if in_old {
         return Ok(());
     }
-    add_file(alloc, reader, overlay, list, name, edits)
+    add_file(session, list, name, edits)
 }
 
 /// Adds an empty file at a new name.
-fn add_file<R: Reader>(
-    alloc: Global,
-    reader: &mut R,
-    overlay: &Overlay,
+fn add_file<R: Reader, L: Ledger>(
+    session: &mut Session<'_, R, L>,
     list: &Relist,
     name: &Name,
     edits: &mut Edits,
 ) -> Result<(), Stop>
     requires room { edit.lacks_room list.now.path (Dir list.now.new) ≡ false }
     requires new { 0 < length list.now.new }
-    ensures { GoesBy R.meaning (λ u. edits.new) (own_at overlay.now) reader.old reader.new
-        (adding edits.old (rule.Look (list.now.path /ₚ name.now)
-        (λ node. rule.Answer (edit.set_to (list.now.path /ₚ name.now) (File [] false) ∷ [])))) result }
+    ensures follows { Implements R.meaning (λ u. edits.new) session.old session.new
+        (adding edits.old (added_file (list.now.path /ₚ name.now))) result }
 {
-    let path = below(alloc, &list.path, name)?;
-    let_go(look(alloc, reader, overlay, &path)?);
-    edits.set(path, empty_file(alloc))?;
+    let path = below(session.alloc, &list.path, name)?;
+    let_go(session.look(&path)?);
+    edits.set(path, empty_file(session.alloc))?;
     Ok(())
 }
 

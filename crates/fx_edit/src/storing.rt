@@ -1,12 +1,10 @@
 //! `store`: a value becomes the content of the node where a place's path lands.
-ghost use Rattle.std.specs.Prelude.{◌≡◌, ◌∷◌, [], IfOk, take};
+ghost use Rattle.std.specs.Prelude.{◌≡◌, IfOk, take};
 ghost use Rattle.fx_store.specs.declared.node.Node.TheVariants.{File, Dir};
 ghost use Rattle.fx_store.specs.Rule as rule;
 ghost use Rattle.fx_expr.specs.Views.{tree_of};
-ghost use Rattle.fx_session.specs.Answering.{answered};
-ghost use Rattle.fx_session.specs.Halts.{split};
 ghost use Rattle.fx_spec.specs.Edit as edit;
-ghost use Rattle.fx_view.specs.Follows.{GoesBy};
+ghost use Rattle.fx_session.specs.Implements.{Answers};
 ghost use Rattle.fx_view.specs.Own.{own_at, SameOver};
 ghost use Rattle.fx_walk.specs.Places.{place_tree};
 ghost use Rattle.fx_edit.specs.Edits as says;
@@ -20,11 +18,12 @@ use crate::making::make;
 use crate::nodes::{is_flag, stored_node};
 use crate::relisting::{Relist, relisted};
 use fx_expr::Value;
-use fx_session::Halt;
+use fx_session::{Halt, Session};
 use fx_spec::{Place, Refusal};
 use fx_store::{Bytes, Landing, Names, Node, Path};
-use fx_view::{Overlay, Reader, Reads, Stop, look, resolve};
+use fx_view::{Overlay, Reader, Reads};
 use std::alloc::Global;
+use std::sync::ledger::Ledger;
 
 /// Makes the value the content of the node at a place: a text at a file or a link, a truth value as a file's flag, a set of
 /// names at a directory, whose new names are empty files from then on, and whose dropped ones are gone with all below. A text
@@ -32,42 +31,39 @@ use std::alloc::Global;
 /// file with the flag false, or with no bytes. A last link is followed, unless the place is a link's. Refused: WrongForm,
 /// BadName, TooDeep, Blocked. After a refusal the own changes are as before. Answers how many of the reader's first reads are at
 /// none of the changed paths.
-pub fn store<R: Reader>(
-    alloc: Global,
-    reader: &mut R,
-    overlay: &mut Overlay,
+pub fn store<R: Reader, L: Ledger>(
+    session: &mut Session<'_, R, L>,
     place: &Place,
     value: &Value,
 ) -> Result<u64, Halt>
-    ensures edits { says.Edits R.meaning overlay.old overlay.new reader.old reader.new
+    ensures edits { says.Edits R.meaning session.old session.new
         (edit.store_at (tree_of value.now) (place_tree place.now)) (done result) }
-    ensures untouched { IfOk result (λ n. SameOver (take n (R.meaning.reads reader.new))
-        (own_at overlay.old) (own_at overlay.new)) }
-    ensures next { IfOk result (IsNextSet (R.meaning.reads reader.new) overlay.new) }
+    ensures untouched { IfOk result (λ n. SameOver (take n (R.meaning.reads session.new.reader.now))
+        (own_at session.old.own) (own_at session.new.own)) }
+    ensures next { IfOk result
+        (IsNextSet (R.meaning.reads session.new.reader.now) session.new.own) }
 {
     // The place's path is within its limits.
     prove!(place.path.len() <= 64);
-    let edits = stored(alloc, reader, overlay, place, value)?;
-    let untouched = edits.untouched(reader.reads());
-    edits.put_all(alloc, overlay)?;
+    let edits = stored(session, place, value)?;
+    let untouched = edits.untouched(session.reader.reads());
+    edits.put_all(session.alloc, &mut session.own)?;
     Ok(untouched)
 }
 
 /// The changes of a store.
-fn stored<R: Reader>(
-    alloc: Global,
-    reader: &mut R,
-    overlay: &Overlay,
+fn stored<R: Reader, L: Ledger>(
+    session: &mut Session<'_, R, L>,
     place: &Place,
     value: &Value,
 ) -> Result<Edits, Halt>
-    ensures { GoesBy R.meaning (answered (λ e. e)) (own_at overlay.now) reader.old reader.new
-        (edit.store_at (tree_of value.now) (place_tree place.now)) (split result) }
+    ensures follows { Answers R.meaning (λ e. e) session.old session.new
+        (edit.store_at (tree_of value.now) (place_tree place.now)) result }
 {
-    let none = Names::new(alloc);
-    let likely = likely_names(reader.reads(), overlay, place.path, &none);
-    let node = stored_node(alloc, &place.part(), value, likely)?;
-    store_node(alloc, reader, overlay, place.path, is_flag(value), node)
+    let none = Names::new(session.alloc);
+    let likely = likely_names(session.reader.reads(), &session.own, place.path, &none);
+    let node = stored_node(session.alloc, &place.part(), value, likely)?;
+    store_node(session, place.path, is_flag(value), node)
 }
 
 /// The names of a directory at a path when it was last changed or looked at, for which no look is needed; or else none.
@@ -94,19 +90,17 @@ fn listed_names<'a>(node: &'a Option<Node>, none: &'a Names) -> &'a Names {
 }
 
 /// The changes of a store of a node at a path.
-fn store_node<R: Reader>(
-    alloc: Global,
-    reader: &mut R,
-    overlay: &Overlay,
+fn store_node<R: Reader, L: Ledger>(
+    session: &mut Session<'_, R, L>,
     path: &Path,
     flag: bool,
     node: Node,
 ) -> Result<Edits, Halt>
-    ensures { GoesBy R.meaning (answered (λ e. e)) (own_at overlay.now) reader.old reader.new
-        (store_there flag path.now node) (split result) }
+    ensures follows { Answers R.meaning (λ e. e) session.old session.new
+        (store_there flag path.now node) result }
 {
-    let landing = resolve(alloc, reader, overlay, path, follows_last(&node))?;
-    store_landed(alloc, reader, overlay, path, flag, landing, node)
+    let landing = session.resolve(path, follows_last(&node))?;
+    store_landed(session, path, flag, landing, node)
 }
 
 fn follows_last(node: &Node) -> bool
@@ -120,86 +114,78 @@ fn follows_last(node: &Node) -> bool
 }
 
 /// The changes of a store by where the place's path lands.
-fn store_landed<R: Reader>(
-    alloc: Global,
-    reader: &mut R,
-    overlay: &Overlay,
+fn store_landed<R: Reader, L: Ledger>(
+    session: &mut Session<'_, R, L>,
     path: &Path,
     flag: bool,
     landing: Landing,
     node: Node,
 ) -> Result<Edits, Halt>
-    ensures { GoesBy R.meaning (answered (λ e. e)) (own_at overlay.now) reader.old reader.new
-        (edit.store_landed flag path.now node landing) (split result) }
+    ensures follows { Answers R.meaning (λ e. e) session.old session.new
+        (edit.store_landed flag path.now node landing) result }
 {
     match landing {
-        Landing::At(at) => replace(alloc, reader, overlay, at, flag, node),
-        Landing::Absent(here, names) => make(alloc, reader, overlay, &here, &names, &node),
+        Landing::At(at) => replace(session, at, flag, node),
+        Landing::Absent(here, names) => make(session, &here, &names, &node),
         Landing::Blocked(at) => Err(Halt::Refused(Refusal::Blocked(at))),
-        Landing::TooManyLinks => Err(Halt::Refused(Refusal::Blocked(path.copy(alloc)?))),
+        Landing::TooManyLinks => Err(Halt::Refused(Refusal::Blocked(path.copy(session.alloc)?))),
     }
 }
 
 /// The changes of a store where a node stands.
-fn replace<R: Reader>(
-    alloc: Global,
-    reader: &mut R,
-    overlay: &Overlay,
+fn replace<R: Reader, L: Ledger>(
+    session: &mut Session<'_, R, L>,
     path: Path,
     flag: bool,
     node: Node,
 ) -> Result<Edits, Halt>
-    ensures { GoesBy R.meaning (answered (λ e. e)) (own_at overlay.now) reader.old reader.new
-        (rule.Look path (edit.replaced flag path node)) (split result) }
+    ensures follows { Answers R.meaning (λ e. e) session.old session.new
+        (rule.Look path (edit.replaced flag path node)) result }
 {
-    let found = look(alloc, reader, overlay, &path)?;
-    replaced(alloc, reader, overlay, path, flag, node, found)
+    let found = session.look(&path)?;
+    replaced(session, path, flag, node, found)
 }
 
 /// The same, where this was found: a node of the same kind alone is replaced.
-fn replaced<R: Reader>(
-    alloc: Global,
-    reader: &mut R,
-    overlay: &Overlay,
+fn replaced<R: Reader, L: Ledger>(
+    session: &mut Session<'_, R, L>,
     path: Path,
     flag: bool,
     node: Node,
     found: Option<Node>,
 ) -> Result<Edits, Halt>
-    ensures { GoesBy R.meaning (answered (λ e. e)) (own_at overlay.now) reader.old reader.new
-        (edit.replaced flag path node found) (split result) }
+    ensures follows { Answers R.meaning (λ e. e) session.old session.new
+        (edit.replaced flag path node found) result }
 {
     if !is_alike(&node, &found) {
         return Err(Halt::Refused(Refusal::Blocked(path)));
     }
     match node {
         Node::File { bytes, exec } => {
-            let file = renewed(alloc, flag, bytes, exec, found);
-            Ok(Edits::of(alloc, path, file)?)
+            let file = renewed(session.alloc, flag, bytes, exec, found);
+            Ok(Edits::of(session.alloc, path, file)?)
         }
-        Node::Link(text) => Ok(Edits::of(alloc, path, Node::Link(text))?),
+        Node::Link(text) => Ok(Edits::of(session.alloc, path, Node::Link(text))?),
         Node::Dir(new) => {
-            let old = names_in(alloc, found);
-            relist(alloc, reader, overlay, Relist { path, old, new })
+            let old = names_in(session.alloc, found);
+            relist(session, Relist { path, old, new })
         }
     }
 }
 
 /// The changes of a directory's new names, for which it needs room below it.
-fn relist<R: Reader>(
-    alloc: Global,
-    reader: &mut R,
-    overlay: &Overlay,
+fn relist<R: Reader, L: Ledger>(
+    session: &mut Session<'_, R, L>,
     list: Relist,
 ) -> Result<Edits, Halt>
-    ensures { GoesBy R.meaning (answered (λ e. e)) (own_at overlay.now) reader.old reader.new
+    ensures follows { Answers R.meaning (λ e. e) session.old session.new
         (edit.unless_deep (edit.lacks_room list.path (Dir list.new))
-        (edit.new_names list.path list.old list.new)) (split result) }
+        (edit.new_names list.path list.old list.new)) result }
 {
     if lacks_room(&list.path, &list.new) {
         return Err(Halt::Refused(Refusal::TooDeep));
     }
-    Ok(relisted(alloc, reader, overlay, &list)?)
+    Ok(relisted(session, &list)?)
 }
 
 /// Whether the names would be below a path of 64 names.

@@ -1,5 +1,5 @@
 -- Errors that `?` passes on, as the rules have them.
-use Rattle.std.proofs.Common.{◌≡◌, Option, Some, Result, Ok, Err, refl, ap, sym, subst}
+use Rattle.std.proofs.Common.{◌≡◌, Some, Result, Ok, Err, refl, ap, sym, subst}
 use Rattle.std.specs.Prelude.{IsErrAnd}
 use Rattle.fx_store.specs.Rule.{Ask, Answer, ◌>>=◌}
 use Rattle.fx_spec.specs.declared.refusal.Refusal.{Refusal}
@@ -74,6 +74,6 @@ module _ {R L A B X Y : Type 0} {m : Meaning R} {view : X → A} {then_view : Y 
   step_halt rule next (halt.Refused refusal) first = then_answers rule (unrefused next) (Err refusal) first refl
   step_halt rule next (halt.Stopped why) first = stops rule (unrefused next) (Err why) refl first
 
-  pub halt_halts : {e : Halt} (rule : Ask (Answered A)) (next : A → Ask (Answered B)) (r : Result Y Halt) → IsErrAnd r (λ h. h ≡ e) → Answers {A = A} {X = X} m view old mid rule (Err e) → Answers m then_view old mid (rule >>= unrefused next) r
-  halt_halts {e = e} rule next r is first =
+  pub halt_halts : (rule : Ask (Answered A)) (next : A → Ask (Answered B)) (e : Halt) (r : Result Y Halt) → IsErrAnd r (λ h. h ≡ e) → Answers {A = A} {X = X} m view old mid rule (Err e) → Answers m then_view old mid (rule >>= unrefused next) r
+  halt_halts rule next e r is first =
       subst (λ (o : Result (Result Y Refusal) Stop). Implements m (answered then_view) old mid (rule >>= unrefused next) o) (sym (split_halt r e is)) (step_halt rule next e first)

@@ -12,6 +12,7 @@ ghost use Rattle.fx_show.specs.Shown.{root_value};
 use fx_base::{NoMemory, Steps};
 use fx_expr::{Env, Value};
 use fx_report::value_line;
+use fx_session::Session;
 use fx_spec::{Checked, Place};
 use fx_store::{Filestore, LongText, Path};
 use fx_view::{Overlay, Stop, Whole};
@@ -24,7 +25,6 @@ use std::sync::ledger::{Blank, Ledger};
 fn value_at<L: Ledger>(
     alloc: Global,
     reader: &mut Whole,
-    overlay: &Overlay,
     place: &Place,
     blank: Blank,
 ) -> Result<Option<Value>, NoMemory>
@@ -33,13 +33,17 @@ fn value_at<L: Ledger>(
     requires some { 0 < L.parts }
     requires described { IsDescribedPlace (place_tree place.now) }
     requires unread { reader.old.reads ≡ [] }
-    requires unchanged { overlay.now ≡ [] }
     ensures { IfOk result (λ value.
         answer (get reader.old.store.now.nodes) (rule_at (place_tree place.now))
         ≡ option_map tree_of value) }
 {
-    let mut steps = Steps::<L>::open(blank);
-    match value(alloc, reader, overlay, place, &mut steps) {
+    let mut session = Session {
+        alloc,
+        reader,
+        own: Overlay::new(alloc),
+        steps: Steps::<L>::open(blank),
+    };
+    match value(&mut session, place) {
         Ok(value) => Ok(value),
         Err(Stop::NoMemory) => Err(NoMemory),
         Err(Stop::Needs(_)) => unreachable!(),
@@ -52,7 +56,6 @@ fn value_of(alloc: Global, spec: &Checked, store: &Filestore) -> Result<Option<V
         (λ value. root_value (get store.now.nodes) spec.now ≡ option_map tree_of value) }
 {
     let mut reader = Whole::new(alloc, store);
-    let overlay = Overlay::new(alloc);
     let path = Path::root(alloc);
     let env = Env::new(alloc);
     let root = spec.root();
@@ -63,7 +66,7 @@ fn value_of(alloc: Global, spec: &Checked, store: &Filestore) -> Result<Option<V
         defs: root.defs,
         level: root.level,
     };
-    value_at::<Brand>(alloc, &mut reader, &overlay, &place, Blank::new(1))
+    value_at::<Brand>(alloc, &mut reader, &place, Blank::new(1))
 }
 
 /// The lines of a value.

@@ -1,5 +1,7 @@
 //! A watch that is told one folder after another.
-ghost use Rattle.std.specs.Prelude.{◌≡◌, ◌<◌};
+ghost use Rattle.std.specs.Prelude.{◌≡◌, ◌<◌, IfOk};
+ghost use Rattle.std.specs.FinMap.{get};
+ghost use Rattle.fx_watch.specs.WatchView.{AnswersFor};
 
 use crate::steps::tell_refused;
 use fx_base::{NoMemory, Steps};
@@ -7,7 +9,7 @@ use fx_folder::load;
 use fx_outside::MemoryHost;
 use fx_spec::Base;
 use fx_stage::{Program, Stage, host_text};
-use fx_store::{Path, Paths};
+use fx_store::{Filestore, Path, Paths};
 use fx_telling::{split_word, tell, unescaped};
 use fx_watch::Watch;
 use std::alloc::Global;
@@ -39,43 +41,64 @@ fn add_next(alloc: Global, paths: &mut Paths, path: Path) -> Result<(), NoMemory
     Ok(())
 }
 
+/// A watch that was told the loaded folder.
+fn watch_by<L: Ledger>(alloc: Global, base: Arc<Base>, blank: Blank) -> Result<Watch, NoMemory>
+    requires name { blank.name ≡ L.name }
+    requires parts { blank.parts ≡ L.parts }
+    requires some { 0 < L.parts }
+    ensures { IfOk result (λ watch. AnswersFor watch (get base.value.loaded.nodes)) }
+{
+    Watch::new(alloc, base, Steps::<L>::open(blank)).1
+}
+
+/// Whether there is a value on a filestore that a watch is told.
+fn valid_by<L: Ledger>(
+    alloc: Global,
+    watch: &mut Watch,
+    paths: &Paths,
+    store: &Filestore,
+    blank: Blank,
+) -> Result<bool, NoMemory>
+    requires name { blank.name ≡ L.name }
+    requires parts { blank.parts ≡ L.parts }
+    requires some { 0 < L.parts }
+{
+    watch.after(alloc, paths, store, Steps::<L>::open(blank)).1
+}
+
 /// Tells whether there is a value on a folder, where these paths have changed.
-fn tell_after<L: Ledger>(
+fn tell_after(
     alloc: Global,
     watch: &mut Watch,
     host: &mut MemoryHost,
     paths: &Paths,
     folder: &str,
-    steps: &mut Steps<L>,
     out: &mut String,
 ) -> Result<(), NoMemory> {
     let folder = host_text(alloc, folder)?;
     match load(alloc, host, &folder) {
-        Ok(store) => tell_valid(out, watch.after(alloc, paths, &store, steps)?),
+        Ok(store) => {
+            let valid = valid_by::<Brand>(alloc, watch, paths, &store, Blank::new(1))?;
+            tell_valid(out, valid)
+        }
         Err(_) => tell(out, "not loaded"),
     }
 }
 
 /// Tells the same of the loaded folder, and then of each that the line names behind its paths.
-fn tell_told<L: Ledger>(
+fn tell_told(
     alloc: Global,
     base: Arc<Base>,
     host: &mut MemoryHost,
     line: &String,
     out: &mut String,
-    blank: Blank,
-) -> Result<(), NoMemory>
-    requires name { blank.name ≡ L.name }
-    requires parts { blank.parts ≡ L.parts }
-    requires some { 0 < L.parts }
-{
-    let mut steps = Steps::<L>::open(blank);
-    let mut watch = Watch::new(alloc, base, &mut steps)?;
+) -> Result<(), NoMemory> {
+    let mut watch = watch_by::<Brand>(alloc, base, Blank::new(1))?;
     tell_valid(out, watch.valid())?;
     for told in line.as_str().split(' ') {
         if let Some((paths, folder)) = told.split_once('=') {
             let paths = paths_of(alloc, paths)?;
-            tell_after(alloc, &mut watch, host, &paths, folder, &mut steps, out)?;
+            tell_after(alloc, &mut watch, host, &paths, folder, out)?;
         }
     }
     Ok(())
@@ -93,7 +116,7 @@ pub fn tell_watch<P: Program>(
     let (script, told) = split_word(line);
     let told = String::from_str(alloc, told)?;
     match program.base(alloc, stage, script) {
-        Ok(base) => tell_told::<Brand>(alloc, base, &mut stage.host, &told, out, Blank::new(1)),
+        Ok(base) => tell_told(alloc, base, &mut stage.host, &told, out),
         Err(status) => tell_refused(out, &status),
     }
 }

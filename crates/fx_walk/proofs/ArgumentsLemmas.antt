@@ -18,6 +18,9 @@ use Rattle.fx_spec.specs.Describe.{Bindings, onto, then_others, arguments, unles
 use Rattle.fx_spec.specs.WellShaped.{Scope, AreArguments}
 use Rattle.fx_spec.proofs.Shaped.{arguments_have}
 use Rattle.fx_view.proofs.Lists.{drop_at}
+use Rattle.fx_session.specs.declared.session.Session.{Session}
+use Rattle.fx_session.specs.Implements.{ticked, ticked_by}
+use Rattle.fx_session.proofs.Calls.{ticked_none, ticked_more}
 use Rattle.fx_walk.specs.Arguments.{HaveShapes, with_each, inner_names, GivesNames, UnlessRefused}
 
 -- ---- shapes
@@ -76,23 +79,33 @@ before_onto names p ps v (Ok vs) = ap (λ names. Ok names) (sym (append_assoc na
 before_onto names p ps v (Err f) = refl
 
 -- the first arguments have values, which the names have; what is left decides the rest
-pub record IsAtArgument (env : Bindings) (params : List (List ℕ × ShapeTree)) (args : List ExprTree) (start now i : ℕ) (names : Bindings) : Type 0 where
+pub record IsAtArgument {R L : Type 0} (env : Bindings) (params : List (List ℕ × ShapeTree)) (args : List ExprTree) (start now : Session R L) (i : ℕ) (names : Bindings) : Type 0 where
   pub left : inner_names env params args ≡ before names (inner_names env (drop i params) (drop i args))
   pub evals : argument_evals env args ≡ i + argument_evals env (drop i args)
-  pub steps : now ≡ start + i
+  pub steps : now ≡ ticked_by i start
 
-module _ (env : Bindings) (params : List (List ℕ × ShapeTree)) (args : List ExprTree) (start : ℕ) where
+module _ {R L : Type 0} {env : Bindings} {params : List (List ℕ × ShapeTree)} {args : List ExprTree} {start : Session R L} where
   pub first_argument : (names : Bindings) → names ≡ [] → IsAtArgument env params args start start 0 names
   first_argument names none = record {
     left = before_none (inner_names env params args) ∙ ap (λ names. before names (inner_names env params args)) (sym none);
     evals = omega arith;
-    steps = omega arith;
+    steps = ticked_none start;
   }
 
-  module _ (now i : ℕ) (names : Bindings) (at : IsAtArgument env params args start now i names) where
+  module _ {now : Session R L} {i : ℕ} {names : Bindings} (at : IsAtArgument env params args start now i names) where
+    -- no more evaluations than the arguments'
+    pub steps_so_far : (n : ℕ) × (n ≤ argument_evals env args) × (now ≡ ticked_by n start)
+    steps_so_far = (i, omega (arith, at.evals), at.steps)
+
     module _ (all : length args ≡ i) where
       no_more : drop i args ≡ []
       no_more = drop_all i args (omega (arith, all))
+
+      all_evals : argument_evals env args ≡ i
+      all_evals = at.evals ∙ ap (λ es. i + argument_evals env es) no_more ∙ omega arith
+
+      pub last_steps : now ≡ ticked_by (argument_evals env args) start
+      last_steps = at.steps ∙ ap (λ n. ticked_by n start) (sym all_evals)
 
       pub last_names : GivesNames (Ok names) (inner_names env params args)
       last_names =
@@ -111,24 +124,27 @@ module _ (env : Bindings) (params : List (List ℕ × ShapeTree)) (args : List E
       fault_evals : (f : ExprFault) → eval_of env e ≡ Err f → argument_evals env args ≡ i + 1
       fault_evals f is = rest ∙ ap (λ o. i + (1 + unless_fault o (argument_evals env (drop (i + 1) args)))) is
 
-      module _ (after : ℕ) (ticked : after ≡ now + 1) where
+      module _ {after : Session R L} (one : after ≡ ticked now) where
+        steps_after : after ≡ ticked_by (i + 1) start
+        steps_after = ticked_more start i at.steps one
+
         -- the argument faults, or memory is refused
         fault_names : (fault : EvalFault) → Gives tree_of (Err fault) (eval_of env e) → GivesNames (Err fault) (inner_names env params args)
         fault_names (Fault f) is = fault_left f is
         fault_names NoMemory is = tt
 
-        fault_steps : (fault : EvalFault) → Gives tree_of (Err fault) (eval_of env e) → UnlessRefused (Err fault) (after ≡ start + argument_evals env args)
-        fault_steps (Fault f) is = omega (arith, at.steps, ticked, fault_evals f is)
+        fault_steps : (fault : EvalFault) → Gives tree_of (Err fault) (eval_of env e) → UnlessRefused (Err fault) (after ≡ ticked_by (argument_evals env args) start)
+        fault_steps (Fault f) is = steps_after ∙ ap (λ n. ticked_by n start) (sym (fault_evals f is))
         fault_steps NoMemory is = tt
 
         pub refused_names : (r : Result Bindings EvalFault) (fault : EvalFault) → IsErrAnd r (λ d. d ≡ fault) → Gives tree_of (Err fault) (eval_of env e) → GivesNames r (inner_names env params args)
         refused_names r fault is gives = subst (λ (r : Result Bindings EvalFault). GivesNames r (inner_names env params args)) (sym (err_of r fault is)) (fault_names fault gives)
 
-        pub refused_steps : (r : Result Bindings EvalFault) (fault : EvalFault) → IsErrAnd r (λ d. d ≡ fault) → Gives tree_of (Err fault) (eval_of env e) → UnlessRefused r (after ≡ start + argument_evals env args)
-        refused_steps r fault is gives = subst (λ (r : Result Bindings EvalFault). UnlessRefused r (after ≡ start + argument_evals env args)) (sym (err_of r fault is)) (fault_steps fault gives)
+        pub refused_steps : (r : Result Bindings EvalFault) (fault : EvalFault) → IsErrAnd r (λ d. d ≡ fault) → Gives tree_of (Err fault) (eval_of env e) → UnlessRefused r (after ≡ ticked_by (argument_evals env args) start)
+        refused_steps r fault is gives = subst (λ (r : Result Bindings EvalFault). UnlessRefused r (after ≡ ticked_by (argument_evals env args) start)) (sym (err_of r fault is)) (fault_steps fault gives)
 
-        pub few_steps : after ≤ start + argument_evals env args
-        few_steps = omega (arith, at.steps, ticked, rest)
+        pub few_steps : (n : ℕ) × (n ≤ argument_evals env args) × (after ≡ ticked_by n start)
+        few_steps = (i + 1, omega (arith, rest), steps_after)
 
         -- it has a value, which its parameter is bound to
         pub next_argument : (p : List ℕ × ShapeTree) (v : Tree) (names' : Bindings) → slice_get params i ≡ Some p → eval_of env e ≡ Ok v → names' ≡ bind names p.0 v → IsAtArgument env params args start after (i + 1) names'
@@ -143,5 +159,5 @@ module _ (env : Bindings) (params : List (List ℕ × ShapeTree)) (args : List E
           evals =
               let some : argument_evals env args ≡ i + (1 + argument_evals env (drop (i + 1) args)) = rest ∙ ap (λ o. i + (1 + unless_fault o (argument_evals env (drop (i + 1) args)))) is in
               omega (arith, some);
-          steps = omega (arith, at.steps, ticked);
+          steps = steps_after;
         }

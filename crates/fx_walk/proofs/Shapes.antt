@@ -17,10 +17,12 @@ use Rattle.fx_spec.specs.Shaped.{IsDescribed}
 use Rattle.fx_spec.specs.SpecTree.{SpecTree}
 use Rattle.fx_spec.specs.WellShaped.{Scope, IsDescription}
 use Rattle.fx_spec.proofs.Shaped.{described_have_shapes}
-use Rattle.fx_view.specs.Follows.{Follows}
 use Rattle.fx_view.specs.Meaning.{Meaning}
 use Rattle.fx_view.specs.Reads.{known_of}
+use Rattle.fx_view.specs.Own.{own_at}
 use Rattle.fx_view.proofs.Rules.{found_answer}
+use Rattle.fx_session.specs.declared.session.Session.{Session}
+use Rattle.fx_session.specs.Implements.{Implements}
 use Rattle.fx_walk.specs.Arguments.{HaveShapes, inner_names}
 use Rattle.fx_walk.specs.Scopes.{HasScope, HasTextScope}
 use Rattle.fx_walk.proofs.ArgumentsLemmas.{names_have}
@@ -70,13 +72,14 @@ module _ (env : Bindings) where
     call_body s names h is = of_scope params names s h.described.shapes.1 (names_have env params args (call_arguments s h) names is)
 
   -- the first part's value has its shape, since the answer that was found is the rule's at a filestore
-  pub pair_second : {R : Type 0} (m : Meaning R) (own : Known) (old new : R × ℕ) (p : List (List ℕ)) (x : List ℕ) (a b : SpecTree) (v : Value) → HasScope env (SpecTree.pair x a b)
-      → Follows m (option_map tree_of) own old new (value p env a) (Ok (Some v)) → HasScope (bind env x (tree_of v)) b
-  pair_second m own old new p x a b v h first =
-      let known : Known = known_of (m.reads new.0) in
+  pub pair_second : {R L : Type 0} {m : Meaning R} {old new : Session R L} (p : List (List ℕ)) (x : List ℕ) (a b : SpecTree) (v : Value) → HasScope env (SpecTree.pair x a b) → Implements m (option_map tree_of) old new (value p env a) (Ok (Some v))
+      → HasScope (bind env x (tree_of v)) b
+  pair_second {m = m} {old = old} {new = new} p x a b v h first =
+      let known : Known = known_of (m.reads new.reader.now) in
+      let own : Known = own_at old.own in
       let S : Store = λ q. unwrap_or (known q) None in
       let agrees : AgreesWith known S = λ q n e. ap (λ (o : Option (Option Node)). unwrap_or o None) e in
-      let is : answer (changed own S) (value p env a) ≡ Some (tree_of v) = found_answer known own S agrees (value p env a) (Some (tree_of v)) first.goes.0 in
+      let is : answer (changed own S) (value p env a) ≡ Some (tree_of v) = found_answer known own S agrees (value p env a) (Some (tree_of v)) first.follows.goes.0 in
       let first : IsDescribed h.scope env a = record { shapes = h.described.shapes.0; bindings = h.described.bindings } in
       let has : ValueHas (tree_of v) (value_shape a) = subst (λ o. IfSome o (λ v. ValueHas v (value_shape a))) is (described_have_shapes h.scope env a first (changed own S) p) in
       of_scope (bind h.scope x (value_shape a)) (bind env x (tree_of v)) b h.described.shapes.2 (bind_has env h.scope x (tree_of v) (value_shape a) h.described.bindings has)

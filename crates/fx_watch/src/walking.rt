@@ -10,6 +10,7 @@ ghost use Rattle.fx_store.specs.Rule.{ticks};
 
 use fx_base::{NoMemory, Steps};
 use fx_expr::Env;
+use fx_session::Session;
 use fx_spec::{Checked, Place};
 use fx_store::{Filestore, Path, Paths};
 use fx_view::{Overlay, Reader, Reads, Stop, Whole};
@@ -24,41 +25,35 @@ pub(crate) struct Walked {
     pub valid: bool,
 }
 
-/// Whether there is a value at a place of a filestore of which nothing is read yet.
-fn valid_at<L: Ledger>(
-    alloc: Global,
-    reader: &mut Whole,
-    overlay: &Overlay,
-    place: &Place,
-    steps: &mut Steps<L>,
-) -> Result<bool, NoMemory>
+/// Whether there is a value at a place of a filestore of which nothing is read yet, and where nothing is changed.
+fn valid_at<L: Ledger>(session: &mut Session<'_, Whole, L>, place: &Place) -> Result<bool, NoMemory>
     requires described { IsDescribedPlace (place_tree place.now) }
-    requires unread { reader.old.reads ≡ [] }
-    requires unchanged { overlay.now ≡ [] }
-    ensures walked { IfOk result (IsWalked (get reader.old.store.now.nodes)
-        (value_at (place_tree place.now)) reader.new.reads) }
-    ensures most { steps.new ≤ steps.old
-        + ticks (get reader.old.store.now.nodes) (value_at (place_tree place.now)) }
+    requires unread { session.old.reader.now.reads ≡ [] }
+    requires unchanged { session.old.own ≡ [] }
+    ensures walked { IfOk result (IsWalked (get session.old.reader.now.store.now.nodes)
+        (value_at (place_tree place.now)) session.new.reader.now.reads) }
+    ensures most { session.new.steps ≤ session.old.steps
+        + ticks (get session.old.reader.now.store.now.nodes) (value_at (place_tree place.now)) }
+    ensures lent { session.new.reader.ghost_name ≡ session.old.reader.ghost_name }
 {
-    match validate(alloc, reader, overlay, place, steps) {
+    match validate(session, place) {
         Ok(valid) => Ok(valid),
         Err(Stop::NoMemory) => Err(NoMemory),
         Err(Stop::Needs(_)) => unreachable!(),
     }
 }
 
-/// Walks over a filestore from the root.
+/// Walks over a filestore from the root, and gives the counter back.
 pub(crate) fn walk<L: Ledger>(
     alloc: Global,
     spec: &Checked,
     store: &Filestore,
-    steps: &mut Steps<L>,
-) -> Result<Walked, NoMemory>
-    ensures found { IfOk result (λ w. IsFound spec.now (get store.now.nodes) w.reads w.valid) }
-    ensures most { steps.new ≤ steps.old + evaluations spec.now (get store.now.nodes) }
+    steps: Steps<L>,
+) -> (Steps<L>, Result<Walked, NoMemory>)
+    ensures found { IfOk result.1 (λ w. IsFound spec.now (get store.now.nodes) w.reads w.valid) }
+    ensures most { result.0 ≤ steps + evaluations spec.now (get store.now.nodes) }
 {
     let mut reader = Whole::new(alloc, store);
-    let overlay = Overlay::new(alloc);
     let path = Path::root(alloc);
     let env = Env::new(alloc);
     let root = spec.root();
@@ -69,11 +64,25 @@ pub(crate) fn walk<L: Ledger>(
         defs: root.defs,
         level: root.level,
     };
-    let valid = valid_at(alloc, &mut reader, &overlay, &place, steps)?;
-    Ok(Walked {
-        reads: reader.take_reads(alloc),
-        valid,
-    })
+    let mut session = Session {
+        alloc,
+        reader: &mut reader,
+        own: Overlay::new(alloc),
+        steps,
+    };
+    let valid = valid_at(&mut session, &place);
+    let Session {
+        reader: whole,
+        own,
+        steps,
+        ..
+    } = session;
+    let reads = whole.take_reads(alloc);
+    drop(own);
+    match valid {
+        Ok(valid) => (steps, Ok(Walked { reads, valid })),
+        Err(NoMemory) => (steps, Err(NoMemory)),
+    }
 }
 
 /// Whether none of the paths was read.

@@ -37,22 +37,24 @@ impl Model for Watch {
 }
 
 impl Watch {
-    /// A watch that was told the loaded filestore, over which it walks.
+    /// A watch that was told the loaded filestore, over which it walks. The counter is given back.
     pub fn new<L: Ledger>(
         alloc: Global,
         base: Arc<Base>,
-        steps: &mut Steps<L>,
-    ) -> Result<Watch, NoMemory>
-        ensures root { IfOk result (λ watch. watch.root ≡ base.value.description) }
-        ensures told { IfOk result (λ watch. AnswersFor watch (get base.value.loaded.nodes)) }
-        ensures most { steps.new ≤ steps.old
+        steps: Steps<L>,
+    ) -> (Steps<L>, Result<Watch, NoMemory>)
+        ensures root { IfOk result.1 (λ watch. watch.root ≡ base.value.description) }
+        ensures told { IfOk result.1 (λ watch. AnswersFor watch (get base.value.loaded.nodes)) }
+        ensures most { result.0 ≤ steps
             + evaluations base.value.description (get base.value.loaded.nodes) }
     {
-        let walked = walk(alloc, &base.description, &base.loaded, steps)?;
-        Ok(Watch {
-            base,
-            found: Some(walked),
-        })
+        match walk(alloc, &base.description, &base.loaded, steps) {
+            (steps, Ok(walked)) => {
+                let found = Some(walked);
+                (steps, Ok(Watch { base, found }))
+            }
+            (steps, Err(NoMemory)) => (steps, Err(NoMemory)),
+        }
     }
 
     /// Whether the description has a value on the filestore that was told last.
@@ -67,34 +69,38 @@ impl Watch {
     }
 
     /// Whether it has one on this filestore, which needs to differ from the one that was told last at no other than the
-    /// changed paths. Where none of these was consulted there, nothing is walked and nothing evaluated.
+    /// changed paths. Where none of these was consulted there, nothing is walked and nothing evaluated. The counter is given
+    /// back.
     pub fn after<L: Ledger>(
         &mut self,
         alloc: Global,
         changed: &Paths,
         store: &Filestore,
-        steps: &mut Steps<L>,
-    ) -> Result<bool, NoMemory>
+        steps: Steps<L>,
+    ) -> (Steps<L>, Result<bool, NoMemory>)
         ensures valid { (S : Store) → AnswersFor self.old S
             → DiffersAt changed.now S (get store.now.nodes)
-            → IfOk result (λ valid. valid ≡ has_value self.old.root (get store.now.nodes)) }
+            → IfOk result.1 (λ valid. valid ≡ has_value self.old.root (get store.now.nodes)) }
         ensures told { (S : Store) → AnswersFor self.old S
             → DiffersAt changed.now S (get store.now.nodes)
-            → OnOk result (AnswersFor self.new (get store.now.nodes)) }
+            → OnOk result.1 (AnswersFor self.new (get store.now.nodes)) }
         ensures root { self.new.root ≡ self.old.root }
         ensures skips { (S : Store) → AnswersFor self.old S
-            → Spares self.old.root S changed.now → steps.new ≡ steps.old }
-        ensures most { steps.new ≤ steps.old
-            + evaluations self.old.root (get store.now.nodes) }
+            → Spares self.old.root S changed.now → result.0 ≡ steps }
+        ensures most { result.0 ≤ steps + evaluations self.old.root (get store.now.nodes) }
     {
         if let Some(valid) = self.kept(changed) {
-            return Ok(valid);
+            return (steps, Ok(valid));
         }
         self.found = None;
-        let walked = walk(alloc, &self.base.description, store, steps)?;
-        let valid = walked.valid;
-        self.found = Some(walked);
-        Ok(valid)
+        match walk(alloc, &self.base.description, store, steps) {
+            (steps, Ok(walked)) => {
+                let valid = walked.valid;
+                self.found = Some(walked);
+                (steps, Ok(valid))
+            }
+            (steps, Err(NoMemory)) => (steps, Err(NoMemory)),
+        }
     }
 
     /// The answer that was found, where none of these paths was consulted for it.

@@ -1,7 +1,9 @@
 //! A whole watched run.
 ghost use Rattle.std.specs.Prelude.{◌≡◌, ◌<◌, ◌++◌, [], All, IfOk, length};
 ghost use Rattle.fx_report.specs.Entries.{report};
+ghost use Rattle.std.specs.FinMap.{get};
 ghost use Rattle.fx_spec.specs.Bases.{base_tree};
+ghost use Rattle.fx_watch.specs.WatchView.{AnswersFor};
 ghost use Rattle.fx_sched.specs.World.{began};
 ghost use Rattle.fx_watched.specs.Outcome.{IsWatched};
 ghost use Rattle.fx_watched.specs.Watching.{HasWatched};
@@ -21,42 +23,43 @@ use std::marker::{Brand, PhantomData};
 use std::sync::Arc;
 use std::sync::ledger::{Blank, Ledger};
 
+/// A watch that was told the loaded filestore. The evaluations of its walk are counted.
+fn watch_by<L: Ledger>(alloc: Global, base: Arc<Base>, blank: Blank) -> Result<Watch, NoMemory>
+    requires name { blank.name ≡ L.name }
+    requires parts { blank.parts ≡ L.parts }
+    requires some { 0 < L.parts }
+    ensures root { IfOk result (λ watch. watch.root ≡ base.value.description) }
+    ensures told { IfOk result (λ watch. AnswersFor watch (get base.value.loaded.nodes)) }
+{
+    Watch::new(alloc, base, Steps::<L>::open(blank)).1
+}
+
 /// The start of a watched run: the loaded filestore was told, and its line is printed.
-fn begin<L: Ledger, B: Based>(
-    alloc: Global,
-    base: Arc<Base>,
-    mut steps: Steps<L>,
-) -> Result<Watching<L, B>, NoMemory>
+fn begin<B: Based>(alloc: Global, base: Arc<Base>) -> Result<Watching<B>, NoMemory>
     requires { base_tree base.value ≡ B.base }
     ensures { IfOk result (λ w. HasWatched B.base w.watch w.output.items [] (began B.base)) }
 {
-    let watch = Watch::new(alloc, base, &mut steps)?;
+    let watch = watch_by::<Brand>(alloc, base, Blank::new(1))?;
     let mut output = Vec::new(alloc);
     add_valid(&mut output, watch.valid())?;
     Ok(Watching {
         watch,
         output,
-        steps,
         of: PhantomData,
     })
 }
 
-/// A watched run that counts the evaluations of its walks.
-fn run_by<L: Ledger, B: Based>(
+/// A watched run of the base that `B` names.
+fn run_by<B: Based>(
     alloc: Global,
     base: Arc<Base>,
     schedule: &[u32],
-    blank: Blank,
 ) -> Result<(Board, LongText), NoMemory>
-    requires name { blank.name ≡ L.name }
-    requires parts { blank.parts ≡ L.parts }
-    requires some { 0 < L.parts }
     requires base { base_tree base.value ≡ B.base }
     requires shells { All (λ k. k < length base.value.plan) schedule.now }
     ensures { IfOk result (λ run. IsWatched B.base schedule.now run.0 run.1) }
 {
-    let steps = Steps::<L>::open(blank);
-    let mut watching = begin::<L, B>(alloc, base.clone()?, steps)?;
+    let mut watching = begin::<B>(alloc, base.clone()?)?;
     match play(alloc, base, schedule, &mut watching) {
         Ok((board, retries)) => {
             let output = with_report(alloc, watching.output, &board, &retries)?;
@@ -92,5 +95,5 @@ pub fn run_watched(
     requires { All (λ k. k < length base.value.plan) schedule.now }
     ensures { IfOk result (λ run. IsWatched (base_tree base.value) schedule.now run.0 run.1) }
 {
-    run_by::<Brand, Brand>(alloc, base, schedule, Blank::new(1))
+    run_by::<Brand>(alloc, base, schedule)
 }

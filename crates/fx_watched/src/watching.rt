@@ -1,8 +1,9 @@
 //! What takes the events of a watched run.
-ghost use Rattle.std.specs.Prelude.{◌≡◌, IfOk, OnOk};
+ghost use Rattle.std.specs.Prelude.{◌≡◌, ◌<◌, IfOk, OnOk};
 ghost use Rattle.std.specs.FinMap.{get};
 ghost use Rattle.fx_board.specs.Board.{last_state};
-ghost use Rattle.fx_watch.specs.Validity.{has_value};
+ghost use Rattle.fx_store.specs.Whole.{Store};
+ghost use Rattle.fx_watch.specs.Validity.{has_value, DiffersAt};
 ghost use Rattle.fx_watch.specs.WatchView.{AnswersFor};
 ghost use Rattle.fx_watched.specs.Watching.{settled_entry, IsAtEntry};
 
@@ -11,22 +12,21 @@ use crate::lines::{add_event, add_valid};
 use fx_base::{NoMemory, Steps};
 use fx_board::{Board, Event};
 use fx_sched::{Taker, World};
-use fx_store::Paths;
+use fx_store::{Filestore, Paths};
 use fx_watch::Watch;
 use std::alloc::Global;
-use std::marker::PhantomData;
-use std::sync::ledger::Ledger;
+use std::marker::{Brand, PhantomData};
+use std::sync::ledger::{Blank, Ledger};
 
 /// A run up to some moment: the watch, which was told its last filestore, and the lines of its events.
 #[derive(Drop)]
-pub(crate) struct Watching<L: Ledger, B: Based> {
+pub(crate) struct Watching<B: Based> {
     pub watch: Watch,
     pub output: Vec<u8>,
-    pub steps: Steps<L>,
     pub of: PhantomData<B>,
 }
 
-impl<L: Ledger, B: Based> Taker for Watching<L, B> {
+impl<B: Based> Taker for Watching<B> {
     ghost use Rattle.std.specs.Prelude.{⊤};
     ghost use Rattle.fx_watched.specs.Watching.{HasWatched};
 
@@ -41,13 +41,7 @@ impl<L: Ledger, B: Based> Taker for Watching<L, B> {
         add_event(alloc, &mut self.output, event)?;
         match settled {
             Some(entry) => {
-                let valid = valid_after(
-                    alloc,
-                    &mut self.watch,
-                    world.board(),
-                    entry,
-                    &mut self.steps,
-                )?;
+                let valid = valid_after(alloc, &mut self.watch, world.board(), entry)?;
                 add_valid(&mut self.output, valid)
             }
             None => Ok(()),
@@ -67,12 +61,11 @@ fn settled_entry(event: &Event) -> Option<u64>
 }
 
 /// Whether there is a value after the last entry, where the watch was told the filestore before it.
-fn valid_after<L: Ledger>(
+fn valid_after(
     alloc: Global,
     watch: &mut Watch,
     board: &Board,
     entry: u64,
-    steps: &mut Steps<L>,
 ) -> Result<bool, NoMemory>
     ensures valid { IsAtEntry board.now watch.old entry → IfOk result
         (λ valid. valid ≡ has_value watch.old.root (get (last_state board.now))) }
@@ -81,7 +74,37 @@ fn valid_after<L: Ledger>(
     ensures root { watch.new.root ≡ watch.old.root }
 {
     match board.entry(entry) {
-        Some(entry) => watch.after(alloc, &entry.changed, board.store(), steps),
-        None => watch.after(alloc, &Paths::new(alloc), board.store(), steps),
+        Some(entry) => told::<Brand>(alloc, watch, &entry.changed, board.store(), Blank::new(1)),
+        None => told::<Brand>(
+            alloc,
+            watch,
+            &Paths::new(alloc),
+            board.store(),
+            Blank::new(1),
+        ),
     }
+}
+
+/// Whether there is a value on a filestore that a watch is told. Its evaluations are counted anew.
+fn told<L: Ledger>(
+    alloc: Global,
+    watch: &mut Watch,
+    changed: &Paths,
+    store: &Filestore,
+    blank: Blank,
+) -> Result<bool, NoMemory>
+    requires name { blank.name ≡ L.name }
+    requires parts { blank.parts ≡ L.parts }
+    requires some { 0 < L.parts }
+    ensures valid { (S : Store) → AnswersFor watch.old S
+        → DiffersAt changed.now S (get store.now.nodes)
+        → IfOk result (λ valid. valid ≡ has_value watch.old.root (get store.now.nodes)) }
+    ensures told { (S : Store) → AnswersFor watch.old S
+        → DiffersAt changed.now S (get store.now.nodes)
+        → OnOk result (AnswersFor watch.new (get store.now.nodes)) }
+    ensures root { watch.new.root ≡ watch.old.root }
+{
+    watch
+        .after(alloc, changed, store, Steps::<L>::open(blank))
+        .1
 }

@@ -112,8 +112,9 @@ fn entry_at<R: Reader, L: Ledger>(
     session: &mut Session<'_, R, L>,
     path: &Path,
 ) -> Result<Value, Halt>
-    ensures follows { (env : Bindings) (part : SpecTree) → Answers R.meaning tree_of
-        session.old session.new (move.fetched path.now env (SpecTree.opt part)) result }
+    ensures follows { (env : Bindings) (part : SpecTree) → Answers R.meaning tree_of session.old
+        session.new
+        (move.fetched path.now env (SpecTree.opt part)) result }
 {
     let there = exists(session, path)?;
     Ok(Value::Bool(there))
@@ -124,8 +125,8 @@ fn flag_at<R: Reader, L: Ledger>(
     session: &mut Session<'_, R, L>,
     path: &Path,
 ) -> Result<Value, Halt>
-    ensures follows { Answers R.meaning tree_of session.old session.new
-        (move.flag_at path.now) result }
+    ensures follows { Answers R.meaning tree_of session.old session.new (move.flag_at path.now)
+        result }
 {
     match file_flag(session, path)? {
         Some(flag) => Ok(flag),

@@ -178,7 +178,8 @@ impl Zip {
     }
 
     fn greater(&self, alloc: Global) -> Result<Entry, Halt>
-        ensures { (reads : ReadList) (own : Known) → Stands reads own self.now → Besides reads own self.now
+        ensures { (reads : ReadList) (own : Known) → Stands reads own self.now → Besides reads own
+            self.now
             (beside self.now.root least_above self.now.address) result }
     {
         match self.element() {
@@ -188,7 +189,8 @@ impl Zip {
     }
 
     fn smaller(&self, alloc: Global) -> Result<Entry, Halt>
-        ensures { (reads : ReadList) (own : Known) → Stands reads own self.now → Besides reads own self.now
+        ensures { (reads : ReadList) (own : Known) → Stands reads own self.now → Besides reads own
+            self.now
             (beside self.now.root greatest_below self.now.address) result }
     {
         match self.element() {

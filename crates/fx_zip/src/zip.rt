@@ -106,7 +106,8 @@ impl Zip {
     pub fn edited(&mut self, untouched: u64)
         ensures root { self.new.root ≡ self.old.root }
         ensures address { self.new.address ≡ self.old.address }
-        ensures fresh { (reads : ReadList) (own now : Known) → SameOver (take untouched reads) own now
+        ensures fresh { (reads : ReadList) (own now : Known) → SameOver (take untouched reads) own
+            now
             → IsFresh reads own self.old → IsFresh reads now self.new }
     {
         'dropping: while !self.is_told(untouched) {

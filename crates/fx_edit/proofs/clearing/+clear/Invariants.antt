@@ -1,7 +1,6 @@
 use Rattle.std.proofs.Common.{◌+◌, ◌*◌, ◌-◌, length}
 use Rattle.fx_store.specs.Resolve.{◌/ₚ◌}
 use Rattle.fx_spec.specs.Edit as edit
-use Rattle.fx_view.specs.Own.{own_at}
 use Rattle.fx_edit.proofs.Changing.{IsChanging}
 use Rattle.fx_edit.proofs.clearing.+clear.Given as goal
 
@@ -15,5 +14,4 @@ abbrev pub decreases-clear_entry : goal.decreases-clear_entry
 decreases-clear_entry g l = 3 * (64 - length l.path.now)
 
 abbrev pub invariant-clear_names-loop-i : goal.invariant-clear_names-loop-i
-invariant-clear_names-loop-i g l =
-    IsChanging g.R.Reader.meaning (own_at l.overlay) (λ n. edit.clear (l.path /ₚ n)) l.names l.initial.reader l.reader l.initial.edits l.edits l.i
+invariant-clear_names-loop-i g l = IsChanging g.R.Reader.meaning (λ n. edit.clear (l.path /ₚ n)) l.names l.initial.session l.session l.initial.edits l.edits l.i

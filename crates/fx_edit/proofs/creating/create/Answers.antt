@@ -1,4 +1,3 @@
-use Rattle.fx_spec.specs.Edit as edit
 use Rattle.fx_spec.proofs.EditLaws.{edits_keep_whole}
 use Rattle.fx_spec.proofs.EditLooks.{edits_look_at_changes}
 use Rattle.fx_walk.specs.Places.{place_tree}
@@ -7,20 +6,18 @@ use Rattle.fx_edit.proofs.Untouched.{untouched_same, untouched_next}
 use Rattle.fx_edit.proofs.creating.create.Goals as goal
 
 pub returns-in_err-edits-clause-edits : goal.returns-in_err-edits-clause-edits
-returns-in_err-edits-clause-edits g c =
-    edits_halt g.R.Reader.meaning c.args.overlay.now c.args.reader.now c.created.new.reader (edit.create_at (place_tree c.args.place.now)) c.in_err-edits.field-0.0 c.from_residual.result c.from_residual.ensures.1 c.in_err-edits.ensures
+returns-in_err-edits-clause-edits g c = edits_halt c.in_err-edits.field-0.0 c.from_residual.result c.from_residual.ensures.1 c.in_err-edits.ensures.follows
 
 pub returns-in_err-put_all-clause-edits : goal.returns-in_err-put_all-clause-edits
-returns-in_err-put_all-clause-edits g c =
-    edits_late g.R.Reader.meaning c.args.overlay.now c.args.reader.now c.created.new.reader (edit.create_at (place_tree c.args.place.now)) c.put_all.new.overlay c.in_ok-edits.edits c.from_residual-in_err-put_all.result c.from_residual-in_err-put_all.ensures.1 c.in_ok-edits.ensures
+returns-in_err-put_all-clause-edits g c = edits_late c.from_residual-in_err-put_all.result c.from_residual-in_err-put_all.ensures.1 c.in_ok-edits.ensures.follows
 
 pub returns-clause-edits : goal.returns-clause-edits
 returns-clause-edits g c =
-    edits_done g.R.Reader.meaning c.args.overlay.now c.args.reader.now c.created.new.reader (edit.create_at (place_tree c.args.place.now)) c.put_all.new.overlay c.in_ok-edits.edits
-    (λ known own. edits_look_at_changes.create known own (place_tree c.args.place.now)) (λ S whole. edits_keep_whole.create S whole (place_tree c.args.place.now) c.len.ensures.path) c.in_ok-edits.ensures c.in_ok-put_all.ensures
+    edits_done (λ known own. edits_look_at_changes.create known own (place_tree c.args.place.now)) (λ S whole. edits_keep_whole.create S whole (place_tree c.args.place.now) c.len.ensures.path)
+    c.in_ok-edits.ensures.follows c.in_ok-put_all.ensures
 
 pub returns-clause-untouched : goal.returns-clause-untouched
-returns-clause-untouched g c = untouched_same c.args.overlay.now c.put_all.new.overlay c.in_ok-edits.edits c.reads.result.now (g.R.Reader.meaning.reads c.created.new.reader) c.untouched-untouched.result c.in_ok-put_all.ensures c.reads.ensures c.untouched-untouched.ensures
+returns-clause-untouched g c = untouched_same c.in_ok-edits.edits c.in_ok-edits.ensures.follows.own c.in_ok-put_all.ensures c.reads.ensures c.untouched-untouched.ensures
 
 pub returns-clause-next : goal.returns-clause-next
-returns-clause-next g c = untouched_next c.args.overlay.now c.put_all.new.overlay c.in_ok-edits.edits c.reads.result.now (g.R.Reader.meaning.reads c.created.new.reader) c.untouched-untouched.result c.in_ok-put_all.ensures c.reads.ensures c.untouched-untouched.ensures
+returns-clause-next g c = untouched_next c.in_ok-edits.edits c.in_ok-edits.ensures.follows.own c.in_ok-put_all.ensures c.reads.ensures c.untouched-untouched.ensures

@@ -1,28 +1,20 @@
-use Rattle.std.proofs.Common.{List, ap}
-use Rattle.fx_store.specs.declared.changes.Change.{Change}
+use Rattle.std.proofs.Common.{ap}
 use Rattle.fx_store.specs.declared.node.Landing.{Landing}
-use Rattle.fx_store.specs.declared.node.Landing.TheVariants.{Absent}
-use Rattle.fx_session.specs.Answering.{answered}
-use Rattle.fx_session.specs.Halts.{split}
+use Rattle.fx_session.proofs.Halting.{no_memory_at_once}
 use Rattle.fx_spec.specs.declared.refusal.Refusal.{Refusal}
 use Rattle.fx_spec.specs.Edit as edit
-use Rattle.fx_view.specs.Own.{own_at}
 use Rattle.fx_edit.proofs.Edited.{edit_refused}
-use Rattle.fx_edit.proofs.Exits.{by_rule, halts_refused}
+use Rattle.fx_edit.proofs.Exits.{by_rule}
 use Rattle.fx_edit.proofs.creating.create_landed.Goals as goal
 
 pub returns-in-At : goal.returns-in-At
-returns-in-At g c =
-    edit_refused g.R.Reader.meaning (own_at c.args.overlay.now) c.args.reader.now (edit.create_landed c.args.path.now c.args.node.now c.args.landing) (Refusal.Exists) (ap (λ (l : Landing). edit.create_landed c.args.path.now c.args.node.now l) c.in-At.is)
+returns-in-At g c = record { follows = edit_refused Refusal.Exists (ap (λ (l : Landing). edit.create_landed c.args.path.now c.args.node.now l) c.in-At.is) }
 
 pub returns-in-Absent : goal.returns-in-Absent
-returns-in-Absent g c =
-    by_rule g.R.Reader.meaning (answered (λ (e : List Change). e)) (own_at c.args.overlay.now) c.args.reader.now c.make.new.reader (edit.create_landed c.args.path.now c.args.node.now (Absent c.in-Absent.here c.in-Absent.names)) (edit.create_landed c.args.path.now c.args.node.now c.args.landing) (split c.make.result) (ap (λ (l : Landing). edit.create_landed c.args.path.now c.args.node.now l) c.in-Absent.is) c.make.ensures
+returns-in-Absent g c = record { follows = by_rule (ap (λ (l : Landing). edit.create_landed c.args.path.now c.args.node.now l) c.in-Absent.is) c.make.ensures.follows }
 
 pub returns-in-Blocked : goal.returns-in-Blocked
-returns-in-Blocked g c =
-    edit_refused g.R.Reader.meaning (own_at c.args.overlay.now) c.args.reader.now (edit.create_landed c.args.path.now c.args.node.now c.args.landing) (Refusal.Blocked c.in-Blocked.at) (ap (λ (l : Landing). edit.create_landed c.args.path.now c.args.node.now l) c.in-Blocked.is)
+returns-in-Blocked g c = record { follows = edit_refused (Refusal.Blocked c.in-Blocked.at) (ap (λ (l : Landing). edit.create_landed c.args.path.now c.args.node.now l) c.in-Blocked.is) }
 
 pub returns-in_err-copy-in-TooManyLinks : goal.returns-in_err-copy-in-TooManyLinks
-returns-in_err-copy-in-TooManyLinks g c =
-    halts_refused g.R.Reader.meaning (λ (e : List Change). e) (own_at c.args.overlay.now) c.args.reader.now c.from_residual.result (edit.create_landed c.args.path.now c.args.node.now c.args.landing) c.from_residual.ensures.1
+returns-in_err-copy-in-TooManyLinks g c = record { follows = no_memory_at_once (edit.create_landed c.args.path.now c.args.node.now c.args.landing) c.from_residual.result c.from_residual.ensures.1 }

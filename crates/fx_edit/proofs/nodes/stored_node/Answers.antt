@@ -10,15 +10,15 @@ use Rattle.fx_edit.proofs.nodes.stored_node.Goals as goal
 
 pub returns-in-File : goal.returns-in-File
 returns-in-File c =
-    let tree : part_of c.args.form.now ≡ SpecTree.file = subst (IsForm (part_of c.args.form.now)) c.in-File.is c.form.ensures in
+    let tree : part_of c.args.form.now ≡ SpecTree.file = subst (IsForm (part_of c.args.form.now)) c.in-File.is c.form.ensures.form in
     subst (λ (s : SpecTree). Tells (λ (n : Node). n) (edit.stored_node s (tree_of c.args.value.now)) c.file_node.result) (sym tree) c.file_node.ensures
 
 pub returns-in-Dir : goal.returns-in-Dir
 returns-in-Dir c =
-    let tree : part_of c.args.form.now ≡ SpecTree.dir = subst (IsForm (part_of c.args.form.now)) c.in-Dir.is c.form.ensures in
+    let tree : part_of c.args.form.now ≡ SpecTree.dir = subst (IsForm (part_of c.args.form.now)) c.in-Dir.is c.form.ensures.form in
     subst (λ (s : SpecTree). Tells (λ (n : Node). n) (edit.stored_node s (tree_of c.args.value.now)) c.dir_node.result) (sym tree) c.dir_node.ensures
 
 pub returns-in-Link : goal.returns-in-Link
 returns-in-Link c =
-    let tree : part_of c.args.form.now ≡ SpecTree.link = subst (IsForm (part_of c.args.form.now)) c.in-Link.is c.form.ensures in
+    let tree : part_of c.args.form.now ≡ SpecTree.link = subst (IsForm (part_of c.args.form.now)) c.in-Link.is c.form.ensures.form in
     subst (λ (s : SpecTree). Tells (λ (n : Node). n) (edit.stored_node s (tree_of c.args.value.now)) c.link_node.result) (sym tree) c.link_node.ensures

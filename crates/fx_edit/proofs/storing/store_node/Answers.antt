@@ -1,24 +1,24 @@
-use Rattle.std.proofs.Common.{Bool, List, ap, sym}
-use Rattle.fx_store.specs.declared.changes.Change.{Change}
-use Rattle.fx_store.specs.declared.node.Landing.{Landing}
+use Rattle.std.proofs.Common.{Bool, ap, sym}
 use Rattle.fx_store.specs.Resolve.{resolve}
 use Rattle.fx_store.specs.Rule.{◌>>=◌}
-use Rattle.fx_session.specs.Answering.{answered}
-use Rattle.fx_session.specs.Halts.{split}
+use Rattle.fx_session.proofs.Calls.{then_on}
+use Rattle.fx_session.proofs.Halting.{stop_halts}
 use Rattle.fx_spec.specs.Edit as edit
-use Rattle.fx_view.specs.Own.{own_at}
-use Rattle.fx_view.proofs.Rulings.{by_then}
-use Rattle.fx_edit.proofs.Exits.{by_rule, halts_by}
+use Rattle.fx_edit.proofs.Exits.{by_rule}
 use Rattle.fx_edit.proofs.storing.store_node.Goals as goal
 
 pub returns-in_err-landing : goal.returns-in_err-landing
 returns-in_err-landing g c =
-    by_rule g.R.Reader.meaning (answered (λ (e : List Change). e)) (own_at c.args.overlay.now) c.args.reader.now c.resolve.new.reader (resolve c.args.path.now c.follows_last.result >>= edit.store_landed c.args.flag c.args.path.now c.args.node) (resolve c.args.path.now (edit.follows_last c.args.node) >>= edit.store_landed c.args.flag c.args.path.now c.args.node) (split c.from_residual.result)
-    (ap (λ (b : Bool). resolve c.args.path.now b >>= edit.store_landed c.args.flag c.args.path.now c.args.node) (sym c.follows_last.ensures))
-    (halts_by g.R.Reader.meaning (λ (e : List Change). e) (own_at c.args.overlay.now) c.args.reader.now c.from_residual.result (λ (l : Landing). l) c.resolve.new.reader (resolve c.args.path.now c.follows_last.result) (edit.store_landed c.args.flag c.args.path.now c.args.node) c.in_err-landing.field-0.0 c.from_residual.ensures.1 (c.in_err-landing.ensures.follows 0).goes)
+    record {
+      follows =
+          by_rule (ap (λ (b : Bool). resolve c.args.path.now b >>= edit.store_landed c.args.flag c.args.path.now c.args.node) (sym c.follows_last.ensures))
+          (stop_halts (resolve c.args.path.now c.follows_last.result) (edit.store_landed c.args.flag c.args.path.now c.args.node) c.from_residual.result c.from_residual.ensures.1 c.in_err-landing.ensures);
+    }
 
 pub returns : goal.returns
 returns g c =
-    by_rule g.R.Reader.meaning (answered (λ (e : List Change). e)) (own_at c.args.overlay.now) c.args.reader.now c.store_landed.new.reader (resolve c.args.path.now c.follows_last.result >>= edit.store_landed c.args.flag c.args.path.now c.args.node) (resolve c.args.path.now (edit.follows_last c.args.node) >>= edit.store_landed c.args.flag c.args.path.now c.args.node) (split c.store_landed.result)
-    (ap (λ (b : Bool). resolve c.args.path.now b >>= edit.store_landed c.args.flag c.args.path.now c.args.node) (sym c.follows_last.ensures))
-    (by_then g.R.Reader.meaning (λ (l : Landing). l) (answered (λ (e : List Change). e)) (own_at c.args.overlay.now) c.args.reader.now c.resolve.new.reader (resolve c.args.path.now c.follows_last.result) (edit.store_landed c.args.flag c.args.path.now c.args.node) c.store_landed.new.reader c.in_ok-landing.landing (split c.store_landed.result) (c.in_ok-landing.ensures.follows 0).goes c.store_landed.ensures)
+    record {
+      follows =
+          by_rule (ap (λ (b : Bool). resolve c.args.path.now b >>= edit.store_landed c.args.flag c.args.path.now c.args.node) (sym c.follows_last.ensures))
+          (then_on (resolve c.args.path.now c.follows_last.result) (edit.store_landed c.args.flag c.args.path.now c.args.node) c.in_ok-landing.ensures c.store_landed.ensures.follows);
+    }

@@ -1,6 +1,5 @@
-use Rattle.fx_view.specs.Own.{own_at}
 use Rattle.fx_edit.proofs.Looks.{IsLooking}
 use Rattle.fx_edit.proofs.edits.Edits.look_at_rest.Given as goal
 
 abbrev pub invariant-loop-i : goal.invariant-loop-i
-invariant-loop-i g l = IsLooking g.R.Reader.meaning (own_at l.overlay) l.self l.initial.reader l.reader l.i
+invariant-loop-i g l = IsLooking g.R.Reader.meaning l.self l.initial.session l.session l.i
