@@ -128,6 +128,14 @@ fn tell_found<L: Ledger>(walk: &mut Walk<'_, '_, L>, out: &mut String) -> Result
     tell_standing(walk, answer, out)
 }
 
+/// Tells what the reader of a session has read.
+fn tell_known<L: Ledger>(
+    session: &Session<'_, Whole<'_>, L>,
+    out: &mut String,
+) -> Result<(), NoMemory> {
+    tell_reads(out, session.reader.reads())
+}
+
 /// Does what a line says, and tells what it gives.
 fn obey<L: Ledger>(walk: &mut Walk<'_, '_, L>, line: &str, out: &mut String) -> Result<(), NoMemory>
     requires { IsReady walk.old }
@@ -141,7 +149,7 @@ fn obey<L: Ledger>(walk: &mut Walk<'_, '_, L>, line: &str, out: &mut String) -> 
         Verb::Edit(edit) => tell_edit(walk, edit, rest, out),
         Verb::Put(put) => put_by(walk, put, rest),
         Verb::Place => tell_found(walk, out),
-        Verb::Reads => tell_reads(out, &walk.session.reader.reads),
+        Verb::Reads => tell_known(&walk.session, out),
         Verb::Own => tell_own(out, &walk.session.own),
     }
 }
