@@ -3,5 +3,5 @@ use Rattle.fx_view.specs.Own.{own_at}
 use Rattle.fx_zip.specs.Fresh.{IsFresh}
 use Rattle.fx_moves.specs.declared.walk.Walk.{Walk}
 
-abbrev pub IsReady : Walk → Type 0
-IsReady w = IsFresh w.reader.reads (own_at w.overlay) w.zip
+abbrev pub IsReady : {L : Type 0} → Walk L → Type 0
+IsReady w = IsFresh w.session.reader.now.reads (own_at w.session.own) w.zip

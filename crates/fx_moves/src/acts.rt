@@ -5,39 +5,21 @@ ghost use Rattle.fx_moves.specs.Ready.{IsReady};
 
 use crate::verbs::{Edit, Move, Question};
 use crate::walk::Walk;
-use fx_base::Steps;
 use fx_expr::{Shape, Text, Value};
 use fx_session::Halt;
-use std::alloc::Global;
 use std::sync::ledger::Ledger;
 
 /// Moves; `text` is the element of `to`.
-pub fn move_by<L: Ledger>(
-    alloc: Global,
-    walk: &mut Walk,
-    act: Move,
-    text: &Text,
-    steps: &mut Steps<L>,
-) -> Result<(), Halt>
+pub fn move_by<L: Ledger>(walk: &mut Walk<'_, '_, L>, act: Move, text: &Text) -> Result<(), Halt>
     requires ready { IsReady walk.old }
     ensures ready { IfOk (split result) (λ _. IsReady walk.new) }
 {
     match act {
-        Move::Into => walk
-            .zip
-            .go_into(alloc, &mut walk.reader, &walk.overlay, steps),
-        Move::To => walk
-            .zip
-            .go_to(alloc, &mut walk.reader, &walk.overlay, text, steps),
-        Move::Next => walk
-            .zip
-            .go_next(alloc, &mut walk.reader, &walk.overlay, steps),
-        Move::Prev => walk
-            .zip
-            .go_prev(alloc, &mut walk.reader, &walk.overlay, steps),
-        Move::Down => walk
-            .zip
-            .go_down(alloc, &mut walk.reader, &walk.overlay, steps),
+        Move::Into => walk.zip.go_into(&mut walk.session),
+        Move::To => walk.zip.go_to(&mut walk.session, text),
+        Move::Next => walk.zip.go_next(&mut walk.session),
+        Move::Prev => walk.zip.go_prev(&mut walk.session),
+        Move::Down => walk.zip.go_down(&mut walk.session),
         Move::Out => Ok(walk.zip.go_out()?),
         Move::Up => Ok(walk.zip.go_up()?),
         Move::Top => {
@@ -49,56 +31,59 @@ pub fn move_by<L: Ledger>(
 
 /// What is asked at the place.
 pub fn ask<L: Ledger>(
-    alloc: Global,
-    walk: &mut Walk,
+    walk: &mut Walk<'_, '_, L>,
     question: Question,
     shape: &Shape,
-    steps: &mut Steps<L>,
 ) -> Result<Value, Halt>
     requires ready { IsReady walk.old }
     ensures ready { IfOk (split result) (λ _. IsReady walk.new) }
 {
     match question {
-        Question::Fetch => walk
-            .zip
-            .fetch(alloc, &mut walk.reader, &walk.overlay, shape, steps),
-        Question::Value => walk
-            .zip
-            .whole(alloc, &mut walk.reader, &walk.overlay, shape, steps),
+        Question::Fetch => walk.zip.fetch(&mut walk.session, shape),
+        Question::Value => walk.zip.whole(&mut walk.session, shape),
         Question::Validate => {
-            let valid = walk
-                .zip
-                .validate(alloc, &mut walk.reader, &walk.overlay, steps)?;
+            let valid = walk.zip.validate(&mut walk.session)?;
             Ok(Value::Bool(valid))
         }
     }
 }
 
-/// The edit at the place where the zipper stands.
-fn edit_here(alloc: Global, walk: &mut Walk, edit: Edit, value: &Value) -> Result<(), Halt> {
-    let place = walk.zip.here();
-    let _untouched = match edit {
-        Edit::Store => fx_edit::store(alloc, &mut walk.reader, &mut walk.overlay, &place, value)?,
-        Edit::Create => fx_edit::create(alloc, &mut walk.reader, &mut walk.overlay, &place)?,
-        Edit::Remove => fx_edit::remove(alloc, &mut walk.reader, &mut walk.overlay, &place)?,
-    };
+fn store<L: Ledger>(walk: &mut Walk<'_, '_, L>, value: &Value) -> Result<(), Halt>
+    requires ready { IsReady walk.old }
+    ensures ready { IfOk (split result) (λ _. IsReady walk.new) }
+{
+    let untouched = fx_edit::store(&mut walk.session, &walk.zip.here(), value)?;
+    walk.zip.edited(untouched);
+    Ok(())
+}
+
+fn create<L: Ledger>(walk: &mut Walk<'_, '_, L>) -> Result<(), Halt>
+    requires ready { IsReady walk.old }
+    ensures ready { IfOk (split result) (λ _. IsReady walk.new) }
+{
+    let untouched = fx_edit::create(&mut walk.session, &walk.zip.here())?;
+    walk.zip.edited(untouched);
+    Ok(())
+}
+
+fn remove<L: Ledger>(walk: &mut Walk<'_, '_, L>) -> Result<(), Halt>
+    requires ready { IsReady walk.old }
+    ensures ready { IfOk (split result) (λ _. IsReady walk.new) }
+{
+    let untouched = fx_edit::remove(&mut walk.session, &walk.zip.here())?;
+    walk.zip.edited(untouched);
     Ok(())
 }
 
 /// Edits at the place; `value` is what is stored.
-pub fn edit_by<L: Ledger>(
-    alloc: Global,
-    walk: &mut Walk,
-    edit: Edit,
-    value: &Value,
-    steps: &mut Steps<L>,
-) -> Result<(), Halt>
+pub fn edit_by<L: Ledger>(walk: &mut Walk<'_, '_, L>, edit: Edit, value: &Value) -> Result<(), Halt>
     requires ready { IsReady walk.old }
     ensures ready { IfOk (split result) (λ _. IsReady walk.new) }
 {
-    walk.zip
-        .find(alloc, &mut walk.reader, &walk.overlay, steps)?;
-    let done = edit_here(alloc, walk, edit, value);
-    walk.zip.stored();
-    done
+    walk.zip.find(&mut walk.session)?;
+    match edit {
+        Edit::Store => store(walk, value),
+        Edit::Create => create(walk),
+        Edit::Remove => remove(walk),
+    }
 }

@@ -8,7 +8,7 @@ use crate::spelled::{node_of, path_of, shape_of, text_of, value_of};
 use crate::telling::{tell_answer, tell_done, tell_own, tell_place, tell_reads, tell_refusal};
 use crate::verbs::{Edit, Move, Put, Question, Verb, verb_of};
 use fx_base::{NoMemory, Steps};
-use fx_session::Halt;
+use fx_session::{Halt, Session};
 use fx_spec::Base;
 use fx_store::Path;
 use fx_telling::split_word;
@@ -18,59 +18,52 @@ use std::alloc::Global;
 use std::sync::Arc;
 use std::sync::ledger::{Blank, Ledger};
 
-/// A zipper over a base, with its reads and own changes.
+/// A zipper over a base, with what it reads through.
 #[derive(Drop)]
-pub struct Walk<'a> {
+pub struct Walk<'a, 'b, L: Ledger> {
     pub zip: Zip,
-    pub overlay: Overlay,
-    pub reader: Whole<'a>,
+    pub session: Session<'a, Whole<'b>, L>,
 }
 
 fn tell_move<L: Ledger>(
-    alloc: Global,
-    walk: &mut Walk,
+    walk: &mut Walk<'_, '_, L>,
     act: Move,
     spelled: &str,
-    steps: &mut Steps<L>,
     out: &mut String,
 ) -> Result<(), NoMemory>
     requires { IsReady walk.old }
     ensures { IfOk result (λ _. IsReady walk.new) }
 {
-    let text = text_of(alloc, spelled)?;
-    let answer = move_by(alloc, walk, act, &text, steps);
+    let text = text_of(walk.session.alloc, spelled)?;
+    let answer = move_by(walk, act, &text);
     tell_done(out, answer)
 }
 
 fn tell_question<L: Ledger>(
-    alloc: Global,
-    walk: &mut Walk,
+    walk: &mut Walk<'_, '_, L>,
     question: Question,
     spelled: &str,
-    steps: &mut Steps<L>,
     out: &mut String,
 ) -> Result<(), NoMemory>
     requires { IsReady walk.old }
     ensures { IfOk result (λ _. IsReady walk.new) }
 {
-    let shape = shape_of(alloc, spelled)?;
-    let answer = ask(alloc, walk, question, &shape, steps);
-    tell_answer(alloc, out, answer)
+    let shape = shape_of(walk.session.alloc, spelled)?;
+    let answer = ask(walk, question, &shape);
+    tell_answer(walk.session.alloc, out, answer)
 }
 
 fn tell_edit<L: Ledger>(
-    alloc: Global,
-    walk: &mut Walk,
+    walk: &mut Walk<'_, '_, L>,
     edit: Edit,
     spelled: &str,
-    steps: &mut Steps<L>,
     out: &mut String,
 ) -> Result<(), NoMemory>
     requires { IsReady walk.old }
     ensures { IfOk result (λ _. IsReady walk.new) }
 {
-    let value = value_of(alloc, spelled)?;
-    let answer = edit_by(alloc, walk, edit, &value, steps);
+    let value = value_of(walk.session.alloc, spelled)?;
+    let answer = edit_by(walk, edit, &value);
     tell_done(out, answer)
 }
 
@@ -102,73 +95,62 @@ fn change(
 }
 
 /// Reads a path, puts an own change there, and says so to the zipper.
-fn put_by(alloc: Global, walk: &mut Walk, put: Put, spelled: &str) -> Result<(), NoMemory>
+fn put_by<L: Ledger>(walk: &mut Walk<'_, '_, L>, put: Put, spelled: &str) -> Result<(), NoMemory>
     ensures { IfOk result (λ _. IsReady walk.new) }
 {
     let (path, text) = split_word(spelled);
-    read(alloc, &mut walk.reader, path)?;
-    change(alloc, &mut walk.overlay, put, path, text)?;
+    read(walk.session.alloc, &mut *walk.session.reader, path)?;
+    change(walk.session.alloc, &mut walk.session.own, put, path, text)?;
     walk.zip.stored();
     Ok(())
 }
 
-fn find<L: Ledger>(alloc: Global, walk: &mut Walk, steps: &mut Steps<L>) -> Result<(), Halt>
-    requires ready { IsReady walk.old }
-    ensures ready { IfOk (split result) (λ _. IsReady walk.new) }
-{
-    walk.zip.find(alloc, &mut walk.reader, &walk.overlay, steps)
-}
-
 /// Tells the place where the zipper stands, or the refusal.
-fn tell_standing(
-    alloc: Global,
-    walk: &Walk,
+fn tell_standing<L: Ledger>(
+    walk: &Walk<'_, '_, L>,
     answer: Result<(), Halt>,
     out: &mut String,
 ) -> Result<(), NoMemory>
     ensures { IfOk result (λ _. IsOk (split answer)) }
 {
     match answer {
-        Ok(()) => tell_place(alloc, out, &walk.zip.here()),
+        Ok(()) => tell_place(walk.session.alloc, out, &walk.zip.here()),
         Err(Halt::Refused(refusal)) => tell_refusal(out, &refusal),
         Err(Halt::Stopped(_)) => Err(NoMemory),
     }
 }
 
-fn tell_found<L: Ledger>(
-    alloc: Global,
-    walk: &mut Walk,
-    steps: &mut Steps<L>,
-    out: &mut String,
-) -> Result<(), NoMemory>
+fn tell_found<L: Ledger>(walk: &mut Walk<'_, '_, L>, out: &mut String) -> Result<(), NoMemory>
     requires { IsReady walk.old }
     ensures { IfOk result (λ _. IsReady walk.new) }
 {
-    let answer = find(alloc, walk, steps);
-    tell_standing(alloc, walk, answer, out)
+    let answer = walk.zip.find(&mut walk.session);
+    tell_standing(walk, answer, out)
+}
+
+/// Tells what the reader of a session has read.
+fn tell_known<L: Ledger>(
+    session: &Session<'_, Whole<'_>, L>,
+    out: &mut String,
+) -> Result<(), NoMemory> {
+    tell_reads(out, session.reader.reads())
 }
 
 /// Does what a line says, and tells what it gives.
-fn obey<L: Ledger>(
-    alloc: Global,
-    walk: &mut Walk,
-    line: &str,
-    steps: &mut Steps<L>,
-    out: &mut String,
-) -> Result<(), NoMemory>
+fn obey<L: Ledger>(walk: &mut Walk<'_, '_, L>, line: &str, out: &mut String) -> Result<(), NoMemory>
     requires { IsReady walk.old }
     ensures { IfOk result (λ _. IsReady walk.new) }
 {
     let (word, rest) = split_word(line);
     match verb_of(word) {
         Verb::Note => Ok(()),
-        Verb::Move(act) => tell_move(alloc, walk, act, rest, steps, out),
-        Verb::Question(question) => tell_question(alloc, walk, question, rest, steps, out),
-        Verb::Edit(edit) => tell_edit(alloc, walk, edit, rest, steps, out),
-        Verb::Put(put) => put_by(alloc, walk, put, rest),
-        Verb::Place => tell_found(alloc, walk, steps, out),
-        Verb::Reads => tell_reads(out, &walk.reader.reads),
-        Verb::Own => tell_own(out, &walk.overlay),
+        Verb::Move(act) => tell_move(walk, act, rest, out),
+        Verb::Question(question) => tell_question(walk, question, rest, out),
+        Verb::Edit(edit) => tell_edit(walk, edit, rest, out),
+        Verb::Put(put) => put_by(walk, put, rest),
+        Verb::Place => tell_found(walk, out),
+        Verb::Reads => tell_known(&walk.session, out),
+        Verb::Own => tell_own(out, &walk.session.own),
     }
 }
 
@@ -178,30 +160,17 @@ fn add_line(out: &mut String, line: &str) -> Result<(), NoMemory> {
     Ok(())
 }
 
-/// Nothing read and nothing changed yet.
-fn walk_over(alloc: Global, base: &Arc<Base>) -> Result<Walk<'_>, NoMemory>
-    ensures { IfOk result IsReady }
-{
-    Ok(Walk {
-        zip: Zip::new(alloc, base.clone()?),
-        overlay: Overlay::new(alloc),
-        reader: Whole::new(alloc, &base.loaded),
-    })
-}
-
 /// Adds lines, each command with what it gives.
 fn add_lines<L: Ledger>(
-    alloc: Global,
-    walk: &mut Walk,
+    walk: &mut Walk<'_, '_, L>,
     lines: &str,
-    steps: &mut Steps<L>,
     out: &mut String,
 ) -> Result<(), NoMemory>
     requires { IsReady walk.old }
 {
     'commands: for line in lines.lines() {
         add_line(out, line)?;
-        obey(alloc, walk, line, steps, out)?;
+        obey(walk, line, out)?;
     }
     Ok(())
 }
@@ -218,7 +187,15 @@ pub fn add_walk<L: Ledger>(
     requires parts { blank.parts ≡ L.parts }
     requires some { 0 < L.parts }
 {
-    let mut steps = Steps::<L>::open(blank);
-    let mut walk = walk_over(alloc, base)?;
-    add_lines(alloc, &mut walk, case.as_str(), &mut steps, out)
+    let mut reader = Whole::new(alloc, &base.loaded);
+    let mut walk = Walk {
+        zip: Zip::new(alloc, base.clone()?),
+        session: Session {
+            alloc,
+            reader: &mut reader,
+            own: Overlay::new(alloc),
+            steps: Steps::<L>::open(blank),
+        },
+    };
+    add_lines(&mut walk, case.as_str(), out)
 }

@@ -131,6 +131,13 @@ pub record EntersAt (rule : Address → Ask (Answered Address)) (p : List (List 
   pub tells : (a : Address) → Tells (answered (λ e. step_tree e.step ∷ a)) was now (rule a) (split result)
   pub leads : (reads : ReadList) (own : Known) → IfOk result (λ e. Leads reads own (step_tree e.step) p env spec e.spot)
 
+-- the same by a move from the place
+abbrev pub EntersBy : {R L : Type 0} → Meaning R → (Address → List (List ℕ) → Bindings → SpecTree → Ask (Answered Address)) → List (List ℕ) → Bindings → SpecTree → Session R L → Session R L → Result Entry Halt → Type 0
+EntersBy m move p env spec was now result = Enters m (λ a. move a p env spec) p env spec was now result
+
+abbrev pub StepsBy : (Address → List (List ℕ) → Bindings → SpecTree → Ask (Answered Address)) → List (List ℕ) → Bindings → SpecTree → ℕ → ℕ → Result Entry Halt → Type 0
+StepsBy move p env spec was now result = EntersAt (λ a. move a p env spec) p env spec was now result
+
 -- the call answers the entry of the chosen element, where there is one
 pub record Chooses (p : List (List ℕ)) (x : List ℕ) (set : List (List ℕ)) (choice : Option (List ℕ)) (result : Result Entry Halt) : Type 0 where
   pub says : (a : Address) → Says (answered (λ e. step_tree e.step ∷ a)) (Some (element a choice)) (split result)

@@ -13,7 +13,7 @@ ghost use Rattle.fx_walk.specs.Arguments.{HaveShapes};
 ghost use Rattle.fx_walk.specs.Scopes.{HasScope};
 ghost use Rattle.fx_zip.specs.Fresh.{IsSetOf};
 ghost use Rattle.fx_zip.specs.Telling.{OnlyCounts, AreWellShaped, set_answer};
-ghost use Rattle.fx_zip.specs.Spots.{Enters, EntersAt, Chooses, BindsText};
+ghost use Rattle.fx_zip.specs.Spots.{EntersBy, StepsBy, Chooses, BindsText};
 ghost use Rattle.fx_zip.specs.Steps.{step_tree};
 
 use crate::evaluating::{inner_path, names_of, set_again, try_arguments};
@@ -38,8 +38,8 @@ pub(crate) fn down<R: Reader, L: Ledger>(
     spec: &Part<'_>,
 ) -> Result<Entry, Halt>
     requires described { HasScope env.now (part_of spec.now) }
-    ensures enters { EntersAt (λ a. move.go_down a path.now env.now (part_of spec.now))
-        path.now env.now (part_of spec.now) session.old.steps session.new.steps result }
+    ensures enters { StepsBy move.go_down path.now env.now
+        (part_of spec.now) session.old.steps session.new.steps result }
     ensures still { OnlyCounts session.old session.new }
 {
     match focus_of(spec) {
@@ -65,8 +65,8 @@ pub(crate) fn to<R: Reader, L: Ledger>(
 ) -> Result<Entry, Halt>
     requires described { HasScope env.now (part_of spec.now) }
     requires kept { IsSetOf (option_copied kept) env.now (part_of spec.now) }
-    ensures enters { EntersAt (λ a. move.go_to text.now a path.now env.now (part_of spec.now))
-        path.now env.now (part_of spec.now) session.old.steps session.new.steps result }
+    ensures enters { StepsBy (move.go_to text.now) path.now env.now
+        (part_of spec.now) session.old.steps session.new.steps result }
     ensures still { OnlyCounts session.old session.new }
 {
     match comp_of(spec) {
@@ -89,9 +89,8 @@ pub(crate) fn into<R: Reader, L: Ledger>(
 ) -> Result<Entry, Halt>
     requires described { HasScope env.now (part_of spec.now) }
     requires kept { IsSetOf (option_copied kept) env.now (part_of spec.now) }
-    ensures enters { Enters R.meaning
-        (λ a. move.go_into a path.now env.now (part_of spec.now))
-        path.now env.now (part_of spec.now) session.old session.new result }
+    ensures enters { EntersBy R.meaning move.go_into path.now env.now (part_of spec.now)
+        session.old session.new result }
 {
     match spec.form() {
         Form::Pair(_, _, _) => first(session.alloc, path),
@@ -108,9 +107,8 @@ pub(crate) fn into<R: Reader, L: Ledger>(
 }
 
 fn first(alloc: Global, path: &Path) -> Result<Entry, Halt>
-    ensures enters { (env : Bindings) (name : List ℕ) (one two : SpecTree) (n : ℕ) → EntersAt
-        (λ a. move.go_into a path.now env (SpecTree.pair name one two))
-        path.now env (SpecTree.pair name one two) n n result }
+    ensures enters { (env : Bindings) (name : List ℕ) (one two : SpecTree) (n : ℕ)
+        → StepsBy move.go_into path.now env (SpecTree.pair name one two) n n result }
 {
     Ok(Entry {
         step: Step::First,
@@ -126,9 +124,8 @@ fn body<R: Reader, L: Ledger>(
     args: &Exprs,
 ) -> Result<Entry, Halt>
     requires shaped { HaveShapes env.now params.now args.now }
-    ensures enters { (inner : SpecTree) → EntersAt
-        (λ a. move.go_into a path.now env.now (SpecTree.call args.now params.now inner))
-        path.now env.now (SpecTree.call args.now params.now inner)
+    ensures enters { (inner : SpecTree) → StepsBy move.go_into path.now env.now
+        (SpecTree.call args.now params.now inner)
         session.old.steps session.new.steps result }
     ensures still { OnlyCounts session.old session.new }
 {
@@ -146,9 +143,9 @@ fn too_unfolded<R: Reader, L: Ledger>(
     args: &Exprs,
 ) -> Result<Entry, Halt>
     requires shaped { AreWellShaped env.now args.now }
-    ensures enters { (path : List (List ℕ)) (params : List (List ℕ × ShapeTree)) → EntersAt
-        (λ a. move.go_into a path env.now (SpecTree.last args.now params))
-        path env.now (SpecTree.last args.now params) session.old.steps session.new.steps result }
+    ensures enters { (path : List (List ℕ)) (params : List (List ℕ × ShapeTree))
+        → StepsBy move.go_into path env.now (SpecTree.last args.now params)
+        session.old.steps session.new.steps result }
     ensures still { OnlyCounts session.old session.new }
 {
     try_arguments(session, env, args)?;
@@ -166,9 +163,8 @@ fn least<R: Reader, L: Ledger>(
     requires shaped { IsWellShaped env.now set.now }
     requires kept { (known : List (List ℕ)) → option_copied kept ≡ Some known
         → set_answer (eval_of env.now set.now) ≡ Ok known }
-    ensures enters { (part : SpecTree) → EntersAt
-        (λ a. move.go_into a path.now env.now (SpecTree.comp part name.now set.now))
-        path.now env.now (SpecTree.comp part name.now set.now)
+    ensures enters { (part : SpecTree) → StepsBy move.go_into path.now env.now
+        (SpecTree.comp part name.now set.now)
         session.old.steps session.new.steps result }
     ensures still { OnlyCounts session.old session.new }
 {
@@ -177,9 +173,8 @@ fn least<R: Reader, L: Ledger>(
 }
 
 fn inside<R: Reader, L: Ledger>(session: &mut Session<'_, R, L>, path: &Path) -> Result<Entry, Halt>
-    ensures enters { (env : Bindings) (part : SpecTree) → Enters R.meaning
-        (λ a. move.go_into a path.now env (SpecTree.opt part))
-        path.now env (SpecTree.opt part) session.old session.new result }
+    ensures enters { (env : Bindings) (part : SpecTree) → EntersBy R.meaning move.go_into path.now
+        env (SpecTree.opt part) session.old session.new result }
 {
     if exists(session, path)? {
         Ok(Entry {
