@@ -315,6 +315,11 @@ MEETINGS = [
     "into next into down try a into try b next fetch there : bool print(there) abort",
 ]
 
+# A look at all of it.
+MEETING_LOOK = (
+    b"txn { into fetch d : names print(d) next fetch all : names "
+    b"each n in (all) { to(n) down into fetch v : str print(v) fetch f : bool print(f) out up out } }\n"
+)
 
 # Descriptions whose definitions call each other, with the moves from one call into the next: 64 calls lead to the last level. From
 # NEAR on an argument faults around that level, and from DEPTH on there is nothing more.
@@ -342,7 +347,7 @@ AT_THE_END = [
 # What a thousand cases have to have.
 EXPECTED = [
     "valid yes, by mutual recursion", "valid no, by mutual recursion", "stopped 13 TooUnfolded", "stopped 10 Expr", "show refused 3", "show refused 4",
-    "run refused 3", "views refused 3", "views refused 4", "conflicts", "watched not valid", "bad journals", "audit yes", "audit no Answer",
+    "run refused 3", "views refused 3", "views refused 4", "views refused, and a script too", "conflicts", "watched not valid", "bad journals", "audit yes", "audit no Answer",
 ]
 
 
@@ -420,7 +425,7 @@ def compare(room, maker, counts):
     scripts = [f"s{i}" for i in range(r.choice([2, 3, 4] if meet else [1, 1, 2, 2, 3]))]
     for name in scripts:
         put(room, name, script())
-    put(room, "views", script() * r.randrange(1, 4))
+    put(room, "views", maker.broken(script()) if kind == "plain" else (MEETING_LOOK * meet + script()) * r.randrange(1, 4))
     schedule = [r.randrange(len(scripts)) for _ in range(r.randrange(0, 60 if meet else 12))]
 
     compare_show(room, counts)
@@ -506,6 +511,7 @@ def compare_views(room, scripts, times, counts):
     if len(read) == 2:
         expect("views", (status, printed, line, os.path.exists(os.path.join(room, "viewed"))), (read[0], "", read[1], False))
         counts[f"views refused {read[0]}"] += 1
+        counts["views refused, and a script too"] += read[1].startswith("txforest: views: ") and inputs(room, writers)[0] == 3
         return
     expect("views", (status, line), (0, ""))
     root, (views, *plan), store = read
