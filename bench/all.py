@@ -1,10 +1,9 @@
-"""Measures and prints one table.
+"""Measures and prints one table: what was done, of which size, its time, its peer's time, its goal and whether it is met.
 
 usage: all.py [BENCH[=SIZE,..]..]      the benches, all where none is named, and their sizes where others are wanted
 """
 
 import importlib
-import subprocess
 import sys
 import tempfile
 
@@ -21,11 +20,6 @@ def lines(words):
         yield from importlib.import_module(name).lines([int(size) for size in sizes.split(",") if size])
 
 
-def file_system():
-    """The kind of file system on which the folders are made."""
-    words = ["stat", "-f", "-c", "%T", tempfile.gettempdir()]
-    return subprocess.run(words, capture_output=True, text=True).stdout.strip() or "an unknown file system"
-
-
-print(f"folders on {file_system()}, {tempfile.gettempdir()}")
+for where in (tempfile.gettempdir(), *measure.disks()):
+    print(f"{measure.file_system(where)}: {where}")
 measure.print_table(lines(sys.argv[1:] or BENCHES))

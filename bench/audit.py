@@ -9,9 +9,11 @@ import sys
 import tempfile
 
 import measure
+from goals import memory, of_peer
 
 SHELLS, EACH = 64, 1_562
 SIZES = [1_000_000, 20_000_000, 200_000_000]
+LARGE = 200_000_000
 OUTPUT = 50_000
 OF_SCRIPT = 1_500
 REPEATS = 3
@@ -50,7 +52,7 @@ def beside_run():
     with tempfile.TemporaryDirectory() as scratch:
         folder_of(scratch, "1")
         ran, best, _ = run_and_audit(scratch, [TXN * EACH] * SHELLS, REPEATS)
-        return measure.Line("audit: entries", SHELLS * EACH, best.user, best.peak_kib, "run, processor", ran.user, f"{best.seconds:.3f} s on the clock")
+        return measure.Line("audit: entries", SHELLS * EACH, best.user, best.peak_kib, "run, processor", ran.user, f"seconds of processor; {best.seconds:.3f} s on the clock", (of_peer(2),))
 
 
 def of_size(size):
@@ -60,7 +62,7 @@ def of_size(size):
         count = max(1, size // (OUTPUT + 40))
         texts = [TXN * min(OF_SCRIPT, count - done) for done in range(0, count, OF_SCRIPT)]
         ran, best, held = run_and_audit(scratch, texts, 1)
-        return measure.Line("audit: bytes of the report", held, best.seconds, best.peak_kib, "run", ran.seconds, f"{best.peak_kib * 1024 / held:.2f} times the report in memory")
+        return measure.Line("audit: bytes of the report", held, best.seconds, best.peak_kib, "run", ran.seconds, f"{best.peak_kib * 1024 / held:.2f} times the report in memory", (memory(4),) if size >= LARGE else ())
 
 
 def lines(sizes):

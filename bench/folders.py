@@ -1,9 +1,9 @@
-"""`txforest run` over folders of directories, of deep trees and of links, against `cp -r` of the same folder."""
+"""`txforest run` over folders of directories, of deep trees and of links, against `cp -r` of the same folder, in memory and on a disk."""
 
 import os
 
 import measure
-from run import beside_cp
+from run import beside_cp, everywhere
 
 SIZES = [10_000, 98_999]
 IN_EACH = 100
@@ -12,7 +12,6 @@ DEEP_FILES = 20_000
 LEVELS = 59
 DESCRIPTION = "dir\n"
 SCRIPT = "txn { }\n"
-REPEATS = 5
 
 
 def directories(path, count):
@@ -37,8 +36,7 @@ def links(path, count):
 
 
 def lines(sizes):
-    for count in sizes or SIZES:
-        yield beside_cp(f"run: files in directories of {IN_EACH}", directories, count, REPEATS, DESCRIPTION, SCRIPT)
-    yield beside_cp(f"run: files below {LEVELS} directories", deep, DEEP_FILES, REPEATS, DESCRIPTION, SCRIPT)
-    line = beside_cp("run: links in one folder", links, LINKS, REPEATS, DESCRIPTION, SCRIPT)
+    yield from everywhere(f"run: files in directories of {IN_EACH}", directories, sizes or SIZES, DESCRIPTION, SCRIPT)
+    yield from everywhere(f"run: files below {LEVELS} directories", deep, [DEEP_FILES], DESCRIPTION, SCRIPT)
+    line = beside_cp("run: links in one folder", links, LINKS, DESCRIPTION, SCRIPT)
     yield measure.Line(line.kind, line.size, line.seconds, line.peak_kib, more="one file for cp -r")

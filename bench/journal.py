@@ -2,7 +2,7 @@
 turns on the same file system; and in memory, where a sync costs nothing, beside `trace` of the same scripts.
 
 The time of a run that settles nothing, with its loading and saving, is left out on the side of `journal`. SQLite with a WAL,
-which syncs less at a commit, is told beside. `JOURNAL_DISK` names another folder on a disk.
+which syncs less at a commit, is told beside.
 """
 
 import os
@@ -14,11 +14,11 @@ import time
 
 import measure
 import trace
+from goals import of_peer
 
 SIZES = [500]
 IN_MEMORY = 10_000
 REPEATS = 3
-MEMORY = "/dev/shm"
 RECORD = 9
 
 
@@ -78,11 +78,11 @@ def on_disk(parent, count):
             idle.append(journaled(scratch, spec, folder, nothing, 0).seconds)
     seconds = max(min(ours) - min(idle), 0.001)
     more = f"load and save, {min(idle):.3f} s, left out; SQLite with a WAL {min(wal):.3f} s"
-    return measure.Line("journal: commits on a disk", count, seconds, peak, "SQLite, rollback journal, full", min(rollback), more)
+    return measure.Line("journal: commits on a disk", count, seconds, peak, "SQLite, rollback journal, full", min(rollback), more, (of_peer(1.0),), parent)
 
 
 def in_memory(count):
-    with tempfile.TemporaryDirectory(dir=MEMORY) as scratch:
+    with tempfile.TemporaryDirectory() as scratch:
         spec, folder, scripts = case(scratch, count)
         pairs = []
         for _ in range(REPEATS):
@@ -91,11 +91,11 @@ def in_memory(count):
             pairs.append((ran, trace.traced(scratch, spec, folder, scripts, count)))
     ours = min((pair[0] for pair in pairs), key=lambda ran: ran.seconds)
     plain = min(pair[1].seconds for pair in pairs)
-    return measure.Line("journal: commits in memory", count, ours.seconds, ours.peak_kib, "trace", plain)
+    return measure.Line("journal: commits in memory", count, ours.seconds, ours.peak_kib, "trace", plain, goals=(of_peer(1.5),))
 
 
 def lines(sizes):
-    parent = os.environ.get("JOURNAL_DISK") or tempfile.gettempdir()
-    for count in sizes or SIZES:
-        yield on_disk(parent, count)
+    for disk in measure.disks():
+        for count in sizes or SIZES:
+            yield on_disk(disk, count)
     yield in_memory(IN_MEMORY)

@@ -7,7 +7,8 @@ import sys
 import tempfile
 
 import measure
-from threads import beside_sqlite
+import sqlite_peer
+from threads import two_lines
 
 NUMBER = 7
 PROJECTS, NOTES, SHELLS, TRANSACTIONS = 16, 8, 8, 200
@@ -48,4 +49,5 @@ def lines(sizes):
         if run.out != wanted(shells):
             sys.exit(f"large {number} prints {run.out!r}")
         more = f"{SHELLS * TRANSACTIONS / run.seconds:,.0f} a second"
-        yield from beside_sqlite(f"large {number}: counts and appends, 8 shells", run, more, PROJECTS, shells)
+        peers = sqlite_peer.with_journal(PROJECTS, shells), sqlite_peer.in_memory(PROJECTS, shells)
+        yield from two_lines(f"large {number}: counts and appends, 8 shells", run, more, SHELLS * TRANSACTIONS, *peers)

@@ -7,6 +7,7 @@ import sys
 import tempfile
 
 import measure
+from goals import NEAR_LINEAR
 
 SIZES = [500, 2_000, 8_000]
 ATTEMPTS = [500, 1_000, 2_000]
@@ -27,7 +28,7 @@ def listed_files(path, count):
         measure.write(path, name, "0")
 
 
-def looking(kind, schedule, script, count):
+def looking(kind, schedule, script, count, goals=()):
     """A line of a transaction over so many listed files."""
     with tempfile.TemporaryDirectory() as scratch:
         folder = os.path.join(scratch, "in")
@@ -38,7 +39,7 @@ def looking(kind, schedule, script, count):
         ran, seconds, more, _ = measure.beyond(scratch, words_of, "txn { }\n", script, REPEATS)
     if b"\nentry 0 shell 0 txn 0 done\n" not in ran.out:
         sys.exit(f"the transaction was refused: {ran.out[-200:]!r}")
-    return measure.Line(kind, count, seconds, ran.peak_kib, more=more)
+    return measure.Line(kind, count, seconds, ran.peak_kib, more=more, goals=goals)
 
 
 def started_again(count):
@@ -59,7 +60,7 @@ def started_again(count):
 
 def lines(sizes):
     for count in sizes or SIZES:
-        yield looking("trace: looks of one transaction", ["none"], THROUGH, count)
+        yield looking("trace: looks of one transaction", ["none"], THROUGH, count, (NEAR_LINEAR,))
     yield looking("run: looks of one transaction", [], THROUGH, max(sizes or SIZES))
     for count in sizes or ATTEMPTS:
         yield started_again(count)

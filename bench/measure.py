@@ -1,6 +1,6 @@
-"""What the benches share: a command that is run once and measured, and the table of what was measured.
+"""What the benches share: where folders are made, a command that is run once and measured, and the table of what was measured.
 
-Measured are seconds of wall clock, the command's own seconds of processor (those of the system left out), peak memory in
+Folders are made in memory, below /dev/shm, where that is one; what is measured on a disk below TMPDIR, or below BENCH_DISK. Measured are seconds of wall clock, the command's own seconds of processor (those of the system left out), peak memory in
 KiB, status and its two outputs. The peak is at least that of the script that measures, some 13 MiB.
 """
 
@@ -8,10 +8,28 @@ import os
 import shutil
 import subprocess
 import sys
+import tempfile
 import time
 from dataclasses import dataclass
 
 KIB_OF_MIB = 1024
+
+
+def file_system(folder):
+    """The kind of the file system on which a folder lies."""
+    ran = subprocess.run(["df", "--output=fstype", folder], capture_output=True, text=True)
+    return ran.stdout.split()[-1] if ran.returncode == 0 else "unknown"
+
+
+IN_MEMORY = {"tmpfs", "ramfs"}
+MEMORY, DISK = "/dev/shm", os.environ.get("BENCH_DISK") or tempfile.gettempdir()
+if file_system(MEMORY) in IN_MEMORY and os.access(MEMORY, os.W_OK):
+    tempfile.tempdir = MEMORY
+
+
+def disks():
+    """The folder on a disk, if there is one."""
+    return [] if file_system(DISK) in IN_MEMORY else [DISK]
 
 
 class Run:
@@ -89,7 +107,7 @@ def write(folder, name, text):
 
 @dataclass
 class Line:
-    """A line of the table. Lines of one kind that follow each other are told by their growth."""
+    """A line of the table, with what it has to reach. Lines of one kind that follow each other are told by their growth."""
 
     kind: str
     size: int
@@ -98,37 +116,51 @@ class Line:
     peer: str = ""
     peer_seconds: float | None = None
     more: str = ""
+    goals: tuple = ()
+    folder: str | None = None
 
 
-HEAD = ["", "size", "s", "peak MiB", "per size", "peer s", "ratio", "peer"]
-WIDTHS = [46, 8, 8, 8, 8, 8, 6, 0]
+HEAD = ["", "size", "on", "s", "peak MiB", "per size", "peer s", "ratio", "goal: at most", "", "peer"]
+WIDTHS = [46, 11, 6, 8, 8, 8, 8, 6, 28, 7, 0]
+TO_THE_LEFT = {0, 2, 8, 9, 10}
 
 
 def growth(after, before):
     """How many times more seconds, per how many times more input; 1 is linear."""
-    if before is None or before.kind != after.kind or before.size == after.size:
+    if before is None:
         return ""
     return f"{after.seconds / before.seconds * before.size / after.size:.2f}"
 
 
-def cells(line, before):
-    peer = ["", "", line.more]
+def verdict(line, before):
+    """Whether a line reaches its goals: None where none of them says anything."""
+    said = [met for met in (goal.is_met(line, before) for goal in line.goals) if met is not None]
+    return all(said) if said else None
+
+
+def cells(line, before, is_first):
+    peer, more = ["", ""], line.more
     if line.peer_seconds is not None:
         more = f"{line.peer}; {line.more}" if line.more else line.peer
-        peer = [f"{line.peer_seconds:.3f}", f"{line.seconds / line.peer_seconds:.2f}", more]
-    kind = line.kind if before is None or before.kind != line.kind else ""
-    return [kind, f"{line.size:,}", f"{line.seconds:.3f}", f"{line.peak_kib // KIB_OF_MIB}", growth(line, before), *peer]
+        peer = [f"{line.peer_seconds:.3f}", f"{line.seconds / line.peer_seconds:.2f}"]
+    kind, met = line.kind if is_first else "", {None: "", True: "met", False: "not met"}[verdict(line, before)]
+    where = file_system(line.folder or tempfile.gettempdir())
+    numbers = [f"{line.seconds:.3f}", f"{line.peak_kib // KIB_OF_MIB}", growth(line, before)]
+    return [kind, f"{line.size:,}", where, *numbers, *peer, ", ".join(goal.words for goal in line.goals), met, more]
 
 
 def row(words):
-    kind, *numbers, peer = [word.ljust(width) if i == 0 else word.rjust(width) for i, (word, width) in enumerate(zip(words, WIDTHS))]
-    print("  ".join([kind, *numbers, peer]).rstrip(), flush=True)
+    print("  ".join(word.ljust(width) if i in TO_THE_LEFT else word.rjust(width) for i, (word, width) in enumerate(zip(words, WIDTHS))).rstrip(), flush=True)
 
 
 def print_table(lines):
-    """Prints each line as soon as it is measured."""
+    """Prints each line as soon as it is measured, and at the end how many reach their goals."""
     row(HEAD)
-    before = None
+    last, verdicts = None, []
     for line in lines:
-        row(cells(line, before))
-        before = line
+        is_first = last is None or (last.kind, last.folder) != (line.kind, line.folder)
+        before = None if is_first or last.size == line.size else last
+        row(cells(line, before, is_first))
+        verdicts.append(verdict(line, before))
+        last = line
+    print(f"{verdicts.count(True)} met, {verdicts.count(False)} not met, {verdicts.count(None)} without a goal")

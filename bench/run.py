@@ -1,6 +1,4 @@
-"""`txforest run` over flat folders of small files and over one large file, against `cp -r` of the same folder.
-
-The folders are made below TMPDIR; on a file system in memory the disk is left out of the times.
+"""`txforest run` over flat folders of small files and over one large file, against `cp -r` of the same folder., in memory and on a disk.
 """
 
 import os
@@ -8,6 +6,7 @@ import sys
 import tempfile
 
 import measure
+from goals import of_peer
 
 SIZES = [1_000, 10_000, 99_999]
 LARGE_FILE = 1_048_576
@@ -15,6 +14,10 @@ DESCRIPTION = '("f00000" :: file)\n'
 SCRIPT = "txn { down fetch x : str }\n"
 REPORT = b"forest report 1\nentries 1\nentry 0 shell 0 txn 0 done\nretries 0\nend\n"
 REPEATS = 5
+REPEATS_ON_DISK = 1
+# Of 20,000 files and more.
+LARGE = 20_000
+OF_CP, OF_CP_ON_DISK = of_peer(0.9), of_peer(0.3)
 
 
 def flat_folder(path, count):
@@ -28,23 +31,30 @@ def large_folder(path, size):
     measure.write(path, "f00000", "x" * size)
 
 
-def beside_cp(kind, make, size, repeats, description=DESCRIPTION, script=SCRIPT):
+def beside_cp(kind, make, size, description=DESCRIPTION, script=SCRIPT, goals=(), disk=None):
     """A run over a folder that `make` makes, beside `cp -r` of it, where the run leaves the folder as it is."""
-    with tempfile.TemporaryDirectory() as scratch:
+    with tempfile.TemporaryDirectory(dir=disk) as scratch:
         folder = os.path.join(scratch, "in")
         make(folder, size)
         spec = measure.write(scratch, "spec", description)
         shell = measure.write(scratch, "script", script)
         ours_of = lambda out: [measure.program(), "run", spec, folder, out, shell]
         copied_of = lambda out: ["cp", "-r", folder, out]
-        (ours, out), (copied, _) = measure.best(scratch, [ours_of, copied_of], repeats)
+        (ours, out), (copied, _) = measure.best(scratch, [ours_of, copied_of], REPEATS_ON_DISK if disk else REPEATS)
         if ours.out != REPORT:
             sys.exit(f"another report: {ours.out[:200]!r}")
         measure.check_same(folder, out)
-        return measure.Line(kind, size, ours.seconds, ours.peak_kib, "cp -r", copied.seconds, f"{ours.user:.3f} s in the program")
+        return measure.Line(kind, size, ours.seconds, ours.peak_kib, "cp -r", copied.seconds, f"{ours.user:.3f} s in the program", goals, disk)
+
+
+def everywhere(kind, make, sizes, description=DESCRIPTION, script=SCRIPT):
+    """Lines of these sizes in memory, and of the last one on a disk."""
+    for size in sizes:
+        yield beside_cp(kind, make, size, description, script, (OF_CP,) if size >= LARGE else ())
+    for disk in measure.disks():
+        yield beside_cp(kind, make, sizes[-1], description, script, (OF_CP_ON_DISK,) if sizes[-1] >= LARGE else (), disk)
 
 
 def lines(sizes):
-    yield beside_cp("run: bytes in one file", large_folder, LARGE_FILE, REPEATS)
-    for count in sizes or SIZES:
-        yield beside_cp("run: files in one folder", flat_folder, count, REPEATS)
+    yield beside_cp("run: bytes in one file", large_folder, LARGE_FILE, goals=(of_peer(1.5),))
+    yield from everywhere("run: files in one folder", flat_folder, sizes or SIZES)

@@ -11,6 +11,7 @@ from typing import Callable
 
 import measure
 import sqlite_peer
+from goals import of_peer
 
 TEXT_LIMIT = 65_536
 COUNT = 'txn{to("%s")down fetch n:str store(text((int(n)+1)))}\n'
@@ -31,12 +32,14 @@ class Load:
     files: int
     file_of: Callable
     focus: bool = False
+    of_memory: float | None = None
 
 
+REPEATS = 3
 LOADS = [
     Load("8 shells, 16 files", 8, 200, 16, lambda shell, i: (shell * 7 + i * 5) % 16),
-    Load("64 shells, a file each", 64, 1_562, 64, lambda shell, _: shell),
-    Load("1 shell, 64 files in turn", 1, 1_600, 64, lambda _, i: i % 64),
+    Load("64 shells, a file each", 64, 1_562, 64, lambda shell, _: shell, of_memory=0.5),
+    Load("1 shell, 64 files in turn", 1, 1_600, 64, lambda _, i: i % 64, of_memory=1.0),
     Load("64 shells, a file each", 64, 25, 64, lambda shell, _: shell),
     Load("64 shells, one file", 64, 100, 1, lambda *_: 0),
     Load("1 shell, one file by a focus", 1, 1_300, 1, lambda *_: 0, focus=True),
@@ -67,6 +70,13 @@ def script_of(load, names, shell):
     return "".join(transaction % names[load.file_of(shell, i)] for i in range(load.each))
 
 
+def beside_sqlite(load, shells):
+    """The fastest run, and the fastest of SQLite with a journal and in memory, which take turns; how often a transaction started again."""
+    turns = [(ran(load), sqlite_peer.with_journal(load.files, shells), sqlite_peer.in_memory(load.files, shells)) for _ in range(REPEATS)]
+    run, retries = min((turn[0] for turn in turns), key=lambda it: it[0].seconds)
+    return run, retries, min(turn[1] for turn in turns), min(turn[2] for turn in turns)
+
+
 def ran(load):
     """The run, and how often a transaction started again."""
     with tempfile.TemporaryDirectory() as scratch:
@@ -84,16 +94,16 @@ def ran(load):
     return run, int(re.search(rb"(?m)^retries (\d+)$", run.out)[1])
 
 
-def beside_sqlite(kind, run, more, counters, shells):
+def two_lines(kind, run, more, count, journaled, in_memory, goals=()):
     """Two lines of a run, beside SQLite with a journal and in memory."""
-    count = sum(len(steps) for steps in shells)
-    for peer, do in (("SQLite, journal", sqlite_peer.with_journal), ("SQLite, memory", sqlite_peer.in_memory)):
-        yield measure.Line(kind, count, run.seconds, run.peak_kib, peer, do(counters, shells), more)
+    yield measure.Line(kind, count, run.seconds, run.peak_kib, "SQLite, journal", journaled, more)
+    yield measure.Line(kind, count, run.seconds, run.peak_kib, "SQLite, memory", in_memory, more, goals)
 
 
 def lines(_):
     for load in LOADS:
-        run, retries = ran(load)
         shells = [[(load.file_of(shell, i), None) for i in range(load.each)] for shell in range(load.shells)]
-        more = f"{load.shells * load.each / run.seconds:,.0f} a second, {retries} retries"
-        yield from beside_sqlite(f"run: {load.name}", run, more, load.files, shells)
+        run, retries, journaled, in_memory = beside_sqlite(load, shells)
+        count = load.shells * load.each
+        more = f"{count / run.seconds:,.0f} a second, {retries} retries"
+        yield from two_lines(f"run: {load.name}", run, more, count, journaled, in_memory, (of_peer(load.of_memory),) if load.of_memory else ())

@@ -9,6 +9,7 @@ import tempfile
 
 import measure
 import sqlite_peer
+from goals import of_peer
 
 SIZES = [1_000, 10_000]
 WRITERS = 8
@@ -51,4 +52,4 @@ def lines(sizes):
         alone, beside, seen = looked(files)
         peer, reading = sqlite_peer.with_reader(files, WRITERS, EACH)
         more = f"SQLite's WAL: writers {peer:.3f} s, its reader {reading:.3f} s; the view saw {seen:,} of {WRITERS * EACH:,} commits"
-        yield measure.Line(f"views: beside {WRITERS} writers of {EACH:,}", files, beside.seconds, beside.peak_kib, "the writers alone by run", alone.seconds, more)
+        yield measure.Line(f"views: beside {WRITERS} writers of {EACH:,}", files, beside.seconds, beside.peak_kib, "the writers alone by run", alone.seconds, more, (of_peer(1.2),))

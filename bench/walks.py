@@ -8,12 +8,14 @@ import tempfile
 
 import measure
 import sqlite_peer
+from goals import MICROSECONDS, MILLISECONDS, NEAR_LINEAR, each
 from names import empty_files
 
 SIZES = [500, 1_000, 2_000]
 ADDED = [500, 2_000]
 CREATED = 1_000
 CREATED_AMONG = [5_000, 50_000]
+CREATED_REPEATS = 3
 CREATE = 'txn{to("%s")down create}\n'
 NAMES = 50_000
 MOVE_REPEATS = 5
@@ -47,7 +49,8 @@ def additions(count):
         ran, seconds, more, out = walked(scratch, "dir\n", commands, 1)
         if len(os.listdir(out)) != NAMES + count:
             sys.exit("not every name was added")
-    return measure.Line(f"run: names added to {NAMES:,} one by one", count, seconds, ran.peak_kib, more=more)
+    goal = each(3, MILLISECONDS, count)
+    return measure.Line(f"run: names added to {NAMES:,} one by one", count, seconds, ran.peak_kib, more=more, goals=(goal,))
 
 
 def created(names):
@@ -60,11 +63,11 @@ def created(names):
         spec = measure.write(scratch, "spec", f'{{(n :: file) | n in lines("{listed}")}}\n')
         words_of = lambda out, shell: [measure.program(), "run", spec, folder, out, shell]
         script = "".join(CREATE % name for name in added)
-        ran, seconds, more, out = measure.beyond(scratch, words_of, "", script, 1)
+        ran, seconds, more, out = measure.beyond(scratch, words_of, "", script, CREATED_REPEATS)
         if ran.out.count(b" done\n") != CREATED or len(os.listdir(out)) != names + CREATED:
             sys.exit(f"not every file was made: {ran.out[:200]!r}")
-    peer = sqlite_peer.insertions(names, CREATED)
-    return measure.Line(f"run: {CREATED:,} files created among names", names, seconds, ran.peak_kib, "SQLite, memory", peer, more)
+    peer, goals = sqlite_peer.insertions(names, CREATED), (each(30, MICROSECONDS, CREATED), NEAR_LINEAR)
+    return measure.Line(f"run: {CREATED:,} files created among names", names, seconds, ran.peak_kib, "SQLite, memory", peer, more, goals)
 
 
 def lines(sizes):

@@ -8,6 +8,7 @@ import tempfile
 
 import measure
 from folders import directories
+from goals import of_peer
 from trace import write_scripts
 
 ENTRIES = [1_000, 10_000]
@@ -39,7 +40,7 @@ def beside_trace(description, transactions, files):
 
 def spared(kind, description, transactions):
     watched, traced = beside_trace(description, transactions, FILES)
-    return measure.Line(kind, len(transactions), watched.seconds, watched.peak_kib, "trace", traced.seconds)
+    return measure.Line(kind, len(transactions), watched.seconds, watched.peak_kib, "trace", traced.seconds, goals=(of_peer(1.3),))
 
 
 def walked(files):

@@ -3,11 +3,14 @@
 usage: compare.py PROGRAM [SEED] [COUNT]
 
 Each case is a random folder with links and flags, a description with definitions, some scripts and a schedule: `show`, `trace`,
-`watch`, `journal` and `run` have to print, write and refuse what the model says, and `recover` from the journal and from
-changed ones. In every third case the scripts work on the same few files, so that they meet. Of `run` the order and the
-retries are those that it prints: the answers and OUT are those of its transactions run whole in that order, and `audit` says
-of its report, and of changed ones, what the model says. Some texts are broken before, so that refusals are compared too. Then
-four cases from numbers: what `gen` writes, and what `large` leaves and prints. Prints how many cases there were of each kind, and ends with 1 at the first difference, which it tells.
+`watch`, `journal`, `run` and `views` have to print, write and refuse what the model says, and `recover` from the journal and
+from changed ones. In every third case the scripts work on the same few files, so that they meet; in some the calls of the
+description go as deep as they may, by several definitions in turn. Of `run` and `views` the order and the retries are those
+that they print: the answers and OUT are those of the transactions run whole in that order, and `audit` says of the report of
+`run`, and of changed ones, what the model says. Of a view the number of entries is the printed one: its answers are those of
+its transaction on what so many entries leave. Some texts are broken before, so that refusals are compared too. Then four cases
+from numbers: what `gen` writes, and what `large` leaves and prints. Prints how many cases there were of each kind, and ends
+with 1 at the first difference, which it tells, and where a kind of case that it is there for has not occurred.
 """
 
 import os
@@ -239,6 +242,18 @@ class Maker:
             found.append(f"txn {{ {body} }}")
         return "\n".join(found).encode()
 
+    def unfolding(self):
+        """A description whose calls go deep, and scripts that walk down to the last level or around it."""
+        r = self.r
+        text, step = r.choice(UNFOLDING)
+        text = text.replace("NEAR", str(2**63 - 1 - r.randrange(60, 68))).replace("DEPTH", str(r.randrange(60, 68)))
+
+        def script():
+            walks = [step * r.choice([0, 1, 62, 63, 64, 65, 66]) + r.choice(AT_THE_END) for _ in range(r.randrange(1, 4))]
+            return "\n".join(f"txn {{ {walk} }}" for walk in walks).encode()
+
+        return text, script
+
     def broken(self, text):
         """The text, now and then with a piece of it gone, doubled or changed."""
         r = self.r
@@ -300,6 +315,41 @@ MEETINGS = [
     "into next into down try a into try b next fetch there : bool print(there) abort",
 ]
 
+# A look at all of it.
+MEETING_LOOK = (
+    b"txn { into fetch d : names print(d) next fetch all : names "
+    b"each n in (all) { to(n) down into fetch v : str print(v) fetch f : bool print(f) out up out } }\n"
+)
+
+# Descriptions whose definitions call each other, with the moves from one call into the next: 64 calls lead to the last level. From
+# NEAR on an argument faults around that level, and from DEPTH on there is nothing more.
+UNFOLDING = [
+    ("def f() = g() def g() = f() f()", "into "),
+    ("def f(n : int) = g((n + 1)) def g(n : int) = h((n + 1)) def h(n : int) = f((n + 1)) f(NEAR)", "into "),
+    ("def f(n : int) = opt(g((n + 1))) def g(n : int) = opt(f((n + 1))) f(NEAR)", "into into "),
+    ("def f(n : int) = <x : dir, g((n + 1))> def g(n : int) = <x : pred((n < DEPTH)), f((n + 1))> f(0)", "into into next "),
+    (
+        'def even(n : int) = {odd((n + 1)) | k in if((n < DEPTH), one("a"), empty)} '
+        'def odd(n : int) = {even((n + 1)) | k in if((n < DEPTH), one("a"), empty)} even(0)',
+        "into into ",
+    ),
+]
+AT_THE_END = [
+    "validate v print(v)",
+    "validate v print(v) try e into print(e) validate w print(w)",
+    "into",
+    "into into into",
+    "value v : bool print(v)",
+    "fetch b : bool print(b)",
+    "try e into print(e) try o out print(o) validate v print(v) top validate w print(w)",
+]
+
+# What a thousand cases have to have.
+EXPECTED = [
+    "valid yes, by mutual recursion", "valid no, by mutual recursion", "stopped 13 TooUnfolded", "stopped 10 Expr", "show refused 3", "show refused 4",
+    "run refused 3", "views refused 3", "views refused 4", "views refused, and a script too", "conflicts", "watched not valid", "bad journals", "audit yes", "audit no Answer",
+]
+
 
 class Different(Exception):
     pass
@@ -315,48 +365,72 @@ def expect(what, found, wanted):
         raise Different(f"{what}:\n--- the program\n{found}\n--- the model\n{wanted}")
 
 
-def inputs(room, scripts, of_show):
-    """What the texts and the folder stand for; or the status and the line of the first that is refused."""
+def inputs(room, scripts, views=()):
+    """What the texts and the folder stand for, the views' transactions as a script before the others; or the status and the line
+    of the first that is refused."""
     word = "spec"
     try:
-        with open(os.path.join(room, "spec"), "rb") as it:
-            spec = model.read_description(it.read())
-        plan = []
-        for word in [] if of_show else scripts:
-            with open(os.path.join(room, word), "rb") as it:
-                plan.append(model.read_script(it.read(), sum(map(len, plan))))
+        root, plan = model.read_description(bytes_at(room, word)), []
+        for names in (views, scripts):
+            before = len(plan)
+            for word in names:
+                plan.append(model.read_script(bytes_at(room, word), sum(map(len, plan[before:]))))
         word = "folder"
-        return spec, plan, model.load(os.path.join(room, "in"))
+        return root, plan, model.load(os.path.join(room, "in"))
     except model.Refused as refused:
         return (4 if word == "folder" else 3), f"txforest: {word}: {refused}\n"
 
 
+def bytes_at(room, name):
+    with open(os.path.join(room, name), "rb") as it:
+        return it.read()
+
+
+def put(room, name, content):
+    with open(os.path.join(room, name), "wb") as it:
+        it.write(content)
+
+
+def called_in(part):
+    """The names that a part of a description calls."""
+    found = {part[1]} if part[0] == "call" else set()
+    return found.union(*(called_in(it) for it in part if isinstance(it, tuple) and it))
+
+
+def is_mutual(description):
+    """Whether the root leads to definitions that lead to each other."""
+    called = {definition.name: called_in(definition.body) for definition in description.defs}
+
+    def reached(names):
+        found = set()
+        while names - found:
+            found |= names
+            names = set().union(*(called[name] for name in names))
+        return found
+
+    below = {name: reached(called[name]) for name in reached(called_in(description.root))}
+    return any(a != b and b in below[a] and a in below[b] for a in below for b in below)
+
+
 def compare(room, maker, counts):
-    r, meet = maker.r, maker.r.random() < 0.33
+    r, kind = maker.r, maker.r.choice(["plain"] * 5 + ["meeting"] * 3 + ["unfolding"])
+    meet = kind == "meeting"
     maker.meeting_folder(os.path.join(room, "in")) if meet else maker.folder(os.path.join(room, "in"))
-    with open(os.path.join(room, "spec"), "wb") as it:
-        it.write(MEETING.encode() if meet else maker.broken(maker.description().encode()))
+    description, script = MEETING, maker.meeting_script
+    if kind == "plain":
+        description, script = maker.description(), lambda: maker.broken(maker.script())
+    elif kind == "unfolding":
+        description, script = maker.unfolding()
+    put(room, "spec", description.encode() if meet else maker.broken(description.encode()))
     scripts = [f"s{i}" for i in range(r.choice([2, 3, 4] if meet else [1, 1, 2, 2, 3]))]
     for name in scripts:
-        with open(os.path.join(room, name), "wb") as it:
-            it.write(maker.meeting_script() if meet else maker.broken(maker.script()))
+        put(room, name, script())
+    put(room, "views", maker.broken(script()) if kind == "plain" else (MEETING_LOOK * meet + script()) * r.randrange(1, 4))
     schedule = [r.randrange(len(scripts)) for _ in range(r.randrange(0, 60 if meet else 12))]
 
-    found = run(["show", "spec", "in"], room)
-    read = inputs(room, scripts, True)
-    if len(read) == 2:
-        expect("show", found, (read[0], "", read[1]))
-        counts[f"show refused {read[0]}"] += 1
-    else:
-        try:
-            v = model.top_value(model.View(read[2].get), read[0])
-            wanted = f"valid yes\nvalue {model.printed(v)}\n"
-        except model.NoValue:
-            wanted = "valid no\n"
-        expect("show", found, (0, wanted, ""))
-        counts[wanted.split("\n")[0]] += 1
-
-    read = inputs(room, scripts, False)
+    compare_show(room, counts)
+    compare_views(room, scripts, r.randrange(1, 25) if meet else 1, counts)
+    read = inputs(room, scripts)
     words = ["trace", "spec", "in", "out", ",".join(map(str, schedule)) or "none", *scripts]
     found = run(words, room)
     if len(read) == 2:
@@ -383,23 +457,75 @@ def compare(room, maker, counts):
 
     status, printed, line = run(["run", "spec", "in", "out", *scripts], room)
     expect("run", (status, line), (0, ""))
-    turns = [(int(k), int(j)) for k, j in re.findall(r"(?m)^entry \d+ shell (\d+) txn (\d+) ", printed)]
-    retries = re.findall(r"(?m)^retry shell (\d+) txn (\d+) entry (\d+) path (.*)$", printed)
-    expect("the order of run", sorted(turns), [(k, j) for k, txns in enumerate(plan) for j in range(len(txns))])
-    for k in range(len(plan)):
-        expect("the order of a shell", [j for i, j in turns if i == k], list(range(len(plan[k]))))
-    answers, last = model.whole_run(root, [plan[k][j] for k, j in turns], store)
-    wanted = model.report([(k, j, outputs, end) for (k, j), (outputs, end) in zip(turns, answers)], [])
-    cut = printed.index("retries ") if not turns else printed.rindex("\nretries ") + 1
-    expect("the answers of run", printed[:cut], wanted[: wanted.rindex("retries ")])
-    for k, j, i, _ in retries:
-        if not turns.index((int(k), int(j))) > int(i) or turns[int(i)][0] == int(k):
-            raise Different(f"a retry of run names no earlier entry of another shell: {printed}")
-    expect("OUT of run", model.saved(os.path.join(room, "out")), model.folder_of(last))
-    for report in [printed.encode(), printed[printed.index("forest report") :].encode(), *changed_reports(r, printed.encode())]:
+    states, retries = compare_run("run", read, printed)
+    expect("OUT of run", model.saved(os.path.join(room, "out")), model.folder_of(states[-1]))
+    for report in [printed.encode(), *changed_reports(r, printed.encode())]:
         compare_audit(room, scripts, read, report, counts)
     counts["runs"] += 1
-    counts["retries of runs"] += len(retries)
+    counts["retries of runs"] += retries
+
+
+def compare_show(room, counts):
+    found, read = run(["show", "spec", "in"], room), inputs(room, [])
+    if len(read) == 2:
+        expect("show", found, (read[0], "", read[1]))
+        counts[f"show refused {read[0]}"] += 1
+        return
+    try:
+        v = model.top_value(model.View(read[2].get), read[0])
+        wanted = f"valid yes\nvalue {model.printed(v)}\n"
+    except model.NoValue:
+        wanted = "valid no\n"
+    expect("show", found, (0, wanted, ""))
+    valid = wanted.split("\n")[0]
+    counts[valid] += 1
+    counts[f"{valid}, by mutual recursion"] += is_mutual(read[0])
+
+
+def compare_run(what, read, printed):
+    """Compares the report of a run on threads with its transactions run whole in the order that it prints: the filestores before
+    and after each entry, and the number of retries."""
+    root, plan, store = read
+    turns = [(int(k), int(j)) for k, j in re.findall(r"(?m)^entry \d+ shell (\d+) txn (\d+) ", printed)]
+    told = re.findall(r"(?m)^retry shell (\d+) txn (\d+) entry (\d+) path (.*)$", printed)
+    retries = [(int(k), int(j), int(i), model.told_path(path.encode())) for k, j, i, path in told]
+    for k, txns in enumerate(plan):
+        expect(f"the order of {what}, of shell {k}", [j for i, j in turns if i == k], list(range(len(txns))))
+    expect(f"the order of {what}", len(turns), sum(map(len, plan)))
+    answers, states = [], [store]
+    for outputs, end, state in model.runs_of(root, [plan[k][j] for k, j in turns], store):
+        answers.append((outputs, end))
+        states.append(state)
+    expect(what, printed, model.report([(k, j, outputs, end) for (k, j), (outputs, end) in zip(turns, answers)], retries))
+    expect(f"the model's audit of {what}", model.audit(root, plan, store, printed.encode()), "audit yes\n")
+    return states, len(retries)
+
+
+def compare_views(room, scripts, times, counts):
+    """`views` with these scripts, each so many times one after another."""
+    writers = [f"{name}x{times}" for name in scripts]
+    for name, writer in zip(scripts, writers):
+        put(room, writer, bytes_at(room, name) * times)
+    read = inputs(room, writers, ["views"])
+    status, printed, line = run(["views", "spec", "in", "viewed", "views", *writers], room)
+    if len(read) == 2:
+        expect("views", (status, printed, line, os.path.exists(os.path.join(room, "viewed"))), (read[0], "", read[1], False))
+        counts[f"views refused {read[0]}"] += 1
+        counts["views refused, and a script too"] += read[1].startswith("txforest: views: ") and inputs(room, writers)[0] == 3
+        return
+    expect("views", (status, line), (0, ""))
+    root, (views, *plan), store = read
+    report, end, behind = printed.partition("\nend\n")
+    states, retries = compare_run("views", (root, plan, store), report + end)
+    expect("OUT of views", model.saved(os.path.join(room, "viewed")), model.folder_of(states[-1]))
+    positions = [int(i) for i in re.findall(r"(?m)^view \d+ at (\d+) ", behind)]
+    if len(positions) != len(views) or positions != sorted(positions) or positions[-1:] > [len(states) - 1]:
+        raise Different(f"the positions of {len(views)} views beside {len(states) - 1} entries: {behind}")
+    expect("what the views saw", behind, model.views(root, views, states, positions))
+    counts["runs with views"] += 1
+    counts["retries of runs with views"] += retries
+    for position in positions:
+        counts["views at the " + ("beginning" if position == 0 else "end" if position == len(states) - 1 else "middle")] += 1
 
 
 def changed_reports(r, report):
@@ -434,15 +560,13 @@ def compare_journal(room, scripts, read, traced, order, counts):
     found = run(["journal", *traced[1:3], "journaled", "journal", *traced[4:]], room)
     expect("journal", found, run(["trace", *traced[1:3], "again", *traced[4:]], room))
     expect("OUT of journal", model.saved(there("journaled")), model.saved(there("out")))
-    with open(there("journal"), "rb") as it:
-        journal = it.read()
+    journal = bytes_at(room, "journal")
     expect("the journal's bytes", journal, model.journal_of([turn[:2] for turn in order]))
     for image in changed_journals(random.Random(len(journal) + len(store)), journal):
         shutil.rmtree(there("recovered"), ignore_errors=True)
         os.remove(there("journal"))
         if image is not None:
-            with open(there("journal"), "wb") as it:
-                it.write(image)
+            put(room, "journal", image)
         found = run(["recover", "spec", "in", "journal", "recovered", *scripts], room)
         try:
             count, last = model.recover(root, plan, store, image or b"")
@@ -454,14 +578,12 @@ def compare_journal(room, scripts, read, traced, order, counts):
             expect(f"recover from {image!r}", found, (0, f"recovered {count}\n", ""))
             expect("OUT of recover", model.saved(there("recovered")), model.folder_of(last))
             counts["recovered"] += 1
-        with open(there("journal"), "rb") as it:
-            expect("the journal after recover", it.read(), image or b"")
+        expect("the journal after recover", bytes_at(room, "journal"), image or b"")
 
 
 def compare_audit(room, scripts, read, report, counts):
     root, plan, store = read
-    with open(os.path.join(room, "report"), "wb") as it:
-        it.write(report)
+    put(room, "report", report)
     wanted = model.audit(root, plan, store, report)
     expect(f"audit of {report!r}", run(["audit", "spec", "in", "report", *scripts], room), (0, wanted, ""))
     counts[re.sub(r"[ 0-9]+$", "", wanted.strip())] += 1
@@ -505,4 +627,6 @@ for number in [0, 7, 2**32 - 1, random.Random(SEED).randrange(2**32)]:
             sys.exit(f"the case of {number}: {different}")
 for what, n in sorted(counts.items()):
     print(f"{n:7} {what}")
+if COUNT >= 1_000 and (missing := [what for what in EXPECTED if not counts[what]]):
+    sys.exit(f"of {COUNT} cases none had: {', '.join(missing)}")
 print(f"{COUNT:7} cases, the same in both")

@@ -9,11 +9,15 @@ before. Prints for each input and kind of fault how many calls were counted and 
 ends with 1 at the first run that is not so.
 """
 
+import itertools
 import os
 import signal
 import subprocess
 import sys
 import tempfile
+
+sys.path.insert(0, os.path.join(os.path.dirname(os.path.abspath(__file__)), "..", "tools", "lib"))
+import model
 
 PROGRAM, LIBRARY = (os.path.abspath(word) for word in sys.argv[1:])
 SECONDS = 120
@@ -40,6 +44,12 @@ FILES = {
     "second": 'txn { into next down fetch b : str up prev down store((b ++ "0")) print(b) }',
     "deep": '<d : dir, (("current" ++ "/n") :: file)>',
     "adds": 'txn { into next down fetch n : str store(text((int(n) + 1))) top into fetch d : names store((d union one("new"))) print(n) }',
+    "looks": 'txn { into down fetch a : str up next down fetch b : str print((a ++ b)) store("seen") }' * 2,
+    "tree": 'def tree(n : int) = <d : dir, <f : {(k :: file) | k in (d only "n")}, {(k :: part((n + 1), k)) | k in ((d only "r") union (d only "*o*"))}>> '
+    'def part(n : int, k : str) = <x : pred(((n < 9) and (0 < size(k)))), tree(n)> tree(0)',
+    "walks": 'txn { into into next into next into down into into next into into next into next into down into into next into into next '
+    'into to("n") down fetch n : str store((n ++ "0")) top into validate v print(v) print(n) }',
+    "whole": "txn { into value v : pair(names, pair(table(str), table(bool))) print(v) }" * 2,
     "in1/a": "hi",
     "in2/x": "1",
     "in2/y": "1",
@@ -61,6 +71,11 @@ INPUTS = {
     "watch": ["watch", "two", "in2", "out", "0,0,1,1,0,1", "first", "second"],
     "journal": ["journal", "two", "in2", "out", "log", "0,0,1,1,0,1", "first", "second"],
     "recover": ["recover", "two", "in2", "kept", "out", "first", "second"],
+    "views": ["views", "two", "in2", "out", "looks", "first", "second"],
+    "show, definitions": ["show", "tree", "in3"],
+    "trace, definitions": ["trace", "tree", "in3", "out", "none", "walks"],
+    "watch, definitions": ["watch", "tree", "in3", "out", "none", "walks"],
+    "views, definitions": ["views", "tree", "in3", "out", "whole", "walks"],
 }
 # What stands in the stage besides, made by the program: the report that `audit` reads, the journal that `recover` reads.
 MADE = {
@@ -179,14 +194,34 @@ def check_journal(stage, ran, kind, whole):
 
 def wholes_of(stage, words):
     """The runs without a fault."""
+    command, *inputs = words
+    if command == "views":
+        return viewed(stage, *inputs)
     lines = [words]
-    if words[0] == "run" and len(words) > 5:
-        lines = [["trace", *words[1:4], order, *words[4:]] for order in ORDERS]
-    wholes = [stage.run(line, "", 0) for line in lines]
-    for status, _, line, _, _ in wholes:
-        if status != DONE:
-            raise Wrong(f"without a fault: status {status} with {line!r}")
-    return [(printed, out) for _, printed, _, out, _ in wholes]
+    if command == "run" and len(inputs) > 4:
+        lines = [["trace", *inputs[:3], order, *inputs[3:]] for order in ORDERS]
+    return [whole(stage, line) for line in lines]
+
+
+def whole(stage, words):
+    """What a run without a fault prints, and leaves at OUT."""
+    status, printed, line, out, _ = stage.run(words, "", 0)
+    if status != DONE:
+        raise Wrong(f"without a fault: status {status} with {line!r}")
+    return printed, out
+
+
+def viewed(stage, spec, folder, out, views, *scripts):
+    """The runs with views: for each order of the scripts, with each number of entries at which each view may look."""
+    text = lambda name: FILES[name].encode()
+    root, plan, looks = model.read_description(text(spec)), [model.read_script(text(name)) for name in scripts], model.read_script(text(views))
+    store, found = model.load(f"{stage.top}/{folder}"), []
+    for order in ORDERS[: len(scripts)]:
+        printed, left = whole(stage, ["trace", spec, folder, out, order, *scripts])
+        _, _, _, states = model.steps(root, plan, store, [int(k) for k in order.split(",")])
+        for positions in itertools.combinations_with_replacement(range(len(states)), len(looks)):
+            found.append((printed + model.views(root, looks, states, positions).encode(), left))
+    return found
 
 
 def swept(stage, words, kind, wholes):

@@ -1,17 +1,18 @@
 """Runs the built program on what a hostile user, disk or machine may give it.
 
-usage: hostile.py PROGRAM
+usage: hostile.py PROGRAM [PART...]
 
 Each try has a stage of its own: a fresh folder with the texts, FOLDER and what else it needs. After it the status must be
 one that the try allows, standard error must hold one line of the program exactly where the status is not 0, everything
-on the stage but OUT must be as before, and the program must have ended by itself and in time. Prints how many tries each
-part made, and ends with 1 at the first that is not so.
+on the stage but OUT must be as before, and the program must have ended by itself, or by the signal that the try sent, and in
+time. Prints how many tries each part made, and ends with 1 at the first that is not so.
 """
 
 import contextlib
 import hashlib
 import os
 import random
+import re
 import resource
 import signal
 import socket
@@ -21,6 +22,7 @@ import sys
 import tempfile
 import threading
 import time
+from collections import Counter
 
 PROGRAM = os.path.abspath(sys.argv[1])
 SECONDS = 120
@@ -40,6 +42,7 @@ DESCRIPTIONS = [
     '<d : dir, {(n :: file) | n in (d only "*.txt")}>',
     '(("cur" ++ "/x") :: opt(<s : file, pred((size(s) < 10))>))',
     'def t(n : int, s : str) = <d : dir, {(k :: t((n + 1), k)) | k in (d only s)}> t(0, "d")',
+    'def f(n : int) = g((n + 1), "a") def g(n : int, s : str) = <x : (s :: file), {f(n) | k in if((n < 9), one(x), empty)}> f(0)',
 ]
 SCRIPTS = [
     'txn { down fetch x : str print(x) }',
@@ -48,6 +51,9 @@ SCRIPTS = [
     'txn { validate v let t = if(v, "y", "n") set t = (t ++ "!") print(t) }',
     '# comment\ntxn{}txn { value v : pair(str, table(opt(str))) print(second(v)) }',
 ]
+
+
+VIEWS = ["views", "spec", "in", "out", "views", "script"]
 
 
 class Wrong(Exception):
@@ -81,6 +87,7 @@ class Stage:
         self.out = self.path("out")
         self.put("spec", description)
         self.put("script", script)
+        self.put("views", SCRIPTS[0])
         os.mkdir(self.path("in"))
         for name, content in files.items():
             self.put(f"in/{name}", content)
@@ -104,27 +111,29 @@ class Stage:
 
     def run(self, allowed, words=None, **given):
         """Runs the program, and gives the status with what it printed."""
-        global tries
+        global tries, longest
         tries += 1
         words = ["run", "spec", "in", "out", "script"] if words is None else words
         given.setdefault("stdout", subprocess.PIPE)
         keeps = given.pop("keeps", True)
+        seconds = given.pop("seconds", SECONDS)
         meanwhile = given.pop("meanwhile", None)
         before = tree_sum(self.top, self.out)
+        begin = time.monotonic()
         with subprocess.Popen([PROGRAM, *words], cwd=self.top, stdin=subprocess.DEVNULL, stderr=subprocess.PIPE, **given) as child:
             if meanwhile:
                 meanwhile(child)
             try:
-                printed, line = child.communicate(timeout=SECONDS)
+                printed, line = child.communicate(timeout=seconds)
             except subprocess.TimeoutExpired:
                 child.kill()
-                raise Wrong(f"{words}: it did not end within {SECONDS} s") from None
-        status = child.returncode
-        if status < 0:
+                raise Wrong(f"{words}: it did not end within {seconds} s") from None
+        status, longest = child.returncode, max(longest, time.monotonic() - begin)
+        if status < 0 and status not in allowed:
             raise Wrong(f"{words}: ended by {signal.Signals(-status).name}")
         if status not in allowed:
             raise Wrong(f"{words}: status {status}, {line!r}, where {sorted(allowed)} may come")
-        if (status == 0) != (line == b"") or line.count(b"\n") > 1 or line and not line.startswith(b"txforest: "):
+        if (status <= 0) != (line == b"") or line.count(b"\n") > 1 or line and not line.startswith(b"txforest: "):
             raise Wrong(f"{words}: status {status} with {line!r} on standard error")
         if keeps and tree_sum(self.top, self.out) != before:
             raise Wrong(f"{words}: something besides OUT changed")
@@ -134,7 +143,7 @@ class Stage:
 
 
 def broken_texts():
-    """Ten good texts, each with every byte left out, doubled and turned into others."""
+    """Good texts, each with every byte left out, doubled and turned into others."""
     for texts, name in ((DESCRIPTIONS, "spec"), (SCRIPTS, "script")):
         words = ["show", "spec", "in"] if name == "spec" else None
         for text in texts:
@@ -201,6 +210,9 @@ def limits():
     for count, allowed in ((64, {DONE}), (65, {USAGE})):
         with Stage() as stage:
             stage.run(allowed, ["trace", "spec", "in", "out", "none", *["script"] * count])
+    for count, allowed in ((63, {DONE}), (64, {USAGE})):
+        with Stage() as stage:
+            stage.run(allowed, ["views", "spec", "in", "out", "views", *["script"] * count])
     for schedule in ("", "0,", ",0", "00", "01", "1", "-1", "+0", "4294967296", "0 ,0", "none,0", "None", "0,0x1"):
         with Stage() as stage:
             stage.run({USAGE}, ["trace", "spec", "in", "out", schedule, "script"])
@@ -212,6 +224,9 @@ def limits():
         with Stage(script=many) as stage:
             stage.put("last", last)
             stage.run(allowed, ["trace", "spec", "in", "out", "none", *["script"] * 7, "last"])
+            subprocess.run(["rm", "-rf", stage.out], check=True)
+            stage.put("views", many)
+            stage.run(allowed, ["views", "spec", "in", "out", "views", *["script"] * 7, "last"])
 
 
 def tables():
@@ -265,18 +280,18 @@ def strange_entries():
                 with contextlib.suppress(PermissionError):
                     make(stage.path(f"in/{name}"))
                     stage.run({FOLDER})
-    for word in ("spec", "script", "in"):
-        for other in ("gone", "in", "in/d", "/dev/null", "/dev/zero", "/proc/self/mem", "."):
-            words = ["run", "spec", "in", "out", "script"]
-            words[words.index(word)] = other
+    for line in (["run", "spec", "in", "out", "script"], VIEWS):
+        for word in {"spec", "views", "script", "in"} & {*line}:
+            for other in ("gone", "in", "in/d", "/dev/null", "/dev/zero", "/proc/self/mem", "."):
+                with Stage() as stage:
+                    words = [line[0], *(other if it == word else it for it in line[1:])]
+                    stage.run({DONE, TEXT, FOLDER, READ, TAKEN, WRITE}, words, keeps=other != ".")
+        for out, allowed in (("in", {TAKEN}), ("spec", {TAKEN}), ("gone/out", {WRITE}), ("/dev/null", {TAKEN}), ("spec/out", {WRITE})):
             with Stage() as stage:
-                stage.run({DONE, TEXT, FOLDER, READ, TAKEN, WRITE}, words, keeps=other != ".")
-    for out, allowed in (("in", {TAKEN}), ("spec", {TAKEN}), ("gone/out", {WRITE}), ("/dev/null", {TAKEN}), ("spec/out", {WRITE})):
+                stage.run(allowed, [out if word == "out" else word for word in line])
         with Stage() as stage:
-            stage.run(allowed, ["run", "spec", "in", out, "script"])
-    with Stage() as stage:
-        os.symlink("gone", stage.path("out"))
-        stage.run({TAKEN, WRITE})
+            os.symlink("gone", stage.path("out"))
+            stage.run({TAKEN, WRITE}, line)
 
 
 def words():
@@ -285,6 +300,7 @@ def words():
         [], ["run"], ["run", "spec", "in", "out"], ["Run", "spec", "in", "out", "script"], ["--help"], ["--version"], ["-"],
         ["run", "spec", "in", "out", "-x"], ["run", "spec", "in", "out", ""], ["show", "spec"], ["show", "spec", "in", "out"],
         ["trace", "spec", "in", "out", "script"], ["run", "spec", "in", "out", *["script"] * 65], [b"\xff"], ["nothing", "spec"],
+        ["views"], VIEWS[:-1], [*VIEWS[:4], "", "script"], [*VIEWS[:4], "-", "script"], [*VIEWS, ""], ["View", *VIEWS[1:]],
     ):
         with Stage() as stage:
             stage.run({USAGE}, line)
@@ -292,34 +308,37 @@ def words():
 
 def outputs():
     """Standard outputs that are closed, full, slow, or go away."""
-    with Stage(script='txn { print("hello") }' * 2_000) as stage:
-        with open("/dev/full", "wb") as full:
-            stage.run({WRITE, TEXT}, stdout=full)
-    with Stage() as stage:
-        stage.run({WRITE}, preexec_fn=lambda: os.close(1), stdout=None)
-    with Stage(script='txn { print("hello") }' * 2_000) as stage:
-        read, write = os.pipe()
-        os.close(read)
-        stage.run({WRITE, TEXT}, stdout=write)
-        os.close(write)
-    with Stage(script='txn { print("hello") }' * 2_000) as stage:
+    hello = 'txn { print("hello") }' * 2_000
+    for line in (["run", "spec", "in", "out", "script"], VIEWS):
+        with Stage(script=hello) as stage, open("/dev/full", "wb") as full:
+            stage.run({WRITE, TEXT}, line, stdout=full)
+        with Stage() as stage:
+            stage.run({WRITE}, line, preexec_fn=lambda: os.close(1), stdout=None)
+        with Stage(script=hello) as stage:
+            read, write = os.pipe()
+            os.close(read)
+            stage.run({WRITE, TEXT}, line, stdout=write)
+            os.close(write)
+        with Stage(script=hello) as stage:
 
-        def slowly(child):
-            for _ in range(20):
-                time.sleep(0.01)
-                child.stdout.read(512)
+            def slowly(child):
+                for _ in range(20):
+                    time.sleep(0.01)
+                    child.stdout.read(512)
 
-        stage.run({DONE, TEXT}, meanwhile=slowly)
+            stage.run({DONE, TEXT}, line, meanwhile=slowly)
 
 
 def places():
     """Folders that can't be read or written, that are full, and that change under the program's hands."""
     if os.geteuid() == 0:
         nobody = {"user": 65534, "group": 65534, "extra_groups": []}
-        for name in ("spec", "script", "in", "in/a", "in/d"):
+        for name in ("spec", "script", "views", "in", "in/a", "in/d"):
             with Stage() as stage:
                 os.chmod(stage.path(name), 0)
-                stage.run({READ, WRITE}, **nobody)
+                stage.run({READ, WRITE}, VIEWS, **nobody)
+                if name != "views":
+                    stage.run({READ, WRITE}, **nobody)
         with Stage() as stage:
             stage.run({WRITE}, **nobody)
         with Stage() as stage:
@@ -359,7 +378,9 @@ def machine():
                 def little(size=size):
                     resource.setrlimit(resource.RLIMIT_DATA, (size, size))
 
-                stage.run({DONE, READ, WRITE, MEMORY}, preexec_fn=little)
+                for line in (["run", "spec", "in", "out", "script"], VIEWS):
+                    stage.run({DONE, READ, WRITE, MEMORY}, line, preexec_fn=little)
+                    subprocess.run(["rm", "-rf", stage.out], check=True)
     for count in (4, 5, 6, 8, 16):
         with Stage() as stage:
 
@@ -378,6 +399,203 @@ def machine():
                 time.sleep(0.001)
 
         stage.run({DONE, FOLDER}, meanwhile=stopping)
+
+
+# Four shells count in a file each, and each view adds the counts up: what it prints is the number of entries that it looked after.
+SHELLS, COUNTS, LOOKS = 4, 150, 12
+COUNTED = '<d : dir, {(n :: file) | n in (d only "c*")}>'
+COUNT = 'txn { into next to("c%d") down fetch n : str store(text((int(n) + 1))) }\n'
+ADDED_UP = 'txn { into next let sum = 0 fetch all : names each n in (all) { to(n) down fetch x : str set sum = (sum + int(x)) up out } print(sum) }\n'
+SUMS = re.compile(rb"view (\d+) at (\d+) done\nprint (\d+)\n")
+
+
+def counting():
+    """A stage for counts with views beside them, and its words."""
+    stage = Stage(files={f"c{k}": b"0" for k in range(SHELLS)} | {f"d/f{i}": b"x" * 1_000 for i in range(200)}, description=COUNTED)
+    stage.put("views", ADDED_UP * LOOKS)
+    scripts = [f"s{k}" for k in range(SHELLS)]
+    for k, script in enumerate(scripts):
+        stage.put(script, COUNT % k * COUNTS)
+    return stage, [*VIEWS[:5], *scripts]
+
+
+def files_below(folder):
+    """The files below a folder, or None where it is not there."""
+    if not os.path.isdir(folder):
+        return None
+    found = {}
+    for at, _, names in os.walk(folder):
+        for name in names:
+            with open(os.path.join(at, name), "rb") as it:
+                found[os.path.relpath(os.path.join(at, name), folder)] = it.read()
+    return found
+
+
+def counted_whole(stage):
+    """What the scripts make."""
+    return files_below(stage.path("in")) | {f"c{k}": b"%d" % COUNTS for k in range(SHELLS)}
+
+
+def check_counted(stage, printed):
+    """That all was counted and printed, and that each view saw what its entries had counted."""
+    _, _, views = printed.partition(b"\nend\n")
+    seen = [tuple(map(int, found)) for found in SUMS.findall(views)]
+    if [j for j, _, _ in seen] != list(range(LOOKS)) or any(i != told for _, i, told in seen) or not printed.endswith(b"\nend\n"):
+        raise Wrong(f"the views saw {views!r}")
+    if files_below(stage.out) != counted_whole(stage):
+        raise Wrong("OUT is not what the scripts make")
+
+
+def check_broken_off(stage, printed):
+    """What a run leaves that was broken off: OUT is absent, or a part of the whole; or whole, and then lines may be printed."""
+    left, whole = files_below(stage.out), counted_whole(stage)
+    if left and not all(name in whole and whole[name].startswith(content) for name, content in left.items()):
+        raise Wrong("OUT is no part of what the scripts make")
+    if printed and (left != whole or not printed.startswith(b"forest report 1\n") or not printed.endswith(b"\n")):
+        raise Wrong(f"printed is {printed[-200:]!r}, where OUT is {'whole' if left == whole else 'not whole'}")
+    return "absent" if left is None else "whole" if left == whole else "in part"
+
+
+def views_and_signals():
+    """Views beside counts, ended by a signal at a random moment, or stopped and woken: OUT absent, in part or whole."""
+    chance, left = random.Random(1), Counter()
+    begin = time.monotonic()
+    stage, line = counting()
+    with stage:
+        check_counted(stage, stage.run({DONE}, line)[1])
+    whole = time.monotonic() - begin
+    for number in (signal.SIGTERM, signal.SIGKILL, signal.SIGINT, signal.SIGHUP):
+        for _ in range(60):
+            stage, line = counting()
+            with stage:
+
+                def ending(child, number=number):
+                    time.sleep(chance.random() * whole * 1.2)
+                    child.send_signal(number)
+
+                status, printed = stage.run({DONE, -number}, line, meanwhile=ending)
+                if status == DONE:
+                    check_counted(stage, printed)
+                    left["ended before"] += 1
+                else:
+                    left[f"OUT {check_broken_off(stage, printed)}"] += 1
+    for _ in range(40):
+        stage, line = counting()
+        with stage:
+
+            def pausing(child):
+                while child.poll() is None and chance.random() < 0.98:
+                    time.sleep(chance.random() * whole / 20)
+                    child.send_signal(signal.SIGSTOP)
+                    time.sleep(chance.random() * whole / 20)
+                    child.send_signal(signal.SIGCONT)
+
+            check_counted(stage, stage.run({DONE}, line, meanwhile=pausing)[1])
+    print(f"        {', '.join(f'{n} {what}' for what, n in sorted(left.items()))}")
+
+
+# A form around a part: what stands before it and behind it, where N is a number of its own, and the moves from it to the part.
+FORMS = {
+    "option": ("opt(", ")", "into "),
+    "first part": ("<xN : ", ", dir>", "into "),
+    "second part": ("<xN : dir, ", ">", "into next "),
+    "table": ("{", ' | kN in one("a")}', "into "),
+    "focus": ('("d" :: ', ")", "down "),
+}
+# Around a call with an argument more forms do not nest.
+AROUND = 60
+BODIES = {name: [name] * AROUND for name in FORMS if name != "focus"} | {"all": ["focus", *(["option", "first part", "second part", "table"] * 15)][:AROUND]}
+CALLS = 64
+WALKED = "validate whole print(whole) %s validate there print(there) try on into print(on)"
+
+
+def deep(forms, calls):
+    """Two definitions that call each other inside these forms, so often, and the moves through all of them."""
+    before, behind, moves = zip(*(FORMS[form] for form in forms[:-1]), ("{", " | k in if((n < %d), one(\"a\"), empty)}" % calls, "into "))
+
+    def body(call):
+        return "".join(text.replace("N", f"{i}") for i, text in enumerate(before)) + call + "".join(text.replace("N", f"{i}") for i, text in reversed([*enumerate(behind)]))
+
+    text = f"def f(n : int) = {body('g((n + 1))')} def g(n : int) = {body('f((n + 1))')} f(1)"
+    return text, f"into {''.join(moves)}" * (calls - 1)
+
+
+def number_in_letters(i):
+    """A short name for a number."""
+    digits = "abcdefghijklmnopqrstuvwxyz"
+    return digits[i // 676 % 26] + digits[i // 26 % 26] + digits[i % 26] + "_"
+
+
+def pairs_of(calls, depth=0):
+    """Calls side by side, in pairs that nest as little as they can."""
+    if len(calls) == 1:
+        return calls[0]
+    half = len(calls) // 2
+    return f"<x{depth}:{pairs_of(calls[:half], depth + 1)},{pairs_of(calls[half:], depth + 1)}>"
+
+
+def of_default_stack():
+    resource.setrlimit(resource.RLIMIT_STACK, (8 << 20, resource.getrlimit(resource.RLIMIT_STACK)[1]))
+
+
+def each_command(stage, allowed):
+    """Every command that reads a description, with a stack of 8 MiB and within a minute; gives what `show` prints."""
+    printed = None
+    for line in (
+        ["show", "spec", "in"], ["run", "spec", "in", "out", "script", "script"], ["trace", "spec", "in", "out", "none", "script", "script"],
+        ["watch", "spec", "in", "out", "none", "script", "script"], ["views", "spec", "in", "out", "script", "script", "script"],
+    ):
+        ran = stage.run(allowed, line, preexec_fn=of_default_stack, seconds=60)
+        subprocess.run(["rm", "-rf", stage.out], check=True)
+        printed = ran[1] if printed is None else printed
+    return printed
+
+
+def definitions():
+    """Deep bodies, thousands of definitions, thousands of arguments, and calls without an end, by every command."""
+    deepest = "/".join(["in", *["d"] * 64])
+    for name, forms in BODIES.items():
+        for calls, valid in ((CALLS - 1, b"valid yes\nvalue true\n"), (CALLS, b"valid yes\nvalue true\n"), (CALLS + 1, b"valid no\n")):
+            text, moves = deep(forms, calls)
+            with Stage(files={}, description=text, script=f"txn {{ {WALKED % moves} }}") as stage:
+                os.makedirs(stage.path(deepest))
+                printed = each_command(stage, {DONE})
+                if printed != valid:
+                    raise Wrong(f"{calls} calls in each of which {AROUND} forms nest, of the kind {name}: {printed!r}")
+    called = [number_in_letters(i) for i in range(4_000)]
+    ring = lambda names, last: " ".join(f"def {a}()={b}()" for a, b in zip(names, [*names[1:], last])) + f" {names[0]}()"
+    for text, allowed in (
+        (ring(called[:3_200], called[0]), {DONE}),
+        (ring(called[:3_200], called[3_199]), {DONE}),
+        (ring(called[:3_200], "none"), {TEXT}),
+        (" ".join(f"def {a}()=dir" for a in called) + f" {called[-1]}()", {DONE}),
+        (" ".join(f"def {a}()=dir" for a in called[:2_000]) + pairs_of([f"{a}()" for a in called[:2_000]]), {DONE}),
+        ("def f()=dir " * 5_000 + "f()", {TEXT}),
+        (" ".join(f"def {a}()=dir" for a in [*called, called[0]]) + " dir", {TEXT}),
+    ):
+        with Stage(description=text, script=f"txn {{ validate v print(v) {'into ' * 70} }}") as stage:
+            each_command(stage, allowed)
+    for count in (100, 1_000, 2_500):
+        names = called[:count]
+        params, args = ",".join(f"{a}:int" for a in names), ",".join(names)
+        for first in (f"({names[0]} + 1)", f"({names[-1]} - 1)"):
+            text = f"def f({params})=g({args}) def g({params})=f({first}{args[len(names[0]) :]}) f({','.join('0' * count)})"
+            with Stage(description=text, script=f"txn {{ validate v print(v) {'into ' * 70} }}") as stage:
+                each_command(stage, {DONE})
+    for text in (
+        'def f() = g() def g() = h() def h() = f() f()',
+        'def f(s : str) = g((s ++ s)) def g(s : str) = f((s ++ s)) f("ab")',
+        'def f(s : str) = g((s ++ "b")) def g(s : str) = f((s ++ "a")) <x : ("long" :: file), f(x)>',
+        'def f(s : names) = g((s union one("b"))) def g(s : names) = f((s minus one("b"))) <x : ("lines" :: file), f(lines(x))>',
+        'def f(s : names, n : int) = g((s union one(text(n))), (n + 1)) def g(s : names, n : int) = f((s union one(text(n))), (n + 1)) f(empty, 0)',
+        'def f(n : int) = <d : dir, {(k :: g((n + 1))) | k in (d only "?")}> def g(n : int) = <d : dir, {(k :: f((n + 1))) | k in (d only "?")}> f(0)',
+        'def f(n : int) = ("d" :: g((n + 1))) def g(n : int) = <x : f((n + 1)), f((n + 1))> f(0)',
+        'def f(n : int) = g((n - 9223372036854775807)) def g(n : int) = f((n - 1)) f(0)',
+    ):
+        more = {"long": b"x" * (FILE_LIMIT - 40), "lines": b"".join(b"%x\n" % i for i in range(150_000))}
+        for table in (b"/d/d/d -> /\n", b"/d/d/d -> ../d\n", b"/d/d/d -> d\n"):
+            with Stage(files={"a": b"1", "d/d/a": b"1", **more}, table=table, description=text, script=f"txn {{ validate v print(v) {'into next ' * 9} }} txn {{ {'into ' * 70} }}") as stage:
+                each_command(stage, {DONE})
 
 
 def generated():
@@ -452,12 +670,15 @@ def reports():
             stage.run({TEXT, READ}, [other if word == "report" else word for word in audit])
 
 
+PARTS = (
+    words, broken_texts, limits, tables, strange_entries, outputs, places, machine, views_and_signals, definitions, generated, journals, reports,
+)
 tries = 0
-for part in (words, broken_texts, limits, tables, strange_entries, outputs, places, machine, generated, journals, reports):
-    first = tries
+for part in [part for part in PARTS if not sys.argv[2:] or part.__name__ in sys.argv[2:]]:
+    first, longest = tries, 0.0
     try:
         part()
     except Wrong as wrong:
         sys.exit(f"{part.__name__}: {wrong}")
-    print(f"{tries - first:6} tries: {part.__doc__.rstrip('.')}", flush=True)
+    print(f"{tries - first:6} tries: {part.__doc__.rstrip('.')}; the longest took {longest:.1f} s", flush=True)
 print(f"{tries:6} tries, each with an allowed status and nothing else changed")

@@ -1156,13 +1156,19 @@ def over(store, changes):
     return {p: n for p, n in made_.items() if n is not None}
 
 
+def runs_of(root, txns, store):
+    """Outputs and end of each transaction, run whole one after another, and the filestore that it leaves."""
+    for txn in txns:
+        outputs, end, changes, _ = run_txn(root, txn, store.get)
+        store = over(store, changes)
+        yield outputs, end, store
+
+
 def whole_run(root, txns, store):
     """Outputs and end of each transaction, run whole one after another, and the last filestore."""
     answers = []
-    for txn in txns:
-        outputs, end, changes, _ = run_txn(root, txn, store.get)
+    for outputs, end, store in runs_of(root, txns, store):
         answers.append((outputs, end))
-        store = over(store, changes)
     return answers, store
 
 
@@ -1312,6 +1318,17 @@ def report(order, retries):
         lines += [f"print {printed(v)}" for v in outputs]
     lines.append(f"retries {len(retries)}")
     lines += [f"retry shell {k} txn {j} entry {i} path {quote(path_text(p))}" for k, j, i, p in retries]
+    return "".join(line + "\n" for line in [*lines, "end"])
+
+
+def views(root, txns, states, positions):
+    """What is printed of views behind the report of a run with these filestores before and after each entry, where each view
+    looks at the folder as so many entries leave it."""
+    lines = [f"views {len(txns)}"]
+    for j, (txn, position) in enumerate(zip(txns, positions)):
+        outputs, end, _, _ = run_txn(root, txn, states[position].get)
+        lines.append(f"view {j} at {position} {end}")
+        lines += [f"print {printed(v)}" for v in outputs]
     return "".join(line + "\n" for line in [*lines, "end"])
 
 
