@@ -1,9 +1,9 @@
--- What a command that asked nothing but reads, or nothing at all, leaves at the host and at the sink.
+-- What a command that changes nothing, or asks nothing at all, leaves at the host and at the sink.
 use Rattle.std.specs.Prelude.{◌≡◌, List, ℕ, ◌++◌, Some, IfSome}
 use Rattle.fx_outside.specs.Host.{HostView, ReadsOnly}
 use Rattle.fx_outside.specs.Sink.{SinkView}
 
--- nothing but reads was asked of the host, and nothing of the sink
+-- the tree that the host tells is as it was, and so is the sink
 pub record IsSame (host host' : HostView) (sink sink' : SinkView) : Type 0 where
   pub reads : ReadsOnly host host'
   pub unprinted : sink' ≡ sink
