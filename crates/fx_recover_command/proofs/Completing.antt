@@ -6,6 +6,7 @@ use Rattle.fx_outside.specs.Sink.{SinkView}
 use Rattle.fx_outside.specs.Tree.{Tree}
 use Rattle.fx_folder.specs.Folder.{IsTaken}
 use Rattle.fx_folder.specs.Loads.{IsRefused}
+use Rattle.fx_spec.specs.Order.{IsLegal}
 use Rattle.fx_command.specs.declared.status.Status.{Status}
 use Rattle.fx_command.specs.declared.status.Status.TheVariants as status
 use Rattle.fx_making.proofs.Outs.{not_taken, can_write}
