@@ -1,9 +1,9 @@
--- What a command that changes nothing, or asks nothing at all, leaves at the host and at the sink.
+-- What a command leaves at the host and at the sink where the host's tree stays, or where nothing was asked at all.
 use Rattle.std.specs.Prelude.{◌≡◌, List, ℕ, ◌++◌, Some, IfSome}
 use Rattle.fx_outside.specs.Host.{HostView, ReadsOnly}
 use Rattle.fx_outside.specs.Sink.{SinkView}
 
--- the tree that the host tells is as it was, and so is the sink
+-- the host's tree stays, its count of faults does not fall, and nothing was asked of the sink
 pub record IsSame (host host' : HostView) (sink sink' : SinkView) : Type 0 where
   pub reads : ReadsOnly host host'
   pub unprinted : sink' ≡ sink

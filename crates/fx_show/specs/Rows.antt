@@ -35,7 +35,7 @@ pub record IsUnshown (j : ShowJob) (host host' : HostView) (sink sink' : SinkVie
 abbrev pub ShowReadFault : ShowJob → HostView → HostView → Type 0
 ShowReadFault j host host' = FaultAt j.spec host host' ⊎ (FaultIn j.folder host host' × IfSome host.told (λ t. HasSomeDescription t j))
 
--- the table for `show`: however it ends, the tree that the host tells is as it was
+-- the table for `show`: the host's tree stays, however it ends
 abbrev pub ShowRow : ShowJob → HostView → HostView → SinkView → SinkView → Status → Type 0
 ShowRow j host host' sink sink' status.Done = ReadsOnly host host' × Grows sink sink' × IfSome host.told (λ t. IsShown t j sink.written sink'.written)
 ShowRow j host host' sink sink' status.Usage = ⊥
