@@ -1,5 +1,5 @@
 //! The text of the report.
-ghost use Rattle.std.specs.Prelude.{◌≡◌, IfOk, IfErr, IfSome};
+ghost use Rattle.std.specs.Prelude.{IfOk, IfErr, IfSome};
 ghost use Rattle.fx_outside.specs.Host.{ReadsOnly};
 ghost use Rattle.fx_inputs.specs.Inputs.{HasInputs};
 ghost use Rattle.fx_words.specs.JobOf.{asked_audit};

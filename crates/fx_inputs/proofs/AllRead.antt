@@ -10,7 +10,7 @@ use Rattle.fx_inputs.specs.Inputs.{HasTexts, HasInputs, CannotRead, IsFirstRefus
 use Rattle.fx_inputs.specs.Views.{CannotReadViews, HasViewsInputs, HasViewsTexts, ViewsFirstRefused}
 use Rattle.fx_words.specs.Job.{Inputs, ViewsJob}
 
-two : (b : Bool) → b ≡ true → b ≡ false → ⊥
+pub two : (b : Bool) → b ≡ true → b ≡ false → ⊥
 two b is isnt = let both : true ≡ false = sym is ∙ isnt in cc
 
 -- scripts that are all read are not stopped at

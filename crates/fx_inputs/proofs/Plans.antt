@@ -21,7 +21,7 @@ use Rattle.fx_inputs.specs.declared.scripts.ScriptUnread.{ScriptUnread}
 use Rattle.fx_inputs.specs.declared.scripts.ScriptUnread.TheVariants as script
 use Rattle.fx_inputs.specs.Causes.{ScriptCause, UnreadCause}
 use Rattle.fx_inputs.specs.Unread.{unread_at}
-use Rattle.fx_inputs.specs.Inputs.{HasScripts, StopsAtScript, IsReached, GoesOn, HasNoScript, LacksFile}
+use Rattle.fx_inputs.specs.Inputs.{HasScripts, AreOnlyScripts, StopsAtScript, IsReached, GoesOn, HasNoScript, LacksFile}
 use Rattle.fx_inputs.specs.Reads.{FailsAtScript}
 
 abbrev Plan : Type 0
@@ -42,9 +42,16 @@ drop_all : {X : Type 0} (xs : List X) → drop (length xs) xs ≡ []
 drop_all [] = refl
 drop_all (x ∷ xs) = drop_all xs
 
--- the first scripts are read: whatever the others are, or wherever they stop, is so of all
+-- scripts of all the paths that begin with those of a plan, and what then follows
+pub record BeginsWith (t : Tree) (paths : Paths) (plan : Plan) (i before : ℕ) (others : Plan) : Type 0 where
+  pub more : Plan
+  pub is : others ≡ plan ++ more
+  pub follow : HasScripts t before (drop i paths) more
+
+-- the first scripts are read, and are the only ones: whatever the others are, or wherever they stop, is so of all
 pub record IsFront (t : Tree) (paths : Paths) (plan : Plan) (i before : ℕ) : Type 0 where
   pub on : (more : Plan) → HasScripts t before (drop i paths) more → HasScripts t 0 paths (plan ++ more)
+  pub only : (others : Plan) → HasScripts t 0 paths others → BeginsWith t paths plan i before others
   pub refused : (cause : TextFault) (k : ℕ) → StopsAtScript (HasNoScript cause) t before (drop i paths) k → StopsAtScript (HasNoScript cause) t 0 paths (i + k)
   pub lacking : (k : ℕ) → StopsAtScript LacksFile t before (drop i paths) k → StopsAtScript LacksFile t 0 paths (i + k)
   pub reached : (k : ℕ) → StopsAtScript IsReached t before (drop i paths) k → StopsAtScript IsReached t 0 paths (i + k)
@@ -52,6 +59,7 @@ pub record IsFront (t : Tree) (paths : Paths) (plan : Plan) (i before : ℕ) : T
 front_empty : (t : Tree) (paths : Paths) → IsFront t paths [] 0 0
 front_empty t paths = record {
   on = λ more has. has;
+  only = λ others has. record { more = others; is = refl; follow = has };
   refused = λ cause k stops. subst (λ n. StopsAtScript (HasNoScript cause) t 0 paths n) (omega arith) stops;
   lacking = λ k stops. subst (λ n. StopsAtScript LacksFile t 0 paths n) (omega arith) stops;
   reached = λ k stops. subst (λ n. StopsAtScript IsReached t 0 paths n) (omega arith) stops;
@@ -61,11 +69,24 @@ front_empty t paths = record {
 stop_later : (S : Tree → List ℕ → ℕ → Type 0) (t : Tree) (path : List ℕ) (before k : ℕ) (txns : List (List CommandTree)) (left paths : Paths) → left ≡ path ∷ paths → GoesOn t path before txns → StopsAtScript S t (before + length txns) paths k → StopsAtScript S t before left (k + 1)
 stop_later S t path before k txns left paths is goes stops = subst (λ ps. StopsAtScript S t before ps (k + 1)) (sym is) (inr (k, refl, txns, goes, stops))
 
+-- one script more that they begin with
+begins_on : (t : Tree) (paths left : Paths) (plan others : Plan) (i before : ℕ) (path : List ℕ) (txns : List (List CommandTree)) (more : Plan) → left ≡ path ∷ drop (i + 1) paths → GoesOn t path before txns → others ≡ plan ++ more → HasScripts t before left more → BeginsWith t paths (plan ++ txns ∷ []) (i + 1) (before + length txns) others
+begins_on t paths left plan others i before path txns [] is goes same has = absurd (subst (λ ps. HasScripts t before ps []) is has)
+begins_on t paths left plan others i before path txns (first ∷ more) is goes same has =
+    let both = subst (λ ps. HasScripts t before ps (first ∷ more)) is has in
+    let one : first ≡ txns = goes.only first both.0.script in
+    record {
+      more = more;
+      is = same ∙ ap (λ x. plan ++ x ∷ more) one ∙ sym (append_assoc plan (txns ∷ []) more);
+      follow = subst (λ x. HasScripts t (before + length x) (drop (i + 1) paths) more) one both.1;
+    }
+
 front_more : (t : Tree) (paths : Paths) (plan : Plan) (i before : ℕ) (path : List ℕ) (txns : List (List CommandTree)) → slice_get paths i ≡ Some path → GoesOn t path before txns → IsFront t paths plan i before → IsFront t paths (plan ++ txns ∷ []) (i + 1) (before + length txns)
 front_more t paths plan i before path txns at goes was =
     let left = drop_there paths i path at in
     record {
       on = λ more has. subst (λ all. HasScripts t 0 paths all) (sym (append_assoc plan (txns ∷ []) more)) (was.on (txns ∷ more) (subst (λ ps. HasScripts t before ps (txns ∷ more)) (sym left) (goes.script, has)));
+      only = λ others has. let first = was.only others has in begins_on t paths (drop i paths) plan others i before path txns first.more left goes first.is first.follow;
       refused = λ cause k stops. subst (λ n. StopsAtScript (HasNoScript cause) t 0 paths n) (omega arith) (was.refused cause (k + 1) (stop_later (HasNoScript cause) t path before k txns (drop i paths) (drop (i + 1) paths) left goes stops));
       lacking = λ k stops. subst (λ n. StopsAtScript LacksFile t 0 paths n) (omega arith) (was.lacking (k + 1) (stop_later LacksFile t path before k txns (drop i paths) (drop (i + 1) paths) left goes stops));
       reached = λ k stops. subst (λ n. StopsAtScript IsReached t 0 paths n) (omega arith) (was.reached (k + 1) (stop_later IsReached t path before k txns (drop i paths) (drop (i + 1) paths) left goes stops));
@@ -159,6 +180,20 @@ whole t paths plan i before all front =
 pub ends : (told : Option Tree) (paths : Paths) (plan : Plan) (i before : ℕ) → i ≡ length paths → IfSome told (λ t. IsFront t paths plan i before) → IfSome told (λ t. HasScripts t 0 paths plan)
 ends None paths plan i before all front = tt
 ends (Some t) paths plan i before all front = whole t paths plan i before all front
+
+-- and it is their only plan
+no_more : (t : Tree) (left : Paths) (plan others more : Plan) (before : ℕ) → left ≡ [] → others ≡ plan ++ more → HasScripts t before left more → others ≡ plan
+no_more t left plan others [] before none same has = same ∙ append-nil plan
+no_more t left plan others (txns ∷ more) before none same has = absurd (subst (λ ps. HasScripts t before ps (txns ∷ more)) none has)
+
+alone : (t : Tree) (inputs : Inputs) (plan : Plan) (i before : ℕ) → i ≡ length inputs.scripts → IsFront t inputs.scripts plan i before → AreOnlyScripts t inputs plan
+alone t inputs plan i before all front others has =
+    let begins = front.only others has in
+    no_more t (drop i inputs.scripts) plan others begins.more before (ap (λ n. drop n inputs.scripts) all ∙ drop_all inputs.scripts) begins.is begins.follow
+
+pub ends_alone : (told : Option Tree) (inputs : Inputs) (plan : Plan) (i before : ℕ) → i ≡ length inputs.scripts → IfSome told (λ t. IsFront t inputs.scripts plan i before) → IfSome told (λ t. AreOnlyScripts t inputs plan)
+ends_alone told inputs plan i before all front =
+    if_some_map (λ t. IsFront t inputs.scripts plan i before) (λ t. AreOnlyScripts t inputs plan) told (λ t front. alone t inputs plan i before all front) front
 
 -- a script that stops the reading
 stop_here : (S : Tree → List ℕ → ℕ → Type 0) (t : Tree) (path : List ℕ) (before : ℕ) (left paths : Paths) → left ≡ path ∷ paths → S t path before → StopsAtScript S t before left 0

@@ -1,5 +1,5 @@
 -- How the stages that read end, from what each of them asks.
-use Rattle.std.proofs.Common.{◌≡◌, inl, inr, ℕ, Bool, true, false, ◌&&◌, List, IfSome, refl, subst}
+use Rattle.std.proofs.Common.{◌≡◌, inl, inr, ℕ, Bool, true, false, ◌&&◌, List, IfSome, refl, sym, subst}
 use Rattle.std.specs.List.{list_all}
 use Rattle.fx_base.specs.Causes.{Rose}
 use Rattle.fx_outside.specs.declared.kind.HostFault.{HostFault}
@@ -27,7 +27,7 @@ use Rattle.fx_spec.specs.SpecTree.{SpecTree}
 use Rattle.fx_inputs.specs.declared.scripts.Unread.{Unread}
 use Rattle.fx_inputs.specs.declared.scripts.Unread.TheVariants as unread
 use Rattle.fx_inputs.specs.Causes.{UnreadCause}
-use Rattle.fx_inputs.specs.Inputs.{HasSpec, HasNoSpec, HasSomeSpec, HasTexts, CannotRead, IsFirstRefused}
+use Rattle.fx_inputs.specs.Inputs.{HasSpec, IsOnlySpec, HasNoSpec, HasSomeSpec, HasTexts, CannotRead, IsFirstRefused}
 use Rattle.fx_inputs.specs.Reads.{FailsAtScript, HasReadFault, ReadRow, has_fit_inputs}
 use Rattle.fx_inputs.specs.Unread.{unread_status}
 use Rattle.fx_words.specs.Job.{Inputs}
@@ -56,6 +56,12 @@ spec_there inputs text spec t read is = record { file = read.file; describes = s
 
 pub spec_read : (inputs : Inputs) (host : HostView) (text : List ℕ) (spec : SpecTree) → IfSome host.told (λ t. IsReadAt t inputs.spec source_limit text) → Describes text spec → IfSome host.told (λ t. HasSpec t inputs spec)
 spec_read inputs host text spec read is = if_some_map (λ t. IsReadAt t inputs.spec source_limit text) (λ t. HasSpec t inputs spec) host.told (λ t read. spec_there inputs text spec t read is) read
+
+spec_alone : (inputs : Inputs) (text : List ℕ) (spec : SpecTree) (t : Tree) → IsReadAt t inputs.spec source_limit text → Describes text spec → ((other : SpecTree) → Describes text other → other ≡ spec) → IsOnlySpec t inputs spec
+spec_alone inputs text spec t read is only other has = only other (subst (λ x. Describes x other) (sym (read.whole is.read.short)) has.describes)
+
+pub spec_only : (inputs : Inputs) (host : HostView) (text : List ℕ) (spec : SpecTree) → IfSome host.told (λ t. IsReadAt t inputs.spec source_limit text) → Describes text spec → ((other : SpecTree) → Describes text other → other ≡ spec) → IfSome host.told (λ t. IsOnlySpec t inputs spec)
+spec_only inputs host text spec read is only = if_some_map (λ t. IsReadAt t inputs.spec source_limit text) (λ t. IsOnlySpec t inputs spec) host.told (λ t read. spec_alone inputs text spec t read is only) read
 
 -- the scripts are not read, or refused
 pub scripts_unread : (inputs : Inputs) (host host' : HostView) (fault : Unread) → IfSome host.told (λ t. HasSomeSpec t inputs) → UnreadCause inputs host host' fault → ReadRow inputs host host' (unread_status fault)

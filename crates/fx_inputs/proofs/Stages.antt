@@ -1,5 +1,5 @@
 -- From one stage of reading to the next.
-use Rattle.std.proofs.Common.{◌≡◌, List, Option, Some, None, IfSome, sym, subst}
+use Rattle.std.proofs.Common.{◌≡◌, ℕ, List, Option, Some, None, Ok, IfSome, sym, ap, ◌∙◌, subst}
 use Rattle.fx_store.specs.Whole.{Nodes}
 use Rattle.fx_outside.specs.Host.{HostView, ReadsOnly}
 use Rattle.fx_outside.specs.Tree.{Tree}
@@ -8,7 +8,7 @@ use Rattle.fx_spec.specs.SpecTree.{SpecTree}
 use Rattle.fx_spec.specs.CommandTree.{CommandTree}
 use Rattle.fx_spec.specs.Order.{BaseTree}
 use Rattle.fx_words.specs.Job.{Inputs}
-use Rattle.fx_inputs.specs.Inputs.{HasSpec, HasScripts, HasSomeSpec, HasTexts, HasInputs, HasBase}
+use Rattle.fx_inputs.specs.Inputs.{HasSpec, IsOnlySpec, HasScripts, AreOnlyScripts, HasSomeSpec, HasTexts, HasInputs, HasBase, IsOnlyBase}
 use Rattle.fx_command.proofs.Told.{if_some_map, if_some_both, some_back}
 
 abbrev Plan : Type 0
@@ -41,3 +41,25 @@ pub inputs_read : (inputs : Inputs) (base : BaseTree) (a b : HostView) → Reads
 inputs_read inputs base a b reads is =
     then_told (λ t. HasInputs t inputs) a b reads
     (if_some_map (λ t. HasBase t inputs base) (λ t. HasInputs t inputs) a.told (λ t is. (((base.description, is.spec), (base.plan, is.scripts)), (base.loaded, is.folder))) is)
+
+-- ---- nothing else
+
+abbrev made : SpecTree → Plan → Nodes → BaseTree
+made spec plan nodes = record { description = spec; plan = plan; loaded = nodes }
+
+same_base : (a b : BaseTree) → a.description ≡ b.description → a.plan ≡ b.plan → a.loaded ≡ b.loaded → a ≡ b
+same_base a b spec plan nodes =
+    ap (λ x. made x a.plan a.loaded) spec ∙ ap (λ x. made b.description x a.loaded) plan ∙ ap (λ x. made b.description b.plan x) nodes
+
+-- a folder loads as one filestore
+one_folder : (t : Tree) (path : List ℕ) (a b : Nodes) → Loads t path a → Loads t path b → a ≡ b
+one_folder t path a b first then = let both : Ok a ≡ Ok b = sym first.1 ∙ then.1 in cc
+
+base_alone : (t : Tree) (inputs : Inputs) (base : BaseTree) (spec : SpecTree) → base.description ≡ spec → IsOnlySpec t inputs spec → AreOnlyScripts t inputs base.plan → HasBase t inputs base → IsOnlyBase t inputs base
+base_alone t inputs base spec is only_spec only_scripts has other others =
+    same_base other base (only_spec other.description others.spec ∙ sym is) (only_scripts other.plan others.scripts) (one_folder t inputs.folder other.loaded base.loaded others.folder has.folder)
+
+pub base_only : (inputs : Inputs) (base : BaseTree) (spec : SpecTree) (a b : HostView) → ReadsOnly a b → base.description ≡ spec → IfSome a.told (λ t. IsOnlySpec t inputs spec) → IfSome b.told (λ t. AreOnlyScripts t inputs base.plan) → IfSome b.told (λ t. HasBase t inputs base) → IfSome a.told (λ t. IsOnlyBase t inputs base)
+base_only inputs base spec a b reads is only_spec only_scripts has =
+    three (λ t. IsOnlySpec t inputs spec) (λ t. AreOnlyScripts t inputs base.plan) (λ t. HasBase t inputs base) (λ t. IsOnlyBase t inputs base) a.told
+    (λ t only_spec only_scripts has. base_alone t inputs base spec is only_spec only_scripts has) only_spec (some_back _ a b reads only_scripts) (some_back _ a b reads has)

@@ -1,5 +1,5 @@
 -- How the stages of a run with views end that read, from what each of them asks.
-use Rattle.std.proofs.Common.{◌≡◌, inl, inr, ℕ, Bool, true, false, List, [], ◌∷◌, IfSome, refl, sym, subst}
+use Rattle.std.proofs.Common.{◌≡◌, inl, inr, ℕ, true, false, List, [], ◌∷◌, IfSome, refl, sym, subst}
 use Rattle.fx_base.specs.Causes.{Rose}
 use Rattle.fx_base.specs.Limits.{source_limit}
 use Rattle.fx_outside.specs.declared.kind.HostFault.{HostFault}
@@ -10,15 +10,14 @@ use Rattle.fx_spec.specs.CommandTree.{CommandTree}
 use Rattle.fx_spec.specs.SpecTree.{SpecTree}
 use Rattle.fx_spec.specs.Order.{BaseTree}
 use Rattle.fx_spec.specs.Plans.{script_of}
-use Rattle.fx_outside.specs.Tree.{Tree, is_file_at}
+use Rattle.fx_outside.specs.Tree.{is_file_at}
 use Rattle.fx_outside.proofs.Views.{fault_back}
 use Rattle.fx_command.specs.declared.status.Status.{Status}
 use Rattle.fx_command.specs.declared.status.Status.TheVariants as status
-use Rattle.fx_command.specs.declared.status.TextFault.{TextFault}
 use Rattle.fx_command.specs.StatusOf.{read_status}
 use Rattle.fx_command.specs.Texts.{IsReadAt}
 use Rattle.fx_command.proofs.Told.{if_some_map, if_some_both, some_and, some_unit, cause_back, some_back, left_true, right_true}
-use Rattle.fx_show.specs.Described.{Describes, IsUndescribed}
+use Rattle.fx_show.specs.Described.{IsUndescribed}
 use Rattle.fx_show.specs.Faults.{status_of_fault}
 use Rattle.fx_show.specs.declared.fault.DescriptionFault.{DescriptionFault}
 use Rattle.fx_show.specs.declared.fault.DescriptionFault.TheVariants as description
@@ -27,7 +26,7 @@ use Rattle.fx_inputs.specs.declared.scripts.ScriptUnread.TheVariants as script
 use Rattle.fx_inputs.specs.declared.views.TheConstants.{VIEWS_WORD}
 use Rattle.fx_inputs.specs.Causes.{ScriptCause}
 use Rattle.fx_inputs.specs.Inputs.{HasBase, HasScript, HasSpec, HasSomeSpec, HasNoScript, CannotRead, GoesOn, IsFirstRefused}
-use Rattle.fx_inputs.specs.Reads.{HasReadFault, ReadRow, has_fit_inputs}
+use Rattle.fx_inputs.specs.Reads.{ReadRow, has_fit_inputs}
 use Rattle.fx_inputs.specs.Unread.{unread_at, unread_status}
 use Rattle.fx_inputs.specs.Views.{CannotReadViews, HasBases, HasSomeViews, HasViewsAlone, HasViewsReadFault, ViewsFirstRefused, ViewsReadRow, has_fit_views}
 use Rattle.fx_inputs.proofs.ReadRows.{read_fault_back, read_fault_rose, spec_refused_for}

@@ -64,6 +64,16 @@ pub record HasBase (t : Tree) (inputs : Inputs) (base : BaseTree) : Type 0 where
   pub scripts : HasScripts t 0 inputs.scripts base.plan
   pub folder : Loads t inputs.folder base.loaded
 
+-- they stand for nothing else
+abbrev pub IsOnlySpec : Tree → Inputs → SpecTree → Type 0
+IsOnlySpec t inputs spec = (other : SpecTree) → HasSpec t inputs other → other ≡ spec
+
+abbrev pub AreOnlyScripts : Tree → Inputs → List (List (List CommandTree)) → Type 0
+AreOnlyScripts t inputs plan = (others : List (List (List CommandTree))) → HasScripts t 0 inputs.scripts others → others ≡ plan
+
+abbrev pub IsOnlyBase : Tree → Inputs → BaseTree → Type 0
+IsOnlyBase t inputs base = (other : BaseTree) → HasBase t inputs other → other ≡ base
+
 -- a script for each of the words
 abbrev pub HasEachScript : Inputs → BaseTree → Type 0
 HasEachScript inputs base = length base.plan ≡ length inputs.scripts

@@ -1,6 +1,5 @@
 -- What a run with views reads: the texts of the description, of the views and of the scripts, and the folder.
 use Rattle.std.specs.Prelude.{◌≡◌, ◌⊎◌, ◌&&◌, ℕ, Bool, true, false, List, length, IfSome, IsSomeAnd, ⊤}
-use Rattle.fx_store.specs.Whole.{Nodes}
 use Rattle.fx_outside.specs.Host.{HostView, FaultAt}
 use Rattle.fx_outside.specs.Path.{is_fit}
 use Rattle.fx_outside.specs.Tree.{Tree, is_file_at}

@@ -4,7 +4,7 @@ ghost use Rattle.fx_outside.specs.Host.{ReadsOnly};
 ghost use Rattle.fx_folder.specs.Loads.{Loads};
 ghost use Rattle.fx_spec.specs.Bases.{base_tree};
 ghost use Rattle.fx_words.specs.JobOf.{asked_inputs, AreInputs};
-ghost use Rattle.fx_inputs.specs.Inputs.{HasSpec, HasScripts, HasSomeSpec, HasTexts, HasBase, HasEachScript};
+ghost use Rattle.fx_inputs.specs.Inputs.{HasSpec, IsOnlySpec, HasScripts, AreOnlyScripts, HasSomeSpec, HasTexts, HasBase, IsOnlyBase, HasEachScript};
 ghost use Rattle.fx_inputs.specs.Reads.{ReadRow, InputsAskFit};
 
 use crate::scripts::read_plan;
@@ -27,6 +27,8 @@ fn read_description<H: Host>(
 ) -> Result<Checked, Status>
     ensures read { IfOk result (λ spec.
         IfSome (H.view host.old).told (λ t. HasSpec t (asked_inputs inputs.now) spec)) }
+    ensures only { IfOk result (λ spec.
+        IfSome (H.view host.old).told (λ t. IsOnlySpec t (asked_inputs inputs.now) spec)) }
     ensures same { ReadsOnly (H.view host.old) (H.view host.new) }
     ensures fit { InputsAskFit (asked_inputs inputs.now) (H.view host.old) (H.view host.new) }
     ensures ends { IfErr result
@@ -43,6 +45,8 @@ fn read_scripts<H: Host>(alloc: Global, inputs: &Inputs, host: &mut H) -> Result
     requires spec { IfSome (H.view host.old).told (λ t. HasSomeSpec t (asked_inputs inputs.now)) }
     ensures read { IfOk result (λ plan. IfSome (H.view host.old).told
         (λ t. HasScripts t 0 (asked_inputs inputs.now).scripts plan)) }
+    ensures only { IfOk result (λ plan. IfSome (H.view host.old).told
+        (λ t. AreOnlyScripts t (asked_inputs inputs.now) plan)) }
     ensures count { IfOk result
         (λ plan. length plan ≡ length (asked_inputs inputs.now).scripts) }
     ensures same { ReadsOnly (H.view host.old) (H.view host.new) }
@@ -100,6 +104,8 @@ pub(crate) fn read_rest<H: Host>(
     ensures count { IfOk result
         (λ base. HasEachScript (asked_inputs inputs.now) (base_tree base.value)) }
     ensures described { IfOk result (λ base. base.value.description ≡ description) }
+    ensures only { IfOk result (λ base. IfSome (H.view host.old).told
+        (λ t. AreOnlyScripts t (asked_inputs inputs.now) (base_tree base.value).plan)) }
     ensures same { ReadsOnly (H.view host.old) (H.view host.new) }
     ensures fit { InputsAskFit (asked_inputs inputs.now) (H.view host.old) (H.view host.new) }
     ensures ends { IfErr result
@@ -111,12 +117,14 @@ pub(crate) fn read_rest<H: Host>(
     Ok(base)
 }
 
-/// Reads what a run begins with: the description, the scripts in order, and the folder. It asks nothing but reads, and
-/// ends for no other cause than that one of these is not read or is refused, or that memory runs out.
+/// Reads what a run begins with: the description, the scripts in order, and the folder. The tree that the host tells is as
+/// it was, and the call fails for no other cause than that one of these is not read or is refused, or that memory runs out.
 pub fn read_base<H: Host>(alloc: Global, inputs: &Inputs, host: &mut H) -> Result<Arc<Base>, Status>
     requires { AreInputs inputs.now }
     ensures read { IfOk result (λ base. IfSome (H.view host.old).told
         (λ t. HasBase t (asked_inputs inputs.now) (base_tree base.value))) }
+    ensures only { IfOk result (λ base. IfSome (H.view host.old).told
+        (λ t. IsOnlyBase t (asked_inputs inputs.now) (base_tree base.value))) }
     ensures count { IfOk result
         (λ base. HasEachScript (asked_inputs inputs.now) (base_tree base.value)) }
     ensures same { ReadsOnly (H.view host.old) (H.view host.new) }

@@ -4,7 +4,7 @@ ghost use Rattle.fx_base.specs.Limits.{txn_limit};
 ghost use Rattle.fx_outside.specs.Host.{ReadsOnly, AsksFit};
 ghost use Rattle.fx_spec.specs.WellShaped.{IsScript};
 ghost use Rattle.fx_words.specs.JobOf.{asked_inputs, AreInputs};
-ghost use Rattle.fx_inputs.specs.Inputs.{GoesOn, HasScripts};
+ghost use Rattle.fx_inputs.specs.Inputs.{GoesOn, HasScripts, AreOnlyScripts};
 ghost use Rattle.fx_inputs.specs.Causes.{ScriptCause, UnreadCause};
 ghost use Rattle.fx_inputs.specs.Reads.{AsksAllFit};
 ghost use Rattle.fx_inputs.specs.Unread.{unread_at};
@@ -107,6 +107,8 @@ pub(crate) fn read_plan<H: Host>(
     requires { AreInputs inputs.now }
     ensures read { IfOk result (λ plan. IfSome (H.view host.old).told
         (λ t. HasScripts t 0 (asked_inputs inputs.now).scripts plan)) }
+    ensures only { IfOk result (λ plan. IfSome (H.view host.old).told
+        (λ t. AreOnlyScripts t (asked_inputs inputs.now) plan)) }
     ensures count { IfOk result
         (λ plan. length plan ≡ length (asked_inputs inputs.now).scripts) }
     ensures same { ReadsOnly (H.view host.old) (H.view host.new) }

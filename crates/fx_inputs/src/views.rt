@@ -112,8 +112,9 @@ fn beside(
     gathered(alloc, description, views, loaded)
 }
 
-/// Reads what a run with views begins with: the description, the views, the scripts in order, and the folder. It asks
-/// nothing but reads, and ends for no other cause than that one of these is not read or is refused, or that memory runs out.
+/// Reads what a run with views begins with: the description, the views, the scripts in order, and the folder. The tree that
+/// the host tells is as it was, and the call fails for no other cause than that one of these is not read or is refused, or
+/// that memory runs out.
 pub fn read_bases<H: Host>(alloc: Global, job: &ViewsJob, host: &mut H) -> Result<Bases, Status>
     requires { IsViewsJob job.now }
     ensures read { IfOk result (λ bases. IfSome (H.view host.old).told

@@ -13,10 +13,10 @@ use Rattle.fx_command.specs.declared.status.Status.TheVariants as status
 use Rattle.fx_command.proofs.Told.{same}
 use Rattle.fx_making.proofs.Outs.{not_taken, can_write}
 use Rattle.fx_inputs.specs.Inputs.{HasTexts, HasInputs, CannotRead, IsFirstRefused}
+use Rattle.fx_inputs.proofs.AllRead.{can_read, none_refused, not_both}
 use Rattle.fx_inputs.proofs.ReadRows.{read_fault_rose}
 use Rattle.fx_words.specs.Job.{JournalJob}
 use Rattle.fx_run_command.specs.Rows.{CannotSave}
-use Rattle.fx_run_command.proofs.Completing.{none_refused, not_both, can_read}
 use Rattle.fx_durable.specs.Disk.{File, DiskView}
 use Rattle.fx_journal_command.specs.Rows.{JournalRow, KeepsJournal, CannotLeave, CannotStart, HoldsBytes, IsProperJournal}
 use Rattle.fx_journal_command.proofs.Keeping.{unbegun_keeps}

@@ -1,5 +1,5 @@
 -- What an attempt over what is known says.
-use Rattle.std.proofs.Common.{◌≡◌, ℕ, [], ◌∷◌, ◌++◌, Option, None, Result, Ok, Err, refl, sym, subst, ◌∙◌}
+use Rattle.std.proofs.Common.{◌≡◌, ℕ, [], ◌∷◌, ◌++◌, Option, None, Result, Ok, Err, refl, sym, subst}
 use Rattle.std.specs.Prelude.{OnOk}
 use Rattle.fx_store.specs.declared.node.Node.{Node}
 use Rattle.fx_view.specs.ReadList.{ReadList}

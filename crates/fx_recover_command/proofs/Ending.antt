@@ -17,7 +17,7 @@ use Rattle.fx_command.specs.declared.status.Status.TheVariants as status
 use Rattle.fx_command.specs.StatusOf.{save_status}
 use Rattle.fx_command.proofs.Told.{if_some_map, if_some_both, some_and, if_told_same, if_told_map, some_unit, same, grows_front, grows_all, cause_back, told_back, some_back, same_back, left_true, right_true}
 use Rattle.fx_making.specs.Out.{IsUnready}
-use Rattle.fx_inputs.specs.Inputs.{HasBase, HasInputs, CannotRead}
+use Rattle.fx_inputs.specs.Inputs.{HasBase, IsOnlyBase, HasInputs, CannotRead}
 use Rattle.fx_inputs.specs.Reads.{ReadRow, has_fit_inputs}
 use Rattle.fx_inputs.proofs.ReadRows.{read_fault_back}
 use Rattle.fx_inputs.proofs.Stages.{then_told}
@@ -53,19 +53,19 @@ has_inputs j base host begins =
     if_some_map (λ t. HasBase t j.inputs base) (λ t. HasInputs t j.inputs) host.told (λ t is. (((base.description, is.spec), (base.plan, is.scripts)), (base.loaded, is.folder))) begins
 
 -- the journal is not read, or spells no legal order
-pub order_unread : (j : RecoverJob) (host host' : HostView) (base : BaseTree) (disk disk' : DiskView) (st : Status) → ReadsOnly host host' → IfSome host.told (λ t. HasBase t j.inputs base) → OrderCause j.journal base disk disk' st → (sink : SinkView) → RecoverEnd j host host' sink sink disk disk' st
-order_unread j host host' base disk disk' status.Done reads begins cause sink = absurd cause
-order_unread j host host' base disk disk' status.Usage reads begins cause sink = absurd cause
-order_unread j host host' base disk disk' (status.TextRefused word why) reads begins cause sink = absurd cause
-order_unread j host host' base disk disk' (status.FolderRefused why) reads begins cause sink = absurd cause
-order_unread j host host' base disk disk' status.ReadFault reads begins cause sink = (same host host' sink reads, inl (inr (cause, has_inputs j base host begins)))
-order_unread j host host' base disk disk' status.NotEmpty reads begins cause sink = absurd cause
-order_unread j host host' base disk disk' status.WriteFault reads begins cause sink = absurd cause
-order_unread j host host' base disk disk' status.NoMemory reads begins cause sink = no_memory j host host' reads sink disk disk'
-order_unread j host host' base disk disk' (status.BadJournal place) reads begins cause sink = (
+pub order_unread : (j : RecoverJob) (host host' : HostView) (base : BaseTree) (disk disk' : DiskView) (st : Status) → ReadsOnly host host' → IfSome host.told (λ t. HasBase t j.inputs base) → IfSome host.told (λ t. IsOnlyBase t j.inputs base) → OrderCause j.journal base disk disk' st → (sink : SinkView) → RecoverEnd j host host' sink sink disk disk' st
+order_unread j host host' base disk disk' status.Done reads begins only cause sink = absurd cause
+order_unread j host host' base disk disk' status.Usage reads begins only cause sink = absurd cause
+order_unread j host host' base disk disk' (status.TextRefused word why) reads begins only cause sink = absurd cause
+order_unread j host host' base disk disk' (status.FolderRefused why) reads begins only cause sink = absurd cause
+order_unread j host host' base disk disk' status.ReadFault reads begins only cause sink = (same host host' sink reads, inl (inr (cause, has_inputs j base host begins)))
+order_unread j host host' base disk disk' status.NotEmpty reads begins only cause sink = absurd cause
+order_unread j host host' base disk disk' status.WriteFault reads begins only cause sink = absurd cause
+order_unread j host host' base disk disk' status.NoMemory reads begins only cause sink = no_memory j host host' reads sink disk disk'
+order_unread j host host' base disk disk' (status.BadJournal place) reads begins only cause sink = (
   same host host' sink reads,
-  if_some_map (λ t. HasBase t j.inputs base) (λ t. IfSome disk.told (λ file. IsBad t j file place)) host.told
-      (λ t is. if_some_map (λ file. GoesWrong base file.seen place) (λ file. IsBad t j file place) disk.told (λ file wrong. (base, is, wrong)) cause) begins,
+  if_some_both (λ t. HasBase t j.inputs base) (λ t. IsOnlyBase t j.inputs base) (λ t. IfSome disk.told (λ file. IsBad t j file place)) host.told
+      (λ t is only. if_some_map (λ file. GoesWrong base file.seen place) (λ file. IsBad t j file place) disk.told (λ file wrong. (base, is, only, wrong)) cause) begins only,
 )
 
 -- OUT cannot be written

@@ -8,7 +8,7 @@ use Rattle.fx_spec.specs.Plans.{Turn}
 use Rattle.fx_spec.specs.Order.{BaseTree, IsLegal, state}
 use Rattle.fx_report.specs.Report.{line}
 use Rattle.fx_words.specs.Job.{RecoverJob}
-use Rattle.fx_inputs.specs.Inputs.{HasBase}
+use Rattle.fx_inputs.specs.Inputs.{HasBase, IsOnlyBase}
 use Rattle.fx_durable.specs.Disk.{DiskView, File}
 use Rattle.fx_durable.specs.Journal.{Spells}
 use Rattle.fx_journaling.specs.Laws.{GoesWrong}
@@ -39,8 +39,8 @@ pub record IsAnswered (t : Tree) (j : RecoverJob) (disk : DiskView) (nodes : Nod
   pub outcome : IsOutcome t j disk nodes output
   pub free : IsReady t j.out there
 
--- The inputs are read, and the record of this number, counted from 0, is the first that is cut short or is one too many, or
--- with whose transaction the order is not legal.
+-- The inputs stand for one base alone, and the record of this number, counted from 0, is the first that is cut short or is
+-- one too many, or with whose transaction the order is not legal.
 abbrev pub IsBad : Tree → RecoverJob → File → ℕ → Type 0
 IsBad t j file place =
-    (base : BaseTree) × HasBase t j.inputs base × GoesWrong base file.seen place
+    (base : BaseTree) × HasBase t j.inputs base × IsOnlyBase t j.inputs base × GoesWrong base file.seen place

@@ -107,7 +107,9 @@ pub record HasJournal (t : Tree) (j : RecoverJob) (disk : DiskView) : Type 0 whe
   pub path : file.path ≡ j.journal
   pub order : List Turn
   pub spelled : Spells order file.seen
-  pub legal : (base : BaseTree) → HasBase t j.inputs base → IsLegal base order
+  pub base : BaseTree
+  pub begins : HasBase t j.inputs base
+  pub legal : IsLegal base order
 
 -- texts that stand for a description and scripts, a folder that loads, such a journal, and an OUT that is an empty folder or
 -- can be made

@@ -1,5 +1,5 @@
 //! The command `recover`.
-ghost use Rattle.std.specs.Prelude.{◌≡◌, IfSome};
+ghost use Rattle.std.specs.Prelude.{IfSome};
 ghost use Rattle.fx_outside.specs.Host.{AsksFit};
 ghost use Rattle.fx_spec.specs.Bases.{base_tree};
 ghost use Rattle.fx_spec.specs.Order.{IsLegal};

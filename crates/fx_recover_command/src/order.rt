@@ -1,5 +1,5 @@
 //! Whether the order that a journal spells is legal.
-ghost use Rattle.std.specs.Prelude.{◌≡◌, [], List, IfOk, MatchOption, length, replicate};
+ghost use Rattle.std.specs.Prelude.{◌≡◌, List, IfOk, MatchOption, replicate};
 ghost use Rattle.fx_spec.specs.Bases.{base_tree};
 ghost use Rattle.fx_spec.specs.Order.{IsLegal};
 ghost use Rattle.fx_spec.specs.Plans.{Turn};

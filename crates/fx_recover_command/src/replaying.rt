@@ -1,6 +1,5 @@
 //! The stage that replays the order, and the one that saves and prints.
-ghost use Rattle.std.specs.Prelude.{◌≡◌, ◌++◌, IfOk, OnOk, IfSome, length};
-ghost use Rattle.std.specs.Fmt.{decimal};
+ghost use Rattle.std.specs.Prelude.{◌≡◌, IfOk, IfSome, length};
 ghost use Rattle.fx_outside.specs.Host.{AsksFit};
 ghost use Rattle.fx_folder.specs.Folder.{IsReady};
 ghost use Rattle.fx_spec.specs.Bases.{base_tree};

@@ -1,51 +1,19 @@
 -- With fit inputs and no fault of host or sink a run is done, or memory runs out.
-use Rattle.std.proofs.Common.{◌≡◌, ◌⊎◌, inl, inr, ℕ, ◌+◌, length, subst, List, [], ◌∷◌, Some, Ok, Err, IfSome, IsSomeAnd, refl, sym, ◌∙◌}
+use Rattle.std.proofs.Common.{◌≡◌, ◌⊎◌, inl, inr, subst, Some, IfSome, IsSomeAnd, refl}
 use Rattle.fx_base.specs.Causes.{Rose}
 use Rattle.fx_outside.specs.Host.{HostView, FaultIn}
 use Rattle.fx_outside.specs.Sink.{SinkView}
-use Rattle.fx_outside.specs.Tree.{Tree, is_file_at, is_folder_at}
+use Rattle.fx_outside.specs.Tree.{Tree}
 use Rattle.fx_folder.specs.Folder.{IsTaken}
-use Rattle.fx_folder.specs.Loads.{Loads, IsRefused}
-use Rattle.fx_table.specs.declared.fault.FolderCause.{FolderCause}
-use Rattle.fx_store.specs.Whole.{Nodes}
-use Rattle.fx_spec.specs.CommandTree.{CommandTree}
+use Rattle.fx_folder.specs.Loads.{IsRefused}
 use Rattle.fx_command.specs.declared.status.Status.{Status}
-use Rattle.fx_command.specs.declared.status.TextFault.{TextFault}
 use Rattle.fx_command.specs.declared.status.Status.TheVariants as status
-use Rattle.fx_making.proofs.Outs.{two, not_taken, can_write}
-use Rattle.fx_inputs.specs.Inputs.{HasTexts, HasInputs, CannotRead, IsFirstRefused, HasScript, HasNoScript, HasScripts, StopsAtScript, LacksFile}
+use Rattle.fx_making.proofs.Outs.{not_taken, can_write}
+use Rattle.fx_inputs.specs.Inputs.{HasTexts, HasInputs, CannotRead, IsFirstRefused}
+use Rattle.fx_inputs.proofs.AllRead.{can_read, none_refused, not_both}
 use Rattle.fx_inputs.proofs.ReadRows.{read_fault_rose}
-use Rattle.fx_words.specs.Job.{Inputs, RunJob}
+use Rattle.fx_words.specs.Job.{RunJob}
 use Rattle.fx_run_command.specs.Rows.{RunRow, CannotSave, IsProperRun}
-
--- ---- inputs that are all read
-
--- scripts that are all read are not stopped at
-not_stopped : (stops : Tree → List ℕ → ℕ → Type 0) (t : Tree) (before : ℕ) (paths : List (List ℕ)) (plan : List (List (List CommandTree))) → ((path : List ℕ) (before : ℕ) (txns : List (List CommandTree)) → HasScript t path before txns → stops t path before → ⊥) → HasScripts t before paths plan → (i : ℕ) → StopsAtScript stops t before paths i → ⊥
-not_stopped stops t before [] plan apart has i stopped = stopped
-not_stopped stops t before (path ∷ paths) [] apart has i stopped = has
-not_stopped stops t before (path ∷ paths) (txns ∷ plan) apart has i (inl here) = apart path before txns has.0 here.1
-not_stopped stops t before (path ∷ paths) (txns ∷ plan) apart has i (inr later) =
-    let read = later.3 in
-    let same : txns ≡ later.2 = read.only txns has.0.script in
-    not_stopped stops t (before + length txns) paths plan apart has.1 later.0 (subst (λ us. StopsAtScript stops t (before + length us) paths later.0) (sym same) later.4)
-
--- no text is refused
-pub none_refused : (t : Tree) (inputs : Inputs) (word : ℕ) (cause : TextFault) → HasTexts t inputs → IsFirstRefused t inputs word cause → ⊥
-none_refused t inputs word cause has (inl first) = first.1.refused.none has.0.0 has.0.1.describes
-none_refused t inputs word cause has (inr second) = not_stopped (HasNoScript cause) t 0 inputs.scripts has.1.0 (λ path before txns read none. none.refused.none txns read.script) has.1.1 second.1.0 second.1.2
-
--- a folder that loads is not refused
-pub not_both : (t : Tree) (path : List ℕ) (nodes : Nodes) (cause : FolderCause) → Loads t path nodes → IsRefused t path cause → ⊥
-not_both t path nodes cause loads refused = let both : Ok nodes ≡ Err cause = sym loads.1 ∙ refused.1 in cc
-
--- all is there
-pub can_read : (t : Tree) (inputs : Inputs) → HasInputs t inputs → CannotRead t inputs → ⊥
-can_read t inputs has (inl spec) = two (is_file_at t inputs.spec) has.0.0.1.file spec
-can_read t inputs has (inr (inl scripts)) = not_stopped LacksFile t 0 inputs.scripts has.0.1.0 (λ path before txns read lacks. two (is_file_at t path) read.file lacks) has.0.1.1 scripts.1.0 scripts.1.1
-can_read t inputs has (inr (inr folder)) = two (is_folder_at t inputs.folder) has.1.1.0 folder.1
-
--- ---- a run
 
 can_save : (t : Tree) (j : RunJob) → IsProperRun t j → CannotSave t j → ⊥
 can_save t j proper cannot = can_write t j.out proper.there proper.free proper.above cannot.1

@@ -1,7 +1,6 @@
 //! Whole runs from a base on.
 ghost use Rattle.std.specs.Prelude.{◌≡◌, ◌++◌, ◌<◌, All, IfOk, length};
 ghost use Rattle.fx_spec.specs.Bases.{base_tree};
-ghost use Rattle.fx_sched.specs.Traced.{IsTraced};
 ghost use Rattle.fx_words.specs.Job.{Plain, Scheduled, Watched};
 ghost use Rattle.fx_words.specs.JobOf.{asked, IsJob};
 ghost use Rattle.fx_run_command.specs.Answers.{last_of, IsPrintedTrace, IsRunFrom};

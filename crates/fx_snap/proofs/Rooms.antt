@@ -1,6 +1,6 @@
 -- Lists with more room, and with one version more.
-use Rattle.std.proofs.Common.{◌≡◌, ℕ, suc, ◌+◌, ◌<◌, ◌≤◌, Bool, true, false, cond, List, [], ◌∷◌, ◌++◌, length, take, get_or, Option, Some, None, refl, sym, ap, subst, ◌∙◌, arith, append-nil}
-use Rattle.std.specs.Prelude.{All, IsSomeAnd, Vec, vec_len, vec_capacity}
+use Rattle.std.proofs.Common.{◌≡◌, ℕ, suc, ◌+◌, ◌<◌, ◌≤◌, Bool, true, false, cond, List, [], ◌∷◌, ◌++◌, length, take, get_or, Some, None, refl, sym, ap, subst, ◌∙◌, arith, append-nil}
+use Rattle.std.specs.Prelude.{All, IsSomeAnd, vec_len, vec_capacity}
 use Rattle.std.specs.declared.cmp.Ordering.TheVariants.{Less}
 use Rattle.std.specs.Ordering.{eq_by_cmp, is_eq}
 use Rattle.std.specs.List.{AllByRecursion}
@@ -15,7 +15,7 @@ use Rattle.fx_store.specs.Orders.{path_eq_same}
 use Rattle.fx_store.proofs.Tables.{path_itself, path_symm}
 use Rattle.fx_snap.specs.declared.versions.Version.{Version}
 use Rattle.fx_snap.specs.Versions.{version_of}
-use Rattle.fx_snap.specs.Tables.{Listed, Table, list_in, listed, versions_in, IsSpare, HasRoom, HaveRoom, IsRoomier, HasOneMore, AreAdded}
+use Rattle.fx_snap.specs.Tables.{Listed, Table, list_in, listed, versions_in, IsSpare, HasRoom, HaveRoom, IsRoomier, HasOneMore}
 
 abbrev Path : Type 0
 Path = List (List ℕ)

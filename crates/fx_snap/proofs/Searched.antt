@@ -1,9 +1,9 @@
 -- The last version below a number, by its place.
-use Rattle.std.proofs.Common.{◌≡◌, ℕ, zero, suc, ◌+◌, ◌<◌, Bool, true, false, cond, ltb, List, [], ◌∷◌, length, get_or, Option, refl, sym, ap, ◌∙◌, arith}
-use Rattle.std.specs.List.{fold, AllWithin}
+use Rattle.std.proofs.Common.{◌≡◌, ℕ, zero, suc, ◌<◌, true, false, cond, ltb, List, [], ◌∷◌, length, get_or, Option, refl, ap, ◌∙◌, arith}
+use Rattle.std.specs.List.{AllWithin}
 use Rattle.fx_store.specs.declared.node.Node.{Node}
 use Rattle.fx_snap.specs.declared.versions.Version.{Version}
-use Rattle.fx_snap.specs.Versions.{version_before, version_at}
+use Rattle.fx_snap.specs.Versions.{version_at}
 
 -- what the first so many of the versions have left; else what was there
 abbrev pub left_by : Option Node → List Version → ℕ → Option Node

@@ -1,6 +1,6 @@
 -- What a reader of one state goes on to vouch for.
-use Rattle.std.proofs.Common.{◌≡◌, ℕ, ◌≤◌, List, [], ◌∷◌, ◌++◌, length, Option, Some, Result, Ok, Err, sym, ap, subst, ◌∙◌, arith}
-use Rattle.std.specs.Prelude.{OnOk, OnErr, IfOk}
+use Rattle.std.proofs.Common.{◌≡◌, ℕ, ◌≤◌, List, [], ◌∷◌, ◌++◌, length, Option, Result, Ok, Err, sym, ap, subst, ◌∙◌, arith}
+use Rattle.std.specs.Prelude.{OnOk, OnErr}
 use Rattle.std.specs.FinMap.{get}
 use Rattle.std.proofs.lemmas.Option.{same_Some}
 use Rattle.fx_store.specs.declared.node.Node.{Node}
@@ -8,7 +8,7 @@ use Rattle.fx_store.specs.Whole.{Nodes}
 use Rattle.fx_view.specs.ReadList.{ReadList}
 use Rattle.fx_view.specs.Reads.{Agrees}
 use Rattle.fx_view.proofs.Wholes.{agrees_more, agrees_none}
-use Rattle.fx_spec.specs.Order.{BaseTree, state}
+use Rattle.fx_spec.specs.Order.{state}
 use Rattle.fx_shared.specs.Passes.{LogView, HasSeenMore}
 use Rattle.fx_shared.proofs.Truths.{begins_short, state_later}
 use Rattle.fx_workers.proofs.Looks.{see_on}

@@ -1,10 +1,9 @@
 -- What the worker of the views has answered, view by view.
-use Rattle.std.proofs.Common.{◌≡◌, ℕ, zero, suc, ◌+◌, ◌<◌, ◌≤◌, List, [], ◌∷◌, ◌++◌, length, take, Option, Some, refl, sym, ap, subst, ◌∙◌, arith}
+use Rattle.std.proofs.Common.{◌≡◌, ℕ, zero, suc, ◌+◌, ◌<◌, ◌≤◌, List, [], ◌∷◌, ◌++◌, length, take, Some, refl, sym, ap, subst, ◌∙◌, arith}
 use Rattle.std.specs.FinMap.{get}
 use Rattle.std.specs.List.{slice_get}
 use Rattle.std.proofs.lemmas.Option.{same_Some}
 use Rattle.fx_store.specs.Whole.{Nodes, IsWhole}
-use Rattle.fx_view.specs.Reads.{Agrees}
 use Rattle.fx_spec.specs.CommandTree.{CommandTree}
 use Rattle.fx_spec.specs.SpecTree.{SpecTree}
 use Rattle.fx_spec.specs.Plans.{Turn, script_of, txn_of}
@@ -14,7 +13,7 @@ use Rattle.fx_spec.proofs.Transactions.{states_are_whole}
 use Rattle.fx_machine.specs.declared.attempt.Attempt.{Attempt}
 use Rattle.fx_machine.specs.Explained.{IsExplained}
 use Rattle.fx_turn.specs.Histories.{Begins}
-use Rattle.fx_shared.specs.Passes.{LogView, HasSeenMore}
+use Rattle.fx_shared.specs.Passes.{LogView}
 use Rattle.fx_shared.proofs.Truths.{begins_short, state_later}
 use Rattle.fx_report.specs.declared.printed.View.{View}
 use Rattle.fx_views.specs.Past.{AreAt}

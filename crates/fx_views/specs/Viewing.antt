@@ -1,7 +1,7 @@
 -- The worker of the views, between two of them and at the end.
 use Rattle.std.specs.Prelude.{◌≡◌, ℕ, List, ◌∷◌, take, length, Option, Some, None}
 use Rattle.fx_spec.specs.CommandTree.{CommandTree}
-use Rattle.fx_spec.specs.Plans.{count_of, script_of, txn_of}
+use Rattle.fx_spec.specs.Plans.{script_of, txn_of}
 use Rattle.fx_spec.specs.Order.{BaseTree}
 use Rattle.fx_machine.specs.declared.retry.Retry.{Retry}
 use Rattle.fx_turn.specs.Histories.{Begins}

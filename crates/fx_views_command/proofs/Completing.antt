@@ -1,5 +1,5 @@
 -- With fit inputs and no fault of host or sink `views` is done, or memory runs out.
-use Rattle.std.proofs.Common.{◌≡◌, ◌⊎◌, inl, inr, ℕ, subst, Some, IfSome, IsSomeAnd, refl}
+use Rattle.std.proofs.Common.{◌≡◌, ◌⊎◌, inl, inr, subst, Some, IfSome, IsSomeAnd, refl}
 use Rattle.fx_base.specs.Causes.{Rose}
 use Rattle.fx_outside.specs.Host.{HostView, FaultIn}
 use Rattle.fx_outside.specs.Sink.{SinkView}
@@ -7,7 +7,6 @@ use Rattle.fx_outside.specs.Tree.{Tree}
 use Rattle.fx_folder.specs.Folder.{IsTaken}
 use Rattle.fx_folder.specs.Loads.{IsRefused}
 use Rattle.fx_command.specs.declared.status.Status.{Status}
-use Rattle.fx_command.specs.declared.status.TextFault.{TextFault}
 use Rattle.fx_command.specs.declared.status.Status.TheVariants as status
 use Rattle.fx_making.proofs.Outs.{not_taken, can_write}
 use Rattle.fx_inputs.specs.Views.{CannotReadViews, HasViewsInputs, HasViewsTexts, ViewsFirstRefused}

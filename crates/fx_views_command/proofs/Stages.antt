@@ -1,5 +1,5 @@
 -- From the stages of reading to the last one.
-use Rattle.std.proofs.Common.{◌≡◌, ℕ, ◌<◌, Bool, List, length, IfSome, sym, subst, arith}
+use Rattle.std.proofs.Common.{ℕ, Bool, List, IfSome}
 use Rattle.fx_store.specs.Whole.{Nodes}
 use Rattle.fx_outside.specs.Host.{HostView, ReadsOnly}
 use Rattle.fx_outside.specs.Tree.{Tree}

@@ -5,6 +5,7 @@ use Rattle.fx_inputs.specs.Reads.{ReadRow}
 use Rattle.fx_base.proofs.Errors.{if_err_of}
 use Rattle.fx_command.proofs.Told.{some_back}
 use Rattle.fx_inputs.proofs.ReadRows.{read_row_back}
+use Rattle.fx_inputs.proofs.Stages.{base_only}
 use Rattle.fx_inputs.proofs.reading.read_base.Goals as goal
 
 pub returns-in_err-base-clause-ends : goal.returns-in_err-base-clause-ends
@@ -20,3 +21,8 @@ returns-in_err-base-clause-ends g c =
 pub returns-clause-read : goal.returns-clause-read
 returns-clause-read g c =
     some_back (λ t. HasBase t (asked_inputs c.args.inputs.now) (base_tree c.in_ok-base.base.value)) (g.H.Host.view c.args.host.now) (g.H.Host.view c.read_description.new.host) c.in_ok-description.ensures.same c.in_ok-base.ensures.read
+
+pub returns-clause-only : goal.returns-clause-only
+returns-clause-only g c =
+    base_only (asked_inputs c.args.inputs.now) (base_tree c.in_ok-base.base.value) c.in_ok-description.description (g.H.Host.view c.args.host.now) (g.H.Host.view c.read_description.new.host)
+    c.in_ok-description.ensures.same c.in_ok-base.ensures.described c.in_ok-description.ensures.only c.in_ok-base.ensures.only c.in_ok-base.ensures.read

@@ -1,7 +1,8 @@
-use Rattle.std.proofs.Common.{ap}
+use Rattle.std.proofs.Common.{IfSome, ap, sym, subst}
 use Rattle.fx_outside.proofs.Views.{reads_none}
 use Rattle.fx_spec.specs.Bases.{base_tree}
 use Rattle.fx_words.specs.JobOf.{asked_inputs}
+use Rattle.fx_inputs.specs.Inputs.{AreOnlyScripts}
 use Rattle.fx_inputs.specs.Reads.{ReadRow}
 use Rattle.fx_base.proofs.Errors.{if_err_of}
 use Rattle.fx_inputs.proofs.ReadRows.{read_row_back}
@@ -24,3 +25,8 @@ returns-clause-read g c =
     let b = g.H.Host.view c.read_scripts.new.host in
     whole_base (asked_inputs c.args.inputs.now) (base_tree c.in_ok-base.base.value) c.args.description c.in_ok-plan.plan c.in_ok-loaded.loaded.nodes a a b
     (reads_none a) c.in_ok-plan.ensures.same (ap base_tree c.in_ok-base.ensures) c.requires.spec c.in_ok-plan.ensures.read c.in_ok-loaded.ensures.loaded
+
+pub returns-clause-only : goal.returns-clause-only
+returns-clause-only g c =
+    let a = g.H.Host.view c.args.host.now in
+    subst (λ plan. IfSome a.told (λ t. AreOnlyScripts t (asked_inputs c.args.inputs.now) plan)) (sym (ap (λ b. (base_tree b).plan) c.in_ok-base.ensures)) c.in_ok-plan.ensures.only

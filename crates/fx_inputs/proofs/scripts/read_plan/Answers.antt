@@ -2,7 +2,7 @@ use Rattle.std.proofs.Common.{rules, ◌≡◌, Some, sym, subst, arith}
 use Rattle.std.specs.Prelude.{slice_get}
 use Rattle.fx_words.specs.JobOf.{asked_inputs}
 use Rattle.fx_inputs.specs.Causes.{UnreadCause}
-use Rattle.fx_inputs.proofs.Plans.{begins, fits, reads_on, unread_here, fit_stop, ends}
+use Rattle.fx_inputs.proofs.Plans.{begins, fits, reads_on, unread_here, fit_stop, ends, ends_alone}
 use Rattle.fx_inputs.proofs.scripts.read_plan.Goals as goal
 
 pub scripts-init : goal.scripts-init
@@ -30,6 +30,10 @@ scripts-preserved g c =
 pub returns-clause-read : goal.returns-clause-read
 returns-clause-read g c =
     ends (g.H.Host.view c.args.host.now).told (asked_inputs c.args.inputs.now).scripts c.scripts.plan c.scripts.i c.scripts.before (omega (arith, c.scripts-test.false, c.scripts.auto.i-end, c.scripts-i-end.ensures.count)) c.scripts.invariant.front
+
+pub returns-clause-only : goal.returns-clause-only
+returns-clause-only g c =
+    ends_alone (g.H.Host.view c.args.host.now).told (asked_inputs c.args.inputs.now) c.scripts.plan c.scripts.i c.scripts.before (omega (arith, c.scripts-test.false, c.scripts.auto.i-end, c.scripts-i-end.ensures.count)) c.scripts.invariant.front
 
 pub returns-in-Err-push-clause-fit : goal.returns-in-Err-push-clause-fit
 returns-in-Err-push-clause-fit g c =

@@ -1,9 +1,7 @@
 use Rattle.std.proofs.Common.{◌≡◌, refl, sym, subst}
 use Rattle.fx_spec.specs.Bases.{base_tree}
 use Rattle.fx_turn.specs.Seats.{view}
-use Rattle.fx_view.specs.ReadList.{ReadList}
 use Rattle.fx_workers.specs.Live.{AreTrueOver}
-use Rattle.fx_pass_tests.specs.Workings.{AddsLook}
 use Rattle.fx_pass_tests.proofs.Attempts.{run_over, learned}
 use Rattle.fx_pass_tests.proofs.passes.attempt_over.Goals as goal
 

@@ -31,7 +31,7 @@ returns-in_err-order-clause-row g c =
     let disk' = g.D.Disk.view c.read_order.new.disk in
     let st = c.in_err-order.field-0.0 in
     let is = err_of c.from_residual-in_err-order.result st c.from_residual-in_err-order.ensures.1 in
-    (c.in_err-order.ensures.same, subst (λ r. RecoverEnd j a b sink sink disk disk' (status_of r)) (sym is) (order_unread j a b (base_tree c.in_ok-base.base.value) disk disk' st c.in_ok-base.ensures.same c.in_ok-base.ensures.read (subst (λ b. OrderCause j.journal (base_tree b) disk disk' st) c.deref.ensures c.in_err-order.ensures.cause) sink))
+    (c.in_err-order.ensures.same, subst (λ r. RecoverEnd j a b sink sink disk disk' (status_of r)) (sym is) (order_unread j a b (base_tree c.in_ok-base.base.value) disk disk' st c.in_ok-base.ensures.same c.in_ok-base.ensures.read c.in_ok-base.ensures.only (subst (λ b. OrderCause j.journal (base_tree b) disk disk' st) c.deref.ensures c.in_err-order.ensures.cause) sink))
 
 pub returns-clause-row : goal.returns-clause-row
 returns-clause-row g c =

@@ -1,4 +1,4 @@
-use Rattle.std.proofs.Common.{◌≡◌, ◌<◌, ◌≤◌, List, length, get_or, subst, ◌∙◌, ap, rules, arith}
+use Rattle.std.proofs.Common.{◌≡◌, ◌<◌, List, length, get_or, subst, ap, rules, arith}
 use Rattle.fx_store.specs.declared.changes.Change.{Change}
 use Rattle.fx_snap.proofs.Rooms.{rooms_more, rooms_all, roomier_then}
 use Rattle.fx_snap.proofs.keeping.prepare.Goals as goal

@@ -1,7 +1,5 @@
 use denote.Param.Send.{sendable}
 use Rattle.fx_snap.proofs.Crosses.{Versioned-send}
-use Rattle.fx_turn.specs.Seats.{view}
-use Rattle.fx_views.proofs.Pasts.{at_none}
 use Rattle.fx_views.proofs.past.Past.new.Goals as goal
 
 pub number-requires-send-K : goal.number-requires-send-K
