@@ -1,3 +1,5 @@
+pub mod Makings
+pub mod Outs
 pub mod Pieces
 pub mod Told
 pub mod Writing

@@ -1,3 +1,5 @@
+pub mod Making
+pub mod Out
 pub mod Codes
 pub mod Left
 pub mod StatusOf

@@ -1,7 +1,7 @@
 -- What `gen` makes of its words, a number and OUT: the folder of the number's case, and a line.
 use Rattle.std.specs.Prelude.{◌≡◌, ℕ, List, codes}
 use Rattle.fx_outside.specs.Path.{parts}
-use Rattle.fx_making.specs.Making.{Making}
+use Rattle.fx_command.specs.Making.{Making}
 use Rattle.fx_gen_command.specs.Case.{Case, case_of, IsWritten, IsPartlyWritten}
 
 abbrev pub generated : List ℕ

@@ -2,15 +2,14 @@
 ghost use Rattle.std.specs.Prelude.{◌≡◌, IfSome};
 ghost use Rattle.fx_outside.specs.Host.{AsksFit};
 ghost use Rattle.fx_folder.specs.Folder.{IsReady};
-ghost use Rattle.fx_making.specs.Making.{MakingRow};
+ghost use Rattle.fx_command.specs.Making.{MakingRow};
 ghost use Rattle.fx_command.specs.StatusOf.{status_of};
 ghost use Rattle.fx_gen_command.specs.Case.{case_of, case_in};
 ghost use Rattle.fx_gen_command.specs.Rows.{gen_making};
 
 use crate::writing::write_case;
-use fx_command::{Status, print_all};
+use fx_command::{Status, print_all, ready_out};
 use fx_gen::{Generated, generate};
-use fx_making::ready_out;
 use fx_outside::{Host, HostText, Sink, SinkFailed};
 use std::alloc::Global;
 

@@ -23,7 +23,7 @@ use Rattle.fx_command.proofs.Told.{if_some_map, if_some_both, some_and, if_told_
 use Rattle.fx_inputs.specs.Inputs.{HasInputs, HasBase, CannotRead}
 use Rattle.fx_inputs.specs.Reads.{HasReadFault, ReadRow}
 use Rattle.fx_inputs.proofs.ReadRows.{read_fault_back}
-use Rattle.fx_making.specs.Out.{IsUnready}
+use Rattle.fx_command.specs.Out.{IsUnready}
 use Rattle.fx_words.specs.Job.{RunJob, JournalJob, Scheduled, shells_of}
 use Rattle.fx_run_command.specs.Outcome.{IsPrintedAs, IsTracedAs}
 use Rattle.fx_run_command.specs.Rows.{IsDone, CannotSave}

@@ -14,12 +14,11 @@ ghost use Rattle.fx_journaling.specs.Recorded.{IsStarted, HasRecorded};
 ghost use Rattle.fx_journal_command.specs.Rows.{JournalRow, JournalAsksFit, KeepsJournal};
 ghost use Rattle.fx_journal_command.specs.Stages.{MayLeaveGate, StartCause, RecordCause, FinishEnd};
 
-use fx_command::{Status, print_all};
+use fx_command::{Status, print_all, ready_out};
 use fx_durable::{Disk, Journal, StartFault};
 use fx_folder::save;
 use fx_inputs::read_base;
 use fx_journaling::{RecordFault, Recorded, record};
-use fx_making::ready_out;
 use fx_outside::{Host, HostText, Sink, SinkFailed};
 use fx_report::report;
 use fx_spec::Base;

@@ -4,7 +4,7 @@ use Rattle.fx_outside.specs.Path.{parts}
 use Rattle.fx_folder.specs.Folder.{IsSaved, IsPartlySaved}
 use Rattle.fx_spec.specs.Order.{IsComplete, state}
 use Rattle.fx_spec.specs.Plans.{Turn}
-use Rattle.fx_making.specs.Making.{Making}
+use Rattle.fx_command.specs.Making.{Making}
 use Rattle.fx_summary.specs.Summary.{summary}
 use Rattle.fx_large.specs.Base.{generated_base}
 

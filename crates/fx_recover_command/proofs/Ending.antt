@@ -16,7 +16,7 @@ use Rattle.fx_command.specs.declared.status.Status.{Status}
 use Rattle.fx_command.specs.declared.status.Status.TheVariants as status
 use Rattle.fx_command.specs.StatusOf.{save_status}
 use Rattle.fx_command.proofs.Told.{if_some_map, if_some_both, some_and, if_told_same, if_told_map, some_unit, same, grows_front, grows_all, cause_back, told_back, some_back, same_back, left_true, right_true}
-use Rattle.fx_making.specs.Out.{IsUnready}
+use Rattle.fx_command.specs.Out.{IsUnready}
 use Rattle.fx_inputs.specs.Inputs.{HasBase, IsOnlyBase, HasInputs, CannotRead}
 use Rattle.fx_inputs.specs.Reads.{ReadRow, has_fit_inputs}
 use Rattle.fx_inputs.proofs.ReadRows.{read_fault_back}

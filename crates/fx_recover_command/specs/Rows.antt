@@ -12,7 +12,7 @@ use Rattle.fx_words.specs.Job.{RecoverJob}
 use Rattle.fx_command.specs.declared.status.Status.{Status}
 use Rattle.fx_command.specs.declared.status.Status.TheVariants as status
 use Rattle.fx_command.specs.Left.{IsSame, Grows}
-use Rattle.fx_making.specs.Out.{CannotWrite, FitsOut}
+use Rattle.fx_command.specs.Out.{CannotWrite, FitsOut}
 use Rattle.fx_inputs.specs.Inputs.{HasBase, HasTexts, HasInputs, CannotRead, IsFirstRefused}
 use Rattle.fx_inputs.specs.Reads.{HasReadFault, has_fit_inputs}
 use Rattle.fx_spec.specs.Plans.{Turn}

@@ -12,10 +12,9 @@ ghost use Rattle.fx_recover_command.specs.Rows.{RecoverEnd, RecoverRow, RecoverA
 
 use crate::journal::read_order;
 use crate::replaying::{replayed, save_and_print};
-use fx_command::Status;
+use fx_command::{Status, ready_out};
 use fx_durable::{Disk, Pairs};
 use fx_inputs::read_base;
-use fx_making::ready_out;
 use fx_outside::{Host, Sink};
 use fx_spec::Base;
 use fx_words::RecoverJob;

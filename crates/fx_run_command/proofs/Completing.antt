@@ -8,7 +8,7 @@ use Rattle.fx_folder.specs.Folder.{IsTaken}
 use Rattle.fx_folder.specs.Loads.{IsRefused}
 use Rattle.fx_command.specs.declared.status.Status.{Status}
 use Rattle.fx_command.specs.declared.status.Status.TheVariants as status
-use Rattle.fx_making.proofs.Outs.{not_taken, can_write}
+use Rattle.fx_command.proofs.Outs.{not_taken, can_write}
 use Rattle.fx_inputs.specs.Inputs.{HasTexts, HasInputs, CannotRead, IsFirstRefused}
 use Rattle.fx_inputs.proofs.AllRead.{can_read, none_refused, not_both}
 use Rattle.fx_inputs.proofs.ReadRows.{read_fault_rose}

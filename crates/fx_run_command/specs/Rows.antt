@@ -12,7 +12,7 @@ use Rattle.fx_words.specs.Job.{RunJob}
 use Rattle.fx_command.specs.declared.status.Status.{Status}
 use Rattle.fx_command.specs.declared.status.Status.TheVariants as status
 use Rattle.fx_command.specs.Left.{IsSame, Grows}
-use Rattle.fx_making.specs.Out.{CannotWrite, FitsOut}
+use Rattle.fx_command.specs.Out.{CannotWrite, FitsOut}
 use Rattle.fx_inputs.specs.Inputs.{HasTexts, HasInputs, CannotRead, IsFirstRefused}
 use Rattle.fx_inputs.specs.Reads.{HasReadFault, has_fit_inputs}
 use Rattle.fx_run_command.specs.Outcome.{IsOutcome}

@@ -12,7 +12,7 @@ use Rattle.fx_durable.specs.Disk.{DiskView}
 use Rattle.fx_gen_command.specs.Rows.{gen_making}
 use Rattle.fx_journal_command.proofs.Completing.{journal_completes, journal_no_memory, journal_not_begun}
 use Rattle.fx_large.specs.Rows.{large_making}
-use Rattle.fx_making.proofs.Makings.{making_completes, making_no_memory}
+use Rattle.fx_command.proofs.Makings.{making_completes, making_no_memory}
 use Rattle.fx_recover_command.proofs.Completing.{recover_completes}
 use Rattle.fx_recover_command.proofs.Ending as recovering
 use Rattle.fx_run_command.proofs.Completing.{run_completes}

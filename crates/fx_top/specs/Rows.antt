@@ -12,8 +12,8 @@ use Rattle.fx_durable.specs.Disk.{DiskView}
 use Rattle.fx_gen_command.specs.Rows.{gen_making}
 use Rattle.fx_journal_command.specs.Rows.{JournalRow, JournalAsksFit, KeepsJournal, IsProperJournal}
 use Rattle.fx_large.specs.Rows.{large_making}
-use Rattle.fx_making.specs.Making.{MakingRow}
-use Rattle.fx_making.specs.Out.{IsProperOut}
+use Rattle.fx_command.specs.Making.{MakingRow}
+use Rattle.fx_command.specs.Out.{IsProperOut}
 use Rattle.fx_recover_command.specs.Rows.{RecoverRow, RecoverAsksFit, IsProperRecover}
 use Rattle.fx_run_command.specs.Rows.{RunRow, RunAsksFit, IsProperRun}
 use Rattle.fx_show.specs.Rows.{ShowRow, ShowAsksFit}

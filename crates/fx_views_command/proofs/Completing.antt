@@ -8,7 +8,7 @@ use Rattle.fx_folder.specs.Folder.{IsTaken}
 use Rattle.fx_folder.specs.Loads.{IsRefused}
 use Rattle.fx_command.specs.declared.status.Status.{Status}
 use Rattle.fx_command.specs.declared.status.Status.TheVariants as status
-use Rattle.fx_making.proofs.Outs.{not_taken, can_write}
+use Rattle.fx_command.proofs.Outs.{not_taken, can_write}
 use Rattle.fx_inputs.specs.Views.{CannotReadViews, HasViewsInputs, HasViewsTexts, ViewsFirstRefused}
 use Rattle.fx_inputs.proofs.AllRead.{can_read_views, not_both, views_none_refused}
 use Rattle.fx_inputs.proofs.ViewsRows.{views_fault_rose}

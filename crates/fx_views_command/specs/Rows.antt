@@ -12,7 +12,7 @@ use Rattle.fx_words.specs.Job.{ViewsJob}
 use Rattle.fx_command.specs.declared.status.Status.{Status}
 use Rattle.fx_command.specs.declared.status.Status.TheVariants as status
 use Rattle.fx_command.specs.Left.{IsSame, Grows}
-use Rattle.fx_making.specs.Out.{CannotWrite, FitsOut}
+use Rattle.fx_command.specs.Out.{CannotWrite, FitsOut}
 use Rattle.fx_inputs.specs.Views.{HasViewsTexts, HasViewsInputs, CannotReadViews, ViewsFirstRefused, HasViewsReadFault, has_fit_views}
 use Rattle.fx_views_command.specs.Outcome.{IsViewsOutcome}
 

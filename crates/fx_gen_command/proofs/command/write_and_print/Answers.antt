@@ -1,8 +1,8 @@
 use Rattle.std.proofs.Common.{inr, length, sym, ap, subst, arith}
 use Rattle.fx_command.specs.StatusOf.{status_of, save_status}
 use Rattle.fx_base.proofs.Errors.{err_of}
-use Rattle.fx_making.specs.Making.{MakingRow}
-use Rattle.fx_making.proofs.Makings.{making_coming, making_part, making_not_saved, making_not_printed, making_done}
+use Rattle.fx_command.specs.Making.{MakingRow}
+use Rattle.fx_command.proofs.Makings.{making_coming, making_part, making_not_saved, making_not_printed, making_done}
 use Rattle.fx_outside.specs.Path.{parts}
 use Rattle.fx_gen_command.specs.Case.{Case, case_in, IsPartlyWritten}
 use Rattle.fx_gen_command.specs.Rows.{gen_making}

@@ -1,8 +1,8 @@
 use Rattle.std.proofs.Common.{sym, subst}
 use Rattle.fx_command.specs.StatusOf.{status_of}
 use Rattle.fx_base.proofs.Errors.{err_of}
-use Rattle.fx_making.specs.Making.{MakingRow}
-use Rattle.fx_making.proofs.Makings.{making_unready}
+use Rattle.fx_command.specs.Making.{MakingRow}
+use Rattle.fx_command.proofs.Makings.{making_unready}
 use Rattle.fx_gen_command.specs.Rows.{gen_making}
 use Rattle.fx_gen_command.proofs.command.write_generated.Goals as goal
 

@@ -1,9 +1,9 @@
 use Rattle.std.proofs.Common.{sym, subst}
 use Rattle.fx_command.specs.StatusOf.{status_of}
 use Rattle.fx_base.proofs.Errors.{err_of}
-use Rattle.fx_making.specs.Making.{MakingRow}
+use Rattle.fx_command.specs.Making.{MakingRow}
 use Rattle.fx_command.specs.declared.status.Status.TheVariants as status
-use Rattle.fx_making.proofs.Makings.{making_no_memory, making_unready}
+use Rattle.fx_command.proofs.Makings.{making_no_memory, making_unready}
 use Rattle.fx_large.specs.Rows.{large_making}
 use Rattle.fx_large.proofs.command.run_generated.Goals as goal
 

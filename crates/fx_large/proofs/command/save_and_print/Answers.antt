@@ -4,8 +4,8 @@ use Rattle.fx_folder.specs.Folder.{IsPartlySaved}
 use Rattle.fx_spec.specs.Order.{state}
 use Rattle.fx_command.specs.StatusOf.{status_of, save_status}
 use Rattle.fx_base.proofs.Errors.{err_of}
-use Rattle.fx_making.specs.Making.{MakingRow}
-use Rattle.fx_making.proofs.Makings.{making_coming, making_part, making_not_saved, making_not_printed, making_done}
+use Rattle.fx_command.specs.Making.{MakingRow}
+use Rattle.fx_command.proofs.Makings.{making_coming, making_part, making_not_saved, making_not_printed, making_done}
 use Rattle.fx_large.specs.Base.{generated_base}
 use Rattle.fx_large.specs.Rows.{large_making}
 use Rattle.fx_large.proofs.Ending.{comes, output_is, stands, stands_part}

@@ -7,7 +7,7 @@ use Rattle.fx_outside.specs.declared.kind.HostKind.TheVariants as kind
 use Rattle.fx_outside.specs.Path.{parts, is_fit, above}
 use Rattle.fx_outside.specs.Tree.{Tree, Entry, entry_at, has_folder, is_folder_kind}
 use Rattle.fx_folder.specs.Folder.{IsReady, IsTaken}
-use Rattle.fx_making.specs.Out.{CannotWrite, FitsOut}
+use Rattle.fx_command.specs.Out.{CannotWrite, FitsOut}
 
 pub two : (b : Bool) → b ≡ true → b ≡ false → ⊥
 two b is isnt = let both : true ≡ false = sym is ∙ isnt in cc

@@ -11,10 +11,10 @@ use Rattle.fx_folder.specs.declared.fault.SaveFault.{SaveFault}
 use Rattle.fx_folder.specs.declared.fault.SaveFault.TheVariants as save
 use Rattle.fx_command.specs.declared.status.Status.{Status}
 use Rattle.fx_command.specs.declared.status.Status.TheVariants as status
-use Rattle.fx_making.specs.Making.{Making, IsMade, IsMadeUnprinted, MayBeBegun, MakingRow, MakingEndsAs, IsComing}
-use Rattle.fx_making.specs.Out.{CannotWrite, IsProperOut, IsUnready}
+use Rattle.fx_command.specs.Making.{Making, IsMade, IsMadeUnprinted, MayBeBegun, MakingRow, MakingEndsAs, IsComing}
+use Rattle.fx_command.specs.Out.{CannotWrite, IsProperOut, IsUnready}
 use Rattle.fx_command.specs.StatusOf.{save_status}
-use Rattle.fx_making.proofs.Outs.{not_taken, can_write}
+use Rattle.fx_command.proofs.Outs.{not_taken, can_write}
 use Rattle.fx_command.proofs.Told.{if_some_map, some_and, if_told_same, if_told_map, some_unit, same, grows_front, grows_all, cause_back, told_back, some_back, same_back}
 
 module _ {A : Type 0} (m : Making A) where

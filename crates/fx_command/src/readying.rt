@@ -2,9 +2,9 @@
 ghost use Rattle.std.specs.Prelude.{IfOk, IfErr, IfSome};
 ghost use Rattle.fx_outside.specs.Host.{ReadsOnly, AsksFit};
 ghost use Rattle.fx_folder.specs.Folder.{IsReady};
-ghost use Rattle.fx_making.specs.Out.{IsUnready};
+ghost use Rattle.fx_command.specs.Out.{IsUnready};
 
-use fx_command::Status;
+use crate::status::Status;
 use fx_folder::ready;
 use fx_outside::{Host, HostText};
 use std::alloc::Global;

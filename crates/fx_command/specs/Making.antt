@@ -9,7 +9,7 @@ use Rattle.fx_folder.specs.Folder.{IfTold, IsReady, IsTaken}
 use Rattle.fx_command.specs.declared.status.Status.{Status}
 use Rattle.fx_command.specs.declared.status.Status.TheVariants as status
 use Rattle.fx_command.specs.Left.{IsSame, Grows}
-use Rattle.fx_making.specs.Out.{CannotWrite}
+use Rattle.fx_command.specs.Out.{CannotWrite}
 
 -- what a command makes: OUT, the ends to which it may come, and for each of them what then stands in the new tree, what a
 -- part of that is, and what is printed
