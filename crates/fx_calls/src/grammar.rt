@@ -1,9 +1,8 @@
 //! Tokens, expressions, shapes, descriptions and scripts.
 
 use fx_base::{NoMemory, SOURCE_LIMIT, TXN_LIMIT};
-use fx_command::{Status, TextFault};
+use fx_command::{Message, Status, TextFault};
 use fx_lex::{LexFault, Spanned, Token, Tokens, lex};
-use fx_message::Message;
 use fx_outside::{HostText, Words};
 use fx_parse::{ParseFault, parse_expr, parse_shape};
 use fx_scripts::{ScriptFault, script_of};

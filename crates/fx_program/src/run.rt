@@ -4,8 +4,8 @@ ghost use Rattle.std.specs.Process.{exit_status};
 ghost use Rattle.fx_command.specs.Codes.{status_code};
 
 use fx_base::NoMemory;
+use fx_command::Message;
 use fx_disk::{Disk, Output};
-use fx_message::Message;
 use fx_outside::{HostText, OpenGate, Words};
 use fx_real_disk::RealDisk;
 use fx_top::status::Status;

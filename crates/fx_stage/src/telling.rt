@@ -3,8 +3,7 @@
 use crate::stage::host_text;
 use crate::sums::checksum;
 use fx_base::NoMemory;
-use fx_command::Status;
-use fx_message::Message;
+use fx_command::{Message, Status};
 use fx_outside::{Host, HostFault, HostKind, HostText, Listing, MemoryHost, Standing, Words};
 use fx_telling::{tell, tell_bytes};
 use std::alloc::Global;

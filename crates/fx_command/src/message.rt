@@ -1,7 +1,7 @@
 //! The line on standard error for a status other than 0. It takes no memory.
 ghost use Rattle.std.specs.Prelude.{◌≡◌, ◌↔◌, None};
 
-use fx_command::{Status, TextFault};
+use crate::status::{Status, TextFault};
 use fx_expr::{Shape, Word};
 use fx_folder::FolderCause;
 use fx_outside::{HostText, Words};
