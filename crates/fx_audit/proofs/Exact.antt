@@ -18,8 +18,8 @@ use Rattle.fx_report.specs.declared.printed.PrintedEntry.{PrintedEntry}
 use Rattle.fx_report.specs.Entries.{entries_of}
 use Rattle.fx_report.specs.Readable.{AreEntries, AreEntryNames, AreRetries, AreTrees, IsEntryName, IsHeldEnd, IsHeldRefusal, IsHeldReport, LacksSlash}
 use Rattle.fx_report.proofs.CancelReport.{report_cancel}
-use Rattle.fx_read_values.proofs.Cancels.{held}
-use Rattle.fx_read_values.specs.declared.values.TheConstants.{VALUE_LEVELS}
+use Rattle.fx_read_report.proofs.Cancels.{held}
+use Rattle.fx_read_report.specs.declared.values.TheConstants.{VALUE_LEVELS}
 use Rattle.fx_read_report.specs.Form.{AreFormEntries, AreFormRetries, ArePrinted, IsForm, IsFormEnd, IsFormRefusal, IsReportOf}
 use Rattle.fx_read_report.proofs.NameBytes.{name_bytes}
 use Rattle.fx_audit.specs.declared.verdict.Verdict.{Verdict}

@@ -7,8 +7,8 @@ use Rattle.fx_spec.specs.declared.refusal.End.{End}
 use Rattle.fx_machine.specs.declared.retry.Retry.{Retry}
 use Rattle.fx_report.specs.declared.printed.PrintedEntry.{PrintedEntry}
 use Rattle.fx_read_report.specs.Form.{AreFormEntries, AreFormRetries, ArePrinted, IsFormEntry, IsFormRetry}
-use Rattle.fx_read_values.specs.Values.{IsPrinted}
-use Rattle.fx_read_values.specs.declared.values.TheConstants.{VALUE_LEVELS}
+use Rattle.fx_read_report.specs.Values.{IsPrinted}
+use Rattle.fx_read_report.specs.declared.values.TheConstants.{VALUE_LEVELS}
 use Rattle.fx_read_report.specs.Lines.{Line, IsLine, head, entries, entry, print, retries, retry, final, entry_lines, report_lines}
 use Rattle.fx_read_report.specs.Stages.{IsState, State, advanced, allows, entered, lines_at, lines_in, printed}
 use Rattle.fx_read_report.specs.declared.reading.Stage.{Stage}

@@ -17,9 +17,9 @@ use Rattle.fx_spec.specs.declared.refusal.End.TheVariants as end
 use Rattle.fx_report.specs.Print.{comma, hex_pair, is_printable, joined, quote, row_texts, spelled, truth_text, value_text}
 use Rattle.fx_report.specs.Readable.{IsInteger}
 use Rattle.fx_report.specs.Report.{end_text, fault_name, field, refusal_text}
-use Rattle.fx_read_words.specs.Numbers.{is_digit}
-use Rattle.fx_read_words.proofs.Digits.{own}
-use Rattle.fx_read_values.specs.Values.{ArePrintedRows, IsPrinted}
+use Rattle.fx_read_report.specs.Numbers.{is_digit}
+use Rattle.fx_read_report.proofs.Digits.{own}
+use Rattle.fx_read_report.specs.Values.{ArePrintedRows, IsPrinted}
 use Rattle.fx_read_report.specs.Form.{IsFormEnd, LacksFeed}
 use Rattle.fx_read_report.specs.Lines.{Line, IsLine, head, entries, entry, print, retries, retry, final, line_text}
 use Rattle.fx_read_report.proofs.PartLaws.{number_small}

@@ -1,3 +1,10 @@
+pub mod Pieces
+pub mod Cancels
+pub mod Finds
+pub mod Loops
+pub mod Trees
+pub mod Scans
+pub mod Digits
 pub mod NameBytes
 pub mod PartLaws
 pub mod LineLaws

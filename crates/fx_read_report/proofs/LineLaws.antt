@@ -8,8 +8,8 @@ use Rattle.fx_spec.specs.declared.refusal.End.{End}
 use Rattle.fx_machine.specs.declared.retry.Retry.{Retry}
 use Rattle.fx_report.specs.Print.{quote, value_text}
 use Rattle.fx_report.specs.Report.{end_text, field}
-use Rattle.fx_read_words.specs.Numbers.{EndsDigits, after}
-use Rattle.fx_read_words.proofs.Digits.{after_read, after_spelled, chained, mapped}
+use Rattle.fx_read_report.specs.Numbers.{EndsDigits, after}
+use Rattle.fx_read_report.proofs.Digits.{after_read, after_spelled, chained, mapped}
 use Rattle.fx_read_report.specs.Form.{IsFormEnd, IsFormRetry}
 use Rattle.fx_read_report.specs.Lines.{FindsLine, Line, IsLine, head, entries, entry, print, retries, retry, final, line_of, line_text}
 use Rattle.fx_read_report.specs.Kinds.{kind_of}
@@ -17,10 +17,10 @@ use Rattle.fx_read_report.specs.declared.lines.Line as held
 use Rattle.fx_read_report.specs.declared.lines.Kind.{Kind}
 use Rattle.fx_read_report.specs.declared.lines.Kind.TheVariants as kind
 use Rattle.fx_expr.specs.Tree.{Tree}
-use Rattle.fx_read_values.specs.Values.{IsPrinted, IsWholeValue}
-use Rattle.fx_read_values.proofs.Cancels.{one_value}
-use Rattle.fx_read_values.proofs.Finds.{ends_at}
-use Rattle.fx_read_values.specs.declared.values.TheConstants.{VALUE_LEVELS}
+use Rattle.fx_read_report.specs.Values.{IsPrinted, IsWholeValue}
+use Rattle.fx_read_report.proofs.Cancels.{one_value}
+use Rattle.fx_read_report.proofs.Finds.{ends_at}
+use Rattle.fx_read_report.specs.declared.values.TheConstants.{VALUE_LEVELS}
 use Rattle.fx_read_report.specs.Reads.{end_at, entry_at, field_at, last_at, path_at, retry_at, small_at}
 use Rattle.fx_read_report.proofs.PartLaws.{end_read, end_spelled, field_read, field_spelled, last_read, last_spelled, path_read, path_spelled, small_read, small_spelled}
 

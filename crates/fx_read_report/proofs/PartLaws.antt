@@ -24,10 +24,10 @@ use Rattle.fx_spec.specs.declared.refusal.End.TheVariants as end
 use Rattle.fx_report.specs.Print.{quote}
 use Rattle.fx_report.specs.Readable.{AreBytes}
 use Rattle.fx_report.specs.Report.{end_text, field, refusal_text}
-use Rattle.fx_read_words.specs.Numbers.{EndsDigits, after, leading_number}
-use Rattle.fx_read_words.specs.Quotes.{unquoted}
-use Rattle.fx_read_words.proofs.Digits.{after_read, after_spelled, chained, leading_read, leading_spelled, mapped}
-use Rattle.fx_read_words.proofs.Scans.{quote_read, quote_spelled}
+use Rattle.fx_read_report.specs.Numbers.{EndsDigits, after, leading_number}
+use Rattle.fx_read_report.specs.Quotes.{unquoted}
+use Rattle.fx_read_report.proofs.Digits.{after_read, after_spelled, chained, leading_read, leading_spelled, mapped}
+use Rattle.fx_read_report.proofs.Scans.{quote_read, quote_spelled}
 use Rattle.fx_read_report.proofs.NameBytes.{name_bytes}
 use Rattle.fx_read_report.specs.Form.{IsFormEnd, IsFormRefusal}
 use Rattle.fx_read_report.specs.Reads.{alone, blocked_at, end_at, fault_at, field_at, last_at, path_alone, path_at, path_or_none, plain_at, plain_name, plain_of, refusal_at, small_at, stop_at, when_named}

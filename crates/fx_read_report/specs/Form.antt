@@ -12,8 +12,8 @@ use Rattle.fx_report.specs.Report.{line, report_text}
 use Rattle.fx_report.specs.declared.printed.PrintedEntry.{PrintedEntry}
 use Rattle.fx_read_report.specs.declared.report.ReportFault.{ReportFault}
 use Rattle.fx_read_report.specs.declared.report.ReportFault.TheVariants.{BadLine, NoMemory}
-use Rattle.fx_read_values.specs.Values.{IsPrinted}
-use Rattle.fx_read_values.specs.declared.values.TheConstants.{VALUE_LEVELS}
+use Rattle.fx_read_report.specs.Values.{IsPrinted}
+use Rattle.fx_read_report.specs.declared.values.TheConstants.{VALUE_LEVELS}
 
 -- a refusal that names a path has one of at most 64 names
 abbrev pub IsFormRefusal : Refusal → Type 0

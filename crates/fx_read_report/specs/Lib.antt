@@ -1,3 +1,6 @@
+pub mod Values
+pub mod Numbers
+pub mod Quotes
 pub mod Feeds
 pub mod Form
 pub mod Kinds

@@ -8,8 +8,8 @@ use Rattle.fx_machine.specs.declared.retry.Retry.{Retry}
 use Rattle.fx_report.specs.Print.{quote, value_text}
 use Rattle.fx_report.specs.Report.{end_text, field}
 use Rattle.fx_report.specs.declared.printed.PrintedEntry.{PrintedEntry}
-use Rattle.fx_read_values.specs.Values.{IsPrinted}
-use Rattle.fx_read_values.specs.declared.values.TheConstants.{VALUE_LEVELS}
+use Rattle.fx_read_report.specs.Values.{IsPrinted}
+use Rattle.fx_read_report.specs.declared.values.TheConstants.{VALUE_LEVELS}
 use Rattle.fx_read_report.specs.declared.lines.Line as lines
 use Rattle.fx_read_report.specs.declared.lines.Line.TheVariants as held
 use Rattle.fx_read_report.specs.Form.{IsFormEnd, IsFormRetry}

@@ -8,8 +8,8 @@ use Rattle.fx_spec.specs.declared.refusal.Refusal.{Refusal}
 use Rattle.fx_spec.specs.declared.refusal.Refusal.TheVariants as refusal
 use Rattle.fx_spec.specs.declared.refusal.End.{End}
 use Rattle.fx_spec.specs.declared.refusal.End.TheVariants as end
-use Rattle.fx_read_words.specs.Numbers.{after, leading_number}
-use Rattle.fx_read_words.specs.Quotes.{unquoted}
+use Rattle.fx_read_report.specs.Numbers.{after, leading_number}
+use Rattle.fx_read_report.specs.Quotes.{unquoted}
 use Rattle.fx_read_report.specs.Lines.{Line, entry, retry}
 
 -- the number behind words, and what stands behind it

@@ -1,9 +1,12 @@
-//! The reader of a report.
+//! The reader of a report: words, numbers and quotes, values, lines, and the whole.
 #![tactic(auto)]
 
 mod lines;
+mod numbers;
 mod parts;
+mod quotes;
 mod reading;
 mod report;
+mod values;
 
 pub use report::{Printed, ReportFault, read_report};

@@ -5,12 +5,12 @@ ghost use Rattle.fx_read_report.specs.Lines.{FindsLine, line_of};
 ghost use Rattle.fx_read_report.specs.Reads.{entry_at, retry_at};
 ghost use Rattle.fx_read_report.specs.Kinds.{kind_by, kind_of};
 
+use crate::numbers::after;
 use crate::parts::{end, field, last_field, quoted_path, small_field};
+use crate::values::read_value;
 use fx_base::NoMemory;
 use fx_expr::Value;
 use fx_machine::Retry;
-use fx_read_values::read_value;
-use fx_read_words::after;
 use fx_spec::End;
 use std::alloc::Global;
 

@@ -4,9 +4,10 @@ ghost use Rattle.std.specs.Option.{option_map};
 ghost use Rattle.fx_store.specs.Faults.{read_path};
 ghost use Rattle.fx_read_report.specs.Reads.{blocked_at, end_at, fault_at, field_at, last_at, path_at, path_or_none, plain_at, plain_name, plain_of, refusal_at, small_at, stop_at};
 
+use crate::numbers::{after, leading_number};
+use crate::quotes::unquoted;
 use fx_base::NoMemory;
 use fx_expr::ExprFault;
-use fx_read_words::{after, leading_number, unquoted};
 use fx_spec::{End, Refusal};
 use fx_store::{Path, PathFault};
 use std::alloc::Global;

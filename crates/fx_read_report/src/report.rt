@@ -65,7 +65,7 @@ fn take_text(alloc: Global, text: &[u8], reading: &mut Reading) -> Result<bool, 
 }
 
 /// Reads a report. Bytes have its form where they are the report of some entries and retries whose numbers fit their
-/// types, whose paths are paths, and whose values are those that [`read_value`](fx_read_values::read_value) reads; these
+/// types, whose paths are paths, and whose values are those that [`read_value`](crate::values::read_value) reads; these
 /// lists are given. Otherwise the fault has the number of the first line such that the lines up to it begin no report,
 /// where a line that lacks its line feed begins none, and one line more than there are counts where a report goes on.
 pub fn read_report(alloc: Global, bytes: &[u8]) -> Result<Printed, ReportFault>

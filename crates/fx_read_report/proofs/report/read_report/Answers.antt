@@ -1,5 +1,5 @@
 use Rattle.std.proofs.Common.{sym, ◌∙◌, ◌+◌}
-use Rattle.fx_read_values.proofs.Trees.{empty_is, some_is}
+use Rattle.fx_read_report.proofs.Trees.{empty_is, some_is}
 use Rattle.fx_read_report.specs.Stages.{state_of}
 use Rattle.fx_read_report.proofs.Reporting.{bad_end, bad_rest, bad_text, reached_more, reached_none, read_as, rest_is, whole_report}
 use Rattle.fx_read_report.proofs.report.read_report.Goals as goal

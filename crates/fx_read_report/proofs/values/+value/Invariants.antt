@@ -1,0 +1,30 @@
+use Rattle.std.proofs.Common.{◌≡◌, ◌+◌, ◌*◌, length, map}
+use Rattle.fx_read_report.proofs.Loops.{Reading}
+use Rattle.fx_read_report.proofs.values.+value.Given as goal
+
+abbrev pub decreases-value : goal.decreases-value
+decreases-value l = 5 * l.levels
+
+abbrev pub decreases-value_before : goal.decreases-value_before
+decreases-value_before l = 5 * l.levels + 1
+
+abbrev pub decreases-row : goal.decreases-row
+decreases-row l = 5 * l.levels + 1
+
+abbrev pub decreases-rows : goal.decreases-rows
+decreases-rows l = 5 * l.levels + 2
+
+abbrev pub decreases-pair_value : goal.decreases-pair_value
+decreases-pair_value l = 5 * l.levels + 2
+
+abbrev pub decreases-some_value : goal.decreases-some_value
+decreases-some_value l = 5 * l.levels + 2
+
+abbrev pub decreases-table_value : goal.decreases-table_value
+decreases-table_value l = 5 * l.levels + 3
+
+abbrev pub invariant-rows-reading : goal.invariant-rows-reading
+invariant-rows-reading l = Reading l.levels l.bytes l.keys.items l.values.items l.rest
+
+abbrev pub decreases-rows-reading : goal.decreases-rows-reading
+decreases-rows-reading l = length l.rest

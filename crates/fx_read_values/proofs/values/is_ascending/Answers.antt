@@ -1,6 +1,0 @@
-use Rattle.std.proofs.Common.{sym, ◌∙◌, arith}
-use Rattle.fx_read_values.proofs.Loops.{ascends_short}
-use Rattle.fx_read_values.proofs.values.is_ascending.Goals as goal
-
-pub returns : goal.returns
-returns c = ascends_short c.rising.rest.now c.in_default.len_below ∙ sym c.rising.invariant

@@ -1,9 +1,0 @@
-use Rattle.std.proofs.Common.{◌≡◌, length}
-use Rattle.fx_read_values.specs.Values.{ascends}
-use Rattle.fx_read_values.proofs.values.is_ascending.Given as goal
-
-abbrev pub invariant-rising : goal.invariant-rising
-invariant-rising l = ascends l.texts ≡ ascends l.rest
-
-abbrev pub decreases-rising : goal.decreases-rising
-decreases-rising l = length l.rest
