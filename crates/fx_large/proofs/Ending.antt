@@ -7,7 +7,7 @@ use Rattle.fx_outside.specs.Host.{HostView}
 use Rattle.fx_spec.specs.Order.{IsComplete, state}
 use Rattle.fx_board.specs.Board.{last_state}
 use Rattle.fx_board.specs.Log.{Log}
-use Rattle.fx_summary.specs.Summary.{summary}
+use Rattle.fx_large.specs.Summary.{summary}
 use Rattle.fx_large.specs.Base.{generated_base, IsRunOf}
 
 module _ (number : ℕ) (log : Log) (run : IsRunOf number log) where

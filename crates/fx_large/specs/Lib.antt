@@ -1,2 +1,6 @@
+pub mod Summary
+pub mod Case
+pub mod GenRows
+pub mod Wrote
 pub mod Base
-pub mod Rows
+pub mod LargeRows

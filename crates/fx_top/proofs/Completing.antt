@@ -9,9 +9,9 @@ use Rattle.fx_command.specs.declared.status.Status.{Status}
 use Rattle.fx_command.specs.declared.status.Status.TheVariants as status
 use Rattle.fx_command.proofs.Told.{if_some_map, same, some_unit}
 use Rattle.fx_durable.specs.Disk.{DiskView}
-use Rattle.fx_gen_command.specs.Rows.{gen_making}
+use Rattle.fx_large.specs.GenRows.{gen_making}
 use Rattle.fx_journal_command.proofs.Completing.{journal_completes, journal_no_memory, journal_not_begun}
-use Rattle.fx_large.specs.Rows.{large_making}
+use Rattle.fx_large.specs.LargeRows.{large_making}
 use Rattle.fx_command.proofs.Makings.{making_completes, making_no_memory}
 use Rattle.fx_recover_command.proofs.Completing.{recover_completes}
 use Rattle.fx_recover_command.proofs.Ending as recovering

@@ -9,9 +9,9 @@ use Rattle.fx_audit_command.specs.Rows.{AuditRow, AuditAsksFit, IsProperAudit}
 use Rattle.fx_command.specs.declared.status.Status.{Status}
 use Rattle.fx_command.specs.declared.status.Status.TheVariants as status
 use Rattle.fx_durable.specs.Disk.{DiskView}
-use Rattle.fx_gen_command.specs.Rows.{gen_making}
+use Rattle.fx_large.specs.GenRows.{gen_making}
 use Rattle.fx_journal_command.specs.Rows.{JournalRow, JournalAsksFit, KeepsJournal, IsProperJournal}
-use Rattle.fx_large.specs.Rows.{large_making}
+use Rattle.fx_large.specs.LargeRows.{large_making}
 use Rattle.fx_command.specs.Making.{MakingRow}
 use Rattle.fx_command.specs.Out.{IsProperOut}
 use Rattle.fx_recover_command.specs.Rows.{RecoverRow, RecoverAsksFit, IsProperRecover}

@@ -1,3 +1,0 @@
-pub mod Case
-pub mod Rows
-pub mod Wrote
