@@ -4,9 +4,9 @@ use Rattle.std.specs.Prelude.{is_some, slice_get}
 use Rattle.std.specs.List.{list_all}
 use Rattle.std.specs.Option.{option_map, option_map_or, option_and_then, unwrap_or}
 use Rattle.std.proofs.lemmas.Bool.Decides.{nat_tests}
-use Rattle.fx_command_line.specs.declared.form.CommandName.{CommandName}
-use Rattle.fx_command_line.specs.Forms.{command_named, has_form, is_within, least_of, most_of, takes, word_of}
-use Rattle.fx_command_line.proofs.Names.{named_so}
+use Rattle.fx_words.specs.declared.form.CommandName.{CommandName}
+use Rattle.fx_words.specs.Forms.{command_named, has_form, is_within, least_of, most_of, takes, word_of}
+use Rattle.fx_words.proofs.Names.{named_so}
 use Rattle.fx_words.specs.declared.job.Inputs as code_inputs
 use Rattle.fx_words.specs.Job.{Inputs, Mode, RunJob, AuditJob, JournalJob, RecoverJob, ViewsJob, ShowJob, GenJob, Plain, Scheduled, are_plain, audit_job, command_job, gen_job, is_count, is_count_with_views, is_plain, job_of, journal_job, named_job, number_of, recover_job, run_job, schedule_of, scheduled_job, show_job, views_job}
 use Rattle.fx_words.specs.JobOf.{BeginAt, asked_inputs, has_schedule, scripts_in, shells_read}

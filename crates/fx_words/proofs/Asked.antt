@@ -2,10 +2,10 @@
 use Rattle.std.proofs.Common.{◌≡◌, ℕ, suc, ◌+◌, ◌≤◌, Bool, true, false, cond, ◌&&◌, List, [], ◌∷◌, length, Option, Some, None, refl, sym, ap, ◌∙◌, arith}
 use Rattle.std.specs.Option.{option_map, option_map_or, option_and_then}
 use Rattle.std.proofs.lemmas.Bool.Decides.{nat_tests}
-use Rattle.fx_command_line.specs.declared.form.CommandName.{CommandName}
-use Rattle.fx_command_line.specs.declared.form.CommandName.TheVariants as command
-use Rattle.fx_command_line.specs.Forms.{command_named, has_form, is_within, takes, word_of}
-use Rattle.fx_command_line.proofs.Names.{command_is}
+use Rattle.fx_words.specs.declared.form.CommandName.{CommandName}
+use Rattle.fx_words.specs.declared.form.CommandName.TheVariants as command
+use Rattle.fx_words.specs.Forms.{command_named, has_form, is_within, takes, word_of}
+use Rattle.fx_words.proofs.Names.{command_is}
 use Rattle.fx_words.specs.Job.{Job, Mode, Run, Show, Gen, Large, Audit, Journal, Recover, Views, Scheduled, Watched, are_plain, audit_job, command_job, gen_job, is_count, is_count_with_views, is_plain, job_of, journal_job, named_job, recover_job, run_job, scheduled_job, show_job, views_job}
 
 -- ---- words without a form ask for nothing

@@ -1,3 +1,10 @@
+pub mod Adding
+pub mod Found
+pub mod Leaves
+pub mod Names
+pub mod Taken
+pub mod Walks
+pub mod Whole
 pub mod Arguments
 pub mod Decimals
 pub mod Numbered

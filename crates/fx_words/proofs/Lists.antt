@@ -6,7 +6,7 @@ use Rattle.std.specs.Option.{option_map, option_and_then}
 use Rattle.std.specs.Str.{bytes_eq}
 use Rattle.std.proofs.lemmas.List.{map-append}
 use Rattle.std.specs.Borrow.{Bor}
-use Rattle.fx_command_line.specs.WordsOf.{texts_of}
+use Rattle.fx_words.specs.WordsOf.{texts_of}
 use Rattle.fx_words.specs.Job.{is_plain, shell_named, shells_named, schedule_of, is_comma}
 
 pub drop_there : {X : Type 0} (xs : List X) (i : ℕ) (x : X) → Some x ≡ slice_get xs i → drop i xs ≡ x ∷ drop (i + 1) xs

@@ -5,10 +5,10 @@ use Rattle.std.specs.List.{list_all, slice_split}
 use Rattle.std.specs.Option.{option_map, option_and_then}
 use Rattle.std.specs.Str.{bytes_eq}
 use Rattle.std.specs.Str.Parse.{digits_value}
-use Rattle.fx_command_line.specs.declared.form.CommandName.{CommandName}
-use Rattle.fx_command_line.specs.declared.form.CommandName.TheVariants as command
-use Rattle.fx_command_line.specs.Forms.{command_named}
-pub use Rattle.fx_command_line.specs.Forms.{is_count, is_count_with_views, is_plain}
+use Rattle.fx_words.specs.declared.form.CommandName.{CommandName}
+use Rattle.fx_words.specs.declared.form.CommandName.TheVariants as command
+use Rattle.fx_words.specs.Forms.{command_named}
+pub use Rattle.fx_words.specs.Forms.{is_count, is_count_with_views, is_plain}
 
 -- a thread for each script, or by a schedule of shells, which says after each commit whether the tree has a value or not
 pub data Mode : Type 0 where

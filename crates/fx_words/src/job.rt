@@ -1,14 +1,16 @@
 ghost use Rattle.std.specs.Prelude.{◌≡◌, ◌+◌, ◌≤◌, ◌<◌, IfOk, IfSome, Some, None, Err, slice_get, option_copied, option_map, is_some, length, drop};
 ghost use Rattle.fx_base.specs.Limits.{shell_limit};
-ghost use Rattle.fx_command_line.specs.Forms.{least_of, most_of};
-ghost use Rattle.fx_command_line.specs.WordsOf.{texts_of};
+ghost use Rattle.fx_words.specs.Forms.{least_of, most_of};
+ghost use Rattle.fx_words.specs.WordsOf.{texts_of};
 ghost use Rattle.fx_words.specs.Job as job;
 ghost use Rattle.fx_words.specs.JobOf.{asked, asked_audit, asked_gen, asked_inputs, asked_job, asked_journal, asked_recover, asked_show, asked_views, has_schedule, AreInputs, BeginAt, IsAnyJob, IsJob, IsJournalJob, IsViewsJob};
 
 use crate::decimal::number_of;
+use crate::fault::WordsFault;
+use crate::form::CommandName;
+use crate::reading::read_words;
 use crate::schedule::{is_schedule, read_schedule};
 use fx_base::NoMemory;
-use fx_command_line::{CommandName, WordsFault, read_words};
 use fx_outside::{HostText, Words};
 use std::alloc::Global;
 

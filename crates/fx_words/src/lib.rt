@@ -1,11 +1,15 @@
-//! The words of the command line: which command they ask for, with its arguments.
+//! The words of the command line, read by `clap`: which command they ask for, with its arguments.
 #![tactic(auto)]
 
 mod decimal;
+mod fault;
+mod form;
 mod job;
+mod parser;
+mod reading;
 mod schedule;
 
-pub use fx_command_line::WordsFault;
+pub use fault::WordsFault;
 pub use job::{
     AuditJob, GenJob, Inputs, Job, JournalJob, RecoverJob, RunJob, RunMode, ShowJob, ViewsJob,
     job_of,

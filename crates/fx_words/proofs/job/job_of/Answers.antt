@@ -1,6 +1,6 @@
 use Rattle.std.proofs.Common.{◌≡◌, false, ap, sym, ◌∙◌, rules}
-use Rattle.fx_command_line.specs.Forms.{has_form}
-use Rattle.fx_command_line.specs.WordsOf.{texts_of}
+use Rattle.fx_words.specs.Forms.{has_form}
+use Rattle.fx_words.specs.WordsOf.{texts_of}
 use Rattle.fx_words.proofs.Asked.{no_form}
 use Rattle.fx_words.proofs.job.job_of.Goals as goal
 

@@ -1,5 +1,5 @@
 use Rattle.std.proofs.Common.{◌≡◌, ◌++◌, drop}
-use Rattle.fx_command_line.specs.WordsOf.{texts_of}
+use Rattle.fx_words.specs.WordsOf.{texts_of}
 use Rattle.fx_words.proofs.job.texts.Given as goal
 
 abbrev pub invariant-loop-i : goal.invariant-loop-i

@@ -1,8 +1,8 @@
 -- The words that a form stands for.
 use Rattle.std.specs.Prelude.{ℕ, List, ◌∷◌, map}
 use Rattle.std.specs.Borrow.{Bor}
-use Rattle.fx_command_line.specs.declared.form.Form.{Form}
-use Rattle.fx_command_line.specs.Forms.{word_of}
+use Rattle.fx_words.specs.declared.form.Form.{Form}
+use Rattle.fx_words.specs.Forms.{word_of}
 
 -- the texts behind references
 abbrev pub texts_of : List (Bor (List ℕ)) → List (List ℕ)

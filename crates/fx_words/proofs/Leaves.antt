@@ -10,11 +10,11 @@ use Rattle.clap.specs.Simple.{Shape, built_leaf, inherited}
 use Rattle.clap.specs.Faults.{defaults_fault, step_fault}
 use Rattle.clap.specs.declared.builder.value_parser.ValueParser.TheVariants as parser
 use Rattle.clap.specs.declared.error.kind.ErrorKind.TheVariants as kind
-use Rattle.fx_command_line.specs.declared.form.CommandName.{CommandName}
-use Rattle.fx_command_line.specs.declared.form.CommandName.TheVariants.{Run, Trace, Show, Gen, Large, Audit, Watch, Journal, Recover, Views}
-use Rattle.fx_command_line.specs.Forms.{is_within, least_of, most_of, takes}
-use Rattle.fx_command_line.specs.Parser.{command, program}
-use Rattle.fx_command_line.proofs.Walks.{end_fault, leaf_fault, leaf_rows, start, step, steps_fault}
+use Rattle.fx_words.specs.declared.form.CommandName.{CommandName}
+use Rattle.fx_words.specs.declared.form.CommandName.TheVariants.{Run, Trace, Show, Gen, Large, Audit, Watch, Journal, Recover, Views}
+use Rattle.fx_words.specs.Forms.{is_within, least_of, most_of, takes}
+use Rattle.fx_words.specs.Parser.{command, program}
+use Rattle.fx_words.proofs.Walks.{end_fault, leaf_fault, leaf_rows, start, step, steps_fault}
 
 -- a command as the program's parser is built
 abbrev pub ready : CommandName → Shape

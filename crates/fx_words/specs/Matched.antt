@@ -2,7 +2,7 @@
 use Rattle.std.specs.Prelude.{ℕ, List, ◌∷◌, Option, codes}
 use Rattle.std.specs.Option.{option_map, option_and_then}
 use Rattle.clap.specs.Words.{Row, all_of}
-use Rattle.fx_command_line.specs.Forms.{command_named, word_of}
+use Rattle.fx_words.specs.Forms.{command_named, word_of}
 
 abbrev pub command_in : List ℕ → List Row → Option (List (List ℕ))
 command_in name rows =

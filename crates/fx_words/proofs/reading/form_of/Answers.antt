@@ -1,10 +1,10 @@
 use Rattle.std.proofs.Common.{◌≡◌, IfOk, Some, sym, subst}
 use Rattle.std.specs.Option.{option_map}
 use Rattle.clap.specs.Words.{subcommand_rows_of}
-use Rattle.fx_command_line.specs.Matched.{words_in}
-use Rattle.fx_command_line.specs.WordsOf.{words_of}
-use Rattle.fx_command_line.proofs.Found.{both_found, rows_in}
-use Rattle.fx_command_line.proofs.reading.form_of.Goals as goal
+use Rattle.fx_words.specs.Matched.{words_in}
+use Rattle.fx_words.specs.WordsOf.{words_of}
+use Rattle.fx_words.proofs.Found.{both_found, rows_in}
+use Rattle.fx_words.proofs.reading.form_of.Goals as goal
 
 pub returns : goal.returns
 returns c =

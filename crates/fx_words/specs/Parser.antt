@@ -5,8 +5,8 @@ use Rattle.clap.specs.Words.{App, Rule, Shape, app_of, new_rule, with_subcommand
 use Rattle.clap.specs.declared.builder.command.Command.{Command}
 use Rattle.clap.specs.declared.builder.command.Command.TheViews.{out-Command as fields_of}
 use Rattle.clap.specs.Simple.{new_shape}
-use Rattle.fx_command_line.specs.declared.form.CommandName.{CommandName}
-use Rattle.fx_command_line.specs.Forms.{commands, least_of, most_of, word_of}
+use Rattle.fx_words.specs.declared.form.CommandName.{CommandName}
+use Rattle.fx_words.specs.Forms.{commands, least_of, most_of, word_of}
 
 -- an argument of so many texts
 abbrev pub texts : ℕ → ℕ → Rule

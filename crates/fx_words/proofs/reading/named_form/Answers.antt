@@ -1,7 +1,7 @@
 use Rattle.std.proofs.Common.{Some, None, ap, ◌∙◌, codes}
-use Rattle.fx_command_line.specs.WordsOf.{texts_of}
-use Rattle.fx_command_line.proofs.Found.{form_is, rows_in, texts_are}
-use Rattle.fx_command_line.proofs.reading.named_form.Goals as goal
+use Rattle.fx_words.specs.WordsOf.{texts_of}
+use Rattle.fx_words.proofs.Found.{form_is, rows_in, texts_are}
+use Rattle.fx_words.proofs.reading.named_form.Goals as goal
 
 pub returns-in-None-get_strs : goal.returns-in-None-get_strs
 returns-in-None-get_strs c =

@@ -3,10 +3,10 @@ ghost use Rattle.std.specs.Prelude.{◌≡◌, IfOk, Err, true, false, Some};
 ghost use Rattle.std.specs.List.{list_all};
 ghost use Rattle.std.specs.Option.{option_map};
 ghost use Rattle.clap.specs.Words.{found_of, rows_of, subcommand_rows_of};
-ghost use Rattle.fx_command_line.specs.Forms as forms;
-ghost use Rattle.fx_command_line.specs.Forms.{has_form, is_plain};
-ghost use Rattle.fx_command_line.specs.Matched.{command_in, words_in};
-ghost use Rattle.fx_command_line.specs.WordsOf.{texts_of, words_of};
+ghost use Rattle.fx_words.specs.Forms as forms;
+ghost use Rattle.fx_words.specs.Forms.{has_form, is_plain};
+ghost use Rattle.fx_words.specs.Matched.{command_in, words_in};
+ghost use Rattle.fx_words.specs.WordsOf.{texts_of, words_of};
 
 use crate::fault::WordsFault;
 use crate::form::{COMMANDS, CommandName, Form};
@@ -28,7 +28,7 @@ fn matches_of<'a>(alloc: Global, words: &'a [&'a str]) -> Result<ArgMatches<'a>,
 }
 
 /// The words of the command line as the command's form that they have.
-pub fn read_words<'a>(alloc: Global, words: &'a [&'a str]) -> Result<Form<'a>, WordsFault>
+pub(crate) fn read_words<'a>(alloc: Global, words: &'a [&'a str]) -> Result<Form<'a>, WordsFault>
     requires { list_all is_plain (texts_of words.now) ≡ true }
     ensures form { IfOk result (λ form. has_form (texts_of words.entry.now) ≡ true) }
     ensures words { IfOk result (λ form. words_of form ≡ texts_of words.entry.now) }

@@ -13,7 +13,7 @@ pub enum WordsFault {
 
 impl From<NoMemory> for WordsFault {
     ghost use Rattle.std.specs.Prelude.{◌≡◌};
-    ghost use Rattle.fx_command_line.specs.declared.fault.WordsFault.TheVariants as fault;
+    ghost use Rattle.fx_words.specs.declared.fault.WordsFault.TheVariants as fault;
 
     ghost from_gives = { λ _ why. why ≡ fault.NoMemory };
 
@@ -24,7 +24,7 @@ impl From<NoMemory> for WordsFault {
 
 impl From<AllocError> for WordsFault {
     ghost use Rattle.std.specs.Prelude.{◌≡◌};
-    ghost use Rattle.fx_command_line.specs.declared.fault.WordsFault.TheVariants as fault;
+    ghost use Rattle.fx_words.specs.declared.fault.WordsFault.TheVariants as fault;
 
     ghost from_gives = { λ _ why. why ≡ fault.NoMemory };
 
@@ -37,7 +37,7 @@ impl From<Error> for WordsFault {
     ghost use Rattle.std.specs.Prelude.{◌≡◌, ◌≢◌};
     ghost use Rattle.clap.specs.Words.{kind_of};
     ghost use Rattle.clap.specs.declared.error.kind.ErrorKind.TheVariants.{OutOfMemory};
-    ghost use Rattle.fx_command_line.specs.declared.fault.WordsFault.TheVariants as fault;
+    ghost use Rattle.fx_words.specs.declared.fault.WordsFault.TheVariants as fault;
 
     ghost from_gives = { λ error why. why ≡ fault.Usage → kind_of error ≢ OutOfMemory };
 

@@ -1,7 +1,7 @@
 use Rattle.std.proofs.Common.{◌≡◌, take}
 use Rattle.clap.specs.Words.{app_of}
-use Rattle.fx_command_line.specs.Parser.{with_commands}
-use Rattle.fx_command_line.proofs.parser.program.Given as goal
+use Rattle.fx_words.specs.Parser.{with_commands}
+use Rattle.fx_words.proofs.parser.program.Given as goal
 
 abbrev pub invariant-loop-name : goal.invariant-loop-name
 invariant-loop-name l = app_of l.program ≡ with_commands (take l.name-index l.name-items)

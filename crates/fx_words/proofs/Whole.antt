@@ -9,14 +9,14 @@ use Rattle.clap.specs.Simple.{Shape, built, entered, label_of, names_of, rows_at
 use Rattle.clap.specs.Faults.{check_fault, defaults_fault, entered_fault, fault_of, level_fault, settle_fault, turn_fault, walk_fault}
 use Rattle.clap.proofs.WalkLemmas.{walk_stopped}
 use Rattle.clap.proofs.FaultLemmas.{stopped_fault}
-use Rattle.fx_command_line.specs.declared.form.CommandName.{CommandName}
-use Rattle.fx_command_line.specs.declared.form.CommandName.TheVariants.{Run, Trace, Show, Gen, Large, Audit, Watch, Journal, Recover, Views}
-use Rattle.fx_command_line.specs.Forms.{command_named, commands, has_form, is_plain, takes, word_of}
-use Rattle.fx_command_line.specs.Matched.{command_in, words_in}
-use Rattle.fx_command_line.specs.Parser.{program}
-use Rattle.fx_command_line.proofs.Walks.{both, level_is, rows_are, start, turn_is}
-use Rattle.fx_command_line.proofs.Leaves.{command_says, command_takes, ready}
-use Rattle.fx_command_line.proofs.Names.{command_is, labels, named_so, unfound}
+use Rattle.fx_words.specs.declared.form.CommandName.{CommandName}
+use Rattle.fx_words.specs.declared.form.CommandName.TheVariants.{Run, Trace, Show, Gen, Large, Audit, Watch, Journal, Recover, Views}
+use Rattle.fx_words.specs.Forms.{command_named, commands, has_form, is_plain, takes, word_of}
+use Rattle.fx_words.specs.Matched.{command_in, words_in}
+use Rattle.fx_words.specs.Parser.{program}
+use Rattle.fx_words.proofs.Walks.{both, level_is, rows_are, start, turn_is}
+use Rattle.fx_words.proofs.Leaves.{command_says, command_takes, ready}
+use Rattle.fx_words.proofs.Names.{command_is, labels, named_so, unfound}
 
 abbrev names : Names
 names = names_of (built program)

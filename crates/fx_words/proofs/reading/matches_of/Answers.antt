@@ -1,7 +1,7 @@
 use Rattle.clap.specs.Words.{app_of}
-use Rattle.fx_command_line.specs.WordsOf.{texts_of}
-use Rattle.fx_command_line.proofs.Taken.{by_usage, read, simple_and_free, taken, untaken}
-use Rattle.fx_command_line.proofs.reading.matches_of.Goals as goal
+use Rattle.fx_words.specs.WordsOf.{texts_of}
+use Rattle.fx_words.proofs.Taken.{by_usage, read, simple_and_free, taken, untaken}
+use Rattle.fx_words.proofs.reading.matches_of.Goals as goal
 
 pub returns-in_err-matches-clause-usage : goal.returns-in_err-matches-clause-usage
 returns-in_err-matches-clause-usage c = λ usage.

@@ -4,9 +4,9 @@ use Rattle.std.specs.Option.{option_map, option_and_then}
 use Rattle.clap.specs.Words.{Row, Text, all_of, found_of, matched_of, raw_values, rows_of}
 use Rattle.clap.specs.declared.parser.matches.ArgMatches.{ArgMatches}
 use Rattle.clap.proofs.WalkLemmas.{raw_values-rows}
-use Rattle.fx_command_line.specs.declared.form.CommandName.{CommandName}
-use Rattle.fx_command_line.specs.Forms.{command_named, word_of}
-use Rattle.fx_command_line.specs.Matched.{command_in}
+use Rattle.fx_words.specs.declared.form.CommandName.{CommandName}
+use Rattle.fx_words.specs.Forms.{command_named, word_of}
+use Rattle.fx_words.specs.Matched.{command_in}
 
 -- the rows of a command's matches
 abbrev pub rows_in : ArgMatches → List Row

@@ -4,9 +4,9 @@ use Rattle.std.specs.Prelude.{find, map, if◌then◌else◌}
 use Rattle.std.specs.Str.{bytes_eq}
 use Rattle.std.proofs.lemmas.Slice.Eq.{bytes_eq-Decides}
 use Rattle.clap.specs.Walk.{Names, Text, answers_to}
-use Rattle.fx_command_line.specs.declared.form.CommandName.{CommandName}
-use Rattle.fx_command_line.specs.declared.form.CommandName.TheVariants.{Run, Trace, Show, Gen, Large, Audit, Watch, Journal, Recover, Views}
-use Rattle.fx_command_line.specs.Forms.{command_named, commands, named_in, word_of}
+use Rattle.fx_words.specs.declared.form.CommandName.{CommandName}
+use Rattle.fx_words.specs.declared.form.CommandName.TheVariants.{Run, Trace, Show, Gen, Large, Audit, Watch, Journal, Recover, Views}
+use Rattle.fx_words.specs.Forms.{command_named, commands, named_in, word_of}
 
 -- a word that names a command is its name
 named_is : (names : List CommandName) (word : Text) (name : CommandName) → named_in names word ≡ Some name → word_of name ≡ word

@@ -1,9 +1,9 @@
 //! The command line as `clap` is told of it.
 ghost use Rattle.std.specs.Prelude.{◌≡◌, IfOk, false};
 ghost use Rattle.clap.specs.Words.{app_of, rule_of};
-ghost use Rattle.fx_command_line.specs.Forms.{least_of, most_of};
-ghost use Rattle.fx_command_line.specs.Parser as parser;
-ghost use Rattle.fx_command_line.specs.Parser.{IsTold};
+ghost use Rattle.fx_words.specs.Forms.{least_of, most_of};
+ghost use Rattle.fx_words.specs.Parser as parser;
+ghost use Rattle.fx_words.specs.Parser.{IsTold};
 
 use crate::form::{COMMANDS, CommandName};
 use clap::{Arg, Command};

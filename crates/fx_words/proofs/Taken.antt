@@ -9,12 +9,12 @@ use Rattle.clap.specs.declared.error.Error.{Error}
 use Rattle.clap.specs.declared.error.kind.ErrorKind.{ErrorKind}
 use Rattle.clap.specs.declared.error.kind.ErrorKind.TheVariants.{OutOfMemory}
 use Rattle.clap.specs.declared.parser.matches.ArgMatches.{ArgMatches}
-use Rattle.fx_command_line.specs.Forms.{has_form, is_plain}
-use Rattle.fx_command_line.specs.Matched.{words_in}
-use Rattle.fx_command_line.specs.Parser.{program}
-use Rattle.fx_command_line.specs.declared.fault.WordsFault.{WordsFault}
-use Rattle.fx_command_line.specs.declared.fault.WordsFault.TheVariants as fault
-use Rattle.fx_command_line.proofs.Whole.{program_reads, program_takes}
+use Rattle.fx_words.specs.Forms.{has_form, is_plain}
+use Rattle.fx_words.specs.Matched.{words_in}
+use Rattle.fx_words.specs.Parser.{program}
+use Rattle.fx_words.specs.declared.fault.WordsFault.{WordsFault}
+use Rattle.fx_words.specs.declared.fault.WordsFault.TheVariants as fault
+use Rattle.fx_words.proofs.Whole.{program_reads, program_takes}
 
 not_empty : (k : ErrorKind) (ks : Kinds) → is_empty (k ∷ ks) ≡ false
 not_empty k ks = grind (arith, nat_tests)

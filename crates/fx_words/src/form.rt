@@ -1,7 +1,7 @@
 //! The commands of the program, and how many arguments each takes.
 ghost use Rattle.std.specs.Prelude.{◌≡◌, ◌+◌, ◌≤◌};
-ghost use Rattle.fx_command_line.specs.Forms as forms;
-ghost use Rattle.fx_command_line.specs.Forms.{least_of, most_of};
+ghost use Rattle.fx_words.specs.Forms as forms;
+ghost use Rattle.fx_words.specs.Forms.{least_of, most_of};
 
 use fx_base::SHELL_LIMIT;
 use std::ops::RangeInclusive;
@@ -11,7 +11,7 @@ const SCRIPT_LIMIT: usize = SHELL_LIMIT as usize;
 
 /// A command of the program.
 #[derive(Debug, Clone, Copy)]
-pub enum CommandName {
+pub(crate) enum CommandName {
     Run,
     Trace,
     Show,
@@ -26,7 +26,7 @@ pub enum CommandName {
 
 /// A command that the words name, with its arguments as they stand there.
 #[derive(Drop)]
-pub struct Form<'a> {
+pub(crate) struct Form<'a> {
     pub command: CommandName,
     pub arguments: Vec<&'a str>,
 }

@@ -1,9 +1,9 @@
 use Rattle.std.proofs.Common.{ap, get_or, ◌∙◌}
-use Rattle.fx_command_line.specs.declared.form.CommandName.TheVariants.{Run}
-use Rattle.fx_command_line.specs.Forms.{commands}
-use Rattle.fx_command_line.specs.Parser.{with_command}
-use Rattle.fx_command_line.proofs.Adding.{one_more}
-use Rattle.fx_command_line.proofs.parser.program.Goals as goal
+use Rattle.fx_words.specs.declared.form.CommandName.TheVariants.{Run}
+use Rattle.fx_words.specs.Forms.{commands}
+use Rattle.fx_words.specs.Parser.{with_command}
+use Rattle.fx_words.proofs.Adding.{one_more}
+use Rattle.fx_words.proofs.parser.program.Goals as goal
 
 pub loop-name-preserved : goal.loop-name-preserved
 loop-name-preserved c =

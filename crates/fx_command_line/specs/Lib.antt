@@ -1,4 +1,0 @@
-pub mod Forms
-pub mod Matched
-pub mod Parser
-pub mod WordsOf
