@@ -2,8 +2,8 @@
 
 use crate::{grammar, made, names, reports, values};
 use fx_base::NoMemory;
-use fx_telling::{Case, integer, number, split_word, tell};
 use std::alloc::Global;
+use test_stage::{Case, integer, number, split_word, tell};
 
 /// A call of a lower crate, with texts.
 #[derive(Clone, Copy)]

@@ -7,9 +7,9 @@ use fx_outside::{HostText, Words};
 use fx_parse::{ParseFault, parse_expr, parse_shape};
 use fx_scripts::{ScriptFault, script_of};
 use fx_show::{DescriptionFault, description_of};
-use fx_telling::{add_bytes, tell, unescaped};
 use std::alloc::Global;
 use std::fmt::Write;
+use test_stage::{add_bytes, tell, unescaped};
 
 /// What a text is read as.
 #[derive(Clone, Copy)]

@@ -6,8 +6,8 @@ use crate::values::text;
 use fx_base::NoMemory;
 use fx_expr::{Keyed, Text, TextSet, Value};
 use fx_report::value_line;
-use fx_telling::{integer, tell_bytes};
 use std::alloc::Global;
+use test_stage::{integer, tell_bytes};
 
 /// Adds the texts between commas.
 fn add_texts(alloc: Global, texts: &mut Vec<Text>, spelled: &str) -> Result<(), NoMemory> {

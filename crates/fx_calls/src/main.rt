@@ -10,10 +10,10 @@ mod names;
 mod reports;
 mod values;
 
-use fx_telling::add_answers;
 use reports::Parts;
 use std::io;
 use std::io::ErrorKind;
+use test_stage::add_answers;
 
 fn main(rt: HostRuntime) -> io::Result<()> {
     let alloc = rt.alloc();

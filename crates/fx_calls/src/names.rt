@@ -2,9 +2,9 @@
 
 use fx_base::NoMemory;
 use fx_store::{LinkText, Name, Path, PathFault};
-use fx_telling::{add_bytes, tell, unescaped};
 use std::alloc::Global;
 use std::fmt::Write;
+use test_stage::{add_bytes, tell, unescaped};
 
 /// What a text is read as.
 #[derive(Clone, Copy)]

@@ -7,8 +7,8 @@ use fx_expr::{ExprFault, Value, Values};
 use fx_report::{PrintedEntries, PrintedEntry, Retries, Retry, event_lines, printed_report};
 use fx_spec::{End, Refusal};
 use fx_store::Path;
-use fx_telling::{number, split_word, tell_bytes, unescaped};
 use std::alloc::Global;
+use test_stage::{number, split_word, tell_bytes, unescaped};
 
 /// The parts of a case.
 #[derive(Drop)]

@@ -8,9 +8,9 @@ use fx_base::NoMemory;
 use fx_expr::{BinOp, Env, EvalFault, Expr, TEXT_LIMIT, Text, UnOp, Value, matches};
 use fx_report::value_line;
 use fx_session::evaluated;
-use fx_telling::{tell_bytes, unescaped};
 use std::alloc::Global;
 use std::fmt::Write;
+use test_stage::{tell_bytes, unescaped};
 
 /// An operator on a text.
 #[derive(Clone, Copy)]

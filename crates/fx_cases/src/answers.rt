@@ -2,13 +2,13 @@
 
 use crate::door::Door;
 use fx_base::NoMemory;
-use fx_hosts::{Call, tell_call, tell_message};
 use fx_outside::HostKind;
-use fx_stage::{Program, Stage, tell_disk, tell_tree};
-use fx_steps::{tell_attempt, tell_steps, tell_threads, tell_views, tell_watch};
-use fx_telling::{Case, number, split_word, tell};
-use fx_trials::{tell_changes, tell_faults, tell_rooms, tell_schedules, tell_stops, tell_top};
 use std::alloc::Global;
+use test_runs::{tell_attempt, tell_steps, tell_threads, tell_views, tell_watch};
+use test_stage::{
+    Call, Case, Program, Stage, number, split_word, tell, tell_call, tell_changes, tell_disk,
+    tell_faults, tell_message, tell_rooms, tell_schedules, tell_stops, tell_top, tell_tree,
+};
 
 /// What a line sets up.
 #[derive(Clone, Copy)]

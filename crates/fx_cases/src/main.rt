@@ -9,11 +9,10 @@ mod program;
 
 use answers::Tried;
 use door::Door;
-use fx_stage::Stage;
-use fx_telling::add_answers;
 use program::top_on;
 use std::io;
 use std::io::ErrorKind;
+use test_stage::{Stage, add_answers};
 
 fn main(rt: HostRuntime) -> io::Result<()> {
     let alloc = rt.alloc();

@@ -6,7 +6,6 @@ use fx_durable::MemoryDisk;
 use fx_inputs::read_base;
 use fx_outside::{MemoryHost, MemorySink, Words};
 use fx_spec::Base;
-use fx_stage::{Program, Stage, words_of};
 use fx_top::status::Status;
 use fx_top::top::top;
 use fx_words::{Job, job_of};
@@ -14,6 +13,7 @@ use std::alloc::Global;
 use std::marker::PhantomData;
 use std::sync::{Arc, Wait};
 use std::thread::Threads;
+use test_stage::{Program, Stage, words_of};
 
 /// The threads and the waiting of a runtime.
 #[derive(Drop)]

@@ -6,8 +6,8 @@ use fx_expr::{Shape, TEXT_LIMIT, Text, TextSet, Value};
 use fx_lex::{LexFault, Tokens, lex};
 use fx_parse::parse_shape;
 use fx_store::{Bytes, LinkText, Name, Names, Node, Path};
-use fx_telling::{integer, split_word, unescaped};
 use std::alloc::Global;
+use test_stage::{integer, split_word, unescaped};
 
 /// A text as it stands in a case, up to the limit of texts.
 pub fn text_of(alloc: Global, spelled: &str) -> Result<Text, NoMemory> {

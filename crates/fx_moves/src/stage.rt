@@ -6,10 +6,9 @@ use fx_folder::load;
 use fx_outside::{HostKind, MemoryHost};
 use fx_spec::{Base, Checked, Defs, Description, Plan, Spec};
 use fx_spec_parse::parse;
-use fx_stage::{Stage, host_text};
 use fx_store::Filestore;
-use fx_telling::{split_word, unescaped};
 use std::alloc::Global;
+use test_stage::{Stage, host_text, split_word, unescaped};
 
 /// The folder on the host.
 const FOLDER: &str = "in";

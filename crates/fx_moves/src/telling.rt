@@ -8,10 +8,10 @@ use fx_report::value_line;
 use fx_session::Halt;
 use fx_spec::{Place, Refusal};
 use fx_store::{Names, Node, Path};
-use fx_telling::{add_bytes, tell, tell_bytes};
 use fx_view::{Overlay, Reads};
 use std::alloc::Global;
 use std::fmt::Write;
+use test_stage::{add_bytes, tell, tell_bytes};
 
 /// Adds the names of a path, each behind a slash.
 fn add_path(out: &mut String, path: &Path) -> Result<(), NoMemory> {

@@ -11,12 +11,12 @@ use fx_base::{NoMemory, Steps};
 use fx_session::{Halt, Session};
 use fx_spec::Base;
 use fx_store::Path;
-use fx_telling::split_word;
 use fx_view::{Overlay, Reader, Whole};
 use fx_zip::Zip;
 use std::alloc::Global;
 use std::sync::Arc;
 use std::sync::ledger::{Blank, Ledger};
+use test_stage::split_word;
 
 /// A zipper over a base, with what it reads through.
 #[derive(Drop)]

@@ -15,7 +15,6 @@ ghost use Rattle.fx_pass_tests.specs.Workings.{AddsLook, IsKnown, HasRun, HasTri
 use crate::meeting::Meeting;
 use fx_base::NoMemory;
 use fx_machine::Attempt;
-use fx_replay::{Ground, base_of};
 use fx_run::run;
 use fx_shared::{Board, Pass, Settle, Shared};
 use fx_spec::Base;
@@ -26,6 +25,7 @@ use std::sync::{Arc, Wait};
 use std::test::*;
 use std::thread;
 use std::thread::Threads;
+use test_runs::{Ground, base_of};
 
 /// What two threads work on, what the file then holds, and whether some attempt is refused whatever the order.
 #[derive(Clone, Copy)]

@@ -3,9 +3,9 @@
 use fx_base::NoMemory;
 use fx_read_report::{Printed, ReportFault, read_report};
 use fx_report::printed_report;
-use fx_telling::{Case, split_word, tell, tell_bytes, unescaped};
 use std::alloc::Global;
 use std::fmt::Write;
+use test_stage::{Case, split_word, tell, tell_bytes, unescaped};
 
 /// The bytes of a report, as far as a case has set them up.
 #[derive(Drop)]

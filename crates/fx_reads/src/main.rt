@@ -6,9 +6,9 @@
 mod answers;
 
 use answers::Report;
-use fx_telling::add_answers;
 use std::io;
 use std::io::ErrorKind;
+use test_stage::add_answers;
 
 fn main(rt: HostRuntime) -> io::Result<()> {
     let alloc = rt.alloc();

@@ -3,9 +3,9 @@
 use fx_base::NoMemory;
 use fx_disk::Disk;
 use fx_outside::{Host, HostFault, HostText, Listing};
-use fx_telling::{tell, tell_bytes};
 use std::alloc::Global;
 use std::fmt::Write;
+use test_stage::{tell, tell_bytes};
 
 /// A call on the host.
 #[derive(Clone, Copy)]

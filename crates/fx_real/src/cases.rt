@@ -5,13 +5,13 @@ use crate::run::tell_run;
 use crate::stage::Stage;
 use crate::telling::tell_tree;
 use fx_base::NoMemory;
-use fx_telling::{number, split_word, tell};
 use std::fs::{self, File};
 use std::io::{self, PipeReader, Write};
 use std::os::fd::AsRawFd;
 use std::os::unix::fs::symlink;
 use std::sync::Wait;
 use std::thread::Threads;
+use test_stage::{number, split_word, tell};
 
 /// What a line sets up.
 #[derive(Clone, Copy)]

@@ -4,13 +4,13 @@ use crate::stage::{PRINTED, SAID, Stage};
 use crate::telling::tell_text;
 use fx_base::NoMemory;
 use fx_program::program;
-use fx_telling::tell;
 use std::fmt::Write;
 use std::fs::{self, File};
 use std::io;
 use std::process::{ExitCode, Termination};
 use std::sync::Wait;
 use std::thread::Threads;
+use test_stage::tell;
 
 /// The number of a code.
 fn number_of(code: ExitCode) -> u8 {

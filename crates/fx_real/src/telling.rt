@@ -1,10 +1,10 @@
 //! What is told of files and trees. Each line of it begins with `> `.
 
 use fx_base::NoMemory;
-use fx_telling::{tell, tell_bytes};
 use std::fmt::Write;
 use std::fs::{self, DirEntry, FileType};
 use std::io::{self, ErrorKind};
+use test_stage::{tell, tell_bytes};
 
 /// The most entries that are told of a tree.
 const ENTRY_LIMIT: usize = 10_000;

@@ -1,8 +1,8 @@
 //! As many shells as there may be, all at one file.
 use crate::runs::printed_with;
 use fx_outside::OpenGate;
-use fx_replay::{Ground, base_of};
 use std::test::*;
+use test_runs::{Ground, base_of};
 
 const GROUND: Ground = Ground {
     description: "(\"n\" :: file)",

@@ -2,8 +2,8 @@
 use crate::holds::{Hold, Holds, Place};
 use crate::runs::printed_with;
 use fx_outside::Moment;
-use fx_replay::{Ground, base_of};
 use std::test::*;
+use test_runs::{Ground, base_of};
 
 /// Both files hold `1`.
 const GROUND: Ground = Ground {

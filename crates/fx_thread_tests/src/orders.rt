@@ -5,7 +5,6 @@ use crate::stores::are_same;
 use fx_base::NoMemory;
 use fx_machine::Retries;
 use fx_outside::{Gate, Moment};
-use fx_replay::{Ground, base_of, entry_lines, replayed, shells_of};
 use fx_report::report;
 use fx_sched::World;
 use fx_spec::Base;
@@ -14,6 +13,7 @@ use std::sync::{Arc, Wait};
 use std::test::*;
 use std::thread;
 use std::thread::Threads;
+use test_runs::{Ground, base_of, entry_lines, replayed, shells_of};
 
 /// How often the scripts of a play are run.
 const RUNS: u64 = 250;

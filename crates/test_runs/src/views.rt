@@ -1,0 +1,215 @@
+//! Runs with views, whose order is free. Each view is compared with its transaction, run whole after as many transactions of
+//! the printed order as it tells.
+
+use crate::replay::replayed;
+use crate::shells::{entry_lines, shells_of};
+use fx_base::NoMemory;
+use fx_outside::{MemoryHost, MemorySink, Words};
+use fx_report::{View, Viewed, views_text};
+use fx_run::run;
+use fx_spec::Base;
+use fx_store::Filestore;
+use fx_view::{Stop, Whole};
+use std::alloc::Global;
+use std::sync::Arc;
+use test_stage::{
+    OUT, Program, Stage, number, run_quietly, split_word, tell, tell_bytes, words_of,
+};
+
+/// The lines behind a report.
+fn behind_report(printed: &str) -> &str {
+    match printed.split_once("\nend\n") {
+        Some((_, behind)) => behind,
+        None => "",
+    }
+}
+
+/// The position of a line `view J at I ..`.
+fn position_of(line: &str) -> Option<u32> {
+    let mut words = line.split(' ');
+    if words.next()? != "view" {
+        return None;
+    }
+    words.nth(2)?.parse::<u32>().ok()
+}
+
+/// The positions of the views that are told, in order.
+fn positions_of(alloc: Global, lines: &str) -> Result<Vec<u32>, NoMemory> {
+    let mut positions = Vec::new(alloc);
+    for line in lines.lines() {
+        if let Some(position) = position_of(line) {
+            positions.push(position)?;
+        }
+    }
+    Ok(positions)
+}
+
+/// Whether no position is below the one before.
+fn never_fall(positions: &[u32]) -> bool {
+    positions.is_sorted()
+}
+
+/// A view of a filestore, where there is a transaction of this number.
+fn view_of(
+    alloc: Global,
+    views: &Arc<Base>,
+    store: &Filestore,
+    txn: u32,
+    position: u32,
+) -> Result<Option<View>, NoMemory> {
+    if views.plan.txn(0, txn).is_none() {
+        return Ok(None);
+    }
+    let mut reader = Whole::new(alloc, store);
+    match run(alloc, views, 0, txn, &mut reader) {
+        Ok(attempt) => Ok(Some(View {
+            position: u64::from(position),
+            outputs: attempt.outputs,
+            end: attempt.end,
+        })),
+        Err(Stop::Needs(_)) => Ok(None),
+        Err(Stop::NoMemory) => Err(NoMemory),
+    }
+}
+
+/// Adds the view of the filestore after so many of the next transactions of these shells.
+fn add_view(
+    alloc: Global,
+    base: &Arc<Base>,
+    views: &Arc<Base>,
+    shells: &[u32],
+    txn: u32,
+    position: u32,
+    viewed: &mut Viewed,
+) -> Result<(), NoMemory> {
+    let front = shells.get(..position as usize).unwrap_or(shells);
+    let world = replayed(alloc, base, front)?;
+    if let Some(view) = view_of(alloc, views, world.board().store(), txn, position)? {
+        viewed.push(view)?;
+    }
+    Ok(())
+}
+
+/// The views at these positions of the order of these shells' next transactions.
+fn viewed_at(
+    alloc: Global,
+    base: &Arc<Base>,
+    views: &Arc<Base>,
+    shells: &[u32],
+    positions: &[u32],
+) -> Result<Viewed, NoMemory> {
+    let mut viewed = Viewed::new(alloc);
+    let mut txn = 0u32;
+    for position in positions {
+        add_view(alloc, base, views, shells, txn, *position, &mut viewed)?;
+        txn = txn.saturating_add(1);
+    }
+    Ok(viewed)
+}
+
+/// Whether the views that are printed are those of the states at their positions, which never fall.
+fn are_views(
+    alloc: Global,
+    base: &Arc<Base>,
+    views: &Arc<Base>,
+    printed: &str,
+) -> Result<bool, NoMemory> {
+    let lines = behind_report(printed);
+    let shells = shells_of(alloc, entry_lines(printed))?;
+    let positions = positions_of(alloc, lines)?;
+    let viewed = viewed_at(alloc, base, views, &shells, &positions)?;
+    let wanted = views_text(alloc, &viewed)?;
+    Ok(never_fall(&positions) && wanted.as_slice() == lines.as_bytes())
+}
+
+fn is_as_told<P: Program>(
+    program: &P,
+    alloc: Global,
+    stage: &mut Stage,
+    views: &str,
+    scripts: &str,
+    printed: &str,
+) -> Result<bool, NoMemory> {
+    let base = match program.base(alloc, stage, scripts) {
+        Ok(base) => base,
+        Err(_) => return Ok(false),
+    };
+    match program.base(alloc, stage, views) {
+        Ok(views) => are_views(alloc, &base, &views, printed),
+        Err(_) => Ok(false),
+    }
+}
+
+/// Runs a command, and adds what it prints.
+fn add_printed<P: Program>(
+    program: &P,
+    alloc: Global,
+    words: &Words,
+    host: &mut MemoryHost,
+    mut sink: MemorySink,
+    printed: &mut String,
+) -> Result<(), NoMemory> {
+    run_quietly(program, alloc, words, host, &mut sink)?;
+    if let Ok(text) = std::str::from_utf8(sink.written()) {
+        printed.push_str(text)?;
+    }
+    Ok(())
+}
+
+fn views_words(alloc: Global, views: &str, scripts: &str) -> Result<Words, NoMemory> {
+    let line = format!(in alloc; "views spec in {OUT} {views} {scripts}")?;
+    words_of(alloc, line.as_str())
+}
+
+/// Adds what a run of the scripts with the views prints, on a fresh stage.
+fn add_run<P: Program>(
+    program: &P,
+    alloc: Global,
+    stage: &Stage,
+    views: &str,
+    scripts: &str,
+    printed: &mut String,
+) -> Result<(), NoMemory> {
+    let words = views_words(alloc, views, scripts)?;
+    let mut host = stage.fresh_host(alloc)?;
+    let sink = stage.fresh_sink(alloc)?;
+    add_printed(program, alloc, &words, &mut host, sink, printed)
+}
+
+/// Runs the scripts with the views once, and tells what is printed where a view is not as it tells.
+fn is_right<P: Program>(
+    program: &P,
+    alloc: Global,
+    stage: &mut Stage,
+    views: &str,
+    scripts: &str,
+    out: &mut String,
+) -> Result<bool, NoMemory> {
+    let mut printed = String::new(alloc);
+    add_run(program, alloc, stage, views, scripts, &mut printed)?;
+    let right = is_as_told(program, alloc, stage, views, scripts, printed.as_str())?;
+    if !right {
+        tell_bytes(out, printed.as_str().as_bytes())?;
+    }
+    Ok(right)
+}
+
+/// Runs the scripts with the views so many times, each time on a fresh stage, and tells whether each view is what its
+/// transaction comes to at the state after as many entries as it tells: a line is a count, the views and the scripts. The
+/// description is at `spec`, the folder at `in`.
+pub fn tell_views<P: Program>(
+    program: &P,
+    alloc: Global,
+    stage: &mut Stage,
+    line: &str,
+    out: &mut String,
+) -> Result<(), NoMemory> {
+    let (count, rest) = split_word(line);
+    let (views, scripts) = split_word(rest);
+    for _ in 0..number(count) {
+        if !is_right(program, alloc, stage, views, scripts, out)? {
+            return Ok(());
+        }
+    }
+    tell(out, "each view as of its position")
+}

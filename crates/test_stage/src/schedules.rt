@@ -1,0 +1,126 @@
+//! Traces of two scripts by all schedules of six steps.
+
+use crate::bytes::tell;
+use crate::program::{OUT, Program, tell_end};
+use crate::stage::Stage;
+use crate::telling::tell_tree;
+use crate::words::words_of;
+use fx_base::NoMemory;
+use fx_outside::{MemoryHost, MemorySink, Words};
+use std::alloc::Global;
+use std::collections::BTreeSet;
+
+/// The number of schedules of six steps of two shells.
+const SCHEDULES: u32 = 64;
+
+/// The words of a trace by the schedule of six steps that the binary digits of a number are.
+fn trace_words(alloc: Global, number: u32) -> Result<Words, NoMemory> {
+    let mut line = String::new(alloc);
+    add_trace(&mut line, number)?;
+    words_of(alloc, line.as_str())
+}
+
+fn add_trace(line: &mut String, number: u32) -> Result<(), NoMemory> {
+    line.push_str("trace spec in out ")?;
+    let mut rest = number;
+    for step in 0u32..6 {
+        if step > 0 {
+            line.push_str(",")?;
+        }
+        line.push_str(if rest % 2 == 0 { "0" } else { "1" })?;
+        rest /= 2;
+    }
+    line.push_str(" first second")?;
+    Ok(())
+}
+
+/// Whether a line of a trace depends on the order alone in which the transactions are settled.
+fn is_of_order(line: &str) -> bool {
+    for front in ["look ", "conflict ", "retries ", "retry "] {
+        if line.starts_with(front) {
+            return false;
+        }
+    }
+    true
+}
+
+/// Tells the lines of a trace without its looks, conflicts and retries.
+fn tell_order(out: &mut String, trace: &str) -> Result<(), NoMemory> {
+    for line in trace.lines() {
+        if is_of_order(line) {
+            tell(out, line)?;
+        }
+    }
+    Ok(())
+}
+
+fn tell_printed(out: &mut String, printed: &[u8]) -> Result<(), NoMemory> {
+    match std::str::from_utf8(printed) {
+        Ok(trace) => tell_order(out, trace),
+        Err(_) => tell(out, "not UTF-8"),
+    }
+}
+
+/// Tells what a trace gives, without its looks, conflicts and retries.
+fn tell_trace<P: Program>(
+    program: &P,
+    alloc: Global,
+    words: &Words,
+    host: &mut MemoryHost,
+    mut sink: MemorySink,
+    out: &mut String,
+) -> Result<(), NoMemory> {
+    tell_end(program, alloc, words, host, &mut sink, out)?;
+    tell_printed(out, sink.written())?;
+    tell_tree(alloc, host, OUT, out)
+}
+
+/// Tells what the trace by a schedule gives on a fresh stage.
+fn tell_by<P: Program>(
+    program: &P,
+    alloc: Global,
+    stage: &Stage,
+    number: u32,
+    out: &mut String,
+) -> Result<(), NoMemory> {
+    let words = trace_words(alloc, number)?;
+    let mut host = stage.fresh_host(alloc)?;
+    let sink = stage.fresh_sink(alloc)?;
+    tell_trace(program, alloc, &words, &mut host, sink, out)
+}
+
+/// Adds what the trace by a schedule gives.
+fn add_order<P: Program>(
+    program: &P,
+    alloc: Global,
+    stage: &Stage,
+    number: u32,
+    orders: &mut BTreeSet<String>,
+) -> Result<(), NoMemory> {
+    let mut told = String::new(alloc);
+    tell_by(program, alloc, stage, number, &mut told)?;
+    orders.insert(told)?;
+    Ok(())
+}
+
+fn tell_orders(orders: &BTreeSet<String>, out: &mut String) -> Result<(), NoMemory> {
+    for told in orders {
+        out.push_str(told.as_str())?;
+        tell(out, "--")?;
+    }
+    Ok(())
+}
+
+/// Tells what the traces by all schedules of six steps give, each once, in order.
+pub fn tell_schedules<P: Program>(
+    program: &P,
+    alloc: Global,
+    stage: &Stage,
+    out: &mut String,
+) -> Result<(), NoMemory> {
+    let mut orders = BTreeSet::new(alloc);
+    for number in 0..SCHEDULES {
+        add_order(program, alloc, stage, number, &mut orders)?;
+    }
+    tell_orders(&orders, out)
+}
