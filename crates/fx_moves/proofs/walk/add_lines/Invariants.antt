@@ -1,5 +1,0 @@
-use Rattle.fx_moves.specs.Ready.{IsReady}
-use Rattle.fx_moves.proofs.walk.add_lines.Given as goal
-
-abbrev pub invariant-commands : goal.invariant-commands
-invariant-commands g l = IsReady l.walk

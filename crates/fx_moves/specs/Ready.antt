@@ -1,7 +1,0 @@
--- A zipper that may go on with its reader and its own changes.
-use Rattle.fx_view.specs.Own.{own_at}
-use Rattle.fx_zip.specs.Fresh.{IsFresh}
-use Rattle.fx_moves.specs.declared.walk.Walk.{Walk}
-
-abbrev pub IsReady : {L : Type 0} → Walk L → Type 0
-IsReady w = IsFresh w.session.reader.now.reads (own_at w.session.own) w.zip
