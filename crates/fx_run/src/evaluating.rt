@@ -10,10 +10,9 @@ ghost use Rattle.fx_edit.specs.Values.{Tells};
 ghost use Rattle.fx_run.specs.Leaving.{OrStops, part};
 
 use crate::leave::{Leave, or_stop};
-use fx_expr::{Env, EvalFault, Expr, Text, TextSet, Value};
+use fx_expr::{Env, Expr, Text, TextSet, Value};
 use fx_session::{Halt, Session};
-use fx_spec::Refusal;
-use fx_view::{Reader, Stop};
+use fx_view::Reader;
 use std::alloc::Global;
 use std::sync::ledger::Ledger;
 
@@ -28,11 +27,7 @@ pub(crate) fn evaluated<R: Reader, L: Ledger>(
         (move.evaluated (eval_of variables.now (expr_tree expr.now))) result }
     ensures tick { session.new ≡ ticked session.old }
 {
-    match session.evaluate(expr, variables) {
-        Ok(value) => Ok(value),
-        Err(EvalFault::Fault(fault)) => Err(Halt::Refused(Refusal::Expr(fault))),
-        Err(EvalFault::NoMemory) => Err(Halt::Stopped(Stop::NoMemory)),
-    }
+    Ok(session.evaluate(expr, variables)?)
 }
 
 /// The value of the expression of the command with this number.

@@ -2,9 +2,12 @@
 ghost use Rattle.std.specs.Prelude.{◌≡◌};
 ghost use Rattle.fx_view.specs.declared.reader.Stop.TheVariants.{NoMemory as OutOfMemory};
 ghost use Rattle.fx_session.specs.declared.halt.Halt.TheVariants.{Refused as IsRefused, Stopped as IsStopped};
+ghost use Rattle.fx_session.specs.Faults.{of_eval, of_path};
 
 use fx_base::NoMemory;
+use fx_expr::EvalFault;
 use fx_spec::Refusal;
+use fx_store::PathFault;
 use fx_view::Stop;
 use std::alloc::{AllocError, AllocFailed};
 
@@ -30,6 +33,29 @@ impl From<Stop> for Halt {
 
     fn from(stop: Stop) -> Halt {
         Halt::Stopped(stop)
+    }
+}
+
+impl From<EvalFault> for Halt {
+    ghost from_gives = { λ fault halt. halt ≡ of_eval fault };
+
+    fn from(fault: EvalFault) -> Halt {
+        match fault {
+            EvalFault::Fault(fault) => Halt::Refused(Refusal::Expr(fault)),
+            EvalFault::NoMemory => Halt::Stopped(Stop::NoMemory),
+        }
+    }
+}
+
+impl From<PathFault> for Halt {
+    ghost from_gives = { λ fault halt. halt ≡ of_path fault };
+
+    fn from(fault: PathFault) -> Halt {
+        match fault {
+            PathFault::BadName => Halt::Refused(Refusal::BadName),
+            PathFault::TooDeep => Halt::Refused(Refusal::TooDeep),
+            PathFault::NoMemory => Halt::Stopped(Stop::NoMemory),
+        }
     }
 }
 

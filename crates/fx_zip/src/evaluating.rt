@@ -14,10 +14,10 @@ ghost use Rattle.fx_session.specs.Implements.{ticked};
 ghost use Rattle.fx_walk.specs.Arguments.{HaveShapes, inner_names};
 ghost use Rattle.fx_zip.specs.Telling.{OnlyCounts, Says, AreWellShaped, set_answer, names_answer, tried, given};
 
-use fx_expr::{Env, EvalFault, Formula, TextSet, Value};
+use fx_expr::{Env, Formula, TextSet, Value};
 use fx_session::{Halt, Session};
-use fx_spec::{Exprs, Params, Refusal};
-use fx_store::{Path, PathFault};
+use fx_spec::{Exprs, Params};
+use fx_store::Path;
 use fx_view::{Reader, Stop};
 use fx_walk::inner_env;
 use std::alloc::Global;
@@ -34,11 +34,7 @@ pub(crate) fn evaluate<R: Reader, L: Ledger>(
         (Some (evaluated (eval_of env.now formula.now))) (split result) }
     ensures tick { session.new ≡ ticked session.old }
 {
-    match session.work_out(formula, env) {
-        Ok(value) => Ok(value),
-        Err(EvalFault::Fault(fault)) => Err(Halt::Refused(Refusal::Expr(fault))),
-        Err(EvalFault::NoMemory) => Err(Halt::Stopped(Stop::NoMemory)),
-    }
+    Ok(session.work_out(formula, env)?)
 }
 
 /// The set of a comprehension.
@@ -52,11 +48,8 @@ pub(crate) fn set_of<R: Reader, L: Ledger>(
         (Some (set_answer (eval_of env.now formula.now))) (split result) }
     ensures tick { session.new ≡ ticked session.old }
 {
-    match session.work_out(formula, env) {
-        Ok(value) => Ok(into_names(session.alloc, value)),
-        Err(EvalFault::Fault(fault)) => Err(Halt::Refused(Refusal::Expr(fault))),
-        Err(EvalFault::NoMemory) => Err(Halt::Stopped(Stop::NoMemory)),
-    }
+    let value = session.work_out(formula, env)?;
+    Ok(into_names(session.alloc, value))
 }
 
 /// The set of a comprehension: the one that is kept, or else its expression's value.
@@ -93,23 +86,15 @@ pub(crate) fn inner_path<R: Reader, L: Ledger>(
         (split result) }
     ensures tick { session.new ≡ ticked session.old }
 {
-    match session.work_out(formula, env) {
-        Ok(value) => extended(session.alloc, path, &value),
-        Err(EvalFault::Fault(fault)) => Err(Halt::Refused(Refusal::Expr(fault))),
-        Err(EvalFault::NoMemory) => Err(Halt::Stopped(Stop::NoMemory)),
-    }
+    let value = session.work_out(formula, env)?;
+    extended(session.alloc, path, &value)
 }
 
 fn extended(alloc: Global, path: &Path, value: &Value) -> Result<Path, Halt>
     ensures { Says (answered (λ q. q)) (Some (describe.extension
         (paths.extended path.now (eval.text_in (tree_of value.now))))) (split result) }
 {
-    match path.extend(alloc, text_in(value)) {
-        Ok(inner) => Ok(inner),
-        Err(PathFault::BadName) => Err(Halt::Refused(Refusal::BadName)),
-        Err(PathFault::TooDeep) => Err(Halt::Refused(Refusal::TooDeep)),
-        Err(PathFault::NoMemory) => Err(Halt::Stopped(Stop::NoMemory)),
-    }
+    Ok(path.extend(alloc, text_in(value))?)
 }
 
 /// The names in a call's body: its parameters, with the values of the arguments.
@@ -126,11 +111,7 @@ pub(crate) fn names_of<R: Reader, L: Ledger>(
         ≤ session.old.steps + describe.argument_evals env.now args.now }
     ensures still { OnlyCounts session.old session.new }
 {
-    match inner_env(session, env, params, args) {
-        Ok(names) => Ok(names),
-        Err(EvalFault::Fault(fault)) => Err(Halt::Refused(Refusal::Expr(fault))),
-        Err(EvalFault::NoMemory) => Err(Halt::Stopped(Stop::NoMemory)),
-    }
+    Ok(inner_env(session, env, params, args)?)
 }
 
 /// Evaluates the arguments of a call, up to the first that faults.
