@@ -179,7 +179,12 @@ fn link_of(alloc: Global, text: &Text) -> Result<Node, Halt>
     ensures { Tells (λ n. n) (edit.stored_node SpecTree.link (Tree.str text.now)) result }
 {
     let bytes = content(alloc, text)?;
-    Ok(Node::Link(LinkText::read(alloc, bytes.as_slice())?))
+    match LinkText::read(alloc, bytes.as_slice()) {
+        Ok(link) => Ok(Node::Link(link)),
+        Err(PathFault::BadName) => Err(Halt::Refused(Refusal::BadName)),
+        Err(PathFault::TooDeep) => Err(Halt::Refused(Refusal::TooDeep)),
+        Err(PathFault::NoMemory) => Err(Halt::Stopped(Stop::NoMemory)),
+    }
 }
 
 /// The names that the texts of a set are, shared where they are among the likely ones.
