@@ -10,3 +10,4 @@ mod report;
 mod values;
 
 pub use report::{Printed, ReportFault, read_report};
+pub use values::VALUE_LEVELS;

@@ -14,7 +14,7 @@ use std::alloc::Global;
 use std::cmp::Ordering;
 
 /// How deep a printed value may nest, itself counted.
-pub(crate) const VALUE_LEVELS: u32 = 64;
+pub const VALUE_LEVELS: u32 = 64;
 
 /// The kinds of values, which the first byte tells.
 #[derive(Clone, Copy)]
