@@ -25,6 +25,10 @@ projects = map project (range_with_len 0 16)
 abbrev pub note_names : List (List ℕ)
 note_names = map note_name (range_with_len 0 8)
 
+-- what a project has
+abbrev pub part_names : List (List ℕ)
+part_names = codes "count" ∷ codes "log" ∷ codes "notes" ∷ []
+
 -- the first draw: to which project `current` leads
 unfoldable pub linked : ℕ → List ℕ
 linked number = project (draw number 0 16)
@@ -44,10 +48,12 @@ Placed = List (List ℕ) × Node
 abbrev pub placed_note : ℕ → ℕ → ℕ → Placed
 placed_note number p n = (project p ∷ codes "notes" ∷ note_name n ∷ [], File (note number p n) false)
 
+-- a project's directory, and in it the count and the empty log
+abbrev pub placed_parts : List (List ℕ) → List Placed
+placed_parts dir = (dir, Dir part_names) ∷ (dir ++ codes "count" ∷ [], File (codes "0") false) ∷ (dir ++ codes "log" ∷ [], Dir []) ∷ []
+
 abbrev pub placed_project : ℕ → ℕ → List Placed
-placed_project number p =
-    (project p ∷ [], Dir (codes "count" ∷ codes "log" ∷ codes "notes" ∷ [])) ∷ (project p ∷ codes "count" ∷ [], File (codes "0") false) ∷ (project p ∷ codes "log" ∷ [], Dir []) ∷ (project p ∷ codes "notes" ∷ [], Dir note_names) ∷
-    map (placed_note number p) (range_with_len 0 8)
+placed_project number p = placed_parts (project p ∷ []) ++ (project p ∷ codes "notes" ∷ [], Dir note_names) ∷ map (placed_note number p) (range_with_len 0 8)
 
 abbrev pub placed_top : ℕ → List Placed
 placed_top number =

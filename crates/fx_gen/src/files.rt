@@ -5,7 +5,7 @@ ghost use Rattle.fx_store.specs.Names.{IsName};
 ghost use Rattle.fx_store.specs.Faults.{read_link};
 ghost use Rattle.fx_gen.specs.Draws.{draw, after};
 ghost use Rattle.fx_store.specs.declared.node.Node.TheVariants as Node;
-ghost use Rattle.fx_gen.specs.Notes.{Placed, project, note_name, projects, note_names, linked, note, config, made, placed_note, note_changes_to, changes_to, project_changes, nodes};
+ghost use Rattle.fx_gen.specs.Notes.{Placed, project, note_name, projects, note_names, part_names, linked, note, config, made, placed_note, placed_parts, note_changes_to, changes_to, project_changes, nodes};
 
 use crate::draws::Draws;
 use crate::lines::{add_bytes, two_digits};
@@ -121,7 +121,7 @@ fn add_name(alloc: Global, names: &mut Vec<Name>, bytes: &[u8]) -> Result<(), No
 
 /// The names of what a project has.
 fn parts(alloc: Global) -> Result<Names, NoMemory>
-    ensures { IfOk result (λ names. names ≡ codes "count" ∷ codes "log" ∷ codes "notes" ∷ []) }
+    ensures { IfOk result (λ names. names ≡ part_names) }
 {
     let mut names = Vec::new(alloc);
     add_name(alloc, &mut names, b"count")?;
@@ -231,11 +231,7 @@ fn add_notes(
 fn add_parts(alloc: Global, changes: &mut Vec<Change>, dir: &Path) -> Result<(), NoMemory>
     requires { length dir.now < 64 }
     ensures { OnOk result
-        (changes.new.items
-        ≡ changes.old.items
-        ++ made (dir.now, Node.Dir (codes "count" ∷ codes "log" ∷ codes "notes" ∷ []))
-        ∷ made (dir.now ++ codes "count" ∷ [], Node.File (codes "0") false)
-        ∷ made (dir.now ++ codes "log" ∷ [], Node.Dir []) ∷ []) }
+        (changes.new.items ≡ changes.old.items ++ map made (placed_parts dir.now)) }
 {
     add(changes, dir.copy(alloc)?, Node::Dir(parts(alloc)?))?;
     add_file(alloc, changes, dir, b"count", Vec::from_slice(alloc, b"0")?)?;

@@ -12,8 +12,10 @@ use Rattle.fx_command.specs.declared.status.Status.TheVariants as status
 use Rattle.fx_durable.specs.Disk.{DiskView, MayLeave, IsAsTold}
 use Rattle.fx_journaling.specs.declared.fault.RecordFault.{RecordFault}
 use Rattle.fx_journaling.specs.declared.fault.RecordFault.TheVariants as fault
+use Rattle.fx_journaling.specs.declared.recording.Recorded.{Recorded}
 use Rattle.fx_journaling.specs.Recorded.{HasBrokenOff}
 use Rattle.fx_journaling.specs.Taken.{HasGrown}
+use Rattle.fx_report.specs.Entries.{report}
 use Rattle.fx_journal_command.specs.Rows.{HoldsBytes, HasJournalFault}
 
 -- a crash now may leave one closed gate
@@ -35,6 +37,10 @@ pub record RecordCause (base : BaseTree) (schedule : List ℕ) (disk disk' : Dis
   pub stop : RecordFault
   pub is : st ≡ status_in stop
   pub broken : HasBrokenOff base schedule disk disk' sink sink' stop
+
+-- the report of a run that has come to its end
+abbrev pub run_report : Recorded → List ℕ
+run_report run = report run.board.base run.board.order run.retries
 
 -- the last filestore is saved at OUT and its report written; or the one or the other is not, and what is then left of both
 pub data FinishEnd (out : List ℕ) (there : Bool) (nodes : Nodes) (text : List ℕ) (host host' : HostView) (sink sink' : SinkView) : Status → Type 0 where

@@ -4,15 +4,14 @@ ghost use Rattle.fx_outside.specs.Host.{AsksFit};
 ghost use Rattle.fx_folder.specs.Folder.{IsReady};
 ghost use Rattle.fx_spec.specs.Bases.{base_tree};
 ghost use Rattle.fx_board.specs.Board.{last_state};
-ghost use Rattle.fx_report.specs.Entries.{report};
 ghost use Rattle.fx_words.specs.Job.{shells_of};
 ghost use Rattle.fx_words.specs.JobOf.{asked, asked_journal, IsJob, IsJournalJob};
 ghost use Rattle.fx_command.specs.StatusOf.{status_of};
 ghost use Rattle.fx_inputs.specs.Inputs.{HasBase, HasEachScript};
 ghost use Rattle.fx_durable.specs.Disk.{Continues, TellsLength};
-ghost use Rattle.fx_journaling.specs.Recorded.{IsStarted, HasRecorded};
+ghost use Rattle.fx_journaling.specs.Recorded.{IsStarted, EndsRecorded};
 ghost use Rattle.fx_journal_command.specs.Rows.{JournalRow, JournalAsksFit, KeepsJournal};
-ghost use Rattle.fx_journal_command.specs.Stages.{MayLeaveGate, StartCause, RecordCause, FinishEnd};
+ghost use Rattle.fx_journal_command.specs.Stages.{MayLeaveGate, StartCause, RecordCause, FinishEnd, run_report};
 
 use fx_command::{Status, print_all, ready_out};
 use fx_durable::{Disk, Journal, StartFault};
@@ -54,8 +53,8 @@ fn run_on<D: Disk, S: Sink>(
     requires job { IsJob job.now }
     requires count { HasEachScript (asked job.now).inputs (base_tree base.value) }
     requires started { IsStarted journal (D.view disk.old) }
-    ensures done { IfOk result (λ r. HasRecorded (base_tree base.value) (shells_of (asked job.now))
-        (D.view disk.old) (D.view disk.new) (S.view out.old) (S.view out.new) r.board r.retries) }
+    ensures done { IfOk result (EndsRecorded (base_tree base.value) (shells_of (asked job.now))
+        (D.view disk.old) (D.view disk.new) (S.view out.old) (S.view out.new)) }
     ensures broken { IfErr result (RecordCause (base_tree base.value) (shells_of (asked job.now))
         (D.view disk.old) (D.view disk.new) (S.view out.old) (S.view out.new)) }
 {
@@ -78,7 +77,7 @@ fn finish<H: Host, S: Sink>(
 ) -> Result<(), Status>
     requires { IfSome (H.view host.old).told (λ t. IsReady t out_path.now there) }
     ensures end { FinishEnd out_path.now there (last_state recorded.now.board)
-        (report recorded.now.board.base recorded.now.board.order recorded.now.retries)
+        (run_report recorded.now)
         (H.view host.old) (H.view host.new) (S.view out.old) (S.view out.new) (status_of result) }
     ensures fit { AsksFit out_path.now (H.view host.old) (H.view host.new) }
 {

@@ -14,6 +14,7 @@ use Rattle.fx_sched.specs.declared.taking.Ended.{Ended}
 use Rattle.fx_sched.specs.declared.taking.Ended.TheVariants as ended
 use Rattle.fx_journaling.specs.declared.fault.RecordFault.{RecordFault}
 use Rattle.fx_journaling.specs.declared.fault.RecordFault.TheVariants as fault
+use Rattle.fx_journaling.specs.declared.recording.Recorded.{Recorded}
 use Rattle.fx_journaling.specs.Kept.{IfFile, KeepsOrder}
 use Rattle.fx_journaling.specs.Taken.{HasGrown, FaultCause}
 use Rattle.fx_journaling.specs.Written.{HasWrittenEvents}
@@ -31,6 +32,10 @@ pub record HasRecorded (base : BaseTree) (schedule : List ℕ) (disk disk' : Dis
   pub printed : HasGrown (lines events) sink sink'
   pub later : sink.faults ≤ sink'.faults
   pub keeps : IfFile (KeepsOrder base board.order) disk.told disk'.told
+
+-- the run has come to its end so
+abbrev pub EndsRecorded : BaseTree → List ℕ → DiskView → DiskView → SinkView → SinkView → Recorded → Type 0
+EndsRecorded base schedule disk disk' sink sink' run = HasRecorded base schedule disk disk' sink sink' run.board run.retries
 
 -- the run has ended before, and the journal keeps the order of the settled lines that are written
 pub record HasBrokenOff (base : BaseTree) (schedule : List ℕ) (disk disk' : DiskView) (sink sink' : SinkView) (stop : RecordFault) : Type 0 where

@@ -1,16 +1,9 @@
 //! What an event adds to the journal.
-ghost use Rattle.std.specs.Prelude.{◌≡◌, ◌≤◌, ◌↔◌, ◌∷◌, ◌++◌, [], List, Some, None, IfSome, OnOk, OnErr, length, option_map, slice_get};
-ghost use Rattle.fx_spec.specs.Plans.{Turn};
-ghost use Rattle.fx_spec.specs.Order.{BaseTree};
-ghost use Rattle.fx_machine.specs.Laws.{IsReached};
-ghost use Rattle.fx_machine.specs.Machine.{shell_of};
+ghost use Rattle.std.specs.Prelude.{◌≡◌, ◌≤◌, ◌↔◌, Some, None, IfSome, length, option_map, slice_get};
 ghost use Rattle.fx_board.specs.Board.{IsLog};
-ghost use Rattle.fx_durable.specs.Disk.{DiskView};
 ghost use Rattle.fx_durable.specs.Journal.{turn_of};
-ghost use Rattle.fx_sched.specs.Running.{Running};
-ghost use Rattle.fx_sched.specs.World.{Leads};
-ghost use Rattle.fx_journaling.specs.Kept.{IsHeld, IsLost, MayAdd, RestsWhileGood};
-ghost use Rattle.fx_journaling.specs.Taken.{Extends};
+ghost use Rattle.fx_journaling.specs.Keeping.{HoldsEntry, LosesEntry, AddsEntry, HoldsEvent, LosesEvent};
+ghost use Rattle.fx_journaling.specs.Kept.{RestsWhileGood};
 
 use fx_base::TXN_LIMIT;
 use fx_board::{Board, Event, Pair};
@@ -21,13 +14,10 @@ use fx_sched::World;
 fn append<D: Disk>(journal: &mut Journal, disk: &mut D, pair: Pair) -> Result<(), DiskFailed>
     requires { RestsWhileGood journal.old (D.view disk.old) }
     ensures rests { RestsWhileGood journal.new (D.view disk.new) }
-    ensures held { (base : BaseTree) (order : List Turn) (began : DiskView)
-        → IsHeld base order began journal.old (D.view disk.old) → MayAdd base order (turn_of pair)
-        → OnOk result (IsHeld base (order ++ turn_of pair ∷ []) began
-        journal.new (D.view disk.new)) }
-    ensures lost { (base : BaseTree) (order : List Turn) (began : DiskView)
-        → IsHeld base order began journal.old (D.view disk.old) → MayAdd base order (turn_of pair)
-        → OnErr result (IsLost base order (order ++ turn_of pair ∷ []) began (D.view disk.new)) }
+    ensures held { HoldsEntry (turn_of pair)
+        journal.old journal.new (D.view disk.old) (D.view disk.new) result }
+    ensures lost { LosesEntry (turn_of pair)
+        journal.old (D.view disk.old) (D.view disk.new) result }
 {
     if !journal.good() || journal.len() >= TXN_LIMIT {
         return Err(DiskFailed);
@@ -53,10 +43,7 @@ fn pair_at(board: &Board, entry: u64) -> Option<Pair>
 
 /// The pair of an event's entry, if an attempt was settled.
 fn settled_pair(world: &World, event: &Event) -> Option<Pair>
-    ensures { (before : Running) → IsReached before.base before.machine
-        → Leads before (shell_of event.now) world.now event.now
-        → Extends before.base before.machine.order (option_map turn_of result)
-        world.now.machine.order }
+    ensures { AddsEntry event.now world.now (option_map turn_of result) }
 {
     match event {
         Event::Settled { shell: _, entry } => pair_at(world.board(), *entry),
@@ -82,16 +69,10 @@ pub(crate) fn keep<D: Disk>(
 ) -> Result<(), DiskFailed>
     requires { RestsWhileGood journal.old (D.view disk.old) }
     ensures rests { RestsWhileGood journal.new (D.view disk.new) }
-    ensures held { (began : DiskView) (before : Running) → IsReached before.base before.machine
-        → IsHeld before.base before.machine.order began journal.old (D.view disk.old)
-        → Leads before (shell_of event.now) world.now event.now
-        → OnOk result (IsHeld before.base world.now.machine.order began
-        journal.new (D.view disk.new)) }
-    ensures lost { (began : DiskView) (before : Running) → IsReached before.base before.machine
-        → IsHeld before.base before.machine.order began journal.old (D.view disk.old)
-        → Leads before (shell_of event.now) world.now event.now
-        → OnErr result (IsLost before.base before.machine.order world.now.machine.order began
-        (D.view disk.new)) }
+    ensures held { HoldsEvent event.now world.now
+        journal.old journal.new (D.view disk.old) (D.view disk.new) result }
+    ensures lost { LosesEvent event.now world.now
+        journal.old (D.view disk.old) (D.view disk.new) result }
 {
     match settled_pair(world, event) {
         None => Ok(()),

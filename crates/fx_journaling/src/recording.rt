@@ -1,7 +1,7 @@
 //! Whole runs whose commits a journal keeps.
 ghost use Rattle.std.specs.Prelude.{◌≡◌, ◌<◌, ◌≤◌, All, IfOk, IfErr, length};
 ghost use Rattle.fx_spec.specs.Bases.{base_tree};
-ghost use Rattle.fx_journaling.specs.Recorded.{IsStarted, HasRecorded, HasBrokenOff, fault_in};
+ghost use Rattle.fx_journaling.specs.Recorded.{IsStarted, EndsRecorded, HasBrokenOff, fault_in};
 ghost use Rattle.fx_journaling.specs.Taken.{beginning};
 
 use crate::fault::RecordFault;
@@ -45,9 +45,9 @@ fn play_with<K: Origin, D: Disk, S: Sink>(
         (S.view recorder.old.out.now) recorder.old.disk.ghost_name recorder.old.out.ghost_name }
     ensures disk { recorder.new.disk.ghost_name ≡ recorder.old.disk.ghost_name }
     ensures out { recorder.new.out.ghost_name ≡ recorder.old.out.ghost_name }
-    ensures done { IfOk result (λ r. HasRecorded (base_tree base.value) schedule.now
+    ensures done { IfOk result (EndsRecorded (base_tree base.value) schedule.now
         (D.view recorder.old.disk.now) (D.view recorder.new.disk.now)
-        (S.view recorder.old.out.now) (S.view recorder.new.out.now) r.board r.retries) }
+        (S.view recorder.old.out.now) (S.view recorder.new.out.now)) }
     ensures broken { IfErr result (HasBrokenOff (base_tree base.value) schedule.now
         (D.view recorder.old.disk.now) (D.view recorder.new.disk.now)
         (S.view recorder.old.out.now) (S.view recorder.new.out.now)) }
@@ -72,8 +72,8 @@ pub fn record<D: Disk, S: Sink>(
 ) -> Result<Recorded, RecordFault>
     requires shells { All (λ k. k < length base.value.plan) schedule.now }
     requires started { IsStarted journal (D.view disk.old) }
-    ensures done { IfOk result (λ r. HasRecorded (base_tree base.value) schedule.now
-        (D.view disk.old) (D.view disk.new) (S.view out.old) (S.view out.new) r.board r.retries) }
+    ensures done { IfOk result (EndsRecorded (base_tree base.value) schedule.now
+        (D.view disk.old) (D.view disk.new) (S.view out.old) (S.view out.new)) }
     ensures broken { IfErr result (HasBrokenOff (base_tree base.value) schedule.now
         (D.view disk.old) (D.view disk.new) (S.view out.old) (S.view out.new)) }
 {

@@ -1,4 +1,5 @@
 pub mod Orders
 pub mod Recovered
 pub mod Rows
+pub mod Stages
 pub mod Unread

@@ -1,14 +1,12 @@
 //! The command `recover`.
-ghost use Rattle.std.specs.Prelude.{IfSome};
 ghost use Rattle.fx_outside.specs.Host.{AsksFit};
 ghost use Rattle.fx_spec.specs.Bases.{base_tree};
 ghost use Rattle.fx_spec.specs.Order.{IsLegal};
 ghost use Rattle.fx_words.specs.JobOf.{asked_recover, AreInputs};
 ghost use Rattle.fx_command.specs.StatusOf.{status_of};
-ghost use Rattle.fx_durable.specs.Disk.{DiskView};
 ghost use Rattle.fx_durable.specs.Journal.{turns_of};
-ghost use Rattle.fx_recover_command.specs.Recovered.{HasOrder};
-ghost use Rattle.fx_recover_command.specs.Rows.{RecoverEnd, RecoverRow, RecoverAsksFit};
+ghost use Rattle.fx_recover_command.specs.Rows.{RecoverRow, RecoverAsksFit};
+ghost use Rattle.fx_recover_command.specs.Stages.{LeaveEnd};
 
 use crate::journal::read_order;
 use crate::replaying::{replayed, save_and_print};
@@ -31,11 +29,8 @@ fn leave<H: Host, S: Sink>(
     out: &mut S,
 ) -> Result<(), Status>
     requires { IsLegal (base_tree base.now.value) (turns_of order.now) }
-    ensures end { (disk disk' : DiskView) → IfSome (H.view host.old).told
-        (λ t. HasOrder t (asked_recover job.now) disk
-        (base_tree base.now.value) (turns_of order.now))
-        → RecoverEnd (asked_recover job.now) (H.view host.old) (H.view host.new)
-        (S.view out.old) (S.view out.new) disk disk' (status_of result) }
+    ensures end { LeaveEnd (asked_recover job.now) (base_tree base.now.value) (turns_of order.now)
+        (H.view host.old) (H.view host.new) (S.view out.old) (S.view out.new) (status_of result) }
     ensures fit { AsksFit (asked_recover job.now).out (H.view host.old) (H.view host.new) }
 {
     let there = ready_out(alloc, job.out, host)?;

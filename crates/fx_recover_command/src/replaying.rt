@@ -5,11 +5,10 @@ ghost use Rattle.fx_folder.specs.Folder.{IsReady};
 ghost use Rattle.fx_spec.specs.Bases.{base_tree};
 ghost use Rattle.fx_spec.specs.Order.{IsLegal, state};
 ghost use Rattle.fx_command.specs.StatusOf.{status_of};
-ghost use Rattle.fx_durable.specs.Disk.{DiskView};
 ghost use Rattle.fx_durable.specs.Journal.{turns_of};
 ghost use Rattle.fx_words.specs.JobOf.{asked_recover};
-ghost use Rattle.fx_recover_command.specs.Recovered.{recovered_line, IsAnswered};
-ghost use Rattle.fx_recover_command.specs.Rows.{RecoverEnd};
+ghost use Rattle.fx_recover_command.specs.Recovered.{recovered_line};
+ghost use Rattle.fx_recover_command.specs.Stages.{SaveEnd};
 
 use fx_base::NoMemory;
 use fx_command::{Status, print_all};
@@ -69,11 +68,9 @@ pub(crate) fn save_and_print<H: Host, S: Sink>(
 ) -> Result<(), Status>
     requires { IfSome (H.view host.old).told
         (λ t. IsReady t (asked_recover job.now).out there) }
-    ensures end { (disk disk' : DiskView) → IfSome (H.view host.old).told
-        (λ t. IsAnswered t (asked_recover job.now) disk recovered.now.store.nodes
-        recovered.now.line.items there)
-        → RecoverEnd (asked_recover job.now) (H.view host.old) (H.view host.new)
-        (S.view out.old) (S.view out.new) disk disk' (status_of result) }
+    ensures end { SaveEnd (asked_recover job.now)
+        recovered.now.store.nodes recovered.now.line.items there
+        (H.view host.old) (H.view host.new) (S.view out.old) (S.view out.new) (status_of result) }
     ensures fit { AsksFit (asked_recover job.now).out (H.view host.old) (H.view host.new) }
 {
     save(alloc, host, job.out, there, &recovered.store)?;
