@@ -575,7 +575,7 @@ def definitions():
     ):
         with Stage(description=text, script=f"txn {{ validate v print(v) {'into ' * 70} }}") as stage:
             each_command(stage, allowed)
-    for count in (100, 1_000, 2_500):
+    for count in (100, 1_000, 2_000):
         names = called[:count]
         params, args = ",".join(f"{a}:int" for a in names), ",".join(names)
         for first in (f"({names[0]} + 1)", f"({names[-1]} - 1)"):
