@@ -24,6 +24,7 @@ from collections import Counter
 
 sys.path.insert(0, os.path.join(os.path.dirname(os.path.abspath(__file__)), "..", "tools", "lib"))
 import model
+from waiting import finished
 
 PROGRAM = os.path.abspath(sys.argv[1])
 SEED = int(sys.argv[2]) if len(sys.argv) > 2 else 1
@@ -356,8 +357,12 @@ class Different(Exception):
 
 
 def run(words, room):
-    ran = subprocess.run([PROGRAM, *words], cwd=room, stdout=subprocess.PIPE, stderr=subprocess.PIPE, stdin=subprocess.DEVNULL, timeout=60)
-    return ran.returncode, ran.stdout.decode(), ran.stderr.decode()
+    child = subprocess.Popen([PROGRAM, *words], cwd=room, stdout=subprocess.PIPE, stderr=subprocess.PIPE, stdin=subprocess.DEVNULL)
+    try:
+        printed, line = finished(child, 60)
+    except TimeoutError as late:
+        raise Different(f"{words}: {late}") from None
+    return child.returncode, printed.decode(), line.decode()
 
 
 def expect(what, found, wanted):

@@ -1,9 +1,9 @@
 """Runs the built program on small inputs again and again, each time with another call for memory, for a thread or to the
 system that goes wrong.
 
-usage: faults.py PROGRAM LIBRARY
+usage: faults.py PROGRAM LIBRARY [INPUT...]
 
-LIBRARY is faults.c, built. Each run has to end by itself, with a status that such a fault may give: then it prints what the
+LIBRARY is faults.c, built; an INPUT is the front of a name of inputs, and where there is none all are taken. Each run has to end by itself, with a status that such a fault may give: then it prints what the
 run without a fault prints and leaves the same folder, or it prints a front of that and leaves a part of it, and FOLDER is as
 before. Prints for each input and kind of fault how many calls were counted and how many of them were made to go wrong, and
 ends with 1 at the first run that is not so.
@@ -18,8 +18,9 @@ import tempfile
 
 sys.path.insert(0, os.path.join(os.path.dirname(os.path.abspath(__file__)), "..", "tools", "lib"))
 import model
+from waiting import finished
 
-PROGRAM, LIBRARY = (os.path.abspath(word) for word in sys.argv[1:])
+PROGRAM, LIBRARY = (os.path.abspath(word) for word in sys.argv[1:3])
 SECONDS = 120
 MOST = 1_000
 
@@ -137,19 +138,20 @@ class Stage:
         """One run: status, what is printed, the line on standard error, what stands at OUT, and how many calls were counted."""
         subprocess.run(["rm", "-rf", f"{self.top}/out", f"{self.top}/log", f"{self.top}/count"], check=True)
         given = {"LD_PRELOAD": LIBRARY, "FAULT_KIND": kind, "FAULT_AT": f"{at}", "FAULT_COUNT": f"{self.top}/count"}
+        child = subprocess.Popen([PROGRAM, *words], cwd=self.top, stdin=subprocess.DEVNULL, stdout=subprocess.PIPE, stderr=subprocess.PIPE, env=given)
         try:
-            ran = subprocess.run([PROGRAM, *words], cwd=self.top, stdin=subprocess.DEVNULL, capture_output=True, env=given, timeout=SECONDS)
-        except subprocess.TimeoutExpired:
-            raise Wrong(f"it did not end within {SECONDS} s") from None
-        if ran.returncode < 0:
-            raise Wrong(f"ended by {signal.Signals(-ran.returncode).name}")
+            printed, line = finished(child, SECONDS)
+        except TimeoutError as late:
+            raise Wrong(str(late)) from None
+        if child.returncode < 0:
+            raise Wrong(f"ended by {signal.Signals(-child.returncode).name}")
         try:
             with open(f"{self.top}/count") as it:
                 counted = int(it.read())
         except OSError:
             raise Wrong("it does not tell how many calls it counted") from None
         out = tree(f"{self.top}/out") if os.path.isdir(f"{self.top}/out") else None
-        return ran.returncode, ran.stdout, ran.stderr, out, counted
+        return child.returncode, printed, line, out, counted
 
 
 def check(ran, allowed, wholes):
@@ -249,6 +251,8 @@ def main():
     given = {name: tree(f"{stage.top}/{name}") for name in ("in1", "in2", "in3")}
     runs = 0
     for name, words in INPUTS.items():
+        if not name.startswith(tuple(sys.argv[3:] or [""])):
+            continue
         if stage.run(words, "", 0)[0] == 2:
             print(f"{name}: the program has no such command")
             continue

@@ -24,6 +24,8 @@ import threading
 import time
 from collections import Counter
 
+from waiting import finished
+
 PROGRAM = os.path.abspath(sys.argv[1])
 SECONDS = 120
 
@@ -124,10 +126,9 @@ class Stage:
             if meanwhile:
                 meanwhile(child)
             try:
-                printed, line = child.communicate(timeout=seconds)
-            except subprocess.TimeoutExpired:
-                child.kill()
-                raise Wrong(f"{words}: it did not end within {seconds} s") from None
+                printed, line = finished(child, seconds)
+            except TimeoutError as late:
+                raise Wrong(f"{words}: {late}") from None
         status, longest = child.returncode, max(longest, time.monotonic() - begin)
         if status < 0 and status not in allowed:
             raise Wrong(f"{words}: ended by {signal.Signals(-status).name}")
