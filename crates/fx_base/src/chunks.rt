@@ -31,12 +31,14 @@ impl<T> Model for Chunks<T> {
 }
 
 impl<T> Chunks<T> {
+    /// An empty list.
     pub fn new(_alloc: Global) -> Chunks<T>
         ensures { result ≡ [] }
     {
         Chunks { shared: None }
     }
 
+    /// The items of a vector, in its order.
     pub fn from_vec(alloc: Global, items: Vec<T>) -> Result<Chunks<T>, NoMemory>
     where
         T: Clone + Drop,
@@ -70,6 +72,7 @@ impl<T> Chunks<T> {
         }
     }
 
+    /// The number of items.
     pub fn len(&self) -> usize
         ensures value { result ≡ length self.now }
         ensures few { result < 2 ^ 63 }
