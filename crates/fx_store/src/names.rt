@@ -27,6 +27,7 @@ impl Model for Names {
 }
 
 impl Names {
+    /// No names.
     pub fn new(alloc: Global) -> Names
         ensures { result ≡ [] }
     {
@@ -45,6 +46,7 @@ impl Names {
         })
     }
 
+    /// The number of names.
     pub fn len(&self) -> u64
         ensures len { result ≡ length self.now }
         ensures set { IsNameSet self.now }
@@ -120,6 +122,7 @@ impl Names {
         }
     }
 
+    /// An equal set, which shares its names with this one.
     pub fn copy(&self, _alloc: Global) -> Result<Names, NoMemory>
         ensures copied { IfOk result (λ s. s ≡ self.now) }
         ensures set { IsNameSet self.now }
@@ -168,6 +171,7 @@ impl Model for NameList {
 }
 
 impl NameList {
+    /// No names.
     pub fn new(alloc: Global) -> NameList
         ensures { result ≡ [] }
     {
@@ -176,6 +180,7 @@ impl NameList {
         }
     }
 
+    /// The number of names.
     pub fn len(&self) -> u64
         ensures len { result ≡ length self.now }
         ensures names { All IsName self.now }
@@ -201,6 +206,7 @@ impl NameList {
         Ok(())
     }
 
+    /// An equal list of its own.
     pub fn copy(&self, alloc: Global) -> Result<NameList, NoMemory>
         ensures copied { IfOk result (λ s. s ≡ self.now) }
         ensures names { All IsName self.now }
