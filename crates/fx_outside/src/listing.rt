@@ -33,6 +33,7 @@ impl Model for Listing {
 }
 
 impl Listing {
+    /// No names.
     pub fn new(alloc: Global) -> Listing
         ensures { result ≡ map.empty }
     {
@@ -41,12 +42,14 @@ impl Listing {
         }
     }
 
+    /// The number of names.
     pub fn len(&self) -> u64
         ensures { result ≡ map.len self.now }
     {
         self.items.len() as u64
     }
 
+    /// The name at `i` with its kind, from 0 in ascending order; None exactly from `len` on.
     pub fn at(&self, i: u64) -> Option<(&HostText, &HostKind)>
         ensures { option_map (λ e. (e.0.now, e.1.now)) result ≡ slice_get (entries self.now) i }
     {
@@ -56,6 +59,7 @@ impl Listing {
         }
     }
 
+    /// A name's kind, by binary search; None exactly where the folder lacks the name.
     pub fn get(&self, key: &HostText) -> Option<&HostKind>
         ensures { option_copied result ≡ map.get self.now key.now }
     {

@@ -41,6 +41,7 @@ impl Stored {
     }
 }
 
+/// The entries of a tree, each by its parts.
 pub type Entries = BTreeMap<Parts, Stored>;
 
 /// The kind of the entry at these parts.

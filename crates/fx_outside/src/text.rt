@@ -24,12 +24,14 @@ impl Model for HostText {
 }
 
 impl HostText {
+    /// The text of a string, which may be any.
     pub fn from_string(text: String) -> HostText
         ensures { result ≡ string_bytes text }
     {
         HostText { text }
     }
 
+    /// The text as a string.
     pub fn as_str(&self) -> &str
         ensures { result.now ≡ self.now }
     {
@@ -130,6 +132,7 @@ impl Model for Words {
 }
 
 impl Words {
+    /// No words.
     pub fn new(alloc: Global) -> Words
         ensures { result ≡ [] }
     {
@@ -138,12 +141,14 @@ impl Words {
         }
     }
 
+    /// The number of words.
     pub fn len(&self) -> u64
         ensures { result ≡ length self.now }
     {
         self.items.len() as u64
     }
 
+    /// The word at `i`, from 0; None exactly from `len` on.
     pub fn at(&self, i: u64) -> Option<&HostText>
         ensures { option_copied result ≡ slice_get self.now i }
     {
