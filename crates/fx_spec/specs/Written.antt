@@ -32,6 +32,11 @@ abbrev pub definition : List ℕ → List DefTree → Option DefTree
 definition f [] = None
 definition f (d ∷ defs) = cond (pointwise nat_eq d.name f) (Some d) (definition f defs)
 
+-- the place of a name's first definition
+abbrev pub place : List ℕ → List DefTree → Option ℕ
+place f [] = None
+place f (d ∷ defs) = cond (pointwise nat_eq d.name f) (Some 0) (option_map (λ i. suc i) (place f defs))
+
 -- what a name means: its parameters, and its body where a call of it is still unfolded
 pub record Meant : Type 0 where
   pub params : List (List ℕ × ShapeTree)

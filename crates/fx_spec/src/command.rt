@@ -1,4 +1,5 @@
-ghost use Rattle.std.specs.Prelude.{◌≡◌, ◌++◌, [], ◌∷◌, OnOk, OnErr, length, slice_get};
+ghost use Rattle.std.specs.Prelude.{◌≡◌, ◌++◌, [], ◌∷◌, OnOk, OnErr, length, slice_get, map};
+ghost use Rattle.std.specs.Slice.Iter.{iter_rest};
 ghost use Rattle.std.specs.Option.{option_map};
 ghost use Rattle.fx_spec.specs.Views.{command_tree};
 
@@ -6,6 +7,7 @@ use fx_base::NoMemory;
 use fx_expr::{Expr, Shape, Word};
 use std::alloc::Global;
 use std::marker::Model;
+use std::slice;
 
 /// A move of a transaction's position, or an edit at it.
 #[derive(Debug, Drop)]
@@ -72,6 +74,7 @@ impl Model for Commands {
 }
 
 impl Commands {
+    /// No commands.
     pub fn new(alloc: Global) -> Commands
         ensures { result ≡ [] }
     {
@@ -80,6 +83,7 @@ impl Commands {
         }
     }
 
+    /// The number of commands.
     pub fn len(&self) -> u64
         ensures { result ≡ length self.now }
     {
@@ -91,6 +95,14 @@ impl Commands {
         ensures { option_map (λ c. command_tree c.now) result ≡ slice_get self.now i }
     {
         self.items.get(i as usize)
+    }
+
+    /// The commands, from the first.
+    pub fn iter(&self) -> slice::Iter<'_, Command>
+        ensures rest { map command_tree (iter_rest result) ≡ self.now }
+        ensures len { length (iter_rest result) ≡ length self.now }
+    {
+        self.items.iter()
     }
 
     /// Adds a command at the end. A refusal changes nothing.

@@ -5,7 +5,7 @@ ghost use Rattle.fx_expr.specs.Views.{shape_tree};
 ghost use Rattle.fx_spec.specs.DefViews.{def_tree};
 ghost use Rattle.fx_spec.specs.Naming.{Notes};
 ghost use Rattle.fx_spec.specs.ParamViews.{param_tree};
-ghost use Rattle.fx_spec.specs.Written.{definition};
+ghost use Rattle.fx_spec.specs.Written.{definition, place};
 
 use crate::spec::Spec;
 use fx_base::NoMemory;
@@ -175,14 +175,21 @@ impl Defs {
         }
     }
 
+    /// The place of a name's first definition; None exactly where there is none.
+    pub fn place(&self, name: &Word) -> Option<u64>
+        ensures { result ≡ place name.now self.now }
+    {
+        match self.places.get(name.as_slice()) {
+            Some(place) => Some(*place as u64),
+            None => None,
+        }
+    }
+
     /// The definition of a name; None exactly where there is none.
     pub fn get(&self, name: &Word) -> Option<&Def>
         ensures { option_map (λ d. def_tree d.now) result ≡ definition name.now self.now }
     {
-        match self.places.get(name.as_slice()) {
-            Some(place) => self.at(*place as u64),
-            None => None,
-        }
+        self.at(self.place(name)?)
     }
 }
 

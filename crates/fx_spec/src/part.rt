@@ -15,6 +15,7 @@ use fx_expr::{Formula, Word};
 pub struct Part<'a> {
     pub spec: &'a Spec,
     pub defs: &'a Defs,
+    /// The number of calls that it is inside. From 64 on no call is unfolded.
     pub level: u32,
 }
 

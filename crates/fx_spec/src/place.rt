@@ -15,6 +15,7 @@ pub struct Place<'a> {
     pub env: &'a Env,
     pub spec: &'a Spec,
     pub defs: &'a Defs,
+    /// The number of calls that it is inside, as in [`Part`].
     pub level: u32,
 }
 

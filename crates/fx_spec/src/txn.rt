@@ -1,10 +1,12 @@
-ghost use Rattle.std.specs.Prelude.{◌≡◌, ◌++◌, [], ◌∷◌, OnOk, OnErr, length, slice_get};
+ghost use Rattle.std.specs.Prelude.{◌≡◌, ◌++◌, [], ◌∷◌, OnOk, OnErr, length, slice_get, map};
+ghost use Rattle.std.specs.Slice.Iter.{iter_rest};
 ghost use Rattle.std.specs.Option.{option_map};
 
 use crate::command::Commands;
 use fx_base::NoMemory;
 use std::alloc::Global;
 use std::marker::Model;
+use std::slice;
 
 /// A transaction: its commands, in order.
 #[derive(Drop)]
@@ -32,6 +34,7 @@ impl Model for Txns {
 }
 
 impl Txns {
+    /// No transactions.
     pub fn new(alloc: Global) -> Txns
         ensures { result ≡ [] }
     {
@@ -40,6 +43,7 @@ impl Txns {
         }
     }
 
+    /// The number of transactions.
     pub fn len(&self) -> u64
         ensures { result ≡ length self.now }
     {
@@ -51,6 +55,14 @@ impl Txns {
         ensures { option_map (λ t. t.now.commands) result ≡ slice_get self.now i }
     {
         self.items.get(i as usize)
+    }
+
+    /// The transactions, from the first.
+    pub fn iter(&self) -> slice::Iter<'_, Txn>
+        ensures rest { map (λ t. t.commands) (iter_rest result) ≡ self.now }
+        ensures len { length (iter_rest result) ≡ length self.now }
+    {
+        self.items.iter()
     }
 
     /// Adds a transaction at the end. A refusal changes nothing.
