@@ -1,5 +1,5 @@
 //! Components of ways: of paths, and of link texts.
-ghost use Rattle.std.specs.Prelude.{◌≡◌, ◌<◌, ◌≤◌, true, [], ◌∷◌, length, map, slice_index_or, IfOk};
+ghost use Rattle.std.specs.Prelude.{◌≡◌, ◌≤◌, true, ◌∷◌, length, map, IfOk};
 ghost use Rattle.std.specs.List.{list_all, slice_split};
 ghost use Rattle.fx_store.specs.Names.{is_name, is_component, is_absolute, after_slash, is_slash};
 ghost use Rattle.fx_store.specs.Resolve.{components_of, component_of, names_only};
@@ -24,20 +24,10 @@ pub(crate) fn names_of(alloc: Global, path: &Path) -> Result<VecDeque<Component>
     ensures { IfOk result (λ q. way q.items ≡ map rule.Normal path.now) }
 {
     let mut names = VecDeque::new(alloc);
-    for i in 0..path.len() {
-        names.push_back(name_of(alloc, path, i)?)?;
+    for name in path.iter() {
+        names.push_back(Component::Normal(name.copy(alloc)?))?;
     }
     Ok(names)
-}
-
-fn name_of(alloc: Global, path: &Path, i: u32) -> Result<Component, NoMemory>
-    requires { i < length path.now }
-    ensures { IfOk result (λ c. meant c ≡ rule.Normal (slice_index_or path.now i [])) }
-{
-    match path.name(i) {
-        Some(name) => Ok(Component::Normal(name.copy(alloc)?)),
-        None => unreachable!(),
-    }
 }
 
 /// The components of a link text, at most 64.

@@ -14,6 +14,7 @@ pub struct Known {
 }
 
 impl Known {
+    /// A reader that knows these reads.
     pub fn new(reads: Reads) -> Known
         ensures { result.reads ≡ reads }
     {

@@ -1,5 +1,5 @@
 //! A walk of resolution: the directory where it is, the components that are left, and the links that it may yet follow.
-ghost use Rattle.std.specs.Prelude.{◌≡◌, ◌<◌, ◌≤◌, ◌+◌, length, take, IfOk, IfNone};
+ghost use Rattle.std.specs.Prelude.{◌≡◌, ◌≤◌, IfOk, IfNone};
 ghost use Rattle.fx_store.specs.Resolve as rule;
 ghost use Rattle.fx_store.specs.Resolve.{◌/ₚ◌};
 ghost use Rattle.fx_view.specs.Ways.{way};
@@ -52,7 +52,7 @@ pub(crate) fn advance(alloc: Global, walk: &mut Walk) -> Result<Next, NoMemory>
         None => Ok(Next::Lands(Landing::At(walk.here.copy(alloc)?))),
         Some(Component::CurDir) => Ok(Next::Goes),
         Some(Component::ParentDir) => {
-            walk.here = parent(alloc, &walk.here)?;
+            walk.here = walk.here.parent(alloc)?;
             Ok(Next::Goes)
         }
         Some(Component::Normal(name)) => enter(alloc, walk, name),
@@ -151,32 +151,4 @@ fn goes_along(walk: &Walk) -> bool
     ensures { result ≡ rule.goes_along walk.now.follow (way walk.now.rest.items) }
 {
     walk.follow || !walk.rest.is_empty()
-}
-
-/// The directory above; the root stays the root.
-fn parent(alloc: Global, path: &Path) -> Result<Path, NoMemory>
-    ensures { IfOk result (λ above. above ≡ rule.parent path.now) }
-{
-    let mut above = Path::root(alloc);
-    for i in 0..path.len().saturating_sub(1) {
-        above = one_more(alloc, &above, path, i)?;
-    }
-    Ok(above)
-}
-
-/// The first names of a path, with one name more.
-fn one_more(alloc: Global, above: &Path, path: &Path, i: u32) -> Result<Path, NoMemory>
-    requires above { above.now ≡ take i path.now }
-    requires i { i < length path.now }
-    ensures { IfOk result (λ more. more ≡ take (i + 1) path.now) }
-{
-    let Some(name) = path.name(i) else {
-        unreachable!();
-    };
-    match above.join(alloc, name) {
-        Ok(more) => Ok(more),
-        Err(PathFault::NoMemory) => Err(NoMemory),
-        Err(PathFault::BadName) => unreachable!(),
-        Err(PathFault::TooDeep) => unreachable!(),
-    }
 }
