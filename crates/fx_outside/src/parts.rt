@@ -28,10 +28,10 @@ impl Parts {
     pub fn read(alloc: Global, path: &HostText) -> Result<Option<Parts>, NoMemory>
         ensures { IfOk result (λ found. found ≡ fit_parts path.now) }
     {
-        let pieces = pieces(alloc, path.as_str())?;
-        if !all_fit(&pieces) {
+        if !path.is_fit() {
             return Ok(None);
         }
+        let pieces = pieces(alloc, path.as_str())?;
         let names = texts(alloc, &pieces)?;
         Ok(Some(Parts { names }))
     }
@@ -72,34 +72,31 @@ fn pieces(alloc: Global, path: &str) -> Result<Vec<&str>, AllocError>
     path.split('/').collect(alloc)
 }
 
-fn is_fit_part(part: &str) -> bool
+/// Whether a part can name an entry.
+fn is_fit_part(part: &[u8]) -> bool
     ensures { result ≡ is_fit_part part.now }
 {
-    if part.is_empty() {
-        return false;
+    match part {
+        [] => false,
+        [b'.'] => false,
+        [b'.', b'.'] => false,
+        _ => true,
     }
-    if part == "." {
-        return false;
-    }
-    part != ".."
+}
+
+fn is_slash(byte: &u8) -> bool
+    ensures { result ≡ (byte.now == 47) }
+{
+    *byte == b'/'
 }
 
 /// Whether each part of a path can name an entry.
 pub(crate) fn is_fit(path: &str) -> bool
     ensures { result ≡ is_fit path.now }
 {
-    path.split('/').all(|part| is_fit_part(part))
-}
-
-fn all_fit(pieces: &[&str]) -> bool
-    ensures { result ≡ list_all is_fit_part (map (λ p. p.now) pieces.now) }
-{
-    for piece in pieces {
-        if !is_fit_part(piece) {
-            return false;
-        }
-    }
-    true
+    path.as_bytes()
+        .split(|byte| is_slash(byte))
+        .all(|part| is_fit_part(part))
 }
 
 fn texts(alloc: Global, pieces: &[&str]) -> Result<Vec<HostText>, NoMemory>

@@ -1,10 +1,11 @@
-use Rattle.std.proofs.Common.{rules, lit<}
+use Rattle.std.proofs.Common.{rules, ◌∙◌}
+use Rattle.std.specs.Prelude.{◌==◌, ℕ}
 use borrow.Author.Tests.{tests}
 use Rattle.std.proofs.lemmas.Iterator.Search.{all_from_yields_List}
-use Rattle.std.proofs.lemmas.Iterator.Splits.{YieldsList-from_str_split}
+use Rattle.std.proofs.lemmas.Iterator.Splits.{YieldsList-from_slice_split}
 use Rattle.fx_outside.specs.Path.{is_fit_part}
 use Rattle.fx_outside.proofs.parts.is_fit.Goals as goal
 
 pub returns : goal.returns
 returns c =
-    all_from_yields_List is_fit_part _ _ _ c.all.ensures.ran (YieldsList-from_str_split 47 c.args.path.now (lit< tt) c.split.ensures.text c.split.ensures.has_more c.split.ensures.pattern) (λ x b q k. search (rules, tests))
+    all_from_yields_List is_fit_part _ _ _ c.all.ensures.ran (YieldsList-from_slice_split _ (λ (b : ℕ). b == 47) c.args.path.now (c.split.ensures.rest ∙ c.as_bytes.ensures.value) c.split.ensures.done c.split.ensures.closure (λ x b q k. search (rules, tests))) (λ x b q k. search (rules, tests))
