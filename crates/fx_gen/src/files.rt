@@ -43,8 +43,7 @@ fn name(alloc: Global, bytes: &[u8]) -> Result<Name, NoMemory>
     match Name::read(alloc, bytes) {
         Ok(name) => Ok(name),
         Err(PathFault::NoMemory) => Err(NoMemory),
-        Err(PathFault::BadName) => unreachable!(),
-        Err(PathFault::TooDeep) => unreachable!(),
+        Err(PathFault::BadName | PathFault::TooDeep) => unreachable!(),
     }
 }
 
@@ -54,13 +53,7 @@ fn below(alloc: Global, dir: &Path, entry: &[u8]) -> Result<Path, NoMemory>
     requires room { length dir.now < 64 }
     ensures { IfOk result (λ path. path ≡ dir.now ++ entry.now ∷ []) }
 {
-    let entry = name(alloc, entry)?;
-    match dir.join(alloc, &entry) {
-        Ok(path) => Ok(path),
-        Err(PathFault::NoMemory) => Err(NoMemory),
-        Err(PathFault::BadName) => unreachable!(),
-        Err(PathFault::TooDeep) => unreachable!(),
-    }
+    dir.child(alloc, &name(alloc, entry)?)
 }
 
 /// The path of an entry of a project's directory.
@@ -266,8 +259,7 @@ fn link_text(alloc: Global, bytes: &[u8]) -> Result<LinkText, NoMemory>
     match LinkText::read(alloc, bytes) {
         Ok(text) => Ok(text),
         Err(PathFault::NoMemory) => Err(NoMemory),
-        Err(PathFault::BadName) => unreachable!(),
-        Err(PathFault::TooDeep) => unreachable!(),
+        Err(PathFault::BadName | PathFault::TooDeep) => unreachable!(),
     }
 }
 
