@@ -79,6 +79,7 @@ impl Board {
         })
     }
 
+    /// The base: the description, the scripts and the loaded filestore.
     pub fn base(&self) -> &Base
         ensures base { base_tree result.now ≡ self.now.base }
         ensures log { IsLog self.now }

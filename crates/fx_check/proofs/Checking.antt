@@ -1,5 +1,5 @@
 -- The checks against what is well shaped.
-use Rattle.std.proofs.Common.{◌≡◌, ℕ, zero, suc, ◌≤◌, take, length, slice_get, arith, append_assoc, Bool, true, false, cond, ◌&&◌, nat_eq, All, List, [], ◌∷◌, ◌++◌, Option, Some, None, Result, Ok, Err, IsErrAnd, refl, sym, ap, subst, ◌∙◌}
+use Rattle.std.proofs.Common.{◌≡◌, ℕ, suc, take, length, arith, append_assoc, Bool, true, false, cond, ◌&&◌, nat_eq, All, List, [], ◌∷◌, ◌++◌, Option, Some, None, Result, Ok, Err, IsErrAnd, refl, sym, ap, subst, ◌∙◌}
 use Rattle.std.proofs.lemmas.Bool.Decides.{nat_tests}
 use Rattle.std.proofs.lemmas.List.{append-nil}
 use Rattle.std.proofs.Math.Seq.{take-append_seam}
@@ -14,7 +14,7 @@ use Rattle.fx_expr.specs.Shapes.{HasShape, BinShape, UnShape, IsComparable, IsOr
 use Rattle.fx_spec.proofs.Shaped.{same_shapes}
 use Rattle.fx_spec.specs.Written.{WrittenTree, DefTree, definition}
 use Rattle.fx_spec.specs.Move.{same_shape}
-use Rattle.fx_spec.specs.CommandTree.{ActTree, CommandTree, Block, block, count, commands_size}
+use Rattle.fx_spec.specs.CommandTree.{ActTree, CommandTree, Block, block, count}
 use Rattle.fx_spec.specs.WellShaped.{Scope, AreArguments, IsWritten, IsAct, IsCommand, IsBlock, written_shape}
 use Rattle.fx_check.specs.declared.fault.CheckFault.{CheckFault}
 use Rattle.fx_check.specs.declared.fault.CheckFault.TheVariants as check
@@ -752,63 +752,20 @@ cut_back g b s h =
     let more : (more : Scope) × (s ≡ g ++ more) = block_grows g b s h in
     given (checked_block g b) (λ _. Ok g) s h ∙ ap (λ l. Ok l) (sym (ap (λ l. take (length g) l) more.1 ∙ take-append_seam g more.0))
 
-pub block_next : (cs : List CommandTree) (i : ℕ) (c : CommandTree) (g s t : Scope) → slice_get cs i ≡ Some c → checked_block g (block (take i cs)) ≡ Ok s → checked_command s c ≡ Ok t
-    → checked_block g (block (take (suc i) cs)) ≡ Ok t
-block_next [] i c g s t at h e = absurd (cc)
-block_next (x ∷ cs) zero c g s t at h e =
-    let same : x ≡ c = cc in
-    let here : g ≡ s = cc in
-    given (checked_command g x) (λ inner. Ok inner) t (ap (λ y. checked_command g y) same ∙ ap (λ y. checked_command y c) here ∙ e)
-block_next (x ∷ cs) (suc i) c g s t at h e =
-    let y = both (checked_command g x) (λ inner. checked_block inner (block (take i cs))) s h in
-    given (checked_command g x) (λ inner. checked_block inner (block (take (suc i) cs))) y.first y.is ∙ block_next cs i c y.first s t at y.then e
-
-same_fault : (fault : CheckFault) (o p : OrFault Scope) → p ≡ o → IsFault fault o → IsFault fault p
-same_fault fault o p e h = subst (λ (x : OrFault Scope). IsFault fault x) (sym e) h
-
-pub block_fails : (cs : List CommandTree) (i : ℕ) (c : CommandTree) (g s : Scope) (fault : CheckFault) → slice_get cs i ≡ Some c → checked_block g (block (take i cs)) ≡ Ok s
-    → IsFault fault (checked_command s c) → IsFault fault (checked_block g (block cs))
-block_fails [] i c g s fault at h e = absurd (cc)
-block_fails (x ∷ cs) zero c g s fault at h e =
-    let same : x ≡ c = cc in
-    let here : g ≡ s = cc in
-    fault_then fault (checked_command g x) (λ inner. checked_block inner (block cs))
-    (same_fault fault (checked_command s c) (checked_command g x) (ap (λ y. checked_command g y) same ∙ ap (λ y. checked_command y c) here) e)
-block_fails (x ∷ cs) (suc i) c g s fault at h e =
-    let y = both (checked_command g x) (λ inner. checked_block inner (block (take i cs))) s h in
-    same_fault fault (checked_block y.first (block cs)) (checked_block g (block (x ∷ cs))) (given (checked_command g x) (λ inner. checked_block inner (block cs)) y.first y.is)
-    (block_fails cs i c y.first s fault at y.then e)
-
--- a command has no more commands in it than its list
-pub count_at : (cs : List CommandTree) (i : ℕ) (c : CommandTree) → slice_get cs i ≡ Some c → count c ≤ commands_size cs
-count_at [] i c at = absurd (cc)
-count_at (x ∷ cs) zero c at = let same : count x ≡ count c = let e : x ≡ c = cc in ap count e in omega arith
-count_at (x ∷ cs) (suc i) c at = let rest : count c ≤ commands_size cs = count_at cs i c at in omega arith
-
 -- the fault of a call is handed on
 pub handed : {X Y : Type 0} (view : X → Y) (result : Result X CheckFault) (fault : CheckFault) (o : OrFault Y) → IsErrAnd result (λ found. found ≡ fault) → IsFault fault o → Gives view result o
 handed view (Ok x) fault o is h = absurd is
 handed view (Err found) fault o is h = subst (λ (f : CheckFault). IsFault f o) (sym is) h
 
-abbrev pub IsFine : List CommandTree → Type 0
-IsFine t = IsBlock [] (block t)
+-- a transaction that is well shaped before others
+module _ (t : List CommandTree) (ts : List (List CommandTree)) (left : Scope) (is : checked_block [] (block t) ≡ Ok left) where
+  abbrev then_next : OrFault (List (List CommandTree))
+  then_next = checked_txns ts >>= λ rest. Ok (t ∷ rest)
 
-pub fine_next : (ts : List (List CommandTree)) (i : ℕ) (t : List CommandTree) → slice_get ts i ≡ Some t → All IsFine (take i ts) → IsFine t → All IsFine (take (suc i) ts)
-fine_next [] i t at h e = absurd (cc)
-fine_next (x ∷ ts) zero t at h e = let same : t ≡ x = cc in All-cons IsFine x [] (subst (λ (y : List CommandTree). IsFine y) same e) (All-nil IsFine)
-fine_next (x ∷ ts) (suc i) t at h e =
-    All-cons IsFine x (take (suc i) ts) (All-head IsFine x (take i ts) h) (fine_next ts i t at (All-tail IsFine x (take i ts) h) e)
+  pub fine_before : checked_txns ts ≡ Ok ts → checked_txns (t ∷ ts) ≡ Ok (t ∷ ts)
+  fine_before h = given (checked_block [] (block t)) (λ _. then_next) left is ∙ given (checked_txns ts) (λ rest. Ok (t ∷ rest)) ts h
 
-pub txns_fail : (ts : List (List CommandTree)) (i : ℕ) (t : List CommandTree) (fault : CheckFault) → slice_get ts i ≡ Some t → All IsFine (take i ts)
-    → IsFault fault (checked_block [] (block t)) → IsFault fault (checked_txns ts)
-txns_fail [] i t fault at h e = absurd (cc)
-txns_fail (x ∷ ts) zero t fault at h e =
-    let same : x ≡ t = cc in
-    fault_then fault (checked_block [] (block x)) (λ _. checked_txns ts >>= λ rest. Ok (x ∷ rest))
-    (same_fault fault (checked_block [] (block t)) (checked_block [] (block x)) (ap (λ y. checked_block [] (block y)) same) e)
-txns_fail (x ∷ ts) (suc i) t fault at h e =
-    let fine : (inner : Scope) × (checked_block [] (block x) ≡ Ok inner) = is_block [] (block x) (All-head IsFine x (take i ts) h) in
-    let rest : IsFault fault (checked_txns ts) = txns_fail ts i t fault at (All-tail IsFine x (take i ts) h) e in
-    let next : OrFault (List (List CommandTree)) = checked_txns ts >>= λ rest. Ok (x ∷ rest) in
-    subst (λ (o : OrFault (List (List CommandTree))). IsFault fault o) (sym (given (checked_block [] (block x)) (λ _. next) fine.0 fine.1))
-    (fault_then fault (checked_txns ts) (λ rest. Ok (x ∷ rest)) rest)
+  pub fault_behind : (fault : CheckFault) → IsFault fault (checked_txns ts) → IsFault fault (checked_txns (t ∷ ts))
+  fault_behind fault h =
+      subst (λ (o : OrFault (List (List CommandTree))). IsFault fault o) (sym (given (checked_block [] (block t)) (λ _. then_next) left is))
+      (fault_then fault (checked_txns ts) (λ rest. Ok (t ∷ rest)) h)

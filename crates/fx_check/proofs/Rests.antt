@@ -1,16 +1,17 @@
--- What is left of a list from a place on decides how the check of the whole ends.
-use Rattle.std.proofs.Common.{◌≡◌, ℕ, zero, suc, ◌≤◌, ◌<◌, true, false, cond, nat_eq, take, drop, length, slice_get, List, [], ◌∷◌, ◌++◌, Option, Some, None, Ok, refl, sym, ap, subst, ◌∙◌, arith}
+-- What is left of the definitions from a place on decides how the check of all of them ends; and whether a name is one of
+-- the first of them.
+use Rattle.std.proofs.Common.{◌≡◌, ℕ, zero, suc, ◌≤◌, Bool, true, false, cond, nat_eq, nat_lt, take, drop, length, slice_get, List, [], ◌∷◌, ◌++◌, Option, Some, None, Ok, refl, sym, ap, subst, ◌∙◌, arith}
+use Rattle.std.specs.Prelude.{is_some}
+use Rattle.std.specs.Option.{option_map}
 use Rattle.std.specs.Cmp.Lexicographic.{pointwise}
-use Rattle.fx_expr.specs.ExprTree.{ExprTree}
+use Rattle.std.proofs.lemmas.Bool.Decides.{nat_tests}
 use Rattle.fx_expr.specs.ShapeTree.{ShapeTree}
-use Rattle.fx_spec.specs.Written.{DefTree, definition}
-use Rattle.fx_spec.specs.WellShaped.{Scope}
+use Rattle.fx_spec.specs.Written.{DefTree, definition, place}
 use Rattle.fx_check.specs.declared.fault.CheckFault.{CheckFault}
 use Rattle.fx_check.specs.Gives.{IsFault}
 use Rattle.fx_check.specs.Faults.{OrFault, ◌>>=◌}
-use Rattle.fx_check.specs.Checked.{with_name, shaped_as, checked_arguments, with_params, checked_def, checked_defs}
+use Rattle.fx_check.specs.Checked.{checked_def, checked_defs}
 use Rattle.fx_check.proofs.Checking.{given, fault_then}
-use Rattle.fx_check.proofs.Texts.{Params}
 
 pub drop_at : {A : Type 0} (xs : List A) (i : ℕ) (x : A) → slice_get xs i ≡ Some x → drop i xs ≡ x ∷ drop (suc i) xs
 drop_at [] i x at = absurd (cc)
@@ -22,50 +23,11 @@ take_at [] i x at = absurd (cc)
 take_at (y ∷ ys) zero x at = let same : y ≡ x = cc in λ k. same k ∷ []
 take_at (y ∷ ys) (suc i) x at = ap (λ l. y ∷ l) (take_at ys i x at)
 
-pub drop_none : {A : Type 0} (xs : List A) (i : ℕ) → slice_get xs i ≡ None → drop i xs ≡ []
-drop_none [] zero at = refl
-drop_none [] (suc i) at = refl
-drop_none (y ∷ ys) zero at = absurd (cc)
-drop_none (y ∷ ys) (suc i) at = drop_none ys i at
-
 pub drop_all : {A : Type 0} (xs : List A) (i : ℕ) → length xs ≤ i → drop i xs ≡ []
 drop_all [] zero past = refl
 drop_all [] (suc i) past = refl
 drop_all (y ∷ ys) zero past = absurd (let e : suc (length ys) ≤ 0 = past in omega arith)
 drop_all (y ∷ ys) (suc i) past = drop_all ys i (let e : suc (length ys) ≤ suc i = past in omega arith)
-
--- ---- arguments
-
-module _ (g : Scope) (es : List ExprTree) (ps : Params) (i : ℕ) (e : ExprTree) (p : List ℕ × ShapeTree) (at_e : slice_get es i ≡ Some e) (at_p : slice_get ps i ≡ Some p) where
-  arguments_at : checked_arguments g (drop i es) (drop i ps) ≡ (shaped_as g p.1 e >>= λ _. checked_arguments g (drop (suc i) es) (drop (suc i) ps))
-  arguments_at = λ k. checked_arguments g (drop_at es i e at_e k) (drop_at ps i p at_p k)
-
-  pub next_argument : (s : ShapeTree) → shaped_as g p.1 e ≡ Ok s → checked_arguments g (drop i es) (drop i ps) ≡ checked_arguments g (drop (suc i) es) (drop (suc i) ps)
-  next_argument s h = arguments_at ∙ given (shaped_as g p.1 e) (λ _. checked_arguments g (drop (suc i) es) (drop (suc i) ps)) s h
-
-  pub wrong_argument : (fault : CheckFault) → IsFault fault (shaped_as g p.1 e) → IsFault fault (checked_arguments g (drop i es) (drop i ps))
-  wrong_argument fault h =
-      subst (λ (o : OrFault ShapeTree). IsFault fault o) (sym arguments_at)
-      (fault_then fault (shaped_as g p.1 e) (λ _. checked_arguments g (drop (suc i) es) (drop (suc i) ps)) h)
-
-pub no_arguments : (g : Scope) (es : List ExprTree) (ps : Params) (i : ℕ) → length es ≤ i → checked_arguments g (drop i es) (drop i ps) ≡ Ok ShapeTree.bool
-no_arguments g es ps i past = ap (λ l. checked_arguments g l (drop i ps)) (drop_all es i past)
-
--- ---- parameters
-
-module _ (g : Scope) (ps : Params) (i : ℕ) (p : List ℕ × ShapeTree) (at : slice_get ps i ≡ Some p) where
-  params_at : with_params g (drop i ps) ≡ (with_name g p.0 p.1 >>= λ inner. with_params inner (drop (suc i) ps))
-  params_at = ap (λ l. with_params g l) (drop_at ps i p at)
-
-  pub next_param : (inner : Scope) → with_name g p.0 p.1 ≡ Ok inner → with_params g (drop i ps) ≡ with_params inner (drop (suc i) ps)
-  next_param inner h = params_at ∙ given (with_name g p.0 p.1) (λ inner. with_params inner (drop (suc i) ps)) inner h
-
-  pub wrong_param : (fault : CheckFault) → IsFault fault (with_name g p.0 p.1) → IsFault fault (with_params g (drop i ps))
-  wrong_param fault h =
-      subst (λ (o : OrFault Scope). IsFault fault o) (sym params_at) (fault_then fault (with_name g p.0 p.1) (λ inner. with_params inner (drop (suc i) ps)) h)
-
-pub no_params : (g : Scope) (ps : Params) (i : ℕ) → length ps ≤ i → with_params g (drop i ps) ≡ Ok g
-no_params g ps i past = ap (λ l. with_params g l) (drop_all ps i past)
 
 -- ---- definitions
 
@@ -89,35 +51,23 @@ no_defs defs i past = ap (λ l. checked_defs defs (take i defs) l) (drop_all def
 
 -- ---- a name among the first definitions
 
-take_get : {A : Type 0} (xs : List A) (n i : ℕ) → i < n → slice_get (take n xs) i ≡ slice_get xs i
-take_get xs zero i low = absurd (omega arith)
-take_get [] (suc n) zero low = refl
-take_get [] (suc n) (suc i) low = refl
-take_get (x ∷ xs) (suc n) zero low = refl
-take_get (x ∷ xs) (suc n) (suc i) low = take_get xs n i (omega arith)
+abbrev pub is_below : ℕ → Option ℕ → Bool
+is_below n None = false
+is_below n (Some i) = nat_lt i n
 
-module _ (f : List ℕ) (defs : List DefTree) (n i : ℕ) (low : i < n) where
-  here : (d : DefTree) → slice_get defs i ≡ Some d → drop i (take n defs) ≡ d ∷ drop (suc i) (take n defs)
-  here d at = drop_at (take n defs) i d (take_get defs n i low ∙ at)
-
-  pub named_here : (d : DefTree) → slice_get defs i ≡ Some d → pointwise nat_eq d.name f ≡ true → definition f (drop i (take n defs)) ≡ Some d
-  named_here d at same =
-      ap (λ l. definition f l) (here d at) ∙ ap (λ b. cond {A = Option DefTree} b (Some d) (definition f (drop (suc i) (take n defs)))) same
-
-  pub named_later : (d : DefTree) → slice_get defs i ≡ Some d → pointwise nat_eq d.name f ≡ false
-      → definition f (drop i (take n defs)) ≡ definition f (drop (suc i) (take n defs))
-  named_later d at other =
-      ap (λ l. definition f l) (here d at) ∙ ap (λ b. cond {A = Option DefTree} b (Some d) (definition f (drop (suc i) (take n defs)))) other
-
-  pub named_nowhere : slice_get defs i ≡ None → definition f (drop i (take n defs)) ≡ None
-  named_nowhere at = ap (λ l. definition f l) (drop_none (take n defs) i (take_get defs n i low ∙ at))
-
-length_take : {A : Type 0} (n : ℕ) (xs : List A) → length (take n xs) ≤ n
-length_take zero xs = omega arith
-length_take (suc n) [] = omega arith
-length_take (suc n) (x ∷ xs) = let rest : length (take n xs) ≤ n = length_take n xs in omega arith
-
-pub named_not : (f : List ℕ) (defs : List DefTree) (n i : ℕ) → n ≤ i → definition f (drop i (take n defs)) ≡ None
-named_not f defs n i past =
-    let short : length (take n defs) ≤ n = length_take n defs in
-    ap (λ l. definition f l) (drop_all (take n defs) i (omega arith))
+pub among : (f : List ℕ) (n : ℕ) (defs : List DefTree) → is_some (definition f (take n defs)) ≡ is_below n (place f defs)
+among f zero [] = refl
+among f (suc n) [] = refl
+among f zero (d ∷ defs) = none (pointwise nat_eq d.name f) (place f defs)
+  where
+    none : (b : Bool) (o : Option ℕ) → false ≡ is_below 0 (cond b (Some 0) (option_map (λ i. suc i) o))
+    none true o = refl
+    none false None = refl
+    none false (Some i) = let f : nat_lt (suc i) 0 ≡ false = grind (arith, nat_tests) in sym f
+among f (suc n) (d ∷ defs) = more (pointwise nat_eq d.name f) (place f defs) (among f n defs)
+  where
+    more : (b : Bool) (o : Option ℕ) → is_some (definition f (take n defs)) ≡ is_below n o
+        → is_some (cond b (Some d) (definition f (take n defs))) ≡ is_below (suc n) (cond b (Some 0) (option_map (λ i. suc i) o))
+    more true o rest = let t : nat_lt 0 (suc n) ≡ true = grind (arith, nat_tests) in sym t
+    more false None rest = rest
+    more false (Some i) rest = let same : nat_lt i n ≡ nat_lt (suc i) (suc n) = grind (arith, nat_tests) in rest ∙ same

@@ -131,10 +131,7 @@ fn check_command(alloc: Global, scope: &mut Scope, command: &Command) -> Result<
 fn check_block(alloc: Global, scope: &mut Scope, commands: &Commands) -> Result<(), CheckFault>
     ensures { Gives (λ _. scope.new) result (checked_block scope.old (block commands.now)) }
 {
-    for i in 0..commands.len() {
-        let Some(command) = commands.at(i) else {
-            unreachable!()
-        };
+    for command in commands.iter() {
         check_command(alloc, scope, command)?;
     }
     Ok(())
@@ -155,10 +152,7 @@ fn check_inner(alloc: Global, scope: &mut Scope, commands: &Commands) -> Result<
 fn check_txns(alloc: Global, txns: &Txns) -> Result<(), CheckFault>
     ensures { Gives (λ _. txns.now) result (checked_txns txns.now) }
 {
-    for i in 0..txns.len() {
-        let Some(txn) = txns.at(i) else {
-            unreachable!()
-        };
+    for txn in txns.iter() {
         let mut scope = Scope::new(alloc);
         check_block(alloc, &mut scope, &txn.commands)?;
     }

@@ -52,22 +52,20 @@ fn pair_shape(alloc: Global, scope: &mut Scope, second: Shape) -> Result<Shape, 
     Ok(Shape::Pair(first, second))
 }
 
-/// The arguments of a call, each of which has the shape of its parameter. The call has the shape Bool.
+/// The arguments of a call, each of which has the shape of its parameter, as far as there are parameters. The call has the
+/// shape Bool.
 fn arguments_shape(
     alloc: Global,
     scope: &Scope,
     args: &Exprs,
     params: &Params,
 ) -> Result<Shape, CheckFault>
-    requires { length args.now ≡ length params.now }
     ensures { Gives shape_tree result (checked_arguments scope.now args.now params.now) }
 {
-    for i in 0..args.len() {
-        let Some(arg) = args.at(i) else {
-            unreachable!()
-        };
-        let Some(param) = params.at(i) else {
-            unreachable!()
+    let mut left = params.iter();
+    for arg in args.iter() {
+        let Some(param) = left.next() else {
+            return Ok(Shape::Bool);
         };
         let expected = param.1.copy(alloc)?;
         let_go(Some(check_shape(alloc, scope, expected, arg.expr())?));

@@ -20,10 +20,7 @@ use std::alloc::Global;
 fn bind_params(alloc: Global, scope: &mut Scope, params: &Params) -> Result<(), CheckFault>
     ensures { Gives (λ _. scope.new) result (with_params scope.old params.now) }
 {
-    for i in 0..params.len() {
-        let Some(param) = params.at(i) else {
-            unreachable!()
-        };
+    for param in params.iter() {
         let shape = param.1.copy(alloc)?;
         scope.bind(alloc, &param.0, shape)?;
     }
@@ -34,15 +31,10 @@ fn bind_params(alloc: Global, scope: &mut Scope, params: &Params) -> Result<(), 
 fn is_defined(defs: &Defs, count: u64, name: &Word) -> bool
     ensures { result ≡ is_some (definition name.now (take count defs.now)) }
 {
-    for i in 0..count {
-        let Some(def) = defs.at(i) else {
-            return false;
-        };
-        if def.name == *name {
-            return true;
-        }
+    match defs.place(name) {
+        Some(place) => place < count,
+        None => false,
     }
-    false
 }
 
 /// A definition with so many before it.

@@ -114,6 +114,7 @@ fn write_file<R: Files>(rt: &R, path: &str, bytes: &[u8]) -> io::Result<()> {
 }
 
 impl<R: Files + AllocGlobal + Clone + Drop> Disk<R> {
+    /// The files that `rt` reaches, with no error and no unfit path counted yet.
     pub fn new(rt: R) -> Disk<R>
         ensures faults { result.faults ≡ 0 }
         ensures last { result.last_fault ≡ None }

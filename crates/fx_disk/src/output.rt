@@ -29,6 +29,7 @@ fn write_some<P: Print>(to: &P, bytes: &[u8]) -> io::Result<usize>
 }
 
 impl<'a, P: Print> Output<'a, P> {
+    /// The standard output of `to`, with no error counted yet.
     pub fn new(to: &'a P) -> Output<'a, P>
         ensures { result.faults ≡ 0 }
     {

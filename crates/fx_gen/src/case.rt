@@ -15,10 +15,14 @@ use std::alloc::Global;
 /// so many count and so many log.
 #[derive(Drop)]
 pub struct Generated {
+    /// The text of the description.
     pub description: Text,
     pub store: Filestore,
+    /// The texts of the scripts, in the order of their numbers.
     pub scripts: Texts,
+    /// The number of transactions that count.
     pub counted: u32,
+    /// The number of transactions that log.
     pub logged: u32,
 }
 

@@ -3,6 +3,7 @@ ghost use Rattle.std.specs.Prelude.{◌≡◌, ◌<◌, ◌≤◌, ◌+◌, ◌*
 ghost use Rattle.std.specs.List.{flat_map, range_with_len};
 ghost use Rattle.fx_store.specs.Names.{IsName};
 ghost use Rattle.fx_store.specs.Faults.{read_link};
+ghost use Rattle.fx_store.specs.declared.limits.TheConstants.{MAX_FILE_BYTES, MAX_PATH_NAMES};
 ghost use Rattle.fx_gen.specs.Draws.{draw, after};
 ghost use Rattle.fx_store.specs.declared.node.Node.TheVariants as Node;
 ghost use Rattle.fx_gen.specs.Notes.{Placed, project, note_name, projects, note_names, part_names, linked, note, config, made, placed_note, placed_parts, note_changes_to, changes_to, project_changes, nodes};
@@ -43,24 +44,17 @@ fn name(alloc: Global, bytes: &[u8]) -> Result<Name, NoMemory>
     match Name::read(alloc, bytes) {
         Ok(name) => Ok(name),
         Err(PathFault::NoMemory) => Err(NoMemory),
-        Err(PathFault::BadName) => unreachable!(),
-        Err(PathFault::TooDeep) => unreachable!(),
+        Err(PathFault::BadName | PathFault::TooDeep) => unreachable!(),
     }
 }
 
 /// The path of an entry of a directory.
 fn below(alloc: Global, dir: &Path, entry: &[u8]) -> Result<Path, NoMemory>
     requires name { IsName entry.now }
-    requires room { length dir.now < 64 }
+    requires room { length dir.now < MAX_PATH_NAMES }
     ensures { IfOk result (λ path. path ≡ dir.now ++ entry.now ∷ []) }
 {
-    let entry = name(alloc, entry)?;
-    match dir.join(alloc, &entry) {
-        Ok(path) => Ok(path),
-        Err(PathFault::NoMemory) => Err(NoMemory),
-        Err(PathFault::BadName) => unreachable!(),
-        Err(PathFault::TooDeep) => unreachable!(),
-    }
+    dir.child(alloc, &name(alloc, entry)?)
 }
 
 /// The path of an entry of a project's directory.
@@ -93,8 +87,8 @@ fn add_file(
     bytes: Vec<u8>,
 ) -> Result<(), NoMemory>
     requires name { IsName entry.now }
-    requires room { length dir.now < 64 }
-    requires short { length bytes.items ≤ 1048576 }
+    requires room { length dir.now < MAX_PATH_NAMES }
+    requires short { length bytes.items ≤ MAX_FILE_BYTES }
     ensures { OnOk result
         (changes.new.items ≡ changes.old.items
         ++ made (dir.now ++ entry.now ∷ [], Node.File bytes.items false) ∷ []) }
@@ -229,7 +223,7 @@ fn add_notes(
 
 /// Adds the directory of a project with its count and its empty log.
 fn add_parts(alloc: Global, changes: &mut Vec<Change>, dir: &Path) -> Result<(), NoMemory>
-    requires { length dir.now < 64 }
+    requires { length dir.now < MAX_PATH_NAMES }
     ensures { OnOk result
         (changes.new.items ≡ changes.old.items ++ map made (placed_parts dir.now)) }
 {
@@ -266,8 +260,7 @@ fn link_text(alloc: Global, bytes: &[u8]) -> Result<LinkText, NoMemory>
     match LinkText::read(alloc, bytes) {
         Ok(text) => Ok(text),
         Err(PathFault::NoMemory) => Err(NoMemory),
-        Err(PathFault::BadName) => unreachable!(),
-        Err(PathFault::TooDeep) => unreachable!(),
+        Err(PathFault::BadName | PathFault::TooDeep) => unreachable!(),
     }
 }
 

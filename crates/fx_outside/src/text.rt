@@ -1,5 +1,6 @@
 //! Texts of the command line and of host paths.
 ghost use Rattle.std.specs.Prelude.{◌≡◌, ◌++◌, [], ◌∷◌, length, slice_get, option_copied, string_bytes, IfOk, OnOk, OnErr};
+ghost use Rattle.std.specs.Slice.Iter.{iter_rest};
 ghost use Rattle.fx_outside.specs.Path.{is_fit};
 
 use crate::parts::is_fit;
@@ -8,6 +9,7 @@ use std::alloc::Global;
 use std::cmp::Ordering;
 use std::convert::AsStr;
 use std::marker::Model;
+use std::slice;
 
 /// A text of the command line, or a host path: the word as it was given, then `/` and a name per level below it.
 #[derive(Debug, Drop)]
@@ -153,6 +155,14 @@ impl Words {
         ensures { option_copied result ≡ slice_get self.now i }
     {
         self.items.get(i as usize)
+    }
+
+    /// The words, from the first.
+    pub fn iter(&self) -> slice::Iter<'_, HostText>
+        ensures rest { iter_rest result ≡ self.now }
+        ensures len { length (iter_rest result) ≡ length self.now }
+    {
+        self.items.iter()
     }
 
     /// Adds a word at the end. A refusal changes nothing.

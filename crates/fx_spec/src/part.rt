@@ -10,12 +10,15 @@ use crate::exprs::Exprs;
 use crate::spec::Spec;
 use fx_expr::{Formula, Word};
 
+/// Inside so many calls no further one is unfolded.
+const CALL_LIMIT: u32 = 64;
+
 /// A part of a description, inside so many calls of the definitions. Contracts see what it means.
 #[derive(Clone, Copy)]
 pub struct Part<'a> {
     pub spec: &'a Spec,
     pub defs: &'a Defs,
-    /// The number of calls that it is inside. From 64 on no call is unfolded.
+    /// The number of calls that it is inside.
     pub level: u32,
 }
 
@@ -77,7 +80,7 @@ impl<'a> Part<'a> {
     {
         match self.defs.get(name) {
             Some(def) => {
-                if self.level < 64 {
+                if self.level < CALL_LIMIT {
                     Form::Call(
                         args,
                         &def.params,

@@ -1,14 +1,13 @@
 -- The arguments of a command, read at their places.
 use Rattle.std.proofs.Common.{◌≡◌, ℕ, suc, ◌+◌, ◌-◌, ◌<◌, ◌≤◌, Bool, true, false, cond, ◌&&◌, List, [], ◌∷◌, length, drop, Option, Some, None, refl, sym, ap, ap₂, ◌∙◌, arith, length-drop}
 use Rattle.std.specs.Prelude.{is_some, slice_get}
-use Rattle.std.specs.List.{list_all}
 use Rattle.std.specs.Option.{option_map, option_map_or, option_and_then, unwrap_or}
 use Rattle.std.proofs.lemmas.Bool.Decides.{nat_tests}
 use Rattle.fx_words.specs.declared.form.CommandName.{CommandName}
-use Rattle.fx_words.specs.Forms.{command_named, has_form, is_within, least_of, most_of, takes, word_of}
+use Rattle.fx_words.specs.Forms.{has_form, is_within, least_of, most_of, takes, word_of}
 use Rattle.fx_words.proofs.Names.{named_so}
 use Rattle.fx_words.specs.declared.job.Inputs as code_inputs
-use Rattle.fx_words.specs.Job.{Inputs, Mode, RunJob, AuditJob, JournalJob, RecoverJob, ViewsJob, ShowJob, GenJob, Plain, Scheduled, are_plain, audit_job, command_job, gen_job, is_count, is_count_with_views, is_plain, job_of, journal_job, named_job, number_of, recover_job, run_job, schedule_of, scheduled_job, show_job, views_job}
+use Rattle.fx_words.specs.Job.{Inputs, Mode, RunJob, AuditJob, JournalJob, RecoverJob, ViewsJob, GenJob, Plain, Scheduled, are_plain, audit_job, command_job, gen_job, is_count, is_count_with_views, is_plain, job_of, journal_job, named_job, number_of, recover_job, run_job, schedule_of, scheduled_job, show_job, views_job}
 use Rattle.fx_words.specs.JobOf.{BeginAt, asked_inputs, has_schedule, scripts_in, shells_read}
 use Rattle.fx_words.proofs.Lists.{drop_there}
 

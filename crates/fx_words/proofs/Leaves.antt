@@ -1,11 +1,11 @@
 -- A command's own level: it takes as many arguments as are its, and its matches say them.
 use Rattle.std.proofs.Common.{◌≡◌, ℕ, ◌<◌, ◌≤◌, Bool, true, false, cond, ◌&&◌, ◌==◌, inl, inr, List, [], ◌∷◌, ◌++◌, length, Some, None, refl, sym, ap, ap₂, ◌∙◌, arith, codes, append-nil, append_assoc}
-use Rattle.std.specs.Prelude.{nat_le, nat_lt}
+use Rattle.std.specs.Prelude.{nat_lt}
 use Rattle.std.specs.List.{fold}
 use Rattle.std.proofs.lemmas.Bool.{cases_lt}
 use Rattle.std.proofs.lemmas.Bool.Decides.{nat_tests}
 use Rattle.clap.specs.Kinds.{Kinds, or_else, range_kinds, values_kinds}
-use Rattle.clap.specs.Walk.{Row, Text, Walk, all_of, finished, is_empty, nothing_held, positional, value}
+use Rattle.clap.specs.Walk.{Text, Walk, all_of, finished, is_empty, nothing_held, positional, value}
 use Rattle.clap.specs.Simple.{Shape, built_leaf, inherited}
 use Rattle.clap.specs.Faults.{defaults_fault, step_fault}
 use Rattle.clap.specs.declared.builder.value_parser.ValueParser.TheVariants as parser

@@ -1,13 +1,11 @@
--- A list from a place on, and tests of all its elements.
-use Rattle.std.proofs.Common.{◌≡◌, ℕ, zero, suc, ◌+◌, ◌<◌, ◌≤◌, Bool, true, false, cond, ◌&&◌, List, [], ◌∷◌, ◌++◌, length, drop, map, get_or, Option, Some, None, refl, sym, ap, ◌∙◌, arith, append-nil, append_assoc}
+-- A list from a place on, and shells that texts name.
+use Rattle.std.proofs.Common.{◌≡◌, ℕ, zero, suc, ◌+◌, ◌<◌, Bool, true, false, cond, ◌&&◌, List, [], ◌∷◌, ◌++◌, length, drop, map, get_or, Option, Some, None, refl, sym, ap, ◌∙◌, arith}
 use Rattle.std.specs.Prelude.{is_some, codes}
 use Rattle.std.specs.List.{slice_get, list_all, slice_split}
 use Rattle.std.specs.Option.{option_map, option_and_then}
 use Rattle.std.specs.Str.{bytes_eq}
 use Rattle.std.proofs.lemmas.List.{map-append}
-use Rattle.std.specs.Borrow.{Bor}
-use Rattle.fx_words.specs.WordsOf.{texts_of}
-use Rattle.fx_words.specs.Job.{is_plain, shell_named, shells_named, schedule_of, is_comma}
+use Rattle.fx_words.specs.Job.{shell_named, shells_named, schedule_of, is_comma}
 
 pub drop_there : {X : Type 0} (xs : List X) (i : ℕ) (x : X) → Some x ≡ slice_get xs i → drop i xs ≡ x ∷ drop (i + 1) xs
 drop_there [] i x e = cc
@@ -16,24 +14,6 @@ drop_there (y ∷ ys) (suc i) x e =
     let rest = drop_there ys i x e in
     let next : suc i + 1 ≡ suc (i + 1) = omega arith in
     rest ∙ ap (λ n. x ∷ drop n (y ∷ ys)) (sym next)
-
-pub drop_past : {X : Type 0} (xs : List X) (i : ℕ) → length xs ≤ i → drop i xs ≡ []
-drop_past [] zero h = refl
-drop_past [] (suc i) h = refl
-drop_past (x ∷ xs) zero h = absurd (omega arith)
-drop_past (x ∷ xs) (suc i) h = drop_past xs i (omega arith)
-
-pub plain_from : (ws : List (List ℕ)) (i : ℕ) (w : List ℕ) → Some w ≡ slice_get ws i → list_all is_plain (drop i ws) ≡ is_plain w && list_all is_plain (drop (i + 1) ws)
-plain_from ws i w e = ap (list_all is_plain) (drop_there ws i w e)
-
-pub not_plain : (ws : List (List ℕ)) (i : ℕ) (w : List ℕ) → Some w ≡ slice_get ws i → is_plain w ≡ false → list_all is_plain (drop i ws) ≡ false
-not_plain ws i w e isnt = plain_from ws i w e ∙ ap (λ b. b && list_all is_plain (drop (i + 1) ws)) isnt
-
-pub plain_on : (ws : List (List ℕ)) (i : ℕ) (w : List ℕ) → Some w ≡ slice_get ws i → is_plain w ≡ true → list_all is_plain (drop i ws) ≡ list_all is_plain (drop (i + 1) ws)
-plain_on ws i w e is = plain_from ws i w e ∙ ap (λ b. b && list_all is_plain (drop (i + 1) ws)) is
-
-pub plain_past : (ws : List (List ℕ)) (i : ℕ) → length ws ≤ i → list_all is_plain (drop i ws) ≡ true
-plain_past ws i h = ap (list_all is_plain) (drop_past ws i h)
 
 -- the parts name shells exactly where each does
 pub all_named : (count : ℕ) (texts : List (List ℕ)) → list_all (λ part. is_some (shell_named count part)) texts ≡ is_some (shells_named count texts)
@@ -61,11 +41,6 @@ named_push count (t ∷ texts) ks text k e f = at (shell_named count t) (shells_
     at (Some j) (Some rest) e on =
         let same : j ∷ rest ≡ ks = cc in
         ap (option_map (λ ks. j ∷ ks)) (on rest refl) ∙ ap (λ xs. Some (xs ++ k ∷ [])) same
-
-pub is_there : {X : Type 0} (xs : List X) (i : ℕ) → suc i ≤ length xs → None ≡ slice_get xs i → ⊥
-is_there [] i h e = omega arith
-is_there (x ∷ xs) zero h e = cc
-is_there (x ∷ xs) (suc i) h e = is_there xs i (omega arith) e
 
 -- where each element passes, so does the one that was read
 first_passes : (a b : Bool) → a && b ≡ true → a ≡ true
@@ -96,17 +71,3 @@ are_shells count text e isnt =
 
 pub schedule_is : (count : ℕ) (text ks : List ℕ) → bytes_eq text (codes "none") ≡ false → shells_named count (slice_split is_comma text) ≡ Some ks → schedule_of count text ≡ Some ks
 schedule_is count text ks isnt e = ap (λ b. cond b (Some []) (shells_named count (slice_split is_comma text))) isnt ∙ e
-
--- one more text of the words
-pub texts_more : (texts : List (Bor (List ℕ))) (text : Bor (List ℕ)) (words : List (List ℕ)) (i : ℕ) (w : List ℕ) → texts_of texts ++ drop i words ≡ words → text.now ≡ w → Some w ≡ slice_get words i
-    → texts_of (texts ++ text ∷ []) ++ drop (i + 1) words ≡ words
-texts_more texts text words i w so_far same there =
-    ap (λ ts. ts ++ drop (i + 1) words) (map-append (λ (t : Bor (List ℕ)). t.now) texts (text ∷ []))
-    ∙ append_assoc (texts_of texts) (text.now ∷ []) (drop (i + 1) words)
-    ∙ ap (λ t. texts_of texts ++ t ∷ drop (i + 1) words) same
-    ∙ ap (λ rest. texts_of texts ++ rest) (sym (drop_there words i w there))
-    ∙ so_far
-
-pub texts_all : (texts : List (Bor (List ℕ))) (words : List (List ℕ)) (i : ℕ) → texts_of texts ++ drop i words ≡ words → length words ≤ i → texts_of texts ≡ words
-texts_all texts words i so_far past =
-    sym (append-nil (texts_of texts)) ∙ ap (λ rest. texts_of texts ++ rest) (sym (drop_past words i past)) ∙ so_far

@@ -1,10 +1,10 @@
 -- The whole command line: the program's parser takes the plain words that have a command's form, and its matches say them.
-use Rattle.std.proofs.Common.{◌≡◌, Bool, true, false, List, [], ◌∷◌, length, Option, Some, None, refl, sym, ap, ap₂, subst, ◌∙◌, codes}
+use Rattle.std.proofs.Common.{◌≡◌, Bool, true, false, List, [], ◌∷◌, length, Option, Some, None, refl, sym, ap, ap₂, subst, ◌∙◌}
 use Rattle.std.specs.Prelude.{find, is_some}
 use Rattle.std.specs.List.{fold, list_all}
 use Rattle.std.specs.Option.{option_map, option_map_or, option_and_then}
 use Rattle.clap.specs.Kinds.{Kinds, or_else}
-use Rattle.clap.specs.Walk.{Names, Row, Text, Walk, all_of, answers_to, finished, idle, is_empty, nothing_held, rows_after, settled, subcommand_met, walked}
+use Rattle.clap.specs.Walk.{Names, Text, Walk, answers_to, finished, idle, is_empty, nothing_held, rows_after, settled, subcommand_met, walked}
 use Rattle.clap.specs.Simple.{Shape, built, entered, label_of, names_of, rows_at, subcommand_of}
 use Rattle.clap.specs.Faults.{check_fault, defaults_fault, entered_fault, fault_of, level_fault, settle_fault, turn_fault, walk_fault}
 use Rattle.clap.proofs.WalkLemmas.{walk_stopped}
@@ -16,7 +16,7 @@ use Rattle.fx_words.specs.Matched.{command_in, words_in}
 use Rattle.fx_words.specs.Parser.{program}
 use Rattle.fx_words.proofs.Walks.{both, level_is, rows_are, start, turn_is}
 use Rattle.fx_words.proofs.Leaves.{command_says, command_takes, ready}
-use Rattle.fx_words.proofs.Names.{command_is, labels, named_so, unfound}
+use Rattle.fx_words.proofs.Names.{command_is, named_so, unfound}
 
 abbrev names : Names
 names = names_of (built program)

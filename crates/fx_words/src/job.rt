@@ -95,6 +95,7 @@ pub struct ShowJob<'a> {
 /// The arguments of `gen NUMBER OUT`, and of `large NUMBER OUT`.
 #[derive(Clone, Copy)]
 pub struct GenJob<'a> {
+    /// The number that the case is made from.
     pub number: u32,
     pub out: &'a HostText,
 }
@@ -113,17 +114,7 @@ fn is_plain(word: &HostText) -> bool
 fn are_plain(words: &Words) -> bool
     ensures { result ≡ job.are_plain words.now }
 {
-    for i in 0..words.len() {
-        match words.at(i) {
-            Some(word) => {
-                if !is_plain(word) {
-                    return false;
-                }
-            }
-            None => return false,
-        }
-    }
-    true
+    words.iter().all(is_plain)
 }
 
 /// The texts of the words.
@@ -131,11 +122,8 @@ fn texts(alloc: Global, words: &Words) -> Result<Vec<&str>, NoMemory>
     ensures { IfOk result (λ texts. texts_of texts.items ≡ words.now) }
 {
     let mut texts = Vec::new(alloc);
-    for i in 0..words.len() {
-        match words.at(i) {
-            Some(word) => texts.push(word.as_str())?,
-            None => unreachable!(),
-        }
+    for word in words.iter() {
+        texts.push(word.as_str())?;
     }
     Ok(texts)
 }

@@ -1,8 +1,12 @@
-use Rattle.std.proofs.Common.{◌∙◌, ◌≤◌, Ok, ap, sym, take, add-one, arith}
-use Rattle.fx_spec.specs.CommandTree.{block, count, commands_size}
+use Rattle.std.proofs.Common.{◌≡◌, ◌∙◌, ◌+◌, List, Ok, map, ap, sym, subst, take, arith}
+use Rattle.std.specs.Slice.Iter.{iter_rest}
+use Rattle.fx_spec.specs.CommandTree.{CommandTree, block, count, commands_size}
 use Rattle.fx_spec.specs.Views.{command_tree}
-use Rattle.fx_check.specs.Checked.{checked_block}
-use Rattle.fx_check.proofs.Checking.{cut_back, count_at, block_next, block_fails, handed}
+use Rattle.fx_spec.specs.WellShaped.{Scope}
+use Rattle.fx_check.specs.Faults.{OrFault}
+use Rattle.fx_check.specs.Gives.{IsFault}
+use Rattle.fx_check.specs.Checked.{checked_command, checked_block}
+use Rattle.fx_check.proofs.Checking.{cut_back, given, fault_then, handed}
 use Rattle.fx_check.proofs.script.+commands.Goals as goal
 
 pub check_inner-returns : goal.check_inner-returns
@@ -12,17 +16,28 @@ check_inner-returns t c =
 
 pub check_block-check_command-requires : goal.check_block-check_command-requires
 check_block-check_command-requires t c =
-    let few : count (command_tree c.in-Some.command.now) ≤ commands_size c.args.commands.now = count_at c.args.commands.now c.loop-i.i (command_tree c.in-Some.command.now) (sym c.in-Some.ensures) in
-    (omega arith, tt)
+    let size : commands_size (map command_tree (iter_rest c.loop-command.command-iterator)) ≡ count (command_tree c.in-Some.command.now) + commands_size (map command_tree (iter_rest c.next.new.self)) =
+    ap (λ cs. commands_size (map command_tree cs)) c.in-Some.ensures.steps in
+    (omega (arith, size, c.loop-command.invariant.few), tt)
 
 pub check_block-returns-in_err-check_command : goal.check_block-returns-in_err-check_command
 check_block-returns-in_err-check_command t c =
-    handed _ c.from_residual.result c.in_err-check_command.field-0.0 _ c.from_residual.ensures.1
-    (block_fails c.args.commands.now c.loop-i.i (command_tree c.in-Some.command.now) c.args.scope.now c.loop-i.scope c.in_err-check_command.field-0.0 (sym c.in-Some.ensures) c.loop-i.invariant
-    c.in_err-check_command.ensures)
+    let g : Scope = c.loop-command.scope in
+    let cs : List CommandTree = map command_tree (iter_rest c.next.new.self) in
+    let fault = c.in_err-check_command.field-0.0 in
+    handed _ c.from_residual.result fault _ c.from_residual.ensures.1
+    (subst (λ (o : OrFault Scope). IsFault fault o) (sym (c.loop-command.invariant.checked ∙ ap (λ cs. checked_block g (block (map command_tree cs))) c.in-Some.ensures.steps))
+    (fault_then fault (checked_command g (command_tree c.in-Some.command.now)) (λ inner. checked_block inner (block cs)) c.in_err-check_command.ensures))
 
-pub check_block-loop-i-preserved : goal.check_block-loop-i-preserved
-check_block-loop-i-preserved t c =
-    ap (λ n. checked_block c.args.scope.now (block (take n c.args.commands.now))) (add-one c.loop-i.i)
-    ∙ block_next c.args.commands.now c.loop-i.i (command_tree c.in-Some.command.now) c.args.scope.now c.loop-i.scope c.check_command.new.scope (sym c.in-Some.ensures) c.loop-i.invariant
-    c.in_ok-check_command.ensures
+pub check_block-loop-command-preserved : goal.check_block-loop-command-preserved
+check_block-loop-command-preserved t c =
+    let g : Scope = c.loop-command.scope in
+    let cs : List CommandTree = map command_tree (iter_rest c.next.new.self) in
+    let size : commands_size (map command_tree (iter_rest c.loop-command.command-iterator)) ≡ count (command_tree c.in-Some.command.now) + commands_size cs =
+    ap (λ cs. commands_size (map command_tree cs)) c.in-Some.ensures.steps in
+    record {
+      checked =
+          c.loop-command.invariant.checked ∙ ap (λ cs. checked_block g (block (map command_tree cs))) c.in-Some.ensures.steps
+          ∙ given (checked_command g (command_tree c.in-Some.command.now)) (λ inner. checked_block inner (block cs)) c.check_command.new.scope c.in_ok-check_command.ensures;
+      few = omega (arith, size, c.loop-command.invariant.few);
+    }

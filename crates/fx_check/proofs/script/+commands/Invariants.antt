@@ -1,4 +1,5 @@
-use Rattle.std.proofs.Common.{◌≡◌, Ok, ◌+◌, ◌*◌, take}
+use Rattle.std.proofs.Common.{◌≡◌, ◌≤◌, ◌+◌, ◌*◌, map}
+use Rattle.std.specs.Slice.Iter.{iter_rest}
 use Rattle.fx_spec.specs.CommandTree.{block, count, commands_size}
 use Rattle.fx_spec.specs.Views.{command_tree}
 use Rattle.fx_check.specs.Checked.{checked_block}
@@ -13,5 +14,8 @@ decreases-check_block l = 3 * commands_size l.commands.now + 1
 abbrev pub decreases-check_inner : goal.decreases-check_inner
 decreases-check_inner l = 3 * commands_size l.commands.now + 2
 
-abbrev pub invariant-check_block-loop-i : goal.invariant-check_block-loop-i
-invariant-check_block-loop-i l = checked_block l.initial.scope (block (take l.i l.commands)) ≡ Ok l.scope
+abbrev pub invariant-check_block-loop-command : goal.invariant-check_block-loop-command
+invariant-check_block-loop-command l = record {
+  checked : checked_block l.initial.scope (block l.commands) ≡ checked_block l.scope (block (map command_tree (iter_rest l.command-iterator)));
+  few : commands_size (map command_tree (iter_rest l.command-iterator)) ≤ commands_size l.commands;
+}

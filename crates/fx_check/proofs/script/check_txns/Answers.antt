@@ -1,26 +1,31 @@
-use Rattle.std.proofs.Common.{◌≡◌, ◌∙◌, ℕ, ap, sym, subst, List, [], take, length, add-one, arith}
-use Rattle.std.specs.List.{All}
-use Rattle.std.proofs.Math.Seq.{take-length}
+use Rattle.std.proofs.Common.{◌≡◌, ◌∷◌, ◌∙◌, [], List, Ok, map, ap, sym, subst}
+use Rattle.std.specs.Slice.Iter.{iter_rest}
 use Rattle.fx_spec.specs.CommandTree.{CommandTree, block}
 use Rattle.fx_spec.specs.WellShaped.{Scope}
-use Rattle.fx_check.specs.Checked.{checked_block}
+use Rattle.fx_check.specs.Faults.{◌>>=◌}
+use Rattle.fx_check.specs.Checked.{checked_block, checked_txns}
 use Rattle.fx_check.specs.Gives.{IsFault}
-use Rattle.fx_check.proofs.Checking.{IsFine, are_txns, block_is, fine_next, handed, txns_fail}
+use Rattle.fx_check.proofs.Checking.{fault_then, handed, fine_before, fault_behind}
 use Rattle.fx_check.proofs.script.check_txns.Goals as goal
 
 pub returns-in_err-check_block : goal.returns-in_err-check_block
 returns-in_err-check_block c =
-    handed _ c.from_residual.result c.in_err-check_block.field-0.0 _ c.from_residual.ensures.1
-    (txns_fail c.args.txns.now c.loop-i.i c.in-Some.txn.now.commands c.in_err-check_block.field-0.0 (sym c.in-Some.ensures) c.loop-i.invariant
-    (subst (λ (g : Scope). IsFault c.in_err-check_block.field-0.0 (checked_block g (block c.in-Some.txn.now.commands))) c.new-scope.ensures c.in_err-check_block.ensures))
+    let t : List CommandTree = c.in-Some.txn.now.commands in
+    let ts : List (List CommandTree) = map (λ t. t.commands) (iter_rest c.next.new.self) in
+    let fault = c.in_err-check_block.field-0.0 in
+    handed _ c.from_residual.result fault _ c.from_residual.ensures.1
+    (c.loop-txn.invariant.fails fault
+    (subst (λ (l : List (List CommandTree)). IsFault fault (checked_txns l)) (sym (ap (map (λ t. t.commands)) c.in-Some.ensures.steps))
+    (fault_then fault (checked_block [] (block t)) (λ _. checked_txns ts >>= λ rest. Ok (t ∷ rest))
+    (subst (λ (g : Scope). IsFault fault (checked_block g (block t))) c.new-scope.ensures c.in_err-check_block.ensures))))
 
-pub loop-i-preserved : goal.loop-i-preserved
-loop-i-preserved c =
-    subst (λ (n : ℕ). All IsFine (take n c.args.txns.now)) (sym (add-one c.loop-i.i))
-    (fine_next c.args.txns.now c.loop-i.i c.in-Some.txn.now.commands (sym c.in-Some.ensures) c.loop-i.invariant
-    (block_is [] (block c.in-Some.txn.now.commands) c.check_block.new.scope (ap (λ g. checked_block g (block c.in-Some.txn.now.commands)) (sym c.new-scope.ensures) ∙ c.in_ok-check_block.ensures)))
-
-pub returns : goal.returns
-returns c =
-    let all : c.loop-i.i ≡ length c.args.txns.now = omega arith in
-    are_txns c.args.txns.now (subst (λ (l : List (List CommandTree)). All IsFine l) (ap (λ n. take n c.args.txns.now) all ∙ take-length c.args.txns.now) c.loop-i.invariant)
+pub loop-txn-preserved : goal.loop-txn-preserved
+loop-txn-preserved c =
+    let t : List CommandTree = c.in-Some.txn.now.commands in
+    let ts : List (List CommandTree) = map (λ t. t.commands) (iter_rest c.next.new.self) in
+    let front : map (λ t. t.commands) (iter_rest c.loop-txn.txn-iterator) ≡ t ∷ ts = ap (map (λ t. t.commands)) c.in-Some.ensures.steps in
+    let is : checked_block [] (block t) ≡ Ok c.check_block.new.scope = ap (λ g. checked_block g (block t)) (sym c.new-scope.ensures) ∙ c.in_ok-check_block.ensures in
+    record {
+      fine = λ h. c.loop-txn.invariant.fine (subst (λ (l : List (List CommandTree)). checked_txns l ≡ Ok l) (sym front) (fine_before t ts c.check_block.new.scope is h));
+      fails = λ fault h. c.loop-txn.invariant.fails fault (subst (λ (l : List (List CommandTree)). IsFault fault (checked_txns l)) (sym front) (fault_behind t ts c.check_block.new.scope is fault h));
+    }
