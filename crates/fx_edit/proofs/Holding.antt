@@ -1,6 +1,6 @@
 -- The node that a value makes.
 use Rattle.std.proofs.Common.{◌≡◌, ℕ, suc, ◌<◌, All, Bool, true, false, cond, List, [], ◌∷◌, length, Some, None, Result, Ok, Err, refl, sym, ap, ◌∙◌, arith}
-use Rattle.std.specs.Prelude.{nat_le, nat_lt, ◌&&◌, nat_eq}
+use Rattle.std.specs.Prelude.{nat_le, nat_lt, ◌&&◌, nat_eq, IsErrAnd}
 use Rattle.std.specs.Cmp.Lexicographic.{pointwise, nat_list_eq_equiv, lists_equiv}
 use Rattle.std.specs.List.{list_all}
 use Rattle.std.proofs.lemmas.Bool.{le-leb}
@@ -8,7 +8,8 @@ use Rattle.std.proofs.lemmas.List.Elements.{All-head, All-tail}
 use Rattle.fx_store.specs.declared.node.Node.{Node}
 use Rattle.fx_store.specs.declared.node.Node.TheVariants.{File}
 use Rattle.fx_store.specs.declared.name.PathFault.{PathFault}
-use Rattle.fx_store.specs.Faults.{read_link}
+use Rattle.fx_store.specs.declared.name.PathFault.TheVariants.{BadName, TooDeep}
+use Rattle.fx_store.specs.Faults.{read_link, Answers as Reads}
 use Rattle.fx_store.specs.Names.{IsContent}
 use Rattle.fx_expr.specs.Sets.{IsAscending, set_of}
 use Rattle.fx_expr.specs.Tree.{Tree}
@@ -17,7 +18,10 @@ use Rattle.fx_spec.specs.declared.refusal.Refusal.{Refusal}
 use Rattle.fx_spec.specs.Edit.{is_content, is_storable, form_node, stored_node, names_node, link_node}
 use Rattle.fx_spec.specs.Move.{Answered}
 use Rattle.fx_spec.specs.SpecTree.{SpecTree}
-use Rattle.fx_edit.specs.Values.{text_of, texts_of, flag_of}
+use Rattle.fx_session.specs.declared.halt.Halt.{Halt}
+use Rattle.fx_session.specs.Faults.{of_path}
+use Rattle.fx_edit.specs.Values.{text_of, texts_of, flag_of, Tells}
+use Rattle.fx_edit.proofs.Naming.{fault_told}
 
 -- ---- a text within its limits, and a set in order
 
@@ -139,3 +143,8 @@ link_told v t is = ap (stored_node SpecTree.link) (text_is v t is)
 
 pub link_node_told : (t : List ℕ) (answer : Result (List ℕ) PathFault) → IsContent t → read_link t ≡ answer → stored_node SpecTree.link (Tree.str t) ≡ link_node answer
 link_node_told t answer content is = text-stored SpecTree.link t content ∙ ap link_node is
+
+pub link_fault : (t bytes : List ℕ) → bytes ≡ t → IsContent t → (r : Result Node Halt) (e : PathFault) → IsErrAnd r (λ h. h ≡ of_path e) → Reads (Err e) (read_link bytes) → Tells (λ n. n) (stored_node SpecTree.link (Tree.str t)) r
+link_fault t bytes same content =
+    let told : (answer : Result (List ℕ) PathFault) → read_link bytes ≡ answer → stored_node SpecTree.link (Tree.str t) ≡ link_node answer = λ answer is. link_node_told t answer content (ap read_link (sym same) ∙ is) in
+    fault_told (λ n. n) (read_link bytes) (stored_node SpecTree.link (Tree.str t)) (told (Err BadName)) (told (Err TooDeep))

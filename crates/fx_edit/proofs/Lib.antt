@@ -6,7 +6,6 @@ pub mod Alike
 pub mod Holding
 pub mod Looks
 pub mod Clears
-pub mod Deep
 pub mod Relists
 pub mod Edited
 pub mod Removes

@@ -134,15 +134,26 @@ module _ (names : List (List ℕ)) (i : ℕ) (node : Node) where
 abbrev pub file_at : Path → List ℕ → Change
 file_at path n = set_to (path /ₚ n) (File [] false)
 
-pub files_next : (path : Path) (names : List (List ℕ)) (begun so_far longer : List Change) (i : ℕ) (n : List ℕ) → slice_get names i ≡ Some n → longer ≡ so_far ++ file_at path n ∷ []
-    → so_far ++ map (file_at path) (drop i names) ≡ begun ++ map (file_at path) names → longer ++ map (file_at path) (drop (i + 1) names) ≡ begun ++ map (file_at path) names
-files_next path names begun so_far longer i n here added rest =
-    ap (λ cs. cs ++ map (file_at path) (drop (i + 1) names)) added
-    ∙ (append_assoc so_far (file_at path n ∷ []) (map (file_at path) (drop (i + 1) names))
-    ∙ (ap (λ ns. so_far ++ map (file_at path) ns) (sym (drop_at names i n here)) ∙ rest))
+-- these names are left
+pub record AreFiles (path : Path) (names : List (List ℕ)) (begun so_far : List Change) (left : List (List ℕ)) : Type 0 where
+  pub rest : so_far ++ map (file_at path) left ≡ begun ++ map (file_at path) names
+  pub few : length left ≤ length names
 
-pub files_end : (path : Path) (names : List (List ℕ)) (begun so_far : List Change) (i : ℕ) → length names ≤ i → so_far ++ map (file_at path) (drop i names) ≡ begun ++ map (file_at path) names → so_far ≡ begun ++ map (file_at path) names
-files_end path names begun so_far i past rest = sym (append-nil so_far) ∙ (ap (λ ns. so_far ++ map (file_at path) ns) (sym (drop_all i names past)) ∙ rest)
+module _ (path : Path) (names : List (List ℕ)) (begun so_far : List Change) (left : List (List ℕ)) (is : AreFiles path names begun so_far left) where
+  pub files_next : (longer : List Change) (n : List ℕ) (more : List (List ℕ)) → left ≡ n ∷ more → longer ≡ so_far ++ file_at path n ∷ [] → AreFiles path names begun longer more
+  files_next longer n more here added = record {
+    rest =
+        ap (λ cs. cs ++ map (file_at path) more) added
+        ∙ (append_assoc so_far (file_at path n ∷ []) (map (file_at path) more)
+        ∙ (ap (λ ns. so_far ++ map (file_at path) ns) (sym here) ∙ is.rest));
+    few = omega (arith, ap (λ (ns : List (List ℕ)). length ns) here, is.few);
+  }
+
+  pub files_short : (n : List ℕ) (more : List (List ℕ)) → left ≡ n ∷ more → lacks_room path (Dir names) ≡ false → length path < 64
+  files_short n more here room = room_short path names room (omega (arith, ap (λ (ns : List (List ℕ)). length ns) here, is.few))
+
+  pub files_end : left ≡ [] → so_far ≡ begun ++ map (file_at path) names
+  files_end none = sym (append-nil so_far) ∙ (ap (λ ns. so_far ++ map (file_at path) ns) (sym none) ∙ is.rest)
 
 pub has_some : (names : List (List ℕ)) (n : List ℕ) → has names n ≡ true → 0 < length names
 has_some [] n e = cc

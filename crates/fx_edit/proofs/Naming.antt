@@ -6,8 +6,8 @@ use Rattle.std.proofs.lemmas.List.{append-nil, append_assoc}
 use Rattle.std.proofs.lemmas.List.Elements.{All-nil, All-cons}
 use Rattle.fx_store.specs.declared.node.Node.TheVariants.{Dir}
 use Rattle.fx_store.specs.declared.name.PathFault.{PathFault}
-use Rattle.fx_store.specs.declared.name.PathFault.TheVariants.{BadName}
-use Rattle.fx_store.specs.Faults.{read_name}
+use Rattle.fx_store.specs.declared.name.PathFault.TheVariants.{BadName, TooDeep, NoMemory}
+use Rattle.fx_store.specs.Faults.{read_name, Answers as Reads}
 use Rattle.fx_store.specs.Names.{is_name, IsNameSet}
 use Rattle.fx_expr.specs.Sets.{IsAscending}
 use Rattle.fx_spec.specs.declared.refusal.Refusal.{Refusal}
@@ -16,6 +16,7 @@ use Rattle.fx_spec.specs.Move.{Answered}
 use Rattle.fx_base.proofs.Errors.{err_of}
 use Rattle.fx_session.specs.declared.halt.Halt.{Halt}
 use Rattle.fx_session.specs.declared.halt.Halt.TheVariants as halt
+use Rattle.fx_session.specs.Faults.{of_path}
 use Rattle.fx_edit.specs.Values.{name_read, Tells}
 
 both_true : (a b : Bool) → a ≡ true → b ≡ true → a && b ≡ true
@@ -102,6 +103,16 @@ module _ {A B X Y : Type 0} (view : X → A) (then_view : Y → B) (told : Answe
   pub told_on : (r : Result Y Halt) (e : Halt) → IsErrAnd r (λ h. h ≡ e) → Tells view told (Err e) → Tells then_view other r
   told_on r e is h = subst (Tells then_view other) (sym (err_of r e is)) (passed e h)
 
+-- a path's fault that is passed on
+module _ {A B Y : Type 0} (then_view : Y → B) (read : Result A PathFault) (other : Answered B) (bad : read ≡ Err BadName → other ≡ Err Refusal.BadName) (deep : read ≡ Err TooDeep → other ≡ Err Refusal.TooDeep) where
+  fault : (e : PathFault) → Reads (Err e) read → Tells {A = B} {X = Y} then_view other (Err (of_path e))
+  fault BadName is = bad is
+  fault TooDeep is = deep is
+  fault NoMemory is = refl
+
+  pub fault_told : (r : Result Y Halt) (e : PathFault) → IsErrAnd r (λ h. h ≡ of_path e) → Reads (Err e) read → Tells then_view other r
+  fault_told r e is h = subst (Tells then_view other) (sym (err_of r (of_path e) is)) (fault e h)
+
 -- a name is read
 module _ (t : List ℕ) where
   -- a text that is the name of some entry is that name
@@ -115,9 +126,19 @@ module _ (t : List ℕ) where
       at true f = let same : t ≡ name = cc in ap (λ (n : List ℕ). Ok n) same
       at false f = cc
 
-  pub named_bad : read_name t ≡ Err BadName → name_read t ≡ Err Refusal.BadName
+  named_bad : read_name t ≡ Err BadName → name_read t ≡ Err Refusal.BadName
   named_bad e = at (is_name t) e
     where
       at : (b : Bool) → ◌≡◌ {A = Result (List ℕ) PathFault} (cond b (Ok t) (Err BadName)) (Err BadName) → ◌≡◌ {A = Answered (List ℕ)} (cond b (Ok t) (Err Refusal.BadName)) (Err Refusal.BadName)
       at true f = cc
       at false f = refl
+
+  named_deep : read_name t ≡ Err TooDeep → name_read t ≡ Err Refusal.TooDeep
+  named_deep e = at (is_name t) e
+    where
+      at : (b : Bool) → ◌≡◌ {A = Result (List ℕ) PathFault} (cond b (Ok t) (Err BadName)) (Err TooDeep) → ◌≡◌ {A = Answered (List ℕ)} (cond b (Ok t) (Err Refusal.BadName)) (Err Refusal.TooDeep)
+      at true f = cc
+      at false f = cc
+
+  pub named_fault : (r : Result (List ℕ) Halt) (e : PathFault) → IsErrAnd r (λ h. h ≡ of_path e) → Reads (Err e) (read_name t) → Tells (λ n. n) (name_read t) r
+  named_fault = fault_told (λ n. n) (read_name t) (name_read t) named_bad named_deep

@@ -1,14 +1,16 @@
 -- The removal of an entry with its name, as calls implement its rule.
-use Rattle.std.proofs.Common.{◌≡◌, ℕ, ◌-◌, List, [], ◌∷◌, length, Option, Result, Ok, Err, sym, ap, ◌∙◌, arith}
-use Rattle.std.specs.Prelude.{IsErrAnd}
-use Rattle.std.proofs.lemmas.Option.{get_or_from_slice_get}
+use Rattle.std.proofs.Common.{◌≡◌, ℕ, ◌-◌, List, [], ◌∷◌, length, Option, Some, None, Result, Ok, Err, refl, sym, ap, ◌∙◌, arith}
+use Rattle.std.specs.Prelude.{slice_get, IsErrAnd}
+use Rattle.std.proofs.lemmas.Option.{slice_get_within, get_or_from_slice_get}
 use Rattle.fx_store.specs.declared.node.Node.{Node}
 use Rattle.fx_store.specs.declared.node.Node.TheVariants.{Dir}
 use Rattle.fx_store.specs.declared.changes.Change.{Change}
 use Rattle.fx_store.specs.Resolve.{parent}
 use Rattle.fx_store.specs.Rule.{Ask, Answer, Look, ◌>>=◌}
 use Rattle.fx_spec.specs.Edit.{set_to, names_of, clear, without_name, remove_entry}
+use Rattle.fx_spec.specs.declared.refusal.Refusal.{Refusal}
 use Rattle.fx_spec.specs.Move.{Answered}
+use Rattle.fx_view.proofs.Lists.{none_past}
 use Rattle.fx_view.specs.declared.reader.Stop.{Stop}
 use Rattle.fx_view.specs.declared.reader.Stop.TheVariants as stop
 use Rattle.fx_view.specs.Meaning.{Meaning}
@@ -23,7 +25,18 @@ use Rattle.fx_edit.proofs.Exits.{by_rule, gathered, ungathered}
 abbrev Path : Type 0
 Path = List (List ℕ)
 
--- the rule of a removal, at a path that is not the root
+-- ---- the last name of a path
+
+pub has_last : (path : Path) (name : List ℕ) → Some name ≡ slice_get path (length path - 1) → HasLast path name
+has_last path name is = record { some = omega (arith, slice_get_within path (length path - 1) name (sym is)); last = sym is }
+
+-- ---- the rule of a removal
+
+pub remove_root-is : (path : Path) → None ≡ slice_get path (length path - 1) → remove_entry path ≡ Answer (Err (Refusal.Blocked path))
+remove_root-is [] none = refl
+remove_root-is (n ∷ names) none = absurd (omega (arith, none_past (n ∷ names) (length (n ∷ names) - 1) (sym none)))
+
+-- at a path that is not the root
 pub remove_entry-is : (path : Path) (name : List ℕ) → HasLast path name → remove_entry path ≡ editing (removing path name)
 remove_entry-is [] name has = absurd (omega (arith, has.some))
 remove_entry-is (n ∷ names) name has =

@@ -5,9 +5,10 @@ ghost use Rattle.fx_session.specs.Implements.{Implements};
 ghost use Rattle.fx_edit.specs.Rules.{adding};
 
 use crate::edits::Edits;
-use crate::lookups::{listing, name_at};
+use crate::lookups::listing;
 use fx_session::Session;
-use fx_store::{Name, Names, Path, PathFault};
+use fx_store::limits::MAX_PATH_NAMES;
+use fx_store::{Name, Names, Path};
 use fx_view::{Reader, Stop};
 use std::sync::ledger::Ledger;
 
@@ -22,7 +23,7 @@ pub(crate) fn clear<R: Reader, L: Ledger>(
         (adding edits.old (edit.clear path.now)) result }
 {
     // A path has at most 64 names, so no more levels than that are below it.
-    prove!(path.len() <= 64);
+    prove!(path.len() as usize <= MAX_PATH_NAMES);
     match listing(session, path)? {
         None => Ok(()),
         Some(names) => {
@@ -43,8 +44,7 @@ fn clear_names<R: Reader, L: Ledger>(
     ensures follows { Implements R.meaning (λ u. edits.new) session.old session.new
         (adding edits.old (edit.entries (λ n. edit.clear (path.now /ₚ n)) names.now)) result }
 {
-    for i in 0..names.len() {
-        let name = name_at(names, i);
+    for name in names.iter() {
         clear_entry(session, path, name, edits)?;
     }
     Ok(())
@@ -61,10 +61,9 @@ pub(crate) fn clear_entry<R: Reader, L: Ledger>(
     ensures follows { Implements R.meaning (λ u. edits.new) session.old session.new
         (adding edits.old (edit.clear (path.now /ₚ name.now))) result }
 {
-    match path.join(session.alloc, name) {
-        Ok(entry) => clear(session, &entry, edits),
-        Err(PathFault::TooDeep) => Ok(()),
-        Err(PathFault::BadName) => unreachable!(),
-        Err(PathFault::NoMemory) => Err(Stop::NoMemory),
+    if path.len() as usize >= MAX_PATH_NAMES {
+        return Ok(());
     }
+    let entry = path.child(session.alloc, name)?;
+    clear(session, &entry, edits)
 }

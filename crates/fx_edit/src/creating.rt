@@ -13,6 +13,7 @@ use crate::making::make;
 use crate::nodes::bare_node;
 use fx_session::{Halt, Session};
 use fx_spec::{Place, Refusal};
+use fx_store::limits::MAX_PATH_NAMES;
 use fx_store::{Landing, Node, Path};
 use fx_view::Reader;
 use std::sync::ledger::Ledger;
@@ -33,7 +34,7 @@ pub fn create<R: Reader, L: Ledger>(
         (IsNextSet (R.meaning.reads session.new.reader.now) session.new.own) }
 {
     // The place's path is within its limits.
-    prove!(place.path.len() <= 64);
+    prove!(place.path.len() as usize <= MAX_PATH_NAMES);
     let edits = created(session, place)?;
     let untouched = edits.untouched(session.reader.reads());
     edits.put_all(session.alloc, &mut session.own)?;

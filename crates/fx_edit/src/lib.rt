@@ -8,7 +8,6 @@ mod edits;
 mod lookups;
 mod making;
 mod nodes;
-mod paths;
 mod relisting;
 mod removing;
 mod storing;

@@ -1,12 +1,12 @@
 //! What a node lists.
-ghost use Rattle.std.specs.Prelude.{◌≡◌, ◌<◌, Some, length, slice_get};
+ghost use Rattle.std.specs.Prelude.{◌≡◌};
 ghost use Rattle.fx_store.specs.Rule as rule;
 ghost use Rattle.fx_spec.specs.Edit.{names_of};
 ghost use Rattle.fx_session.specs.Implements.{Implements};
 ghost use Rattle.fx_edit.specs.Rules as parts;
 
 use fx_session::Session;
-use fx_store::{Name, Names, Node, Path};
+use fx_store::{Names, Node, Path};
 use fx_view::{Reader, Stop};
 use std::alloc::Global;
 use std::sync::ledger::Ledger;
@@ -54,16 +54,5 @@ pub(crate) fn names_in(alloc: Global, node: Option<Node>) -> Names
         Some(Node::File { .. }) => Names::new(alloc),
         Some(Node::Link(_)) => Names::new(alloc),
         None => Names::new(alloc),
-    }
-}
-
-/// The name at a place of a set.
-pub(crate) fn name_at(names: &Names, i: u64) -> &Name
-    requires { i < length names.now }
-    ensures { slice_get names.now i ≡ Some result.now }
-{
-    match names.at(i) {
-        Some(name) => name,
-        None => unreachable!(),
     }
 }

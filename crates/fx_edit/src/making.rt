@@ -2,18 +2,19 @@
 ghost use Rattle.std.specs.Prelude.{◌≡◌, ◌++◌, ◌∷◌, ◌+◌, ◌≤◌, ◌<◌, [], Some, false, length, drop, map, slice_get, IfOk, OnOk};
 ghost use Rattle.fx_store.specs.declared.node.Node.TheVariants.{File, Dir};
 ghost use Rattle.fx_store.specs.Resolve.{◌/ₚ◌};
+ghost use Rattle.fx_store.specs.declared.limits.TheConstants.{MAX_PATH_NAMES};
 ghost use Rattle.fx_spec.specs.Edit as edit;
 ghost use Rattle.fx_session.specs.Implements.{Answers, Implements};
 ghost use Rattle.fx_edit.specs.Kinds.{lists_some};
 ghost use Rattle.fx_edit.specs.Rules.{made_in, made_node, made_along, made_all, IsNextMade};
 
 use crate::edits::Edits;
-use crate::lookups::{name_at, names_at};
+use crate::lookups::names_at;
 use crate::nodes::empty_file;
-use crate::paths::below;
 use fx_base::NoMemory;
 use fx_session::{Halt, Session};
 use fx_spec::Refusal;
+use fx_store::limits::MAX_PATH_NAMES;
 use fx_store::{Name, NameList, Names, Node, Path};
 use fx_view::{Reader, Stop};
 use std::alloc::Global;
@@ -44,15 +45,15 @@ pub(crate) fn make<R: Reader, L: Ledger>(
 fn is_too_deep(here: &Path, names: &NameList, node: &Node) -> bool
     ensures { result ≡ edit.is_too_deep here.now names.now node.now }
 {
-    let more = names.len();
-    if more > 64 {
+    let more = names.len() as usize;
+    if more > MAX_PATH_NAMES {
         return true;
     }
-    let depth = here.len() as u64 + more;
-    if depth > 64 {
+    let depth = here.len() as usize + more;
+    if depth > MAX_PATH_NAMES {
         return true;
     }
-    if depth < 64 {
+    if depth < MAX_PATH_NAMES {
         return false;
     }
     lists_some(node)
@@ -114,7 +115,7 @@ fn add_along(
     names: &NameList,
     node: &Node,
 ) -> Result<Path, NoMemory>
-    requires { length here.now + length names.now ≤ 64 }
+    requires { length here.now + length names.now ≤ MAX_PATH_NAMES }
     ensures path { IfOk result (λ path. path ≡ here.now ++ names.now) }
     ensures edits { OnOk result (edits.new ≡ edits.old ++ made_along here.now names.now node.now) }
 {
@@ -135,17 +136,16 @@ fn add_next(
     node: &Node,
 ) -> Result<Path, NoMemory>
     requires within { i < length names.now }
-    requires short { length path.now < 64 }
+    requires short { length path.now < MAX_PATH_NAMES }
     ensures { IfOk result
         (λ more. IsNextMade names.now i node.now path.now more edits.old edits.new) }
 {
     // The next place fits.
     prove!(i < names.len());
-    let name = match names.at(i) {
-        Some(name) => name,
-        None => unreachable!(),
+    let Some(name) = names.at(i) else {
+        unreachable!()
     };
-    let more = below(alloc, path, name)?;
+    let more = path.child(alloc, name)?;
     edits.set(more.copy(alloc)?, node_before(alloc, names, i + 1, node)?)?;
     Ok(more)
 }
@@ -184,9 +184,8 @@ fn add_files(alloc: Global, edits: &mut Edits, path: &Path, names: &Names) -> Re
     ensures { OnOk result (edits.new ≡ edits.old
         ++ map (λ n. edit.set_to (path.now /ₚ n) (File [] false)) names.now) }
 {
-    for i in 0..names.len() {
-        let name = name_at(names, i);
-        edits.set(below(alloc, path, name)?, empty_file(alloc))?;
+    for name in names.iter() {
+        edits.set(path.child(alloc, name)?, empty_file(alloc))?;
     }
     Ok(())
 }

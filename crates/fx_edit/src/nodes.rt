@@ -17,8 +17,7 @@ use fx_base::{Items, NoMemory};
 use fx_expr::{Text, TextSet, Value};
 use fx_session::Halt;
 use fx_spec::{Form, Part, Refusal};
-use fx_store::{Bytes, LinkText, Name, Names, Node, PathFault};
-use fx_view::Stop;
+use fx_store::{Bytes, LinkText, Name, Names, Node};
 use std::alloc::Global;
 use std::cmp::Ordering;
 
@@ -179,12 +178,7 @@ fn link_of(alloc: Global, text: &Text) -> Result<Node, Halt>
     ensures { Tells (λ n. n) (edit.stored_node SpecTree.link (Tree.str text.now)) result }
 {
     let bytes = content(alloc, text)?;
-    match LinkText::read(alloc, bytes.as_slice()) {
-        Ok(link) => Ok(Node::Link(link)),
-        Err(PathFault::BadName) => Err(Halt::Refused(Refusal::BadName)),
-        Err(PathFault::TooDeep) => Err(Halt::Refused(Refusal::TooDeep)),
-        Err(PathFault::NoMemory) => Err(Halt::Stopped(Stop::NoMemory)),
-    }
+    Ok(Node::Link(LinkText::read(alloc, bytes.as_slice())?))
 }
 
 /// The names that the texts of a set are, shared where they are among the likely ones.
@@ -230,12 +224,7 @@ fn shared_name<'a>(text: &Text, left: &mut Items<'a, Name>) -> Option<&'a Name>
 fn name_of(alloc: Global, text: &Text) -> Result<Name, Halt>
     ensures { Tells (λ name. name) (name_read text.now) result }
 {
-    match Name::read(alloc, text.as_slice()) {
-        Ok(name) => Ok(name),
-        Err(PathFault::BadName) => Err(Halt::Refused(Refusal::BadName)),
-        Err(PathFault::TooDeep) => unreachable!(),
-        Err(PathFault::NoMemory) => Err(Halt::Stopped(Stop::NoMemory)),
-    }
+    Ok(Name::read(alloc, text.as_slice())?)
 }
 
 /// The empty node of a form, or that it has none.

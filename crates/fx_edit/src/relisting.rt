@@ -10,7 +10,6 @@ ghost use Rattle.fx_edit.specs.Rules.{adding, added_file, changed_entries, chang
 use crate::clearing::clear_entry;
 use crate::edits::Edits;
 use crate::nodes::empty_file;
-use crate::paths::below;
 use fx_base::{Items, NoMemory};
 use fx_session::Session;
 use fx_store::{Name, Names, Node, Path};
@@ -128,7 +127,7 @@ fn add_file<R: Reader, L: Ledger>(
     ensures follows { Implements R.meaning (λ u. edits.new) session.old session.new
         (adding edits.old (added_file (list.now.path /ₚ name.now))) result }
 {
-    let path = below(session.alloc, &list.path, name)?;
+    let path = list.path.child(session.alloc, name)?;
     let_go(session.look(&path)?);
     edits.set(path, empty_file(session.alloc))?;
     Ok(())

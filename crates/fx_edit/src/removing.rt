@@ -11,9 +11,9 @@ ghost use Rattle.fx_edit.specs.Rules.{HasLast, removing, remove_there};
 use crate::clearing::clear;
 use crate::edits::Edits;
 use crate::lookups::names_at;
-use crate::paths::{last_name, parent};
 use fx_session::{Halt, Session};
 use fx_spec::{Place, Refusal};
+use fx_store::limits::MAX_PATH_NAMES;
 use fx_store::{Landing, Name, Node, Path};
 use fx_view::{Reader, Stop};
 use std::sync::ledger::Ledger;
@@ -33,7 +33,7 @@ pub fn remove<R: Reader, L: Ledger>(
         (IsNextSet (R.meaning.reads session.new.reader.now) session.new.own) }
 {
     // The place's path is within its limits.
-    prove!(place.path.len() <= 64);
+    prove!(place.path.len() as usize <= MAX_PATH_NAMES);
     let edits = gone(session, place.path)?;
     let untouched = edits.untouched(session.reader.reads());
     edits.put_all(session.alloc, &mut session.own)?;
@@ -74,7 +74,7 @@ fn remove_entry<R: Reader, L: Ledger>(
     ensures follows { Answers R.meaning (λ e. e) session.old session.new
         (edit.remove_entry path) result }
 {
-    match last_name(&path) {
+    match path.last() {
         Some(name) => Ok(remove_named(session, &path, name)?),
         None => Err(Halt::Refused(Refusal::Blocked(path))),
     }
@@ -90,7 +90,7 @@ fn remove_named<R: Reader, L: Ledger>(
     ensures follows { Implements R.meaning (λ e. e) session.old session.new
         (removing path.now name.now) result }
 {
-    let above = parent(session.alloc, path)?;
+    let above = path.parent(session.alloc)?;
     let names = names_at(session, &above)?;
     let mut edits = Edits::of(
         session.alloc,

@@ -20,6 +20,7 @@ use crate::relisting::{Relist, relisted};
 use fx_expr::Value;
 use fx_session::{Halt, Session};
 use fx_spec::{Place, Refusal};
+use fx_store::limits::MAX_PATH_NAMES;
 use fx_store::{Bytes, Landing, Names, Node, Path};
 use fx_view::{Overlay, Reader, Reads};
 use std::alloc::Global;
@@ -44,7 +45,7 @@ pub fn store<R: Reader, L: Ledger>(
         (IsNextSet (R.meaning.reads session.new.reader.now) session.new.own) }
 {
     // The place's path is within its limits.
-    prove!(place.path.len() <= 64);
+    prove!(place.path.len() as usize <= MAX_PATH_NAMES);
     let edits = stored(session, place, value)?;
     let untouched = edits.untouched(session.reader.reads());
     edits.put_all(session.alloc, &mut session.own)?;
@@ -192,10 +193,7 @@ fn relist<R: Reader, L: Ledger>(
 fn lacks_room(path: &Path, names: &Names) -> bool
     ensures { result ≡ edit.lacks_room path.now (Dir names.now) }
 {
-    if path.len() < 64 {
-        return false;
-    }
-    names.len() > 0
+    path.len() as usize >= MAX_PATH_NAMES && names.len() > 0
 }
 
 /// The file that was found, with this flag, or else with these bytes.

@@ -13,5 +13,5 @@ decreases-clear_names g l = 3 * (64 - length l.path.now) + 1
 abbrev pub decreases-clear_entry : goal.decreases-clear_entry
 decreases-clear_entry g l = 3 * (64 - length l.path.now)
 
-abbrev pub invariant-clear_names-loop-i : goal.invariant-clear_names-loop-i
-invariant-clear_names-loop-i g l = IsChanging g.R.Reader.meaning (λ n. edit.clear (l.path /ₚ n)) l.names l.initial.session l.session l.initial.edits l.edits l.i
+abbrev pub invariant-clear_names-loop-name : goal.invariant-clear_names-loop-name
+invariant-clear_names-loop-name g l = IsChanging g.R.Reader.meaning (λ n. edit.clear (l.path /ₚ n)) l.names l.initial.session l.session l.initial.edits l.edits l.name-iterator

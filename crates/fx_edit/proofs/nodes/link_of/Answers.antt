@@ -1,14 +1,11 @@
-use Rattle.std.proofs.Common.{Ok, Err, sym, ◌∙◌, ap}
-use Rattle.fx_store.specs.declared.name.PathFault.TheVariants.{BadName, TooDeep}
+use Rattle.std.proofs.Common.{Ok, sym, ◌∙◌, ap}
 use Rattle.fx_store.specs.Faults.{read_link}
-use Rattle.fx_edit.proofs.Holding.{link_node_told}
+use Rattle.fx_edit.proofs.Holding.{link_node_told, link_fault}
 use Rattle.fx_edit.proofs.nodes.link_of.Goals as goal
 
-pub returns-in-Ok : goal.returns-in-Ok
-returns-in-Ok c = link_node_told c.args.text.now (Ok c.in-Ok.link) c.in_ok-bytes.ensures.1 (ap read_link (sym (c.as_slice.ensures.bytes ∙ c.in_ok-bytes.ensures.0)) ∙ c.in-Ok.ensures)
+pub returns-in_err-read : goal.returns-in_err-read
+returns-in_err-read c =
+    link_fault c.args.text.now c.as_slice.result.now (c.as_slice.ensures.bytes ∙ c.in_ok-bytes.ensures.0) c.in_ok-bytes.ensures.1 c.from_residual-in_err-read.result c.in_err-read.field-0.0 c.from_residual-in_err-read.ensures.1 c.in_err-read.ensures
 
-pub returns-in-Err-BadName : goal.returns-in-Err-BadName
-returns-in-Err-BadName c = link_node_told c.args.text.now (Err BadName) c.in_ok-bytes.ensures.1 (ap read_link (sym (c.as_slice.ensures.bytes ∙ c.in_ok-bytes.ensures.0)) ∙ (rw c.in-Err-BadName.field-0-is at c.in-Err-BadName.ensures))
-
-pub returns-in-Err-TooDeep : goal.returns-in-Err-TooDeep
-returns-in-Err-TooDeep c = link_node_told c.args.text.now (Err TooDeep) c.in_ok-bytes.ensures.1 (ap read_link (sym (c.as_slice.ensures.bytes ∙ c.in_ok-bytes.ensures.0)) ∙ (rw c.in-Err-TooDeep.field-0-is at c.in-Err-TooDeep.ensures))
+pub returns : goal.returns
+returns c = link_node_told c.args.text.now (Ok c.in_ok-read.field-0) c.in_ok-bytes.ensures.1 (ap read_link (sym (c.as_slice.ensures.bytes ∙ c.in_ok-bytes.ensures.0)) ∙ c.in_ok-read.ensures)

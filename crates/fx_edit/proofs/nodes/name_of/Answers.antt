@@ -1,10 +1,10 @@
 use Rattle.std.proofs.Common.{sym, ◌∙◌, ap}
 use Rattle.fx_store.specs.Faults.{read_name}
-use Rattle.fx_edit.proofs.Naming.{named_ok, named_bad}
+use Rattle.fx_edit.proofs.Naming.{named_ok, named_fault}
 use Rattle.fx_edit.proofs.nodes.name_of.Goals as goal
 
-pub returns-in-Ok : goal.returns-in-Ok
-returns-in-Ok c = named_ok c.args.text.now c.in-Ok.name (ap read_name (sym c.as_slice.ensures.value) ∙ c.in-Ok.ensures)
+pub returns-in_err-read : goal.returns-in_err-read
+returns-in_err-read c = named_fault c.args.text.now c.from_residual.result c.in_err-read.field-0.0 c.from_residual.ensures.1 (rw c.as_slice.ensures.value at c.in_err-read.ensures)
 
-pub returns-in-Err-BadName : goal.returns-in-Err-BadName
-returns-in-Err-BadName c = named_bad c.args.text.now (ap read_name (sym c.as_slice.ensures.value) ∙ (rw c.in-Err-BadName.field-0-is at c.in-Err-BadName.ensures))
+pub returns : goal.returns
+returns c = named_ok c.args.text.now c.in_ok-read.field-0 (ap read_name (sym c.as_slice.ensures.value) ∙ c.in_ok-read.ensures)

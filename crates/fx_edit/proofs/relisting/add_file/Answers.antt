@@ -2,8 +2,8 @@ use Rattle.fx_edit.proofs.Clears.{file_stops, file_tires, file_added}
 use Rattle.fx_edit.proofs.Makes.{room_short}
 use Rattle.fx_edit.proofs.relisting.add_file.Goals as goal
 
-pub below-requires : goal.below-requires
-below-requires g c = room_short c.args.list.now.path c.args.list.now.new c.requires.room c.requires.new
+pub child-requires : goal.child-requires
+child-requires g c = room_short c.args.list.now.path c.args.list.now.new c.requires.room c.requires.new
 
 pub returns-in_err-look : goal.returns-in_err-look
 returns-in_err-look g c = record { follows = file_stops c.args.edits.now c.in_ok-path.ensures c.from_residual-in_err-look.result c.from_residual-in_err-look.ensures.1 c.in_err-look.ensures }
