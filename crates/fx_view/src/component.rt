@@ -74,8 +74,7 @@ fn read_name(alloc: Global, part: &[u8]) -> Result<Name, NoMemory>
     match Name::read(alloc, part) {
         Ok(name) => Ok(name),
         Err(PathFault::NoMemory) => Err(NoMemory),
-        Err(PathFault::BadName) => unreachable!(),
-        Err(PathFault::TooDeep) => unreachable!(),
+        Err(PathFault::BadName | PathFault::TooDeep) => unreachable!(),
     }
 }
 

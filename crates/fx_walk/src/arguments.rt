@@ -1,12 +1,11 @@
 //! The names that the body of a call sees.
-ghost use Rattle.std.specs.Prelude.{◌≡◌, ◌≤◌, ◌<◌, ℕ, Some, length, slice_get};
+ghost use Rattle.std.specs.Prelude.{◌≡◌, ◌≤◌, ℕ};
 ghost use Rattle.fx_spec.specs.Describe.{argument_evals};
-ghost use Rattle.fx_spec.specs.ParamViews.{param_tree};
 ghost use Rattle.fx_session.specs.Implements.{ticked_by};
 ghost use Rattle.fx_walk.specs.Arguments.{HaveShapes, inner_names, GivesNames, UnlessRefused};
 
 use crate::parts::bind_value;
-use fx_expr::{Env, EvalFault, Formula, Shape, Word};
+use fx_expr::{Env, EvalFault};
 use fx_session::Session;
 use fx_spec::{Exprs, Params};
 use fx_view::Reader;
@@ -28,31 +27,13 @@ pub fn inner_env<R: Reader, L: Ledger>(
         × (session.new ≡ ticked_by n session.old) }
 {
     let mut inner = Env::new(session.alloc);
-    for i in 0..args.len() {
-        let value = session.work_out(argument(args, i), env)?;
-        bind_value(session.alloc, &mut inner, &parameter(params, i).0, value)?;
+    let mut left = params.iter();
+    for arg in args.iter() {
+        let Some(param) = left.next() else {
+            unreachable!()
+        };
+        let value = session.work_out(arg, env)?;
+        bind_value(session.alloc, &mut inner, &param.0, value)?;
     }
     Ok(inner)
-}
-
-/// The argument at a place.
-fn argument(args: &Exprs, i: u64) -> &Formula
-    requires { i < length args.now }
-    ensures { slice_get args.now i ≡ Some result.now }
-{
-    match args.at(i) {
-        Some(formula) => formula,
-        None => unreachable!(),
-    }
-}
-
-/// The parameter at a place.
-fn parameter(params: &Params, i: u64) -> &(Word, Shape)
-    requires { i < length params.now }
-    ensures { slice_get params.now i ≡ Some (param_tree result.now) }
-{
-    match params.at(i) {
-        Some(param) => param,
-        None => unreachable!(),
-    }
 }
