@@ -8,6 +8,8 @@ from typing import Callable
 
 KIB = 1024
 MILLISECONDS, MICROSECONDS = 1e-3, 1e-6
+# A growth is judged from so many seconds on: shorter times swing by more than it asks.
+SHORT = 0.05
 
 
 @dataclass
@@ -35,7 +37,9 @@ def growth(times, most):
     """For so many times the size so many times the seconds, and for other sizes in proportion."""
 
     def is_met(line, before):
-        return None if before is None else line.seconds / before.seconds <= (line.size / before.size) ** math.log(most, times)
+        if before is None or line.seconds < SHORT:
+            return None
+        return line.seconds / before.seconds <= (line.size / before.size) ** math.log(most, times)
 
     return Goal(f"{most} times for {times} times the size", is_met)
 

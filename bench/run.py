@@ -1,7 +1,12 @@
-"""`txforest run` over flat folders of small files and over one large file, against `cp -r` of the same folder., in memory and on a disk.
+"""`txforest run` over flat folders of small files and over one large file, against `cp -r` of the same folder, in memory and on a disk. Beside
+both stands what the calls alone take (`bare.c`).
 """
 
+import atexit
+import functools
 import os
+import shutil
+import subprocess
 import sys
 import tempfile
 
@@ -31,6 +36,20 @@ def large_folder(path, size):
     measure.write(path, "f00000", "x" * size)
 
 
+@functools.cache
+def bare():
+    """The program of the calls alone, as a list of it, or nothing where no compiler is."""
+    compiler = shutil.which("cc")
+    if compiler is None:
+        return []
+    source = os.path.join(os.path.dirname(os.path.realpath(__file__)), "bare.c")
+    folder = tempfile.mkdtemp(dir="/tmp")
+    atexit.register(shutil.rmtree, folder)
+    program = os.path.join(folder, "bare")
+    subprocess.run([compiler, "-O2", "-o", program, source], check=True)
+    return [program]
+
+
 def beside_cp(kind, make, size, description=DESCRIPTION, script=SCRIPT, goals=(), disk=None):
     """A run over a folder that `make` makes, beside `cp -r` of it, where the run leaves the folder as it is."""
     with tempfile.TemporaryDirectory(dir=disk) as scratch:
@@ -40,11 +59,13 @@ def beside_cp(kind, make, size, description=DESCRIPTION, script=SCRIPT, goals=()
         shell = measure.write(scratch, "script", script)
         ours_of = lambda out: [measure.program(), "run", spec, folder, out, shell]
         copied_of = lambda out: ["cp", "-r", folder, out]
-        (ours, out), (copied, _) = measure.best(scratch, [ours_of, copied_of], REPEATS_ON_DISK if disk else REPEATS)
+        bare_of = [lambda out: [*bare(), folder, out]] if bare() else []
+        (ours, out), (copied, _), *calls = measure.best(scratch, [ours_of, copied_of, *bare_of], REPEATS_ON_DISK if disk else REPEATS)
         if ours.out != REPORT:
             sys.exit(f"another report: {ours.out[:200]!r}")
         measure.check_same(folder, out)
-        return measure.Line(kind, size, ours.seconds, ours.peak_kib, "cp -r", copied.seconds, f"{ours.user:.3f} s in the program", goals, disk)
+        more = "".join(f"its calls alone {ran.seconds:.3f} s, " for ran, _ in calls) + f"{ours.user:.3f} s in the program"
+        return measure.Line(kind, size, ours.seconds, ours.peak_kib, "cp -r", copied.seconds, more, goals, disk)
 
 
 def everywhere(kind, make, sizes, description=DESCRIPTION, script=SCRIPT):
