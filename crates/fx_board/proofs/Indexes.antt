@@ -1,5 +1,5 @@
 -- The index of last changes: it stays right with one entry more, and the least stale read is found by it.
-use Rattle.std.proofs.Common.{◌≡◌, ◌≢◌, ℕ, zero, suc, ◌+◌, ◌<◌, ◌≤◌, Bool, true, false, cond, ◌||◌, nat_le, List, [], ◌∷◌, ◌++◌, length, take, Option, Some, None, slice_get, refl, sym, ap, subst, ◌∙◌, inl, inr, arith, length-append}
+use Rattle.std.proofs.Common.{◌≡◌, ◌≢◌, ℕ, zero, suc, ◌<◌, ◌≤◌, Bool, true, false, cond, ◌||◌, nat_le, List, [], ◌∷◌, ◌++◌, length, Option, Some, None, slice_get, refl, sym, ap, subst, ◌∙◌, inl, inr, arith, length-append}
 use Rattle.std.specs.Prelude.{◌↔◌, ◌⊎◌, IsTrue, MatchOption}
 use Rattle.std.specs.declared.cmp.Ordering.{Ordering}
 use Rattle.std.specs.declared.cmp.Ordering.TheVariants.{Less, Equal, Greater}
@@ -12,10 +12,9 @@ use Rattle.std.proofs.lemmas.Bool.{true≢false, cases_lt}
 use Rattle.std.proofs.lemmas.Bool.Decides.{nat_tests}
 use Rattle.std.proofs.lemmas.List.{take_all}
 use Rattle.std.proofs.lemmas.List.Folds.{list_any-append}
-use Rattle.std.proofs.lemmas.List.Sums.{fold_more}
 use Rattle.std.proofs.lemmas.Map.Entries.{lookup_from_place}
 use Rattle.std.proofs.lemmas.Map.Views.{list_any-from_Contains, Contains-from_any}
-use Rattle.std.proofs.lemmas.Option.{same_Some, none-some, slice_get_within, get_or_from_slice_get}
+use Rattle.std.proofs.lemmas.Option.{same_Some, none-some}
 use Rattle.fx_store.specs.declared.node.Node.{Node}
 use Rattle.fx_store.specs.Names.{path_cmp, has_path}
 use Rattle.fx_store.specs.Orders.{path_total, path_same, path_eq_same}
@@ -199,11 +198,6 @@ module _ (index : Index) where
     ]
     | inr later ↦ inr (record { place = suc later.place; read = later.read; stands = later.stands; changed = later.changed })
   ]
-
-  -- one read more
-  pub least_more : (reads : ReadList) (i : ℕ) (r : Read) (least next : Option Named) → slice_get reads i ≡ Some r → least ≡ fold (with_read index) None (take i reads) → next ≡ with_read index least r → next ≡ fold (with_read index) None (take (i + 1) reads)
-  least_more reads i r least next at before here =
-      here ∙ (ap (λ (l : Option Named). with_read index l r) before ∙ (ap (with_read index (fold (with_read index) None (take i reads))) (sym (get_or_from_slice_get reads i r r at)) ∙ sym (fold_more (with_read index) None reads i r (slice_get_within reads i r at))))
 
 -- a read stands among them
 record Stands (reads : ReadList) (path : Path) (read : Option Node × ℕ) : Type 0 where

@@ -21,10 +21,7 @@ pub(crate) fn stale<'a>(index: &IndexMap<Path, u64>, reads: &'a Reads) -> Option
     ensures reads { IsReads reads.now }
 {
     let mut least = None;
-    for i in 0..reads.len() {
-        let Some((path, read)) = reads.at(i) else {
-            unreachable!()
-        };
+    for (path, read) in reads.iter() {
         least = with_read(index, least, path, read.1);
     }
     least

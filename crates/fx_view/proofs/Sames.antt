@@ -1,19 +1,26 @@
--- Lists of names that are the same at each index.
-use Rattle.std.proofs.Common.{◌≡◌, ℕ, ◌<◌, Bool, true, List, [], length, get_or, Some, None, slice_get, sym, ◌∙◌}
-use Rattle.std.specs.Prelude.{◌↔◌, bytes_eq}
+-- Lists of names that are compared name by name.
+use Rattle.std.proofs.Common.{◌≡◌, ℕ, Bool, true, false, not, List, [], ◌∷◌, Option, Some, None, refl, sym, ◌∙◌}
+use Rattle.std.specs.Prelude.{◌↔◌, bytes_eq, is_some}
+use Rattle.std.specs.Borrow.{Bor}
 use Rattle.std.specs.Cmp.Lexicographic.{bytes_decides}
-use Rattle.std.proofs.lemmas.List.{same_lists, get_or_default}
-use Rattle.std.proofs.lemmas.Option.{get_or_from_slice_get, slice_get-get_or}
+use Rattle.std.specs.Iterator.{YieldsFirstRef}
+use Rattle.std.proofs.lemmas.Bool.{true≢false}
 
-pub some_within : (xs : List (List ℕ)) (i : ℕ) → i < length xs → None ≡ slice_get xs i → ⊥
-some_within xs i lt e = let there : slice_get xs i ≡ Some (get_or xs i []) = slice_get-get_or xs i [] lt in cc
+-- behind two equal names
+pub same_behind : (x y : List ℕ) (xs ys left others : List (List ℕ)) (differ : Bool) → left ≡ x ∷ xs → others ≡ y ∷ ys → differ ≡ not (bytes_eq x y) → differ ≡ false → (xs ≡ ys) ↔ (left ≡ others)
+same_behind x y xs ys left others differ first second tested equal =
+    (λ h. first ∙ ((λ k. same k ∷ h k) ∙ sym second), λ h. let e : x ∷ xs ≡ y ∷ ys = sym first ∙ (h ∙ second) in cc)
+  where
+    so : (b : Bool) → not b ≡ false → b ≡ true
+    so true h = refl
+    so false h = absurd (true≢false h)
 
-pub same_at : (xs ys : List (List ℕ)) (i : ℕ) (x y : List ℕ) (r : Bool) → Some x ≡ slice_get xs i → Some y ≡ slice_get ys i → r ≡ bytes_eq x y → (r ≡ true) ↔ (get_or xs i [] ≡ get_or ys i [])
-same_at xs ys i x y r a b e =
-    let left = get_or_from_slice_get xs i x [] (sym a) in
-    let right = get_or_from_slice_get ys i y [] (sym b) in
-    (λ t. left ∙ ((bytes_decides x y).0 (sym e ∙ t) ∙ sym right), λ w. e ∙ (bytes_decides x y).1 (sym left ∙ (w ∙ right)))
+    same : x ≡ y
+    same = (bytes_decides x y).0 (so (bytes_eq x y) (sym tested ∙ equal))
 
-pub same_names : (xs ys : List (List ℕ)) → length xs ≡ length ys → ((k : ℕ) → k < length xs → get_or xs k [] ≡ get_or ys k []) → xs ≡ ys
-same_names xs ys len each =
-    same_lists xs ys len (λ k d lt. let within : k < length ys = rw (← len) lt in get_or_default xs k d [] lt ∙ (each k lt ∙ get_or_default ys k [] d within))
+-- there is no further name exactly where none is left
+pub none_further : (others rest : List (List ℕ)) (next : Option (Bor (List ℕ))) (none : Bool) → YieldsFirstRef (λ names. names) others next rest → is_some next ≡ not none → (none ≡ true) ↔ (others ≡ [])
+none_further others rest None true steps tested = (λ h. steps.0, λ h. refl)
+none_further others rest None false steps tested = absurd (true≢false (sym tested))
+none_further others rest (Some x) true steps tested = absurd (true≢false tested)
+none_further others rest (Some x) false steps tested = (λ h. absurd (true≢false (sym h)), λ h. let e : x.now ∷ rest ≡ [] = sym steps ∙ h in absurd (cc))

@@ -6,6 +6,7 @@ ghost use Rattle.fx_view.specs.Reads.{IsReads, read_at, placed, count_before};
 use fx_base::NoMemory;
 use fx_store::{Node, Path};
 use indexmap::IndexMap;
+use indexmap::map::Iter;
 use std::alloc::Global;
 use std::marker::Model;
 
@@ -52,6 +53,14 @@ impl Reads {
         ensures reads { IsReads self.now }
     {
         self.table.get_index(i as usize)
+    }
+
+    /// The reads, in the order of the looks.
+    pub fn iter(&self) -> Iter<'_, Path, (Option<Node>, u64)>
+        ensures rest { result ≡ self.now }
+        ensures reads { IsReads self.now }
+    {
+        self.table.iter()
     }
 
     /// What was read at a path, and the position of that look.

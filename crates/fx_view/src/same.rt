@@ -1,5 +1,5 @@
 //! Whether two nodes are the same.
-ghost use Rattle.std.specs.Prelude.{◌≡◌, ◌↔◌, ◌<◌, [], length, slice_index_or, IsTrue};
+ghost use Rattle.std.specs.Prelude.{◌≡◌, ◌↔◌, IsTrue};
 ghost use Rattle.fx_store.specs.declared.node.Node.TheVariants.{File, Dir, Link};
 
 use fx_store::{Bytes, LinkText, Names, Node};
@@ -69,27 +69,14 @@ fn is_link(node: &Node, text: &LinkText) -> bool
 fn are_same_names(a: &Names, b: &Names) -> bool
     ensures { IsTrue result ↔ (a.now ≡ b.now) }
 {
-    if a.len() != b.len() {
-        return false;
-    }
-    for i in 0..a.len() {
-        if !is_same_at(a, b, i) {
+    let mut others = b.iter();
+    for name in a.iter() {
+        let Some(other) = others.next() else {
+            return false;
+        };
+        if name != other {
             return false;
         }
     }
-    true
-}
-
-fn is_same_at(a: &Names, b: &Names, i: u64) -> bool
-    requires a { i < length a.now }
-    requires b { i < length b.now }
-    ensures { IsTrue result ↔ (slice_index_or a.now i [] ≡ slice_index_or b.now i []) }
-{
-    match a.at(i) {
-        Some(name) => match b.at(i) {
-            Some(other) => name == other,
-            None => false,
-        },
-        None => false,
-    }
+    others.next().is_none()
 }

@@ -1,5 +1,6 @@
-use Rattle.std.proofs.Common.{◌≡◌, ℕ, ◌<◌, [], get_or}
+use Rattle.std.proofs.Common.{◌≡◌}
+use Rattle.std.specs.Prelude.{◌↔◌}
 use Rattle.fx_view.proofs.same.are_same_names.Given as goal
 
-abbrev pub invariant-loop-i : goal.invariant-loop-i
-invariant-loop-i l = (k : ℕ) → k < l.i → get_or l.a k [] ≡ get_or l.b k []
+abbrev pub invariant-loop-name : goal.invariant-loop-name
+invariant-loop-name l = (l.name-iterator ≡ l.others) ↔ (l.a ≡ l.b)
