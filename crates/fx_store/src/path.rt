@@ -19,13 +19,12 @@ use std::cmp::Ordering;
 use std::hash::{Hash, Hasher};
 use std::marker::Model;
 use std::slice;
-use std::sync::ArcSlice;
 
 /// A path of at most 64 names, the first below the root. The root has none. Paths are ordered name by name, so a
-/// directory comes just before all that is below it. A copy shares the names, and takes no memory.
+/// directory comes just before all that is below it.
 #[derive(Debug, Drop)]
 pub struct Path {
-    names: Option<ArcSlice<Name>>,
+    names: Vec<Name>,
 }
 
 impl Model for Path {
@@ -34,42 +33,20 @@ impl Model for Path {
 
     ghost Value = { List (List ℕ) };
 
-    ghost use Rattle.std.specs.Prelude.{[]};
-    ghost use Rattle.std.specs.Option.{option_map_or};
-    ghost use Rattle.std.specs.Arc.{arc_slice_items};
+    ghost view = { λ p. p.names.items };
 
-    ghost view = { λ p. option_map_or arc_slice_items p.names [] };
-
-    ghost invariant = { λ p. IsPath (option_map_or arc_slice_items p.names []) };
+    ghost invariant = { λ p. IsPath p.names.items };
 }
 
 impl Path {
     ghost use Rattle.fx_store.specs.Faults.{Answers, read_path, joined, extended};
 
     /// The root, which has no names.
-    pub fn root(_alloc: Global) -> Path
+    pub fn root(alloc: Global) -> Path
         ensures { result ≡ [] }
     {
-        Path { names: None }
-    }
-
-    /// The path of these names.
-    fn of(names: Vec<Name>) -> Result<Path, NoMemory>
-        requires { IsPath names.items }
-        ensures { IfOk result (λ p. p ≡ names.items) }
-    {
-        Ok(Path {
-            names: Some(ArcSlice::from_vec(names)?),
-        })
-    }
-
-    fn as_slice(&self) -> &[Name]
-        ensures names { result.now ≡ self.now }
-        ensures path { IsPath self.now }
-    {
-        match &self.names {
-            Some(names) => names.as_slice(),
-            None => &[],
+        Path {
+            names: Vec::new(alloc),
         }
     }
 
@@ -80,7 +57,7 @@ impl Path {
         prove!(is_name(name.as_slice()));
         let mut names = Vec::new(alloc);
         names.push(name)?;
-        Path::of(names)
+        Ok(Path { names })
     }
 
     /// Reads a path text: `/`, or each name with a `/` before it. It is `BadName` where it is no path text of any
@@ -99,10 +76,12 @@ impl Path {
     pub fn join(&self, alloc: Global, name: &Name) -> Result<Path, PathFault>
         ensures { Answers result (joined self.now name.now) }
     {
-        if self.as_slice().len() >= MAX_PATH_NAMES {
+        if self.names.len() >= MAX_PATH_NAMES {
             return Err(PathFault::TooDeep);
         }
-        Ok(self.child(alloc, name)?)
+        let mut names = Vec::from_clones(alloc, &self.names)?;
+        names.push(name.copy(alloc)?)?;
+        Ok(Path { names })
     }
 
     /// The path of an entry; the caller keeps the limit of 64 names.
@@ -111,19 +90,19 @@ impl Path {
         ensures { IfOk result (λ p. p ≡ self.now /ₚ name.now) }
     {
         prove!(is_name(name.as_slice()));
-        let mut names = Vec::from_clones(alloc, self.as_slice())?;
+        let mut names = Vec::from_clones(alloc, &self.names)?;
         names.push(name.copy(alloc)?)?;
-        Path::of(names)
+        Ok(Path { names })
     }
 
     /// The directory above; the root is above itself.
     pub fn parent(&self, alloc: Global) -> Result<Path, NoMemory>
         ensures { IfOk result (λ p. p ≡ parent self.now) }
     {
-        match self.as_slice().split_last() {
-            Some((_, above)) => Path::of(Vec::from_clones(alloc, above)?),
-            None => Ok(Path::root(alloc)),
-        }
+        let kept = self.names.len().saturating_sub(1);
+        Ok(Path {
+            names: Vec::from_clones(alloc, &self.names[..kept])?,
+        })
     }
 
     /// The path that goes on by the names of a text, which has one `/` between each two. It is `BadName` where the
@@ -134,12 +113,12 @@ impl Path {
         if !are_names(text) {
             return Err(PathFault::BadName);
         }
-        if has_more_parts(text, MAX_PATH_NAMES - self.as_slice().len()) {
+        if has_more_parts(text, MAX_PATH_NAMES - self.names.len()) {
             return Err(PathFault::TooDeep);
         }
-        let mut names = Vec::from_clones(alloc, self.as_slice())?;
+        let mut names = Vec::from_clones(alloc, &self.names)?;
         add_names(alloc, &mut names, text)?;
-        Ok(Path::of(names)?)
+        Ok(Path { names })
     }
 
     /// How the paths are ordered: by their first names that differ, and else the shorter one first.
@@ -154,7 +133,7 @@ impl Path {
         ensures len { result ≡ length self.now }
         ensures path { IsPath self.now }
     {
-        self.as_slice().len() as u32
+        self.names.len() as u32
     }
 
     /// The name at an index, counted from 0 below the root.
@@ -162,7 +141,7 @@ impl Path {
         ensures name { option_copied result ≡ slice_get self.now i }
         ensures path { IsPath self.now }
     {
-        self.as_slice().get(i as usize)
+        self.names.get(i as usize)
     }
 
     /// The last name; the root has none.
@@ -170,7 +149,7 @@ impl Path {
         ensures name { option_copied result ≡ slice_get self.now (length self.now - 1) }
         ensures path { IsPath self.now }
     {
-        self.as_slice().last()
+        self.names.last()
     }
 
     /// The names, from the first below the root.
@@ -179,16 +158,16 @@ impl Path {
         ensures len { length (iter_rest result) ≡ length self.now }
         ensures path { IsPath self.now }
     {
-        self.as_slice().iter()
+        self.names.iter()
     }
 
     /// An equal path, which shares its names with this one.
-    pub fn copy(&self, _alloc: Global) -> Result<Path, NoMemory>
+    pub fn copy(&self, alloc: Global) -> Result<Path, NoMemory>
         ensures copied { IfOk result (λ p. p ≡ self.now) }
         ensures path { IsPath self.now }
     {
         Ok(Path {
-            names: self.names.clone()?,
+            names: Vec::from_clones(alloc, &self.names)?,
         })
     }
 }
@@ -209,7 +188,7 @@ impl PartialEq for Path {
     ghost laws = { partial_equiv_from_equiv (eq_by_cmp_equiv path_total) };
 
     fn eq(&self, other: &Path) -> bool {
-        self.as_slice() == other.as_slice()
+        self.names == other.names
     }
 }
 
@@ -237,7 +216,7 @@ impl Ord for Path {
     ghost matches_eq = { λ _ _. refl };
 
     fn cmp(&self, other: &Path) -> Ordering {
-        self.as_slice().cmp(other.as_slice())
+        self.names.cmp(&other.names)
     }
 }
 
@@ -247,6 +226,6 @@ impl Hash for Path {
     ghost respects_eq = { λ x y e. ap (fed.slice (fed.slice fed.u8)) (path_eq_same x y e) };
 
     fn hash<H: Hasher>(&self, state: &mut H) {
-        self.as_slice().hash(state);
+        self.names.hash(state);
     }
 }
