@@ -1,7 +1,7 @@
 -- Items of a folder: which entry is its table, and where an item stands.
 use Rattle.std.proofs.Common.{◌≡◌, ℕ, zero, suc, ◌+◌, ◌<◌, ◌≤◌, Bool, true, false, cond, List, [], ◌∷◌, ◌++◌, length, take, drop, None, Some, refl, sym, ◌∙◌, ap, arith, append_assoc, append-nil}
 use Rattle.std.specs.Prelude.{bytes_eq}
-use Rattle.std.specs.List.{slice_get}
+use Rattle.std.specs.List.{slice_get, flat_map}
 use Rattle.std.proofs.lemmas.Bool.{false≢true}
 use Rattle.std.proofs.lemmas.Option.{same_Some}
 use Rattle.std.proofs.lemmas.List.Elements.{All-head}
@@ -77,33 +77,14 @@ no_item p es i j n k old todo next is so table =
 
 -- ---- the text of an item
 
-take_at : (xs : Parts) (i : ℕ) (x : List ℕ) → slice_get xs i ≡ Some x → take (i + 1) xs ≡ take i xs ++ x ∷ []
-take_at [] i x is = cc
-take_at (y ∷ xs) zero x is = ap (λ z. z ∷ []) (same_Some y x is)
-take_at (y ∷ xs) (suc i) x is = let one : suc i + 1 ≡ suc (i + 1) = omega arith in ap (λ n. take n (y ∷ xs)) one ∙ ap (λ l. y ∷ l) (take_at xs i x is)
+-- names, each with `/` behind it
+abbrev pub names_then : Parts → List ℕ
+names_then names = flat_map (λ name. name ++ 47 ∷ []) names
 
-place_push : (p : Parts) (n : List ℕ) → place_of (p ++ n ∷ []) ≡ place_of p ++ 47 ∷ n
-place_push p n = flat_map-append (λ name. 47 ∷ name) p (n ∷ []) ∙ ap (λ l. place_of p ++ l) (append-nil (47 ∷ n))
-
--- one name more
-pub more_text : (p : Parts) (i : ℕ) (n old new : List ℕ) → Some n ≡ slice_get p i → 47 ∷ old ≡ place_of (take i p) ++ 47 ∷ [] → new ≡ old ++ n ++ 47 ∷ [] → 47 ∷ new ≡ place_of (take (i + 1) p) ++ 47 ∷ []
-more_text p i n old new is so e =
-    ap (λ l. 47 ∷ l) e
-    ∙ ap (λ l. (l ++ n) ++ 47 ∷ []) so
-    ∙ ap (λ l. l ++ 47 ∷ []) (append_assoc (place_of (take i p)) (47 ∷ []) n)
-    ∙ ap (λ l. l ++ 47 ∷ []) (sym (place_push (take i p) n))
-    ∙ ap (λ q. place_of q ++ 47 ∷ []) (sym (take_at p i n (sym is)))
-
--- and the last one
-pub last_text : (p : Parts) (i : ℕ) (n old new : List ℕ) → length p ≤ i → 47 ∷ old ≡ place_of (take i p) ++ 47 ∷ [] → new ≡ old ++ n → 47 ∷ new ≡ place_of (p ++ n ∷ [])
-last_text p i n old new end so e =
-    ap (λ l. 47 ∷ l) e ∙ ap (λ l. l ++ n) so
-    ∙ append_assoc (place_of (take i p)) (47 ∷ []) n
-    ∙ ap (λ q. place_of q ++ 47 ∷ n) (take_past p i end)
-    ∙ sym (place_push p n)
-  where
-    take_past : (xs : Parts) (j : ℕ) → length xs ≤ j → take j xs ≡ xs
-    take_past [] zero le = refl
-    take_past [] (suc j) le = refl
-    take_past (x ∷ xs) zero le = absurd (omega arith)
-    take_past (x ∷ xs) (suc j) le = ap (λ l. x ∷ l) (take_past xs j (omega arith))
+-- with `/` before or behind each name
+pub slashes_around : (p : Parts) → 47 ∷ names_then p ≡ place_of p ++ 47 ∷ []
+slashes_around [] = refl
+slashes_around (n ∷ p) =
+    ap (λ l. 47 ∷ l) (append_assoc n (47 ∷ []) (names_then p)
+    ∙ ap (λ l. n ++ l) (slashes_around p)
+    ∙ sym (append_assoc n (place_of p) (47 ∷ [])))

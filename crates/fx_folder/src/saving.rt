@@ -243,10 +243,8 @@ fn place_below(alloc: Global, folder: &HostText, path: &Path) -> Result<HostText
     ensures path { OnOk result (IsPath path.now) }
 {
     let mut text = String::from_str(alloc, folder.as_str())?;
-    'joining: for i in 0..path.len() {
-        if let Some(name) = path.name(i) {
-            add_name(&mut text, name)?;
-        }
+    for name in path.iter() {
+        add_name(&mut text, name)?;
     }
     Ok(HostText::from_string(text))
 }

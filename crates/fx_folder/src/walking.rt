@@ -306,10 +306,7 @@ fn text_of(alloc: Global, item: &Item) -> Result<HostText, AllocError>
     ensures { IfOk result (λ text. 47 ∷ text ≡ place_of (item_path item.now)) }
 {
     let mut text = String::new(alloc);
-    for i in 0..item.parent.len() {
-        let Some(name) = item.parent.name(i) else {
-            unreachable!()
-        };
+    for name in item.parent.iter() {
         push_name(&mut text, name)?;
     }
     text.push_str(item.name.as_str())?;

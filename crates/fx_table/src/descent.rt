@@ -5,7 +5,7 @@ ghost use Rattle.fx_store.specs.Whole.{Nodes, IsWhole};
 ghost use Rattle.fx_table.specs.Remaining.{Enters, IsNextOf, IsLevel, AreLevels, left_of, from_names, names_in, ComesTo, IsEntry, IsLeftBelow};
 
 use fx_base::NoMemory;
-use fx_store::{Filestore, Names, Node, Path, PathFault};
+use fx_store::{Filestore, Names, Node, Path};
 use std::alloc::Global;
 
 /// A directory, and which of its names comes next.
@@ -94,12 +94,7 @@ fn child(alloc: Global, level: &Level) -> Result<Path, NoMemory>
     let Some(name) = level.names.at(level.next) else {
         unreachable!()
     };
-    match level.path.join(alloc, name) {
-        Ok(path) => Ok(path),
-        Err(PathFault::NoMemory) => Err(NoMemory),
-        Err(PathFault::BadName) => unreachable!(),
-        Err(PathFault::TooDeep) => unreachable!(),
-    }
+    level.path.child(alloc, name)
 }
 
 /// Goes back to a directory behind its next name, unless that was its last.

@@ -1,15 +1,14 @@
 //! Files and directories, among which links are made.
-ghost use Rattle.std.specs.Prelude.{◌≡◌, ◌++◌, ◌∷◌, IfOk, OnOk, option_copied, unwrap_or, None};
+ghost use Rattle.std.specs.Prelude.{◌≡◌, option_copied, unwrap_or, None};
 ghost use Rattle.std.specs.FinMap.{get};
 ghost use Rattle.fx_store.specs.Changes.{change_at};
 ghost use Rattle.fx_store.specs.Names.{path_cmp};
-ghost use Rattle.fx_store.specs.Resolve.{parent};
 ghost use Rattle.fx_table.specs.Lines.{standing_by};
 ghost use Rattle.fx_table.specs.Table.{is_dir, is_file};
 
 use crate::lines::Ground;
 use fx_base::NoMemory;
-use fx_store::{Change, Changes, Filestore, Name, Node, Path, PathFault};
+use fx_store::{Change, Changes, Filestore, Node, Path};
 use std::alloc::Global;
 use std::cmp::Ordering;
 
@@ -20,7 +19,7 @@ impl Ground for Changes {
         if node_in(self, path).is_some() {
             return Ok(false);
         }
-        let above = parent_of(alloc, path)?;
+        let above = path.parent(alloc)?;
         Ok(is_dir(node_in(self, &above)))
     }
 
@@ -36,7 +35,7 @@ impl Ground for Filestore {
         if self.get(path).is_some() {
             return Ok(false);
         }
-        let above = parent_of(alloc, path)?;
+        let above = path.parent(alloc)?;
         Ok(is_dir(self.get(&above)))
     }
 
@@ -79,36 +78,4 @@ fn is_file(node: Option<&Node>) -> bool
         Some(Node::Link(_)) => false,
         None => false,
     }
-}
-
-/// The path above another; the root is above itself.
-fn parent_of(alloc: Global, path: &Path) -> Result<Path, NoMemory>
-    ensures { IfOk result (λ above. above ≡ parent path.now) }
-{
-    let count = path.len();
-    if count <= 1 {
-        return Ok(Path::root(alloc));
-    }
-    let mut text = Vec::new(alloc);
-    for i in 0..count - 1 {
-        let Some(name) = path.name(i) else {
-            unreachable!()
-        };
-        add_name(&mut text, name)?;
-    }
-    match Path::read(alloc, &text) {
-        Ok(above) => Ok(above),
-        Err(PathFault::NoMemory) => Err(NoMemory),
-        Err(PathFault::BadName) => unreachable!(),
-        Err(PathFault::TooDeep) => unreachable!(),
-    }
-}
-
-/// Adds `/` and a name.
-fn add_name(text: &mut Vec<u8>, name: &Name) -> Result<(), NoMemory>
-    ensures { OnOk result (text.new.items ≡ text.old.items ++ 47 ∷ name.now) }
-{
-    text.push(b'/')?;
-    text.extend_from_slice(name.as_slice())?;
-    Ok(())
 }

@@ -127,10 +127,8 @@ fn add_names(text: &mut Vec<u8>, path: &Path) -> Result<(), NoMemory>
     ensures { OnOk result
         (text.new.items ≡ text.old.items ++ spelling (flat_map (λ name. 47 ∷ name) path.now)) }
 {
-    for i in 0..path.len() {
-        if let Some(name) = path.name(i) {
-            add_name(text, name)?;
-        }
+    for name in path.iter() {
+        add_name(text, name)?;
     }
     Ok(())
 }

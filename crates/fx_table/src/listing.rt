@@ -159,7 +159,7 @@ fn add_name(
     ensures { OnOk result (IsAddedAt i path.now
         (map items_of lists.old.items) (map items_of lists.new.items)) }
 {
-    let Some(name) = path.name(path.len() - 1) else {
+    let Some(name) = path.last() else {
         unreachable!()
     };
     let name = name.copy(alloc)?;

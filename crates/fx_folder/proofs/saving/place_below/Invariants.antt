@@ -1,6 +1,7 @@
-use Rattle.std.proofs.Common.{◌≡◌, ◌++◌, take, string_bytes}
+use Rattle.std.proofs.Common.{◌≡◌, ◌++◌, string_bytes}
+use Rattle.std.specs.Slice.Iter.{iter_rest}
 use Rattle.fx_table.specs.Places.{place_of}
 use Rattle.fx_folder.proofs.saving.place_below.Given as goal
 
-abbrev pub invariant-joining : goal.invariant-joining
-invariant-joining l = string_bytes l.text ≡ l.folder ++ place_of (take l.i l.path)
+abbrev pub invariant-loop-name : goal.invariant-loop-name
+invariant-loop-name l = string_bytes l.text ++ place_of (iter_rest l.name-iterator) ≡ l.folder ++ place_of l.path

@@ -1,11 +1,10 @@
-use Rattle.std.proofs.Common.{◌≡◌, ◌++◌, ◌∷◌, [], Some, ap, ◌∙◌, arith}
-use Rattle.std.specs.List.{slice_get}
+use Rattle.std.proofs.Common.{◌≡◌, ◌++◌, ◌∷◌, [], Some, ap, ◌∙◌}
 use Rattle.fx_table.proofs.Parents.{vec_added}
 use Rattle.fx_table.proofs.listing.add_name.Goals as goal
 
 pub returns : goal.returns
 returns c name last =
-    let it : Some c.in-Some.name.now ≡ Some name = c.in-Some.ensures.name ∙ ap (slice_get c.args.path.now) (omega (arith, c.len.ensures.len)) ∙ last in
+    let it : Some c.in-Some.name.now ≡ Some name = c.in-Some.ensures.name ∙ last in
     let same : c.in-Some.name.now ≡ name = cc in
     vec_added c.args.lists.now.items c.args.i c.index_mut.result.now c.push.new.self name c.requires.within c.index_mut.ensures.value
     (c.in_ok-push.ensures.items ∙ ap (λ n. c.index_mut.result.now.items ++ n ∷ []) (c.in_ok-name.ensures.copied ∙ same))
