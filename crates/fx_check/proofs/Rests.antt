@@ -1,6 +1,6 @@
 -- What is left of the definitions from a place on decides how the check of all of them ends; and whether a name is one of
 -- the first of them.
-use Rattle.std.proofs.Common.{◌≡◌, ℕ, zero, suc, ◌≤◌, Bool, true, false, cond, nat_eq, nat_lt, take, drop, length, slice_get, List, [], ◌∷◌, ◌++◌, Option, Some, None, Ok, refl, sym, ap, subst, ◌∙◌, arith}
+use Rattle.std.proofs.Common.{◌≡◌, ℕ, zero, suc, ◌+◌, ◌<◌, Bool, true, false, cond, nat_eq, nat_lt, take, drop, length, List, [], ◌∷◌, ◌++◌, Option, Some, None, Ok, refl, sym, ap, subst, ◌∙◌, add-one, arith}
 use Rattle.std.specs.Prelude.{is_some}
 use Rattle.std.specs.Option.{option_map}
 use Rattle.std.specs.Cmp.Lexicographic.{pointwise}
@@ -13,41 +13,65 @@ use Rattle.fx_check.specs.Faults.{OrFault, ◌>>=◌}
 use Rattle.fx_check.specs.Checked.{checked_def, checked_defs}
 use Rattle.fx_check.proofs.Checking.{given, fault_then}
 
-pub drop_at : {A : Type 0} (xs : List A) (i : ℕ) (x : A) → slice_get xs i ≡ Some x → drop i xs ≡ x ∷ drop (suc i) xs
-drop_at [] i x at = absurd (cc)
-drop_at (y ∷ ys) zero x at = let same : y ≡ x = cc in λ k. same k ∷ ys
-drop_at (y ∷ ys) (suc i) x at = drop_at ys i x at
+-- what stands at a place, and what is left behind it
+pub split_next : {A : Type 0} (xs : List A) (i : ℕ) (x : A) (ys : List A) → drop i xs ≡ x ∷ ys → (take (suc i) xs ≡ take i xs ++ x ∷ []) × (drop (suc i) xs ≡ ys)
+split_next [] zero x ys e = absurd (cc)
+split_next [] (suc i) x ys e = absurd (cc)
+split_next (z ∷ xs) zero x ys e = let same : z ≡ x = cc in (λ k. same k ∷ [], cc)
+split_next (z ∷ xs) (suc i) x ys e = let rest = split_next xs i x ys e in (ap (λ l. z ∷ l) rest.0, rest.1)
 
-pub take_at : {A : Type 0} (xs : List A) (i : ℕ) (x : A) → slice_get xs i ≡ Some x → take (suc i) xs ≡ take i xs ++ x ∷ []
-take_at [] i x at = absurd (cc)
-take_at (y ∷ ys) zero x at = let same : y ≡ x = cc in λ k. same k ∷ []
-take_at (y ∷ ys) (suc i) x at = ap (λ l. y ∷ l) (take_at ys i x at)
+next_within : {A : Type 0} (xs : List A) (i : ℕ) (x : A) (ys : List A) → drop i xs ≡ x ∷ ys → i < length xs
+next_within [] zero x ys e = absurd (cc)
+next_within [] (suc i) x ys e = absurd (cc)
+next_within (z ∷ xs) zero x ys e = omega arith
+next_within (z ∷ xs) (suc i) x ys e = let rest : i < length xs = next_within xs i x ys e in omega arith
 
-pub drop_all : {A : Type 0} (xs : List A) (i : ℕ) → length xs ≤ i → drop i xs ≡ []
-drop_all [] zero past = refl
-drop_all [] (suc i) past = refl
-drop_all (y ∷ ys) zero past = absurd (let e : suc (length ys) ≤ 0 = past in omega arith)
-drop_all (y ∷ ys) (suc i) past = drop_all ys i (let e : suc (length ys) ≤ suc i = past in omega arith)
+pub take_whole : {A : Type 0} (xs : List A) (i : ℕ) → drop i xs ≡ [] → take i xs ≡ xs
+take_whole [] zero e = refl
+take_whole [] (suc i) e = refl
+take_whole (x ∷ xs) zero e = absurd (cc)
+take_whole (x ∷ xs) (suc i) e = ap (λ l. x ∷ l) (take_whole xs i e)
+
+pub none_of : {A : Type 0} (xs : List A) → length xs ≡ 0 → xs ≡ []
+none_of [] e = refl
+none_of (x ∷ xs) e = absurd (omega (arith, e))
 
 -- ---- definitions
 
-module _ (defs : List DefTree) (i : ℕ) (d : DefTree) (at : slice_get defs i ≡ Some d) where
-  defs_at : checked_defs defs (take i defs) (drop i defs) ≡ (checked_def defs (take i defs) d >>= λ _. checked_defs defs (take (suc i) defs) (drop (suc i) defs))
-  defs_at =
-      ap (λ l. checked_defs defs (take i defs) l) (drop_at defs i d at)
-      ∙ ap (λ before. checked_def defs (take i defs) d >>= λ _. checked_defs defs before (drop (suc i) defs)) (sym (take_at defs i d at))
+-- so many definitions have been checked, and these are left
+pub record AreLeft (defs : List DefTree) (i : ℕ) (rest : List DefTree) : Type 0 where
+  pub checked : checked_defs defs [] defs ≡ checked_defs defs (take i defs) rest
+  pub left : drop i defs ≡ rest
 
-  pub next_def : (s : ShapeTree) → checked_def defs (take i defs) d ≡ Ok s
-      → checked_defs defs (take i defs) (drop i defs) ≡ checked_defs defs (take (suc i) defs) (drop (suc i) defs)
-  next_def s h = defs_at ∙ given (checked_def defs (take i defs) d) (λ _. checked_defs defs (take (suc i) defs) (drop (suc i) defs)) s h
+pub all_left : (defs rest : List DefTree) → rest ≡ defs → AreLeft defs 0 rest
+all_left defs rest all = record { checked = ap (checked_defs defs []) (sym all); left = sym all }
 
-  pub wrong_def : (fault : CheckFault) → IsFault fault (checked_def defs (take i defs) d) → IsFault fault (checked_defs defs (take i defs) (drop i defs))
-  wrong_def fault h =
-      subst (λ (o : OrFault (List DefTree)). IsFault fault o) (sym defs_at)
-      (fault_then fault (checked_def defs (take i defs) d) (λ _. checked_defs defs (take (suc i) defs) (drop (suc i) defs)) h)
+module _ {defs : List DefTree} {i : ℕ} {rest : List DefTree} (at : AreLeft defs i rest) where
+  module _ (d : DefTree) (more : List DefTree) (here : rest ≡ d ∷ more) where
+    next : checked_defs defs [] defs ≡ (checked_def defs (take i defs) d >>= λ _. checked_defs defs (take i defs ++ d ∷ []) more)
+    next = at.checked ∙ ap (checked_defs defs (take i defs)) here
 
-pub no_defs : (defs : List DefTree) (i : ℕ) → length defs ≤ i → checked_defs defs (take i defs) (drop i defs) ≡ Ok (take i defs)
-no_defs defs i past = ap (λ l. checked_defs defs (take i defs) l) (drop_all defs i past)
+    pub one_within : i < length defs
+    one_within = next_within defs i d more (at.left ∙ here)
+
+    pub next_def : (s : ShapeTree) → checked_def defs (take i defs) d ≡ Ok s → AreLeft defs (i + 1) more
+    next_def s is =
+        let split = split_next defs i d more (at.left ∙ here) in
+        let one : suc i ≡ i + 1 = sym (add-one i) in
+        record {
+          checked =
+              next ∙ given (checked_def defs (take i defs) d) (λ _. checked_defs defs (take i defs ++ d ∷ []) more) s is
+              ∙ ap (λ before. checked_defs defs before more) (sym split.0) ∙ ap (λ n. checked_defs defs (take n defs) more) one;
+          left = ap (λ n. drop n defs) (sym one) ∙ split.1;
+        }
+
+    pub wrong_def : (fault : CheckFault) → IsFault fault (checked_def defs (take i defs) d) → IsFault fault (checked_defs defs [] defs)
+    wrong_def fault h =
+        subst (λ (o : OrFault (List DefTree)). IsFault fault o) (sym next)
+        (fault_then fault (checked_def defs (take i defs) d) (λ _. checked_defs defs (take i defs ++ d ∷ []) more) h)
+
+  pub no_defs : rest ≡ [] → checked_defs defs [] defs ≡ Ok defs
+  no_defs none = at.checked ∙ ap (checked_defs defs (take i defs)) none ∙ ap (λ l. Ok l) (take_whole defs i (at.left ∙ none))
 
 -- ---- a name among the first definitions
 

@@ -54,11 +54,8 @@ fn check_def(alloc: Global, defs: &Defs, before: u64, def: &Def) -> Result<Shape
 fn check_defs(alloc: Global, defs: &Defs) -> Result<(), CheckFault>
     ensures { Gives (λ _. defs.now) result (checked_defs defs.now [] defs.now) }
 {
-    for i in 0..defs.len() {
-        let Some(def) = defs.at(i) else {
-            unreachable!()
-        };
-        let_go(Some(check_def(alloc, defs, i, def)?));
+    for (before, def) in defs.iter().enumerate() {
+        let_go(Some(check_def(alloc, defs, before as u64, def)?));
     }
     Ok(())
 }

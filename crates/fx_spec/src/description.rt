@@ -1,4 +1,4 @@
-ghost use Rattle.std.specs.Prelude.{◌≡◌, ◌<◌, ◌++◌, [], ◌∷◌, OnOk, OnErr, length, slice_get, map, vec_len, vec_capacity};
+ghost use Rattle.std.specs.Prelude.{◌≡◌, ◌<◌, ◌^◌, ◌++◌, [], ◌∷◌, OnOk, OnErr, length, slice_get, map, vec_len, vec_capacity};
 ghost use Rattle.std.specs.Slice.Iter.{iter_rest};
 ghost use Rattle.std.specs.Option.{option_map};
 ghost use Rattle.fx_expr.specs.Views.{shape_tree};
@@ -146,6 +146,7 @@ impl Defs {
     pub fn iter(&self) -> slice::Iter<'_, Def>
         ensures rest { map def_tree (iter_rest result) ≡ self.now }
         ensures len { length (iter_rest result) ≡ length self.now }
+        ensures bound { length (iter_rest result) < 2 ^ 64 }
     {
         self.items.iter()
     }

@@ -1,30 +1,26 @@
-use Rattle.std.proofs.Common.{◌≡◌, ◌≤◌, ◌∙◌, Ok, List, ap, sym, subst, take, drop, length, add-one, arith}
-use Rattle.std.proofs.Math.Seq.{take-length}
+use Rattle.std.proofs.Common.{◌<◌, length, map, ap, arith}
+use Rattle.std.specs.Slice.Iter.{iter_rest}
 use Rattle.fx_spec.specs.DefViews.{def_tree}
-use Rattle.fx_spec.specs.Written.{DefTree}
-use Rattle.fx_check.specs.Faults.{OrFault}
-use Rattle.fx_check.specs.Gives.{IsFault}
-use Rattle.fx_check.specs.Checked.{checked_defs}
 use Rattle.fx_check.proofs.Checking.{handed}
-use Rattle.fx_check.proofs.Rests.{next_def, wrong_def, no_defs}
+use Rattle.fx_check.proofs.Rests.{next_def, one_within, wrong_def, no_defs, none_of, all_left}
 use Rattle.fx_check.proofs.text.check_defs.Goals as goal
+
+pub loop-before-init : goal.loop-before-init
+loop-before-init c = all_left c.args.defs.now _ c.iter-def-items.ensures.rest
 
 pub returns-in_err-check_def : goal.returns-in_err-check_def
 returns-in_err-check_def c =
-    let fault = c.in_err-check_def.field-0.0 in
-    handed _ c.from_residual.result fault _ c.from_residual.ensures.1
-    (subst (λ (o : OrFault (List DefTree)). IsFault fault o) (sym c.loop-i.invariant)
-    (wrong_def c.args.defs.now c.loop-i.i (def_tree c.in-Some.def.now) (sym c.in-Some.ensures) fault c.in_err-check_def.ensures))
+    handed _ c.from_residual.result c.in_err-check_def.field-0.0 _ c.from_residual.ensures.1
+    (wrong_def c.loop-before.invariant (def_tree c.in-Some.def.now) (map def_tree (iter_rest c.next.new.self)) (ap (map def_tree) c.in-Some.ensures.steps) c.in_err-check_def.field-0.0 c.in_err-check_def.ensures)
 
-pub loop-i-preserved : goal.loop-i-preserved
-loop-i-preserved c =
-    c.loop-i.invariant
-    ∙ next_def c.args.defs.now c.loop-i.i (def_tree c.in-Some.def.now) (sym c.in-Some.ensures) _ c.in_ok-check_def.ensures
-    ∙ ap (λ n. checked_defs c.args.defs.now (take n c.args.defs.now) (drop n c.args.defs.now)) (sym (add-one c.loop-i.i))
+pub overflow_step-before : goal.overflow_step-before
+overflow_step-before c =
+    let within : c.loop-before.before < length c.args.defs.now = one_within c.loop-before.invariant (def_tree c.in-Some.def.now) (map def_tree (iter_rest c.next.new.self)) (ap (map def_tree) c.in-Some.ensures.steps) in
+    omega (arith, within, c.iter-def-items.ensures.len, c.iter-def-items.ensures.bound)
+
+pub loop-before-preserved : goal.loop-before-preserved
+loop-before-preserved c =
+    next_def c.loop-before.invariant (def_tree c.in-Some.def.now) (map def_tree (iter_rest c.next.new.self)) (ap (map def_tree) c.in-Some.ensures.steps) _ c.in_ok-check_def.ensures
 
 pub returns : goal.returns
-returns c =
-    let all : c.loop-i.i ≡ length c.args.defs.now = omega arith in
-    let past : length c.args.defs.now ≤ c.loop-i.i = omega arith in
-    c.loop-i.invariant ∙ no_defs c.args.defs.now c.loop-i.i past
-    ∙ ap (λ l. Ok l) (ap (λ n. take n c.args.defs.now) all ∙ take-length c.args.defs.now)
+returns c = no_defs c.loop-before.invariant (ap (map def_tree) (none_of _ c.in-None.ensures.steps.0))

@@ -1,6 +1,8 @@
-use Rattle.std.proofs.Common.{◌≡◌, take, drop, []}
-use Rattle.fx_check.specs.Checked.{checked_defs}
+use Rattle.std.proofs.Common.{map}
+use Rattle.std.specs.Slice.Iter.{iter_rest}
+use Rattle.fx_spec.specs.DefViews.{def_tree}
+use Rattle.fx_check.proofs.Rests.{AreLeft}
 use Rattle.fx_check.proofs.text.check_defs.Given as goal
 
-abbrev pub invariant-loop-i : goal.invariant-loop-i
-invariant-loop-i l = checked_defs l.defs [] l.defs ≡ checked_defs l.defs (take l.i l.defs) (drop l.i l.defs)
+abbrev pub invariant-loop-before : goal.invariant-loop-before
+invariant-loop-before l = AreLeft l.defs l.before (map def_tree (iter_rest l.def-iterator))
