@@ -1,5 +1,5 @@
 -- A search among changes in the order of their paths, and the path above another.
-use Rattle.std.proofs.Common.{◌≡◌, ℕ, zero, suc, ◌+◌, ◌-◌, ◌<◌, ◌≤◌, cond, T, List, [], ◌∷◌, ◌++◌, map, length, take, get_or, Option, Some, None, Result, Ok, Err, refl, sym, ◌∙◌, ap, subst, arith, append-nil, length-take}
+use Rattle.std.proofs.Common.{◌≡◌, ℕ, zero, suc, ◌+◌, ◌-◌, ◌<◌, ◌≤◌, cond, T, List, [], ◌∷◌, ◌++◌, map, length, take, get_or, Option, Some, None, refl, sym, ◌∙◌, ap, subst, arith, length-take}
 use Rattle.std.specs.Prelude.{unwrap_or}
 use Rattle.std.specs.declared.cmp.Ordering.TheVariants.{Less, Equal, Greater}
 use Rattle.std.specs.Ordering.{eq_by_cmp, ordering_index}
@@ -7,19 +7,14 @@ use Rattle.std.specs.List.{slice_get}
 use Rattle.std.specs.List.Sorted.{IsStrictlySortedBy, IsNonDecreasingBy}
 use Rattle.std.specs.Map.{keys_of}
 use Rattle.std.specs.FinMap.{find, is_sorted}
-use Rattle.std.proofs.lemmas.Grind.{flat_map-append}
 use Rattle.fx_outside.proofs.Sorted.{sorted_test, rises, find_at, find_gap}
-use Rattle.fx_store.specs.declared.name.PathFault.{PathFault}
 use Rattle.fx_store.specs.declared.node.Node.{Node}
 use Rattle.fx_store.specs.declared.changes.Change.{Change}
 use Rattle.fx_store.specs.Changes.{IsChanges, changed_paths, change_at}
-use Rattle.fx_store.specs.Faults.{read_path}
-use Rattle.fx_store.specs.Names.{path_cmp, path_text, IsPath, IsName}
+use Rattle.fx_store.specs.Names.{path_cmp, IsPath, IsName}
 use Rattle.fx_store.specs.Orders.{path_total, path_same}
-use Rattle.fx_store.specs.Resolve.{parent}
 use Rattle.fx_table.specs.Places.{place_of}
 use Rattle.fx_table.specs.Lines.{standing_by}
-use Rattle.fx_table.proofs.TableLines.{read_path_text}
 
 abbrev Paths : Type 0
 Paths = List (List ℕ)
@@ -88,10 +83,6 @@ take_at [] i x is = cc
 take_at (y ∷ xs) zero x is = let same : y ≡ x = cc in ap (λ z. z ∷ []) same
 take_at (y ∷ xs) (suc i) x is = let one : suc i + 1 ≡ suc (i + 1) = omega arith in ap (λ n. take n (y ∷ xs)) one ∙ ap (λ l. y ∷ l) (take_at xs i x is)
 
-pub text_more : (p : Paths) (i : ℕ) (n old new : List ℕ) → Some n ≡ slice_get p i → old ≡ place_of (take i p) → new ≡ old ++ 47 ∷ n → new ≡ place_of (take (i + 1) p)
-text_more p i n old new is so more =
-    more ∙ (ap (λ t. t ++ 47 ∷ n) so ∙ (ap (λ t. place_of (take i p) ++ t) (sym (append-nil (47 ∷ n))) ∙ (sym (flat_map-append (λ name. 47 ∷ name) (take i p) (n ∷ [])) ∙ ap place_of (sym (take_at p i n (sym is))))))
-
 front : (p : Paths) (k : ℕ) → IsPath p → IsPath (take k p)
 front p k path = record { names = λ i d lt. names i d lt; short = omega (arith, length-take k p, path.short) }
   where
@@ -104,23 +95,3 @@ front p k path = record { names = λ i d lt. names i d lt; short = omega (arith,
 
     names : (i : ℕ) (d : List ℕ) → i < length (take k p) → IsName (get_or (take k p) i d)
     names i d lt = subst IsName (sym (get_take p k i d lt)) (path.names i d (omega (arith, length-take k p, lt)))
-
-text_is : (p : Paths) → 0 < length p → path_text p ≡ place_of p
-text_is [] some = absurd (omega arith)
-text_is (n ∷ p) some = refl
-
-pub parent_read : (p : Paths) (text : List ℕ) (i : ℕ) → IsPath p → 1 < length p → i ≡ length p - 1 → text ≡ place_of (take i p) → read_path text ≡ Ok (parent p)
-parent_read p text i path many end is =
-    let k = length p - 1 in
-    ap read_path (is ∙ (ap (λ n. place_of (take n p)) end ∙ sym (text_is (take k p) (omega (arith, length-take k p, many))))) ∙ read_path_text (take k p) (front p k path)
-
-pub root_above : (p : Paths) → length p ≤ 1 → [] ≡ parent p
-root_above [] le = refl
-root_above (n ∷ []) le = refl
-root_above (n ∷ m ∷ p) le = absurd (omega arith)
-
-pub not_fault : (r : Result Paths PathFault) (q : Paths) (f : PathFault) → r ≡ Ok q → r ≡ Err f → ⊥
-not_fault r q f a b = let e : ◌≡◌ {A = Result Paths PathFault} (Ok q) (Err f) = sym a ∙ b in cc
-
-pub read_ok : (r : Result Paths PathFault) (p q : Paths) → r ≡ Ok q → r ≡ Ok p → p ≡ q
-read_ok r p q a b = let e : ◌≡◌ {A = Result Paths PathFault} (Ok p) (Ok q) = sym b ∙ a in cc

@@ -1,20 +1,16 @@
 -- The text of a table, while a walk writes it.
-use Rattle.std.proofs.Common.{◌≡◌, ℕ, ◌+◌, ◌<◌, Bool, true, false, cond, ◌||◌, refl, sym, append_assoc, List, [], ◌∷◌, ◌++◌, length, take, Some, None, ◌∙◌, ap, arith, append-nil}
-use Rattle.std.specs.List.{flat_map, filter_map, slice_get}
-use Rattle.std.proofs.lemmas.Option.{same_Some, slice_get_within, get_or_from_slice_get, slice_get-get_or}
-use Rattle.std.proofs.lemmas.List.{take_more}
-use Rattle.std.proofs.lemmas.Grind.{flat_map-append}
+use Rattle.std.proofs.Common.{◌≡◌, ℕ, ◌+◌, ◌<◌, Bool, true, false, ◌||◌, refl, sym, append_assoc, List, [], ◌∷◌, ◌++◌, length, Some, None, ◌∙◌, ap, arith}
+use Rattle.std.specs.List.{filter_map, slice_get}
+use Rattle.std.proofs.lemmas.Option.{same_Some, slice_get-get_or}
 use Rattle.fx_store.specs.declared.node.Node.{Node}
 use Rattle.fx_store.specs.declared.node.Node.TheVariants.{File, Dir, Link}
 use Rattle.fx_store.specs.Whole.{Nodes}
 use Rattle.fx_table.specs.declared.descent.Entry.{Entry}
 use Rattle.fx_table.specs.declared.descent.Level.{Level}
 use Rattle.fx_table.specs.declared.links.TableText.{TableText}
-use Rattle.fx_table.specs.Places.{place_of}
-use Rattle.fx_table.specs.Table.{TableLine, line_at, lines_of, lines_text, has_flags, version_line, table_text}
-use Rattle.fx_table.specs.Texts.{text_at, flag_of_node, lines_so_far, flags_so_far, AddsLine, whole_text}
-use Rattle.fx_table.specs.TableSpelling.{spelled, spelling}
-use Rattle.fx_table.specs.Remaining.{left_of, AreLevels, IsLeftBelow, ComesNext, IsEntry}
+use Rattle.fx_table.specs.Table.{TableLine, line_at, lines_of, lines_text, has_flags}
+use Rattle.fx_table.specs.Texts.{text_at, flag_of_node, lines_so_far, flags_so_far, AddsLine}
+use Rattle.fx_table.specs.Remaining.{left_of, AreLevels, IsLeftBelow, IsEntry}
 
 abbrev Mapped : Type 0
 Mapped = List (List ℕ) × Node
@@ -73,32 +69,8 @@ listing_more nodes text new levels levels' e was are comes adds =
           ∙ (ap (λ b. flags || b) (sym (first_flag path next.0 left) ∙ ap (λ es. has_flags (lines_among es)) (sym next.2)) ∙ was.flagged));
     }
 
-or_false : (b : Bool) → (b || false) ≡ b
-or_false true = refl
-or_false false = refl
-
-pub listing_end : (nodes : Nodes) (text : TableText) (levels levels' : List Level) → IsListing text nodes levels → ComesNext nodes (left_of nodes levels) (left_of nodes levels') None → whole_text text ≡ table_text (lines_of nodes)
-listing_end nodes text levels levels' was none =
-    let so = lines_so_far text in
-    let flags = flags_so_far text in
-    let lines : so ≡ lines_text (lines_of nodes) = sym (append-nil so) ∙ (ap (λ es. so ++ lines_text (lines_among es)) (sym none) ∙ was.lines) in
-    let flagged : flags ≡ has_flags (lines_of nodes) = sym (or_false flags) ∙ (ap (λ es. flags || has_flags (lines_among es)) (sym none) ∙ was.flagged) in
-    λ i. cond (flagged i) version_line [] ++ lines i
-
 -- the front of a path and its next name
 
 pub next_is_there : (xs : List (List ℕ)) (i : ℕ) → i < length xs → slice_get xs i ≡ None → ⊥
 next_is_there [] i h e = omega arith
 next_is_there (x ∷ xs) i h e = let p = slice_get-get_or (x ∷ xs) i x h in cc
-
-take_next : (xs : List (List ℕ)) (i : ℕ) (x : List ℕ) → slice_get xs i ≡ Some x → take (i + 1) xs ≡ take i xs ++ x ∷ []
-take_next xs i x e = take_more xs i x (slice_get_within xs i x e) ∙ ap (λ y. take i xs ++ y ∷ []) (get_or_from_slice_get xs i x x e)
-
-pub place_next : (path : List (List ℕ)) (i : ℕ) (name : List ℕ) → slice_get path i ≡ Some name → place_of (take (i + 1) path) ≡ place_of (take i path) ++ 47 ∷ name
-place_next path i name e =
-    ap place_of (take_next path i name e) ∙ flat_map-append (λ n. 47 ∷ n) (take i path) (name ∷ [])
-    ∙ ap (λ t. place_of (take i path) ++ t) (append-nil (47 ∷ name))
-
-pub spelling_next : (path : List (List ℕ)) (i : ℕ) (name : List ℕ) → slice_get path i ≡ Some name → spelling (flat_map (λ n. 47 ∷ n) (take (i + 1) path)) ≡ spelling (flat_map (λ n. 47 ∷ n) (take i path)) ++ spelling (47 ∷ name)
-spelling_next path i name e =
-    ap spelling (place_next path i name e) ∙ flat_map-append spelled (place_of (take i path)) (47 ∷ name)
