@@ -11,7 +11,8 @@ import tempfile
 import measure
 from goals import memory, of_peer
 
-SHELLS, EACH = 64, 1_562
+SHELLS = 64
+EACH = [156, 1_562]
 SIZES = [1_000_000, 20_000_000, 200_000_000]
 LARGE = 200_000_000
 OUTPUT = 50_000
@@ -47,12 +48,13 @@ def folder_of(scratch, text):
     measure.write(folder, "a", text)
 
 
-def beside_run():
-    """The audit of a run of some 100,000 transactions of 64 shells, beside this run, in seconds of processor."""
+def beside_run(each):
+    """The audit of a run of 64 shells with so many transactions each, beside this run, in seconds of processor."""
     with tempfile.TemporaryDirectory() as scratch:
         folder_of(scratch, "1")
-        ran, best, _ = run_and_audit(scratch, [TXN * EACH] * SHELLS, REPEATS)
-        return measure.Line("audit: entries", SHELLS * EACH, best.user, best.peak_kib, "run, processor", ran.user, f"seconds of processor; {best.seconds:.3f} s on the clock", (of_peer(2),))
+        ran, best, _ = run_and_audit(scratch, [TXN * each] * SHELLS, REPEATS)
+        goals = (of_peer(2),) if each == max(EACH) else ()
+        return measure.Line("audit: entries", SHELLS * each, best.user, best.peak_kib, "run, processor", ran.user, f"seconds of processor; {best.seconds:.3f} s on the clock", goals)
 
 
 def of_size(size):
@@ -66,6 +68,7 @@ def of_size(size):
 
 
 def lines(sizes):
-    yield beside_run()
+    for each in EACH:
+        yield beside_run(each)
     for size in sizes or SIZES:
         yield of_size(size)

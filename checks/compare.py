@@ -1,6 +1,6 @@
 """Holds the built program against the second program of the meaning, tools/lib/model.py, on random inputs.
 
-usage: compare.py PROGRAM [SEED] [COUNT]
+usage: compare.py PROGRAM [SEED] [COUNT] [COMMAND..]     every command where none is named
 
 Each case is a random folder with links and flags, a description with definitions, some scripts and a schedule: `show`, `trace`,
 `watch`, `journal`, `run` and `views` have to print, write and refuse what the model says, and `recover` from the journal and
@@ -10,7 +10,7 @@ that they print: the answers and OUT are those of the transactions run whole in 
 `run`, and of changed ones, what the model says. Of a view the number of entries is the printed one: its answers are those of
 its transaction on what so many entries leave. Some texts are broken before, so that refusals are compared too. Then four cases
 from numbers: what `gen` writes, and what `large` leaves and prints. Prints how many cases there were of each kind, and ends
-with 1 at the first difference, which it tells, and where a kind of case that it is there for has not occurred.
+with 1 at the first difference, which it tells, and, of every command, where a kind of case that it is there for has not occurred.
 """
 
 import os
@@ -29,6 +29,10 @@ from waiting import finished
 PROGRAM = os.path.abspath(sys.argv[1])
 SEED = int(sys.argv[2]) if len(sys.argv) > 2 else 1
 COUNT = int(sys.argv[3]) if len(sys.argv) > 3 else 1000
+COMMANDS = ["show", "trace", "watch", "journal", "recover", "run", "audit", "views", "gen", "large"]
+ASKED = set(sys.argv[4:] or COMMANDS)
+if unknown := ASKED.difference(COMMANDS):
+    sys.exit(f"compare.py: {', '.join(sorted(unknown))}: none of {', '.join(COMMANDS)}")
 
 NAMES = ["a", "b", "c", "a-x", "x.txt", "é"]
 TEXTS = [b"", b"a", b"b", b"1", b"7\n", b"a\nb\n", b"c\nx.txt", b"a/b", b"..", b"b\n\na\n", b"9223372036854775807", b"\xff\"\\"]
@@ -432,40 +436,72 @@ def compare(room, maker, counts):
         put(room, name, script())
     put(room, "views", maker.broken(script()) if kind == "plain" else (MEETING_LOOK * meet + script()) * r.randrange(1, 4))
     schedule = [r.randrange(len(scripts)) for _ in range(r.randrange(0, 60 if meet else 12))]
+    times = r.randrange(1, 25) if meet else 1
 
-    compare_show(room, counts)
-    compare_views(room, scripts, r.randrange(1, 25) if meet else 1, counts)
-    read = inputs(room, scripts)
-    words = ["trace", "spec", "in", "out", ",".join(map(str, schedule)) or "none", *scripts]
-    found = run(words, room)
+    if "show" in ASKED:
+        compare_show(room, counts)
+    if "views" in ASKED:
+        compare_views(room, scripts, times, counts)
+    read, turns = inputs(room, scripts), ",".join(map(str, schedule)) or "none"
     if len(read) == 2:
-        expect("trace", found, (read[0], "", read[1]))
-        expect("run", run(["run", "spec", "in", "out", *scripts], room), found)
-        expect("watch", run(["watch", *words[1:]], room), found)
-        counts[f"run refused {read[0]}"] += 1
+        compare_refused(room, scripts, read, turns, counts)
         return
+    if ASKED & {"trace", "watch", "journal", "recover"}:
+        compare_scheduled(room, scripts, read, schedule, turns, counts)
+    if ASKED & {"run", "audit"}:
+        compare_threaded(room, scripts, read, r, counts)
+
+
+def compare_refused(room, scripts, read, turns, counts):
+    """Scripts, or what is read before them, that are refused, by each command that reads them; nothing is made."""
+    between = {"trace": ["out", turns], "watch": ["out", turns], "journal": ["out", "journal", turns], "recover": ["journal", "out"], "run": ["out"], "audit": ["spec"]}
+    for command, words in between.items():
+        if command in ASKED:
+            expect(command, run([command, "spec", "in", *words, *scripts], room), (read[0], "", read[1]))
+    for name in ("out", "journal"):
+        expect(f"{name} after a refusal", os.path.exists(os.path.join(room, name)), False)
+    counts[f"run refused {read[0]}"] += 1
+
+
+def compare_scheduled(room, scripts, read, schedule, turns, counts):
+    """`trace`, `watch`, `journal` and `recover`, by a schedule, whose turns are these."""
     root, plan, store = read
+    there = lambda name: os.path.join(room, name)
     events, order, retries, last = model.trace(root, plan, store, schedule)
-    expect("trace", found, (0, "".join(e + "\n" for e in events) + model.report(order, retries), ""))
-    expect("OUT", model.saved(os.path.join(room, "out")), model.folder_of(last))
-    lines, _, _, _ = model.watch(root, plan, store, schedule)
-    found = run(["watch", *words[1:3], "watched", *words[4:]], room)
-    expect("watch", found, (0, "".join(line + "\n" for line in lines) + model.report(order, retries), ""))
-    expect("OUT of watch", model.saved(os.path.join(room, "watched")), model.folder_of(last))
-    counts["watched valid"] += lines.count("valid yes")
-    counts["watched not valid"] += lines.count("valid no")
+    report = model.report(order, retries)
+    wanted = (0, "".join(e + "\n" for e in events) + report, "")
+    if "trace" in ASKED:
+        expect("trace", run(["trace", "spec", "in", "traced", turns, *scripts], room), wanted)
+        expect("OUT of trace", model.saved(there("traced")), model.folder_of(last))
+        counts["traces"] += 1
+    if "watch" in ASKED:
+        lines, _, _, _ = model.watch(root, plan, store, schedule)
+        found = run(["watch", "spec", "in", "watched", turns, *scripts], room)
+        expect("watch", found, (0, "".join(line + "\n" for line in lines) + report, ""))
+        expect("OUT of watch", model.saved(there("watched")), model.folder_of(last))
+        counts["watched valid"] += lines.count("valid yes")
+        counts["watched not valid"] += lines.count("valid no")
+    if ASKED & {"journal", "recover"}:
+        found = run(["journal", "spec", "in", "journaled", "journal", turns, *scripts], room)
+        expect("journal", found, wanted)
+        expect("OUT of journal", model.saved(there("journaled")), model.folder_of(last))
+        expect("the journal's bytes", bytes_at(room, "journal"), model.journal_of([turn[:2] for turn in order]))
+    if "recover" in ASKED:
+        compare_recover(room, scripts, read, counts)
     for _, _, _, end in order:
         counts[re.sub(r"stopped \d+ (\d+ \w+).*", r"stopped \1", end)] += 1
     counts["conflicts"] += len(retries)
-    compare_journal(room, scripts, read, words, order, counts)
-    shutil.rmtree(os.path.join(room, "out"))
 
+
+def compare_threaded(room, scripts, read, r, counts):
+    """`run` on threads, and `audit` of its report."""
     status, printed, line = run(["run", "spec", "in", "out", *scripts], room)
     expect("run", (status, line), (0, ""))
     states, retries = compare_run("run", read, printed)
     expect("OUT of run", model.saved(os.path.join(room, "out")), model.folder_of(states[-1]))
-    for report in [printed.encode(), *changed_reports(r, printed.encode())]:
-        compare_audit(room, scripts, read, report, counts)
+    if "audit" in ASKED:
+        for report in [printed.encode(), *changed_reports(r, printed.encode())]:
+            compare_audit(room, scripts, read, report, counts)
     counts["runs"] += 1
     counts["retries of runs"] += retries
 
@@ -558,15 +594,11 @@ def changed_journals(r, journal):
     yield journal[:-1] + model.journal_of([(r.randrange(3), r.randrange(4))])
 
 
-def compare_journal(room, scripts, read, traced, order, counts):
-    """`journal` prints and leaves what `trace` does, and its journal spells the order; `recover` gives what a journal tells."""
+def compare_recover(room, scripts, read, counts):
+    """`recover` gives what the journal of a run tells, and what changed ones do."""
     root, plan, store = read
     there = lambda name: os.path.join(room, name)
-    found = run(["journal", *traced[1:3], "journaled", "journal", *traced[4:]], room)
-    expect("journal", found, run(["trace", *traced[1:3], "again", *traced[4:]], room))
-    expect("OUT of journal", model.saved(there("journaled")), model.saved(there("out")))
     journal = bytes_at(room, "journal")
-    expect("the journal's bytes", journal, model.journal_of([turn[:2] for turn in order]))
     for image in changed_journals(random.Random(len(journal) + len(store)), journal):
         shutil.rmtree(there("recovered"), ignore_errors=True)
         os.remove(there("journal"))
@@ -597,17 +629,19 @@ def compare_audit(room, scripts, read, report, counts):
 def compare_generated(room, number, counts):
     """The case of a number, as `gen` writes it, and as `large` leaves it and sums it up."""
     description, scripts, store = model.generated(number)
-    expect("gen", run(["gen", f"{number}", "case"], room), (0, "generated\n", ""))
-    texts = {"spec": description, **{f"s{k}": text for k, text in enumerate(scripts)}}
-    expect("what gen writes", sorted(os.listdir(os.path.join(room, "case"))), sorted([*texts, "in"]))
-    for name, text in texts.items():
-        with open(os.path.join(room, "case", name), encoding="ascii") as it:
-            expect(name, it.read(), text)
-    expect("the folder of gen", model.saved(os.path.join(room, "case", "in")), model.folder_of(store))
-    txns = [txn for text in scripts for txn in model.read_script(text.encode())]
-    _, last = model.whole_run(model.read_description(description.encode()), txns, store)
-    expect("large", run(["large", f"{number}", "last"], room), (0, model.summed(last, len(txns)), ""))
-    expect("the folder of large", model.saved(os.path.join(room, "last")), model.folder_of(last))
+    if "gen" in ASKED:
+        expect("gen", run(["gen", f"{number}", "case"], room), (0, "generated\n", ""))
+        texts = {"spec": description, **{f"s{k}": text for k, text in enumerate(scripts)}}
+        expect("what gen writes", sorted(os.listdir(os.path.join(room, "case"))), sorted([*texts, "in"]))
+        for name, text in texts.items():
+            with open(os.path.join(room, "case", name), encoding="ascii") as it:
+                expect(name, it.read(), text)
+        expect("the folder of gen", model.saved(os.path.join(room, "case", "in")), model.folder_of(store))
+    if "large" in ASKED:
+        txns = [txn for text in scripts for txn in model.read_script(text.encode())]
+        _, last = model.whole_run(model.read_description(description.encode()), txns, store)
+        expect("large", run(["large", f"{number}", "last"], room), (0, model.summed(last, len(txns)), ""))
+        expect("the folder of large", model.saved(os.path.join(room, "last")), model.folder_of(last))
     counts["cases from numbers"] += 1
 
 
@@ -624,7 +658,7 @@ for case in range(SEED, SEED + COUNT):
             shutil.rmtree(kept, ignore_errors=True)
             shutil.copytree(room, kept)
             sys.exit(f"case {case}, kept in {kept}: {different}")
-for number in [0, 7, 2**32 - 1, random.Random(SEED).randrange(2**32)]:
+for number in [0, 7, 2**32 - 1, random.Random(SEED).randrange(2**32)] if ASKED & {"gen", "large"} else []:
     with tempfile.TemporaryDirectory(prefix="compare-") as room:
         try:
             compare_generated(room, number, counts)
@@ -632,6 +666,6 @@ for number in [0, 7, 2**32 - 1, random.Random(SEED).randrange(2**32)]:
             sys.exit(f"the case of {number}: {different}")
 for what, n in sorted(counts.items()):
     print(f"{n:7} {what}")
-if COUNT >= 1_000 and (missing := [what for what in EXPECTED if not counts[what]]):
+if COUNT >= 1_000 and ASKED == set(COMMANDS) and (missing := [what for what in EXPECTED if not counts[what]]):
     sys.exit(f"of {COUNT} cases none had: {', '.join(missing)}")
 print(f"{COUNT:7} cases, the same in both")

@@ -338,8 +338,8 @@ fn bytes_of(node: Option<&Node>) -> &[u8] {
     }
 }
 
-/// Whether the transactions of a shell stand in the log from the first on, in turn.
-fn is_in_turn(board: &Board, shell: u32) -> bool {
+/// Whether the transactions of a shell's script stand in the log, all of them, in turn, and no other of the shell.
+fn is_whole(board: &Board, shell: u32) -> bool {
     let mut next = 0u32;
     for i in 0..board.len() {
         let Some(entry) = board.entry(i) else {
@@ -352,7 +352,7 @@ fn is_in_turn(board: &Board, shell: u32) -> bool {
             next = next.wrapping_add(1);
         }
     }
-    true
+    next == board.base().plan.count(shell)
 }
 
 /// What is wrong with what two threads have left. An empty text where nothing is.
@@ -360,8 +360,8 @@ fn fault_of(board: &Board, path: &Path, refused: bool, trial: &Trial) -> &'stati
     if board.len() != 3 {
         return "there are not three entries";
     }
-    if !is_in_turn(board, 0) || !is_in_turn(board, 1) {
-        return "the order is not legal";
+    if !is_whole(board, 0) || !is_whole(board, 1) {
+        return "the order is not legal, or lacks a transaction";
     }
     if bytes_of(board.store().get(path)) != trial.left {
         return "the file does not have what the transactions make";

@@ -34,7 +34,7 @@ const ENTRY_LIMIT: usize = 10_000;
 /// The most bytes that are told of a file.
 const FILE_LIMIT: usize = 1_048_576;
 
-/// Tells how a command ended: its status, and its line on standard error.
+/// Tells how a command ended: its status, the number of the record for which a journal is bad, and its line on standard error.
 pub(crate) fn tell_status(
     out: &mut String,
     words: &Words,
@@ -42,6 +42,9 @@ pub(crate) fn tell_status(
 ) -> Result<(), NoMemory> {
     let code = status.code();
     writeln!(out, "> status {code}")?;
+    if let Status::BadJournal { place } = status {
+        writeln!(out, "> record {place}")?;
+    }
     if let Some(line) = Message::of(words, status) {
         writeln!(out, "> said {line}")?;
     }
