@@ -95,10 +95,10 @@ module _ (j : RecoverJob) (host host' : HostView) (base : BaseTree) (order : Lis
 
 -- ---- from one stage to the next
 
-pub has_order : (j : RecoverJob) (base : BaseTree) (order : List Turn) (a b : HostView) (disk : DiskView) → ReadsOnly a b → IfSome a.told (λ t. HasBase t j.inputs base) → IfSome disk.told (λ file. Spells order file.seen) → IsLegal base order → IfSome b.told (λ t. HasOrder t j disk base order)
-has_order j base order a b disk reads begins spelled legal =
+pub has_order : (j : RecoverJob) (base : BaseTree) (order : List Turn) (a b : HostView) (disk : DiskView) → ReadsOnly a b → IfSome a.told (λ t. HasBase t j.inputs base) → IfSome a.told (λ t. IsOnlyBase t j.inputs base) → IfSome disk.told (λ file. Spells order file.seen) → IsLegal base order → IfSome b.told (λ t. HasOrder t j disk base order)
+has_order j base order a b disk reads begins only spelled legal =
     then_told (λ t. HasOrder t j disk base order) a b reads
-    (if_some_map (λ t. HasBase t j.inputs base) (λ t. HasOrder t j disk base order) a.told (λ t is. record { begins = is; spelled = spelled; legal = legal }) begins)
+    (if_some_both (λ t. HasBase t j.inputs base) (λ t. IsOnlyBase t j.inputs base) (λ t. HasOrder t j disk base order) a.told (λ t is alone. record { begins = is; only = alone; spelled = spelled; legal = legal }) begins only)
 
 pub answered : (j : RecoverJob) (base : BaseTree) (order : List Turn) (nodes : Nodes) (output : List ℕ) (there : Bool) (a b : HostView) (disk : DiskView) → ReadsOnly a b → IfSome a.told (λ t. HasOrder t j disk base order) → IfSome a.told (λ t. IsReady t j.out there) → nodes ≡ state base order (length order) → output ≡ recovered_line (length order) → IfSome b.told (λ t. IsAnswered t j disk nodes output there)
 answered j base order nodes output there a b disk reads has free last printed =

@@ -17,9 +17,10 @@ use Rattle.fx_journaling.specs.Laws.{GoesWrong}
 abbrev pub recovered_line : ℕ → List ℕ
 recovered_line count = line (codes "recovered " ++ decimal count)
 
--- the texts and the folder stand for this base, and the journal, if the disk tells it, spells this legal order of it
+-- the texts and the folder stand for this base alone, and the journal, if the disk tells it, spells this legal order of it
 pub record HasOrder (t : Tree) (j : RecoverJob) (disk : DiskView) (base : BaseTree) (order : List Turn) : Type 0 where
   pub begins : HasBase t j.inputs base
+  pub only : IsOnlyBase t j.inputs base
   pub spelled : IfSome disk.told (λ file. Spells order file.seen)
   pub legal : IsLegal base order
 

@@ -47,7 +47,7 @@ returns-clause-row g c =
     let order = turns_of c.in_ok-order.order in (
       c.in_ok-order.ensures.same,
       end_back j a b d sink sink' disk disk' (status_of c.leave.result) c.in_ok-base.ensures.same
-          (c.leave.ensures.end disk disk' (has_order j base order a b disk c.in_ok-base.ensures.same c.in_ok-base.ensures.read c.in_ok-order.ensures.read (subst (λ b. IsLegal (base_tree b) order) c.deref.ensures c.in_ok-order.ensures.legal))),
+          (c.leave.ensures.end disk disk' (has_order j base order a b disk c.in_ok-base.ensures.same c.in_ok-base.ensures.read c.in_ok-base.ensures.only c.in_ok-order.ensures.read (subst (λ b. IsLegal (base_tree b) order) c.deref.ensures c.in_ok-order.ensures.legal))),
     )
 
 pub returns-clause-fit : goal.returns-clause-fit
