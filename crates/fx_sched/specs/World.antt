@@ -1,5 +1,5 @@
 -- What a world keeps, and what one step of it says.
-use Rattle.std.specs.Prelude.{◌≡◌, ℕ, List, [], ◌∷◌, ◌++◌, map, length, replicate, slice_get, slice_set, slice_index_or, Option, Some, None, IsSome}
+use Rattle.std.specs.Prelude.{◌≡◌, ◌≤◌, ℕ, List, [], ◌∷◌, ◌++◌, map, length, replicate, slice_get, slice_set, slice_index_or, Option, Some, None, IsSome}
 use Rattle.fx_spec.specs.Plans.{Turn}
 use Rattle.fx_spec.specs.Order.{BaseTree}
 use Rattle.fx_machine.specs.declared.event.Event.{Event}
@@ -9,6 +9,7 @@ use Rattle.fx_machine.specs.Laws.{IsReached}
 use Rattle.fx_machine.specs.Machine.{Machine, Step, resting, next_number, next_txn, shell_of}
 use Rattle.fx_board.specs.Log.{Log}
 use Rattle.fx_sched.specs.declared.shell.Shell.{Shell}
+use Rattle.fx_sched.specs.Recorded.{joined}
 use Rattle.fx_sched.specs.Running.{Running}
 use Rattle.fx_sched.specs.Shells.{looks_in, looked_in, IsShell}
 
@@ -25,6 +26,17 @@ pub record IsWorld (log : Log) (shells : List Shell) : Type 0 where
   pub count : length shells ≡ length log.base.plan
   pub each : (number : ℕ) (s : Shell) → slice_get shells number ≡ Some s → IsShell log number s
   pub reached : IsReached log.base (machine_of log.order shells)
+
+-- there is room for so many retries, and no more are noted
+abbrev pub HasRoomFor : ℕ → List Shell → Type 0
+HasRoomFor count shells = length (joined (map (λ (s : Shell). s.retries) shells)) ≤ count
+
+-- how many retries a step notes
+abbrev pub conflicts_in : Option Event → ℕ
+conflicts_in None = 0
+conflicts_in (Some (event.Look k path position)) = 0
+conflicts_in (Some (event.Settled k entry)) = 0
+conflicts_in (Some (event.Conflict k entry path)) = 1
 
 -- a shell that has read nothing, before its first transaction
 abbrev pub new_shell : Shell

@@ -3,6 +3,7 @@
 
 mod moves;
 mod present;
+mod room;
 mod schedule;
 mod shell;
 mod taking;

@@ -160,7 +160,7 @@ pub fn play<T: Taker>(
 {
     let mut world = World::new(alloc, base)?;
     match take_all(alloc, &mut world, taker, schedule) {
-        Ok(()) => Ok(world.finish(alloc)?),
+        Ok(()) => Ok(world.finish()),
         Err(ended) => {
             drop(world);
             Err(ended)

@@ -1,4 +1,4 @@
-ghost use Rattle.std.specs.Prelude.{◌≡◌, ℕ, ◌<◌, true, false, IfOk, IfSome, OnErr, ◌++◌, length, map, replicate};
+ghost use Rattle.std.specs.Prelude.{◌≡◌, ℕ, ◌<◌, ◌≤◌, ◌+◌, true, false, IfOk, IfSome, OnErr, ◌++◌, length, map, replicate, vec_capacity};
 ghost use Rattle.fx_sched.specs.declared.shell.Shell.{Shell};
 ghost use Rattle.fx_sched.specs.Recorded.{joined};
 ghost use Rattle.fx_spec.specs.Bases.{base_tree};
@@ -6,24 +6,27 @@ ghost use Rattle.fx_machine.specs.Laws.{IsReached};
 ghost use Rattle.fx_machine.specs.Machine.{next_number};
 ghost use Rattle.fx_machine.specs.Measure.{measure, IsLower, has_left};
 ghost use Rattle.fx_sched.specs.Left.{SomeLeft};
-ghost use Rattle.fx_sched.specs.World.{began, Stepped, IsWorld, new_shell, machine_of, running_of};
+ghost use Rattle.fx_sched.specs.World.{began, conflicts_in, Stepped, IsWorld, HasRoomFor, new_shell, machine_of, running_of};
 
 use crate::moves::advance;
+use crate::room::Room;
 use crate::shell::Shell;
 use fx_base::NoMemory;
-use fx_board::{Board, Event, Retries};
+use fx_board::{Board, Event, Retries, Retry};
 use fx_spec::Base;
 use fx_view::Reads;
 use std::alloc::Global;
 use std::marker::Model;
 use std::sync::Arc;
 
-/// A log and what each shell of its plan has looked at since it began its next transaction. Contracts see the base and the
-/// machine's state.
+/// A log, what each shell of its plan has looked at since it began its next transaction, and room for the retries of all.
+/// Contracts see the base, the machine's state and the retries.
 #[derive(Drop)]
 pub struct World {
     board: Board,
     shells: Vec<Shell>,
+    room: Room,
+    ghost reserved: { HasRoomFor room.count shells.items },
 }
 
 impl Model for World {
@@ -47,7 +50,11 @@ impl World {
     {
         let shells = new_shells(alloc, base.plan.len())?;
         let board = Board::new(alloc, base)?;
-        Ok(World { board, shells })
+        Ok(World {
+            board,
+            shells,
+            room: Room::new(alloc),
+        })
     }
 
     /// The log.
@@ -57,14 +64,17 @@ impl World {
         &self.board
     }
 
-    /// The log, and the retries of all shells, by shell.
-    pub fn finish(self, alloc: Global) -> Result<(Board, Retries), NoMemory>
-        ensures { IfOk result (λ r. (r.0.base ≡ self.base) × (r.0.order ≡ self.machine.order)
-            × (r.1 ≡ joined self.retries)) }
+    /// The log, and the retries of all shells, by shell. It takes no memory.
+    pub fn finish(self) -> (Board, Retries)
+        ensures board { (result.0.base ≡ self.base) × (result.0.order ≡ self.machine.order) }
+        ensures retries { result.1 ≡ joined self.retries }
     {
-        let World { board, shells } = self;
-        let retries = join(alloc, shells)?;
-        Ok((board, retries))
+        let World {
+            board,
+            shells,
+            room,
+        } = self;
+        (board, join(room, shells))
     }
 
     /// The number of shells.
@@ -116,28 +126,38 @@ impl World {
             (measure self.old.base self.old.machine))) }
         ensures err { OnErr result (self.new ≡ self.old) }
     {
-        step_shell(alloc, &mut self.board, &mut self.shells, shell)
+        step_with(
+            alloc,
+            &mut self.board,
+            &mut self.shells,
+            &mut self.room,
+            shell,
+        )
     }
 }
 
-/// The retries of all shells, by shell.
-fn join(alloc: Global, shells: Vec<Shell>) -> Result<Retries, NoMemory>
-    ensures { IfOk result (λ retries. retries ≡ joined (map (λ (s : Shell). s.retries) shells.items)) }
+/// The retries of all shells, by shell, in the room that was taken for them.
+fn join(room: Room, shells: Vec<Shell>) -> Retries
+    requires { HasRoomFor room.count shells.items }
+    ensures { result ≡ joined (map (λ (s : Shell). s.retries) shells.items) }
 {
-    let mut retries = Retries::new(alloc);
+    let mut all = room.into_vec();
     for shell in shells {
-        append(&mut retries, shell.retries)?;
+        append(&mut all, shell.retries);
     }
-    Ok(retries)
+    Retries::from_vec(all)
 }
 
-fn append(retries: &mut Retries, items: Retries) -> Result<(), NoMemory>
-    ensures { IfOk result (λ _. retries.new ≡ retries.old ++ items) }
+/// Adds retries for which there is room.
+fn append(all: &mut Vec<Retry>, items: Retries)
+    requires { length all.old.items + length items ≤ vec_capacity all.old }
+    ensures items { all.new.items ≡ all.old.items ++ items }
+    ensures room { vec_capacity all.old ≤ vec_capacity all.new }
 {
-    for retry in items.into_vec() {
-        retries.push(retry)?;
+    let mut items = items.into_vec();
+    if all.append(&mut items).is_err() {
+        unreachable!();
     }
-    Ok(())
 }
 
 fn new_shells(alloc: Global, count: u32) -> Result<Vec<Shell>, NoMemory>
@@ -180,4 +200,41 @@ fn step_shell(
     }
     let event = advance(alloc, board, shell, slot)?;
     Ok(Some(event))
+}
+
+/// Counts the retry of an event that is one, for which there is room.
+fn note(room: &mut Room, event: &Option<Event>)
+    requires { room.old.count + 1 ≤ vec_capacity room.old.items }
+    ensures { room.new.count ≡ room.old.count + conflicts_in event.now }
+{
+    match event {
+        Some(Event::Conflict { .. }) => room.note(),
+        _ => {}
+    }
+}
+
+/// A step of one shell, over the parts of a world, with room for the retry that it may note.
+fn step_with(
+    alloc: Global,
+    board: &mut Board,
+    shells: &mut [Shell],
+    room: &mut Room,
+    shell: u32,
+) -> Result<Option<Event>, NoMemory>
+    requires world { IsWorld board.old shells.old }
+    requires room { HasRoomFor room.old.count shells.old }
+    requires shell { shell < length board.old.base.plan }
+    ensures world { IsWorld board.new shells.new }
+    ensures room { HasRoomFor room.new.count shells.new }
+    ensures event { IfOk result
+        (Stepped (running_of board.old shells.old) shell (running_of board.new shells.new)) }
+    ensures lower { IfOk result (λ event. IfSome event
+        (λ _. IsLower (measure board.new.base (machine_of board.new.order shells.new))
+        (measure board.old.base (machine_of board.old.order shells.old)))) }
+    ensures err { OnErr result (running_of board.new shells.new ≡ running_of board.old shells.old) }
+{
+    room.grow()?;
+    let event = step_shell(alloc, board, shells, shell)?;
+    note(room, &event);
+    Ok(event)
 }
