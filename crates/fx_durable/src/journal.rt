@@ -1,9 +1,9 @@
 //! A journal: a record of nine bytes for each commit, a gate and the numbers of a shell and of a transaction. A gate stands
 //! closed on the disk before anything is written behind it, and is opened by a write of its own.
-ghost use Rattle.std.specs.Prelude.{◌≡◌, ◌≤◌, ◌<◌, ◌⊎◌, ◌+◌, ◌∷◌, ◌++◌, [], length, is_ok, true, IfOk, OnOk, IfSome, Err};
+ghost use Rattle.std.specs.Prelude.{◌≡◌, ◌≤◌, ◌<◌, ◌⊎◌, ◌+◌, ◌∷◌, ◌++◌, [], length, is_ok, true, IfOk, OnOk, OnErr, IfSome, Err};
 ghost use Rattle.fx_base.specs.Causes.{Rose};
 ghost use Rattle.fx_base.specs.Limits.{txn_limit};
-ghost use Rattle.fx_durable.specs.Disk.{Continues, IsAsTold, TellsOther, TellsLength, HasFault};
+ghost use Rattle.fx_durable.specs.Disk.{Continues, StaysUnstarted, IsAsTold, TellsOther, TellsLength, HasFault};
 ghost use Rattle.fx_durable.specs.Journal.{payload, RestsAt, Rests, LeavesOrder, AddsTurn};
 ghost use Rattle.fx_durable.specs.declared.journal.StartFault.TheVariants.{NotEmpty, Failed};
 
@@ -62,6 +62,8 @@ impl Journal {
         ensures empty { OnOk result (TellsLength (D.view disk.old) path.now 0) }
         ensures rests { OnOk result (IfSome (D.view disk.new).told (RestsAt 0 [])) }
         ensures goes_on { Continues (D.view disk.old) (D.view disk.new) }
+        ensures unstarted { OnErr result
+            (StaysUnstarted (D.view disk.old).told (D.view disk.new).told) }
         ensures not_empty { result ≡ Err NotEmpty → IsAsTold (D.view disk.old) (D.view disk.new)
             × IfSome (D.view disk.old).told (λ file. 0 < length file.seen) }
         ensures later { (D.view disk.old).faults ≤ (D.view disk.new).faults }

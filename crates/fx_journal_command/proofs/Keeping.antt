@@ -19,7 +19,7 @@ use Rattle.fx_command.specs.declared.status.Status.TheVariants as status
 use Rattle.fx_command.proofs.Told.{some_back}
 use Rattle.fx_inputs.specs.Inputs.{HasBase}
 use Rattle.fx_words.specs.Job.{JournalJob, shells_of}
-use Rattle.fx_durable.specs.Disk.{File, DiskView, MayLeave, GoesOn, StaysTold, Continues, moment}
+use Rattle.fx_durable.specs.Disk.{Step, wrote, File, DiskView, MayLeave, GoesOn, IsUnstarted, StaysTold, StaysUnstarted, Continues, moment}
 use Rattle.fx_durable.specs.Journal.{JournalView, RestsAt}
 use Rattle.fx_durable.proofs.Moments.{goes_over, stays}
 use Rattle.fx_sched.specs.World as World
@@ -31,7 +31,7 @@ use Rattle.fx_journaling.specs.Written.{HasWritten, HasWrittenReport}
 use Rattle.fx_journaling.proofs.Ending.{begun, paused}
 use Rattle.fx_journaling.proofs.Holding.{at_present, some_and_map, if_file_map}
 use Rattle.fx_journaling.proofs.Taking.{grown_none, grown_as, grown_more}
-use Rattle.fx_journal_command.specs.Rows.{KeepsJournal, IsKept}
+use Rattle.fx_journal_command.specs.Rows.{KeepsJournal, HasNothing, IsKept}
 use Rattle.fx_journal_command.specs.Stages.{MayLeaveGate, RecordCause, FinishEnd, done, unmade, unsaved, unwritten}
 
 -- ---- before the first byte
@@ -43,16 +43,27 @@ told_untouched : (P : File → File → Type 0) → ((file : File) → P file fi
 told_untouched P each None = refl
 told_untouched P each (Some file) = each file
 
+nothing_at : (sink : SinkView) (old new : File) → IsUnstarted old new → HasNothing sink sink old new
+nothing_at sink old new unstarted = record { unstarted = unstarted; unwritten = refl }
+
 pub unbegun_keeps : (j : JournalJob) (host : HostView) (sink : SinkView) (disk : DiskView) → KeepsJournal j host sink sink disk disk
-unbegun_keeps j host sink disk = told_untouched (λ old new. GoesOn old new × ((sink.written ≡ sink.written) ⊎ IsKept j host sink sink old new)) (λ file. (goes_none file, inl refl)) disk.told
+unbegun_keeps j host sink disk =
+    told_untouched (λ old new. GoesOn old new × (HasNothing sink sink old new ⊎ IsKept j host sink sink old new)) (λ file. (goes_none file, inl (nothing_at sink file file (record { path = refl; steps = inl refl })))) disk.told
 
-told_unwritten : (P : File → File → Type 0) → ((old new : File) → GoesOn old new → P old new) → (o o' : Option File) → StaysTold o o' → IfFile P o o'
-told_unwritten P each None o' stays = stays
-told_unwritten P each (Some file) o' stays = some_and_map o' (GoesOn file) (P file) (each file) stays
+goes_unstarted : (old new : File) → IsUnstarted old new → GoesOn old new
+goes_unstarted old new unstarted = record { path = unstarted.path; steps = by unstarted.steps }
+  where
+    by : (new.steps ≡ old.steps) ⊎ (new.steps ≡ wrote 0 1 ∷ old.steps) → (later : List Step) × (new.steps ≡ later ++ old.steps)
+    by (inl same) = ([], same)
+    by (inr begun) = (wrote 0 1 ∷ [], begun)
 
-pub unstarted_keeps : (j : JournalJob) (host : HostView) (sink : SinkView) (disk disk' : DiskView) → Continues disk disk' → KeepsJournal j host sink sink disk disk'
-unstarted_keeps j host sink disk disk' continues =
-    told_unwritten (λ old new. GoesOn old new × ((sink.written ≡ sink.written) ⊎ IsKept j host sink sink old new)) (λ old new goes. (goes, inl refl)) disk.told disk'.told continues
+told_unstarted : (P : File → File → Type 0) → ((old new : File) → IsUnstarted old new → P old new) → (o o' : Option File) → StaysUnstarted o o' → IfFile P o o'
+told_unstarted P each None o' stays = stays
+told_unstarted P each (Some file) o' stays = some_and_map o' (IsUnstarted file) (P file) (each file) stays
+
+pub unstarted_keeps : (j : JournalJob) (host : HostView) (sink : SinkView) (disk disk' : DiskView) → StaysUnstarted disk.told disk'.told → KeepsJournal j host sink sink disk disk'
+unstarted_keeps j host sink disk disk' stays =
+    told_unstarted (λ old new. GoesOn old new × (HasNothing sink sink old new ⊎ IsKept j host sink sink old new)) (λ old new unstarted. (goes_unstarted old new unstarted, inl (nothing_at sink old new unstarted))) disk.told disk'.told stays
 
 -- ---- a journal that was just started
 
@@ -81,7 +92,7 @@ module _ (j : JournalJob) (base : BaseTree) (host : HostView) (sink sink' : Sink
   }
 
   abbrev pub Kept : File → File → Type 0
-  Kept old new = GoesOn old new × ((sink'.written ≡ sink.written) ⊎ IsKept j host sink sink' old new)
+  Kept old new = GoesOn old new × (HasNothing sink sink' old new ⊎ IsKept j host sink sink' old new)
 
   pub told_kept : (a b c : Option File) → StaysTold a b → IfSome b (λ file. MayLeave file.steps (0 ∷ [])) → IfFile (KeepsOrder base machine.order) b c → IfFile Kept a c
   told_kept None b c told gate keeps = subst (λ o. IfFile (KeepsOrder base machine.order) o c) told keeps
@@ -152,9 +163,9 @@ finished_keeps j base there host host' sink mid sink' disk started disk' board r
 
 pub keeps_back : (j : JournalJob) (a b : HostView) (sink sink' : SinkView) (disk disk' : DiskView) → ReadsOnly a b → KeepsJournal j b sink sink' disk disk' → KeepsJournal j a sink sink' disk disk'
 keeps_back j a b sink sink' disk disk' reads keeps =
-    if_file_map (λ old new. GoesOn old new × ((sink'.written ≡ sink.written) ⊎ IsKept j b sink sink' old new)) (λ old new. GoesOn old new × ((sink'.written ≡ sink.written) ⊎ IsKept j a sink sink' old new))
+    if_file_map (λ old new. GoesOn old new × (HasNothing sink sink' old new ⊎ IsKept j b sink sink' old new)) (λ old new. GoesOn old new × (HasNothing sink sink' old new ⊎ IsKept j a sink sink' old new))
     (λ old new is. (is.0, back old new is.1)) disk.told disk'.told keeps
   where
-    back : (old new : File) → (sink'.written ≡ sink.written) ⊎ IsKept j b sink sink' old new → (sink'.written ≡ sink.written) ⊎ IsKept j a sink sink' old new
+    back : (old new : File) → HasNothing sink sink' old new ⊎ IsKept j b sink sink' old new → HasNothing sink sink' old new ⊎ IsKept j a sink sink' old new
     back old new (inl none) = inl none
     back old new (inr kept) = inr (record { base = kept.base; begins = some_back (λ t. HasBase t j.run.inputs kept.base) a b reads kept.begins; started = kept.started; later = kept.later; gate = kept.gate; machine = kept.machine; bytes = kept.bytes; written = kept.written; printed = kept.printed; keeps = kept.keeps })

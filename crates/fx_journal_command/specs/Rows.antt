@@ -17,7 +17,7 @@ use Rattle.fx_command.specs.Left.{IsSame, Grows}
 use Rattle.fx_inputs.specs.Inputs.{HasTexts, HasInputs, HasBase, CannotRead, IsFirstRefused}
 use Rattle.fx_inputs.specs.Reads.{HasReadFault}
 use Rattle.fx_run_command.specs.Rows.{IsDone, IsProperRun, CannotSave, RunAsksFit}
-use Rattle.fx_durable.specs.Disk.{File, DiskView, LeftSince, GoesOn, IsAsTold, TellsLength, TellsOther, moment}
+use Rattle.fx_durable.specs.Disk.{File, DiskView, LeftSince, GoesOn, IsUnstarted, IsAsTold, TellsLength, TellsOther, moment}
 use Rattle.fx_journaling.specs.Kept.{IfFile, KeepsOrder}
 use Rattle.fx_journaling.specs.Written.{HasWritten, HasWrittenEvents, HasWrittenReport}
 
@@ -131,10 +131,15 @@ pub record IsKept (j : JournalJob) (host : HostView) (sink sink' : SinkView) (ol
   pub printed : IfSome sink.written (λ w. sink'.written ≡ Some (w ++ bytes))
   pub keeps : KeepsOrder base machine.order started new
 
--- where a byte was written, the journal keeps the order of what was written, whatever the status
+-- the journal was not started, and nothing is written
+pub record HasNothing (sink sink' : SinkView) (old new : File) : Type 0 where
+  pub unstarted : IsUnstarted old new
+  pub unwritten : sink'.written ≡ sink.written
+
+-- once it was started the journal keeps the order of what was written, whatever the status
 abbrev pub KeepsJournal : JournalJob → HostView → SinkView → SinkView → DiskView → DiskView → Type 0
 KeepsJournal j host sink sink' disk disk' =
-    IfFile (λ old new. GoesOn old new × ((sink'.written ≡ sink.written) ⊎ IsKept j host sink sink' old new)) disk.told disk'.told
+    IfFile (λ old new. GoesOn old new × (HasNothing sink sink' old new ⊎ IsKept j host sink sink' old new)) disk.told disk'.told
 
 -- where the paths are fit, no call is made at an unfit path of the host
 abbrev pub JournalAsksFit : JournalJob → HostView → HostView → Type 0

@@ -1,5 +1,5 @@
 //! The command `journal`, stage by stage.
-ghost use Rattle.std.specs.Prelude.{◌≤◌, IfOk, IfErr, IfSome};
+ghost use Rattle.std.specs.Prelude.{◌≤◌, IfOk, IfErr, OnErr, IfSome};
 ghost use Rattle.fx_outside.specs.Host.{AsksFit};
 ghost use Rattle.fx_folder.specs.Folder.{IsReady};
 ghost use Rattle.fx_spec.specs.Bases.{base_tree};
@@ -8,7 +8,7 @@ ghost use Rattle.fx_words.specs.Job.{shells_of};
 ghost use Rattle.fx_words.specs.JobOf.{asked, asked_journal, IsJob, IsJournalJob};
 ghost use Rattle.fx_command.specs.StatusOf.{status_of};
 ghost use Rattle.fx_inputs.specs.Inputs.{HasBase, HasEachScript};
-ghost use Rattle.fx_durable.specs.Disk.{Continues, TellsLength};
+ghost use Rattle.fx_durable.specs.Disk.{Continues, StaysUnstarted, TellsLength};
 ghost use Rattle.fx_journaling.specs.Recorded.{IsStarted, EndsRecorded};
 ghost use Rattle.fx_journal_command.specs.Rows.{JournalRow, JournalAsksFit, KeepsJournal};
 ghost use Rattle.fx_journal_command.specs.Stages.{MayLeaveGate, StartCause, RecordCause, FinishEnd, run_report};
@@ -32,7 +32,9 @@ fn start<D: Disk>(path: &HostText, disk: &mut D) -> Result<Journal, Status>
     ensures gate { IfOk result (λ _. MayLeaveGate (D.view disk.new)) }
     ensures goes_on { Continues (D.view disk.old) (D.view disk.new) }
     ensures later { (D.view disk.old).faults ≤ (D.view disk.new).faults }
-    ensures unstarted { IfErr result (StartCause path.now (D.view disk.old) (D.view disk.new)) }
+    ensures cause { IfErr result (StartCause path.now (D.view disk.old) (D.view disk.new)) }
+    ensures unstarted { OnErr result
+        (StaysUnstarted (D.view disk.old).told (D.view disk.new).told) }
 {
     match Journal::start(disk, path) {
         Ok(journal) => Ok(journal),

@@ -5,7 +5,7 @@ use Rattle.fx_command.specs.StatusOf.{status_of}
 use Rattle.fx_base.proofs.Errors.{err_of}
 use Rattle.fx_journal_command.specs.Rows.{JournalRow}
 use Rattle.fx_journal_command.proofs.Ending.{not_started, not_recorded, finished}
-use Rattle.fx_journal_command.proofs.Keeping.{broken_keeps, finished_keeps}
+use Rattle.fx_journal_command.proofs.Keeping.{unstarted_keeps, broken_keeps, finished_keeps}
 use Rattle.fx_journal_command.proofs.command.keep.Goals as goal
 
 pub returns-in_err-journal-clause-row : goal.returns-in_err-journal-clause-row
@@ -18,7 +18,11 @@ returns-in_err-journal-clause-row g c =
     let st = c.in_err-journal.field-0.0 in
     let is = err_of c.from_residual.result st c.from_residual.ensures.1 in
     subst (λ r. JournalRow j host host sink sink disk started (status_of r)) (sym is)
-    (not_started j (base_tree c.args.base.value) c.args.there host sink disk started st c.requires.begins c.requires.free c.in_err-journal.ensures.unstarted)
+    (not_started j (base_tree c.args.base.value) c.args.there host sink disk started st c.requires.begins c.requires.free c.in_err-journal.ensures.cause)
+
+pub returns-in_err-journal-clause-keeps : goal.returns-in_err-journal-clause-keeps
+returns-in_err-journal-clause-keeps g c =
+    unstarted_keeps (asked_journal c.args.job.now) (g.H.Host.view c.args.host.now) (g.S.Sink.view c.args.out.now) (g.D.Disk.view c.args.disk.now) (g.D.Disk.view c.start.new.disk) c.in_err-journal.ensures.unstarted
 
 pub returns-in_err-recorded-clause-row : goal.returns-in_err-recorded-clause-row
 returns-in_err-recorded-clause-row g c =

@@ -2,8 +2,8 @@ use Rattle.std.proofs.Common.{Err, ap}
 use Rattle.fx_journal_command.specs.Stages.{holds, fails}
 use Rattle.fx_journal_command.proofs.command.start.Goals as goal
 
-pub returns-in-Err-NotEmpty-clause-unstarted : goal.returns-in-Err-NotEmpty-clause-unstarted
-returns-in-Err-NotEmpty-clause-unstarted g c = let full = c.in-Err-NotEmpty.ensures.not_empty (ap (λ e. Err e) c.in-Err-NotEmpty.field-0-is) in holds full.0 full.1
+pub returns-in-Err-NotEmpty-clause-cause : goal.returns-in-Err-NotEmpty-clause-cause
+returns-in-Err-NotEmpty-clause-cause g c = let full = c.in-Err-NotEmpty.ensures.not_empty (ap (λ e. Err e) c.in-Err-NotEmpty.field-0-is) in holds full.0 full.1
 
-pub returns-in-Err-Failed-clause-unstarted : goal.returns-in-Err-Failed-clause-unstarted
-returns-in-Err-Failed-clause-unstarted g c = fails (c.in-Err-Failed.ensures.failed (ap (λ e. Err e) c.in-Err-Failed.field-0-is))
+pub returns-in-Err-Failed-clause-cause : goal.returns-in-Err-Failed-clause-cause
+returns-in-Err-Failed-clause-cause g c = fails (c.in-Err-Failed.ensures.failed (ap (λ e. Err e) c.in-Err-Failed.field-0-is))
