@@ -2,7 +2,8 @@
 use Rattle.std.proofs.Common.{◌≡◌, ◌⊎◌, inl, inr, ℕ, Bool, false, ◌≤◌, List, ◌++◌, length, take, Option, Some, None, refl, sym, subst, arith}
 use Rattle.std.specs.Prelude.{IfSome}
 use Rattle.fx_base.specs.Causes.{Rose}
-use Rattle.fx_store.specs.Whole.{Nodes}
+use Rattle.std.specs.FinMap.{get}
+use Rattle.fx_store.specs.Whole.{Nodes, IsWhole}
 use Rattle.fx_outside.specs.Host.{HostView, ReadsOnly, FaultIn, HasFailed}
 use Rattle.fx_outside.specs.Path.{parts, is_fit}
 use Rattle.fx_outside.specs.Sink.{SinkView}
@@ -32,6 +33,7 @@ use Rattle.fx_journaling.specs.declared.fault.RecordFault.{RecordFault}
 use Rattle.fx_journaling.specs.declared.fault.RecordFault.TheVariants as fault
 use Rattle.fx_journaling.specs.Recorded.{HasRecorded, HasBrokenOff}
 use Rattle.fx_journaling.specs.Taken.{HasGrown}
+use Rattle.fx_journaling.proofs.Fronts.{written_is_front}
 use Rattle.fx_journaling.proofs.Taking.{grown_as, grown_more}
 use Rattle.fx_journal_command.specs.Rows.{HasWrittenAll, IsLeft, IsLeftOrWhole, CannotLeave, CannotStart, HasEmptyJournal, IsUnbegun, IsBrokenOff, JournalRow}
 use Rattle.fx_journal_command.specs.Stages.{StartCause, holds, fails, status_in, RecordCause, FinishEnd, done, unmade, unsaved, unwritten}
@@ -97,12 +99,12 @@ not_started j base there host sink disk disk' st begins free (fails cause) = inl
 
 -- ---- a run that ends before its end
 
-module _ (j : JournalJob) (base : BaseTree) (there : Bool) (host : HostView) (sink sink' : SinkView) (disk mid disk' : DiskView) (begins : IfSome host.told (λ t. HasBase t j.run.inputs base)) (free : IfSome host.told (λ t. IsReady t j.run.out there)) (empty : HasEmptyJournal j disk) (later : disk.faults ≤ mid.faults) where
+module _ (j : JournalJob) (base : BaseTree) (whole : IsWhole (get base.loaded)) (there : Bool) (host : HostView) (sink sink' : SinkView) (disk mid disk' : DiskView) (begins : IfSome host.told (λ t. HasBase t j.run.inputs base)) (free : IfSome host.told (λ t. IsReady t j.run.out there)) (empty : HasEmptyJournal j disk) (later : disk.faults ≤ mid.faults) where
   stopped : (stop : RecordFault) → HasBrokenOff base (shells_of j.run) mid disk' sink sink' stop → IfTold host.told host.told (IsLeft j.run sink.written sink'.written)
   stopped stop broken =
       if_told_same (IsLeft j.run sink.written sink'.written) host.told host.told refl
       (if_some_both (λ t. HasBase t j.run.inputs base) (λ t. IsReady t j.run.out there) (λ t. IsLeft j.run sink.written sink'.written t t) host.told
-      (λ t is free. inl (record { base = base; there = there; begins = is; free = free; machine = broken.machine; bytes = broken.bytes; events = broken.written; written = broken.printed; same = refl })) begins free)
+      (λ t is free. inl (record { base = base; there = there; begins = is; free = free; machine = broken.machine; bytes = broken.bytes; events = broken.written; front = written_is_front base (shells_of j.run) broken.machine broken.bytes whole (inl broken.written); written = broken.printed; same = refl })) begins free)
 
   left : (stop : RecordFault) → HasBrokenOff base (shells_of j.run) mid disk' sink sink' stop → IfTold host.told host.told (IsLeftOrWhole j.run sink.written sink'.written)
   left stop broken = part_at_most j.run sink sink' host.told host.told (stopped stop broken)

@@ -19,9 +19,9 @@ use Rattle.fx_inputs.specs.Reads.{HasReadFault}
 use Rattle.fx_run_command.specs.Rows.{IsDone, IsProperRun, CannotSave, RunAsksFit}
 use Rattle.fx_durable.specs.Disk.{File, DiskView, LeftSince, GoesOn, IsUnstarted, IsAsTold, TellsLength, TellsOther, moment}
 use Rattle.fx_journaling.specs.Kept.{IfFile, KeepsOrder}
-use Rattle.fx_journaling.specs.Written.{HasWritten, HasWrittenEvents, HasWrittenReport}
+use Rattle.fx_journaling.specs.Written.{HasWritten, HasWrittenEvents, HasWrittenReport, IsFrontOfOutput}
 
--- some of a run's events are written, and OUT is as before
+-- some of a run's events are written, which is a front of the output of a whole run, and OUT is as before
 pub record IsStopped (t t' : Tree) (j : RunJob) (before after : Option (List ℕ)) : Type 0 where
   pub base : BaseTree
   pub there : Bool
@@ -30,6 +30,7 @@ pub record IsStopped (t t' : Tree) (j : RunJob) (before after : Option (List ℕ
   pub machine : Machine
   pub bytes : List ℕ
   pub events : HasWrittenEvents base (shells_of j) machine bytes
+  pub front : IsFrontOfOutput base (shells_of j) bytes
   pub written : IfSome before (λ w. after ≡ Some (w ++ bytes))
   pub same : t' ≡ t
 

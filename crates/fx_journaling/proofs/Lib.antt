@@ -3,3 +3,4 @@ pub mod Appending
 pub mod Taking
 pub mod Ending
 pub mod Legal
+pub mod Fronts

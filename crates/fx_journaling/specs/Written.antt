@@ -42,3 +42,13 @@ pub record HasWrittenReport (base : BaseTree) (schedule : List ℕ) (m : Machine
 
 abbrev pub HasWritten : BaseTree → List ℕ → Machine → List ℕ → Type 0
 HasWritten base schedule m bytes = HasWrittenEvents base schedule m bytes ⊎ HasWrittenReport base schedule m bytes
+
+-- the bytes are a front of the output of a whole run by the schedule: the lines of all its events, and then its report
+pub record IsFrontOfOutput (base : BaseTree) (schedule : List ℕ) (bytes : List ℕ) : Type 0 where
+  pub events : List Event
+  pub order : List Turn
+  pub run : Run base (resting base []) events (resting base order)
+  pub complete : IsComplete base order
+  pub turns : FollowsSchedule base schedule events
+  pub rest : List ℕ
+  pub output : bytes ++ rest ≡ lines events ++ report base order (retries_of base events)

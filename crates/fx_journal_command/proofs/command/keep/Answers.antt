@@ -36,7 +36,7 @@ returns-in_err-recorded-clause-row g c =
     let st = c.in_err-recorded.field-0.0 in
     let is = err_of c.from_residual-in_err-recorded.result st c.from_residual-in_err-recorded.ensures.1 in
     subst (λ r. JournalRow j host host sink sink' disk disk' (status_of r)) (sym is)
-    (not_recorded j (base_tree c.args.base.value) c.args.there host sink sink' disk started disk' c.requires.begins c.requires.free c.in_ok-journal.ensures.empty c.in_ok-journal.ensures.later st c.in_err-recorded.ensures.broken)
+    (not_recorded j (base_tree c.args.base.value) WHOLE c.args.there host sink sink' disk started disk' c.requires.begins c.requires.free c.in_ok-journal.ensures.empty c.in_ok-journal.ensures.later st c.in_err-recorded.ensures.broken)
 
 pub returns-in_err-recorded-clause-keeps : goal.returns-in_err-recorded-clause-keeps
 returns-in_err-recorded-clause-keeps g c =
