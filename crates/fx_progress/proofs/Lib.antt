@@ -1,2 +1,4 @@
 pub mod Asking
 pub mod Resolving
+pub mod EditedNodes
+pub mod Edited
