@@ -1,3 +1,5 @@
 pub mod Asking
 pub mod Resolving
 pub mod Valued
+pub mod EditedNodes
+pub mod Edited
