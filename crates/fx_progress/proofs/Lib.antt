@@ -3,3 +3,4 @@ pub mod Resolving
 pub mod Valued
 pub mod EditedNodes
 pub mod Edited
+pub mod Tasked
