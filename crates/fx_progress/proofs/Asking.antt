@@ -1,13 +1,11 @@
 -- How rules that ask paths alone are put together.
-use Rattle.std.specs.Prelude.{ℕ, List, [], ◌∷◌, Option}
-use Rattle.fx_store.specs.declared.node.Node.{Node}
+use Rattle.std.specs.Prelude.{All}
 use Rattle.fx_store.specs.declared.node.Landing.{Landing}
 use Rattle.fx_store.specs.declared.node.Landing.TheVariants.{At, Absent, Blocked, TooManyLinks}
 use Rattle.fx_store.specs.Names.{IsName, IsPath}
-use Rattle.fx_store.specs.Rule.{Ask, Answer, Look, Tick, look_all, ◌>>=◌}
-use Rattle.std.specs.Prelude.{All}
+use Rattle.fx_store.specs.Rule.{Ask, Answer, Look, Tick, ◌>>=◌}
 use Rattle.fx_spec.specs.Task.{Task, Ends, Looks, Sets, asking, ◌>=>◌}
-use Rattle.fx_progress.specs.Asks.{MayStand, AsksPaths, MaySet, TaskAsksPaths}
+use Rattle.fx_progress.specs.Asks.{AsksPaths, TaskAsksPaths}
 
 -- a rule, and then the one that goes on with its answer
 pub asks_then : {A B : Type 0} (P : A → Type 0) (Q : B → Type 0) (rule : Ask A) (f : A → Ask B) → AsksPaths P rule → ((a : A) → P a → AsksPaths Q (f a)) → AsksPaths Q (rule >>= f)
@@ -28,7 +26,7 @@ task_then P Q (Looks p task) f is next = (is.0, λ found may. task_then P Q (tas
 task_then P Q (Sets changes task) f is next = (is.0, task_then P Q task f is.1 next)
 
 -- where a path lands, as the rules of landing have it: at a path, or at the missing names below one
-pub IsLanding : Landing → Type 0
+abbrev pub IsLanding : Landing → Type 0
 IsLanding (At q) = IsPath q
 IsLanding (Absent here names) = IsPath here × All IsName names
 IsLanding (Blocked q) = Unit {0}
