@@ -1,6 +1,7 @@
 //! Laws of progress: a transaction looks at paths alone, a run goes on from every state that it reaches, and it comes to its
 //! end whatever turns are left. Each law stands on a function that does nothing, so that it is proved with the crate.
 #![tactic(auto)]
+
 ghost use Rattle.fx_progress.specs.Asks.{LooksAtPaths};
 ghost use Rattle.fx_progress.specs.Ends.{GoesOn, ComesToEnd};
 
