@@ -5,3 +5,6 @@ pub mod EditedNodes
 pub mod Edited
 pub mod Tasked
 pub mod Going
+pub mod Turning
+pub mod Resting
+pub mod Ending
