@@ -1,0 +1,10 @@
+pub mod Asking
+pub mod Resolving
+pub mod Valued
+pub mod EditedNodes
+pub mod Edited
+pub mod Tasked
+pub mod Going
+pub mod Turning
+pub mod Resting
+pub mod Ending
