@@ -37,6 +37,7 @@ pub trait Logged: Kept<Origin = Ground, Item = (u32, u32)> {
         requires explained { IsExplained (log self.old).base attempt }
         requires next { attempt.txn ≡ next_number (log self.old).order attempt.shell }
         requires reads { AreTrueReads (log self.old).base (log self.old).order attempt.reads }
+        ensures reads { IfOk result (λ s. s.reads ≡ attempt.reads) }
         ensures entry { IfOk result (λ s. s.entry ≡ length (log self.old).order) }
         ensures settled { OnOk result
             (log self.new ≡ settled (log self.old) attempt.shell attempt.txn) }

@@ -113,6 +113,7 @@ impl Versioned {
         requires explained { IsExplained self.old.base attempt }
         requires next { attempt.txn ≡ next_number self.old.order attempt.shell }
         requires reads { AreTrueReads self.old.base self.old.order attempt.reads }
+        ensures reads { IfOk result (λ s. s.reads ≡ attempt.reads) }
         ensures entry { IfOk result (λ s. s.entry ≡ length self.old.order) }
         ensures settled { OnOk result (self.new ≡ settled self.old attempt.shell attempt.txn) }
         ensures fresh { OnOk result (IsFreshReads self.old.base self.old.order attempt.reads) }

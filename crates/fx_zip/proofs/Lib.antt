@@ -16,3 +16,4 @@ pub mod Around
 pub mod Questions
 pub mod Worked
 pub mod Lasting
+pub mod Dropping

@@ -137,3 +137,11 @@ around_frame a fs env = around_last (drop (length a - length fs) a) (last_caller
 -- without the last frame
 abbrev pub shorter : ZipTree → ZipTree
 shorter z = record { root = z.root; address = z.address; frames = drop 1 z.frames; env = around_frame z.address z.frames z.env; set = None }
+
+-- without the frames from the first on whose place is told by more reads: these are the frames
+abbrev pub told_of : ℕ → List Frame → ZipTree → ZipTree
+told_of n [] z = z
+told_of n (f ∷ fs) z = cond (are_told n (f ∷ fs)) z (told_of n fs (shorter z))
+
+abbrev pub told_by : ℕ → ZipTree → ZipTree
+told_by n z = told_of n z.frames z

@@ -6,7 +6,7 @@ ghost use Rattle.fx_spec.specs.WellShaped.{AreDefined, IsDescription};
 ghost use Rattle.fx_walk.specs.Places.{place_tree};
 ghost use Rattle.fx_view.specs.Own.{SameOver};
 ghost use Rattle.fx_view.specs.ReadList.{ReadList};
-ghost use Rattle.fx_zip.specs.Fresh.{around, around_last, left, unframed, unkept, last_step, last_set, last_caller, is_element, shorter, are_told};
+ghost use Rattle.fx_zip.specs.Fresh.{around, around_last, left, unframed, unkept, last_step, last_set, last_caller, is_element, shorter, are_told, told_by};
 ghost use Rattle.fx_zip.specs.Parts as parts;
 ghost use Rattle.fx_zip.specs.Spots.{entered, kept_too, grown, caller_in};
 ghost use Rattle.fx_zip.specs.Steps.{step_tree, turned};
@@ -104,6 +104,7 @@ impl Zip {
     /// After own changes at none of the paths of the first reads, so many: forgets the frames from the first on whose place
     /// more reads tell. It takes no memory.
     pub fn edited(&mut self, untouched: u64)
+        ensures kept { self.new ≡ told_by untouched self.old }
         ensures root { self.new.root ≡ self.old.root }
         ensures address { self.new.address ≡ self.old.address }
         ensures fresh { (reads : ReadList) (own now : Known) → SameOver (take untouched reads) own

@@ -1,18 +1,20 @@
 use Rattle.std.proofs.Common.{◌<◌, length, refl, sym, ap, ◌∙◌, subst}
-use Rattle.fx_zip.specs.Fresh.{IsFresh}
+use Rattle.fx_zip.specs.Fresh.{IsFresh, told_by}
 use Rattle.fx_zip.specs.Trees.{ZipTree}
+use Rattle.fx_zip.proofs.Dropping.{untold_dropped, told_stays}
 use Rattle.fx_zip.proofs.Lasting.{fresh_lasts, fresh_shorter, some_frame}
 use Rattle.fx_zip.proofs.zip.Zip.edited.Goals as goal
 
 pub dropping-init : goal.dropping-init
-dropping-init c = (refl, refl, λ reads own h. h)
+dropping-init c = record { kept = refl; root = refl; address = refl; fresh = λ reads own h. h }
 
 pub dropping-preserved : goal.dropping-preserved
-dropping-preserved c = (
-  ap (λ (z : ZipTree). z.root) c.shorten.ensures ∙ c.dropping.invariant.0,
-  ap (λ (z : ZipTree). z.address) c.shorten.ensures ∙ c.dropping.invariant.1,
-  λ reads own h. subst (IsFresh reads own) (sym c.shorten.ensures) (fresh_shorter reads own c.dropping.self (c.dropping.invariant.2 reads own h)),
-)
+dropping-preserved c = record {
+  kept = ap (told_by c.args.untouched) c.shorten.ensures ∙ sym (untold_dropped c.args.untouched c.dropping.self (sym c.is_told.ensures ∙ c.dropping-test.true)) ∙ c.dropping.invariant.kept;
+  root = ap (λ (z : ZipTree). z.root) c.shorten.ensures ∙ c.dropping.invariant.root;
+  address = ap (λ (z : ZipTree). z.address) c.shorten.ensures ∙ c.dropping.invariant.address;
+  fresh = λ reads own h. subst (IsFresh reads own) (sym c.shorten.ensures) (fresh_shorter reads own c.dropping.self (c.dropping.invariant.fresh reads own h));
+}
 
 pub dropping-smaller : goal.dropping-smaller
 dropping-smaller c =
@@ -20,7 +22,8 @@ dropping-smaller c =
 
 pub returns : goal.returns
 returns c = record {
-  root = c.dropping.invariant.0;
-  address = c.dropping.invariant.1;
-  fresh = λ reads own now same h. fresh_lasts c.args.untouched reads own now c.dropping.self same (sym c.is_told.ensures ∙ c.dropping-test.false) (c.dropping.invariant.2 reads own h);
+  kept = sym (told_stays c.args.untouched c.dropping.self (sym c.is_told.ensures ∙ c.dropping-test.false)) ∙ c.dropping.invariant.kept;
+  root = c.dropping.invariant.root;
+  address = c.dropping.invariant.address;
+  fresh = λ reads own now same h. fresh_lasts c.args.untouched reads own now c.dropping.self same (sym c.is_told.ensures ∙ c.dropping-test.false) (c.dropping.invariant.fresh reads own h);
 }
