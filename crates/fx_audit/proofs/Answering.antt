@@ -37,16 +37,6 @@ told_is log i e told is stands =
     let same : turn_of e ≡ turn_told told = same_Some (turn_of e) (turn_told told) (sym is.turn ∙ stands) in
     entry_is log.base log.order i (turn_told told) is.txn e.outputs e.end (ap (txn_of log.base.plan) (sym same) ∙ is.planned) is.outputs is.end
 
--- told outputs and a told end that are the entry's, and no others
-pub tells_yes : (log : Log) (i : ℕ) (e : Entry) (told : PrintedEntry) → IsEntry log i e → slice_get log.order i ≡ Some (turn_told told) → e.outputs ≡ told.outputs → e.end ≡ told.end → told ≡ entry log.base log.order i (turn_told told)
-tells_yes log i e told is stands printed ended = sym (told_is log i e told is stands ∙ same_entry told.shell told.txn e.outputs told.outputs e.end told.end printed ended)
-
-pub tells_outputs : (log : Log) (i : ℕ) (e : Entry) (told : PrintedEntry) → IsEntry log i e → slice_get log.order i ≡ Some (turn_told told) → told ≡ entry log.base log.order i (turn_told told) → e.outputs ≡ told.outputs
-tells_outputs log i e told is stands same = sym (ap (λ (x : PrintedEntry). x.outputs) (same ∙ told_is log i e told is stands))
-
-pub tells_end : (log : Log) (i : ℕ) (e : Entry) (told : PrintedEntry) → IsEntry log i e → slice_get log.order i ≡ Some (turn_told told) → told ≡ entry log.base log.order i (turn_told told) → e.end ≡ told.end
-tells_end log i e told is stands same = sym (ap (λ (x : PrintedEntry). x.end) (same ∙ told_is log i e told is stands))
-
 -- an entry of an order is that of each order that begins so
 pub entry_front : (base : BaseTree) (o more : List Turn) (i : ℕ) (turn : Turn) → i ≤ length o → entry base (o ++ more) i turn ≡ entry base o i turn
 entry_front base o more i turn h =

@@ -1,35 +1,21 @@
 -- The table of places, one entry more, and what it says of an order.
-use Rattle.std.proofs.Common.{◌≡◌, ◌⊎◌, inl, inr, ℕ, suc, ◌+◌, ◌<◌, ◌≤◌, Bool, true, false, cond, nat_eq, List, [], ◌∷◌, ◌++◌, length, get_or, set, replicate, slice_get, Some, refl, sym, ap, subst, ◌∙◌, arith, length-append, eq-eqb}
+use Rattle.std.proofs.Common.{◌≡◌, ◌⊎◌, inl, inr, ℕ, suc, ◌+◌, ◌<◌, ◌≤◌, Bool, true, false, cond, nat_eq, List, [], ◌∷◌, ◌++◌, length, get_or, set, slice_get, Some, refl, sym, ap, subst, ◌∙◌, arith, length-append, eq-eqb}
 use Rattle.std.specs.List.{Contains}
 use Rattle.std.proofs.lemmas.Bool.{cases_lt, eqb-true, eqb-false}
-use Rattle.std.proofs.lemmas.List.{get_or-set_same, get_or-set_other, length-set, length-replicate}
-use Rattle.std.proofs.lemmas.Option.{none-some, slice_get_within, slice_get-get_or}
+use Rattle.std.proofs.lemmas.List.{get_or-set_same, get_or-set_other, length-set}
+use Rattle.std.proofs.lemmas.Option.{slice_get_within, slice_get-get_or}
 use Rattle.fx_spec.specs.Plans.{Turn, count_of}
 use Rattle.fx_spec.specs.Order.{BaseTree, IsComplete, IsLegal}
-use Rattle.fx_spec.proofs.Orders.{legal_none, legal-next}
+use Rattle.fx_spec.proofs.Orders.{legal-next}
 use Rattle.fx_machine.specs.Machine.{next_number}
 use Rattle.fx_machine.proofs.Complete.{next_after}
 use Rattle.fx_machine.proofs.Reached.{shell_within}
 use Rattle.fx_replay_log.specs.Legal.{IsNextIn}
 use Rattle.fx_audit.specs.Places.{AddsNext, ArePlaces, AreShellPlaces, places_of}
 use Rattle.fx_audit.specs.Verdicts.{IsFirstMissing}
-use Rattle.fx_audit.proofs.Lists.{at_middle, from_place, get_before, get_front, last_is, none_there, place_of}
+use Rattle.fx_audit.proofs.Lists.{at_middle, from_place, get_before, get_front, last_is, place_of}
 
 -- ---- no entries
-
-no_shell_places : (shell : ℕ) (places : List ℕ) → places ≡ [] → AreShellPlaces [] shell places
-no_shell_places shell places none = subst (AreShellPlaces [] shell) (sym none) (record {
-  count = refl;
-  stand = λ txn place e. absurd (none-some place e);
-  all = λ txn place e. absurd (none-some (shell, txn) e);
-})
-
-pub no_places_yet : (base : BaseTree) (n : ℕ) (table : List (List ℕ)) → n ≡ length base.plan → table ≡ replicate n [] → ArePlaces base [] table
-no_places_yet base n table all is = record {
-  shells = ap length is ∙ (length-replicate n [] ∙ all);
-  legal = legal_none base;
-  each = λ shell. no_shell_places shell (places_of table shell) (ap (λ (t : List (List ℕ)). get_or t shell []) is ∙ none_there n shell);
-}
 
 -- ---- one entry more
 

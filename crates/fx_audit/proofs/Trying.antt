@@ -4,7 +4,7 @@ use Rattle.std.specs.Prelude.{IsTrue}
 use Rattle.std.specs.List.{All, Contains}
 use Rattle.std.proofs.lemmas.List.{map-append}
 use Rattle.std.proofs.lemmas.List.Elements.{All-nil, All-cons, All-head, All-tail, All-append}
-use Rattle.std.proofs.lemmas.Option.{same_Some, none-some, slice_get_within}
+use Rattle.std.proofs.lemmas.Option.{slice_get_within}
 use Rattle.std.proofs.lemmas.Cmp.{eq_by_cmp_equiv}
 use Rattle.std.proofs.lemmas.Map.Views.{list_any-from_Contains, Contains-from_any}
 use Rattle.fx_store.specs.Names.{has_path}
@@ -16,36 +16,11 @@ use Rattle.fx_machine.specs.declared.retry.Retry.{Retry}
 use Rattle.fx_machine.specs.Tried.{retry_tree}
 use Rattle.fx_board.specs.Board.{IsEntry}
 use Rattle.fx_board.specs.Log.{Log}
-use Rattle.fx_audit.specs.Places.{ArePlaces, places_of}
 use Rattle.fx_audit.specs.Retries.{IsCause, IsNextRetry, MayFollow}
 use Rattle.fx_audit.specs.Verdicts.{IsFirstUntrue}
 use Rattle.fx_audit.proofs.Lists.{split, take_more}
 
 -- ---- one retry
-
-pub retry_yes : (base : BaseTree) (o : List Turn) (table : List (List ℕ)) (r : RetryTree) (place : ℕ) → ArePlaces base o table → slice_get (places_of table r.shell) r.txn ≡ Some place → r.entry < place → IsCause base o r → IsRetry base o r
-retry_yes base o table r place are at before cause = record {
-  place = place;
-  stands = (are.each r.shell).stand r.txn place at;
-  before = before;
-  other = cause.other;
-  changed = cause.changed;
-}
-
-pub retry_place : (base : BaseTree) (o : List Turn) (table : List (List ℕ)) (r : RetryTree) → ArePlaces base o table → (is : IsRetry base o r) → slice_get (places_of table r.shell) r.txn ≡ Some is.place
-retry_place base o table r are is = (are.each r.shell).all r.txn is.place is.stands
-
-pub retry_before : (base : BaseTree) (o : List Turn) (table : List (List ℕ)) (r : RetryTree) (place : ℕ) → ArePlaces base o table → slice_get (places_of table r.shell) r.txn ≡ Some place → IsRetry base o r → r.entry < place
-retry_before base o table r place are at is =
-    let same : is.place ≡ place = same_Some is.place place (sym (retry_place base o table r are is) ∙ at) in
-    let before = is.before in
-    omega (arith, same, before)
-
-pub retry_cause : (base : BaseTree) (o : List Turn) (r : RetryTree) → IsRetry base o r → IsCause base o r
-retry_cause base o r is = record { other = is.other; changed = is.changed }
-
-pub retry_unplaced : (base : BaseTree) (o : List Turn) (table : List (List ℕ)) (r : RetryTree) → ArePlaces base o table → slice_get (places_of table r.shell) r.txn ≡ None → IsRetry base o r → ⊥
-retry_unplaced base o table r are none is = none-some is.place (sym none ∙ retry_place base o table r are is)
 
 -- ---- their order
 

@@ -72,10 +72,6 @@ report_large j host host' text reads inputs read large sink = (
     longer : (n m : ℕ) → REPORT_LIMIT < n → n ≤ m → REPORT_LIMIT < m
     longer n m h k = omega (arith, h, k)
 
-pub report_read : (j : AuditJob) (host : HostView) (text : List ℕ) → IfSome host.told (λ t. IsReadAt t j.report REPORT_LIMIT text) → length text ≤ REPORT_LIMIT → IfSome host.told (λ t. HasReport t j text)
-report_read j host text read short =
-    if_some_map (λ t. IsReadAt t j.report REPORT_LIMIT text) (λ t. HasReport t j text) host.told (λ t read. record { file = read.file; whole = read.whole short; short = short }) read
-
 -- ---- from one stage to the next
 
 pub has_inputs : (j : AuditJob) (base : BaseTree) (host : HostView) → IfSome host.told (λ t. HasBase t j.inputs base) → IfSome host.told (λ t. HasInputs t j.inputs)

@@ -20,7 +20,7 @@ use Rattle.fx_check.specs.declared.fault.CheckFault.{CheckFault}
 use Rattle.fx_check.specs.declared.fault.CheckFault.TheVariants as check
 use Rattle.fx_check.specs.Gives.{Gives, IsFault}
 use Rattle.fx_check.specs.Faults.{Fault, OrFault, ◌>>=◌}
-use Rattle.fx_check.specs.Shaped.{needed, allowed, is_comparable, is_ordered, is_sized, is_pair, is_table, is_option, first_part, second_needed, result_shape, two_shape, one_shape, followed_by, first_of, second_of, keys_of, present_of, named, shaped}
+use Rattle.fx_check.specs.Shaped.{needed, allowed, is_comparable, is_ordered, is_sized, is_table, first_part, second_needed, result_shape, two_shape, one_shape, followed_by, first_of, second_of, keys_of, present_of, named, shaped}
 use Rattle.fx_check.specs.Checked.{unless_bound, with_name, shaped_as, asked_of, checked_arguments, checked, checked_act, assigned, checked_command, checked_block, checked_inner, checked_txns}
 
 -- ---- one check after another
@@ -80,29 +80,9 @@ needed_other expected found other = by (same_shape expected found) (λ e. other 
     by true differ = absurd (differ refl)
     by false differ = refl
 
-pub not_pair_first : (t : ShapeTree) → is_pair t ≡ false → first_of t ≡ Err (Fault.differs (ShapeTree.pair ShapeTree.str ShapeTree.str) t)
-not_pair_first (ShapeTree.pair s t) e = absurd (cc)
-not_pair_first _ e = refl
-
-pub not_pair_second : (t : ShapeTree) → is_pair t ≡ false → second_of t ≡ Err (Fault.differs (ShapeTree.pair ShapeTree.str ShapeTree.str) t)
-not_pair_second (ShapeTree.pair s t) e = absurd (cc)
-not_pair_second _ e = refl
-
 pub not_table : (t : ShapeTree) → is_table t ≡ false → keys_of t ≡ Err (Fault.differs (ShapeTree.table ShapeTree.str) t)
 not_table (ShapeTree.table s) e = absurd (cc)
 not_table _ e = refl
-
-pub not_option : (t : ShapeTree) → is_option t ≡ false → present_of t ≡ Err (Fault.differs (ShapeTree.opt ShapeTree.str) t)
-not_option (ShapeTree.opt s) e = absurd (cc)
-not_option _ e = refl
-
-pub of_table : (t : ShapeTree) → is_table t ≡ true → keys_of t ≡ Ok ShapeTree.names
-of_table (ShapeTree.table s) e = refl
-of_table _ e = absurd (cc)
-
-pub of_option : (t : ShapeTree) → is_option t ≡ true → present_of t ≡ Ok ShapeTree.bool
-of_option (ShapeTree.opt s) e = refl
-of_option _ e = absurd (cc)
 
 -- ---- operators
 
@@ -385,15 +365,6 @@ pub is_asked : (f : List ℕ) (n : ℕ) (o : Option DefTree) (d : DefTree) → o
 is_asked f n o d found count =
     let same : nat_eq n (length d.params) ≡ true = grind (arith, nat_tests) in
     ap (λ o. asked_of f n o) found ∙ ap (λ b. cond {A = OrFault (List (List ℕ × ShapeTree))} b (Ok d.params) (Err (Fault.unknown f))) same
-
-pub not_asked : (f : List ℕ) (n : ℕ) (o : Option DefTree) (d : DefTree) → o ≡ Some d → (n ≡ length d.params → ⊥) → asked_of f n o ≡ Err (Fault.unknown f)
-not_asked f n o d found other =
-    let differ : nat_eq n (length d.params) ≡ false = by (nat_eq n (length d.params)) refl in
-    ap (λ o. asked_of f n o) found ∙ ap (λ b. cond {A = OrFault (List (List ℕ × ShapeTree))} b (Ok d.params) (Err (Fault.unknown f))) differ
-  where
-    by : (b : Bool) → nat_eq n (length d.params) ≡ b → b ≡ false
-    by true e = absurd (other (grind (arith, nat_tests)))
-    by false e = refl
 
 pub arguments_shaped : (g : Scope) (es : List ExprTree) (ps : List (List ℕ × ShapeTree)) → AreArguments g es ps → All IsShaped es
 arguments_shaped g [] [] h = All-nil IsShaped

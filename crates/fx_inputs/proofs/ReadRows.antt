@@ -4,32 +4,27 @@ use Rattle.std.specs.List.{list_all}
 use Rattle.fx_base.specs.Causes.{Rose}
 use Rattle.fx_outside.specs.declared.kind.HostFault.{HostFault}
 use Rattle.fx_outside.specs.declared.kind.HostFault.TheVariants as fails
-use Rattle.fx_outside.specs.Host.{HostView, ReadsOnly, FaultAt, FaultIn, HasFailed}
+use Rattle.fx_outside.specs.Host.{HostView, ReadsOnly, FaultAt, HasFailed}
 use Rattle.fx_outside.specs.Path.{is_fit}
-use Rattle.fx_outside.specs.Tree.{Tree, is_file_at, is_folder_at}
+use Rattle.fx_outside.specs.Tree.{Tree, is_file_at}
 use Rattle.fx_outside.proofs.Views.{fault_back, fault_in_back}
-use Rattle.fx_folder.specs.Loads.{LoadCause}
-use Rattle.fx_table.specs.declared.fault.LoadFault.{LoadFault}
 use Rattle.fx_table.specs.declared.fault.LoadFault.TheVariants as load
 use Rattle.fx_command.specs.declared.status.Status.{Status}
 use Rattle.fx_command.specs.declared.status.Status.TheVariants as status
 use Rattle.fx_command.specs.declared.status.TextFault.{TextFault}
-use Rattle.fx_command.specs.StatusOf.{read_status, load_status}
+use Rattle.fx_command.specs.StatusOf.{read_status}
 use Rattle.fx_base.specs.Limits.{source_limit}
 use Rattle.fx_command.specs.Texts.{IsReadAt}
-use Rattle.fx_command.proofs.Told.{if_some_map, if_some_both, some_and, some_unit, cause_back, some_back, left_true, right_true}
+use Rattle.fx_command.proofs.Told.{if_some_map, some_and, some_unit, cause_back, some_back, left_true, right_true}
 use Rattle.fx_show.specs.Described.{Describes, IsRefusedFor, IsUndescribed}
 use Rattle.fx_show.specs.Faults.{status_of_fault}
 use Rattle.fx_show.specs.declared.fault.DescriptionFault.{DescriptionFault}
 use Rattle.fx_show.specs.declared.fault.DescriptionFault.TheVariants as description
 use Rattle.fx_show.proofs.Showing.{refused_whole}
 use Rattle.fx_spec.specs.SpecTree.{SpecTree}
-use Rattle.fx_inputs.specs.declared.scripts.Unread.{Unread}
 use Rattle.fx_inputs.specs.declared.scripts.Unread.TheVariants as unread
-use Rattle.fx_inputs.specs.Causes.{UnreadCause}
-use Rattle.fx_inputs.specs.Inputs.{HasSpec, IsOnlySpec, HasNoSpec, HasSomeSpec, HasTexts, CannotRead, IsFirstRefused}
+use Rattle.fx_inputs.specs.Inputs.{IsOnlySpec, HasNoSpec, HasSomeSpec, HasTexts, CannotRead, IsFirstRefused}
 use Rattle.fx_inputs.specs.Reads.{FailsAtScript, HasReadFault, ReadRow, has_fit_inputs}
-use Rattle.fx_inputs.specs.Unread.{unread_status}
 use Rattle.fx_words.specs.Job.{Inputs}
 
 -- a read that failed, after what came before
@@ -51,33 +46,11 @@ spec_refused inputs host host' text (description.Refused cause) read is =
     if_some_map (λ t. IsReadAt t inputs.spec source_limit text) (λ t. IsFirstRefused t inputs 1 cause) host.told (λ t read. inl (refl, spec_refused_for inputs text cause t read is)) read
 spec_refused inputs host host' text description.NoMemory read is = tt
 
-spec_there : (inputs : Inputs) (text : List ℕ) (spec : SpecTree) (t : Tree) → IsReadAt t inputs.spec source_limit text → Describes text spec → HasSpec t inputs spec
-spec_there inputs text spec t read is = record { file = read.file; describes = subst (λ x. Describes x spec) (read.whole is.read.short) is }
-
-pub spec_read : (inputs : Inputs) (host : HostView) (text : List ℕ) (spec : SpecTree) → IfSome host.told (λ t. IsReadAt t inputs.spec source_limit text) → Describes text spec → IfSome host.told (λ t. HasSpec t inputs spec)
-spec_read inputs host text spec read is = if_some_map (λ t. IsReadAt t inputs.spec source_limit text) (λ t. HasSpec t inputs spec) host.told (λ t read. spec_there inputs text spec t read is) read
-
 spec_alone : (inputs : Inputs) (text : List ℕ) (spec : SpecTree) (t : Tree) → IsReadAt t inputs.spec source_limit text → Describes text spec → ((other : SpecTree) → Describes text other → other ≡ spec) → IsOnlySpec t inputs spec
 spec_alone inputs text spec t read is only other has = only other (subst (λ x. Describes x other) (sym (read.whole is.read.short)) has.describes)
 
 pub spec_only : (inputs : Inputs) (host : HostView) (text : List ℕ) (spec : SpecTree) → IfSome host.told (λ t. IsReadAt t inputs.spec source_limit text) → Describes text spec → ((other : SpecTree) → Describes text other → other ≡ spec) → IfSome host.told (λ t. IsOnlySpec t inputs spec)
 spec_only inputs host text spec read is only = if_some_map (λ t. IsReadAt t inputs.spec source_limit text) (λ t. IsOnlySpec t inputs spec) host.told (λ t read. spec_alone inputs text spec t read is only) read
-
--- the scripts are not read, or refused
-pub scripts_unread : (inputs : Inputs) (host host' : HostView) (fault : Unread) → IfSome host.told (λ t. HasSomeSpec t inputs) → UnreadCause inputs host host' fault → ReadRow inputs host host' (unread_status fault)
-scripts_unread inputs host host' (unread.Refused word first) spec cause =
-    if_some_both (λ t. HasSomeSpec t inputs) _ (λ t. IsFirstRefused t inputs word first) host.told (λ t spec stops. inr (spec, stops)) spec cause
-scripts_unread inputs host host' unread.ReadFault spec (inl fault) = inl (inr (inl (fault, spec)))
-scripts_unread inputs host host' unread.ReadFault spec (inr none) =
-    inr (some_and (λ t. HasSomeSpec t inputs) _ (λ t. CannotRead t inputs) host.told (λ t spec stops. inr (inl (spec, stops))) spec none)
-scripts_unread inputs host host' unread.NoMemory spec cause = tt
-
--- the folder is not loaded
-pub not_loaded : (inputs : Inputs) (host host' : HostView) (fault : LoadFault) → IfSome host.told (λ t. HasTexts t inputs) → LoadCause inputs.folder host host' fault → ReadRow inputs host host' (load_status fault)
-not_loaded inputs host host' (load.Refused cause) texts refused = if_some_both (λ t. HasTexts t inputs) _ _ host.told (λ t texts refused. (texts, refused)) texts refused
-not_loaded inputs host host' load.ReadFault texts failed =
-    read_failed inputs (FaultIn inputs.folder) (λ t. is_folder_at t inputs.folder) (λ t. HasTexts t inputs) host host' (λ fault. inr (inr (fault, texts))) (λ t texts none. inr (inr (texts, none))) texts failed
-not_loaded inputs host host' load.NoMemory texts failed = tt
 
 -- ---- a row from a later moment on is one from an earlier moment on, where only reads lie between
 

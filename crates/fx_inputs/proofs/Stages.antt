@@ -8,8 +8,8 @@ use Rattle.fx_spec.specs.SpecTree.{SpecTree}
 use Rattle.fx_spec.specs.CommandTree.{CommandTree}
 use Rattle.fx_spec.specs.Order.{BaseTree}
 use Rattle.fx_words.specs.Job.{Inputs}
-use Rattle.fx_inputs.specs.Inputs.{HasSpec, IsOnlySpec, HasScripts, AreOnlyScripts, HasSomeSpec, HasTexts, HasInputs, HasBase, IsOnlyBase}
-use Rattle.fx_command.proofs.Told.{if_some_map, if_some_both, some_back}
+use Rattle.fx_inputs.specs.Inputs.{HasSpec, IsOnlySpec, HasScripts, AreOnlyScripts, HasSomeSpec, HasInputs, HasBase, IsOnlyBase}
+use Rattle.fx_command.proofs.Told.{if_some_map, some_back}
 
 abbrev Plan : Type 0
 Plan = List (List (List CommandTree))
@@ -20,11 +20,6 @@ then_told P a b reads is = subst (λ o. IfSome o P) (sym reads.same) is
 
 pub some_spec : (inputs : Inputs) (spec : SpecTree) (a b : HostView) → ReadsOnly a b → IfSome a.told (λ t. HasSpec t inputs spec) → IfSome b.told (λ t. HasSomeSpec t inputs)
 some_spec inputs spec a b reads is = then_told (λ t. HasSomeSpec t inputs) a b reads (if_some_map (λ t. HasSpec t inputs spec) (λ t. HasSomeSpec t inputs) a.told (λ t is. (spec, is)) is)
-
--- the texts, once both are read
-pub both_texts : (inputs : Inputs) (plan : Plan) (b c : HostView) → ReadsOnly b c → IfSome b.told (λ t. HasSomeSpec t inputs) → IfSome b.told (λ t. HasScripts t 0 inputs.scripts plan) → IfSome c.told (λ t. HasTexts t inputs)
-both_texts inputs plan b c reads spec scripts =
-    then_told (λ t. HasTexts t inputs) b c reads (if_some_both (λ t. HasSomeSpec t inputs) (λ t. HasScripts t 0 inputs.scripts plan) (λ t. HasTexts t inputs) b.told (λ t spec scripts. (spec, (plan, scripts))) spec scripts)
 
 three : (P Q R S : Tree → Type 0) (o : Option Tree) → ((t : Tree) → P t → Q t → R t → S t) → IfSome o P → IfSome o Q → IfSome o R → IfSome o S
 three P Q R S None f p q r = tt

@@ -20,7 +20,7 @@ use Rattle.fx_command.proofs.Told.{some_back}
 use Rattle.fx_inputs.specs.Inputs.{HasBase}
 use Rattle.fx_words.specs.Job.{JournalJob, shells_of}
 use Rattle.fx_durable.specs.Disk.{Step, wrote, File, DiskView, MayLeave, GoesOn, IsUnstarted, StaysTold, StaysUnstarted, Continues, moment}
-use Rattle.fx_durable.specs.Journal.{JournalView, RestsAt}
+use Rattle.fx_durable.specs.Journal.{JournalView}
 use Rattle.fx_durable.proofs.Moments.{goes_over, stays}
 use Rattle.fx_sched.specs.World as World
 use Rattle.fx_journaling.specs.declared.fault.RecordFault.TheVariants as fault
@@ -66,13 +66,6 @@ unstarted_keeps j host sink disk disk' stays =
     told_unstarted (λ old new. GoesOn old new × (HasNothing sink sink old new ⊎ IsKept j host sink sink old new)) (λ old new unstarted. (goes_unstarted old new unstarted, inl (nothing_at sink old new unstarted))) disk.told disk'.told stays
 
 -- ---- a journal that was just started
-
-gate_at : (file : File) → RestsAt 0 [] file → MayLeave file.steps file.seen → MayLeave file.steps (0 ∷ [])
-gate_at file rests image = subst (MayLeave file.steps) (rests.only file.seen image) image
-
-pub gate_left : (o : Option File) → IfSome o (RestsAt 0 []) → IfSome o (λ file. MayLeave file.steps file.seen) → IfSome o (λ file. MayLeave file.steps (0 ∷ []))
-gate_left None rests image = tt
-gate_left (Some file) rests image = gate_at file rests image
 
 -- ---- once it was started
 

@@ -13,7 +13,7 @@ use Rattle.fx_machine.specs.declared.retry.Retry.{Retry}
 use Rattle.fx_machine.specs.Machine.{Machine, Step, Run, resting}
 use Rattle.fx_machine.specs.Turns.{BeginsTurns}
 use Rattle.fx_board.specs.Log.{Log}
-use Rattle.fx_durable.specs.Disk.{File, DiskView, MayLeave}
+use Rattle.fx_durable.specs.Disk.{File, DiskView}
 use Rattle.fx_durable.specs.Journal.{JournalView, RestsAt}
 use Rattle.fx_durable.proofs.Moments.{only_now}
 use Rattle.fx_report.specs.Events.{event_line, lines}
@@ -25,11 +25,11 @@ use Rattle.fx_sched.specs.Traced.{IsTraced}
 use Rattle.fx_sched.specs.World as World
 use Rattle.fx_journaling.specs.declared.fault.RecordFault.{RecordFault}
 use Rattle.fx_journaling.specs.declared.fault.RecordFault.TheVariants as fault
-use Rattle.fx_journaling.specs.Kept.{HasAtMostOneMore, IfFile, HoldsOrder, LeavesEither, KeepsOrder, RestsWhileGood, order_seen}
+use Rattle.fx_journaling.specs.Kept.{HasAtMostOneMore, IfFile, HoldsOrder, LeavesEither, KeepsOrder}
 use Rattle.fx_journaling.specs.Written.{IsPartOfLine}
 use Rattle.fx_journaling.specs.Taken.{Beginning, beginning, HasTaken, HasRefused}
 use Rattle.fx_journaling.specs.Recorded.{IsStarted, HasRecorded, HasBrokenOff, fault_in}
-use Rattle.fx_journaling.proofs.Holding.{holds_leaves, if_file_map, spells_rested, rests_as_seen}
+use Rattle.fx_journaling.proofs.Holding.{holds_leaves, if_file_map, spells_rested}
 use Rattle.fx_journaling.proofs.Taking.{lines_more, grown_none, grown_as, run_more}
 
 -- ---- runs
@@ -161,13 +161,6 @@ begun base disk sink disk_name sink_name journal started = record {
   printed = grown_none sink;
   later = omega arith;
 }
-
-seen_none : (o : Option File) → IfSome o (RestsAt 0 []) → IfSome o (λ file. MayLeave file.steps file.seen) → IfSome o (λ file. RestsAt 0 (order_seen file) file)
-seen_none None rests image = tt
-seen_none (Some file) rests image = rests_as_seen 0 [] file rests (omega arith) image
-
-pub rests_begun : (disk : DiskView) (journal : JournalView) → IsStarted journal disk → IfSome disk.told (λ file. MayLeave file.steps file.seen) → RestsWhileGood journal disk
-rests_begun disk journal started image = λ good. subst (λ n. IfSome disk.told (λ file. RestsAt n (order_seen file) file)) (sym started.count) (seen_none disk.told started.rests image)
 
 -- ---- a run that ends before its end
 

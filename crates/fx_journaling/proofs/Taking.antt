@@ -78,9 +78,6 @@ extended_by before after e shell entry board o is same reached log none stands l
 pub lines_more : (events : List Event) (e : Event) → lines (events ++ e ∷ []) ≡ lines events ++ event_line e
 lines_more events e = flat_map-append event_line events (e ∷ []) ∙ ap (λ l. lines events ++ l) (append-nil (event_line e))
 
-pub line_alone : (e : Event) → lines (e ∷ []) ≡ event_line e
-line_alone e = append-nil (event_line e)
-
 pub grown_none : (sink : SinkView) → HasGrown [] sink sink
 grown_none sink = at sink.written
   where

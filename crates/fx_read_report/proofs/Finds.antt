@@ -1,5 +1,5 @@
 -- What the readers of values find, and where they find nothing.
-use Rattle.std.proofs.Common.{◌≡◌, ℕ, zero, suc, ◌+◌, ◌-◌, ◌≤◌, ◌<◌, IsTrue, Bool, true, false, not, cond, List, [], ◌∷◌, ◌++◌, map, length, Option, Some, None, ℤ, codes, refl, sym, ap, subst, ◌∙◌, ◌⊎◌, inl, inr, append_assoc, append-nil, arith, nat_eq, ◌&&◌, length-append}
+use Rattle.std.proofs.Common.{◌≡◌, ℕ, suc, ◌+◌, ◌-◌, ◌≤◌, ◌<◌, Bool, true, false, List, [], ◌∷◌, ◌++◌, map, length, Option, Some, None, ℤ, codes, refl, sym, ap, subst, ◌∙◌, ◌⊎◌, inl, inr, append_assoc, arith, nat_eq, ◌&&◌, length-append}
 use Rattle.std.specs.declared.cmp.Ordering.{Ordering}
 use Rattle.std.specs.declared.cmp.Ordering.TheVariants.{Less, Equal, Greater}
 use Rattle.std.specs.Ordering.{is_lt, nat_cmp}
@@ -10,22 +10,19 @@ use Rattle.std.proofs.lemmas.Bool.{and_parts}
 use Rattle.std.proofs.lemmas.Bool.Decides.{nat_tests}
 use Rattle.fx_report.proofs.Cancel as cancel
 use Rattle.fx_report.proofs.Rows.{joined_rows}
-use Rattle.std.specs.List.{flat_map, join_by, zip}
-use Rattle.std.specs.Option.{option_map}
+use Rattle.std.specs.List.{join_by}
 use Rattle.std.proofs.lemmas.Option.{some_pair_parts}
 use Rattle.fx_expr.specs.Sets.{IsAscending}
 use Rattle.fx_expr.specs.Tree.{Tree, TreeRows, str, int, bool, names, pair, nothing, some, table, no_rows, row, rows, entries}
 use Rattle.fx_report.specs.Print.{comma, joined, quote, row_text, row_texts, truth_text, value_text}
-use Rattle.fx_report.specs.Readable.{IsInteger}
-use Rattle.fx_read_report.specs.Numbers.{EndsDigits, after, is_digit, leading_integer}
+use Rattle.fx_read_report.specs.Numbers.{EndsDigits, after, leading_integer}
 use Rattle.fx_read_report.specs.Quotes.{unquoted}
 use Rattle.fx_read_report.proofs.Digits.{after_read, after_spelled, integer_read, integer_spelled}
 use Rattle.fx_read_report.proofs.Scans.{quote_read, quote_spelled}
-use Rattle.fx_read_report.specs.Values.{AreEntries, ArePrintedRows, ArePrintedTexts, EndsAt, FindsBefore, FindsEnded, FindsRow, FindsRows, FindsText, FindsTexts, FindsValue, IsPrinted, IsPrintedText, Stands, StandsBefore, StandsEnded, StandsRow, StandsText, StandRows, StandTexts, ascends, keys_in, kind_at, kind_of, piece_at}
-use Rattle.fx_read_report.specs.declared.values.Kind.{Kind}
+use Rattle.fx_read_report.specs.Values.{AreEntries, ArePrintedRows, EndsAt, FindsBefore, FindsEnded, FindsRow, FindsRows, FindsText, FindsTexts, FindsValue, IsPrinted, Stands, StandsBefore, StandsRow, StandsText, StandRows, StandTexts, ascends, keys_in, kind_at, piece_at}
 use Rattle.fx_read_report.specs.declared.values.Kind.TheVariants as kind
-use Rattle.fx_read_report.proofs.Pieces.{AreAll, after_each, Front, Listing, Next, closed, led, next_of, no_pieces, one_more, pieces_cancel}
-use Rattle.fx_read_report.proofs.Cancels.{entries_all, held, kind_in, one_value, row_cancel, row_form, row_listing, same_kind, stops_of, text_kind, text_listing, texts_all}
+use Rattle.fx_read_report.proofs.Pieces.{AreAll, after_each, Front, Listing, closed, led, next_of, one_more, pieces_cancel}
+use Rattle.fx_read_report.proofs.Cancels.{entries_all, held, kind_in, one_value, row_form, row_listing, text_kind, text_listing, texts_all}
 
 none_some : {A : Type 0} (o : Option A) (a : A) → None ≡ o → o ≡ Some a → ⊥
 none_some o a e f = absurd (cc)
@@ -281,9 +278,6 @@ row_some e = let more = quote_some e.0 in omega (arith, more, length-append (quo
 
 row_parts : (levels : ℕ) (bytes : List ℕ) (e : List ℕ × Tree) (rest : List ℕ) → StandsRow levels bytes e rest → bytes ≡ quote e.0 ++ (codes " = " ++ (value_text e.1 ++ rest))
 row_parts levels bytes e rest s = s.parts ∙ row_form (quote e.0) (value_text e.1) rest
-
-pub row_no_key : (levels : ℕ) (bytes : List ℕ) → FindsText bytes None → FindsRow levels bytes None
-row_no_key levels bytes none e rest s = none e.0 (codes " = " ++ (value_text e.1 ++ rest)) (record { is = s.key; parts = row_parts levels bytes e rest s })
 
 behind_key : (levels : ℕ) (bytes t x : List ℕ) (e : List ℕ × Tree) (rest : List ℕ) → StandsText bytes t x → StandsRow levels bytes e rest → x ≡ codes " = " ++ (value_text e.1 ++ rest)
 behind_key levels bytes t x e rest found s = (one_text bytes t e.0 x (codes " = " ++ (value_text e.1 ++ rest)) found (record { is = s.key; parts = row_parts levels bytes e rest s })).1

@@ -1,13 +1,12 @@
 -- Legal orders, one transaction more at a time.
 use Rattle.std.proofs.Common.{◌≡◌, ℕ, zero, suc, ◌+◌, ◌<◌, ◌≤◌, Bool, true, false, nat_eq, List, [], ◌∷◌, ◌++◌, length, take, drop, get_or, set, map, replicate, slice_get, Some, refl, sym, ap, subst, ◌∙◌, arith, length-append}
 use Rattle.std.specs.Prelude.{slice_index_or}
-use Rattle.std.proofs.Math.Seq.{take-length}
 use Rattle.std.proofs.lemmas.Bool.{eqb-true, eqb-false}
 use Rattle.std.proofs.lemmas.List.{length-map, map-append, get_or-set_same, get_or-set_other, length-set, take_at}
 use Rattle.std.proofs.lemmas.Option.{same_Some, none-some, slice_get_within, slice_get-get_or}
 use Rattle.fx_spec.specs.Plans.{Turn, count_of}
 use Rattle.fx_spec.specs.Order.{BaseTree, IsLegal, numbers_of}
-use Rattle.fx_spec.proofs.Orders.{legal_none, legal-next, numbers_own, numbers_other}
+use Rattle.fx_spec.proofs.Orders.{legal-next, numbers_own, numbers_other}
 use Rattle.fx_machine.specs.declared.entry.Pair.{Pair}
 use Rattle.fx_durable.specs.Journal.{turn_of, turns_of}
 use Rattle.fx_machine.specs.Machine.{next_number}
@@ -68,18 +67,6 @@ module _ (base : BaseTree) (o : List Turn) (shell : ℕ) (counts : List ℕ) (ar
   pub not_planned : (txn next planned : ℕ) → txn ≡ next → planned ≡ count_of base.plan shell → planned ≤ next → IsNextIn base o (shell, txn) → ⊥
   not_planned txn next planned same plan le is = let less = is.planned in omega (arith, same, plan, le, less)
 
--- no transaction is counted
-pub none_counted : (base : BaseTree) (counts : List ℕ) → counts ≡ zeros (length base.plan) → AreCounts base [] counts
-none_counted base counts is = record {
-  shells = ap length is ∙ long (length base.plan);
-  legal = legal_none base;
-  each = λ shell. ap (λ (l : List ℕ). get_or l shell 0) is ∙ none_there (length base.plan) shell;
-}
-  where
-    long : (n : ℕ) → length (zeros n) ≡ n
-    long zero = refl
-    long (suc n) = ap suc (long n)
-
 -- ---- over the pairs of an order
 
 -- an item of a slice that holds the list
@@ -103,6 +90,3 @@ pub counts_more : (base : BaseTree) (pairs : List Pair) (i len : ℕ) (pair : Pa
 counts_more base pairs i len pair counts more is long before after =
     subst (AreCounts base (turns_of (take (i + 1) pairs))) (sym (take_at more (drop (length more) counts) len (after.shells ∙ sym before.shells ∙ long)))
     (subst (λ o. AreCounts base o more) (sym (turns_more pairs i pair is)) after)
-
-pub all_legal : (base : BaseTree) (pairs : List Pair) (counts : List ℕ) → AreCounts base (turns_of (take (length pairs) pairs)) counts → IsLegal base (turns_of pairs)
-all_legal base pairs counts are = subst (λ l. IsLegal base (turns_of l)) (take-length pairs) are.legal

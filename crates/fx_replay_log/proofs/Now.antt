@@ -1,5 +1,5 @@
 -- Reads of what stands after all entries are true, and no entry was made after them.
-use Rattle.std.proofs.Common.{◌≡◌, ◌⊎◌, inl, inr, ℕ, Bool, true, false, cond, List, [], ◌∷◌, ◌++◌, length, Option, Some, None, refl, sym, ap, subst, ◌∙◌, arith}
+use Rattle.std.proofs.Common.{◌≡◌, ◌⊎◌, inl, inr, ℕ, Bool, true, false, cond, List, [], ◌∷◌, ◌++◌, length, Option, Some, None, refl, sym, ap, subst, ◌∙◌}
 use Rattle.std.specs.FinMap.{get}
 use Rattle.std.specs.Ordering.{eq_by_cmp}
 use Rattle.std.proofs.lemmas.Bool.{false≢true}
@@ -10,10 +10,9 @@ use Rattle.fx_store.specs.Orders.{path_eq_same}
 use Rattle.fx_view.specs.ReadList.{ReadList}
 use Rattle.fx_view.specs.Reads.{read_at}
 use Rattle.fx_spec.specs.Plans.{Turn}
-use Rattle.fx_spec.specs.Order.{BaseTree, state}
-use Rattle.fx_machine.specs.Passes.{AreTrueReads}
+use Rattle.fx_spec.specs.Order.{BaseTree}
 use Rattle.fx_run.specs.Running.{ReadsFit}
-use Rattle.fx_board.specs.Board.{last_state, IsNamed}
+use Rattle.fx_board.specs.Board.{last_state}
 use Rattle.fx_board.specs.Log.{Log}
 use Rattle.fx_replay_log.specs.Present.{AreNow}
 
@@ -53,19 +52,3 @@ now_more log old new path node position were here there noted = subst (AreNow lo
         let at : position ≡ i = ap (λ (r : Read). r.1) h.1 in
         let same : node ≡ n = ap (λ (r : Read). r.0) h.1 in
         (sym at ∙ here, sym same ∙ there ∙ ap (get (last_state log)) (sym h.0))
-
--- the reads are true
-pub now_true : (log : Log) (reads : ReadList) → AreNow log reads → AreTrueReads log.base log.order reads
-now_true log reads now path node position e =
-    let here = now path node position e in
-    let at = here.0 in
-    (omega (arith, at), here.1 ∙ ap (λ i. get (state log.base log.order i) path) (sym at))
-
--- no entry stands in the way
-pub now_free : (log : Log) (reads : ReadList) (entry : ℕ) (path : Path) → AreNow log reads → IsNamed log reads entry path → ⊥
-now_free log reads entry path now named =
-    let s = named.stale in
-    let at = (now path s.0 s.1 s.2).0 in
-    let early = s.3 in
-    let late = s.4 in
-    omega (arith, at, early, late)

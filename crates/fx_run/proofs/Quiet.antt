@@ -6,8 +6,6 @@ use Rattle.fx_spec.specs.Task.{Task, Ends}
 use Rattle.fx_spec.specs.Transaction.{Standing, Flow, On, Over, or_stop}
 use Rattle.fx_view.specs.declared.reader.Stop.TheVariants as stop
 use Rattle.fx_base.proofs.Errors.{err_of}
-use Rattle.fx_edit.specs.Values.{Tells}
-use Rattle.fx_session.specs.declared.halt.Halt.{Halt}
 use Rattle.fx_session.specs.declared.halt.Halt.TheVariants as halt
 use Rattle.fx_session.specs.declared.session.Session.{Session}
 use Rattle.fx_session.specs.Implements.{ticked}
@@ -15,7 +13,7 @@ use Rattle.fx_run.specs.declared.walk.Walk.{Walk}
 use Rattle.fx_run.specs.declared.leave.Leave.{Leave}
 use Rattle.fx_run.specs.declared.leave.Leave.TheVariants as leave
 use Rattle.fx_run.specs.declared.work.Work.{Work}
-use Rattle.fx_run.specs.Leaving.{OrStops, or_left, part}
+use Rattle.fx_run.specs.Leaving.{OrStops, part}
 use Rattle.fx_run.specs.Works.{standing_of, IsSameWalk, IsQuiet}
 use Rattle.fx_run.proofs.Obeyed.{Leaves}
 
@@ -26,12 +24,6 @@ quiet_none {task = task} {old = old} {new = new} {r = r} is walk = subst (λ r. 
 -- the walk after an evaluation
 pub ticked_walk : {R L : Type 0} (old : Walk R L) {s : Session R L} → s ≡ ticked old.session → IsSameWalk old (record { zip = old.zip; session = s })
 ticked_walk {R = R} {L = L} old one = record { zip = refl; own = ap (λ (s : Session R L). s.own) one; reader = ap (λ (s : Session R L). s.reader) one }
-
--- what a call's value is, behind the command's number
-pub or_stops : {A X : Type 0} (i : ℕ) (view : X → A) (answer : Answered A) (t : Result X Halt) → Tells view answer t → OrStops i view answer (or_left i t)
-or_stops i view answer (Ok x) h = h
-or_stops i view answer (Err (halt.Refused f)) h = (f, h, refl)
-or_stops {X = X} i view answer (Err (halt.Stopped why)) h = subst (λ why. OrStops {X = X} i view answer (Err (leave.Stopped why))) (sym h) tt
 
 part_err : {A B : Type 0} (f : A → B) (o : Answered A) (refusal : Refusal) → part f o ≡ Err refusal → o ≡ Err refusal
 part_err f (Ok a) refusal is = cc

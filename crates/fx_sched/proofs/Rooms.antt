@@ -38,13 +38,6 @@ room_after old new shells shells' shell count count' event room more stepped =
     let noted = room_stepped (running_of old shells) (running_of new shells') shell event stepped in
     omega (arith, room, more, noted)
 
--- a refused step notes nothing
-pub room_refused : (old new : Log) (shells shells' : List Shell) (count count' : ℕ) → HasRoomFor count shells → count' ≡ count → running_of new shells' ≡ running_of old shells → HasRoomFor count' shells'
-room_refused old new shells shells' count count' room same refused =
-    let lists : retries_in shells' ≡ retries_in shells = ap (λ (r : Running). r.retries) refused in
-    let noted : length (joined (retries_in shells')) ≡ length (joined (retries_in shells)) = ap (λ ls. length (joined ls)) lists in
-    omega (arith, room, same, noted)
-
 -- ---- joining the retries of all shells
 
 front_fits : (all : List Shell) (n : ℕ) (s : Shell) → n < length all → s ≡ get_or all n s → length (joined (retries_in (take n all))) + length s.retries ≤ length (joined (retries_in all))

@@ -287,9 +287,6 @@ now_added log old mid new path node position was added there = record {
 
 -- ---- a plan that still holds
 
-pub ready_past : (log : Log) (number : ℕ) (s : Shell) (p : Plan) → s.plan ≡ Some p → slice_get s.reads s.looked ≡ None → IsReady log s
-ready_past log number s p there past = record { plan = p; there = there; now = λ r at. absurd (none-some r (sym past ∙ at)) }
-
 ready_since : (log : Log) (number : ℕ) (s : Shell) (p : Plan) (r : Row) → IsShell log number s → s.plan ≡ Some p → slice_get s.reads s.looked ≡ Some r → ((entry : ℕ) → p.made ≤ entry → Changes log.base log.order entry r.0 → ⊥) → IsReady log s
 ready_since log number s p r is there at none =
     let plan : IsPlan log number s p = plan_in log number s s.plan p there is.plan in
@@ -435,6 +432,3 @@ moved_from old new number s mid (event.Conflict k entry path) t same m = (
 
 pub moves_from : (old new : Log) (number : ℕ) (s mid : Shell) (t : Shell) (r : Result Event NoMemory) → HasLooksOf s mid → IfOk r (λ e. Moved old new number mid e t) → IfOk r (λ e. Moved old new number s e t)
 moves_from old new number s mid t r same m = IfOk-weaker r (λ e. Moved old new number mid e t) (λ e. Moved old new number s e t) (λ e h. moved_from old new number s mid e t same h) m
-
-pub looks_then : (s mid t : Shell) → HasLooksOf s mid → HasLooksOf mid t → HasLooksOf s t
-looks_then s mid t a b = record { next = b.next ∙ a.next; looked = b.looked ∙ a.looked; retries = b.retries ∙ a.retries }

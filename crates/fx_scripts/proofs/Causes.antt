@@ -1,5 +1,5 @@
 -- The cause for which a script's text is refused, from the faults of its parser and of its check.
-use Rattle.std.proofs.Common.{◌≡◌, ◌≤◌, ◌+◌, ◌∙◌, ℕ, cond, List, [], Ok, Err, length, sym, ap, arith}
+use Rattle.std.proofs.Common.{◌≡◌, ◌≤◌, ◌+◌, ◌∙◌, ℕ, cond, List, [], Ok, Err, length, sym, ap}
 use Rattle.std.specs.Prelude.{All}
 use Rattle.std.proofs.lemmas.Bool.{le-leb}
 use Rattle.fx_check.specs.declared.fault.CheckFault.{CheckFault}
@@ -14,7 +14,7 @@ use Rattle.fx_grammar.specs.Refused.{IsRefused}
 use Rattle.fx_grammar.specs.Texts as texts
 use Rattle.fx_parse.specs.declared.fault.ParseFault.{ParseFault}
 use Rattle.fx_parse.specs.declared.fault.ParseFault.TheVariants as parse
-use Rattle.fx_spec.specs.CommandTree.{CommandTree, block, count_block}
+use Rattle.fx_spec.specs.CommandTree.{CommandTree, block}
 use Rattle.fx_spec.specs.WellShaped.{IsBlock, IsScript}
 use Rattle.fx_command.specs.declared.status.TextFault.{TextFault}
 use Rattle.fx_command.specs.declared.status.TextFault.TheVariants as fault
@@ -62,10 +62,6 @@ not_checked text before txns (check.Repeated word) read only found =
 not_checked text before txns check.TooMany read only found =
     faulty text before txns fault.TooMany Fault.too_many only found (record { txns = txns; read = read; found = found })
 not_checked text before txns check.NoMemory read only found = tt
-
--- what a parsed script's transactions are
-pub are_small : (text : List ℕ) (txns : Txns) → texts.IsScript text txns → All (λ commands. count_block (block commands) ≤ 65536) txns → All IsSmall txns
-are_small text txns is few = λ k d within. record { nested = (is.each k d within).nested; few = omega (arith, few k d within) }
 
 pub are_shaped : (txns : Txns) → All IsSmall txns → All (λ t. IsBlock [] (block t)) txns → IsScript txns
 are_shaped txns small shapes = λ k d within. record { shapes = shapes k d within; nested = (small k d within).nested; few = (small k d within).few }

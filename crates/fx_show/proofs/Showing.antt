@@ -1,17 +1,14 @@
 -- The rows of the table of statuses for `show`, from what its stages ensure.
-use Rattle.std.proofs.Common.{◌≡◌, ◌⊎◌, inl, inr, ℕ, ◌≤◌, ◌<◌, Bool, true, false, ◌&&◌, List, ◌++◌, take, length, Option, Some, None, Result, Ok, Err, IfOk, IfErr, IfSome, refl, sym, ◌∙◌, subst, arith}
+use Rattle.std.proofs.Common.{◌≡◌, ◌⊎◌, inl, inr, ℕ, ◌≤◌, ◌<◌, true, ◌&&◌, List, ◌++◌, length, Some, Result, Ok, Err, IfOk, IfErr, IfSome, refl, ◌∙◌, subst, arith}
 use Rattle.std.specs.FinMap.{get}
-use Rattle.fx_base.specs.Causes.{Rose}
 use Rattle.fx_store.specs.Whole.{Nodes}
-use Rattle.fx_outside.specs.declared.kind.HostFault.{HostFault}
 use Rattle.fx_outside.specs.declared.kind.HostFault.TheVariants as fails
-use Rattle.fx_outside.specs.Host.{HostView, ReadsOnly, FaultAt, FaultIn, HasFailed}
+use Rattle.fx_outside.specs.Host.{HostView, ReadsOnly}
 use Rattle.fx_outside.specs.Path.{is_fit}
 use Rattle.fx_outside.specs.Sink.{SinkView}
-use Rattle.fx_outside.specs.Tree.{Tree, is_file_at, bytes_at, is_folder_at}
+use Rattle.fx_outside.specs.Tree.{Tree, bytes_at}
 use Rattle.fx_outside.proofs.Views.{reads_then, fault_back, fault_in_back}
-use Rattle.fx_folder.specs.Loads.{Loads, LoadCause}
-use Rattle.fx_table.specs.declared.fault.LoadFault.{LoadFault}
+use Rattle.fx_folder.specs.Loads.{Loads}
 use Rattle.fx_table.specs.declared.fault.LoadFault.TheVariants as load
 use Rattle.fx_grammar.specs.Texts as texts
 use Rattle.fx_spec.specs.SpecTree.{SpecTree}
@@ -25,20 +22,16 @@ use Rattle.fx_command.specs.declared.status.Status.{Status}
 use Rattle.fx_command.specs.declared.status.Status.TheVariants as status
 use Rattle.fx_show.specs.Rows.{ShowReadFault, ShowRow, ShowEndsAs, IsShown, IsShownInPart}
 use Rattle.fx_show.specs.Shows.{HasDescription, HasNoDescription, HasSomeDescription, IsShowing, CannotShow}
-use Rattle.fx_command.specs.StatusOf.{read_status, load_status}
 use Rattle.fx_show.specs.Faults.{status_of_fault}
 use Rattle.fx_base.specs.Limits.{source_limit}
 use Rattle.fx_command.specs.Texts.{IsReadAt}
-use Rattle.fx_command.proofs.Told.{if_some_map, if_some_both, some_and, some_unit, same, grows_front, grows_all, cause_back, some_back, same_back, left_true, right_true}
+use Rattle.fx_command.proofs.Told.{if_some_map, if_some_both, same, grows_all, cause_back, some_back, same_back, left_true, right_true}
 use Rattle.fx_words.specs.Job.{ShowJob}
 
 -- ---- the text
 
 described : (t : Tree) (j : ShowJob) (text : List ℕ) (spec : SpecTree) → Describes text spec → IsReadAt t j.spec source_limit text → HasDescription t j spec
 described t j text spec is read = record { file = read.file; describes = subst (λ x. Describes x spec) (read.whole is.read.short) is }
-
-pub description_read : (j : ShowJob) (host : HostView) (text : List ℕ) (spec : SpecTree) → IfSome host.told (λ t. IsReadAt t j.spec source_limit text) → Describes text spec → IfSome host.told (λ t. HasDescription t j spec)
-description_read j host text spec read is = if_some_map (λ t. IsReadAt t j.spec source_limit text) (λ t. HasDescription t j spec) host.told (λ t read. described t j text spec is read) read
 
 -- a text that is within its limit was read whole; else so many bytes were read that it is none
 whole : (t : Tree) (path text : List ℕ) (cause : TextFault) → IsReadAt t path source_limit text → length text ≤ 65536 → IsRefusedFor text cause → IsRefusedFor (bytes_at t path) cause
@@ -65,36 +58,12 @@ refused_whole t path text fault.TooMany read is = whole t path text fault.TooMan
 show_no_memory : (j : ShowJob) (host host' : HostView) → ReadsOnly host host' → ShowEndsAs j host host' status.NoMemory
 show_no_memory j host host' reads sink = same host host' sink reads
 
-show_read_failed : (j : ShowJob) (Fault : HostView → HostView → Type 0) (suits : Tree → Bool) (P : Tree → Type 0) (host host' : HostView) → ReadsOnly host host' → (Fault host host' → ShowReadFault j host host') → ((t : Tree) → P t → suits t ≡ false → CannotShow t j) → IfSome host.told P → HasFailed Fault suits host host' → ShowEndsAs j host host' status.ReadFault
-show_read_failed j Fault suits P host host' reads place why before (inl fault) sink = (same host host' sink reads, inl (place fault))
-show_read_failed j Fault suits P host host' reads place why before (inr none) sink =
-    (same host host' sink reads, inr (some_and P (λ t. suits t ≡ false) (λ t. CannotShow t j) host.told why before none))
-
--- the text is not read, or refused
-pub text_unread : (j : ShowJob) (host host' : HostView) (fault : HostFault) → ReadsOnly host host' → (fault ≡ fails.Failed → HasFailed (FaultAt j.spec) (λ t. is_file_at t j.spec) host host') → ShowEndsAs j host host' (read_status fault)
-text_unread j host host' fails.Failed reads failed =
-    show_read_failed j (FaultAt j.spec) (λ t. is_file_at t j.spec) (λ _. Unit {0}) host host' reads (λ fault. inl fault) (λ t _ none. inl none) (some_unit host.told) (failed refl)
-text_unread j host host' fails.NoMemory reads failed = show_no_memory j host host' reads
-
 pub text_refused : (j : ShowJob) (host host' : HostView) (text : List ℕ) (refusal : DescriptionFault) → ReadsOnly host host' → IfSome host.told (λ t. IsReadAt t j.spec source_limit text) → IsUndescribed text refusal → ShowEndsAs j host host' (status_of_fault refusal)
 text_refused j host host' text (description.Refused cause) reads read is sink =
     (same host host' sink reads, refl, if_some_map (λ t. IsReadAt t j.spec source_limit text) (λ t. HasNoDescription t j cause) host.told (λ t read. record { file = read.file; refused = refused_whole t j.spec text cause read is }) read)
 text_refused j host host' text description.NoMemory reads read is sink = show_no_memory j host host' reads sink
 
--- the folder is not loaded
-pub folder_unloaded : (j : ShowJob) (host host' : HostView) (fault : LoadFault) → ReadsOnly host host' → IfSome host.told (λ t. HasSomeDescription t j) → LoadCause j.folder host host' fault → ShowEndsAs j host host' (load_status fault)
-folder_unloaded j host host' (load.Refused cause) reads described refused sink =
-    (same host host' sink reads, if_some_both (λ t. HasSomeDescription t j) _ _ host.told (λ t described refused. (described, refused)) described refused)
-folder_unloaded j host host' load.ReadFault reads described failed sink =
-    show_read_failed j (FaultIn j.folder) (λ t. is_folder_at t j.folder) (λ t. HasSomeDescription t j) host host' reads (λ fault. inr (fault, described)) (λ t described none. inr (described, none)) described failed sink
-folder_unloaded j host host' load.NoMemory reads described failed sink = show_no_memory j host host' reads sink
-
 -- ---- from one stage to the next
-
-pub some_description : (j : ShowJob) (spec : SpecTree) (a b : HostView) → ReadsOnly a b → IfSome a.told (λ t. HasDescription t j spec) → IfSome b.told (λ t. HasSomeDescription t j)
-some_description j spec a b reads is =
-    subst (λ o. IfSome o (λ t. HasSomeDescription t j)) (sym reads.same)
-    (if_some_map (λ t. HasDescription t j spec) (λ t. HasSomeDescription t j) a.told (λ t is. (spec, is)) is)
 
 pub showing : (j : ShowJob) (spec : SpecTree) (nodes : Nodes) (output : List ℕ) (a : HostView) → IfSome a.told (λ t. HasDescription t j spec) → IfSome a.told (λ t. Loads t j.folder nodes) → output ≡ shown (root_value (get nodes) spec) → IfSome a.told (λ t. IsShowing t j output)
 showing j spec nodes output a described loaded shows =
@@ -133,14 +102,6 @@ show_ends_before j a b c (Ok x) reads ends = tt
 show_ends_before j a b c (Err st) reads ends = show_ends_back j a b c st reads ends
 
 -- ---- the last stage
-
-pub show_unprinted : (j : ShowJob) (output : List ℕ) (host host' : HostView) (sink sink' : SinkView) → ReadsOnly host host' → IfSome host.told (λ t. IsShowing t j output) → IfSome sink.written (λ w. (n : ℕ) × (sink'.written ≡ Some (w ++ take n output))) → Rose sink.faults sink'.faults → ShowRow j host host' sink sink' status.WriteFault
-show_unprinted j output host host' sink sink' reads is front rose = record {
-  reads = reads;
-  cause = rose;
-  grows = grows_front sink sink' output front;
-  left = if_some_map (λ t. IsShowing t j output) (λ t. IsShownInPart t j sink.written sink'.written) host.told (λ t is. record { output = output; showing = is; written = front }) is;
-}
 
 pub show_done : (j : ShowJob) (output : List ℕ) (host host' : HostView) (sink sink' : SinkView) → ReadsOnly host host' → IfSome host.told (λ t. IsShowing t j output) → IfSome sink.written (λ w. sink'.written ≡ Some (w ++ output)) → ShowRow j host host' sink sink' status.Done
 show_done j output host host' sink sink' reads is all = (

@@ -1,6 +1,6 @@
 -- Lists with more room, and with one version more.
 use Rattle.std.proofs.Common.{◌≡◌, ℕ, suc, ◌+◌, ◌<◌, ◌≤◌, Bool, true, false, cond, List, [], ◌∷◌, ◌++◌, length, take, get_or, Some, None, refl, sym, ap, subst, ◌∙◌, arith, append-nil}
-use Rattle.std.specs.Prelude.{All, IsSomeAnd, vec_len, vec_capacity}
+use Rattle.std.specs.Prelude.{IsSomeAnd, vec_len, vec_capacity}
 use Rattle.std.specs.declared.cmp.Ordering.TheVariants.{Less}
 use Rattle.std.specs.Ordering.{eq_by_cmp, is_eq}
 use Rattle.std.specs.List.{AllByRecursion}
@@ -54,9 +54,6 @@ module _ (old new : Table) (path : Path) (w : Listed) (updates : (q : Path) → 
     here = ap listed (updates path ∙ ap (λ b. cond b (Some w) (list_in old path)) (path_itself path)) ∙ (items ∙ ap (λ vs. vs ++ version ∷ []) (sym (ap listed stood)));
     others = λ other apart. updates other ∙ ap (λ b. cond b (Some w) (list_in old other)) apart;
   }
-
-pub roomier_itself : (table : Table) → IsRoomier table table
-roomier_itself table = record { same = λ q. refl; kept = λ q had. had }
 
 pub roomier_then : (old mid new : Table) → IsRoomier old mid → IsRoomier mid new → IsRoomier old new
 roomier_then old mid new a b = record { same = λ q. b.same q ∙ a.same q; kept = λ q had. b.kept q (a.kept q had) }

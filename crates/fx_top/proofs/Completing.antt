@@ -1,5 +1,5 @@
 -- With fit inputs and no fault of host, sink or disk a command is done, or memory runs out.
-use Rattle.std.proofs.Common.{◌≡◌, ◌⊎◌, inr, Option, Some, None, IfSome, refl, subst, arith}
+use Rattle.std.proofs.Common.{◌≡◌, ◌⊎◌, inr, Option, Some, None, IfSome, refl, arith}
 use Rattle.fx_base.specs.Causes.{Rose}
 use Rattle.fx_outside.specs.Host.{HostView, ReadsOnly}
 use Rattle.fx_outside.specs.Sink.{SinkView}
@@ -42,20 +42,6 @@ completes j host host' sink sink' disk disk' st row = by host.told refl
     by : (o : Option Tree) → host.told ≡ o → IfSome o (λ t. IsProper t disk j → (Rose host.faults host'.faults → ⊥) → (Rose sink.faults sink'.faults → ⊥) → (HasDiskFault j disk disk' → ⊥) → Ends st)
     by None is = tt
     by (Some t) is = λ proper none quiet calm. told j t host host' sink sink' disk disk' st is proper none quiet calm row
-
--- a command does not end as words without a form do
-not_usage : (j : Job) (host host' : HostView) (sink sink' : SinkView) (disk disk' : DiskView) → Row j host host' sink sink' disk disk' status.Usage → ⊥
-not_usage (Run j) host host' sink sink' disk disk' row = row
-not_usage (Show j) host host' sink sink' disk disk' row = row
-not_usage (Gen j) host host' sink sink' disk disk' row = row
-not_usage (Large j) host host' sink sink' disk disk' row = row
-not_usage (Audit j) host host' sink sink' disk disk' row = row
-not_usage (Journal j) host host' sink sink' disk disk' row = row
-not_usage (Recover j) host host' sink sink' disk disk' row = row.1
-not_usage (Views j) host host' sink sink' disk disk' row = row
-
-pub row_usage : (j : Job) (host host' : HostView) (sink sink' : SinkView) (disk disk' : DiskView) (st : Status) → Row j host host' sink sink' disk disk' st → st ≡ status.Usage → ⊥
-row_usage j host host' sink sink' disk disk' st row is = not_usage j host host' sink sink' disk disk' (subst (λ st. Row j host host' sink sink' disk disk' st) is row)
 
 -- ---- words that want of memory keeps from being read
 

@@ -7,7 +7,7 @@ use Rattle.fx_store.specs.declared.node.Node.{Node}
 use Rattle.fx_store.specs.Whole.{Nodes}
 use Rattle.fx_view.specs.ReadList.{ReadList}
 use Rattle.fx_view.specs.Reads.{Agrees}
-use Rattle.fx_view.proofs.Wholes.{agrees_more, agrees_none}
+use Rattle.fx_view.proofs.Wholes.{agrees_more}
 use Rattle.fx_spec.specs.Order.{state}
 use Rattle.fx_shared.specs.Passes.{LogView, HasSeenMore}
 use Rattle.fx_shared.proofs.Truths.{begins_short, state_later}
@@ -16,9 +16,6 @@ use Rattle.fx_views.specs.Past.{AreAt, WasAt, VouchesAt}
 
 abbrev Path : Type 0
 Path = List (List ℕ)
-
-pub at_none : (v : LogView) (position : ℕ) (reads : ReadList) → reads ≡ [] → AreAt v position reads
-at_none v position reads none = subst (AreAt v position) (sym none) (λ base is. agrees_none (get (state base v.seen position)))
 
 -- the state is within what the pass has seen, also when that is more
 pub within_on : (v w : LogView) (position : ℕ) → HasSeenMore v w → position ≤ length v.seen → position ≤ length w.seen

@@ -1,10 +1,10 @@
 -- What the maker has gathered, pass by pass and in the end.
-use Rattle.std.proofs.Common.{◌≡◌, inl, ⊎_elim, ℕ, zero, suc, ◌<◌, ◌≤◌, List, [], ◌∷◌, ◌++◌, map, length, Some, None, Result, Ok, Err, sym, ap, subst, ◌∙◌, arith}
+use Rattle.std.proofs.Common.{◌≡◌, inl, ⊎_elim, ℕ, zero, suc, ◌<◌, ◌≤◌, List, [], ◌∷◌, ◌++◌, map, length, Some, Result, Ok, Err, sym, ap, subst, ◌∙◌, arith}
 use Rattle.std.specs.Prelude.{OnOk}
 use Rattle.std.specs.List.{All}
 use Rattle.std.proofs.lemmas.Bool.{cases_lt}
 use Rattle.std.proofs.lemmas.List.{map-append}
-use Rattle.std.proofs.lemmas.List.Elements.{All-nil, All-head, All-tail, All-append, All-weaker}
+use Rattle.std.proofs.lemmas.List.Elements.{All-head, All-tail, All-append, All-weaker}
 use Rattle.std.proofs.lemmas.Option.{same_Some}
 use Rattle.fx_spec.specs.CommandTree.{CommandTree}
 use Rattle.fx_spec.specs.Plans.{Turn, count_of}
@@ -21,16 +21,6 @@ use Rattle.fx_workers.specs.Tried.{IsTried, AreTried}
 use Rattle.fx_workers.specs.Workers.{IsTriedBelow, HasGathered, counts_below}
 use Rattle.fx_workers.proofs.Orders.{completes}
 use Rattle.fx_workers.proofs.Tries.{tried_later, in_order_append, is_retry}
-
--- nothing is gathered yet
-pub gathered_none : (base : BaseTree) (v : LogView) → v.number ≡ None → v.base ≡ Some base → v.joined ≡ [] → HasGathered base v []
-gathered_none base v number based none = record {
-  number = number;
-  based = based;
-  joined = none ∙ ap (counts_below base.plan) (sym (ap length none));
-  each = All-nil (IsTriedBelow base v.seen (joins v));
-  order = tt;
-}
 
 below_later : (base : BaseTree) (o o' : List Turn) (n n' : ℕ) (r : RetryTree) → Begins o o' → n ≤ n' → IsTriedBelow base o n r → IsTriedBelow base o' n' r
 below_later base o o' n n' r b more t = (t.0, (let h = t.1 in omega (arith, h, more)), tried_later base o o' r.shell t.0 t.0 r b (omega arith) t.2)

@@ -45,9 +45,6 @@ read_more_cases (x ∷ xs) path read q r e = go (eq_by_cmp path_cmp q x.0) e (re
 pub stand_on : (v w : LogView) (reads : ReadList) → HasSeenMore v w → AreTrueOver v reads → AreTrueOver w reads
 stand_on v w reads more stand = λ base e. true_later base v.seen w.seen reads more.seen (stand base (sym more.base ∙ e))
 
-pub stand_none : (v : LogView) → AreTrueOver v []
-stand_none v = λ base is path node position e. absurd (none-some (node, position) e)
-
 -- so is a further one that was just looked at
 pub stand_more : (v : LogView) (reads : ReadList) (path : Path) (node : Option Node) (position : ℕ) → AreTrueOver v reads → IsLook v path (node, position) → AreTrueOver v (reads ++ (path, (node, position)) ∷ [])
 stand_more v reads path node position stand look = λ base is q n i e. by base is q n i (read_more_cases reads path (node, position) q (n, i) e)
