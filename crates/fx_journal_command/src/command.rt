@@ -112,6 +112,7 @@ fn keep<H: Host, S: Sink, D: Disk>(
         (S.view out.old) (S.view out.new) (D.view disk.old) (D.view disk.new) }
     ensures fit { AsksFit job.now.run.out.now (H.view host.old) (H.view host.new) }
 {
+    let _whole = base.loaded.places();
     let journal = start(job.journal, disk)?;
     let recorded = run_on(alloc, &job.run, base, journal, disk, out)?;
     finish(alloc, job.run.out, there, &recorded, host, out)

@@ -1,5 +1,8 @@
 use Rattle.std.proofs.Common.{sym, subst}
+use Rattle.std.specs.FinMap.{get}
+use Rattle.fx_store.specs.Whole.{IsWhole}
 use Rattle.fx_spec.specs.Bases.{base_tree}
+use Rattle.fx_spec.specs.declared.base.Base.{Base}
 use Rattle.fx_words.specs.JobOf.{asked_journal}
 use Rattle.fx_command.specs.StatusOf.{status_of}
 use Rattle.fx_base.proofs.Errors.{err_of}
@@ -35,8 +38,9 @@ returns-in_err-recorded-clause-row g c =
     let disk' = g.D.Disk.view c.run_on.new.disk in
     let st = c.in_err-recorded.field-0.0 in
     let is = err_of c.from_residual-in_err-recorded.result st c.from_residual-in_err-recorded.ensures.1 in
+    let whole : IsWhole (get c.args.base.value.loaded.nodes) = subst (λ (b : Base). IsWhole (get b.loaded.nodes)) c.deref.ensures c.places-whole.ensures.table.whole in
     subst (λ r. JournalRow j host host sink sink' disk disk' (status_of r)) (sym is)
-    (not_recorded j (base_tree c.args.base.value) WHOLE c.args.there host sink sink' disk started disk' c.requires.begins c.requires.free c.in_ok-journal.ensures.empty c.in_ok-journal.ensures.later st c.in_err-recorded.ensures.broken)
+    (not_recorded j (base_tree c.args.base.value) whole c.args.there host sink sink' disk started disk' c.requires.begins c.requires.free c.in_ok-journal.ensures.empty c.in_ok-journal.ensures.later st c.in_err-recorded.ensures.broken)
 
 pub returns-in_err-recorded-clause-keeps : goal.returns-in_err-recorded-clause-keeps
 returns-in_err-recorded-clause-keeps g c =
