@@ -31,13 +31,6 @@ goes_on bytes rest rest' m old now now' was wrote later cut = record {
   later = omega (arith, was.later);
 }
 
-some_front : (bytes : List ℕ) (n : ℕ) (before now : Option (List ℕ)) → now ≡ option_map (λ w. w ++ take n bytes) before → IfSome before (λ w. (n : ℕ) × (now ≡ Some (w ++ take n bytes)))
-some_front bytes n None now is = tt
-some_front bytes n (Some w) now is = (n, is)
-
-pub front_is : (bytes rest : List ℕ) (old now : SinkView) → IsWriting bytes rest old now → IfSome old.written (λ w. (n : ℕ) × (now.written ≡ Some (w ++ take n bytes)))
-front_is bytes rest old now was = some_front bytes was.count old.written now.written was.so_far
-
 some_whole : (bytes : List ℕ) (before now : Option (List ℕ)) → now ≡ option_map (λ w. w ++ bytes) before → IfSome before (λ w. now ≡ Some (w ++ bytes))
 some_whole bytes None now is = tt
 some_whole bytes (Some w) now is = is

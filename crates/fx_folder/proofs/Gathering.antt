@@ -6,7 +6,7 @@ use Rattle.std.specs.Ordering.{eq_by_cmp}
 use Rattle.std.specs.List.{AllByRecursion}
 use Rattle.std.specs.List.Sorted.{IsStrictlySortedBy}
 use Rattle.std.specs.Map.{keys_of}
-use Rattle.std.specs.FinMap.{get, find, put, from_entries}
+use Rattle.std.specs.FinMap.{get, find, put}
 use Rattle.std.proofs.lemmas.Bool.Decides.{nat_tests}
 use Rattle.fx_outside.specs.declared.kind.HostKind.{HostKind}
 use Rattle.fx_outside.specs.declared.kind.HostKind.TheVariants as kind
@@ -15,7 +15,6 @@ use Rattle.fx_outside.specs.Listing.{Names}
 use Rattle.fx_outside.specs.Tree.{Tree, Entry, Lists, entry_at, is_folder_at, is_file_at, is_file_kind, bytes_at}
 use Rattle.std.specs.Global.{Global}
 use Rattle.std.specs.Prelude.{Vec}
-use Rattle.fx_store.specs.declared.filestore.Filestore.{Filestore}
 use Rattle.fx_folder.specs.Loads.{loads, AnswersAs}
 use Rattle.fx_folder.specs.Reads.{path_below}
 use Rattle.fx_folder.proofs.Below.{folder_fit}
@@ -410,12 +409,6 @@ unread_told (Some t) folder k w (Refused cause) are here has walk answer =
 unread_told (Some t) folder k w ReadFault are here has walk answer = tt
 unread_told (Some t) folder k w NoMemory are here has walk answer = tt
 
-pub walk_told : (told : Option Tree) (at : Parts) (fault : LoadFault) → IfSome told (λ t. AnswersWalk t at (Err fault)) → IfSome told (λ t. AnswersFound t at (Err fault))
-walk_told None at fault walk = tt
-walk_told (Some t) at (Refused cause) walk = ap (λ c. unless_refused c (with_table (walked (all_below t at)) (table_in (all_below t at)))) walk
-walk_told (Some t) at ReadFault walk = tt
-walk_told (Some t) at NoMemory walk = tt
-
 pub bare_told : (told : Option Tree) (at : Parts) (w : Walked) (names : Names) (all : List Change) → AreFound w.found.items → IfSome told (λ t. Lists t at names) → IfSome told (λ t. AnswersWalk t at (Ok w)) → None ≡ get names table_name → all ≡ w.found.items → IfSome told (λ t. AnswersFound t at (Ok all))
 bare_told None at w names all are lists walk none is = tt
 bare_told (Some t) at w names all are lists walk none is =
@@ -424,14 +417,6 @@ bare_told (Some t) at w names all are lists walk none is =
     by : (o : Option Entry) → option_map (λ e. e.kind) o ≡ None → o ≡ None
     by None e = refl
     by (Some x) e = cc
-
-pub has_told : (told : Option Tree) (at : Parts) (names : Names) (k : HostKind) → IfSome told (λ t. Lists t at names) → Some k ≡ get names table_name → IfSome told (λ t. HasTable t at k)
-has_told None at names k lists is = tt
-has_told (Some t) at names k lists is = sym (lists table_name) ∙ sym is
-
-pub built_told : (told : Option Tree) (folder : List ℕ) (all : List Change) (s : Filestore) → IfSome told (λ t. AnswersFound t (parts folder) (Ok all)) → s.nodes ≡ from_entries (listed (mapped_of all)) → IfSome told (λ t. is_folder_at t folder ≡ true → AnswersAs (loads t folder) (Ok s))
-built_told None folder all s answer is = tt
-built_told (Some t) folder all s answer is = λ here. ap as_nodes answer ∙ ap Ok (sym is)
 
 pub cause_told : (told : Option Tree) (folder : List ℕ) (fault : LoadFault) → IfSome told (λ t. AnswersFound t (parts folder) (Err fault)) → IfSome told (λ t. is_folder_at t folder ≡ true → AnswersAs (loads t folder) (Err fault))
 cause_told None folder fault answer = tt
@@ -453,17 +438,6 @@ text_read None p q text same reads = tt
 text_read (Some t) p q text same reads =
     let short = not_above (length (bytes_at t q)) most_in_table reads.0 in
     subst (λ r. text_of kind.File (bytes_at t r) ≡ Ok text) same (ap (λ b. cond b (Err (TooLarge (place_of (table_name ∷ [])))) (Ok (bytes_at t q))) short ∙ ap Ok (sym reads.1))
-
-pub text_over : (told : Option Tree) (p q : List ℕ) (place : List ℕ) → q ≡ p → place ≡ place_of (table_name ∷ []) → IfSome told (λ t. ReadsWhole most_in_table (bytes_at t q) None) → IfSome told (λ t. AnswersText (text_of kind.File (bytes_at t p)) (Err (Refused (TooLarge place))))
-text_over None p q place same is reads = tt
-text_over (Some t) p q place same is reads =
-    let long = is_above (length (bytes_at t q)) most_in_table reads in
-    subst (λ r. text_of kind.File (bytes_at t r) ≡ Err (TooLarge place)) same (ap (λ b. cond b (Err (TooLarge (place_of (table_name ∷ [])))) (Ok (bytes_at t q))) long ∙ ap (λ l. Err (TooLarge l)) (sym is))
-
-pub text_strange : (told : Option Tree) (p : List ℕ) (k : HostKind) (place : List ℕ) → place ≡ place_of (table_name ∷ []) → (k ≡ kind.Folder) ⊎ (k ≡ kind.Other) → IfSome told (λ t. AnswersText (text_of k (bytes_at t p)) (Err (Refused (Strange place))))
-text_strange None p k place is other = tt
-text_strange (Some t) p k place is (inl folder) = ap (λ x. text_of x (bytes_at t p)) folder ∙ ap (λ l. Err (Strange l)) (sym is)
-text_strange (Some t) p k place is (inr strange) = ap (λ x. text_of x (bytes_at t p)) strange ∙ ap (λ l. Err (Strange l)) (sym is)
 
 pub text_of_file : (told : Option Tree) (p : List ℕ) (k : HostKind) (r : Result (List ℕ) LoadFault) → k ≡ kind.File → IfSome told (λ t. AnswersText (text_of kind.File (bytes_at t p)) r) → IfSome told (λ t. AnswersText (text_of k (bytes_at t p)) r)
 text_of_file told p k r is answer = subst (λ x. IfSome told (λ t. AnswersText (text_of x (bytes_at t p)) r)) (sym is) answer

@@ -32,9 +32,6 @@ use Rattle.fx_table.proofs.Rests.{same_front, rest_is, parts_is}
 use Rattle.fx_table.proofs.Shapes.{above_pushed}
 use Rattle.fx_folder.proofs.Ways.{root_pushed}
 
-abbrev Less_ : Parts → Parts → Type 0
-Less_ p q = path_cmp p q ≡ Less
-
 abbrev AllAbove : Parts → List Parts → Type 0
 AllAbove p ks = AllByRecursion (λ q. path_cmp p q ≡ Less) ks
 

@@ -18,14 +18,14 @@ use Rattle.fx_store.specs.declared.changes.Change.{Change}
 use Rattle.fx_store.specs.Names.{IsName, IsPath, is_name}
 use Rattle.fx_folder.specs.declared.walking.Item.{Item}
 use Rattle.fx_table.specs.declared.fault.FolderCause.{FolderCause}
-use Rattle.fx_table.specs.declared.fault.FolderCause.TheVariants.{Strange, TooLarge}
+use Rattle.fx_table.specs.declared.fault.FolderCause.TheVariants.{TooLarge}
 use Rattle.fx_table.specs.declared.fault.LoadFault.{LoadFault}
 use Rattle.fx_table.specs.declared.fault.LoadFault.TheVariants.{Refused, ReadFault, NoMemory}
 use Rattle.fx_folder.specs.Limits.{most_nodes, most_in_file}
-use Rattle.fx_folder.specs.Reads.{path_below, place, refused_size, ReadsFile}
+use Rattle.fx_folder.specs.Reads.{path_below, place, refused_size}
 use Rattle.fx_folder.specs.Deep.{all_below, walked, last_name, refused_kind, refused_bytes, refused_entry, node_of_kind}
 use Rattle.fx_table.specs.Places.{place_of}
-use Rattle.fx_folder.specs.Walks.{item_path, items_of, bytes_in, held_of, behind, ahead, IsThere, IsEntered, AnswersEntry, AnswersFile, PassesPath, refused_path, IsNoRefusal, size_of}
+use Rattle.fx_folder.specs.Walks.{item_path, items_of, bytes_in, held_of, behind, ahead, IsThere, IsEntered, AnswersEntry, AnswersFile, refused_path, IsNoRefusal, size_of}
 use Rattle.fx_folder.proofs.Texts.{parts_below, fit_below}
 use Rattle.fx_folder.proofs.Below.{folder_fit}
 use Rattle.fx_folder.proofs.Filled.{stands_in}
@@ -122,23 +122,6 @@ unknown false b o c d cause e = e
 entry_known : (nodes left : ℕ) (p : Parts) (e : Entry) → refused_path nodes p ≡ None → refused_entry nodes left (p, e) ≡ option_or (refused_kind p e.kind) (refused_bytes left p e.bytes)
 entry_known nodes left p e none = known (is_name (last_name p)) (nat_le (length p) 64 && nat_lt nodes most_nodes) _ _ _ none
 
-entry_unknown : (nodes left : ℕ) (p : Parts) (e : Entry) (cause : FolderCause) → refused_path nodes p ≡ Some cause → refused_entry nodes left (p, e) ≡ Some cause
-entry_unknown nodes left p e cause some = unknown (is_name (last_name p)) (nat_le (length p) 64 && nat_lt nodes most_nodes) _ _ _ cause some
-
-pub path_refused : (told : Option Tree) (at : Parts) (nodes left : ℕ) (x : Item) (fault : LoadFault) → PassesPath nodes (item_path x) (Err fault) → IfSome told (λ t. AnswersEntry nodes left (held_of t at x) (Err fault))
-path_refused None at nodes left x fault passes = tt
-path_refused (Some t) at nodes left x (Refused cause) passes = entry_unknown nodes left (item_path x) (held_of t at x).1 cause passes
-path_refused (Some t) at nodes left x ReadFault passes = absurd passes
-path_refused (Some t) at nodes left x NoMemory passes = tt
-
-pub other_refused : (told : Option Tree) (folder text : List ℕ) (path : Parts) (nodes left : ℕ) (x : Item) → refused_path nodes (item_path x) ≡ None → IsPassed folder text path x → x.kind ≡ kinds.Other → IfSome told (λ t. AnswersEntry nodes left (held_of t (parts folder) x) (Err (Refused (Strange (place text)))))
-other_refused None folder text path nodes left x none passed kind = tt
-other_refused (Some t) folder text path nodes left x none passed kind =
-    let h = held_of t (parts folder) x in
-    entry_known nodes left (item_path x) h.1 none
-    ∙ ap (λ k. option_or (refused_kind (item_path x) k) (refused_bytes left (item_path x) h.1.bytes)) kind
-    ∙ ap (λ l. Some (Strange l)) (sym (passed.spelled ∙ ap place_of passed.is))
-
 sizes : (left most n : ℕ) → (nat_lt most n || nat_lt left n) ≡ nat_lt (min left most) n
 sizes left most n = grind (arith, nat_tests)
 
@@ -147,16 +130,6 @@ size_is : (left : ℕ) (text : List ℕ) (p : Parts) (bytes : List ℕ) → 47 �
 size_is left text p bytes is =
     ap (λ b. cond b (Some (TooLarge (place text))) None) (sym (sizes left most_in_file (length bytes)))
     ∙ ap (λ l. cond (nat_lt most_in_file (length bytes) || nat_lt left (length bytes)) (Some (TooLarge l)) None) is
-
-pub file_answer : (told : Option Tree) (path : List ℕ) (left : ℕ) (text : List ℕ) (p : Parts) (bytes : List ℕ) → 47 ∷ text ≡ place_of p → IfSome told (λ t. ReadsFile left text (bytes_at t path) (Ok bytes)) → IfSome told (λ t. AnswersFile left p (bytes_at t path) (Ok (record { path = p; node = Some (File bytes false) })))
-file_answer None path left text p bytes is reads = tt
-file_answer (Some t) path left text p bytes is reads = (sym (size_is left text p (bytes_at t path) is) ∙ reads.0, ap (λ b. record { path = p; node = Some (File b false) }) reads.1)
-
-pub file_refusal : (told : Option Tree) (path : List ℕ) (left : ℕ) (text : List ℕ) (p : Parts) (fault : LoadFault) → 47 ∷ text ≡ place_of p → IfSome told (λ t. ReadsFile left text (bytes_at t path) (Err fault)) → IfSome told (λ t. AnswersFile left p (bytes_at t path) (Err fault))
-file_refusal None path left text p fault is reads = tt
-file_refusal (Some t) path left text p (Refused cause) is reads = sym (size_is left text p (bytes_at t path) is) ∙ reads
-file_refusal (Some t) path left text p ReadFault is reads = tt
-file_refusal (Some t) path left text p NoMemory is reads = tt
 
 -- ---- what an item is loaded as
 

@@ -2,9 +2,7 @@
 use Rattle.std.proofs.Common.{◌≡◌, ℕ, zero, suc, ◌+◌, ◌-◌, ◌<◌, ◌≤◌, min, nat_lt, Bool, true, false, cond, List, [], ◌∷◌, ◌++◌, length, take, drop, Option, None, Some, IfSome, IsSomeAnd, sym, ◌∙◌, ap, subst, arith, length-append, length-take, length-drop}
 use Rattle.std.proofs.lemmas.Bool.Decides.{nat_tests}
 use Rattle.std.proofs.lemmas.List.{take_all}
-use Rattle.fx_outside.specs.declared.kind.HostKind.TheVariants.{Folder}
-use Rattle.fx_outside.specs.declared.kind.Standing.TheVariants.{Is}
-use Rattle.fx_outside.specs.Tree.{Tree, Entry, bytes_at}
+use Rattle.fx_outside.specs.Tree.{Tree, bytes_at}
 use Rattle.fx_outside.specs.Host.{ReadsAt}
 use Rattle.fx_folder.specs.Limits.{most_in_file}
 use Rattle.fx_folder.specs.Reads.{refused_size, place}
@@ -44,19 +42,9 @@ front_told told told' path path' old buffer new from n same there start front re
 not_larger : (left : ℕ) (name contents : List ℕ) → length contents ≤ min left most_in_file → refused_size left name contents ≡ None
 not_larger left name contents le = let small : nat_lt (min left most_in_file) (length contents) ≡ false = grind (arith, nat_tests) in ap (λ b. cond b (Some (TooLarge (place name))) None) small
 
-larger : (left : ℕ) (name contents : List ℕ) → min left most_in_file < length contents → refused_size left name contents ≡ Some (TooLarge (place name))
-larger left name contents lt = let large : nat_lt (min left most_in_file) (length contents) ≡ true = grind (arith, nat_tests) in ap (λ b. cond b (Some (TooLarge (place name))) None) large
-
 -- at the end all is read
 pub read_end : (contents old buffer : List ℕ) (left n limit : ℕ) (name : List ℕ) → limit ≡ min left most_in_file → length old ≤ limit → old ≡ take (length old) contents → ReadsAt contents (length old) n buffer → n ≡ 0 → record { fits : refused_size left name contents ≡ None; all : old ≡ contents }
 read_end contents old buffer left n limit name is within front reads none =
     let ends = reads.ends none in
     let whole : old ≡ contents = front ∙ take_all (length old) contents ends in
     record { fits = not_larger left name contents (omega (arith, ap length whole)); all = whole }
-
--- more bytes than are left are too many
-pub read_over : (contents old buffer : List ℕ) (left n limit : ℕ) (name : List ℕ) → limit ≡ min left most_in_file → length old ≤ limit → limit - length old < n → ReadsAt contents (length old) n buffer → refused_size left name contents ≡ Some (TooLarge (place name))
-read_over contents old buffer left n limit name is within over reads = larger left name contents (omega (arith, reads.within))
-
-kind_is : (entry : Entry) → Is Folder ≡ Is entry.kind → Folder ≡ entry.kind
-kind_is entry e = cc

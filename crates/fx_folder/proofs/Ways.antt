@@ -9,7 +9,6 @@ use Rattle.fx_outside.specs.Tree.{Tree, IsWhole, Lists, is_folder_at}
 use Rattle.fx_store.specs.declared.node.Node.TheVariants.{Dir}
 use Rattle.fx_store.specs.declared.changes.Change.{Change}
 use Rattle.fx_folder.specs.declared.walking.Item.{Item}
-use Rattle.fx_folder.specs.declared.walking.Walked.{Walked}
 use Rattle.fx_table.specs.declared.fault.FolderCause.{FolderCause}
 use Rattle.fx_table.specs.declared.fault.LoadFault.{LoadFault}
 use Rattle.fx_table.specs.declared.fault.LoadFault.TheVariants.{Refused, ReadFault, NoMemory}
@@ -79,17 +78,6 @@ cause_told None at found left nodes todo x fault n way answer = tt
 cause_told (Some t) at found left nodes todo x (Refused cause) n way answer = way_refused t at found left todo x cause way (subst (λ k. refused_entry k left (held_of t at x) ≡ Some cause) n answer)
 cause_told (Some t) at found left nodes todo x ReadFault n way answer = tt
 cause_told (Some t) at found left nodes todo x NoMemory n way answer = tt
-
--- all is walked
-way_end : (t : Tree) (at : Parts) (found : List Change) (left : ℕ) (w : Walked) → w.found.items ≡ found → w.left ≡ left → IsOnWay t at found left [] → AnswersWalk t at (Ok w)
-way_end t at found left w f l way = (way.refusal, f ∙ (sym (append-nil found) ∙ sym way.entries), l ∙ (whole_left left ∙ sym way.bytes))
-  where
-    whole_left : (n : ℕ) → n ≡ n - all_bytes []
-    whole_left n = let none : all_bytes [] ≡ 0 = refl in omega arith
-
-pub end_told : (told : Option Tree) (at : Parts) (found : List Change) (left : ℕ) (w : Walked) → w.found.items ≡ found → w.left ≡ left → IfSome told (λ t. IsOnWay t at found left []) → IfSome told (λ t. AnswersWalk t at (Ok w))
-end_told None at found left w f l way = tt
-end_told (Some t) at found left w f l way = way_end t at found left w f l way
 
 pub fault_told : (told : Option Tree) (at : Parts) (fault : LoadFault) → IfSome told (λ t. WalkCause t at fault) → IfSome told (λ t. AnswersWalk t at (Err fault))
 fault_told None at fault cause = tt

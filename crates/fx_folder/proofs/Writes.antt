@@ -21,7 +21,7 @@ use Rattle.fx_folder.specs.Folder.{IfTold, IsSaved, IsPartlySaved, IsReady}
 use Rattle.fx_table.specs.Remaining.{ComesNext, IsLeftBelow}
 use Rattle.fx_folder.specs.Written.{with_folder, MadePart, IsOpen, with_entry, WrotePart, HasEntries, WroteFront, file_unless_empty}
 use Rattle.fx_folder.proofs.Filled.{opens}
-use Rattle.fx_table.proofs.Descents.{find_append, root_first}
+use Rattle.fx_table.proofs.Descents.{find_append}
 use Rattle.fx_folder.proofs.Fronts.{begins, adds, fresh, from_old, next_free, table_free, all_saved, refused_front, refused_table, refused_folder}
 use Rattle.fx_folder.proofs.Texts.{parts_place, fit_place, parts_table, fit_table}
 
@@ -125,20 +125,6 @@ is_free old host path nodes left left' p whole ready was next =
     next_free nodes whole t u (parts path) was.done left' p next.0 (next_split nodes was.done left left' p next.0 was.split next.2) has was.some (path ++ place_of p) (fit_place path p is.fit names) (parts_place path p names))
 
 -- it stops before the next entry, or in it
-
-pub stops_first : (host : HostView) (path : List ℕ) (nodes : Nodes) → IsWhole (get nodes) → IfSome host.told (λ t. IsOpen t path) → IfTold host.told host.told (λ t t'. WroteFront t t' (parts path) nodes)
-stops_first host path nodes whole ready =
-    let root = root_first nodes whole in
-    told_open host.told (λ t. IsOpen t path) (λ t t'. WroteFront t t' (parts path) nodes) ready
-    (λ t is. record {
-      done = ([], Dir root.0) ∷ [];
-      left = root.1;
-      split = root.2;
-      some = refl;
-      before = t;
-      written = begins t path root.0 is;
-      begun = inl refl;
-    })
 
 pub stops_before : (old host : HostView) (path : List ℕ) (nodes : Nodes) (left : List Mapped) → IsWriting old host path nodes left → IfTold old.told host.told (λ t t'. WroteFront t t' (parts path) nodes)
 stops_before old host path nodes left was =

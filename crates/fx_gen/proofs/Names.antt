@@ -7,7 +7,7 @@ use Rattle.std.specs.List.{AllByRecursion, list_all}
 use Rattle.std.specs.List.Sorted.{IsStrictlySortedBy}
 use Rattle.std.specs.Str.{is_utf8, chars}
 use Rattle.std.proofs.lemmas.Bool.{false≢true}
-use Rattle.fx_store.specs.Names.{is_name, name_cmp, path_cmp}
+use Rattle.fx_store.specs.Names.{is_name, path_cmp}
 use Rattle.fx_store.specs.Changes.{changed_paths}
 use Rattle.fx_gen.specs.Notes.{projects, placed, made}
 use lib.Utf8.{encode}
@@ -33,9 +33,6 @@ pub sorted : {K : Type 0} (R : K → K → Ordering) (ks : List K) → in_order 
 unfolding IsStrictlySortedBy
 sorted R [] e = tt
 sorted R (k ∷ ks) e = let p = both (list_all (λ l. is_lt (R k l)) ks) (in_order R ks) e in (above_each R k ks p.0, sorted R ks p.1)
-
-pub names_in_order : in_order name_cmp projects ≡ true
-names_in_order = refl
 
 pub paths_in_order : (number : ℕ) → in_order path_cmp (changed_paths (map made (placed number))) ≡ true
 paths_in_order number = refl

@@ -125,9 +125,6 @@ pub linked_text : (number : ℕ) → IsLinkText (linked number)
 unfolding linked
 linked_text number = link_text (draw number 0 16) (drawn_below number 0 16 (omega arith))
 
-short_path : (p : List (List ℕ)) (names : List (List ℕ)) → length p ≤ 3 → length p ≡ 64 → names ≡ []
-short_path p names short long = absurd (omega (arith, short, long))
-
 bytes_test : (bytes : List ℕ) → list_all (λ b. nat_le b 255) bytes ≡ true → All (λ b. b < 256) bytes
 bytes_test [] pass = All-nil (λ b. b < 256)
 bytes_test (b ∷ bytes) pass =
@@ -236,10 +233,6 @@ changes_more number n =
     ap (λ l. map made (placed_top number ++ l)) (flat_more (placed_project number) n)
     ∙ ap (map made) (sym (append_assoc (placed_top number) (flat_map (placed_project number) (range_with_len 0 n)) (placed_project number n)))
     ∙ map-append made (placed_top number ++ flat_map (placed_project number) (range_with_len 0 n)) (placed_project number n)
-
-pub changes_none : (number : ℕ) → changes_to number 0 ≡ made ([], Dir (codes "config" ∷ codes "current" ∷ projects)) ∷ made (codes "config" ∷ [], File config false) ∷ made (codes "current" ∷ [], Link (linked number)) ∷ []
-unfolding changes_to
-changes_none number = refl
 
 -- the notes of a project behind its other parts
 pub project_made : (cs : List Change) (number p : ℕ) (dir notes : List (List ℕ)) → dir ≡ project p ∷ [] → notes ≡ project p ∷ codes "notes" ∷ [] → (cs ++ made (dir, Dir (codes "count" ∷ codes "log" ∷ codes "notes" ∷ [])) ∷ made (dir ++ codes "count" ∷ [], File (codes "0") false) ∷ made (dir ++ codes "log" ∷ [], Dir []) ∷ []) ++ made (notes, Dir note_names) ∷ note_changes_to number p 8 ≡ cs ++ project_changes number p

@@ -7,7 +7,7 @@ use Rattle.fx_grammar.specs.Texts.{HasTokens, HasKeptTokens}
 use Rattle.fx_grammar.specs.Tokens.{text_tokens}
 use Rattle.fx_gen.specs.Scripts.{description}
 use Rattle.fx_gen_laws.specs.Trees.{description_text, DescriptionStands}
-use Rattle.fx_gen_laws.proofs.Cutting.{Bit, blank, word, one, two, text, pieces_of, bytes_of, goods, goods_at, tokens_in, has_tokens}
+use Rattle.fx_gen_laws.proofs.Cutting.{Bit, blank, word, one, two, text, pieces_of, goods, goods_at, tokens_in, has_tokens}
 
 abbrev pub sp : Bit
 sp = blank 32
@@ -30,9 +30,6 @@ bits =
     one 60 ∷ w (codes "c") ∷ sp ∷ one 58 ∷ sp ∷ (entry_bits (codes "config") (codes "file") ++ (one 44 ∷ sp ∷ one 60 ∷ w (codes "t") ∷ sp ∷ one 58 ∷ sp ∷ one 123 ∷ opens ∷ w (codes "p") ∷ sp ∷ two 58 ∷ sp ∷ one 60 ∷ w (codes "n") ∷ sp ∷ one 58 ∷ sp ∷
     (entry_bits (codes "count") (codes "file") ++ (one 44 ∷ sp ∷ one 60 ∷ w (codes "l") ∷ sp ∷ one 58 ∷ sp ∷ (entry_bits (codes "log") (codes "dir") ++ (one 44 ∷ sp ∷ (entry_bits (codes "notes") (codes "dir") ++ (one 62 ∷ one 62 ∷ closes ∷ sp ∷ one 124 ∷ sp ∷ w (codes "p") ∷ sp ∷ w (codes "in") ∷ sp ∷ w (codes "lines") ∷ opens ∷ w (codes "c") ∷ closes ∷ one 125 ∷ one 44 ∷ sp ∷
     (entry_bits (codes "current") (codes "link") ++ (one 62 ∷ one 62 ∷ blank 10 ∷ []))))))))))
-
-bits_text : bytes_of (pieces_of bits) ≡ description
-bits_text = refl
 
 bits_good : goods bits 0 ≡ true
 bits_good = refl

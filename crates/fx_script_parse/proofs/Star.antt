@@ -36,9 +36,6 @@ not_empty x more e = cc
 same_head : (x y : Token) (a b : List Token) → x ∷ a ≡ y ∷ b → x ≡ y
 same_head x y a b e = cc
 
-same_tail : (x y : Token) (a b : List Token) → x ∷ a ≡ y ∷ b → a ≡ b
-same_tail x y a b e = cc
-
 pub nothing_there : (f : List Token) (x : Token) (r : List Token) → [] ≡ f ++ x ∷ r → ⊥
 nothing_there [] x r e = cc
 nothing_there (y ∷ f) x r e = cc

@@ -71,17 +71,5 @@ drop_name (n ∷ p) (suc k) lt = let one : suc k + 1 ≡ suc (k + 1) = omega ari
 rest_at : (p q : Parts) (k : ℕ) → k < length p → k < length q → rest_of (drop k p) (drop k q) ≡ cond (eq_by_cmp name_cmp (get_or p k []) (get_or q k [])) (rest_of (drop (k + 1) p) (drop (k + 1) q)) None
 rest_at p q k kp kq = ap (λ l. rest_of l (drop k q)) (drop_name p k kp) ∙ ap (rest_of (get_or p k [] ∷ drop (k + 1) p)) (drop_name q k kq)
 
-pub same_so_far : (p q : Parts) (k : ℕ) (b : Bool) → k < length p → k < length q → b ≡ eq_by_cmp name_cmp (get_or p k []) (get_or q k []) → b ≡ true → is_some (rest_of p q) ≡ is_some (rest_of (drop k p) (drop k q)) → is_some (rest_of p q) ≡ is_some (rest_of (drop (k + 1) p) (drop (k + 1) q))
-same_so_far p q k b kp kq is holds so = so ∙ ap is_some (rest_at p q k kp kq) ∙ ap (λ t. is_some (cond t (rest_of (drop (k + 1) p) (drop (k + 1) q)) None)) (sym is ∙ holds)
-
 pub differs : (p q : Parts) (k : ℕ) (b : Bool) → k < length p → k < length q → b ≡ eq_by_cmp name_cmp (get_or p k []) (get_or q k []) → b ≡ false → is_some (rest_of p q) ≡ is_some (rest_of (drop k p) (drop k q)) → false ≡ is_some (rest_of p q)
 differs p q k b kp kq is fails so = sym (so ∙ ap is_some (rest_at p q k kp kq) ∙ ap (λ t. is_some (cond t (rest_of (drop (k + 1) p) (drop (k + 1) q)) None)) (sym is ∙ fails))
-
-pub all_same : (p q : Parts) (k : ℕ) → length p ≤ k → is_some (rest_of p q) ≡ is_some (rest_of (drop k p) (drop k q)) → true ≡ is_some (rest_of p q)
-all_same p q k le so = sym (so ∙ ap (λ l. is_some (rest_of l (drop k q))) (nothing p k le))
-  where
-    nothing : (xs : Parts) (i : ℕ) → length xs ≤ i → drop i xs ≡ []
-    nothing [] zero h = refl
-    nothing [] (suc i) h = refl
-    nothing (x ∷ xs) zero h = absurd (omega arith)
-    nothing (x ∷ xs) (suc i) h = nothing xs i (omega arith)

@@ -238,9 +238,6 @@ merging_end found links yielded rest all end merging is more =
     let was = merging [] (is ∙ sym (append-nil yielded)) in
     more ∙ (ap (λ l. all ++ l) (sym (ap changes_of (links_alone (pending rest) was.ascending) ∙ changes_entries (pending rest))) ∙ sym was.whole)
 
-pub merging_made : (found : List Change) (links : List TableLink) (yielded rest all : List Change) → IsMerging found links yielded rest all → (left : List Change) → found ≡ yielded ++ left → MakeLinks rest
-merging_made found links yielded rest all merging left is = (merging left is).made
-
 -- ---- all that is left
 
 pub rest_moved : (old now new : List Change) (all mid end : List Change) (c : Change) → MakeLinks now → all ++ map link_change (pending old) ≡ mid ++ map link_change (pending now) → now ≡ new ++ c ∷ [] → end ≡ mid ++ c ∷ [] → all ++ map link_change (pending old) ≡ end ++ map link_change (pending new)

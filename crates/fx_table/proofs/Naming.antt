@@ -1,5 +1,5 @@
 -- One directory after another lists the names that stand in it.
-use Rattle.std.proofs.Common.{◌≡◌, ℕ, zero, suc, ◌+◌, ◌<◌, ◌≤◌, true, false, List, [], ◌∷◌, ◌++◌, map, length, take, drop, set, get_or, Option, Some, option_map, refl, sym, ◌∙◌, ap, subst, arith, append-nil}
+use Rattle.std.proofs.Common.{◌≡◌, ℕ, zero, suc, ◌+◌, ◌<◌, ◌≤◌, true, false, List, [], ◌∷◌, ◌++◌, map, length, take, drop, set, get_or, Option, Some, option_map, refl, sym, ◌∙◌, ap, subst, arith}
 use Rattle.std.specs.List.{filter_map, cons_option, slice_get}
 use Rattle.std.specs.List.Sorted.{IsStrictlySortedBy}
 use Rattle.std.specs.Map.{keys_of}
@@ -11,7 +11,7 @@ use Rattle.fx_store.specs.declared.node.Node.TheVariants.{File, Dir, Link}
 use Rattle.fx_store.specs.declared.changes.Change.{Change}
 use Rattle.fx_store.specs.Names.{path_cmp, IsNameSet}
 use Rattle.fx_table.specs.Table.{is_dir}
-use Rattle.fx_table.specs.Listed.{Mapped, names_below, with_names, listed}
+use Rattle.fx_table.specs.Listed.{Mapped, names_below, with_names}
 use Rattle.fx_table.specs.Mapped.{mapped_of}
 use Rattle.fx_table.specs.Shaped.{HaveNameSets, ListsAt, change_of, changes_of}
 
@@ -108,15 +108,6 @@ all_taken (suc n) [] le = (refl, refl)
 all_taken zero (x ∷ xs) le = absurd (omega arith)
 all_taken (suc n) (x ∷ xs) le = let rest = all_taken n xs (omega arith) in (ap (λ l. x ∷ l) rest.0, rest.1)
 
-pub part_all : (es : List Mapped) (i : ℕ) (found : List Change) → length es ≤ i → found ≡ part_listed es i → found ≡ changes_of (listed es)
-part_all es i found le is =
-    let rest = all_taken i es le in
-    is ∙ (ap (λ l. changes_of (map (with_names es) (take i es) ++ l)) rest.1 ∙ (ap changes_of (append-nil (map (with_names es) (take i es))) ∙ ap (λ l. changes_of (map (with_names es) l)) rest.0))
-
-pub part_none : (es : List Mapped) (found : List Change) → found ≡ changes_of es → found ≡ part_listed es 0
-part_none [] found is = is
-part_none (e ∷ es) found is = is
-
 -- ---- at one index
 
 pub there : {A : Type 0} (xs : List A) (i : ℕ) (x : A) → i < length xs → x ≡ get_or xs i x → slice_get xs i ≡ Some x
@@ -132,9 +123,6 @@ key_of (c ∷ found) (suc i) x is = key_of found i x is
 -- one index, one change
 pub one_path : (found : List Change) (i : ℕ) (x y : Change) → i < length found → x ≡ get_or found i x → y ≡ get_or found i y → x.path ≡ y.path
 one_path found i x y lt a b = ap (λ (c : Change). c.path) (same_Some x y (sym (there found i x lt a) ∙ there found i y lt b))
-
-pub names_are : (found deref : List Change) (i : ℕ) (x y : Change) (names : List (List ℕ)) → i < length found → x ≡ get_or found i x → y ≡ get_or found i y → deref ≡ found → names ≡ names_below (mapped_of deref) y.path → names ≡ names_below (mapped_of found) x.path
-names_are found deref i x y names lt a b same is = is ∙ (ap (λ l. names_below (mapped_of l) y.path) same ∙ ap (names_below (mapped_of found)) (one_path found i y x lt b a))
 
 set_same : {A : Type 0} (xs : List A) (i : ℕ) (x : A) → slice_get xs i ≡ Some x → xs ≡ set xs i x
 set_same [] i x is = refl

@@ -1,5 +1,5 @@
 -- Changes that make the links of a table among what a filestore holds.
-use Rattle.std.proofs.Common.{◌≡◌, ◌⊎◌, inl, inr, ℕ, zero, suc, ◌+◌, ◌≤◌, drop, Bool, true, false, cond, ◌||◌, List, [], ◌∷◌, ◌++◌, map, length, Option, Some, None, IfSome, option_map, refl, sym, ◌∙◌, ap, subst, arith, length-append, append_assoc, append-nil}
+use Rattle.std.proofs.Common.{◌≡◌, ◌⊎◌, inl, inr, ℕ, zero, suc, ◌+◌, ◌≤◌, drop, Bool, true, false, cond, ◌||◌, List, [], ◌∷◌, ◌++◌, map, length, Option, Some, None, IfSome, option_map, refl, sym, ◌∙◌, ap, subst, arith, length-append}
 use Rattle.std.specs.Prelude.{nat_lt, unwrap_or, codes, ◌/◌, ◌%◌}
 use Rattle.std.specs.Fmt.{digit_glyph}
 use Rattle.std.proofs.lemmas.List.Sums.{sum_by-cons}
@@ -30,16 +30,15 @@ use Rattle.fx_table.specs.declared.fault.FolderCause.TheVariants.{BadName, Stran
 use Rattle.fx_table.specs.declared.fault.LoadFault.{LoadFault}
 use Rattle.fx_table.specs.declared.fault.LoadFault.TheVariants.{Refused, ReadFault, NoMemory}
 use Rattle.fx_table.specs.declared.lines.Room.{Room}
-use Rattle.fx_table.specs.declared.descent.Entry.{Entry}
 use Rattle.fx_table.specs.declared.descent.Level.{Level}
 use Rattle.fx_table.specs.Flags.{with_exec}
 use Rattle.fx_table.specs.Listed.{Mapped, listed, with_links, with_flags, with_lines}
-use Rattle.fx_table.specs.Shaped.{IsOfBytes, AreOfBytes, IsLeaf, IsShaped, change_of, changes_of, HaveNameSets}
+use Rattle.fx_table.specs.Shaped.{IsOfBytes, AreOfBytes, IsLeaf, IsShaped, changes_of, HaveNameSets}
 use Rattle.fx_table.specs.Lines.{lines_in, AreLines, texts_of, ReadsAll, LinesCause}
-use Rattle.fx_table.specs.Linked.{linked_nodes, MakesTable, TableCause, bare_node, bare, AddsBare, differs, flag_change, kept_change, kept_of, Keeps}
+use Rattle.fx_table.specs.Linked.{linked_nodes, MakesTable, TableCause, bare_node, bare, differs, flag_change, kept_change, kept_of, Keeps}
 use Rattle.fx_table.specs.Mapped.{mapped_of}
 use Rattle.fx_table.specs.Merges.{CanMerge}
-use Rattle.fx_table.specs.Remaining.{left_of, AreLevels, IsLeftBelow, ComesNext, IsEntry}
+use Rattle.fx_table.specs.Remaining.{left_of, AreLevels}
 use Rattle.fx_table.specs.Table.{Mark, Target, Executable, TableLine, TableLink, over as setting, is_dir, line_of, lines_text, links_among, link_in_line, flag_at, is_second, body_of, read_table}
 use Rattle.fx_table.specs.TableSpelling.{is_plain, spelled, spelling}
 use Rattle.fx_table.proofs.Bodies.{bad_read}
@@ -55,29 +54,6 @@ use Rattle.fx_table.proofs.Versions.{tables_are_read}
 pub record IsBaring (nodes : Nodes) (all : List Change) (levels : List Level) : Type 0 where
   pub are : AreLevels nodes levels
   pub baring : all ++ changes_of (map bare (left_of nodes levels)) ≡ changes_of (map bare (entries nodes))
-
-pub baring_starts : (nodes : Nodes) (all start : List Change) (levels : List Level) (p : Parts) (ns : List (List ℕ)) → AreLevels nodes levels → IsLeftBelow nodes (left_of nodes levels) → start ≡ [] → p ≡ [] → ns ≡ [] → all ≡ start ++ record { path = p; node = Some (Dir ns) } ∷ [] → IsBaring nodes all levels
-baring_starts nodes all start levels p ns are left none root empty is = record {
-  are = are;
-  baring =
-      ap (λ l. l ++ changes_of (map bare (left_of nodes levels))) (is ∙ (ap (λ l. l ++ record { path = p; node = Some (Dir ns) } ∷ []) none ∙ (ap (λ q. record { path = q; node = Some (Dir ns) } ∷ []) root ∙ ap (λ l. record { path = []; node = Some (Dir l) } ∷ []) empty)))
-      ∙ ap (λ l. changes_of (map bare l)) (sym left.2);
-}
-
-pub baring_more : (nodes : Nodes) (all new : List Change) (levels levels' : List Level) (e : Entry) → IsBaring nodes all levels → AreLevels nodes levels' → IsEntry nodes (left_of nodes levels) (left_of nodes levels') e → AddsBare e.path e.node.now all new → IsBaring nodes new levels'
-baring_more nodes all new levels levels' e was are comes adds =
-    let next = comes.next in
-    let same : e.node.now ≡ next.0 = same_Some e.node.now next.0 (sym comes.node ∙ next.1) in
-    record {
-      are = are;
-      baring =
-          ap (λ l. l ++ changes_of (map bare (left_of nodes levels'))) (adds ∙ ap (λ n. all ++ change_of (bare (e.path, n)) ∷ []) same)
-          ∙ (append_assoc all (change_of (bare (e.path, next.0)) ∷ []) (changes_of (map bare (left_of nodes levels')))
-          ∙ (ap (λ l. all ++ changes_of (map bare l)) (sym next.2) ∙ was.baring));
-    }
-
-pub baring_end : (nodes : Nodes) (all : List Change) (levels levels' : List Level) → IsBaring nodes all levels → ComesNext nodes (left_of nodes levels) (left_of nodes levels') None → all ≡ changes_of (map bare (entries nodes))
-baring_end nodes all levels levels' was none = sym (ap (λ l. all ++ changes_of (map bare l)) none ∙ append-nil all) ∙ was.baring
 
 -- ---- keys
 

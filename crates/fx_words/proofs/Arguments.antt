@@ -7,7 +7,7 @@ use Rattle.fx_words.specs.declared.form.CommandName.{CommandName}
 use Rattle.fx_words.specs.Forms.{has_form, is_within, least_of, most_of, takes, word_of}
 use Rattle.fx_words.proofs.Names.{named_so}
 use Rattle.fx_words.specs.declared.job.Inputs as code_inputs
-use Rattle.fx_words.specs.Job.{Inputs, Mode, RunJob, AuditJob, JournalJob, RecoverJob, ViewsJob, GenJob, Plain, Scheduled, are_plain, audit_job, command_job, gen_job, is_count, is_count_with_views, is_plain, job_of, journal_job, named_job, number_of, recover_job, run_job, schedule_of, scheduled_job, show_job, views_job}
+use Rattle.fx_words.specs.Job.{Inputs, Mode, RunJob, AuditJob, JournalJob, RecoverJob, ViewsJob, Plain, Scheduled, are_plain, audit_job, command_job, is_count, is_count_with_views, is_plain, job_of, journal_job, named_job, recover_job, run_job, schedule_of, scheduled_job, show_job, views_job}
 use Rattle.fx_words.specs.JobOf.{BeginAt, asked_inputs, has_schedule, scripts_in, shells_read}
 use Rattle.fx_words.proofs.Lists.{drop_there}
 
@@ -163,22 +163,6 @@ pair (w ∷ x ∷ y ∷ z ∷ rest) a b e f n = absurd (omega (arith, n))
 
 pub show_is : (ws : List Text) (spec folder : Text) → slice_get ws 1 ≡ Some spec → slice_get ws 2 ≡ Some folder → length ws ≡ 3 → show_job (drop 1 ws) ≡ Some (record { spec = spec; folder = folder })
 show_is ws spec folder e f n = ap show_job (pair ws spec folder e f n)
-
-abbrev gen_by : Text → ℕ → GenJob
-gen_by out n = record { number = n; out = out }
-
-pub gen_is : (ws : List Text) (number out : Text) (o : Option ℕ) → slice_get ws 1 ≡ Some number → slice_get ws 2 ≡ Some out → length ws ≡ 3 → o ≡ number_of number → option_map (gen_by out) o ≡ gen_job (drop 1 ws)
-gen_is ws number out o e f n is = ap (option_map (gen_by out)) is ∙ sym (ap gen_job (pair ws number out e f n))
-
--- where the number can't be read
-pub gen_not : (ws : List Text) (number : Text) → slice_get ws 1 ≡ Some number → length ws ≡ 3 → None ≡ number_of number → None ≡ gen_job (drop 1 ws)
-gen_not [] number e n is = cc
-gen_not (w ∷ []) number e n is = cc
-gen_not (w ∷ x ∷ []) number e n is = cc
-gen_not (w ∷ x ∷ y ∷ []) number e n is =
-    let first : number ≡ x = cc in
-    ap (λ o. option_map (gen_by y) o) is ∙ ap (λ v. option_map (gen_by y) (number_of v)) first
-gen_not (w ∷ x ∷ y ∷ z ∷ rest) number e n is = absurd (omega (arith, n))
 
 -- ---- by the form that was read
 

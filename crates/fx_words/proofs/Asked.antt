@@ -5,8 +5,7 @@ use Rattle.std.proofs.lemmas.Bool.Decides.{nat_tests}
 use Rattle.fx_words.specs.declared.form.CommandName.{CommandName}
 use Rattle.fx_words.specs.declared.form.CommandName.TheVariants as command
 use Rattle.fx_words.specs.Forms.{command_named, has_form, is_within, takes, word_of}
-use Rattle.fx_words.proofs.Names.{command_is}
-use Rattle.fx_words.specs.Job.{Job, Mode, Run, Show, Gen, Large, Audit, Journal, Recover, Views, Scheduled, Watched, are_plain, audit_job, command_job, gen_job, is_count, is_count_with_views, is_plain, job_of, journal_job, named_job, recover_job, run_job, scheduled_job, show_job, views_job}
+use Rattle.fx_words.specs.Job.{Job, Mode, Run, Show, Gen, Large, Audit, Journal, Recover, Views, Scheduled, Watched, are_plain, audit_job, command_job, gen_job, is_count, is_count_with_views, is_plain, job_of, journal_job, recover_job, run_job, scheduled_job, show_job, views_job}
 
 -- ---- words without a form ask for nothing
 
@@ -107,21 +106,3 @@ plain_name command.Watch = refl
 plain_name command.Journal = refl
 plain_name command.Recover = refl
 plain_name command.Views = refl
-
-unnamed : (w : List ℕ) → is_plain w ≡ false → command_named w ≡ None
-unnamed w not_plain = at (command_named w) refl
-  where
-    at : (o : Option CommandName) → command_named w ≡ o → o ≡ None
-    at None e = refl
-    at (Some name) e =
-        let bad : true ≡ false = sym (plain_name name) ∙ ap is_plain (command_is w name e) ∙ not_plain in
-        cc
-
-pub not_all_plain : (words : List (List ℕ)) → are_plain words ≡ false → job_of words ≡ None
-not_all_plain [] e = cc
-not_all_plain (w ∷ args) e = at (is_plain w) (are_plain args) refl e
-  where
-    at : (b rest : Bool) → is_plain w ≡ b → b && rest ≡ false → cond rest (named_job w args) None ≡ None
-    at true true i e = cc
-    at b false i e = refl
-    at false true i e = ap (option_and_then (λ name. command_job name args)) (unnamed w i)
