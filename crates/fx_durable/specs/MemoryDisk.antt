@@ -84,9 +84,10 @@ pub record IsUntouched (old new : MemoryDisk) : Type 0 where
 abbrev pub HasPlace : MemoryDisk → Type 0
 HasPlace disk = length (disk_record disk) < disk_limit disk
 
--- the call is recorded, where the record has room
-abbrev pub Records : DiskCall → MemoryDisk → MemoryDisk → Type 0
-Records c old new = HasPlace old → disk_record new ≡ disk_record old ++ c ∷ []
+-- the call is recorded where the record has room, and else the record stays
+pub record Records (c : DiskCall) (old new : MemoryDisk) : Type 0 where
+  pub added : HasPlace old → disk_record new ≡ disk_record old ++ c ∷ []
+  pub full : (HasPlace old → ⊥) → disk_record new ≡ disk_record old
 
 -- a write of so many bytes that failed counts as written, where the record has room
 abbrev pub CountsAsWritten : ℕ → ℕ → MemoryDisk → MemoryDisk → Type 0
