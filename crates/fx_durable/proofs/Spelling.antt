@@ -1,14 +1,14 @@
 -- Reading records one by one.
 use Rattle.std.proofs.Common.{◌≡◌, Option, Some, None, ◌==◌, inl, inr, ℕ, zero, suc, ◌+◌, ◌-◌, ◌*◌, ◌≤◌, ◌<◌, List, [], ◌∷◌, ◌++◌, length, take, drop, refl, sym, ◌∙◌, ap, subst, arith, true, false, Result, Ok, Err, append_assoc, length-append}
-use Rattle.std.specs.Prelude.{nat_lt, if◌then◌else◌, IfSome}
+use Rattle.std.specs.Prelude.{nat_lt, if◌then◌else◌, IfSome, IfErr}
 use Rattle.std.specs.Int.{w32, from_be_bytes}
 use Rattle.std.proofs.lemmas.Bool.{cases_lt}
 use Rattle.std.proofs.lemmas.Bool.{false≢true}
 use Rattle.std.proofs.lemmas.List.{append-nil, drop_all, take_all, drop-take, length-take, length-drop, map-append}
 use Rattle.std.proofs.lemmas.Bool.Decides.{nat_tests}
 use Rattle.fx_base.specs.Limits.{txn_limit}
-use Rattle.fx_durable.specs.Journal.{before, reading, is_open, turn_in, turn_of, turns_of, value_of, IsRead, Reads, IsUnread}
-use Rattle.fx_durable.specs.Disk.{File, DiskView, IsAsTold}
+use Rattle.fx_durable.specs.Journal.{before, reading, is_open, turn_in, turn_of, turns_of, value_of, IsRead, Reads, IsUnread, HasReadFault}
+use Rattle.fx_durable.specs.Disk.{File, DiskView, IsAsTold, TellsLength}
 use Rattle.fx_durable.specs.declared.journal_fault.JournalFault.{JournalFault}
 use Rattle.fx_durable.specs.declared.journal_fault.JournalFault.TheVariants as fault
 use Rattle.fx_spec.specs.Plans.{Turn}
@@ -164,3 +164,14 @@ unread_reads None e unread = tt
 unread_reads (Some file) (fault.Broken n) unread = absurd unread
 unread_reads (Some file) fault.Failed unread = tt
 unread_reads (Some file) fault.NoMemory unread = tt
+
+tells_at : (told : Option File) (path : List ℕ) (n : ℕ) → IfSome told (λ file. (file.path ≡ path) × (n ≡ length file.seen)) → IfSome told (λ file. file.path ≡ path)
+tells_at None path n answer = tt
+tells_at (Some file) path n answer = answer.0
+
+-- whatever the bytes of a chosen file spell, what was read is at the path
+pub reads_chosen : (path : List ℕ) (n : ℕ) (old new : DiskView) (r : Result (List Pair) JournalFault) → TellsLength old path n → IfErr r (λ e. e ≡ fault.Failed → ⊥) → HasReadFault path old new r
+reads_chosen path n old new (Ok pairs) answer failed = tells_at old.told path n answer
+reads_chosen path n old new (Err (fault.Broken place)) answer failed = tells_at old.told path n answer
+reads_chosen path n old new (Err fault.Failed) answer failed = absurd (failed refl)
+reads_chosen path n old new (Err fault.NoMemory) answer failed = tt

@@ -6,7 +6,7 @@ use Rattle.fx_base.specs.Causes.{Rose}
 use Rattle.fx_base.specs.Limits.{txn_limit}
 use Rattle.fx_spec.specs.Plans.{Turn}
 use Rattle.fx_machine.specs.declared.entry.Pair.{Pair}
-use Rattle.fx_durable.specs.Disk.{File, DiskView, MayLeave, LeavesOnly, TellsOther}
+use Rattle.fx_durable.specs.Disk.{File, DiskView, MayLeave, LeavesOnly, TellsOther, TellsAt}
 use Rattle.fx_durable.specs.declared.journal_fault.JournalFault.{JournalFault}
 use Rattle.fx_durable.specs.declared.journal_fault.JournalFault.TheVariants as fault
 
@@ -114,10 +114,10 @@ Reads image (Err (fault.Broken record_number)) = Breaks record_number image
 Reads image (Err fault.Failed) = Unit {0}
 Reads image (Err fault.NoMemory) = Unit {0}
 
--- the bytes were not read: the disk failed, or tells a file at another path
+-- bytes that were read are those of a file at the path; where none were read, the disk failed, or tells a file at another path
 abbrev pub HasReadFault : {A : Type 0} → List ℕ → DiskView → DiskView → Result A JournalFault → Type 0
-HasReadFault path old new (Ok a) = Unit {0}
-HasReadFault path old new (Err (fault.Broken record_number)) = Unit {0}
+HasReadFault path old new (Ok a) = TellsAt old path
+HasReadFault path old new (Err (fault.Broken record_number)) = TellsAt old path
 HasReadFault path old new (Err fault.Failed) = Rose old.faults new.faults ⊎ TellsOther old path
 HasReadFault path old new (Err fault.NoMemory) = Unit {0}
 

@@ -1,6 +1,6 @@
 -- What a disk in memory tells: what its record of calls makes of an empty file.
 use Rattle.std.specs.Prelude.{◌≡◌, ◌+◌, ◌<◌, ◌||◌, ℕ, Bool, true, false, not, List, [], ◌∷◌, ◌++◌, length, nat_lt, Some, IfSome, refl, Result, Ok, Err}
-use Rattle.fx_outside.specs.Calls.{Plan, is_next_failing}
+use Rattle.fx_outside.specs.Calls.{Plan, is_next_failing, with_call, with_fault}
 use Rattle.fx_durable.specs.Disk.{File, DiskView, MayLeave, torn}
 use Rattle.fx_durable.specs.Replay.{no_file, replay}
 use Rattle.fx_durable.specs.Placed.{image_of}
@@ -54,13 +54,40 @@ pub record IsSameDisk (old new : MemoryDisk) : Type 0 where
   pub room : disk_room new ≡ disk_room old
   pub limit : disk_limit new ≡ disk_limit old
 
+-- path, room and limit stay
+pub record IsSameRoom (old new : MemoryDisk) : Type 0 where
+  pub path : disk_path new ≡ disk_path old
+  pub room : disk_room new ≡ disk_room old
+  pub limit : disk_limit new ≡ disk_limit old
+
+-- the plan after a call with this result: the call is counted, and a fault where it failed
+abbrev pub plan_after : {A E : Type 0} → Plan → Result A E → Plan
+plan_after plan (Ok a) = with_call plan
+plan_after plan (Err e) = with_fault (with_call plan)
+
+-- a call with this result was made: it is counted, and path, room and limit stay
+pub record IsCall {A E : Type 0} (old new : MemoryDisk) (result : Result A E) : Type 0 where
+  pub room : IsSameRoom old new
+  pub plan : disk_plan new ≡ plan_after (disk_plan old) result
+
+-- the bytes of all writes that were done, after one more write with this result
+abbrev pub taken_after : {A E : Type 0} → List ℕ → List ℕ → Result A E → List ℕ
+taken_after taken bytes (Ok a) = taken ++ bytes
+taken_after taken bytes (Err e) = taken
+
+-- nothing at all is changed
+pub record IsUntouched (old new : MemoryDisk) : Type 0 where
+  pub disk : IsSameDisk old new
+  pub plan : disk_plan new ≡ disk_plan old
+
 -- the record has room for one more call
 abbrev pub HasPlace : MemoryDisk → Type 0
 HasPlace disk = length (disk_record disk) < disk_limit disk
 
--- the call is recorded, where the record has room
-abbrev pub Records : DiskCall → MemoryDisk → MemoryDisk → Type 0
-Records c old new = HasPlace old → disk_record new ≡ disk_record old ++ c ∷ []
+-- the call is recorded where the record has room, and else the record stays
+pub record Records (c : DiskCall) (old new : MemoryDisk) : Type 0 where
+  pub added : HasPlace old → disk_record new ≡ disk_record old ++ c ∷ []
+  pub full : (HasPlace old → ⊥) → disk_record new ≡ disk_record old
 
 -- a write of so many bytes that failed counts as written, where the record has room
 abbrev pub CountsAsWritten : ℕ → ℕ → MemoryDisk → MemoryDisk → Type 0

@@ -3,7 +3,7 @@
 ghost use Rattle.std.specs.Prelude.{◌≡◌, ◌≤◌, ◌<◌, ◌⊎◌, ◌+◌, ◌∷◌, ◌++◌, [], length, is_ok, true, IfOk, OnOk, OnErr, IfSome, Err};
 ghost use Rattle.fx_base.specs.Causes.{Rose};
 ghost use Rattle.fx_base.specs.Limits.{txn_limit};
-ghost use Rattle.fx_durable.specs.Disk.{Continues, StaysUnstarted, IsAsTold, TellsOther, TellsLength, HasFault};
+ghost use Rattle.fx_durable.specs.Disk.{Continues, StaysUnstarted, IsAsTold, TellsOther, TellsAt, TellsLength, HasFault};
 ghost use Rattle.fx_durable.specs.Journal.{payload, RestsAt, Rests, LeavesOrder, AddsTurn};
 ghost use Rattle.fx_durable.specs.declared.journal.StartFault.TheVariants.{NotEmpty, Failed};
 
@@ -66,6 +66,7 @@ impl Journal {
             (StaysUnstarted (D.view disk.old).told (D.view disk.new).told) }
         ensures not_empty { result ≡ Err NotEmpty → IsAsTold (D.view disk.old) (D.view disk.new)
             × IfSome (D.view disk.old).told (λ file. 0 < length file.seen) }
+        ensures at_path { result ≡ Err NotEmpty → TellsAt (D.view disk.old) path.now }
         ensures later { (D.view disk.old).faults ≤ (D.view disk.new).faults }
         ensures failed { result ≡ Err Failed
             → Rose (D.view disk.old).faults (D.view disk.new).faults
@@ -107,6 +108,7 @@ impl Journal {
             (AddsTurn self.old.count (shell, txn) (D.view disk.old) (D.view disk.new)) }
         ensures goes_on { Continues (D.view disk.old) (D.view disk.new) }
         ensures count { OnOk result (self.new.count ≡ self.old.count + 1) }
+        ensures same { OnErr result (self.new.count ≡ self.old.count) }
         ensures good { self.new.good ≡ is_ok result }
         ensures cause { HasFault (D.view disk.old) (D.view disk.new) result }
     {

@@ -10,7 +10,6 @@ use std::alloc::{AllocError, AllocFailed};
 pub enum JournalFault {
     /// The record of this number is cut short, or is one too many.
     Broken(u64),
-    /// The disk failed.
     /// The disk failed, or tells a file at another path.
     Failed,
     NoMemory,

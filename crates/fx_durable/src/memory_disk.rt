@@ -34,7 +34,7 @@ pub struct MemoryDisk {
 
 impl MemoryDisk {
     ghost use Rattle.fx_durable.specs.declared.disk_call.DiskCall.TheVariants.{Wrote, Synced};
-    ghost use Rattle.fx_durable.specs.MemoryDisk.{disk_record, disk_taken, disk_room, disk_limit, disk_plan, disk_file, disk_view, fails_next, IsSameDisk, HasPlace, Records};
+    ghost use Rattle.fx_durable.specs.MemoryDisk.{disk_record, disk_taken, disk_room, disk_limit, disk_plan, disk_file, disk_view, fails_next, IsSameDisk, IsSameRoom, HasPlace, Records};
 
     /// A disk for a file at a path, where none stands yet, with room for so many written bytes and so many calls.
     pub fn new(
@@ -99,6 +99,8 @@ impl MemoryDisk {
         ensures same { OnErr result (disk_plan self.new ≡ disk_plan self.old) }
         ensures file { disk_file self.new ≡ disk_file self.old }
         ensures record { disk_record self.new ≡ disk_record self.old }
+        ensures taken { disk_taken self.new ≡ disk_taken self.old }
+        ensures room { IsSameRoom self.old self.new }
     {
         self.calls.fail(call)
     }
@@ -132,6 +134,8 @@ impl MemoryDisk {
         ensures logged { HasPlace self.old
             → disk_file self.new ≡ replay (disk_file self.old) (call ∷ []) [] }
         ensures plan { disk_plan self.new ≡ disk_plan self.old }
+        ensures taken { disk_taken self.new ≡ disk_taken self.old }
+        ensures room { IsSameRoom self.old self.new }
     {
         if (self.made.len() as u64) < self.limit {
             note(&mut self.made, call);
@@ -147,6 +151,8 @@ impl MemoryDisk {
         ensures record { disk_record self.new
             ≡ disk_record self.old ++ Wrote from (length bytes.now) ∷ [] }
         ensures plan { disk_plan self.new ≡ disk_plan self.old }
+        ensures taken { disk_taken self.new ≡ disk_taken self.old ++ bytes.now }
+        ensures room { IsSameRoom self.old self.new }
     {
         put(&mut self.bytes, from as usize, bytes);
         append(&mut self.taken, bytes);
@@ -159,6 +165,8 @@ impl MemoryDisk {
         ensures file { disk_file self.new ≡ synced (disk_file self.old) }
         ensures record { disk_record self.new ≡ disk_record self.old ++ Synced ∷ [] }
         ensures plan { disk_plan self.new ≡ disk_plan self.old }
+        ensures taken { disk_taken self.new ≡ disk_taken self.old }
+        ensures room { IsSameRoom self.old self.new }
     {
         note(&mut self.made, DiskCall::Synced);
     }
@@ -204,7 +212,7 @@ fn put(bytes: &mut Vec<u8>, from: usize, piece: &[u8])
 impl Disk for MemoryDisk {
     ghost use Rattle.std.specs.Prelude.{◌≡◌, ◌<◌, ◌≤◌, length, IfOk, OnOk, OnErr, IfSome, Some};
     ghost use Rattle.fx_durable.specs.Disk.{IsAsTold, Writes, MayTear, Syncs, TellsLength, TellsBytes, HasFault, HasOpenFault};
-    ghost use Rattle.fx_durable.specs.MemoryDisk.{disk_path, disk_view, fails_next, fails_write, FailsWhere, Records, CountsAsWritten, file_image};
+    ghost use Rattle.fx_durable.specs.MemoryDisk.{disk_path, disk_taken, disk_view, fails_next, fails_write, taken_after, FailsWhere, IsCall, IsUntouched, Records, CountsAsWritten, file_image};
     ghost use Rattle.fx_durable.specs.declared.disk_call.DiskCall.TheVariants.{Choose, Read, Wrote, Tore, Synced, Unsynced};
 
     ghost view = { disk_view };
@@ -217,6 +225,9 @@ impl Disk for MemoryDisk {
         ensures cause { HasOpenFault path.now (disk_view self.old) (disk_view self.new) result }
         ensures fails { path.now ≡ disk_path self.old → FailsWhere (fails_next self.old) result }
         ensures record { path.now ≡ disk_path self.old → Records Choose self.old self.new }
+        ensures call { path.now ≡ disk_path self.old → IsCall self.old self.new result }
+        ensures no_call { (path.now ≡ disk_path self.old → ⊥) → IsUntouched self.old self.new }
+        ensures taken { disk_taken self.new ≡ disk_taken self.old }
     {
         if *path != self.path {
             return Err(DiskFailed);
@@ -237,6 +248,8 @@ impl Disk for MemoryDisk {
         ensures cause { HasFault (disk_view self.old) (disk_view self.new) result }
         ensures fails { FailsWhere (fails_next self.old) result }
         ensures record { Records Read self.old self.new }
+        ensures call { IsCall self.old self.new result }
+        ensures taken { disk_taken self.new ≡ disk_taken self.old }
     {
         let fails = self.begin();
         self.log(DiskCall::Read);
@@ -262,6 +275,8 @@ impl Disk for MemoryDisk {
         ensures tore { OnErr result (Records (Tore from (length bytes.now)) self.old self.new) }
         ensures counts { OnErr result
             (CountsAsWritten from (length bytes.now) self.old self.new) }
+        ensures call { IsCall self.old self.new result }
+        ensures taken { disk_taken self.new ≡ taken_after (disk_taken self.old) bytes.now result }
     {
         let fails = self.begin();
         let left = self.room as usize - self.taken.len();
@@ -280,6 +295,8 @@ impl Disk for MemoryDisk {
         ensures fails { FailsWhere (fails_next self.old) result }
         ensures record { OnOk result (Records Synced self.old self.new) }
         ensures unsynced { OnErr result (Records Unsynced self.old self.new) }
+        ensures call { IsCall self.old self.new result }
+        ensures taken { disk_taken self.new ≡ disk_taken self.old }
     {
         if self.begin() {
             self.log(DiskCall::Unsynced);

@@ -1,8 +1,12 @@
 use Rattle.std.proofs.Common.{subst}
 use Rattle.fx_durable.specs.Journal.{Reads}
-use Rattle.fx_durable.proofs.Spelling.{reads_told}
+use Rattle.fx_durable.proofs.Spelling.{reads_told, reads_chosen}
 use Rattle.fx_durable.proofs.reading.read_journal.Goals as goal
 
 pub returns-clause-reads : goal.returns-clause-reads
 returns-clause-reads g c =
     reads_told (g.D.Disk.view c.args.disk.now) (g.D.Disk.view c.choose.new.self) c.in_ok-bytes.bytes.items c.read_pairs.result c.choose.ensures.same c.in_ok-bytes.ensures.read (subst (λ b. Reads b c.read_pairs.result) c.deref.ensures.value c.read_pairs.ensures.reads)
+
+pub returns-clause-cause : goal.returns-clause-cause
+returns-clause-cause g c =
+    reads_chosen c.args.path.now c.in_ok-choose.field-0 (g.D.Disk.view c.args.disk.now) (g.D.Disk.view c.read_bytes.new.disk) c.read_pairs.result c.in_ok-choose.ensures.answer c.read_pairs.ensures.failed

@@ -52,3 +52,12 @@ returns-then-ne-clause-fails c same = absurd (other_text c.args.path.now c.args.
 
 pub returns-then-ne-clause-record : goal.returns-then-ne-clause-record
 returns-then-ne-clause-record c same = absurd (other_text c.args.path.now c.args.self.now.path (not_is _ (sym c.ne.ensures ∙ c.if-ne.true)) same)
+
+pub returns-then-ne-clause-call : goal.returns-then-ne-clause-call
+returns-then-ne-clause-call c same = absurd (other_text c.args.path.now c.args.self.now.path (not_is _ (sym c.ne.ensures ∙ c.if-ne.true)) same)
+
+pub returns-then-fails-clause-no_call : goal.returns-then-fails-clause-no_call
+returns-then-fails-clause-no_call c differs = absurd (differs (same_text c.args.path.now c.args.self.now.path (not_not _ (sym c.ne.ensures ∙ c.if-ne.false))))
+
+pub returns-clause-no_call : goal.returns-clause-no_call
+returns-clause-no_call c differs = absurd (differs (same_text c.args.path.now c.args.self.now.path (not_not _ (sym c.ne.ensures ∙ c.if-ne.false))))
