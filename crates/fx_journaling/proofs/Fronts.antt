@@ -6,25 +6,24 @@ use Rattle.std.proofs.lemmas.List.Concat.{flat_map-append}
 use Rattle.fx_store.specs.Whole.{IsWhole}
 use Rattle.fx_spec.specs.Order.{BaseTree}
 use Rattle.fx_machine.specs.declared.event.Event.{Event}
-use Rattle.fx_machine.specs.Machine.{Machine, Step, Run, resting}
+use Rattle.fx_machine.specs.Machine.{Machine, Run, resting}
 use Rattle.fx_machine.specs.Tried.{retries_of}
 use Rattle.fx_machine.specs.Turns.{BeginsTurns, leaves_out, goes, next_round, stops}
 use Rattle.fx_progress.specs.Ends.{HasEnd}
 use Rattle.fx_progress.proofs.Ending.{comes_to_end}
+use Rattle.fx_progress.proofs.Going.{goes_on}
+use Rattle.fx_progress.proofs.Tasked.{looks_at_paths}
+use Rattle.fx_progress.proofs.Turning.{runs_on}
 use Rattle.fx_report.specs.Entries.{report}
 use Rattle.fx_report.specs.Events.{event_line, lines}
 use Rattle.fx_journaling.specs.Laws.{WrittenIsFront}
-use Rattle.fx_journaling.specs.Written.{IsPartOfLine, HasWrittenEvents, HasWrittenReport, HasWritten, IsFrontOfOutput}
+use Rattle.fx_journaling.specs.Written.{IsPartOfLine, HasWrittenEvents, HasWrittenReport, IsFrontOfOutput}
 use Rattle.fx_journaling.proofs.Taking.{lines_more, run_more}
 
 front_and_rest : {X : Type 0} (n : ℕ) (xs : List X) → take n xs ++ drop n xs ≡ xs
 front_and_rest zero xs = refl
 front_and_rest (suc n) [] = refl
 front_and_rest (suc n) (x ∷ xs) = ap (λ l. x ∷ l) (front_and_rest n xs)
-
-runs_on : (base : BaseTree) (m : Machine) (events : List Event) (m' : Machine) (more : List Event) (m'' : Machine) → Run base m events m' → Run base m' more m'' → Run base m (events ++ more) m''
-runs_on base m [] m' more m'' run on = subst (λ m. Run base m more m'') (sym run) on
-runs_on base m (e ∷ events) m' more m'' run on = (run.0, run.1, runs_on base run.0 events m' more m'' run.2 on)
 
 first_same : {X : Type 0} (x y : X) (xs ys : List X) → x ∷ xs ≡ y ∷ ys → x ≡ y
 first_same x y xs ys e = cc
@@ -46,7 +45,7 @@ begins_with base before turns [] (e ∷ events) later same stops = absurd (cc)
 -- the run that comes to its end behind these events
 module _ (base : BaseTree) (schedule : List ℕ) (whole : IsWhole (get base.loaded)) (events : List Event) (m : Machine) (run : Run base (resting base []) events m) (begins : BeginsTurns base [] schedule events) where
   end : HasEnd base schedule events m
-  end = comes_to_end base schedule events m whole run begins
+  end = comes_to_end (goes_on looks_at_paths) base schedule events m whole run begins
 
   front : (bytes rest : List ℕ) → bytes ++ rest ≡ lines events → IsFrontOfOutput base schedule bytes
   front bytes rest is = record {

@@ -18,7 +18,7 @@ use Rattle.fx_machine.specs.Measure.{has_left}
 use Rattle.fx_machine.specs.Turns.{TakesTurns, left_out, steps, a_round, over, is_settled_by, has_more}
 use Rattle.fx_machine.proofs.Weight.{weight, weight_falls}
 use Rattle.fx_progress.specs.Ends.{HasEvent, GoesOn, ComesToEnd}
-use Rattle.fx_progress.proofs.Turning.{TurnsLeft, turns_left, more_is_left}
+use Rattle.fx_progress.proofs.Turning.{TurnsLeft, turns_left, more_is_left, runs_on}
 use Rattle.fx_progress.proofs.Resting.{true_false, first_contains, at_rest, completed}
 
 -- ---- shells with a transaction left
@@ -51,12 +51,6 @@ none_more base before none k = ⊎_elim (λ (h : k < length base.plan). none k h
 one_of : (x k : ℕ) → Contains (x ∷ []) k → x ≡ k
 one_of x k (zero, h, same) = same
 one_of x k (suc i, h, same) = absurd (omega (arith, h))
-
--- ---- runs
-
-runs_on : (base : BaseTree) (m : Machine) (events : List Event) (m' : Machine) (more : List Event) (m'' : Machine) → Run base m events m' → Run base m' more m'' → Run base m (events ++ more) m''
-runs_on base m [] m' more m'' run on = subst (λ m. Run base m more m'') (sym run) on
-runs_on base m (e ∷ events) m' more m'' run on = (run.0, run.1, runs_on base run.0 events m' more m'' run.2 on)
 
 -- some events that lead from the machine to its end, by these turns
 record Rest (base : BaseTree) (before : List Event) (turns : List ℕ) (m : Machine) : Type 0 where

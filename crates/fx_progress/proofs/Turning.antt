@@ -35,10 +35,10 @@ turns_left {base} {before = before} {turns = turns} stops = record { left = turn
 
 -- ---- transactions left
 
-abbrev settled_by : ℕ → List Event → ℕ
+abbrev pub settled_by : ℕ → List Event → ℕ
 settled_by k events = count_by (is_settled_by k) events
 
-settled_cons : (k : ℕ) (e : Event) (events : List Event) → settled_by k (e ∷ events) ≡ cond (is_settled_by k e) 1 0 + settled_by k events
+pub settled_cons : (k : ℕ) (e : Event) (events : List Event) → settled_by k (e ∷ events) ≡ cond (is_settled_by k e) 1 0 + settled_by k events
 settled_cons k e events = sum_by-cons (λ e. cond (is_settled_by k e) 1 0) e events
 
 -- a settled transaction is one of its shell's
@@ -53,7 +53,7 @@ next_more o k shell txn = by (nat_eq shell k) refl
     by false e = let same : next_number (o ++ (shell, txn) ∷ []) k ≡ next_number o k = ap length (numbers_other o k shell txn e) in omega (arith, same)
 
 -- the number of a shell's next transaction is that of its settles
-next_counts : (base : BaseTree) (m : Machine) (events : List Event) (m' : Machine) (k : ℕ) → Run base m events m' → next_number m'.order k ≡ next_number m.order k + settled_by k events
+pub next_counts : (base : BaseTree) (m : Machine) (events : List Event) (m' : Machine) (k : ℕ) → Run base m events m' → next_number m'.order k ≡ next_number m.order k + settled_by k events
 next_counts base m [] m' k run = let same : next_number m'.order k ≡ next_number m.order k = ap (λ (m : Machine). next_number m.order k) (sym run) in omega (arith, same)
 next_counts base m (event.Look shell path position ∷ events) m' k run =
     let rest : next_number m'.order k ≡ next_number run.0.order k + settled_by k events = next_counts base run.0 events m' k run.2 in
@@ -80,3 +80,10 @@ pub more_is_left : (base : BaseTree) (events : List Event) (m : Machine) (k : �
 more_is_left base events m k run =
     let count : next_number m.order k ≡ settled_by k events = (let h = next_counts base (resting base []) events m k run in omega (arith, h)) in
     ap (λ n. nat_lt n (count_of base.plan k)) (sym count) ∙ sym (some_within (script_of base.plan k) (next_number m.order k))
+
+-- ---- runs
+
+-- one run, and then another
+pub runs_on : (base : BaseTree) (m : Machine) (events : List Event) (m' : Machine) (more : List Event) (m'' : Machine) → Run base m events m' → Run base m' more m'' → Run base m (events ++ more) m''
+runs_on base m [] m' more m'' run on = subst (λ m. Run base m more m'') (sym run) on
+runs_on base m (e ∷ events) m' more m'' run on = (run.0, run.1, runs_on base run.0 events m' more m'' run.2 on)

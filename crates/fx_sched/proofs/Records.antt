@@ -1,9 +1,9 @@
 -- Recorded runs: how they begin, and how they go on by turns and rounds.
-use Rattle.std.proofs.Common.{◌≡◌, ⊎_elim, ℕ, zero, suc, ◌<◌, ◌≤◌, Bool, true, false, nat_lt, List, [], ◌∷◌, ◌++◌, length, get_or, replicate, slice_get, Some, None, is_some, refl, sym, ap, subst, ◌∙◌, arith, append_assoc}
+use Rattle.std.proofs.Common.{◌≡◌, ⊎_elim, ℕ, zero, suc, ◌<◌, ◌≤◌, true, false, nat_lt, List, [], ◌∷◌, ◌++◌, length, get_or, replicate, slice_get, Some, None, is_some, refl, sym, ap, subst, ◌∙◌, arith, append_assoc}
 use Rattle.std.specs.List.{Contains}
 use Rattle.std.proofs.lemmas.Bool.{cases_lt}
 use Rattle.std.proofs.lemmas.List.{append-nil, length-set, length-replicate, get_or_past}
-use Rattle.std.proofs.lemmas.List.Elements.{Contains-append_cases, Contains-append_left, Contains-append_right}
+use Rattle.std.proofs.lemmas.List.Elements.{Contains-append_cases}
 use Rattle.fx_spec.specs.Plans.{script_of, count_of}
 use Rattle.fx_spec.specs.Order.{BaseTree, first_numbers}
 use Rattle.fx_machine.specs.declared.event.Event.{Event}
@@ -16,13 +16,15 @@ use Rattle.fx_machine.specs.Tried.{conflicts_of}
 use Rattle.fx_machine.specs.Turns.{TakesTurns, left_out, steps, a_round, over as all_over, BeginsTurns, leaves_out, goes, next_round, stops, has_more}
 use Rattle.fx_machine.proofs.Weight.{weight, weight_falls}
 use Rattle.fx_board.specs.Log.{Log}
+use Rattle.fx_progress.proofs.Turning.{settled_by, next_counts, some_within, more_is_left, runs_on}
+use Rattle.fx_progress.proofs.Resting.{first_contains, true_false}
 use Rattle.fx_sched.specs.declared.shell.Shell.{Shell}
 use Rattle.fx_sched.specs.Left.{SomeLeft}
 use Rattle.fx_sched.specs.Recorded.{Play, IsRecording, RunsBy, HadTurns, HadRounds}
 use Rattle.fx_sched.specs.Running.{Running}
 use Rattle.fx_sched.specs.Taking.{a_start}
 use Rattle.fx_sched.specs.World.{running_of, noted, IsWorld, Leads}
-use Rattle.fx_sched.proofs.Counts.{settled_by, next_counts, some_within, more_is_left, noted_conflicts}
+use Rattle.fx_sched.proofs.Counts.{noted_conflicts}
 use Rattle.fx_sched.proofs.Worlds.{run_more, shell_at}
 
 -- ---- what a world answers
@@ -61,10 +63,6 @@ pub begun : (base : BaseTree) → IsRecording (a_start base)
 begun base = record { run = refl; count = length-replicate (length base.plan) []; conflicts = λ k within. none_at (length base.plan) k }
 
 -- ---- turns
-
-runs_on : (base : BaseTree) (m : Machine) (events : List Event) (m' : Machine) (more : List Event) (m'' : Machine) → Run base m events m' → Run base m' more m'' → Run base m (events ++ more) m''
-runs_on base m [] m' more m'' run on = subst (λ m. Run base m more m'') (sym run) on
-runs_on base m (e ∷ events) m' more m'' run on = (run.0, run.1, runs_on base run.0 events m' more m'' run.2 on)
 
 pub recorded_more : (r : Play) → IsRecording r → (k : ℕ) → has_more r.world.base r.events k ≡ has_left r.world.base r.world.machine k
 recorded_more r is k = more_is_left r.world.base r.events r.world.machine k is.run
@@ -195,12 +193,6 @@ had_then a b c ts us s t =
 
 -- ---- rounds
 
-pub first_contains : (n k : ℕ) → k < n → Contains (first_numbers n) k
-first_contains zero k h = absurd (omega (arith, h))
-first_contains (suc n) k h =
-    ⊎_elim (λ (l : k < n). Contains-append_left (first_numbers n) (n ∷ []) k (first_contains n k l))
-    (λ (g : n ≤ k). let same : n ≡ k = omega (arith, h, g) in Contains-append_right (first_numbers n) (n ∷ []) k (subst (Contains (n ∷ [])) same (0, omega arith, refl))) (cases_lt k n)
-
 reached_on : (base : BaseTree) (m : Machine) (e : Event) (m' : Machine) → IsReached base m → Step base m e m' → IsReached base m'
 reached_on base m e m' reached step = record { events = reached.events ++ e ∷ []; run = run_more base (resting base []) reached.events m e m' reached.run step }
 
@@ -217,9 +209,6 @@ run_falls base m (e ∷ events) m' reached some run =
     let first : weight base run.0 < weight base m = weight_falls base m run.0 e reached run.1 in
     let rest : weight base m' ≤ weight base run.0 = run_keeps base run.0 events m' (reached_on base m e run.0 reached run.1) run.2 in
     omega (arith, first, rest)
-
-pub true_false : (b : Bool) → b ≡ true → b ≡ false → ⊥
-true_false b t f = absurd (cc)
 
 pub round_falls : (old new : Running) → IsReached old.base old.machine → SomeLeft old → RunsBy old (first_numbers (length old.base.plan)) new → weight new.base new.machine < weight old.base old.machine
 round_falls old new reached left runs =
