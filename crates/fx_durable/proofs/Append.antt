@@ -3,11 +3,11 @@ use Rattle.std.proofs.Common.{◌≡◌, inl, inr, ℕ, ◌+◌, ◌*◌, ◌≤
 use Rattle.std.specs.Prelude.{IfSome}
 use Rattle.std.proofs.lemmas.List.Elements.{All-push}
 use Rattle.fx_base.specs.Limits.{txn_limit}
-use Rattle.fx_durable.specs.Disk.{wrote, kept, File, DiskView, MayLeave, Torn, written, synced, GoesOn, LeavesOnly, Continues, IsAsTold, Writes, MayTear, Syncs}
+use Rattle.fx_durable.specs.Disk.{wrote, kept, File, DiskView, MayLeave, Torn, written, synced, LeavesOnly, IsAsTold, Writes, MayTear, Syncs}
 use Rattle.fx_durable.specs.Journal.{records, at_rest, FitsRecord, Spells, RestsAt, Rests, IsBeforeOrAfter, LeavesOrder, AddsTurn}
 use Rattle.fx_spec.specs.Plans.{Turn}
 use Rattle.fx_durable.proofs.Records.{length-records}
-use Rattle.fx_durable.proofs.Told.{is_some_weaker, if_told, of_told, is_told, if_is_told, told_same, told_written, told_synced, told_torn}
+use Rattle.fx_durable.proofs.Told.{if_told, of_told, is_told, if_is_told, told_same, told_written, told_synced, told_torn}
 use Rattle.fx_durable.proofs.Moments.{begun, goes_more, goes_torn}
 use Rattle.fx_durable.proofs.Crash.{behind, with_gate, spells_gate, spells_at_rest, torn_behind, written_behind, torn_gate, written_gate, spells_after}
 

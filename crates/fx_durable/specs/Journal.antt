@@ -114,7 +114,7 @@ Reads image (Err (fault.Broken record_number)) = Breaks record_number image
 Reads image (Err fault.Failed) = Unit {0}
 Reads image (Err fault.NoMemory) = Unit {0}
 
--- bytes that were read are those of a file at the path; where none were read, the disk failed, or tells a file at another path
+-- a told file of which bytes were read is at this path; at Failed the disk failed, or tells a file at another path
 abbrev pub HasReadFault : {A : Type 0} → List ℕ → DiskView → DiskView → Result A JournalFault → Type 0
 HasReadFault path old new (Ok a) = TellsAt old path
 HasReadFault path old new (Err (fault.Broken record_number)) = TellsAt old path

@@ -1,4 +1,4 @@
-use Rattle.std.proofs.Common.{ap, sym, subst, length, ◌+◌, ◌*◌, [], ◌∷◌}
+use Rattle.std.proofs.Common.{ap, ◌+◌, ◌*◌, [], ◌∷◌}
 use Rattle.fx_spec.specs.Plans.{Turn}
 use Rattle.fx_durable.specs.Journal.{FitsRecord}
 use Rattle.fx_durable.proofs.Append.{has_gate, stops_at_first, stops_at_second, stops_at_third, stops_at_fourth, ends_well, ends_added, as_written, as_torn, as_opened, as_gate_torn}
