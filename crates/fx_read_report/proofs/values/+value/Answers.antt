@@ -1,9 +1,8 @@
-use Rattle.std.proofs.Common.{◌≡◌, suc, ◌-◌, sym, ap, subst, ◌∙◌, rules, arith, ℕ, length, map, refl}
-use Rattle.std.specs.List.{zip}
+use Rattle.std.proofs.Common.{◌≡◌, ◌-◌, sym, ap, ◌∙◌, arith, ℕ, length}
 use Rattle.fx_expr.specs.Views.{tree_of}
 use Rattle.fx_read_report.specs.Values.{ascends}
-use Rattle.fx_read_report.proofs.Finds.{ascends_is, falls_of, before_found, before_none, before_other, pair_no_first, pair_no_second, pair_unopened, row_found, row_no_key, row_no_sign, row_no_value, row_other, some_none, some_unopened, table_falling, table_none, table_unopened}
-use Rattle.fx_read_report.proofs.Loops.{counted, reading_none, rows_ending, rows_further, rows_no_comma, rows_no_row, rows_shorter, sides_keys}
+use Rattle.fx_read_report.proofs.Finds.{ascends_is, falls_of, before_found, before_other, pair_no_first, pair_no_second, pair_unopened, row_found, row_no_sign, row_no_value, row_other, some_none, some_unopened, table_falling, table_none, table_unopened}
+use Rattle.fx_read_report.proofs.Loops.{counted, rows_ending, rows_further, rows_no_comma, rows_no_row, rows_shorter, sides_keys}
 use Rattle.fx_read_report.proofs.Trees.{pair_stands, some_stands, table_stands, at_levels, at_level, below_levels, other_none}
 use Rattle.fx_read_report.proofs.values.+value.Goals as goal
 

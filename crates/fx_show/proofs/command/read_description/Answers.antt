@@ -5,7 +5,7 @@ use Rattle.fx_base.proofs.Errors.{if_err_of}
 use Rattle.fx_words.specs.JobOf.{asked_show}
 use Rattle.fx_show.specs.Faults.{status_of_fault}
 use Rattle.fx_show.specs.Rows.{ShowEndsAs}
-use Rattle.fx_show.proofs.Showing.{text_refused, description_read}
+use Rattle.fx_show.proofs.Showing.{text_refused}
 use Rattle.fx_show.proofs.command.read_description.Goals as goal
 
 pub returns-in_err-spec-clause-ends : goal.returns-in_err-spec-clause-ends

@@ -1,9 +1,9 @@
-use Rattle.std.proofs.Common.{◌≡◌, ◌++◌, ℕ, take, Some, IfSome, sym, subst}
+use Rattle.std.proofs.Common.{◌≡◌, ◌++◌, ℕ, Some, IfSome, sym, subst}
 use Rattle.fx_command.specs.StatusOf.{status_of}
 use Rattle.fx_base.proofs.Errors.{err_of}
 use Rattle.fx_words.specs.JobOf.{asked_show}
 use Rattle.fx_show.specs.Rows.{ShowRow}
-use Rattle.fx_show.proofs.Showing.{show_done, show_unprinted}
+use Rattle.fx_show.proofs.Showing.{show_done}
 use Rattle.fx_show.proofs.command.show.Goals as goal
 
 pub returns-in_err-output-clause-row : goal.returns-in_err-output-clause-row
