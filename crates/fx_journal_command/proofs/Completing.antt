@@ -48,9 +48,9 @@ module _ (j : JournalJob) (t : Tree) (host host' : HostView) (sink sink' : SinkV
   not_broken (inr (inl rose)) = quiet rose
   not_broken (inr (inr rose)) = calm rose
 
-  not_full : IsTaken t j.run.out ⊎ (((there : Bool) × IsReady t j.run.out there) × HoldsBytes disk) → ⊥
+  not_full : IsTaken t j.run.out ⊎ (((there : Bool) × IsReady t j.run.out there) × HoldsBytes j.journal disk) → ⊥
   not_full (inl taken) = not_taken t j.run.out proper.run.there proper.run.free taken
-  not_full (inr held) = not_held j.journal disk.told proper.empty held.1
+  not_full (inr held) = not_held j.journal disk.told proper.empty held.1.1
 
 pub journal_completes : (j : JournalJob) (t : Tree) (host host' : HostView) (sink sink' : SinkView) (disk disk' : DiskView) (st : Status) → host.told ≡ Some t → IsProperJournal t disk j → (Rose host.faults host'.faults → ⊥) → (Rose sink.faults sink'.faults → ⊥) → (Rose disk.faults disk'.faults → ⊥) → JournalRow j host host' sink sink' disk disk' st → Ends st
 journal_completes j t host host' sink sink' disk disk' status.Done is proper none quiet calm row = inl refl
@@ -63,7 +63,7 @@ journal_completes j t host host' sink sink' disk disk' status.ReadFault is prope
 journal_completes j t host host' sink sink' disk disk' status.ReadFault is proper none quiet calm (same, told, inr cannot) =
     absurd (can_read t j.run.inputs proper.run.inputs (subst (λ o. IsSomeAnd o (λ t. CannotRead t j.run.inputs)) is cannot))
 journal_completes j t host host' sink sink' disk disk' status.NotEmpty is proper none quiet calm row =
-    absurd (not_full j t host host' sink sink' disk disk' is proper none quiet calm (subst (λ o. IfSome o (λ t. HasInputs t j.run.inputs × (IsTaken t j.run.out ⊎ (((there : Bool) × IsReady t j.run.out there) × HoldsBytes disk)))) is row.2).1)
+    absurd (not_full j t host host' sink sink' disk disk' is proper none quiet calm (subst (λ o. IfSome o (λ t. HasInputs t j.run.inputs × (IsTaken t j.run.out ⊎ (((there : Bool) × IsReady t j.run.out there) × HoldsBytes j.journal disk)))) is row.2).1)
 journal_completes j t host host' sink sink' disk disk' status.WriteFault is proper none quiet calm (inl row) = absurd (not_unbegun j t host host' sink sink' disk disk' is proper none quiet calm row.cause)
 journal_completes j t host host' sink sink' disk disk' status.WriteFault is proper none quiet calm (inr row) = absurd (not_broken j t host host' sink sink' disk disk' is proper none quiet calm row.cause)
 journal_completes j t host host' sink sink' disk disk' status.NoMemory is proper none quiet calm row = inr refl

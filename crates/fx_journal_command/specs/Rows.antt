@@ -17,7 +17,7 @@ use Rattle.fx_command.specs.Left.{IsSame, Grows}
 use Rattle.fx_inputs.specs.Inputs.{HasTexts, HasInputs, HasBase, CannotRead, IsFirstRefused}
 use Rattle.fx_inputs.specs.Reads.{HasReadFault}
 use Rattle.fx_run_command.specs.Rows.{IsDone, IsProperRun, CannotSave, RunAsksFit}
-use Rattle.fx_durable.specs.Disk.{File, DiskView, LeftSince, GoesOn, IsUnstarted, IsAsTold, TellsLength, TellsOther, moment}
+use Rattle.fx_durable.specs.Disk.{File, DiskView, LeftSince, GoesOn, IsUnstarted, IsAsTold, TellsLength, TellsOther, TellsAt, moment}
 use Rattle.fx_journaling.specs.Kept.{IfFile, KeepsOrder}
 use Rattle.fx_journaling.specs.Written.{HasWritten, HasWrittenEvents, HasWrittenReport, IsFrontOfOutput}
 
@@ -103,9 +103,9 @@ pub record IsBrokenOff (j : JournalJob) (host host' : HostView) (sink sink' : Si
 abbrev pub HasNoMemory : JournalJob → HostView → HostView → SinkView → SinkView → DiskView → Type 0
 HasNoMemory j host host' sink sink' disk = IsSame host host' sink sink' ⊎ (HasEmptyJournal j disk × IfTold host.told host'.told (IsLeft j.run sink.written sink'.written))
 
--- the journal's file holds something already
-abbrev pub HoldsBytes : DiskView → Type 0
-HoldsBytes disk = IfSome disk.told (λ file. 0 < length file.seen)
+-- the file that the disk tells is at this path, and holds something already
+abbrev pub HoldsBytes : List ℕ → DiskView → Type 0
+HoldsBytes path disk = TellsAt disk path × IfSome disk.told (λ file. 0 < length file.seen)
 
 abbrev pub JournalRow : JournalJob → HostView → HostView → SinkView → SinkView → DiskView → DiskView → Status → Type 0
 JournalRow j host host' sink sink' disk disk' status.Done = HasEmptyJournal j disk × Grows sink sink' × IfTold host.told host'.told (λ t t'. IsDone t t' j.run sink.written sink'.written)
@@ -114,7 +114,7 @@ JournalRow j host host' sink sink' disk disk' (status.TextRefused word cause) = 
 JournalRow j host host' sink sink' disk disk' (status.FolderRefused cause) = IsSame host host' sink sink' × (disk' ≡ disk) × IfSome host.told (λ t. HasTexts t j.run.inputs × IsRefused t j.run.inputs.folder cause)
 JournalRow j host host' sink sink' disk disk' status.ReadFault = IsSame host host' sink sink' × (disk' ≡ disk) × (HasReadFault j.run.inputs host host' ⊎ IsSomeAnd host.told (λ t. CannotRead t j.run.inputs))
 JournalRow j host host' sink sink' disk disk' status.NotEmpty =
-    IsSame host host' sink sink' × IsAsTold disk disk' × IfSome host.told (λ t. HasInputs t j.run.inputs × (IsTaken t j.run.out ⊎ (((there : Bool) × IsReady t j.run.out there) × HoldsBytes disk)))
+    IsSame host host' sink sink' × IsAsTold disk disk' × IfSome host.told (λ t. HasInputs t j.run.inputs × (IsTaken t j.run.out ⊎ (((there : Bool) × IsReady t j.run.out there) × HoldsBytes j.journal disk)))
 JournalRow j host host' sink sink' disk disk' status.WriteFault = IsUnbegun j host host' sink sink' disk disk' ⊎ IsBrokenOff j host host' sink sink' disk disk'
 JournalRow j host host' sink sink' disk disk' status.NoMemory = HasNoMemory j host host' sink sink' disk
 JournalRow j host host' sink sink' disk disk' (status.BadJournal place) = ⊥

@@ -6,7 +6,7 @@ use Rattle.std.proofs.lemmas.List.Concat.{flat_map-append}
 use Rattle.fx_store.specs.Whole.{IsWhole}
 use Rattle.fx_spec.specs.Order.{BaseTree}
 use Rattle.fx_machine.specs.declared.event.Event.{Event}
-use Rattle.fx_machine.specs.Machine.{Machine, Run, resting}
+use Rattle.fx_machine.specs.Machine.{Machine, Run, shell_of, resting}
 use Rattle.fx_machine.specs.Tried.{retries_of}
 use Rattle.fx_machine.specs.Turns.{BeginsTurns, leaves_out, goes, next_round, stops}
 use Rattle.fx_progress.specs.Ends.{HasEnd}
@@ -38,7 +38,7 @@ begins_with base before (shell ∷ turns) all (e ∷ events) later same (leaves_
 begins_with base before (_ ∷ turns) (x ∷ all) (e ∷ events) later same (goes has begins) =
     let first : x ≡ e = first_same x e all (events ++ later) same in
     let rest = begins_with base (before ++ x ∷ []) turns all events later (others_same x e all (events ++ later) same) begins in
-    subst (λ y. BeginsTurns base before (_ ∷ turns) (y ∷ events)) first (goes has rest)
+    subst (λ y. BeginsTurns base before (shell_of x ∷ turns) (y ∷ events)) first (goes has rest)
 begins_with base before [] all (e ∷ events) later same (next_round shell has begins) = next_round shell has (begins_with base before _ all (e ∷ events) later same begins)
 begins_with base before turns [] (e ∷ events) later same stops = absurd (cc)
 

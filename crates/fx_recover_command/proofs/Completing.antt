@@ -15,16 +15,18 @@ use Rattle.fx_inputs.proofs.AllRead.{can_read, none_refused, not_both}
 use Rattle.fx_inputs.proofs.ReadRows.{read_fault_rose}
 use Rattle.fx_words.specs.Job.{RecoverJob}
 use Rattle.fx_durable.specs.Disk.{DiskView, TellsOther}
+use Rattle.fx_journaling.specs.Laws.{GoesWrong}
 use Rattle.fx_journaling.proofs.Legal.{legal_images_are_good}
 use Rattle.fx_recover_command.specs.Recovered.{HasSomeOrder, IsBad}
 use Rattle.fx_recover_command.specs.Rows.{RecoverReadFault, RecoverEnd, RecoverRow, CannotSave, HasJournal, IsProperRecover}
 
 -- ---- a journal that spells a legal order
 
-not_bad : (t : Tree) (j : RecoverJob) (disk : DiskView) (has : HasJournal t j disk) (place : ℕ) → IsBad t j has.file place → ⊥
-not_bad t j disk has place (base, begins, only, wrong) =
+not_bad : (t : Tree) (j : RecoverJob) (disk : DiskView) (has : HasJournal t j disk) (place : ℕ) → IsBad t j disk place → ⊥
+not_bad t j disk has place (base, begins, only, bad) =
+    let wrong = subst (λ o. IfSome o (λ file. (file.path ≡ j.journal) × GoesWrong base file.seen place)) has.told bad in
     let legal = subst (λ b. IsLegal b has.order) (only has.base has.begins) has.legal in
-    legal_images_are_good base has.order has.file.seen place (record { spells = has.spelled; legal = legal }) wrong
+    legal_images_are_good base has.order has.file.seen place (record { spells = has.spelled; legal = legal }) wrong.1
 
 not_other : (t : Tree) (j : RecoverJob) (disk : DiskView) → HasJournal t j disk → TellsOther disk j.journal → ⊥
 not_other t j disk has other = subst (λ o. IsSomeAnd o (λ file. file.path ≡ j.journal → ⊥)) has.told other has.path
@@ -55,9 +57,7 @@ module _ (j : RecoverJob) (t : Tree) (host host' : HostView) (sink sink' : SinkV
   ends status.WriteFault (inl row) = absurd (not_unsaved row.cause)
   ends status.WriteFault (inr row) = absurd (quiet row.cause)
   ends status.NoMemory row = inr refl
-  ends (status.BadJournal place) row =
-      let at = subst (λ o. IfSome o (λ t. IfSome disk.told (λ file. IsBad t j file place))) is row.1 in
-      absurd (not_bad t j disk proper.journal place (subst (λ o. IfSome o (λ file. IsBad t j file place)) proper.journal.told at))
+  ends (status.BadJournal place) row = absurd (not_bad t j disk proper.journal place (subst (λ o. IfSome o (λ t. IsBad t j disk place)) is row.1))
 
   pub recover_completes : (st : Status) → RecoverRow j host host' sink sink' disk disk' st → (st ≡ status.Done) ⊎ (st ≡ status.NoMemory)
   recover_completes st row = ends st row.1

@@ -24,8 +24,7 @@ use Rattle.fx_inputs.proofs.Stages.{then_told}
 use Rattle.fx_words.specs.Job.{RecoverJob}
 use Rattle.fx_durable.specs.Disk.{DiskView}
 use Rattle.fx_durable.specs.Journal.{Spells}
-use Rattle.fx_journaling.specs.Laws.{GoesWrong}
-use Rattle.fx_recover_command.specs.Recovered.{recovered_line, HasOrder, HasSomeOrder, IsOutcome, IsAnswered, IsBad}
+use Rattle.fx_recover_command.specs.Recovered.{recovered_line, HasImage, HasOrder, HasSomeOrder, IsOutcome, IsAnswered, IsBad}
 use Rattle.fx_recover_command.specs.Rows.{MayHoldPart, IsDone, IsCutShort, RecoverReadFault, CannotSave, RecoverEnd, has_fit_recover}
 use Rattle.fx_recover_command.specs.Unread.{OrderCause}
 
@@ -64,8 +63,7 @@ order_unread j host host' base disk disk' status.WriteFault reads begins only ca
 order_unread j host host' base disk disk' status.NoMemory reads begins only cause sink = no_memory j host host' reads sink disk disk'
 order_unread j host host' base disk disk' (status.BadJournal place) reads begins only cause sink = (
   same host host' sink reads,
-  if_some_both (λ t. HasBase t j.inputs base) (λ t. IsOnlyBase t j.inputs base) (λ t. IfSome disk.told (λ file. IsBad t j file place)) host.told
-      (λ t is only. if_some_map (λ file. GoesWrong base file.seen place) (λ file. IsBad t j file place) disk.told (λ file wrong. (base, is, only, wrong)) cause) begins only,
+  if_some_both (λ t. HasBase t j.inputs base) (λ t. IsOnlyBase t j.inputs base) (λ t. IsBad t j disk place) host.told (λ t is only. (base, is, only, cause)) begins only,
 )
 
 -- OUT cannot be written
@@ -95,7 +93,7 @@ module _ (j : RecoverJob) (host host' : HostView) (base : BaseTree) (order : Lis
 
 -- ---- from one stage to the next
 
-pub has_order : (j : RecoverJob) (base : BaseTree) (order : List Turn) (a b : HostView) (disk : DiskView) → ReadsOnly a b → IfSome a.told (λ t. HasBase t j.inputs base) → IfSome a.told (λ t. IsOnlyBase t j.inputs base) → IfSome disk.told (λ file. Spells order file.seen) → IsLegal base order → IfSome b.told (λ t. HasOrder t j disk base order)
+pub has_order : (j : RecoverJob) (base : BaseTree) (order : List Turn) (a b : HostView) (disk : DiskView) → ReadsOnly a b → IfSome a.told (λ t. HasBase t j.inputs base) → IfSome a.told (λ t. IsOnlyBase t j.inputs base) → HasImage j.journal disk (Spells order) → IsLegal base order → IfSome b.told (λ t. HasOrder t j disk base order)
 has_order j base order a b disk reads begins only spelled legal =
     then_told (λ t. HasOrder t j disk base order) a b reads
     (if_some_both (λ t. HasBase t j.inputs base) (λ t. IsOnlyBase t j.inputs base) (λ t. HasOrder t j disk base order) a.told (λ t is alone. record { begins = is; only = alone; spelled = spelled; legal = legal }) begins only)

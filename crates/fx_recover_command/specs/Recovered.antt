@@ -9,7 +9,7 @@ use Rattle.fx_spec.specs.Order.{BaseTree, IsLegal, state}
 use Rattle.fx_report.specs.Report.{line}
 use Rattle.fx_words.specs.Job.{RecoverJob}
 use Rattle.fx_inputs.specs.Inputs.{HasBase, IsOnlyBase}
-use Rattle.fx_durable.specs.Disk.{DiskView, File}
+use Rattle.fx_durable.specs.Disk.{DiskView}
 use Rattle.fx_durable.specs.Journal.{Spells}
 use Rattle.fx_journaling.specs.Laws.{GoesWrong}
 
@@ -17,11 +17,15 @@ use Rattle.fx_journaling.specs.Laws.{GoesWrong}
 abbrev pub recovered_line : ℕ → List ℕ
 recovered_line count = line (codes "recovered " ++ decimal count)
 
--- the texts and the folder stand for this base alone, and the journal, if the disk tells it, spells this legal order of it
+-- the file that the disk tells, if it tells one, is at this path, and its bytes are such
+abbrev pub HasImage : List ℕ → DiskView → (List ℕ → Type 0) → Type 0
+HasImage path disk P = IfSome disk.told (λ file. (file.path ≡ path) × P file.seen)
+
+-- the texts and the folder stand for this base alone, and the file at JOURNAL spells this legal order of it
 pub record HasOrder (t : Tree) (j : RecoverJob) (disk : DiskView) (base : BaseTree) (order : List Turn) : Type 0 where
   pub begins : HasBase t j.inputs base
   pub only : IsOnlyBase t j.inputs base
-  pub spelled : IfSome disk.told (λ file. Spells order file.seen)
+  pub spelled : HasImage j.journal disk (Spells order)
   pub legal : IsLegal base order
 
 abbrev pub HasSomeOrder : Tree → RecoverJob → DiskView → Type 0
@@ -40,8 +44,8 @@ pub record IsAnswered (t : Tree) (j : RecoverJob) (disk : DiskView) (nodes : Nod
   pub outcome : IsOutcome t j disk nodes output
   pub free : IsReady t j.out there
 
--- The inputs stand for one base alone, and the record of this number, counted from 0, is the first that is cut short or is
--- one too many, or with whose transaction the order is not legal.
-abbrev pub IsBad : Tree → RecoverJob → File → ℕ → Type 0
-IsBad t j file place =
-    (base : BaseTree) × HasBase t j.inputs base × IsOnlyBase t j.inputs base × GoesWrong base file.seen place
+-- The inputs stand for one base alone, and of the file at JOURNAL the record of this number, counted from 0, is the first that
+-- is cut short or is one too many, or with whose transaction the order is not legal.
+abbrev pub IsBad : Tree → RecoverJob → DiskView → ℕ → Type 0
+IsBad t j disk place =
+    (base : BaseTree) × HasBase t j.inputs base × IsOnlyBase t j.inputs base × HasImage j.journal disk (λ image. GoesWrong base image place)

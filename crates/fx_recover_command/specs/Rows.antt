@@ -86,7 +86,7 @@ RecoverEnd j host host' sink sink' disk disk' status.ReadFault = IsSame host hos
 RecoverEnd j host host' sink sink' disk disk' status.NotEmpty = IsSame host host' sink sink' × IfSome host.told (λ t. HasSomeOrder t j disk × IsTaken t j.out)
 RecoverEnd j host host' sink sink' disk disk' status.WriteFault = IsUnsaved j host host' sink sink' disk ⊎ IsUnprinted j host host' sink sink' disk
 RecoverEnd j host host' sink sink' disk disk' status.NoMemory = (sink' ≡ sink) × IfTold host.told host'.told (MayHoldPart j disk)
-RecoverEnd j host host' sink sink' disk disk' (status.BadJournal place) = IsSame host host' sink sink' × IfSome host.told (λ t. IfSome disk.told (λ file. IsBad t j file place))
+RecoverEnd j host host' sink sink' disk disk' (status.BadJournal place) = IsSame host host' sink sink' × IfSome host.told (λ t. IsBad t j disk place)
 
 -- the table for `recover`: however it ends, the file of the disk is as it was
 abbrev pub RecoverRow : RecoverJob → HostView → HostView → SinkView → SinkView → DiskView → DiskView → Status → Type 0

@@ -1,5 +1,5 @@
 -- How `recover` ends where the journal is not read, or does not spell a legal order.
-use Rattle.std.specs.Prelude.{◌⊎◌, ℕ, List, IfSome, ⊤}
+use Rattle.std.specs.Prelude.{◌⊎◌, ℕ, List, ⊤}
 use Rattle.fx_base.specs.Causes.{Rose}
 use Rattle.fx_spec.specs.Order.{BaseTree}
 use Rattle.fx_command.specs.declared.status.Status.{Status}
@@ -8,6 +8,7 @@ use Rattle.fx_durable.specs.Disk.{DiskView, TellsOther}
 use Rattle.fx_durable.specs.declared.journal_fault.JournalFault.{JournalFault}
 use Rattle.fx_durable.specs.declared.journal_fault.JournalFault.TheVariants as fault
 use Rattle.fx_journaling.specs.Laws.{GoesWrong}
+use Rattle.fx_recover_command.specs.Recovered.{HasImage}
 
 abbrev pub unread_status : JournalFault → Status
 unread_status (fault.Broken place) = status.BadJournal place
@@ -23,4 +24,4 @@ OrderCause path base disk disk' status.ReadFault = Rose disk.faults disk'.faults
 OrderCause path base disk disk' status.NotEmpty = ⊥
 OrderCause path base disk disk' status.WriteFault = ⊥
 OrderCause path base disk disk' status.NoMemory = ⊤
-OrderCause path base disk disk' (status.BadJournal place) = IfSome disk.told (λ file. GoesWrong base file.seen place)
+OrderCause path base disk disk' (status.BadJournal place) = HasImage path disk (λ image. GoesWrong base image place)

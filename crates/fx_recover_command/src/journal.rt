@@ -1,9 +1,10 @@
 //! The stage that reads the journal.
-ghost use Rattle.std.specs.Prelude.{◌≡◌, ◌≤◌, IfOk, IfErr, IfSome};
+ghost use Rattle.std.specs.Prelude.{◌≡◌, ◌≤◌, IfOk, IfErr};
 ghost use Rattle.fx_spec.specs.Bases.{base_tree};
 ghost use Rattle.fx_spec.specs.Order.{IsLegal};
 ghost use Rattle.fx_durable.specs.Disk.{IsAsTold};
 ghost use Rattle.fx_durable.specs.Journal.{turns_of, Spells};
+ghost use Rattle.fx_recover_command.specs.Recovered.{HasImage};
 ghost use Rattle.fx_recover_command.specs.Unread.{unread_status, OrderCause};
 
 use crate::order::first_illegal;
@@ -32,7 +33,7 @@ pub(crate) fn read_order<D: Disk>(
     disk: &mut D,
 ) -> Result<Pairs, Status>
     ensures read { IfOk result (λ order.
-        IfSome (D.view disk.old).told (λ file. Spells (turns_of order) file.seen)) }
+        HasImage path.now (D.view disk.old) (Spells (turns_of order))) }
     ensures legal { IfOk result (λ order. IsLegal (base_tree base.now) (turns_of order)) }
     ensures same { IsAsTold (D.view disk.old) (D.view disk.new) }
     ensures later { (D.view disk.old).faults ≤ (D.view disk.new).faults }
