@@ -17,7 +17,7 @@ use Rattle.fx_journaling.specs.declared.fault.RecordFault.TheVariants as fault
 use Rattle.fx_journaling.specs.declared.recording.Recorded.{Recorded}
 use Rattle.fx_journaling.specs.Kept.{IfFile, KeepsOrder}
 use Rattle.fx_journaling.specs.Taken.{HasGrown, FaultCause}
-use Rattle.fx_journaling.specs.Written.{HasWrittenEvents}
+use Rattle.fx_journaling.specs.Written.{HasWrittenEvents, IsBeforeSettled}
 
 -- a journal that was just started
 pub record IsStarted (journal : JournalView) (disk : DiskView) : Type 0 where
@@ -37,7 +37,8 @@ pub record HasRecorded (base : BaseTree) (schedule : List ℕ) (disk disk' : Dis
 abbrev pub EndsRecorded : BaseTree → List ℕ → DiskView → DiskView → SinkView → SinkView → Recorded → Type 0
 EndsRecorded base schedule disk disk' sink sink' run = HasRecorded base schedule disk disk' sink sink' run.board run.retries
 
--- the run has ended before, and the journal keeps the order of the settled lines that are written
+-- The run has ended before, and the journal keeps the order of the settled lines that are written. At a disk fault all events up
+-- to the attempt that was settled are written, and no more.
 pub record HasBrokenOff (base : BaseTree) (schedule : List ℕ) (disk disk' : DiskView) (sink sink' : SinkView) (stop : RecordFault) : Type 0 where
   pub machine : Machine
   pub bytes : List ℕ
@@ -45,6 +46,7 @@ pub record HasBrokenOff (base : BaseTree) (schedule : List ℕ) (disk disk' : Di
   pub printed : HasGrown bytes sink sink'
   pub keeps : IfFile (KeepsOrder base machine.order) disk.told disk'.told
   pub cause : FaultCause stop disk disk' sink sink'
+  pub at_disk : stop ≡ fault.DiskFailed → IsBeforeSettled base schedule written.events machine written.rest
 
 -- why a run has ended
 abbrev pub fault_in : Ended RecordFault → RecordFault
