@@ -12,6 +12,7 @@ returns-then-ne-clause-cause c =
     let differs = other_text c.args.path.now self.path (not_is _ (sym c.ne.ensures ∙ c.if-ne.true)) in
     record {
       later = omega arith;
+      calm = tt;
       failed = inr (λ same. differs (sym (sym stays ∙ same)));
       other = λ other. (refl, refl);
     }
@@ -24,6 +25,7 @@ returns-then-fails-clause-cause c =
     let faults = ap (λ p. p.faults) (c.log.ensures.plan ∙ c.begin-fails.ensures.plan) in
     record {
       later = omega (arith, faults, c.failed.ensures.later);
+      calm = tt;
       failed = inl (omega (arith, faults, ap (λ p. p.faults) c.failed.ensures.plan));
       other = λ other. absurd (other (stays ∙ sym same));
     }
@@ -45,7 +47,7 @@ returns-clause-cause c =
     let stays = path_stays (no_file self.path) self.made.items self.taken.items in
     let same = same_text c.args.path.now self.path (not_not _ (sym c.ne.ensures ∙ c.if-ne.false)) in
     let faults = ap (λ p. p.faults) (c.log.ensures.plan ∙ c.begin-fails.ensures.plan) in
-    record { later = omega (arith, faults); failed = tt; other = λ other. absurd (other (stays ∙ sym same)) }
+    record { later = omega (arith, faults); calm = faults; failed = tt; other = λ other. absurd (other (stays ∙ sym same)) }
 
 pub returns-then-ne-clause-fails : goal.returns-then-ne-clause-fails
 returns-then-ne-clause-fails c same = absurd (other_text c.args.path.now c.args.self.now.path (not_is _ (sym c.ne.ensures ∙ c.if-ne.true)) same)
