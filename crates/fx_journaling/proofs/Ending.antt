@@ -78,6 +78,7 @@ module _ (base : BaseTree) (schedule : List ℕ) (disk disk' : DiskView) (sink s
       printed = taken.printed;
       keeps = keeps running.machine.order running.machine.order (inl refl) (held_leaves running.machine.order running.machine.order taken.held.told);
       cause = tt;
+      calm = λ _. taken.held.calm;
       at_disk = λ is. absurd (not_disk is);
     }
 
@@ -90,6 +91,7 @@ module _ (base : BaseTree) (schedule : List ℕ) (disk disk' : DiskView) (sink s
           traced = traced;
           printed = taken.printed;
           later = taken.later;
+          calm = taken.held.calm;
           keeps = subst (λ o. IfFile (KeepsOrder base o) disk.told disk'.told) order (keeps running.machine.order running.machine.order (inl refl) (held_leaves running.machine.order running.machine.order taken.held.told));
         }
 
@@ -99,20 +101,21 @@ module _ (base : BaseTree) (schedule : List ℕ) (disk disk' : DiskView) (sink s
     part = take refused.count (event_line e)
 
     -- no more than a part of its line is written
-    cut : IfFile (LeavesEither base refused.before.order running.machine.order) disk.told disk'.told → (behind : (take refused.count (event_line e) ≡ []) ⊎ IsPartOfLine base schedule events refused.before (take refused.count (event_line e))) → (stop ≡ fault.DiskFailed → IsBeforeSettled base schedule events refused.before (take refused.count (event_line e))) → HasBrokenOff base schedule disk disk' sink sink' stop
-    cut leaves behind at_disk = record {
+    cut : ((stop ≡ fault.DiskFailed → ⊥) → disk'.faults ≡ disk.faults) → IfFile (LeavesEither base refused.before.order running.machine.order) disk.told disk'.told → (behind : (take refused.count (event_line e) ≡ []) ⊎ IsPartOfLine base schedule events refused.before (take refused.count (event_line e))) → (stop ≡ fault.DiskFailed → IsBeforeSettled base schedule events refused.before (take refused.count (event_line e))) → HasBrokenOff base schedule disk disk' sink sink' stop
+    cut calm leaves behind at_disk = record {
       machine = refused.before;
       bytes = lines events ++ take refused.count (event_line e);
       written = record { events = events; run = refused.run; turns = (e ∷ [], begins); rest = take refused.count (event_line e); printed = refl; behind = behind };
       printed = refused.printed;
       keeps = keeps refused.before.order running.machine.order (step_more base refused.before e running.machine refused.step) leaves;
       cause = refused.cause;
+      calm = calm;
       at_disk = at_disk;
     }
 
     -- nothing of it is written
     unkept : IsUnkept began stop e refused.before.order running.machine.order refused.count disk' → HasBrokenOff base schedule disk disk' sink sink' stop
-    unkept lost = cut lost.leaves (inl none) (λ is. record {
+    unkept lost = cut (λ other. absurd (other lost.at_disk)) lost.leaves (inl none) (λ is. record {
       shell = lost.settled.0;
       entry = lost.settled.1;
       after = running.machine;
@@ -142,6 +145,7 @@ module _ (base : BaseTree) (schedule : List ℕ) (disk disk' : DiskView) (sink s
           printed = grown_as (lines events ++ take refused.count (event_line e)) (lines (events ++ e ∷ [])) sink sink' line refused.printed;
           keeps = keeps running.machine.order running.machine.order (inl refl) (held_leaves running.machine.order running.machine.order held.holds);
           cause = refused.cause;
+          calm = λ _. held.calm;
           at_disk = λ is. absurd (held.not_at_disk is);
         }
 
@@ -149,7 +153,7 @@ module _ (base : BaseTree) (schedule : List ℕ) (disk disk' : DiskView) (sink s
     untold held =
         ⊎_elim
         (λ (short : refused.count < length (event_line e)).
-        cut (held_leaves refused.before.order running.machine.order held.holds) (inr (record { next = e; after = running.machine; step = refused.step; turns = begins; count = refused.count; short = short; is = refl })) (λ is. absurd (held.not_at_disk is)))
+        cut (λ _. held.calm) (held_leaves refused.before.order running.machine.order held.holds) (inr (record { next = e; after = running.machine; step = refused.step; turns = begins; count = refused.count; short = short; is = refl })) (λ is. absurd (held.not_at_disk is)))
         (λ (all : length (event_line e) ≤ refused.count). whole all held) (cases_lt refused.count (length (event_line e)))
 
     pub broken : HasBrokenOff base schedule disk disk' sink sink' stop
@@ -179,7 +183,7 @@ pub begun : (base : BaseTree) (disk : DiskView) (sink : SinkView) (disk_name sin
 begun base disk sink disk_name sink_name journal started = record {
   base = refl;
   run = refl;
-  held = record { count = started.count; good = started.good; later = omega arith; told = held_none base disk.told started.rests };
+  held = record { count = started.count; good = started.good; calm = refl; told = held_none base disk.told started.rests };
   printed = grown_none sink;
   later = omega arith;
 }

@@ -153,6 +153,7 @@ module _ (began : Beginning) (events : List Event) (e : Event) (before after : R
         printed = grown_more (lines events) (take some.0 (event_line e)) began.sink sink sink' taken.printed some.1;
         told = inr (record {
           not_at_disk = λ is. subst (λ s. TellCause s sink sink') is cause;
+          calm = held.calm;
           holds = subst (λ b. IfFile (HoldsOrder b after.machine.order) began.disk.told disk'.told) taken.base held.told;
         });
         cause = cause_from stop disk' sink' cause;

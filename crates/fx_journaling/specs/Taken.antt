@@ -72,9 +72,10 @@ pub record IsUnkept (began : Beginning) (stop : RecordFault) (e : Event) (order 
   pub none : count ≡ 0
   pub leaves : IfFile (LeavesEither began.base order longer) began.disk.told disk.told
 
--- what ends the run is not the disk, which has kept the order
+-- what ends the run is not the disk, which has kept the order and has not failed
 pub record IsUntold (began : Beginning) (stop : RecordFault) (order : List Turn) (disk : DiskView) : Type 0 where
   pub not_at_disk : stop ≡ fault.DiskFailed → ⊥
+  pub calm : disk.faults ≡ began.disk.faults
   pub holds : IfFile (HoldsOrder began.base order) began.disk.told disk.told
 
 -- one event more has come, of whose line so many bytes are written: none, where its entry is not surely kept
