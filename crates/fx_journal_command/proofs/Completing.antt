@@ -44,8 +44,8 @@ module _ (j : JournalJob) (t : Tree) (host host' : HostView) (sink sink' : SinkV
   not_unbegun (inr (inr other, free)) = not_other j.journal disk.told proper.empty other
 
   not_broken : HasBroken j.run host host' sink sink' disk disk' → ⊥
-  not_broken (inl (inl cannot, left)) = not_left cannot
-  not_broken (inl (inr rose, left)) = quiet rose
+  not_broken (inl (stays, inl cannot, left)) = not_left cannot
+  not_broken (inl (stays, inr rose, left)) = quiet rose
   not_broken (inr (rose, left)) = calm rose
 
   not_full : IsTaken t j.run.out ⊎ (((there : Bool) × IsReady t j.run.out there) × HoldsBytes j.journal disk) → ⊥
@@ -63,7 +63,7 @@ journal_completes j t host host' sink sink' disk disk' status.ReadFault is prope
 journal_completes j t host host' sink sink' disk disk' status.ReadFault is proper none quiet calm (same, told, inr cannot) =
     absurd (can_read t j.run.inputs proper.run.inputs (subst (λ o. IsSomeAnd o (λ t. CannotRead t j.run.inputs)) is cannot))
 journal_completes j t host host' sink sink' disk disk' status.NotEmpty is proper none quiet calm row =
-    absurd (not_full j t host host' sink sink' disk disk' is proper none quiet calm (subst (λ o. IfSome o (λ t. HasInputs t j.run.inputs × (IsTaken t j.run.out ⊎ (((there : Bool) × IsReady t j.run.out there) × HoldsBytes j.journal disk)))) is row.2).1)
+    absurd (not_full j t host host' sink sink' disk disk' is proper none quiet calm (subst (λ o. IfSome o (λ t. HasInputs t j.run.inputs × (IsTaken t j.run.out ⊎ (((there : Bool) × IsReady t j.run.out there) × HoldsBytes j.journal disk)))) is row.3).1)
 journal_completes j t host host' sink sink' disk disk' status.WriteFault is proper none quiet calm (inl row) = absurd (not_unbegun j t host host' sink sink' disk disk' is proper none quiet calm row.cause)
 journal_completes j t host host' sink sink' disk disk' status.WriteFault is proper none quiet calm (inr row) = absurd (not_broken j t host host' sink sink' disk disk' is proper none quiet calm row.broken)
 journal_completes j t host host' sink sink' disk disk' status.NoMemory is proper none quiet calm row = inr refl

@@ -98,10 +98,11 @@ pub record IsUnbegun (j : JournalJob) (host host' : HostView) (sink sink' : Sink
 abbrev pub HasEmptyJournal : JournalJob → DiskView → Type 0
 HasEmptyJournal j disk = TellsLength disk j.journal 0
 
--- OUT or the output is not written; or the disk failed where an attempt was settled, and all before that is written
+-- OUT or the output is not written, and the disk has not failed; or it failed where an attempt was settled, and all before that
+-- is written
 abbrev pub HasBroken : RunJob → HostView → HostView → SinkView → SinkView → DiskView → DiskView → Type 0
 HasBroken j host host' sink sink' disk disk' =
-    ((CannotLeave j host host' ⊎ Rose sink.faults sink'.faults) × IfTold host.told host'.told (IsLeftOrWhole j sink.written sink'.written))
+    ((disk'.faults ≡ disk.faults) × (CannotLeave j host host' ⊎ Rose sink.faults sink'.faults) × IfTold host.told host'.told (IsLeftOrWhole j sink.written sink'.written))
     ⊎ (Rose disk.faults disk'.faults × IfTold host.told host'.told (λ t t'. IsStoppedAtDisk t t' j sink.written sink'.written))
 
 -- a run was begun on an empty journal and is not brought to its end, as OUT, the output or the journal is not written
@@ -111,28 +112,31 @@ pub record IsBrokenOff (j : JournalJob) (host host' : HostView) (sink sink' : Si
 
 -- memory ran out before a byte of the report was written: before the journal was begun, or after, on an empty one
 abbrev pub HasNoMemory : JournalJob → HostView → HostView → SinkView → SinkView → DiskView → DiskView → Type 0
-HasNoMemory j host host' sink sink' disk disk' = (IsSame host host' sink sink' × (disk' ≡ disk)) ⊎ (HasEmptyJournal j disk × IfTold host.told host'.told (IsLeft j.run sink.written sink'.written))
+HasNoMemory j host host' sink sink' disk disk' = (IsSame host host' sink sink' × (disk' ≡ disk)) ⊎ (HasEmptyJournal j disk × (disk'.faults ≡ disk.faults) × IfTold host.told host'.told (IsLeft j.run sink.written sink'.written))
 
 -- the file that the disk tells is at this path, and holds something already
 abbrev pub HoldsBytes : List ℕ → DiskView → Type 0
 HoldsBytes path disk = TellsAt disk path × IfSome disk.told (λ file. 0 < length file.seen)
 
 abbrev pub JournalRow : JournalJob → HostView → HostView → SinkView → SinkView → DiskView → DiskView → Status → Type 0
-JournalRow j host host' sink sink' disk disk' status.Done = HasEmptyJournal j disk × Grows sink sink' × IfTold host.told host'.told (λ t t'. IsDone t t' j.run sink.written sink'.written)
+JournalRow j host host' sink sink' disk disk' status.Done = HasEmptyJournal j disk × (disk'.faults ≡ disk.faults) × Grows sink sink' × IfTold host.told host'.told (λ t t'. IsDone t t' j.run sink.written sink'.written)
 JournalRow j host host' sink sink' disk disk' status.Usage = ⊥
 JournalRow j host host' sink sink' disk disk' (status.TextRefused word cause) = IsSame host host' sink sink' × (disk' ≡ disk) × IfSome host.told (λ t. IsFirstRefused t j.run.inputs word cause)
 JournalRow j host host' sink sink' disk disk' (status.FolderRefused cause) = IsSame host host' sink sink' × (disk' ≡ disk) × IfSome host.told (λ t. HasTexts t j.run.inputs × IsRefused t j.run.inputs.folder cause)
 JournalRow j host host' sink sink' disk disk' status.ReadFault = IsSame host host' sink sink' × (disk' ≡ disk) × (HasReadFault j.run.inputs host host' ⊎ IsSomeAnd host.told (λ t. CannotRead t j.run.inputs))
 JournalRow j host host' sink sink' disk disk' status.NotEmpty =
-    IsSame host host' sink sink' × IsAsTold disk disk' × IfSome host.told (λ t. HasInputs t j.run.inputs × (IsTaken t j.run.out ⊎ (((there : Bool) × IsReady t j.run.out there) × HoldsBytes j.journal disk)))
+    IsSame host host' sink sink' × IsAsTold disk disk' × (disk'.faults ≡ disk.faults) × IfSome host.told (λ t. HasInputs t j.run.inputs × (IsTaken t j.run.out ⊎ (((there : Bool) × IsReady t j.run.out there) × HoldsBytes j.journal disk)))
 JournalRow j host host' sink sink' disk disk' status.WriteFault = IsUnbegun j host host' sink sink' disk disk' ⊎ IsBrokenOff j host host' sink sink' disk disk'
 JournalRow j host host' sink sink' disk disk' status.NoMemory = HasNoMemory j host host' sink sink' disk disk'
 JournalRow j host host' sink sink' disk disk' (status.BadJournal place) = ⊥
 
--- The journal was started at a moment of this call, and from then on keeps the order of the settled lines that were written.
+-- The file was at JOURNAL and empty. The journal was started in it at a moment of this call, and from then on keeps the order of
+-- the settled lines that were written.
 pub record IsKept (j : JournalJob) (host : HostView) (sink sink' : SinkView) (old new : File) : Type 0 where
   pub base : BaseTree
   pub begins : IfSome host.told (λ t. HasBase t j.run.inputs base)
+  pub at_path : old.path ≡ j.journal
+  pub empty : old.seen ≡ []
   pub started : File
   pub later : GoesOn old started
   pub gate : LeftSince (moment started) new.steps (0 ∷ [])
@@ -143,14 +147,14 @@ pub record IsKept (j : JournalJob) (host : HostView) (sink sink' : SinkView) (ol
   pub keeps : KeepsOrder base machine.order started new
 
 -- the journal was not started, and nothing is written
-pub record HasNothing (sink sink' : SinkView) (old new : File) : Type 0 where
-  pub unstarted : IsUnstarted old new
+pub record HasNothing (j : JournalJob) (sink sink' : SinkView) (old new : File) : Type 0 where
+  pub unstarted : IsUnstarted j.journal old new
   pub unwritten : sink'.written ≡ sink.written
 
 -- once it was started the journal keeps the order of what was written, whatever the status
 abbrev pub KeepsJournal : JournalJob → HostView → SinkView → SinkView → DiskView → DiskView → Type 0
 KeepsJournal j host sink sink' disk disk' =
-    IfFile (λ old new. GoesOn old new × (HasNothing sink sink' old new ⊎ IsKept j host sink sink' old new)) disk.told disk'.told
+    IfFile (λ old new. GoesOn old new × (HasNothing j sink sink' old new ⊎ IsKept j host sink sink' old new)) disk.told disk'.told
 
 -- where the paths are fit, no call is made at an unfit path of the host
 abbrev pub JournalAsksFit : JournalJob → HostView → HostView → Type 0
