@@ -3,7 +3,7 @@
 ghost use Rattle.std.specs.Prelude.{◌≡◌, ◌≤◌, ◌<◌, ◌⊎◌, ◌+◌, ◌∷◌, ◌++◌, [], length, is_ok, true, IfOk, OnOk, OnErr, IfSome, Err};
 ghost use Rattle.fx_base.specs.Causes.{Rose};
 ghost use Rattle.fx_base.specs.Limits.{txn_limit};
-ghost use Rattle.fx_durable.specs.Disk.{Continues, StaysUnstarted, IsAsTold, TellsOther, TellsAt, TellsLength, HasFault};
+ghost use Rattle.fx_durable.specs.Disk.{Continues, StaysUnstarted, IsAsTold, TellsOther, TellsAt, TellsLength, HasFault, ChoosesTold};
 ghost use Rattle.fx_durable.specs.Journal.{payload, RestsAt, Rests, LeavesOrder, AddsTurn};
 ghost use Rattle.fx_durable.specs.declared.journal.StartFault.TheVariants.{NotEmpty, Failed};
 
@@ -71,6 +71,7 @@ impl Journal {
         ensures calm { OnOk result ((D.view disk.new).faults ≡ (D.view disk.old).faults) }
         ensures calm_not_empty { result ≡ Err NotEmpty
             → (D.view disk.new).faults ≡ (D.view disk.old).faults }
+        ensures others { ChoosesTold path.now (D.view disk.old) (D.view disk.new) }
         ensures failed { result ≡ Err Failed
             → Rose (D.view disk.old).faults (D.view disk.new).faults
             ⊎ TellsOther (D.view disk.old) path.now }
