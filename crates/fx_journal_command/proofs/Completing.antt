@@ -18,7 +18,7 @@ use Rattle.fx_inputs.proofs.ReadRows.{read_fault_rose}
 use Rattle.fx_words.specs.Job.{JournalJob}
 use Rattle.fx_run_command.specs.Rows.{CannotSave}
 use Rattle.fx_durable.specs.Disk.{File, DiskView}
-use Rattle.fx_journal_command.specs.Rows.{JournalRow, KeepsJournal, CannotLeave, CannotStart, HasBroken, HoldsBytes, IsProperJournal}
+use Rattle.fx_journal_command.specs.Rows.{JournalEnd, JournalRow, KeepsJournal, CannotLeave, CannotStart, HasBroken, HoldsBytes, IsProperJournal}
 use Rattle.fx_journal_command.proofs.Keeping.{unbegun_keeps}
 
 abbrev Ends : Status → Type 0
@@ -52,27 +52,30 @@ module _ (j : JournalJob) (t : Tree) (host host' : HostView) (sink sink' : SinkV
   not_full (inl taken) = not_taken t j.run.out proper.run.there proper.run.free taken
   not_full (inr held) = not_held j.journal disk.told proper.empty held.1.1
 
-pub journal_completes : (j : JournalJob) (t : Tree) (host host' : HostView) (sink sink' : SinkView) (disk disk' : DiskView) (st : Status) → host.told ≡ Some t → IsProperJournal t disk j → (Rose host.faults host'.faults → ⊥) → (Rose sink.faults sink'.faults → ⊥) → (Rose disk.faults disk'.faults → ⊥) → JournalRow j host host' sink sink' disk disk' st → Ends st
-journal_completes j t host host' sink sink' disk disk' status.Done is proper none quiet calm row = inl refl
-journal_completes j t host host' sink sink' disk disk' status.Usage is proper none quiet calm row = absurd row
-journal_completes j t host host' sink sink' disk disk' (status.TextRefused word cause) is proper none quiet calm row =
+completes : (j : JournalJob) (t : Tree) (host host' : HostView) (sink sink' : SinkView) (disk disk' : DiskView) (st : Status) → host.told ≡ Some t → IsProperJournal t disk j → (Rose host.faults host'.faults → ⊥) → (Rose sink.faults sink'.faults → ⊥) → (Rose disk.faults disk'.faults → ⊥) → JournalEnd j host host' sink sink' disk disk' st → Ends st
+completes j t host host' sink sink' disk disk' status.Done is proper none quiet calm row = inl refl
+completes j t host host' sink sink' disk disk' status.Usage is proper none quiet calm row = absurd row
+completes j t host host' sink sink' disk disk' (status.TextRefused word cause) is proper none quiet calm row =
     absurd (none_refused t j.run.inputs word cause proper.run.inputs.0 (subst (λ o. IfSome o (λ t. IsFirstRefused t j.run.inputs word cause)) is row.2))
-journal_completes j t host host' sink sink' disk disk' (status.FolderRefused cause) is proper none quiet calm row =
+completes j t host host' sink sink' disk disk' (status.FolderRefused cause) is proper none quiet calm row =
     absurd (not_both t j.run.inputs.folder proper.run.inputs.1.0 cause proper.run.inputs.1.1 (subst (λ o. IfSome o (λ t. HasTexts t j.run.inputs × IsRefused t j.run.inputs.folder cause)) is row.2).1)
-journal_completes j t host host' sink sink' disk disk' status.ReadFault is proper none quiet calm (same, told, inl fault) = absurd (none (read_fault_rose j.run.inputs host host' fault))
-journal_completes j t host host' sink sink' disk disk' status.ReadFault is proper none quiet calm (same, told, inr cannot) =
+completes j t host host' sink sink' disk disk' status.ReadFault is proper none quiet calm (same, told, inl fault) = absurd (none (read_fault_rose j.run.inputs host host' fault))
+completes j t host host' sink sink' disk disk' status.ReadFault is proper none quiet calm (same, told, inr cannot) =
     absurd (can_read t j.run.inputs proper.run.inputs (subst (λ o. IsSomeAnd o (λ t. CannotRead t j.run.inputs)) is cannot))
-journal_completes j t host host' sink sink' disk disk' status.NotEmpty is proper none quiet calm row =
+completes j t host host' sink sink' disk disk' status.NotEmpty is proper none quiet calm row =
     absurd (not_full j t host host' sink sink' disk disk' is proper none quiet calm (subst (λ o. IfSome o (λ t. HasInputs t j.run.inputs × (IsTaken t j.run.out ⊎ (((there : Bool) × IsReady t j.run.out there) × HoldsBytes j.journal disk)))) is row.3).1)
-journal_completes j t host host' sink sink' disk disk' status.WriteFault is proper none quiet calm (inl row) = absurd (not_unbegun j t host host' sink sink' disk disk' is proper none quiet calm row.cause)
-journal_completes j t host host' sink sink' disk disk' status.WriteFault is proper none quiet calm (inr row) = absurd (not_broken j t host host' sink sink' disk disk' is proper none quiet calm row.broken)
-journal_completes j t host host' sink sink' disk disk' status.NoMemory is proper none quiet calm row = inr refl
-journal_completes j t host host' sink sink' disk disk' (status.BadJournal place) is proper none quiet calm row = absurd row
+completes j t host host' sink sink' disk disk' status.WriteFault is proper none quiet calm (inl row) = absurd (not_unbegun j t host host' sink sink' disk disk' is proper none quiet calm row.cause)
+completes j t host host' sink sink' disk disk' status.WriteFault is proper none quiet calm (inr row) = absurd (not_broken j t host host' sink sink' disk disk' is proper none quiet calm row.broken)
+completes j t host host' sink sink' disk disk' status.NoMemory is proper none quiet calm row = inr refl
+completes j t host host' sink sink' disk disk' (status.BadJournal place) is proper none quiet calm row = absurd row
+
+pub journal_completes : (j : JournalJob) (t : Tree) (host host' : HostView) (sink sink' : SinkView) (disk disk' : DiskView) (st : Status) → host.told ≡ Some t → IsProperJournal t disk j → (Rose host.faults host'.faults → ⊥) → (Rose sink.faults sink'.faults → ⊥) → (Rose disk.faults disk'.faults → ⊥) → JournalRow j host host' sink sink' disk disk' st → Ends st
+journal_completes j t host host' sink sink' disk disk' st is proper none quiet calm row = completes j t host host' sink sink' disk disk' st is proper none quiet calm row.1
 
 -- ---- words that want of memory keeps from being read
 
 pub journal_no_memory : (j : JournalJob) (host : HostView) (sink : SinkView) (disk : DiskView) → JournalRow j host host sink sink disk disk status.NoMemory
-journal_no_memory j host sink disk = inl (same host host sink (reads_none host), refl)
+journal_no_memory j host sink disk = (λ _. refl, inl (same host host sink (reads_none host), refl))
 
 pub journal_not_begun : (j : JournalJob) (host : HostView) (sink : SinkView) (disk : DiskView) → KeepsJournal j host sink sink disk disk
 journal_not_begun j host sink disk = unbegun_keeps j host sink disk

@@ -35,7 +35,7 @@ use Rattle.fx_journaling.specs.Recorded.{HasRecorded, HasBrokenOff}
 use Rattle.fx_journaling.specs.Taken.{HasGrown}
 use Rattle.fx_journaling.proofs.Fronts.{written_is_front}
 use Rattle.fx_journaling.proofs.Taking.{grown_as, grown_more}
-use Rattle.fx_journal_command.specs.Rows.{HasWrittenAll, IsStopped, IsStoppedAtDisk, IsLeft, IsLeftOrWhole, CannotLeave, CannotStart, HasEmptyJournal, IsUnbegun, HasBroken, IsBrokenOff, JournalRow}
+use Rattle.fx_journal_command.specs.Rows.{HasWrittenAll, IsStopped, IsStoppedAtDisk, IsLeft, IsLeftOrWhole, CannotLeave, CannotStart, HasEmptyJournal, IsUnbegun, HasBroken, IsBrokenOff, JournalEnd}
 use Rattle.fx_journal_command.specs.Stages.{StartCause, holds, fails, status_in, RecordCause, FinishEnd, done, unmade, unsaved, unwritten}
 use Rattle.fx_journal_command.proofs.Keeping.{nothing_more, front_of, bytes_of, report_of, grown_by}
 
@@ -48,7 +48,7 @@ part_at_most j sink sink' (Some t) (Some t') left = inl left
 -- ---- before the journal is started
 
 -- the inputs are not read
-pub inputs_unread : (j : JournalJob) (host host' : HostView) (sink : SinkView) (disk : DiskView) (st : Status) → ReadsOnly host host' → ReadRow j.run.inputs host host' st → JournalRow j host host' sink sink disk disk st
+pub inputs_unread : (j : JournalJob) (host host' : HostView) (sink : SinkView) (disk : DiskView) (st : Status) → ReadsOnly host host' → ReadRow j.run.inputs host host' st → JournalEnd j host host' sink sink disk disk st
 inputs_unread j host host' sink disk status.Done reads row = absurd row
 inputs_unread j host host' sink disk status.Usage reads row = absurd row
 inputs_unread j host host' sink disk (status.TextRefused word cause) reads row = (same host host' sink reads, refl, row)
@@ -64,7 +64,7 @@ unready_cause : (j : RunJob) (host host' : HostView) → IfSome host.told (λ t.
 unready_cause j host host' inputs (inl fault) = inl fault
 unready_cause j host host' inputs (inr unfit) = inr (some_and (λ t. HasInputs t j.inputs) (λ t. is_fit j.out ≡ false) (λ t. CannotSave t j) host.told (λ t has unfit. (has, inl unfit)) inputs unfit)
 
-pub out_unready : (j : JournalJob) (host host' : HostView) (sink : SinkView) (disk : DiskView) (st : Status) → ReadsOnly host host' → IfSome host.told (λ t. HasInputs t j.run.inputs) → IsUnready j.run.out host host' st → JournalRow j host host' sink sink disk disk st
+pub out_unready : (j : JournalJob) (host host' : HostView) (sink : SinkView) (disk : DiskView) (st : Status) → ReadsOnly host host' → IfSome host.told (λ t. HasInputs t j.run.inputs) → IsUnready j.run.out host host' st → JournalEnd j host host' sink sink disk disk st
 out_unready j host host' sink disk status.Done reads inputs cause = absurd cause
 out_unready j host host' sink disk status.Usage reads inputs cause = absurd cause
 out_unready j host host' sink disk (status.TextRefused word why) reads inputs cause = absurd cause
@@ -86,7 +86,7 @@ out_unready j host host' sink disk (status.BadJournal place) reads inputs cause 
 inputs_of : (t : Tree) (j : RunJob) (base : BaseTree) → HasBase t j.inputs base → HasInputs t j.inputs
 inputs_of t j base is = (((base.description, is.spec), (base.plan, is.scripts)), (base.loaded, is.folder))
 
-pub not_started : (j : JournalJob) (base : BaseTree) (there : Bool) (host : HostView) (sink : SinkView) (disk disk' : DiskView) (st : Status) → IfSome host.told (λ t. HasBase t j.run.inputs base) → IfSome host.told (λ t. IsReady t j.run.out there) → StartCause j.journal disk disk' st → JournalRow j host host sink sink disk disk' st
+pub not_started : (j : JournalJob) (base : BaseTree) (there : Bool) (host : HostView) (sink : SinkView) (disk disk' : DiskView) (st : Status) → IfSome host.told (λ t. HasBase t j.run.inputs base) → IfSome host.told (λ t. IsReady t j.run.out there) → StartCause j.journal disk disk' st → JournalEnd j host host sink sink disk disk' st
 not_started j base there host sink disk disk' st begins free (holds told calm bytes) = (
   same host host sink (reads_none host),
   told,
@@ -136,7 +136,7 @@ module _ (j : JournalJob) (base : BaseTree) (whole : IsWhole (get base.loaded)) 
     at_disk : stop ≡ fault.DiskFailed → IfTold host.told host.told (λ t t'. IsStoppedAtDisk t t' j.run sink.written sink'.written)
     at_disk failed = each_stopped (λ t t'. IsStoppedAtDisk t t' j.run sink.written sink'.written) (λ t is free. record { stopped = stopped_at t is free; settled = broken.at_disk failed })
 
-  broken_row : (stop : RecordFault) → HasBrokenOff base (shells_of j.run) mid disk' sink sink' stop → JournalRow j host host sink sink' disk disk' (status_in stop)
+  broken_row : (stop : RecordFault) → HasBrokenOff base (shells_of j.run) mid disk' sink sink' stop → JournalEnd j host host sink sink' disk disk' (status_in stop)
   broken_row fault.NoMemory broken = inr (empty, broken.calm no_memory_there ∙ calm, stopped fault.NoMemory broken)
   broken_row fault.DiskFailed broken =
       let rose : Rose mid.faults disk'.faults = broken.cause in
@@ -144,8 +144,8 @@ module _ (j : JournalJob) (base : BaseTree) (whole : IsWhole (get base.loaded)) 
       inr (record { empty = empty; broken = inr (all, at_disk fault.DiskFailed broken refl) })
   broken_row fault.SinkFailed broken = inr (record { empty = empty; broken = inl (broken.calm sink_there ∙ calm, inr broken.cause, left fault.SinkFailed broken) })
 
-  pub not_recorded : (st : Status) → RecordCause base (shells_of j.run) mid disk' sink sink' st → JournalRow j host host sink sink' disk disk' st
-  not_recorded st cause = subst (λ st. JournalRow j host host sink sink' disk disk' st) (sym cause.is) (broken_row cause.stop cause.broken)
+  pub not_recorded : (st : Status) → RecordCause base (shells_of j.run) mid disk' sink sink' st → JournalEnd j host host sink sink' disk disk' st
+  not_recorded st cause = subst (λ st. JournalEnd j host host sink sink' disk disk' st) (sym cause.is) (broken_row cause.stop cause.broken)
 
 -- ---- a whole run
 
@@ -232,7 +232,7 @@ module _ (j : JournalJob) (base : BaseTree) (there : Bool) (host host' : HostVie
   all_calm : disk'.faults ≡ disk.faults
   all_calm = had.calm ∙ calm
 
-  pub finished : (st : Status) → FinishEnd j.run.out there nodes text host host' mid sink' st → JournalRow j host host' sink sink' disk disk' st
+  pub finished : (st : Status) → FinishEnd j.run.out there nodes text host host' mid sink' st → JournalEnd j host host' sink sink' disk disk' st
   finished st (done saves grown) =
       let grows = all_grown grown in (
         empty,
@@ -274,15 +274,15 @@ broken_back j a b c sink sink' disk disk' reads is = record { empty = is.empty; 
     back (inl (calm, why, left)) = inl (calm, cause why, told_back _ a b c reads left)
     back (inr (rose, left)) = inr (rose, told_back _ a b c reads left)
 
-pub row_back : (j : JournalJob) (a b c : HostView) (sink sink' : SinkView) (disk disk' : DiskView) (st : Status) → ReadsOnly a b → JournalRow j b c sink sink' disk disk' st → JournalRow j a c sink sink' disk disk' st
-row_back j a b c sink sink' disk disk' status.Done reads row = (row.0, row.1, row.2, told_back _ a b c reads row.3)
-row_back j a b c sink sink' disk disk' status.Usage reads row = row
-row_back j a b c sink sink' disk disk' (status.TextRefused word cause) reads row = (same_back a b c sink sink' reads row.0, row.1, some_back _ a b reads row.2)
-row_back j a b c sink sink' disk disk' (status.FolderRefused cause) reads row = (same_back a b c sink sink' reads row.0, row.1, some_back _ a b reads row.2)
-row_back j a b c sink sink' disk disk' status.ReadFault reads row = (same_back a b c sink sink' reads row.0, row.1, cause_back (HasReadFault j.run.inputs) (λ t. CannotRead t j.run.inputs) a b c reads (read_fault_back j.run.inputs a b c reads) row.2)
-row_back j a b c sink sink' disk disk' status.NotEmpty reads row = (same_back a b c sink sink' reads row.0, row.1, row.2, some_back _ a b reads row.3)
-row_back j a b c sink sink' disk disk' status.WriteFault reads (inl row) = inl (unbegun_back j a b c sink sink' disk disk' reads row)
-row_back j a b c sink sink' disk disk' status.WriteFault reads (inr row) = inr (broken_back j a b c sink sink' disk disk' reads row)
-row_back j a b c sink sink' disk disk' status.NoMemory reads (inl row) = inl (same_back a b c sink sink' reads row.0, row.1)
-row_back j a b c sink sink' disk disk' status.NoMemory reads (inr row) = inr (row.0, row.1, told_back _ a b c reads row.2)
-row_back j a b c sink sink' disk disk' (status.BadJournal place) reads row = row
+pub end_back : (j : JournalJob) (a b c : HostView) (sink sink' : SinkView) (disk disk' : DiskView) (st : Status) → ReadsOnly a b → JournalEnd j b c sink sink' disk disk' st → JournalEnd j a c sink sink' disk disk' st
+end_back j a b c sink sink' disk disk' status.Done reads row = (row.0, row.1, row.2, told_back _ a b c reads row.3)
+end_back j a b c sink sink' disk disk' status.Usage reads row = row
+end_back j a b c sink sink' disk disk' (status.TextRefused word cause) reads row = (same_back a b c sink sink' reads row.0, row.1, some_back _ a b reads row.2)
+end_back j a b c sink sink' disk disk' (status.FolderRefused cause) reads row = (same_back a b c sink sink' reads row.0, row.1, some_back _ a b reads row.2)
+end_back j a b c sink sink' disk disk' status.ReadFault reads row = (same_back a b c sink sink' reads row.0, row.1, cause_back (HasReadFault j.run.inputs) (λ t. CannotRead t j.run.inputs) a b c reads (read_fault_back j.run.inputs a b c reads) row.2)
+end_back j a b c sink sink' disk disk' status.NotEmpty reads row = (same_back a b c sink sink' reads row.0, row.1, row.2, some_back _ a b reads row.3)
+end_back j a b c sink sink' disk disk' status.WriteFault reads (inl row) = inl (unbegun_back j a b c sink sink' disk disk' reads row)
+end_back j a b c sink sink' disk disk' status.WriteFault reads (inr row) = inr (broken_back j a b c sink sink' disk disk' reads row)
+end_back j a b c sink sink' disk disk' status.NoMemory reads (inl row) = inl (same_back a b c sink sink' reads row.0, row.1)
+end_back j a b c sink sink' disk disk' status.NoMemory reads (inr row) = inr (row.0, row.1, told_back _ a b c reads row.2)
+end_back j a b c sink sink' disk disk' (status.BadJournal place) reads row = row

@@ -17,7 +17,7 @@ use Rattle.fx_command.specs.Left.{IsSame, Grows}
 use Rattle.fx_inputs.specs.Inputs.{HasTexts, HasInputs, HasBase, CannotRead, IsFirstRefused}
 use Rattle.fx_inputs.specs.Reads.{HasReadFault}
 use Rattle.fx_run_command.specs.Rows.{IsDone, IsProperRun, CannotSave, RunAsksFit}
-use Rattle.fx_durable.specs.Disk.{File, DiskView, LeftSince, GoesOn, IsUnstarted, IsAsTold, TellsLength, TellsOther, TellsAt, moment}
+use Rattle.fx_durable.specs.Disk.{File, DiskView, LeftSince, GoesOn, IsUnstarted, IsAsTold, TellsLength, TellsOther, TellsAt, ChoosesTold, moment}
 use Rattle.fx_journaling.specs.Kept.{IfFile, KeepsOrder}
 use Rattle.fx_journaling.specs.Written.{HasWritten, HasWrittenEvents, HasWrittenReport, IsBeforeSettled, IsFrontOfOutput}
 
@@ -118,17 +118,22 @@ HasNoMemory j host host' sink sink' disk disk' = (IsSame host host' sink sink' �
 abbrev pub HoldsBytes : List ℕ → DiskView → Type 0
 HoldsBytes path disk = TellsAt disk path × IfSome disk.told (λ file. 0 < length file.seen)
 
-abbrev pub JournalRow : JournalJob → HostView → HostView → SinkView → SinkView → DiskView → DiskView → Status → Type 0
-JournalRow j host host' sink sink' disk disk' status.Done = HasEmptyJournal j disk × (disk'.faults ≡ disk.faults) × Grows sink sink' × IfTold host.told host'.told (λ t t'. IsDone t t' j.run sink.written sink'.written)
-JournalRow j host host' sink sink' disk disk' status.Usage = ⊥
-JournalRow j host host' sink sink' disk disk' (status.TextRefused word cause) = IsSame host host' sink sink' × (disk' ≡ disk) × IfSome host.told (λ t. IsFirstRefused t j.run.inputs word cause)
-JournalRow j host host' sink sink' disk disk' (status.FolderRefused cause) = IsSame host host' sink sink' × (disk' ≡ disk) × IfSome host.told (λ t. HasTexts t j.run.inputs × IsRefused t j.run.inputs.folder cause)
-JournalRow j host host' sink sink' disk disk' status.ReadFault = IsSame host host' sink sink' × (disk' ≡ disk) × (HasReadFault j.run.inputs host host' ⊎ IsSomeAnd host.told (λ t. CannotRead t j.run.inputs))
-JournalRow j host host' sink sink' disk disk' status.NotEmpty =
+-- how `journal` ends
+abbrev pub JournalEnd : JournalJob → HostView → HostView → SinkView → SinkView → DiskView → DiskView → Status → Type 0
+JournalEnd j host host' sink sink' disk disk' status.Done = HasEmptyJournal j disk × (disk'.faults ≡ disk.faults) × Grows sink sink' × IfTold host.told host'.told (λ t t'. IsDone t t' j.run sink.written sink'.written)
+JournalEnd j host host' sink sink' disk disk' status.Usage = ⊥
+JournalEnd j host host' sink sink' disk disk' (status.TextRefused word cause) = IsSame host host' sink sink' × (disk' ≡ disk) × IfSome host.told (λ t. IsFirstRefused t j.run.inputs word cause)
+JournalEnd j host host' sink sink' disk disk' (status.FolderRefused cause) = IsSame host host' sink sink' × (disk' ≡ disk) × IfSome host.told (λ t. HasTexts t j.run.inputs × IsRefused t j.run.inputs.folder cause)
+JournalEnd j host host' sink sink' disk disk' status.ReadFault = IsSame host host' sink sink' × (disk' ≡ disk) × (HasReadFault j.run.inputs host host' ⊎ IsSomeAnd host.told (λ t. CannotRead t j.run.inputs))
+JournalEnd j host host' sink sink' disk disk' status.NotEmpty =
     IsSame host host' sink sink' × IsAsTold disk disk' × (disk'.faults ≡ disk.faults) × IfSome host.told (λ t. HasInputs t j.run.inputs × (IsTaken t j.run.out ⊎ (((there : Bool) × IsReady t j.run.out there) × HoldsBytes j.journal disk)))
-JournalRow j host host' sink sink' disk disk' status.WriteFault = IsUnbegun j host host' sink sink' disk disk' ⊎ IsBrokenOff j host host' sink sink' disk disk'
-JournalRow j host host' sink sink' disk disk' status.NoMemory = HasNoMemory j host host' sink sink' disk disk'
-JournalRow j host host' sink sink' disk disk' (status.BadJournal place) = ⊥
+JournalEnd j host host' sink sink' disk disk' status.WriteFault = IsUnbegun j host host' sink sink' disk disk' ⊎ IsBrokenOff j host host' sink sink' disk disk'
+JournalEnd j host host' sink sink' disk disk' status.NoMemory = HasNoMemory j host host' sink sink' disk disk'
+JournalEnd j host host' sink sink' disk disk' (status.BadJournal place) = ⊥
+
+-- the table for `journal`: however it ends, no path but JOURNAL is chosen on a disk whose told file is there
+abbrev pub JournalRow : JournalJob → HostView → HostView → SinkView → SinkView → DiskView → DiskView → Status → Type 0
+JournalRow j host host' sink sink' disk disk' st = ChoosesTold j.journal disk disk' × JournalEnd j host host' sink sink' disk disk' st
 
 -- The file was at JOURNAL and empty. The journal was started in it at a moment of this call, and from then on keeps the order of
 -- the settled lines that were written.

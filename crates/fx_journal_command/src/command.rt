@@ -8,9 +8,9 @@ ghost use Rattle.fx_words.specs.Job.{shells_of};
 ghost use Rattle.fx_words.specs.JobOf.{asked, asked_journal, IsJob, IsJournalJob};
 ghost use Rattle.fx_command.specs.StatusOf.{status_of};
 ghost use Rattle.fx_inputs.specs.Inputs.{HasBase, HasEachScript};
-ghost use Rattle.fx_durable.specs.Disk.{Continues, StaysUnstarted, TellsLength};
+ghost use Rattle.fx_durable.specs.Disk.{Continues, StaysUnstarted, ChoosesTold, TellsLength};
 ghost use Rattle.fx_journaling.specs.Recorded.{IsStarted, EndsRecorded};
-ghost use Rattle.fx_journal_command.specs.Rows.{JournalRow, JournalAsksFit, KeepsJournal};
+ghost use Rattle.fx_journal_command.specs.Rows.{JournalEnd, JournalRow, JournalAsksFit, KeepsJournal};
 ghost use Rattle.fx_journal_command.specs.Stages.{MayLeaveGate, StartCause, RecordCause, FinishEnd, run_report};
 
 use fx_command::{Status, print_all, ready_out};
@@ -32,6 +32,7 @@ fn start<D: Disk>(path: &HostText, disk: &mut D) -> Result<Journal, Status>
     ensures gate { IfOk result (λ _. MayLeaveGate (D.view disk.new)) }
     ensures goes_on { Continues (D.view disk.old) (D.view disk.new) }
     ensures calm { OnOk result ((D.view disk.new).faults ≡ (D.view disk.old).faults) }
+    ensures others { ChoosesTold path.now (D.view disk.old) (D.view disk.new) }
     ensures cause { IfErr result (StartCause path.now (D.view disk.old) (D.view disk.new)) }
     ensures unstarted { OnErr result
         (StaysUnstarted path.now (D.view disk.old).told (D.view disk.new).told) }
@@ -106,8 +107,9 @@ fn keep<H: Host, S: Sink, D: Disk>(
         HasBase t (asked job.now.run).inputs (base_tree base.value)) }
     requires count { HasEachScript (asked job.now.run).inputs (base_tree base.value) }
     requires free { IfSome (H.view host.old).told (λ t. IsReady t (asked job.now.run).out there) }
-    ensures row { JournalRow (asked_journal job.now) (H.view host.old) (H.view host.new)
+    ensures end { JournalEnd (asked_journal job.now) (H.view host.old) (H.view host.new)
         (S.view out.old) (S.view out.new) (D.view disk.old) (D.view disk.new) (status_of result) }
+    ensures others { ChoosesTold job.now.journal.now (D.view disk.old) (D.view disk.new) }
     ensures keeps { KeepsJournal (asked_journal job.now) (H.view host.old)
         (S.view out.old) (S.view out.new) (D.view disk.old) (D.view disk.new) }
     ensures fit { AsksFit job.now.run.out.now (H.view host.old) (H.view host.new) }

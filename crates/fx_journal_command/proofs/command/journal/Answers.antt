@@ -1,4 +1,4 @@
-use Rattle.std.proofs.Common.{sym, subst, ◌∙◌}
+use Rattle.std.proofs.Common.{refl, sym, subst, ◌∙◌}
 use Rattle.fx_outside.proofs.Views.{reads_then}
 use Rattle.fx_spec.specs.Bases.{base_tree}
 use Rattle.fx_words.specs.JobOf.{asked, asked_journal}
@@ -8,8 +8,8 @@ use Rattle.fx_inputs.proofs.Stages.{inputs_read, then_told}
 use Rattle.fx_inputs.specs.Inputs.{HasBase}
 use Rattle.fx_folder.specs.Folder.{IsReady}
 use Rattle.fx_run_command.proofs.Ending.{fit_inputs, fit_out}
-use Rattle.fx_journal_command.specs.Rows.{JournalRow}
-use Rattle.fx_journal_command.proofs.Ending.{inputs_unread, out_unready, row_back}
+use Rattle.fx_journal_command.specs.Rows.{JournalEnd}
+use Rattle.fx_journal_command.proofs.Ending.{inputs_unread, out_unready, end_back}
 use Rattle.fx_journal_command.proofs.Keeping.{keeps_back, unbegun_keeps}
 use Rattle.fx_journal_command.proofs.command.journal.Goals as goal
 
@@ -22,7 +22,7 @@ returns-in_err-base-clause-row g c =
     let disk = g.D.Disk.view c.args.disk.now in
     let st = c.in_err-base.field-0.0 in
     let is = err_of c.from_residual.result st c.from_residual.ensures.1 in
-    subst (λ r. JournalRow j a b sink sink disk disk (status_of r)) (sym is) (inputs_unread j a b sink disk st c.in_err-base.ensures.same c.in_err-base.ensures.ends)
+    (λ _. refl, subst (λ r. JournalEnd j a b sink sink disk disk (status_of r)) (sym is) (inputs_unread j a b sink disk st c.in_err-base.ensures.same c.in_err-base.ensures.ends))
 
 pub returns-in_err-base-clause-keeps : goal.returns-in_err-base-clause-keeps
 returns-in_err-base-clause-keeps g c = unbegun_keeps (asked_journal c.args.job.now) (g.H.Host.view c.args.host.now) (g.S.Sink.view c.args.out.now) (g.D.Disk.view c.args.disk.now)
@@ -38,8 +38,7 @@ returns-in_err-there-clause-row g c =
     let st = c.in_err-there.field-0.0 in
     let is = err_of c.from_residual-in_err-there.result st c.from_residual-in_err-there.ensures.1 in
     let inputs = inputs_read j.run.inputs (base_tree c.in_ok-base.base.value) a b c.in_ok-base.ensures.same c.in_ok-base.ensures.read in
-    subst (λ r. JournalRow j a d sink sink disk disk (status_of r)) (sym is)
-    (row_back j a b d sink sink disk disk st c.in_ok-base.ensures.same (out_unready j b d sink disk st c.in_err-there.ensures.same inputs c.in_err-there.ensures.unready))
+    (λ _. refl, subst (λ r. JournalEnd j a d sink sink disk disk (status_of r)) (sym is) (end_back j a b d sink sink disk disk st c.in_ok-base.ensures.same (out_unready j b d sink disk st c.in_err-there.ensures.same inputs c.in_err-there.ensures.unready)))
 
 pub returns-in_err-there-clause-keeps : goal.returns-in_err-there-clause-keeps
 returns-in_err-there-clause-keeps g c = unbegun_keeps (asked_journal c.args.job.now) (g.H.Host.view c.args.host.now) (g.S.Sink.view c.args.out.now) (g.D.Disk.view c.args.disk.now)
@@ -60,7 +59,7 @@ returns-clause-row g c =
     let a = g.H.Host.view c.args.host.now in
     let b = g.H.Host.view c.read_base.new.host in
     let d = g.H.Host.view c.ready_out.new.host in
-    row_back (asked_journal c.args.job.now) a d (g.H.Host.view c.keep.new.host) (g.S.Sink.view c.args.out.now) (g.S.Sink.view c.keep.new.out) (g.D.Disk.view c.args.disk.now) (g.D.Disk.view c.keep.new.disk) (status_of c.keep.result) (reads_then a b d c.in_ok-base.ensures.same c.in_ok-there.ensures.same) c.keep.ensures.row
+    (c.keep.ensures.others, end_back (asked_journal c.args.job.now) a d (g.H.Host.view c.keep.new.host) (g.S.Sink.view c.args.out.now) (g.S.Sink.view c.keep.new.out) (g.D.Disk.view c.args.disk.now) (g.D.Disk.view c.keep.new.disk) (status_of c.keep.result) (reads_then a b d c.in_ok-base.ensures.same c.in_ok-there.ensures.same) c.keep.ensures.end)
 
 pub returns-clause-keeps : goal.returns-clause-keeps
 returns-clause-keeps g c =
