@@ -1,5 +1,5 @@
 -- What stands in the folder of a case, by the list of its texts.
-use Rattle.std.proofs.Common.{◌≡◌, ◌⊎◌, inl, inr, ℕ, ◌+◌, Bool, true, false, cond, ◌||◌, List, [], ◌∷◌, ◌++◌, map, Option, Some, None, option_map, IsTrue, refl, sym, ◌∙◌, ap, subst, append_assoc, append-nil, codes}
+use Rattle.std.proofs.Common.{◌≡◌, ◌⊎◌, inl, inr, ℕ, ◌+◌, Bool, true, false, cond, ◌||◌, List, [], ◌∷◌, ◌++◌, map, Option, Some, None, option_map, IsTrue, refl, sym, ◌∙◌, ap, append_assoc, append-nil, codes}
 use Rattle.std.specs.Prelude.{bytes_eq}
 use Rattle.std.specs.declared.cmp.Ordering.{Ordering}
 use Rattle.std.specs.declared.cmp.Ordering.TheVariants.{Less, Equal, Greater}
@@ -14,7 +14,7 @@ use Rattle.fx_store.specs.Names.{path_cmp}
 use Rattle.fx_outside.specs.Listing.{name_cmp}
 use Rattle.fx_outside.specs.Path.{Parts, parts_cmp}
 use Rattle.fx_outside.specs.Tree.{Tree, Entry, file}
-use Rattle.fx_outside.proofs.Trees.{name_total, parts_total}
+use Rattle.fx_outside.proofs.Trees.{name_total}
 use Rattle.fx_folder.specs.Deep.{folder_entry}
 use Rattle.fx_folder.specs.Folder.{IsSaved, IsPartlySaved, IsFrontOf, entry_or}
 use Rattle.fx_folder.specs.Places.{host_entry}
@@ -73,31 +73,38 @@ text_stands c (name ∷ names) e is = elim (cases_Bool (bytes_eq name inner)) [
 
 -- ---- the order of the texts
 
-places_of : (named : List Named) → map (λ (m : Mapped). m.0) (map file_of named) ≡ map (λ (n : Named). n.0 ∷ []) named
+abbrev pub places : List Mapped → List Parts
+places nodes = map (λ (m : Mapped). m.0) nodes
+
+places_of : (named : List Named) → places (map file_of named) ≡ map (λ (n : Named). n.0 ∷ []) named
 places_of [] = refl
 places_of (n ∷ named) = ap (λ l. (n.0 ∷ []) ∷ l) (places_of named)
 
--- what is listed before a place has one of the first nodes, if that place has one, or if nothing is listed before it among the others
-listed_done : (done left : List Mapped) (before path : Parts) → ((x : Node) × (find path_cmp path done ≡ Some x)) ⊎ (is_listed_before (map (λ (m : Mapped). m.0) left) before path ≡ false) → is_listed_before (map (λ (m : Mapped). m.0) (done ++ left)) before path ≡ true → (y : Node) × (find path_cmp before done ≡ Some y)
+-- the place has one of the first nodes, or this one is not listed before it among the others
+abbrev pub IsReached : List Mapped → List Mapped → Parts → Parts → Type 0
+IsReached done left before path = ((x : Node) × (find path_cmp path done ≡ Some x)) ⊎ (is_listed_before (places left) before path ≡ false)
+
+-- then what is listed before it has one of the first nodes
+listed_done : (done left : List Mapped) (before path : Parts) → IsReached done left before path → is_listed_before (places (done ++ left)) before path ≡ true → (y : Node) × (find path_cmp before done ≡ Some y)
 listed_done [] left before path (inl found) listed = let none : None ≡ Some found.0 = found.1 in cc
 listed_done [] left before path (inr last) listed = let both : false ≡ true = sym last ∙ listed in cc
 listed_done (d ∷ done) left before path reached listed = elim (cases_Bool (eq_by_cmp parts_cmp path d.0)) [
   | inl same ↦
-      let both : false ≡ true = sym (ap (λ t. cond t false (eq_by_cmp parts_cmp before d.0 || is_listed_before (map (λ (m : Mapped). m.0) (done ++ left)) before path)) same) ∙ listed in
+      let both : false ≡ true = sym (ap (λ t. cond t false (eq_by_cmp parts_cmp before d.0 || is_listed_before (places (done ++ left)) before path)) same) ∙ listed in
       cc
   | inr apart ↦
       go (eq_by_cmp parts_cmp before d.0) refl (λ on. listed_done done left before path (still apart reached) on)
-      (sym (ap (λ t. cond t false (eq_by_cmp parts_cmp before d.0 || is_listed_before (map (λ (m : Mapped). m.0) (done ++ left)) before path)) apart) ∙ listed)
+      (sym (ap (λ t. cond t false (eq_by_cmp parts_cmp before d.0 || is_listed_before (places (done ++ left)) before path)) apart) ∙ listed)
 ]
   where
-    still : eq_by_cmp parts_cmp path d.0 ≡ false → ((x : Node) × (find path_cmp path (d ∷ done) ≡ Some x)) ⊎ (is_listed_before (map (λ (m : Mapped). m.0) left) before path ≡ false) → ((x : Node) × (find path_cmp path done ≡ Some x)) ⊎ (is_listed_before (map (λ (m : Mapped). m.0) left) before path ≡ false)
+    still : eq_by_cmp parts_cmp path d.0 ≡ false → IsReached (d ∷ done) left before path → IsReached done left before path
     still apart (inl found) = inl (found.0, sym (ap (λ t. cond t (Some d.1) (find path_cmp path done)) apart) ∙ found.1)
     still apart (inr last) = inr last
 
-    go : (b : Bool) → eq_by_cmp parts_cmp before d.0 ≡ b → (is_listed_before (map (λ (m : Mapped). m.0) (done ++ left)) before path ≡ true → (y : Node) × (find path_cmp before done ≡ Some y)) → (eq_by_cmp parts_cmp before d.0 || is_listed_before (map (λ (m : Mapped). m.0) (done ++ left)) before path) ≡ true → (y : Node) × (find path_cmp before (d ∷ done) ≡ Some y)
+    go : (b : Bool) → eq_by_cmp parts_cmp before d.0 ≡ b → (is_listed_before (places (done ++ left)) before path ≡ true → (y : Node) × (find path_cmp before done ≡ Some y)) → (eq_by_cmp parts_cmp before d.0 || is_listed_before (places (done ++ left)) before path) ≡ true → (y : Node) × (find path_cmp before (d ∷ done) ≡ Some y)
     go true same next later = (d.1, ap (λ t. cond t (Some d.1) (find path_cmp before done)) same)
     go false other next later =
-        let found = next (sym (ap (λ t. t || is_listed_before (map (λ (m : Mapped). m.0) (done ++ left)) before path) other) ∙ later) in
+        let found = next (sym (ap (λ t. t || is_listed_before (places (done ++ left)) before path) other) ∙ later) in
         (found.0, ap (λ t. cond t (Some d.1) (find path_cmp before done)) other ∙ found.1)
 
 -- at the place of a text the case has that text
@@ -127,17 +134,21 @@ no_node_before : (o : Option Parts) → is_node_before o None ≡ false
 no_node_before None = refl
 no_node_before (Some names) = refl
 
--- what is listed before a place is one of the first texts, whole, with the same premises
-listed_text : (c : Case) (done left : List Mapped) (before path : Parts) (whole : Entry) → text_nodes c ≡ done ++ left → ((x : Node) × (find path_cmp path done ≡ Some x)) ⊎ (is_listed_before (map (λ (m : Mapped). m.0) left) before path ≡ false) → is_listed_before (text_places c) before path ≡ true → case_entry c before ≡ Some whole → (y : Node) × (find path_cmp before done ≡ Some y) × (find path_cmp before (text_nodes c) ≡ Some y) × (host_entry (Some y) ≡ Some whole)
+-- one of the first texts is at this place, and the case has this entry for it
+abbrev pub IsTextAmong : Case → List Mapped → Parts → Entry → Type 0
+IsTextAmong c done place whole = (y : Node) × (find path_cmp place done ≡ Some y) × (find path_cmp place (text_nodes c) ≡ Some y) × (host_entry (Some y) ≡ Some whole)
+
+-- what is listed before such a place is one of the first texts
+listed_text : (c : Case) (done left : List Mapped) (before path : Parts) (whole : Entry) → text_nodes c ≡ done ++ left → IsReached done left before path → is_listed_before (text_places c) before path ≡ true → case_entry c before ≡ Some whole → IsTextAmong c done before whole
 listed_text c done left before path whole split reached listed stands =
-    let among : is_listed_before (map (λ (m : Mapped). m.0) (done ++ left)) before path ≡ true =
-    ap (λ l. is_listed_before (map (λ (m : Mapped). m.0) l) before path) (sym split) ∙ ap (λ l. is_listed_before ([] ∷ l) before path) (places_of (texts c)) ∙ listed in
+    let among : is_listed_before (places (done ++ left)) before path ≡ true =
+    ap (λ l. is_listed_before (places l) before path) (sym split) ∙ ap (λ l. is_listed_before ([] ∷ l) before path) (places_of (texts c)) ∙ listed in
     let found = listed_done done left before path reached among in
     let text : find path_cmp before (text_nodes c) ≡ Some found.0 = ap (find path_cmp before) split ∙ find_append before done left ∙ ap (λ o. option_or o (find path_cmp before left)) found.1 in
     (found.0, found.1, text, sym (text_is c before found.0 text) ∙ stands)
 
--- what comes in the case before a text is such a text
-pub text_before : (c : Case) (done left : List Mapped) (before path : Parts) (whole : Entry) (x : Node) → text_nodes c ≡ done ++ left → find path_cmp path (text_nodes c) ≡ Some x → ((x : Node) × (find path_cmp path done ≡ Some x)) ⊎ (is_listed_before (map (λ (m : Mapped). m.0) left) before path ≡ false) → IsTrue (is_before_in_case c before path) → case_entry c before ≡ Some whole → (y : Node) × (find path_cmp before done ≡ Some y) × (find path_cmp before (text_nodes c) ≡ Some y) × (host_entry (Some y) ≡ Some whole)
+-- what comes in the case before a text is a text, one of the first
+pub text_before : (c : Case) (done left : List Mapped) (before path : Parts) (whole : Entry) (x : Node) → text_nodes c ≡ done ++ left → find path_cmp path (text_nodes c) ≡ Some x → IsReached done left before path → IsTrue (is_before_in_case c before path) → case_entry c before ≡ Some whole → IsTextAmong c done before whole
 text_before c done left before path whole x split is reached order stands = elim (or_cases (is_listed_before (text_places c) before path) (is_node_before (rest_of (inner ∷ []) before) (rest_of (inner ∷ []) path)) order) [
   | inl listed ↦ listed_text c done left before path whole split reached listed stands
   | inr node ↦
@@ -152,7 +163,7 @@ node_at None e is = cc
 node_at (Some x) e is = (x, refl)
 
 -- where the first texts stand and nothing else, what comes before one of them is one of them, and stands whole
-pub first_before : (c : Case) (t u : Tree) (at : Parts) (done left : List Mapped) → text_nodes c ≡ done ++ left → HasEntries t u at done → (path before : Parts) (e whole : Entry) → get u (at ++ path) ≡ Some e → IsTrue (is_before_in_case c before path) → case_entry c before ≡ Some whole → (y : Node) × (find path_cmp before done ≡ Some y) × (find path_cmp before (text_nodes c) ≡ Some y) × (host_entry (Some y) ≡ Some whole)
+pub first_before : (c : Case) (t u : Tree) (at : Parts) (done left : List Mapped) → text_nodes c ≡ done ++ left → HasEntries t u at done → (path before : Parts) (e whole : Entry) → get u (at ++ path) ≡ Some e → IsTrue (is_before_in_case c before path) → case_entry c before ≡ Some whole → IsTextAmong c done before whole
 first_before c t u at done left split has path before e whole here order stands =
     let x = node_at (find path_cmp path done) e (sym (has.inside path) ∙ here) in
     let text : find path_cmp path (text_nodes c) ≡ Some x.0 = ap (find path_cmp path) split ∙ find_append path done left ∙ ap (λ o. option_or o (find path_cmp path left)) x.1 in

@@ -1,5 +1,5 @@
 -- The steps of writing the texts of a case: what each leaves, and that the next may be made.
-use Rattle.std.proofs.Common.{◌≡◌, ◌⊎◌, inl, inr, ℕ, ◌+◌, ◌<◌, ◌≤◌, Bool, true, false, ◌&&◌, ◌||◌, cond, List, [], ◌∷◌, ◌++◌, map, length, is_none, Option, Some, None, IfSome, IfErr, IsSomeAnd, OnOk, OnErr, Result, Ok, Err, refl, sym, ◌∙◌, ap, subst, arith, append_assoc, append-nil, codes}
+use Rattle.std.proofs.Common.{◌≡◌, ◌⊎◌, inl, inr, ℕ, ◌+◌, ◌<◌, ◌≤◌, Bool, true, false, ◌&&◌, ◌||◌, cond, List, [], ◌∷◌, ◌++◌, length, is_none, Option, Some, None, IfSome, IfErr, IsSomeAnd, OnOk, OnErr, Result, Ok, Err, refl, sym, ◌∙◌, ap, subst, arith, append_assoc, append-nil, codes}
 use Rattle.std.specs.Prelude.{slice_get}
 use Rattle.std.specs.Option.{option_or}
 use Rattle.std.specs.Ordering.{is_eq, eq_by_cmp}
@@ -30,7 +30,7 @@ use Rattle.fx_folder.proofs.Texts.{parts_below, fit_below}
 use Rattle.fx_folder.proofs.Writes.{told_then}
 use Rattle.fx_large.specs.Case.{Case, script_name, case_entry, is_listed_before, IsWritten, IsPartOfCase, IsPartlyWritten}
 use Rattle.fx_large.specs.Wrote.{Mapped, text_nodes, scripts_to, IsBegun, WroteTexts}
-use Rattle.fx_large.proofs.CaseEntries.{inner, no_text, text_stands, text_before, first_before, texts_ordered, case_written, case_part}
+use Rattle.fx_large.proofs.CaseEntries.{inner, no_text, places, IsTextAmong, text_stands, text_before, first_before, texts_ordered, case_written, case_part}
 use Rattle.fx_large.proofs.Naming.{spec_named, inner_named, script_named, script_fresh, one_more, all_taken, texts_split}
 
 -- told trees
@@ -176,7 +176,7 @@ module _ (c : Case) (t u v : Tree) (at : Parts) where
     ordered = λ p b d w here order before. elim (cases_Bool (eq_by_cmp parts_cmp (at ++ p) (at ++ path))) [
       | inl same ↦
           let at_it : p ≡ path = parts_is p path (sym (ap is_eq (same_front at p path)) ∙ same) in
-          let last : is_listed_before (map (λ (m : Mapped). m.0) ((path, node) ∷ rest)) b p ≡ false = ap (is_listed_before (map (λ (m : Mapped). m.0) ((path, node) ∷ rest)) b) at_it ∙ none_listed b in
+          let last : is_listed_before (places ((path, node) ∷ rest)) b p ≡ false = ap (is_listed_before (places ((path, node) ∷ rest)) b) at_it ∙ none_listed b in
           earlier b w (text_before c done ((path, node) ∷ rest) b p w node split (ap (λ q. find path_cmp q (text_nodes c)) at_it ∙ the_text) (inr last) order before)
       | inr apart ↦ earlier b w (first_before c t u at done ((path, node) ∷ rest) split has p b d w (sym (other (at ++ p) apart) ∙ here) order before)
     ];
@@ -194,9 +194,9 @@ module _ (c : Case) (t u v : Tree) (at : Parts) where
       stands = text_stands c path whole (ap host_entry the_text ∙ is)
 
       -- nothing is listed before the next text among those that are left
-      none_listed : (b : Parts) → is_listed_before (map (λ (m : Mapped). m.0) ((path, node) ∷ rest)) b path ≡ false
+      none_listed : (b : Parts) → is_listed_before (places ((path, node) ∷ rest)) b path ≡ false
       none_listed b =
-          ap (λ t. cond t false (eq_by_cmp parts_cmp b path || is_listed_before (map (λ (m : Mapped). m.0) rest) b path)) (ap is_eq (tied_itself parts_total path))
+          ap (λ t. cond t false (eq_by_cmp parts_cmp b path || is_listed_before (places rest) b path)) (ap is_eq (tied_itself parts_total path))
 
       beside : (b : Parts) (y : Node) → find path_cmp b done ≡ Some y → eq_by_cmp parts_cmp (at ++ b) (at ++ path) ≡ false
       beside b y found = elim (cases_Bool (eq_by_cmp parts_cmp (at ++ b) (at ++ path))) [
@@ -207,7 +207,7 @@ module _ (c : Case) (t u v : Tree) (at : Parts) where
         | inr apart ↦ apart
       ]
 
-      earlier : (b : Parts) (w : Entry) → (y : Node) × (find path_cmp b done ≡ Some y) × (find path_cmp b (text_nodes c) ≡ Some y) × (host_entry (Some y) ≡ Some w) → get v (at ++ b) ≡ Some w
+      earlier : (b : Parts) (w : Entry) → IsTextAmong c done b w → get v (at ++ b) ≡ Some w
       earlier b w y = other (at ++ b) (beside b y.0 y.1) ∙ has.inside b ∙ ap host_entry y.1 ∙ y.3
 
       at_path : (p : Parts) (d : Entry) → eq_by_cmp parts_cmp (at ++ p) (at ++ path) ≡ true → get v (at ++ p) ≡ Some d → (w : Entry) × (case_entry c p ≡ Some w) × ((d ≡ w) ⊎ ((p ≡ path) × IsFrontOf d w))

@@ -84,7 +84,7 @@ is_before_in_case c before path =
     is_listed_before (text_places c) before path || is_node_before (rest_of (codes "in" ∷ []) before) (rest_of (codes "in" ∷ []) path)
 
 -- the new tree has a part of that folder at these parts, and is the old one elsewhere; the file last begun may hold a prefix
--- of its bytes, and what is written before an entry that is there is there whole
+-- of its bytes, and what comes in that order before an entry that is there is there whole
 pub record IsPartOfCase (tree tree' : Tree) (at : Parts) (c : Case) (last : Parts) : Type 0 where
   pub outside : (q : Parts) → rest_of at q ≡ None → get tree' q ≡ get tree q
   pub inside : (path : Parts) (e : Entry) → get tree' (at ++ path) ≡ Some e
