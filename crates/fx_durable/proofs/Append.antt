@@ -1,11 +1,13 @@
 -- What a crash leaves at each moment of an append, and what it leaves in the end.
-use Rattle.std.proofs.Common.{◌≡◌, inl, inr, ℕ, ◌+◌, ◌*◌, ◌≤◌, ◌<◌, List, [], ◌∷◌, ◌++◌, length, refl, sym, ◌∙◌, ap, subst, arith, Some, length-append}
-use Rattle.std.specs.Prelude.{IfSome}
+use Rattle.std.proofs.Common.{◌≡◌, inl, inr, ℕ, ◌+◌, ◌*◌, ◌≤◌, ◌<◌, List, [], ◌∷◌, ◌++◌, length, refl, sym, ◌∙◌, ap, subst, arith, Option, Some, None, length-append}
+use Rattle.std.specs.Prelude.{IfSome, option_map}
+use Rattle.std.proofs.lemmas.List.{append-nil}
 use Rattle.std.proofs.lemmas.List.Elements.{All-push}
 use Rattle.fx_base.specs.Limits.{txn_limit}
 use Rattle.fx_durable.specs.Disk.{wrote, kept, File, DiskView, MayLeave, Torn, written, synced, LeavesOnly, IsAsTold, Writes, MayTear, Syncs}
 use Rattle.fx_durable.specs.Journal.{records, at_rest, FitsRecord, Spells, RestsAt, Rests, IsBeforeOrAfter, LeavesOrder, AddsTurn}
 use Rattle.fx_spec.specs.Plans.{Turn}
+use Rattle.fx_durable.specs.Placed.{torn_written}
 use Rattle.fx_durable.proofs.Records.{length-records}
 use Rattle.fx_durable.proofs.Told.{if_told, of_told, is_told, if_is_told, told_same, told_written, told_synced, told_torn}
 use Rattle.fx_durable.proofs.Moments.{begun, goes_more, goes_torn}
@@ -55,7 +57,7 @@ module _ (count : ℕ) (room : count < txn_limit) (turn : Turn) (good : FitsReco
   in_third c left = after_gate c (subst (λ d. Torn (9 * count) 1 d c) left.1 left.2)
 
   in_second : (c : List ℕ) → c ≡ (second count turn file).seen → P c
-  in_second c is = subst P (sym (is ∙ seen_second)) (spells_gate order count rests.counts rests.fit room 0 turn good)
+  in_second c is = subst P (sym (is ∙ seen_second ∙ sym (append-nil (with_gate order 0 turn)))) (spells_gate order count rests.counts rests.fit room 0 turn good [])
 
   pub in_fourth : (c : List ℕ) → c ≡ (fourth count turn file).seen → P c
   in_fourth c is = inr (subst (Spells (order ++ turn ∷ [])) (sym (is ∙ seen_fourth)) (spells_after order count rests.counts rests.fit room turn good))
@@ -121,6 +123,14 @@ has_gate inner count same old image rests = if_told old.told _ (λ file is.
     let order = of_told old.told _ file is rests in
     let seen = order.1.only file.seen (of_told old.told _ file is image) in
     omega (arith, same, ap length seen, length-records order.0, length-append (records order.0) (0 ∷ []), order.1.counts))
+
+gate_stays : (from : ℕ) (bytes : List ℕ) (told told' : Option File) → IfSome told (λ file. from + 1 ≤ length file.seen) → told' ≡ option_map synced (option_map (written (from + 1) bytes) told) → IfSome told' (λ file. from ≤ length file.seen)
+gate_stays from bytes None told' place is = subst (λ o. IfSome o (λ file. from ≤ length file.seen)) (sym is) tt
+gate_stays from bytes (Some file) told' place is = subst (λ o. IfSome o (λ file. from ≤ length file.seen)) (sym is) (omega (arith, place, (torn_written (from + 1) bytes file.seen place).no_shorter))
+
+-- and there still is one once the record behind it is written and synced
+pub has_gate_still : (from : ℕ) (bytes : List ℕ) (old v w : DiskView) → IfSome old.told (λ file. from + 1 ≤ length file.seen) → Writes (from + 1) bytes old v → Syncs v w → IfSome w.told (λ file. from ≤ length file.seen)
+has_gate_still from bytes old v w place writes syncs = gate_stays from bytes old.told w.told place (syncs ∙ ap (λ o. option_map synced o) writes)
 
 -- the calls as the body makes them
 module _ (inner count : ℕ) (same : inner ≡ count) (old new : DiskView) where

@@ -1,7 +1,8 @@
 -- What a crash leaves in each of the two steps of an append.
-use Rattle.std.proofs.Common.{◌≡◌, inl, inr, ℕ, ◌+◌, ◌*◌, ◌<◌, List, [], ◌∷◌, ◌++◌, length, get_or, take, drop, sym, ◌∙◌, ap, subst, arith, append_assoc, length-append, take-append-drop}
-use Rattle.std.proofs.lemmas.List.{take_at, drop_at, drop_more, take_all, drop_all, append-nil}
+use Rattle.std.proofs.Common.{◌≡◌, inl, inr, ℕ, ◌+◌, ◌*◌, ◌≤◌, ◌<◌, List, [], ◌∷◌, ◌++◌, length, get_or, take, drop, sym, ◌∙◌, ap, subst, arith, append_assoc, length-append, take-append-drop}
+use Rattle.std.proofs.lemmas.List.{take_at, drop_at, drop_more, take_all, drop_all, append-nil, length-take}
 use Rattle.std.proofs.lemmas.Bool.{cases_eq}
+use Rattle.std.proofs.Math.Seq.{take-take}
 use Rattle.std.specs.Prelude.{All}
 use Rattle.std.proofs.lemmas.List.Elements.{All-push}
 use Rattle.fx_base.specs.Limits.{txn_limit}
@@ -31,7 +32,8 @@ module _ (order : List Turn) (count : ℕ) (counts : length order ≡ count) (fi
   -- the closed gate stands in each outcome of the first write
   pub torn_behind : (n : ℕ) (c : List ℕ) → Torn (9 * count + 1) n (at_rest order) c → Spells order c
   torn_behind n c torn =
-      let front : take (9 * count + 1) c ≡ at_rest order = torn.before ∙ take_all _ _ (omega (arith, length-at_rest)) in
+      let long : 9 * count + 1 ≤ length (at_rest order) = omega (arith, length-at_rest) in
+      let front : take (9 * count + 1) c ≡ at_rest order = sym (take-take (9 * count + 1) (length (at_rest order)) c long) ∙ torn.before ∙ take_all _ _ (omega (arith, length-at_rest)) in
       let whole : c ≡ records order ++ 0 ∷ drop (9 * count + 1) c =
       sym (take-append-drop (9 * count + 1) c) ∙ ap (λ (l : List ℕ). l ++ drop (9 * count + 1) c) front ∙ append_assoc (records order) (0 ∷ []) (drop (9 * count + 1) c) in
       subst (Spells order) (sym whole) (spells_closed order 0 (drop (9 * count + 1) c) fit (omega (arith, counts, room)) (omega arith))
@@ -65,22 +67,32 @@ module _ (order : List Turn) (count : ℕ) (counts : length order ≡ count) (fi
   pub spells_after : (turn : Turn) → FitsRecord turn → Spells (order ++ turn ∷ []) (at_rest (order ++ turn ∷ []))
   spells_after turn good = spells_closed (order ++ turn ∷ []) 0 [] (All-push FitsRecord order turn fit good) (omega (arith, counts, room, length-append order (turn ∷ []))) (omega arith)
 
-  pub spells_gate : (gate : ℕ) (turn : Turn) → FitsRecord turn → IsBeforeOrAfter order turn (with_gate order gate turn)
-  spells_gate gate turn good = elim (cases_eq gate 1) [
-    | inl is_open ↦ inr (subst (Spells (order ++ turn ∷ [])) (sym (ap (λ g. with_gate order g turn) is_open ∙ opened turn)) (spells_after turn good))
-    | inr shut ↦ inl (spells_closed order gate (behind turn) fit (omega (arith, counts, room)) shut)
+  -- an open gate makes the record one of the journal's, whatever stands behind the next gate, which is closed
+  spells_opened : (turn : Turn) → FitsRecord turn → (rest : List ℕ) → Spells (order ++ turn ∷ []) (with_gate order 1 turn ++ rest)
+  spells_opened turn good rest =
+      let whole : with_gate order 1 turn ++ rest ≡ records (order ++ turn ∷ []) ++ 0 ∷ rest = ap (λ (l : List ℕ). l ++ rest) (opened turn) ∙ append_assoc (records (order ++ turn ∷ [])) (0 ∷ []) rest in
+      subst (Spells (order ++ turn ∷ [])) (sym whole) (spells_closed (order ++ turn ∷ []) 0 rest (All-push FitsRecord order turn fit good) (omega (arith, counts, room, length-append order (turn ∷ []))) (omega arith))
+
+  pub spells_gate : (gate : ℕ) (turn : Turn) → FitsRecord turn → (rest : List ℕ) → IsBeforeOrAfter order turn (with_gate order gate turn ++ rest)
+  spells_gate gate turn good rest = elim (cases_eq gate 1) [
+    | inl is_open ↦ inr (subst (λ g. Spells (order ++ turn ∷ []) (with_gate order g turn ++ rest)) (sym is_open) (spells_opened turn good rest))
+    | inr shut ↦ inl (subst (Spells order) (sym (append_assoc (records order) (gate ∷ behind turn) rest)) (spells_closed order gate (behind turn ++ rest) fit (omega (arith, counts, room)) shut))
   ]
 
   -- the record stands whole in each outcome of the second write
   pub torn_gate : (turn : Turn) → FitsRecord turn → (c : List ℕ) → Torn (9 * count) 1 (with_gate order 0 turn) c → IsBeforeOrAfter order turn c
   torn_gate turn good c torn =
-      let long = length-with_gate 0 turn in
-      let gate = get_or c (9 * count) 0 in
-      let rest : drop (9 * count) c ≡ gate ∷ behind turn =
-      drop_more c (9 * count) 0 (omega (arith, long, torn.no_shorter)) ∙ ap (λ (l : List ℕ). gate ∷ l) (torn.after ∙ back 0 turn) in
-      let whole : c ≡ with_gate order gate turn =
-      sym (take-append-drop (9 * count) c) ∙ ap (λ (l : List ℕ). l ++ drop (9 * count) c) (torn.before ∙ front 0 turn) ∙ ap (λ (l : List ℕ). records order ++ l) rest in
-      subst (IsBeforeOrAfter order turn) (sym whole) (spells_gate gate turn good)
+      let size_here = length-with_gate 0 turn in
+      let old_end = length (with_gate order 0 turn) in
+      let d = take old_end c in
+      let size_d : length d ≡ old_end = length-take old_end c ∙ omega (arith, torn.no_shorter) in
+      let gate = get_or d (9 * count) 0 in
+      let rest : drop (9 * count) d ≡ gate ∷ behind turn =
+      drop_more d (9 * count) 0 (omega (arith, size_here, size_d)) ∙ ap (λ (l : List ℕ). gate ∷ l) (torn.after ∙ back 0 turn) in
+      let whole : d ≡ with_gate order gate turn =
+      sym (take-append-drop (9 * count) d) ∙ ap (λ (l : List ℕ). l ++ drop (9 * count) d) (torn.before ∙ front 0 turn) ∙ ap (λ (l : List ℕ). records order ++ l) rest in
+      let all : c ≡ with_gate order gate turn ++ drop old_end c = sym (take-append-drop old_end c) ∙ ap (λ (l : List ℕ). l ++ drop old_end c) whole in
+      subst (IsBeforeOrAfter order turn) (sym all) (spells_gate gate turn good (drop old_end c))
 
   pub written_gate : (turn : Turn) (c : List ℕ) → c ≡ with_gate order 0 turn → with_bytes (9 * count) (1 ∷ []) c ≡ at_rest (order ++ turn ∷ [])
   written_gate turn c is =

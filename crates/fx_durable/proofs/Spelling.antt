@@ -7,7 +7,7 @@ use Rattle.std.proofs.lemmas.Bool.{false≢true}
 use Rattle.std.proofs.lemmas.List.{append-nil, drop_all, take_all, drop-take, length-take, length-drop, map-append}
 use Rattle.std.proofs.lemmas.Bool.Decides.{nat_tests}
 use Rattle.fx_base.specs.Limits.{txn_limit}
-use Rattle.fx_durable.specs.Journal.{before, reading, is_open, turn_in, turn_of, turns_of, value_of, IsRead, Reads, IsUnread, HasReadFault}
+use Rattle.fx_durable.specs.Journal.{before, reading, is_open, turn_in, turn_of, turns_of, value_of, IsRead, Reads, IsUnread, HasReadFault, IsCalm}
 use Rattle.fx_durable.specs.Disk.{File, DiskView, IsAsTold, TellsLength}
 use Rattle.fx_durable.specs.declared.journal_fault.JournalFault.{JournalFault}
 use Rattle.fx_durable.specs.declared.journal_fault.JournalFault.TheVariants as fault
@@ -175,3 +175,15 @@ reads_chosen path n old new (Ok pairs) answer failed = tells_at old.told path n 
 reads_chosen path n old new (Err (fault.Broken place)) answer failed = tells_at old.told path n answer
 reads_chosen path n old new (Err fault.Failed) answer failed = absurd (failed refl)
 reads_chosen path n old new (Err fault.NoMemory) answer failed = tt
+
+-- whatever the bytes of a file spell, the disk did not fail where they were read
+pub reads_calm : (old new : DiskView) (r : Result (List Pair) JournalFault) → new.faults ≡ old.faults → IsCalm old new r
+reads_calm old new (Ok pairs) calm = calm
+reads_calm old new (Err (fault.Broken place)) calm = calm
+reads_calm old new (Err fault.Failed) calm = tt
+reads_calm old new (Err fault.NoMemory) calm = tt
+
+pub unread_calm : (old new : DiskView) (e : JournalFault) → IsUnread e → IsCalm {A = List Pair} old new (Err e)
+unread_calm old new (fault.Broken n) unread = absurd unread
+unread_calm old new fault.Failed unread = tt
+unread_calm old new fault.NoMemory unread = tt

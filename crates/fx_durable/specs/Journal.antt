@@ -121,6 +121,13 @@ HasReadFault path old new (Err (fault.Broken record_number)) = TellsAt old path
 HasReadFault path old new (Err fault.Failed) = Rose old.faults new.faults ⊎ TellsOther old path
 HasReadFault path old new (Err fault.NoMemory) = Unit {0}
 
+-- where an order was read, or a record that breaks, the count of faults stays
+abbrev pub IsCalm : {A : Type 0} → DiskView → DiskView → Result A JournalFault → Type 0
+IsCalm old new (Ok a) = new.faults ≡ old.faults
+IsCalm old new (Err (fault.Broken record_number)) = new.faults ≡ old.faults
+IsCalm old new (Err fault.Failed) = Unit {0}
+IsCalm old new (Err fault.NoMemory) = Unit {0}
+
 -- an open gate stands first
 abbrev pub is_open : List ℕ → Bool
 is_open [] = false

@@ -28,11 +28,15 @@ disk_limit disk = disk.limit
 abbrev pub disk_plan : MemoryDisk → Plan
 disk_plan disk = disk.calls
 
+-- how often another path than its own was chosen
+abbrev pub disk_others : MemoryDisk → ℕ
+disk_others disk = disk.others
+
 abbrev pub disk_file : MemoryDisk → File
 disk_file disk = replay (no_file (disk_path disk)) (disk_record disk) (disk_taken disk)
 
 abbrev pub disk_view : MemoryDisk → DiskView
-disk_view disk = record { told = Some (disk_file disk); faults = (disk_plan disk).faults }
+disk_view disk = record { told = Some (disk_file disk); faults = (disk_plan disk).faults; others = disk_others disk }
 
 -- the next call fails: it is listed, or no call more can be recorded
 abbrev pub fails_next : MemoryDisk → Bool
@@ -54,18 +58,19 @@ pub record IsSameDisk (old new : MemoryDisk) : Type 0 where
   pub room : disk_room new ≡ disk_room old
   pub limit : disk_limit new ≡ disk_limit old
 
--- path, room and limit stay
+-- path, room and limit stay, and no other path was chosen
 pub record IsSameRoom (old new : MemoryDisk) : Type 0 where
   pub path : disk_path new ≡ disk_path old
   pub room : disk_room new ≡ disk_room old
   pub limit : disk_limit new ≡ disk_limit old
+  pub others : disk_others new ≡ disk_others old
 
 -- the plan after a call with this result: the call is counted, and a fault where it failed
 abbrev pub plan_after : {A E : Type 0} → Plan → Result A E → Plan
 plan_after plan (Ok a) = with_call plan
 plan_after plan (Err e) = with_fault (with_call plan)
 
--- a call with this result was made: it is counted, and path, room and limit stay
+-- a call with this result was made: it is counted, path, room and limit stay, and no other path was chosen
 pub record IsCall {A E : Type 0} (old new : MemoryDisk) (result : Result A E) : Type 0 where
   pub room : IsSameRoom old new
   pub plan : disk_plan new ≡ plan_after (disk_plan old) result
@@ -75,7 +80,7 @@ abbrev pub taken_after : {A E : Type 0} → List ℕ → List ℕ → Result A E
 taken_after taken bytes (Ok a) = taken ++ bytes
 taken_after taken bytes (Err e) = taken
 
--- nothing at all is changed
+-- nothing is changed but the count of choices of another path
 pub record IsUntouched (old new : MemoryDisk) : Type 0 where
   pub disk : IsSameDisk old new
   pub plan : disk_plan new ≡ disk_plan old

@@ -3,7 +3,7 @@
 ghost use Rattle.std.specs.Prelude.{◌≡◌, ◌≤◌, ◌<◌, ◌⊎◌, ◌+◌, ◌∷◌, ◌++◌, [], length, is_ok, true, IfOk, OnOk, OnErr, IfSome, Err};
 ghost use Rattle.fx_base.specs.Causes.{Rose};
 ghost use Rattle.fx_base.specs.Limits.{txn_limit};
-ghost use Rattle.fx_durable.specs.Disk.{Continues, StaysUnstarted, IsAsTold, TellsOther, TellsAt, TellsLength, HasFault};
+ghost use Rattle.fx_durable.specs.Disk.{Continues, StaysUnstarted, IsAsTold, TellsOther, TellsAt, TellsLength, HasFault, ChoosesTold};
 ghost use Rattle.fx_durable.specs.Journal.{payload, RestsAt, Rests, LeavesOrder, AddsTurn};
 ghost use Rattle.fx_durable.specs.declared.journal.StartFault.TheVariants.{NotEmpty, Failed};
 
@@ -63,11 +63,15 @@ impl Journal {
         ensures rests { OnOk result (IfSome (D.view disk.new).told (RestsAt 0 [])) }
         ensures goes_on { Continues (D.view disk.old) (D.view disk.new) }
         ensures unstarted { OnErr result
-            (StaysUnstarted (D.view disk.old).told (D.view disk.new).told) }
+            (StaysUnstarted path.now (D.view disk.old).told (D.view disk.new).told) }
         ensures not_empty { result ≡ Err NotEmpty → IsAsTold (D.view disk.old) (D.view disk.new)
             × IfSome (D.view disk.old).told (λ file. 0 < length file.seen) }
         ensures at_path { result ≡ Err NotEmpty → TellsAt (D.view disk.old) path.now }
         ensures later { (D.view disk.old).faults ≤ (D.view disk.new).faults }
+        ensures calm { OnOk result ((D.view disk.new).faults ≡ (D.view disk.old).faults) }
+        ensures calm_not_empty { result ≡ Err NotEmpty
+            → (D.view disk.new).faults ≡ (D.view disk.old).faults }
+        ensures others { ChoosesTold path.now (D.view disk.old) (D.view disk.new) }
         ensures failed { result ≡ Err Failed
             → Rose (D.view disk.old).faults (D.view disk.new).faults
             ⊎ TellsOther (D.view disk.old) path.now }

@@ -11,7 +11,8 @@ use fx_outside::{Calls, HostText};
 use std::alloc::Global;
 
 /// A disk that tells its file. It fails at the calls that it is told to fail, and past a number of calls and a number of
-/// written bytes, for which it takes the memory when it is made. A call at another path than its own is no call of these.
+/// written bytes, for which it takes the memory when it is made. A choice of another path than its own is no call of these,
+/// and is counted apart.
 #[derive(Debug, Drop)]
 pub struct MemoryDisk {
     path: HostText,
@@ -21,6 +22,7 @@ pub struct MemoryDisk {
     room: u64,
     limit: u64,
     calls: Calls,
+    others: u64,
     ghost spent: { spent made.items ≡ length taken.items },
     ghost seen: { (replay (no_file path) made.items taken.items).seen ≡ bytes.items },
     ghost placed: { is_placed (no_file path) made.items taken.items ≡ true },
@@ -34,7 +36,7 @@ pub struct MemoryDisk {
 
 impl MemoryDisk {
     ghost use Rattle.fx_durable.specs.declared.disk_call.DiskCall.TheVariants.{Wrote, Synced};
-    ghost use Rattle.fx_durable.specs.MemoryDisk.{disk_record, disk_taken, disk_room, disk_limit, disk_plan, disk_file, disk_view, fails_next, IsSameDisk, IsSameRoom, HasPlace, Records};
+    ghost use Rattle.fx_durable.specs.MemoryDisk.{disk_record, disk_taken, disk_room, disk_limit, disk_plan, disk_others, disk_file, disk_view, fails_next, IsSameDisk, IsSameRoom, HasPlace, Records};
 
     /// A disk for a file at a path, where none stands yet, with room for so many written bytes and so many calls.
     pub fn new(
@@ -48,6 +50,7 @@ impl MemoryDisk {
         ensures room { IfOk result (λ disk. disk_room disk ≡ room) }
         ensures limit { IfOk result (λ disk. disk_limit disk ≡ calls) }
         ensures plan { IfOk result (λ disk. disk_plan disk ≡ no_calls) }
+        ensures others { IfOk result (λ disk. disk_others disk ≡ 0) }
     {
         let path = path.copy(alloc)?;
         let bytes = Vec::with_capacity(alloc, room as usize)?;
@@ -61,6 +64,7 @@ impl MemoryDisk {
             room,
             limit: calls,
             calls: Calls::new(alloc),
+            others: 0,
         })
     }
 
@@ -110,6 +114,7 @@ impl MemoryDisk {
         ensures fails { result ≡ fails_next self.old }
         ensures plan { disk_plan self.new ≡ with_call (disk_plan self.old) }
         ensures same { IsSameDisk self.old self.new }
+        ensures others { disk_others self.new ≡ disk_others self.old }
     {
         let listed = self.calls.begin();
         listed || self.made.len() as u64 >= self.limit
@@ -120,6 +125,7 @@ impl MemoryDisk {
         ensures plan { disk_plan self.new ≡ with_fault (disk_plan self.old) }
         ensures later { (disk_plan self.old).faults ≤ (disk_plan self.new).faults }
         ensures same { IsSameDisk self.old self.new }
+        ensures others { disk_others self.new ≡ disk_others self.old }
     {
         self.calls.fault();
         DiskFailed
@@ -230,6 +236,7 @@ impl Disk for MemoryDisk {
         ensures taken { disk_taken self.new ≡ disk_taken self.old }
     {
         if *path != self.path {
+            self.others = self.others.saturating_add(1);
             return Err(DiskFailed);
         }
         let fails = self.begin();

@@ -1,9 +1,9 @@
 //! Reading a journal.
-ghost use Rattle.std.specs.Prelude.{◌≡◌, ◌<◌, ◌≤◌, length, drop, true, None, IfOk, IfErr, IfSome};
+ghost use Rattle.std.specs.Prelude.{◌≡◌, ◌<◌, ◌≤◌, length, drop, true, None, IfOk, OnOk, IfErr, IfSome};
 ghost use Rattle.fx_base.specs.Causes.{Rose};
 ghost use Rattle.fx_outside.specs.Host.{ReadsAt};
-ghost use Rattle.fx_durable.specs.Disk.{IsAsTold};
-ghost use Rattle.fx_durable.specs.Journal.{is_open, turn_of, turn_in, IsRead, IsUnread, Reads, HasReadFault};
+ghost use Rattle.fx_durable.specs.Disk.{IsAsTold, ChoosesTold};
+ghost use Rattle.fx_durable.specs.Journal.{is_open, turn_of, turn_in, IsRead, IsUnread, Reads, HasReadFault, IsCalm};
 ghost use Rattle.fx_durable.specs.declared.journal_fault.JournalFault.TheVariants.{Failed};
 
 use crate::journal::RECORD;
@@ -36,6 +36,8 @@ fn read_piece<D: Disk>(alloc: Global, disk: &mut D, from: u64) -> Result<Vec<u8>
         (λ file. ReadsAt file.seen from (length piece.items) piece.items)) }
     ensures same { IsAsTold (D.view disk.old) (D.view disk.new) }
     ensures later { (D.view disk.old).faults ≤ (D.view disk.new).faults }
+    ensures calm { OnOk result ((D.view disk.new).faults ≡ (D.view disk.old).faults) }
+    ensures others { (D.view disk.new).others ≡ (D.view disk.old).others }
     ensures unread { IfErr result IsUnread }
     ensures failed { IfErr result (λ fault. fault ≡ Failed
         → Rose (D.view disk.old).faults (D.view disk.new).faults) }
@@ -52,6 +54,8 @@ fn read_bytes<D: Disk>(alloc: Global, disk: &mut D) -> Result<Vec<u8>, JournalFa
         (λ file. IsRead file.seen bytes.items)) }
     ensures same { IsAsTold (D.view disk.old) (D.view disk.new) }
     ensures later { (D.view disk.old).faults ≤ (D.view disk.new).faults }
+    ensures calm { OnOk result ((D.view disk.new).faults ≡ (D.view disk.old).faults) }
+    ensures others { (D.view disk.new).others ≡ (D.view disk.old).others }
     ensures unread { IfErr result IsUnread }
     ensures failed { IfErr result (λ fault. fault ≡ Failed
         → Rose (D.view disk.old).faults (D.view disk.new).faults) }
@@ -122,6 +126,8 @@ pub fn read_journal<D: Disk>(
     ensures reads { IfSome (D.view disk.old).told (λ file. Reads file.seen result) }
     ensures same { IsAsTold (D.view disk.old) (D.view disk.new) }
     ensures later { (D.view disk.old).faults ≤ (D.view disk.new).faults }
+    ensures calm { IsCalm (D.view disk.old) (D.view disk.new) result }
+    ensures others { ChoosesTold path.now (D.view disk.old) (D.view disk.new) }
     ensures cause { HasReadFault path.now (D.view disk.old) (D.view disk.new) result }
 {
     disk.choose(path)?;

@@ -18,7 +18,7 @@ use Rattle.fx_inputs.proofs.ReadRows.{read_fault_rose}
 use Rattle.fx_words.specs.Job.{JournalJob}
 use Rattle.fx_run_command.specs.Rows.{CannotSave}
 use Rattle.fx_durable.specs.Disk.{File, DiskView}
-use Rattle.fx_journal_command.specs.Rows.{JournalRow, KeepsJournal, CannotLeave, CannotStart, HoldsBytes, IsProperJournal}
+use Rattle.fx_journal_command.specs.Rows.{JournalRow, KeepsJournal, CannotLeave, CannotStart, HasBroken, HoldsBytes, IsProperJournal}
 use Rattle.fx_journal_command.proofs.Keeping.{unbegun_keeps}
 
 abbrev Ends : Status → Type 0
@@ -38,15 +38,15 @@ module _ (j : JournalJob) (t : Tree) (host host' : HostView) (sink sink' : SinkV
   not_left (inl fault) = none fault.rose
   not_left (inr cannot) = can_write t j.run.out proper.run.there proper.run.free proper.run.above (subst (λ o. IsSomeAnd o (λ t. CannotSave t j.run)) is cannot).1
 
-  not_unbegun : CannotLeave j.run host host' ⊎ CannotStart j host disk disk' → ⊥
-  not_unbegun (inl cannot) = not_left cannot
+  not_unbegun : (CannotLeave j.run host host' × (disk' ≡ disk)) ⊎ CannotStart j host disk disk' → ⊥
+  not_unbegun (inl (cannot, same)) = not_left cannot
   not_unbegun (inr (inl rose, free)) = calm rose
   not_unbegun (inr (inr other, free)) = not_other j.journal disk.told proper.empty other
 
-  not_broken : CannotLeave j.run host host' ⊎ (Rose sink.faults sink'.faults ⊎ Rose disk.faults disk'.faults) → ⊥
-  not_broken (inl cannot) = not_left cannot
-  not_broken (inr (inl rose)) = quiet rose
-  not_broken (inr (inr rose)) = calm rose
+  not_broken : HasBroken j.run host host' sink sink' disk disk' → ⊥
+  not_broken (inl (stays, inl cannot, left)) = not_left cannot
+  not_broken (inl (stays, inr rose, left)) = quiet rose
+  not_broken (inr (rose, left)) = calm rose
 
   not_full : IsTaken t j.run.out ⊎ (((there : Bool) × IsReady t j.run.out there) × HoldsBytes j.journal disk) → ⊥
   not_full (inl taken) = not_taken t j.run.out proper.run.there proper.run.free taken
@@ -63,16 +63,16 @@ journal_completes j t host host' sink sink' disk disk' status.ReadFault is prope
 journal_completes j t host host' sink sink' disk disk' status.ReadFault is proper none quiet calm (same, told, inr cannot) =
     absurd (can_read t j.run.inputs proper.run.inputs (subst (λ o. IsSomeAnd o (λ t. CannotRead t j.run.inputs)) is cannot))
 journal_completes j t host host' sink sink' disk disk' status.NotEmpty is proper none quiet calm row =
-    absurd (not_full j t host host' sink sink' disk disk' is proper none quiet calm (subst (λ o. IfSome o (λ t. HasInputs t j.run.inputs × (IsTaken t j.run.out ⊎ (((there : Bool) × IsReady t j.run.out there) × HoldsBytes j.journal disk)))) is row.2).1)
+    absurd (not_full j t host host' sink sink' disk disk' is proper none quiet calm (subst (λ o. IfSome o (λ t. HasInputs t j.run.inputs × (IsTaken t j.run.out ⊎ (((there : Bool) × IsReady t j.run.out there) × HoldsBytes j.journal disk)))) is row.3).1)
 journal_completes j t host host' sink sink' disk disk' status.WriteFault is proper none quiet calm (inl row) = absurd (not_unbegun j t host host' sink sink' disk disk' is proper none quiet calm row.cause)
-journal_completes j t host host' sink sink' disk disk' status.WriteFault is proper none quiet calm (inr row) = absurd (not_broken j t host host' sink sink' disk disk' is proper none quiet calm row.cause)
+journal_completes j t host host' sink sink' disk disk' status.WriteFault is proper none quiet calm (inr row) = absurd (not_broken j t host host' sink sink' disk disk' is proper none quiet calm row.broken)
 journal_completes j t host host' sink sink' disk disk' status.NoMemory is proper none quiet calm row = inr refl
 journal_completes j t host host' sink sink' disk disk' (status.BadJournal place) is proper none quiet calm row = absurd row
 
 -- ---- words that want of memory keeps from being read
 
 pub journal_no_memory : (j : JournalJob) (host : HostView) (sink : SinkView) (disk : DiskView) → JournalRow j host host sink sink disk disk status.NoMemory
-journal_no_memory j host sink disk = inl (same host host sink (reads_none host))
+journal_no_memory j host sink disk = inl (same host host sink (reads_none host), refl)
 
 pub journal_not_begun : (j : JournalJob) (host : HostView) (sink : SinkView) (disk : DiskView) → KeepsJournal j host sink sink disk disk
 journal_not_begun j host sink disk = unbegun_keeps j host sink disk

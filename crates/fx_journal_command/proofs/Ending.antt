@@ -1,5 +1,5 @@
 -- The rows of the table of statuses, from what the stages ensure.
-use Rattle.std.proofs.Common.{◌≡◌, ◌⊎◌, inl, inr, ℕ, Bool, false, ◌≤◌, List, ◌++◌, length, take, Option, Some, None, refl, sym, subst, arith}
+use Rattle.std.proofs.Common.{◌≡◌, ◌⊎◌, inl, inr, ℕ, Bool, false, List, ◌++◌, length, take, Option, Some, None, refl, sym, ◌∙◌, subst, arith}
 use Rattle.std.specs.Prelude.{IfSome}
 use Rattle.fx_base.specs.Causes.{Rose}
 use Rattle.std.specs.FinMap.{get}
@@ -35,7 +35,7 @@ use Rattle.fx_journaling.specs.Recorded.{HasRecorded, HasBrokenOff}
 use Rattle.fx_journaling.specs.Taken.{HasGrown}
 use Rattle.fx_journaling.proofs.Fronts.{written_is_front}
 use Rattle.fx_journaling.proofs.Taking.{grown_as, grown_more}
-use Rattle.fx_journal_command.specs.Rows.{HasWrittenAll, IsLeft, IsLeftOrWhole, CannotLeave, CannotStart, HasEmptyJournal, IsUnbegun, IsBrokenOff, JournalRow}
+use Rattle.fx_journal_command.specs.Rows.{HasWrittenAll, IsStopped, IsStoppedAtDisk, IsLeft, IsLeftOrWhole, CannotLeave, CannotStart, HasEmptyJournal, IsUnbegun, HasBroken, IsBrokenOff, JournalRow}
 use Rattle.fx_journal_command.specs.Stages.{StartCause, holds, fails, status_in, RecordCause, FinishEnd, done, unmade, unsaved, unwritten}
 use Rattle.fx_journal_command.proofs.Keeping.{nothing_more, front_of, bytes_of, report_of, grown_by}
 
@@ -56,7 +56,7 @@ inputs_unread j host host' sink disk (status.FolderRefused cause) reads row = (s
 inputs_unread j host host' sink disk status.ReadFault reads row = (same host host' sink reads, refl, row)
 inputs_unread j host host' sink disk status.NotEmpty reads row = absurd row
 inputs_unread j host host' sink disk status.WriteFault reads row = absurd row
-inputs_unread j host host' sink disk status.NoMemory reads row = inl (same host host' sink reads)
+inputs_unread j host host' sink disk status.NoMemory reads row = inl (same host host' sink reads, refl)
 inputs_unread j host host' sink disk (status.BadJournal place) reads row = absurd row
 
 -- OUT cannot be written
@@ -73,11 +73,12 @@ out_unready j host host' sink disk status.ReadFault reads inputs cause = absurd 
 out_unready j host host' sink disk status.NotEmpty reads inputs taken = (
   same host host' sink reads,
   refl,
+  refl,
   if_some_both (λ t. HasInputs t j.run.inputs) (λ t. IsTaken t j.run.out) _ host.told (λ t has taken. (has, inl taken)) inputs taken,
 )
 out_unready j host host' sink disk status.WriteFault reads inputs failed =
-    inl (record { inputs = inputs; cause = inl (unready_cause j.run host host' inputs failed); same = same host host' sink reads })
-out_unready j host host' sink disk status.NoMemory reads inputs cause = inl (same host host' sink reads)
+    inl (record { inputs = inputs; cause = inl (unready_cause j.run host host' inputs failed, refl); same = same host host' sink reads })
+out_unready j host host' sink disk status.NoMemory reads inputs cause = inl (same host host' sink reads, refl)
 out_unready j host host' sink disk (status.BadJournal place) reads inputs cause = absurd cause
 
 -- ---- a journal that is not started
@@ -86,9 +87,10 @@ inputs_of : (t : Tree) (j : RunJob) (base : BaseTree) → HasBase t j.inputs bas
 inputs_of t j base is = (((base.description, is.spec), (base.plan, is.scripts)), (base.loaded, is.folder))
 
 pub not_started : (j : JournalJob) (base : BaseTree) (there : Bool) (host : HostView) (sink : SinkView) (disk disk' : DiskView) (st : Status) → IfSome host.told (λ t. HasBase t j.run.inputs base) → IfSome host.told (λ t. IsReady t j.run.out there) → StartCause j.journal disk disk' st → JournalRow j host host sink sink disk disk' st
-not_started j base there host sink disk disk' st begins free (holds told bytes) = (
+not_started j base there host sink disk disk' st begins free (holds told calm bytes) = (
   same host host sink (reads_none host),
   told,
+  calm,
   if_some_both (λ t. HasBase t j.run.inputs base) (λ t. IsReady t j.run.out there) _ host.told (λ t is free. (inputs_of t j.run base is, inr ((there, free), bytes))) begins free,
 )
 not_started j base there host sink disk disk' st begins free (fails cause) = inl (record {
@@ -99,30 +101,55 @@ not_started j base there host sink disk disk' st begins free (fails cause) = inl
 
 -- ---- a run that ends before its end
 
-module _ (j : JournalJob) (base : BaseTree) (whole : IsWhole (get base.loaded)) (there : Bool) (host : HostView) (sink sink' : SinkView) (disk mid disk' : DiskView) (begins : IfSome host.told (λ t. HasBase t j.run.inputs base)) (free : IfSome host.told (λ t. IsReady t j.run.out there)) (empty : HasEmptyJournal j disk) (later : disk.faults ≤ mid.faults) where
-  stopped : (stop : RecordFault) → HasBrokenOff base (shells_of j.run) mid disk' sink sink' stop → IfTold host.told host.told (IsLeft j.run sink.written sink'.written)
-  stopped stop broken =
-      if_told_same (IsLeft j.run sink.written sink'.written) host.told host.told refl
-      (if_some_both (λ t. HasBase t j.run.inputs base) (λ t. IsReady t j.run.out there) (λ t. IsLeft j.run sink.written sink'.written t t) host.told
-      (λ t is free. inl (record { base = base; there = there; begins = is; free = free; machine = broken.machine; bytes = broken.bytes; events = broken.written; front = written_is_front base (shells_of j.run) broken.machine broken.bytes whole (inl broken.written); written = broken.printed; same = refl })) begins free)
+no_memory_there : fault.NoMemory ≡ fault.DiskFailed → ⊥
+no_memory_there is = cc
 
-  left : (stop : RecordFault) → HasBrokenOff base (shells_of j.run) mid disk' sink sink' stop → IfTold host.told host.told (IsLeftOrWhole j.run sink.written sink'.written)
-  left stop broken = part_at_most j.run sink sink' host.told host.told (stopped stop broken)
+sink_there : fault.SinkFailed ≡ fault.DiskFailed → ⊥
+sink_there is = cc
+
+module _ (j : JournalJob) (base : BaseTree) (whole : IsWhole (get base.loaded)) (there : Bool) (host : HostView) (sink sink' : SinkView) (disk mid disk' : DiskView) (begins : IfSome host.told (λ t. HasBase t j.run.inputs base)) (free : IfSome host.told (λ t. IsReady t j.run.out there)) (empty : HasEmptyJournal j disk) (calm : mid.faults ≡ disk.faults) where
+  module _ (stop : RecordFault) (broken : HasBrokenOff base (shells_of j.run) mid disk' sink sink' stop) where
+    abbrev stopped_at : (t : Tree) → HasBase t j.run.inputs base → IsReady t j.run.out there → IsStopped t t j.run sink.written sink'.written
+    stopped_at t is free = record {
+      base = base;
+      there = there;
+      begins = is;
+      free = free;
+      machine = broken.machine;
+      bytes = broken.bytes;
+      events = broken.written;
+      front = written_is_front base (shells_of j.run) broken.machine broken.bytes whole (inl broken.written);
+      written = broken.printed;
+      same = refl;
+    }
+
+    -- what is so of each tree at which the run has stopped
+    each_stopped : (P : Tree → Tree → Type 0) → ((t : Tree) → HasBase t j.run.inputs base → IsReady t j.run.out there → P t t) → IfTold host.told host.told P
+    each_stopped P at = if_told_same P host.told host.told refl (if_some_both (λ t. HasBase t j.run.inputs base) (λ t. IsReady t j.run.out there) (λ t. P t t) host.told (λ t is free. at t is free) begins free)
+
+    stopped : IfTold host.told host.told (IsLeft j.run sink.written sink'.written)
+    stopped = each_stopped (IsLeft j.run sink.written sink'.written) (λ t is free. inl (stopped_at t is free))
+
+    left : IfTold host.told host.told (IsLeftOrWhole j.run sink.written sink'.written)
+    left = part_at_most j.run sink sink' host.told host.told stopped
+
+    at_disk : stop ≡ fault.DiskFailed → IfTold host.told host.told (λ t t'. IsStoppedAtDisk t t' j.run sink.written sink'.written)
+    at_disk failed = each_stopped (λ t t'. IsStoppedAtDisk t t' j.run sink.written sink'.written) (λ t is free. record { stopped = stopped_at t is free; settled = broken.at_disk failed })
 
   broken_row : (stop : RecordFault) → HasBrokenOff base (shells_of j.run) mid disk' sink sink' stop → JournalRow j host host sink sink' disk disk' (status_in stop)
-  broken_row fault.NoMemory broken = inr (empty, stopped fault.NoMemory broken)
+  broken_row fault.NoMemory broken = inr (empty, broken.calm no_memory_there ∙ calm, stopped fault.NoMemory broken)
   broken_row fault.DiskFailed broken =
       let rose : Rose mid.faults disk'.faults = broken.cause in
-      let all : Rose disk.faults disk'.faults = omega (arith, later, rose) in
-      inr (record { empty = empty; cause = inr (inr all); left = left fault.DiskFailed broken })
-  broken_row fault.SinkFailed broken = inr (record { empty = empty; cause = inr (inl broken.cause); left = left fault.SinkFailed broken })
+      let all : Rose disk.faults disk'.faults = omega (arith, calm, rose) in
+      inr (record { empty = empty; broken = inr (all, at_disk fault.DiskFailed broken refl) })
+  broken_row fault.SinkFailed broken = inr (record { empty = empty; broken = inl (broken.calm sink_there ∙ calm, inr broken.cause, left fault.SinkFailed broken) })
 
   pub not_recorded : (st : Status) → RecordCause base (shells_of j.run) mid disk' sink sink' st → JournalRow j host host sink sink' disk disk' st
   not_recorded st cause = subst (λ st. JournalRow j host host sink sink' disk disk' st) (sym cause.is) (broken_row cause.stop cause.broken)
 
 -- ---- a whole run
 
-module _ (j : JournalJob) (base : BaseTree) (there : Bool) (host host' : HostView) (sink mid sink' : SinkView) (disk started disk' : DiskView) (board : Log) (retries : List Retry) (scheduled : j.run.mode ≡ Scheduled (shells_of j.run)) (empty : HasEmptyJournal j disk) (begins : IfSome host.told (λ t. HasBase t j.run.inputs base)) (free : IfSome host.told (λ t. IsReady t j.run.out there)) (had : HasRecorded base (shells_of j.run) started disk' sink mid board retries) where
+module _ (j : JournalJob) (base : BaseTree) (there : Bool) (host host' : HostView) (sink mid sink' : SinkView) (disk started disk' : DiskView) (board : Log) (retries : List Retry) (scheduled : j.run.mode ≡ Scheduled (shells_of j.run)) (empty : HasEmptyJournal j disk) (calm : started.faults ≡ disk.faults) (begins : IfSome host.told (λ t. HasBase t j.run.inputs base)) (free : IfSome host.told (λ t. IsReady t j.run.out there)) (had : HasRecorded base (shells_of j.run) started disk' sink mid board retries) where
   abbrev pub text : List ℕ
   text = report board.base board.order retries
 
@@ -202,19 +229,23 @@ module _ (j : JournalJob) (base : BaseTree) (there : Bool) (host host' : HostVie
     written = grown;
   }
 
+  all_calm : disk'.faults ≡ disk.faults
+  all_calm = had.calm ∙ calm
+
   pub finished : (st : Status) → FinishEnd j.run.out there nodes text host host' mid sink' st → JournalRow j host host' sink sink' disk disk' st
   finished st (done saves grown) =
       let grows = all_grown grown in (
         empty,
+        all_calm,
         grows_all sink sink' output grows,
         if_told_map (λ t t'. IsSaved t t' (parts j.run.out) nodes) (λ t t'. IsDone t t' j.run sink.written sink'.written) Begins host.told host'.told (λ t t' is saved. is_done t t' grows is saved) both saves,
       )
-  finished st (unmade part none) = inr (empty, partly part none)
-  finished st (unsaved part cause none) = inr (record { empty = empty; cause = inl (unsaved_cause cause); left = part_at_most j.run sink sink' host.told host'.told (partly part none) })
+  finished st (unmade part none) = inr (empty, all_calm, partly part none)
+  finished st (unsaved part cause none) = inr (record { empty = empty; broken = inl (all_calm, inl (unsaved_cause cause), part_at_most j.run sink sink' host.told host'.told (partly part none)) })
   finished st (unwritten saves front rose) =
       let count = front_of text mid sink' front in
       let all : Rose sink.faults sink'.faults = omega (arith, had.later, rose) in
-      inr (record { empty = empty; cause = inr (inl all); left = whole count.0 saves count.1 })
+      inr (record { empty = empty; broken = inl (all_calm, inr all, whole count.0 saves count.1) })
 
 -- ---- a row from a later moment on is one from an earlier moment on, where only reads lie between
 
@@ -228,26 +259,30 @@ unbegun_back j a b c sink sink' disk disk' reads is = record {
   same = same_back a b c sink sink' reads is.same;
 }
   where
-    back : CannotLeave j.run b c ⊎ CannotStart j b disk disk' → CannotLeave j.run a c ⊎ CannotStart j a disk disk'
-    back (inl cannot) = inl (leave_back j.run a b c reads cannot)
+    back : (CannotLeave j.run b c × (disk' ≡ disk)) ⊎ CannotStart j b disk disk' → (CannotLeave j.run a c × (disk' ≡ disk)) ⊎ CannotStart j a disk disk'
+    back (inl (cannot, same)) = inl (leave_back j.run a b c reads cannot, same)
     back (inr (fault, free)) = inr (fault, some_back (λ t. (there : Bool) × IsReady t j.run.out there) a b reads free)
 
 broken_back : (j : JournalJob) (a b c : HostView) (sink sink' : SinkView) (disk disk' : DiskView) → ReadsOnly a b → IsBrokenOff j b c sink sink' disk disk' → IsBrokenOff j a c sink sink' disk disk'
-broken_back j a b c sink sink' disk disk' reads is = record { empty = is.empty; cause = back is.cause; left = told_back _ a b c reads is.left }
+broken_back j a b c sink sink' disk disk' reads is = record { empty = is.empty; broken = back is.broken }
   where
-    back : CannotLeave j.run b c ⊎ (Rose sink.faults sink'.faults ⊎ Rose disk.faults disk'.faults) → CannotLeave j.run a c ⊎ (Rose sink.faults sink'.faults ⊎ Rose disk.faults disk'.faults)
-    back (inl cannot) = inl (leave_back j.run a b c reads cannot)
-    back (inr fault) = inr fault
+    cause : CannotLeave j.run b c ⊎ Rose sink.faults sink'.faults → CannotLeave j.run a c ⊎ Rose sink.faults sink'.faults
+    cause (inl cannot) = inl (leave_back j.run a b c reads cannot)
+    cause (inr rose) = inr rose
+
+    back : HasBroken j.run b c sink sink' disk disk' → HasBroken j.run a c sink sink' disk disk'
+    back (inl (calm, why, left)) = inl (calm, cause why, told_back _ a b c reads left)
+    back (inr (rose, left)) = inr (rose, told_back _ a b c reads left)
 
 pub row_back : (j : JournalJob) (a b c : HostView) (sink sink' : SinkView) (disk disk' : DiskView) (st : Status) → ReadsOnly a b → JournalRow j b c sink sink' disk disk' st → JournalRow j a c sink sink' disk disk' st
-row_back j a b c sink sink' disk disk' status.Done reads row = (row.0, row.1, told_back _ a b c reads row.2)
+row_back j a b c sink sink' disk disk' status.Done reads row = (row.0, row.1, row.2, told_back _ a b c reads row.3)
 row_back j a b c sink sink' disk disk' status.Usage reads row = row
 row_back j a b c sink sink' disk disk' (status.TextRefused word cause) reads row = (same_back a b c sink sink' reads row.0, row.1, some_back _ a b reads row.2)
 row_back j a b c sink sink' disk disk' (status.FolderRefused cause) reads row = (same_back a b c sink sink' reads row.0, row.1, some_back _ a b reads row.2)
 row_back j a b c sink sink' disk disk' status.ReadFault reads row = (same_back a b c sink sink' reads row.0, row.1, cause_back (HasReadFault j.run.inputs) (λ t. CannotRead t j.run.inputs) a b c reads (read_fault_back j.run.inputs a b c reads) row.2)
-row_back j a b c sink sink' disk disk' status.NotEmpty reads row = (same_back a b c sink sink' reads row.0, row.1, some_back _ a b reads row.2)
+row_back j a b c sink sink' disk disk' status.NotEmpty reads row = (same_back a b c sink sink' reads row.0, row.1, row.2, some_back _ a b reads row.3)
 row_back j a b c sink sink' disk disk' status.WriteFault reads (inl row) = inl (unbegun_back j a b c sink sink' disk disk' reads row)
 row_back j a b c sink sink' disk disk' status.WriteFault reads (inr row) = inr (broken_back j a b c sink sink' disk disk' reads row)
-row_back j a b c sink sink' disk disk' status.NoMemory reads (inl row) = inl (same_back a b c sink sink' reads row)
-row_back j a b c sink sink' disk disk' status.NoMemory reads (inr row) = inr (row.0, told_back _ a b c reads row.1)
+row_back j a b c sink sink' disk disk' status.NoMemory reads (inl row) = inl (same_back a b c sink sink' reads row.0, row.1)
+row_back j a b c sink sink' disk disk' status.NoMemory reads (inr row) = inr (row.0, row.1, told_back _ a b c reads row.2)
 row_back j a b c sink sink' disk disk' (status.BadJournal place) reads row = row

@@ -19,7 +19,7 @@ use Rattle.fx_command.specs.declared.status.Status.TheVariants as status
 use Rattle.fx_command.proofs.Told.{some_back}
 use Rattle.fx_inputs.specs.Inputs.{HasBase}
 use Rattle.fx_words.specs.Job.{JournalJob, shells_of}
-use Rattle.fx_durable.specs.Disk.{Step, wrote, File, DiskView, MayLeave, GoesOn, IsUnstarted, StaysTold, StaysUnstarted, Continues, moment}
+use Rattle.fx_durable.specs.Disk.{Step, wrote, File, DiskView, MayLeave, GoesOn, IsSameFile, HasFront, IsUnstarted, StaysTold, StaysUnstarted, Continues, moment}
 use Rattle.fx_durable.specs.Journal.{JournalView}
 use Rattle.fx_durable.proofs.Moments.{goes_over, stays}
 use Rattle.fx_sched.specs.World as World
@@ -31,7 +31,7 @@ use Rattle.fx_journaling.specs.Written.{HasWritten, HasWrittenReport}
 use Rattle.fx_journaling.proofs.Ending.{begun, paused}
 use Rattle.fx_journaling.proofs.Holding.{at_present, some_and_map, if_file_map}
 use Rattle.fx_journaling.proofs.Taking.{grown_none, grown_as, grown_more}
-use Rattle.fx_journal_command.specs.Rows.{KeepsJournal, HasNothing, IsKept}
+use Rattle.fx_journal_command.specs.Rows.{HasEmptyJournal, KeepsJournal, HasNothing, IsKept}
 use Rattle.fx_journal_command.specs.Stages.{MayLeaveGate, RecordCause, FinishEnd, done, unmade, unsaved, unwritten}
 
 -- ---- before the first byte
@@ -43,37 +43,41 @@ told_untouched : (P : File → File → Type 0) → ((file : File) → P file fi
 told_untouched P each None = refl
 told_untouched P each (Some file) = each file
 
-nothing_at : (sink : SinkView) (old new : File) → IsUnstarted old new → HasNothing sink sink old new
-nothing_at sink old new unstarted = record { unstarted = unstarted; unwritten = refl }
+nothing_at : (j : JournalJob) (sink : SinkView) (old new : File) → IsUnstarted j.journal old new → HasNothing j sink sink old new
+nothing_at j sink old new unstarted = record { unstarted = unstarted; unwritten = refl }
 
 pub unbegun_keeps : (j : JournalJob) (host : HostView) (sink : SinkView) (disk : DiskView) → KeepsJournal j host sink sink disk disk
 unbegun_keeps j host sink disk =
-    told_untouched (λ old new. GoesOn old new × (HasNothing sink sink old new ⊎ IsKept j host sink sink old new)) (λ file. (goes_none file, inl (nothing_at sink file file (record { path = refl; steps = inl refl })))) disk.told
+    told_untouched (λ old new. GoesOn old new × (HasNothing j sink sink old new ⊎ IsKept j host sink sink old new)) (λ file. (goes_none file, inl (nothing_at j sink file file (record { path = refl; done = inl (record { seen = refl; steps = refl }) })))) disk.told
 
-goes_unstarted : (old new : File) → IsUnstarted old new → GoesOn old new
-goes_unstarted old new unstarted = record { path = unstarted.path; steps = by unstarted.steps }
+goes_unstarted : (path : List ℕ) (old new : File) → IsUnstarted path old new → GoesOn old new
+goes_unstarted path old new unstarted = record { path = unstarted.path; steps = by unstarted.done }
   where
-    by : (new.steps ≡ old.steps) ⊎ (new.steps ≡ wrote 0 1 ∷ old.steps) → (later : List Step) × (new.steps ≡ later ++ old.steps)
-    by (inl same) = ([], same)
-    by (inr begun) = (wrote 0 1 ∷ [], begun)
+    by : IsSameFile old new ⊎ HasFront path old new → (later : List Step) × (new.steps ≡ later ++ old.steps)
+    by (inl same) = ([], same.steps)
+    by (inr begun) = (wrote 0 1 ∷ [], begun.steps)
 
-told_unstarted : (P : File → File → Type 0) → ((old new : File) → IsUnstarted old new → P old new) → (o o' : Option File) → StaysUnstarted o o' → IfFile P o o'
-told_unstarted P each None o' stays = stays
-told_unstarted P each (Some file) o' stays = some_and_map o' (IsUnstarted file) (P file) (each file) stays
+told_unstarted : (path : List ℕ) (P : File → File → Type 0) → ((old new : File) → IsUnstarted path old new → P old new) → (o o' : Option File) → StaysUnstarted path o o' → IfFile P o o'
+told_unstarted path P each None o' stays = stays
+told_unstarted path P each (Some file) o' stays = some_and_map o' (IsUnstarted path file) (P file) (each file) stays
 
-pub unstarted_keeps : (j : JournalJob) (host : HostView) (sink : SinkView) (disk disk' : DiskView) → StaysUnstarted disk.told disk'.told → KeepsJournal j host sink sink disk disk'
+pub unstarted_keeps : (j : JournalJob) (host : HostView) (sink : SinkView) (disk disk' : DiskView) → StaysUnstarted j.journal disk.told disk'.told → KeepsJournal j host sink sink disk disk'
 unstarted_keeps j host sink disk disk' stays =
-    told_unstarted (λ old new. GoesOn old new × (HasNothing sink sink old new ⊎ IsKept j host sink sink old new)) (λ old new unstarted. (goes_unstarted old new unstarted, inl (nothing_at sink old new unstarted))) disk.told disk'.told stays
-
--- ---- a journal that was just started
+    told_unstarted j.journal (λ old new. GoesOn old new × (HasNothing j sink sink old new ⊎ IsKept j host sink sink old new)) (λ old new unstarted. (goes_unstarted j.journal old new unstarted, inl (nothing_at j sink old new unstarted))) disk.told disk'.told stays
 
 -- ---- once it was started
 
+none_long : (bytes : List ℕ) → 0 ≡ length bytes → bytes ≡ []
+none_long [] none = refl
+none_long (x ∷ bytes) none = absurd (omega (arith, none))
+
 module _ (j : JournalJob) (base : BaseTree) (host : HostView) (sink sink' : SinkView) (begins : IfSome host.told (λ t. HasBase t j.run.inputs base)) (machine : Machine) (bytes : List ℕ) (written : HasWritten base (shells_of j.run) machine bytes) (printed : HasGrown bytes sink sink') where
-  kept_at : (old started new : File) → GoesOn old started → MayLeave started.steps (0 ∷ []) → KeepsOrder base machine.order started new → IsKept j host sink sink' old new
-  kept_at old started new later gate keeps = record {
+  kept_at : (old started new : File) → (old.path ≡ j.journal) × (0 ≡ length old.seen) → GoesOn old started → MayLeave started.steps (0 ∷ []) → KeepsOrder base machine.order started new → IsKept j host sink sink' old new
+  kept_at old started new empty later gate keeps = record {
     base = base;
     begins = begins;
+    at_path = empty.0;
+    empty = none_long old.seen empty.1;
     started = started;
     later = later;
     gate = stays started new (moment started) (0 ∷ []) keeps.leaves.goes_on (omega arith) (at_present (moment started) started.steps (0 ∷ []) gate);
@@ -85,18 +89,18 @@ module _ (j : JournalJob) (base : BaseTree) (host : HostView) (sink sink' : Sink
   }
 
   abbrev pub Kept : File → File → Type 0
-  Kept old new = GoesOn old new × (HasNothing sink sink' old new ⊎ IsKept j host sink sink' old new)
+  Kept old new = GoesOn old new × (HasNothing j sink sink' old new ⊎ IsKept j host sink sink' old new)
 
-  pub told_kept : (a b c : Option File) → StaysTold a b → IfSome b (λ file. MayLeave file.steps (0 ∷ [])) → IfFile (KeepsOrder base machine.order) b c → IfFile Kept a c
-  told_kept None b c told gate keeps = subst (λ o. IfFile (KeepsOrder base machine.order) o c) told keeps
-  told_kept (Some old) None c told gate keeps = absurd told
-  told_kept (Some old) (Some started) c told gate keeps =
-      some_and_map c (KeepsOrder base machine.order started) (Kept old) (λ new keeps. (goes_over old started new told keeps.leaves.goes_on, inr (kept_at old started new told gate keeps))) keeps
+  pub told_kept : (a b c : Option File) → IfSome a (λ file. (file.path ≡ j.journal) × (0 ≡ length file.seen)) → StaysTold a b → IfSome b (λ file. MayLeave file.steps (0 ∷ [])) → IfFile (KeepsOrder base machine.order) b c → IfFile Kept a c
+  told_kept None b c empty told gate keeps = subst (λ o. IfFile (KeepsOrder base machine.order) o c) told keeps
+  told_kept (Some old) None c empty told gate keeps = absurd told
+  told_kept (Some old) (Some started) c empty told gate keeps =
+      some_and_map c (KeepsOrder base machine.order started) (Kept old) (λ new keeps. (goes_over old started new told keeps.leaves.goes_on, inr (kept_at old started new empty told gate keeps))) keeps
 
-pub broken_keeps : (j : JournalJob) (base : BaseTree) (host : HostView) (sink sink' : SinkView) (disk mid disk' : DiskView) (st : Status) → IfSome host.told (λ t. HasBase t j.run.inputs base) → Continues disk mid → MayLeaveGate mid → RecordCause base (shells_of j.run) mid disk' sink sink' st → KeepsJournal j host sink sink' disk disk'
-broken_keeps j base host sink sink' disk mid disk' st begins continues gate cause =
+pub broken_keeps : (j : JournalJob) (base : BaseTree) (host : HostView) (sink sink' : SinkView) (disk mid disk' : DiskView) (st : Status) → IfSome host.told (λ t. HasBase t j.run.inputs base) → HasEmptyJournal j disk → Continues disk mid → MayLeaveGate mid → RecordCause base (shells_of j.run) mid disk' sink sink' st → KeepsJournal j host sink sink' disk disk'
+broken_keeps j base host sink sink' disk mid disk' st begins empty continues gate cause =
     let broken = cause.broken in
-    told_kept j base host sink sink' begins broken.machine broken.bytes (inl broken.written) broken.printed disk.told mid.told disk'.told continues gate broken.keeps
+    told_kept j base host sink sink' begins broken.machine broken.bytes (inl broken.written) broken.printed disk.told mid.told disk'.told empty continues gate broken.keeps
 
 -- a run that has not begun, as its schedule was not read
 pub unread : (base : BaseTree) (schedule : List ℕ) (disk : DiskView) (sink : SinkView) (journal : JournalView) → IsStarted journal disk → RecordCause base schedule disk disk sink sink status.NoMemory
@@ -145,20 +149,20 @@ module _ (base : BaseTree) (schedule : List ℕ) (disk disk' : DiskView) (sink m
   pub grown_by : (n : ℕ) (sink' : SinkView) → HasGrown (take n text) mid sink' → HasGrown (bytes_of n) sink sink'
   grown_by n sink' grown = grown_more (lines had.events) (take n text_by_events) sink mid sink' had.printed (grown_as (take n text) (take n text_by_events) mid sink' (ap (λ l. take n l) text_same) grown)
 
-pub finished_keeps : (j : JournalJob) (base : BaseTree) (there : Bool) (host host' : HostView) (sink mid sink' : SinkView) (disk started disk' : DiskView) (board : Log) (retries : List Retry) (st : Status) → IfSome host.told (λ t. HasBase t j.run.inputs base) → Continues disk started → MayLeaveGate started → HasRecorded base (shells_of j.run) started disk' sink mid board retries
+pub finished_keeps : (j : JournalJob) (base : BaseTree) (there : Bool) (host host' : HostView) (sink mid sink' : SinkView) (disk started disk' : DiskView) (board : Log) (retries : List Retry) (st : Status) → IfSome host.told (λ t. HasBase t j.run.inputs base) → HasEmptyJournal j disk → Continues disk started → MayLeaveGate started → HasRecorded base (shells_of j.run) started disk' sink mid board retries
     → FinishEnd j.run.out there (last_state board) (report board.base board.order retries) host host' mid sink' st → KeepsJournal j host sink sink' disk disk'
-finished_keeps j base there host host' sink mid sink' disk started disk' board retries st begins continues gate had end =
+finished_keeps j base there host host' sink mid sink' disk started disk' board retries st begins empty continues gate had end =
     let front = front_left j.run.out there (last_state board) (report board.base board.order retries) host host' mid sink' st end in
     told_kept j base host sink sink' begins (resting base board.order) (bytes_of base (shells_of j.run) started disk' sink mid board retries had front.0) (inr (report_of base (shells_of j.run) started disk' sink mid board retries had front.0))
-    (grown_by base (shells_of j.run) started disk' sink mid board retries had front.0 sink' front.1) disk.told started.told disk'.told continues gate had.keeps
+    (grown_by base (shells_of j.run) started disk' sink mid board retries had front.0 sink' front.1) disk.told started.told disk'.told empty continues gate had.keeps
 
 -- ---- what is kept from a later moment on is kept from an earlier one on, where only reads lie between
 
 pub keeps_back : (j : JournalJob) (a b : HostView) (sink sink' : SinkView) (disk disk' : DiskView) → ReadsOnly a b → KeepsJournal j b sink sink' disk disk' → KeepsJournal j a sink sink' disk disk'
 keeps_back j a b sink sink' disk disk' reads keeps =
-    if_file_map (λ old new. GoesOn old new × (HasNothing sink sink' old new ⊎ IsKept j b sink sink' old new)) (λ old new. GoesOn old new × (HasNothing sink sink' old new ⊎ IsKept j a sink sink' old new))
+    if_file_map (λ old new. GoesOn old new × (HasNothing j sink sink' old new ⊎ IsKept j b sink sink' old new)) (λ old new. GoesOn old new × (HasNothing j sink sink' old new ⊎ IsKept j a sink sink' old new))
     (λ old new is. (is.0, back old new is.1)) disk.told disk'.told keeps
   where
-    back : (old new : File) → HasNothing sink sink' old new ⊎ IsKept j b sink sink' old new → HasNothing sink sink' old new ⊎ IsKept j a sink sink' old new
+    back : (old new : File) → HasNothing j sink sink' old new ⊎ IsKept j b sink sink' old new → HasNothing j sink sink' old new ⊎ IsKept j a sink sink' old new
     back old new (inl none) = inl none
-    back old new (inr kept) = inr (record { base = kept.base; begins = some_back (λ t. HasBase t j.run.inputs kept.base) a b reads kept.begins; started = kept.started; later = kept.later; gate = kept.gate; machine = kept.machine; bytes = kept.bytes; written = kept.written; printed = kept.printed; keeps = kept.keeps })
+    back old new (inr kept) = inr (record { base = kept.base; begins = some_back (λ t. HasBase t j.run.inputs kept.base) a b reads kept.begins; at_path = kept.at_path; empty = kept.empty; started = kept.started; later = kept.later; gate = kept.gate; machine = kept.machine; bytes = kept.bytes; written = kept.written; printed = kept.printed; keeps = kept.keeps })

@@ -19,7 +19,7 @@ use Rattle.fx_inputs.specs.Reads.{HasReadFault}
 use Rattle.fx_run_command.specs.Rows.{IsDone, IsProperRun, CannotSave, RunAsksFit}
 use Rattle.fx_durable.specs.Disk.{File, DiskView, LeftSince, GoesOn, IsUnstarted, IsAsTold, TellsLength, TellsOther, TellsAt, moment}
 use Rattle.fx_journaling.specs.Kept.{IfFile, KeepsOrder}
-use Rattle.fx_journaling.specs.Written.{HasWritten, HasWrittenEvents, HasWrittenReport, IsFrontOfOutput}
+use Rattle.fx_journaling.specs.Written.{HasWritten, HasWrittenEvents, HasWrittenReport, IsBeforeSettled, IsFrontOfOutput}
 
 -- some of a run's events are written, which is a front of the output of a whole run, and OUT is as before
 pub record IsStopped (t t' : Tree) (j : RunJob) (before after : Option (List ℕ)) : Type 0 where
@@ -33,6 +33,11 @@ pub record IsStopped (t t' : Tree) (j : RunJob) (before after : Option (List ℕ
   pub front : IsFrontOfOutput base (shells_of j) bytes
   pub written : IfSome before (λ w. after ≡ Some (w ++ bytes))
   pub same : t' ≡ t
+
+-- the same, and what is written ends before the line of an attempt that was settled
+pub record IsStoppedAtDisk (t t' : Tree) (j : RunJob) (before after : Option (List ℕ)) : Type 0 where
+  pub stopped : IsStopped t t' j before after
+  pub settled : IsBeforeSettled stopped.base (shells_of j) stopped.events.events stopped.machine stopped.events.rest
 
 -- all events of a run are written, and a front of its report
 pub record HasWrittenAll (t : Tree) (j : RunJob) (base : BaseTree) (report_length : ℕ) (nodes : Nodes) (before after : Option (List ℕ)) : Type 0 where
@@ -83,46 +88,55 @@ HasJournalFault path disk disk' = Rose disk.faults disk'.faults ⊎ TellsOther d
 abbrev pub CannotStart : JournalJob → HostView → DiskView → DiskView → Type 0
 CannotStart j host disk disk' = HasJournalFault j.journal disk disk' × IfSome host.told (λ t. (there : Bool) × IsReady t j.run.out there)
 
--- the inputs are read and no run was begun: OUT and the output are as before
+-- the inputs are read and no run was begun: OUT and the output are as before, and so is the disk if OUT cannot be left
 pub record IsUnbegun (j : JournalJob) (host host' : HostView) (sink sink' : SinkView) (disk disk' : DiskView) : Type 0 where
   pub inputs : IfSome host.told (λ t. HasInputs t j.run.inputs)
-  pub cause : CannotLeave j.run host host' ⊎ CannotStart j host disk disk'
+  pub cause : (CannotLeave j.run host host' × (disk' ≡ disk)) ⊎ CannotStart j host disk disk'
   pub same : IsSame host host' sink sink'
 
 -- the file that the disk tells is the journal's, and is empty
 abbrev pub HasEmptyJournal : JournalJob → DiskView → Type 0
 HasEmptyJournal j disk = TellsLength disk j.journal 0
 
+-- OUT or the output is not written, and the disk has not failed; or it failed where an attempt was settled, and all before that
+-- is written
+abbrev pub HasBroken : RunJob → HostView → HostView → SinkView → SinkView → DiskView → DiskView → Type 0
+HasBroken j host host' sink sink' disk disk' =
+    ((disk'.faults ≡ disk.faults) × (CannotLeave j host host' ⊎ Rose sink.faults sink'.faults) × IfTold host.told host'.told (IsLeftOrWhole j sink.written sink'.written))
+    ⊎ (Rose disk.faults disk'.faults × IfTold host.told host'.told (λ t t'. IsStoppedAtDisk t t' j sink.written sink'.written))
+
 -- a run was begun on an empty journal and is not brought to its end, as OUT, the output or the journal is not written
 pub record IsBrokenOff (j : JournalJob) (host host' : HostView) (sink sink' : SinkView) (disk disk' : DiskView) : Type 0 where
   pub empty : HasEmptyJournal j disk
-  pub cause : CannotLeave j.run host host' ⊎ (Rose sink.faults sink'.faults ⊎ Rose disk.faults disk'.faults)
-  pub left : IfTold host.told host'.told (IsLeftOrWhole j.run sink.written sink'.written)
+  pub broken : HasBroken j.run host host' sink sink' disk disk'
 
--- memory ran out before a byte of the report was written: before a run was begun on an empty journal, or after
-abbrev pub HasNoMemory : JournalJob → HostView → HostView → SinkView → SinkView → DiskView → Type 0
-HasNoMemory j host host' sink sink' disk = IsSame host host' sink sink' ⊎ (HasEmptyJournal j disk × IfTold host.told host'.told (IsLeft j.run sink.written sink'.written))
+-- memory ran out before a byte of the report was written: before the journal was begun, or after, on an empty one
+abbrev pub HasNoMemory : JournalJob → HostView → HostView → SinkView → SinkView → DiskView → DiskView → Type 0
+HasNoMemory j host host' sink sink' disk disk' = (IsSame host host' sink sink' × (disk' ≡ disk)) ⊎ (HasEmptyJournal j disk × (disk'.faults ≡ disk.faults) × IfTold host.told host'.told (IsLeft j.run sink.written sink'.written))
 
 -- the file that the disk tells is at this path, and holds something already
 abbrev pub HoldsBytes : List ℕ → DiskView → Type 0
 HoldsBytes path disk = TellsAt disk path × IfSome disk.told (λ file. 0 < length file.seen)
 
 abbrev pub JournalRow : JournalJob → HostView → HostView → SinkView → SinkView → DiskView → DiskView → Status → Type 0
-JournalRow j host host' sink sink' disk disk' status.Done = HasEmptyJournal j disk × Grows sink sink' × IfTold host.told host'.told (λ t t'. IsDone t t' j.run sink.written sink'.written)
+JournalRow j host host' sink sink' disk disk' status.Done = HasEmptyJournal j disk × (disk'.faults ≡ disk.faults) × Grows sink sink' × IfTold host.told host'.told (λ t t'. IsDone t t' j.run sink.written sink'.written)
 JournalRow j host host' sink sink' disk disk' status.Usage = ⊥
 JournalRow j host host' sink sink' disk disk' (status.TextRefused word cause) = IsSame host host' sink sink' × (disk' ≡ disk) × IfSome host.told (λ t. IsFirstRefused t j.run.inputs word cause)
 JournalRow j host host' sink sink' disk disk' (status.FolderRefused cause) = IsSame host host' sink sink' × (disk' ≡ disk) × IfSome host.told (λ t. HasTexts t j.run.inputs × IsRefused t j.run.inputs.folder cause)
 JournalRow j host host' sink sink' disk disk' status.ReadFault = IsSame host host' sink sink' × (disk' ≡ disk) × (HasReadFault j.run.inputs host host' ⊎ IsSomeAnd host.told (λ t. CannotRead t j.run.inputs))
 JournalRow j host host' sink sink' disk disk' status.NotEmpty =
-    IsSame host host' sink sink' × IsAsTold disk disk' × IfSome host.told (λ t. HasInputs t j.run.inputs × (IsTaken t j.run.out ⊎ (((there : Bool) × IsReady t j.run.out there) × HoldsBytes j.journal disk)))
+    IsSame host host' sink sink' × IsAsTold disk disk' × (disk'.faults ≡ disk.faults) × IfSome host.told (λ t. HasInputs t j.run.inputs × (IsTaken t j.run.out ⊎ (((there : Bool) × IsReady t j.run.out there) × HoldsBytes j.journal disk)))
 JournalRow j host host' sink sink' disk disk' status.WriteFault = IsUnbegun j host host' sink sink' disk disk' ⊎ IsBrokenOff j host host' sink sink' disk disk'
-JournalRow j host host' sink sink' disk disk' status.NoMemory = HasNoMemory j host host' sink sink' disk
+JournalRow j host host' sink sink' disk disk' status.NoMemory = HasNoMemory j host host' sink sink' disk disk'
 JournalRow j host host' sink sink' disk disk' (status.BadJournal place) = ⊥
 
--- The journal was started at a moment of this call, and from then on keeps the order of the settled lines that were written.
+-- The file was at JOURNAL and empty. The journal was started in it at a moment of this call, and from then on keeps the order of
+-- the settled lines that were written.
 pub record IsKept (j : JournalJob) (host : HostView) (sink sink' : SinkView) (old new : File) : Type 0 where
   pub base : BaseTree
   pub begins : IfSome host.told (λ t. HasBase t j.run.inputs base)
+  pub at_path : old.path ≡ j.journal
+  pub empty : old.seen ≡ []
   pub started : File
   pub later : GoesOn old started
   pub gate : LeftSince (moment started) new.steps (0 ∷ [])
@@ -133,14 +147,14 @@ pub record IsKept (j : JournalJob) (host : HostView) (sink sink' : SinkView) (ol
   pub keeps : KeepsOrder base machine.order started new
 
 -- the journal was not started, and nothing is written
-pub record HasNothing (sink sink' : SinkView) (old new : File) : Type 0 where
-  pub unstarted : IsUnstarted old new
+pub record HasNothing (j : JournalJob) (sink sink' : SinkView) (old new : File) : Type 0 where
+  pub unstarted : IsUnstarted j.journal old new
   pub unwritten : sink'.written ≡ sink.written
 
 -- once it was started the journal keeps the order of what was written, whatever the status
 abbrev pub KeepsJournal : JournalJob → HostView → SinkView → SinkView → DiskView → DiskView → Type 0
 KeepsJournal j host sink sink' disk disk' =
-    IfFile (λ old new. GoesOn old new × (HasNothing sink sink' old new ⊎ IsKept j host sink sink' old new)) disk.told disk'.told
+    IfFile (λ old new. GoesOn old new × (HasNothing j sink sink' old new ⊎ IsKept j host sink sink' old new)) disk.told disk'.told
 
 -- where the paths are fit, no call is made at an unfit path of the host
 abbrev pub JournalAsksFit : JournalJob → HostView → HostView → Type 0

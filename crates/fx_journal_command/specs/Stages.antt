@@ -24,7 +24,7 @@ MayLeaveGate disk = IfSome disk.told (λ file. MayLeave file.steps (0 ∷ []))
 
 -- the journal is not started: the file at the path holds something, or the disk failed or tells a file at another path
 pub data StartCause (path : List ℕ) (disk disk' : DiskView) : Status → Type 0 where
-  holds : IsAsTold disk disk' → HoldsBytes path disk → StartCause path disk disk' status.NotEmpty
+  holds : IsAsTold disk disk' → disk'.faults ≡ disk.faults → HoldsBytes path disk → StartCause path disk disk' status.NotEmpty
   fails : HasJournalFault path disk disk' → StartCause path disk disk' status.WriteFault
 
 abbrev pub status_in : RecordFault → Status

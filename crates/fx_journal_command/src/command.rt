@@ -1,5 +1,5 @@
 //! The command `journal`, stage by stage.
-ghost use Rattle.std.specs.Prelude.{◌≤◌, IfOk, IfErr, OnErr, IfSome};
+ghost use Rattle.std.specs.Prelude.{◌≡◌, IfOk, IfErr, OnOk, OnErr, IfSome};
 ghost use Rattle.fx_outside.specs.Host.{AsksFit};
 ghost use Rattle.fx_folder.specs.Folder.{IsReady};
 ghost use Rattle.fx_spec.specs.Bases.{base_tree};
@@ -31,10 +31,10 @@ fn start<D: Disk>(path: &HostText, disk: &mut D) -> Result<Journal, Status>
     ensures empty { IfOk result (λ _. TellsLength (D.view disk.old) path.now 0) }
     ensures gate { IfOk result (λ _. MayLeaveGate (D.view disk.new)) }
     ensures goes_on { Continues (D.view disk.old) (D.view disk.new) }
-    ensures later { (D.view disk.old).faults ≤ (D.view disk.new).faults }
+    ensures calm { OnOk result ((D.view disk.new).faults ≡ (D.view disk.old).faults) }
     ensures cause { IfErr result (StartCause path.now (D.view disk.old) (D.view disk.new)) }
     ensures unstarted { OnErr result
-        (StaysUnstarted (D.view disk.old).told (D.view disk.new).told) }
+        (StaysUnstarted path.now (D.view disk.old).told (D.view disk.new).told) }
 {
     match Journal::start(disk, path) {
         Ok(journal) => Ok(journal),

@@ -25,7 +25,7 @@ module _ (count : ℕ) (turn : Turn) (journal' : JournalView) (old new : DiskVie
     held_after (Ok u) any added stays counts good cause = record {
       count = counts ∙ (let e : count + 1 ≡ length (order ++ turn ∷ []) = omega (arith, counted, length-append order (turn ∷ [])) in e);
       good = good;
-      later = omega (arith, held.later, cause.later);
+      calm = cause.calm ∙ held.calm;
       told = told_held base order turn add count counted began.told old.told new.told held.told stays any added;
     }
     held_after (Err e) any added stays counts good cause = tt
@@ -33,6 +33,6 @@ module _ (count : ℕ) (turn : Turn) (journal' : JournalView) (old new : DiskVie
     pub lost_after : (r : Result (Unit {0}) DiskFailed) → LeavesOrder count turn old new → Continues old new → HasFault old new r → OnErr r (IsLost base order (order ++ turn ∷ []) began new)
     lost_after (Ok u) any stays cause = tt
     lost_after (Err e) any stays cause = record {
-      rose = (let rose : Rose old.faults new.faults = cause.failed in omega (arith, held.later, rose));
+      rose = (let rose : Rose old.faults new.faults = cause.failed in omega (arith, held.calm, rose));
       told = told_lost base order turn add count counted began.told old.told new.told held.told stays any;
     }

@@ -27,8 +27,8 @@ use Rattle.fx_sched.proofs.Runs.{run_same}
 use Rattle.fx_journaling.specs.declared.fault.RecordFault.{RecordFault}
 use Rattle.fx_journaling.specs.declared.fault.RecordFault.TheVariants as fault
 use Rattle.fx_journaling.specs.Kept.{HasAtMostOneMore, IfFile, HoldsOrder, LeavesEither, KeepsOrder}
-use Rattle.fx_journaling.specs.Written.{IsPartOfLine}
-use Rattle.fx_journaling.specs.Taken.{Beginning, beginning, HasTaken, HasRefused}
+use Rattle.fx_journaling.specs.Written.{IsPartOfLine, IsBeforeSettled}
+use Rattle.fx_journaling.specs.Taken.{Beginning, beginning, HasTaken, IsUnkept, IsUntold, HasRefused}
 use Rattle.fx_journaling.specs.Recorded.{IsStarted, HasRecorded, HasBrokenOff, fault_in}
 use Rattle.fx_journaling.proofs.Holding.{holds_leaves, if_file_map, spells_rested}
 use Rattle.fx_journaling.proofs.Taking.{lines_more, grown_none, grown_as, run_more}
@@ -42,6 +42,9 @@ step_more base m (event.Settled shell entry) m' s = inr (_, ap (λ (m : Machine)
 step_more base m (event.Conflict shell entry path) m' s = inl (ap (λ (m : Machine). m.order) s.after)
 
 -- ---- what is written
+
+not_disk : fault.NoMemory ≡ fault.DiskFailed → ⊥
+not_disk is = cc
 
 module _ (base : BaseTree) (schedule : List ℕ) (disk disk' : DiskView) (sink sink' : SinkView) (disk_name sink_name : ℕ) where
   abbrev began : Beginning
@@ -64,6 +67,8 @@ module _ (base : BaseTree) (schedule : List ℕ) (disk disk' : DiskView) (sink s
       printed = taken.printed;
       keeps = keeps running.machine.order running.machine.order (inl refl) (held_leaves running.machine.order running.machine.order taken.held.told);
       cause = tt;
+      calm = λ _. taken.held.calm;
+      at_disk = λ is. absurd (not_disk is);
     }
 
     pub recorded : (board : Log) (retries : List Retry) → IsTraced base schedule (record { board = board; retries = retries; events = events }) → HasRecorded base schedule disk disk' sink sink' board retries
@@ -75,6 +80,7 @@ module _ (base : BaseTree) (schedule : List ℕ) (disk disk' : DiskView) (sink s
           traced = traced;
           printed = taken.printed;
           later = taken.later;
+          calm = taken.held.calm;
           keeps = subst (λ o. IfFile (KeepsOrder base o) disk.told disk'.told) order (keeps running.machine.order running.machine.order (inl refl) (held_leaves running.machine.order running.machine.order taken.held.told));
         }
 
@@ -84,18 +90,34 @@ module _ (base : BaseTree) (schedule : List ℕ) (disk disk' : DiskView) (sink s
     part = take refused.count (event_line e)
 
     -- no more than a part of its line is written
-    cut : (behind : (take refused.count (event_line e) ≡ []) ⊎ IsPartOfLine base schedule events refused.before (take refused.count (event_line e))) → IfFile (LeavesEither base refused.before.order running.machine.order) disk.told disk'.told → HasBrokenOff base schedule disk disk' sink sink' stop
-    cut behind leaves = record {
+    cut : ((stop ≡ fault.DiskFailed → ⊥) → disk'.faults ≡ disk.faults) → IfFile (LeavesEither base refused.before.order running.machine.order) disk.told disk'.told → (behind : (take refused.count (event_line e) ≡ []) ⊎ IsPartOfLine base schedule events refused.before (take refused.count (event_line e))) → (stop ≡ fault.DiskFailed → IsBeforeSettled base schedule events refused.before (take refused.count (event_line e))) → HasBrokenOff base schedule disk disk' sink sink' stop
+    cut calm leaves behind at_disk = record {
       machine = refused.before;
       bytes = lines events ++ take refused.count (event_line e);
       written = record { events = events; run = refused.run; turns = (e ∷ [], begins); rest = take refused.count (event_line e); printed = refl; behind = behind };
       printed = refused.printed;
       keeps = keeps refused.before.order running.machine.order (step_more base refused.before e running.machine refused.step) leaves;
       cause = refused.cause;
+      calm = calm;
+      at_disk = at_disk;
     }
 
+    -- nothing of it is written
+    unkept : IsUnkept began stop e refused.before.order running.machine.order refused.count disk' → HasBrokenOff base schedule disk disk' sink sink' stop
+    unkept lost = cut (λ other. absurd (other lost.at_disk)) lost.leaves (inl none) (λ is. record {
+      shell = lost.settled.0;
+      entry = lost.settled.1;
+      after = running.machine;
+      step = subst (λ e. Step base refused.before e running.machine) lost.settled.2 refused.step;
+      turns = subst (λ e. BeginsTurns base [] schedule (events ++ e ∷ [])) lost.settled.2 begins;
+      none = none;
+    })
+      where
+        none : take refused.count (event_line e) ≡ []
+        none = ap (λ n. take n (event_line e)) lost.none
+
     -- all of it is written
-    whole : length (event_line e) ≤ refused.count → IfFile (HoldsOrder base running.machine.order) disk.told disk'.told → HasBrokenOff base schedule disk disk' sink sink' stop
+    whole : length (event_line e) ≤ refused.count → IsUntold began stop running.machine.order disk' → HasBrokenOff base schedule disk disk' sink sink' stop
     whole all held =
         let line : lines events ++ take refused.count (event_line e) ≡ lines (events ++ e ∷ []) = ap (λ l. lines events ++ l) (take_all refused.count (event_line e) all) ∙ sym (lines_more events e) in
         record {
@@ -110,17 +132,21 @@ module _ (base : BaseTree) (schedule : List ℕ) (disk disk' : DiskView) (sink s
             behind = inl refl;
           };
           printed = grown_as (lines events ++ take refused.count (event_line e)) (lines (events ++ e ∷ [])) sink sink' line refused.printed;
-          keeps = keeps running.machine.order running.machine.order (inl refl) (held_leaves running.machine.order running.machine.order held);
+          keeps = keeps running.machine.order running.machine.order (inl refl) (held_leaves running.machine.order running.machine.order held.holds);
           cause = refused.cause;
+          calm = λ _. held.calm;
+          at_disk = λ is. absurd (held.not_at_disk is);
         }
 
-    pub broken : HasBrokenOff base schedule disk disk' sink sink' stop
-    broken = ⊎_elim
-        (λ lost. cut (inl (ap (λ n. take n (event_line e)) lost.0)) lost.1)
-        (λ held.
+    untold : IsUntold began stop running.machine.order disk' → HasBrokenOff base schedule disk disk' sink sink' stop
+    untold held =
         ⊎_elim
-        (λ (short : refused.count < length (event_line e)). cut (inr (record { next = e; after = running.machine; step = refused.step; turns = begins; count = refused.count; short = short; is = refl })) (held_leaves refused.before.order running.machine.order held))
-        (λ (all : length (event_line e) ≤ refused.count). whole all held) (cases_lt refused.count (length (event_line e)))) refused.told
+        (λ (short : refused.count < length (event_line e)).
+        cut (λ _. held.calm) (held_leaves refused.before.order running.machine.order held.holds) (inr (record { next = e; after = running.machine; step = refused.step; turns = begins; count = refused.count; short = short; is = refl })) (λ is. absurd (held.not_at_disk is)))
+        (λ (all : length (event_line e) ≤ refused.count). whole all held) (cases_lt refused.count (length (event_line e)))
+
+    pub broken : HasBrokenOff base schedule disk disk' sink sink' stop
+    broken = ⊎_elim unkept untold refused.told
 
 -- ---- nothing has come yet
 
@@ -146,7 +172,7 @@ pub begun : (base : BaseTree) (disk : DiskView) (sink : SinkView) (disk_name sin
 begun base disk sink disk_name sink_name journal started = record {
   base = refl;
   run = refl;
-  held = record { count = started.count; good = started.good; later = omega arith; told = held_none base disk.told started.rests };
+  held = record { count = started.count; good = started.good; calm = refl; told = held_none base disk.told started.rests };
   printed = grown_none sink;
   later = omega arith;
 }

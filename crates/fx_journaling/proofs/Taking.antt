@@ -27,7 +27,7 @@ use Rattle.fx_sched.specs.World.{Leads}
 use Rattle.fx_journaling.specs.declared.fault.RecordFault.{RecordFault}
 use Rattle.fx_journaling.specs.declared.fault.RecordFault.TheVariants as fault
 use Rattle.fx_journaling.specs.Kept.{IfFile, HoldsOrder, LeavesEither, IsHeld, IsLost, MayAdd}
-use Rattle.fx_journaling.specs.Taken.{Beginning, Extends, HasGrown, FaultCause, TellCause, HasTaken, HasRefused}
+use Rattle.fx_journaling.specs.Taken.{Beginning, Extends, HasGrown, FaultCause, TellCause, HasTaken, HasSettled, HasRefused}
 
 -- ---- the entry of an event
 
@@ -125,14 +125,14 @@ module _ (began : Beginning) (events : List Event) (e : Event) (before after : R
   }
 
   -- its entry was not kept
-  pub refused_keep : (disk' : DiskView) → IsLost before.base before.machine.order after.machine.order began.disk disk' → HasRefused began fault.DiskFailed events e after disk' sink
-  refused_keep disk' lost = record {
+  pub refused_keep : (disk' : DiskView) → HasSettled e → IsLost before.base before.machine.order after.machine.order began.disk disk' → HasRefused began fault.DiskFailed events e after disk' sink
+  refused_keep disk' settled lost = record {
     before = before.machine;
     run = taken.run;
     step = step;
     count = 0;
     printed = grown_as (lines events) (lines events ++ []) began.sink sink (sym (append-nil (lines events))) taken.printed;
-    told = inl (refl, subst (λ b. IfFile (LeavesEither b before.machine.order after.machine.order) began.disk.told disk'.told) taken.base lost.told);
+    told = inl (record { at_disk = refl; settled = settled; none = refl; leaves = subst (λ b. IfFile (LeavesEither b before.machine.order after.machine.order) began.disk.told disk'.told) taken.base lost.told });
     cause = lost.rose;
   }
 
@@ -151,7 +151,11 @@ module _ (began : Beginning) (events : List Event) (e : Event) (before after : R
         step = step;
         count = some.0;
         printed = grown_more (lines events) (take some.0 (event_line e)) began.sink sink sink' taken.printed some.1;
-        told = inr (subst (λ b. IfFile (HoldsOrder b after.machine.order) began.disk.told disk'.told) taken.base held.told);
+        told = inr (record {
+          not_at_disk = λ is. subst (λ s. TellCause s sink sink') is cause;
+          calm = held.calm;
+          holds = subst (λ b. IfFile (HoldsOrder b after.machine.order) began.disk.told disk'.told) taken.base held.told;
+        });
         cause = cause_from stop disk' sink' cause;
       }
 

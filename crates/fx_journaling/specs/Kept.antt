@@ -49,11 +49,11 @@ abbrev pub IfFile : (File → File → Type 0) → Option File → Option File �
 IfFile P None told' = told' ≡ None
 IfFile P (Some file) told' = IsSomeAnd told' (P file)
 
--- the journal on the disk has this order, and no append has failed
+-- the journal on the disk has this order, and no append has failed, nor the disk
 pub record IsHeld (base : BaseTree) (order : List Turn) (began : DiskView) (journal : JournalView) (disk : DiskView) : Type 0 where
   pub count : journal.count ≡ length order
   pub good : journal.good ≡ true
-  pub later : began.faults ≤ disk.faults
+  pub calm : disk.faults ≡ began.faults
   pub told : IfFile (HoldsOrder base order) began.told disk.told
 
 -- an append to this order, to make the longer one of it, has failed

@@ -17,7 +17,7 @@ use Rattle.fx_journaling.specs.declared.fault.RecordFault.TheVariants as fault
 use Rattle.fx_journaling.specs.declared.recording.Recorded.{Recorded}
 use Rattle.fx_journaling.specs.Kept.{IfFile, KeepsOrder}
 use Rattle.fx_journaling.specs.Taken.{HasGrown, FaultCause}
-use Rattle.fx_journaling.specs.Written.{HasWrittenEvents}
+use Rattle.fx_journaling.specs.Written.{HasWrittenEvents, IsBeforeSettled}
 
 -- a journal that was just started
 pub record IsStarted (journal : JournalView) (disk : DiskView) : Type 0 where
@@ -25,19 +25,21 @@ pub record IsStarted (journal : JournalView) (disk : DiskView) : Type 0 where
   pub good : journal.good ≡ true
   pub rests : IfSome disk.told (RestsAt 0 [])
 
--- the run has come to its end, and the lines of all its events are written
+-- the run has come to its end, and the lines of all its events are written; the disk has not failed
 pub record HasRecorded (base : BaseTree) (schedule : List ℕ) (disk disk' : DiskView) (sink sink' : SinkView) (board : Log) (retries : List Retry) : Type 0 where
   pub events : List Event
   pub traced : IsTraced base schedule (record { board = board; retries = retries; events = events })
   pub printed : HasGrown (lines events) sink sink'
   pub later : sink.faults ≤ sink'.faults
+  pub calm : disk'.faults ≡ disk.faults
   pub keeps : IfFile (KeepsOrder base board.order) disk.told disk'.told
 
 -- the run has come to its end so
 abbrev pub EndsRecorded : BaseTree → List ℕ → DiskView → DiskView → SinkView → SinkView → Recorded → Type 0
 EndsRecorded base schedule disk disk' sink sink' run = HasRecorded base schedule disk disk' sink sink' run.board run.retries
 
--- the run has ended before, and the journal keeps the order of the settled lines that are written
+-- The run has ended before, and the journal keeps the order of the settled lines that are written. At a disk fault all events up
+-- to the attempt that was settled are written, and no more; elsewhere the disk has not failed.
 pub record HasBrokenOff (base : BaseTree) (schedule : List ℕ) (disk disk' : DiskView) (sink sink' : SinkView) (stop : RecordFault) : Type 0 where
   pub machine : Machine
   pub bytes : List ℕ
@@ -45,6 +47,8 @@ pub record HasBrokenOff (base : BaseTree) (schedule : List ℕ) (disk disk' : Di
   pub printed : HasGrown bytes sink sink'
   pub keeps : IfFile (KeepsOrder base machine.order) disk.told disk'.told
   pub cause : FaultCause stop disk disk' sink sink'
+  pub calm : (stop ≡ fault.DiskFailed → ⊥) → disk'.faults ≡ disk.faults
+  pub at_disk : stop ≡ fault.DiskFailed → IsBeforeSettled base schedule written.events machine written.rest
 
 -- why a run has ended
 abbrev pub fault_in : Ended RecordFault → RecordFault

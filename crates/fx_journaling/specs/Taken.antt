@@ -7,6 +7,7 @@ use Rattle.fx_spec.specs.Plans.{Turn}
 use Rattle.fx_spec.specs.SpecTree.{file}
 use Rattle.fx_spec.specs.Order.{BaseTree}
 use Rattle.fx_machine.specs.declared.event.Event.{Event}
+use Rattle.fx_machine.specs.declared.event.Event.TheVariants as event
 use Rattle.fx_machine.specs.Machine.{Machine, Step, Run, resting}
 use Rattle.fx_durable.specs.Disk.{DiskView}
 use Rattle.fx_durable.specs.Journal.{JournalView}
@@ -60,14 +61,31 @@ pub record HasTaken (began : Beginning) (events : List Event) (running : Running
   pub printed : HasGrown (lines events) began.sink sink
   pub later : began.sink.faults ≤ sink.faults
 
--- one event more has come, of whose line so many bytes are written: none, as long as its entry is not surely kept
+-- the event has settled an attempt
+abbrev pub HasSettled : Event → Type 0
+HasSettled e = (shell : ℕ) × (entry : ℕ) × (e ≡ event.Settled shell entry)
+
+-- the disk failed, so that the entry of an attempt that was settled is not surely kept, and no byte of its line is written
+pub record IsUnkept (began : Beginning) (stop : RecordFault) (e : Event) (order longer : List Turn) (count : ℕ) (disk : DiskView) : Type 0 where
+  pub at_disk : stop ≡ fault.DiskFailed
+  pub settled : HasSettled e
+  pub none : count ≡ 0
+  pub leaves : IfFile (LeavesEither began.base order longer) began.disk.told disk.told
+
+-- what ends the run is not the disk, which has kept the order and has not failed
+pub record IsUntold (began : Beginning) (stop : RecordFault) (order : List Turn) (disk : DiskView) : Type 0 where
+  pub not_at_disk : stop ≡ fault.DiskFailed → ⊥
+  pub calm : disk.faults ≡ began.disk.faults
+  pub holds : IfFile (HoldsOrder began.base order) began.disk.told disk.told
+
+-- one event more has come, of whose line so many bytes are written: none, where its entry is not surely kept
 pub record HasRefused (began : Beginning) (stop : RecordFault) (events : List Event) (event : Event) (running : Running) (disk : DiskView) (sink : SinkView) : Type 0 where
   pub before : Machine
   pub run : Run began.base (resting began.base []) events before
   pub step : Step began.base before event running.machine
   pub count : ℕ
   pub printed : HasGrown (lines events ++ take count (event_line event)) began.sink sink
-  pub told : ((count ≡ 0) × IfFile (LeavesEither began.base before.order running.machine.order) began.disk.told disk.told) ⊎ IfFile (HoldsOrder began.base running.machine.order) began.disk.told disk.told
+  pub told : IsUnkept began stop event before.order running.machine.order count disk ⊎ IsUntold began stop running.machine.order disk
   pub cause : FaultCause stop began.disk disk began.sink sink
 
 -- what keeps a line from being written

@@ -3,6 +3,7 @@ use Rattle.std.specs.Prelude.{◌≡◌, ◌⊎◌, ◌<◌, ℕ, List, [], ◌�
 use Rattle.fx_spec.specs.Plans.{Turn}
 use Rattle.fx_spec.specs.Order.{BaseTree, IsComplete}
 use Rattle.fx_machine.specs.declared.event.Event.{Event}
+use Rattle.fx_machine.specs.declared.event.Event.TheVariants as event
 use Rattle.fx_machine.specs.Machine.{Machine, Step, Run, resting}
 use Rattle.fx_machine.specs.Tried.{retries_of}
 use Rattle.fx_machine.specs.Turns.{BeginsTurns, FollowsSchedule}
@@ -28,6 +29,15 @@ pub record HasWrittenEvents (base : BaseTree) (schedule : List ℕ) (m : Machine
   pub rest : List ℕ
   pub printed : bytes ≡ lines events ++ rest
   pub behind : (rest ≡ []) ⊎ IsPartOfLine base schedule events m rest
+
+-- the event that comes next has settled an attempt, and nothing behind the lines of those before it is written
+pub record IsBeforeSettled (base : BaseTree) (schedule : List ℕ) (events : List Event) (m : Machine) (rest : List ℕ) : Type 0 where
+  pub shell : ℕ
+  pub entry : ℕ
+  pub after : Machine
+  pub step : Step base m (event.Settled shell entry) after
+  pub turns : BeginsTurns base [] schedule (events ++ event.Settled shell entry ∷ [])
+  pub none : rest ≡ []
 
 -- the bytes are the lines of all events of a run, which have led to this state, and a front of its report
 pub record HasWrittenReport (base : BaseTree) (schedule : List ℕ) (m : Machine) (bytes : List ℕ) : Type 0 where

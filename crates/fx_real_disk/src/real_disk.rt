@@ -25,11 +25,23 @@ fn folder_of(path: &str) -> &str {
     }
 }
 
-/// Opens a file to read and write, made empty where none stands.
+/// Whether it says that a file may not be written.
+fn forbids_writing(error: &io::Error) -> bool {
+    matches!(
+        error.kind(),
+        ErrorKind::PermissionDenied | ErrorKind::ReadOnlyFilesystem
+    )
+}
+
+/// Opens a file to read and write, made empty where none stands; or to read alone, where it may not be written: then a
+/// later write fails.
 fn open<R: Files>(rt: &R, path: &str) -> io::Result<R::File> {
     let mut options = File::options();
     options.read(true).write(true).create(true);
-    options.open(rt, path)
+    match options.open(rt, path) {
+        Err(error) if forbids_writing(&error) => File::open(rt, path),
+        opened => opened,
+    }
 }
 
 /// Has the system keep an empty file and its name in the folder. A file that holds something was kept before that was
@@ -115,7 +127,7 @@ impl<R: Files + Drop> RealDisk<R> {
 impl<R: Files + Drop> Disk for RealDisk<R> {
     ghost use Rattle.std.specs.Prelude.{None};
 
-    ghost view = { λ d. record { told = None; faults = d.faults } };
+    ghost view = { λ d. record { told = None; faults = d.faults; others = 0 } };
 
     ghost image = { λ _. tt };
 

@@ -88,9 +88,13 @@ RecoverEnd j host host' sink sink' disk disk' status.WriteFault = IsUnsaved j ho
 RecoverEnd j host host' sink sink' disk disk' status.NoMemory = (sink' ≡ sink) × IfTold host.told host'.told (MayHoldPart j disk)
 RecoverEnd j host host' sink sink' disk disk' (status.BadJournal place) = IsSame host host' sink sink' × IfSome host.told (λ t. IsBad t j disk place)
 
+-- the count of the disk's faults is as before; but at a read fault and for want of memory
+abbrev pub StaysCalm : DiskView → DiskView → Status → Type 0
+StaysCalm disk disk' st = (disk'.faults ≡ disk.faults) ⊎ ((st ≡ status.ReadFault) ⊎ (st ≡ status.NoMemory))
+
 -- the table for `recover`: however it ends, the file of the disk is as it was
 abbrev pub RecoverRow : RecoverJob → HostView → HostView → SinkView → SinkView → DiskView → DiskView → Status → Type 0
-RecoverRow j host host' sink sink' disk disk' st = IsAsTold disk disk' × RecoverEnd j host host' sink sink' disk disk' st
+RecoverRow j host host' sink sink' disk disk' st = IsAsTold disk disk' × StaysCalm disk disk' st × RecoverEnd j host host' sink sink' disk disk' st
 
 -- the paths at the host are fit
 abbrev pub has_fit_recover : RecoverJob → Bool

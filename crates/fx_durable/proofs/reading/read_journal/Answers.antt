@@ -1,6 +1,6 @@
-use Rattle.std.proofs.Common.{subst}
+use Rattle.std.proofs.Common.{subst, ◌∙◌}
 use Rattle.fx_durable.specs.Journal.{Reads}
-use Rattle.fx_durable.proofs.Spelling.{reads_told, reads_chosen}
+use Rattle.fx_durable.proofs.Spelling.{reads_told, reads_chosen, reads_calm}
 use Rattle.fx_durable.proofs.reading.read_journal.Goals as goal
 
 pub returns-clause-reads : goal.returns-clause-reads
@@ -10,3 +10,7 @@ returns-clause-reads g c =
 pub returns-clause-cause : goal.returns-clause-cause
 returns-clause-cause g c =
     reads_chosen c.args.path.now c.in_ok-choose.field-0 (g.D.Disk.view c.args.disk.now) (g.D.Disk.view c.read_bytes.new.disk) c.read_pairs.result c.in_ok-choose.ensures.answer c.read_pairs.ensures.failed
+
+pub returns-clause-calm : goal.returns-clause-calm
+returns-clause-calm g c =
+    reads_calm (g.D.Disk.view c.args.disk.now) (g.D.Disk.view c.read_bytes.new.disk) c.read_pairs.result (c.in_ok-bytes.ensures.calm ∙ c.in_ok-choose.ensures.cause.calm)

@@ -40,21 +40,21 @@ returns-in_err-recorded-clause-row g c =
     let is = err_of c.from_residual-in_err-recorded.result st c.from_residual-in_err-recorded.ensures.1 in
     let whole : IsWhole (get c.args.base.value.loaded.nodes) = subst (λ (b : Base). IsWhole (get b.loaded.nodes)) c.deref.ensures c.places-whole.ensures.table.whole in
     subst (λ r. JournalRow j host host sink sink' disk disk' (status_of r)) (sym is)
-    (not_recorded j (base_tree c.args.base.value) whole c.args.there host sink sink' disk started disk' c.requires.begins c.requires.free c.in_ok-journal.ensures.empty c.in_ok-journal.ensures.later st c.in_err-recorded.ensures.broken)
+    (not_recorded j (base_tree c.args.base.value) whole c.args.there host sink sink' disk started disk' c.requires.begins c.requires.free c.in_ok-journal.ensures.empty c.in_ok-journal.ensures.calm st c.in_err-recorded.ensures.broken)
 
 pub returns-in_err-recorded-clause-keeps : goal.returns-in_err-recorded-clause-keeps
 returns-in_err-recorded-clause-keeps g c =
     broken_keeps (asked_journal c.args.job.now) (base_tree c.args.base.value) (g.H.Host.view c.args.host.now) (g.S.Sink.view c.args.out.now) (g.S.Sink.view c.run_on.new.out) (g.D.Disk.view c.args.disk.now) (g.D.Disk.view c.start.new.disk) (g.D.Disk.view c.run_on.new.disk) c.in_err-recorded.field-0.0
-    c.requires.begins c.in_ok-journal.ensures.goes_on c.in_ok-journal.ensures.gate c.in_err-recorded.ensures.broken
+    c.requires.begins c.in_ok-journal.ensures.empty c.in_ok-journal.ensures.goes_on c.in_ok-journal.ensures.gate c.in_err-recorded.ensures.broken
 
 pub returns-clause-row : goal.returns-clause-row
 returns-clause-row g c =
     let r = c.in_ok-recorded.recorded in
     finished (asked_journal c.args.job.now) (base_tree c.args.base.value) c.args.there (g.H.Host.view c.args.host.now) (g.H.Host.view c.finish.new.host) (g.S.Sink.view c.args.out.now) (g.S.Sink.view c.run_on.new.out) (g.S.Sink.view c.finish.new.out) (g.D.Disk.view c.args.disk.now) (g.D.Disk.view c.start.new.disk) (g.D.Disk.view c.run_on.new.disk) r.board r.retries
-    c.requires.job.scheduled c.in_ok-journal.ensures.empty c.requires.begins c.requires.free c.in_ok-recorded.ensures.done (status_of c.finish.result) c.finish.ensures.end
+    c.requires.job.scheduled c.in_ok-journal.ensures.empty c.in_ok-journal.ensures.calm c.requires.begins c.requires.free c.in_ok-recorded.ensures.done (status_of c.finish.result) c.finish.ensures.end
 
 pub returns-clause-keeps : goal.returns-clause-keeps
 returns-clause-keeps g c =
     let r = c.in_ok-recorded.recorded in
     finished_keeps (asked_journal c.args.job.now) (base_tree c.args.base.value) c.args.there (g.H.Host.view c.args.host.now) (g.H.Host.view c.finish.new.host) (g.S.Sink.view c.args.out.now) (g.S.Sink.view c.run_on.new.out) (g.S.Sink.view c.finish.new.out) (g.D.Disk.view c.args.disk.now) (g.D.Disk.view c.start.new.disk) (g.D.Disk.view c.run_on.new.disk) r.board r.retries (status_of c.finish.result)
-    c.requires.begins c.in_ok-journal.ensures.goes_on c.in_ok-journal.ensures.gate c.in_ok-recorded.ensures.done c.finish.ensures.end
+    c.requires.begins c.in_ok-journal.ensures.empty c.in_ok-journal.ensures.goes_on c.in_ok-journal.ensures.gate c.in_ok-recorded.ensures.done c.finish.ensures.end

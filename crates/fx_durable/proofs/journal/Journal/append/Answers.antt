@@ -1,7 +1,7 @@
 use Rattle.std.proofs.Common.{ap, ◌+◌, ◌*◌, [], ◌∷◌}
 use Rattle.fx_spec.specs.Plans.{Turn}
 use Rattle.fx_durable.specs.Journal.{FitsRecord}
-use Rattle.fx_durable.proofs.Append.{has_gate, stops_at_first, stops_at_second, stops_at_third, stops_at_fourth, ends_well, ends_added, as_written, as_torn, as_opened, as_gate_torn}
+use Rattle.fx_durable.proofs.Append.{has_gate, has_gate_still, stops_at_first, stops_at_second, stops_at_third, stops_at_fourth, ends_well, ends_added, as_written, as_torn, as_opened, as_gate_torn}
 use Rattle.fx_durable.proofs.Continuing.{write_continues, torn_continues, sync_continues, same_continues, continues_over}
 use Rattle.fx_durable.proofs.Crash.{behind}
 use Rattle.fx_durable.proofs.journal.Journal.append.Goals as goal
@@ -9,6 +9,12 @@ use Rattle.fx_durable.proofs.journal.Journal.append.Goals as goal
 pub write-requires : goal.write-requires
 write-requires g c =
     has_gate _ _ (ap (λ j. j.count) c.self.view_is) (g.D.Disk.view c.args.disk.now) (g.met.D.Disk.image c.args.disk.now) c.requires.rests
+
+pub write-requires-2 : goal.write-requires-2
+write-requires-2 g c =
+    let v = g.D.Disk.view in
+    let gate = has_gate _ _ (ap (λ j. j.count) c.self.view_is) (v c.args.disk.now) (g.met.D.Disk.image c.args.disk.now) c.requires.rests in
+    has_gate_still _ _ (v c.args.disk.now) (v c.write.new.self) (v c.sync.new.self) gate c.in_ok-write.ensures.written c.in_ok-sync.ensures.kept
 
 pub returns-in_err-write-clause-any_moment : goal.returns-in_err-write-clause-any_moment
 returns-in_err-write-clause-any_moment g c =

@@ -12,8 +12,11 @@ returns-then-ne-clause-cause c =
     let differs = other_text c.args.path.now self.path (not_is _ (sym c.ne.ensures ∙ c.if-ne.true)) in
     record {
       later = omega arith;
+      calm = tt;
       failed = inr (λ same. differs (sym (sym stays ∙ same)));
       other = λ other. (refl, refl);
+      counts = λ other. omega (arith, c.saturating_add-self.ensures);
+      others = λ at. absurd (differs (sym (sym stays ∙ at)));
     }
 
 pub returns-then-fails-clause-cause : goal.returns-then-fails-clause-cause
@@ -24,8 +27,11 @@ returns-then-fails-clause-cause c =
     let faults = ap (λ p. p.faults) (c.log.ensures.plan ∙ c.begin-fails.ensures.plan) in
     record {
       later = omega (arith, faults, c.failed.ensures.later);
+      calm = tt;
       failed = inl (omega (arith, faults, ap (λ p. p.faults) c.failed.ensures.plan));
       other = λ other. absurd (other (stays ∙ sym same));
+      counts = λ other. absurd (other (stays ∙ sym same));
+      others = λ at. c.failed.ensures.others ∙ c.log.ensures.room.others ∙ c.begin-fails.ensures.others;
     }
 
 pub returns-clause-answer : goal.returns-clause-answer
@@ -45,7 +51,7 @@ returns-clause-cause c =
     let stays = path_stays (no_file self.path) self.made.items self.taken.items in
     let same = same_text c.args.path.now self.path (not_not _ (sym c.ne.ensures ∙ c.if-ne.false)) in
     let faults = ap (λ p. p.faults) (c.log.ensures.plan ∙ c.begin-fails.ensures.plan) in
-    record { later = omega (arith, faults); failed = tt; other = λ other. absurd (other (stays ∙ sym same)) }
+    record { later = omega (arith, faults); calm = faults; failed = tt; other = λ other. absurd (other (stays ∙ sym same)); counts = λ other. absurd (other (stays ∙ sym same)); others = λ at. c.log.ensures.room.others ∙ c.begin-fails.ensures.others }
 
 pub returns-then-ne-clause-fails : goal.returns-then-ne-clause-fails
 returns-then-ne-clause-fails c same = absurd (other_text c.args.path.now c.args.self.now.path (not_is _ (sym c.ne.ensures ∙ c.if-ne.true)) same)

@@ -21,7 +21,7 @@ returns-in_err-keep-clause-err g c = λ events before took leads.
     let r = reached began events e before after self.journal (d self.disk.now) (s self.out.now) took.2 leads in
     let held = held_before began events e before after self.journal (d self.disk.now) (s self.out.now) took.2 leads in
     subst (λ r. IfErr r P) (sym is)
-    (took.0, took.1, refused_keep began events e before after self.journal (d self.disk.now) (s self.out.now) took.2 leads (d c.keep.new.disk) (c.in_err-keep.ensures.lost began.disk before r held leads))
+    (took.0, took.1, refused_keep began events e before after self.journal (d self.disk.now) (s self.out.now) took.2 leads (d c.keep.new.disk) c.in_err-keep.ensures.settled (c.in_err-keep.ensures.lost began.disk before r held leads))
 
 pub returns-clause-ok : goal.returns-clause-ok
 returns-clause-ok g c = λ events before took leads.
