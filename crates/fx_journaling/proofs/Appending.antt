@@ -26,6 +26,7 @@ module _ (count : ℕ) (turn : Turn) (journal' : JournalView) (old new : DiskVie
       count = counts ∙ (let e : count + 1 ≡ length (order ++ turn ∷ []) = omega (arith, counted, length-append order (turn ∷ [])) in e);
       good = good;
       calm = cause.calm ∙ held.calm;
+      others = cause.others ∙ held.others;
       told = told_held base order turn add count counted began.told old.told new.told held.told stays any added;
     }
     held_after (Err e) any added stays counts good cause = tt
@@ -34,5 +35,6 @@ module _ (count : ℕ) (turn : Turn) (journal' : JournalView) (old new : DiskVie
     lost_after (Ok u) any stays cause = tt
     lost_after (Err e) any stays cause = record {
       rose = (let rose : Rose old.faults new.faults = cause.failed in omega (arith, held.calm, rose));
+      others = cause.others ∙ held.others;
       told = told_lost base order turn add count counted began.told old.told new.told held.told stays any;
     }

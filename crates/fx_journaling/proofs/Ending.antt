@@ -67,6 +67,7 @@ module _ (base : BaseTree) (schedule : List ℕ) (disk disk' : DiskView) (sink s
       printed = taken.printed;
       keeps = keeps running.machine.order running.machine.order (inl refl) (held_leaves running.machine.order running.machine.order taken.held.told);
       cause = tt;
+      others = taken.held.others;
       calm = λ _. taken.held.calm;
       at_disk = λ is. absurd (not_disk is);
     }
@@ -81,6 +82,7 @@ module _ (base : BaseTree) (schedule : List ℕ) (disk disk' : DiskView) (sink s
           printed = taken.printed;
           later = taken.later;
           calm = taken.held.calm;
+          others = taken.held.others;
           keeps = subst (λ o. IfFile (KeepsOrder base o) disk.told disk'.told) order (keeps running.machine.order running.machine.order (inl refl) (held_leaves running.machine.order running.machine.order taken.held.told));
         }
 
@@ -98,6 +100,7 @@ module _ (base : BaseTree) (schedule : List ℕ) (disk disk' : DiskView) (sink s
       printed = refused.printed;
       keeps = keeps refused.before.order running.machine.order (step_more base refused.before e running.machine refused.step) leaves;
       cause = refused.cause;
+      others = refused.others;
       calm = calm;
       at_disk = at_disk;
     }
@@ -134,6 +137,7 @@ module _ (base : BaseTree) (schedule : List ℕ) (disk disk' : DiskView) (sink s
           printed = grown_as (lines events ++ take refused.count (event_line e)) (lines (events ++ e ∷ [])) sink sink' line refused.printed;
           keeps = keeps running.machine.order running.machine.order (inl refl) (held_leaves running.machine.order running.machine.order held.holds);
           cause = refused.cause;
+          others = refused.others;
           calm = λ _. held.calm;
           at_disk = λ is. absurd (held.not_at_disk is);
         }
@@ -172,7 +176,7 @@ pub begun : (base : BaseTree) (disk : DiskView) (sink : SinkView) (disk_name sin
 begun base disk sink disk_name sink_name journal started = record {
   base = refl;
   run = refl;
-  held = record { count = started.count; good = started.good; calm = refl; told = held_none base disk.told started.rests };
+  held = record { count = started.count; good = started.good; calm = refl; others = refl; told = held_none base disk.told started.rests };
   printed = grown_none sink;
   later = omega arith;
 }

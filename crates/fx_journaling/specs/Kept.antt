@@ -49,16 +49,18 @@ abbrev pub IfFile : (File → File → Type 0) → Option File → Option File �
 IfFile P None told' = told' ≡ None
 IfFile P (Some file) told' = IsSomeAnd told' (P file)
 
--- the journal on the disk has this order, and no append has failed, nor the disk
+-- the journal on the disk has this order, and no append has failed, nor the disk; no path was chosen
 pub record IsHeld (base : BaseTree) (order : List Turn) (began : DiskView) (journal : JournalView) (disk : DiskView) : Type 0 where
   pub count : journal.count ≡ length order
   pub good : journal.good ≡ true
   pub calm : disk.faults ≡ began.faults
+  pub others : disk.others ≡ began.others
   pub told : IfFile (HoldsOrder base order) began.told disk.told
 
--- an append to this order, to make the longer one of it, has failed
+-- an append to this order, to make the longer one of it, has failed; no path was chosen
 pub record IsLost (base : BaseTree) (order longer : List Turn) (began disk : DiskView) : Type 0 where
   pub rose : Rose began.faults disk.faults
+  pub others : disk.others ≡ began.others
   pub told : IfFile (LeavesEither base order longer) began.told disk.told
 
 -- the order may have this entry next: it is legal with it, and the journal has room

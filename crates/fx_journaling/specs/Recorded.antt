@@ -25,13 +25,14 @@ pub record IsStarted (journal : JournalView) (disk : DiskView) : Type 0 where
   pub good : journal.good ≡ true
   pub rests : IfSome disk.told (RestsAt 0 [])
 
--- the run has come to its end, and the lines of all its events are written; the disk has not failed
+-- the run has come to its end, and the lines of all its events are written; the disk has not failed, and no path was chosen
 pub record HasRecorded (base : BaseTree) (schedule : List ℕ) (disk disk' : DiskView) (sink sink' : SinkView) (board : Log) (retries : List Retry) : Type 0 where
   pub events : List Event
   pub traced : IsTraced base schedule (record { board = board; retries = retries; events = events })
   pub printed : HasGrown (lines events) sink sink'
   pub later : sink.faults ≤ sink'.faults
   pub calm : disk'.faults ≡ disk.faults
+  pub others : disk'.others ≡ disk.others
   pub keeps : IfFile (KeepsOrder base board.order) disk.told disk'.told
 
 -- the run has come to its end so
@@ -39,7 +40,7 @@ abbrev pub EndsRecorded : BaseTree → List ℕ → DiskView → DiskView → Si
 EndsRecorded base schedule disk disk' sink sink' run = HasRecorded base schedule disk disk' sink sink' run.board run.retries
 
 -- The run has ended before, and the journal keeps the order of the settled lines that are written. At a disk fault all events up
--- to the attempt that was settled are written, and no more; elsewhere the disk has not failed.
+-- to the attempt that was settled are written, and no more; elsewhere the disk has not failed. No path was chosen.
 pub record HasBrokenOff (base : BaseTree) (schedule : List ℕ) (disk disk' : DiskView) (sink sink' : SinkView) (stop : RecordFault) : Type 0 where
   pub machine : Machine
   pub bytes : List ℕ
@@ -47,6 +48,7 @@ pub record HasBrokenOff (base : BaseTree) (schedule : List ℕ) (disk disk' : Di
   pub printed : HasGrown bytes sink sink'
   pub keeps : IfFile (KeepsOrder base machine.order) disk.told disk'.told
   pub cause : FaultCause stop disk disk' sink sink'
+  pub others : disk'.others ≡ disk.others
   pub calm : (stop ≡ fault.DiskFailed → ⊥) → disk'.faults ≡ disk.faults
   pub at_disk : stop ≡ fault.DiskFailed → IsBeforeSettled base schedule written.events machine written.rest
 

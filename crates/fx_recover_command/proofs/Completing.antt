@@ -60,4 +60,4 @@ module _ (j : RecoverJob) (t : Tree) (host host' : HostView) (sink sink' : SinkV
   ends (status.BadJournal place) row = absurd (not_bad t j disk proper.journal place (subst (λ o. IfSome o (λ t. IsBad t j disk place)) is row.1))
 
   pub recover_completes : (st : Status) → RecoverRow j host host' sink sink' disk disk' st → (st ≡ status.Done) ⊎ (st ≡ status.NoMemory)
-  recover_completes st row = ends st row.2
+  recover_completes st row = ends st row.3

@@ -17,7 +17,7 @@ use Rattle.fx_inputs.specs.Inputs.{HasBase, HasTexts, HasInputs, CannotRead, IsF
 use Rattle.fx_inputs.specs.Reads.{HasReadFault, has_fit_inputs}
 use Rattle.fx_spec.specs.Plans.{Turn}
 use Rattle.fx_spec.specs.Order.{BaseTree, IsLegal}
-use Rattle.fx_durable.specs.Disk.{DiskView, File, IsAsTold, TellsOther}
+use Rattle.fx_durable.specs.Disk.{DiskView, File, IsAsTold, TellsOther, ChoosesTold}
 use Rattle.fx_durable.specs.Journal.{Spells}
 use Rattle.fx_recover_command.specs.Recovered.{HasSomeOrder, IsOutcome, IsBad}
 
@@ -92,9 +92,9 @@ RecoverEnd j host host' sink sink' disk disk' (status.BadJournal place) = IsSame
 abbrev pub StaysCalm : DiskView → DiskView → Status → Type 0
 StaysCalm disk disk' st = (disk'.faults ≡ disk.faults) ⊎ ((st ≡ status.ReadFault) ⊎ (st ≡ status.NoMemory))
 
--- the table for `recover`: however it ends, the file of the disk is as it was
+-- the table for `recover`: however it ends, the file of the disk is as it was, and where it is at JOURNAL no other path is chosen
 abbrev pub RecoverRow : RecoverJob → HostView → HostView → SinkView → SinkView → DiskView → DiskView → Status → Type 0
-RecoverRow j host host' sink sink' disk disk' st = IsAsTold disk disk' × StaysCalm disk disk' st × RecoverEnd j host host' sink sink' disk disk' st
+RecoverRow j host host' sink sink' disk disk' st = IsAsTold disk disk' × ChoosesTold j.journal disk disk' × StaysCalm disk disk' st × RecoverEnd j host host' sink sink' disk disk' st
 
 -- the paths at the host are fit
 abbrev pub has_fit_recover : RecoverJob → Bool

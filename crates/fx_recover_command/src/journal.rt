@@ -2,7 +2,7 @@
 ghost use Rattle.std.specs.Prelude.{◌≡◌, IfOk, IfErr, OnOk};
 ghost use Rattle.fx_spec.specs.Bases.{base_tree};
 ghost use Rattle.fx_spec.specs.Order.{IsLegal};
-ghost use Rattle.fx_durable.specs.Disk.{IsAsTold};
+ghost use Rattle.fx_durable.specs.Disk.{IsAsTold, ChoosesTold};
 ghost use Rattle.fx_durable.specs.Journal.{turns_of, Spells};
 ghost use Rattle.fx_recover_command.specs.Recovered.{HasImage};
 ghost use Rattle.fx_recover_command.specs.Rows.{StaysCalm};
@@ -37,6 +37,7 @@ pub(crate) fn read_order<D: Disk>(
         HasImage path.now (D.view disk.old) (Spells (turns_of order))) }
     ensures legal { IfOk result (λ order. IsLegal (base_tree base.now) (turns_of order)) }
     ensures same { IsAsTold (D.view disk.old) (D.view disk.new) }
+    ensures others { ChoosesTold path.now (D.view disk.old) (D.view disk.new) }
     ensures calm { OnOk result ((D.view disk.new).faults ≡ (D.view disk.old).faults) }
     ensures calm_err { IfErr result (StaysCalm (D.view disk.old) (D.view disk.new)) }
     ensures cause { IfErr result

@@ -55,7 +55,7 @@ unread_row (Gen j) host sink disk = making_no_memory (gen_making j.number j.out)
 unread_row (Large j) host sink disk = making_no_memory (large_making j.number j.out) host host (still host) sink
 unread_row (Audit j) host sink disk = same host host sink (still host)
 unread_row (Journal j) host sink disk = journal_no_memory j host sink disk
-unread_row (Recover j) host sink disk = (refl, inl refl, recovering.no_memory j host host (still host) sink disk disk)
+unread_row (Recover j) host sink disk = (refl, λ _. refl, inl refl, recovering.no_memory j host host (still host) sink disk disk)
 unread_row (Views j) host sink disk = viewing.no_memory j host host (still host) sink
 
 pub unread_fit : (j : Job) (host : HostView) → AsksFitPaths j host host
