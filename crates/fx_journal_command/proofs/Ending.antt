@@ -207,7 +207,7 @@ module _ (j : JournalJob) (base : BaseTree) (there : Bool) (host host' : HostVie
   output = lines had.events ++ report base board.order retries
 
   traced : IsTracedAs base (shells_of j.run) board.order retries output
-  traced = record { events = had.events; run = had.traced.run; turns = had.traced.turns; conflicts = had.traced.conflicts; printed = refl }
+  traced = record { events = had.events; run = had.traced.run; turns = had.traced.turns; named = had.traced.named; conflicts = had.traced.conflicts; printed = refl }
 
   printed : IsPrintedAs j.run.mode base board.order retries output
   printed = subst (λ m. IsPrintedAs m base board.order retries output) (sym scheduled) traced

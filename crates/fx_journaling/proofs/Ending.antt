@@ -23,6 +23,7 @@ use Rattle.fx_sched.specs.declared.taking.Ended.{Ended}
 use Rattle.fx_sched.specs.declared.taking.Ended.TheVariants as end
 use Rattle.fx_sched.specs.Traced.{IsTraced}
 use Rattle.fx_sched.specs.World as World
+use Rattle.fx_sched.proofs.Runs.{run_same}
 use Rattle.fx_journaling.specs.declared.fault.RecordFault.{RecordFault}
 use Rattle.fx_journaling.specs.declared.fault.RecordFault.TheVariants as fault
 use Rattle.fx_journaling.specs.Kept.{HasAtMostOneMore, IfFile, HoldsOrder, LeavesEither, KeepsOrder}
@@ -33,18 +34,6 @@ use Rattle.fx_journaling.proofs.Holding.{holds_leaves, if_file_map, spells_reste
 use Rattle.fx_journaling.proofs.Taking.{lines_more, grown_none, grown_as, run_more}
 
 -- ---- runs
-
--- an event leads to one state alone
-step_same : (base : BaseTree) (m : Machine) (e : Event) (a b : Machine) → Step base m e a → Step base m e b → a ≡ b
-step_same base m (event.Look shell path position) a b s t = s.after ∙ sym t.after
-step_same base m (event.Settled shell entry) a b s t = s.after ∙ sym t.after
-step_same base m (event.Conflict shell entry path) a b s t = s.after ∙ sym t.after
-
-pub run_same : (base : BaseTree) (m : Machine) (events : List Event) (a b : Machine) → Run base m events a → Run base m events b → a ≡ b
-run_same base m [] a b r q = sym r ∙ q
-run_same base m (e ∷ events) a b r q =
-    let same : q.0 ≡ r.0 = step_same base m e q.0 r.0 q.1 r.1 in
-    run_same base r.0 events a b r.2 (subst (λ m. Run base m events b) same q.2)
 
 -- the order grows by one entry, or not
 step_more : (base : BaseTree) (m : Machine) (e : Event) (m' : Machine) → Step base m e m' → HasAtMostOneMore m.order m'.order
@@ -85,7 +74,7 @@ module _ (base : BaseTree) (schedule : List ℕ) (disk disk' : DiskView) (sink s
 
     pub recorded : (board : Log) (retries : List Retry) → IsTraced base schedule (record { board = board; retries = retries; events = events }) → HasRecorded base schedule disk disk' sink sink' board retries
     recorded board retries traced =
-        let same : running.machine ≡ resting base board.order = run_same base (resting base []) events running.machine (resting base board.order) taken.run traced.run in
+        let same : running.machine ≡ resting base board.order = run_same base (resting base []) running.machine (resting base board.order) events taken.run traced.run in
         let order : running.machine.order ≡ board.order = ap (λ (m : Machine). m.order) same in
         record {
           events = events;

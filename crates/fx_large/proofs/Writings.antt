@@ -1,5 +1,5 @@
 -- The steps of writing the texts of a case: what each leaves, and that the next may be made.
-use Rattle.std.proofs.Common.{◌≡◌, ◌⊎◌, inl, inr, ℕ, ◌+◌, ◌<◌, ◌≤◌, Bool, true, false, ◌&&◌, cond, List, [], ◌∷◌, ◌++◌, length, is_none, Option, Some, None, IfSome, IfErr, IsSomeAnd, OnOk, OnErr, Result, Ok, Err, refl, sym, ◌∙◌, ap, subst, arith, append_assoc, append-nil, codes}
+use Rattle.std.proofs.Common.{◌≡◌, ◌⊎◌, inl, inr, ℕ, ◌+◌, ◌<◌, ◌≤◌, Bool, true, false, ◌&&◌, ◌||◌, cond, List, [], ◌∷◌, ◌++◌, length, is_none, Option, Some, None, IfSome, IfErr, IsSomeAnd, OnOk, OnErr, Result, Ok, Err, refl, sym, ◌∙◌, ap, subst, arith, append_assoc, append-nil, codes}
 use Rattle.std.specs.Prelude.{slice_get}
 use Rattle.std.specs.Option.{option_or}
 use Rattle.std.specs.Ordering.{is_eq, eq_by_cmp}
@@ -28,9 +28,9 @@ use Rattle.fx_table.proofs.Rests.{same_front, parts_is, no_rest}
 use Rattle.fx_folder.proofs.Fronts.{begins, adds, from_old, has_it}
 use Rattle.fx_folder.proofs.Texts.{parts_below, fit_below}
 use Rattle.fx_folder.proofs.Writes.{told_then}
-use Rattle.fx_large.specs.Case.{Case, script_name, case_entry, IsWritten, IsPartOfCase, IsPartlyWritten}
+use Rattle.fx_large.specs.Case.{Case, script_name, case_entry, is_listed_before, IsWritten, IsPartOfCase, IsPartlyWritten}
 use Rattle.fx_large.specs.Wrote.{Mapped, text_nodes, scripts_to, IsBegun, WroteTexts}
-use Rattle.fx_large.proofs.CaseEntries.{inner, no_text, text_stands, case_written, case_part}
+use Rattle.fx_large.proofs.CaseEntries.{inner, no_text, places, IsTextAmong, text_stands, text_before, first_before, texts_ordered, case_written, case_part}
 use Rattle.fx_large.proofs.Naming.{spec_named, inner_named, script_named, script_fresh, one_more, all_taken, texts_split}
 
 -- told trees
@@ -163,6 +163,7 @@ module _ (c : Case) (t u v : Tree) (at : Parts) where
   done_part done left split has = record {
     outside = has.outside;
     inside = λ path e is. (e, in_list done left path e split (sym (has.inside path) ∙ is), inl refl);
+    ordered = texts_ordered c t u at done left split has;
   }
 
   pub begun_part : (done rest : List Mapped) (path : Parts) (node : Node) → text_nodes c ≡ done ++ (path, node) ∷ rest → find path_cmp path done ≡ None → HasEntries t u at done → (e whole : Entry) → host_entry (Some node) ≡ Some whole → (e ≡ whole) ⊎ IsFrontOf e whole → v ≡ insert u (at ++ path) e → IsPartOfCase t v at c path
@@ -172,18 +173,42 @@ module _ (c : Case) (t u v : Tree) (at : Parts) where
       | inl same ↦ at_path p d same here
       | inr apart ↦ (d, in_list done ((path, node) ∷ rest) p d split (sym (has.inside p) ∙ sym (other (at ++ p) apart) ∙ here), inl refl)
     ];
+    ordered = λ p b d w here order before. elim (cases_Bool (eq_by_cmp parts_cmp (at ++ p) (at ++ path))) [
+      | inl same ↦
+          let at_it : p ≡ path = parts_is p path (sym (ap is_eq (same_front at p path)) ∙ same) in
+          let last : is_listed_before (places ((path, node) ∷ rest)) b p ≡ false = ap (is_listed_before (places ((path, node) ∷ rest)) b) at_it ∙ none_listed b in
+          earlier b w (text_before c done ((path, node) ∷ rest) b p w node split (ap (λ q. find path_cmp q (text_nodes c)) at_it ∙ the_text) (inr last) order before)
+      | inr apart ↦ earlier b w (first_before c t u at done ((path, node) ∷ rest) split has p b d w (sym (other (at ++ p) apart) ∙ here) order before)
+    ];
   }
     where
       other : (q : Parts) → eq_by_cmp parts_cmp q (at ++ path) ≡ false → get v q ≡ get u q
       other q apart = ap (λ x. get x q) added ∙ get-insert parts_total u (at ++ path) e q ∙ ap (λ b. cond b (Some e) (get u q)) apart
 
+      the_text : find path_cmp path (text_nodes c) ≡ Some node
+      the_text =
+          ap (find path_cmp path) split ∙ find_append path done ((path, node) ∷ rest) ∙ ap (λ o. option_or o (find path_cmp path ((path, node) ∷ rest))) fresh
+          ∙ ap (λ b. cond b (Some node) (find path_cmp path rest)) (ap is_eq (tied_itself parts_total path))
+
       stands : case_entry c path ≡ Some whole
-      stands =
-          text_stands c path whole
-          (ap (λ es. host_entry (find path_cmp path es)) split ∙ ap host_entry (find_append path done ((path, node) ∷ rest) ∙ ap (λ o. option_or o (find path_cmp path ((path, node) ∷ rest))) fresh ∙ head) ∙ is)
-        where
-          head : find path_cmp path ((path, node) ∷ rest) ≡ Some node
-          head = ap (λ b. cond b (Some node) (find path_cmp path rest)) (ap is_eq (tied_itself parts_total path))
+      stands = text_stands c path whole (ap host_entry the_text ∙ is)
+
+      -- nothing is listed before the next text among those that are left
+      none_listed : (b : Parts) → is_listed_before (places ((path, node) ∷ rest)) b path ≡ false
+      none_listed b =
+          ap (λ t. cond t false (eq_by_cmp parts_cmp b path || is_listed_before (places rest) b path)) (ap is_eq (tied_itself parts_total path))
+
+      beside : (b : Parts) (y : Node) → find path_cmp b done ≡ Some y → eq_by_cmp parts_cmp (at ++ b) (at ++ path) ≡ false
+      beside b y found = elim (cases_Bool (eq_by_cmp parts_cmp (at ++ b) (at ++ path))) [
+        | inl same ↦
+            let none : find path_cmp b done ≡ None = ap (λ q. find path_cmp q done) (parts_is b path (sym (ap is_eq (same_front at b path)) ∙ same)) ∙ fresh in
+            let both : None ≡ Some y = sym none ∙ found in
+            cc
+        | inr apart ↦ apart
+      ]
+
+      earlier : (b : Parts) (w : Entry) → IsTextAmong c done b w → get v (at ++ b) ≡ Some w
+      earlier b w y = other (at ++ b) (beside b y.0 y.1) ∙ has.inside b ∙ ap host_entry y.1 ∙ y.3
 
       at_path : (p : Parts) (d : Entry) → eq_by_cmp parts_cmp (at ++ p) (at ++ path) ≡ true → get v (at ++ p) ≡ Some d → (w : Entry) × (case_entry c p ≡ Some w) × ((d ≡ w) ⊎ ((p ≡ path) × IsFrontOf d w))
       at_path p d same here = (whole, ap (case_entry c) at_it ∙ stands, which front)

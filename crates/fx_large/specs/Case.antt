@@ -1,13 +1,14 @@
 -- A case as a folder: which entries stand for it in a host's tree once it is written, and which after a refusal.
-use Rattle.std.specs.Prelude.{◌≡◌, ◌⊎◌, ℕ, ◌+◌, cond, bytes_eq, List, [], ◌∷◌, ◌++◌, codes, Option, Some, None, option_map}
+use Rattle.std.specs.Prelude.{◌≡◌, ◌⊎◌, ℕ, ◌+◌, Bool, false, cond, ◌||◌, bytes_eq, List, [], ◌∷◌, ◌++◌, map, codes, IsTrue, Option, Some, None, option_map}
 use Rattle.std.specs.FinMap.{get, find}
+use Rattle.std.specs.Ordering.{eq_by_cmp}
 use Rattle.std.specs.Fmt.{decimal}
 use Rattle.fx_store.specs.Whole.{Nodes}
 use Rattle.fx_outside.specs.Listing.{name_cmp}
-use Rattle.fx_outside.specs.Path.{Parts}
+use Rattle.fx_outside.specs.Path.{Parts, parts_cmp}
 use Rattle.fx_outside.specs.Tree.{Tree, Entry, file, folder}
 use Rattle.fx_folder.specs.Deep.{folder_entry}
-use Rattle.fx_folder.specs.Folder.{IsFrontOf}
+use Rattle.fx_folder.specs.Folder.{IsFrontOf, is_written_before}
 use Rattle.fx_table.specs.Places.{rest_of}
 use Rattle.fx_gen.specs.Notes.{nodes}
 use Rattle.fx_gen.specs.Scripts.{description, scripts}
@@ -60,12 +61,36 @@ case_entry_or outside c (Some path) = case_entry c path
 abbrev pub IsWritten : Tree → Tree → Parts → Case → Type 0
 IsWritten tree tree' at c = (q : Parts) → get tree' q ≡ case_entry_or (get tree q) c (rest_of at q)
 
+-- the folder itself and the texts, as they are listed
+abbrev pub text_places : Case → List Parts
+text_places c = [] ∷ map (λ (named : Named). named.0 ∷ []) (texts c)
+
+-- one place is listed, and the other later or not at all
+abbrev pub is_listed_before : List Parts → Parts → Parts → Bool
+is_listed_before [] before path = false
+is_listed_before (place ∷ places) before path =
+    cond (eq_by_cmp parts_cmp path place) false (eq_by_cmp parts_cmp before place || is_listed_before places before path)
+
+-- both places are in the folder of the filestore, where one is written before the other
+abbrev pub is_node_before : Option Parts → Option Parts → Bool
+is_node_before None path = false
+is_node_before (Some before) None = false
+is_node_before (Some before) (Some path) = is_written_before before path
+
+-- the order in which a case is written: the folder itself, the description, the scripts by their numbers, and last the
+-- folder of the filestore in its own order
+abbrev pub is_before_in_case : Case → Parts → Parts → Bool
+is_before_in_case c before path =
+    is_listed_before (text_places c) before path || is_node_before (rest_of (codes "in" ∷ []) before) (rest_of (codes "in" ∷ []) path)
+
 -- the new tree has a part of that folder at these parts, and is the old one elsewhere; the file last begun may hold a prefix
--- of its bytes
+-- of its bytes, and what comes in that order before an entry that is there is there whole
 pub record IsPartOfCase (tree tree' : Tree) (at : Parts) (c : Case) (last : Parts) : Type 0 where
   pub outside : (q : Parts) → rest_of at q ≡ None → get tree' q ≡ get tree q
   pub inside : (path : Parts) (e : Entry) → get tree' (at ++ path) ≡ Some e
       → (whole : Entry) × (case_entry c path ≡ Some whole) × ((e ≡ whole) ⊎ ((path ≡ last) × IsFrontOf e whole))
+  pub ordered : (path before : Parts) (e whole : Entry) → get tree' (at ++ path) ≡ Some e → IsTrue (is_before_in_case c before path) → case_entry c before ≡ Some whole
+      → get tree' (at ++ before) ≡ Some whole
 
 abbrev pub IsPartlyWritten : Tree → Tree → Parts → Case → Type 0
 IsPartlyWritten tree tree' at c = (tree' ≡ tree) ⊎ ((last : Parts) × IsPartOfCase tree tree' at c last)

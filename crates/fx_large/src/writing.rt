@@ -21,7 +21,8 @@ use std::alloc::Global;
 const MOST_SCRIPTS: u64 = 10;
 
 /// Writes a case as a folder: the folder itself, unless an empty one is there, then the texts, and last the folder of the
-/// filestore. A refusal may leave a part of it, in which the file last begun may hold a prefix of its bytes.
+/// filestore. A refusal may leave a part of it: what comes in this order before an entry that is there is there whole, and
+/// only the file last begun may hold a prefix of its bytes.
 pub(crate) fn write_case<H: Host>(
     alloc: Global,
     host: &mut H,

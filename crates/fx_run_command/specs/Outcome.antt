@@ -11,16 +11,18 @@ use Rattle.fx_machine.specs.Tried.{retries_of, retry_tree}
 use Rattle.fx_machine.specs.Turns.{FollowsSchedule}
 use Rattle.fx_report.specs.Entries.{report}
 use Rattle.fx_report.specs.Events.{lines}
+use Rattle.fx_sched.specs.Named.{NameConflicts}
 use Rattle.fx_watched.specs.Outcome.{IsWatchedAs}
 use Rattle.fx_words.specs.Job.{RunJob, Mode, Plain, Scheduled, Watched}
 use Rattle.fx_inputs.specs.Inputs.{HasBase}
 
--- the events lead from the empty order to this one by the schedule's turns, the retries are their conflicts by shell, and
--- the events are printed before the report
+-- the events lead from the empty order to this one by the schedule's turns, each conflict names the least path that was changed
+-- and the last entry that changed it, the retries are the conflicts by shell, and the events are printed before the report
 pub record IsTracedAs (base : BaseTree) (schedule : List ℕ) (order : List Turn) (retries : List Retry) (output : List ℕ) : Type 0 where
   pub events : List Event
   pub run : Run base (resting base []) events (resting base order)
   pub turns : FollowsSchedule base schedule events
+  pub named : NameConflicts base (resting base []) events
   pub conflicts : retries ≡ retries_of base events
   pub printed : output ≡ lines events ++ report base order retries
 

@@ -14,6 +14,7 @@ use Rattle.fx_machine.specs.Turns.{TakesTurns}
 use Rattle.fx_machine.proofs.Complete.{complete_runs}
 use Rattle.fx_progress.proofs.Resting.{at_rest, completed}
 use Rattle.fx_sched.specs.declared.schedule.Traced.{Traced}
+use Rattle.fx_sched.specs.Named.{NameConflicts}
 use Rattle.fx_sched.specs.Recorded.{Play, joined, HadTurns, HadRounds}
 use Rattle.fx_sched.specs.Traced.{IsTraced}
 
@@ -65,6 +66,7 @@ traced base schedule a b c t on none had rounds board order events retries =
       run = whole;
       complete = complete;
       turns = subst (TakesTurns base [] schedule) (sym all) turns;
+      named = subst (NameConflicts base (resting base [])) (sym events) (subst (λ b. NameConflicts b (resting b []) c.events) base_is rounds.recording.named);
       conflicts = conflicts;
       tried = subst (λ rs. RetriesOk base t.board.order (map retry_tree rs)) (sym conflicts) (complete_runs base t.events t.board.order whole complete);
     }

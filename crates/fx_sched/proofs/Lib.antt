@@ -1,5 +1,7 @@
 pub mod Looks
 pub mod Shells
+pub mod Runs
+pub mod Named
 pub mod Worlds
 pub mod Rooms
 pub mod Counts

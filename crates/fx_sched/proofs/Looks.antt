@@ -26,9 +26,11 @@ use Rattle.fx_machine.specs.Explained.{IsExplained, RunsAs}
 use Rattle.fx_machine.specs.Machine.{position_at, first_unseen, AgreesAt, HasSeenAll, ComesNext, IsStaleAt, IsFresh}
 use Rattle.fx_machine.specs.Passes.{AreTrueReads}
 use Rattle.fx_run.specs.Running.{IsNeeded}
-use Rattle.fx_board.specs.Board.{IsFreshReads, IsStaleRead}
+use Rattle.fx_board.specs.Board.{IsFreshReads, IsStaleRead, IsNamed}
+use Rattle.fx_board.specs.Log.{Log}
 use Rattle.fx_sched.specs.Shells.{looks_in}
 use Rattle.fx_sched.specs.Moves.{AllRead}
+use Rattle.fx_sched.specs.Named.{IsNamedAt}
 
 abbrev Path : Type 0
 Path = List (List ℕ)
@@ -98,14 +100,25 @@ all_read base a explained t planned nodes whole agree =
 pub stale_at : (base : BaseTree) (o : List Turn) (reads : ReadList) (entry : ℕ) (path : Path) → IsStaleRead base o reads entry path → IsStaleAt base o (looks_in reads) entry path
 stale_at base o reads entry path s = (s.1, position-read reads path ∙ ap (option_map (λ (r : Read). r.1)) s.2, s.3, s.4, s.5)
 
-pub fresh_at : (base : BaseTree) (o : List Turn) (reads : ReadList) → IsFreshReads base o reads → IsFresh base o (looks_in reads)
-fresh_at base o reads fresh entry path s = by (read_at reads path) refl (sym (position-read reads path) ∙ s.1)
+stale_read : (base : BaseTree) (o : List Turn) (reads : ReadList) (entry : ℕ) (path : Path) → IsStaleAt base o (looks_in reads) entry path → IsStaleRead base o reads entry path
+stale_read base o reads entry path s = by (read_at reads path) refl (sym (position-read reads path) ∙ s.1)
   where
-    by : (r : Option Read) → read_at reads path ≡ r → option_map (λ (r : Read). r.1) (read_at reads path) ≡ Some s.0 → ⊥
-    by None is e = none-some s.0 (sym (ap (option_map (λ (r : Read). r.1)) is) ∙ e)
+    by : (r : Option Read) → read_at reads path ≡ r → option_map (λ (r : Read). r.1) (read_at reads path) ≡ Some s.0 → IsStaleRead base o reads entry path
+    by None is e = absurd (none-some s.0 (sym (ap (option_map (λ (r : Read). r.1)) is) ∙ e))
     by (Some r) is e =
         let position : r.1 ≡ s.0 = same_Some r.1 s.0 (sym (ap (option_map (λ (r : Read). r.1)) is) ∙ e) in
-        fresh entry path (r.0, s.0, is ∙ ap (λ i. Some (r.0, i)) position, s.2, s.3, s.4)
+        (r.0, s.0, is ∙ ap (λ i. Some (r.0, i)) position, s.2, s.3, s.4)
+
+pub fresh_at : (base : BaseTree) (o : List Turn) (reads : ReadList) → IsFreshReads base o reads → IsFresh base o (looks_in reads)
+fresh_at base o reads fresh entry path s = fresh entry path (stale_read base o reads entry path s)
+
+-- what is named of the reads is named of the looks
+pub named_at : (log : Log) (reads : ReadList) (entry : ℕ) (path : Path) → IsNamed log reads entry path → IsNamedAt log.base log.order (looks_in reads) entry path
+named_at log reads entry path named = record {
+  stale = stale_at log.base log.order reads entry path named.stale;
+  last = named.last.last;
+  least = λ e p s. named.least e p (stale_read log.base log.order reads e p s);
+}
 
 -- ---- reads that grow, and reads of an order that grows
 

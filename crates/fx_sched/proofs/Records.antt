@@ -20,11 +20,13 @@ use Rattle.fx_progress.proofs.Turning.{settled_by, next_counts, some_within, mor
 use Rattle.fx_progress.proofs.Resting.{first_contains, true_false}
 use Rattle.fx_sched.specs.declared.shell.Shell.{Shell}
 use Rattle.fx_sched.specs.Left.{SomeLeft}
+use Rattle.fx_sched.specs.Named.{NameConflicts}
 use Rattle.fx_sched.specs.Recorded.{Play, IsRecording, RunsBy, HadTurns, HadRounds}
 use Rattle.fx_sched.specs.Running.{Running}
 use Rattle.fx_sched.specs.Taking.{a_start}
 use Rattle.fx_sched.specs.World.{running_of, noted, IsWorld, Leads}
 use Rattle.fx_sched.proofs.Counts.{noted_conflicts}
+use Rattle.fx_sched.proofs.Named.{names_none, names_more}
 use Rattle.fx_sched.proofs.Worlds.{run_more, shell_at}
 
 -- ---- what a world answers
@@ -60,7 +62,7 @@ none_at (suc n) (suc k) = none_at n k
 -- ---- the beginning
 
 pub begun : (base : BaseTree) → IsRecording (a_start base)
-begun base = record { run = refl; count = length-replicate (length base.plan) []; conflicts = λ k within. none_at (length base.plan) k }
+begun base = record { run = refl; named = names_none base (resting base []); count = length-replicate (length base.plan) []; conflicts = λ k within. none_at (length base.plan) k }
 
 -- ---- turns
 
@@ -74,12 +76,14 @@ stepped old new shell e is leads events =
     let lists : new.world.retries ≡ noted txn old.world.retries e = leads.retries in
     let next : txn ≡ next_number new.world.machine.order (shell_of e) = ap (next_number new.world.machine.order) (sym leads.whose) in
     let run : Run old.world.base (resting old.world.base []) (old.events ++ e ∷ []) new.world.machine = run_more old.world.base (resting old.world.base []) old.events old.world.machine e new.world.machine is.run leads.step in
+    let named : NameConflicts old.world.base (resting old.world.base []) (old.events ++ e ∷ []) = names_more old.world.base (resting old.world.base []) old.events old.world.machine e is.run is.named leads.named in
     let count : length new.world.retries ≡ length old.world.retries = ap length lists ∙ noted_length txn old.world.retries e in
     let settled : txn ≡ settled_by (shell_of e) (old.events ++ e ∷ []) =
     (let h = next_counts old.world.base (resting old.world.base []) (old.events ++ e ∷ []) new.world.machine (shell_of e) run in omega (arith, h, next)) in
     record {
       recording = record {
         run = subst (λ b. Run b (resting b []) new.events new.world.machine) (sym leads.base) (subst (λ es. Run old.world.base (resting old.world.base []) es new.world.machine) (sym events) run);
+        named = subst (λ b. NameConflicts b (resting b []) new.events) (sym leads.base) (subst (NameConflicts old.world.base (resting old.world.base [])) (sym events) named);
         count = count ∙ is.count ∙ ap (λ (b : BaseTree). length b.plan) (sym leads.base);
         conflicts = λ k within.
             let inside : k < length old.world.base.plan = subst (λ (b : BaseTree). k < length b.plan) leads.base within in

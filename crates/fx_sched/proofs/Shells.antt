@@ -28,7 +28,7 @@ use Rattle.fx_machine.specs.Machine.{next_number}
 use Rattle.fx_machine.specs.Passes.{AreTrueReads}
 use Rattle.fx_run.specs.Running.{ReadsFit, IsNeeded, IsNext, Foretells}
 use Rattle.fx_run.proofs.Foretelling.{known_as}
-use Rattle.fx_board.specs.Board.{last_state, state_at, settled, NeverChanged, IsLastChange, IsFreshReads, IsStaleRead}
+use Rattle.fx_board.specs.Board.{last_state, state_at, settled, NeverChanged, IsLastChange, IsFreshReads, IsNamed}
 use Rattle.fx_board.specs.Log.{Log}
 use Rattle.fx_board.proofs.Settling.{stands_now}
 use Rattle.fx_sched.specs.declared.shell.Plan.{Plan}
@@ -381,10 +381,10 @@ module _ (log new : Log) (number : ℕ) (s t : Shell) (is : IsShell log number s
     retries = retries;
   }
 
-  pub has_restarted : (entry : ℕ) (path : Path) → IsStaleRead log.base log.order reads entry path → new ≡ log → t.next ≡ s.next → looked_in t ≡ [] → t.retries ≡ s.retries ++ retry_of number s.next entry path ∷ [] → HasRestarted log new number s entry path t
-  has_restarted entry path stale same txn none retries = record {
+  pub has_restarted : (entry : ℕ) (path : Path) → IsNamed log reads entry path → new ≡ log → t.next ≡ s.next → looked_in t ≡ [] → t.retries ≡ s.retries ++ retry_of number s.next entry path ∷ [] → HasRestarted log new number s entry path t
+  has_restarted entry path named same txn none retries = record {
     ready = ready_all;
-    stale = subst (λ rs. IsStaleRead log.base log.order rs entry path) whole stale;
+    named = subst (λ rs. IsNamed log rs entry path) whole named;
     log = same;
     txn = txn;
     none = none;
@@ -422,7 +422,7 @@ moved_from old new number s mid (event.Conflict k entry path) t same m = (
   m.0,
   record {
     ready = subst (λ n. AllRead old.base (number, n) (looked_in s)) same.next (subst (AllRead old.base (number, mid.next)) same.looked m.1.ready);
-    stale = subst (λ rs. IsStaleRead old.base old.order rs entry path) same.looked m.1.stale;
+    named = subst (λ rs. IsNamed old rs entry path) same.looked m.1.named;
     log = m.1.log;
     txn = m.1.txn ∙ same.next;
     none = m.1.none;

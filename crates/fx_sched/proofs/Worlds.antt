@@ -22,10 +22,11 @@ use Rattle.fx_sched.specs.declared.shell.Shell.{Shell}
 use Rattle.fx_sched.specs.Shells.{looks_in, looked_in, IsShell, HasLooksOf}
 use Rattle.fx_sched.specs.World.{machine_of, running_of, noted, IsWorld, new_shell, began, Leads}
 use Rattle.fx_sched.specs.Moves.{Moved, retry_of}
+use Rattle.fx_sched.specs.Named.{IsNamedAt, NamesConflict}
 use Rattle.fx_sched.specs.Running.{Running}
 use Rattle.fx_machine.specs.Measure.{measure, IsLower}
 use Rattle.fx_machine.proofs.Lowering.{events_lower}
-use Rattle.fx_sched.proofs.Looks.{unlooked, has_seen_all, comes_next, stale_at, fresh_at, true_longer}
+use Rattle.fx_sched.proofs.Looks.{unlooked, has_seen_all, comes_next, stale_at, fresh_at, named_at, true_longer}
 use Rattle.fx_sched.proofs.Shells.{fresh_shell, longer_plan}
 
 abbrev Path : Type 0
@@ -139,10 +140,19 @@ steps old new shells number s txn (event.Conflict k entry path) t w at planned m
       txn = txn;
       next = planned_next old number s txn is planned;
       ready = subst (λ ls. HasSeenAll old.base old.order ls txn) (sym looked) (has_seen_all old.base old.order (number, s.next) (looked_in s) txn is.true_reads h.ready planned);
-      stale = subst (λ ls. IsStaleAt old.base old.order ls entry path) (sym looked) (stale_at old.base old.order (looked_in s) entry path h.stale);
+      stale = subst (λ ls. IsStaleAt old.base old.order ls entry path) (sym looked) (stale_at old.base old.order (looked_in s) entry path h.named.stale);
       after = ap (λ (l : Log). machine_of l.order (set shells number t)) h.log ∙ set_machine old.order shells number t [] (ap looks_in h.none);
     } in
     subst (λ k. Restarts old.base (machine_of old.order shells) k entry path (machine_of new.order (set shells number t))) (sym m.0) made
+
+-- what it names
+names : (old new : Log) (shells : List Shell) (number : ℕ) (s : Shell) (e : Event) (t : Shell) → slice_get shells number ≡ Some s → Moved old new number s e t → NamesConflict old.base (machine_of old.order shells) e
+names old new shells number s (event.Look k path position) t at m = tt
+names old new shells number s (event.Settled k entry) t at m = tt
+names old new shells number s (event.Conflict k entry path) t at m =
+    let looked : looks_of (machine_of old.order shells) number ≡ looks_in (looked_in s) = looks_at old.order shells number s at in
+    subst (λ k. IsNamedAt old.base old.order (looks_of (machine_of old.order shells) k) entry path) (sym m.0)
+    (subst (λ ls. IsNamedAt old.base old.order ls entry path) (sym looked) (named_at old (looked_in s) entry path m.1.named))
 
 whose : (old new : Log) (number : ℕ) (s : Shell) (e : Event) (t : Shell) → Moved old new number s e t → shell_of e ≡ number
 whose old new number s (event.Look k path position) t m = m.0
@@ -187,6 +197,7 @@ leads old new shells number s e t w at left is m =
       base = (kept old new shells number s e t w is m).base;
       retries = retries_on old new shells number s e t (w.each number s at) at m;
       step = steps old new shells number s txn.0 e t w at txn.1 m;
+      named = names old new shells number s e t at m;
     }
 
 pub moved_world : (old new : Log) (shells : List Shell) (number : ℕ) (s : Shell) (e : Event) (t : Shell) → IsWorld old shells → slice_get shells number ≡ Some s → IsSome (txn_of old.base.plan (number, s.next)) → IsShell new number t → Moved old new number s e t → IsWorld new (set shells number t)

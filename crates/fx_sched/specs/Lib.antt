@@ -1,6 +1,7 @@
 pub mod Running
 pub mod Present
 pub mod Shells
+pub mod Named
 pub mod World
 pub mod Traced
 pub mod Moves

@@ -14,7 +14,7 @@ use Rattle.fx_machine.specs.declared.retry.Retry.{Retry}
 use Rattle.fx_machine.specs.declared.event.Event.{Event}
 use Rattle.fx_machine.specs.declared.event.Event.TheVariants as event
 use Rattle.fx_run.specs.Running.{IsNext}
-use Rattle.fx_board.specs.Board.{last_state, settled, IsFreshReads, IsStaleRead}
+use Rattle.fx_board.specs.Board.{last_state, settled, IsFreshReads, IsNamed}
 use Rattle.fx_board.specs.Log.{Log}
 use Rattle.fx_sched.specs.declared.shell.Shell.{Shell}
 use Rattle.fx_sched.specs.Shells.{looked_in}
@@ -47,10 +47,10 @@ pub record HasSettled (old new : Log) (number : ℕ) (s : Shell) (entry : ℕ) (
 abbrev pub retry_of : ℕ → ℕ → ℕ → List (List ℕ) → Retry
 retry_of shell txn entry path = record { shell = shell; txn = txn; entry = entry; path = path }
 
--- an entry stood in the way of the shell's transaction, which starts again
+-- an entry stood in the way of the shell's transaction, which starts again: the last one at the least path that was changed
 pub record HasRestarted (old new : Log) (number : ℕ) (s : Shell) (entry : ℕ) (path : List (List ℕ)) (t : Shell) : Type 0 where
   pub ready : AllRead old.base (number, s.next) (looked_in s)
-  pub stale : IsStaleRead old.base old.order (looked_in s) entry path
+  pub named : IsNamed old (looked_in s) entry path
   pub log : new ≡ old
   pub txn : t.next ≡ s.next
   pub none : looked_in t ≡ []

@@ -7,6 +7,7 @@ use Rattle.fx_machine.specs.Machine.{Run, resting}
 use Rattle.fx_machine.specs.Measure.{has_left}
 use Rattle.fx_machine.specs.Tried.{conflicts_of}
 use Rattle.fx_machine.specs.Turns.{TakesTurns, BeginsTurns}
+use Rattle.fx_sched.specs.Named.{NameConflicts}
 use Rattle.fx_sched.specs.Running.{Running}
 
 -- a run up to some moment: the events that have come, and what they have led to
@@ -14,9 +15,11 @@ pub record Play : Type 0 where
   pub events : List Event
   pub world : Running
 
--- the events are a run of the machine from the start, and the retries are its conflicts
+-- the events are a run of the machine from the start, and the retries are its conflicts, each of which names the least path that
+-- was changed and the last entry that changed it
 pub record IsRecording (r : Play) : Type 0 where
   pub run : Run r.world.base (resting r.world.base []) r.events r.world.machine
+  pub named : NameConflicts r.world.base (resting r.world.base []) r.events
   pub count : length r.world.retries ≡ length r.world.base.plan
   pub conflicts : (k : ℕ) → k < length r.world.base.plan → slice_index_or (r.world.retries) k [] ≡ conflicts_of k 0 r.events
 

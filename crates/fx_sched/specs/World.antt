@@ -9,6 +9,7 @@ use Rattle.fx_machine.specs.Laws.{IsReached}
 use Rattle.fx_machine.specs.Machine.{Machine, Step, resting, next_number, next_txn, shell_of}
 use Rattle.fx_board.specs.Log.{Log}
 use Rattle.fx_sched.specs.declared.shell.Shell.{Shell}
+use Rattle.fx_sched.specs.Named.{NamesConflict}
 use Rattle.fx_sched.specs.Recorded.{joined}
 use Rattle.fx_sched.specs.Running.{Running}
 use Rattle.fx_sched.specs.Shells.{looks_in, looked_in, IsShell}
@@ -54,13 +55,15 @@ noted txn lists (event.Conflict k entry path) =
     let retry : Retry = record { shell = k; txn = txn; entry = entry; path = path } in
     slice_set lists k (slice_index_or lists k [] ++ retry ∷ [])
 
--- a shell with no transaction left does nothing; else its event leads from the state before to the state after
+-- a shell with no transaction left does nothing; else its event leads from the state before to the state after, and names, if it
+-- is a conflict, the least path that was changed and the last entry that changed it
 pub record Leads (old : Running) (shell : ℕ) (new : Running) (e : Event) : Type 0 where
   pub left : IsSome (next_txn old.base old.machine.order shell)
   pub whose : shell_of e ≡ shell
   pub base : new.base ≡ old.base
   pub retries : new.retries ≡ noted (next_number new.machine.order shell) old.retries e
   pub step : Step old.base old.machine e new.machine
+  pub named : NamesConflict old.base old.machine e
 
 -- what a step of a shell answers, and what it leaves
 abbrev pub Stepped : Running → ℕ → Running → Option Event → Type 0

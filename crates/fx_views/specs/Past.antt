@@ -27,6 +27,10 @@ pub record VouchesAt (start now : LogView) (position : ℕ) (reads : ReadList) :
   pub seen : HasSeenMore start now
   pub stand : AreAt now position reads
 
+-- what was vouched for from any start still is
+abbrev pub VouchesAtOn : LogView → LogView → ℕ → ℕ → ReadList → ReadList → Type 0
+VouchesAtOn old new position later reads more = (start : LogView) → VouchesAt start old position reads → VouchesAt start new later more
+
 -- so it is at the start
 pub begins_to_vouch : (v : LogView) (position : ℕ) (reads : ReadList) → AreAt v position reads → VouchesAt v v position reads
 begins_to_vouch v position reads stand = record {

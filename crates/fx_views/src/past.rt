@@ -21,8 +21,8 @@ pub type SnapPass = Seat<Versioned>;
 /// A reader of what stood after so many entries of a shared log, with a pass of its own: it looks once at each path that it
 /// has not read, and never answers `Needs`. Before each look it passes the gate.
 ///
-/// It vouches that its reads are of what stood then, that the position is the one from the start, and that the pass is the
-/// one from the start, with all that it had seen there and as many entries of its own.
+/// It vouches that its reads are of what stood then, that the position and the transaction are those from the start, and
+/// that the pass is the one from the start, with all that it had seen there and as many entries of its own.
 #[derive(Drop)]
 pub struct Past<'a, R: Wait, G: Gate> {
     rt: &'a R,
@@ -56,6 +56,7 @@ impl<'a, R: Wait, G: Gate> Past<'a, R, G> {
         requires within { position ≤ length (view pass).seen }
         ensures snaps { result.snaps.now ≡ snaps.now }
         ensures pass { result.pass ≡ pass }
+        ensures txn { result.txn ≡ txn }
         ensures position { result.position ≡ position }
         ensures reads { result.reads ≡ [] }
     {
@@ -87,6 +88,7 @@ impl<'a, R: Wait, G: Gate> Past<'a, R, G> {
     /// What stood at a path, once the gate is passed. It is not read yet.
     fn look(&mut self, alloc: Global, path: &Path) -> Result<Option<Node>, NoMemory>
         ensures snaps { self.new.snaps.now ≡ self.old.snaps.now }
+        ensures txn { self.new.txn ≡ self.old.txn }
         ensures position { self.new.position ≡ self.old.position }
         ensures more { HasSeenMore (view self.old.pass) (view self.new.pass) }
         ensures reads { self.new.reads ≡ self.old.reads }
@@ -117,15 +119,32 @@ fn note(
 }
 
 impl<R: Wait, G: Gate> Reader for Past<'_, R, G> {
+    ghost use Rattle.std.specs.Prelude.{IfErr};
+    ghost use Rattle.fx_view.specs.Reads.{IsRead};
+    ghost use Rattle.fx_view.specs.Answers.{IsReadOf, NeedsIt};
+    ghost use Rattle.fx_views.specs.Past.{VouchesAtOn};
+
     ghost meaning = { record {
       reads = λ p. p.reads;
       complete = λ _. true;
       vouches = λ start now reads. (now.snaps.now ≡ start.snaps.now)
           × (now.position ≡ start.position)
+          × (now.txn ≡ start.txn)
           × VouchesAt (view start.pass) (view now.pass) now.position reads;
     } };
 
-    fn read(&mut self, alloc: Global, path: &Path) -> Result<Option<Node>, Stop> {
+    /// Of a path that was read before it only repeats what was read: no turn is taken, and nothing changes.
+    fn read(&mut self, alloc: Global, path: &Path) -> Result<Option<Node>, Stop>
+        ensures read { IfOk result (IsReadOf self.old.reads self.new.reads path.now) }
+        ensures stop { OnErr result (self.new.reads ≡ self.old.reads) }
+        ensures needs { IfErr result (NeedsIt true self.old.reads path.now) }
+        ensures snaps { self.new.snaps.now ≡ self.old.snaps.now }
+        ensures position { self.new.position ≡ self.old.position }
+        ensures txn { self.new.txn ≡ self.old.txn }
+        ensures vouched { VouchesAtOn (view self.old.pass) (view self.new.pass)
+            self.old.position self.new.position self.old.reads self.new.reads }
+        ensures again { IsRead self.old.reads path.now → self.new ≡ self.old }
+    {
         if let Some((node, _)) = self.reads.get(path) {
             return Ok(node.clone()?);
         }
@@ -145,6 +164,7 @@ impl<R: Wait, G: Gate> Reader for Past<'_, R, G> {
     }
 
     ghost begins = { λ reader. (
+      refl,
       refl,
       refl,
       begins_to_vouch (view reader.pass) reader.position reader.reads reader.true_reads,

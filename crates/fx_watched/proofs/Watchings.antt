@@ -19,13 +19,13 @@ use Rattle.fx_report.specs.Events.{event_line}
 use Rattle.fx_sched.specs.Running.{Running}
 use Rattle.fx_sched.specs.Traced.{IsTraced}
 use Rattle.fx_sched.specs.World.{began, Leads}
+use Rattle.fx_sched.proofs.Runs.{run_same}
 use Rattle.fx_sched.proofs.Worlds.{run_more}
 use Rattle.fx_watch.specs.Validity.{has_value, DiffersAt}
 use Rattle.fx_watch.specs.WatchView.{WatchView, AnswersFor}
 use Rattle.fx_watched.specs.Lines.{valid_line, loaded_line, state_line, watched_line, watched_lines}
 use Rattle.fx_watched.specs.Outcome.{IsWatched}
 use Rattle.fx_watched.specs.Watching.{settled_entry, IsAtEntry, HasWatched}
-use Rattle.fx_watched.proofs.Runs.{run_same}
 
 -- ---- the start
 
@@ -162,6 +162,7 @@ watched base schedule watch output events world board retries w traced whole who
         events = events;
         run = traced.run;
         turns = traced.turns;
+        named = traced.named;
         conflicts = traced.conflicts;
         printed = whole_is ∙ ap (λ out. out ++ report board.base board.order retries) lines ∙ ap (λ b. watched_lines base board.order events ++ report b board.order retries) traced.begun;
       };

@@ -9,15 +9,17 @@ use Rattle.fx_machine.specs.Tried.{retries_of, retry_tree}
 use Rattle.fx_machine.specs.Turns.{FollowsSchedule}
 use Rattle.fx_board.specs.Log.{Log}
 use Rattle.fx_report.specs.Entries.{report}
+use Rattle.fx_sched.specs.Named.{NameConflicts}
 use Rattle.fx_watched.specs.Lines.{watched_lines}
 
--- the events lead from the empty order to this one by the schedule's turns, and the retries are their conflicts by shell. Before
--- the report the events are printed, and whether there is a value: first of the loaded filestore, and behind each settled event
--- of the state after its entry.
+-- the events lead from the empty order to this one by the schedule's turns, each conflict names the least path that was changed and
+-- the last entry that changed it, and the retries are the conflicts by shell. Before the report the events are printed, and whether
+-- there is a value: first of the loaded filestore, and behind each settled event of the state after its entry.
 pub record IsWatchedAs (base : BaseTree) (schedule : List ℕ) (order : List Turn) (retries : List Retry) (output : List ℕ) : Type 0 where
   pub events : List Event
   pub run : Run base (resting base []) events (resting base order)
   pub turns : FollowsSchedule base schedule events
+  pub named : NameConflicts base (resting base []) events
   pub conflicts : retries ≡ retries_of base events
   pub printed : output ≡ watched_lines base order events ++ report base order retries
 

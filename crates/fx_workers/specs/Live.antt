@@ -26,6 +26,10 @@ pub record Vouches (start now : LogView) (before reads : ReadList) : Type 0 wher
   pub stand : AreTrueOver now reads
   pub since : (path : List (List ℕ)) (node : Option Node) (position : ℕ) → read_at reads path ≡ Some (node, position) → read_at before path ≡ None → length start.seen ≤ position
 
+-- what was vouched for from any start still is
+abbrev pub VouchesOn : LogView → LogView → ReadList → ReadList → Type 0
+VouchesOn old new reads more = (start : LogView) (before : ReadList) → Vouches start old before reads → Vouches start new before more
+
 -- so it is at the start
 pub begins_to_vouch : (v : LogView) (reads : ReadList) → AreTrueOver v reads → Vouches v v reads reads
 begins_to_vouch v reads stand = record {

@@ -17,8 +17,9 @@ use std::sync::Wait;
 /// A reader over a shared log, through a desk that it owns: it looks once at each path that it has not read, and never
 /// answers `Needs`. What it has read is true for its pass.
 ///
-/// It vouches that its reads are true for its pass, that the pass is the one from the start, with all that it had seen
-/// there and as many entries of its own, and that what was read since was looked at after all that had been seen there.
+/// It vouches that its reads are true for its pass, that the pass and the transaction are those from the start, the pass
+/// with all that it had seen there and as many entries of its own, and that what was read since was looked at after all
+/// that had been seen there.
 #[derive(Drop)]
 pub struct DeskReader<D: Desk> {
     desk: D,
@@ -31,6 +32,7 @@ impl<D: Desk> DeskReader<D> {
     /// Nothing read yet, for a transaction of the pass's shell.
     pub fn over(alloc: Global, desk: D, txn: u32) -> DeskReader<D>
         ensures desk { result.desk ≡ desk }
+        ensures txn { result.txn ≡ txn }
         ensures reads { result.reads ≡ [] }
     {
         DeskReader {
@@ -52,6 +54,7 @@ impl<D: Desk> DeskReader<D> {
     /// What stands at a path, and the position of the look. It is not read yet.
     fn look(&mut self, alloc: Global, path: &Path) -> Result<(Option<Node>, u64), NoMemory>
         ensures table { D.table self.new.desk ≡ D.table self.old.desk }
+        ensures txn { self.new.txn ≡ self.old.txn }
         ensures more { HasSeenMore (D.view self.old.desk) (D.view self.new.desk) }
         ensures reads { self.new.reads ≡ self.old.reads }
         ensures look { IfOk result (IsLook (D.view self.new.desk) path.now) }
@@ -76,6 +79,7 @@ impl<'a, R: Wait, G: Gate> DeskReader<LogDesk<'a, R, G, Board>> {
         requires { IsReadyPass shared.now pass }
         ensures shared { result.desk.shares.now ≡ shared.now }
         ensures pass { result.desk.pass ≡ pass }
+        ensures txn { result.txn ≡ txn }
         ensures reads { result.reads ≡ [] }
     {
         DeskReader::over(alloc, LogDesk::new(rt, gate, shared, pass), txn)
@@ -108,14 +112,30 @@ fn note(
 }
 
 impl<D: Desk> Reader for DeskReader<D> {
+    ghost use Rattle.std.specs.Prelude.{IfErr};
+    ghost use Rattle.fx_view.specs.Reads.{IsRead};
+    ghost use Rattle.fx_view.specs.Answers.{IsReadOf, NeedsIt};
+    ghost use Rattle.fx_workers.specs.Live.{VouchesOn};
+
     ghost meaning = { record {
       reads = λ l. l.reads;
       complete = λ _. true;
       vouches = λ start now reads. (D.table now.desk ≡ D.table start.desk)
+          × (now.txn ≡ start.txn)
           × Vouches (D.view start.desk) (D.view now.desk) start.reads reads;
     } };
 
-    fn read(&mut self, alloc: Global, path: &Path) -> Result<Option<Node>, Stop> {
+    /// Of a path that was read before it only repeats what was read: no turn is taken, and nothing changes.
+    fn read(&mut self, alloc: Global, path: &Path) -> Result<Option<Node>, Stop>
+        ensures read { IfOk result (IsReadOf self.old.reads self.new.reads path.now) }
+        ensures stop { OnErr result (self.new.reads ≡ self.old.reads) }
+        ensures needs { IfErr result (NeedsIt true self.old.reads path.now) }
+        ensures table { D.table self.new.desk ≡ D.table self.old.desk }
+        ensures txn { self.new.txn ≡ self.old.txn }
+        ensures vouched { VouchesOn (D.view self.old.desk) (D.view self.new.desk)
+            self.old.reads self.new.reads }
+        ensures again { IsRead self.old.reads path.now → self.new ≡ self.old }
+    {
         if let Some((node, _)) = self.reads.get(path) {
             return Ok(node.clone()?);
         }
@@ -135,5 +155,5 @@ impl<D: Desk> Reader for DeskReader<D> {
     }
 
     ghost begins = { λ reader.
-        (refl, begins_to_vouch (D.view reader.desk) reader.reads reader.true_reads) };
+        (refl, refl, begins_to_vouch (D.view reader.desk) reader.reads reader.true_reads) };
 }

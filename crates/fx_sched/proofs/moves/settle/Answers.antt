@@ -21,7 +21,7 @@ pub returns-in-Ok-note-clause-ok : goal.returns-in-Ok-note-clause-ok
 returns-in-Ok-note-clause-ok c =
     let refused = rw c.in-Err-Conflict.field-0-is at c.in-Err-Conflict.ensures.refused in (
       refl,
-      has_restarted c.args.board.now c.settle.new.self c.args.number c.args.shell.now _ c.requires.shell c.requires.ready c.requires.all c.replace-2.result c.replace-2.ensures.value c.in-Err-Conflict.entry c.in-Err-Conflict.path refused.2.stale refused.1 refl refl c.in-Ok-note.ensures.ok,
+      has_restarted c.args.board.now c.settle.new.self c.args.number c.args.shell.now _ c.requires.shell c.requires.ready c.requires.all c.replace-2.result c.replace-2.ensures.value c.in-Err-Conflict.entry c.in-Err-Conflict.path refused.2 refused.1 refl refl c.in-Ok-note.ensures.ok,
     )
 
 pub returns-in-Err-clause-shell : goal.returns-in-Err-clause-shell

@@ -16,17 +16,11 @@ invariant_of-self g c =
     }
 
 pub returns-in_err-note-clause-vouched : goal.returns-in_err-note-clause-vouched
-returns-in_err-note-clause-vouched g c = λ start v. (
-  c.look.ensures.snaps ∙ v.0,
-  c.look.ensures.position ∙ v.1,
-  vouches_missed (view start.pass) (view c.args.self.now.pass) (view c.look.new.self.pass) c.args.self.now.position c.look.new.self.position c.args.self.now.reads c.note.new.reads
-      c.look.ensures.position c.look.ensures.more c.args.self.now.within v.2 (c.in_err-note.ensures.err ∙ c.look.ensures.reads),
-)
+returns-in_err-note-clause-vouched g c = λ start v.
+    vouches_missed start (view c.args.self.now.pass) (view c.look.new.self.pass) c.args.self.now.position c.look.new.self.position c.args.self.now.reads c.note.new.reads
+    c.look.ensures.position c.look.ensures.more c.args.self.now.within v (c.in_err-note.ensures.err ∙ c.look.ensures.reads)
 
 pub returns-clause-vouched : goal.returns-clause-vouched
-returns-clause-vouched g c = λ start v. (
-  c.look.ensures.snaps ∙ v.0,
-  c.look.ensures.position ∙ v.1,
-  vouches_looked (view start.pass) (view c.args.self.now.pass) (view c.look.new.self.pass) c.args.self.now.position c.look.new.self.position c.args.self.now.reads c.look.new.self.reads c.note.new.reads c.args.path.now c.in_ok-node.node c.look.new.self.position
-      c.look.ensures.position c.look.ensures.more c.args.self.now.within c.in_ok-node.ensures.look v.2 c.look.ensures.reads c.in_ok-note.ensures.ok,
-)
+returns-clause-vouched g c = λ start v.
+    vouches_looked start (view c.args.self.now.pass) (view c.look.new.self.pass) c.args.self.now.position c.look.new.self.position c.args.self.now.reads c.look.new.self.reads c.note.new.reads c.args.path.now c.in_ok-node.node c.look.new.self.position
+    c.look.ensures.position c.look.ensures.more c.args.self.now.within c.in_ok-node.ensures.look v c.look.ensures.reads c.in_ok-note.ensures.ok

@@ -10,14 +10,10 @@ invariant_of-self g c =
     }
 
 pub returns-in_err-note-clause-vouched : goal.returns-in_err-note-clause-vouched
-returns-in_err-note-clause-vouched g c = λ start v. (
-  c.look.ensures.table ∙ v.0,
-  vouches_missed (g.D.Desk.view start.desk) (g.D.Desk.view c.args.self.now.desk) (g.D.Desk.view c.look.new.self.desk) start.reads c.args.self.now.reads c.note.new.reads c.look.ensures.more v.1 (c.in_err-note.ensures.err ∙ c.look.ensures.reads),
-)
+returns-in_err-note-clause-vouched g c = λ start before v.
+    vouches_missed start (g.D.Desk.view c.args.self.now.desk) (g.D.Desk.view c.look.new.self.desk) before c.args.self.now.reads c.note.new.reads c.look.ensures.more v (c.in_err-note.ensures.err ∙ c.look.ensures.reads)
 
 pub returns-clause-vouched : goal.returns-clause-vouched
-returns-clause-vouched g c = λ start v. (
-  c.look.ensures.table ∙ v.0,
-  vouches_looked (g.D.Desk.view start.desk) (g.D.Desk.view c.args.self.now.desk) (g.D.Desk.view c.look.new.self.desk) start.reads c.args.self.now.reads c.look.new.self.reads c.note.new.reads c.args.path.now c.in_ok-node.node c.in_ok-node.position
-      c.look.ensures.more c.in_ok-node.ensures.look v.1 c.look.ensures.reads c.in_ok-note.ensures.ok,
-)
+returns-clause-vouched g c = λ start before v.
+    vouches_looked start (g.D.Desk.view c.args.self.now.desk) (g.D.Desk.view c.look.new.self.desk) before c.args.self.now.reads c.look.new.self.reads c.note.new.reads c.args.path.now c.in_ok-node.node c.in_ok-node.position
+    c.look.ensures.more c.in_ok-node.ensures.look v c.look.ensures.reads c.in_ok-note.ensures.ok

@@ -5,7 +5,7 @@ use Rattle.fx_machine.specs.declared.event.Event.{Event}
 use Rattle.fx_machine.specs.declared.event.Event.TheVariants as event
 use Rattle.fx_machine.specs.Machine.{Machine, Step, Run}
 
-step_same : (base : BaseTree) (m a b : Machine) (e : Event) → Step base m e a → Step base m e b → a ≡ b
+pub step_same : (base : BaseTree) (m a b : Machine) (e : Event) → Step base m e a → Step base m e b → a ≡ b
 step_same base m a b (event.Look k path position) s t = s.after ∙ sym t.after
 step_same base m a b (event.Settled k entry) s t = s.after ∙ sym t.after
 step_same base m a b (event.Conflict k entry path) s t = s.after ∙ sym t.after

@@ -1,0 +1,263 @@
+-- A folder that is loaded is the folder of the loaded filestore, but for a table without bytes.
+use Rattle.std.proofs.Common.{◌≡◌, ◌⊎◌, inl, inr, ℕ, Bool, true, false, cond, not, ◌==◌, ◌&&◌, ◌||◌, List, [], ◌∷◌, ◌++◌, length, IsTrue, Option, Some, None, Result, Ok, Err, refl, sym, ◌∙◌, ap, subst, arith, append-nil, append_assoc}
+use Rattle.std.specs.Prelude.{bytes_eq}
+use Rattle.std.specs.List.{list_all}
+use Rattle.std.specs.List.Sorted.{IsStrictlySortedBy}
+use Rattle.std.specs.Option.{option_map, option_map_or}
+use Rattle.std.specs.FinMap.{get, entries, find, get-from_entries, get-entries, entries_sorted}
+use Rattle.std.proofs.lemmas.Bool.{cases_Bool, false≢true}
+use Rattle.std.proofs.lemmas.Bool.Decides.{nat_tests}
+use Rattle.std.proofs.lemmas.List.Elements.{All-nil}
+use Rattle.std.proofs.lemmas.Slice.Eq.{bytes_eq-Decides}
+use Rattle.fx_outside.specs.declared.kind.HostKind.{HostKind}
+use Rattle.fx_outside.specs.declared.kind.HostKind.TheVariants as kind
+use Rattle.fx_outside.specs.Path.{Parts, parts, parts_cmp, above, is_fit, is_fit_part, has_no_slash}
+use Rattle.fx_outside.specs.Tree as host
+use Rattle.fx_outside.specs.Tree.{Tree, Entry, file, folder, has_folder, is_folder_kind, is_file_kind, is_folder_at, entry_at}
+use Rattle.fx_store.specs.Orders.{path_total}
+use Rattle.fx_store.specs.Whole.{Store, Nodes}
+use Rattle.fx_table.specs.declared.fault.FolderCause.{FolderCause}
+use Rattle.fx_table.specs.declared.fault.FolderCause.TheVariants.{BadTable}
+use Rattle.fx_table.specs.Listed.{Mapped, with_lines, listed}
+use Rattle.fx_table.specs.Places.{table_name}
+use Rattle.fx_table.specs.declared.line.TableLine.{TableLine}
+use Rattle.fx_table.specs.Table.{IsTable, IsLine, over, has_place, table_text, lines_of, setting_of, first_number, body_of, read_body, lines_before, lacks_flags, links_among}
+use Rattle.fx_table.specs.TableLaws.{Spells}
+use Rattle.fx_table.proofs.Rests.{rest_append}
+use Rattle.fx_table.proofs.Shapes.{found, relisted, find_listed}
+use Rattle.fx_table.proofs.TableLines.{texts_are_lines}
+use Rattle.fx_table.proofs.Versions.{spells}
+use Rattle.fx_folder.specs.Places.{host_entry}
+use Rattle.fx_folder.specs.Loads.{most_bytes}
+use Rattle.fx_folder.specs.Deep.{Held, all_below, walked, table_in, node_of_kind, unlisted, unless_bad, are_too_many, lacking, read_lines, table_file_lines, table_lines, deep_loads, table_entry, is_table_place, folder_entry}
+use Rattle.fx_folder.specs.Folder.{entry_or}
+use Rattle.fx_folder.proofs.Filled.{stands_in, none_below}
+use Rattle.fx_folder.proofs.Loaded.{all_accepted, node_of, find_unlisted, IsLoaded, was_loaded}
+use Rattle.fx_folder.proofs.Walked.{find_all_below, find_walked_below}
+use Rattle.fx_folder_laws.specs.Stays.{StandsFor, LoadedFoldersStay, IsKept, SavedFoldersAreSame}
+use Rattle.fx_folder_laws.proofs.Marking.{IsNoLink, relisted_entry, entry_at as entry_with, lines_stay}
+
+abbrev Paths : Type 0
+Paths = List (List ℕ)
+
+-- ---- the table that was read
+
+-- no table stands there, or a file that spells the lines
+abbrev Spelled : List TableLine → Option Entry → Type 0
+Spelled lines o = ((o ≡ None) × (lines ≡ [])) ⊎ (o ≡ Some (file (table_text lines)))
+
+record IsTableOf (S : Store) (lines : List TableLine) (o : Option Entry) : Type 0 where
+  table : IsTable S lines
+  is : Spelled lines o
+
+no_lines : (S : Store) → IsTable S []
+unfolding IsStrictlySortedBy
+no_lines S = record { valid = All-nil IsLine; stand = All-nil (λ (l : TableLine). IsTrue (has_place (over S true) l)); ascending = (tt, tt) }
+
+not_lacking : (b : Bool) → cond b (Some (BadTable 1)) None ≡ None → b ≡ false
+not_lacking true e = cc
+not_lacking false e = refl
+
+not_bad : (b : Bool) (c : FolderCause) (bad : Option FolderCause) (lines made : List TableLine) → cond b (Err c) (unless_bad lines bad) ≡ Ok made → (bad ≡ None) × (lines ≡ made)
+not_bad true c bad lines made e = cc
+not_bad false c None lines made e = (refl, cc)
+not_bad false c (Some d) lines made e = cc
+
+some_bad : (b : Bool) (c d : FolderCause) (lines made : List TableLine) → cond b (Err c) (unless_bad lines (Some d)) ≡ Ok made → ⊥
+some_bad true c d lines made e = cc
+some_bad false c d lines made e = cc
+
+-- a text whose lines are read spells them
+read_spells : (nodes left : ℕ) (S : Store) (text : List ℕ) (r : Result (List TableLine) ℕ) (lines : List TableLine) → read_body S text ≡ r → read_lines nodes left S text r ≡ Ok lines → Spells S text lines
+read_spells nodes left S text (Ok read) lines is e =
+    let good = not_bad (are_too_many nodes left (links_among read)) _ (lacking text read) read lines e in
+    let all = texts_are_lines (setting_of S text) (first_number text) (body_of text) read is in
+    subst (Spells S text) good.1 (spells S text read all.table all.spelled (not_lacking (lacks_flags text read) good.0))
+read_spells nodes left S text (Err number) lines is e = absurd (some_bad (are_too_many nodes left (links_among (lines_before S text number))) _ (BadTable number) (lines_before S text number) lines e)
+
+unless_large : (b : Bool) (c : FolderCause) (r : Result (List TableLine) FolderCause) (lines : List TableLine) → cond b (Err c) r ≡ Ok lines → r ≡ Ok lines
+unless_large true c r lines e = cc
+unless_large false c r lines e = e
+
+of_file : (nodes left : ℕ) (S : Store) (k : HostKind) (text : List ℕ) (lines : List TableLine) → table_file_lines nodes left S k text ≡ Ok lines → IsTableOf S lines (Some (record { kind = k; bytes = text }))
+of_file nodes left S kind.File text lines e =
+    let read = read_spells nodes left S text (read_body S text) lines refl (unless_large _ _ (read_lines nodes left S text (read_body S text)) lines e) in
+    record { table = read.table; is = inr (ap (λ t. Some (file t)) read.spelled) }
+of_file nodes left S kind.Folder text lines e = cc
+of_file nodes left S kind.Other text lines e = cc
+
+table_of : (nodes left : ℕ) (S : Store) (o : Option Entry) (lines : List TableLine) → table_lines nodes left S o ≡ Ok lines → IsTableOf S lines o
+table_of nodes left S None lines e = let same : [] ≡ lines = cc in record { table = subst (IsTable S) same (no_lines S); is = inl (refl, sym same) }
+table_of nodes left S (Some e) lines is = of_file nodes left S e.kind e.bytes lines is
+
+-- such a table is that of the lines, or it has no bytes
+table_stands : (o : Option Entry) (lines : List TableLine) → Spelled lines o → (o ≡ table_entry lines) ⊎ ((o ≡ Some (file [])) × (lines ≡ []))
+table_stands o lines (inl none) = inl (none.0 ∙ ap table_entry (sym none.1))
+table_stands o [] (inr is) = inr (is, refl)
+table_stands o (l ∷ lines) (inr is) = inl is
+
+-- it is no folder
+table_no_folder : (o : Option Entry) (lines : List TableLine) → Spelled lines o → option_map_or (λ x. is_folder_kind x.kind) o false ≡ false
+table_no_folder o lines (inl none) = ap (λ x. option_map_or (λ x. is_folder_kind x.kind) x false) none.0
+table_no_folder o lines (inr is) = ap (λ x. option_map_or (λ x. is_folder_kind x.kind) x false) is
+
+-- ---- an entry that is loaded is that of its node
+
+no_bytes : (bytes : List ℕ) → (length bytes == 0) ≡ true → bytes ≡ []
+no_bytes [] e = refl
+no_bytes (b ∷ bytes) e = let long : (length (b ∷ bytes) == 0) ≡ false = grind (arith, nat_tests) in cc
+
+entry_back : (k : HostKind) (bytes : List ℕ) → (k ≡ kind.Other → ⊥) → (is_file_kind k || length bytes == 0) ≡ true → host_entry (Some (node_of_kind k bytes)) ≡ Some (record { kind = k; bytes = bytes })
+entry_back kind.File bytes known e = refl
+entry_back kind.Folder bytes known e = ap (λ l. Some (record { kind = kind.Folder; bytes = l })) (sym (no_bytes bytes e))
+entry_back kind.Other bytes known e = absurd (known refl)
+
+entries_back : (o : Option Entry) → ((e : Entry) → o ≡ Some e → host_entry (Some (node_of e)) ≡ Some e) → host_entry (option_map node_of o) ≡ o
+entries_back None back = refl
+entries_back (Some e) back = back e refl
+
+fifth : (a b c d r : Bool) → (a && (b && (c && (d && r)))) ≡ true → r ≡ true
+fifth true true true true r e = e
+fifth true true true false r e = cc
+fifth true true false d r e = cc
+fifth true false c d r e = cc
+fifth false b c d r e = cc
+
+-- only a file has bytes
+bare : (tree : Tree) → host.IsWhole tree → (p : Paths) (e : Entry) → get tree p ≡ Some e → (is_file_kind e.kind || length e.bytes == 0) ≡ true
+bare tree whole p e is = fifth (not (length p == 0)) (list_all is_fit_part p) (list_all has_no_slash p) (has_folder tree (above p)) (is_file_kind e.kind || length e.bytes == 0) (whole.placed p e is)
+
+of_folder : (k : HostKind) (bytes : List ℕ) → is_folder_kind k ≡ true → (is_file_kind k || length bytes == 0) ≡ true → ◌≡◌ {A = Entry} (record { kind = k; bytes = bytes }) folder
+of_folder kind.File bytes f e = absurd (false≢true f)
+of_folder kind.Folder bytes f e = ap (λ l. record { kind = kind.Folder; bytes = l }) (no_bytes bytes e)
+of_folder kind.Other bytes f e = absurd (false≢true f)
+
+-- ---- below a table nothing stands
+
+folder_is : (tree : Tree) (P : Paths) (n : List ℕ) (r : Paths) → has_folder tree (P ++ n ∷ r) ≡ option_map_or (λ x. is_folder_kind x.kind) (get tree (P ++ n ∷ r)) false
+folder_is tree [] n r = refl
+folder_is tree (p ∷ P) n r = refl
+
+none_or : (o : Option Entry) → ((e : Entry) → o ≡ Some e → ⊥) → o ≡ None
+none_or None never = refl
+none_or (Some e) never = absurd (never e refl)
+
+below_none : (tree : Tree) → host.IsWhole tree → (P : Paths) (n : List ℕ) → option_map_or (λ x. is_folder_kind x.kind) (get tree (P ++ n ∷ [])) false ≡ false → (a : List ℕ) (r : Paths) → get tree (P ++ n ∷ a ∷ r) ≡ None
+below_none tree whole P n plain a r =
+    let none = none_below tree whole (P ++ n ∷ []) (λ b. none_or _ (λ e is. false≢true (sym (folder_is tree P n [] ∙ plain) ∙ stands_in tree whole (P ++ n ∷ []) b e is))) a r in
+    sym (ap (get tree) (append_assoc P (n ∷ []) (a ∷ r))) ∙ none
+
+-- ---- files and directories alone are walked
+
+no_link : (k : HostKind) (bytes : List ℕ) → IsNoLink (Some (node_of_kind k bytes))
+no_link kind.File bytes = tt
+no_link kind.Folder bytes = tt
+no_link kind.Other bytes = tt
+
+no_links : (o : Option Entry) → IsNoLink (option_map node_of o)
+no_links None = tt
+no_links (Some e) = no_link e.kind e.bytes
+
+known_some : (b : Bool) (o : Option Entry) (e : Entry) → cond b o None ≡ Some e → o ≡ Some e
+known_some true o e is = is
+known_some false o e is = cc
+
+module _ (tree : Tree) (whole : host.IsWhole tree) (P : Paths) (nodes : Nodes) (there : get tree P ≡ Some folder) (loads : deep_loads tree P ≡ Ok nodes) where
+  abbrev hs : List Held
+  hs = walked (all_below tree P)
+
+  made : IsLoaded hs (table_in (all_below tree P)) nodes
+  made = was_loaded hs (table_in (all_below tree P)) nodes loads
+
+  abbrev lines : List TableLine
+  lines = made.lines
+
+  abbrev ws : List Mapped
+  ws = with_lines (unlisted hs) lines
+
+  table_at : table_in (all_below tree P) ≡ get tree (P ++ table_name ∷ [])
+  table_at = find_all_below tree P table_name []
+
+  has_table : IsTableOf (found (unlisted hs)) lines (get tree (P ++ table_name ∷ []))
+  has_table = subst (IsTableOf (found (unlisted hs)) lines) table_at (table_of _ _ (found (unlisted hs)) (table_in (all_below tree P)) lines made.read)
+
+  nodes_are : (q : Paths) → get nodes q ≡ option_map (relisted ws q) (found ws q)
+  nodes_are q = sym (ap (λ m. get m q) made.is) ∙ (get-from_entries path_total (listed ws) q ∙ find_listed ws ws q)
+
+  no_link_at : (q : Paths) → IsNoLink (found (unlisted hs) q)
+  no_link_at [] = tt
+  no_link_at (n ∷ r) = subst IsNoLink (sym (find_unlisted hs n r)) (no_links (find parts_cmp (n ∷ r) hs))
+
+  -- the lines of the filestore are those of the table
+  lines_are : lines_of nodes ≡ lines
+  lines_are = lines_stay (unlisted hs) no_link_at lines has_table.table (entries nodes) (entries_sorted nodes) (λ q. sym (get-entries nodes q) ∙ nodes_are q)
+
+  entry_is : (q : Paths) → host_entry (get nodes q) ≡ host_entry (found (unlisted hs) q)
+  entry_is q = ap host_entry (nodes_are q) ∙ (relisted_entry ws q (found ws q) ∙ entry_with (unlisted hs) no_link_at lines has_table.table q)
+
+  known : (n : List ℕ) (r : Paths) (e : Entry) → find parts_cmp (n ∷ r) hs ≡ Some e → host_entry (Some (node_of e)) ≡ Some e
+  known n r e is =
+      let ok = all_accepted 1 most_bytes hs made.none (n ∷ r) e is in
+      entry_back e.kind e.bytes ok.known (bare tree whole (P ++ n ∷ r) e (known_some (not (bytes_eq n table_name)) (get tree (P ++ n ∷ r)) e (sym (find_walked_below tree P n r) ∙ is)))
+
+  -- an entry that is walked is that of its node
+  entry_walked : (n : List ℕ) (r : Paths) → host_entry (get nodes (n ∷ r)) ≡ cond (not (bytes_eq n table_name)) (get tree (P ++ n ∷ r)) None
+  entry_walked n r =
+      entry_is (n ∷ r)
+      ∙ (ap host_entry (find_unlisted hs n r) ∙ (entries_back (find parts_cmp (n ∷ r) hs) (known n r) ∙ find_walked_below tree P n r))
+
+  no_place : (n : List ℕ) (r : Paths) → bytes_eq n table_name ≡ false → is_table_place (n ∷ r) ≡ false
+  no_place n [] e = e
+  no_place n (a ∷ r) e = refl
+
+  at_table : (n : List ℕ) (r : Paths) → bytes_eq n table_name ≡ true → StandsFor nodes (n ∷ r) (get tree (P ++ n ∷ r))
+  at_table n [] same =
+      let it : n ≡ table_name = (bytes_eq-Decides n table_name).0 same in
+      let o = get tree (P ++ n ∷ []) in
+      let spelled : Spelled (lines_of nodes) o = subst (λ m. Spelled (lines_of nodes) (get tree (P ++ m ∷ []))) (sym it) (subst (λ l. Spelled l (get tree (P ++ table_name ∷ []))) (sym lines_are) has_table.is) in
+      let at : folder_entry nodes (n ∷ []) ≡ table_entry (lines_of nodes) = ap (λ b. cond b (table_entry (lines_of nodes)) (host_entry (get nodes (n ∷ [])))) same in
+      elim (table_stands o (lines_of nodes) spelled) [
+        | inl whole ↦ inl (whole ∙ sym at)
+        | inr empty ↦ inr (record { place = ap (λ m. m ∷ []) it; empty = empty.0 }, empty.1)
+      ]
+  at_table n (a ∷ r) same =
+      let it : n ≡ table_name = (bytes_eq-Decides n table_name).0 same in
+      let none : get tree (P ++ n ∷ a ∷ r) ≡ None = subst (λ m. get tree (P ++ m ∷ a ∷ r) ≡ None) (sym it) (below_none tree whole P table_name (table_no_folder _ lines has_table.is) a r) in
+      inl (none ∙ sym (entry_walked n (a ∷ r) ∙ ap (λ b. cond (not b) (get tree (P ++ n ∷ a ∷ r)) None) same))
+
+  -- what stands in the folder is what the folder of the filestore has there
+  stays : (names : Parts) → StandsFor nodes names (get tree (P ++ names))
+  stays [] = inl (ap (get tree) (append-nil P) ∙ (there ∙ sym (entry_is [])))
+  stays (n ∷ r) = elim (cases_Bool (bytes_eq n table_name)) [
+    | inl same ↦ at_table n r same
+    | inr other ↦
+        let at : folder_entry nodes (n ∷ r) ≡ host_entry (get nodes (n ∷ r)) = ap (λ b. cond b (table_entry (lines_of nodes)) (host_entry (get nodes (n ∷ r)))) (no_place n r other) in
+        inl (sym (at ∙ (entry_walked n r ∙ ap (λ b. cond (not b) (get tree (P ++ n ∷ r)) None) other)))
+  ]
+
+pub loaded_folders_stay : LoadedFoldersStay
+loaded_folders_stay tree whole P nodes there loads names = stays tree whole P nodes there loads names
+
+-- ---- loaded and saved again
+
+fit_some : (b : Bool) (o : Option Entry) → option_map_or (λ e. is_folder_kind e.kind) (cond b o None) false ≡ true → (e : Entry) × (o ≡ Some e) × (is_folder_kind e.kind ≡ true)
+fit_some true None h = absurd (false≢true h)
+fit_some true (Some e) h = (e, refl, h)
+fit_some false o h = absurd (false≢true h)
+
+folder_there : (tree : Tree) → host.IsWhole tree → (path : List ℕ) → is_folder_at tree path ≡ true → get tree (parts path) ≡ Some folder
+folder_there tree whole path is =
+    let here = fit_some (is_fit path) (get tree (parts path)) is in
+    here.1 ∙ ap Some (of_folder here.0.kind here.0.bytes here.2 (bare tree whole (parts path) here.0 here.1))
+
+kept : (nodes : Nodes) (names : Parts) (found saved : Option Entry) → saved ≡ folder_entry nodes names → StandsFor nodes names found → IsKept names found saved
+kept nodes names found saved is (inl same) = inl (is ∙ sym same)
+kept nodes names found saved is (inr empty) =
+    let none : folder_entry nodes (table_name ∷ []) ≡ None = ap table_entry empty.1 in
+    inr (empty.0, is ∙ (ap (folder_entry nodes) empty.0.place ∙ none))
+
+pub saved_folders_are_same : SavedFoldersAreSame
+saved_folders_are_same tree old new whole path at nodes loads saves names =
+    kept nodes names (get tree (parts path ++ names)) (get new (at ++ names))
+    (saves (at ++ names) ∙ ap (entry_or (get old (at ++ names)) nodes) (rest_append at names))
+    (loaded_folders_stay tree whole (parts path) nodes (folder_there tree whole path loads.0) loads.1 names)
