@@ -83,3 +83,16 @@ views_next base views txn o now vs all v inside b up is are pushed =
     let t = there (script_of views.plan 0) txn inside in
     let more = views_push base o now.seen 0 (take txn (script_of views.plan 0)) vs t.0 v b (omega arith) up (is t.0 t.1) are in
     subst (AreViews base (take (txn + 1) (script_of views.plan 0)) now.seen) (sym pushed) (subst (λ ts. AreViews base ts now.seen (vs ++ v ∷ [])) (sym (take_next (script_of views.plan 0) txn t.0 t.1)) more)
+
+-- ---- the view that was answered last
+
+abbrev end_of : View → List View → View
+end_of v [] = v
+end_of v (w ∷ ws) = end_of w ws
+
+end_is : (d v : View) (vs : List View) → end_of d (vs ++ v ∷ []) ≡ v
+end_is d v [] = refl
+end_is d v (w ∷ ws) = end_is w v ws
+
+pub last_same : (vs ws : List View) (v w : View) → vs ++ v ∷ [] ≡ ws ++ w ∷ [] → v ≡ w
+last_same vs ws v w same = sym (end_is v v vs) ∙ ap (end_of v) same ∙ end_is v w ws

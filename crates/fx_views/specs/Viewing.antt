@@ -1,5 +1,5 @@
 -- The worker of the views, between two of them and at the end.
-use Rattle.std.specs.Prelude.{◌≡◌, ℕ, List, ◌∷◌, take, length, Option, Some, None}
+use Rattle.std.specs.Prelude.{◌≡◌, ◌≤◌, ℕ, List, [], ◌∷◌, ◌++◌, take, length, Option, Some, None}
 use Rattle.fx_spec.specs.CommandTree.{CommandTree}
 use Rattle.fx_spec.specs.Plans.{script_of, txn_of}
 use Rattle.fx_spec.specs.Order.{BaseTree}
@@ -32,6 +32,10 @@ pub record IsOnlooker (base views : BaseTree) (snaps : Shares Log) (shell next :
   pub based : (view w.pass).base ≡ Some base
   pub none : (view w.pass).mine ≡ 0
   pub viewed : AreViews base (take next (script_of views.plan 0)) (view w.pass).seen w.viewed
+
+-- the view that was answered last is of a state that is not before what the pass had seen
+abbrev pub IsViewedAfter : LogView → Onlooker → Type 0
+IsViewedAfter old w = (views : List View) (last : View) → w.viewed ≡ views ++ last ∷ [] → length old.seen ≤ last.position
 
 -- all of them are
 pub record HasLookedOn (base views : BaseTree) (snaps : Shares Log) (number : Option ℕ) (w : Onlooker) : Type 0 where

@@ -7,7 +7,7 @@ ghost use Rattle.fx_shared.specs.Passes.{HasSeenMore};
 ghost use Rattle.fx_shared.specs.Shared.{IsReadyPass};
 ghost use Rattle.fx_workers.specs.Crews.{base_of};
 ghost use Rattle.fx_workers.specs.Workers.{IsFresh};
-ghost use Rattle.fx_views.specs.Viewing.{AreAlike, IsOnlooker, HasLookedOn, IsViewSeen};
+ghost use Rattle.fx_views.specs.Viewing.{AreAlike, IsOnlooker, HasLookedOn, IsViewSeen, IsViewedAfter};
 
 use crate::past::{Past, SnapPass};
 use fx_base::NoMemory;
@@ -78,7 +78,7 @@ fn view_of(attempt: Attempt, position: u64) -> View
     }
 }
 
-/// Runs the next view at the state that is then the last.
+/// Runs the next view at the state that is then the last: not before what the pass had seen.
 fn look_once<R: Wait, G: Gate>(
     crew: &Crew<'_, R, G, Versioned>,
     views: &Arc<Base>,
@@ -90,8 +90,9 @@ fn look_once<R: Wait, G: Gate>(
     requires planned { txn < count_of (base_tree views.now.value).plan 0 }
     requires onlooker { IsOnlooker (base_of crew.now) (base_tree views.now.value)
         crew.now.shares.now shell txn onlooker }
-    ensures { IfOk result (IsOnlooker (base_of crew.now) (base_tree views.now.value)
+    ensures onlooker { IfOk result (IsOnlooker (base_of crew.now) (base_tree views.now.value)
         crew.now.shares.now shell (txn + 1)) }
+    ensures after { IfOk result (IsViewedAfter (view onlooker.pass)) }
 {
     let Onlooker {
         mut pass,
