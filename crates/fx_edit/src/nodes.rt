@@ -167,7 +167,7 @@ fn texts_in(value: &Value) -> Option<&TextSet>
 fn content(alloc: Global, text: &Text) -> Result<Bytes, NoMemory>
     ensures { IfOk result (λ bytes. (bytes ≡ text.now) × IsContent text.now) }
 {
-    let bytes = Bytes::from_vec(text.copy(alloc)?.into_vec());
+    let bytes = Bytes::from_vec(text.to_vec(alloc)?);
     // A content is within its limits.
     let _limits = bytes.as_slice();
     Ok(bytes)
