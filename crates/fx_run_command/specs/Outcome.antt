@@ -26,9 +26,14 @@ pub record IsTracedAs (base : BaseTree) (schedule : List ℕ) (order : List Turn
   pub conflicts : retries ≡ retries_of base events
   pub printed : output ≡ lines events ++ report base order retries
 
--- the report alone, or the events and the report, with what is said of the tree after each commit where it is watched
+-- there is a schedule by which `trace` may print this behind the lines of its events, of a run to the same order
+abbrev pub IsBehindSomeTrace : BaseTree → List Turn → List Retry → List ℕ → Type 0
+IsBehindSomeTrace base order retries output = (schedule : List ℕ) × (lines_before : List ℕ) × IsTracedAs base schedule order retries (lines_before ++ output)
+
+-- the report alone, which some `trace` prints too; or the events and the report, with what is said of the tree after each commit
+-- where it is watched
 abbrev pub IsPrintedAs : Mode → BaseTree → List Turn → List Retry → List ℕ → Type 0
-IsPrintedAs Plain base order retries output = output ≡ report base order retries
+IsPrintedAs Plain base order retries output = (output ≡ report base order retries) × IsBehindSomeTrace base order retries output
 IsPrintedAs (Scheduled schedule) base order retries output = IsTracedAs base schedule order retries output
 IsPrintedAs (Watched schedule) base order retries output = IsWatchedAs base schedule order retries output
 

@@ -1,13 +1,12 @@
 -- What the log, the retries and the views come to, once all passes are taken in.
-use Rattle.std.proofs.Common.{◌≡◌, ℕ, ◌≤◌, List, ◌∷◌, map, length, Some, sym, ap, subst, ◌∙◌, arith}
+use Rattle.std.proofs.Common.{◌≡◌, ℕ, List, ◌∷◌, length, Some, sym, ap, subst, ◌∙◌}
 use Rattle.std.specs.List.{All}
 use Rattle.std.proofs.lemmas.List.Elements.{All-tail}
 use Rattle.std.proofs.lemmas.Option.{same_Some}
 use Rattle.fx_spec.specs.Plans.{script_of}
-use Rattle.fx_spec.specs.Order.{BaseTree, IsComplete, RetriesOk}
+use Rattle.fx_spec.specs.Order.{BaseTree, IsComplete}
 use Rattle.fx_machine.specs.declared.retry.Retry.{Retry}
 use Rattle.fx_machine.specs.Machine.{next_number}
-use Rattle.fx_machine.specs.Tried.{retry_tree}
 use Rattle.fx_board.specs.Board.{IsLog}
 use Rattle.fx_board.specs.Log.{Log}
 use Rattle.fx_turn.specs.Histories.{Begins}
@@ -16,7 +15,8 @@ use Rattle.fx_turn.proofs.Growth.{begins_on}
 use Rattle.fx_shared.specs.Passes.{LogView}
 use Rattle.fx_report.specs.declared.printed.View.{View}
 use Rattle.fx_workers.specs.Workers.{HasGathered}
-use Rattle.fx_workers.proofs.Gathers.{closes, closes_ok}
+use Rattle.fx_diary.specs.Runs.{IsOfSomeRun}
+use Rattle.fx_workers.proofs.Gathers.{closes, closes_run}
 use Rattle.fx_views.specs.Viewing.{HasLookedOver}
 use Rattle.fx_views.specs.Views.{AreViews}
 use Rattle.fx_views.proofs.Viewings.{views_later}
@@ -38,9 +38,6 @@ module _ (base views : BaseTree) (v : LogView) (rs : List Retry) (vs : List View
   of_before : over.before.base ≡ Some log.base
   of_before = sym over.based ∙ same
 
-  enough : length base.plan ≤ joins over.before
-  enough = let all = over.all in omega (arith, all)
-
   is_base : base ≡ log.base
   is_base = same_Some base log.base (sym over.gathered.based ∙ of_before)
 
@@ -52,7 +49,7 @@ module _ (base views : BaseTree) (v : LogView) (rs : List Retry) (vs : List View
     scripts = All-tail (λ (j : ℕ × ℕ). next_number log.order j.0 ≡ j.1) (length base.plan, 0) over.before.joined (subst (All (λ (j : ℕ × ℕ). next_number log.order j.0 ≡ j.1)) over.joined counts)
 
     pub complete_over : IsComplete log.base log.order
-    complete_over = closes base over.before rs log over.gathered enough of_before is scripts
+    complete_over = closes base over.before rs log over.gathered over.all of_before is scripts
 
-    pub retries_over : Begins v.seen log.order → RetriesOk log.base log.order (map retry_tree rs)
-    retries_over b = closes_ok base over.before rs log over.gathered enough of_before is scripts (begins_on over.before.seen v.seen log.order over.begins b)
+    pub run_over : Begins v.seen log.order → IsOfSomeRun log.base log.order rs
+    run_over b = closes_run base over.before rs log over.gathered over.all of_before is scripts (begins_on over.before.seen v.seen log.order over.begins b)

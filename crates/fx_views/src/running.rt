@@ -6,6 +6,7 @@ ghost use Rattle.fx_spec.specs.Bases.{base_tree};
 ghost use Rattle.fx_spec.specs.Order.{IsComplete, RetriesOk};
 ghost use Rattle.fx_spec.specs.Plans.{script_of};
 ghost use Rattle.fx_machine.specs.Tried.{retry_tree};
+ghost use Rattle.fx_diary.specs.Runs.{IsOfSomeRun};
 ghost use Rattle.fx_turn.specs.Views.{joins};
 ghost use Rattle.fx_turn.specs.Seats.{view};
 ghost use Rattle.fx_shared.specs.Shared.{IsPassOf};
@@ -177,6 +178,7 @@ pub fn run_views<R: Threads + Wait + Sync, G: Gate + Sync>(
     requires one { length views.value.plan ≡ 1 }
     ensures base { IfOk result (λ r. r.0.base ≡ base_tree base.value) }
     ensures complete { IfOk result (λ r. IsComplete r.0.base r.0.order) }
+    ensures ran { IfOk result (λ r. IsOfSomeRun r.0.base r.0.order r.1) }
     ensures retries { IfOk result (λ r. RetriesOk r.0.base r.0.order (map retry_tree r.1)) }
     ensures viewed { IfOk result (λ r.
         AreViews r.0.base (script_of views.value.plan 0) r.0.order r.2) }

@@ -34,6 +34,7 @@ answered t j base views last output there run is free = record {
     read = is.alone;
     complete = run.complete;
     tried = run.tried;
+    traced = run.traced;
     viewed = run.viewed;
     printed = run.printed;
     last = run.last;

@@ -12,6 +12,7 @@ use Rattle.fx_board.specs.Board.{last_state}
 use Rattle.fx_report.specs.declared.printed.View.{View}
 use Rattle.fx_report.specs.Entries.{report}
 use Rattle.fx_report.specs.Views.{views_text}
+use Rattle.fx_run_command.specs.Outcome.{IsBehindSomeTrace}
 use Rattle.fx_views.specs.Views.{AreViews}
 use Rattle.fx_words.specs.Job.{ViewsJob}
 use Rattle.fx_views_command.specs.declared.viewing.Answer.{Answer}
@@ -24,6 +25,7 @@ pub record IsViewsRunFrom (base : BaseTree) (views : List (List CommandTree)) (n
   pub answers : List View
   pub complete : IsComplete base order
   pub tried : RetriesOk base order (map retry_tree retries)
+  pub traced : IsBehindSomeTrace base order retries (report base order retries)
   pub viewed : AreViews base views order answers
   pub printed : output ≡ report base order retries ++ views_text answers
   pub last : nodes ≡ state base order (length order)

@@ -11,11 +11,13 @@ use Rattle.fx_report.specs.declared.printed.View.{View}
 use Rattle.fx_report.specs.Entries.{report}
 use Rattle.fx_report.specs.Views.{views_text}
 use Rattle.fx_inputs.specs.Inputs.{HasBase, HasScript}
+use Rattle.fx_run_command.specs.Outcome.{IsBehindSomeTrace}
 use Rattle.fx_views.specs.Views.{AreViews}
 use Rattle.fx_words.specs.Job.{ViewsJob}
 
 -- a commit order holds every transaction of every script exactly once, each script's in its order; the printed entries and
--- the last filestore are those of these transactions run whole, one after another in that order, on the loaded filestore.
+-- the last filestore are those of these transactions run whole, one after another in that order, on the loaded filestore. Some
+-- `trace` prints the same report behind its events.
 -- Each view is its transaction of VIEWS, run whole at the state after so many entries of that order as it tells, and these
 -- numbers never fall; no view changes anything
 pub record IsViewsOutcome (t : Tree) (j : ViewsJob) (nodes : Nodes) (output : List ℕ) : Type 0 where
@@ -28,6 +30,7 @@ pub record IsViewsOutcome (t : Tree) (j : ViewsJob) (nodes : Nodes) (output : Li
   pub read : HasScript t j.views 0 views
   pub complete : IsComplete base order
   pub tried : RetriesOk base order (map retry_tree retries)
+  pub traced : IsBehindSomeTrace base order retries (report base order retries)
   pub viewed : AreViews base views order answers
   pub printed : output ≡ report base order retries ++ views_text answers
   pub last : nodes ≡ state base order (length order)

@@ -1,5 +1,4 @@
 mod Orders
-mod Tries
 mod Steps
 mod Attempts
 pub mod Looks

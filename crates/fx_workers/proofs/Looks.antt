@@ -6,7 +6,7 @@ use Rattle.std.specs.Ordering.{eq_by_cmp}
 use Rattle.std.proofs.lemmas.Bool.{false≢true}
 use Rattle.std.proofs.lemmas.Option.{same_Some, none-some}
 use Rattle.fx_store.specs.declared.node.Node.{Node}
-use Rattle.fx_store.specs.Names.{path_cmp}
+use Rattle.fx_store.specs.Names.{IsPath, path_cmp}
 use Rattle.fx_store.specs.Orders.{path_eq_same}
 use Rattle.fx_view.specs.ReadList.{ReadList}
 use Rattle.fx_view.specs.Reads.{read_at}
@@ -20,7 +20,9 @@ use Rattle.fx_shared.specs.Shared.{IsPassOf, IsReadyPass}
 use Rattle.fx_turn.proofs.Growth.{begins_on}
 use Rattle.fx_shared.specs.Passes.{LogView, HasSeenMore, IsLook}
 use Rattle.fx_shared.proofs.Truths.{begins_short, true_later}
-use Rattle.fx_workers.specs.Live.{AreTrueOver, Vouches}
+use Rattle.fx_diary.specs.Positions.{InTurn}
+use Rattle.fx_diary.proofs.Positions.{in_turn_longer, in_turn_more}
+use Rattle.fx_workers.specs.Live.{AreInTurn, AreTrueOver, Vouches}
 
 abbrev Path : Type 0
 Path = List (List ℕ)
@@ -58,6 +60,15 @@ stand_more v reads path node position stand look = λ base is q n i e. by base i
         let now = look.now in
         (omega (arith, at, now), sym same ∙ (here ∙ (ap (λ i. get (state base v.seen i) path) at ∙ ap (get (state base v.seen i)) (sym h.0))))
 
+-- reads in turn are in turn when the pass has seen more
+pub turns_on : (v w : LogView) (reads : ReadList) → HasSeenMore v w → AreInTurn v reads → AreInTurn w reads
+turns_on v w reads more turns = in_turn_longer 0 (length v.seen) (length w.seen) reads (begins_short v.seen w.seen more.seen) turns
+
+-- so are they with a further one that was just looked at
+pub turns_more : (v : LogView) (reads : ReadList) (path : Path) (read : Read) → AreInTurn v reads → IsPath path → IsLook v path read → AreInTurn v (reads ++ (path, read) ∷ [])
+turns_more v reads path read turns valid look =
+    in_turn_more 0 (length v.seen) reads (path, read) valid (subst (λ n. InTurn 0 n reads) (sym look.now) turns) (let now = look.now in omega (arith, now))
+
 -- the pass has seen more, and more again
 pub see_on : (a b c : LogView) → HasSeenMore a b → HasSeenMore b c → HasSeenMore a c
 see_on a b c s t = record {
@@ -72,14 +83,16 @@ pub vouches_on : (start v w : LogView) (before reads : ReadList) → HasSeenMore
 vouches_on start v w before reads more old = record {
   seen = see_on start v w old.seen more;
   stand = stand_on v w reads more old.stand;
+  in_turn = turns_on v w reads more old.in_turn;
   since = old.since;
 }
 
 -- and has looked at one path more
-pub vouches_more : (start v w : LogView) (before reads : ReadList) (path : Path) (node : Option Node) (position : ℕ) → HasSeenMore v w → IsLook w path (node, position) → Vouches start v before reads → Vouches start w before (reads ++ (path, (node, position)) ∷ [])
-vouches_more start v w before reads path node position more look old = record {
+pub vouches_more : (start v w : LogView) (before reads : ReadList) (path : Path) (node : Option Node) (position : ℕ) → HasSeenMore v w → IsPath path → IsLook w path (node, position) → Vouches start v before reads → Vouches start w before (reads ++ (path, (node, position)) ∷ [])
+vouches_more start v w before reads path node position more valid look old = record {
   seen = (vouches_on start v w before reads more old).seen;
   stand = stand_more w reads path node position (stand_on v w reads more old.stand) look;
+  in_turn = turns_more w reads path (node, position) (turns_on v w reads more old.in_turn) valid look;
   since = λ q n i e none. by q n i none (read_more_cases reads path (node, position) q (n, i) e);
 }
   where
@@ -113,10 +126,14 @@ pub stand_noted : {E : Type 0} (v : LogView) (old new : ReadList) (path : Path) 
 stand_noted v old new path read (Ok u) stand look ok err = subst (AreTrueOver v) (sym ok) (stand_more v old path read.0 read.1 stand look)
 stand_noted v old new path read (Err e) stand look ok err = subst (AreTrueOver v) (sym err) stand
 
+pub turns_noted : {E : Type 0} (v : LogView) (old new : ReadList) (path : Path) (read : Read) (r : Result (Unit {0}) E) → AreInTurn v old → IsLook v path read → OnOk r (IsPath path) → OnOk r (new ≡ old ++ (path, read) ∷ []) → OnErr r (new ≡ old) → AreInTurn v new
+turns_noted v old new path read (Ok u) turns look valid ok err = subst (AreInTurn v) (sym ok) (turns_more v old path read turns valid look)
+turns_noted v old new path read (Err e) turns look valid ok err = subst (AreInTurn v) (sym err) turns
+
 -- a look that is noted, and one that is not: the pass has seen more
-pub vouches_looked : (start v w : LogView) (before old same new : ReadList) (path : Path) (node : Option Node) (position : ℕ) → HasSeenMore v w → IsLook w path (node, position) → Vouches start v before old → same ≡ old → new ≡ same ++ (path, (node, position)) ∷ [] → Vouches start w before new
-vouches_looked start v w before old same new path node position more look vouches kept noted =
-    subst (Vouches start w before) (sym (noted ∙ ap (λ reads. reads ++ (path, (node, position)) ∷ []) kept)) (vouches_more start v w before old path node position more look vouches)
+pub vouches_looked : (start v w : LogView) (before old same new : ReadList) (path : Path) (node : Option Node) (position : ℕ) → HasSeenMore v w → IsPath path → IsLook w path (node, position) → Vouches start v before old → same ≡ old → new ≡ same ++ (path, (node, position)) ∷ [] → Vouches start w before new
+vouches_looked start v w before old same new path node position more valid look vouches kept noted =
+    subst (Vouches start w before) (sym (noted ∙ ap (λ reads. reads ++ (path, (node, position)) ∷ []) kept)) (vouches_more start v w before old path node position more valid look vouches)
 
 pub vouches_missed : (start v w : LogView) (before old new : ReadList) → HasSeenMore v w → Vouches start v before old → new ≡ old → Vouches start w before new
 vouches_missed start v w before old new more vouches kept = subst (Vouches start w before) (sym kept) (vouches_on start v w before old more vouches)

@@ -29,7 +29,7 @@ number_stands P (turn ∷ o) shell (suc place) txn all e = number_stands P o she
     rest false all = all
 
 -- in a legal order a shell's transactions are below its next one
-pub below_next : (base : BaseTree) (o : List Turn) (shell place txn : ℕ) → IsLegal base o → slice_get o place ≡ Some (shell, txn) → txn < next_number o shell
+below_next : (base : BaseTree) (o : List Turn) (shell place txn : ℕ) → IsLegal base o → slice_get o place ≡ Some (shell, txn) → txn < next_number o shell
 below_next base o shell place txn legal e =
     number_stands (λ j. j < next_number o shell) o shell place txn (subst (All (λ j. j < next_number o shell)) (sym (legal shell).in_turn) (below_first (next_number o shell))) e
 
@@ -45,53 +45,6 @@ shells_within base o legal = λ k d h.
 -- a legal order is no longer than the plan
 pub legal_fits : (base : BaseTree) (o : List Turn) → IsLegal base o → length o ≤ sum_by length base.plan
 legal_fits base o legal = order_fits base o legal (shells_within base o legal)
-
--- ---- a shell with as many entries in a longer order has no new ones
-
-own_stands : (o : List Turn) (shell place txn : ℕ) → slice_get o place ≡ Some (shell, txn) → 0 < next_number o shell
-own_stands [] shell place txn e = absurd (none-some (shell, txn) e)
-own_stands (turn ∷ o) shell zero txn e =
-    let same : turn.0 ≡ shell = ap (λ (t : Turn). t.0) (same_Some turn (shell, txn) e) in first (nat_eq turn.0 shell) refl same
-  where
-    first : (b : Bool) → nat_eq turn.0 shell ≡ b → turn.0 ≡ shell → 0 < length (cons_option (cond b (Some turn.1) None) (numbers_of shell o))
-    first true is same = omega arith
-    first false is same = absurd (eqb-false turn.0 shell is same)
-own_stands (turn ∷ o) shell (suc place) txn e = rest (nat_eq turn.0 shell) (own_stands o shell place txn e)
-  where
-    rest : (b : Bool) → 0 < next_number o shell → 0 < length (cons_option (cond b (Some turn.1) None) (numbers_of shell o))
-    rest true h = omega arith
-    rest false h = h
-
-pub next-append : (o more : List Turn) (shell : ℕ) → next_number (o ++ more) shell ≡ next_number o shell + next_number more shell
-next-append o more shell = ap length (filter_map-append (number_in shell) o more) ∙ length-append (numbers_of shell o) (numbers_of shell more)
-
-get_behind : {X : Type 0} (xs ys : List X) (i : ℕ) (x : X) → length xs ≤ i → slice_get (xs ++ ys) i ≡ Some x → (k : ℕ) × (slice_get ys k ≡ Some x)
-get_behind [] ys i x h e = (i, e)
-get_behind (z ∷ zs) ys zero x h e = absurd (omega (arith, h))
-get_behind (z ∷ zs) ys (suc i) x h e = get_behind zs ys i x (omega (arith, h)) e
-
-pub none_new : (o o' : List Turn) (shell place txn : ℕ) → Begins o o' → next_number o' shell ≡ next_number o shell → length o ≤ place → slice_get o' place ≡ Some (shell, txn) → ⊥
-none_new o o' shell place txn b same h e =
-    let found = get_behind o b.rest place (shell, txn) h (subst (λ o. slice_get o place ≡ Some (shell, txn)) b.whole e) in
-    let some : 0 < next_number b.rest shell = own_stands b.rest shell found.0 txn found.1 in
-    let sum : next_number o' shell ≡ next_number o shell + next_number b.rest shell = ap (λ o. next_number o shell) b.whole ∙ next-append o b.rest shell in
-    omega (arith, some, sum, same)
-
--- ---- entries of a longer order
-
-pub get_later : (o o' : List Turn) (place : ℕ) (turn : Turn) → Begins o o' → slice_get o place ≡ Some turn → slice_get o' place ≡ Some turn
-get_later o o' place turn b e = subst (λ o. slice_get o place ≡ Some turn) (sym b.whole) (slice_get_front o b.rest place turn e)
-
-get_before : {X : Type 0} (xs ys : List X) (i : ℕ) (x : X) → i < length xs → slice_get (xs ++ ys) i ≡ Some x → slice_get xs i ≡ Some x
-get_before [] ys i x h e = absurd (omega (arith, h))
-get_before (z ∷ zs) ys zero x h e = e
-get_before (z ∷ zs) ys (suc i) x h e = get_before zs ys i x (omega (arith, h)) e
-
-pub get_earlier : (o o' : List Turn) (place : ℕ) (turn : Turn) → Begins o o' → place < length o → slice_get o' place ≡ Some turn → slice_get o place ≡ Some turn
-get_earlier o o' place turn b h e = get_before o b.rest place turn h (subst (λ o. slice_get o place ≡ Some turn) b.whole e)
-
-pub entry_at : (o : List Turn) (entry : ℕ) → entry < length o → (shell : ℕ) × (txn : ℕ) × (slice_get o entry ≡ Some (shell, txn))
-entry_at o entry h = ((get_or o entry (0, 0)).0, (get_or o entry (0, 0)).1, slice_get-get_or o entry (0, 0) h)
 
 -- ---- complete orders
 

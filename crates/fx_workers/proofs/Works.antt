@@ -2,7 +2,7 @@
 use Rattle.std.proofs.Common.{◌≡◌, ⊎_elim, ℕ, ◌<◌, ◌≤◌, List, [], ◌∷◌, ◌++◌, map, length, Some, Result, Ok, Err, sym, ap, subst, ◌∙◌, arith, length-append}
 use Rattle.std.specs.Prelude.{IfOk, slice_index_or}
 use Rattle.std.proofs.lemmas.Bool.{cases_lt}
-use Rattle.std.proofs.lemmas.List.{get_or_append_left}
+use Rattle.std.proofs.lemmas.List.{get_or_append_left, take_all}
 use Rattle.std.proofs.Math.Seq.{get_or-append_seam}
 use Rattle.std.proofs.lemmas.List.Elements.{All-push}
 use Rattle.std.proofs.lemmas.Option.{same_Some}
@@ -17,8 +17,8 @@ use Rattle.fx_shared.specs.declared.shares.Shares.{Shares}
 use Rattle.fx_shared.specs.Passes.{LogView}
 use Rattle.fx_shared.specs.Shared.{IsPassOf, IsReadyPass}
 use Rattle.fx_workers.specs.declared.worker.Worked.{Worked}
-use Rattle.fx_machine.specs.Tried.{retry_tree}
-use Rattle.fx_workers.specs.Tried.{AreTried}
+use Rattle.fx_machine.specs.Machine.{next_number}
+use Rattle.fx_diary.specs.Runs.{HasWorked}
 use Rattle.fx_workers.specs.declared.worker.Worker.{Worker}
 use Rattle.fx_workers.specs.Working.{HasWorkedOff}
 use Rattle.fx_workers.specs.Workers.{IsFresh, AreFresh, IsDone, IsDoneBy, IsMakerOf, AreDone}
@@ -84,8 +84,14 @@ module _ {T : Type 0} {g : Ghosts T BaseTree Turn} where
       number = sym (ap (λ (v : LogView). v.number) same) ∙ off.worker.number;
       based = sym (ap (λ (v : LogView). v.base) same) ∙ off.worker.based;
       all = sym (ap (λ (v : LogView). v.mine) same) ∙ (sym off.worker.next ∙ off.all);
-      tried = subst (λ (v : LogView). AreTried base v.seen off.shell v.mine (map retry_tree done.retries.items)) same
-          (subst (λ n. AreTried base (at w.desk).seen off.shell n (map retry_tree done.retries.items)) off.worker.next
-          (subst (λ rs. AreTried base (at w.desk).seen off.shell w.next (map retry_tree rs)) (sym retries) off.worker.tried));
+      worked = subst (λ (v : LogView). HasWorked base v.seen off.shell done.retries.items) same (subst (HasWorked base (at w.desk).seen off.shell) (sym retries) all_worked);
     },
   )
+    where
+      all_worked : HasWorked base (at w.desk).seen off.shell w.retries.items
+      all_worked = record {
+        time = length (at w.desk).seen;
+        within = omega arith;
+        diary = off.worker.diary;
+        all = ap (λ o. next_number o off.shell) (take_all (length (at w.desk).seen) (at w.desk).seen (omega arith)) ∙ (off.worker.counted ∙ off.all);
+      }

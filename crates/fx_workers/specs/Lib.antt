@@ -1,5 +1,4 @@
 pub mod Live
-pub mod Tried
 pub mod Desks
 pub mod Working
 pub mod Crews

@@ -1,11 +1,12 @@
 -- Passes of a shared log, whatever keeps it, before and after their shells' work.
-use Rattle.std.specs.Prelude.{◌≡◌, ℕ, zero, suc, ◌<◌, List, [], ◌∷◌, All, map, length, slice_index_or, Some, None, Result, IfOk}
+use Rattle.std.specs.Prelude.{◌≡◌, ℕ, zero, suc, ◌<◌, List, [], ◌∷◌, All, length, slice_index_or, Some, None, Result, IfOk}
+use Rattle.std.specs.List.{flat_map}
 use Rattle.fx_base.specs.declared.NoMemory.{NoMemory}
 use Rattle.fx_spec.specs.CommandTree.{CommandTree}
 use Rattle.fx_spec.specs.Plans.{Turn, count_of}
-use Rattle.fx_spec.specs.Order.{BaseTree, RetryTree, InOrder}
+use Rattle.fx_spec.specs.Order.{BaseTree, first_numbers}
 use Rattle.fx_machine.specs.declared.retry.Retry.{Retry}
-use Rattle.fx_machine.specs.Tried.{retry_tree}
+use Rattle.fx_diary.specs.Runs.{HasWorked}
 use Rattle.fx_turn.specs.declared.kept.Kept.{Ghosts}
 use Rattle.fx_turn.specs.declared.seat.Seat.{Seat}
 use Rattle.fx_turn.specs.Views.{joins}
@@ -14,7 +15,6 @@ use Rattle.fx_shared.specs.declared.shares.Shares.{Shares}
 use Rattle.fx_shared.specs.Passes.{LogView}
 use Rattle.fx_shared.specs.Shared.{IsPassOf, IsReadyPass}
 use Rattle.fx_workers.specs.declared.worker.Worked.{Worked}
-use Rattle.fx_workers.specs.Tried.{IsTried, AreTried}
 
 module _ {T : Type 0} {g : Ghosts T BaseTree Turn} where
   -- the pass is the maker's, of a log with this base
@@ -34,13 +34,13 @@ module _ {T : Type 0} {g : Ghosts T BaseTree Turn} where
     pub each : All (IsFresh base shares) passes
     pub numbered : (k : ℕ) (d : Seat T BaseTree Turn g) → k < length passes → (view (slice_index_or passes k d)).number ≡ Some k
 
-  -- all transactions of the shell's script are settled, and these are its retries
+  -- all transactions of the shell's script are settled, and these are its retries, by its diary
   pub record IsDone (base : BaseTree) (shares : Shares T) (shell : ℕ) (w : Worked T g) : Type 0 where
     pub ready : IsReadyPass shares w.pass
     pub number : (view w.pass).number ≡ Some shell
     pub based : (view w.pass).base ≡ Some base
     pub all : (view w.pass).mine ≡ count_of base.plan shell
-    pub tried : AreTried base (view w.pass).seen shell (view w.pass).mine (map retry_tree w.retries.items)
+    pub worked : HasWorked base (view w.pass).seen shell w.retries.items
 
   -- of each shell in turn
   abbrev pub AreDone : BaseTree → Shares T → List (Result (Worked T g) NoMemory) → Type 0
@@ -55,14 +55,12 @@ abbrev pub counts_below : List (List (List CommandTree)) → ℕ → List (ℕ �
 counts_below plan zero = []
 counts_below plan (suc n) = (n, count_of plan n) ∷ counts_below plan n
 
--- each retry is one of some shell below the number
-abbrev pub IsTriedBelow : BaseTree → List Turn → ℕ → RetryTree → Type 0
-IsTriedBelow base o n r = (last : ℕ) × (r.shell < n) × IsTried base o r.shell last r
-
--- the maker has taken in the passes of some shells, from 0 on, each done with its script, and these are their retries
+-- the maker has taken in the passes of some shells, from 0 on, each done with its script, and these are their retries, by their
+-- diaries
 pub record HasGathered (base : BaseTree) (maker : LogView) (retries : List Retry) : Type 0 where
   pub number : maker.number ≡ None
   pub based : maker.base ≡ Some base
   pub joined : maker.joined ≡ counts_below base.plan (joins maker)
-  pub each : All (IsTriedBelow base maker.seen (joins maker)) (map retry_tree retries)
-  pub order : InOrder (map retry_tree retries)
+  pub own : ℕ → List Retry
+  pub worked : (shell : ℕ) → shell < joins maker → HasWorked base maker.seen shell (own shell)
+  pub all : retries ≡ flat_map own (first_numbers (joins maker))

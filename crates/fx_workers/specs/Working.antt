@@ -1,36 +1,37 @@
 -- A shell at work on its script, through a desk of which is known what its pass knows.
 use Rattle.std.specs.Prelude.{◌≡◌, ◌⊎◌, ℕ, ◌+◌, ◌<◌, ◌≤◌, List, [], ◌∷◌, ◌++◌, map, length, Option, Some, None}
 use Rattle.std.specs.List.{sum_by}
-use Rattle.fx_store.specs.declared.node.Node.{Node}
-use Rattle.fx_view.specs.Reads.{read_at}
 use Rattle.fx_spec.specs.Plans.{count_of}
 use Rattle.fx_spec.specs.Order.{BaseTree}
 use Rattle.fx_machine.specs.declared.attempt.Attempt.{Attempt}
 use Rattle.fx_machine.specs.declared.retry.Retry.{Retry}
 use Rattle.fx_machine.specs.Explained.{IsExplained}
-use Rattle.fx_machine.specs.Tried.{retry_tree}
-use Rattle.fx_board.specs.Board.{IsStaleRead}
-use Rattle.fx_shared.specs.Passes.{LogView, HasBase, HasSeenMore, HasSettled}
+use Rattle.fx_machine.specs.Machine.{next_number}
+use Rattle.fx_run.specs.Running.{Foretells}
+use Rattle.fx_board.specs.Board.{IsNamed}
+use Rattle.fx_diary.specs.Diaries.{Diary}
+use Rattle.fx_diary.specs.Positions.{InTurn}
+use Rattle.fx_shared.specs.Passes.{LogView, HasBase, HasSeenMore, HasSettled, log_over}
 use Rattle.fx_workers.specs.declared.attempting.Outcome.{Outcome}
 use Rattle.fx_workers.specs.declared.attempting.Outcome.TheVariants as outcome
 use Rattle.fx_workers.specs.declared.worker.Worker.{Worker}
 use Rattle.fx_workers.specs.Live.{AreTrueOver}
-use Rattle.fx_workers.specs.Tried.{AreTried}
 
--- the attempt is the transaction's, and is explained; what it has read is true for the pass, and was looked at after all that
--- the pass had seen at the start
+-- the attempt is the transaction's, and is explained; each path that it has read came next for the transaction; the reads are
+-- true for the pass, and were looked at one after another, after all that the pass had seen at the start
 pub record HasTried (base : BaseTree) (shell txn : ℕ) (start now : LogView) (a : Attempt) : Type 0 where
   pub seen : HasSeenMore start now
   pub whose : a.shell ≡ shell
   pub number : a.txn ≡ txn
   pub explained : IsExplained base a
+  pub foretold : Foretells base (shell, txn) [] a.reads
   pub stand : AreTrueOver now a.reads
-  pub since : (path : List (List ℕ)) (node : Option Node) (position : ℕ) → read_at a.reads path ≡ Some (node, position) → length start.seen ≤ position
+  pub in_turn : InTurn (length start.seen) (length now.seen) a.reads
 
--- the attempt is an entry now, or an entry has changed what it had read
+-- the attempt is an entry now, or an entry has changed what it had read: the last one at the least such path
 abbrev pub ComesTo : LogView → LogView → Attempt → Outcome → Type 0
 ComesTo old new a outcome.Settled = (entry : ℕ) × HasSettled old new a entry
-ComesTo old new a (outcome.Conflict entry path) = HasSeenMore old new × HasBase new (λ base. IsStaleRead base new.seen a.reads entry path)
+ComesTo old new a (outcome.Conflict entry path) = HasSeenMore old new × HasBase new (λ base. IsNamed (log_over new base) a.reads entry path)
 
 module _ {D : Type 0} where
   -- the next transaction is settled, and no retry is noted
@@ -45,12 +46,14 @@ module _ {D : Type 0} where
     pub retries : new.retries.items ≡ old.retries.items ++ retry ∷ []
 
   module _ (view : D → LogView) where
-    -- the transactions of the script below the next one are settled, and no others
+    -- the transactions of the script below the next one are settled, and no others; all that was done stands in the shell's diary,
+    -- over the order that its pass has seen
     pub record IsWorker (base : BaseTree) (shell : ℕ) (w : Worker D) : Type 0 where
       pub number : (view w.desk).number ≡ Some shell
       pub based : (view w.desk).base ≡ Some base
       pub next : w.next ≡ (view w.desk).mine
-      pub tried : AreTried base (view w.desk).seen shell w.next (map retry_tree w.retries.items)
+      pub counted : next_number (view w.desk).seen shell ≡ w.next
+      pub diary : Diary base (view w.desk).seen shell (length (view w.desk).seen) [] w.retries.items
 
     -- the worker has seen more entries than before, and no more than the plan has transactions
     pub record HasGone (base : BaseTree) (shell : ℕ) (old new : Worker D) : Type 0 where

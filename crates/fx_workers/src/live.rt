@@ -3,7 +3,8 @@ ghost use Rattle.std.specs.Prelude.{◌≡◌, ◌∷◌, ◌++◌, [], true, No
 ghost use Rattle.fx_view.specs.Reads.{read_at};
 ghost use Rattle.fx_shared.specs.Passes.{HasSeenMore, IsLook};
 ghost use Rattle.fx_shared.specs.Shared.{IsReadyPass};
-ghost use Rattle.fx_workers.specs.Live.{AreTrueOver, AreTrueOver-prop, Vouches, begins_to_vouch};
+ghost use Rattle.fx_store.specs.Names.{IsPath};
+ghost use Rattle.fx_workers.specs.Live.{AreInTurn, AreInTurn-prop, AreTrueOver, AreTrueOver-prop, Vouches, begins_to_vouch};
 
 use crate::desk::{Desk, LogDesk};
 use fx_base::NoMemory;
@@ -17,7 +18,7 @@ use std::sync::Wait;
 /// A reader over a shared log, through a desk that it owns: it looks once at each path that it has not read, and never
 /// answers `Needs`. What it has read is true for its pass.
 ///
-/// It vouches that its reads are true for its pass, that the pass and the transaction are those from the start, the pass
+/// It vouches that its reads are true for its pass and were made one after another, that the pass and the transaction are those from the start, the pass
 /// with all that it had seen there and as many entries of its own, and that what was read since was looked at after all
 /// that had been seen there.
 #[derive(Drop)]
@@ -26,6 +27,7 @@ pub struct DeskReader<D: Desk> {
     txn: u32,
     reads: Reads,
     ghost true_reads: { AreTrueOver (D.view desk) reads } by { AreTrueOver-prop (D.view desk) reads },
+    ghost in_turn: { AreInTurn (D.view desk) reads } by { AreInTurn-prop (D.view desk) reads },
 }
 
 impl<D: Desk> DeskReader<D> {
@@ -104,6 +106,7 @@ fn note(
 ) -> Result<(), NoMemory>
     requires { read_at reads.old path.now ≡ None }
     ensures ok { OnOk result (reads.new ≡ reads.old ++ (path.now, (node.now, position)) ∷ []) }
+    ensures path { OnOk result (IsPath path.now) }
     ensures err { OnErr result (reads.new ≡ reads.old) }
 {
     let path = path.copy(alloc)?;
@@ -155,5 +158,5 @@ impl<D: Desk> Reader for DeskReader<D> {
     }
 
     ghost begins = { λ reader.
-        (refl, refl, begins_to_vouch (D.view reader.desk) reader.reads reader.true_reads) };
+        (refl, refl, begins_to_vouch (D.view reader.desk) reader.reads reader.true_reads reader.in_turn) };
 }

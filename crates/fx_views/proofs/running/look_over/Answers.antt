@@ -5,6 +5,7 @@ use Rattle.fx_snap.proofs.Crosses.{Versioned-send}
 use Rattle.fx_turn.specs.Seats.{view}
 use Rattle.fx_shared.specs.Passes.{LogView}
 use Rattle.fx_workers.specs.Crews.{base_of}
+use Rattle.fx_workers.proofs.Gathers.{none_gathered}
 use Rattle.fx_workers.proofs.Works.{fresh_pass}
 use Rattle.fx_views.proofs.Closings.{looked_over}
 use Rattle.fx_views.proofs.running.look_over.Goals as goal
@@ -21,6 +22,13 @@ join-requires-send-T g c κs = search (sendable, Versioned-send) depth 40
 pub work_beside-requires-clause-last : goal.work_beside-requires-clause-last
 work_beside-requires-clause-last g c κs within =
     fresh_pass (base_of c.args.crew.now) c.args.crew.now.shares.now (view c.passes_of.new.maker) c.pass-last.result c.pass-last.ensures.pass.1 c.in_ok-passes.ensures.maker.based c.pass-last.ensures.new
+
+pub gather-requires-clause-none : goal.gather-requires-clause-none
+gather-requires-clause-none g c =
+    let maker = c.in_ok-passes.ensures.maker in
+    let same = c.pass-last.ensures.maker in
+    none_gathered (base_of c.args.crew.now) (view c.pass-last.new.maker) (ap (λ (v : LogView). v.number) same ∙ maker.number) (ap (λ (v : LogView). v.base) same ∙ maker.based)
+    (ap (λ (v : LogView). v.joined) same ∙ (c.in_ok-passes.ensures.joined ∙ c.requires.first.1))
 
 pub returns-clause-over : goal.returns-clause-over
 returns-clause-over g c =

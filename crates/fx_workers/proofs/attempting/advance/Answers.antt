@@ -16,10 +16,10 @@ settle-requires-clause-reads g c =
 
 pub returns-in-Settled-clause-gone : goal.returns-in-Settled-clause-gone
 returns-in-Settled-clause-gone g c =
-    gone_settled g.D.Desk.view (base_tree c.args.base.now.value) c.args.shell c.args.worker _ (g.D.Desk.view c.in_ok-desk.desk) c.in_ok-desk.attempt c.requires.worker c.in_ok-desk.ensures.tried c.settle.ensures.legal
+    gone_settled g.D.Desk.view g.met.D.Desk.counted (base_tree c.args.base.now.value) c.args.shell c.args.worker _ (g.D.Desk.view c.in_ok-desk.desk) c.in_ok-desk.attempt c.requires.worker c.in_ok-desk.ensures.tried c.settle.ensures.legal
     (rw c.in-Settled.is at c.in_ok-settle.ensures.outcome) refl refl
 
 pub returns-in_ok-push-in-Conflict-clause-gone : goal.returns-in_ok-push-in-Conflict-clause-gone
 returns-in_ok-push-in-Conflict-clause-gone g c =
-    gone_retried g.D.Desk.view (base_tree c.args.base.now.value) c.args.shell c.args.worker _ (g.D.Desk.view c.in_ok-desk.desk) c.in_ok-desk.attempt c.requires.worker c.in_ok-desk.ensures.tried c.settle.ensures.legal
-    g.met.D.Desk.counted c.in-Conflict.entry c.in-Conflict.path c.requires.left (rw c.in-Conflict.is at c.in_ok-settle.ensures.outcome) refl c.in_ok-push-in-Conflict.ensures.items
+    gone_retried g.D.Desk.view g.met.D.Desk.counted (base_tree c.args.base.now.value) c.args.shell c.args.worker _ (g.D.Desk.view c.in_ok-desk.desk) c.in_ok-desk.attempt c.requires.worker c.in_ok-desk.ensures.tried c.settle.ensures.legal
+    c.in-Conflict.entry c.in-Conflict.path (rw c.in-Conflict.is at c.in_ok-settle.ensures.outcome) refl c.in_ok-push-in-Conflict.ensures.items

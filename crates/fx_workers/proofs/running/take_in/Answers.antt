@@ -6,5 +6,5 @@ use Rattle.fx_workers.proofs.running.take_in.Goals as goal
 pub returns-clause-gathered : goal.returns-clause-gathered
 returns-clause-gathered g c =
     let w = c.requires.done in
-    gathered_noted (base_of c.args.crew.now) (view c.args.maker.now) (view c.args.worked.pass) (view c.join.new.maker) c.args.retries.now c.args.worked.retries.items c.add_all.new.retries (view c.args.worked.pass).mine c.add_all.result c.requires.gathered
-    c.join.ensures.maker w.number w.all w.tried c.join.ensures.seen c.join.ensures.told c.add_all.ensures
+    gathered_noted (base_of c.args.crew.now) (view c.args.maker.now) (view c.args.worked.pass) (view c.join.new.maker) c.args.retries.now c.args.worked.retries.items c.add_all.new.retries c.add_all.result c.requires.gathered
+    c.join.ensures.maker w.number w.all w.worked c.join.ensures.seen c.join.ensures.told c.add_all.ensures

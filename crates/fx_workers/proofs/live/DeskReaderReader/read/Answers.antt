@@ -1,5 +1,5 @@
 use Rattle.std.proofs.Common.{◌∙◌}
-use Rattle.fx_workers.proofs.Looks.{stand_noted, vouches_looked, vouches_missed}
+use Rattle.fx_workers.proofs.Looks.{stand_noted, turns_noted, vouches_looked, vouches_missed}
 use Rattle.fx_workers.proofs.live.DeskReaderReader.read.Goals as goal
 
 pub invariant_of-self : goal.invariant_of-self
@@ -7,6 +7,7 @@ invariant_of-self g c =
     let s = c.look.new.self in
     record {
       true_reads = stand_noted (g.D.Desk.view s.desk) s.reads c.note.new.reads c.args.path.now (c.in_ok-node.node, c.in_ok-node.position) c.note.result s.true_reads c.in_ok-node.ensures.look c.note.ensures.ok c.note.ensures.err;
+      in_turn = turns_noted (g.D.Desk.view s.desk) s.reads c.note.new.reads c.args.path.now (c.in_ok-node.node, c.in_ok-node.position) c.note.result s.in_turn c.in_ok-node.ensures.look c.note.ensures.path c.note.ensures.ok c.note.ensures.err;
     }
 
 pub returns-in_err-note-clause-vouched : goal.returns-in_err-note-clause-vouched
@@ -16,4 +17,4 @@ returns-in_err-note-clause-vouched g c = λ start before v.
 pub returns-clause-vouched : goal.returns-clause-vouched
 returns-clause-vouched g c = λ start before v.
     vouches_looked start (g.D.Desk.view c.args.self.now.desk) (g.D.Desk.view c.look.new.self.desk) before c.args.self.now.reads c.look.new.self.reads c.note.new.reads c.args.path.now c.in_ok-node.node c.in_ok-node.position
-    c.look.ensures.more c.in_ok-node.ensures.look v c.look.ensures.reads c.in_ok-note.ensures.ok
+    c.look.ensures.more c.in_ok-note.ensures.path c.in_ok-node.ensures.look v c.look.ensures.reads c.in_ok-note.ensures.ok

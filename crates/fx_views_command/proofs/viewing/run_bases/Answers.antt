@@ -1,0 +1,14 @@
+use Rattle.std.proofs.Common.{◌≡◌, ◌++◌, subst, sym}
+use Rattle.fx_spec.specs.Bases.{base_tree}
+use Rattle.fx_spec.specs.Plans.{script_of}
+use Rattle.fx_board.specs.Log.{Log}
+use Rattle.fx_report.specs.Entries.{report}
+use Rattle.fx_report.specs.Views.{views_text}
+use Rattle.fx_views_command.proofs.Tracing.{views_run}
+use Rattle.fx_views_command.proofs.viewing.run_bases.Goals as goal
+
+pub returns : goal.returns
+returns g c =
+    let r = c.in_ok-log in
+    let ran = r.ensures in
+    views_run (base_tree c.args.bases.scripts.value) (script_of c.args.bases.views.value.plan 0) r.log r.retries r.viewed c.in_ok-output.output ran.base ran.complete ran.retries ran.ran ran.viewed c.in_ok-output.ensures
