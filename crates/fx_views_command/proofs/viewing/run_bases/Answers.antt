@@ -11,4 +11,5 @@ pub returns : goal.returns
 returns g c =
     let r = c.in_ok-log in
     let ran = r.ensures in
-    views_run (base_tree c.args.bases.scripts.value) (script_of c.args.bases.views.value.plan 0) r.log r.retries r.viewed c.in_ok-output.output ran.base ran.complete ran.retries ran.ran ran.viewed c.in_ok-output.ensures
+    let printed = subst (λ (log : Log). c.in_ok-output.output ≡ report log.base log.order r.retries ++ views_text r.viewed) c.board.ensures c.in_ok-output.ensures in
+    views_run (base_tree c.args.bases.scripts.value) (script_of c.args.bases.views.value.plan 0) r.log r.retries r.viewed c.in_ok-output.output ran.base ran.complete ran.retries ran.ran ran.viewed printed
