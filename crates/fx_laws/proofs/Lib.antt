@@ -16,3 +16,13 @@ pub mod Cuts
 pub mod EntryNames
 pub mod Spelled
 pub mod Edited
+pub mod Among
+pub mod Touched
+pub mod Apart
+pub mod Swapped
+pub mod Undone
+pub mod Serial
+pub mod Valid
+pub mod Fetched
+pub mod Scoped
+pub mod Moved

@@ -37,6 +37,7 @@ use Rattle.fx_spec.specs.Place.{Address, PlaceTree, place}
 use Rattle.fx_spec.specs.Task.{Task, Ends, Looks, Sets, result, after, asking, ◌>=>◌}
 use Rattle.fx_spec.specs.Transaction.{edits, effect, Standing, Flow, On, Over, go_on, binding, or_stop, taking, run, run_block, transaction, flow_end, is_done, end}
 use Rattle.fx_spec.proofs.EditsClear.{has-set_of}
+use Rattle.fx_laws.proofs.Among.{or_else, or_first}
 use Rattle.fx_laws.specs.Stored.{IsHeld, Same, SameContentIsAccepted, SameContentChangesNothing, storing, fetching_and_storing, ChangesNothing, SameStoreChangesNothing, FetchedStoreChangesNothing, LastLeaveNothing, SameStoreLeavesNothing, FetchedStoreLeavesNothing}
 
 -- ---------------------------------------------------------------------------------------------- the changes of such a store
@@ -52,14 +53,6 @@ set_same S q node e p = at (eq_by_cmp path_cmp p q) refl
 either : (b : Bool) → (b || b) ≡ true → b ≡ true
 either true e = refl
 either false e = e
-
-or_else : (a b : Bool) → b ≡ true → (a || b) ≡ true
-or_else true b e = refl
-or_else false b e = e
-
-or_first : (a b : Bool) → a ≡ true → (a || b) ≡ true
-or_first true b e = refl
-or_first false b e = absurd (true≢false (sym e))
 
 -- a directory that lists the same names has no entry that changes
 entry_none : (S : Store) (q names : List (List ℕ)) (n : List ℕ) → has names n ≡ true → answer S (entry q names names n) ≡ []
@@ -155,7 +148,7 @@ after-asking S (Answer a) next = refl
 after-asking S (Look p rule) next = after-asking S (rule (S p)) next
 after-asking S (Tick rule) next = after-asking S rule next
 
-result-asking : {A B : Type 0} (S : Store) (rule : Ask A) (next : A → Task B) → result S (asking rule next) ≡ result S (next (answer S rule))
+pub result-asking : {A B : Type 0} (S : Store) (rule : Ask A) (next : A → Task B) → result S (asking rule next) ≡ result S (next (answer S rule))
 result-asking S (Answer a) next = refl
 result-asking S (Look p rule) next = result-asking S (rule (S p)) next
 result-asking S (Tick rule) next = result-asking S rule next
@@ -165,7 +158,7 @@ after-then S (Ends a) next = refl
 after-then S (Looks p t) next = after-then S (t (S p)) next
 after-then S (Sets cs t) next = after-then (over S cs) t next
 
-result-then : {A B : Type 0} (S : Store) (t : Task A) (next : A → Task B) → result S (t >=> next) ≡ result (after S t) (next (result S t))
+pub result-then : {A B : Type 0} (S : Store) (t : Task A) (next : A → Task B) → result S (t >=> next) ≡ result (after S t) (next (result S t))
 result-then S (Ends a) next = refl
 result-then S (Looks p t) next = result-then S (t (S p)) next
 result-then S (Sets cs t) next = result-then (over S cs) t next

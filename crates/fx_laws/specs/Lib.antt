@@ -8,3 +8,11 @@ pub mod Small
 pub mod TokenLaws
 pub mod Spelled
 pub mod Edited
+pub mod Apart
+pub mod Swapped
+pub mod Undone
+pub mod Serial
+pub mod Valid
+pub mod Fetched
+pub mod Scoped
+pub mod Moved

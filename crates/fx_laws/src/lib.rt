@@ -1,13 +1,17 @@
-//! Laws of the definitions: of edits, of stores that change nothing, of the tokens of trees, of what a
-//! printed report spells, and worked examples that the checker computes. Each law stands on a function that does nothing,
-//! so that it is proved with the crate.
+//! Laws of the definitions: of edits, of stores, of moves and values, of two transactions and of orders, of the tokens of
+//! trees, of what a printed report spells, and worked examples that the checker computes. Each law stands on a function that
+//! does nothing, so that it is proved with the crate.
 #![tactic(auto)]
 
 pub mod edits;
 pub mod limits;
+pub mod moves;
+pub mod orders;
+pub mod pairs;
 pub mod reports;
 pub mod retries;
 pub mod scripts;
 pub mod stores;
 pub mod tokens;
+pub mod values;
 pub mod vectors;

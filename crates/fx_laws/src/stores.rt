@@ -1,4 +1,5 @@
-//! Laws of stores: storing what is there changes nothing.
+//! Laws of stores: storing what is there changes nothing, and what is stored at a file is fetched there.
+ghost use Rattle.fx_laws.specs.Fetched.{FileStoresAreFetched};
 ghost use Rattle.fx_laws.specs.Stored.{SameContentIsAccepted, SameContentChangesNothing, FetchedIsAccepted, SameStoreChangesNothing, SameStoreLeavesNothing, FetchedStoreChangesNothing, FetchedStoreLeavesNothing};
 
 /// On a whole filestore the store of what a file, a directory or a link holds already is accepted, and sets the node to
@@ -36,4 +37,9 @@ pub fn a_fetch_and_a_store_change_nothing()
 /// A transaction that is done and ends with them leaves what it leaves without them.
 pub fn a_transaction_that_fetches_and_stores_leaves_the_same()
     ensures { FetchedStoreLeavesNothing }
+{}
+
+/// What is stored at a file that is there is fetched there: bytes as bytes, a flag as the flag.
+pub fn what_is_stored_at_a_file_is_fetched()
+    ensures { FileStoresAreFetched }
 {}

@@ -1,0 +1,28 @@
+-- Which orders are as good as others.
+use Rattle.std.specs.Prelude.{◌≡◌, ℕ, ◌+◌, List, ◌∷◌, ◌++◌, length, map, Some}
+use Rattle.std.specs.FinMap.{get}
+use Rattle.fx_spec.specs.CommandTree.{CommandTree}
+use Rattle.fx_spec.specs.Plans.{Turn, txn_of, count_of}
+use Rattle.fx_spec.specs.Order.{BaseTree, IsComplete, state, first_numbers}
+use Rattle.fx_laws.specs.Apart.{AreApart}
+
+-- two transactions that come next, one after the other, and of which neither leaves another node at what the other consults
+pub record AreNeighbours (base : BaseTree) (before : List Turn) (a b : Turn) : Type 0 where
+  pub first : List CommandTree
+  pub second : List CommandTree
+  pub planned_first : txn_of base.plan a ≡ Some first
+  pub planned_second : txn_of base.plan b ≡ Some second
+  pub apart : AreApart base.description first second (get (state base before (length before)))
+
+-- they may change their places: each state behind them is the same
+abbrev pub NeighboursMaySwap : Type 0
+NeighboursMaySwap =
+    (base : BaseTree) (before later : List Turn) (a b : Turn) → AreNeighbours base before a b → (i : ℕ) → state base (before ++ a ∷ b ∷ later) (length before + (2 + i)) ≡ state base (before ++ b ∷ a ∷ later) (length before + (2 + i))
+
+-- the transactions of the first script, in its order
+abbrev pub alone : ℕ → List Turn
+alone count = map (λ n. (0, n)) (first_numbers count)
+
+-- of one script there is one complete order: the script's
+abbrev pub OneScriptOneOrder : Type 0
+OneScriptOneOrder = (base : BaseTree) (o : List Turn) → length base.plan ≡ 1 → IsComplete base o → o ≡ alone (count_of base.plan 0)
