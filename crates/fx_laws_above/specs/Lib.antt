@@ -1,0 +1,4 @@
+pub mod Begun
+pub mod Viewed
+pub mod Recovering
+pub mod Limits
