@@ -1,11 +1,14 @@
 use Rattle.std.proofs.Common.{◌≡◌, ◌∙◌, ◌++◌, ◌∷◌, [], codes, OnOk, false, ap, subst}
 use Rattle.fx_store.specs.declared.node.Node.TheVariants.{File, Dir, Link}
 use Rattle.fx_gen.specs.Notes.{made}
-use Rattle.fx_gen.proofs.Placing.{current_named, top_made}
+use Rattle.fx_gen.proofs.Placing.{current_named, config_named, top_made}
 use Rattle.fx_gen.proofs.files.add_top.Goals as goal
 
 pub below-requires-clause-name : goal.below-requires-clause-name
 below-requires-clause-name c = current_named
+
+pub add_file-requires-clause-name : goal.add_file-requires-clause-name
+add_file-requires-clause-name c = config_named
 
 pub returns-clause-added : goal.returns-clause-added
 returns-clause-added c =
