@@ -7,7 +7,7 @@ use Rattle.std.proofs.lemmas.List.{take_all, take-append-le}
 use Rattle.fx_spec.specs.Plans.{Turn, count_of}
 use Rattle.fx_spec.specs.Order.{BaseTree, IsLegal, IsComplete, RetriesOk, first_numbers}
 use Rattle.fx_machine.specs.declared.retry.Retry.{Retry}
-use Rattle.fx_machine.specs.Machine.{next_number}
+use Rattle.fx_machine.specs.Machine.{next_number, resting}
 use Rattle.fx_machine.specs.Tried.{conflicts_of, retry_tree}
 use Rattle.fx_machine.proofs.Complete.{complete_runs}
 use Rattle.fx_machine.proofs.Reached.{shell_within}
@@ -15,7 +15,7 @@ use Rattle.fx_diary.specs.Diaries.{Diary}
 use Rattle.fx_diary.specs.Laws.{DiariesMakeRuns}
 use Rattle.fx_diary.specs.Runs.{HasWorked, IsOfSomeRun, shells_in}
 use Rattle.fx_diary.proofs.Attempting.{next_rises, own_counts, waits_to}
-use Rattle.fx_diary.proofs.Following.{runs_have_schedules}
+use Rattle.fx_diary.proofs.Following.{runs_have_schedules, shells_of_plan}
 use Rattle.fx_diary.proofs.Growing.{empty, by_seen, flat_same}
 use Rattle.fx_diary.proofs.Merging.{HasRun, merged}
 
@@ -72,6 +72,7 @@ module _ (base : BaseTree) (o : List Turn) (legal : IsLegal base o) where
         record {
           events = h.events;
           schedule = shells_in h.events;
+          shells = shells_of_plan base (resting base []) h.events (resting base o) h.run;
           run = h.run;
           turns = runs_have_schedules base h.events o h.run complete;
           named = h.named;

@@ -1,8 +1,8 @@
 -- A run follows the schedule of its events' shells.
 use Rattle.std.proofs.Common.{◌≡◌, ⊎_elim, ℕ, zero, suc, ◌<◌, Bool, true, false, cond, nat_eq, List, [], ◌∷◌, ◌++◌, length, Some, None, is_some, refl, sym, ap, subst, ◌∙◌, arith}
-use Rattle.std.specs.List.{Contains, cons_option}
+use Rattle.std.specs.List.{All, Contains, cons_option}
 use Rattle.std.proofs.lemmas.Bool.Decides.{nat_tests}
-use Rattle.std.proofs.lemmas.List.Elements.{Contains-append_cases}
+use Rattle.std.proofs.lemmas.List.Elements.{All-nil, All-cons, Contains-append_cases}
 use Rattle.std.specs.Prelude.{nat_lt}
 use Rattle.fx_spec.specs.Plans.{Turn, script_of, count_of}
 use Rattle.fx_spec.specs.Order.{BaseTree, IsComplete, numbers_of, first_numbers}
@@ -10,6 +10,8 @@ use Rattle.fx_machine.specs.declared.event.Event.{Event}
 use Rattle.fx_machine.specs.declared.event.Event.TheVariants as event
 use Rattle.fx_machine.specs.Machine.{Machine, Run, Step, next_number, shell_of, resting}
 use Rattle.fx_machine.specs.Measure.{has_left}
+use Rattle.fx_machine.proofs.Legal.{fewer_settled}
+use Rattle.fx_machine.proofs.Reached.{shell_within}
 use Rattle.fx_machine.specs.Turns.{TakesTurns, steps, over}
 use Rattle.fx_progress.proofs.Turning.{more_is_left, runs_on, some_within}
 use Rattle.fx_diary.specs.Runs.{shells_in}
@@ -67,3 +69,14 @@ follows base order complete before (e ∷ later) m ran run =
 
 pub runs_have_schedules : RunsHaveSchedules
 runs_have_schedules base events order run complete = follows base order complete [] events (resting base []) refl run
+
+-- ---- the shells are the plan's
+
+of_plan : (base : BaseTree) (m : Machine) (e : Event) (m' : Machine) → Step base m e m' → shell_of e < length base.plan
+of_plan base m (event.Look shell path position) m' s = shell_within base shell (next_number m.order shell) (fewer_settled base m.order shell s.txn s.next)
+of_plan base m (event.Settled shell entry) m' s = shell_within base shell (next_number m.order shell) (fewer_settled base m.order shell s.txn s.next)
+of_plan base m (event.Conflict shell entry path) m' s = shell_within base shell (next_number m.order shell) (fewer_settled base m.order shell s.txn s.next)
+
+pub shells_of_plan : (base : BaseTree) (m : Machine) (events : List Event) (m' : Machine) → Run base m events m' → All (λ shell. shell < length base.plan) (shells_in events)
+shells_of_plan base m [] m' run = All-nil (λ shell. shell < length base.plan)
+shells_of_plan base m (e ∷ events) m' run = All-cons (λ shell. shell < length base.plan) (shell_of e) (shells_in events) (of_plan base m e run.0 run.1) (shells_of_plan base run.0 events m' run.2)

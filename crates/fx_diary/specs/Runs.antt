@@ -1,5 +1,5 @@
 -- A run to an order, and what a shell's diary has to say for it.
-use Rattle.std.specs.Prelude.{◌≡◌, ℕ, ◌≤◌, List, [], map, take, length}
+use Rattle.std.specs.Prelude.{◌≡◌, ℕ, ◌≤◌, ◌<◌, List, [], All, map, take, length}
 use Rattle.fx_spec.specs.Plans.{Turn, count_of}
 use Rattle.fx_spec.specs.Order.{BaseTree}
 use Rattle.fx_machine.specs.declared.event.Event.{Event}
@@ -14,11 +14,12 @@ use Rattle.fx_diary.specs.Diaries.{Diary}
 abbrev pub shells_in : List Event → List ℕ
 shells_in events = map shell_of events
 
--- some events lead from the empty order to this one by some schedule's turns, each conflict names the least path that was
+-- some events lead from the empty order to this one by the turns of some schedule of the plan's shells, each conflict names the least path that was
 -- changed and the last entry that changed it, and the retries are the conflicts, by shell
 pub record IsOfSomeRun (base : BaseTree) (order : List Turn) (retries : List Retry) : Type 0 where
   pub events : List Event
   pub schedule : List ℕ
+  pub shells : All (λ shell. shell < length base.plan) schedule
   pub run : Run base (resting base []) events (resting base order)
   pub turns : FollowsSchedule base schedule events
   pub named : NameConflicts base (resting base []) events

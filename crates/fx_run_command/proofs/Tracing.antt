@@ -17,6 +17,7 @@ pub behind_some_trace : (base : BaseTree) (order : List Turn) (retries : List Re
 behind_some_trace base order retries output ran is = (
   ran.schedule,
   lines ran.events,
+  ran.shells,
   record { events = ran.events; run = ran.run; turns = ran.turns; named = ran.named; conflicts = ran.conflicts; printed = ap (λ text. lines ran.events ++ text) is },
 )
 

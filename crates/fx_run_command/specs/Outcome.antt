@@ -1,5 +1,5 @@
 -- What a run comes to: the output, and the last filestore.
-use Rattle.std.specs.Prelude.{◌≡◌, ℕ, List, [], ◌++◌, map, length}
+use Rattle.std.specs.Prelude.{◌≡◌, ℕ, ◌<◌, List, [], ◌++◌, All, map, length}
 use Rattle.fx_store.specs.Whole.{Nodes}
 use Rattle.fx_outside.specs.Tree.{Tree}
 use Rattle.fx_spec.specs.Plans.{Turn}
@@ -26,9 +26,9 @@ pub record IsTracedAs (base : BaseTree) (schedule : List ℕ) (order : List Turn
   pub conflicts : retries ≡ retries_of base events
   pub printed : output ≡ lines events ++ report base order retries
 
--- there is a schedule by which `trace` may print this behind the lines of its events, of a run to the same order
+-- there is a schedule of the plan's shells by which `trace` may print this behind the lines of its events, of a run to the same order
 abbrev pub IsBehindSomeTrace : BaseTree → List Turn → List Retry → List ℕ → Type 0
-IsBehindSomeTrace base order retries output = (schedule : List ℕ) × (lines_before : List ℕ) × IsTracedAs base schedule order retries (lines_before ++ output)
+IsBehindSomeTrace base order retries output = (schedule : List ℕ) × (lines_before : List ℕ) × All (λ shell. shell < length base.plan) schedule × IsTracedAs base schedule order retries (lines_before ++ output)
 
 -- the report alone, which some `trace` prints too; or the events and the report, with what is said of the tree after each commit
 -- where it is watched
