@@ -205,10 +205,6 @@ pub current_named : IsName (codes "current")
 unfolding is_utf8 chars encode is_name
 current_named = refl
 
-pub config_named : IsName (codes "config")
-unfolding is_utf8 chars encode is_name
-config_named = refl
-
 pub count_named : IsName (codes "count")
 unfolding is_utf8 chars encode is_name
 count_named = refl
