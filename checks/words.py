@@ -25,7 +25,7 @@ LONG = 30
 TOP = pathlib.Path(__file__).resolve().parent.parent
 PROSE = set("Em Sy No Ql Dq Sq Pq Nm Ar Cm Fl Li Pa Xr Ev Ic".split())
 WORD = re.compile(r"[A-Za-z0-9'’.-]+")
-END = re.compile(r"(?<=[.!?:;])\s+(?=[A-Z`*\[(])")
+END = re.compile(r"(?<=[.!?:;])\s+(?=[A-Z*\[(])|(?<=[.!?])\s+(?=`)")
 
 
 class Sentence(NamedTuple):
@@ -81,7 +81,7 @@ def sentences_of(page: pathlib.Path) -> list[Sentence]:
     manual = page.suffix in (".1", ".5")
     found = []
     for block, in_table in manual_blocks_of(text) if manual else blocks_of(text):
-        block = re.sub(r"`[^`]*`", "code", re.sub(r"\]\([^)]*\)", "]", block))
+        block = re.sub(r"`[^`]*`", "`code`", re.sub(r"\]\([^)]*\)", "]", block))
         for sentence in END.split(block):
             count = len(WORD.findall(sentence))
             if count > 2:
