@@ -25,7 +25,10 @@ LONG = 30
 TOP = pathlib.Path(__file__).resolve().parent.parent
 PROSE = set("Em Sy No Ql Dq Sq Pq Nm Ar Cm Fl Li Pa Xr Ev Ic".split())
 WORD = re.compile(r"[A-Za-z0-9'’.-]+")
-END = re.compile(r"(?<=[.!?:;])\s+(?=[A-Z*\[(])|(?<=[.!?])\s+(?=`)")
+END = re.compile(
+    r"(?:(?<=[.!?:;])|(?<=[.!?][*)])|(?<=[.!?]\*\*))\s+(?=[A-Z*\[(])"  # a word that begins one
+    r"|(?<=[.!?])\s+(?=`)"  # or code
+)
 
 
 class Sentence(NamedTuple):
