@@ -2,14 +2,11 @@
 
 usage: hostile.py PROGRAM [PART...]
 
-Each try has a stage of its own: a fresh folder with the texts, FOLDER and what else it needs. After it the status must be
-one that the try allows, standard error must hold one line of the program exactly where the status is not 0, everything
-on the stage but OUT must be as before, and the program must have ended by itself, or by the signal that the try sent, and in
-time. Prints how many tries each part made, and ends with 1 at the first that is not so.
+Each try has a stage of its own, and has to go as stage.py says. Prints how many tries each part made, and ends with 1 at the
+first that goes otherwise.
 """
 
 import contextlib
-import hashlib
 import os
 import random
 import re
@@ -19,128 +16,17 @@ import socket
 import stat
 import subprocess
 import sys
-import tempfile
 import threading
 import time
 from collections import Counter
 
-from waiting import finished
-
-PROGRAM = os.path.abspath(sys.argv[1])
-SECONDS = 120
-
-# What each status may be called for: everything that reads, everything that may be done.
-DONE, USAGE, TEXT, FOLDER, READ, TAKEN, WRITE, MEMORY, JOURNAL = 0, 2, 3, 4, 5, 6, 7, 8, 9
-TEXT_LIMIT = 65_536
-FILE_LIMIT = 1_048_576
-
-FILES = {"a": b"hi", "n": b"7\n", "list": b"a\nn\n", "d/x": b"1", "d/e/y": b"2"}
-LINKS = b"/cur -> d\n"
-
-DESCRIPTIONS = [
-    'file',
-    '("a" :: file)',
-    '<x : ("list" :: file), {(y :: opt(file)) | y in lines(x)}>',
-    '<d : dir, {(n :: file) | n in (d only "*.txt")}>',
-    '(("cur" ++ "/x") :: opt(<s : file, pred((size(s) < 10))>))',
-    'def t(n : int, s : str) = <d : dir, {(k :: t((n + 1), k)) | k in (d only s)}> t(0, "d")',
-    'def f(n : int) = g((n + 1), "a") def g(n : int, s : str) = <x : (s :: file), {f(n) | k in if((n < 9), one(x), empty)}> f(0)',
-]
-SCRIPTS = [
-    'txn { down fetch x : str print(x) }',
-    'txn { down store("ho") up }\ntxn { down fetch x : str store(x) print("a\\x41") }',
-    'txn { into next try e down print(e) each n in ((one("a") union one("b"))) { if ((n == "a")) { print(n) } else { abort } } }',
-    'txn { validate v let t = if(v, "y", "n") set t = (t ++ "!") print(t) }',
-    '# comment\ntxn{}txn { value v : pair(str, table(opt(str))) print(second(v)) }',
-]
-
+import edges
+from deep import AROUND, BODIES, CALLS, WALKED, deep
+from stage import (
+    DESCRIPTIONS, DONE, FILE_LIMIT, FILES, FOLDER, JOURNAL, LINKS, MEMORY, READ, SCRIPTS, TAKEN, TEXT, TEXT_LIMIT, USAGE, WRITE, Stage, Wrong,
+)
 
 VIEWS = ["views", "spec", "in", "out", "views", "script"]
-
-
-class Wrong(Exception):
-    """A try that did not go as it should."""
-
-
-def tree_sum(folder, without):
-    """A sum over everything below a folder but one path: names, kinds, modes and bytes."""
-    found = hashlib.sha256()
-    for at, folders, files in os.walk(folder):
-        folders[:] = sorted(f for f in folders if os.path.join(at, f) != without)
-        for name in sorted(folders + files):
-            path = os.path.join(at, name)
-            if path == without:
-                continue
-            mode = os.lstat(path).st_mode
-            found.update(repr((os.path.relpath(path, folder), stat.S_IFMT(mode))).encode("utf-8", "surrogateescape"))
-            if stat.S_ISREG(mode):
-                with contextlib.suppress(PermissionError), open(path, "rb") as it:
-                    found.update(it.read())
-    return found.hexdigest()
-
-
-class Stage:
-    """A fresh folder with a description, a script and FOLDER, in which the program is run."""
-
-    def __init__(self, files=FILES, description=DESCRIPTIONS[1], script=SCRIPTS[0], table=None):
-        self.room = tempfile.TemporaryDirectory(prefix="hostile-")
-        self.top = self.room.name
-        os.chmod(self.top, 0o755)
-        self.out = self.path("out")
-        self.put("spec", description)
-        self.put("script", script)
-        self.put("views", SCRIPTS[0])
-        os.mkdir(self.path("in"))
-        for name, content in files.items():
-            self.put(f"in/{name}", content)
-        if table is not None:
-            self.put("in/.forest-links", table)
-
-    def __enter__(self):
-        return self
-
-    def __exit__(self, *_):
-        self.room.cleanup()
-
-    def path(self, name):
-        return os.path.join(self.top, name)
-
-    def put(self, name, content):
-        path = self.path(name)
-        os.makedirs(os.path.dirname(path), exist_ok=True)
-        with open(path, "wb") as it:
-            it.write(content.encode() if isinstance(content, str) else content)
-
-    def run(self, allowed, words=None, **given):
-        """Runs the program, and gives the status with what it printed."""
-        global tries, longest
-        tries += 1
-        words = ["run", "spec", "in", "out", "script"] if words is None else words
-        given.setdefault("stdout", subprocess.PIPE)
-        keeps = given.pop("keeps", True)
-        seconds = given.pop("seconds", SECONDS)
-        meanwhile = given.pop("meanwhile", None)
-        before = tree_sum(self.top, self.out)
-        begin = time.monotonic()
-        with subprocess.Popen([PROGRAM, *words], cwd=self.top, stdin=subprocess.DEVNULL, stderr=subprocess.PIPE, **given) as child:
-            if meanwhile:
-                meanwhile(child)
-            try:
-                printed, line = finished(child, seconds)
-            except TimeoutError as late:
-                raise Wrong(f"{words}: {late}") from None
-        status, longest = child.returncode, max(longest, time.monotonic() - begin)
-        if status < 0 and status not in allowed:
-            raise Wrong(f"{words}: ended by {signal.Signals(-status).name}")
-        if status not in allowed:
-            raise Wrong(f"{words}: status {status}, {line!r}, where {sorted(allowed)} may come")
-        if (status <= 0) != (line == b"") or line.count(b"\n") > 1 or line and not line.startswith(b"txforest: "):
-            raise Wrong(f"{words}: status {status} with {line!r} on standard error")
-        if keeps and tree_sum(self.top, self.out) != before:
-            raise Wrong(f"{words}: something besides OUT changed")
-        if status in (USAGE, TEXT, FOLDER, READ, TAKEN, JOURNAL) and (printed or os.path.lexists(self.out) and status != TAKEN):
-            raise Wrong(f"{words}: status {status}, and something was printed or written")
-        return status, printed
 
 
 def broken_texts():
@@ -495,32 +381,6 @@ def views_and_signals():
     print(f"        {', '.join(f'{n} {what}' for what, n in sorted(left.items()))}")
 
 
-# A form around a part: what stands before it and behind it, where N is a number of its own, and the moves from it to the part.
-FORMS = {
-    "option": ("opt(", ")", "into "),
-    "first part": ("<xN : ", ", dir>", "into "),
-    "second part": ("<xN : dir, ", ">", "into next "),
-    "table": ("{", ' | kN in one("a")}', "into "),
-    "focus": ('("d" :: ', ")", "down "),
-}
-# Around a call with an argument more forms do not nest.
-AROUND = 60
-BODIES = {name: [name] * AROUND for name in FORMS if name != "focus"} | {"all": ["focus", *(["option", "first part", "second part", "table"] * 15)][:AROUND]}
-CALLS = 64
-WALKED = "validate whole print(whole) %s validate there print(there) try on into print(on)"
-
-
-def deep(forms, calls):
-    """Two definitions that call each other inside these forms, so often, and the moves through all of them."""
-    before, behind, moves = zip(*(FORMS[form] for form in forms[:-1]), ("{", " | k in if((n < %d), one(\"a\"), empty)}" % calls, "into "))
-
-    def body(call):
-        return "".join(text.replace("N", f"{i}") for i, text in enumerate(before)) + call + "".join(text.replace("N", f"{i}") for i, text in reversed([*enumerate(behind)]))
-
-    text = f"def f(n : int) = {body('g((n + 1))')} def g(n : int) = {body('f((n + 1))')} f(1)"
-    return text, f"into {''.join(moves)}" * (calls - 1)
-
-
 def number_in_letters(i):
     """A short name for a number."""
     digits = "abcdefghijklmnopqrstuvwxyz"
@@ -673,13 +533,14 @@ def reports():
 
 PARTS = (
     words, broken_texts, limits, tables, strange_entries, outputs, places, machine, views_and_signals, definitions, generated, journals, reports,
+    edges.descriptors, edges.devices, edges.file_sizes, edges.stacks,
 )
-tries = 0
+Stage.program = os.path.abspath(sys.argv[1])
 for part in [part for part in PARTS if not sys.argv[2:] or part.__name__ in sys.argv[2:]]:
-    first, longest = tries, 0.0
+    first, Stage.longest = Stage.tries, 0.0
     try:
         part()
     except Wrong as wrong:
         sys.exit(f"{part.__name__}: {wrong}")
-    print(f"{tries - first:6} tries: {part.__doc__.rstrip('.')}; the longest took {longest:.1f} s", flush=True)
-print(f"{tries:6} tries, each with an allowed status and nothing else changed")
+    print(f"{Stage.tries - first:6} tries: {part.__doc__.rstrip('.')}; the longest took {Stage.longest:.1f} s", flush=True)
+print(f"{Stage.tries:6} tries, each with an allowed status and nothing else changed")

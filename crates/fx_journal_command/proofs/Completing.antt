@@ -1,7 +1,8 @@
 -- With fit inputs, an empty journal and no fault of host, sink or disk `journal` is done, or memory runs out.
-use Rattle.std.proofs.Common.{◌≡◌, ◌⊎◌, inl, inr, ℕ, Bool, ◌<◌, List, [], length, ap, subst, Option, Some, None, refl, arith}
+use Rattle.std.proofs.Common.{◌≡◌, ◌⊎◌, inl, inr, ℕ, Bool, false, ◌<◌, List, [], length, ap, subst, Option, Some, None, refl, arith}
 use Rattle.std.specs.Prelude.{IfSome, IsSomeAnd}
 use Rattle.fx_base.specs.Causes.{Rose}
+use Rattle.fx_outside.specs.Path.{is_fit}
 use Rattle.fx_outside.specs.Host.{HostView}
 use Rattle.fx_outside.specs.Sink.{SinkView}
 use Rattle.fx_outside.specs.Tree.{Tree}
@@ -11,14 +12,14 @@ use Rattle.fx_folder.specs.Loads.{IsRefused}
 use Rattle.fx_command.specs.declared.status.Status.{Status}
 use Rattle.fx_command.specs.declared.status.Status.TheVariants as status
 use Rattle.fx_command.proofs.Told.{same}
-use Rattle.fx_command.proofs.Outs.{not_taken, can_write}
+use Rattle.fx_command.proofs.Outs.{not_taken, can_write, not_unfit}
 use Rattle.fx_inputs.specs.Inputs.{HasTexts, HasInputs, CannotRead, IsFirstRefused}
 use Rattle.fx_inputs.proofs.AllRead.{can_read, none_refused, not_both}
 use Rattle.fx_inputs.proofs.ReadRows.{read_fault_rose}
 use Rattle.fx_words.specs.Job.{JournalJob}
 use Rattle.fx_run_command.specs.Rows.{CannotSave}
 use Rattle.fx_durable.specs.Disk.{File, DiskView}
-use Rattle.fx_journal_command.specs.Rows.{JournalEnd, JournalRow, KeepsJournal, CannotLeave, CannotStart, HasBroken, HoldsBytes, IsProperJournal}
+use Rattle.fx_journal_command.specs.Rows.{JournalEnd, JournalRow, KeepsJournal, CannotLeave, CannotReach, CannotStart, HasBroken, HoldsBytes, IsProperJournal}
 use Rattle.fx_journal_command.proofs.Keeping.{unbegun_keeps}
 
 abbrev Ends : Status → Type 0
@@ -38,8 +39,12 @@ module _ (j : JournalJob) (t : Tree) (host host' : HostView) (sink sink' : SinkV
   not_left (inl fault) = none fault.rose
   not_left (inr cannot) = can_write t j.run.out proper.run.there proper.run.free proper.run.above (subst (λ o. IsSomeAnd o (λ t. CannotSave t j.run)) is cannot).1
 
-  not_unbegun : (CannotLeave j.run host host' × (disk' ≡ disk)) ⊎ CannotStart j host disk disk' → ⊥
-  not_unbegun (inl (cannot, same)) = not_left cannot
+  not_reached : CannotReach j.run host host' → ⊥
+  not_reached (inl fault) = none fault.rose
+  not_reached (inr unfit) = not_unfit t j.run.out proper.run.there proper.run.free (subst (λ o. IsSomeAnd o (λ _. is_fit j.run.out ≡ false)) is unfit)
+
+  not_unbegun : (CannotReach j.run host host' × (disk' ≡ disk)) ⊎ CannotStart j host disk disk' → ⊥
+  not_unbegun (inl (cannot, same)) = not_reached cannot
   not_unbegun (inr (inl rose, free)) = calm rose
   not_unbegun (inr (inr other, free)) = not_other j.journal disk.told proper.empty other
 

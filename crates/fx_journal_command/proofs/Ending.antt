@@ -8,7 +8,7 @@ use Rattle.fx_outside.specs.Host.{HostView, ReadsOnly, FaultIn, HasFailed}
 use Rattle.fx_outside.specs.Path.{parts, is_fit}
 use Rattle.fx_outside.specs.Sink.{SinkView}
 use Rattle.fx_outside.specs.Tree.{Tree}
-use Rattle.fx_outside.proofs.Views.{reads_none, fault_in_back}
+use Rattle.fx_outside.proofs.Views.{reads_none, fault_in_back, failed_in_back}
 use Rattle.fx_folder.specs.Folder.{IfTold, IsReady, IsTaken, IsSaved, IsPartlySaved, Saves, SavesPart, SaveCause, LacksFolder}
 use Rattle.fx_folder.specs.declared.fault.SaveFault.TheVariants as save
 use Rattle.fx_spec.specs.Order.{BaseTree, state}
@@ -35,7 +35,7 @@ use Rattle.fx_journaling.specs.Recorded.{HasRecorded, HasBrokenOff}
 use Rattle.fx_journaling.specs.Taken.{HasGrown}
 use Rattle.fx_journaling.proofs.Fronts.{written_is_front}
 use Rattle.fx_journaling.proofs.Taking.{grown_as, grown_more}
-use Rattle.fx_journal_command.specs.Rows.{HasWrittenAll, IsStopped, IsStoppedAtDisk, IsLeft, IsLeftOrWhole, CannotLeave, CannotStart, HasEmptyJournal, IsUnbegun, HasBroken, IsBrokenOff, JournalEnd}
+use Rattle.fx_journal_command.specs.Rows.{HasWrittenAll, IsStopped, IsStoppedAtDisk, IsLeft, IsLeftOrWhole, CannotLeave, CannotReach, CannotStart, HasEmptyJournal, IsUnbegun, HasBroken, IsBrokenOff, JournalEnd}
 use Rattle.fx_journal_command.specs.Stages.{StartCause, holds, fails, status_in, RecordCause, FinishEnd, done, unmade, unsaved, unwritten}
 use Rattle.fx_journal_command.proofs.Keeping.{nothing_more, front_of, bytes_of, report_of, grown_by}
 
@@ -60,10 +60,6 @@ inputs_unread j host host' sink disk status.NoMemory reads row = inl (same host 
 inputs_unread j host host' sink disk (status.BadJournal place) reads row = absurd row
 
 -- OUT cannot be written
-unready_cause : (j : RunJob) (host host' : HostView) → IfSome host.told (λ t. HasInputs t j.inputs) → HasFailed (FaultIn j.out) (λ _. is_fit j.out) host host' → CannotLeave j host host'
-unready_cause j host host' inputs (inl fault) = inl fault
-unready_cause j host host' inputs (inr unfit) = inr (some_and (λ t. HasInputs t j.inputs) (λ t. is_fit j.out ≡ false) (λ t. CannotSave t j) host.told (λ t has unfit. (has, inl unfit)) inputs unfit)
-
 pub out_unready : (j : JournalJob) (host host' : HostView) (sink : SinkView) (disk : DiskView) (st : Status) → ReadsOnly host host' → IfSome host.told (λ t. HasInputs t j.run.inputs) → IsUnready j.run.out host host' st → JournalEnd j host host' sink sink disk disk st
 out_unready j host host' sink disk status.Done reads inputs cause = absurd cause
 out_unready j host host' sink disk status.Usage reads inputs cause = absurd cause
@@ -77,7 +73,7 @@ out_unready j host host' sink disk status.NotEmpty reads inputs taken = (
   if_some_both (λ t. HasInputs t j.run.inputs) (λ t. IsTaken t j.run.out) _ host.told (λ t has taken. (has, inl taken)) inputs taken,
 )
 out_unready j host host' sink disk status.WriteFault reads inputs failed =
-    inl (record { inputs = inputs; cause = inl (unready_cause j.run host host' inputs failed, refl); same = same host host' sink reads })
+    inl (record { inputs = inputs; cause = inl (failed, refl); same = same host host' sink reads })
 out_unready j host host' sink disk status.NoMemory reads inputs cause = inl (same host host' sink reads, refl)
 out_unready j host host' sink disk (status.BadJournal place) reads inputs cause = absurd cause
 
@@ -259,8 +255,8 @@ unbegun_back j a b c sink sink' disk disk' reads is = record {
   same = same_back a b c sink sink' reads is.same;
 }
   where
-    back : (CannotLeave j.run b c × (disk' ≡ disk)) ⊎ CannotStart j b disk disk' → (CannotLeave j.run a c × (disk' ≡ disk)) ⊎ CannotStart j a disk disk'
-    back (inl (cannot, same)) = inl (leave_back j.run a b c reads cannot, same)
+    back : (CannotReach j.run b c × (disk' ≡ disk)) ⊎ CannotStart j b disk disk' → (CannotReach j.run a c × (disk' ≡ disk)) ⊎ CannotStart j a disk disk'
+    back (inl (cannot, same)) = inl (failed_in_back j.run.out (λ _. is_fit j.run.out) a b c reads cannot, same)
     back (inr (fault, free)) = inr (fault, some_back (λ t. (there : Bool) × IsReady t j.run.out there) a b reads free)
 
 broken_back : (j : JournalJob) (a b c : HostView) (sink sink' : SinkView) (disk disk' : DiskView) → ReadsOnly a b → IsBrokenOff j b c sink sink' disk disk' → IsBrokenOff j a c sink sink' disk disk'

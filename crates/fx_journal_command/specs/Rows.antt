@@ -2,8 +2,8 @@
 use Rattle.std.specs.Prelude.{◌≡◌, ◌⊎◌, ◌<◌, ℕ, Bool, List, [], ◌∷◌, ◌++◌, length, Option, Some, IfSome, IsSomeAnd}
 use Rattle.fx_base.specs.Causes.{Rose}
 use Rattle.fx_store.specs.Whole.{Nodes}
-use Rattle.fx_outside.specs.Host.{HostView, FaultIn}
-use Rattle.fx_outside.specs.Path.{parts}
+use Rattle.fx_outside.specs.Host.{HostView, FaultIn, HasFailed}
+use Rattle.fx_outside.specs.Path.{parts, is_fit}
 use Rattle.fx_outside.specs.Sink.{SinkView}
 use Rattle.fx_outside.specs.Tree.{Tree}
 use Rattle.fx_folder.specs.Folder.{IfTold, IsReady, IsTaken, IsSaved, IsPartlySaved}
@@ -88,10 +88,14 @@ HasJournalFault path disk disk' = Rose disk.faults disk'.faults ⊎ TellsOther d
 abbrev pub CannotStart : JournalJob → HostView → DiskView → DiskView → Type 0
 CannotStart j host disk disk' = HasJournalFault j.journal disk disk' × IfSome host.told (λ t. (there : Bool) × IsReady t j.run.out there)
 
--- the inputs are read and no run was begun: OUT and the output are as before, and so is the disk if OUT cannot be left
+-- a call at OUT failed, or OUT is unfit
+abbrev pub CannotReach : RunJob → HostView → HostView → Type 0
+CannotReach j host host' = HasFailed (FaultIn j.out) (λ _. is_fit j.out) host host'
+
+-- the inputs are read and no run was begun: OUT and the output are as before, and so is the disk if OUT cannot be reached
 pub record IsUnbegun (j : JournalJob) (host host' : HostView) (sink sink' : SinkView) (disk disk' : DiskView) : Type 0 where
   pub inputs : IfSome host.told (λ t. HasInputs t j.run.inputs)
-  pub cause : (CannotLeave j.run host host' × (disk' ≡ disk)) ⊎ CannotStart j host disk disk'
+  pub cause : (CannotReach j.run host host' × (disk' ≡ disk)) ⊎ CannotStart j host disk disk'
   pub same : IsSame host host' sink sink'
 
 -- the file that the disk tells is the journal's, and is empty

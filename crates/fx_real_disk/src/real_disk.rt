@@ -51,10 +51,15 @@ fn keep<R: Files>(rt: &R, path: &str, file: &R::File) -> io::Result<()> {
     File::open(rt, folder_of(path))?.sync_all()
 }
 
-/// Opens a file that stays there from then on, and tells its length.
+/// Opens a file that stays there from then on, and tells its length. Of a device the system tells no length, so that what
+/// it holds would be taken for nothing: it is refused, as all else that is no file.
 fn chosen<R: Files>(rt: &R, path: &str) -> io::Result<(R::File, u64)> {
     let file = open(rt, path)?;
-    let size = file.metadata()?.len();
+    let found = file.metadata()?;
+    if !found.is_file() {
+        return Err(io::Error::from(ErrorKind::InvalidInput));
+    }
+    let size = found.len();
     if size == 0 {
         keep(rt, path, &file)?;
     }
