@@ -64,26 +64,33 @@ def done(words, scratch):
     return ran
 
 
-def best(scratch, makers, repeats):
-    """Of each command the fastest of some runs, and the folder that its last run made. The commands take turns, so that a
-    machine that is busy for a while slows all of them.
+WALL, PROCESSOR = "seconds", "user"
+
+
+def best(scratch, makers, repeats, by=WALL):
+    """Of each command the fastest of some runs, by seconds of wall clock or of processor, and the
+    folder that its last run made. The commands take turns, so that a machine that is busy for a
+    while slows all of them.
     """
     fastest, outs = [None for _ in makers], [os.path.join(scratch, f"out{i}") for i in range(len(makers))]
     for _ in range(repeats):
         for i, (words_of, out) in enumerate(zip(makers, outs)):
             shutil.rmtree(out, ignore_errors=True)
             ran = done(words_of(out), scratch)
-            if fastest[i] is None or ran.seconds < fastest[i].seconds:
+            if fastest[i] is None or getattr(ran, by) < getattr(fastest[i], by):
                 fastest[i] = ran
     return list(zip(fastest, outs))
 
 
-def beyond(scratch, words_of, none, script, repeats):
-    """A run of a script, its seconds without those of a script that does nothing, and a word on these."""
+def beyond(scratch, words_of, none, script, repeats, by=WALL):
+    """A run of a script, its seconds without those of a script that does nothing, and a word on
+    these: seconds of wall clock, or the command's own seconds of processor.
+    """
     texts = [write(scratch, name, text) for name, text in (("none", none), ("some", script))]
     makers = [lambda out, shell=shell: words_of(out, shell) for shell in texts]
-    (idle, _), (ran, out) = best(scratch, makers, repeats)
-    return ran, max(ran.seconds - idle.seconds, 0.001), f"load and save, {idle.seconds:.3f} s, left out", out
+    (idle, _), (ran, out) = best(scratch, makers, repeats, by)
+    left_out = getattr(idle, by)
+    return ran, max(getattr(ran, by) - left_out, 0.001), f"load and save, {left_out:.3f} s, left out", out
 
 
 def check_same(folder, out):

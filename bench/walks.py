@@ -1,5 +1,6 @@
-"""Walks and edits where there are many names: moves from element to element of a comprehension over 50,000 names; names that
-one transaction adds one by one to a directory of 50,000; files that are created there, by a transaction each.
+"""Walks and edits where there are many names: moves from element to element of a comprehension
+over 50,000 names; names that one transaction adds one by one to a directory of 50,000; files that
+are created there, by a transaction each, before all names and behind them.
 """
 
 import os
@@ -15,6 +16,7 @@ SIZES = [500, 1_000, 2_000]
 ADDED = [500, 2_000]
 CREATED = 1_000
 CREATED_AMONG = [5_000, 50_000]
+BEFORE, BEHIND = "a", "z"
 CREATED_REPEATS = 3
 CREATE = 'txn{to("%s")down create}\n'
 NAMES = 50_000
@@ -53,12 +55,14 @@ def additions(count):
     return measure.Line(f"run: names added to {NAMES:,} one by one", count, seconds, ran.peak_kib, more=more, goals=(goal,))
 
 
-def created(names):
-    """So many files, each made by a transaction of its own in a directory that has these names already."""
+def created(names, letter, goals):
+    """A thousand files, each made by a transaction of its own in a directory that has so many names
+    already, which all begin with `f`; the new names begin with this letter.
+    """
     with tempfile.TemporaryDirectory() as scratch:
         folder = os.path.join(scratch, "in")
         empty_files(folder, names)
-        added = [f"a{i:04}" for i in range(CREATED)]
+        added = [f"{letter}{i:04}" for i in range(CREATED)]
         listed = "".join(f"{name}\\n" for name in added)
         spec = measure.write(scratch, "spec", f'{{(n :: file) | n in lines("{listed}")}}\n')
         words_of = lambda out, shell: [measure.program(), "run", spec, folder, out, shell]
@@ -66,11 +70,15 @@ def created(names):
         ran, seconds, more, out = measure.beyond(scratch, words_of, "", script, CREATED_REPEATS)
         if ran.out.count(b" done\n") != CREATED or len(os.listdir(out)) != names + CREATED:
             sys.exit(f"not every file was made: {ran.out[:200]!r}")
-    peer, goals = sqlite_peer.insertions(names, CREATED), (each(30, MICROSECONDS, CREATED), NEAR_LINEAR)
-    return measure.Line(f"run: {CREATED:,} files created among names", names, seconds, ran.peak_kib, "SQLite, memory", peer, more, goals)
+    peer = sqlite_peer.insertions(names, CREATED)
+    where = {BEFORE: "before", BEHIND: "behind"}[letter]
+    kind = f"run: {CREATED:,} files created {where} all names"
+    return measure.Line(kind, names, seconds, ran.peak_kib, "SQLite, memory", peer, more, goals)
 
 
 def lines(sizes):
     yield from (moves(count) for count in sizes or SIZES)
     yield from (additions(count) for count in sizes or ADDED)
-    yield from (created(names) for names in CREATED_AMONG)
+    for letter, most in ((BEFORE, 30), (BEHIND, 110)):
+        goals = (each(most, MICROSECONDS, CREATED), NEAR_LINEAR)
+        yield from (created(names, letter, goals) for names in CREATED_AMONG)

@@ -13,7 +13,7 @@ use Rattle.fx_store.specs.Faults.{read_link, Answers as Reads}
 use Rattle.fx_store.specs.Names.{IsContent}
 use Rattle.fx_expr.specs.Sets.{IsAscending, set_of}
 use Rattle.fx_expr.specs.Tree.{Tree}
-use Rattle.fx_expr.proofs.Canon.{ascending_set, has_set, same_sets}
+use Rattle.fx_text.proofs.Canon.{ascending_set, has_set, same_sets}
 use Rattle.fx_spec.specs.declared.refusal.Refusal.{Refusal}
 use Rattle.fx_spec.specs.Edit.{is_content, is_storable, form_node, stored_node, names_node, link_node}
 use Rattle.fx_spec.specs.Move.{Answered}

@@ -82,15 +82,15 @@ module _ (texts : List (List ℕ)) where
       ap (λ b. cond b (Ok (Dir texts)) (Err Refusal.BadName)) (ap (list_all is_name) (sym whole) ∙ all_fails is_name names t more bad.0) ∙ ap (λ (r : Refusal). Err r) bad.1
 
   module _ (names rest : List (List ℕ)) (is : AreNamed texts names rest) (none : rest ≡ []) where
-    whole : names ≡ texts
-    whole = sym (append-nil names) ∙ (ap (λ ns. names ++ ns) (sym none) ∙ is.same)
+    pub naming_all : names ≡ texts
+    naming_all = sym (append-nil names) ∙ (ap (λ ns. names ++ ns) (sym none) ∙ is.same)
 
     pub naming_set : IsAscending texts → IsNameSet names
-    naming_set up = record { names = all_pass is_name names is.all; ascending = subst IsAscending (sym whole) up }
+    naming_set up = record { names = all_pass is_name names is.all; ascending = subst IsAscending (sym naming_all) up }
 
     pub naming_ends : (made : List (List ℕ)) → made ≡ names → names_node texts ≡ Ok (Dir made)
     naming_ends made same =
-        ap names_node (sym whole) ∙ (ap (λ b. cond b (Ok (Dir names)) (Err Refusal.BadName)) is.all ∙ ap (λ (ns : List (List ℕ)). Ok (Dir ns)) (sym same))
+        ap names_node (sym naming_all) ∙ (ap (λ b. cond b (Ok (Dir names)) (Err Refusal.BadName)) is.all ∙ ap (λ (ns : List (List ℕ)). Ok (Dir ns)) (sym same))
 
 -- ---- what calls tell
 

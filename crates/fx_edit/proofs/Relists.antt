@@ -14,9 +14,9 @@ use Rattle.fx_store.specs.Names.{has, name_cmp}
 use Rattle.fx_store.specs.Orders.{name_total}
 use Rattle.fx_store.specs.Rule.{Ask, Answer, ◌>>=◌}
 use Rattle.fx_expr.specs.Sets.{IsAscending, has_text, set_of}
-use Rattle.fx_expr.proofs.Canon.{ascending_set}
-use Rattle.fx_expr.proofs.Merging.{least_of_first, least_of_second, least_less, least_equal, least_greater}
-use Rattle.fx_expr.proofs.Order.{other_greater, other_less, same_text}
+use Rattle.fx_text.proofs.Canon.{ascending_set}
+use Rattle.fx_text.proofs.Merging.{least_of_first, least_of_second, least_less, least_equal, least_greater}
+use Rattle.fx_text.proofs.Order.{other_greater, other_less, same_text}
 use Rattle.fx_spec.specs.Edit.{entry, entries}
 use Rattle.fx_edit.specs.Rules.{adding, changed_entries, left_of, change_of, IsFirst, IsNext, IsNextOf}
 use Rattle.fx_view.specs.declared.reader.Stop.{Stop}

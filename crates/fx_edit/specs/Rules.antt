@@ -7,7 +7,7 @@ use Rattle.fx_store.specs.Changes.{changed_paths}
 use Rattle.fx_store.specs.Resolve.{◌/ₚ◌, parent, resolve}
 use Rattle.fx_store.specs.Rule.{Ask, Answer, Look, look_all, ◌>>=◌}
 use Rattle.fx_store.specs.Names.{has}
-use Rattle.fx_expr.specs.Merges.{IsLeastOf}
+use Rattle.fx_text.specs.Merges.{IsLeastOf}
 use Rattle.fx_expr.specs.Sets.{set_of, with_text}
 use Rattle.fx_spec.specs.Edit.{set_to, removed, names_of, entry, entries, clear, children, without_name, follows_last, store_landed, create_landed, remove_landed}
 use Rattle.fx_spec.specs.Move.{Answered}

@@ -167,7 +167,7 @@ fn texts_in(value: &Value) -> Option<&TextSet>
 fn content(alloc: Global, text: &Text) -> Result<Bytes, NoMemory>
     ensures { IfOk result (λ bytes. (bytes ≡ text.now) × IsContent text.now) }
 {
-    let bytes = Bytes::from_vec(text.copy(alloc)?.into_vec());
+    let bytes = Bytes::from_vec(text.to_vec(alloc)?);
     // A content is within its limits.
     let _limits = bytes.as_slice();
     Ok(bytes)
@@ -181,7 +181,7 @@ fn link_of(alloc: Global, text: &Text) -> Result<Node, Halt>
     Ok(Node::Link(LinkText::read(alloc, bytes.as_slice())?))
 }
 
-/// The names that the texts of a set are, shared where they are among the likely ones.
+/// The names that the texts of a set are, shared where they are among the likely ones, beside that set.
 fn names_of(alloc: Global, texts: &TextSet, likely: &Names) -> Result<Names, Halt>
     ensures names { Tells (λ names. Dir names) (edit.names_node texts.now) result }
     ensures order { IsAscending texts.now }
@@ -193,7 +193,7 @@ fn names_of(alloc: Global, texts: &TextSet, likely: &Names) -> Result<Names, Hal
     for text in texts.iter() {
         names.push(next_name(alloc, text, &mut left)?)?;
     }
-    Ok(Names::from_vec(alloc, names)?)
+    Ok(Names::from_parts(alloc, names, texts)?)
 }
 
 /// The name that a text is, shared where it is among those that are left.

@@ -10,8 +10,8 @@ use Rattle.fx_expr.specs.declared.value.Value.{Value}
 use Rattle.fx_expr.specs.Bindings.{bound, newer_or, assigned, assign_or, own_assigned, first_some, or_same, IsNewest}
 use Rattle.fx_expr.specs.Tree.{Tree}
 use Rattle.fx_expr.specs.Views.{entry_tree, tree_of}
-use Rattle.fx_expr.proofs.Canon.{nat_list_exact}
-use Rattle.fx_expr.proofs.Order.{same_text}
+use Rattle.fx_text.proofs.Canon.{nat_list_exact}
+use Rattle.fx_text.proofs.Order.{same_text}
 
 module _ {X : Type 0} where
   pub bound_drop : (xs : List (List ℕ × X)) (i : ℕ) (word : List ℕ) (v : X) → bound (drop i xs) word ≡ Some v → bound xs word ≡ Some v

@@ -1,9 +1,8 @@
 -- That the types of this crate cross threads: a value may move to another thread, and two threads may read one.
 use denote.Param.Send.{IsSend, IsSync, sendable}
 use Rattle.std.proofs.Crossing.{crosses}
-use Rattle.fx_expr.specs.contracts.text.Text as text
 use Rattle.fx_expr.specs.contracts.word.Word as word
-use Rattle.fx_expr.specs.contracts.set.TextSet as text_set
+use Rattle.fx_text.proofs.Crosses.{Text-send, Text-sync, TextSet-send, TextSet-sync}
 use Rattle.fx_expr.specs.contracts.shape.Shape as shape
 use Rattle.fx_expr.specs.contracts.expr.Expr as expr
 use Rattle.fx_expr.specs.contracts.formula.Formula as formula
@@ -13,23 +12,11 @@ use Rattle.fx_expr.proofs.shape.Shape.TheLaws.TheKnot.{send-Shape, sync-Shape}
 use Rattle.fx_expr.proofs.expr.Expr.TheLaws.TheKnot.{send-Expr, sync-Expr}
 use Rattle.fx_expr.proofs.value.Value.TheLaws.TheKnot.{send-Value, sync-Value}
 
-pub Text-send : IsSend (text.the_field).row
-Text-send = search (sendable, crosses) depth 40
-
-pub Text-sync : IsSync (text.the_field).row
-Text-sync = search (sendable, crosses) depth 40
-
 pub Word-send : IsSend (word.the_field).row
 Word-send = search (sendable, crosses) depth 40
 
 pub Word-sync : IsSync (word.the_field).row
 Word-sync = search (sendable, crosses) depth 40
-
-pub TextSet-send : IsSend (text_set.the_field).row
-TextSet-send = search (sendable, crosses, Text-send, Text-sync) depth 40
-
-pub TextSet-sync : IsSync (text_set.the_field).row
-TextSet-sync = search (sendable, crosses, Text-send, Text-sync) depth 40
 
 pub Shape-send : IsSend (shape.the_field).row
 Shape-send = search (sendable, crosses, send-Shape) depth 40

@@ -8,7 +8,7 @@ use Rattle.fx_expr.specs.Tree.{Tree}
 use Rattle.fx_expr.specs.Eval.{entries_in}
 use Rattle.fx_expr.specs.Rows.{keys_of, values_of}
 use Rattle.fx_expr.specs.Views.{tree_of, entry_tree}
-use Rattle.fx_expr.proofs.Canon.{nat_list_exact}
+use Rattle.fx_text.proofs.Canon.{nat_list_exact}
 use Rattle.fx_expr.proofs.Trees.{table_tree, table_keys, same_table, entries_rows}
 
 both : (a b : Bool) → (a && b) ≡ true → (a ≡ true) × (b ≡ true)

@@ -3,9 +3,9 @@ use Rattle.std.proofs.Common.{◌≡◌, ℕ, zero, suc, false, cond, List, [], 
 use Rattle.std.specs.List.{zip}
 use Rattle.std.specs.Cmp.Lexicographic.{pointwise}
 use Rattle.std.proofs.lemmas.Bool.{or_parts}
-use Rattle.fx_expr.specs.Sets.{has_text, IsAscending}
+use Rattle.fx_text.specs.Sets.{has_text, IsAscending}
 use Rattle.fx_expr.specs.Rows.{keys_of, look_up}
-use Rattle.fx_expr.proofs.Order.{same_text, other_less, below_place, ascending_rest}
+use Rattle.fx_text.proofs.Order.{same_text, other_less, below_place, ascending_rest}
 
 module _ {X : Type 0} where
   pub length_zip : (ks : List (List ℕ)) (vs : List X) → length vs ≡ length ks → length (zip ks vs) ≡ length ks

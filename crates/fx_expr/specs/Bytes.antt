@@ -1,12 +1,8 @@
 -- Texts and words, as lists of bytes.
 use Rattle.std.specs.Prelude.{◌≡◌, ℕ, ◌≤◌, Bool, true, false, ◌||◌, ◌&&◌, List, [], ◌∷◌, length, nat_eq, nat_le}
 use Rattle.std.specs.List.{list_all}
-use Rattle.fx_expr.specs.declared.text.TheConstants.{TEXT_LIMIT}
+pub use Rattle.fx_text.specs.Bytes.{IsText}
 use Rattle.fx_expr.specs.declared.word.TheConstants.{WORD_LIMIT}
-
--- a text has at most so many bytes
-abbrev pub IsText : List ℕ → Type 0
-IsText bytes = length bytes ≤ TEXT_LIMIT
 
 -- a letter of ASCII or `_`
 abbrev pub begins_word : ℕ → Bool

@@ -13,11 +13,11 @@ use Rattle.fx_expr.specs.declared.expr.BinOp.{BinOp}
 use Rattle.fx_expr.specs.declared.expr.UnOp.{UnOp}
 use Rattle.fx_expr.specs.declared.fault.ExprFault.{ExprFault}
 use Rattle.fx_expr.specs.declared.fault.ExprFault.TheVariants.{TooLong, Overflow, NotNumber}
-use Rattle.fx_expr.specs.declared.set.TheConstants.{UNION_LIMIT}
-use Rattle.fx_expr.specs.declared.text.TheConstants.{TEXT_LIMIT}
+use Rattle.fx_text.specs.declared.set.TheConstants.{UNION_LIMIT}
+use Rattle.fx_text.specs.declared.text.TheConstants.{TEXT_LIMIT}
 use Rattle.fx_expr.specs.Bindings.{bound}
 use Rattle.fx_expr.specs.Globs.{glob_matches}
-use Rattle.fx_expr.specs.Sets.{has_text, set_of, weight}
+use Rattle.fx_text.specs.Sets.{has_text, set_of, weight, without}
 use Rattle.fx_expr.specs.Tree.{Tree, entries}
 use Rattle.fx_expr.specs.ExprTree.{ExprTree}
 
@@ -92,9 +92,6 @@ is_less _ v = false
 -- the union of two sets; TooLong above the limit of its weight
 abbrev pub united : List (List ℕ) → List (List ℕ) → Outcome
 united a b = let both = set_of (a ++ b) in cond (nat_le (weight both) UNION_LIMIT) (Ok (Tree.names both)) (Err TooLong)
-
-abbrev pub without : List (List ℕ) → List (List ℕ) → List (List ℕ)
-without a b = filter (λ x. not (has_text x b)) a
 
 -- the pieces between line feeds, without the empty ones
 abbrev pub pieces : List ℕ → List (List ℕ)

@@ -1,7 +1,7 @@
 -- The rows of a table, as a list of texts with values.
 use Rattle.std.specs.Prelude.{ℕ, cond, List, [], ◌∷◌, map, Option, Some, None, nat_eq}
 use Rattle.std.specs.Cmp.Lexicographic.{pointwise}
-use Rattle.fx_expr.specs.Sets.{IsAscending}
+use Rattle.fx_text.specs.Sets.{IsAscending}
 
 abbrev pub keys_of : {X : Type 0} → List (List ℕ × X) → List (List ℕ)
 keys_of rows = map (λ r. r.0) rows

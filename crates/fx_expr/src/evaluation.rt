@@ -14,13 +14,13 @@ ghost use Rattle.fx_expr.specs.Views.{expr_tree, tree_of};
 use crate::env::Env;
 use crate::expr::Expr;
 use crate::fault::EvalFault;
+use crate::glob::only;
 use crate::operators::{apply_after, apply_one, decides};
 use crate::parts::{into_truth, let_go};
-use crate::set::TextSet;
-use crate::text::Text;
 use crate::value::Value;
 use crate::word::Word;
 use fx_base::{NoMemory, Steps};
+use fx_text::{Text, TextSet};
 use std::alloc::Global;
 use std::sync::ledger::Ledger;
 
@@ -89,7 +89,7 @@ fn matching(alloc: Global, set: Value, glob: &Text) -> Result<Value, EvalFault>
         (Ok (Tree.names (filter (λ x. glob_matches glob.now x) (names_in (tree_of set))))) }
 {
     let names = set.into_names(alloc);
-    Ok(Value::Names(names.only(alloc, glob.as_slice())?))
+    Ok(Value::Names(only(alloc, &names, glob.as_slice())?))
 }
 
 /// A value of an expression has the expression's shape, wherever the bound words have theirs: so evaluation never meets

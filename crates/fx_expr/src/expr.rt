@@ -1,9 +1,9 @@
 ghost use Rattle.std.specs.Prelude.{◌≡◌, IfOk};
 ghost use Rattle.fx_expr.specs.Views.{expr_tree};
 
-use crate::text::Text;
 use crate::word::Word;
 use fx_base::NoMemory;
+use fx_text::Text;
 use std::alloc::Global;
 
 /// An operator between two expressions.

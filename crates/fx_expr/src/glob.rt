@@ -1,6 +1,11 @@
-ghost use Rattle.std.specs.Prelude.{◌≡◌, ◌≤◌, ◌||◌, drop, length, nat_eq};
+ghost use Rattle.std.specs.Prelude.{◌≡◌, ◌≤◌, ◌||◌, IfOk, drop, length, nat_eq};
+ghost use Rattle.std.specs.List.{filter};
 ghost use Rattle.fx_expr.specs.Globs.{glob_matches, some_suffix};
 ghost use Rattle.fx_expr.specs.Attempts.{Attempted};
+
+use fx_base::NoMemory;
+use fx_text::TextSet;
+use std::alloc::Global;
 
 /// What comes of one attempt to match a glob at the start of a text.
 enum Attempt {
@@ -10,6 +15,21 @@ enum Attempt {
     Fails,
     /// As many bytes before the first `*` match as many bytes of the text.
     Star(usize),
+}
+
+/// The texts of a set that match the glob.
+pub(crate) fn only(alloc: Global, set: &TextSet, glob: &[u8]) -> Result<TextSet, NoMemory>
+    ensures { IfOk result (λ kept. kept ≡ filter (λ text. glob_matches glob.now text) set.now) }
+{
+    // The texts ascend.
+    let _len = set.len();
+    let mut kept = Vec::new(alloc);
+    for text in set.iter() {
+        if matches(glob, text.as_slice()) {
+            kept.push(text.copy(alloc)?)?;
+        }
+    }
+    TextSet::from_ascending(alloc, kept)
 }
 
 /// Whether the whole text matches the glob, byte by byte: `*` stands for any bytes, `?` for any one byte, each other byte

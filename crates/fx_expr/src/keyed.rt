@@ -3,9 +3,8 @@ ghost use Rattle.std.specs.Option.{option_copied, option_map};
 ghost use Rattle.std.specs.List.{zip};
 ghost use Rattle.fx_expr.specs.Rows.{keys_of, values_of, IsRows, look_up};
 
-use crate::set::TextSet;
-use crate::text::Text;
 use fx_base::NoMemory;
+use fx_text::{Text, TextSet};
 use std::alloc::Global;
 use std::marker::Model;
 

@@ -15,9 +15,7 @@ mod number;
 mod operators;
 mod parts;
 mod projections;
-mod set;
 mod shape;
-mod text;
 mod value;
 mod word;
 
@@ -29,8 +27,9 @@ pub use formula::{Formula, an_expression_without_names_has_one_value};
 pub use glob::matches;
 pub use keyed::Keyed;
 pub use lists::{Texts, Values};
-pub use set::{TextSet, UNION_LIMIT};
 pub use shape::Shape;
-pub use text::{TEXT_LIMIT, Text};
 pub use value::{Rows, Value};
 pub use word::{WORD_LIMIT, Word};
+
+// Texts and sets of them, which callers take from here beside the values that hold them.
+pub use fx_text::{TEXT_LIMIT, Text, TextSet, UNION_LIMIT};

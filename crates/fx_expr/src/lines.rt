@@ -1,11 +1,10 @@
 ghost use Rattle.std.specs.Prelude.{◌≡◌, ◌++◌, [], ◌∷◌, IfOk, OnOk, cond, length, nat_lt};
 ghost use Rattle.fx_expr.specs.Bytes.{IsText};
 ghost use Rattle.fx_expr.specs.Eval.{pieces};
-ghost use Rattle.fx_expr.specs.Sets.{set_of};
+ghost use Rattle.fx_text.specs.Sets.{set_of};
 
-use crate::set::TextSet;
-use crate::text::Text;
 use fx_base::NoMemory;
+use fx_text::{Text, TextSet};
 use std::alloc::Global;
 
 // The set of a text's pieces between line feeds, empty ones left out.

@@ -3,9 +3,9 @@ ghost use Rattle.std.specs.Slice.Iter.{iter_rest};
 ghost use Rattle.std.specs.Option.{option_map, option_copied};
 ghost use Rattle.fx_expr.specs.Views.{tree_of};
 
-use crate::text::Text;
 use crate::value::{Value, are_same, copy_values};
 use fx_base::NoMemory;
+use fx_text::Text;
 use std::alloc::Global;
 use std::marker::Model;
 use std::slice;

@@ -6,8 +6,8 @@ ghost use Rattle.std.specs.Fmt.{signed_decimal};
 ghost use Rattle.std.specs.Prelude.{Ok, Err};
 
 use crate::fault::ExprFault;
-use crate::text::Text;
 use fx_base::NoMemory;
+use fx_text::Text;
 use std::alloc::Global;
 use std::str;
 

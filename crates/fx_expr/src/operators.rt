@@ -3,7 +3,7 @@ ghost use Rattle.std.specs.Prelude.{◌≡◌, ◌+ℤ◌, ◌-ℤ◌, ◌++◌}
 ghost use Rattle.std.specs.Option.{option_map};
 ghost use Rattle.fx_expr.specs.Eval.{Outcome, joined, in_range, same_value, is_less, read_integer, two, one, decided, then_on, text_in, names_in};
 ghost use Rattle.fx_expr.specs.Gives.{Gives};
-ghost use Rattle.fx_expr.specs.Sets.{has_text};
+ghost use Rattle.fx_text.specs.Sets.{has_text};
 ghost use Rattle.fx_expr.specs.Tree.{Tree};
 ghost use Rattle.fx_expr.specs.Views.{tree_of};
 
@@ -15,10 +15,9 @@ use crate::parts::{
     into_first, into_integer, into_keys, into_presence, into_second, into_size, into_truth,
     names_or, text_or,
 };
-use crate::set::{TextSet, UNION_LIMIT};
-use crate::text::{TEXT_LIMIT, Text};
 use crate::value::Value;
 use fx_base::NoMemory;
+use fx_text::{TEXT_LIMIT, Text, TextSet, UNION_LIMIT};
 use std::alloc::Global;
 
 // What an operator's first part decides alone.

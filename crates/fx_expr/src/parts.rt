@@ -3,9 +3,8 @@ ghost use Rattle.std.specs.Prelude.{◌≡◌, [], pos, map};
 ghost use Rattle.fx_expr.specs.Eval.{text_in, integer_in, truth_in, names_in, first_in, second_in, entries_in, is_some_in, size_in};
 ghost use Rattle.fx_expr.specs.Views.{tree_of};
 
-use crate::set::TextSet;
-use crate::text::Text;
 use crate::value::Value;
+use fx_text::{Text, TextSet};
 use std::alloc::Global;
 
 // The text, or the empty one that is handed in.

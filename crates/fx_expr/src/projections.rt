@@ -5,9 +5,8 @@ ghost use Rattle.fx_expr.specs.Eval.{text_in, integer_in, truth_in, names_in};
 ghost use Rattle.fx_expr.specs.Parts.{text_of, integer_of, truth_of, names_of};
 ghost use Rattle.fx_expr.specs.Views.{tree_of};
 
-use crate::set::TextSet;
-use crate::text::Text;
 use crate::value::Value;
+use fx_text::{Text, TextSet};
 use std::alloc::Global;
 
 impl Value {

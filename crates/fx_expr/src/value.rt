@@ -3,9 +3,8 @@ ghost use Rattle.fx_expr.specs.Tree.{Tree};
 ghost use Rattle.fx_expr.specs.Views.{tree_of};
 
 use crate::keyed::Keyed;
-use crate::set::TextSet;
-use crate::text::Text;
 use fx_base::NoMemory;
+use fx_text::{Text, TextSet};
 use std::alloc::Global;
 
 /// A value of the language.

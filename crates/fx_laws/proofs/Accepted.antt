@@ -16,8 +16,8 @@ use Rattle.fx_store.specs.Rule.{Ask, answer}
 use Rattle.fx_store.specs.Whole.{Store, IsWhole, IsNode}
 use Rattle.fx_expr.specs.Sets.{set_of}
 use Rattle.fx_expr.specs.Tree.{Tree}
-use Rattle.fx_expr.proofs.Canon.{ascending_set, has_set, same_sets}
-use Rattle.fx_expr.proofs.Order.{same_text}
+use Rattle.fx_text.proofs.Canon.{ascending_set, has_set, same_sets}
+use Rattle.fx_text.proofs.Order.{same_text}
 use Rattle.fx_spec.specs.declared.refusal.Refusal.{Refusal}
 use Rattle.fx_spec.specs.SpecTree.{SpecTree}
 use Rattle.fx_spec.specs.Describe.{file_value, flag_value, dir_value, link_value}

@@ -2,7 +2,7 @@
 use Rattle.std.proofs.Common.{◌≡◌, ℕ, Bool, true, false, cond, List, [], ◌∷◌, ◌++◌, length, take, Some, None, Result, Ok, Err, refl, ap, ◌∙◌, sym, subst, append-nil, append_assoc}
 use Rattle.std.specs.Prelude.{IfOk, nat_eq, pos}
 use Rattle.std.specs.Cmp.Lexicographic.{pointwise}
-use Rattle.fx_expr.proofs.Canon.{nat_list_exact}
+use Rattle.fx_text.proofs.Canon.{nat_list_exact}
 use Rattle.fx_expr.specs.Bindings.{bind, bound, newer_or, assigned, assign_or, own_assigned, first_some, or_same}
 use Rattle.fx_expr.specs.Eval.{Outcome, eval_of}
 use Rattle.fx_expr.specs.ExprTree.{ExprTree}

@@ -27,7 +27,7 @@ use Rattle.fx_expr.specs.Sets.{IsAscending, set_of}
 use Rattle.fx_expr.specs.declared.fault.ExprFault.{ExprFault}
 use Rattle.fx_expr.specs.ShapeTree.{ShapeTree}
 use Rattle.fx_expr.specs.Tree.{Tree}
-use Rattle.fx_expr.proofs.Canon.{ascending_set}
+use Rattle.fx_text.proofs.Canon.{ascending_set}
 use Rattle.fx_spec.specs.declared.refusal.Refusal.{Refusal}
 use Rattle.fx_spec.specs.SpecTree.{SpecTree}
 use Rattle.fx_spec.specs.Describe.{Bindings, with_some, exists, extension, focus_path, arguments, argument_evals, with_values, value}

@@ -18,7 +18,7 @@ use Rattle.fx_store.specs.Whole.{Store, IsWhole, lists, update, over}
 use Rattle.fx_store.proofs.Asks.{answer-bind}
 use Rattle.fx_store.proofs.Relisted.{eq_names}
 use Rattle.fx_expr.specs.Sets.{has_text, set_of}
-use Rattle.fx_expr.proofs.Canon.{has_set}
+use Rattle.fx_text.proofs.Canon.{has_set}
 use Rattle.fx_spec.specs.Edit.{removed, names_of, clear_all, cleared, clear_levels, clear}
 use Rattle.fx_spec.proofs.EditsWhole.{path_itself, or_right, nothing_below}
 

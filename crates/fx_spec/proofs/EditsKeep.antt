@@ -20,7 +20,7 @@ use Rattle.fx_store.specs.Whole.{Store, IsWhole, IsNode, lists, over}
 use Rattle.fx_store.proofs.Asks.{answer-bind}
 use Rattle.fx_store.proofs.Relisted.{eq_names}
 use Rattle.fx_expr.specs.Sets.{IsAscending, set_of}
-use Rattle.fx_expr.proofs.Canon.{ascending_set}
+use Rattle.fx_text.proofs.Canon.{ascending_set}
 use Rattle.fx_spec.specs.Move.{Answered}
 use Rattle.fx_spec.specs.Edit.{set_to, names_of, clear, entry, entries, new_names, last_name, without_name, remove_entry}
 use Rattle.fx_spec.proofs.EditsWhole.{changes_of, Brings, relisting, IsWhole-brought, kept_target, made_target, made_away}

@@ -17,7 +17,7 @@ use Rattle.fx_store.specs.Rule.{Answer, answer, look_all}
 use Rattle.fx_store.specs.Whole.{Store, IsWhole, lists, update, over}
 use Rattle.fx_store.proofs.Relisted.{eq_names, has-all}
 use Rattle.fx_expr.specs.Sets.{IsAscending, set_of, with_text}
-use Rattle.fx_expr.proofs.Canon.{has_set, ascending_set, same_sets}
+use Rattle.fx_text.proofs.Canon.{has_set, ascending_set, same_sets}
 use Rattle.fx_spec.specs.Edit.{set_to, names_of, children, made, make}
 use Rattle.fx_spec.proofs.EditsWhole.{update_here, overwritten, changes_of, Brings, IsWhole-brought, kept_target, made_target, made_away}
 use Rattle.fx_spec.proofs.EditsClear.{has-set_of}

@@ -2,6 +2,7 @@
 use denote.Param.Send.{IsSend, IsSync, sendable}
 use Rattle.std.proofs.Crossing.{crosses}
 use Rattle.fx_base.proofs.Crosses.{Content-send, Content-sync}
+use Rattle.fx_text.proofs.Crosses.{TextSet-send, TextSet-sync}
 use Rattle.fx_store.specs.contracts.name.Name as name
 use Rattle.fx_store.specs.contracts.path.Path as path
 use Rattle.fx_store.specs.contracts.paths.Paths as paths
@@ -30,10 +31,10 @@ pub Paths-sync : IsSync (paths.the_field).row
 Paths-sync = search (sendable, crosses, Path-sync) depth 40
 
 pub Names-send : IsSend (names.the_field).row
-Names-send = search (sendable, crosses, Name-send, Name-sync) depth 40
+Names-send = search (sendable, crosses, Name-send, Name-sync, TextSet-send) depth 40
 
 pub Names-sync : IsSync (names.the_field).row
-Names-sync = search (sendable, crosses, Name-send, Name-sync) depth 40
+Names-sync = search (sendable, crosses, Name-send, Name-sync, TextSet-sync) depth 40
 
 pub Bytes-send : IsSend (bytes.the_field).row
 Bytes-send = search (sendable, crosses, Content-send) depth 40

@@ -6,6 +6,7 @@ mod NameTests
 pub mod Ascending
 mod Placing
 mod Sets
+mod Texts
 pub mod Stores
 pub mod Tables
 pub mod WholeStores

@@ -1,5 +1,5 @@
 -- Names, link texts and paths: lists of bytes, and lists of names from the root on.
-use Rattle.std.specs.Prelude.{ℕ, ◌≤◌, ◌<◌, Bool, true, false, cond, not, ◌&&◌, ◌||◌, List, [], ◌∷◌, length, nat_lt, nat_le, ◌==◌, IsTrue, All, codes, bytes_eq}
+use Rattle.std.specs.Prelude.{◌≡◌, ℕ, ◌≤◌, ◌<◌, Bool, true, false, cond, not, ◌&&◌, ◌||◌, List, [], ◌∷◌, length, nat_lt, nat_le, ◌==◌, IsTrue, All, codes, bytes_eq}
 use Rattle.std.specs.declared.cmp.Ordering.{Ordering}
 use Rattle.std.specs.Ordering.{nat_cmp, eq_by_cmp, is_lt}
 use Rattle.std.specs.Cmp.Lexicographic.{slice_cmp}
@@ -48,6 +48,11 @@ pub record IsPath (path : List (List ℕ)) : Type 0 where
 pub record IsNameSet (set : List (List ℕ)) : Type 0 where
   pub names : All IsName set
   pub ascending : IsStrictlySortedBy name_cmp set
+
+-- the names of a directory, and the same as texts
+pub record IsListing (names texts : List (List ℕ)) : Type 0 where
+  pub set : IsNameSet names
+  pub same : texts ≡ names
 
 pub record IsPathSet (set : List (List (List ℕ))) : Type 0 where
   pub paths : All IsPath set

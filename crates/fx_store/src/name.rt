@@ -12,6 +12,7 @@ ghost use Rattle.fx_store.specs.Orders.{name_total};
 
 use crate::limits::MAX_NAME_BYTES;
 use fx_base::NoMemory;
+use fx_text::Text;
 use std::alloc::{AllocError, AllocFailed, Global};
 use std::cmp::Ordering;
 use std::hash::{Hash, Hasher};
@@ -107,6 +108,13 @@ impl Name {
         ensures name { IsName self.now }
     {
         self.bytes.as_slice()
+    }
+
+    /// The name as a text, which shares its bytes.
+    pub fn text(&self) -> Result<Text, NoMemory>
+        ensures { IfOk result (λ text. text ≡ self.now) }
+    {
+        Ok(Text::from_shared(self.bytes.clone()?))
     }
 
     /// An equal name, which shares its bytes with this one.

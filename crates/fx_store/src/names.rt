@@ -6,24 +6,27 @@ ghost use Rattle.fx_store.specs.Names.{IsName, IsNameSet, has, is_above, name_cm
 
 use crate::name::{Name, is_name};
 use fx_base::{Chunks, Items, NoMemory};
+use fx_text::{Text, TextSet};
 use std::alloc::{AllocError, Global};
 use std::marker::Model;
 
-/// The names of a directory, each once, in ascending order. A copy shares them, and takes no memory for them.
+/// The names of a directory, each once, in ascending order. A copy shares them, and takes no memory for them. The set of them
+/// as texts is kept beside them and shares their bytes, so that it is the value of the directory at no cost.
 #[derive(Debug, Drop)]
 pub struct Names {
     names: Chunks<Name>,
+    texts: TextSet,
 }
 
 impl Model for Names {
     ghost use Rattle.std.specs.Prelude.{List, ℕ};
-    ghost use Rattle.fx_store.specs.Names.{IsNameSet};
+    ghost use Rattle.fx_store.specs.Names.{IsListing};
 
     ghost Value = { List (List ℕ) };
 
     ghost view = { λ s. s.names };
 
-    ghost invariant = { λ s. IsNameSet s.names };
+    ghost invariant = { λ s. IsListing s.names s.texts };
 }
 
 impl Names {
@@ -33,6 +36,7 @@ impl Names {
     {
         Names {
             names: Chunks::new(alloc),
+            texts: TextSet::new(alloc),
         }
     }
 
@@ -41,7 +45,21 @@ impl Names {
         requires { IsNameSet names.items }
         ensures { IfOk result (λ s. s ≡ names.items) }
     {
+        let texts = texts_of(alloc, names.as_slice())?;
         Ok(Names {
+            texts: TextSet::from_ascending(alloc, texts)?,
+            names: Chunks::from_vec(alloc, names)?,
+        })
+    }
+
+    /// The names of a list and the set of the same texts, of which the set is shared.
+    pub fn from_parts(alloc: Global, names: Vec<Name>, texts: &TextSet) -> Result<Names, NoMemory>
+        requires set { IsNameSet names.items }
+        requires same { texts.now ≡ names.items }
+        ensures { IfOk result (λ s. s ≡ names.items) }
+    {
+        Ok(Names {
+            texts: texts.copy(alloc)?,
             names: Chunks::from_vec(alloc, names)?,
         })
     }
@@ -92,7 +110,11 @@ impl Names {
         ensures err { OnErr result (self.new ≡ self.old) }
     {
         prove!(is_name(item.as_slice()));
-        self.names.push(alloc, item)
+        let mut texts = self.texts.copy(alloc)?;
+        texts.add(alloc, item.text()?)?;
+        self.names.push(alloc, item)?;
+        self.texts = texts;
+        Ok(())
     }
 
     /// The set with one name more. Where it has the name it is the same set.
@@ -102,9 +124,11 @@ impl Names {
         match self.names.search(name) {
             Ok(_) => self.copy(alloc),
             Err(i) => {
+                let texts = with_name(alloc, &self.texts, name)?;
                 let name = name.copy(alloc)?;
                 Ok(Names {
                     names: self.names.with(alloc, i, name)?,
+                    texts,
                 })
             }
         }
@@ -115,22 +139,61 @@ impl Names {
         ensures { IfOk result (λ s. s ≡ without_name name.now self.now) }
     {
         match self.names.search(name) {
-            Ok(i) => Ok(Names {
-                names: self.names.without(alloc, i)?,
-            }),
+            Ok(i) => {
+                let texts = lacking_name(alloc, &self.texts, name)?;
+                Ok(Names {
+                    names: self.names.without(alloc, i)?,
+                    texts,
+                })
+            }
             Err(_) => self.copy(alloc),
         }
     }
 
     /// An equal set, which shares its names with this one.
-    pub fn copy(&self, _alloc: Global) -> Result<Names, NoMemory>
+    pub fn copy(&self, alloc: Global) -> Result<Names, NoMemory>
         ensures copied { IfOk result (λ s. s ≡ self.now) }
         ensures set { IsNameSet self.now }
     {
         Ok(Names {
             names: self.names.copy()?,
+            texts: self.texts.copy(alloc)?,
         })
     }
+
+    /// The names as a set of texts, which shares all with this one.
+    pub fn texts(&self, alloc: Global) -> Result<TextSet, NoMemory>
+        ensures { IfOk result (λ set. set ≡ self.now) }
+    {
+        self.texts.copy(alloc)
+    }
+}
+
+// The set with a name more, as a text.
+fn with_name(alloc: Global, texts: &TextSet, name: &Name) -> Result<TextSet, NoMemory>
+    ensures { IfOk result (λ set. set ≡ with_text name.now texts.now) }
+{
+    let text = name.text()?;
+    texts.with(alloc, &text)
+}
+
+// The set without a name, as a text.
+fn lacking_name(alloc: Global, texts: &TextSet, name: &Name) -> Result<TextSet, NoMemory>
+    ensures { IfOk result (λ set. set ≡ without_name name.now texts.now) }
+{
+    let text = name.text()?;
+    texts.without_one(alloc, &text)
+}
+
+// The names as texts, which share their bytes.
+fn texts_of(alloc: Global, names: &[Name]) -> Result<Vec<Text>, NoMemory>
+    ensures { IfOk result (λ texts. texts.items ≡ names.now) }
+{
+    let mut texts = Vec::with_capacity(alloc, names.len())?;
+    for name in names {
+        texts.push(name.text()?)?;
+    }
+    Ok(texts)
 }
 
 // Whether a name is greater than the last of a set.
@@ -149,6 +212,7 @@ impl Clone for Names {
     fn clone(&self) -> Result<Names, AllocError> {
         Ok(Names {
             names: self.names.clone()?,
+            texts: self.texts.clone()?,
         })
     }
 }
@@ -178,6 +242,18 @@ impl NameList {
         NameList {
             names: Vec::new(alloc),
         }
+    }
+
+    /// The names of a list and the set of the same texts, of which the set is shared.
+    pub fn from_parts(alloc: Global, names: Vec<Name>, texts: &TextSet) -> Result<Names, NoMemory>
+        requires set { IsNameSet names.items }
+        requires same { texts.now ≡ names.items }
+        ensures { IfOk result (λ s. s ≡ names.items) }
+    {
+        Ok(Names {
+            texts: texts.copy(alloc)?,
+            names: Chunks::from_vec(alloc, names)?,
+        })
     }
 
     /// The number of names.

@@ -69,6 +69,9 @@ fn is_link(node: &Node, text: &LinkText) -> bool
 fn are_same_names(a: &Names, b: &Names) -> bool
     ensures { IsTrue result ↔ (a.now ≡ b.now) }
 {
+    if a.len() != b.len() {
+        return false;
+    }
     let mut others = b.iter();
     for name in a.iter() {
         let Some(other) = others.next() else {

@@ -7,7 +7,7 @@ use Rattle.fx_store.specs.Rule.{Ask, Answer, ◌>>=◌}
 use Rattle.fx_expr.specs.Bindings.{bind}
 use Rattle.fx_expr.specs.Sets.{has_text, least}
 use Rattle.fx_expr.specs.Tree.{Tree}
-use Rattle.fx_expr.proofs.Order.{same_text}
+use Rattle.fx_text.proofs.Order.{same_text}
 use Rattle.fx_spec.specs.declared.refusal.Refusal.{Refusal}
 use Rattle.fx_spec.specs.Describe.{Bindings, exists, value}
 use Rattle.fx_spec.specs.Move.{Answered, go_into, this_if}

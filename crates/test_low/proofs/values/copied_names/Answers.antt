@@ -1,5 +1,5 @@
 use Rattle.std.proofs.Common.{◌++◌, List, ℕ, [], ◌∷◌, ap}
-use Rattle.fx_expr.proofs.Order.{ascending_one}
+use Rattle.fx_text.proofs.Order.{ascending_one}
 use Rattle.test_low.proofs.values.copied_names.Goals as goal
 
 pub add-requires : goal.add-requires

@@ -1,5 +1,5 @@
 use Rattle.std.proofs.Common.{subst, List, ℕ}
-use Rattle.fx_expr.specs.Sets.{IsAscending}
+use Rattle.fx_text.specs.Sets.{IsAscending}
 use Rattle.fx_expr.proofs.Zips.{keys_of_push, zip_push}
 use Rattle.fx_expr.proofs.keyed.Keyed.add.Goals as goal
 

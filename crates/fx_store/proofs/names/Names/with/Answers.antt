@@ -12,15 +12,18 @@ more c =
     let names = c.self.inside.names in
     c.in_ok-with-in-Err.ensures
     ∙ ap (insert names c.in-Err.i) c.in_ok-name-in-Err.ensures.copied
-    ∙ inserted names c.args.name.now c.in-Err.i c.self.invariant.ascending c.in-Err.ensures.bound c.in-Err.ensures.position
+    ∙ inserted names c.args.name.now c.in-Err.i c.self.invariant.set.ascending c.in-Err.ensures.bound c.in-Err.ensures.position
 
 pub invariant_of-result : goal.invariant_of-result
-invariant_of-result c = rw (more c) (IsNameSet-with _ _ c.in_ok-name-in-Err.ensures.name c.self.invariant)
+invariant_of-result c = record {
+  set = rw (more c) (IsNameSet-with _ _ c.in_ok-name-in-Err.ensures.name c.self.invariant.set);
+  same = c.in_ok-texts-in-Err.ensures ∙ ap (with_text c.args.name.now) c.self.invariant.same ∙ sym (more c);
+}
 
 pub returns-in_ok-with-in-Err : goal.returns-in_ok-with-in-Err
 returns-in_ok-with-in-Err c = more c ∙ ap (with_text c.args.name.now) c.self.view_is
 
 pub returns-in-Ok : goal.returns-in-Ok
 returns-in-Ok c =
-    let same = present c.self.inside.names c.args.name.now c.in-Ok.field-0 c.self.invariant.ascending c.in-Ok.ensures.bound c.in-Ok.ensures.position in
+    let same = present c.self.inside.names c.args.name.now c.in-Ok.field-0 c.self.invariant.set.ascending c.in-Ok.ensures.bound c.in-Ok.ensures.position in
     IfOk-weaker c.copy.result _ _ (λ s e. e ∙ sym c.self.view_is ∙ same ∙ ap (with_text c.args.name.now) c.self.view_is) c.copy.ensures.copied
