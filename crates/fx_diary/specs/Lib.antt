@@ -1,0 +1,4 @@
+pub mod Diaries
+pub mod Runs
+pub mod Laws
+pub mod Positions
