@@ -1,6 +1,6 @@
 """Why a description has no value, and what a refused command met: in words, over a filestore of the model."""
 
-import model
+from txforest import model
 from common import below, many, shown
 from texts import short
 

@@ -1,6 +1,6 @@
 """Texts of descriptions and scripts, with the places of their parts: where a mistake stands, and what was expected there."""
 
-import model
+from txforest import model
 from common import many
 
 

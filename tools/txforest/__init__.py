@@ -1,0 +1,1 @@
+"""The tools around txforest, as a package."""
