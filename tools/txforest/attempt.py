@@ -1,13 +1,21 @@
-"""One attempt of a job: survey, view, runs beside, differences, and the commit. Used by
-`txforest-apply`, the queue and `txforest-do`."""
+"""One attempt of a job: survey, view, runs beside, differences, and the commit. `txforest-apply`, the
+queue and `txforest-do` make attempts."""
 
 from __future__ import annotations
 
-from .commit import Committed
-from .differences import Change
-from .place import Tree
-from .program import Answer
-from .survey import Only
+import os
+
+from . import calls
+from .calls import DIR, NEW
+from .commit import Changed, Committed, Refused, Unfinished, commit
+from .differences import Change, InTheWay, differences
+from .place import Place, Tree, clear
+from .program import Answer, call, is_valid
+from .room import is_in_memory, room_of
+from .statuses import Failed, Status
+from .survey import Survey, changed, settled_survey
+from .terminal import shown, tell
+from .view import View, view_of
 
 TYPE_CHECKING = False
 if TYPE_CHECKING:
@@ -15,58 +23,257 @@ if TYPE_CHECKING:
     from typing import TypeVar
 
     from .commit import HandOut
+    from .only import Only
 
     T = TypeVar("T")
+
+TEXT_LIMIT = 65_536  # bytes of a description or script
+QUESTION = b"\ntxn { validate v print(v) }\n"  # asks whether the last state has a value
+
+
+class Text:
+    """A description or script as it was read, once: `word` names it, `data` are its bytes."""
+
+    __slots__ = ("word", "data")
+
+    def __init__(self, word: str, data: bytes) -> None:
+        self.word = word
+        self.data = data
+
+
+def read_text(word: str) -> Text:
+    """Reads a text, of a file, a pipe or what else the word names; one byte more than a text may have,
+    so that the program refuses what is too large. Raises Failed with UNREAD."""
+    try:
+        fd = os.open(word, os.O_RDONLY | os.O_CLOEXEC)
+        with open(fd, "rb") as it:
+            return Text(word, it.read(TEXT_LIMIT + 1))
+    except OSError as error:
+        raise Failed(Status.UNREAD, f"{shown(word)}: can't be read: {error.strerror}") from None
 
 
 class Attempt:
     """A survey and a view of a tree whose lock is held, and runs over them.
 
-    with Attempt(tree, lock) as it:
-        report = it.run(spec, [script])      # as often as one likes; OUT is that of the last one
-        if it.is_valid(spec):
-            it.commit(answers={"id": report})
+        with Attempt(tree, lock) as it:
+            answer = it.run(spec, [script])    # as often as one likes; OUT is that of the last one
+            if answer.status == 0 and it.is_valid():
+                it.commit({"id": answer.printed})
+
+    found  the survey
+    view   what the program reads
     """
 
     def __init__(self, tree: Tree, lock: int, only: Only | None = None) -> None:
-        """Surveys the tree and makes the view. Raises Failed, Again, OSError."""
-        raise NotImplementedError
+        """Surveys the tree and makes the view. Raises Failed, Changed, OSError."""
+        self.tree = tree
+        self.lock = lock
+        self.only = only
+        self.found: Survey = settled_survey(tree.root, tree.home, tree.skip(), only)
+        self.room: Place = room_of(tree, self.found)
+        self.view: View | None = None
+        self.spec: bytes = b""
+        self.valid: bool | None = None
+        self.texts = 0
+        try:
+            self.make_view()
+        except BaseException:
+            self.close()
+            raise
 
-    def run(self, spec: str, scripts: Sequence[str]) -> Answer:
-        """Runs scripts over the view into a fresh OUT and answers what the program came to."""
-        raise NotImplementedError
+    def make_view(self) -> None:
+        """Makes the view; beside the tree, if there is no space in memory."""
+        try:
+            self.view = view_of(self.tree, self.found, self.room.fd)
+        except OSError:
+            if not is_in_memory(self.room):
+                raise
+            self.close()
+            self.room = room_of(self.tree, self.found, in_memory=False)
+            self.view = view_of(self.tree, self.found, self.room.fd)
 
-    def is_valid(self, spec: str) -> bool:
-        """Whether the OUT of the last run has a value by a description."""
-        raise NotImplementedError
+    def __enter__(self) -> Attempt:
+        return self
 
-    def look_again(self) -> None:
-        """Raises Again if somebody changed the tree since the survey. An answer of a run is told only
-        behind it, also one that changes nothing."""
-        raise NotImplementedError
-
-    def changes(self) -> list[Change]:
-        """What the OUT of the last run changes. Raises Failed with USAGE if a script is in the way of
-        an entry that is left out."""
-        raise NotImplementedError
-
-    def commit(
-        self, answers: Mapping[str, bytes] | None = None, hand_out: HandOut | None = None
-    ) -> Committed:
-        """Puts the OUT of the last run in place by files; looks again last before the commit. With
-        neither changes nor answers nothing is done. Raises as commit.commit does."""
-        raise NotImplementedError
+    def __exit__(self, *_: object) -> None:
+        self.close()
 
     def close(self) -> None:
         """Removes the view and OUT."""
+        told: list[str] = []
+        if self.view is not None:
+            self.view.close()
+            self.view = None
+        if self.room.fd >= 0:
+            self.room.clear(told)
+            self.room.close()
+            os.close(self.room.home)
+            self.room.fd = -1
+        for line in told:
+            tell(line)
+
+    # ---- runs
+
+    def run(self, spec: str | Text, scripts: Sequence[str | Text]) -> Answer:
+        """Runs scripts over the view into a fresh OUT, and answers what the program came to; its line
+        names the texts by their words. Raises Failed if a text can't be read."""
+        texts = [it if isinstance(it, Text) else read_text(it) for it in (spec, *scripts)]
+        self.valid = None
+        answer = self.asked(texts) if len(texts) == 2 else None
+        if answer is None:
+            answer = self.run_texts(texts)
+        if answer.status == Status.UNWRITTEN and is_in_memory(self.room):
+            self.close()  # memory may have become short meanwhile
+            self.room = room_of(self.tree, self.found, in_memory=False)
+            self.make_view()
+            answer = self.run_texts(texts)
+        return answer
+
+    def asked(self, texts: Sequence[Text]) -> Answer | None:
+        """A run of one script with one transaction more, which asks whether what the others leave has
+        a value. It is the last one, and changes nothing; the report is told without it. Nothing, if
+        the run does not come to a report."""
+        script = texts[1]
+        if len(script.data) + len(QUESTION) > TEXT_LIMIT:
+            return None
+        answer = self.run_texts([texts[0], Text(script.word, script.data + QUESTION)])
+        if answer.status:
+            return None
+        parted = without_question(answer.printed)
+        if parted is None:
+            return None
+        answer.printed, self.valid = parted
+        return answer
+
+    def run_texts(self, texts: Sequence[Text]) -> Answer:
+        """Runs texts into a fresh OUT."""
+        if self.view is None:
+            raise ValueError("the attempt is closed")
+        clear(self.room.fd, b"out")
+        room = f"/proc/self/fd/{self.room.fd}"
+        words = [f"{room}/{self.write_text(it.data)}" for it in texts]
+        self.spec = words[0].encode()
+        inherited = [self.lock, self.room.fd, self.view.fd]
+        answer = call(["run", words[0], self.view.path, f"{room}/out", *words[1:]], inherited)
+        for it, word in zip(texts, words):
+            start = f"txforest: {word}: ".encode()
+            if answer.line.startswith(start):
+                named = b"txforest: " + told_word(it.word) + b": "
+                answer.line = named + answer.line[len(start) :]
+        return answer
+
+    def write_text(self, data: bytes) -> str:
+        """Writes a text into the room; answers its name."""
+        self.texts += 1
+        name = f"text{self.texts}"
+        fd = os.open(name, NEW, 0o600, dir_fd=self.room.fd)
+        try:
+            calls.PLAIN.write(fd, data)
+        finally:
+            os.close(fd)
+        return name
+
+    def is_valid(self) -> bool:
+        """Whether the OUT of the last run has a value by its description."""
+        if self.valid is None:
+            out = f"/proc/self/fd/{self.room.fd}/out"
+            self.valid = is_valid(self.spec, out, [self.lock, self.room.fd])
+        return self.valid
+
+    # ---- the end
+
+    def look_again(self) -> None:
+        """Raises Changed if somebody changed the tree since the survey. What a run answers is told
+        only behind this, also if nothing is put in place."""
+        where = changed(self.tree.root, self.found, self.tree.skip(), self.only)
+        if where is not None:
+            raise Changed(where)
+
+    def changes(self) -> list[Change]:
+        """What the OUT of the last run changes in the tree. Raises Failed with USAGE if a script is in
+        the way of an entry that is left out."""
+        if self.view is None:
+            raise ValueError("the attempt is closed")
+        out = os.open("out", DIR, dir_fd=self.room.fd)
+        try:
+            return differences(self.view, out, self.found)
+        except InTheWay as where:
+            raise Failed(Status.USAGE, in_the_way(self.found, str(where))) from None
+        finally:
+            os.close(out)
+
+    def commit(
+        self,
+        changes: Sequence[Change],
+        answers: Mapping[str, bytes] | None = None,
+        hand_out: HandOut | None = None,
+    ) -> Committed:
+        """Puts changes in place by files; looks again last before the commit. With neither changes nor
+        answers nothing is done but that look. Raises as commit.commit does."""
+        if not changes and not answers:
+            self.look_again()
+            return Committed([], [])
+        return commit(self.tree, changes, self.found, answers, self.look_again, hand_out)
+
+
+def told_word(word: str) -> bytes:
+    """A word as the program's line names it: control characters and backslashes are spelled."""
+    found = os.fsencode(word).replace(b"\\", b"\\\\").replace(b"\n", b"\\n")
+    return b"".join(b"\\x%02x" % b if b < 0x20 or b == 0x7F else b"%c" % b for b in found)
+
+
+def without_question(report: bytes) -> tuple[bytes, bool] | None:
+    """A report of one shell without its last transaction, and what that one printed; nothing if the
+    report has no such one."""
+    at = report.rfind(b"\nentry ") + 1
+    head, tail = report[:at], report[at:].split(b"\n")
+    first, _, rest = head.partition(b"\n")
+    count, _, rest = rest.partition(b"\n")
+    words = tail[0].split(b" ")
+    if words[:1] + words[2:5] + words[6:] != [b"entry", b"shell", b"0", b"txn", b"done"]:
+        return None
+    if words[1] != words[5] or count != b"entries %d" % (int(words[1]) + 1):
+        return None
+    if tail[1:2] not in ([b"print true"], [b"print false"]):
+        return None
+    if tail[2:] != [b"retries 0", b"end", b""]:
+        return None
+    made = first + b"\nentries " + words[1] + b"\n" + rest + b"retries 0\nend\n"
+    return made, tail[1] == b"print true"
+
+
+def in_the_way(found: Survey, path: str) -> str:
+    """What is told of a script in the way of an entry that is left out."""
+    for it in found.left:
+        if it.path == path or it.path.startswith(path + "/"):
+            return (
+                f"{shown('/' + it.path)}: is left out ({it.why}), and a script is in its way,"
+                " so nothing was changed"
+            )
+    return f"{shown('/' + path)}: a script is in the way of what is left out, so nothing was changed"
 
 
 def attempts(
     tree: Tree, lock: int, only: Only | None, work: Callable[[Attempt], T], tries: int = 3
 ) -> T:
-    """What `work` answers of an attempt; begun again if somebody changes the tree meanwhile (Again).
+    """What `work` answers of an attempt; it begins again if somebody changes the tree (Changed).
 
     Raises Failed: CHANGING behind the last try, USAGE if a change is refused, UNFINISHED if a commit
     stands and something of it waits.
     """
-    raise NotImplementedError
+    where = ""
+    for again in range(tries):
+        if again:
+            tell(f"somebody who takes no lock changed {where}; the job begins again")
+        try:
+            with Attempt(tree, lock, only) as it:
+                return work(it)
+        except Changed as at:
+            where = shown(f"/{at}")
+        except Refused as why:
+            raise Failed(Status.USAGE, f"{why}, so nothing was changed") from None
+        except Unfinished as why:
+            line = "the change is committed, and the next job puts the rest of it in place"
+            raise Failed(Status.UNFINISHED, f"{why}; {line}") from None
+    line = f"somebody who takes no lock keeps changing the tree, last {where}"
+    raise Failed(Status.CHANGING, f"{line}; nothing was changed after {tries} tries")

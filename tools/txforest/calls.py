@@ -188,4 +188,5 @@ def mount_of(fd: int) -> bytes:
     return b"%d" % os.fstat(fd).st_dev
 
 
-S = Calls()
+PLAIN = Calls()
+S = PLAIN

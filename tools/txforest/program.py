@@ -112,9 +112,11 @@ def called(words: Sequence[str | bytes], pass_fds: Sequence[int] = ()) -> bytes:
     return answer.printed
 
 
-def is_valid(spec: str | bytes, folder: str | bytes) -> bool:
+def is_valid(
+    spec: str | bytes, folder: str | bytes, pass_fds: Sequence[int] = ()
+) -> bool:
     """Whether a folder has a value by a description, by the first line of `show` alone."""
-    answer = call(["show", spec, folder], until_line=True)
+    answer = call(["show", spec, folder], pass_fds, until_line=True)
     if answer.printed.startswith((b"valid yes\n", b"valid no\n")):
         return answer.printed.startswith(b"valid yes\n")
     raise Failed(
