@@ -9,11 +9,12 @@ from __future__ import annotations
 
 import sys
 
-from .attempt import Attempt, Text, attempts, read_text
+from .attempt import Attempt, attempts
 from .commit import Committed, hold_signals, let_signals
 from .lock import lock
 from .place import Tree
 from .settle import settle
+from .sources import Source, read_source
 from .statuses import Failed, Status
 from .survey import NOT_ASKED, Survey, survey
 from .terminal import Given, Words, many, shown, tell
@@ -136,7 +137,7 @@ def list_left_out(job: Job) -> int:
 
 def apply(job: Job, tree: Tree, held: int) -> int:
     """Does the job on a tree whose lock is held."""
-    spec, *scripts = [read_text(word) for word in job.operands]
+    spec, *scripts = [read_source(word) for word in job.operands]
     told = False
 
     def work(attempt: Attempt) -> int:
@@ -149,7 +150,7 @@ def apply(job: Job, tree: Tree, held: int) -> int:
     return attempts(tree, held, job.only, work)
 
 
-def one(job: Job, attempt: Attempt, spec: Text, scripts: list[Text]) -> int:
+def one(job: Job, attempt: Attempt, spec: Source, scripts: list[Source]) -> int:
     """One attempt: the run, its answers, the commit. What it comes to is told only if nobody changed
     the tree meanwhile."""
     answer = attempt.run(spec, scripts)

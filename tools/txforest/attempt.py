@@ -5,13 +5,13 @@ from __future__ import annotations
 
 import os
 
-from . import calls
-from .calls import DIR, NEW
+from .calls import DIR
 from .commit import Changed, Committed, Refused, Unfinished, commit
 from .differences import Change, InTheWay, differences
 from .place import Place, Tree, clear
 from .program import Answer, call, is_valid
 from .room import is_in_memory, room_of
+from .sources import TEXT_LIMIT, Handed, Source, read_source
 from .statuses import Failed, Status
 from .survey import Survey, changed, settled_survey
 from .terminal import shown, tell
@@ -27,29 +27,7 @@ if TYPE_CHECKING:
 
     T = TypeVar("T")
 
-TEXT_LIMIT = 65_536  # bytes of a description or script
 QUESTION = b"\ntxn { validate v print(v) }\n"  # asks whether the last state has a value
-
-
-class Text:
-    """A description or script as it was read, once: `word` names it, `data` are its bytes."""
-
-    __slots__ = ("word", "data")
-
-    def __init__(self, word: str, data: bytes) -> None:
-        self.word = word
-        self.data = data
-
-
-def read_text(word: str) -> Text:
-    """Reads a text, of a file, a pipe or what else the word names; one byte more than a text may have,
-    so that the program refuses what is too large. Raises Failed with UNREAD."""
-    try:
-        fd = os.open(word, os.O_RDONLY | os.O_CLOEXEC)
-        with open(fd, "rb") as it:
-            return Text(word, it.read(TEXT_LIMIT + 1))
-    except OSError as error:
-        raise Failed(Status.UNREAD, f"{shown(word)}: can't be read: {error.strerror}") from None
 
 
 class Attempt:
@@ -72,9 +50,8 @@ class Attempt:
         self.found: Survey = settled_survey(tree.root, tree.home, tree.skip(), only)
         self.room: Place = room_of(tree, self.found)
         self.view: View | None = None
-        self.spec: bytes = b""
+        self.spec: Source | None = None
         self.valid: bool | None = None
-        self.texts = 0
         try:
             self.make_view()
         except BaseException:
@@ -114,29 +91,29 @@ class Attempt:
 
     # ---- runs
 
-    def run(self, spec: str | Text, scripts: Sequence[str | Text]) -> Answer:
+    def run(self, spec: str | Source, scripts: Sequence[str | Source]) -> Answer:
         """Runs scripts over the view into a fresh OUT, and answers what the program came to; its line
         names the texts by their words. Raises Failed if a text can't be read."""
-        texts = [it if isinstance(it, Text) else read_text(it) for it in (spec, *scripts)]
-        self.valid = None
-        answer = self.asked(texts) if len(texts) == 2 else None
+        sources = [read_source(it) if isinstance(it, str) else it for it in (spec, *scripts)]
+        self.spec, self.valid = sources[0], None
+        answer = self.asked(sources) if len(sources) == 2 else None
         if answer is None:
-            answer = self.run_texts(texts)
+            answer = self.run_sources(sources)
         if answer.status == Status.UNWRITTEN and is_in_memory(self.room):
             self.close()  # memory may have become short meanwhile
             self.room = room_of(self.tree, self.found, in_memory=False)
             self.make_view()
-            answer = self.run_texts(texts)
+            answer = self.run_sources(sources)
         return answer
 
-    def asked(self, texts: Sequence[Text]) -> Answer | None:
+    def asked(self, sources: Sequence[Source]) -> Answer | None:
         """A run of one script with one transaction more, which asks whether what the others leave has
         a value. It is the last one, and changes nothing; the report is told without it. Nothing, if
         the run does not come to a report."""
-        script = texts[1]
-        if len(script.data) + len(QUESTION) > TEXT_LIMIT:
+        spec, script = sources
+        if len(script.text) + len(QUESTION) > TEXT_LIMIT:
             return None
-        answer = self.run_texts([texts[0], Text(script.word, script.data + QUESTION)])
+        answer = self.run_sources([spec, script.with_end(QUESTION)])
         if answer.status:
             return None
         parted = without_question(answer.printed)
@@ -145,40 +122,33 @@ class Attempt:
         answer.printed, self.valid = parted
         return answer
 
-    def run_texts(self, texts: Sequence[Text]) -> Answer:
+    def run_sources(self, sources: Sequence[Source]) -> Answer:
         """Runs texts into a fresh OUT."""
         if self.view is None:
             raise ValueError("the attempt is closed")
         clear(self.room.fd, b"out")
-        room = f"/proc/self/fd/{self.room.fd}"
-        words = [f"{room}/{self.write_text(it.data)}" for it in texts]
-        self.spec = words[0].encode()
-        inherited = [self.lock, self.room.fd, self.view.fd]
-        answer = call(["run", words[0], self.view.path, f"{room}/out", *words[1:]], inherited)
-        for it, word in zip(texts, words):
-            start = f"txforest: {word}: ".encode()
-            if answer.line.startswith(start):
-                named = b"txforest: " + told_word(it.word) + b": "
-                answer.line = named + answer.line[len(start) :]
+        with Handed(sources) as texts:
+            spec, *scripts = texts.words
+            inherited = [self.lock, self.room.fd, self.view.fd, *texts.fds]
+            answer = call(["run", spec, self.view.path, self.out, *scripts], inherited)
+            if answer.status:
+                answer.line = os.fsencode(texts.told(answer.told()))
         return answer
-
-    def write_text(self, data: bytes) -> str:
-        """Writes a text into the room; answers its name."""
-        self.texts += 1
-        name = f"text{self.texts}"
-        fd = os.open(name, NEW, 0o600, dir_fd=self.room.fd)
-        try:
-            calls.PLAIN.write(fd, data)
-        finally:
-            os.close(fd)
-        return name
 
     def is_valid(self) -> bool:
         """Whether the OUT of the last run has a value by its description."""
         if self.valid is None:
-            out = f"/proc/self/fd/{self.room.fd}/out"
-            self.valid = is_valid(self.spec, out, [self.lock, self.room.fd])
+            if self.spec is None:
+                raise ValueError("nothing was run")
+            with Handed([self.spec]) as texts:
+                inherited = [self.lock, self.room.fd, *texts.fds]
+                self.valid = is_valid(texts.words[0], self.out, inherited)
         return self.valid
+
+    @property
+    def out(self) -> str:
+        """OUT, as the program's word for it."""
+        return f"/proc/self/fd/{self.room.fd}/out"
 
     # ---- the end
 
@@ -214,12 +184,6 @@ class Attempt:
             self.look_again()
             return Committed([], [])
         return commit(self.tree, changes, self.found, answers, self.look_again, hand_out)
-
-
-def told_word(word: str) -> bytes:
-    """A word as the program's line names it: control characters and backslashes are spelled."""
-    found = os.fsencode(word).replace(b"\\", b"\\\\").replace(b"\n", b"\\n")
-    return b"".join(b"\\x%02x" % b if b < 0x20 or b == 0x7F else b"%c" % b for b in found)
 
 
 def without_question(report: bytes) -> tuple[bytes, bool] | None:

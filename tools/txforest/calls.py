@@ -101,13 +101,14 @@ class Calls:
         """What has to stay for an entry to count as the same.
 
         No device, whose number may be another after a start of the machine; no ctime, which a
-        rename and a link change.
+        rename and a link change; of a directory no size and time, which its entries change.
         """
+        is_dir = found.st_mode & 0o170000 == 0o040000
         return b"%o:%d:%d:%d:%d:%d" % (
             found.st_mode,
             found.st_ino,
-            found.st_size,
-            found.st_mtime_ns,
+            0 if is_dir else found.st_size,
+            0 if is_dir else found.st_mtime_ns,
             found.st_uid,
             found.st_gid,
         )
@@ -164,12 +165,23 @@ class Calls:
         os.fchmod(fd, mode)
 
     def chmod_at(self, name: bytes, dir_fd: int, mode: int, mark: bytes) -> bool:
-        """Gives a file another mode if it is still the one of a mark; it needs not be readable."""
+        """Gives an entry another mode if it is still that of a mark; it needs not be readable."""
         fd = os.open(name, os.O_PATH | os.O_NOFOLLOW | os.O_CLOEXEC, dir_fd=dir_fd)
         try:
             if self.mark(os.fstat(fd)) != mark:
                 return False
             os.chmod(b"/proc/self/fd/%d" % fd, mode)
+            return True
+        finally:
+            os.close(fd)
+
+    def chown_at(self, name: bytes, dir_fd: int, uid: int, gid: int, mark: bytes) -> bool:
+        """Gives an entry another owner and group if it is still that of a mark."""
+        fd = os.open(name, os.O_PATH | os.O_NOFOLLOW | os.O_CLOEXEC, dir_fd=dir_fd)
+        try:
+            if self.mark(os.fstat(fd)) != mark:
+                return False
+            os.chown(b"/proc/self/fd/%d" % fd, uid, gid)
             return True
         finally:
             os.close(fd)

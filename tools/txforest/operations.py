@@ -387,7 +387,7 @@ class Doing:
         expected."""
         name = it.path[-1]
         mode, owner = it.more.split(b" ")
-        uid, gid = map(int, owner.split(b":"))
+        uid, gid = owner_of(owner)
         if it.expect is not None:
             found = calls.S.look(name, fd)
             if found is None or not stat.S_ISDIR(found.st_mode):
@@ -422,13 +422,29 @@ class Doing:
         return None
 
     def mode(self, fd: int, it: Operation) -> str | None:
-        """Gives a file another mode."""
-        name, wanted = it.path[-1], int(it.more, 8)
+        """Gives a file or directory another mode, and another owner if one is told."""
+        name = it.path[-1]
+        mode, *owners = it.more.split(b" ")
+        wanted = int(mode, 8)
+        owner = owner_of(owners[0]) if owners else None
         there = calls.S.look(name, fd)
-        if there is not None and stat.S_IMODE(there.st_mode) == wanted:
+        if there is not None and is_given(there, wanted, owner):
             return None
-        if it.expect is None or there is None or not calls.S.chmod_at(name, fd, wanted, it.expect):
-            return f"{told(it.path)}: somebody else has changed it; its mode stays"
+        changed = f"{told(it.path)}: somebody else has changed it; its mode stays"
+        if it.expect is None or there is None:
+            return changed
+        mark = calls.S.mark(there)
+        if mark != it.expect and (owner is None or not is_owned(there, it.expect, owner)):
+            return changed
+        if owner is not None and (there.st_uid, there.st_gid) != owner:
+            try:
+                calls.S.chown_at(name, fd, *owner, mark)
+            except PermissionError:
+                self.conflicts.append(f"{told(it.path)}: its owner or group can't be given")
+            there = calls.S.look(name, fd)
+            mark = b"-" if there is None else calls.S.mark(there)
+        if not calls.S.chmod_at(name, fd, wanted, mark):
+            return changed
         made = calls.S.open(name, FILE, fd)
         try:
             calls.S.fsync(made)
@@ -445,6 +461,24 @@ KINDS: dict[str, Callable[[Doing, int, Operation], str | None]] = {
     "rmdir": Doing.rmdir,
     "mode": Doing.mode,
 }
+
+
+def owner_of(text: bytes) -> tuple[int, int]:
+    """The user and the group that an operation names."""
+    uid, gid = text.split(b":")
+    return int(uid), int(gid)
+
+
+def is_given(found: os.stat_result, mode: int, owner: tuple[int, int] | None) -> bool:
+    """Whether an entry has a mode, and an owner and group."""
+    return stat.S_IMODE(found.st_mode) == mode and owner in (None, (found.st_uid, found.st_gid))
+
+
+def is_owned(found: os.stat_result, expect: bytes, owner: tuple[int, int]) -> bool:
+    """Whether an entry is the one of a mark, but has its new owner already. Set-id bits go then."""
+    parts, now = expect.split(b":"), calls.S.mark(found).split(b":")
+    same = int(parts[0], 8) & ~0o6000 == int(now[0], 8) & ~0o6000
+    return same and parts[1:4] == now[1:4] and owner == (found.st_uid, found.st_gid)
 
 
 def free_names(name: bytes, ending: bytes) -> Iterator[bytes]:

@@ -8,27 +8,40 @@ of the text's own name, and of the place in the text as it was given.
 from __future__ import annotations
 
 import os
-from collections.abc import Sequence
-from typing import NamedTuple
 
-from .data import Bound
 from .statuses import Failed, Status
 from .terminal import shown
+
+TYPE_CHECKING = False
+if TYPE_CHECKING:
+    from collections.abc import Sequence
+
+    from .data import Bound
 
 TEXT_LIMIT = 65_536
 PLACED = (b"BadToken", b"Unexpected", b"TooNested")
 
 
-class Source(NamedTuple):
-    """A text with the word that names it."""
+class Source:
+    """A text with the word that names it.
 
-    word: str
-    bound: Bound
+    word   the word
+    text   the text as the program reads it
+    bound  where data were put into it, or nothing
+    """
 
-    @property
-    def text(self) -> bytes:
-        """The text as the program reads it."""
-        return self.bound.text
+    __slots__ = ("word", "text", "bound")
+
+    def __init__(self, word: str, text: bytes | Bound) -> None:
+        self.word = word
+        self.text = text if isinstance(text, bytes) else text.text
+        self.bound = None if isinstance(text, bytes) else text
+
+    def with_end(self, end: bytes) -> Source:
+        """The source with something behind its text; what is told of it stays the same."""
+        it = Source(self.word, self.text + end)
+        it.bound = self.bound
+        return it
 
 
 def read_text(word: str) -> bytes:
@@ -47,7 +60,7 @@ def read_text(word: str) -> bytes:
 
 def read_source(word: str) -> Source:
     """The source that a word names, without data."""
-    return Source(word, Bound(read_text(word)))
+    return Source(word, read_text(word))
 
 
 class Handed:
@@ -103,6 +116,6 @@ def spelled(word: str) -> str:
 def retold(source: Source, cause: str) -> str:
     """A cause with its place in the text as it was given."""
     name, _, place = cause.partition(" ")
-    if name.encode() in PLACED and place.isdigit():
+    if source.bound is not None and name.encode() in PLACED and place.isdigit():
         return f"{name} {source.bound.place(int(place))}"
     return cause

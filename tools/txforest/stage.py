@@ -95,7 +95,7 @@ class Stage:
         if change.kind == "mkdir":
             self.made.add(b"/".join(names))
             it.expect = calls.S.mark(old) if old is not None else None
-            it.more = new_directory(home, at_home)
+            it.more = new_directory(home, at_home, change)
             return it
         if change.kind == "rmdir":
             it.more = b"room" if change.room else b""
@@ -116,7 +116,10 @@ class Stage:
             elif change.kind == "link":
                 it.more = change.data
             elif change.kind == "mode" and old is not None:
-                it.more = b"%o" % with_flag(stat.S_IMODE(old.st_mode), change.flag)
+                mode = with_flag(stat.S_IMODE(old.st_mode), change.flag)
+                it.more = b"%o" % (mode if change.mode is None else change.mode)
+                if change.owner is not None:
+                    it.more += b" %d:%d" % change.owner
             return it
         finally:
             if old_fd is not None:
@@ -172,10 +175,12 @@ class Stage:
         return fd
 
 
-def new_directory(home: int, at_home: os.stat_result) -> bytes:
-    """The mode and the owner of a new directory: those of the one in which it comes to stand; `-` for
-    the mode if that one has an access list for what is made in it."""
-    owner = b"%d:%d" % (at_home.st_uid, at_home.st_gid)
+def new_directory(home: int, at_home: os.stat_result, change: Change) -> bytes:
+    """The mode and the owner of a new directory: what the change says, else those of the directory
+    in which it comes to stand; `-` for the mode if that one has an access list for new entries."""
+    owner = b"%d:%d" % (change.owner or (at_home.st_uid, at_home.st_gid))
+    if change.mode is not None:
+        return b"%o " % change.mode + owner
     if DEFAULT in listed(home):
         return b"- " + owner
     return b"%o " % (stat.S_IMODE(at_home.st_mode) & 0o2777) + owner
@@ -202,12 +207,13 @@ def new_file(
     if fd is None:
         fd = calls.S.open(name, NEW, place, 0o600)
     try:
-        calls.S.write(fd, change.data)
+        fill(fd, change)
         like = at_home if old is None else old
+        owner = change.owner or (like.st_uid, like.st_gid)
         made = os.fstat(fd)
-        if (like.st_uid, like.st_gid) != (made.st_uid, made.st_gid):
+        if owner != (made.st_uid, made.st_gid):
             try:
-                calls.S.chown(fd, like.st_uid, like.st_gid)
+                calls.S.chown(fd, *owner)
             except PermissionError:
                 told.append(f"{shown('/' + change.path)}: its owner or group can't be given")
         mode = stat.S_IMODE(like.st_mode)
@@ -226,9 +232,21 @@ def new_file(
                 calls.S.chmod(fd, with_flag(stat.S_IMODE(os.fstat(fd).st_mode), True))
         else:
             calls.S.chmod(fd, with_flag(mode & 0o666, change.flag))
+        if change.mode is not None:
+            calls.S.chmod(fd, change.mode)
         calls.S.fsync(fd)
     finally:
         calls.S.close(fd)
+
+
+def fill(fd: int, change: Change) -> None:
+    """Writes the content of a change: its bytes, or those of the file that has them."""
+    if change.source is None:
+        calls.S.write(fd, change.data)
+        return
+    with open(os.open(change.source, os.O_RDONLY | os.O_CLOEXEC | os.O_NOFOLLOW), "rb") as it:
+        while part := it.read(1 << 20):
+            calls.S.write(fd, part)
 
 
 def unnamed(place: int, name: bytes, home: int, default: bool) -> int | None:
