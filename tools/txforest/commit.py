@@ -46,8 +46,9 @@ if TYPE_CHECKING:
     from .differences import Change
 
     # Moves answers from a place (a descriptor) to those who wait: that of NAME is the place's file
-    # `answer-NAME`. It may be called again for the same ones if it was stopped; it leaves none.
-    HandOut = Callable[[Tree, int, Sequence[str]], None]
+    # `answer-NAME`. It is told the conflicts too, which turn a status. It may be called again for the
+    # same ones if it was stopped; it leaves none.
+    HandOut = Callable[[Tree, int, Sequence[str], Sequence[str]], None]
 
 ANSWER = b"answer-"
 __all__ = ["Changed", "Committed", "Refused", "Unfinished", "commit", "give_answers"]
@@ -98,7 +99,7 @@ def commit(
         stands = True
         calls.S.fsync(place.fd)  # the commit
         conflicts = perform(tree, place.fd, operations, umask)
-        give_answers(tree, place.fd, hand_out)
+        give_answers(tree, place.fd, hand_out, conflicts)
         place.clear(told)
         return Committed(conflicts, told)
     except OSError as error:
@@ -154,15 +155,18 @@ def write_answers(place: int, answers: Mapping[str, bytes]) -> None:
             calls.S.close(fd)
 
 
-def give_answers(tree: Tree, place: int, hand_out: HandOut | None) -> None:
-    """Hands out the answers that stand in a place, if there are any."""
+def give_answers(
+    tree: Tree, place: int, hand_out: HandOut | None, conflicts: Sequence[str]
+) -> None:
+    """Hands out the answers that stand in a place, if there are any; `conflicts` are those of its
+    operations."""
     names = answers_in(place)
     if names and hand_out is not None:
-        hand_out(tree, place, names)
+        hand_out(tree, place, names, conflicts)
     elif names:
         from . import queue
 
-        queue.hand_out(tree, place, names)
+        queue.hand_out(tree, place, names, conflicts)
 
 
 def answers_in(place: int) -> list[str]:

@@ -104,8 +104,9 @@ def settle_place(tree: Tree, place: Place, settled: Settled, hand_out: HandOut |
             return
         # The stop may have come before the commit was on the device: now it is.
         calls.S.fsync(place.fd)
-        settled.conflicts += perform(tree, place.fd, intent.operations, intent.umask)
-        give_answers(tree, place.fd, hand_out)
+        conflicts = perform(tree, place.fd, intent.operations, intent.umask)
+        settled.conflicts += conflicts
+        give_answers(tree, place.fd, hand_out, conflicts)
     settled.count += 1
     place.clear(settled.told)
 
