@@ -7,6 +7,7 @@ what the scripts change is touched. The report is printed.
 
 from __future__ import annotations
 
+import os
 import sys
 
 from .attempt import Attempt, attempts
@@ -104,15 +105,10 @@ def tool() -> int:
     job = Job(words().read(sys.argv[1:]))
     if job.list and not job.operands and not job.settle:
         return list_left_out(job)
-    if job.link:
-        from .exchange import tree_of_link
-
-        target = tree_of_link(job.target)
-    else:
-        with Tree(job.target) as tree:
-            target = tree.path
+    with tree_of(job) as tree:
+        target = os.path.abspath(job.target) if job.link else tree.path
     held = lock(target, job.wait)
-    with Tree(target) as tree:
+    with tree_of(job) as tree:
         ended = settle(tree)
         for line in (*ended.told, *ended.conflicts):
             tell(line)
@@ -121,6 +117,15 @@ def tool() -> int:
         if job.settle:
             return Status.CONFLICT if ended.conflicts else Status.DONE
         return apply(job, tree, held)
+
+
+def tree_of(job: Job) -> Tree:
+    """The tree of a job; it is opened anew once the lock is held."""
+    if job.link:
+        from .exchange import linked_tree
+
+        return linked_tree(job.target)
+    return Tree(job.target)
 
 
 def list_left_out(job: Job) -> int:
@@ -185,11 +190,9 @@ def put(job: Job, attempt: Attempt) -> Committed:
     try:
         if not (job.exchange or job.link):
             return attempt.commit(changes)
-        from .exchange import exchange, turn_link
+        from .exchange import put_whole
 
-        if job.link:
-            return turn_link(attempt, changes, job.target, job.before)
-        return exchange(attempt, changes, job.before)
+        return put_whole(attempt, changes, job.before, b"link" if job.link else b"exchange")
     except BaseException:
         let_signals(before)
         raise

@@ -118,6 +118,8 @@ class Doing:
         """What came out of the tree, and is not what was expected to, goes beside the tree if it could
         not go back; so nothing is lost when the place is cleared."""
         names = set(map(os.fsencode, os.listdir(self.place)))
+        if any(it.staged is not None and it.staged not in names for it in operations):
+            return  # a staged file is cleared, so all was done before
         for it in operations:
             for spare in (b"m%d" % it.number, b"l%d" % it.number, b"r%d" % it.number):
                 out = calls.S.look(spare, self.place) if spare in names else None
@@ -263,7 +265,8 @@ class Doing:
     def is_new(self, it: Operation, out: os.stat_result) -> bool:
         """Whether what came out of an exchange is what was to be put in."""
         if it.kind == "link":
-            return stat.S_ISLNK(out.st_mode)
+            spare = b"l%d" % it.number
+            return stat.S_ISLNK(out.st_mode) and calls.S.text(spare, self.place) == it.more
         new = None if it.staged is None else calls.S.look(it.staged, self.place)
         return new is not None and new.st_ino == out.st_ino
 

@@ -92,6 +92,9 @@ def not_to_settle(fd: int) -> str | None:
 
 def settle_place(tree: Tree, place: Place, settled: Settled, hand_out: HandOut | None) -> None:
     """Ends one place."""
+    if calls.S.look(b"step", place.fd) is not None:
+        settle_whole(tree, place, settled, hand_out)
+        return
     text = intent_of(place.fd)
     if text is not None:
         try:
@@ -109,6 +112,22 @@ def settle_place(tree: Tree, place: Place, settled: Settled, hand_out: HandOut |
         give_answers(tree, place.fd, hand_out, conflicts)
     settled.count += 1
     place.clear(settled.told)
+
+
+def settle_whole(tree: Tree, place: Place, settled: Settled, hand_out: HandOut | None) -> None:
+    """Ends a place of one step for the whole tree."""
+    from .exchange import settle_step, step_of
+
+    try:
+        step = step_of(place, tree.name)
+    except ValueError:
+        settled.told.append(f"{shown(place.name)}: no step stands in it; it stays")
+        return
+    if step is not None and tree.ino in (step.ino, step.made):
+        settle_step(tree, place, step, settled, hand_out)
+        settled.count += 1
+    else:
+        settled.told.append(f"{shown(place.name)}: for another folder of this name; it stays")
 
 
 def intent_of(place: int) -> bytes | None:
