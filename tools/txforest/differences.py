@@ -12,7 +12,7 @@ from .view import View, order, read_table
 
 TYPE_CHECKING = False
 if TYPE_CHECKING:
-    from collections.abc import Iterator
+    from collections.abc import Iterator, Mapping
 
 
 class InTheWay(Exception):
@@ -31,9 +31,13 @@ class Change:
     Of store, mkdir and mode: `mode` are the permission bits that the entry is to have, in place of
     a flag; `owner` is the user and the group that it is to have. Nothing leaves what is there, and
     gives a new entry what its directory says. A change of kind mode may be one of a directory.
+    Of store: `attributes` are the extended attributes that the file is to have, in place of those
+    that it hands on.
     """
 
-    __slots__ = ("kind", "path", "data", "flag", "room", "source", "mode", "owner")
+    __slots__ = (
+        "kind", "path", "data", "flag", "room", "source", "mode", "owner", "attributes"
+    )  # fmt: skip
 
     def __init__(
         self,
@@ -45,6 +49,7 @@ class Change:
         source: str | None = None,
         mode: int | None = None,
         owner: tuple[int, int] | None = None,
+        attributes: Mapping[str, bytes] | None = None,
     ) -> None:
         self.kind = kind
         self.path = path
@@ -54,6 +59,7 @@ class Change:
         self.source = source
         self.mode = mode
         self.owner = owner
+        self.attributes = attributes
 
 
 class Differences:

@@ -218,11 +218,8 @@ def new_file(
                 told.append(f"{shown('/' + change.path)}: its owner or group can't be given")
         mode = stat.S_IMODE(like.st_mode)
         if old is not None and old_fd is not None:
-            for key, value in handed_on(old_fd):
-                try:
-                    calls.S.setxattr(fd, key, value)
-                except OSError:
-                    told.append(f"{shown('/' + change.path)}: the attribute {key} can't be given")
+            if change.attributes is None:
+                give_attributes(fd, handed_on(old_fd), change.path, told)
             calls.S.chmod(fd, with_flag(mode & 0o1777, change.flag))
         elif default:
             if not inherits:
@@ -232,11 +229,24 @@ def new_file(
                 calls.S.chmod(fd, with_flag(stat.S_IMODE(os.fstat(fd).st_mode), True))
         else:
             calls.S.chmod(fd, with_flag(mode & 0o666, change.flag))
+        if change.attributes is not None:
+            give_attributes(fd, list(change.attributes.items()), change.path, told)
         if change.mode is not None:
             calls.S.chmod(fd, change.mode)
         calls.S.fsync(fd)
     finally:
         calls.S.close(fd)
+
+
+def give_attributes(
+    fd: int, attributes: list[tuple[str, bytes]], path: str, told: list[str]
+) -> None:
+    """Gives a file extended attributes; those that can't be given are told."""
+    for key, value in attributes:
+        try:
+            calls.S.setxattr(fd, key, value)
+        except OSError:
+            told.append(f"{shown('/' + path)}: the attribute {key} can't be given")
 
 
 def fill(fd: int, change: Change) -> None:
