@@ -7,7 +7,7 @@ import random
 import shutil
 import stat
 import tempfile
-from collections.abc import Callable, Iterator
+from collections.abc import Callable, Iterator, Sequence
 from contextlib import contextmanager
 
 from txforest import calls
@@ -129,11 +129,13 @@ class Inbox:
         self.top = top
         os.makedirs(top, exist_ok=True)
 
-    def hand_out(self, _tree: Tree, place: int, names: object) -> None:
+    def hand_out(
+        self, _tree: Tree, place: int, names: Sequence[str], _conflicts: Sequence[str]
+    ) -> None:
         """Moves answers to those who wait; one that was moved already is passed over."""
         fd = os.open(self.top, os.O_RDONLY | os.O_DIRECTORY)
         try:
-            for name in list(names):  # type: ignore[call-overload]
+            for name in names:
                 if calls.S.look(b"answer-" + name.encode(), place) is not None:
                     calls.S.rename(b"answer-" + name.encode(), place, name.encode(), fd)
         finally:

@@ -20,7 +20,7 @@ import stat
 import time
 
 from . import calls
-from .calls import DIR, EXCHANGE, NEW, NOREPLACE
+from .calls import DIR, EXCHANGE, FILE, NEW, NOREPLACE
 from .commit import Committed, Unfinished, commit, give_answers, write_answers
 from .intent import number_of
 from .place import Place, Tree, clear, hold, new_place, place_names
@@ -236,7 +236,7 @@ def end(
     if step.kind == b"exchange" and calls.S.look(b"made", place.fd) is not None:
         calls.S.rename2(b"made", place.fd, step.name, tree.home, NOREPLACE)
         calls.S.fsync(tree.home)
-    give_answers(tree, place.fd, hand_out)
+    give_answers(tree, place.fd, hand_out, [])
     if before is not None:
         prune(tree, place, step, before, told)
     place.clear(told)
@@ -278,15 +278,12 @@ def undo(tree: Tree, place: Place, told: list[str]) -> None:
 
 def step_of(place: Place, name: bytes) -> Step | None:
     """The step of a place, or nothing if it has none. Raises ValueError if it is of no form."""
-    fd = calls.S.open(b"step", os.O_RDONLY | os.O_NOFOLLOW | os.O_NONBLOCK, place.fd) if (
-        calls.S.look(b"step", place.fd) is not None
-    ) else None
-    if fd is None:
+    found = calls.S.look(b"step", place.fd)
+    if found is None:
         return None
-    with open(fd, "rb") as it:
-        found = os.fstat(fd)
-        if not stat.S_ISREG(found.st_mode) or found.st_uid != os.geteuid():
-            raise ValueError("no step")
+    if not stat.S_ISREG(found.st_mode) or found.st_uid != os.geteuid():
+        raise ValueError("no step")
+    with open(calls.S.open(b"step", FILE, place.fd), "rb") as it:
         return read_step(it.read(4096), place.ident, name)
 
 

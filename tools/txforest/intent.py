@@ -23,6 +23,7 @@ if TYPE_CHECKING:
 
 KINDS = frozenset(("store", "link", "mkdir", "remove", "rmdir", "mode"))
 DIGITS = frozenset(b"0123456789")
+OCTAL = frozenset(b"01234567")
 MAGIC = b"txforest intent 1"
 LIMIT = 64 << 20  # bytes of an intent
 
@@ -114,8 +115,35 @@ def read_line(number: int, line: bytes) -> Operation:
         path_of(path),
         None if staged == b"-" else staged,
         None if expect == b"-" else expect,
-        b"" if more == b"-" else unspelled(more),
+        more_of(kind, b"" if more == b"-" else unspelled(more)),
     )
+
+
+def more_of(kind: bytes, more: bytes) -> bytes:
+    """What an operation needs besides. Raises ValueError if it is not of the operation's form."""
+    mode, *owners = more.split(b" ")
+    if kind == b"mkdir":
+        good = (mode == b"-" or is_mode(mode)) and len(owners) == 1 and is_owner(owners[0])
+    elif kind == b"mode":
+        good = is_mode(mode) and len(owners) <= 1 and all(map(is_owner, owners))
+    elif kind == b"link":
+        good = bool(more) and b"\0" not in more
+    else:
+        good = more in (b"", b"room")
+    if not good:
+        raise ValueError(more)
+    return more
+
+
+def is_mode(text: bytes) -> bool:
+    """Whether a text is a mode: up to four octal digits."""
+    return 1 <= len(text) <= 4 and OCTAL.issuperset(text)
+
+
+def is_owner(text: bytes) -> bool:
+    """Whether a text is a user and a group."""
+    parts = text.split(b":")
+    return len(parts) == 2 and all(is_number(part) and int(part) < 2**32 - 1 for part in parts)
 
 
 def path_of(text: bytes) -> list[bytes]:

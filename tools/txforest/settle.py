@@ -138,7 +138,9 @@ def intent_of(place: int) -> bytes | None:
         return None
     except OSError:
         return b""
+    found = os.fstat(fd)
+    if not stat.S_ISREG(found.st_mode) or found.st_uid != os.geteuid() or found.st_size > LIMIT:
+        calls.S.close(fd)
+        return b""
     with open(fd, "rb") as it:
-        found = os.fstat(fd)
-        regular = stat.S_ISREG(found.st_mode) and found.st_uid == os.geteuid()
-        return it.read() if regular and found.st_size <= LIMIT else b""
+        return it.read()
