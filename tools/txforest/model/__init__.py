@@ -13,8 +13,26 @@ from importlib import import_module
 from typing import Any
 
 MODULES = (
-    "limits", "refusals", "spelling", "store", "table", "trees", "tokens", "grammar", "check",
-    "expr", "values", "moves", "edits", "txn", "reports", "reading", "run", "journal", "audits", "folder",
+    "limits",
+    "refusals",
+    "spelling",
+    "store",
+    "table",
+    "trees",
+    "tokens",
+    "grammar",
+    "check",
+    "expr",
+    "values",
+    "moves",
+    "edits",
+    "txn",
+    "reports",
+    "reading",
+    "run",
+    "journal",
+    "audits",
+    "folder",
     "cases",
 )
 

@@ -6,8 +6,27 @@ from .grammar import parse_description, parse_script
 from .limits import TXNS_LIMIT
 from .refusals import Refused
 from .trees import (
-    BOOL, INTEGER, NAMES, STR, Act, Binary, Comprehension, Def, Description, Expr, InnerShape, Pair,
-    PairShape, ParamAt, Shape, Spec, Tree, Txn, Unary, definition_of, shape_text,
+    BOOL,
+    INTEGER,
+    NAMES,
+    STR,
+    Act,
+    Binary,
+    Comprehension,
+    Def,
+    Description,
+    Expr,
+    InnerShape,
+    Pair,
+    PairShape,
+    ParamAt,
+    Shape,
+    Spec,
+    Tree,
+    Txn,
+    Unary,
+    definition_of,
+    shape_text,
 )
 
 Scope = list[tuple[str, Shape]]

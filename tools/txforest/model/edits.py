@@ -7,7 +7,18 @@ from .limits import LEVELS
 from .refusals import ABSENT, BAD_NAME, EXISTS, NO_DEFAULT, TOO_DEEP, WRONG_FORM, Stop
 from .spelling import Path
 from .store import (
-    EMPTY, KINDS, Changes, Dir, File, Link, Node, View, blocked, is_name, link_parts, resolve,
+    EMPTY,
+    KINDS,
+    Changes,
+    Dir,
+    File,
+    Link,
+    Node,
+    View,
+    blocked,
+    is_name,
+    link_parts,
+    resolve,
 )
 from .trees import Act, Description, Spec
 from .values import Address, place

@@ -12,9 +12,42 @@ from .tokens import KEPT, KEPT_OF_DESCRIPTIONS, lex
 from .limits import LEVELS, RECURSION
 from .refusals import Refused
 from .trees import (
-    Abort, Act, Ask, Assign, Bare, Binary, Call, Choice, Command, Comprehension, Constant, Def,
-    Description, Do, Each, Empty, Expr, Focus, Given, If, InnerShape, Move, Only, Option, Pair,
-    PairShape, Param, PlainShape, Predicate, Print, Shape, Spec, Try, Txn, Unary, Validate,
+    Abort,
+    Act,
+    Ask,
+    Assign,
+    Bare,
+    Binary,
+    Call,
+    Choice,
+    Command,
+    Comprehension,
+    Constant,
+    Def,
+    Description,
+    Do,
+    Each,
+    Empty,
+    Expr,
+    Focus,
+    Given,
+    If,
+    InnerShape,
+    Move,
+    Only,
+    Option,
+    Pair,
+    PairShape,
+    Param,
+    PlainShape,
+    Predicate,
+    Print,
+    Shape,
+    Spec,
+    Try,
+    Txn,
+    Unary,
+    Validate,
     Variable,
 )
 
@@ -38,8 +71,18 @@ class Parser:
     """
 
     COMMANDS = (
-        "try", "let", "set", "fetch", "value", "validate", "print", "if", "each", "abort",
-        *MOVES, *GIVEN,
+        "try",
+        "let",
+        "set",
+        "fetch",
+        "value",
+        "validate",
+        "print",
+        "if",
+        "each",
+        "abort",
+        *MOVES,
+        *GIVEN,
     )
 
     def __init__(self, text: bytes, kept: Collection[str] = KEPT) -> None:

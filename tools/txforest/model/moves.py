@@ -5,7 +5,15 @@ from __future__ import annotations
 from .expr import Env, Value, guarded, guarded_texts
 from .limits import UNFOLDED
 from .refusals import (
-    LACKS, NO_ELEMENT, NO_STEP, TOO_UNFOLDED, WRONG_FORM, Fault, NoValue, Stop, faulted,
+    LACKS,
+    NO_ELEMENT,
+    NO_STEP,
+    TOO_UNFOLDED,
+    WRONG_FORM,
+    Fault,
+    NoValue,
+    Stop,
+    faulted,
 )
 from .store import File, Quiet, View, exists, found_at
 from .trees import BOOL, NAMES, STR, Act, Description, Shape, Spec

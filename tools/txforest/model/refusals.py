@@ -56,8 +56,17 @@ EXISTS = Refusal(12, "Exists")
 TOO_UNFOLDED = Refusal(13, "TooUnfolded")
 
 PLAIN_REFUSALS = (
-    NO_STEP, NO_ELEMENT, NO_PLACE, LACKS, WRONG_FORM, TOO_DEEP, BAD_NAME, NO_DEFAULT, ABSENT,
-    EXISTS, TOO_UNFOLDED,
+    NO_STEP,
+    NO_ELEMENT,
+    NO_PLACE,
+    LACKS,
+    WRONG_FORM,
+    TOO_DEEP,
+    BAD_NAME,
+    NO_DEFAULT,
+    ABSENT,
+    EXISTS,
+    TOO_UNFOLDED,
 )
 """All refusals but Blocked and Expr, which have more behind their names."""
 

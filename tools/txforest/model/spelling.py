@@ -47,9 +47,7 @@ def unescaped(escape: re.Match[bytes]) -> bytes:
 
 def spelled(text: bytes) -> bytes:
     """A text as a folder's table has it."""
-    return b"".join(
-        bytes([b]) if 0x21 <= b <= 0x7E and b != 0x25 else b"%%%02X" % b for b in text
-    )
+    return b"".join(bytes([b]) if 0x21 <= b <= 0x7E and b != 0x25 else b"%%%02X" % b for b in text)
 
 
 def unspelled(text: bytes) -> bytes | None:
