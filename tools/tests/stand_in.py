@@ -34,7 +34,7 @@ def call(
             for number, txn in enumerate(txns):
                 outputs, end, changes, _ = model.run_txn(root, txn, last.get)
                 last = model.over(last, changes)
-                order.append((shell, number, outputs, end))
+                order.append(model.Entry(shell, number, outputs, end))
     save(last, os.fsencode(out))
     lines = "".join(event + "\n" for event in events)
     return Answer(0, (lines + model.report(order, retries)).encode(), b"")
@@ -54,7 +54,7 @@ def text_of(path: str | bytes) -> bytes:
         return file.read()
 
 
-def save(store: dict, out: bytes) -> None:
+def save(store: model.Filestore, out: bytes) -> None:
     """Writes a filestore as a folder."""
     for path, node in sorted(model.folder_of(store).items()):
         where = b"/".join((out, *path)) if path else out

@@ -29,12 +29,9 @@ from txforest.terminal import Words
 def printed_by(script: bytes) -> list[object]:
     """What the transactions of a script print, by the model, over an empty folder."""
     root = model.read_description(b"dir")
+    empty: model.Filestore = {(): model.Dir("dir", frozenset())}
     txns = model.read_script(script)
-    return [
-        value
-        for txn in txns
-        for value in model.run_txn(root, txn, {(): ("dir", frozenset())}.get)[0]
-    ]
+    return [value for txn in txns for value in model.run_txn(root, txn, empty.get).outputs]
 
 
 class Quoting(unittest.TestCase):

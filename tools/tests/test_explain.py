@@ -45,11 +45,11 @@ SCRIPTS = [
     ("txn { try x print(x) }", "t:1:13: Unexpected 12", "a move or an edit"),
     ("txn { store(1 }", "t:1:15: Unexpected 14", "expected `)`"),
 ]
-CONFIG = {
-    (): ("dir", frozenset([b"services", b"api"])),
-    (b"services",): ("file", b"api\n", False),
-    (b"api",): ("dir", frozenset([b"port"])),
-    (b"api", b"port"): ("file", b"80\n", False),
+CONFIG: model.Filestore = {
+    (): model.Dir("dir", frozenset([b"services", b"api"])),
+    (b"services",): model.File("file", b"api\n", False),
+    (b"api",): model.Dir("dir", frozenset([b"port"])),
+    (b"api", b"port"): model.File("file", b"80\n", False),
 }
 SPEC = '<s : ("services" :: file), {(n :: <p : ("port" :: file), dir>) | n in lines(s)}>'
 
@@ -99,11 +99,11 @@ class Values(unittest.TestCase):
         return caught.exception
 
     def test_the_first_part_without_a_value(self) -> None:
-        more = {**CONFIG, (b"services",): ("file", b"api\nmail\n", False)}
+        more: model.Filestore = {**CONFIG, (b"services",): model.File("file", b"api\nmail\n", False)}
         why = self.why(SPEC, more)
         self.assertEqual((why.path, why.reason), ((b"mail", b"port"), why.reason))
         self.assertIn("/ has no entry mail", why.reason)
-        climbing = {**CONFIG, (b"services",): ("file", b"a/../b", False)}
+        climbing: model.Filestore = {**CONFIG, (b"services",): model.File("file", b"a/../b", False)}
         self.assertIn('"a/../b" is no path below', self.why(SPEC, climbing).reason)
         predicate = '<r : ("api/port" :: file), pred((int(r) < 2))>'
         self.assertIn("80 is not below 2", self.why(predicate, CONFIG).reason)

@@ -11,11 +11,11 @@ from txforest.report import Report, Retry, read_report
 from txforest.statuses import Failed, Status
 
 SPEC = b"<d : dir, {(n :: file) | n in d}>"
-STORE = {
-    (): ("dir", frozenset([b"a", b"b", b"c"])),
-    (b"a",): ("file", b"0", False),
-    (b"b",): ("file", b"0", False),
-    (b"c",): ("file", b"0", False),
+STORE: model.Filestore = {
+    (): model.Dir("dir", frozenset([b"a", b"b", b"c"])),
+    (b"a",): model.File("file", b"0", False),
+    (b"b",): model.File("file", b"0", False),
+    (b"c",): model.File("file", b"0", False),
 }
 ADD = 'into next to("%s") down fetch n : str store(text((int(n) + 1))) top'
 SUM = 'into next to("%s") down fetch x : str up out to("%s") down fetch y : str print(x) print(y)'

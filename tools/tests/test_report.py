@@ -292,7 +292,7 @@ class Reports(unittest.TestCase):
     def test_values_are_printed_as_the_model_does(self) -> None:
         for text in VALUES:
             told = model.told_value(text)
-            self.assertIsNotNone(told)
+            assert told is not None
             self.assertEqual(printed(value_of(text)), model.printed(told[0]).encode())
 
 

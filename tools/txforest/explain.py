@@ -225,7 +225,7 @@ class Walk:
             self.rows[-1] = self.rows[-1]._replace(note="again, as above")
         elif kind == "call":
             inner = self.called(s, env, calls)
-            body = model.definition_of(calls.defs, s[1]).body
+            body: Any = next(it.body for it in calls.defs if it.name == s[1])
             deeper = model.Calls(calls.defs, calls.level + 1)
             self.go(body, [*moves, "into"], path, inner, deeper, around | {s[1]})
 
@@ -241,7 +241,7 @@ class Walk:
 
     def bound(self, s: Any, path: Path | None, env: Any, calls: Any) -> Any:
         """The names that are bound in the second part of a pair."""
-        if env is None or path is None:
+        if env is None or path is None or self.view is None:
             return None
         try:
             return [*env, (s[1], model.value(self.view, path, env, s[2], calls))]
@@ -267,7 +267,7 @@ class Walk:
         """Goes into the first element of a comprehension, or into any."""
         texts: list[bytes] = []
         try:
-            texts = sorted(model.evaluate(env, s[3])) if env is not None else []
+            texts = sorted(model.texts_of(env, s[3])) if env is not None else []
         except model.Fault:
             pass  # then the elements are not known
         if not texts:

@@ -95,7 +95,7 @@ def fault_words(env: Env, e: Part, fault: str) -> str:
         return f"{value} is no number: an optional -, digits, one line feed at most, 64 bits"
     if fault == "Overflow":
         left, right = model.evaluate(env, e[2]), model.evaluate(env, e[3])
-        return f"{left} {e[1]} {right} is outside 64 bits"
+        return f"{worth(left)} {e[1]} {worth(right)} is outside 64 bits"
     if e[1] == "++":
         return f"a text has at most {many(model.FILE_LIMIT, 'byte')}"
     return "the set is too large"
@@ -145,7 +145,7 @@ def valued(view: Sight, path: Path, env: Env, s: Part, calls: Any) -> Any:
         a = valued(view, path, env, s[2], calls)
         return ("pair", a, valued(view, path, [*env, (s[1], a)], s[3], calls))
     if kind == "comp":
-        texts = sorted(model.evaluate(env, e))
+        texts = sorted(model.texts_of(env, e))
         return {t: valued(view, path, [*env, (s[2], t)], s[1], calls) for t in texts}
     if kind == "call":
         valued(view, path, *into_call(path, env, s, calls))
@@ -209,7 +209,7 @@ def stepped(view: Sight, path: Path, env: Env, s: Part, calls: Any, step: Any) -
         raise Why(path, env, *fault)
     if step == "down":
         return focused(path, env, s), env, s[2], calls
-    texts = model.evaluate(env, e)
+    texts = model.texts_of(env, e)
     if step[1] not in texts:
         raise Why(path, env, s, f"the set has no {worth(step[1])}: {worth(texts)}")
     return path, [*env, (s[2], step[1])], s[1], calls

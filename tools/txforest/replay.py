@@ -18,8 +18,8 @@ from .statuses import Failed, Status
 from .terminal import below
 
 Path = tuple[bytes, ...]
-Node = Any
-Filestore = dict[Path, Node]
+Node = model.Node | None
+Filestore = dict[Path, model.Node]
 
 
 def path_of(text: bytes) -> Path:

@@ -40,7 +40,7 @@ def read_table(text: bytes) -> Table:
     flags: set[Path] = set()
     for line in LINE.findall(text):
         path, mark, target = model.table_line(line)
-        if mark == "->":
+        if target is not None:
             links[path] = target
         elif mark == "*":
             flags.add(path)
@@ -61,7 +61,7 @@ def table_faults(text: bytes, kinds: Mapping[Path, str]) -> Iterator[BadLine]:
         if number == 1 and version2:
             continue
         path, mark, _ = model.table_line(line)
-        why = standing_fault(kinds, path, mark, before, version2) if path else line_fault(line)
+        why = standing_fault(kinds, path, mark, before, version2) if mark else line_fault(line)
         if why:
             bad += 1
             yield BadLine(number, line, why)
@@ -86,7 +86,7 @@ def line_fault(line: bytes) -> str:
         if model.unspelled(spelling) is None:
             rule = "every byte but 0x21 to 0x7E, and %, as % and two upper-case digits"
             return f"{shown(spelling)} is not as the program spells it: {rule}"
-    path = model.unspelled(parts[0])
+    path = model.unspelled(parts[0]) or b""
     if path == b"/":
         return "its path is the root"
     if path[:1] != b"/" or not all(map(model.is_name, path[1:].split(b"/"))):
@@ -94,7 +94,7 @@ def line_fault(line: bytes) -> str:
     if path.count(b"/") > NAMES_LIMIT:
         return f"its path has {path.count(b'/')} names; it has at most {NAMES_LIMIT}"
     rule = "`/`, or at most 64 names, `.` and `..`, with single slashes between them"
-    return f"{shown(model.unspelled(parts[2]))} is no text of a link: {rule}"
+    return f"{shown(model.unspelled(parts[2]) or b'')} is no text of a link: {rule}"
 
 
 def standing_fault(

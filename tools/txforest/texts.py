@@ -10,7 +10,7 @@ from . import model
 from .sources import read_source
 from .terminal import many
 
-Token = tuple[str, Any, int]
+Token = model.Token
 Tree = Any  # a part of a description or a script, as the model has it
 TXNS_LIMIT = 100_000
 
@@ -146,7 +146,8 @@ class Text:
         if isinstance(at, model.Def):
             return self.head_of(at)[0]
         if at[0] == "param":
-            return self.head_of(at[1])[at[2] + 1]
+            place: int = at[2] + 1
+            return self.head_of(at[1])[place]
         byte = self.where(at)
         if cause == "TypeDiffers" or at[0] in ("var", "call"):
             return byte
@@ -211,7 +212,7 @@ class Text:
             for token in [*CANDIDATES, *more]
             if self.begins(tokens[begin:i], token, byte)
         }
-        found = tokens[i][1] if tokens[i][0] in ("word", "mark") else None
+        found = str(tokens[i][1]) if tokens[i][0] in ("word", "mark") else None
         yield "expected " + listed(grouped(could))
         if "a_name" in could and found in self.kept:
             yield f"`{found}` is a word of the language, so it names nothing"
@@ -230,9 +231,9 @@ class Text:
         """Whether some tree begins with these tokens and this one."""
         it = model.Parser(b"", self.kept)
         if token[0] == "end":
-            it.tokens = [*front, ("end", None, byte)]
+            it.tokens = [*front, Token("end", None, byte)]
         else:
-            it.tokens = [*front, (*token, byte), ("end", None, byte + 1)]
+            it.tokens = [*front, Token(*token, byte), Token("end", None, byte + 1)]
         try:
             script(it) if self.is_script else description(it)
         except model.Refused as refused:

@@ -3,6 +3,7 @@
 from __future__ import annotations
 
 import os
+from typing import Literal
 
 from .limits import FILE_LIMIT, LEVELS, LOADED, NODES, TABLE_LIMIT
 from .refusals import Refused
@@ -10,7 +11,7 @@ from .spelling import Path, path_text, quote
 from .store import TABLE, Dir, File, Filestore, is_name
 from .table import read_table, table_of
 
-Saved = dict[Path, "tuple[str, bytes | frozenset[bytes]]"]
+Saved = dict[Path, "tuple[Literal['file'], bytes] | tuple[Literal['dir'], frozenset[bytes]]"]
 """What stands in a folder: of a path its kind, and a file's bytes or a directory's names."""
 
 
@@ -58,7 +59,7 @@ def content_of(at: bytes) -> bytes:
         return it.read()
 
 
-def load(folder: str) -> Filestore:
+def load(folder: str | bytes) -> Filestore:
     """The filestore of a real folder; or raises Refused, of the first refusal."""
     loader = Loader()
     loader.walk(os.fsencode(folder), ())
@@ -73,7 +74,7 @@ def load(folder: str) -> Filestore:
     return loader.store
 
 
-def saved(folder: str) -> Saved:
+def saved(folder: str | bytes) -> Saved:
     """A real folder with its table, to compare with."""
     found: Saved = {}
     top = os.fsencode(folder)

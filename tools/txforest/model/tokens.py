@@ -3,7 +3,7 @@
 from __future__ import annotations
 
 import re
-from typing import Literal, NamedTuple
+from typing import NamedTuple
 
 from .limits import INT, TEXT_LIMIT
 from .refusals import Refused
@@ -29,12 +29,14 @@ HEXADECIMAL = re.compile(rb"x[0-9a-fA-F]{2}")
 
 
 class Token(NamedTuple):
-    """A token: a word or a mark with its spelling, a number or a string with its value, or the end.
+    """A word or a mark with its spelling, a number or a string with its value, or the end.
+
+    `kind` is "word", "mark", "number", "string" or "end".
 
     `place` is its first byte, counted from 0; that of the end is the text's length.
     """
 
-    kind: Literal["word", "mark", "number", "string", "end"]
+    kind: str
     value: str | int | bytes | None
     place: int
 
