@@ -5,8 +5,8 @@
     Plain     every file is copied, and all of the tree counts as read
     Only      the declared paths are copied, and count as read (only.py)
 
-A copy is made in a room, a directory of the job's own. `enter` is called in the process that becomes
-the command; `looked` and `changes` are asked once it has ended.
+A copy is made in a room, a directory of the job's own. `enter` is called in the process that
+becomes the command; `looked` and `changes` are asked once it has ended.
 """
 
 from __future__ import annotations

@@ -1,5 +1,5 @@
-"""A private copy of just the paths that are declared: a command can read nothing else in it, and may
-change nothing else."""
+"""A private copy of just the paths that are declared: a command can read nothing else in it, and
+may change nothing else."""
 
 from __future__ import annotations
 
@@ -117,7 +117,11 @@ class Declared(Plain):
     def copy(self, reader: Reader) -> None:
         """Copies what was read."""
         top = os.fsencode(self.tree)
-        folders = {p for p, s in self.reads.items() if s is Kind.DIRECTORY or isinstance(s, frozenset)}
+        folders = {
+            path
+            for path, seen in self.reads.items()
+            if seen is Kind.DIRECTORY or isinstance(seen, frozenset)
+        }
         for path in sorted(self.reads):
             if not path:
                 continue

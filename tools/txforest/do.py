@@ -1,8 +1,8 @@
 """txforest-do: any command as a transaction on a tree.
 
 The command runs in a private copy of the tree. What it has read and made there is decided together
-with all other jobs that wait (jobs.py). If another job came in between, it runs again; the last time
-with the lock held, so that nobody is kept out for ever.
+with all other jobs that wait (jobs.py). If another job came in between, it runs again; the last
+time with the lock held, so that nobody is kept out for ever.
 """
 
 from __future__ import annotations
@@ -40,13 +40,14 @@ USAGE_LINE = (
 HELP = f"""usage: {USAGE_LINE}
 
 Runs a command as a transaction on the tree of files at TREE. It works in a private copy; if it ends
-with 0, and what it has read is still so, what it has changed is put in place. Else it is run again, or
-nothing of it is kept. The proved program decides, and each state has a value by the description SPEC.
+with 0, and what it has read is still so, what it has changed is put in place. Else it is run again,
+or nothing of it is kept. The proved program decides, and each state has a value by the description
+SPEC.
 
   --trace            what the command looks at counts as read, and no more; else it ends with 124
   --whole            all of the tree counts as read
-  --only PATTERN     the copy has just the paths of the patterns: nothing else can be read or changed.
-                     May be given several times; a directory comes with all below it
+  --only PATTERN     the copy has just the paths of the patterns: nothing else can be read or
+                     changed. May be given several times; a directory comes with all below it
   (none of these)    traced if the system lets it, else a plain copy and the whole tree
   --tries N          how often the command is run at most (10); the last time with the lock held
   --optimistic       the last time without the lock too
@@ -281,7 +282,7 @@ def children() -> list[int]:
 def waited(child: int, helper: int | None, words: Sequence[str]) -> int:
     """Waits for the command and for all that it has started; the command's status.
 
-    What still runs some seconds after the command is told and ended. The helper ends by itself then.
+    What still runs some seconds behind the command is told and ended. The helper ends by itself.
     """
     _, how = os.waitpid(child, 0)
     others = [number for number in children() if number != helper]
@@ -309,7 +310,8 @@ def end_stayers(helper: int | None, words: Sequence[str]) -> None:
         time.sleep(pause)
         pause = min(pause * 2, 0.1)
     names = ", ".join(f"{name_of(number)} ({number})" for number in others[:5])
-    tell(f"{shown(words[0])} left {many(len(others), 'process', 'processes')} running: {names}; ended")
+    count = many(len(others), "process", "processes")
+    tell(f"{shown(words[0])} left {count} running, ended with it: {names}")
     end_children(helper)
 
 
@@ -354,7 +356,7 @@ class Transaction:
         self.tried = 0
 
     def run(self) -> int:
-        """The status of the whole. The command runs until what it has read is still so behind it."""
+        """The status of the whole. The command runs until what it has read is still so then."""
         given = self.given
         last: Answer | None = None
         while self.tried < given.tries:
@@ -377,7 +379,7 @@ class Transaction:
         return CONFLICT
 
     def attempt(self, held: int | None) -> int | Answer:
-        """Runs the command once: the status of the whole, or an answer after which it runs again."""
+        """Runs the command once: the status of the whole, or an answer that makes it run again."""
         from .copies import CannotEnter
         from .waiting import Room
 

@@ -32,7 +32,7 @@ What the description wants stays so:
     >>> with txforest.transaction("rota", "spec") as t:
     ...     t.remove("ann")
     Traceback (most recent call last):
-    txforest.interface.NoValue: what this leaves has no value by the description; nothing was changed
+    txforest.interface.NoValue: what this leaves has no value by the description
 
 And nobody's change is lost:
 
@@ -294,7 +294,7 @@ class Transaction:
         self._own[names] = None
 
     def rename(self, path: AnyPath, new: AnyPath) -> None:
-        """Moves a file or a link over what stands at `new`, or a directory to where nothing stands."""
+        """Moves a file or link over what stands at `new`, or a directory to where nothing is."""
         names, to = _names(path), self._made_at(new, True)
         state = self._state(names)
         if state is None:
@@ -418,7 +418,7 @@ class Transaction:
         return int(user), int(group)
 
     def _made_at(self, path: AnyPath, parents: bool) -> Path:
-        """The names of a path at which something is made; the directories above it are there then."""
+        """The names of a path at which something is made; what is above it is there then."""
         names = _names(path)
         if not names:
             raise ValueError("the tree itself")
@@ -450,7 +450,7 @@ class Transaction:
         if answer.what == CONFLICT:
             raise Conflict(answer.where().lstrip("/"))
         if answer.what != DONE:
-            raise NoValue("what this leaves has no value by the description; nothing was changed")
+            raise NoValue("what this leaves has no value by the description")
         if answer.told:
             import warnings
 
@@ -720,7 +720,7 @@ def _umask() -> int:
 
 
 def transaction(tree: AnyPath, spec: AnyPath, *, wait: float | None = None) -> Transaction:
-    """One attempt: `with transaction(tree, spec) as t`. Raises Conflict if another came in between."""
+    """One attempt: `with transaction(tree, spec) as t`. Conflict if another came in between."""
     return Transaction(tree, spec, wait=wait)
 
 
@@ -747,7 +747,7 @@ def attempts(
 def transactional(
     tree: AnyPath, spec: AnyPath, *, tries: int = TRIES, wait: float | None = None
 ) -> Callable[[Callable[..., R]], Callable[..., R]]:
-    """Makes of a function of a transaction one that runs as such: again, if another came in between."""
+    """Makes of a function of a transaction one that runs as such, as often as it takes."""
 
     def made(function: Callable[..., R]) -> Callable[..., R]:
         @functools.wraps(function)

@@ -1,9 +1,9 @@
 """Jobs of any program: each is prepared in a room of its own, and one of them commits many.
 
 A job waits for the tree's lock. Whoever has it leads: it takes the jobs that stand prepared for the
-same description, lets the program decide which of them can be committed (staged.py), looks that each
-state has a value (valued.py), and puts what they make in place by one commit. The others find their
-answers when they get the lock.
+same description, lets the program decide which of them can be committed (staged.py), looks that
+each state has a value (valued.py), and puts what they make in place by one commit. The others find
+their answers when they get the lock.
 
 The text of a prepared job, the file `job` of its room, is one of lines.py, with these besides:
 
@@ -29,7 +29,7 @@ from .differences import Change
 from .lines import path_of, path_words, read_lines, seen_line, seen_of, written_lines
 from .lock import lock
 from .program import call, called
-from .waiting import JOB, Room, clear_left, give_answers, hand_out, rooms
+from .waiting import BETWEEN, JOB, Room, clear_left, give_answers, hand_out, rooms
 from .settle import settle
 from .staged import JOBS, NODES, Decision, Job, Sum, decide
 from .states import LINK, Kind, Reader, identity, token_of
@@ -71,8 +71,10 @@ class Answer:
 
 def answer_of(text: bytes) -> Answer:
     """The answer that a text says."""
-    what, *words = text.split(b"\0")
-    return Answer(what.replace(b"-", b" "), path_of(words)[0] if words else None)
+    head, *conflicts = text.split(BETWEEN)
+    what, *words = head.split(b"\0")
+    told = [os.fsdecode(line) for line in conflicts]
+    return Answer(what.replace(b"-", b" "), path_of(words)[0] if words else None, told)
 
 
 # ---- a prepared job
@@ -288,7 +290,7 @@ class Leader:
         self.rounds = 0
 
     def gathered(self, own: Prepared) -> list[Prepared]:
-        """The jobs that are committed together: one's own, then the others in order of their coming."""
+        """The jobs that are committed together: one's own, then the others as they came."""
         found: list[tuple[int, Prepared]] = []
         if self.room.is_shared:
             for name, fd, used in rooms(self.tree):
@@ -392,7 +394,7 @@ class Leader:
         return None
 
     def without_value(self, group: list[Prepared], order: list[int], held: Watched) -> list[int]:
-        """The jobs of an order whose state, without those before that are told too, has no value."""
+        """The jobs of an order behind which the state, without those told before, has no value."""
         writing = [number for number in order if group[number].changes.writes]
         if not writing:
             return []
@@ -481,8 +483,8 @@ def is_source(new: Made, source: str | None) -> bool:
     found = token_of(source, -1) if source else None
     if not isinstance(found, bytes):
         return False
-    (kind, mode, _, _, *rest), (kind_, mode_, _, _, *rest_) = found.split(b" ", 4), new.split(b" ", 4)
-    return (kind, mode, rest) == (kind_, mode_, rest_)
+    has, wants = found.split(b" ", 4), new.split(b" ", 4)
+    return has[:2] == wants[:2] and has[4:] == wants[4:]
 
 
 def change_of(
@@ -531,7 +533,7 @@ class Hold:
         self.fd = -1
 
     def take(self, path: str, wait: float | None) -> bool:
-        """Takes the lock; whether it was not had by this thread before. Raises Failed with LOCKED."""
+        """Takes the lock; whether this thread did not have it before. Raises Failed with LOCKED."""
         if not self.thread.acquire(timeout=-1 if wait is None else wait):
             raise Failed(Status.LOCKED, f"{shown(path)}.lock: another thread holds the lock")
         try:

@@ -1,7 +1,7 @@
 """Texts of lines, by which jobs tell each other what they have seen and made.
 
-A text begins with `txforest KIND 1` and ends with `end N`, the number of the lines between. A line is
-words, spelled as spelling.py says, with one space between two; the empty word is `%`.
+A text begins with `txforest KIND 1` and ends with `end N`, the number of the lines between. A line
+is words, spelled as spelling.py says, with one space between two; the empty word is `%`.
 
     absent PATH                 nothing was seen there
     directory PATH
@@ -45,7 +45,7 @@ def written_lines(path: str, kind: bytes, lines: Iterable[Sequence[bytes]]) -> N
 
 
 def read_lines(path: str, kind: bytes, dir_fd: int | None = None) -> list[list[bytes]]:
-    """The lines of a text. Raises ValueError if it has not the form, OSError if it can't be read."""
+    """The lines of a text. Raises ValueError if it has no form, OSError if it can't be read."""
     flags = os.O_RDONLY | os.O_NOFOLLOW | os.O_NONBLOCK | os.O_CLOEXEC
     with open(os.open(path, flags, dir_fd=dir_fd), "rb") as file:
         first, *lines = file.read().split(b"\n")

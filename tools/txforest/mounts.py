@@ -15,7 +15,7 @@ CHILD_SUBREAPER, PARENT_DEATH_SIGNAL = 36, 1
 def own_mounts() -> None:
     """Mounts of this process's own from here on.
 
-    As root as they are; else as the root of a name space in which only this user and group are known.
+    As root as they are; else in a name space in which only this user and group are known.
     """
     user, group = os.geteuid(), os.getegid()
     if libc().unshare(NEWNS if user == 0 else NEWUSER | NEWNS) < 0:

@@ -66,7 +66,7 @@ def description(stage: str, count: int) -> str:
     nested = parts[-1]
     for number, part in reversed(list(enumerate(parts[:-1]))):
         nested = f"<x{number} : {part},\n      {nested}>"
-    return f"""# What {count} jobs have seen and make: the entries of each, a path and what goes with it.
+    return f"""# What {count} jobs have seen and make: of each a path and what goes with it.
 {{ <es : ({own % "/at"} :: dir),
    {{ <p : (({own % "/at/"} ++ m) :: file),
       {{ {nested}
@@ -137,7 +137,7 @@ STEPS = (
 
 
 def script(number: int) -> str:
-    """The transaction of one job: what it has seen is as it was, then all that it makes is stored."""
+    """The transaction of one job: if what it has seen is as it was, what it makes is stored."""
     body = "\n        ".join(step(*one) for one in STEPS)
     return f"""txn {{
     to("{number}") into down fetch es : names up next
@@ -235,7 +235,7 @@ def spelled(path: Path) -> Path:
 
 
 def is_plain(name: bytes) -> bool:
-    """Whether a name stands for itself: UTF-8, not the table's, and none that stands for another."""
+    """Whether a name stands for itself: it is UTF-8, not the table's, and begins with no `~`."""
     if name.isascii() and name[:1] not in b"~.":
         return True
     if name[:1] == b"~" or name == TABLE:
@@ -258,7 +258,7 @@ class Staged:
     """The folder that the program is given for some jobs."""
 
     def __init__(self, place: bytes, stage: bytes, tree: Tree) -> None:
-        """`place` is where it is made; nothing stands there. `stage` is no name in the tree's root."""
+        """`place` is where it is made; nothing stands there. `stage` is no name of the root."""
         self.folder = Folder(place)
         self.stage = stage
         self.tree = tree

@@ -10,7 +10,7 @@ A token is one of
 
     f MODE OWNER GROUP BYTES              a file of at most 1 KiB
     h MODE OWNER GROUP SIZE DIGEST        a file of at most 1 MiB
-    i MODE OWNER GROUP SIZE INODE MTIME CTIME    a larger one: it is the same while nobody has changed it
+    i MODE OWNER GROUP SIZE INODE MTIME CTIME    a larger one: the same while nobody has changed it
     l TEXT                                a symbolic link
     x MODE DEVICE INODE                   what is neither file, directory nor link
 """

@@ -53,7 +53,7 @@ class Value:
             file.write(QUESTION)
         self.folder = Folder(os.fsencode(place) + b"/in")
         self.device = os.fstat(tree.root).st_dev
-        self.made: dict[Path, tuple[Made, str | None]] = {}  # the changes, with files of their content
+        self.made: dict[Path, tuple[Made, str | None]] = {}  # changes, files of their content
         self.exact: set[Path] = set()
         self.looks: set[Path] = set()
         self.asked = 0

@@ -1,8 +1,8 @@
 """The rooms in which jobs wait: the directories TREE.queue/ID.
 
-A room is a directory of one's own, mode 0700, and it is in use while its lock is held, which ends with
-the process. A job that stands prepared has the file `job` in it, and gets the file `answer` from
-whoever leads or settles. Rooms that are not in use are cleared by whoever has the lock of the tree.
+A room is a directory of one's own, mode 0700, and it is in use while its lock is held, which ends
+with the process. A job that stands prepared has the file `job` in it, and gets the file `answer`
+from whoever leads or settles. Rooms that are not in use are cleared by whoever has the tree's lock.
 
 If no room can be made beside the tree, it stands in the folder for temporary files: that job leads
 itself, and nobody takes it along.
@@ -27,6 +27,7 @@ if TYPE_CHECKING:
 QUEUE = ".queue"
 NEW = ".new-"
 JOB, ANSWER = "job", "answer"
+BETWEEN = b"\0\0"
 LIMIT = 256 << 20  # bytes of what one job tells another
 
 
@@ -76,7 +77,7 @@ class Room:
 
 
 def queue_of(tree: Tree) -> str | None:
-    """The folder of all rooms, which is made if it is missing; nothing if one can make no room in it."""
+    """The folder of all rooms, made if it is missing; nothing if one can make no room in it."""
     path = tree.beside(QUEUE)
     for _ in range(100):
         try:
@@ -194,10 +195,13 @@ def give_answers(tree: Tree, answers: Mapping[str, bytes]) -> None:
         give_answer(tree, name, answer)
 
 
-def hand_out(tree: Tree, place: int, names: Sequence[str]) -> None:
-    """Moves answers from a place to those who wait: NAME stands there in the file `answer-NAME`."""
+def hand_out(tree: Tree, place: int, names: Sequence[str], conflicts: Sequence[str]) -> None:
+    """Moves answers from a place to those who wait: NAME stands there in the file `answer-NAME`.
+
+    The conflicts of the commit stand behind each answer; BETWEEN is before them and between two.
+    """
     for name in names:
         found = text_in(place, f"{ANSWER}-{name}")
         if found is not None:
-            give_answer(tree, name, found)
+            give_answer(tree, name, BETWEEN.join([found, *map(os.fsencode, conflicts)]))
             S.unlink(os.fsencode(f"{ANSWER}-{name}"), place)
