@@ -22,7 +22,7 @@ import xml.dom.minidom
 TOP = os.path.dirname(os.path.dirname(os.path.abspath(__file__)))
 TOOLS = os.path.join(TOP, "tools")
 PROGRAM = os.environ["TXFOREST"] = os.path.abspath(os.environ["TXFOREST"])
-NAMES = ["import", "export", "apply", "explain", "schedules", "picture"]
+NAMES = ["import", "export", "apply", "explain", "schedules", "picture", "report"]
 CONFIG = os.path.join(TOP, "examples", "config")
 NOBODY = 65534
 
@@ -610,9 +610,9 @@ def pictures(room):
             tool("picture", "--html", "--names", "a,b", "r", "-o", "p.html", room=room)
             drawn += 2
     write(f"{room}/bad", "look 0 /a 0\n")
-    tool("picture", "bad", status=2, say=["no whole report"], room=room)
+    tool("picture", "bad", status=2, say=["bad: line 1: this is not `look K PATH POSITION`"], room=room)
     write(f"{room}/bad", "jump\nforest report 1\nend\n")
-    tool("picture", "bad", status=2, say=["line 1 is none"], room=room)
+    tool("picture", "bad", status=2, say=["bad: line 1: this is not an event or the begin of a report"], room=room)
     counted(f"{room}/c")
     write(f"{room}/c/s", PLUS * 500)
     draw = random.Random(1)

@@ -3,7 +3,7 @@
 import os
 import re
 
-import model
+from txforest import model
 from common import Failed, below, many, shown
 from trees import at, entries, leads_out, link_text, read_file
 

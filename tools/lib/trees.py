@@ -9,7 +9,7 @@ import os
 import stat
 from dataclasses import dataclass, field
 
-import model
+from txforest import model
 from common import SYSTEM, Failed, shown
 
 KINDS = {stat.S_IFIFO: "a FIFO", stat.S_IFSOCK: "a socket", stat.S_IFBLK: "a block device", stat.S_IFCHR: "a character device"}
