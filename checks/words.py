@@ -35,7 +35,7 @@ class Sentence(NamedTuple):
     """One sentence of a page: how many words it has, and whether it stands in a table."""
 
     page: str
-    count: int
+    length: int
     text: str
     in_table: bool
 
@@ -55,7 +55,7 @@ def blocks_of(text: str) -> Iterator[tuple[str, bool]]:
             for cell in re.split(r"(?<!\\)\|", line):
                 yield cell.strip(), True
         elif line and not line.startswith("#"):
-            block.append(line[item.end():] if item else line)
+            block.append(line[item.end() :] if item else line)
 
 
 def manual_blocks_of(text: str) -> Iterator[tuple[str, bool]]:
@@ -86,9 +86,9 @@ def sentences_of(page: pathlib.Path) -> list[Sentence]:
     for block, in_table in manual_blocks_of(text) if manual else blocks_of(text):
         block = re.sub(r"`[^`]*`", "`code`", re.sub(r"\]\([^)]*\)", "]", block))
         for sentence in END.split(block):
-            count = len(WORD.findall(sentence))
-            if count > 2:
-                found.append(Sentence(name_of(page), count, sentence, in_table))
+            length = len(WORD.findall(sentence))
+            if length > 2:
+                found.append(Sentence(name_of(page), length, sentence, in_table))
     return found
 
 
@@ -115,14 +115,14 @@ def nameless(sources: Iterable[pathlib.Path]) -> Iterator[str]:
 
 def long_of(sentences: Iterable[Sentence]) -> int:
     """How many of the sentences are long."""
-    return sum(sentence.count > LONG for sentence in sentences)
+    return sum(sentence.length > LONG for sentence in sentences)
 
 
 def told(name: str, sentences: list[Sentence]) -> str:
     """The line that tells the counts of a page or of all pages."""
     prose = [sentence for sentence in sentences if not sentence.in_table]
     cells = [sentence for sentence in sentences if sentence.in_table]
-    longest = max((sentence.count for sentence in prose), default=0)
+    longest = max((sentence.length for sentence in prose), default=0)
     counts = f"{len(prose)} sentences, {long_of(prose)} of more than {LONG} words"
     return f"{name}: {counts}, longest {longest}; in tables {len(cells)}, {long_of(cells)}"
 
@@ -130,10 +130,20 @@ def told(name: str, sentences: list[Sentence]) -> str:
 def main() -> int:
     """Counts, prints, and answers the exit status."""
     parser = argparse.ArgumentParser(description="Counts the long sentences of the documents.")
-    parser.add_argument("--most", type=float, default=5.0, metavar="PERCENT",
-                        help="how many of the sentences may be long (5)")
-    parser.add_argument("--longest", type=int, default=10, metavar="COUNT",
-                        help="how many of the longest sentences are printed (10)")
+    parser.add_argument(
+        "--most",
+        type=float,
+        default=5.0,
+        metavar="PERCENT",
+        help="how many of the sentences may be long (5)",
+    )
+    parser.add_argument(
+        "--longest",
+        type=int,
+        default=10,
+        metavar="COUNT",
+        help="how many of the longest sentences are printed (10)",
+    )
     parser.add_argument("pages", nargs="*", type=pathlib.Path, metavar="PAGE")
     words = parser.parse_args()
     for page in words.pages:
@@ -145,9 +155,9 @@ def main() -> int:
         sentences = sentences_of(page)
         print(told(name_of(page), sentences))
         every += sentences
-    for sentence in sorted(every, key=lambda one: -one.count)[:words.longest]:
-        if sentence.count > LONG:
-            print(f"  {sentence.count} {sentence.page}: {sentence.text}")
+    for sentence in sorted(every, key=lambda one: -one.length)[: words.longest]:
+        if sentence.length > LONG:
+            print(f"  {sentence.length} {sentence.page}: {sentence.text}")
     comments = list(nameless(sorted(TOP.glob("crates/*/src/**/*.rt"))))
     print(f"comments 'The same ..' in the crates: {len(comments)}")
     for comment in comments:
