@@ -88,7 +88,8 @@ class Given:
 
 def given_words(words: Sequence[str]) -> Given:
     """The words of a call. Raises Failed with USAGE if they have no form."""
-    given, rest, operands = Given(), list(words), []
+    given, rest = Given(), list(words)
+    operands: list[str] = []
     while rest and len(operands) < 3:
         word = rest.pop(0)
         if word == "--":

@@ -32,7 +32,7 @@ from .program import call, called
 from .waiting import BETWEEN, JOB, Room, clear_left, give_answers, hand_out, rooms
 from .settle import settle
 from .staged import JOBS, NODES, Decision, Job, Sum, decide
-from .states import LINK, Kind, Reader, identity, token_of
+from .states import LINK, Kind, Reader, identity, new_digest, token_of
 from .statuses import Failed, Status
 from .survey import Survey
 from .terminal import below, shown
@@ -218,9 +218,7 @@ def again(reader: Reader, path: Path, seen: Seen) -> Seen:
 
 def digest_of_states(states: dict[Path, Seen]) -> bytes:
     """One text for what was seen at many paths."""
-    from _blake2 import blake2b
-
-    made = blake2b(digest_size=32)
+    made = new_digest()
     for path in sorted(states):
         for word in seen_line(path, states[path]):
             made.update(b"%d " % len(word) + word)
@@ -512,11 +510,15 @@ def change_of(
     if new.startswith(LINK):
         yield turn, Change("link", name, new[len(LINK) :])
         return
-    mode, user, group = new.split(b" ", 4)[1:4]
-    owner = (int(user), int(group)) if os.geteuid() == 0 else None
-    change = Change("store", name, mode=int(mode, 8), owner=owner, source=source)
-    change.attributes = attributes
-    yield turn, change
+    bits, user, group = new.split(b" ", 4)[1:4]
+    yield turn, Change(
+        "store",
+        name,
+        source=source,
+        mode=int(bits, 8),
+        owner=(int(user), int(group)) if os.geteuid() == 0 else None,
+        attributes=attributes,
+    )
 
 
 # ---- one job among many
@@ -526,7 +528,7 @@ class Hold:
     """The lock of one tree in this process: one thread has it at a time, and may have it twice."""
 
     def __init__(self) -> None:
-        from _thread import RLock
+        from _thread import RLock  # type: ignore[attr-defined]  # threading costs the start
 
         self.thread = RLock()
         self.depth = 0
