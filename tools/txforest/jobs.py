@@ -29,7 +29,7 @@ from .differences import Change
 from .lines import path_of, path_words, read_lines, seen_line, seen_of, written_lines
 from .lock import lock
 from .program import call, called
-from .waiting import BETWEEN, JOB, Room, clear_left, give_answers, hand_out, rooms
+from .waiting import BETWEEN, JOB, Room, clear_left, give_answers, rooms
 from .settle import settle
 from .staged import JOBS, NODES, Decision, Job, Sum, decide
 from .states import LINK, Kind, Reader, identity, new_digest, token_of
@@ -426,7 +426,7 @@ class Leader:
             give_answers(self.tree, texts)
             return
         try:
-            done = commit(self.tree, changes, found, texts, held.look_again, hand_out)
+            done = commit(self.tree, changes, found, texts, held.look_again)
             answers[0].told = [*done.conflicts, *done.told]
         except Unfinished as error:
             answers[0].told = [f"it is kept, but not all of it is in place: {error}"]
@@ -599,7 +599,7 @@ class Clerk:
 
     def settle(self) -> None:
         """Ends what killed jobs have left; the lock is held."""
-        done = settle(self.tree, hand_out)
+        done = settle(self.tree)
         self.told += [*done.conflicts, *done.told]
         clear_left(self.tree)
 
