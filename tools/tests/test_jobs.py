@@ -146,6 +146,14 @@ class Jobs(TestRoom):
         self.assertEqual(sorted(os.listdir(os.path.join(self.top, "d"))), ["x", "y"])
         self.assertEqual(self.read("a"), "2")
 
+    def test_done_once(self) -> None:
+        with Room(self.tree) as one, Room(self.tree) as two:
+            self.assertEqual(self.clerk.submit(one, *self.job(one, "b", "first", False)).what, DONE)
+            self.write("b", "outside")
+            self.assertEqual(self.clerk.submit(two, *self.job(two, "c", "2", False)).what, DONE)
+            self.assertIsNone(one.answer())
+        self.assertEqual(self.read("b"), "outside")
+
     def test_other_description_is_not_taken(self) -> None:
         with Room(self.tree) as one, Room(self.tree) as two:
             self.prepared(two, "b", "2", False)

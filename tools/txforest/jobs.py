@@ -96,6 +96,10 @@ class Prepared:
         """Makes it stand prepared in its room."""
         written_lines(os.path.join(self.room, JOB), b"job", self.lines())
 
+    def withdraw(self) -> None:
+        """It stands prepared no longer."""
+        os.unlink(os.path.join(self.room, JOB))
+
     def lines(self) -> Iterator[list[bytes]]:
         """Its text, a list of words a line."""
         yield [b"description", self.description]
@@ -615,7 +619,12 @@ class Clerk:
         with self.holding() as fd:
             self.reached("locked")
             text = room.answer()
-            return self.lead(own, room, fd) if text is None else answer_of(text)
+            if text is not None:
+                return answer_of(text)
+            try:
+                return self.lead(own, room, fd)
+            finally:
+                own.withdraw()  # before the lock goes: else the next leader does it once more
 
     def lead(self, own: Prepared, room: Room, held: int) -> Answer:
         """Commits with the lock held."""
