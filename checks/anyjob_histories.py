@@ -363,10 +363,10 @@ class History:
 
         submit, put, settled = jobs.Clerk.submit, jobs.Leader.put, do.Transaction.settled
 
-        def submitted(clerk, room, looked, changes, held=None):
+        def submitted(clerk, room, looked, *more):
             self.line(f"room {room.name} {k}")
             plant(self.fault, looked)
-            return submit(clerk, room, looked, changes, held)
+            return submit(clerk, room, looked, *more)
 
         def placed(leader, group, order, *more):
             put(leader, group, order, *more)

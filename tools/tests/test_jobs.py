@@ -154,6 +154,15 @@ class Jobs(TestRoom):
             self.assertIsNone(one.answer())
         self.assertEqual(self.read("b"), "outside")
 
+    def test_answered_is_withdrawn(self) -> None:
+        """A room loses its files one by one, the answer perhaps before the job."""
+        with Room(self.tree) as one:
+            looked, made = self.job(one, "b", "1", False)
+            give_answer(self.tree, one.name, Answer(DONE).text())
+            self.assertEqual(self.clerk.submit(one, looked, made).what, DONE)
+            self.assertEqual(sorted(os.listdir(one.path)), ["answer", "new"])
+        self.assertFalse(os.path.exists(os.path.join(self.top, "b")))
+
     def test_other_description_is_not_taken(self) -> None:
         with Room(self.tree) as one, Room(self.tree) as two:
             self.prepared(two, "b", "2", False)

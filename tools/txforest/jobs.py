@@ -8,6 +8,7 @@ their answers when they get the lock.
 The text of a prepared job, the file `job` of its room, is one of lines.py, with these besides:
 
     description TEXT            what the description was when the job was called
+    log TEXT                    what the place of the commit carries for the job's log (log.py)
     total DIGEST                all of the tree was read
     put PATH TOKEN SOURCE       a file or link is to stand there; SOURCE is below the room
     make PATH SOURCE            a directory
@@ -84,13 +85,20 @@ class Prepared:
     """A job with its description, what it has seen and what it makes."""
 
     def __init__(
-        self, name: str, description: bytes, looked: Looked, changes: Changes, room: str
+        self,
+        name: str,
+        description: bytes,
+        looked: Looked,
+        changes: Changes,
+        room: str,
+        log: bytes = b"",
     ) -> None:
         self.name = name
         self.description = description
         self.looked = looked
         self.changes = changes
         self.room = room
+        self.log = log
 
     def write(self) -> None:
         """Makes it stand prepared in its room."""
@@ -103,6 +111,7 @@ class Prepared:
     def lines(self) -> Iterator[list[bytes]]:
         """Its text, a list of words a line."""
         yield [b"description", self.description]
+        yield [b"log", self.log]
         if self.looked.total is not None:
             yield [b"total", self.looked.total]
         for path, seen in self.looked.reads.items():
@@ -147,10 +156,12 @@ def prepared_in(room: int, name: str, path: str) -> Prepared | None:
     """The job that stands prepared in another one's room; nothing if none does."""
     try:
         lines = read_lines(JOB, b"job", room)
-        made, looked, description = Changes(), Looked(), b""
+        made, looked, description, log = Changes(), Looked(), b"", b""
         for line in lines:
             if line[0] == b"description":
                 description = line[1]
+            elif line[0] == b"log":
+                log = line[1]
             elif line[0] == b"total":
                 looked.total = line[1]
             elif line[0] in (b"put", b"make", b"gone", b"clear", b"mode", b"plain", b"attribute"):
@@ -160,7 +171,7 @@ def prepared_in(room: int, name: str, path: str) -> Prepared | None:
                 looked.reads[at] = seen
     except (OSError, ValueError, IndexError):
         return None
-    return Prepared(name, description, looked, made, path)
+    return Prepared(name, description, looked, made, path, log)
 
 
 def take_line(made: Changes, line: list[bytes], room: str) -> None:
@@ -423,12 +434,16 @@ class Leader:
     ) -> None:
         """Puts in place what the done jobs make, and hands out the answers of the others."""
         texts = {group[n].name: answers[n].text() for n in range(1, len(group))}
+        logs = [group[n] for n in order if group[n].log]
         found = Survey()
         found.taken[""] = os.fstat(self.tree.root)
         changes = changes_of([group[number] for number in order], decision.after, held, found)
         if not changes:
+            for it in logs:
+                log_line(it)
             give_answers(self.tree, texts)
             return
+        texts.update((f"log-{it.name}", it.log) for it in logs)
         try:
             done = commit(self.tree, changes, found, texts, held.look_again)
             answers[0].told = [*done.conflicts, *done.told]
@@ -436,6 +451,13 @@ class Leader:
             answers[0].told = [f"it is kept, but not all of it is in place: {error}"]
         except Refused as why:
             raise Failed(Status.SYSTEM, f"{why}; nothing was changed") from None
+
+
+def log_line(it: Prepared) -> None:
+    """The line of a job that is done and makes no change."""
+    from . import log
+
+    log.hand_out("log", it.name, it.log, False)
 
 
 def is_waiting(room: int) -> bool:
@@ -608,21 +630,27 @@ class Clerk:
         clear_left(self.tree)
 
     def submit(
-        self, room: Room, looked: Looked, changes: Changes, held: int | None = None
+        self,
+        room: Room,
+        looked: Looked,
+        changes: Changes,
+        held: int | None = None,
+        log: bytes = b"",
     ) -> Answer:
-        """Hands in a job and waits for its answer; `held` is the lock if one has it already."""
-        own = Prepared(room.name, self.text, looked, changes, room.path)
+        """Hands in a job and waits for its answer; `held` is the lock if one has it already.
+
+        `log` is what the place of its commit carries for its log.
+        """
+        own = Prepared(room.name, self.text, looked, changes, room.path, log)
         if held is not None:
             return self.lead(own, room, held)
         own.write()
         self.reached("prepared")
         with self.holding() as fd:
             self.reached("locked")
-            text = room.answer()
-            if text is not None:
-                return answer_of(text)
             try:
-                return self.lead(own, room, fd)
+                text = room.answer()
+                return self.lead(own, room, fd) if text is None else answer_of(text)
             finally:
                 own.withdraw()  # before the lock goes: else the next leader does it once more
 

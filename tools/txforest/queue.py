@@ -470,15 +470,15 @@ def remove_stale(queue: Queue) -> None:
 def hand_out(tree: Tree, place: int, names: Sequence[str], conflicts: Sequence[str]) -> None:
     """Moves the answers of a place, whose commit stands, to those who wait for them.
 
-    `job-ID` is the answer of a job, `log-ID` a line of a log, `keep-ID` what is to be kept, and a
-    name without a dash one of a job of `txforest-do`. Each is removed behind that, so that it is done
-    once; done twice it changes nothing. Raises OSError if the system refuses something for now.
+    `job-ID` is the answer of a job, `log-ID` a line of a log, `keep-ID` what is to be kept, and
+    `do-ID` one of a job of `txforest-do`. Each is removed behind that, so that it is done once; done
+    twice it changes nothing. Raises OSError if the system refuses something for now.
     """
     queue = queue_of(tree)
     try:
         for name in names:
-            kind, dash, ident = name.partition("-")
-            if not dash:
+            kind, _, ident = name.partition("-")
+            if kind == "do":
                 from . import waiting
 
                 waiting.hand_out(tree, place, [name], conflicts)
