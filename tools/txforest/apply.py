@@ -7,6 +7,7 @@ what the scripts change is touched. The report is printed.
 
 from __future__ import annotations
 
+import gc
 import os
 import sys
 
@@ -132,6 +133,7 @@ def absolute(path: str | None) -> str:
 
 def tool() -> int:
     """The tool."""
+    gc.disable()  # nothing here makes cycles
     job = Job(words().read(sys.argv[1:]))
     if job.list and not job.operands and not job.settle:
         return list_left_out(job)
