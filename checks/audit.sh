@@ -32,7 +32,7 @@ examples=(
     "watch ann ben"
     "views give back"
 )
-diff <(printf '%s\n' audit "${examples[@]%% *}" | sort) <(ls "$top/examples")
+diff <(printf '%s\n' audit "${examples[@]%% *}" | sort) <(cd "$top/examples" && printf "%s\n" */ | tr -d /)
 for line in "${examples[@]}"; do
     read -r example scripts <<<"$line"
     cd "$top/examples/$example"

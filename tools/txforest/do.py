@@ -11,7 +11,7 @@ import os
 import sys
 
 from .statuses import Failed, Status
-from .terminal import hold_streams, many, shown, status_of, take_signals, tell
+from .terminal import hold_streams, many, print_version, shown, status_of, take_signals, tell
 
 TYPE_CHECKING = False
 if TYPE_CHECKING:
@@ -56,6 +56,7 @@ SPEC.
   --log FILE         appends a line for each job: time, order of commits, status, how it was run
   --verbose          tells how the copy is made, and each try
   --help             prints this
+  --version          prints the version
 
 exit status:
   0        the command ended with 0, and what it changed is in place
@@ -110,6 +111,8 @@ def given_words(words: Sequence[str]) -> Given:
             sys.stdout.write(HELP)
             sys.stdout.flush()
             raise SystemExit(0)
+        elif word == "--version":
+            print_version()
         else:
             refuse(f"{shown(word)}: no option of this tool")
     if len(operands) != 2:
