@@ -52,5 +52,8 @@ class Room(unittest.TestCase):
         return fd
 
     def left(self) -> list[str]:
-        """What stands beside the tree, but its lock and the description."""
-        return sorted(set(os.listdir(self.room)) - {"tree", "tree.lock", "spec"})
+        """What stands beside the tree and in its queue, but what stays and the description."""
+        found = set(os.listdir(self.room)) - {"tree", "tree.lock", "spec", "tree.queue"}
+        if os.path.isdir(self.top + ".queue"):
+            found |= set(os.listdir(self.top + ".queue"))
+        return sorted(found)

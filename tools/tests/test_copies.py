@@ -210,7 +210,8 @@ class Tracing(Room):
         body = struct.pack("=II", 64, 0) + b"user.x\0"
         self.assertEqual(it.ask(traced.GETXATTR, node, body), (0, b"value"))
         self.assertEqual(it.ask(traced.LISTXATTR, node, struct.pack("=II", 64, 0))[1], b"user.x\0")
-        self.assertNotEqual(it.ask(traced.GETXATTR, node, struct.pack("=II", 1, 0) + b"user.x\0")[0], 0)
+        body = struct.pack("=II", 1, 0) + b"user.x\0"
+        self.assertNotEqual(it.ask(traced.GETXATTR, node, body)[0], 0)
 
     def test_unknown_requests(self) -> None:
         self.assertNotEqual(self.server.ask(99, 1)[0], 0)

@@ -200,7 +200,7 @@ class Sources(unittest.TestCase):
             )
             self.assertEqual(
                 handed.refused(f"txforest: {handed.words[1]}: Unexpected 3"),
-                (1, "txforest: c\\n\\\\: Unexpected 3"),
+                (1, "Unexpected 3"),
             )
             unknown = f"txforest: {handed.words[0]}: Unknown x"
             self.assertEqual(handed.told(unknown), "txforest: a b: Unknown x")

@@ -41,8 +41,8 @@ class Lines(TestRoom):
             read_lines(where, b"kind")
 
     def test_seen_there_and_back(self) -> None:
-        states = (None, Kind.DIRECTORY, Kind.SOME_FILE, b"f 0644 0 0 \n%", frozenset(), frozenset(ODD))
-        for seen in states:
+        names = frozenset(), frozenset(ODD)
+        for seen in (None, Kind.DIRECTORY, Kind.SOME_FILE, b"f 0644 0 0 \n%", *names):
             for path in ((), (b"a",), ODD):
                 self.assertEqual(seen_of(seen_line(path, seen)), (path, seen))
 
@@ -96,7 +96,8 @@ class Jobs(TestRoom):
         with Room(self.tree) as room:
             looked = Looked({(b"a",): b"f 0644 0 0 1", (): frozenset(ODD), ODD: None}, b"total")
             made = Changes()
-            made.writes = {(b"n",): b"f 0644 0 0 new", (b"d",): LINK + b"a", (b"e",): Kind.DIRECTORY}
+            made.writes = {(b"n",): b"f 0644 0 0 new", (b"d",): LINK + b"a"}
+            made.writes[(b"e",)] = Kind.DIRECTORY
             made.writes[b"d", b"x"] = None
             made.before = {(b"n",): None, (b"d",): Kind.DIRECTORY, (b"d", b"x"): b"f 0644 0 0 x"}
             made.files = {(b"n",): room.inside("new file")}
@@ -144,6 +145,23 @@ class Jobs(TestRoom):
                 self.assertEqual(answer_of(room.answer() or b"").what, NO_VALUE)
         self.assertEqual(sorted(os.listdir(os.path.join(self.top, "d"))), ["x", "y"])
         self.assertEqual(self.read("a"), "2")
+
+    def test_done_once(self) -> None:
+        with Room(self.tree) as one, Room(self.tree) as two:
+            self.assertEqual(self.clerk.submit(one, *self.job(one, "b", "first", False)).what, DONE)
+            self.write("b", "outside")
+            self.assertEqual(self.clerk.submit(two, *self.job(two, "c", "2", False)).what, DONE)
+            self.assertIsNone(one.answer())
+        self.assertEqual(self.read("b"), "outside")
+
+    def test_answered_is_withdrawn(self) -> None:
+        """A room loses its files one by one, the answer perhaps before the job."""
+        with Room(self.tree) as one:
+            looked, made = self.job(one, "b", "1", False)
+            give_answer(self.tree, one.name, Answer(DONE).text())
+            self.assertEqual(self.clerk.submit(one, looked, made).what, DONE)
+            self.assertEqual(sorted(os.listdir(one.path)), ["answer", "new"])
+        self.assertFalse(os.path.exists(os.path.join(self.top, "b")))
 
     def test_other_description_is_not_taken(self) -> None:
         with Room(self.tree) as one, Room(self.tree) as two:
@@ -198,10 +216,10 @@ class Rooms(TestRoom):
 
     def test_in_use_and_left(self) -> None:
         with Room(self.tree) as one:
-            other = os.path.join(os.path.dirname(one.path), "0" * 12)
+            other = os.path.join(os.path.dirname(one.path), "do-" + "0" * 12)
             os.mkdir(other, 0o700)
             found = {name: used for name, _, used in rooms(self.tree)}
-            self.assertEqual(found, {one.name: True, "0" * 12: False})
+            self.assertEqual(found, {one.name: True, "do-" + "0" * 12: False})
             os.mkdir(os.path.join(other, "work"), 0)
             self.assertEqual(clear_left(self.tree), 1)
             self.assertEqual(os.listdir(os.path.dirname(one.path)), [one.name])
@@ -219,16 +237,16 @@ class Rooms(TestRoom):
         with Room(self.tree) as one:
             place = os.path.join(self.room, "place")
             os.mkdir(place)
-            for name in (one.name, "f" * 12, "../../tree"):
+            for name in (one.name, "do-" + "f" * 12, "do-../../tree"):
                 with open(os.path.join(place, f"answer-{name.replace('/', '')}"), "w") as file:
                     file.write("yes")
             fd = os.open(place, os.O_RDONLY)
             self.addCleanup(os.close, fd)
             for _ in range(2):
-                hand_out(self.tree, fd, [one.name, "f" * 12], ["/a: changed"])
+                hand_out(self.tree, fd, [one.name, "do-" + "f" * 12], ["/a: changed"])
             self.assertEqual(one.answer(), b"yes\0\0/a: changed")
             give_answer(self.tree, one.name, b"no")
-            give_answer(self.tree, "../../tree", b"no")
+            give_answer(self.tree, "do-../../tree", b"no")
             self.assertEqual(one.answer(), b"yes\0\0/a: changed")
-            self.assertEqual(os.listdir(place), ["answer-....tree"])
+            self.assertEqual(os.listdir(place), ["answer-do-....tree"])
         self.assertFalse(os.path.exists(os.path.join(self.top, "answer")))

@@ -7,14 +7,19 @@ what the scripts change is touched. The report is printed.
 
 from __future__ import annotations
 
+import gc
 import os
 import sys
 
-from .attempt import Attempt, attempts
+from .attempt import Attempt
+from .batch import SHELLS, STATES, Batch, Member, terms_of, text_of
 from .commit import Committed, hold_signals, let_signals
 from .lock import lock
 from .place import Tree
-from .settle import settle
+from .queue import (
+    Answer, Request, Waiting, enqueue, new_ident, queue_of, stands_in_place, take,
+)  # fmt: skip
+from .settle import Settled, settle
 from .sources import Source, read_source
 from .statuses import Failed, Status
 from .survey import NOT_ASKED, Survey, survey
@@ -22,6 +27,10 @@ from .terminal import Given, Words, many, shown, tell
 
 TYPE_CHECKING = False
 if TYPE_CHECKING:
+    from collections.abc import Sequence
+
+    from .data import Datum
+    from .differences import Change
     from .only import Only
 
 USAGE = """txforest-apply [OPTION..] TREE SPEC SCRIPT..
@@ -54,6 +63,11 @@ def words() -> Words:
     it.option("only", "PATTERN", "take only what a pattern matches; it may come again", True)
     it.option("allow-stopped", None, "go on if transactions stopped or were aborted")
     it.option("wait", "SECONDS", "how long to wait for the lock (for ever)")
+    it.option("set", "NAME=TEXT", "bind a name in each transaction; NAME:int=N to a number", True)
+    it.option("set-file", "NAME=FILE", "bind a name to the bytes of a file", True)
+    it.option("json", None, "print the report as one object of JSON")
+    it.option("log", "FILE", "append a line of the job to a log")
+    it.option("keep", "DIR", "keep the inputs and the report, for txforest audit")
     it.option("settle", None, "only end what a killed job left")
     it.option("list-left-out", None, "name what can't be taken, with the reasons")
     return it
@@ -69,7 +83,11 @@ class Job:
         self.link = given.text("link") is not None
         self.exchange = given.flag("exchange")
         self.before = given.count("before", 1)
-        self.only = only_of(given)
+        self.patterns = given.several("only")
+        self.only = only_of(self.patterns)
+        self.data = data_of(given)
+        self.json = given.flag("json")
+        self.log, self.keep = (absolute(given.text(name)) for name in ("log", "keep"))
         self.allow_stopped = given.flag("allow-stopped")
         self.wait = given.number("wait")
         self.settle = given.flag("settle")
@@ -90,9 +108,8 @@ class Job:
             raise Failed(Status.USAGE, f"usage: {USAGE}")
 
 
-def only_of(given: Given) -> Only | None:
+def only_of(patterns: list[str]) -> Only | None:
     """The patterns that narrow what is taken."""
-    patterns = given.several("only")
     if not patterns:
         return None
     from .only import Only
@@ -100,23 +117,178 @@ def only_of(given: Given) -> Only | None:
     return Only(patterns)
 
 
+def data_of(given: Given) -> list[Datum]:
+    """The data that `--set` and `--set-file` give."""
+    if not given.flag("set") and not given.flag("set-file"):
+        return []
+    from . import data
+
+    return data.data_of(given)
+
+
+def absolute(path: str | None) -> str:
+    """A path that whoever does the job can use; empty if none was given."""
+    return os.path.abspath(path) if path else ""
+
+
 def tool() -> int:
     """The tool."""
+    gc.disable()  # nothing here makes cycles
     job = Job(words().read(sys.argv[1:]))
     if job.list and not job.operands and not job.settle:
         return list_left_out(job)
+    if job.settle:
+        return settle_alone(job)
+    request = request_of(job)
+    ident = new_ident()
     with tree_of(job) as tree:
-        target = os.path.abspath(job.target) if job.link else tree.path
-    held = lock(target, job.wait)
+        status = int(Status.SYSTEM)
+        try:
+            answer = answer_of(job, tree, request, ident)
+            status = answer.status
+        except Failed as failed:
+            status = int(failed.status)
+            raise
+        except SystemExit as ended:
+            status = int(ended.code or 0)
+            raise
+        finally:
+            if status != Status.UNFINISHED:  # else whoever settles does it
+                leave(tree, request, ident, status)
+        return told(job, answer)
+
+
+def settle_alone(job: Job) -> int:
+    """Ends what a killed job left."""
     with tree_of(job) as tree:
-        ended = settle(tree)
-        for line in (*ended.told, *ended.conflicts):
-            tell(line)
-        if ended.count:
-            tell(f"{many(ended.count, 'job')} before this one had been broken off; it is settled")
-        if job.settle:
-            return Status.CONFLICT if ended.conflicts else Status.DONE
-        return apply(job, tree, held)
+        lock(lock_of(job, tree), job.wait)
+    with tree_of(job) as tree:
+        return Status.CONFLICT if settle_first(tree).conflicts else Status.DONE
+
+
+def settle_first(tree: Tree) -> Settled:
+    """Ends what killed jobs left, and tells it."""
+    ended = settle(tree)
+    for line in (*ended.told, *ended.conflicts):
+        tell(line)
+    if ended.count:
+        tell(f"{many(ended.count, 'job')} before this one had been broken off; it is settled")
+    return ended
+
+
+def lock_of(job: Job, tree: Tree) -> str:
+    """The path whose lock a job takes."""
+    return os.path.abspath(job.target) if job.link else tree.path
+
+
+def request_of(job: Job) -> Request:
+    """What a job asks for: its texts, as they are now."""
+    spec, *scripts = [read_source(word) for word in job.operands]
+    if job.data:
+        from .data import bind
+
+        scripts = [Source(it.word, bind(it.word, it.text, job.data)) for it in scripts]
+    terms = terms_of(job.patterns)
+    texts = [text_of(it) for it in scripts]
+    return Request(terms, job.allow_stopped, text_of(spec), texts, job.log, job.keep)
+
+
+def answer_of(job: Job, tree: Tree, request: Request, ident: str) -> Answer:
+    """Does the job, or has it done: if somebody has the lock it waits in the queue, and whoever has
+    the lock next does it with its own."""
+    held, waiting = had(job, tree, request, ident)
+    try:
+        with tree_of(job) as now:
+            answer = waiting.answer() if waiting is not None else None
+            if answer is None:
+                try:
+                    settle_first(now)
+                except OSError as error:
+                    if waiting is None or not stands_in_place(now, ident):
+                        raise
+                    line = "the change is committed, and the next job puts the rest of it in place"
+                    raise Failed(Status.UNFINISHED, f"{error.strerror}; {line}") from None
+                answer = waiting.answer() if waiting is not None else None
+            if answer is None:
+                answer = lead(job, now, held, request, ident)
+            return answer
+    except ValueError as error:
+        raise Failed(Status.SYSTEM, f"{shown(tree.beside('.queue'))}: {error}") from None
+    finally:
+        if waiting is not None:
+            waiting.remove()
+
+
+def had(job: Job, tree: Tree, request: Request, ident: str) -> tuple[int, Waiting | None]:
+    """The lock, and the job as it waited in the queue, if it had to. Raises Failed with LOCKED if the
+    lock is not had in time, and nobody has taken the job."""
+    path = lock_of(job, tree)
+    try:
+        return lock(path, 0), None
+    except Failed as failed:
+        if failed.status != Status.LOCKED or job.wait == 0:
+            raise
+    waiting = None if job.exchange or job.link else enqueue(tree, request, ident)
+    try:
+        try:
+            return lock(path, job.wait), waiting
+        except Failed as failed:
+            if failed.status != Status.LOCKED or waiting is None or waiting.withdraw():
+                raise
+            return lock(path), waiting  # somebody has taken it: an answer comes
+    except BaseException:
+        if waiting is not None:
+            waiting.withdraw()
+            waiting.remove()
+        raise
+
+
+def lead(job: Job, tree: Tree, held: int, request: Request, ident: str) -> Answer:
+    """Does the job on a tree whose lock is held, with those that wait for the same."""
+    batch = Batch(tree, held, job.only, lambda *given: put(job, *given))
+    seen: list[Survey] = []
+
+    def surveyed(found: Survey) -> None:
+        if not seen:
+            tell_left_out(job, found)
+        seen.append(found)
+
+    batch.surveyed = surveyed
+    queue = None if job.exchange or job.link else queue_of(tree)
+    shells, transactions = SHELLS - len(request.scripts), STATES - request.transactions
+    others = take(queue, request, ident, shells, transactions) if queue is not None else []
+    try:
+        return batch.do(Member(ident, request), others)
+    finally:
+        for it in others:
+            it.close()
+        if queue is not None:
+            queue.close()
+
+
+def leave(tree: Tree, request: Request, ident: str, status: int) -> None:
+    """Leaves a line of a job in its log, and nothing half kept."""
+    if request.log or request.keep:
+        from . import log
+
+        if request.log:
+            log.append(tree, ident, request, status)
+        if request.keep:
+            log.drop(request.keep, ident)
+
+
+def told(job: Job, answer: Answer) -> int:
+    """Prints what a job came to."""
+    if answer.report and job.json:
+        from .report import read_printed
+        from .summary import json_line
+
+        print_report(json_line(read_printed(answer.report)))
+    elif answer.report:
+        print_report(answer.report)
+    for line in answer.lines:
+        tell(line)
+    return answer.status
 
 
 def tree_of(job: Job) -> Tree:
@@ -140,59 +312,18 @@ def list_left_out(job: Job) -> int:
     return Status.DONE
 
 
-def apply(job: Job, tree: Tree, held: int) -> int:
-    """Does the job on a tree whose lock is held."""
-    spec, *scripts = [read_source(word) for word in job.operands]
-    told = False
-
-    def work(attempt: Attempt) -> int:
-        nonlocal told
-        if not told:
-            tell_left_out(job, attempt.found)
-            told = True
-        return one(job, attempt, spec, scripts)
-
-    return attempts(tree, held, job.only, work)
-
-
-def one(job: Job, attempt: Attempt, spec: Source, scripts: list[Source]) -> int:
-    """One attempt: the run, its answers, the commit. What it comes to is told only if nobody changed
-    the tree meanwhile."""
-    answer = attempt.run(spec, scripts)
-    if answer.status:
-        attempt.look_again()
-        raise Failed(answer.status, answer.told())
-    odd = [] if job.allow_stopped else odd_ends(answer.printed)
-    if odd:
-        attempt.look_again()
-        print_report(answer.printed)
-        lines = [f"{shown(scripts[shell].word)}: transaction {txn} {end}" for shell, txn, end in odd]
-        line = f"{many(len(odd), 'transaction')} not done, so nothing was changed"
-        raise Failed(
-            Status.NOT_DONE, *lines, f"{line}; txforest-explain says why, --allow-stopped goes on"
-        )
-    if not attempt.is_valid():
-        attempt.look_again()
-        print_report(answer.printed)
-        line = f"the result has no value by {shown(spec.word)}, so nothing was changed"
-        raise Failed(Status.NO_VALUE, line)
-    committed = put(job, attempt)
-    print_report(answer.printed)
-    for line in (*committed.told, *committed.conflicts):
-        tell(line)
-    return Status.CONFLICT if committed.conflicts else Status.DONE
-
-
-def put(job: Job, attempt: Attempt) -> Committed:
-    """Puts the result in place. Behind that no signal turns the status any more."""
-    changes = attempt.changes()
+def put(
+    job: Job, attempt: Attempt, changes: Sequence[Change], answers: dict[str, bytes]
+) -> Committed:
+    """Puts changes in place. Behind that no signal turns the status any more."""
     before = hold_signals()
     try:
         if not (job.exchange or job.link):
-            return attempt.commit(changes)
+            return attempt.commit(changes, answers)
         from .exchange import put_whole
 
-        return put_whole(attempt, changes, job.before, b"link" if job.link else b"exchange")
+        how = b"link" if job.link else b"exchange"
+        return put_whole(attempt, changes, job.before, how, answers)
     except BaseException:
         let_signals(before)
         raise
@@ -213,15 +344,3 @@ def tell_left_out(job: Job, found: Survey) -> None:
     elif left:
         line = f"{many(len(left), 'entry', 'entries')} left out, which no script sees or touches"
         tell(f"{line}; --list-left-out names them")
-
-
-def odd_ends(report: bytes) -> list[tuple[int, int, str]]:
-    """The entries of a report that are not done: shell, transaction, end."""
-    found = []
-    if b" stopped " in report or b" aborted\n" in report:
-        for line in report.split(b"\n"):
-            words_ = line.split(b" ")
-            if words_[0] == b"entry" and words_[6] != b"done":
-                end = b" ".join(words_[6:]).decode(errors="replace")
-                found.append((int(words_[3]), int(words_[5]), end))
-    return found

@@ -52,6 +52,8 @@ class Attempt:
         self.view: View | None = None
         self.spec: Source | None = None
         self.valid: bool | None = None
+        self.refused: int | None = None  # the text that the last run refused: 0 is the description
+        self.cause = ""  # and why
         try:
             self.make_view()
         except BaseException:
@@ -91,19 +93,22 @@ class Attempt:
 
     # ---- runs
 
-    def run(self, spec: str | Source, scripts: Sequence[str | Source]) -> Answer:
+    def run(
+        self, spec: str | Source, scripts: Sequence[str | Source], schedule: str | None = None
+    ) -> Answer:
         """Runs scripts over the view into a fresh OUT, and answers what the program came to; its line
-        names the texts by their words. Raises Failed if a text can't be read."""
+        names the texts by their words. With a schedule the run is watched, and its events are told
+        before the report. Raises Failed if a text can't be read."""
         sources = [read_source(it) if isinstance(it, str) else it for it in (spec, *scripts)]
         self.spec, self.valid = sources[0], None
-        answer = self.asked(sources) if len(sources) == 2 else None
+        answer = self.asked(sources) if len(sources) == 2 and schedule is None else None
         if answer is None:
-            answer = self.run_sources(sources)
+            answer = self.run_sources(sources, schedule)
         if answer.status == Status.UNWRITTEN and is_in_memory(self.room):
             self.close()  # memory may have become short meanwhile
             self.room = room_of(self.tree, self.found, in_memory=False)
             self.make_view()
-            answer = self.run_sources(sources)
+            answer = self.run_sources(sources, schedule)
         return answer
 
     def asked(self, sources: Sequence[Source]) -> Answer | None:
@@ -122,16 +127,23 @@ class Attempt:
         answer.printed, self.valid = parted
         return answer
 
-    def run_sources(self, sources: Sequence[Source]) -> Answer:
+    def run_sources(self, sources: Sequence[Source], schedule: str | None = None) -> Answer:
         """Runs texts into a fresh OUT."""
         if self.view is None:
             raise ValueError("the attempt is closed")
         clear(self.room.fd, b"out")
+        self.refused = None
         with Handed(sources) as texts:
             spec, *scripts = texts.words
             inherited = [self.lock, self.room.fd, self.view.fd, *texts.fds]
-            answer = call(["run", spec, self.view.path, self.out, *scripts], inherited)
+            command = ["run", spec, self.view.path, self.out]
+            if schedule is not None:
+                command = ["watch", *command[1:], schedule]
+            answer = call([*command, *scripts], inherited)
             if answer.status:
+                refused = texts.refused(answer.told())
+                if refused is not None:
+                    self.refused, self.cause = refused
                 answer.line = os.fsencode(texts.told(answer.told()))
         return answer
 

@@ -156,7 +156,7 @@ def write_answers(place: int, answers: Mapping[str, bytes]) -> None:
 
 
 def give_answers(
-    tree: Tree, place: int, hand_out: HandOut | None, conflicts: Sequence[str]
+    tree: Tree, place: int, hand_out: HandOut | None, conflicts: Sequence[str] = ()
 ) -> None:
     """Hands out the answers that stand in a place, if there are any; `conflicts` are those of its
     operations."""

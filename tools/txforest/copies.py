@@ -15,7 +15,7 @@ import errno
 import os
 import stat
 
-from .states import DIRECTORY_FLAGS, FILE_FLAGS, Kind, Reader, token_of
+from .states import DIRECTORY_FLAGS, FILE_FLAGS, Kind, Reader, new_digest, token_of
 from .statuses import Failed, Status
 from .terminal import below, shown
 
@@ -330,10 +330,9 @@ def digest_of(root: int, skip: frozenset[bytes] = frozenset(), is_first: bool = 
     change would show in a time. No content is read; of directories the times don't count.
     """
     import time
-    from _blake2 import blake2b
 
     for _ in range(20):
-        made, young = blake2b(digest_size=32), 0
+        made, young = new_digest(), 0
         reader = Reader(root)
         work: list[Path] = [()]
         while work:

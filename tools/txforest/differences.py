@@ -91,7 +91,7 @@ class Differences:
                 if x is None:
                     self.look_out(path)
                 seen.add(path)
-                if entry.is_dir(follow_symlinks=False):
+                if entry.is_dir():  # OUT has no symbolic links
                     was = x is not None and stat.S_ISDIR(x.st_mode)
                     if not was:
                         self.new.append(Change("mkdir", path))

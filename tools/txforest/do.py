@@ -11,7 +11,7 @@ import os
 import sys
 
 from .statuses import Failed, Status
-from .terminal import hold_streams, many, shown, status_of, take_signals, tell
+from .terminal import hold_streams, many, print_version, shown, status_of, take_signals, tell
 
 TYPE_CHECKING = False
 if TYPE_CHECKING:
@@ -53,9 +53,10 @@ SPEC.
   --optimistic       the last time without the lock too
   --hold             what the command prints is kept back until its end, and printed once
   --wait SECONDS     how long to wait for the lock (for ever)
-  --log FILE         appends a line for each job: time, how it was run, tries, status, command
+  --log FILE         appends a line for each job: time, order of commits, status, how it was run
   --verbose          tells how the copy is made, and each try
   --help             prints this
+  --version          prints the version
 
 exit status:
   0        the command ended with 0, and what it changed is in place
@@ -88,7 +89,8 @@ class Given:
 
 def given_words(words: Sequence[str]) -> Given:
     """The words of a call. Raises Failed with USAGE if they have no form."""
-    given, rest, operands = Given(), list(words), []
+    given, rest = Given(), list(words)
+    operands: list[str] = []
     while rest and len(operands) < 3:
         word = rest.pop(0)
         if word == "--":
@@ -109,6 +111,8 @@ def given_words(words: Sequence[str]) -> Given:
             sys.stdout.write(HELP)
             sys.stdout.flush()
             raise SystemExit(0)
+        elif word == "--version":
+            print_version()
         else:
             refuse(f"{shown(word)}: no option of this tool")
     if len(operands) != 2:
@@ -354,6 +358,7 @@ class Transaction:
         self.command = Command(given.command, "hold" in given.flags)
         self.kinds = kinds_of(given)
         self.tried = 0
+        self.ident = "do"  # the name of the last room
 
     def run(self) -> int:
         """The status of the whole. The command runs until what it has read is still so then."""
@@ -385,6 +390,7 @@ class Transaction:
 
         while True:
             with Room(self.tree) as room:
+                self.ident = room.name
                 try:
                     self.clerk.reached("begun")
                     copy = self.kinds[0](room.path, self.tree.root)
@@ -416,7 +422,8 @@ class Transaction:
             return Answer(CONFLICT, looked.spoiled)
         if not changes and (held is not None or not looked.reads and looked.total is None):
             return status
-        answer = self.clerk.submit(room, looked, changes, held)
+        log = b"" if status else self.log_of_commit()
+        answer = self.clerk.submit(room, looked, changes, held, log)
         for line in (*self.clerk.told, *answer.told):
             tell(line)
         self.clerk.told = []
@@ -432,24 +439,35 @@ class Transaction:
         if "verbose" in self.given.flags:
             tell(line)
 
-    def log(self, status: int) -> None:
-        """Appends the line of this job to the log."""
-        import time
-
+    def log_words(self) -> bytes:
+        """What the line of this job says of it: the tree, the description, how the copy was made,
+        the number of tries, and the command."""
         from .spelling import spelled
 
+        kind = self.kinds[0].word if self.kinds else "none"
+        how = f"do:{kind}:{self.tried}"
+        words = [self.tree.path, self.clerk.description, how, *self.given.command]
+        return b" ".join(spelled(os.fsencode(word)) or b"%" for word in words)
+
+    def log_of_commit(self) -> bytes:
+        """What the place of the commit carries for the log, so that the line is there if the job is
+        done, also if this process is killed behind the commit."""
+        if self.given.log is None:
+            return b""
+        from .log import now
+        from .spelling import spelled
+
+        name = spelled(os.fsencode(self.given.log))
+        return b"%s\n%s %s" % (name, now(), self.log_words())
+
+    def log(self, status: int) -> None:
+        """Appends the line of this job to the log, unless its commit did so."""
         if self.given.log is None:
             return
-        moment = time.strftime("%Y-%m-%dT%H:%M:%SZ", time.gmtime())
-        kind = self.kinds[0].word if self.kinds else "none"
-        words = b" ".join(spelled(os.fsencode(word)) for word in self.given.command)
-        line = f"{moment} {kind} tries {self.tried} status {status} ".encode() + words + b"\n"
-        flags = os.O_WRONLY | os.O_APPEND | os.O_CREAT | os.O_CLOEXEC
-        fd = os.open(self.given.log, flags, 0o666)
-        try:
-            os.write(fd, line)
-        finally:
-            os.close(fd)
+        from .log import now, put_line
+
+        where, ident = os.fsencode(self.given.log), self.ident.encode()
+        put_line(where, ident, now(), b"%d" % status, self.log_words())
 
 
 def kinds_of(given: Given) -> list[type[Copy]]:

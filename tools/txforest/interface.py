@@ -688,7 +688,9 @@ def _opened(t: Transaction, path: TreePath, mode: str, encoding: str) -> IO[Any]
             raise _error(errno.EEXIST, _names(path))
         before = t.read(path) if "a" in letters and t.exists(path) else b""
         raw = _Bytes(t, path, before)
-    return raw if "b" in letters else io.TextIOWrapper(raw, encoding=encoding)
+    if "b" in letters:
+        return raw
+    return io.TextIOWrapper(raw, encoding=encoding)
 
 
 def _names(path: AnyPath) -> Path:

@@ -8,6 +8,7 @@ their answers when they get the lock.
 The text of a prepared job, the file `job` of its room, is one of lines.py, with these besides:
 
     description TEXT            what the description was when the job was called
+    log TEXT                    what the place of the commit carries for the job's log (log.py)
     total DIGEST                all of the tree was read
     put PATH TOKEN SOURCE       a file or link is to stand there; SOURCE is below the room
     make PATH SOURCE            a directory
@@ -29,10 +30,10 @@ from .differences import Change
 from .lines import path_of, path_words, read_lines, seen_line, seen_of, written_lines
 from .lock import lock
 from .program import call, called
-from .waiting import BETWEEN, JOB, Room, clear_left, give_answers, hand_out, rooms
+from .waiting import BETWEEN, JOB, Room, clear_left, give_answers, rooms
 from .settle import settle
 from .staged import JOBS, NODES, Decision, Job, Sum, decide
-from .states import LINK, Kind, Reader, identity, token_of
+from .states import LINK, Kind, Reader, identity, new_digest, token_of
 from .statuses import Failed, Status
 from .survey import Survey
 from .terminal import below, shown
@@ -84,21 +85,33 @@ class Prepared:
     """A job with its description, what it has seen and what it makes."""
 
     def __init__(
-        self, name: str, description: bytes, looked: Looked, changes: Changes, room: str
+        self,
+        name: str,
+        description: bytes,
+        looked: Looked,
+        changes: Changes,
+        room: str,
+        log: bytes = b"",
     ) -> None:
         self.name = name
         self.description = description
         self.looked = looked
         self.changes = changes
         self.room = room
+        self.log = log
 
     def write(self) -> None:
         """Makes it stand prepared in its room."""
         written_lines(os.path.join(self.room, JOB), b"job", self.lines())
 
+    def withdraw(self) -> None:
+        """It stands prepared no longer."""
+        os.unlink(os.path.join(self.room, JOB))
+
     def lines(self) -> Iterator[list[bytes]]:
         """Its text, a list of words a line."""
         yield [b"description", self.description]
+        yield [b"log", self.log]
         if self.looked.total is not None:
             yield [b"total", self.looked.total]
         for path, seen in self.looked.reads.items():
@@ -143,10 +156,12 @@ def prepared_in(room: int, name: str, path: str) -> Prepared | None:
     """The job that stands prepared in another one's room; nothing if none does."""
     try:
         lines = read_lines(JOB, b"job", room)
-        made, looked, description = Changes(), Looked(), b""
+        made, looked, description, log = Changes(), Looked(), b"", b""
         for line in lines:
             if line[0] == b"description":
                 description = line[1]
+            elif line[0] == b"log":
+                log = line[1]
             elif line[0] == b"total":
                 looked.total = line[1]
             elif line[0] in (b"put", b"make", b"gone", b"clear", b"mode", b"plain", b"attribute"):
@@ -156,7 +171,7 @@ def prepared_in(room: int, name: str, path: str) -> Prepared | None:
                 looked.reads[at] = seen
     except (OSError, ValueError, IndexError):
         return None
-    return Prepared(name, description, looked, made, path)
+    return Prepared(name, description, looked, made, path, log)
 
 
 def take_line(made: Changes, line: list[bytes], room: str) -> None:
@@ -218,9 +233,7 @@ def again(reader: Reader, path: Path, seen: Seen) -> Seen:
 
 def digest_of_states(states: dict[Path, Seen]) -> bytes:
     """One text for what was seen at many paths."""
-    from _blake2 import blake2b
-
-    made = blake2b(digest_size=32)
+    made = new_digest()
     for path in sorted(states):
         for word in seen_line(path, states[path]):
             made.update(b"%d " % len(word) + word)
@@ -421,19 +434,30 @@ class Leader:
     ) -> None:
         """Puts in place what the done jobs make, and hands out the answers of the others."""
         texts = {group[n].name: answers[n].text() for n in range(1, len(group))}
+        logs = [group[n] for n in order if group[n].log]
         found = Survey()
         found.taken[""] = os.fstat(self.tree.root)
         changes = changes_of([group[number] for number in order], decision.after, held, found)
         if not changes:
+            for it in logs:
+                log_line(it)
             give_answers(self.tree, texts)
             return
+        texts.update((f"log-{it.name}", it.log) for it in logs)
         try:
-            done = commit(self.tree, changes, found, texts, held.look_again, hand_out)
+            done = commit(self.tree, changes, found, texts, held.look_again)
             answers[0].told = [*done.conflicts, *done.told]
         except Unfinished as error:
             answers[0].told = [f"it is kept, but not all of it is in place: {error}"]
         except Refused as why:
             raise Failed(Status.SYSTEM, f"{why}; nothing was changed") from None
+
+
+def log_line(it: Prepared) -> None:
+    """The line of a job that is done and makes no change."""
+    from . import log
+
+    log.hand_out("log", it.name, it.log, False)
 
 
 def is_waiting(room: int) -> bool:
@@ -512,11 +536,15 @@ def change_of(
     if new.startswith(LINK):
         yield turn, Change("link", name, new[len(LINK) :])
         return
-    mode, user, group = new.split(b" ", 4)[1:4]
-    owner = (int(user), int(group)) if os.geteuid() == 0 else None
-    change = Change("store", name, mode=int(mode, 8), owner=owner, source=source)
-    change.attributes = attributes
-    yield turn, change
+    bits, user, group = new.split(b" ", 4)[1:4]
+    yield turn, Change(
+        "store",
+        name,
+        source=source,
+        mode=int(bits, 8),
+        owner=(int(user), int(group)) if os.geteuid() == 0 else None,
+        attributes=attributes,
+    )
 
 
 # ---- one job among many
@@ -526,7 +554,7 @@ class Hold:
     """The lock of one tree in this process: one thread has it at a time, and may have it twice."""
 
     def __init__(self) -> None:
-        from _thread import RLock
+        from _thread import RLock  # type: ignore[attr-defined]  # threading costs the start
 
         self.thread = RLock()
         self.depth = 0
@@ -597,23 +625,34 @@ class Clerk:
 
     def settle(self) -> None:
         """Ends what killed jobs have left; the lock is held."""
-        done = settle(self.tree, hand_out)
+        done = settle(self.tree)
         self.told += [*done.conflicts, *done.told]
         clear_left(self.tree)
 
     def submit(
-        self, room: Room, looked: Looked, changes: Changes, held: int | None = None
+        self,
+        room: Room,
+        looked: Looked,
+        changes: Changes,
+        held: int | None = None,
+        log: bytes = b"",
     ) -> Answer:
-        """Hands in a job and waits for its answer; `held` is the lock if one has it already."""
-        own = Prepared(room.name, self.text, looked, changes, room.path)
+        """Hands in a job and waits for its answer; `held` is the lock if one has it already.
+
+        `log` is what the place of its commit carries for its log.
+        """
+        own = Prepared(room.name, self.text, looked, changes, room.path, log)
         if held is not None:
             return self.lead(own, room, held)
         own.write()
         self.reached("prepared")
         with self.holding() as fd:
             self.reached("locked")
-            text = room.answer()
-            return self.lead(own, room, fd) if text is None else answer_of(text)
+            try:
+                text = room.answer()
+                return self.lead(own, room, fd) if text is None else answer_of(text)
+            finally:
+                own.withdraw()  # before the lock goes: else the next leader does it once more
 
     def lead(self, own: Prepared, room: Room, held: int) -> Answer:
         """Commits with the lock held."""

@@ -173,12 +173,23 @@ def clear(home: int, name: bytes) -> None:
     if not stat.S_ISDIR(found.st_mode):
         calls.S.unlink(name, home)
         return
+    clear_folder(home, name)
+
+
+def clear_folder(home: int, name: bytes) -> None:
+    """Removes a directory with all below it."""
     fd = calls.S.down(home, [name])
+    unlink = calls.S.unlink
     try:
-        if not found.st_mode & 0o700 == 0o700:
+        if not os.fstat(fd).st_mode & 0o700 == 0o700:
             calls.S.chmod(fd, 0o700)
-        for inside in map(os.fsencode, os.listdir(fd)):
-            clear(fd, inside)
+        with os.scandir(fd) as entries:
+            inside = [(entry.name, entry.is_dir(follow_symlinks=False)) for entry in entries]
+        for inner, is_folder in inside:
+            if is_folder:
+                clear_folder(fd, os.fsencode(inner))
+            else:
+                unlink(os.fsencode(inner), fd)
     finally:
         calls.S.close(fd)
     calls.S.rmdir(name, home)

@@ -92,19 +92,21 @@ class Handed:
         return [f"/proc/self/fd/{fd}" for fd in self.fds]
 
     def refused(self, line: str) -> tuple[int, str] | None:
-        """The number of the source that a line of the program refuses, and the line as it is told
-        of the source's own name and text. Nothing if it is about no source."""
+        """The number of the source that a line of the program refuses, and the cause, with its place
+        in the text as it was given. Nothing if the line is about no source."""
         for number, (source, word) in enumerate(zip(self.sources, self.words)):
             front = f"txforest: {word}: "
             if line.startswith(front):
-                cause = retold(source, line[len(front) :])
-                return number, f"txforest: {spelled(source.word)}: {cause}"
+                return number, retold(source, line[len(front) :])
         return None
 
     def told(self, line: str) -> str:
         """A line of the program with a source's own name and place, if it is about one."""
         refused = self.refused(line)
-        return refused[1] if refused else line
+        if refused is None:
+            return line
+        number, cause = refused
+        return f"txforest: {spelled(self.sources[number].word)}: {cause}"
 
 
 def spelled(word: str) -> str:

@@ -21,7 +21,7 @@ import re
 
 from .folders import Folder
 from .links import TABLE
-from .states import LINK, Kind, kind_of
+from .states import LINK, Kind, kind_of, new_digest
 from .statuses import Failed, Status
 from .terminal import below, many
 
@@ -249,9 +249,9 @@ def is_plain(name: bytes) -> bool:
 
 def hidden(name: bytes) -> bytes:
     """A name that stands for one which the program does not take."""
-    from _blake2 import blake2b
-
-    return b"~" + blake2b(name, digest_size=24).hexdigest().encode()
+    made = new_digest()
+    made.update(name)
+    return b"~" + made.hexdigest().encode()
 
 
 class Staged:

@@ -25,7 +25,16 @@ from enum import Enum
 
 TYPE_CHECKING = False
 if TYPE_CHECKING:
-    from typing import Union
+    from typing import Protocol, Union
+
+    class Digest(Protocol):
+        """What hashlib gives."""
+
+        def update(self, data: bytes, /) -> None:
+            """Puts bytes into it."""
+
+        def hexdigest(self) -> str:
+            """What has come out, in hexadecimal digits."""
 
     Path = tuple[bytes, ...]
     Made = Union[None, bytes, "Kind"]
@@ -45,6 +54,16 @@ class Kind(Enum):
 
     DIRECTORY = "directory"
     SOME_FILE = "file"  # of reads alone: a file, whatever it holds
+
+
+def new_digest() -> Digest:
+    """A digest of 256 bits that bytes are put into: blake2b."""
+    try:
+        from _blake2 import blake2b  # type: ignore[import]  # hashlib loads a library besides
+    except ImportError:
+        from hashlib import blake2b
+    made: Digest = blake2b(digest_size=32)
+    return made
 
 
 def kind_of(state: Seen) -> str | None:
@@ -84,10 +103,9 @@ def token_of_bytes(found: os.stat_result, content: bytes) -> bytes:
     """The token of a file of at most 1 MiB with this content."""
     if len(content) <= INLINE:
         return b"f " + head(found) + content
-    from _blake2 import blake2b
-
-    digest = blake2b(content, digest_size=32).hexdigest()
-    return b"h " + head(found) + b"%d %s" % (len(content), digest.encode())
+    made = new_digest()
+    made.update(content)
+    return b"h " + head(found) + b"%d %s" % (len(content), made.hexdigest().encode())
 
 
 def token_of_large(found: os.stat_result) -> bytes:
@@ -128,7 +146,7 @@ def token_of(name: bytes | str, dir_fd: int) -> Made:
         if kind == stat.S_IFDIR:
             return Kind.DIRECTORY
         if kind == stat.S_IFLNK:
-            return LINK + os.fsencode(os.readlink(name, dir_fd=dir_fd))
+            return LINK + os.readlink(os.fsencode(name), dir_fd=dir_fd)
         if kind != stat.S_IFREG:
             return b"x %o %d %d" % (found.st_mode, found.st_rdev, found.st_ino)
         found, content = content_of(name, dir_fd)

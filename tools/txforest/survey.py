@@ -308,13 +308,8 @@ def changed(
                         y = entry.stat(follow_symlinks=False)
                     except OSError:
                         return path
-                    if (
-                        x.st_ctime_ns != y.st_ctime_ns
-                        or x.st_ino != y.st_ino
-                        or x.st_mtime_ns != y.st_mtime_ns
-                        or x.st_size != y.st_size
-                        or x.st_mode != y.st_mode
-                    ):
+                    # Each change of content, size, mode, owner or times is one of the time of change.
+                    if x.st_ctime_ns != y.st_ctime_ns or x.st_ino != y.st_ino:
                         return path
                     seen += 1
                     if x.st_mode & 0o170000 == DIRECTORY:

@@ -59,6 +59,25 @@ def tool_name() -> str:
     return os.path.basename(sys.argv[0])
 
 
+def version(package: str = os.path.dirname(os.path.abspath(__file__))) -> str:
+    """The version, from the file VERSION: beside the package where it is installed, or at the top
+    of the repository. "unknown" if there is none."""
+    for above in ("..", os.path.join("..", "..")):
+        try:
+            with open(os.path.join(package, above, "VERSION"), encoding="ascii") as it:
+                return it.read().strip()
+        except (FileNotFoundError, NotADirectoryError):
+            continue
+    return "unknown"
+
+
+def print_version() -> NoReturn:
+    """Prints the tool's name and the version, and ends with 0."""
+    sys.stdout.write(f"{tool_name()} {version()}\n")
+    sys.stdout.flush()
+    raise SystemExit(0)
+
+
 def tell(line: str) -> None:
     """Writes a line on standard error. If nobody can read it, the tool goes on."""
     try:
@@ -133,7 +152,8 @@ class Given:
 class Words:
     """A tool's words: declare options and operands, then `read`.
 
-    `--help` prints them with the statuses and ends with 0; words of no form end with USAGE.
+    `--help` prints them with the statuses and ends with 0, and so does `--version` with the
+    version; words of no form end with USAGE.
     An option's value stands behind it, or behind `=`; `--` ends the options.
     """
 
@@ -178,6 +198,8 @@ class Words:
                 sys.stdout.write(self.help())
                 sys.stdout.flush()
                 raise SystemExit(0)
+            if name == "version":
+                print_version()
             found = self.options.get(name)
             if found is None:
                 self.refuse(f"{shown(word)}: no option of this tool")

@@ -80,8 +80,9 @@ class Value:
         self.folder.finish()
         self.asked += 1
         out = os.path.join(self.place, f"out{self.asked}")
-        words = ["trace", self.spec, self.folder.place, out, "none", self.question]
-        answer = self.run(words)
+        answer = self.run(
+            ["trace", self.spec, self.folder.place, out, "none", self.question]
+        )
         if answer.status:
             raise Failed(answer.status, answer.told())
         looks: set[Path] = set()

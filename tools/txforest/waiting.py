@@ -1,4 +1,4 @@
-"""The rooms in which jobs wait: the directories TREE.queue/ID.
+"""The rooms in which jobs of any program wait: the directories TREE.queue/do-ID.
 
 A room is a directory of one's own, mode 0700, and it is in use while its lock is held, which ends
 with the process. A job that stands prepared has the file `job` in it, and gets the file `answer`
@@ -25,6 +25,7 @@ if TYPE_CHECKING:
     from .place import Tree
 
 QUEUE = ".queue"
+KIND = "do-"  # with what the name of a room begins; other jobs wait in the same folder
 NEW = ".new-"
 JOB, ANSWER = "job", "answer"
 BETWEEN = b"\0\0"
@@ -35,7 +36,7 @@ class Room:
     """A room of one's own, in use until it is closed."""
 
     def __init__(self, tree: Tree) -> None:
-        self.name = os.urandom(IDENT // 2).hex()
+        self.name = KIND + os.urandom(IDENT // 2).hex()
         folder = queue_of(tree)
         self.is_shared = folder is not None
         if folder is None:
@@ -58,16 +59,11 @@ class Room:
         return text_in(self.fd, ANSWER)
 
     def close(self) -> None:
-        """Removes it. The folder of all rooms goes with the last one."""
+        """Removes it."""
         try:
             remove_tree(self.path)
         finally:
             os.close(self.fd)
-        if self.is_shared:
-            try:
-                os.rmdir(os.path.dirname(self.path))
-            except OSError:
-                pass
 
     def __enter__(self) -> Room:
         return self
@@ -79,20 +75,21 @@ class Room:
 def queue_of(tree: Tree) -> str | None:
     """The folder of all rooms, made if it is missing; nothing if one can make no room in it."""
     path = tree.beside(QUEUE)
-    for _ in range(100):
-        try:
-            os.mkdir(path, 0o700)
-        except FileExistsError:
-            pass
-        except OSError:
-            return None
-        try:
-            found = os.stat(path, follow_symlinks=False)
-        except FileNotFoundError:  # somebody's last room went
-            continue
-        is_good = stat.S_ISDIR(found.st_mode) and os.access(path, os.W_OK | os.X_OK)
-        return path if is_good else None
-    return None
+    try:
+        os.mkdir(path, 0o700)
+    except FileExistsError:
+        pass
+    except OSError:
+        return None
+    found = os.stat(path, follow_symlinks=False)
+    is_own = stat.S_ISDIR(found.st_mode) and found.st_uid == os.geteuid()
+    return path if is_own and not found.st_mode & 0o077 else None
+
+
+def is_room(name: str) -> bool:
+    """Whether a name is that of a room."""
+    digits = os.fsencode(name[len(KIND) :])
+    return name.startswith(KIND) and len(digits) == IDENT and DIGITS.issuperset(digits)
 
 
 def text_in(room: int, name: str) -> bytes | None:
@@ -119,8 +116,7 @@ def rooms(tree: Tree) -> Iterator[tuple[str, int, bool]]:
         return
     try:
         for name in sorted(os.listdir(queue)):
-            digits = name[len(NEW) :] if name.startswith(NEW) else name
-            if len(digits) != IDENT or not DIGITS.issuperset(os.fsencode(digits)):
+            if not is_room(name[len(NEW) :] if name.startswith(NEW) else name):
                 continue
             try:
                 fd = os.open(name, DIR, dir_fd=queue)
@@ -165,7 +161,7 @@ def now() -> float:
 
 def give_answer(tree: Tree, name: str, answer: bytes) -> None:
     """Gives an answer to the job of a room, unless it has one or is gone."""
-    if len(name) != IDENT or not DIGITS.issuperset(os.fsencode(name)):
+    if not is_room(name):
         return
     try:
         room = os.open(os.path.join(tree.beside(QUEUE), name), DIR)
@@ -199,9 +195,15 @@ def hand_out(tree: Tree, place: int, names: Sequence[str], conflicts: Sequence[s
     """Moves answers from a place to those who wait: NAME stands there in the file `answer-NAME`.
 
     The conflicts of the commit stand behind each answer; BETWEEN is before them and between two.
+    Answers of other jobs than those of rooms are handed out by the queue.
     """
+    others = [name for name in names if not name.startswith(KIND)]
     for name in names:
-        found = text_in(place, f"{ANSWER}-{name}")
+        found = text_in(place, f"{ANSWER}-{name}") if name not in others else None
         if found is not None:
             give_answer(tree, name, BETWEEN.join([found, *map(os.fsencode, conflicts)]))
             S.unlink(os.fsencode(f"{ANSWER}-{name}"), place)
+    if others:
+        from . import queue
+
+        queue.hand_out(tree, place, others, conflicts)
