@@ -7,6 +7,8 @@ import signal
 import subprocess
 import sys
 
+from txforest.terminal import version
+
 sys.setrecursionlimit(100_000)
 DONE, NO, USAGE, SYSTEM, NO_VALUE, LOCKED = 0, 1, 2, 9, 10, 11
 class Failed(Exception):
@@ -80,7 +82,9 @@ def odd_ends(report):
 def words_of(doc, no=None, more="", usage=None):
     """A parser of a tool's words, whose help ends with the statuses: what 1 means, where it may come, and further ones."""
     lines = ["exit status:", "  0      done", *([f"  1      {no}"] if no else []), "  2      the words have no form of this tool", "  3-8    the program's own status, with its line", "  9      the system refused something; the path and the cause are told"]
-    return argparse.ArgumentParser(description=doc, epilog="\n".join(lines) + more, usage=usage, formatter_class=argparse.RawDescriptionHelpFormatter)
+    found = argparse.ArgumentParser(description=doc, epilog="\n".join(lines) + more, usage=usage, formatter_class=argparse.RawDescriptionHelpFormatter)
+    found.add_argument("--version", action="version", version=f"%(prog)s {version()}", help="show the version and exit")
+    return found
 
 
 def main(tool):

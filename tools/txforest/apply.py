@@ -23,7 +23,7 @@ from .settle import Settled, settle
 from .sources import Source, read_source
 from .statuses import Failed, Status
 from .survey import NOT_ASKED, Survey, survey
-from .terminal import Given, Words, many, shown, tell
+from .terminal import Given, Words, many, no_output, shown, tell
 
 TYPE_CHECKING = False
 if TYPE_CHECKING:
@@ -278,14 +278,21 @@ def leave(tree: Tree, request: Request, ident: str, status: int) -> None:
 
 
 def told(job: Job, answer: Answer) -> int:
-    """Prints what a job came to."""
-    if answer.report and job.json:
+    """Prints what a job came to. If the change is in place, an output that fails is told, and does
+    not turn the status."""
+    report = answer.report
+    if report and job.json:
         from .report import read_printed
         from .summary import json_line
 
-        print_report(json_line(read_printed(answer.report)))
-    elif answer.report:
-        print_report(answer.report)
+        report = json_line(read_printed(report))
+    try:
+        print_report(report)
+    except OSError as error:
+        if answer.status not in (Status.DONE, Status.CONFLICT, Status.UNFINISHED):
+            raise
+        no_output()
+        tell(f"the report could not be printed: {error.strerror}; the change is in place")
     for line in answer.lines:
         tell(line)
     return answer.status

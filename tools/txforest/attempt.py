@@ -181,6 +181,9 @@ class Attempt:
             return differences(self.view, out, self.found)
         except InTheWay as where:
             raise Failed(Status.USAGE, in_the_way(self.found, str(where))) from None
+        except OSError:
+            self.look_again()  # the view may be the tree itself, and somebody may change it
+            raise
         finally:
             os.close(out)
 

@@ -319,6 +319,11 @@ def main(tool: Callable[[], int | None]) -> NoReturn:
     try:
         sys.stdout.flush()
     except OSError:
-        os.dup2(os.open(os.devnull, os.O_WRONLY | os.O_CLOEXEC), 1)
+        no_output()
         status = status or int(Status.SYSTEM)
     sys.exit(status)
+
+
+def no_output() -> None:
+    """Standard output failed: what is left of it goes nowhere."""
+    os.dup2(os.open(os.devnull, os.O_WRONLY | os.O_CLOEXEC), 1)
