@@ -106,11 +106,11 @@ def differences(top: str, what: str, lists: list[List], wanted: Words) -> Iterat
 
 
 def options_of(tool: str) -> Words:
-    """The options that a tool's `--help` tells, but `--help` itself."""
+    """The options that a tool's `--help` tells, but those that each tool has."""
     ran = subprocess.run(
         [os.path.join(TOP, "tools", tool), "--help"], capture_output=True, text=True, check=True
     )
-    return set(re.findall(r"(?m)^  (?:-\w(?: \S+)?, )?--([\w-]+)", ran.stdout)) - {"help"}
+    return set(re.findall(r"(?m)^  (?:-\w(?: \S+)?, )?--([\w-]+)", ran.stdout)) - {"help", "version"}
 
 
 def option_faults(top: str, tool: str) -> Iterator[str]:
