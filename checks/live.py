@@ -561,11 +561,14 @@ def killed_jobs(room: str, number: int) -> str:
     number = number or 60
     tree = new_tree(room)
     os.symlink("n", f"{tree}/d/link")
-    shots, counted = 0, 0
+    started = time.monotonic()
+    apply(tree)
+    longest = 1.3 * (time.monotonic() - started)
+    shots, counted = 0, 1
     for turn in range(number):
         how = random.choice([signal.SIGKILL, signal.SIGTERM, signal.SIGINT])
         job = subprocess.Popen(command(tree), stdout=subprocess.DEVNULL, stderr=subprocess.DEVNULL)
-        time.sleep(random.random() * 0.4)
+        time.sleep(random.random() * longest)
         job.send_signal(how)
         status = job.wait()
         shots += status != 0
