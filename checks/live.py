@@ -29,6 +29,9 @@ from contextlib import contextmanager
 TOP = os.path.dirname(os.path.dirname(os.path.abspath(__file__)))
 TOOLS = os.environ.get("TOOLS", os.path.join(TOP, "tools"))
 sys.path.insert(0, os.path.join(TOP, "tools"))
+
+import live_queue  # noqa: E402
+
 NOBODY = 65534
 ROOT = os.geteuid() == 0
 COUNT = "txn { to(\"n\") down fetch n : str store((text((int(n) + 1)) ++ \"\\n\")) }\n"
@@ -806,6 +809,7 @@ PARTS = [
     real_trees,
     file_systems,
     costs,
+    *live_queue.PARTS,
 ]
 
 

@@ -18,7 +18,7 @@ import os
 
 from .attempt import Attempt, attempts
 from .commit import hold_signals, let_signals
-from .parts import Part, one_by_one, parted
+from .parts import Part, one_by_one, parted, report_in
 from .queue import Answer, Request, Text, answer_text
 from .sources import Source, spelled
 from .statuses import Failed, Status
@@ -233,7 +233,7 @@ class Batch:
                 if request.keep:
                     scripts = [script for it in group for script in it.scripts]
                     found[f"keep-{member.ident}"] = log.kept(
-                        attempt, member.ident, request.keep, scripts, printed
+                        attempt, member.ident, request.keep, scripts, report_in(printed)
                     )
         return found
 
