@@ -248,8 +248,12 @@ def attempts(
     work: Callable[[Attempt], T],
     tries: int = 3,
     as_root: bytes | None = None,
+    kept: list[Attempt] | None = None,
 ) -> T:
     """What `work` answers of an attempt; it begins again if somebody changes the tree (Changed).
+
+    With `kept` the attempt that was answered is left there for the caller to close: to remove its
+    OUT takes time, for which nobody has to wait.
 
     Raises Failed: CHANGING behind the last try, USAGE if a change is refused, UNFINISHED if a commit
     stands and something of it waits.
@@ -259,8 +263,15 @@ def attempts(
         if again:
             tell(f"somebody who takes no lock changed {where}; the job begins again")
         try:
-            with Attempt(tree, lock, only, as_root) as it:
-                return work(it)
+            it = Attempt(tree, lock, only, as_root)
+            try:
+                answer = work(it)
+                if kept is not None:
+                    kept.append(it)
+                return answer
+            finally:
+                if kept is None or it not in kept:
+                    it.close()
         except Changed as at:
             where = shown(f"/{at}")
         except Refused as why:
