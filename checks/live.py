@@ -29,6 +29,9 @@ from contextlib import contextmanager
 TOP = os.path.dirname(os.path.dirname(os.path.abspath(__file__)))
 TOOLS = os.environ.get("TOOLS", os.path.join(TOP, "tools"))
 sys.path.insert(0, os.path.join(TOP, "tools"))
+
+import live_queue  # noqa: E402
+
 NOBODY = 65534
 ROOT = os.geteuid() == 0
 COUNT = "txn { to(\"n\") down fetch n : str store((text((int(n) + 1)) ++ \"\\n\")) }\n"
@@ -561,11 +564,14 @@ def killed_jobs(room: str, number: int) -> str:
     number = number or 60
     tree = new_tree(room)
     os.symlink("n", f"{tree}/d/link")
-    shots, counted = 0, 0
+    started = time.monotonic()
+    apply(tree)
+    longest = 1.3 * (time.monotonic() - started)
+    shots, counted = 0, 1
     for turn in range(number):
         how = random.choice([signal.SIGKILL, signal.SIGTERM, signal.SIGINT])
         job = subprocess.Popen(command(tree), stdout=subprocess.DEVNULL, stderr=subprocess.DEVNULL)
-        time.sleep(random.random() * 0.4)
+        time.sleep(random.random() * longest)
         job.send_signal(how)
         status = job.wait()
         shots += status != 0
@@ -803,6 +809,7 @@ PARTS = [
     real_trees,
     file_systems,
     costs,
+    *live_queue.PARTS,
 ]
 
 

@@ -24,14 +24,14 @@ _txforest_tool() {
     case ${COMP_WORDS[0]##*/} in
     txforest-import) options="--help --leave-out --no-flags --as" ;;
     txforest-export) options="--help --attributes --replace" ;;
-    txforest-apply) options="--help --in-place --link --allow-stopped --keep --wait" ;;
+    txforest-apply) options="--help --in-place --exchange --link --before --only --allow-stopped --wait --set --set-file --json --log --keep --settle --list-left-out" ;;
     txforest-explain) options="--help --scripts --report --walk" ;;
     txforest-schedules) options="--help --limit --seed" ;;
     txforest-picture) options="--help --html --names --output" ;;
     esac
     case $before in
-    --keep | --wait | --limit | --seed | --names) return ;;
-    --in-place | --as) _txforest_paths -d && return ;;
+    --before | --only | --set | --wait | --limit | --seed | --names) return ;;
+    --in-place | --keep | --as) _txforest_paths -d && return ;;
     esac
     case $word in
     -*) COMPREPLY=($(compgen -W "$options" -- "$word")) ;;

@@ -74,6 +74,7 @@ def lead(tree: Tree, asked: Request, ident: str | None = None) -> Answer:
         with pretended.program():
             return batch.do(Member(ident, asked), others)
     finally:
+        batch.close()
         for it in others:
             it.close()
         if queue:

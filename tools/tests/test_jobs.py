@@ -146,6 +146,12 @@ class Jobs(TestRoom):
         self.assertEqual(sorted(os.listdir(os.path.join(self.top, "d"))), ["x", "y"])
         self.assertEqual(self.read("a"), "2")
 
+    def test_who_had_the_lock_before_goes_alone(self) -> None:
+        with Room(self.tree) as one, Room(self.tree) as two, self.clerk.holding() as held:
+            self.prepared(two, "b", "2", False)
+            self.assertEqual(self.clerk.submit(one, *self.job(one, "a", "2"), held).what, DONE)
+            self.assertIsNone(two.answer())
+
     def test_done_once(self) -> None:
         with Room(self.tree) as one, Room(self.tree) as two:
             self.assertEqual(self.clerk.submit(one, *self.job(one, "b", "first", False)).what, DONE)
@@ -189,6 +195,17 @@ class Jobs(TestRoom):
             self.assertEqual(total.touches(path), touches)
         self.assertNotEqual(total.seen, total.now())
         self.assertNotEqual(digest_of_states({(b"a",): None}), digest_of_states({(b"b",): None}))
+
+    def test_directory_becomes_file(self) -> None:
+        self.write("d/e/y", "y")
+        with Room(self.tree) as one:
+            looked, made = self.job(one, "d", "now a file")
+            for path in ((b"d", b"x"), (b"d", b"e"), (b"d", b"e", b"y")):
+                made.writes[path] = None
+                made.before[path] = Kind.DIRECTORY if path[-1] == b"e" else b"f"
+            answer = self.clerk.submit(one, looked, made)
+            self.assertEqual((answer.what, answer.told), (DONE, []))
+        self.assertEqual(self.read("d"), "now a file")
 
     def test_outside_change_before_the_commit(self) -> None:
         with Room(self.tree) as one:

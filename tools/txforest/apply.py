@@ -93,6 +93,8 @@ class Job:
         self.settle = given.flag("settle")
         self.list = given.flag("list-left-out")
         self.operands = operands
+        self.held: int | None = None  # the lock
+        self.batch: Batch | None = None  # what is to be closed behind the answer
         self.check(given)
 
     def check(self, given: Given) -> None:
@@ -139,6 +141,15 @@ def tool() -> int:
         return list_left_out(job)
     if job.settle:
         return settle_alone(job)
+    try:
+        return do(job)
+    finally:
+        if job.batch is not None:
+            job.batch.close()
+
+
+def do(job: Job) -> int:
+    """Does a job, and tells what it came to; the lock is let go before."""
     request = request_of(job)
     ident = new_ident()
     with tree_of(job) as tree:
@@ -155,7 +166,9 @@ def tool() -> int:
         finally:
             if status != Status.UNFINISHED:  # else whoever settles does it
                 leave(tree, request, ident, status)
-        return told(job, answer)
+            if job.held is not None:
+                os.close(job.held)
+    return told(job, answer)
 
 
 def settle_alone(job: Job) -> int:
@@ -197,6 +210,7 @@ def answer_of(job: Job, tree: Tree, request: Request, ident: str) -> Answer:
     """Does the job, or has it done: if somebody has the lock it waits in the queue, and whoever has
     the lock next does it with its own."""
     held, waiting = had(job, tree, request, ident)
+    job.held = held
     try:
         with tree_of(job) as now:
             answer = waiting.answer() if waiting is not None else None
@@ -245,7 +259,7 @@ def had(job: Job, tree: Tree, request: Request, ident: str) -> tuple[int, Waitin
 
 def lead(job: Job, tree: Tree, held: int, request: Request, ident: str) -> Answer:
     """Does the job on a tree whose lock is held, with those that wait for the same."""
-    batch = Batch(tree, held, job.only, lambda *given: put(job, *given))
+    batch = job.batch = Batch(tree, held, job.only, lambda *given: put(job, *given))
     seen: list[Survey] = []
 
     def surveyed(found: Survey) -> None:

@@ -42,12 +42,17 @@ class Attempt:
     view   what the program reads
     """
 
-    def __init__(self, tree: Tree, lock: int, only: Only | None = None) -> None:
-        """Surveys the tree and makes the view. Raises Failed, Changed, OSError."""
+    def __init__(
+        self, tree: Tree, lock: int, only: Only | None = None, as_root: bytes | None = None
+    ) -> None:
+        """Surveys the tree, which stands for `as_root` if that is given, and makes the view. Raises
+        Failed, Changed, OSError."""
         self.tree = tree
         self.lock = lock
         self.only = only
-        self.found: Survey = settled_survey(tree.root, tree.home, tree.skip(), only)
+        self.found: Survey = settled_survey(
+            tree.root, tree.home, tree.skip(), only, as_root
+        )
         self.room: Place = room_of(tree, self.found)
         self.view: View | None = None
         self.spec: Source | None = None
@@ -174,9 +179,13 @@ class Attempt:
     def changes(self) -> list[Change]:
         """What the OUT of the last run changes in the tree. Raises Failed with USAGE if a script is in
         the way of an entry that is left out."""
+        return self.changes_to(self.out)
+
+    def changes_to(self, folder: str) -> list[Change]:
+        """What a folder changes in the tree. Raises as `changes` does."""
         if self.view is None:
             raise ValueError("the attempt is closed")
-        out = os.open("out", DIR, dir_fd=self.room.fd)
+        out = os.open(folder, DIR)
         try:
             return differences(self.view, out, self.found)
         except InTheWay as where:
@@ -233,9 +242,18 @@ def in_the_way(found: Survey, path: str) -> str:
 
 
 def attempts(
-    tree: Tree, lock: int, only: Only | None, work: Callable[[Attempt], T], tries: int = 3
+    tree: Tree,
+    lock: int,
+    only: Only | None,
+    work: Callable[[Attempt], T],
+    tries: int = 3,
+    as_root: bytes | None = None,
+    kept: list[Attempt] | None = None,
 ) -> T:
     """What `work` answers of an attempt; it begins again if somebody changes the tree (Changed).
+
+    With `kept` the attempt that was answered is left there for the caller to close: to remove its
+    OUT takes time, for which nobody has to wait.
 
     Raises Failed: CHANGING behind the last try, USAGE if a change is refused, UNFINISHED if a commit
     stands and something of it waits.
@@ -245,8 +263,15 @@ def attempts(
         if again:
             tell(f"somebody who takes no lock changed {where}; the job begins again")
         try:
-            with Attempt(tree, lock, only) as it:
-                return work(it)
+            it = Attempt(tree, lock, only, as_root)
+            try:
+                answer = work(it)
+                if kept is not None:
+                    kept.append(it)
+                return answer
+            finally:
+                if kept is None or it not in kept:
+                    it.close()
         except Changed as at:
             where = shown(f"/{at}")
         except Refused as why:

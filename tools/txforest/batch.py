@@ -18,7 +18,7 @@ import os
 
 from .attempt import Attempt, attempts
 from .commit import hold_signals, let_signals
-from .parts import Part, one_by_one, parted
+from .parts import Part, one_by_one, parted, report_in
 from .queue import Answer, Request, Text, answer_text
 from .sources import Source, spelled
 from .statuses import Failed, Status
@@ -92,6 +92,7 @@ class Batch:
         self.only = only
         self.put = put
         self.surveyed: Callable[[Survey], None] = lambda found: None  # told of each survey
+        self.rooms: list[Attempt] = []  # what is to be closed behind the answers
         self.standing: list[Member] = []  # whose answers stand in a place, for whoever settles it
 
     def do(self, own: Member, taken: Sequence[Taken]) -> Answer:
@@ -113,10 +114,22 @@ class Batch:
                     if member not in self.standing:
                         member.taken.put_back()
 
+    def close(self) -> None:
+        """Removes what is left of the last attempt."""
+        while self.rooms:
+            self.rooms.pop().close()
+
     def done(self, group: list[Member]) -> list[list[Member]]:
         """Does a group. Answers the groups that are still to be done."""
         try:
-            return attempts(self.tree, self.held, self.only, lambda it: self.attempted(it, group))
+            self.close()
+            return attempts(
+                self.tree,
+                self.held,
+                self.only,
+                lambda it: self.attempted(it, group),
+                kept=self.rooms,
+            )
         except Failed as failed:
             if failed.status == Status.UNFINISHED:
                 self.standing = group
@@ -233,7 +246,7 @@ class Batch:
                 if request.keep:
                     scripts = [script for it in group for script in it.scripts]
                     found[f"keep-{member.ident}"] = log.kept(
-                        attempt, member.ident, request.keep, scripts, printed
+                        attempt, member.ident, request.keep, scripts, report_in(printed)
                     )
         return found
 

@@ -71,6 +71,12 @@ class Changes:
     def __bool__(self) -> bool:
         return bool(self.writes or self.modes or self.attributes)
 
+    def put(self, path: Path, before: Made, new: Made, where: bytes = b"") -> None:
+        """One change; `where` is the file of its content."""
+        self.writes[path], self.before[path] = new, before
+        if where:
+            self.files[path] = os.fsdecode(where)
+
     def check(self) -> None:
         """Refuses what no tree of the tools can have."""
         for path, new in self.writes.items():
@@ -150,8 +156,7 @@ class Plain(Copy):
                 if self.marks.get(path) != mark(found):
                     self.compare(made, path, found, reader)
             for path in self.marks.keys() - now:
-                made.before[path] = reader.state(path)
-                made.writes[path] = None
+                made.put(path, reader.state(path), None)
         finally:
             reader.close()
         return made
@@ -165,11 +170,13 @@ class Plain(Copy):
             mode = stat.S_IMODE(found.st_mode)
             if there is not None and stat.S_IMODE(there.st_mode) != mode:
                 made.modes[path] = mode
-        elif new != before:
-            made.writes[path], made.before[path] = new, before
-            made.files[path] = os.fsdecode(where)
-        if isinstance(new, bytes):
-            compare_attributes(made, path, attributes_of(where), kept_attributes(reader, path))
+            return
+        if stat.S_ISREG(found.st_mode):
+            attributes = attributes_of(where)
+            if attributes != kept_attributes(reader, path):
+                made.attributes[path] = attributes
+        if new != before or path in made.attributes:
+            made.put(path, before, new, where)
 
 
 def mark(found: os.stat_result) -> tuple[int, int, int, int]:
@@ -310,14 +317,6 @@ def kept_attributes(reader: Reader, path: Path) -> dict[str, bytes]:
         return attributes_of(fd)
     finally:
         os.close(fd)
-
-
-def compare_attributes(
-    made: Changes, path: Path, new: dict[str, bytes], before: dict[str, bytes]
-) -> None:
-    """Takes the attributes of a file that are other ones than before."""
-    if new != before:
-        made.attributes[path] = new
 
 
 # ---- all of a tree as one text

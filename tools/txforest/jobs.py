@@ -475,6 +475,7 @@ def changes_of(
     """
     last = {path: it for it in done for path in it.changes.writes}
     turns: dict[str, list[Change]] = {"room": [], "new": [], "other": [], "gone": []}
+    rooms: set[Path] = set()  # the directories whose place a file or a link takes
     for path in sorted(after):
         new, it = after[path], last[path]
         source = it.changes.files.get(path)
@@ -488,6 +489,10 @@ def changes_of(
         if new == held.state(path) and attributes is None:
             continue
         for turn, change in change_of(name, new, old, source, attributes):
+            if turn == "room":
+                rooms.add(path)
+            elif turn == "gone" and any(path[:length] in rooms for length in range(len(path))):
+                turn = "room"
             turns[turn].append(change)
     for it in done:
         for path, mode in it.changes.modes.items():
@@ -642,8 +647,8 @@ class Clerk:
         `log` is what the place of its commit carries for its log.
         """
         own = Prepared(room.name, self.text, looked, changes, room.path, log)
-        if held is not None:
-            return self.lead(own, room, held)
+        if held is not None:  # nobody else is taken along, so that nobody comes in between
+            return Leader(self, held, room).commit([own])
         own.write()
         self.reached("prepared")
         with self.holding() as fd:

@@ -60,13 +60,14 @@ def parted(printed: bytes, counts: Sequence[int]) -> list[Part]:
     `printed` is a report, or that of a watched run with its events before it: then it is known of
     each state whether it has a value. A retry stands in its job's part if the entry is of that job.
     """
-    at = 0 if printed.startswith(HEAD) else printed.index(b"\n" + HEAD) + 1
+    report = report_in(printed)
+    events = printed[: len(printed) - len(report)]
     parts = [Part() for _ in counts]
     owners = [(part, shell) for part, count in zip(parts, counts) for shell in range(count)]
-    states = list(states_of(printed[:at])) if at else None
+    states = list(states_of(events)) if events else None
     numbers: list[tuple[Part, int]] = []
     now = parts[0]
-    for line in printed[at:].split(b"\n"):
+    for line in report.split(b"\n"):
         if line.startswith(b"entry "):
             words = line.split(b" ", 6)
             now, shell = owners[int(words[3])]
@@ -87,6 +88,11 @@ def parted(printed: bytes, counts: Sequence[int]) -> list[Part]:
             if not part.entries:
                 part.valid = states[-1]
     return parts
+
+
+def report_in(printed: bytes) -> bytes:
+    """The report of what was printed, without the events of a watched run."""
+    return printed if printed.startswith(HEAD) else printed[printed.index(b"\n" + HEAD) + 1 :]
 
 
 def states_of(events: bytes) -> Iterator[bool]:

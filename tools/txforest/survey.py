@@ -251,7 +251,11 @@ def hold_above(found: Survey) -> None:
 
 
 def settled_survey(
-    root: int, home: int, skip: set[str] = set(), only: Only | None = None
+    root: int,
+    home: int,
+    skip: set[str] = set(),
+    only: Only | None = None,
+    as_root: bytes | None = None,
 ) -> Survey:
     """A survey of which no entry changed as late as it was made, so that a second look sees every
     further change. `home` is the directory of the tree's places: its time is that of the last job.
@@ -260,7 +264,7 @@ def settled_survey(
     """
     wait_until_old(os.fstat(home).st_mtime_ns)
     for _ in range(3):
-        found = survey(root, skip, only)
+        found = survey(root, skip, only, as_root)
         now = time.time_ns()
         young = [it for it in found.young if it <= now]
         if not young:

@@ -22,7 +22,6 @@ from .copies import (
     Copy,
     Looked,
     attributes_of,
-    compare_attributes,
     digest_of,
     kept_attributes,
 )
@@ -541,17 +540,11 @@ class Walk:
             else:
                 self.file(inside, before, it, entry.path)
 
-    def put(self, path: Path, before: Made, new: Made, where: bytes = b"") -> None:
-        """One change."""
-        self.made.writes[path], self.made.before[path] = new, before
-        if where:
-            self.made.files[path] = os.fsdecode(where)
-
     def gone(self, path: Path, before: Made) -> None:
         """What stood at a path is gone, with all below it."""
         if before is None:
             return
-        self.put(path, before, None)
+        self.made.put(path, before, None)
         if before is Kind.DIRECTORY:
             for name in self.names_of(path):
                 self.gone((*path, name), self.before((*path, name)))
@@ -561,7 +554,7 @@ class Walk:
     ) -> None:
         """A directory of the upper layer: new, another one, or one in which something changed."""
         if before is not Kind.DIRECTORY:
-            self.put(path, before, Kind.DIRECTORY, where)
+            self.made.put(path, before, Kind.DIRECTORY, where)
             self.into(path, True, False)
             return
         there = self.reader.look(path)
@@ -601,13 +594,12 @@ class Walk:
         new = self.token(before, token_of(where, -1))
         if before is Kind.DIRECTORY:
             self.gone(path, before)
-        if new != before:
-            self.put(path, before, new, where)
         if stat.S_ISREG(it.st_mode):
-            held = self.attributes(path) if isinstance(before, bytes) else {}
-            compare_attributes(self.made, path, attributes_of(where), held)
-            if path in self.made.attributes:
-                self.put(path, before, new, where)
+            attributes = attributes_of(where)
+            if attributes != (self.attributes(path) if isinstance(before, bytes) else {}):
+                self.made.attributes[path] = attributes
+        if new != before or path in self.made.attributes:
+            self.made.put(path, before, new, where)
 
     def token(self, before: Made, new: Made) -> Made:
         """A token with the owner of before, unless root has given another one."""

@@ -2,7 +2,7 @@
 
 from __future__ import annotations
 
-from typing import Iterable, NamedTuple
+from typing import Iterable, NamedTuple, Sequence
 
 from .expr import Value
 from .spelling import Path, path_text, quote
@@ -63,7 +63,9 @@ def report(order: Iterable[tuple[int, int, list[Value], str]], retries: Iterable
     return "".join(line + "\n" for line in [*lines, "end"])
 
 
-def views(root: Description, txns: list[Txn], states: list[Filestore], positions: list[int]) -> str:
+def views(
+    root: Description, txns: list[Txn], states: Sequence[Filestore], positions: Sequence[int]
+) -> str:
     """What is printed of views behind the report of a run.
 
     `states` are the filestores before and after each entry; a view looks at that of its position.
