@@ -35,7 +35,20 @@ if unknown := ASKED.difference(COMMANDS):
     sys.exit(f"compare.py: {', '.join(sorted(unknown))}: none of {', '.join(COMMANDS)}")
 
 NAMES = ["a", "b", "c", "a-x", "x.txt", "é"]
-TEXTS = [b"", b"a", b"b", b"1", b"7\n", b"a\nb\n", b"c\nx.txt", b"a/b", b"..", b"b\n\na\n", b"9223372036854775807", b"\xff\"\\"]
+TEXTS = [
+    b"",
+    b"a",
+    b"b",
+    b"1",
+    b"7\n",
+    b"a\nb\n",
+    b"c\nx.txt",
+    b"a/b",
+    b"..",
+    b"b\n\na\n",
+    b"9223372036854775807",
+    b'\xff"\\',
+]
 TARGETS = ["a", "b", "../a", "/", "/b/c", "a/b", ".", "..", "gone", "c/../a", "./a-x"]
 
 
@@ -64,19 +77,29 @@ class Maker:
         if shape == model.STR:
             choices = [lambda: quoted(r.choice([n.encode() for n in NAMES] + TEXTS))]
             if deep:
-                choices += [lambda: f"({part(model.STR)} ++ {part(model.STR)})", lambda: f"text({part(model.INTEGER)})"]
+                choices += [
+                    lambda: f"({part(model.STR)} ++ {part(model.STR)})",
+                    lambda: f"text({part(model.INTEGER)})",
+                ]
                 pairs = [w for w, s in scope if s[0] == "pair" and s[1] == model.STR]
                 choices += [lambda: f"first({r.choice(pairs)})"] * bool(pairs)
         elif shape == model.INTEGER:
             choices = [lambda: str(r.choice([0, 1, 2, 7, 2**63 - 1]))]
             if deep:
-                choices += [lambda: f"({part(model.INTEGER)} {r.choice('+-')} {part(model.INTEGER)})", lambda: f"size({part(model.NAMES)})", lambda: f"int({part(model.STR)})"]
+                choices += [
+                    lambda: f"({part(model.INTEGER)} {r.choice('+-')} {part(model.INTEGER)})",
+                    lambda: f"size({part(model.NAMES)})",
+                    lambda: f"int({part(model.STR)})",
+                ]
         elif shape == model.BOOL:
             choices = [lambda: r.choice(["true", "false"])]
             if deep:
                 choices += [
-                    lambda: f"not({part(model.BOOL)})", lambda: f"({part(model.STR)} in {part(model.NAMES)})", lambda: f"({part(model.STR)} == {part(model.STR)})",
-                    lambda: f"({part(model.INTEGER)} < {part(model.INTEGER)})", lambda: f"({part(model.BOOL)} {r.choice(['and', 'or'])} {part(model.BOOL)})",
+                    lambda: f"not({part(model.BOOL)})",
+                    lambda: f"({part(model.STR)} in {part(model.NAMES)})",
+                    lambda: f"({part(model.STR)} == {part(model.STR)})",
+                    lambda: f"({part(model.INTEGER)} < {part(model.INTEGER)})",
+                    lambda: f"({part(model.BOOL)} {r.choice(['and', 'or'])} {part(model.BOOL)})",
                 ]
                 options = [w for w, s in scope if s[0] == "opt"]
                 choices += [lambda: f"present({r.choice(options)})"] * bool(options)
@@ -84,7 +107,8 @@ class Maker:
             choices = [lambda: "empty", lambda: f"one({quoted(r.choice(NAMES))})"]
             if deep:
                 choices += [
-                    lambda: f"({part(model.NAMES)} {r.choice(['union', 'minus'])} {part(model.NAMES)})", lambda: f"lines({part(model.STR)})",
+                    lambda: f"({part(model.NAMES)} {r.choice(['union', 'minus'])} {part(model.NAMES)})",
+                    lambda: f"lines({part(model.STR)})",
                     lambda: f"({part(model.NAMES)} only {quoted(r.choice(['*', 'a*', '?', '*.txt', 'b']))})",
                 ]
                 tables = [w for w, s in scope if s[0] == "table"]
@@ -95,7 +119,11 @@ class Maker:
 
     def fresh(self, scope, letter):
         often = 0.05 if letter in "vwxy" else 0.003
-        return "def" if self.r.random() < often and not any(word == "def" for word, _ in scope) else f"{letter}{len(scope)}"
+        return (
+            "def"
+            if self.r.random() < often and not any(word == "def" for word, _ in scope)
+            else f"{letter}{len(scope)}"
+        )
 
     def call(self, scope):
         """A call of a definition; now and then of none, with too many arguments, or with one of another shape."""
@@ -107,8 +135,15 @@ class Maker:
         if r.random() < 0.01:
             shapes = [*shapes, model.STR] if r.random() < 0.5 else shapes[1:]
         if shapes and r.random() < 0.01:
-            shapes[r.randrange(len(shapes))] = r.choice([model.STR, model.INTEGER, model.BOOL, model.NAMES])
-        args = [f"({r.choice(words)} + 1)" if shape == model.INTEGER and (words := self.words(scope, shape)) and r.random() < 0.7 else self.expr(scope, shape) for shape in shapes]
+            shapes[r.randrange(len(shapes))] = r.choice(
+                [model.STR, model.INTEGER, model.BOOL, model.NAMES]
+            )
+        args = [
+            f"({r.choice(words)} + 1)"
+            if shape == model.INTEGER and (words := self.words(scope, shape)) and r.random() < 0.7
+            else self.expr(scope, shape)
+            for shape in shapes
+        ]
         return f"{name}({', '.join(args)})"
 
     def body(self, params):
@@ -122,7 +157,9 @@ class Maker:
             lambda: f"<x : {self.call(params)}, {self.call([*params, ('x', model.BOOL)])}>",
         ]
         if numbers:
-            choices.append(lambda: f'{{{self.call([*params, ("k", model.STR)])} | k in if(({r.choice(numbers)} < 2), (one("a") union one("b")), empty)}}')
+            choices.append(
+                lambda: f'{{{self.call([*params, ("k", model.STR)])} | k in if(({r.choice(numbers)} < 2), (one("a") union one("b")), empty)}}'
+            )
         if r.random() < 0.1:
             choices.append(lambda: self.call(params))
         return r.choice(choices)()
@@ -132,19 +169,33 @@ class Maker:
         r = self.r
         self.defs = []
         for name in r.sample(["f", "g", "tree", "p0", "c1", "d"], r.choice([0, 0, 0, 1, 1, 2, 3])):
-            shapes = [r.choice([model.INTEGER, model.INTEGER, model.STR, model.NAMES, model.BOOL]) for _ in range(r.choice([0, 1, 1, 2]))]
+            shapes = [
+                r.choice([model.INTEGER, model.INTEGER, model.STR, model.NAMES, model.BOOL])
+                for _ in range(r.choice([0, 1, 1, 2]))
+            ]
             self.defs.append((name, [(f"{'nst'[i]}", shape) for i, shape in enumerate(shapes)]))
         texts = []
         for name, params in self.defs:
-            told = ", ".join(f"{'n' if r.random() < 0.01 else word} : {model.shape_text(shape)}" for word, shape in params)
+            told = ", ".join(
+                f"{'n' if r.random() < 0.01 else word} : {model.shape_text(shape)}"
+                for word, shape in params
+            )
             name = r.choice(self.defs)[0] if r.random() < 0.01 else name
             texts.append(f"def {name}({told}) = {self.body(params)}")
-        return "\n".join([*texts, self.call([]) if self.defs and r.random() < 0.4 else self.spec([])[0]])
+        return "\n".join(
+            [*texts, self.call([]) if self.defs and r.random() < 0.4 else self.spec([])[0]]
+        )
 
     def spec(self, scope, depth=0):
         """A description and its value's shape."""
         r = self.r
-        kind = r.choice(["file", "dir", "focus", "focus", "pair", "pair", "comp", "opt", "link", "pred"]) if depth < 5 else r.choice(["file", "dir", "link"])
+        kind = (
+            r.choice(
+                ["file", "dir", "focus", "focus", "pair", "pair", "comp", "opt", "link", "pred"]
+            )
+            if depth < 5
+            else r.choice(["file", "dir", "link"])
+        )
         if self.defs and r.random() < 0.25:
             return self.call(scope), model.BOOL
         if depth == 0 and r.random() < 0.8:
@@ -175,7 +226,24 @@ class Maker:
 
     def act(self, scope):
         r = self.r
-        word = r.choice(["into", "into", "down", "down", "next", "prev", "out", "up", "top", "create", "remove", "store", "store", "to"])
+        word = r.choice(
+            [
+                "into",
+                "into",
+                "down",
+                "down",
+                "next",
+                "prev",
+                "out",
+                "up",
+                "top",
+                "create",
+                "remove",
+                "store",
+                "store",
+                "to",
+            ]
+        )
         if word == "store":
             return f"store({self.expr(scope, r.choice([model.STR, model.STR, model.STR, model.NAMES, model.BOOL, model.INTEGER]))})"
         return f"to({self.expr(scope, model.STR)})" if word == "to" else word
@@ -183,7 +251,13 @@ class Maker:
     def block(self, scope, depth=0):
         r, scope, found = self.r, list(scope), []
         for _ in range(r.randrange(1, 7 if depth == 0 else 3)):
-            kind = r.choice(["act"] * 9 + ["try"] * 3 + ["print"] * 3 + ["let", "set", "fetch", "fetch", "fetch", "value", "validate", "if", "each"] + ["abort"] * (r.random() < 0.1))
+            kind = r.choice(
+                ["act"] * 9
+                + ["try"] * 3
+                + ["print"] * 3
+                + ["let", "set", "fetch", "fetch", "fetch", "value", "validate", "if", "each"]
+                + ["abort"] * (r.random() < 0.1)
+            )
             x = self.fresh(scope, "vwxy"[depth % 4])
             shape = r.choice([model.STR, model.INTEGER, model.BOOL, model.NAMES])
             if kind == "act":
@@ -206,14 +280,24 @@ class Maker:
                 found.append(f"fetch {x} : {model.shape_text(shape)}")
                 scope.append((x, shape))
             elif kind == "value":
-                shape = r.choice([model.STR, model.NAMES, ("opt", model.STR), ("table", model.STR), ("pair", model.STR, model.STR)])
+                shape = r.choice(
+                    [
+                        model.STR,
+                        model.NAMES,
+                        ("opt", model.STR),
+                        ("table", model.STR),
+                        ("pair", model.STR, model.STR),
+                    ]
+                )
                 found.append(f"value {x} : {model.shape_text(shape)}")
                 scope.append((x, shape))
             elif kind == "validate":
                 found.append(f"validate {x}")
                 scope.append((x, model.BOOL))
             elif kind == "if" and depth < 2:
-                found.append(f"if ({self.expr(scope, model.BOOL)}) {{ {self.block(scope, depth + 1)} }} else {{ {self.block(scope, depth + 1)} }}")
+                found.append(
+                    f"if ({self.expr(scope, model.BOOL)}) {{ {self.block(scope, depth + 1)} }} else {{ {self.block(scope, depth + 1)} }}"
+                )
             elif kind == "each" and depth < 2:
                 body = self.block([*scope, (x, model.STR)], depth + 1)
                 found.append(f"each {x} in ({self.expr(scope, model.NAMES)}) {{ {body} }}")
@@ -224,7 +308,9 @@ class Maker:
     def script(self):
         r, found = self.r, []
         for _ in range(r.randrange(0, 4)):
-            into = "into " * r.choice([2, 3, 5, 64, 65, 66]) if self.defs and r.random() < 0.3 else ""
+            into = (
+                "into " * r.choice([2, 3, 5, 64, 65, 66]) if self.defs and r.random() < 0.3 else ""
+            )
             found.append(f"txn {{ {into}{self.block([])} }}")
         return "\n".join(found).encode()
 
@@ -235,7 +321,9 @@ class Maker:
                 it.write(self.r.choice(TEXTS))
         if self.r.random() < 0.5:
             os.mkdir(os.path.join(top, "d"))
-        lines = self.r.choice([b"", b"/l -> a\n", b"version 2\n/a *\n", b"version 2\n/b *\n/l -> c\n"])
+        lines = self.r.choice(
+            [b"", b"/l -> a\n", b"version 2\n/a *\n", b"version 2\n/b *\n/l -> c\n"]
+        )
         if lines:
             with open(os.path.join(top, ".forest-links"), "wb") as it:
                 it.write(lines)
@@ -251,10 +339,15 @@ class Maker:
         """A description whose calls go deep, and scripts that walk down to the last level or around it."""
         r = self.r
         text, step = r.choice(UNFOLDING)
-        text = text.replace("NEAR", str(2**63 - 1 - r.randrange(60, 68))).replace("DEPTH", str(r.randrange(60, 68)))
+        text = text.replace("NEAR", str(2**63 - 1 - r.randrange(60, 68))).replace(
+            "DEPTH", str(r.randrange(60, 68))
+        )
 
         def script():
-            walks = [step * r.choice([0, 1, 62, 63, 64, 65, 66]) + r.choice(AT_THE_END) for _ in range(r.randrange(1, 4))]
+            walks = [
+                step * r.choice([0, 1, 62, 63, 64, 65, 66]) + r.choice(AT_THE_END)
+                for _ in range(r.randrange(1, 4))
+            ]
             return "\n".join(f"txn {{ {walk} }}" for walk in walks).encode()
 
         return text, script
@@ -265,7 +358,22 @@ class Maker:
         if not text or r.random() < 0.85:
             return text
         i = r.randrange(len(text))
-        piece = r.choice([b"", text[i : i + 1] * 2, bytes([r.randrange(256)]), b" file ", b"(", b"}", b"zz", b"1", b'"', b" def ", b"f()", b","])
+        piece = r.choice(
+            [
+                b"",
+                text[i : i + 1] * 2,
+                bytes([r.randrange(256)]),
+                b" file ",
+                b"(",
+                b"}",
+                b"zz",
+                b"1",
+                b'"',
+                b" def ",
+                b"f()",
+                b",",
+            ]
+        )
         return text[:i] + piece + text[i + 1 :]
 
     def folder(self, top):
@@ -289,13 +397,21 @@ class Maker:
         for _ in range(r.choice([0, 0, 1, 2, 3])):
             parent = r.choice(paths)
             path = (*parent, r.choice(NAMES).encode())
-            if path not in paths and (not parent or os.path.isdir(os.path.join(top, *(p.decode() for p in parent)))):
+            if path not in paths and (
+                not parent or os.path.isdir(os.path.join(top, *(p.decode() for p in parent)))
+            ):
                 lines[path] = b" -> " + model.spelled(r.choice(TARGETS).encode())
-        flags = [p for p in paths if os.path.isfile(os.path.join(top, *(n.decode() for n in p))) and r.random() < 0.2]
+        flags = [
+            p
+            for p in paths
+            if os.path.isfile(os.path.join(top, *(n.decode() for n in p))) and r.random() < 0.2
+        ]
         if r.random() < 0.02:
             flags.append(r.choice(paths))
         lines |= {path: b" *" for path in flags if r.random() < 0.8}
-        table = b"".join(model.spelled(model.path_text(p)) + mark + b"\n" for p, mark in sorted(lines.items()))
+        table = b"".join(
+            model.spelled(model.path_text(p)) + mark + b"\n" for p, mark in sorted(lines.items())
+        )
         if any(mark == b" *" for mark in lines.values()) != (r.random() < 0.02):
             table = model.VERSION2 + table
         if table and r.random() < 0.1:
@@ -330,9 +446,15 @@ MEETING_LOOK = (
 # NEAR on an argument faults around that level, and from DEPTH on there is nothing more.
 UNFOLDING = [
     ("def f() = g() def g() = f() f()", "into "),
-    ("def f(n : int) = g((n + 1)) def g(n : int) = h((n + 1)) def h(n : int) = f((n + 1)) f(NEAR)", "into "),
+    (
+        "def f(n : int) = g((n + 1)) def g(n : int) = h((n + 1)) def h(n : int) = f((n + 1)) f(NEAR)",
+        "into ",
+    ),
     ("def f(n : int) = opt(g((n + 1))) def g(n : int) = opt(f((n + 1))) f(NEAR)", "into into "),
-    ("def f(n : int) = <x : dir, g((n + 1))> def g(n : int) = <x : pred((n < DEPTH)), f((n + 1))> f(0)", "into into next "),
+    (
+        "def f(n : int) = <x : dir, g((n + 1))> def g(n : int) = <x : pred((n < DEPTH)), f((n + 1))> f(0)",
+        "into into next ",
+    ),
     (
         'def even(n : int) = {odd((n + 1)) | k in if((n < DEPTH), one("a"), empty)} '
         'def odd(n : int) = {even((n + 1)) | k in if((n < DEPTH), one("a"), empty)} even(0)',
@@ -351,8 +473,21 @@ AT_THE_END = [
 
 # What a thousand cases have to have.
 EXPECTED = [
-    "valid yes, by mutual recursion", "valid no, by mutual recursion", "stopped 13 TooUnfolded", "stopped 10 Expr", "show refused 3", "show refused 4",
-    "run refused 3", "views refused 3", "views refused 4", "views refused, and a script too", "conflicts", "watched not valid", "bad journals", "audit yes", "audit no Answer",
+    "valid yes, by mutual recursion",
+    "valid no, by mutual recursion",
+    "stopped 13 TooUnfolded",
+    "stopped 10 Expr",
+    "show refused 3",
+    "show refused 4",
+    "run refused 3",
+    "views refused 3",
+    "views refused 4",
+    "views refused, and a script too",
+    "conflicts",
+    "watched not valid",
+    "bad journals",
+    "audit yes",
+    "audit no Answer",
 ]
 
 
@@ -361,7 +496,13 @@ class Different(Exception):
 
 
 def run(words, room):
-    child = subprocess.Popen([PROGRAM, *words], cwd=room, stdout=subprocess.PIPE, stderr=subprocess.PIPE, stdin=subprocess.DEVNULL)
+    child = subprocess.Popen(
+        [PROGRAM, *words],
+        cwd=room,
+        stdout=subprocess.PIPE,
+        stderr=subprocess.PIPE,
+        stdin=subprocess.DEVNULL,
+    )
     try:
         printed, line = finished(child, 60)
     except TimeoutError as late:
@@ -424,7 +565,9 @@ def is_mutual(description):
 def compare(room, maker, counts):
     r, kind = maker.r, maker.r.choice(["plain"] * 5 + ["meeting"] * 3 + ["unfolding"])
     meet = kind == "meeting"
-    maker.meeting_folder(os.path.join(room, "in")) if meet else maker.folder(os.path.join(room, "in"))
+    maker.meeting_folder(os.path.join(room, "in")) if meet else maker.folder(
+        os.path.join(room, "in")
+    )
     description, script = MEETING, maker.meeting_script
     if kind == "plain":
         description, script = maker.description(), lambda: maker.broken(maker.script())
@@ -434,7 +577,13 @@ def compare(room, maker, counts):
     scripts = [f"s{i}" for i in range(r.choice([2, 3, 4] if meet else [1, 1, 2, 2, 3]))]
     for name in scripts:
         put(room, name, script())
-    put(room, "views", maker.broken(script()) if kind == "plain" else (MEETING_LOOK * meet + script()) * r.randrange(1, 4))
+    put(
+        room,
+        "views",
+        maker.broken(script())
+        if kind == "plain"
+        else (MEETING_LOOK * meet + script()) * r.randrange(1, 4),
+    )
     schedule = [r.randrange(len(scripts)) for _ in range(r.randrange(0, 60 if meet else 12))]
     times = r.randrange(1, 25) if meet else 1
 
@@ -454,10 +603,21 @@ def compare(room, maker, counts):
 
 def compare_refused(room, scripts, read, turns, counts):
     """Scripts, or what is read before them, that are refused, by each command that reads them; nothing is made."""
-    between = {"trace": ["out", turns], "watch": ["out", turns], "journal": ["out", "journal", turns], "recover": ["journal", "out"], "run": ["out"], "audit": ["spec"]}
+    between = {
+        "trace": ["out", turns],
+        "watch": ["out", turns],
+        "journal": ["out", "journal", turns],
+        "recover": ["journal", "out"],
+        "run": ["out"],
+        "audit": ["spec"],
+    }
     for command, words in between.items():
         if command in ASKED:
-            expect(command, run([command, "spec", "in", *words, *scripts], room), (read[0], "", read[1]))
+            expect(
+                command,
+                run([command, "spec", "in", *words, *scripts], room),
+                (read[0], "", read[1]),
+            )
     for name in ("out", "journal"):
         expect(f"{name} after a refusal", os.path.exists(os.path.join(room, name)), False)
     counts[f"run refused {read[0]}"] += 1
@@ -485,7 +645,11 @@ def compare_scheduled(room, scripts, read, schedule, turns, counts):
         found = run(["journal", "spec", "in", "journaled", "journal", turns, *scripts], room)
         expect("journal", found, wanted)
         expect("OUT of journal", model.saved(there("journaled")), model.folder_of(last))
-        expect("the journal's bytes", bytes_at(room, "journal"), model.journal_of([turn[:2] for turn in order]))
+        expect(
+            "the journal's bytes",
+            bytes_at(room, "journal"),
+            model.journal_of([turn[:2] for turn in order]),
+        )
     if "recover" in ASKED:
         compare_recover(room, scripts, read, counts)
     for _, _, _, end in order:
@@ -527,18 +691,34 @@ def compare_run(what, read, printed):
     """Compares the report of a run on threads with its transactions run whole in the order that it prints: the filestores before
     and after each entry, and the number of retries."""
     root, plan, store = read
-    turns = [(int(k), int(j)) for k, j in re.findall(r"(?m)^entry \d+ shell (\d+) txn (\d+) ", printed)]
+    turns = [
+        (int(k), int(j)) for k, j in re.findall(r"(?m)^entry \d+ shell (\d+) txn (\d+) ", printed)
+    ]
     told = re.findall(r"(?m)^retry shell (\d+) txn (\d+) entry (\d+) path (.*)$", printed)
     retries = [(int(k), int(j), int(i), model.told_path(path.encode())) for k, j, i, path in told]
     for k, txns in enumerate(plan):
-        expect(f"the order of {what}, of shell {k}", [j for i, j in turns if i == k], list(range(len(txns))))
+        expect(
+            f"the order of {what}, of shell {k}",
+            [j for i, j in turns if i == k],
+            list(range(len(txns))),
+        )
     expect(f"the order of {what}", len(turns), sum(map(len, plan)))
     answers, states = [], [store]
     for outputs, end, state in model.runs_of(root, [plan[k][j] for k, j in turns], store):
         answers.append((outputs, end))
         states.append(state)
-    expect(what, printed, model.report([(k, j, outputs, end) for (k, j), (outputs, end) in zip(turns, answers)], retries))
-    expect(f"the model's audit of {what}", model.audit(root, plan, store, printed.encode()), "audit yes\n")
+    expect(
+        what,
+        printed,
+        model.report(
+            [(k, j, outputs, end) for (k, j), (outputs, end) in zip(turns, answers)], retries
+        ),
+    )
+    expect(
+        f"the model's audit of {what}",
+        model.audit(root, plan, store, printed.encode()),
+        "audit yes\n",
+    )
     return states, len(retries)
 
 
@@ -550,9 +730,15 @@ def compare_views(room, scripts, times, counts):
     read = inputs(room, writers, ["views"])
     status, printed, line = run(["views", "spec", "in", "viewed", "views", *writers], room)
     if len(read) == 2:
-        expect("views", (status, printed, line, os.path.exists(os.path.join(room, "viewed"))), (read[0], "", read[1], False))
+        expect(
+            "views",
+            (status, printed, line, os.path.exists(os.path.join(room, "viewed"))),
+            (read[0], "", read[1], False),
+        )
         counts[f"views refused {read[0]}"] += 1
-        counts["views refused, and a script too"] += read[1].startswith("txforest: views: ") and inputs(room, writers)[0] == 3
+        counts["views refused, and a script too"] += (
+            read[1].startswith("txforest: views: ") and inputs(room, writers)[0] == 3
+        )
         return
     expect("views", (status, line), (0, ""))
     root, (views, *plan), store = read
@@ -560,20 +746,29 @@ def compare_views(room, scripts, times, counts):
     states, retries = compare_run("views", (root, plan, store), report + end)
     expect("OUT of views", model.saved(os.path.join(room, "viewed")), model.folder_of(states[-1]))
     positions = [int(i) for i in re.findall(r"(?m)^view \d+ at (\d+) ", behind)]
-    if len(positions) != len(views) or positions != sorted(positions) or positions[-1:] > [len(states) - 1]:
-        raise Different(f"the positions of {len(views)} views beside {len(states) - 1} entries: {behind}")
+    if (
+        len(positions) != len(views)
+        or positions != sorted(positions)
+        or positions[-1:] > [len(states) - 1]
+    ):
+        raise Different(
+            f"the positions of {len(views)} views beside {len(states) - 1} entries: {behind}"
+        )
     expect("what the views saw", behind, model.views(root, views, states, positions))
     counts["runs with views"] += 1
     counts["retries of runs with views"] += retries
     for position in positions:
-        counts["views at the " + ("beginning" if position == 0 else "end" if position == len(states) - 1 else "middle")] += 1
+        counts[
+            "views at the "
+            + ("beginning" if position == 0 else "end" if position == len(states) - 1 else "middle")
+        ] += 1
 
 
 def changed_reports(r, report):
     """The report with a byte changed, a line left out, a line twice, and two lines the other way round."""
     lines, i = report.splitlines(keepends=True), r.randrange(len(report))
     a, b = r.randrange(len(lines)), r.randrange(len(lines))
-    yield report[:i] + bytes([r.choice(b"0123456789 \n\"aotx{<,-")]) + report[i + 1 :]
+    yield report[:i] + bytes([r.choice(b'0123456789 \n"aotx{<,-')]) + report[i + 1 :]
     yield b"".join(lines[:a] + lines[a + 1 :])
     yield b"".join(lines[:a] + [lines[b]] + lines[a:])
     lines[a], lines[b] = lines[b], lines[a]
@@ -622,7 +817,11 @@ def compare_audit(room, scripts, read, report, counts):
     root, plan, store = read
     put(room, "report", report)
     wanted = model.audit(root, plan, store, report)
-    expect(f"audit of {report!r}", run(["audit", "spec", "in", "report", *scripts], room), (0, wanted, ""))
+    expect(
+        f"audit of {report!r}",
+        run(["audit", "spec", "in", "report", *scripts], room),
+        (0, wanted, ""),
+    )
     counts[re.sub(r"[ 0-9]+$", "", wanted.strip())] += 1
 
 
@@ -632,16 +831,30 @@ def compare_generated(room, number, counts):
     if "gen" in ASKED:
         expect("gen", run(["gen", f"{number}", "case"], room), (0, "generated\n", ""))
         texts = {"spec": description, **{f"s{k}": text for k, text in enumerate(scripts)}}
-        expect("what gen writes", sorted(os.listdir(os.path.join(room, "case"))), sorted([*texts, "in"]))
+        expect(
+            "what gen writes",
+            sorted(os.listdir(os.path.join(room, "case"))),
+            sorted([*texts, "in"]),
+        )
         for name, text in texts.items():
             with open(os.path.join(room, "case", name), encoding="ascii") as it:
                 expect(name, it.read(), text)
-        expect("the folder of gen", model.saved(os.path.join(room, "case", "in")), model.folder_of(store))
+        expect(
+            "the folder of gen",
+            model.saved(os.path.join(room, "case", "in")),
+            model.folder_of(store),
+        )
     if "large" in ASKED:
         txns = [txn for text in scripts for txn in model.read_script(text.encode())]
         _, last = model.whole_run(model.read_description(description.encode()), txns, store)
-        expect("large", run(["large", f"{number}", "last"], room), (0, model.summed(last, len(txns)), ""))
-        expect("the folder of large", model.saved(os.path.join(room, "last")), model.folder_of(last))
+        expect(
+            "large",
+            run(["large", f"{number}", "last"], room),
+            (0, model.summed(last, len(txns)), ""),
+        )
+        expect(
+            "the folder of large", model.saved(os.path.join(room, "last")), model.folder_of(last)
+        )
     counts["cases from numbers"] += 1
 
 
@@ -658,7 +871,9 @@ for case in range(SEED, SEED + COUNT):
             shutil.rmtree(kept, ignore_errors=True)
             shutil.copytree(room, kept)
             sys.exit(f"case {case}, kept in {kept}: {different}")
-for number in [0, 7, 2**32 - 1, random.Random(SEED).randrange(2**32)] if ASKED & {"gen", "large"} else []:
+for number in (
+    [0, 7, 2**32 - 1, random.Random(SEED).randrange(2**32)] if ASKED & {"gen", "large"} else []
+):
     with tempfile.TemporaryDirectory(prefix="compare-") as room:
         try:
             compare_generated(room, number, counts)
@@ -666,6 +881,10 @@ for number in [0, 7, 2**32 - 1, random.Random(SEED).randrange(2**32)] if ASKED &
             sys.exit(f"the case of {number}: {different}")
 for what, n in sorted(counts.items()):
     print(f"{n:7} {what}")
-if COUNT >= 1_000 and ASKED == set(COMMANDS) and (missing := [what for what in EXPECTED if not counts[what]]):
+if (
+    COUNT >= 1_000
+    and ASKED == set(COMMANDS)
+    and (missing := [what for what in EXPECTED if not counts[what]])
+):
     sys.exit(f"of {COUNT} cases none had: {', '.join(missing)}")
 print(f"{COUNT:7} cases, the same in both")

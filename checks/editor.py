@@ -19,8 +19,7 @@ import sys
 from collections.abc import Iterator
 from typing import NamedTuple
 
-from repository import TOP
-from txforest import model
+from repository import TOP, model
 
 GRAMMAR = os.path.join(TOP, "editors", "textmate")
 KEYWORD = ("keyword.", "storage.", "constant.language.")

@@ -22,8 +22,7 @@ import tempfile
 from collections.abc import Callable, Iterator
 from typing import NamedTuple
 
-from repository import TOP
-from txforest import model
+from repository import TOP, model
 
 Words = set[str]
 
