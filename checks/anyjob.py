@@ -372,6 +372,25 @@ def on_system(at: str) -> str:
     return read(f"{at}/log").split()[6].split(":")[1]
 
 
+def costs(room: str, rounds: str = "5", *sizes: str) -> str:
+    """Processor time of one job, beside its peers."""
+    import anyjob_costs
+
+    found = [int(size) for size in sizes] or [100, 10_000, 60_000]
+    return anyjob_costs.costs(room, found, int(rounds))
+
+
+def together(room: str, *pairs: str) -> str:
+    """Processor time of jobs at once, beside their peers; a pair is FILES:JOBS."""
+    import anyjob_costs
+
+    found = pairs or ("100:8", "100:64", "10000:64", "60000:64")
+    numbers = [(int(it.split(":")[0]), int(it.split(":")[1])) for it in found]
+    told = anyjob_costs.together(room, numbers, ["traced", "python", "flock"])
+    few = [pair for pair in numbers if pair[0] * pair[1] <= 100_000]
+    return told + ("\n" + anyjob_costs.together(room, few, ["git"]) if few else "")
+
+
 PARTS = {
     "statuses": statuses,
     "streams": streams,
@@ -384,6 +403,8 @@ PARTS = {
     "faults": faults,
     "kills": kills,
     "moments": moments,
+    "costs": costs,
+    "together": together,
 }
 
 

@@ -72,9 +72,9 @@ def same(what: str, found: object, wanted: object) -> None:
 
 def shell(command: str, room: str | None = None) -> tuple[int, str]:
     """A command's status, and what it printed."""
-    ran = subprocess.run(
-        ["bash", "-c", command], cwd=room, stdout=subprocess.PIPE, stderr=subprocess.STDOUT, timeout=600
-    )
+    words = ["bash", "-c", command]
+    pipe = subprocess.PIPE
+    ran = subprocess.run(words, cwd=room, stdout=pipe, stderr=subprocess.STDOUT, timeout=600)
     return ran.returncode, ran.stdout.decode(errors="replace")
 
 
@@ -98,7 +98,9 @@ def command(tree: str, *more: str, script: str = "job") -> list[str]:
     return [tool, *more, "--in-place", tree, f"{room}/spec", f"{room}/{script}"]
 
 
-def apply(tree: str, *more: str, status: int | None = 0, seconds: float = 120, **given: object) -> str:
+def apply(
+    tree: str, *more: str, status: int | None = 0, seconds: float = 120, **given: object
+) -> str:
     """Does a job, which has to end with a status and without a traceback; answers what it told."""
     ran = subprocess.run(  # type: ignore[call-overload]
         command(tree, *more),
@@ -164,6 +166,12 @@ def listing(tree: str) -> dict[str, str]:
     return dict(zip(parts[0::2], parts[1::2]))
 
 
+def close_all(fds: tuple[int, ...]) -> None:
+    """Closes descriptors, in a child."""
+    for fd in fds:
+        os.close(fd)
+
+
 def meddling_program(room: str, once: str) -> str:
     """A program that runs the real one, and then does something once, as somebody else."""
     path = f"{room}/meddling"
@@ -217,7 +225,7 @@ def nothing_that_comes_is_lost(room: str, number: int) -> str:
     other.join()
     names = [name for name in os.listdir(f"{tree}/d") if name.startswith("p")]
     same("what came in", len(names), number)
-    return f"{number} files put in beside {jobs} jobs: all are there; {again} times a job began again"
+    return f"{number} files put in beside {jobs} jobs: all are there; {again} times one began again"
 
 
 def a_tree_with_a_link_counts(room: str, _: int) -> str:
@@ -269,7 +277,6 @@ def bind_mounts_watchers_links_lists(room: str, _: int) -> str:
     except PassedOver as why:
         missing.append(str(why))
     if shutil.which("setfacl") and not shell(f"setfacl -d -m u:{NOBODY}:rw '{tree}/d'")[0]:
-        write(f"{room}/spec", '<n : ("n" :: file), {(k :: ("d" :: (k :: file))) | k in one("made")}>\n')
         write(f"{room}/spec", '{(k :: file) | k in one("d/made")}\n')
         write(f"{room}/job", 'txn { to("d/made") down create }\n')
         apply(tree)
@@ -400,16 +407,23 @@ def planted_places_and_locks_do_nothing(room: str, _: int) -> str:
         apply(tree, seconds=60)
         tries += 1
         shutil.rmtree(place, ignore_errors=True)
-    for make in (os.mkfifo, lambda it: os.symlink(f"{room}/folder", it), lambda it: write(it)):
+    kinds: list[Callable[[str], None]] = [
+        os.mkfifo,
+        lambda it: os.symlink(f"{room}/folder", it),
+        write,
+    ]
+    for make in kinds:
         place = f"{room}/.t.txforest-{tries:012x}"
         make(place)
         apply(tree, seconds=60)
         tries += 1
         os.unlink(place)
     same("the count", count(tree), tries)
-    same("the victims", (read(f"{room}/victim"), os.path.isdir(f"{room}/folder/deep")), ("safe\n", True))
+    same("a victim", read(f"{room}/victim"), "safe\n")
+    same("a folder", os.path.isdir(f"{room}/folder/deep"), True)
     os.unlink(f"{tree}.lock")
-    for make in (os.mkfifo, lambda it: os.symlink(f"{room}/nologin", it), os.mkdir):
+    kinds = [os.mkfifo, lambda it: os.symlink(f"{room}/nologin", it), os.mkdir]
+    for make in kinds:
         make(f"{tree}.lock")
         apply(tree, status=2, seconds=60)
         tries += 1
@@ -432,7 +446,8 @@ def a_name_exchanged_with_a_link_leaks_nothing(room: str, number: int) -> str:
     shell(f"chown -R {NOBODY}:{NOBODY} '{room}/r'")
     code = (
         "import os, sys\nos.setgid(65534)\nos.setuid(65534)\nos.chdir(sys.argv[1])\nn = 0\n"
-        "while True:\n    n += 1\n    p = 'd/f%d' % (n % 200)\n    os.symlink(sys.argv[2], 'd/.l')\n"
+        "while True:\n    n += 1\n    p = 'd/f%d' % (n % 200)\n"
+        "    os.symlink(sys.argv[2], 'd/.l')\n"
         "    os.rename(p, 'd/.f')\n    os.rename('d/.l', p)\n    os.rename('d/.f', p)\n"
     )
     words = [sys.executable, "-c", code, tree, f"{room}/secret"]
@@ -462,11 +477,11 @@ def statuses_say_what_is_true(room: str, _: int) -> str:
     tries = 0
     tree = new_tree(room)
 
-    def ends(status: int | None, counted: int, *more: str, **given: object) -> None:
+    def ends(status: int | None, counted: int, *more: str) -> None:
         nonlocal tries
         before = count(tree)
-        apply(tree, *more, status=status, **given)
-        same(f"counted with {more} {given}", count(tree) - before, counted)
+        apply(tree, *more, status=status)
+        same(f"counted with {more}", count(tree) - before, counted)
         tries += 1
 
     os.mkdir(f"{tree}.before-20260101T999999999999")
@@ -494,7 +509,7 @@ def statuses_say_what_is_true(room: str, _: int) -> str:
             command(tree),
             stdout=subprocess.DEVNULL,
             stderr=subprocess.DEVNULL,
-            preexec_fn=lambda: [os.close(fd) for fd in closed] and None,
+            preexec_fn=lambda: close_all(closed),
             timeout=60,
         )
         same(f"closed {closed}", (ran.returncode, count(tree) - before), (0, 1))
@@ -560,7 +575,8 @@ def races(_: str, number: int) -> str:
 
 
 def killed_jobs(room: str, number: int) -> str:
-    """Jobs of the tool that are killed at random moments: counted once or not at all, nothing left."""
+    """Jobs of the tool that are killed at random moments: counted once or not at all, nothing
+    left."""
     number = number or 60
     tree = new_tree(room)
     os.symlink("n", f"{tree}/d/link")
@@ -634,7 +650,7 @@ def jobs_at_once(room: str, number: int) -> str:
 TREES = [
     "/etc", "/usr/share/perl5", "/usr/lib/python3", "/usr/share/vim", "/usr/lib/git-core",
     "/usr/share/bash-completion", "/usr/include/linux", "/usr/share/zoneinfo", "/var/lib/dpkg",
-    "/usr/share/man", "/usr/share/doc/git", "/usr/lib/systemd", "/usr/share/perl", "/opt/rattle/std",
+    "/usr/share/man", "/usr/share/doc/git", "/usr/lib/systemd", "/usr/share/perl",
 ]  # fmt: skip
 
 
@@ -659,14 +675,17 @@ def real_trees(room: str, number: int) -> str:
         if "takes at most" in said:
             told.append(f"{source} is above the limits")
             continue
-        differ = {name for name in before.keys() | after.keys() if before.get(name) != after.get(name)}
+        names = before.keys() | after.keys()
+        differ = {name for name in names if before.get(name) != after.get(name)}
         same(f"{source}: what differs", differ, {"", "txforest-counts"})
         same(source, read(f"{tree}/txforest-counts"), "1\n")
         tried += 1
         entries += len(before)
-        left_out += int(said.split(" entr")[0].split()[-1].replace(",", "")) if "left out" in said else 0
+        if "left out" in said:
+            left_out += int(said.split(" entr")[0].split()[-1].replace(",", ""))
     more = f"; {'; '.join(told)}" if told else ""
-    return f"{tried} real trees of {entries:,} entries, {left_out:,} left out: one file differs{more}"
+    found = f"{tried} real trees of {entries:,} entries, {left_out:,} left out"
+    return f"{found}: one file differs{more}"
 
 
 def file_systems(room: str, _: int) -> str:
@@ -756,20 +775,23 @@ def spent(words: list[str]) -> tuple[float, float]:
 
 def costs(room: str, number: int) -> str:
     """A job that changes one file, beside `txforest run` alone, in one go."""
-    lines = ["", "| files | run | txforest-apply | of run | more | by the clock |", "|---|---|---|---|---|---|"]
+    lines = ["", "| files | run | txforest-apply | of run | more | by the clock |"]
+    lines.append("|---|---|---|---|---|---|")
     program = os.environ["TXFOREST"]
     base = tempfile.mkdtemp(dir="/dev/shm") if os.access("/dev/shm", os.W_OK) else room
     try:
         for files in (100, 10_000, 60_000):
             tree = f"{base}/t{files}"
             many_files(tree, files)
-            write(f"{base}/spec", "<d : dir, {(k :: <e : dir, {(f :: file) | f in e}>) | k in d}>\n")
+            folder = "<e : dir, {(f :: file) | f in e}>"
+            write(f"{base}/spec", f"<d : dir, {{(k :: {folder}) | k in d}}>\n")
             step = 'into next to("d0000") down into next to("count") down'
             write(f"{base}/job", COUNT.replace('to("n") down', step))
             runs, jobs = [], []
             for _ in range(number or (9 if files < 60_000 else 3)):
                 shutil.rmtree(f"{base}/out", ignore_errors=True)
-                runs.append(spent([program, "run", f"{base}/spec", tree, f"{base}/out", f"{base}/job"]))
+                words = [program, "run", f"{base}/spec", tree, f"{base}/out", f"{base}/job"]
+                runs.append(spent(words))
                 jobs.append(spent(command(tree)))
             run, job = (statistics.median(it[0] for it in them) for them in (runs, jobs))
             clock = statistics.median(it[1] for it in jobs)
@@ -782,7 +804,8 @@ def costs(room: str, number: int) -> str:
         if base != room:
             shutil.rmtree(base)
     load = os.getloadavg()[0]
-    return "\n".join([*lines, f"processor time, medians; load {load:.0f} on {os.cpu_count()} processors"])
+    told = f"processor time, medians; load {load:.0f} on {os.cpu_count()} processors"
+    return "\n".join([*lines, told])
 
 
 ROWS = [

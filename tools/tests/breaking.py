@@ -1,7 +1,8 @@
-"""Breaks commits in four ways: kills, power cuts, refused calls, somebody else's changes at each call.
+"""Breaks commits in four ways: kills, power cuts, refused calls, somebody else's changes at each
+call.
 
-Each function takes a number and a seed, raises AssertionError at the first fault, and answers what it
-counted. The unit tests take small numbers, checks/live.py large ones.
+Each function takes a number and a seed, raises AssertionError at the first fault, and answers
+what it counted. The unit tests take small numbers, checks/live.py large ones.
 """
 
 from __future__ import annotations
@@ -138,7 +139,12 @@ def kills(number: int, seed: int = 1) -> str:
 
 
 def killed_once(
-    top: str, base: str, changes: list[Change], states: tuple[Picture, Picture], at: int, behind: bool
+    top: str,
+    base: str,
+    changes: list[Change],
+    states: tuple[Picture, Picture],
+    at: int,
+    behind: bool,
 ) -> bool:
     """One kill; answers whether the tree is as before."""
     tree = copy(base, f"{top}/t")
@@ -177,8 +183,8 @@ def killed_once(
 
 
 class Recorded(Calls):
-    """Does each call, and writes down what it means: versions of each inode's content and attributes,
-    of each directory's entries, and up to where each is on the device."""
+    """Does each call, and writes down what it means: versions of each inode's content and
+    attributes, of each directory's entries, and up to where each is on the device."""
 
     def __init__(self, above: bytes) -> None:
         self.ids: dict[int, int] = {}
@@ -321,9 +327,9 @@ Names = dict[int, dict[bytes, Any]]
 def cut(events: list[tuple[Any, ...]], end: int, model: str) -> tuple[Names, dict[int, Any]]:
     """What may stand on the device behind a power cut at an event.
 
-    Model `loose`: of each inode and of each name, the last synced version or any later one, whatever
-    else is there. Model `journal`: names by a prefix of all changes of names that has at least those
-    before the last sync of anything; contents as in `loose`.
+    Model `loose`: of each inode and of each name, the last synced version or any later one,
+    whatever else is there. Model `journal`: names by a prefix of all changes of names that has at
+    least those before the last sync of anything; contents as in `loose`.
     """
     inode: dict[int, list[Any]] = {}
     names: Names = {}
@@ -422,8 +428,8 @@ def materialized(where: bytes, settled: Names, contents: dict[int, Any], root: i
 
 
 def cuts(number: int, seed: int = 1, models: str = "loose journal") -> str:
-    """Power cuts at random moments of two commits on one tree: behind settling it is as before, after
-    the first or after the second one, and no commit is lost that was on the device."""
+    """Power cuts at random moments of two commits on one tree: behind settling it is as before,
+    after the first or after the second one, and no commit is lost that was on the device."""
     random.seed(seed)
     tally: Counter[str] = Counter()
     done, rounds = 0, 0
@@ -500,8 +506,8 @@ class Refusing(Watched):
 
 
 def refused(number: int, seed: int = 1) -> str:
-    """Each changing call is refused: done means after, refused means before, unfinished is after once
-    settled, EPERM behind the commit is a told conflict; a later job is not stopped."""
+    """Each changing call is refused: done means after, refused means before, unfinished is after
+    once settled, EPERM behind the commit is a told conflict; a later job is not stopped."""
     random.seed(seed)
     tally: Counter[str] = Counter()
     done, rounds = 0, 0
@@ -597,8 +603,8 @@ OURS = {"a/f0": b"ours", "a/f1": b"ours too", "new": b"ours, new"}
 
 
 def races(number: int, seed: int = 1) -> str:
-    """Somebody changes a target at each call, in one of three ways, once or twice: his last bytes are
-    never lost, and ours stand beside if that is told."""
+    """Somebody changes a target at each call, in one of three ways, once or twice: his last bytes
+    are never lost, and ours stand beside if that is told."""
     random.seed(seed)
     tally: Counter[str] = Counter()
     done = 0

@@ -80,14 +80,15 @@ class Locks(InFolder):
 
     def test_planted_locks_are_refused_and_not_followed(self) -> None:
         name, victim = f"{self.tree}.lock", f"{self.top}/victim"
-        for plant in (
+        plants: list[Callable[[], None]] = [
             lambda: os.symlink(victim, name),
             lambda: os.mkfifo(name),
             lambda: os.mkdir(name),
-        ):
+        ]
+        for plant in plants:
             plant()
             self.assert_fails(Status.USAGE, lambda: lock.lock(self.tree, 0), "lock")
-            os.rmdir(name) if os.path.isdir(name) and not os.path.islink(name) else os.unlink(name)
+            clear(os.open(self.top, DIR), b"t.lock")
         self.assertFalse(os.path.lexists(victim))
 
 
@@ -480,8 +481,8 @@ class Commits(InFolder):
 
     def test_new_entries_have_what_their_directory_says(self) -> None:
         os.chmod(f"{self.tree}/c", 0o750)
-        changes = [Change("mkdir", "c/d"), Change("store", "c/d/f", b""), Change("store", "c/x", b"")]
-        changes[-1].flag = True
+        changes = [Change("mkdir", "c/d"), Change("store", "c/d/f", b"")]
+        changes.append(Change("store", "c/x", b"", True))
         job(self.tree, changes)
         modes = [stat.S_IMODE(os.stat(f"{self.tree}/c/{it}").st_mode) for it in ("d", "d/f", "x")]
         self.assertEqual(modes, [0o750, 0o640, 0o750])
@@ -505,9 +506,12 @@ class Commits(InFolder):
         name = "n" * 250
         write(f"{self.tree}/{name}", "x")
         self.assertEqual(job(self.tree, [Change("store", name, b"y")]), [])
-        self.assertTrue(
-            job(self.tree, [Change("store", name, b"z")], lambda: write(f"{self.tree}/{name}", "HIS"))
-        )
+
+
+        def look() -> None:
+            write(f"{self.tree}/{name}", "HIS")
+
+        self.assertTrue(job(self.tree, [Change("store", name, b"z")], look))
         self.assertEqual(read(f"{self.tree}/{name}"), "HIS")
         tree = new_tree(f"{self.top}/{'t' * 250}")
         self.assertEqual(job(tree, [Change("store", "run", b"y")]), [])
@@ -684,7 +688,7 @@ class Ends(unittest.TestCase):
         it.option("flag", None, "whether")
         given = it.read(["--wait=2", "a", "--", "--flag"])
         self.assertEqual((given.number("wait"), given.operands), (2.0, ["a", "--flag"]))
-        forms = [[], ["--nope", "a"], ["--flag=1", "a"], ["--wait"], ["a", "--flag", "--flag"]]
+        forms: list[list[str]] = [[], ["--nope", "a"], ["--flag=1", "a"], ["--wait"], ["a", "--flag", "--flag"]]
         for words in forms:
             with self.assertRaises(Failed) as caught:
                 it.read(words)

@@ -61,6 +61,8 @@ class Texts(Room):
         )
         self.assertEqual(parted(text), ([1], {0: b'a\n"\\\xff', 2: b"d/e"}))
         self.assertEqual(unquoted(b'"\\\\n"'), b"\\n")
+        for text in (b"\\", b"\\\\x", b'"', b"\n\\n", b"\\x41", b"a\\\"b", b"\x00\xff\\"):
+            self.assertEqual(unquoted(model.quote(text).encode()), text)
 
 
 class Decisions(Room):

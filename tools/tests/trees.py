@@ -119,7 +119,8 @@ def picture(path: str) -> Picture:
 
 def copy(source: str, target: str) -> str:
     """A copy of a tree."""
-    return shutil.copytree(source, target, symlinks=True)
+    shutil.copytree(source, target, symlinks=True)
+    return target
 
 
 class Inbox:

@@ -1,8 +1,8 @@
 """Runs scripts on a real tree and puts what comes out in place: the whole job of a cron line.
 
 It takes the lock TREE.lock, so that jobs come one after another; works beside the tree; changes
-nothing if a transaction stopped or was aborted, or if the result has no value by the description. Only
-what the scripts change is touched. The report is printed.
+nothing if a transaction stopped or was aborted, or if the result has no value by the description.
+Only what the scripts change is touched. The report is printed.
 """
 
 from __future__ import annotations
@@ -45,8 +45,8 @@ STATUSES = (
     ("14", "committed, and the next job, or --settle, puts the rest of it in place"),
 )
 MORE = """
-Beside TREE stand its lock, TREE.lock, and while a job works its place, .TREE.txforest-ID. A path that
-somebody else changed has the new content beside it, at NAME.txforest-new.
+Beside TREE stand its lock, TREE.lock, and while a job works its place, .TREE.txforest-ID. A path
+that somebody else changed has the new content beside it, at NAME.txforest-new.
 """
 
 
@@ -234,8 +234,8 @@ def answer_of(job: Job, tree: Tree, request: Request, ident: str) -> Answer:
 
 
 def had(job: Job, tree: Tree, request: Request, ident: str) -> tuple[int, Waiting | None]:
-    """The lock, and the job as it waited in the queue, if it had to. Raises Failed with LOCKED if the
-    lock is not had in time, and nobody has taken the job."""
+    """The lock, and the job as it waited in the queue, if it had to. Raises Failed with LOCKED if
+    the lock is not had in time, and nobody has taken the job."""
     path = lock_of(job, tree)
     try:
         return lock(path, 0), None

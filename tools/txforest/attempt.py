@@ -1,5 +1,5 @@
-"""One attempt of a job: survey, view, runs beside, differences, and the commit. `txforest-apply`, the
-queue and `txforest-do` make attempts."""
+"""One attempt of a job: survey, view, runs beside, differences, and the commit. `txforest-apply`,
+the queue and `txforest-do` make attempts."""
 
 from __future__ import annotations
 
@@ -101,9 +101,9 @@ class Attempt:
     def run(
         self, spec: str | Source, scripts: Sequence[str | Source], schedule: str | None = None
     ) -> Answer:
-        """Runs scripts over the view into a fresh OUT, and answers what the program came to; its line
-        names the texts by their words. With a schedule the run is watched, and its events are told
-        before the report. Raises Failed if a text can't be read."""
+        """Runs scripts over the view into a fresh OUT, and answers what the program came to; its
+        line names the texts by their words. With a schedule the run is watched, and its events
+        are told before the report. Raises Failed if a text can't be read."""
         sources = [read_source(it) if isinstance(it, str) else it for it in (spec, *scripts)]
         self.spec, self.valid = sources[0], None
         answer = self.asked(sources) if len(sources) == 2 and schedule is None else None
@@ -117,9 +117,9 @@ class Attempt:
         return answer
 
     def asked(self, sources: Sequence[Source]) -> Answer | None:
-        """A run of one script with one transaction more, which asks whether what the others leave has
-        a value. It is the last one, and changes nothing; the report is told without it. Nothing, if
-        the run does not come to a report."""
+        """A run of one script with one transaction more, which asks whether what the others leave
+        has a value. It is the last one, and changes nothing; the report is told without it.
+        Nothing, if the run does not come to a report."""
         spec, script = sources
         if len(script.text) + len(QUESTION) > TEXT_LIMIT:
             return None
@@ -177,8 +177,8 @@ class Attempt:
             raise Changed(where)
 
     def changes(self) -> list[Change]:
-        """What the OUT of the last run changes in the tree. Raises Failed with USAGE if a script is in
-        the way of an entry that is left out."""
+        """What the OUT of the last run changes in the tree. Raises Failed with USAGE if a script
+        is in the way of an entry that is left out."""
         return self.changes_to(self.out)
 
     def changes_to(self, folder: str) -> list[Change]:
@@ -202,8 +202,8 @@ class Attempt:
         answers: Mapping[str, bytes] | None = None,
         hand_out: HandOut | None = None,
     ) -> Committed:
-        """Puts changes in place by files; looks again last before the commit. With neither changes nor
-        answers nothing is done but that look. Raises as commit.commit does."""
+        """Puts changes in place by files; looks again last before the commit. With neither
+        changes nor answers nothing is done but that look. Raises as commit.commit does."""
         if not changes and not answers:
             self.look_again()
             return Committed([], [])
@@ -238,7 +238,8 @@ def in_the_way(found: Survey, path: str) -> str:
                 f"{shown('/' + it.path)}: is left out ({it.why}), and a script is in its way,"
                 " so nothing was changed"
             )
-    return f"{shown('/' + path)}: a script is in the way of what is left out, so nothing was changed"
+    line = "a script is in the way of what is left out, so nothing was changed"
+    return f"{shown('/' + path)}: {line}"
 
 
 def attempts(
@@ -255,8 +256,8 @@ def attempts(
     With `kept` the attempt that was answered is left there for the caller to close: to remove its
     OUT takes time, for which nobody has to wait.
 
-    Raises Failed: CHANGING behind the last try, USAGE if a change is refused, UNFINISHED if a commit
-    stands and something of it waits.
+    Raises Failed: CHANGING behind the last try, USAGE if a change is refused, UNFINISHED if a
+    commit stands and something of it waits.
     """
     where = ""
     for again in range(tries):

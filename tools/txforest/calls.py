@@ -1,5 +1,6 @@
-"""The system calls of a commit, each through one object, so that tests count them, stop at each, refuse
-each and record them. `S` is the one in use. Names are bytes, directories are descriptors."""
+"""The system calls of a commit, each through one object, so that tests count them, stop at each,
+refuse each and record them. `S` is the one in use. Names are bytes, directories are
+descriptors."""
 
 from __future__ import annotations
 

@@ -16,14 +16,14 @@ The syncs, and what a power cut can do without each:
       changed lately
     intent.new           no intent under its name: a commit is lost
     the place            the intent is there, a staged file is not
-    the place's home     the operations are there, the place is not; the place of the job before is back
+    the place's home     the operations are there, the place is not; that of the job before is back
     -- intent.new gets the name intent --
     the place            operations are there, the intent is not: this sync is the commit
     each touched         the place goes, and the operations are not there
       directory
 
-Behind them the intent is removed, then the rest, then the place. That needs no sync: the next commit
-syncs the place's home before its own intent has its name.
+Behind them the intent is removed, then the rest, then the place. That needs no sync: the next
+commit syncs the place's home before its own intent has its name.
 """
 
 from __future__ import annotations
@@ -46,8 +46,8 @@ if TYPE_CHECKING:
     from .differences import Change
 
     # Moves answers from a place (a descriptor) to those who wait: that of NAME is the place's file
-    # `answer-NAME`. It is told the conflicts too, which turn a status. It may be called again for the
-    # same ones if it was stopped; it leaves none.
+    # `answer-NAME`. It is told the conflicts too, which turn a status. It may be called again for
+    # the same ones if it was stopped; it leaves none.
     HandOut = Callable[[Tree, int, Sequence[str], Sequence[str]], None]
 
 ANSWER = b"answer-"
@@ -59,8 +59,8 @@ class Unfinished(Exception):
 
 
 class Committed:
-    """What became of a commit: the conflicts (paths that somebody else changed meanwhile, which were
-    not written over), and what else is to be told, a line each."""
+    """What became of a commit: the conflicts (paths that somebody else changed meanwhile, which
+    were not written over), and what else is to be told, a line each."""
 
     __slots__ = ("conflicts", "told")
 

@@ -102,7 +102,13 @@ class Copy:
 
     def enter(self) -> None:
         """Goes into the copy. Raises OSError or CannotEnter if the system makes none."""
+        self.go()
+
+    def go(self) -> None:
+        """Goes there, as `cd` does."""
+        os.environ["OLDPWD"] = os.getcwd()
         os.chdir(self.tree)
+        os.environ["PWD"] = self.tree
 
     def entered(self) -> None:
         """Called in the process that waits, once the command's process has begun."""

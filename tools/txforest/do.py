@@ -55,6 +55,7 @@ SPEC.
   --wait SECONDS     how long to wait for the lock (for ever)
   --log FILE         appends a line for each job: time, order of commits, status, how it was run
   --verbose          tells how the copy is made, and each try
+  --python           prints the folder to put into PYTHONPATH for `import txforest`
   --help             prints this
   --version          prints the version
 
@@ -69,7 +70,8 @@ exit status:
   125      the words have no form of this tool
   126      the command can't be run; 127: it is not found; 128+N: signal N ended it
 
-A file by an absolute path, and whatever else is outside TREE, is neither private nor undone.
+The command begins in its copy, and OLDPWD says where one was. A file by an absolute path, and whatever
+else is outside TREE, is neither private nor undone.
 """
 
 
@@ -107,8 +109,9 @@ def given_words(words: Sequence[str]) -> Given:
             take_value(given, name, value)
         elif name in ("whole", "trace", "hold", "optimistic", "verbose") and not equals:
             given.flags.add(name)
-        elif word in ("--help", "-h"):
-            sys.stdout.write(HELP)
+        elif word in ("--help", "-h", "--python"):
+            above = os.path.dirname(os.path.dirname(os.path.realpath(__file__)))
+            sys.stdout.write(above + "\n" if word == "--python" else HELP)
             sys.stdout.flush()
             raise SystemExit(0)
         elif word == "--version":
@@ -391,6 +394,7 @@ class Transaction:
         while True:
             with Room(self.tree) as room:
                 self.ident = room.name
+                self.check_description(room)
                 try:
                     self.clerk.reached("begun")
                     copy = self.kinds[0](room.path, self.tree.root)
@@ -406,6 +410,16 @@ class Transaction:
                             Status.SYSTEM, f"this system makes no such copy: {error}"
                         ) from None
                     self.verbose(f"not {kind.name}: {error}")
+
+    def check_description(self, room: Room) -> None:
+        """Raises Failed if the program refuses the description, before the command runs first."""
+        if self.tried == 1:
+            from .program import is_valid
+
+            empty = room.inside("empty")
+            os.mkdir(empty)
+            is_valid(self.clerk.description, empty)
+            os.rmdir(empty)
 
     def settled(self, room: Room, copy: Copy, status: int, held: int | None) -> int | Answer:
         """What becomes of a command that has ended.

@@ -1,8 +1,8 @@
 """The two ways to commit a whole tree in one step, for readers that must never see two states.
 
-`--exchange` makes the new tree beside and exchanges the two names; `--link` makes it beside and turns
-a symbolic link to it. Both cost a copy of the tree, and give each file a new inode: open descriptors,
-hard links, watchers and bind mounts stay with the tree of before.
+`--exchange` makes the new tree beside and exchanges the two names; `--link` makes it beside and
+turns a symbolic link to it. Both cost a copy of the tree, and give each file a new inode: open
+descriptors, hard links, watchers and bind mounts stay with the tree of before.
 
 In the place stand `made`, the new tree and behind an exchange the old one, and the text `step`:
 
@@ -243,7 +243,8 @@ def end(
 
 
 def prune(tree: Tree, place: Place, step: Step, before: int, told: list[str]) -> None:
-    """Removes the trees of before, all but the last ones. What can't be removed is told and stays."""
+    """Removes the trees of before, all but the last ones. What can't be removed is told and
+    stays."""
     front = tree.name + (b".before-" if step.kind == b"exchange" else b".")
     names = [name for name in stamped(tree.home, front) if name != step.name]
     if step.kind == b"exchange":
@@ -329,6 +330,11 @@ def linked_tree(name: str) -> Tree:
         raise Failed(Status.USAGE, f"{shown(name)}: no symbolic link to a folder stands there")
     tree = Tree(os.path.realpath(path))
     above, last = os.path.split(path)
+    if (os.path.realpath(above) + "/").startswith(tree.path + "/"):
+        tree.close()
+        raise Failed(
+            Status.USAGE, f"{shown(name)}: what stands beside it lies in the folder itself"
+        )
     os.close(tree.above)
     tree.above = tree.home = os.open(os.path.realpath(above), DIR)
     tree.name, tree.inside = os.fsencode(last), False

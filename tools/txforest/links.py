@@ -54,8 +54,8 @@ def link_text(target: bytes, root: bytes) -> bytes:
 
 
 def real_text(path: Path, text: bytes) -> bytes:
-    """The text of a link in a tree for its text in a folder. An absolute one goes by way of `..`, so
-    that it leads to the same place wherever the tree stands."""
+    """The text of a link in a tree for its text in a folder. An absolute one goes by way of `..`,
+    so that it leads to the same place wherever the tree stands."""
     if not text.startswith(b"/"):
         return text
     return b"/".join([b".."] * (len(path) - 1) + names_of(text)) or b"."
@@ -91,7 +91,9 @@ def leads_out(targets: Mapping[Path, bytes], root: bytes, path: Path) -> bool:
     return False
 
 
-def lands(kind: Callable[[Path], str | None], texts: Mapping[Path, bytes], path: Path) -> Path | None:
+def lands(
+    kind: Callable[[Path], str | None], texts: Mapping[Path, bytes], path: Path
+) -> Path | None:
     """Where the way of a link ends in a folder, or nothing if nothing stands there.
 
     `kind` says of a path `d`, `f`, `l` or nothing; `texts` are the links' texts in the folder.

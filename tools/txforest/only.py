@@ -1,4 +1,5 @@
-"""The patterns of `--only`: they narrow what is taken of a tree, so that trees of any size serve."""
+"""The patterns of `--only`: they narrow what is taken of a tree, so that trees of any size
+serve."""
 
 from __future__ import annotations
 

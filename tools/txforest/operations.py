@@ -1,10 +1,10 @@
-"""The operations of a commit, done by descriptors below the tree's root. Each is idempotent, and none
-destroys anything before it has looked at what it took away.
+"""The operations of a commit, done by descriptors below the tree's root. Each is idempotent, and
+none destroys anything before it has looked at what it took away.
 
-A store links its new file `n` to `m` in the place, exchanges `m` with the target, and looks at what
-came out: if that is not what was expected, it is exchanged back, and `n` gets the further name
-`NAME.txforest-new`. `n` keeps its name until all is synced: so 'the target is the inode of `n`' says
-done, and '`n` is gone' says that all was done, and no note of progress is needed.
+A store links its new file `n` to `m` in the place, exchanges `m` with the target, and looks at
+what came out: if that is not what was expected, it is exchanged back, and `n` gets the further
+name `NAME.txforest-new`. `n` keeps its name until all is synced: so 'the target is the inode of
+`n`' says done, and '`n` is gone' says that all was done, and no note of progress is needed.
 """
 
 from __future__ import annotations
@@ -115,8 +115,8 @@ class Doing:
             self.conflicts.append(line)
 
     def keep_strangers(self, operations: Sequence[Operation]) -> None:
-        """What came out of the tree, and is not what was expected to, goes beside the tree if it could
-        not go back; so nothing is lost when the place is cleared."""
+        """What came out of the tree, and is not what was expected to, goes beside the tree if it
+        could not go back; so nothing is lost when the place is cleared."""
         names = set(map(os.fsencode, os.listdir(self.place)))
         if any(it.staged is not None and it.staged not in names for it in operations):
             return  # a staged file is cleared, so all was done before
@@ -156,8 +156,11 @@ class Doing:
             found = calls.S.look(name, dir_fd)
             return found is not None and found.st_ino == ino
 
+        def make() -> None:
+            calls.S.link(staged, self.place, spare, self.place)
+
         spare = b"m%d" % it.number
-        return self.put(fd, it, spare, ours, lambda: calls.S.link(staged, self.place, spare, self.place))
+        return self.put(fd, it, spare, ours, make)
 
     def link(self, fd: int, it: Operation) -> str | None:
         """A new link at its target."""
@@ -245,7 +248,8 @@ class Doing:
         return f"{told(it.path)}: {why}; it stands at {shown(free)}"
 
     def keep(self, fd: int, spare: bytes, it: Operation) -> None:
-        """Somebody's own came out, and something else stands at the target by now: it stays beside."""
+        """Somebody's own came out, and something else stands at the target by now: it stays
+        beside."""
         free = self.moved(spare, fd, it.path[-1], OLD)
         self.conflicts.append(f"{told(it.path)}: an older one stands at {shown(free)}")
 
@@ -271,8 +275,8 @@ class Doing:
         return new is not None and new.st_ino == out.st_ino
 
     def somewhere(self, it: Operation, why: str, work: Callable[[], str | None]) -> str | None:
-        """The line of a conflict. If nothing can be put into the tree there, the new file goes beside
-        the tree, so that what is refused for good stops no later job."""
+        """The line of a conflict. If nothing can be put into the tree there, the new file goes
+        beside the tree, so that what is refused for good stops no later job."""
         try:
             return work()
         except OSError as error:
@@ -284,8 +288,8 @@ class Doing:
         return f"{told(it.path)}: {why}; the new content stands beside the tree, at {shown(free)}"
 
     def aside(self, it: Operation, why: str) -> str:
-        """The directory of a target is gone: the new file goes to the nearest one that is there, below
-        a directory of its own name."""
+        """The directory of a target is gone: the new file goes to the nearest one that is there,
+        below a directory of its own name."""
         if it.kind == "link" or it.staged is None or calls.S.look(it.staged, self.place) is None:
             return f"{told(it.path)}: {why}"
         names, at = list(it.path), list[bytes]()

@@ -119,8 +119,8 @@ class Place:
     def clear(self, told: list[str]) -> None:
         """Removes it with all in it, its intent first. What can't be removed is told and stays."""
         try:
-            names = sorted(map(os.fsencode, os.listdir(self.fd)), key=lambda name: name != b"intent")
-            for name in names:
+            names = map(os.fsencode, os.listdir(self.fd))
+            for name in sorted(names, key=lambda name: name != b"intent"):
                 clear(self.fd, name)
             calls.S.rmdir(self.name, self.home)
         except OSError as error:
@@ -166,7 +166,8 @@ def listed(fd: int) -> list[str]:
 
 
 def clear(home: int, name: bytes) -> None:
-    """Removes what stands at a name, with all below it; a mount is not entered, and raises OSError."""
+    """Removes what stands at a name, with all below it; a mount is not entered, and raises
+    OSError."""
     found = calls.S.look(name, home)
     if found is None:
         return

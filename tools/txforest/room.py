@@ -1,5 +1,5 @@
-"""The room of a job: a private directory for its view and its OUT, in memory if there is enough of it,
-else beside the tree. Nothing in it has to outlive the job."""
+"""The room of a job: a private directory for its view and its OUT, in memory if there is enough
+of it, else beside the tree. Nothing in it has to outlive the job."""
 
 from __future__ import annotations
 
@@ -22,7 +22,8 @@ def room_front(tree: Tree) -> bytes:
 
 
 def room_of(tree: Tree, found: Survey, in_memory: bool = True) -> Place:
-    """A fresh room. With `in_memory` it is in memory if that is large enough; else beside the tree."""
+    """A fresh room. With `in_memory` it is in memory if that is large enough; else beside the
+    tree."""
     needed = (found.size + (PAGE + NODE) * len(found.taken)) * (1 if found.plain else 2)
     if in_memory and memory_serves(needed, len(found.taken)):
         memory = os.open(MEMORY, DIR)

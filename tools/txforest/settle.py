@@ -20,7 +20,8 @@ if TYPE_CHECKING:
 
 
 class Settled:
-    """What was settled: how many places were ended or cleared, the conflicts met, and lines to tell."""
+    """What was settled: how many places were ended or cleared, the conflicts met, and lines to
+    tell."""
 
     __slots__ = ("count", "conflicts", "told")
 
@@ -33,9 +34,10 @@ class Settled:
 def settle(tree: Tree, hand_out: HandOut | None = None) -> Settled:
     """Ends what killed jobs left beside a tree, whose lock is held.
 
-    A place with an intent is done to its end and its answers are handed out; one without is cleared.
-    Places in use (their lock is held), others' places and planted ones stay, and are told.
-    Raises OSError if the system refuses an operation for now: then the rest waits for the next job.
+    A place with an intent is done to its end and its answers are handed out; one without is
+    cleared. Places in use (their lock is held), others' places and planted ones stay, and are
+    told. Raises OSError if the system refuses an operation for now: then the rest waits for the
+    next job.
     """
     settled = Settled()
     clear_rooms(tree, settled)

@@ -1,5 +1,6 @@
-"""How bytes are spelled in a text of words with single spaces: every byte but 0x21 to 0x7E, and `%`,
-as `%` and two upper-case hexadecimal digits. The table of a folder and the intent have it."""
+"""How bytes are spelled in a text of words with single spaces: every byte but 0x21 to 0x7E, and
+`%`, as `%` and two upper-case hexadecimal digits. The table of a folder and the intent have
+it."""
 
 from __future__ import annotations
 

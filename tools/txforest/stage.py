@@ -1,5 +1,5 @@
-"""What happens before a commit: the new files are made with all that they are to have, and what could
-not be done later is refused by name. Nothing in the tree is changed."""
+"""What happens before a commit: the new files are made with all that they are to have, and what
+could not be done later is refused by name. Nothing in the tree is changed."""
 
 from __future__ import annotations
 
@@ -198,8 +198,9 @@ def new_file(
 ) -> None:
     """Makes a new file with all that it is to have, and gives it a name in the place.
 
-    `home` is the directory in which it is to stand, or the nearest one: there the system itself gives
-    a new file the access list, the group and the label that it has there. `old` is what it replaces.
+    `home` is the directory in which it is to stand, or the nearest one: there the system itself
+    gives a new file the access list, the group and the label that it has there. `old` is what it
+    replaces.
     """
     default = DEFAULT in listed(home)
     fd = None if old is not None else unnamed(place, name, home, default)
@@ -260,8 +261,9 @@ def fill(fd: int, change: Change) -> None:
 
 
 def unnamed(place: int, name: bytes, home: int, default: bool) -> int | None:
-    """A file that is made in the directory in which it is to stand, so that it has what a new file has
-    there, and named in the place; nothing if the file system has no files without a name.
+    """A file that is made in the directory in which it is to stand, so that it has what a new
+    file has there, and named in the place; nothing if the file system has no files without a
+    name.
 
     It is opened anew by its name: else watchers of the directory would be told of each write.
     """
@@ -288,8 +290,8 @@ def handed_on(fd: int) -> list[tuple[str, bytes]]:
 
 
 def busy(fd: int) -> bool:
-    """Whether somebody has a file open to write: then there is no lease to read it. False where this
-    user may have no lease, or the file system has none."""
+    """Whether somebody has a file open to write: then there is no lease to read it. False where
+    this user may have no lease, or the file system has none."""
     try:
         fcntl.fcntl(fd, fcntl.F_SETSIG, 23)  # SIGURG, which ends nobody, if the lease is broken
         fcntl.fcntl(fd, fcntl.F_SETLEASE, fcntl.F_RDLCK)
@@ -310,8 +312,8 @@ def refuses(fd: int) -> bool:
 
 
 def with_flag(mode: int, flag: bool | None) -> int:
-    """A mode with the execute bits of those who may read, or without any; as it is if it has the flag
-    already, or if nothing says whether it should."""
+    """A mode with the execute bits of those who may read, or without any; as it is if it has the
+    flag already, or if nothing says whether it should."""
     if flag is None or bool(mode & 0o111) == flag:
         return mode
     return mode | (mode & 0o444) >> 2 if flag else mode & ~0o111

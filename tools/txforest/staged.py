@@ -17,7 +17,6 @@ is still so; else its answer is the first path that is not.
 from __future__ import annotations
 
 import os
-import re
 
 from .folders import Folder
 from .links import TABLE
@@ -437,14 +436,14 @@ def parted(report: bytes) -> tuple[list[int], dict[int, bytes]]:
     refused: dict[int, bytes] = {}
     last = -1
     for line in report.splitlines():
-        found = re.fullmatch(rb"entry \d+ shell (\d+) txn 0 (.*)", line)
-        if found:
-            last = int(found[1])
-            if found[2] == b"done":
+        if line.startswith(b"entry "):
+            _, _, _, number, _, _, end = line.split(b" ", 6)
+            last = int(number)
+            if end == b"done":
                 done.append(last)
-            else:
-                blocked = re.fullmatch(rb"stopped \d+ 6 Blocked (\".*\")", found[2])
-                refused[last] = unquoted(blocked[1])[1:] if blocked else b""
+                continue
+            blocked = end.partition(b" Blocked ")[2]
+            refused[last] = unquoted(blocked)[1:] if blocked else b""
         elif line.startswith(b"print ") and last in refused:
             refused[last] = unquoted(line[6:])
     return done, refused
@@ -452,12 +451,18 @@ def parted(report: bytes) -> tuple[list[int], dict[int, bytes]]:
 
 def unquoted(text: bytes) -> bytes:
     """The bytes of a text as the report quotes it."""
-    known = {b"n": b"\n", b'"': b'"', b"\\": b"\\"}
-    return re.sub(
-        rb"\\(?:x(..)|(.))",
-        lambda it: bytes([int(it[1], 16)]) if it[1] else known[it[2]],
-        text[1:-1],
-    )
+    first, *rest = text[1:-1].split(b"\\")
+    made, parts = [first], iter(rest)
+    for part in parts:
+        if part[:1] == b"x":
+            made += [bytes([int(part[1:3], 16)]), part[3:]]
+        elif part[:1] == b"n":
+            made += [b"\n", part[1:]]
+        elif part:  # a quote
+            made.append(part)
+        else:  # a backslash; what comes behind it is plain
+            made += [b"\\", next(parts, b"")]
+    return b"".join(made)
 
 
 def made_at(out: bytes, path: Path) -> Made:

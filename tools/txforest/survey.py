@@ -1,7 +1,7 @@
 """What stands in a tree: one pass over descriptors, no content read, one file system, linear.
 
-It says what the engine can take, and what is left out with the reason. What is left out is invisible
-to descriptions and is never touched.
+It says what the engine can take, and what is left out with the reason. What is left out is
+invisible to descriptions and is never touched.
 """
 
 from __future__ import annotations
@@ -137,8 +137,8 @@ def survey(
                     why = "a name that txforest keeps for its table"
                 elif deep >= DEPTH:
                     why = "more than 64 names deep"
-                elif it.st_dev != device or path in mounts:
-                    why = MOUNT
+                elif path in mounts or kind == DIRECTORY and it.st_dev != device:
+                    why = MOUNT  # the files of an overlay have devices of their own
                 elif kind == REGULAR:
                     if it.st_size > FILE_LIMIT and path != TABLE:
                         why = "a file above 1 MiB"
@@ -312,7 +312,7 @@ def changed(
                         y = entry.stat(follow_symlinks=False)
                     except OSError:
                         return path
-                    # Each change of content, size, mode, owner or times is one of the time of change.
+                    # Each change of content, mode, owner or times is one of the time of change.
                     if x.st_ctime_ns != y.st_ctime_ns or x.st_ino != y.st_ino:
                         return path
                     seen += 1

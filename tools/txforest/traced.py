@@ -41,7 +41,7 @@ from .statuses import Failed, Status
 
 TYPE_CHECKING = False
 if TYPE_CHECKING:
-    import socket
+    from _socket import socket
 
     from .states import Made, Path, Seen
 
@@ -374,7 +374,7 @@ class Traced(Copy):
     word = "traced"
 
     def __init__(self, room: str, root: int) -> None:
-        import socket
+        from _socket import socketpair  # the module socket costs the start
 
         super().__init__(room, root)
         self.upper = os.path.join(room, "upper")
@@ -384,7 +384,7 @@ class Traced(Copy):
         os.mkdir(self.upper, stat.S_IMODE(os.fstat(root).st_mode) | 0o700)
         os.mkdir(self.work, 0o700)
         os.mkdir(self.under, 0o700)
-        here, self.there = socket.socketpair()
+        here, self.there = socketpair()
         self.server = os.fork()
         if not self.server:
             status = 1
@@ -398,15 +398,15 @@ class Traced(Copy):
     def helper(self) -> int | None:
         return self.server
 
-    def serve(self, here: socket.socket) -> int:
+    def serve(self, here: socket) -> int:
         """In a process of its own: takes the device, serves, and leaves the account."""
         import array
         import signal
-        import socket
+        from _socket import CMSG_SPACE
 
         for number in (signal.SIGTERM, signal.SIGHUP, signal.SIGINT):
             signal.signal(number, signal.SIG_IGN)
-        _, more, _, _ = here.recvmsg(1, socket.CMSG_SPACE(4))
+        _, more, _, _ = here.recvmsg(1, CMSG_SPACE(4))
         here.close()
         if not more:
             return 0
@@ -424,7 +424,7 @@ class Traced(Copy):
 
     def enter(self) -> None:
         import array
-        import socket
+        from _socket import SCM_RIGHTS, SOL_SOCKET
 
         own_mounts()
         device = os.open(os.environ.get("TXFOREST_FUSE", "/dev/fuse"), os.O_RDWR | os.O_CLOEXEC)
@@ -433,11 +433,11 @@ class Traced(Copy):
         flags = READ_ONLY | NOSUID | NODEV
         mount(b"txforest", os.fsencode(self.under), b"fuse.txforest", flags, words.encode())
         numbers = array.array("i", [device])
-        self.there.sendmsg([b"d"], [(socket.SOL_SOCKET, socket.SCM_RIGHTS, numbers)])
+        self.there.sendmsg([b"d"], [(SOL_SOCKET, SCM_RIGHTS, numbers)])
         self.there.close()
         os.close(device)
         self.mount_overlay()
-        os.chdir(self.tree)
+        self.go()
 
     def mount_overlay(self) -> None:
         """The overlay. Its layers are named by descriptors of this process's own mounts."""

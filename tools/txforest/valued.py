@@ -10,7 +10,6 @@ from __future__ import annotations
 
 import errno
 import os
-import re
 import stat
 
 from .folders import Folder
@@ -30,6 +29,7 @@ if TYPE_CHECKING:
 
 QUESTION = "txn { validate there print(there) }\n"
 ASKED = 40  # how often the question is asked before all of the tree is brought
+LIKELY = 64
 NEIGHBOURS = 512  # how many entries of one directory are brought at once
 DEPTH = 64
 
@@ -64,6 +64,8 @@ class Value:
     def holds(self) -> bool:
         """Whether there is a value. Raises Failed with the program's status if it refuses."""
         if self.answer is None:
+            if not self.asked:
+                self.bring_likely()
             for _ in range(ASKED):
                 self.looks, answer = self.ask()
                 fresh = self.looks - self.exact
@@ -89,9 +91,10 @@ class Value:
         for line in answer.printed.splitlines():
             if line.startswith(b"look 0 "):
                 looks.add(tuple(filter(None, unquoted(line[7 : line.rindex(b" ")]).split(b"/"))))
-        if not re.search(rb"(?m)^print (true|false)$", answer.printed):
+        said = {b"print true", b"print false"} & set(answer.printed.splitlines())
+        if len(said) != 1:
             raise Failed(Status.SYSTEM, "the program gave no answer on the description")
-        return looks, b"\nprint true\n" in answer.printed
+        return looks, b"print true" in said
 
     # ---- changes
 
@@ -234,6 +237,16 @@ class Value:
             if (entry := self.entry(above)) is not None and entry[0] == "dir":
                 for name in sorted(self.names(above))[:NEIGHBOURS]:
                     self.bring((*above, name))
+
+    def bring_likely(self) -> None:
+        """Brings what the description is likely to look at, so that the question is asked less often:
+        paths that stand in its text, and some of those that are changed."""
+        with open(self.spec, "rb") as file:
+            words = file.read().split(b'"')[1::2]
+        paths = {tuple(word.split(b"/")) for word in words[:LIKELY]}
+        for path in sorted({*paths, *list(self.made)[:LIKELY]}, key=len):
+            if len(path) <= DEPTH and all(map(is_name, path)) and self.entry(path) is not None:
+                self.bring(path)
 
     def bring(self, path: Path, again: bool = False) -> None:
         """Brings what stands at a path, and what stands above it; of a directory its names."""

@@ -1,5 +1,5 @@
-"""A whole tree once more: what is taken of it as copies with all their attributes, what is left out as
-further names of the same files."""
+"""A whole tree once more: what is taken of it as copies with all their attributes, what is left
+out as further names of the same files."""
 
 from __future__ import annotations
 
@@ -15,7 +15,8 @@ from .view import copy_file, next_folder
 
 
 def copy_tree(tree: Tree, found: Survey, place: int, told: list[str]) -> None:
-    """Makes the copy `made` in a place. Raises Changed if an entry is another than the survey found."""
+    """Makes the copy `made` in a place. Raises Changed if an entry is another than the survey
+    found."""
     os.mkdir("made", 0o700, dir_fd=place)
     made = os.open("made", DIR, dir_fd=place)
     above, source, target = "", tree.root, made
@@ -93,8 +94,8 @@ def copy_link(source: int, target: int, name: str, it: os.stat_result) -> int:
 
 
 def give(source: int, target: int, name: str, it: os.stat_result) -> int:
-    """Gives a copy the owner, the attributes, the mode and the times of what it is a copy of; answers
-    how many of them were refused."""
+    """Gives a copy the owner, the attributes, the mode and the times of what it is a copy of;
+    answers how many of them were refused."""
     old = os.open(name, FILE, dir_fd=source)
     try:
         new = os.open(name, FILE, dir_fd=target)
