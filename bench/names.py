@@ -1,12 +1,17 @@
-"""Transactions that look at a directory of many names, by the schedule `none`. Each stores at a
-name that is not there, which looks at the name and at the directory, and is then refused, so that
-the next one looks at both again. Then transactions that enter a directory whose names the
-description takes from it: the names are the value of its first part.
+"""Transactions that look at a directory of many names, and such that enter one.
+
+Those that look go by the schedule `none`. Each stores at a name that is not there, which looks at
+the name and at the directory. It is then refused, so that the next one looks at both again. Those
+that enter go to the second part of a description, which takes the names from the directory itself:
+they are the value of the first part.
 """
+
+from __future__ import annotations
 
 import os
 import sys
 import tempfile
+from collections.abc import Iterator
 
 import measure
 from goals import MICROSECONDS, each, growth
@@ -23,44 +28,61 @@ LISTED = "<d : dir, {(n :: file) | n in d}>\n"
 ENTRY_REPEATS = 5
 
 
-def empty_files(path, count):
+def empty_files(path: str, count: int) -> None:
+    """A folder of empty files."""
     os.mkdir(path)
     for i in range(count):
         measure.write(path, f"f{i:05}", "")
 
 
-def entered(count):
-    """Transactions that enter a described directory of so many names, in seconds of processor,
-    since load and save take longer than all of them.
+def entered(count: int) -> measure.Line:
+    """Transactions that enter a described directory of `count` names, in seconds of processor.
+
+    Load and save take longer than all of them.
     """
     with tempfile.TemporaryDirectory() as scratch:
         folder = os.path.join(scratch, "in")
         empty_files(folder, count)
         spec = measure.write(scratch, "spec", LISTED)
         words_of = lambda out, shell: [measure.program(), "run", spec, folder, out, shell]
-        script, repeats, by = ENTRY * ENTRIES, ENTRY_REPEATS, measure.PROCESSOR
-        ran, seconds, more, _ = measure.beyond(scratch, words_of, "", script, repeats, by)
+        ran, seconds, more, _ = measure.beyond(
+            scratch, words_of, "", ENTRY * ENTRIES, ENTRY_REPEATS, measure.By.PROCESSOR
+        )
     if ran.out.count(b" done\n") != ENTRIES:
         sys.exit(f"not every transaction was done: {ran.out[:200]!r}")
-    goals = (each(40, MICROSECONDS, ENTRIES), growth(500, 3))
-    kind = f"run: names where {ENTRIES:,} transactions enter"
-    return measure.Line(kind, count, seconds, ran.peak_kib, more=more, goals=goals)
+    return measure.Line(
+        f"run: names where {ENTRIES:,} transactions enter",
+        count,
+        seconds,
+        ran.peak_kib,
+        more=more,
+        goals=(each(40, MICROSECONDS, ENTRIES), growth(500, 3)),
+    )
 
 
-def looked(count):
+def looked(count: int) -> measure.Line:
+    """Transactions that look at a directory of `count` names."""
     with tempfile.TemporaryDirectory() as scratch:
         folder = os.path.join(scratch, "in")
         empty_files(folder, count)
         spec = measure.write(scratch, "spec", DESCRIPTION)
         words_of = lambda out, shell: [measure.program(), "trace", spec, folder, out, "none", shell]
-        ran, seconds, more, _ = measure.beyond(scratch, words_of, "", TRANSACTION * TRANSACTIONS, REPEATS)
+        ran, seconds, more, _ = measure.beyond(
+            scratch, words_of, "", TRANSACTION * TRANSACTIONS, REPEATS
+        )
     looks = ran.out.count(b'\nlook 0 "/" ')
     if looks != TRANSACTIONS:
         sys.exit(f"{TRANSACTIONS} transactions looked at the directory {looks} times")
-    kind = f"trace: names where {TRANSACTIONS:,} transactions look"
-    return measure.Line(kind, count, seconds, ran.peak_kib, more=more)
+    return measure.Line(
+        f"trace: names where {TRANSACTIONS:,} transactions look",
+        count,
+        seconds,
+        ran.peak_kib,
+        more=more,
+    )
 
 
-def lines(sizes):
+def lines(sizes: list[int]) -> Iterator[measure.Line]:
+    """The lines of this bench, of these sizes or its own."""
     yield from (looked(count) for count in sizes or SIZES)
     yield from (entered(count) for count in ENTERED)
