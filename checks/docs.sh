@@ -1,7 +1,9 @@
 #!/usr/bin/env bash
-# Builds the program and runs the commands that the documents show, and the examples: each has to print what stands there.
+# Builds the program and runs the commands that the documents show, and the examples: each has to print what stands there. First
+# docs/BELIEVE.md has to be the page that the sources give.
 set -eu
 top=$(cd "$(dirname "$0")/.." && pwd)
+python3 -B "$top/checks/believe.py" --check
 program=$("$top/bench/build.sh")
 python3 -B "$top/checks/docs.py" "$program" README.md docs/GUIDE.md docs/RECIPES.md docs/JOBS.md docs/LANGUAGE.md docs/FORMATS.md
 fresh=$(mktemp -d)

@@ -1,0 +1,121 @@
+"""Tells how much there is to believe: of the whole contract, of status 0, and of each command."""
+
+from __future__ import annotations
+
+from typing import NamedTuple
+
+from believe.closure import Size, closure, size
+from believe.names import World
+from believe.plan import HEADLINE, TOP, TRACED, WATCHED
+
+_SHARED = (
+    "fx_words.Job.job_of",
+    "fx_command::status::Status",
+    "fx_outside::host::Host",
+    "fx_outside::sink::Sink",
+    "fx_outside::gate::Gate",
+    "fx_command.Left.IsIdle",
+)
+_RUN = (
+    "fx_run_command.Rows.RunRow",
+    "fx_run_command.Rows.RunAsksFit",
+    "fx_run_command.Rows.IsProperRun",
+)
+
+
+class Command(NamedTuple):
+    """A command: the definitions of its clauses, and what of them is another command's alone."""
+
+    name: str
+    roots: tuple[str, ...]
+    others: tuple[str, ...] = ()
+
+
+COMMANDS = (
+    Command("run", _RUN, (WATCHED,)),
+    Command("trace", _RUN, (WATCHED,)),
+    Command("watch", _RUN),
+    Command(
+        "views",
+        (
+            "fx_views_command.Rows.ViewsRow",
+            "fx_views_command.Rows.ViewsAskFit",
+            "fx_views_command.Rows.IsProperViews",
+        ),
+    ),
+    Command(
+        "journal",
+        (
+            "fx_journal_command.Rows.JournalRow",
+            "fx_journal_command.Rows.KeepsJournal",
+            "fx_journal_command.Rows.JournalAsksFit",
+            "fx_journal_command.Rows.IsProperJournal",
+            "fx_durable::disk::Disk",
+        ),
+    ),
+    Command(
+        "recover",
+        (
+            "fx_recover_command.Rows.RecoverRow",
+            "fx_recover_command.Rows.RecoverAsksFit",
+            "fx_recover_command.Rows.IsProperRecover",
+            "fx_durable::disk::Disk",
+        ),
+    ),
+    Command(
+        "audit",
+        (
+            "fx_audit_command.Rows.AuditRow",
+            "fx_audit_command.Rows.AuditAsksFit",
+            "fx_audit_command.Rows.IsProperAudit",
+        ),
+    ),
+    Command(
+        "show",
+        ("fx_show.Rows.ShowRow", "fx_show.Rows.ShowAsksFit", "fx_show.Shows.IsProperShow"),
+    ),
+    Command(
+        "gen",
+        (
+            "fx_command.Making.MakingRow",
+            "fx_large.GenRows.gen_making",
+            "fx_command.Out.IsProperOut",
+        ),
+    ),
+    Command(
+        "large",
+        (
+            "fx_command.Making.MakingRow",
+            "fx_large.LargeRows.large_making",
+            "fx_command.Out.IsProperOut",
+        ),
+    ),
+)
+
+
+def counts(world: World) -> list[str]:
+    """A line for the contract, for status 0 of `run`, for it without events, and each command.
+
+    Each tells definitions, lines of specs, and lines of types, constants and traits in sources; a
+    command besides what it adds to `run`.
+    """
+    told = [f"{'':26}{'definitions':>12}{'specs':>8}{'src':>6}   beyond run: definitions, lines"]
+    told.append(_line("::".join(TOP), size(world, closure(world, [world.function(*TOP)]))))
+    plain = closure(world, [HEADLINE], [WATCHED]) - {WATCHED}
+    told.append(_line("status 0 of run", size(world, plain)))
+    without = closure(world, [HEADLINE], [WATCHED, TRACED]) - {WATCHED, TRACED}
+    told.append(_line("without the machine", size(world, without)))
+    run: set[str] = set()
+    for command in COMMANDS:
+        found = closure(world, [*_SHARED, *command.roots], command.others) - set(command.others)
+        run = run or found
+        more = size(world, found - run)
+        told.append(
+            f"{_line(command.name, size(world, found))}{more.definitions:>15}{more.lines:>7}"
+        )
+    return told
+
+
+def _line(name: str, read: Size) -> str:
+    """A line of the figures."""
+    return f"{name:26}{read.definitions:>12}{read.specs:>8}{read.sources:>6}"
