@@ -100,7 +100,8 @@ def counts(world: World) -> list[str]:
     command besides what it adds to `run`.
     """
     told = [f"{'':26}{'definitions':>12}{'specs':>8}{'src':>6}   beyond run: definitions, lines"]
-    told.append(_line("::".join(TOP), size(world, closure(world, [world.function(*TOP)]))))
+    top = world.function(*TOP)
+    told.append(_line(top, size(world, closure(world, [top]))))
     plain = closure(world, [HEADLINE], [WATCHED]) - {WATCHED}
     told.append(_line("status 0 of run", size(world, plain)))
     without = closure(world, [HEADLINE], [WATCHED, TRACED]) - {WATCHED, TRACED}

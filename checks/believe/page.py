@@ -101,12 +101,13 @@ def page(world: World, plan: Plan) -> str:
         f"`checks/believe.py` makes this page from the sources, by `{MAKE}`. Don't edit it.",
         "",
         "A proof is worth what its statement says. Here stands every definition that the contract"
-        f" of `{'::'.join(plan.top)}` rests on, in exactly one section, in reading order.",
+        f" of `{world.function(*plan.top)}` rests on, in exactly one section, in reading order.",
         f"Sections 0 to {last_first(plan)} are what status 0 of `run` rests on. The others are what"
         " the rest of the contract adds. Each section shows its main definitions, and folds the"
         " others.",
-        "The laws under a section are proved with the program, and need no belief. They say in the"
-        " subject's words what follows from the definitions. Sections without laws have none.",
+        "The laws under a section are proved by the gate, and need no belief. They say in the"
+        " subject's words what follows from the definitions. Words that no section has, as those of"
+        " lists, options and finite maps, are the kit's library.",
         "Lines are those of definitions, without comments. [MEANING](MEANING.md) explains the"
         " words. [PROOF](PROOF.md) says what else is trusted: the prover, the compiler and the"
         " system.",

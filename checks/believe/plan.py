@@ -187,7 +187,7 @@ SECTIONS = (
     Section(
         "The report",
         "The report is the bytes of an order and its retries. By a law different ones have"
-        " different bytes. So its spelling needs no belief but that it can be read.",
+        " different bytes. So how it is spelled matters to readers alone.",
         ("fx_report.Entries.report",),
         ("fx_report.Entries.entry", "fx_report.Report.report_text"),
     ),
@@ -249,9 +249,10 @@ SECTIONS = (
     Section(
         "The machine of looks and settles",
         "Behind each report of `run` stand events of this machine that lead to the same order and"
-        " retries; `trace` prints them. A shell looks at one path after another. Then it settles,"
-        " or it starts again. Where no filestore agrees with a shell's looks, what is said of all"
-        " such filestores says nothing; such a shell can't settle.",
+        " retries. By some schedule `trace` may print them. A shell looks at one path after"
+        " another. Then it settles, or it starts again. Where no filestore agrees with a shell's"
+        " looks, what is said of all such filestores says nothing. By the law"
+        " `a_settled_shell_saw_the_state` such a shell can't settle.",
         (TRACED,),
         (
             TRACED,
@@ -292,7 +293,7 @@ SECTIONS = (
     ),
     Section(
         "`show`",
-        "The value of a description on a folder is printed.",
+        "It is printed whether the folder has a value by the description, and which.",
         ("fx_show.Rows.ShowRow", "fx_show.Shows.IsProperShow", "fx_show.Rows.ShowAsksFit"),
     ),
     Section(
@@ -307,7 +308,8 @@ SECTIONS = (
     ),
     Section(
         "`audit`",
-        "The verdict says whether a report is one that `run` may print.",
+        "The verdict says whether a text is the report of a complete order, with retries that this"
+        " order can have had; or it is the first fault.",
         (
             "fx_audit_command.Rows.AuditRow",
             "fx_audit_command.Rows.AuditAsksFit",
@@ -323,7 +325,7 @@ SECTIONS = (
     ),
     Section(
         "`journal`",
-        "Each commit is told on a disk before the next one is made.",
+        "These definitions say what the file JOURNAL spells, whenever the machine stops.",
         (
             "fx_journal_command.Rows.JournalRow",
             "fx_journal_command.Rows.KeepsJournal",
@@ -334,7 +336,7 @@ SECTIONS = (
     ),
     Section(
         "`recover`",
-        "What a journal tells is made a folder again.",
+        "OUT holds the folder after the commits that a journal keeps.",
         (
             "fx_recover_command.Rows.RecoverRow",
             "fx_recover_command.Rows.RecoverAsksFit",
@@ -343,7 +345,7 @@ SECTIONS = (
     ),
     Section(
         "`gen` and `large`",
-        "Cases are made from a number, and run.",
+        "`gen` writes a case that a number gives. `large` runs that case and sums up what came out.",
         (
             "fx_large.GenRows.gen_making",
             "fx_command.Making.MakingRow",
@@ -354,7 +356,7 @@ SECTIONS = (
         "The call",
         "The words choose the command, and with it the table that holds.",
         ("fx_top::top::top",),
-        ("fx_top.Rows.Row",),
+        ("fx_top::top::top", "fx_top.Rows.Row"),
     ),
 )
 
