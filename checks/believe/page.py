@@ -140,12 +140,14 @@ def words(text: str, last: int) -> Words:
 def stale(repo: Path, text: str) -> list[str]:
     """Why the page of a repository is not `text`, with the first lines that differ; else nothing.
 
-    Each differing line stands behind the heading of its section.
+    Each differing line stands behind the heading of its section. What stands above the sections is
+    told only if nothing else differs: its table sums them up.
     """
     place = repo / PAGE
     if not place.is_file():
         return [f"{PAGE} is not there. Make it: {MAKE}"]
     was, now = place.read_text(encoding="utf-8").split("\n"), text.split("\n")
+    head: list[str] = []
     told: list[str] = []
     heading = ""
     for tag, a, b, c, d in difflib.SequenceMatcher(None, was, now, autojunk=False).get_opcodes():
@@ -155,8 +157,10 @@ def stale(repo: Path, text: str) -> list[str]:
         if above and above[-1] != heading:
             heading = above[-1]
             told.append(heading)
-        told += [f"  is: {line}" for line in was[a:b]]
-        told += [f"  has to be: {line}" for line in now[c:d]]
+        room = told if above else head
+        room += [f"  is: {line}" for line in was[a:b]]
+        room += [f"  has to be: {line}" for line in now[c:d]]
+    told = told or head
     if not told:
         return []
     left = len(told) - _DIFFERENCES

@@ -352,6 +352,15 @@ class Checking(Room):
             "  has to be: IsName name = is_short name ≡ false", stale(self.repo, self.page())
         )
 
+    def test_table_of_lines_is_told_only_if_no_section_differs(self) -> None:
+        self.keep()
+        self.change(PAGE, "| 1 | Names | 5 |", "| 1 | Names | 6 |")
+        self.assertIn("  is: | 1 | Names | 6 | 7 | 0 |", stale(self.repo, self.page()))
+        self.change(PAGE, "it is done", "it is over")
+        told = stale(self.repo, self.page())
+        self.assertEqual(told[1], "## 0. The claim")
+        self.assertNotIn("  is: | 1 | Names | 6 | 7 | 0 |", told)
+
     def test_long_list_of_differences_is_cut(self) -> None:
         self.write(PAGE, "\n".join(f"line {n}" for n in range(50)))
         told = stale(self.repo, self.page())
