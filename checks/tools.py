@@ -22,7 +22,7 @@ import xml.dom.minidom
 TOP = os.path.dirname(os.path.dirname(os.path.abspath(__file__)))
 TOOLS = os.path.join(TOP, "tools")
 PROGRAM = os.environ["TXFOREST"] = os.path.abspath(os.environ["TXFOREST"])
-NAMES = ["import", "export", "apply", "explain", "schedules", "picture"]
+NAMES = ["import", "export", "apply", "explain", "schedules", "picture", "report"]
 CONFIG = os.path.join(TOP, "examples", "config")
 NOBODY = 65534
 
@@ -241,16 +241,19 @@ def counted(room):
     write(f"{room}/s", PLUS)
 
 
+STAMPED = r"(f\.before-|live\.)\d{8}T\d{6}(-\d{6})?"
+
+
 def together(room):
-    """100 jobs from 8 processes at once, in place and by a link, while another looks at the folder all the time."""
+    """100 jobs from 8 processes at once, in each way to commit, while another looks at the tree all the time."""
     seen = 0
-    for way in ("--in-place", "--link"):
+    for way in ([], ["--exchange", "--before", "5"], ["--link", "live", "--before", "5"]):
         shutil.rmtree(room)
         counted(room)
-        target = "f"
-        if way == "--link":
+        target = "live" if "--link" in way else "f"
+        words = " ".join(way if "--link" in way else [*way, "f"])
+        if target == "live":
             os.symlink("f", f"{room}/live")
-            target = "live"
         done, looks, wrong = threading.Event(), 0, []
 
         def look():
@@ -271,7 +274,7 @@ def together(room):
         watcher = threading.Thread(target=look)
         watcher.start()
         jobs = [13] * 4 + [12] * 4
-        line = f"for i in $(seq $JOBS); do {TOOLS}/txforest-apply {way} {target} --keep 5 d s || exit 1; done"
+        line = f"for i in $(seq $JOBS); do {TOOLS}/txforest-apply {words} d s || exit 1; done"
         running = [subprocess.Popen(["bash", "-c", line], cwd=room, env={**os.environ, "JOBS": str(n)}, stdout=subprocess.PIPE, stderr=subprocess.STDOUT) for n in jobs]
         for job in running:
             told = job.communicate(timeout=600)[0].decode()
@@ -280,9 +283,9 @@ def together(room):
         watcher.join()
         same("the count", read(f"{room}/{target}/n"), "100")
         same("each look", wrong[:3], [])
-        same("folders of before", len([n for n in os.listdir(room) if re.fullmatch(r"(f\.before-|live\.)\d{8}T\d{12}", n)]), 5 if way == "--in-place" else 6)
+        same("trees of before", len([n for n in os.listdir(room) if re.fullmatch(STAMPED, n)]), {0: 0, 3: 5, 4: 6}[len(way)])
         seen += looks
-    return f"twice 100 jobs from 8 processes at once lost no change; {seen:,} looks in between saw a whole folder"
+    return f"three times 100 jobs from 8 processes at once lost no change; {seen:,} looks in between saw a whole count"
 
 
 def generation(folder):
@@ -293,54 +296,53 @@ def generation(folder):
     return int(found.pop())
 
 
-def killed(room, times=100):
-    """A kill at a random moment leaves the old or the new folder whole, and the next job clears away what was left."""
+def killed(room, times=99):
+    """A kill at a random moment leaves the old or the new tree, whole once the next job has settled it; one in one step at
+    once."""
     write(f"{room}/d", '<d : dir, {(x :: <e : dir, {(n :: file) | n in e}>) | x in d}>')
-    old = new = cleared = steps = 0
+    write(f"{room}/none")
+    old = new = cleared = 0
     spent = {}
     for number in range(times):
-        way, environment = [("--in-place", {}), ("--link", {}), ("--in-place", {"TXFOREST_NO_EXCHANGE": "1"})][number % 3]
-        key = f"{way}{len(environment)}"
-        target = f"{room}/{'live' if way == '--link' else 'f'}{key[-1]}"
+        way = [[], ["--exchange"], ["--link"]][number % 3]
+        key = "".join(way)
+        target = f"{room}/{'live' if way == ['--link'] else 'f'}{number % 3}"
         if not os.path.lexists(target):
-            where = target + ".first" if way == "--link" else target
+            where = target + ".first" if way == ["--link"] else target
             for i in range(50):
                 os.makedirs(f"{where}/d{i // 10}", exist_ok=True)
                 write(f"{where}/d{i // 10}/f{i}", "0")
-            if way == "--link":
+            if way == ["--link"]:
                 os.symlink(os.path.basename(where), target)
         before = generation(target)
         body = " ".join(f'into next to("d{i // 10}") down into next to("f{i}") down store("{before + 1}") top' for i in range(50))
         write(f"{room}/s", f"txn {{ {body} }}")
-        words = [f"{TOOLS}/txforest-apply", way, target, "d", "s"]
+        words = [f"{TOOLS}/txforest-apply", *way, target, "d", "s"]
         at = spent.get(key)
         started = time.monotonic()
-        job = subprocess.Popen(words, cwd=room, env={**os.environ, **environment}, stdout=subprocess.DEVNULL, stderr=subprocess.DEVNULL, start_new_session=True)
+        job = subprocess.Popen(words, cwd=room, stdout=subprocess.DEVNULL, stderr=subprocess.DEVNULL, start_new_session=True)
         if at is None:
             same("the first job", job.wait(60), 0)
             spent[key] = time.monotonic() - started
             new += 1
             continue
-        # Half of the kills fall anywhere, half in the last quarter, where the steps are.
+        # Half of the kills fall anywhere, half in the last quarter, where the commit is.
         time.sleep(random.uniform(0.02 if number % 2 else at * 0.75, at * 1.05))
         job.send_signal(signal.SIGKILL) if number % 4 else os.killpg(job.pid, signal.SIGKILL)
         job.wait(60)
-        if environment and not os.path.lexists(target):
-            steps += 1
-        else:
-            after = generation(target)
-            same("the generation", after in (before, before + 1), True)
-            old, new = old + (after == before), new + (after == before + 1)
+        if way:
+            generation(target)
         there = [n for n in os.listdir(room) if n.startswith(f".{os.path.basename(target)}.txforest-")]
-        write(f"{room}/none", "")
-        told = tool("apply", way, target, "d", "none", room=room, env={**os.environ, **environment})
+        tool("apply", *way, target, "d", "none", room=room)
+        after = generation(target)
+        same("the generation", after in (before, before + 1), True)
+        old, new = old + (after == before), new + (after == before + 1)
         same("what is left", [n for n in os.listdir(room) if n.startswith(f".{os.path.basename(target)}.txforest-")], [])
         cleared += len(there)
-        generation(target)
         for name in os.listdir(room):
-            if ".before-" in name or re.fullmatch(r"live\d\.\d{8}T\d{12}", name):
+            if ".before-" in name or re.fullmatch(r"live\d\.\d{8}T[\d-]+", name):
                 generation(f"{room}/{name}")
-    return f"{times} kills at random moments left {old} times the old and {new} times the new folder whole, {steps} times none between two renames, which the next job ended; {cleared} broken places were cleared away"
+    return f"{times} kills at random moments left {old} times the old and {new} times the new tree whole; {cleared} broken places were settled"
 
 
 HOOK = """
@@ -368,7 +370,7 @@ def steps(room):
     write(f"{room}/s", "txn { into down fetch a : str store(text((int(a) + 1))) up next down store(text((int(a) + 1))) }")
     write(f"{room}/none")
     kills = ended = 0
-    ways = [("apply", ["--in-place", "f", "d", "s"], {}), ("apply", ["--link", "live", "d", "s"], {}), ("apply", ["--in-place", "f", "d", "s"], {"TXFOREST_NO_EXCHANGE": "1"}), ("export", ["--replace", "new", "f"], {}), ("import", ["new", "g"], {})]
+    ways = [("export", ["--replace", "new", "f"], {}), ("import", ["new", "g"], {})]
     for name, words, more in ways:
         environment = {**os.environ, **more, "PYTHONDONTWRITEBYTECODE": "1"}
         for at in range(1000):
@@ -414,13 +416,13 @@ def refusals(room):
         (("--in-place", "f", "d", "stops"), 1, ["stops: transaction 0 stopped 1 1 NoStep", "stops: transaction 1 aborted", "2 transactions not done"]),
         (("--in-place", "f", "d", "empties"), 10, ["has no value by d"]),
         (("--in-place", "f", "d", "bad"), 3, ["txforest: bad: Unexpected 5"]),
-        (("--in-place", "f", "none", "s"), 5, ["txforest: read fault"]),
-        (("--in-place", "g", "d", "s"), 2, ["no folder stands there"]),
-        (("--in-place", "live", "d", "s"), 2, ["a symbolic link; --link"]),
+        (("--in-place", "f", "none", "s"), 5, ["none: nothing stands there"]),
+        (("g", "d", "s"), 2, ["no directory that can be read"]),
+        (("live", "d", "s"), 2, ["but a symbolic link to"]),
         (("--link", "f", "d", "s"), 2, ["no symbolic link to a folder"]),
-        (("--in-place", "/", "d", "s"), 2, ["nothing can be put beside it"]),
+        (("/", "d", "s"), 2, ["nothing can stand beside it"]),
         (("d", "s"), 2, ["usage"]),
-        (("--in-place", "f", "--keep", "-1", "d", "s"), 2, ["below 0"]),
+        (("--exchange", "f", "--before", "-1", "d", "s"), 2, ["of 0 or more"]),
         (("--in-place", "f", "d"), 2, ["usage"]),
     ]
     for words, status, say in tries:
@@ -443,10 +445,10 @@ def refusals(room):
     holder.kill()
     holder.wait()
     shell("pkill -P $$ sleep; true")
-    # A report that can't be printed puts nothing in place.
-    for sink in ("> /dev/full", "| true"):
-        shell(f"set -o pipefail; (sleep 0.2; {TOOLS}/txforest-apply --in-place f d s) {sink}", room)
-        same(f"a report {sink}", read(f"{room}/f/n"), "1")
+    # A report that can't be printed is told, and the status says that the change is in place.
+    for number, sink in enumerate(("> /dev/full", "| true"), 2):
+        status, told = shell(f"set -o pipefail; (sleep 0.2; {TOOLS}/txforest-apply --in-place f d s) {sink}", room)
+        same(f"a report {sink}", (status, read(f"{room}/f/n"), "could not be printed" in told), (0, str(number), True))
     # Modes, owners, times and access lists stay; new entries get those of their directory.
     shell("rm -rf f*; mkdir -m 750 f; printf 7 > f/n; printf key > f/key; chmod 600 f/key; chmod 2750 f; touch -d 2001-02-03 f/key f/n", room)
     write(f"{room}/more", '<n : ("n" :: file), <k : ("key" :: file), ("new/file" :: file)>>')
@@ -485,7 +487,7 @@ def full(room):
                 it.write(b"x" * 600_000)
             write(f"{room}/d", '("a" :: file)')
             write(f"{room}/s", 'txn { down fetch a : str store((a ++ "y")) }')
-            tool("apply", "--in-place", "f", "d", "s", status=7, say=["txforest: write fault"], room=room)
+            tool("apply", "--in-place", "f", "d", "s", status=9, say=["No space left on device"], room=room)
             same("what is left", left(room, "f", "d", "s", "f.lock"), [])
             same("the folder", os.path.getsize(f"{room}/f/a"), 600_000)
     finally:
@@ -610,9 +612,9 @@ def pictures(room):
             tool("picture", "--html", "--names", "a,b", "r", "-o", "p.html", room=room)
             drawn += 2
     write(f"{room}/bad", "look 0 /a 0\n")
-    tool("picture", "bad", status=2, say=["no whole report"], room=room)
+    tool("picture", "bad", status=2, say=["bad: line 1: this is not `look K PATH POSITION`"], room=room)
     write(f"{room}/bad", "jump\nforest report 1\nend\n")
-    tool("picture", "bad", status=2, say=["line 1 is none"], room=room)
+    tool("picture", "bad", status=2, say=["bad: line 1: this is not an event or the begin of a report"], room=room)
     counted(f"{room}/c")
     write(f"{room}/c/s", PLUS * 500)
     draw = random.Random(1)
