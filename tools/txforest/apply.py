@@ -44,8 +44,7 @@ STATUSES = (
     ("13", "in place, but a path that somebody else changed was not written over"),
     ("14", "committed, and the next job, or --settle, puts the rest of it in place"),
 )
-MORE =
-"""
+MORE = """
 Beside TREE stand its lock, TREE.lock, and while a job works its place, .TREE.txforest-ID. A path
 that somebody else changed has the new content beside it, at NAME.txforest-new.
 """
