@@ -1,4 +1,4 @@
-"""Tries the queue of a live tree: parts of checks/live.py. Each raises AssertionError at a fault."""
+"""Tries the queue of a live tree: parts of checks/live.py. A fault is an AssertionError."""
 
 from __future__ import annotations
 
@@ -95,11 +95,11 @@ def checked_state(room: str) -> list[str]:
 
 
 def leaders_are_killed(_: str, number: int) -> str:
-    """Who leads, and who settles behind it, ends at each of its calls; the model runs the scripts."""
+    """Who leads and who settles end at each of their calls; the model runs the scripts."""
     count = queues.kills(number or 10_000)
     return (
-        f"{count.stops} kills before and behind the calls of a leader with two jobs in its queue, and"
-        f" of those who settled it: {count.answered} times its commit stood and both were answered,"
+        f"{count.stops} kills before and behind the calls of a leader with two jobs in its queue,"
+        f" and of those who settled it: {count.answered} times its commit stood and both were answered,"
         f" {count.again} times they were done by others; none was lost, none done twice"
     )
 
@@ -205,7 +205,8 @@ def each_gets_its_own(room: str, number: int) -> str:
     assert len(logged) == number and sum(it[0] != "-" for it in logged) == len(good), logged
     return (
         f"{number} jobs that waited, of four odd kinds {number - len(good)}, and one that gave up,"
-        f" each with its own status, report and line of the log, by {len(calls)} calls of the program"
+        f" each with its own status, report and line of the log, by {len(calls)} calls of the"
+        " program"
     )
 
 

@@ -100,9 +100,9 @@ class Count(NamedTuple):
 
 
 def kills(number: int, seed: int = 1) -> Count:
-    """Who leads is killed at its calls, before and behind each, with two jobs that wait; who settles
-    behind it is killed too, none to two times. Each job that waits is done once in the end, and told
-    so; the killed one's own is done at most once, and by no other."""
+    """Who leads is killed at its calls, before and behind each, with two jobs that wait; who
+    settles behind it is killed too, none to two times. Each job that waits is done once in the end,
+    and told so; the killed one's own is done at most once, and by no other."""
     random.seed(seed)
     answered = again = 0
     with work_folder() as top:

@@ -99,7 +99,8 @@ class Values(unittest.TestCase):
         return caught.exception
 
     def test_the_first_part_without_a_value(self) -> None:
-        more: model.Filestore = {**CONFIG, (b"services",): model.File("file", b"api\nmail\n", False)}
+        services = model.File("file", b"api\nmail\n", False)
+        more: model.Filestore = {**CONFIG, (b"services",): services}
         why = self.why(SPEC, more)
         self.assertEqual((why.path, why.reason), ((b"mail", b"port"), why.reason))
         self.assertIn("/ has no entry mail", why.reason)

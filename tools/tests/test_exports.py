@@ -1,4 +1,4 @@
-"""Import and export: nothing that was left out goes, no edit is undone, nobody reads what he may not."""
+"""Import and export: nothing left out goes, no edit is undone, nobody reads what he may not."""
 
 from __future__ import annotations
 

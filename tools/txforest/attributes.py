@@ -11,8 +11,8 @@
 A line has words with single spaces, spelled as in a table of a folder; `%` is an empty one. `flags`
 says whether execute bits are flags of the folder; `root` is the path for which the tree stood, and
 `only` the patterns that narrowed what was taken; `left` is an entry that was left out. Then each
-entry has its kind, mode, owner, group, time, a digest of its content (of a directory its names, of a
-link its text in the folder), and its extended attributes; a link has its own text.
+entry has its kind, mode, owner, group, time, a digest of its content (of a directory its names, of
+a link its text in the folder), and its extended attributes; a link has its own text.
 
 A text of version 1 has neither `root` nor `only` nor `left`.
 """
@@ -216,8 +216,8 @@ def record_of(root: int, found: Survey, contents: int, record: Record) -> None:
 
 
 def walked(root: int, other: int, found: Survey) -> Iterator[tuple[str, int, int, os.stat_result]]:
-    """The entries of a survey, the root first, each with the descriptors of its directory in the tree
-    and in another one of the same form. Raises Changed if a directory is gone."""
+    """The entries of a survey, the root first, each with the descriptors of its directory in the
+    tree and in another one of the same form. Raises Changed if a directory is gone."""
     above, source, target = "", root, other
     yield "", root, other, found.taken[""]
     try:

@@ -4,10 +4,10 @@ They are shells of one run. Each gets its own report and its own status, as if i
 alone, behind those before it:
 
 - A refused text gives 3 to its job; the others are run again without it.
-- A job with a transaction that stopped or was aborted gets 1, and none of it is in place. If another
-  of its transactions was done, it is taken out and run alone.
-- The state behind each job has a value. A job behind which there is none is taken out and run alone:
-  so it gets 10, also where a later one mends what it broke.
+- A job with a transaction that stopped or was aborted gets 1, and none of it is in place. If
+  another of its transactions was done, it is taken out and run alone.
+- The state behind each job has a value. A job behind which there is none is taken out and run
+  alone: so it gets 10, also where a later one mends what it broke.
 - What stops several at once (no room, somebody in the way) is done again in halves, down to the one
   that it is due to.
 """

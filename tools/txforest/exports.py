@@ -1,8 +1,9 @@
 """A folder of the program as a real tree, the way back of an import: the command txforest-export.
 
 Where nothing stands the tree is made, with the modes, owners and times that the import kept. A tree
-that stands there gets what OUT changed against the imported one, by the same commit as a job's: what
-was left out at the import, or came since, is never touched, and no edit that came since is undone.
+that stands there gets what OUT changed against the imported one, by the same commit as a job's:
+what was left out at the import, or came since, is never touched, and no edit that came since is
+undone.
 """
 
 from __future__ import annotations
@@ -35,9 +36,9 @@ from .terminal import Given, Words, many, shown, tell
 
 ABOUT = """Makes a real tree of a folder of txforest, the way back of txforest-import: links of the
 table become symbolic links, flags execute bits. Where nothing stands at TREE it is made: what the
-import knew keeps its mode and owner, and its time if its content is the same; a new entry gets those
-of its directory. With --replace a tree that stands there gets what OUT changed since the import, file
-by file; nothing else of it is touched. OUT is only read."""
+import knew keeps its mode and owner, and its time if its content is the same; a new entry gets
+those of its directory. With --replace a tree that stands there gets what OUT changed since the
+import, file by file; nothing else of it is touched. OUT is only read."""
 USAGE = "txforest-export [--attributes FILE] [--replace [--merge]] [--wait SECONDS] OUT TREE"
 STATUSES = (
     ("11", "a job held the tree's lock for longer than --wait; nothing was changed"),
@@ -137,8 +138,8 @@ class Out:
             return digest_of(it.read())
 
     def same(self, path: str, record: Record) -> bool:
-        """Whether an entry is as it was imported. A directory is if one was; what is in it counts by
-        itself."""
+        """Whether an entry is as it was imported. A directory is if one was; what is in it counts
+        by itself."""
         kept = record.entries.get(path)
         kind = self.kinds.get(path)
         if kept is None or kind is None or kept.kind != kind:

@@ -4,12 +4,13 @@ A line has words with single spaces, spelled as in a table of a folder:
 
     TIME ORDER STATUS ID TREE SPEC SCRIPT..
 
-ORDER is the job's place in the order of the jobs that were done, counted from 1, and `-` of one that
-was not done. Two jobs that were done stand in the log in the order in which they were committed.
+ORDER is the job's place in the order of the jobs that were done, counted from 1, and `-` of one
+that was not done. Two jobs that were done stand in the log in the order in which they were
+committed.
 
-What is kept of a job is a directory ID with the files `spec`, `0`, `1` .. (the scripts of the run, in
-the order of its shells), `report`, and the folder `folder` as it was before: so `txforest audit` can
-be said of it later. It comes under its name behind the commit.
+What is kept of a job is a directory ID with the files `spec`, `0`, `1` .. (the scripts of the run,
+in the order of its shells), `report`, and the folder `folder` as it was before: so `txforest audit`
+can be said of it later. It comes under its name behind the commit.
 """
 
 from __future__ import annotations

@@ -58,8 +58,8 @@ class Request:
     """What a job asks for: the description, the scripts, and on which terms.
 
     `terms` are what has to be the same for two jobs to be done in one go, besides the description:
-    what is taken of the tree, and with which rights new files are made. `log` and `keep` are absolute
-    paths, or empty: the log that gets a line of the job, and where its inputs are kept.
+    what is taken of the tree, and with which rights new files are made. `log` and `keep` are
+    absolute paths, or empty: the log that gets a line of the job, and where its inputs are kept.
     """
 
     __slots__ = ("terms", "allow_stopped", "spec", "scripts", "log", "keep")
@@ -229,7 +229,7 @@ def renamed(folder: int, old: bytes, new: bytes) -> bool:
 
 
 class Queue:
-    """The queue of a tree, opened: `fd` is its descriptor, `name` its name in the directory `above`."""
+    """The queue of a tree, opened at `fd`; `name` is its name in the directory `above`."""
 
     def __init__(self, fd: int, name: bytes, above: int) -> None:
         self.fd = fd
@@ -274,7 +274,7 @@ def new_ident() -> str:
 
 
 def queue_of(tree: Tree, make: bool = False) -> Queue | None:
-    """The queue of a tree; nothing if there is none, or if it is no directory of one's own alone."""
+    """The queue of a tree; nothing if there is none, or none that is a directory of one's own."""
     name = tree.name + QUEUE
     try:
         fd = calls.S.open(name, DIR, tree.above)
@@ -335,8 +335,8 @@ class Waiting:
 
 
 def enqueue(tree: Tree, request: Request, ident: str) -> Waiting | None:
-    """Leaves a job in the queue of a tree, by its name; nothing if there is no queue for it here. The
-    tree has to stay open for as long as it waits."""
+    """Leaves a job in the queue of a tree, by its name; nothing if there is no queue for it here.
+    The tree has to stay open for as long as it waits."""
     queue = queue_of(tree, make=True)
     if queue is None:
         return None
@@ -413,8 +413,8 @@ def given(folder: int, text: bytes) -> None:
 
 def take(queue: Queue, request: Request, own: str, shells: int, transactions: int) -> list[Taken]:
     """Takes jobs that wait and go with a request, in the order in which they came: those that have
-    no more scripts and transactions than these in all. `own` is the name of the request itself. Jobs
-    whose callers have ended are removed."""
+    no more scripts and transactions than these in all. `own` is the name of the request itself.
+    Jobs whose callers have ended are removed."""
     found: list[Taken] = []
     for name in queue.names():
         fd = queue.opened(name) if name != own.encode() else None
@@ -471,8 +471,8 @@ def hand_out(tree: Tree, place: int, names: Sequence[str], conflicts: Sequence[s
     """Moves the answers of a place, whose commit stands, to those who wait for them.
 
     `job-ID` is the answer of a job, `log-ID` a line of a log, `keep-ID` what is to be kept, and
-    `do-ID` one of a job of `txforest-do`. Each is removed behind that, so that it is done once; done
-    twice it changes nothing. Raises OSError if the system refuses something for now.
+    `do-ID` one of a job of `txforest-do`. Each is removed behind that, so that it is done once;
+    done twice it changes nothing. Raises OSError if the system refuses something for now.
     """
     queue = queue_of(tree)
     try:

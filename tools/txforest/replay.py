@@ -1,4 +1,4 @@
-"""The schedule of a report: an order of steps by which `trace` comes to the report that `run` printed.
+"""The schedule of a report: steps by which `trace` comes to the report that `run` printed.
 
 The entries settle in the printed order. Each retry is an attempt of its transaction that looks at
 some paths before the entry that it names, and is tried behind that entry. Looks of one shell change
@@ -80,7 +80,7 @@ class Attempt(NamedTuple):
 
 
 class Seen:
-    """The looks of an attempt: at each look the next position of some, the last one from then on."""
+    """The looks of an attempt: each at the next of some positions, the last one from then on."""
 
     def __init__(self, log: Log, positions: Iterator[int]) -> None:
         self.log, self.positions = log, positions

@@ -92,8 +92,8 @@ class Handed:
         return [f"/proc/self/fd/{fd}" for fd in self.fds]
 
     def refused(self, line: str) -> tuple[int, str] | None:
-        """The number of the source that a line of the program refuses, and the cause, with its place
-        in the text as it was given. Nothing if the line is about no source."""
+        """The number of the source that a line of the program refuses, and the cause, with its
+        place in the text as it was given. Nothing if the line is about no source."""
         for number, (source, word) in enumerate(zip(self.sources, self.words)):
             front = f"txforest: {word}: "
             if line.startswith(front):
