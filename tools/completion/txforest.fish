@@ -6,9 +6,13 @@ complete -c txforest -F -n 'test (count (commandline -opc)) -gt 1'
 complete -c txforest-import -l leave-out -d 'take the tree without what can not be taken'
 complete -c txforest-import -l no-flags -d 'a table of version 1'
 complete -c txforest-import -l as -r -F -d 'the tree is a copy of this path'
+complete -c txforest-import -l only -x -d 'take only what a pattern matches'
+complete -c txforest-import -l wait -x -d 'how long to wait for the lock'
 
 complete -c txforest-export -l attributes -r -F -d 'what txforest-import kept'
-complete -c txforest-export -l replace -d 'put it in the place of what stands there'
+complete -c txforest-export -l replace -d 'put what changed into the tree that stands there'
+complete -c txforest-export -l merge -d 'let edits stand that came since'
+complete -c txforest-export -l wait -x -d 'how long to wait for the lock'
 
 complete -c txforest-apply -l in-place -r -F -d 'the tree'
 complete -c txforest-apply -l exchange -d 'exchange the whole tree in one step'
@@ -42,6 +46,8 @@ complete -c txforest-explain -l walk -d 'the moves to each part'
 
 complete -c txforest-schedules -l limit -x -d 'how many orders are tried'
 complete -c txforest-schedules -l seed -x -d 'of the random orders'
+complete -c txforest-schedules -l of -r -F -d 'find the schedule of a report'
+complete -c txforest-report -l json -d 'one object of JSON'
 
 complete -c txforest-picture -l html -d 'a page of its own'
 complete -c txforest-picture -l names -x -d 'names of the shells'

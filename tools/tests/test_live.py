@@ -13,6 +13,7 @@ import unittest
 from collections.abc import Callable
 
 from txforest import calls, exchange, intent, links, lock, terminal
+from txforest.attempt import without_question
 from txforest.calls import DIR
 from txforest.differences import Change, InTheWay, differences
 from txforest.only import Only
@@ -703,3 +704,32 @@ def closed(words: list[str]) -> None:
     for fd in (0, 1, 2):
         os.close(fd)
     os.execv(words[0], words)
+
+
+class Questions(unittest.TestCase):
+    """The last transaction, which asks whether the result has a value."""
+
+    def test_the_report_is_told_without_it(self) -> None:
+        head, tail = b"forest report 1\nentries 2\n", b"retries 0\nend\n"
+        first = b'entry 0 shell 0 txn 0 stopped 2 4 Lacks\nprint "\\nentry 9 "\n'
+        for answer in (True, False):
+            last = b"entry 1 shell 0 txn 1 done\nprint %s\n" % (b"true" if answer else b"false")
+            wanted = head.replace(b"2", b"1") + first + tail
+            self.assertEqual(without_question(head + first + last + tail), (wanted, answer))
+        alone = b"forest report 1\nentries 1\nentry 0 shell 0 txn 0 done\nprint true\n" + tail
+        self.assertEqual(
+            without_question(alone), (b"forest report 1\nentries 0\nretries 0\nend\n", True)
+        )
+
+    def test_a_report_without_it_gives_no_answer(self) -> None:
+        tail = b"retries 0\nend\n"
+        for text in (
+            b"forest report 1\nentries 0\n" + tail,
+            b"forest report 1\nentries 1\nentry 0 shell 0 txn 0 aborted\n" + tail,
+            b"forest report 1\nentries 1\nentry 0 shell 0 txn 0 done\nprint 1\n" + tail,
+            b"forest report 1\nentries 1\nentry 0 shell 0 txn 0 done\nprint true\nprint true\n"
+            + tail,
+            b"forest report 1\nentries 1\nentry 0 shell 1 txn 0 done\nprint true\n" + tail,
+            b"",
+        ):
+            self.assertIsNone(without_question(text))
