@@ -225,6 +225,7 @@ def attributes(room: str) -> str:
         os.setxattr(f"{room}/tree/a", "user.x", b"seen")
         sh(room, python.format(there), option)
         os.removexattr(f"{room}/tree/a", "user.x")
+        sh(room, "chmod 711 .", option, status=124, say="is not carried")
         refused = python.format('os.setxattr("d", "user.x", b"1")')
         if option != "--only=*":
             sh(room, refused, option, status=124, say="is not carried")

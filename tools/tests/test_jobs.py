@@ -22,7 +22,8 @@ from txforest.jobs import (
 from txforest.lines import path_of, read_lines, seen_line, seen_of, written_lines
 from txforest.place import Tree
 from txforest.states import LINK, Kind, Reader, token_of
-from txforest.waiting import BETWEEN, Room, clear_left, give_answer, hand_out, rooms
+from txforest.statuses import Failed
+from txforest.waiting import BETWEEN, Room, clear_left, give_answer, hand_out, rooms, take
 
 ODD = (b"a b", b"\xff%", b"d\n")
 
@@ -56,9 +57,9 @@ class Answers(TestRoom):
     def test_there_and_back(self) -> None:
         for answer in (Answer(DONE), Answer(NO_VALUE), Answer(CONFLICT, ODD), Answer(CONFLICT, ())):
             found = answer_of(answer.text())
-            self.assertEqual((found.what, found.at, found.told), (answer.what, answer.at, []))
+            self.assertEqual((found.what, found.at, found.conflicts), (answer.what, answer.at, []))
         told = answer_of(BETWEEN.join([Answer(DONE).text(), b"one", b"two"]))
-        self.assertEqual((told.what, told.told), (DONE, ["one", "two"]))
+        self.assertEqual((told.what, told.conflicts), (DONE, ["one", "two"]))
 
 
 class Jobs(TestRoom):
@@ -104,6 +105,7 @@ class Jobs(TestRoom):
             made.modes = {ODD: 0o750}
             made.attributes = {(b"n",): {"user.x": b"\0\xff"}, (b"d",): {}}
             Prepared(room.name, b"text\n", looked, made, room.path).write()
+            self.assertTrue(take(room.fd))
             found = prepared_in(room.fd, room.name, room.path)
         assert found is not None
         self.assertEqual(found.description, b"text\n")
@@ -117,7 +119,7 @@ class Jobs(TestRoom):
     def test_planted_texts_are_nobodys(self) -> None:
         with Room(self.tree) as room:
             for line in ([b"put", b"1", b"a", b"f", b"../../x"], [b"gone", b"1", b".."], [b"?"]):
-                written_lines(room.inside("job"), b"job", [[b"description", b""], line])
+                written_lines(room.inside("taken"), b"job", [[b"description", b""], line])
                 self.assertIsNone(prepared_in(room.fd, room.name, room.path))
 
     def test_group_in_one_commit(self) -> None:
@@ -166,8 +168,43 @@ class Jobs(TestRoom):
             looked, made = self.job(one, "b", "1", False)
             give_answer(self.tree, one.name, Answer(DONE).text())
             self.assertEqual(self.clerk.submit(one, looked, made).what, DONE)
-            self.assertEqual(sorted(os.listdir(one.path)), ["answer", "new"])
+            self.assertEqual(sorted(os.listdir(one.path)), ["answer", "gone", "new"])
         self.assertFalse(os.path.exists(os.path.join(self.top, "b")))
+
+    def test_given_up(self) -> None:
+        """A job that gives up is not done, unless somebody has taken it: then its answer counts."""
+        with Room(self.tree) as one:
+            self.prepared(one, "b", "1", False)
+            self.assertIsNone(self.clerk.given_up(one))
+            self.assertFalse(take(one.fd))
+        with Room(self.tree) as two:
+            self.prepared(two, "b", "1", False)
+            self.assertTrue(take(two.fd))
+            give_answer(self.tree, two.name, Answer(DONE).text())
+            found = self.clerk.given_up(two)
+            assert found is not None
+            self.assertEqual(found.what, DONE)
+        with Room(self.tree) as three:
+            self.prepared(three, "b", "1", False)
+            self.assertTrue(take(three.fd))
+            self.assertIsNone(self.clerk.given_up(three))  # whoever took it was killed
+            self.assertFalse(take(three.fd))
+
+    def test_leader_that_fails_puts_the_others_back(self) -> None:
+        with Room(self.tree) as one, Room(self.tree) as two:
+            os.unlink(self.prepared(two, "b", "2", False).changes.files[(b"b",)])
+            self.assertEqual(self.clerk.submit(one, *self.job(one, "a", "2")).what, DONE)
+            self.assertIsNone(two.answer())
+            self.assertTrue(take(two.fd))
+
+    def test_description_as_it_was_called(self) -> None:
+        self.spec("no description")
+        with Room(self.tree) as one:
+            self.assertEqual(self.clerk.submit(one, *self.job(one, "a", "2")).what, DONE)
+        self.clerk = Clerk(self.tree, self.description)
+        with self.assertRaises(Failed), Room(self.tree) as one:
+            self.clerk.submit(one, *self.job(one, "a", "3"))
+        self.assertEqual(self.read("a"), "2")
 
     def test_other_description_is_not_taken(self) -> None:
         with Room(self.tree) as one, Room(self.tree) as two:
@@ -204,7 +241,7 @@ class Jobs(TestRoom):
                 made.writes[path] = None
                 made.before[path] = Kind.DIRECTORY if path[-1] == b"e" else b"f"
             answer = self.clerk.submit(one, looked, made)
-            self.assertEqual((answer.what, answer.told), (DONE, []))
+            self.assertEqual((answer.what, answer.conflicts), (DONE, []))
         self.assertEqual(self.read("d"), "now a file")
 
     def test_outside_change_before_the_commit(self) -> None:

@@ -98,7 +98,16 @@ class Copy:
         self.room = room
         self.root = root
         self.tree = os.path.join(room, "tree")
-        os.mkdir(self.tree, stat.S_IMODE(os.fstat(root).st_mode) | 0o700)
+        self.mode = stat.S_IMODE(os.fstat(root).st_mode) | 0o700
+        os.mkdir(self.tree)
+        os.chmod(self.tree, self.mode)
+
+    def refuse_root(self, where: str) -> None:
+        """Refuses another mode of the tree itself, which no commit carries."""
+        if stat.S_IMODE(os.stat(where).st_mode) | 0o700 != self.mode:
+            raise Failed(
+                Status.SYSTEM, "/: its mode was changed, which is not carried; nothing was changed"
+            )
 
     def enter(self) -> None:
         """Goes into the copy. Raises OSError or CannotEnter if the system makes none."""
@@ -155,6 +164,7 @@ class Plain(Copy):
 
     def changes(self, looked: Looked) -> Changes:
         made, now = Changes(), set()
+        self.refuse_root(self.tree)
         reader = Reader(self.root)
         try:
             for path, found in entries(self.tree):

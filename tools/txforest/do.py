@@ -70,8 +70,8 @@ exit status:
   125      the words have no form of this tool
   126      the command can't be run; 127: it is not found; 128+N: signal N ended it
 
-The command begins in its copy, and OLDPWD says where one was. A file by an absolute path, and whatever
-else is outside TREE, is neither private nor undone.
+The command begins in its copy, and OLDPWD says where one was. A file by an absolute path, and
+whatever else is outside TREE, is neither private nor undone.
 """
 
 
@@ -438,13 +438,13 @@ class Transaction:
             return status
         log = b"" if status else self.log_of_commit()
         answer = self.clerk.submit(room, looked, changes, held, log)
-        for line in (*self.clerk.told, *answer.told):
+        for line in (*self.clerk.told, *answer.conflicts):
             tell(line)
         self.clerk.told = []
         if answer.what == CONFLICT:
             return answer
         if answer.what == DONE:
-            return PARTLY if answer.told else status
+            return PARTLY if answer.conflicts else status
         tell(f"the result has no value by {shown(self.given.spec)}, so nothing was changed")
         return NO_VALUE
 
@@ -510,7 +510,9 @@ def transaction(given: Given) -> int:
     except OSError as error:
         raise Failed(Status.USAGE, f"{shown(given.spec)}: {error.strerror}") from None
     with Tree(given.tree) as tree:
-        it = Transaction(given, tree, Clerk(tree, spec, given.wait))
+        clerk = Clerk(tree, spec, given.wait)
+        clerk.to_the_end = True
+        it = Transaction(given, tree, clerk)
         status = REFUSED
         try:
             status = it.run()

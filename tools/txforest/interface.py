@@ -451,10 +451,10 @@ class Transaction:
             raise Conflict(answer.where().lstrip("/"))
         if answer.what != DONE:
             raise NoValue("what this leaves has no value by the description")
-        if answer.told:
+        if answer.conflicts:
             import warnings
 
-            warnings.warn("\n".join(answer.told), stacklevel=3)
+            warnings.warn("\n".join(answer.conflicts), stacklevel=3)
 
     def _changes(self, room: Room) -> Changes:
         """What is to be made, with the new files in a room."""

@@ -24,13 +24,13 @@ from __future__ import annotations
 import os
 import stat
 
-from .commit import Changed, Refused, Unfinished, commit
+from .commit import Changed, Refused, Unfinished, commit, hold_signals, let_signals
 from .copies import Changes, Looked, digest_of
 from .differences import Change
 from .lines import path_of, path_words, read_lines, seen_line, seen_of, written_lines
 from .lock import lock
 from .program import call, called
-from .waiting import BETWEEN, JOB, Room, clear_left, give_answers, rooms
+from .waiting import BETWEEN, JOB, TAKEN, Room, clear_left, give_answers, put_back, rooms, take
 from .settle import settle
 from .staged import JOBS, NODES, Decision, Job, Sum, decide
 from .states import LINK, Kind, Reader, identity, new_digest, token_of
@@ -44,6 +44,7 @@ if TYPE_CHECKING:
     from collections.abc import Iterator, Sequence
 
     from .place import Tree
+    from .program import Answer as ProgramAnswer
     from .states import Made, Path, Seen
 
 DONE, CONFLICT, NO_VALUE = b"done", b"conflict", b"no value"
@@ -53,10 +54,12 @@ AGAIN = 3  # how often a leader begins again if somebody without the lock change
 class Answer:
     """What became of a job: done, a conflict with the path that was another, or no value."""
 
-    def __init__(self, what: bytes, at: Path | None = None, told: Sequence[str] = ()) -> None:
+    def __init__(
+        self, what: bytes, at: Path | None = None, conflicts: Sequence[str] = ()
+    ) -> None:
         self.what = what
         self.at = at
-        self.told = list(told)  # what is not in place as it should be, a line each
+        self.conflicts = list(conflicts)  # what is not in place as it should be, a line each
 
     def text(self) -> bytes:
         """The answer as a text for another job."""
@@ -104,10 +107,6 @@ class Prepared:
         """Makes it stand prepared in its room."""
         written_lines(os.path.join(self.room, JOB), b"job", self.lines())
 
-    def withdraw(self) -> None:
-        """It stands prepared no longer."""
-        os.unlink(os.path.join(self.room, JOB))
-
     def lines(self) -> Iterator[list[bytes]]:
         """Its text, a list of words a line."""
         yield [b"description", self.description]
@@ -153,9 +152,9 @@ class Prepared:
 
 
 def prepared_in(room: int, name: str, path: str) -> Prepared | None:
-    """The job that stands prepared in another one's room; nothing if none does."""
+    """The job that was taken in another one's room; nothing if it has no form."""
     try:
-        lines = read_lines(JOB, b"job", room)
+        lines = read_lines(TAKEN, b"job", room)
         made, looked, description, log = Changes(), Looked(), b"", b""
         for line in lines:
             if line[0] == b"description":
@@ -307,18 +306,22 @@ class Leader:
         found: list[tuple[int, Prepared]] = []
         if self.room.is_shared:
             for name, fd, used in rooms(self.tree):
-                if not used or name == self.room.name or not is_waiting(fd):
+                if not used or name == self.room.name or not take(fd):
                     continue
-                come = os.stat(JOB, dir_fd=fd).st_mtime_ns
+                come = os.stat(TAKEN, dir_fd=fd).st_mtime_ns
                 other = prepared_in(fd, name, os.path.join(os.path.dirname(self.room.path), name))
                 if other is not None and other.description == own.description:
                     found.append((come, other))
+                else:
+                    put_back(self.tree, name)
+        found.sort(key=lambda it: it[0])
         group, weight = [own], own.job(self.tree).weight()
-        for _, other in sorted(found, key=lambda it: it[0]):
+        for _, other in found:
             weight += other.job(self.tree).weight()
             if weight > NODES or len(group) == JOBS:
-                break
-            group.append(other)
+                put_back(self.tree, other.name)
+            else:
+                group.append(other)
         return group
 
     def lead(self, own: Prepared) -> Answer:
@@ -327,10 +330,12 @@ class Leader:
         self.clerk.reached("gathered")
         try:
             return self.commit(group)
-        except Failed:
+        except (Failed, OSError):  # the others lead themselves, and are told what is wrong
+            for other in group[1:]:
+                put_back(self.tree, other.name)
             if len(group) == 1:
                 raise
-            return self.commit([own])  # the others lead themselves, and are told what is wrong
+            return self.commit([own])
 
     def commit(self, group: list[Prepared]) -> Answer:
         """Commits a group; answers of the first of it. The others' answers are handed out."""
@@ -393,6 +398,19 @@ class Leader:
         """What the program prints. It keeps the lock while it lives."""
         return called(words, (self.held,))
 
+    def description(self) -> str:
+        """The path of the description as it was when the job was called."""
+        path = self.room.inside("description")
+        with open(path, "wb") as file:
+            file.write(self.clerk.text)
+        return path
+
+    def told_of(self, answer: ProgramAnswer) -> ProgramAnswer:
+        """What the program came to, with the description's own path in its line."""
+        own = os.fsencode(self.room.inside("description"))
+        answer.line = answer.line.replace(own, os.fsencode(self.clerk.description))
+        return answer
+
     def other_path(self, it: Prepared) -> Path | None:
         """A path that is not as a job has seen it, if it told no path but a sum."""
         if it.looked.total is not None:
@@ -411,8 +429,8 @@ class Leader:
         writing = [number for number in order if group[number].changes.writes]
         if not writing:
             return []
-        ask = lambda words: call(words, (self.held,))  # noqa: E731
-        value = Value(self.clerk.description, self.fresh("valued"), held, ask)
+        ask = lambda words: self.told_of(call(words, (self.held,)))  # noqa: E731
+        value = Value(self.description(), self.fresh("valued"), held, ask)
         bad: list[int] = []
         for number in writing:
             made = group[number].changes
@@ -446,9 +464,10 @@ class Leader:
         texts.update((f"log-{it.name}", it.log) for it in logs)
         try:
             done = commit(self.tree, changes, found, texts, held.look_again)
-            answers[0].told = [*done.conflicts, *done.told]
+            answers[0].conflicts = list(done.conflicts)
+            self.clerk.told += done.told
         except Unfinished as error:
-            answers[0].told = [f"it is kept, but not all of it is in place: {error}"]
+            answers[0].conflicts = [f"it is kept, but not all of it is in place: {error}"]
         except Refused as why:
             raise Failed(Status.SYSTEM, f"{why}; nothing was changed") from None
 
@@ -458,12 +477,6 @@ def log_line(it: Prepared) -> None:
     from . import log
 
     log.hand_out("log", it.name, it.log, False)
-
-
-def is_waiting(room: int) -> bool:
-    """Whether the job of a room stands prepared and has no answer."""
-    names = os.listdir(room)
-    return JOB in names and "answer" not in names
 
 
 def changes_of(
@@ -617,6 +630,7 @@ class Clerk:
         self.tree = tree
         self.description = description
         self.wait = wait
+        self.to_the_end = False
         self.told: list[str] = []
         with open(description, "rb") as file:
             self.text = file.read()
@@ -648,19 +662,51 @@ class Clerk:
         """
         own = Prepared(room.name, self.text, looked, changes, room.path, log)
         if held is not None:  # nobody else is taken along, so that nobody comes in between
-            return Leader(self, held, room).commit([own])
+            return self.answered(own, room, held, alone=True)
         own.write()
         self.reached("prepared")
-        with self.holding() as fd:
-            self.reached("locked")
-            try:
-                text = room.answer()
-                return self.lead(own, room, fd) if text is None else answer_of(text)
-            finally:
-                own.withdraw()  # before the lock goes: else the next leader does it once more
+        try:
+            with self.holding() as fd:
+                self.reached("locked")
+                return self.answered(own, room, fd)
+        except BaseException:
+            # The lock was not had in time, or a signal came: somebody may do the job all the same.
+            answer = self.given_up(room)
+            if answer is None:
+                raise
+            return answer
 
-    def lead(self, own: Prepared, room: Room, held: int) -> Answer:
-        """Commits with the lock held."""
-        answer = Leader(self, held, room).lead(own)
-        self.reached("told")
-        return answer
+    def answered(self, own: Prepared, room: Room, held: int, alone: bool = False) -> Answer:
+        """The answer that is there, or that one comes to by leading.
+
+        Signals that would end this process wait meanwhile; if the job is done and `to_the_end` is
+        set they wait for good, as no status of theirs would be true.
+        """
+        before, answer = hold_signals(), None
+        try:
+            text = room.answer()
+            if text is not None:
+                answer = answer_of(text)
+            else:
+                leader = Leader(self, held, room)
+                answer = leader.commit([own]) if alone else leader.lead(own)
+                self.reached("told")
+            return answer
+        finally:
+            room.end()  # before the lock goes: else the next leader does it once more
+            if answer is None or answer.what != DONE or not self.to_the_end:
+                let_signals(before)
+
+    def given_up(self, room: Room) -> Answer | None:
+        """Withdraws a job. If somebody has taken it, the answer, should there come one."""
+        if room.withdraw():
+            return None
+        before = hold_signals()
+        try:
+            self.wait = None
+            with self.holding():
+                room.end()
+                text = room.answer()
+                return None if text is None else answer_of(text)
+        finally:
+            let_signals(before)

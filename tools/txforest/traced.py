@@ -381,7 +381,8 @@ class Traced(Copy):
         self.work = os.path.join(room, "work")
         self.under = os.path.join(room, "under")
         self.account = os.path.join(room, "looked")
-        os.mkdir(self.upper, stat.S_IMODE(os.fstat(root).st_mode) | 0o700)
+        os.mkdir(self.upper)
+        os.chmod(self.upper, self.mode)
         os.mkdir(self.work, 0o700)
         os.mkdir(self.under, 0o700)
         here, self.there = socketpair()
@@ -468,6 +469,8 @@ class Traced(Copy):
 
     def changes(self, looked: Looked) -> Changes:
         walk = Walk(self, looked)
+        self.refuse_root(self.upper)
+        walk.refuse_attributes((), os.fsencode(self.upper))
         try:
             walk.into((), False, False)
         finally:
@@ -584,7 +587,7 @@ class Walk:
 
     def attributes(self, path: Path) -> dict[str, bytes]:
         """The attributes of an entry as the command could see them."""
-        found = kept_attributes(self.reader, path)
+        found = kept_attributes(self.reader, path) if path else {}
         if not self.is_root:  # in a user's name space the kernel shows no access lists
             found = {name: value for name, value in found.items() if name.startswith("user.")}
         return found

@@ -1,8 +1,14 @@
 """The rooms in which jobs of any program wait: the directories TREE.queue/do-ID.
 
 A room is a directory of one's own, mode 0700, and it is in use while its lock is held, which ends
-with the process. A job that stands prepared has the file `job` in it, and gets the file `answer`
-from whoever leads or settles. Rooms that are not in use are cleared by whoever has the tree's lock.
+with the process. Rooms that are not in use are cleared by whoever has the tree's lock. In one stand
+
+    job         a job that is prepared, and waits for whoever has the lock
+    taken       the same, once somebody with the lock does it, or was killed meanwhile
+    gone        the same, withdrawn by its own process: nobody does it
+    answer      what it came to, from whoever led or settled
+
+`job` becomes `taken` or `gone` by one rename, so that no job is both done and given up.
 
 If no room can be made beside the tree, it stands in the folder for temporary files: that job leads
 itself, and nobody takes it along.
@@ -27,7 +33,7 @@ if TYPE_CHECKING:
 QUEUE = ".queue"
 KIND = "do-"  # with what the name of a room begins; other jobs wait in the same folder
 NEW = ".new-"
-JOB, ANSWER = "job", "answer"
+JOB, TAKEN, GONE, ANSWER = "job", "taken", "gone", "answer"
 BETWEEN = b"\0\0"
 LIMIT = 256 << 20  # bytes of what one job tells another
 
@@ -57,6 +63,15 @@ class Room:
     def answer(self) -> bytes | None:
         """The answer, once it is there."""
         return text_in(self.fd, ANSWER)
+
+    def withdraw(self) -> bool:
+        """Takes the job back. False if somebody has taken it, who may do it yet."""
+        return renamed(self.fd, JOB, GONE) or not stands(self.fd, TAKEN)
+
+    def end(self) -> None:
+        """Nobody does the job from now on. The tree's lock is held."""
+        if not renamed(self.fd, TAKEN, GONE):
+            renamed(self.fd, JOB, GONE)
 
     def close(self) -> None:
         """Removes it."""
@@ -90,6 +105,38 @@ def is_room(name: str) -> bool:
     """Whether a name is that of a room."""
     digits = os.fsencode(name[len(KIND) :])
     return name.startswith(KIND) and len(digits) == IDENT and DIGITS.issuperset(digits)
+
+
+def renamed(room: int, old: str, new: str) -> bool:
+    """Gives a file of a room another name; False if no such file stands there."""
+    try:
+        os.rename(old, new, src_dir_fd=room, dst_dir_fd=room)
+    except FileNotFoundError:
+        return False
+    return True
+
+
+def stands(room: int, name: str) -> bool:
+    """Whether something stands at a name in a room."""
+    return S.look(os.fsencode(name), room) is not None
+
+
+def take(room: int) -> bool:
+    """Takes the job of a room, if one waits there. The tree's lock is held."""
+    return not stands(room, ANSWER) and (renamed(room, JOB, TAKEN) or stands(room, TAKEN))
+
+
+def put_back(tree: Tree, name: str) -> None:
+    """Lets the job of a room wait again, unless it has an answer."""
+    try:
+        room = os.open(os.path.join(tree.beside(QUEUE), name), DIR)
+    except OSError:
+        return
+    try:
+        if not stands(room, ANSWER):
+            renamed(room, TAKEN, JOB)
+    finally:
+        os.close(room)
 
 
 def text_in(room: int, name: str) -> bytes | None:
