@@ -1,4 +1,4 @@
-"""Holds the built program against the second program of the meaning, tools/lib/model.py, on random inputs.
+"""Holds the built program against the second program of the meaning, tools/txforest/model, on random inputs.
 
 usage: compare.py PROGRAM [SEED] [COUNT] [COMMAND..]     every command where none is named
 
@@ -22,8 +22,8 @@ import sys
 import tempfile
 from collections import Counter
 
-sys.path.insert(0, os.path.join(os.path.dirname(os.path.abspath(__file__)), "..", "tools", "lib"))
-import model
+sys.path.insert(0, os.path.join(os.path.dirname(os.path.abspath(__file__)), "..", "tools"))
+from txforest import model
 from waiting import finished
 
 PROGRAM = os.path.abspath(sys.argv[1])

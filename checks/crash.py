@@ -1,5 +1,5 @@
 """Stops `journal` of the built program at every moment, and holds what `recover` then gives against the second program of
-the meaning, tools/lib/model.py.
+the meaning, tools/txforest/model.
 
 usage: crash.py PROGRAM LIBRARY [SEED] [KILLS]
 
@@ -25,8 +25,8 @@ import sys
 import tempfile
 import time
 
-sys.path.insert(0, os.path.join(os.path.dirname(os.path.abspath(__file__)), "..", "tools", "lib"))
-import model
+sys.path.insert(0, os.path.join(os.path.dirname(os.path.abspath(__file__)), "..", "tools"))
+from txforest import model
 
 PROGRAM, LIBRARY = (os.path.abspath(word) for word in sys.argv[1:3])
 SEED = int(sys.argv[3]) if len(sys.argv) > 3 else 1

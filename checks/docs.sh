@@ -3,7 +3,7 @@
 set -eu
 top=$(cd "$(dirname "$0")/.." && pwd)
 program=$("$top/bench/build.sh")
-python3 -B "$top/checks/docs.py" "$program" README.md docs/GUIDE.md docs/RECIPES.md docs/LANGUAGE.md docs/FORMATS.md
+python3 -B "$top/checks/docs.py" "$program" README.md docs/GUIDE.md docs/RECIPES.md docs/JOBS.md docs/LANGUAGE.md docs/FORMATS.md
 fresh=$(mktemp -d)
 trap 'rm -rf "$fresh"' EXIT
 for example in rota:ann-off,ben-off config:add,scale,check projects:count,log,turn records:add,careless releases:release,use,half tree:add,contents; do

@@ -645,8 +645,8 @@ def journals():
 
 def reports():
     """Reports with each byte changed and pieces moved: `audit` says yes to none that the second program refuses."""
-    sys.path.insert(0, os.path.join(os.path.dirname(os.path.abspath(__file__)), "..", "tools", "lib"))
-    import model
+    sys.path.insert(0, os.path.join(os.path.dirname(os.path.abspath(__file__)), "..", "tools"))
+    from txforest import model
 
     scripts = ['txn { into down fetch a : str up next down store((a ++ "0")) print(a) }', 'txn { into next down fetch b : str up prev down store((b ++ "0")) print(b) }' * 2]
     spec, files = '<x : ("x" :: file), ("y" :: file)>', {"x": b"1", "y": b"2"}

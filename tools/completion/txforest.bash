@@ -22,16 +22,18 @@ _txforest_paths() {
 _txforest_tool() {
     local word=${COMP_WORDS[COMP_CWORD]} before=${COMP_WORDS[COMP_CWORD - 1]} options=--help
     case ${COMP_WORDS[0]##*/} in
-    txforest-import) options="--help --leave-out --no-flags --as" ;;
-    txforest-export) options="--help --attributes --replace" ;;
-    txforest-apply) options="--help --in-place --link --allow-stopped --keep --wait" ;;
+    txforest-import) options="--help --leave-out --only --no-flags --as --wait" ;;
+    txforest-export) options="--help --attributes --replace --merge --wait" ;;
+    txforest-apply) options="--help --in-place --exchange --link --before --only --allow-stopped --wait --set --set-file --json --log --keep --settle --list-left-out" ;;
+    txforest-do) options="--help --trace --whole --only --tries --optimistic --hold --wait --log --verbose --python" ;;
     txforest-explain) options="--help --scripts --report --walk" ;;
-    txforest-schedules) options="--help --limit --seed" ;;
+    txforest-report) options="--help --json" ;;
+    txforest-schedules) options="--help --limit --seed --of" ;;
     txforest-picture) options="--help --html --names --output" ;;
     esac
     case $before in
-    --keep | --wait | --limit | --seed | --names) return ;;
-    --in-place | --as) _txforest_paths -d && return ;;
+    --before | --only | --set | --wait | --tries | --limit | --seed | --names) return ;;
+    --in-place | --keep | --as) _txforest_paths -d && return ;;
     esac
     case $word in
     -*) COMPREPLY=($(compgen -W "$options" -- "$word")) ;;
@@ -40,4 +42,4 @@ _txforest_tool() {
 }
 
 complete -F _txforest txforest
-complete -F _txforest_tool txforest-import txforest-export txforest-apply txforest-explain txforest-schedules txforest-picture
+complete -F _txforest_tool txforest-import txforest-export txforest-apply txforest-do txforest-explain txforest-schedules txforest-picture txforest-report

@@ -1,0 +1,220 @@
+"""Jobs that are killed at each step and at each system call of a commit, for checks/anyjob.py."""
+
+from __future__ import annotations
+
+import fcntl
+import os
+import random
+import shutil
+import signal
+import time
+import traceback
+
+SPEC = 'dir\n'
+STEPS = ("begun", "ran", "prepared", "locked", "gathered", "decided", "valued", "put", "told")
+EARLY = ("begun", "ran", "prepared")
+CALLS = (
+    "open", "close", "down", "look", "mkdir", "unlink", "rmdir", "link", "link_open", "rename",
+    "rename2", "write", "fsync", "chown", "chmod", "chmod_at",
+)  # fmt: skip
+NAMES = "abc"
+
+
+class Jobs:
+    """A tree with the files a, b, c and x, each of which a job of its name appends a line to."""
+
+    def __init__(self, room: str) -> None:
+        self.room = room
+        self.top = os.path.join(room, "tree")
+        os.makedirs(self.top)
+        self.spec = os.path.join(room, "spec")
+        with open(self.spec, "w", encoding="utf-8") as file:
+            file.write(SPEC)
+        for name in (*NAMES, "x"):
+            self.write(name, "0\n")
+
+    def write(self, name: str, text: str) -> None:
+        """Writes a file of the tree."""
+        with open(os.path.join(self.top, name), "w", encoding="utf-8") as file:
+            file.write(text)
+
+    def read(self, name: str) -> str:
+        """What a file of the tree holds."""
+        with open(os.path.join(self.top, name), encoding="utf-8") as file:
+            return file.read()
+
+    def begin(self, name: str, step: str | None = None, call: int | None = None) -> int:
+        """Starts a job, which is killed at a step or before a call; the number of its process."""
+        pid = os.fork()
+        if pid:
+            return pid
+        status = 99
+        try:
+            os.closerange(3, 256)  # a lock that is handed down counts as held
+            err = os.open(os.path.join(self.room, "err"), os.O_WRONLY | os.O_CREAT | os.O_APPEND)
+            os.dup2(err, 2)
+            status = self.job(name, step, call)
+        except BaseException:
+            traceback.print_exc()
+        os._exit(status)
+
+    def job(self, name: str, step: str | None, call: int | None) -> int:
+        """The job, in a process of its own."""
+        from txforest import calls, do, jobs
+
+        def reached(clerk: object, at: str) -> None:
+            if at == step:
+                os.kill(os.getpid(), signal.SIGKILL)
+
+        jobs.Clerk.reached = reached
+        if call is not None:
+            calls.S = Killed(call, os.path.join(self.room, "count"))
+        words = ["--tries", "9", self.top, self.spec, "--", "sh", "-c", f"echo {name} >> {name}"]
+        status = do.transaction(do.given_words(words))
+        if isinstance(calls.S, Killed):
+            calls.S.tell()
+        return status
+
+    def prepared(self) -> int:
+        """How many jobs stand prepared."""
+        queue = self.top + ".queue"
+        if not os.path.isdir(queue):
+            return 0
+        return sum(
+            os.path.exists(os.path.join(queue, name, "job")) for name in os.listdir(queue)
+        )
+
+    def errors(self) -> str:
+        """What the jobs told on standard error."""
+        with open(os.path.join(self.room, "err"), encoding="utf-8") as file:
+            return file.read()[-3000:]
+
+    def left(self) -> list[str]:
+        """What is left beside the tree."""
+        found = [name for name in os.listdir(self.room) if name.startswith(".")]
+        return found + os.listdir(self.top + ".queue")
+
+
+class Killed:
+    """The system calls of a commit; before a number of them the process is killed."""
+
+    def __init__(self, at: int, file: str) -> None:
+        from txforest import calls
+
+        self.real = calls.Calls()
+        self.at = at
+        self.file = file
+        self.count = 0
+
+    def __getattr__(self, name: str) -> object:
+        found = getattr(self.real, name)
+        if name not in CALLS:
+            return found
+
+        def call(*words: object, **named: object) -> object:
+            self.count += 1
+            if self.count == self.at:
+                os.kill(os.getpid(), signal.SIGKILL)
+            return found(*words, **named)
+
+        return call
+
+    def tell(self) -> None:
+        """Leaves the number of calls in a file."""
+        with open(self.file, "w", encoding="utf-8") as file:
+            file.write(str(self.count))
+
+
+def wait_until(what: object, seconds: float = 60) -> bool:
+    """Waits until something is so; False if it does not come to be."""
+    end = time.monotonic() + seconds
+    while not what():
+        if time.monotonic() > end:
+            return False
+        time.sleep(0.005)
+    return True
+
+
+def status_of(pid: int) -> int:
+    """The status of a process, less than 0 for a signal."""
+    return os.waitstatus_to_exitcode(os.waitpid(pid, 0)[1])
+
+
+def one(room: str, step: str | None, call: int | None) -> tuple[bool, str]:
+    """Three jobs, of which the first leads and is killed: whether the killed one's change stands, and
+    what is wrong."""
+    it = Jobs(room)
+    with open(it.top + ".lock", "w", encoding="utf-8") as lock:
+        fcntl.flock(lock, fcntl.LOCK_EX)
+        first = it.begin("a", step, call)
+        if step not in EARLY:
+            wait_until(lambda: it.prepared() == 1)
+            time.sleep(0.05)  # it waits for the lock by now, as the first one
+        others = [it.begin(name) for name in "bc"]
+        wait_until(lambda: it.prepared() >= (2 if step in EARLY else 3))
+        time.sleep(0.05)
+    statuses = [status_of(first), *map(status_of, others)]
+    last = status_of(it.begin("x"))
+    found = {name: it.read(name) for name in (*NAMES, "x")}
+    killed = -9 if call is None or statuses[0] == -9 else 0
+    right = (
+        statuses == [killed, 0, 0]
+        and last == 0
+        and all(found[name] == f"0\n{name}\n" for name in "bcx")
+        and found["a"] in ("0\n", "0\na\n")
+        and not it.left()
+    )
+    if right:
+        return found["a"] != "0\n", ""
+    told = f"{step or call}: {statuses}, {last}, {found}, left {it.left()}: {it.errors()}"
+    return found["a"] != "0\n", told
+
+
+def kills(top: str, part: int) -> tuple[str, str]:
+    """Kills a leader at each step, and at each `part`-th call. Answers what is told and is wrong."""
+    kept = 0
+    for step in STEPS:
+        room = os.path.join(top, step)
+        stands, wrong = one(room, step, None)
+        if wrong:
+            return "", wrong
+        kept += stands
+        shutil.rmtree(room)
+    room = os.path.join(top, "count")
+    one(room, None, 10**9)
+    with open(os.path.join(room, "count"), encoding="utf-8") as file:
+        calls = int(file.read())
+    shutil.rmtree(room)
+    tried = stood = 0
+    for call in range(1, calls + 1, part):
+        room = os.path.join(top, f"call{call}")
+        stands, wrong = one(room, None, call)
+        if wrong:
+            return "", f"call {wrong}"
+        tried, stood = tried + 1, stood + stands
+        shutil.rmtree(room)
+    told = (
+        f"a leader of three jobs, killed at each of {len(STEPS)} steps ({kept} kept) and before "
+        f"{tried} of {calls} calls ({stood} kept): the others' changes stand exactly once"
+    )
+    return told, ""
+
+
+def at_random(top: str, count: int) -> tuple[str, str]:
+    """Kills jobs at random moments, one after another."""
+    r = random.Random(5)
+    it = Jobs(os.path.join(top, "random"))
+    expected, kept = "0\n", 0
+    for number in range(count):
+        pid = it.begin("a")
+        time.sleep(r.random())
+        os.kill(pid, r.choice([signal.SIGKILL, signal.SIGTERM]))
+        status = status_of(pid)
+        status_of(it.begin("x"))  # whoever comes next ends what was begun
+        now = it.read("a")
+        if now not in (expected, expected + "a\n") or status == 0 and now == expected:
+            return "", f"kill {number}: {now!r} behind {expected!r}, status {status}"
+        kept += now != expected
+        expected = now
+    told = f"{count} kills at random moments: {kept} kept, of the others nothing"
+    return told, f"left {it.left()}" if it.left() else ""

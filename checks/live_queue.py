@@ -1,0 +1,406 @@
+"""Tries the queue of a live tree: parts of checks/live.py. A fault is an AssertionError."""
+
+from __future__ import annotations
+
+import fcntl
+import os
+import random
+import resource
+import shutil
+import signal
+import sqlite3
+import statistics
+import subprocess
+import sys
+import tempfile
+import time
+from collections import Counter
+from collections.abc import Callable
+
+TOP = os.path.dirname(os.path.dirname(os.path.abspath(__file__)))
+TOOLS = os.environ.get("TOOLS", os.path.join(TOP, "tools"))
+sys.path.insert(0, os.path.join(TOP, "tools"))
+
+from tests import queues  # noqa: E402
+
+SPEC = '{(k :: file) | k in (one("log") union one("n"))}\n'
+JOB = (
+    'txn { to("log") down fetch l : str store((l ++ (who ++ "\\n")))'
+    ' top to("n") down fetch n : str store((text((int(n) + 1)) ++ "\\n")) print(int(n)) }\n'
+)
+ODD = {
+    "abort": "txn { abort }\n",
+    "half": JOB + "txn { up }\n",
+    "refused": "txn { $ }\n",
+    "breaks": 'txn { to("log") down remove }\n',
+}
+STATUS_OF = {"abort": 1, "half": 1, "refused": 3, "breaks": 10}
+
+
+def write(path: str, text: str) -> None:
+    """Writes a file."""
+    with open(path, "w", encoding="utf-8") as it:
+        it.write(text)
+
+
+def read(path: str) -> str:
+    """What a file holds."""
+    with open(path, encoding="utf-8") as it:
+        return it.read()
+
+
+def new_tree(room: str) -> str:
+    """A tree with a log and a count, beside a description and scripts."""
+    os.mkdir(f"{room}/t")
+    write(f"{room}/t/log", "")
+    write(f"{room}/t/n", "0\n")
+    write(f"{room}/spec", SPEC)
+    write(f"{room}/job", JOB)
+    for name, text in ODD.items():
+        write(f"{room}/{name}", text)
+    return f"{room}/t"
+
+
+Process = subprocess.Popen[bytes]
+
+
+def job(room: str, who: str, *more: str, script: str = "job", **given: str) -> Process:
+    """Starts a job that writes a name into the log of the tree."""
+    words = [f"{TOOLS}/txforest-apply", *more, "--set", f"who={who}", "t", "spec", script]
+    return subprocess.Popen(
+        words,
+        cwd=room,
+        env={**os.environ, **given},
+        stdin=subprocess.DEVNULL,
+        stdout=subprocess.PIPE,
+        stderr=subprocess.PIPE,
+    )
+
+
+def ended(process: Process) -> tuple[int, str, str]:
+    """The status of a job, what it printed and what it told."""
+    printed, told = process.communicate(timeout=300)
+    return process.returncode, printed.decode(), told.decode(errors="replace")
+
+
+def checked_state(room: str) -> list[str]:
+    """The names in the log, each once and all counted."""
+    lines = read(f"{room}/t/log").split()
+    assert len(set(lines)) == len(lines), ("done twice", lines)
+    assert int(read(f"{room}/t/n")) == len(lines), "the count differs"
+    return lines
+
+
+# ---- kills
+
+
+def leaders_are_killed(_: str, number: int) -> str:
+    """Who leads and who settles end at each of their calls; the model runs the scripts."""
+    count = queues.kills(number or 10_000)
+    return (
+        f"{count.stops} kills before and behind the calls of a leader with two jobs in its queue,"
+        f" and of those who settled it: {count.answered} times its commit stood and both were answered,"
+        f" {count.again} times they were done by others; none was lost, none done twice"
+    )
+
+
+def jobs_are_killed(room: str, number: int) -> str:
+    """Rounds of 3 to 10 jobs at once, some of them odd, some killed at random moments."""
+    new_tree(room)
+    count: Counter[str] = Counter()
+    for turn in range(number or 40):
+        started: list[tuple[str, str, Process]] = []
+        for i in range(random.choice([3, 6, 10])):
+            script = random.choice(["job"] * 6 + [*ODD])
+            name = f"r{turn}j{i}"
+            started.append((name, script, job(room, name, "--log", "jobs", script=script)))
+            if random.random() < 0.5:
+                time.sleep(random.random() * 0.2)
+        time.sleep(random.random())
+        for _, _, process in random.sample(started, random.choice([0, 1, 1, 2])):
+            process.send_signal(random.choice([signal.SIGKILL, signal.SIGTERM]))
+        results = [(name, script, *ended(process)) for name, script, process in started]
+        mop = ended(job(room, f"mop{turn}", "--log", "jobs"))
+        assert mop[0] == 0, mop
+        check_round(room, results, count)
+    numbers = [line.split(" ")[1] for line in read(f"{room}/jobs").splitlines()]
+    numbers = [number for number in numbers if number != "-"]
+    assert numbers == [str(i + 1) for i in range(len(numbers))], numbers
+    return (
+        f"{count['rounds']} rounds: {count['answered']} jobs answered, {count['odd']} refused or"
+        f" stopped, {count['killed']} killed, of which {count['done']} were done; none was done"
+        f" twice, and each answer told the place that its job had in the end"
+    )
+
+
+def check_round(
+    room: str, results: list[tuple[str, str, int, str, str]], count: Counter[str]
+) -> None:
+    """What a round came to: each answer is true."""
+    lines = checked_state(room)
+    count["rounds"] += 1
+    for name, script, status, printed, told in results:
+        if status in (-signal.SIGKILL, -signal.SIGTERM, 128 + signal.SIGTERM):
+            count["killed"] += 1
+            count["done"] += name in lines
+        elif script == "job":
+            assert status == 0, (name, status, told)
+            at = int(printed.split("print ")[1].split("\n")[0])
+            assert lines[at] == name, ("told another place", name, at, lines)
+            count["answered"] += 1
+        else:
+            assert status == STATUS_OF[script], (name, script, status, told)
+            assert name not in lines, ("refused, and done", name)
+            count["odd"] += 1
+    left = sorted(os.listdir(room))
+    wanted = sorted(["t", "t.lock", "spec", "job", "jobs", *ODD])
+    assert left == wanted, left
+
+
+# ---- who gets what
+
+
+def counting_program(room: str) -> str:
+    """A program that notes each call in the file `calls`."""
+    path = f"{room}/program"
+    write(path, f'#!/bin/sh\necho "$1" >> {room}/calls\nexec "{os.environ["TXFOREST"]}" "$@"\n')
+    os.chmod(path, 0o755)
+    return path
+
+
+def each_gets_its_own(room: str, number: int) -> str:
+    """Jobs that wait for a lock that is held, then are done in one go: good ones and odd ones."""
+    tree = new_tree(room)
+    number = number or 24
+    program = counting_program(room)
+    held = os.open(f"{tree}.lock", os.O_RDWR | os.O_CREAT, 0o666)
+    fcntl.flock(held, fcntl.LOCK_EX)
+    started = []
+    for i in range(number):
+        script = "job" if i % 4 else list(ODD)[i // 4 % len(ODD)]
+        more = ["--json"] if i % 5 == 0 else []
+        process = job(room, f"j{i}", "--log", "jobs", *more, script=script, TXFOREST=program)
+        started.append((f"j{i}", script, process))
+    late = job(room, "late", "--wait", "1")
+    end = time.monotonic() + 120
+    while waiting(tree) < number and time.monotonic() < end:
+        time.sleep(0.05)
+    assert waiting(tree) >= number, waiting(tree)
+    assert ended(late)[0] == 11, "a job that gave up was not told so"
+    fcntl.flock(held, fcntl.LOCK_UN)
+    os.close(held)
+    results = [(name, script, *ended(process)) for name, script, process in started]
+    lines = checked_state(room)
+    assert "late" not in lines
+    good = [name for name, script, *_ in results if script == "job"]
+    assert sorted(lines) == sorted(good), (lines, good)
+    for name, script, status, printed, told in results:
+        assert status == STATUS_OF.get(script, 0), (name, script, status, told)
+        if script == "job" and not printed.startswith("{"):
+            assert printed.startswith("forest report 1\nentries 1\nentry 0 shell 0 txn 0 done\n")
+        if script == "refused":
+            assert told == "txforest-apply: txforest: refused: BadToken 6\n", told
+    calls = read(f"{room}/calls").split()
+    logged = [line.split(" ")[1:3] for line in read(f"{room}/jobs").splitlines()]
+    assert len(logged) == number and sum(it[0] != "-" for it in logged) == len(good), logged
+    return (
+        f"{number} jobs that waited, of four odd kinds {number - len(good)}, and one that gave up,"
+        f" each with its own status, report and line of the log, by {len(calls)} calls of the"
+        " program"
+    )
+
+
+def waiting(tree: str) -> int:
+    """How many jobs wait in the queue of a tree."""
+    try:
+        names = os.listdir(f"{tree}.queue")
+    except FileNotFoundError:
+        return 0
+    return sum(os.path.exists(f"{tree}.queue/{name}/waits") for name in names if "-" in name[1:])
+
+
+def kept_jobs_can_be_audited(room: str, number: int) -> str:
+    """What --keep leaves of jobs done in one go: the program says yes of each."""
+    tree = new_tree(room)
+    number = number or 6
+    with open(f"{tree}.lock", "w") as held:
+        fcntl.flock(held, fcntl.LOCK_EX)
+        started = [job(room, f"j{i}", "--keep", "kept", "--log", "jobs") for i in range(number)]
+        while waiting(tree) < number:
+            time.sleep(0.05)
+    for process in started:
+        assert ended(process)[0] == 0
+    idents = [line.split(" ")[3] for line in read(f"{room}/jobs").splitlines()]
+    assert sorted(os.listdir(f"{room}/kept")) == sorted(idents)
+    for ident in idents:
+        at = f"{room}/kept/{ident}"
+        scripts = sorted((name for name in os.listdir(at) if name.isdigit()), key=int)
+        words = ["audit", "spec", "folder", "report", *scripts]
+        ran = subprocess.run([os.environ["TXFOREST"], *words], cwd=at, stdout=subprocess.PIPE)
+        assert ran.stdout == b"audit yes\n", (ident, ran.stdout)
+    return f"audit says yes of what was kept of {number} jobs, done in one go"
+
+
+# ---- costs
+
+WIDE = "<d : dir, {(k :: <e : dir, {(f :: file) | f in e}>) | k in d}>\n"
+Commands = Callable[[str, list[str]], list[list[str]]]
+
+
+def many_files(tree: str, number: int) -> None:
+    """A tree of so many files, a hundred in each folder, of which one counts."""
+    for folder in range(max(1, number // 100)):
+        os.makedirs(f"{tree}/d{folder:04d}")
+        for file in range(99):
+            write(f"{tree}/d{folder:04d}/f{file:02d}", f"{file}\n" * 20)
+        write(f"{tree}/d{folder:04d}/count", "0\n")
+
+
+def with_apply(base: str, folders: list[str]) -> list[list[str]]:
+    """The jobs of txforest-apply."""
+    words = []
+    for i, folder in enumerate(folders):
+        move = f'into next to("{folder}") down into next to("count") down fetch n : str'
+        write(f"{base}/j{i}", f'txn {{ {move} store((text((int(n) + 1)) ++ "\\n")) }}\n')
+        words.append([f"{TOOLS}/txforest-apply", f"{base}/t", f"{base}/spec", f"{base}/j{i}"])
+    return words
+
+
+def with_flock(base: str, folders: list[str]) -> list[list[str]]:
+    """The same by a lock and a shell, with what is written on the device."""
+    one = "f={0}/t/{1}/count; echo $(($(cat $f) + 1)) > $f.new && sync $f.new && mv $f.new $f"
+    one += " && sync {0}/t/{1}"
+    return [["flock", f"{base}/lock", "sh", "-c", one.format(base, name)] for name in folders]
+
+
+def with_git(base: str, folders: list[str]) -> list[list[str]]:
+    """The same in a clone of one's own: commit, rebase, push, until it is taken."""
+    make = (
+        "cd {0}/t && git init -q -b main . && git config gc.auto 0 && git config user.name a"
+        " && git config user.email a@b && git add -A && git commit -qm first"
+        " && git config receive.denyCurrentBranch ignore"
+    )
+    subprocess.run(["bash", "-c", make.format(base)], check=True, stdout=subprocess.DEVNULL)
+    one = (
+        "cd {0}/t && git worktree add -q --detach {0}/w{2} main 2> /dev/null && cd {0}/w{2} &&"
+        " echo $(($(cat {1}/count) + 1)) > {1}/count && git commit -qm {2} {1}/count &&"
+        " until git push -q {0}/t HEAD:main 2> /dev/null; do"
+        " git fetch -q {0}/t main && git rebase -q FETCH_HEAD || exit 1; done"
+    )
+    return [["bash", "-c", one.format(base, name, i)] for i, name in enumerate(folders)]
+
+
+def with_sqlite(base: str, folders: list[str]) -> list[list[str]]:
+    """The same in a database."""
+    data = sqlite3.connect(f"{base}/data")
+    data.execute("create table f(path text primary key, body text)")
+    for above, _, names in os.walk(f"{base}/t"):
+        for name in names:
+            path = os.path.join(above, name)
+            row = os.path.relpath(path, f"{base}/t"), read(path)
+            data.execute("insert into f values(?, ?)", row)
+    data.commit()
+    data.close()
+    one = (
+        "import sqlite3; d = sqlite3.connect({0!r}, 60, isolation_level=None);"
+        " d.execute('pragma synchronous = full'); d.execute('begin immediate');"
+        " d.execute('update f set body = cast(body as integer) + 1 where path = ?', ({1!r},));"
+        " d.execute('commit')"
+    )
+    paths = [f"{name}/count" for name in folders]
+    return [[sys.executable, "-IS", "-c", one.format(f"{base}/data", path)] for path in paths]
+
+
+WAYS: dict[str, Commands] = {
+    "txforest-apply": with_apply,
+    "flock and a shell": with_flock,
+    "git, commit, rebase, push": with_git,
+    "SQLite": with_sqlite,
+}
+
+
+def measured(words: list[list[str]]) -> tuple[float, float]:
+    """The processor time and the time of commands that run at once; each has to end with 0."""
+    before, started = resource.getrusage(resource.RUSAGE_CHILDREN), time.perf_counter()
+    running = [subprocess.Popen(it, stdout=subprocess.DEVNULL) for it in words]
+    ends = [it.wait() for it in running]
+    after = resource.getrusage(resource.RUSAGE_CHILDREN)
+    assert not any(ends), ends
+    used = after.ru_utime + after.ru_stime - before.ru_utime - before.ru_stime
+    return used, time.perf_counter() - started
+
+
+def costs_of_many(room: str, number: int) -> str:
+    """1, 8 and 64 jobs at once on trees of 100, 10,000 and 60,000 files, each in a folder of its
+    own, beside `txforest run` alone; a number is the largest of the trees."""
+    lines = ["", "| files | jobs | by | processor | of a run | by the clock |", "|" + "---|" * 6]
+    for files in (100, 10_000, 60_000):
+        if number and files > number:
+            continue
+        base = tempfile.mkdtemp(dir="/dev/shm" if os.access("/dev/shm", os.W_OK) else room)
+        try:
+            lines += costs_on(base, files)
+        finally:
+            shutil.rmtree(base)
+    load = os.getloadavg()[0]
+    return "\n".join([*lines, f"load {load:.0f} on {os.cpu_count()} processors"])
+
+
+def costs_on(base: str, files: int) -> list[str]:
+    """The rows of one tree."""
+    many_files(f"{base}/tree", files)
+    write(f"{base}/spec", WIDE)
+    run, lines = run_alone(base), []
+    lines.append(f"| {files:,} | 1 | `txforest run` | {run:.3f} s | 1.0 | |")
+    for jobs in (1, 8, 64):
+        for way, commands in WAYS.items():
+            if not shutil.which(way.split(" ")[0].rstrip(",")) and way.startswith("git"):
+                continue
+            shutil.copytree(f"{base}/tree", f"{base}/t")
+            folders = [
+                f"d{i * max(1, files // 100 // jobs) % (files // 100):04d}" for i in range(jobs)
+            ]
+            used, clock = measured(commands(base, folders))
+            if way == "SQLite":
+                total = sum_of_rows(f"{base}/data")
+            else:
+                head = "git -C {0}/t checkout -qf main" if way.startswith("git") else "true"
+                subprocess.run(["bash", "-c", head.format(base)], check=True)
+                total = sum(int(read(f"{base}/t/{name}/count")) for name in set(folders))
+            assert total == jobs, (way, jobs, total)
+            row = f"{used:.3f} s | {used / run:.1f} | {clock:.2f} s |"
+            lines.append(f"| {files:,} | {jobs} | {way} | {row}")
+            for name in os.listdir(base):
+                if name not in ("tree", "spec"):
+                    path = f"{base}/{name}"
+                    shutil.rmtree(path) if os.path.isdir(path) else os.unlink(path)
+    return lines
+
+
+def run_alone(base: str) -> float:
+    """What the program alone takes for a job, without OUT's removal."""
+    with_apply(base, ["d0000"])
+    used = []
+    for _ in range(3):
+        words = ["run", f"{base}/spec", f"{base}/tree", f"{base}/out", f"{base}/j0"]
+        used.append(measured([[os.environ["TXFOREST"], *words]])[0])
+        shutil.rmtree(f"{base}/out")
+    return statistics.median(used)
+
+
+def sum_of_rows(path: str) -> int:
+    """What a database has counted."""
+    data = sqlite3.connect(path)
+    rows = data.execute("select body from f where path like '%/count'")
+    total = sum(int(body) for (body,) in rows)
+    data.close()
+    return total
+
+
+PARTS = [
+    each_gets_its_own,
+    kept_jobs_can_be_audited,
+    jobs_are_killed,
+    leaders_are_killed,
+    costs_of_many,
+]

@@ -1,0 +1,83 @@
+"""A stand-in for the program, by the model: for tests of what stands around it."""
+
+from __future__ import annotations
+
+import os
+from collections.abc import Iterator, Sequence
+from contextlib import contextmanager
+from typing import Any
+from unittest import mock
+
+from txforest import model
+from txforest.program import Answer
+
+
+def text_of(word: Any) -> bytes:
+    """The text that a word names."""
+    with open(word, "rb") as it:
+        return it.read()
+
+
+def write_folder(store: Any, out: Any) -> None:
+    """Writes a filestore as a folder."""
+    top = os.fsencode(out)
+    for path, node in sorted(model.folder_of(store).items()):
+        at = os.path.join(top, *path)
+        if node[0] == "dir":
+            os.mkdir(at)
+        else:
+            with open(at, "xb") as it:
+                it.write(node[1])
+
+
+def call(words: Sequence[Any], pass_fds: Sequence[int] = (), until_line: bool = False) -> Answer:
+    """What the program prints: of `run`, `watch` and `show`."""
+    command, spec, folder, *more = words
+    out = more.pop(0) if command != "show" else None
+    schedule = more.pop(0) if command == "watch" else "none"
+    word = spec
+    try:
+        root = model.read_description(text_of(spec))
+        plan: list[Any] = []
+        for word in more:
+            plan.append(model.read_script(text_of(word), sum(map(len, plan))))
+    except model.Refused as refused:
+        return Answer(3, b"", f"txforest: {word}: {refused}\n".encode())
+    store = model.load(folder)
+    if command == "show":
+        return Answer(0, model.valid_line(root, store).encode() + b"\n", b"")
+    steps = [] if schedule == "none" else [int(step) for step in schedule.split(",")]
+    lines: list[str] = []
+    if command == "watch":
+        lines, order, retries, after = model.watch(root, plan, store, short(steps, plan))
+    else:
+        _, order, retries, after = model.trace(root, plan, store, [])
+    write_folder(after, out)
+    events = "".join(line + "\n" for line in lines)
+    return Answer(0, (events + model.report(order, retries)).encode(), b"")
+
+
+def short(steps: list[int], plan: list[Any]) -> list[int]:
+    """A schedule without the steps that are none, as far as that is easily seen."""
+    most = 60 * max(1, max((len(txns) for txns in plan), default=1))
+    kept: list[int] = []
+    count = dict.fromkeys(range(len(plan)), 0)
+    for step in steps:
+        count[step] += 1
+        if count[step] <= most:
+            kept.append(step)
+    return kept
+
+
+def is_valid(spec: Any, folder: Any, _fds: Sequence[int] = ()) -> bool:
+    """Whether a folder has a value."""
+    return call(["show", spec, folder]).printed.startswith(b"valid yes")
+
+
+@contextmanager
+def program() -> Iterator[None]:
+    """The stand-in in place of the program."""
+    with mock.patch("txforest.attempt.call", call), mock.patch(
+        "txforest.attempt.is_valid", is_valid
+    ):
+        yield

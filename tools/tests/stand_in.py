@@ -1,0 +1,65 @@
+"""The second program of the meaning in the program's place, for tests that have no program.
+
+It runs the scripts in their order, and takes the words of `run` and of `trace`.
+"""
+
+from __future__ import annotations
+
+import os
+from collections.abc import Sequence
+
+from txforest import model
+from txforest.program import Answer
+from txforest.statuses import Failed
+
+
+def call(
+    words: Sequence[str | bytes], pass_fds: Sequence[int] = (), until_line: bool = False
+) -> Answer:
+    """As program.call."""
+    name, spec, folder, out, *rest = words
+    if name == "trace":
+        rest = rest[1:]
+    try:
+        root = model.read_description(text_of(spec))
+        plan = [model.read_script(text_of(word), 0) for word in rest]
+        store = model.load(os.fsencode(folder))
+    except model.Refused as refused:
+        return Answer(3, b"", str(refused).encode() + b"\n")
+    if name == "trace":
+        events, order, retries, last = model.trace(root, plan, store, [])
+    else:
+        events, order, retries, last = [], [], [], store
+        for shell, txns in enumerate(plan):
+            for number, txn in enumerate(txns):
+                outputs, end, changes, _ = model.run_txn(root, txn, last.get)
+                last = model.over(last, changes)
+                order.append(model.Entry(shell, number, outputs, end))
+    save(last, os.fsencode(out))
+    lines = "".join(event + "\n" for event in events)
+    return Answer(0, (lines + model.report(order, retries)).encode(), b"")
+
+
+def called(words: Sequence[str | bytes], pass_fds: Sequence[int] = ()) -> bytes:
+    """As program.called."""
+    answer = call(words, pass_fds)
+    if answer.status:
+        raise Failed(answer.status, answer.told())
+    return answer.printed
+
+
+def text_of(path: str | bytes) -> bytes:
+    """What a file holds."""
+    with open(path, "rb") as file:
+        return file.read()
+
+
+def save(store: model.Filestore, out: bytes) -> None:
+    """Writes a filestore as a folder."""
+    for path, node in sorted(model.folder_of(store).items()):
+        where = b"/".join((out, *path)) if path else out
+        if node[0] == "dir":
+            os.mkdir(where)
+        else:
+            with open(where, "xb") as file:
+                file.write(node[1])

@@ -1,0 +1,280 @@
+"""Jobs done in one go by who has the lock: its own, and those that wait in the queue.
+
+They are shells of one run. Each gets its own report and its own status, as if it had been done
+alone, behind those before it:
+
+- A refused text gives 3 to its job; the others are run again without it.
+- A job with a transaction that stopped or was aborted gets 1, and none of it is in place. If
+  another of its transactions was done, it is taken out and run alone.
+- The state behind each job has a value. A job behind which there is none is taken out and run
+  alone: so it gets 10, also where a later one mends what it broke.
+- What stops several at once (no room, somebody in the way) is done again in halves, down to the one
+  that it is due to.
+"""
+
+from __future__ import annotations
+
+import os
+
+from .attempt import Attempt, attempts
+from .commit import hold_signals, let_signals
+from .parts import Part, one_by_one, parted, report_in
+from .queue import Answer, Request, Text, answer_text
+from .sources import Source, spelled
+from .statuses import Failed, Status
+from .terminal import many, shown
+
+TYPE_CHECKING = False
+if TYPE_CHECKING:
+    from collections.abc import Callable, Sequence
+
+    from .commit import Committed
+    from .differences import Change
+    from .only import Only
+    from .place import Tree
+    from .queue import Taken
+    from .survey import Survey
+
+    Put = Callable[[Attempt, Sequence[Change], dict[str, bytes]], Committed]
+
+SHELLS = 64
+STATES = 256  # how many transactions are watched in one go at most
+SEVERAL = (Status.UNWRITTEN, Status.NO_MEMORY)
+
+
+class Member:
+    """A job of a batch: one's own, or one of the queue. Its answer comes in the end."""
+
+    def __init__(self, ident: str, request: Request, taken: Taken | None = None) -> None:
+        self.ident = ident
+        self.request = request
+        self.taken = taken
+        self.answer: Answer | None = None
+
+    @property
+    def spec(self) -> Source:
+        """The description, as this job names it."""
+        return source_of(self.request.spec)
+
+    @property
+    def scripts(self) -> list[Source]:
+        """The scripts."""
+        return [source_of(text) for text in self.request.scripts]
+
+    def word(self, shell: int) -> str:
+        """What a script is called, as it is told."""
+        return shown(self.request.scripts[shell].word)
+
+
+def source_of(text: Text) -> Source:
+    """A text of a request as the program gets it."""
+    if not text.places:
+        return Source(text.word, text.text)
+    from .data import Bound
+
+    return Source(text.word, Bound(text.text, text.places, text.length))
+
+
+def text_of(source: Source) -> Text:
+    """A source as a request has it."""
+    if source.bound is None:
+        return Text(source.word, source.text)
+    return Text(source.word, source.text, source.bound.length, source.bound.places)
+
+
+class Batch:
+    """Jobs of one description on one tree, whose lock is held."""
+
+    def __init__(self, tree: Tree, held: int, only: Only | None, put: Put) -> None:
+        """`put` commits changes with answers, and holds signals from then on."""
+        self.tree = tree
+        self.held = held
+        self.only = only
+        self.put = put
+        self.surveyed: Callable[[Survey], None] = lambda found: None  # told of each survey
+        self.rooms: list[Attempt] = []  # what is to be closed behind the answers
+        self.standing: list[Member] = []  # whose answers stand in a place, for whoever settles it
+
+    def do(self, own: Member, taken: Sequence[Taken]) -> Answer:
+        """Does one's own job, and those of the queue as far as they are done with it. The others
+        wait again. Raises Failed with UNFINISHED if a commit stands and something of it waits."""
+        members = [own, *(Member(it.ident, it.request, it) for it in taken)]
+        groups = [sorted(members, key=lambda it: it.ident)]
+        signals = hold_signals()
+        let_signals(signals)
+        try:
+            while own.answer is None:
+                groups[:1] = self.done(groups[0])
+                if own.answer is None:
+                    let_signals(signals)
+            return own.answer
+        finally:
+            for member in members:
+                if member.taken is not None and member.answer is None:
+                    if member not in self.standing:
+                        member.taken.put_back()
+
+    def close(self) -> None:
+        """Removes what is left of the last attempt."""
+        while self.rooms:
+            self.rooms.pop().close()
+
+    def done(self, group: list[Member]) -> list[list[Member]]:
+        """Does a group. Answers the groups that are still to be done."""
+        try:
+            self.close()
+            return attempts(
+                self.tree,
+                self.held,
+                self.only,
+                lambda it: self.attempted(it, group),
+                kept=self.rooms,
+            )
+        except Failed as failed:
+            if failed.status == Status.UNFINISHED:
+                self.standing = group
+                raise
+            answer = Answer(failed.status, b"", failed.lines)
+        except OSError as error:
+            where = f"{shown(error.filename)}: " if isinstance(error.filename, (str, bytes)) else ""
+            answer = Answer(Status.SYSTEM, b"", [f"{where}{error.strerror or error}"])
+        if len(group) > 1:
+            return halves(group)
+        self.answered(group[0], answer)
+        return []
+
+    def attempted(self, attempt: Attempt, group: list[Member]) -> list[list[Member]]:
+        """One attempt at a group. Answers the groups that are still to be done."""
+        self.surveyed(attempt.found)
+        scripts = [script for member in group for script in member.scripts]
+        schedule = one_by_one(len(scripts)) if len(group) > 1 else None
+        answer = attempt.run(group[0].spec, scripts, schedule)
+        if answer.status:
+            attempt.look_again()
+            return self.refused(attempt, group, answer.status, answer.told())
+        parts = parted(answer.printed, [len(member.request.scripts) for member in group])
+        if len(group) == 1:
+            # The program's own text, byte for byte, if it is one's own alone.
+            return self.alone(attempt, group[0], parts[0], answer.printed)
+        odd = [bool(part.odd) and not it.request.allow_stopped for it, part in zip(group, parts)]
+        out = [
+            (is_odd and part.dones > 0) or (not is_odd and part.valid is False)
+            for is_odd, part in zip(odd, parts)
+        ]
+        if any(out):
+            rest = [member for member, is_out in zip(group, out) if not is_out]
+            apart = [[member] for member, is_out in zip(group, out) if is_out]
+            return [rest, *apart] if rest else apart
+        answers = [
+            stopped(member, part, part.report) if is_odd else Answer(Status.DONE, part.report)
+            for member, part, is_odd in zip(group, parts, odd)
+        ]
+        self.commit(attempt, group, answers, answer.printed)
+        return []
+
+    def alone(
+        self, attempt: Attempt, member: Member, part: Part, report: bytes
+    ) -> list[list[Member]]:
+        """What an attempt at one job comes to."""
+        if part.odd and not member.request.allow_stopped:
+            attempt.look_again()
+            self.answered(member, stopped(member, part, report))
+        elif not attempt.is_valid():
+            attempt.look_again()
+            spec = shown(member.request.spec.word)
+            line = f"the result has no value by {spec}, so nothing was changed"
+            self.answered(member, Answer(Status.NO_VALUE, report, [line]))
+        else:
+            self.commit(attempt, [member], [Answer(Status.DONE, report)], report)
+        return []
+
+    def refused(
+        self, attempt: Attempt, group: list[Member], status: int, line: str
+    ) -> list[list[Member]]:
+        """What comes of a run that the program refuses."""
+        if status == Status.TEXT and attempt.refused:
+            number, cause = attempt.refused - 1, attempt.cause
+            for member in group:
+                if number < len(member.request.scripts):
+                    word = spelled(member.request.scripts[number].word)
+                    self.answered(member, Answer(status, b"", [f"txforest: {word}: {cause}"]))
+                    return [[other for other in group if other is not member]] if group[1:] else []
+                number -= len(member.request.scripts)
+        if status in SEVERAL and len(group) > 1:
+            return halves(group)
+        for member in group:
+            told = line
+            if status == Status.TEXT and attempt.refused == 0:
+                told = f"txforest: {spelled(member.request.spec.word)}: {attempt.cause}"
+            self.answered(member, Answer(status, b"", [told]))
+        return []
+
+    def commit(
+        self, attempt: Attempt, group: list[Member], answers: list[Answer], printed: bytes
+    ) -> None:
+        """Puts the result of an attempt in place, with the answers of those who wait."""
+        changes = attempt.changes()
+        carried = self.carried(attempt, group, answers, printed)
+        if not changes:
+            # Nothing is to be kept across a stop: an answer that is lost is come to again.
+            carried = {name: it for name, it in carried.items() if name.startswith("keep-")}
+        committed = self.put(attempt, changes, carried)
+        for member, answer in zip(group, answers):
+            answer = answer.with_conflicts(committed.conflicts)
+            if member.taken is None:
+                answer.lines[:0] = committed.told
+            if changes:
+                member.answer = answer
+            else:
+                self.answered(member, answer)
+
+    def carried(
+        self, attempt: Attempt, group: list[Member], answers: list[Answer], printed: bytes
+    ) -> dict[str, bytes]:
+        """What goes into the place of a commit: the answers of those who wait, the lines that logs
+        get, and the names of what is kept."""
+        found: dict[str, bytes] = {}
+        for member, answer in zip(group, answers):
+            if member.taken is not None:
+                found[f"job-{member.ident}"] = answer_text(answer)
+            request = member.request
+            if answer.status == Status.DONE and (request.log or request.keep):
+                from . import log
+
+                if request.log:
+                    found[f"log-{member.ident}"] = log.carried_line(self.tree, request)
+                if request.keep:
+                    scripts = [script for it in group for script in it.scripts]
+                    found[f"keep-{member.ident}"] = log.kept(
+                        attempt, member.ident, request.keep, scripts, report_in(printed)
+                    )
+        return found
+
+    def answered(self, member: Member, answer: Answer) -> None:
+        """Gives a job an answer that rests on no change."""
+        member.answer = answer
+        if member.taken is not None:
+            member.taken.give(answer)
+
+
+def stopped(member: Member, part: Part, report: bytes) -> Answer:
+    """The answer of a job with transactions that are not done."""
+    lines = [f"{member.word(shell)}: transaction {txn} {end}" for shell, txn, end in part.odd]
+    line = f"{many(len(part.odd), 'transaction')} not done, so nothing was changed"
+    lines.append(f"{line}; txforest-explain says why, --allow-stopped goes on")
+    return Answer(Status.NOT_DONE, report, lines)
+
+
+def halves(group: list[Member]) -> list[list[Member]]:
+    """A group as two."""
+    half = len(group) // 2
+    return [group[:half], group[half:]]
+
+
+def terms_of(only: Sequence[str]) -> bytes:
+    """What two jobs have to have in common to be done in one go."""
+    umask = os.umask(0)
+    os.umask(umask)
+    groups = ",".join(map(str, sorted({os.getegid(), *os.getgroups()})))
+    own = f"umask {umask:o} group {os.getegid()} groups {groups} only "
+    return own.encode() + b"\0".join(map(os.fsencode, only))

@@ -1,0 +1,411 @@
+"""Private copies of a tree for a command: what it has read in one, and what it has made there.
+
+    Traced    a file system of this tool's own below an overlay (traced.py): what was looked at
+              counts as read. It costs the same whatever the tree's size
+    Plain     every file is copied, and all of the tree counts as read
+    Only      the declared paths are copied, and count as read (only.py)
+
+A copy is made in a room, a directory of the job's own. `enter` is called in the process that
+becomes the command; `looked` and `changes` are asked once it has ended.
+"""
+
+from __future__ import annotations
+
+import errno
+import os
+import stat
+
+from .states import DIRECTORY_FLAGS, FILE_FLAGS, Kind, Reader, new_digest, token_of
+from .statuses import Failed, Status
+from .terminal import below, shown
+
+TYPE_CHECKING = False
+if TYPE_CHECKING:
+    from collections.abc import Iterator
+
+    from .states import Made, Path, Seen
+
+FICLONE = 0x40049409
+NO_CLONE = (errno.EOPNOTSUPP, errno.EINVAL, errno.EXDEV, errno.ENOTTY, errno.EPERM)
+
+
+class CannotEnter(Exception):
+    """This system makes no such copy."""
+
+
+class Looked:
+    """What a command has read: of each path what it saw there.
+
+    `total` is a digest of the whole tree if all of it counts as read. `spoiled` is a path that
+    changed while the command ran, so that it may have seen two moments; it has to run again.
+    """
+
+    def __init__(
+        self,
+        reads: dict[Path, Seen] | None = None,
+        total: bytes | None = None,
+        spoiled: Path | None = None,
+    ) -> None:
+        self.reads = reads or {}
+        self.total = total
+        self.spoiled = spoiled
+
+
+class Changes:
+    """What a command has made.
+
+    writes      of each path that it changed what is to stand there
+    files       of each file among these where its content stands
+    before      of each of these paths what stood there
+    modes       the modes of directories that were there before and have another one now
+    attributes  the extended attributes of files that have other ones now
+    """
+
+    def __init__(self) -> None:
+        self.writes: dict[Path, Made] = {}
+        self.files: dict[Path, str] = {}
+        self.before: dict[Path, Seen] = {}
+        self.modes: dict[Path, int] = {}
+        self.attributes: dict[Path, dict[str, bytes]] = {}
+
+    def __bool__(self) -> bool:
+        return bool(self.writes or self.modes or self.attributes)
+
+    def put(self, path: Path, before: Made, new: Made, where: bytes = b"") -> None:
+        """One change; `where` is the file of its content."""
+        self.writes[path], self.before[path] = new, before
+        if where:
+            self.files[path] = os.fsdecode(where)
+
+    def check(self) -> None:
+        """Refuses what no tree of the tools can have."""
+        for path, new in self.writes.items():
+            if isinstance(new, bytes) and new.startswith(b"x "):
+                raise Failed(
+                    Status.SYSTEM,
+                    f"{below(path)}: neither file, directory nor link; nothing was changed",
+                )
+
+
+class Copy:
+    """A private copy: the base of the kinds above."""
+
+    name = "copy"  # how it is told
+    word = "copy"  # and in a log
+
+    def __init__(self, room: str, root: int) -> None:
+        """`room` is a directory of the job's own, `root` a descriptor of the tree."""
+        self.room = room
+        self.root = root
+        self.tree = os.path.join(room, "tree")
+        self.mode = stat.S_IMODE(os.fstat(root).st_mode) | 0o700
+        os.mkdir(self.tree)
+        os.chmod(self.tree, self.mode)
+
+    def refuse_root(self, where: str) -> None:
+        """Refuses another mode of the tree itself, which no commit carries."""
+        if stat.S_IMODE(os.stat(where).st_mode) | 0o700 != self.mode:
+            raise Failed(
+                Status.SYSTEM, "/: its mode was changed, which is not carried; nothing was changed"
+            )
+
+    def enter(self) -> None:
+        """Goes into the copy. Raises OSError or CannotEnter if the system makes none."""
+        self.go()
+
+    def go(self) -> None:
+        """Goes there, as `cd` does."""
+        os.environ["OLDPWD"] = os.getcwd()
+        os.chdir(self.tree)
+        os.environ["PWD"] = self.tree
+
+    def entered(self) -> None:
+        """Called in the process that waits, once the command's process has begun."""
+
+    def helper(self) -> int | None:
+        """The number of a process that serves the copy and ends by itself behind the command."""
+        return None
+
+    def looked(self) -> Looked:
+        """What was read."""
+        raise NotImplementedError
+
+    def changes(self, looked: Looked) -> Changes:
+        """What was made. Raises Failed if it can't be taken."""
+        raise NotImplementedError
+
+
+# ---- copies of every file
+
+
+class Plain(Copy):
+    """A copy of every file, on shared blocks if the file system has them."""
+
+    name = "a plain copy: all of the tree counts as read"
+    word = "plain"
+
+    def __init__(self, room: str, root: int) -> None:
+        super().__init__(room, root)
+        self.total = self.first_look()
+        self.fill()
+        self.marks = {path: mark(found) for path, found in entries(self.tree)}
+        wait_for_clock()
+
+    def first_look(self) -> bytes | None:
+        """The digest of the tree before it is copied."""
+        return digest_of(self.root, is_first=True)
+
+    def fill(self) -> None:
+        """Copies the tree."""
+        copy_tree(self.root, os.open(self.tree, DIRECTORY_FLAGS))
+
+    def looked(self) -> Looked:
+        return Looked(total=self.total)
+
+    def changes(self, looked: Looked) -> Changes:
+        made, now = Changes(), set()
+        self.refuse_root(self.tree)
+        reader = Reader(self.root)
+        try:
+            for path, found in entries(self.tree):
+                now.add(path)
+                if self.marks.get(path) != mark(found):
+                    self.compare(made, path, found, reader)
+            for path in self.marks.keys() - now:
+                made.put(path, reader.state(path), None)
+        finally:
+            reader.close()
+        return made
+
+    def compare(self, made: Changes, path: Path, found: os.stat_result, reader: Reader) -> None:
+        """Takes what stands at one path of the copy, if it is another than in the tree."""
+        where = b"/".join((os.fsencode(self.tree), *path))
+        before, new = reader.state(path), token_of(where, -1)
+        if new is Kind.DIRECTORY and before is Kind.DIRECTORY:
+            there = reader.look(path)
+            mode = stat.S_IMODE(found.st_mode)
+            if there is not None and stat.S_IMODE(there.st_mode) != mode:
+                made.modes[path] = mode
+            return
+        if stat.S_ISREG(found.st_mode):
+            attributes = attributes_of(where)
+            if attributes != kept_attributes(reader, path):
+                made.attributes[path] = attributes
+        if new != before or path in made.attributes:
+            made.put(path, before, new, where)
+
+
+def mark(found: os.stat_result) -> tuple[int, int, int, int]:
+    """What is another for an entry of a copy that was changed."""
+    if stat.S_ISDIR(found.st_mode):
+        return found.st_ino, 0, 0, found.st_mode
+    return found.st_ino, found.st_ctime_ns, found.st_size, found.st_mode
+
+
+def wait_for_clock() -> None:
+    """Waits until a change of a file shows in its time."""
+    import time
+
+    time.sleep(0.021)
+
+
+def entries(top: str | bytes, path: Path = ()) -> Iterator[tuple[Path, os.stat_result]]:
+    """All entries below a folder of one's own, each directory before what stands in it."""
+    with os.scandir(b"/".join((os.fsencode(top), *path))) as found:
+        here = list(found)
+    for entry in here:
+        inside = (*path, entry.name)
+        yield inside, entry.stat(follow_symlinks=False)
+        if entry.is_dir(follow_symlinks=False):
+            yield from entries(top, inside)
+
+
+def copy_tree(source: int, target: int) -> None:
+    """Copies what stands in one directory into another; closes the second. No link is followed."""
+    try:
+        with os.scandir(source) as found:
+            here = list(found)
+        for entry in here:
+            try:
+                copy_entry(entry.name, source, target)
+            except FileNotFoundError:  # it went meanwhile, which shows in the tree's digest
+                continue
+        give(target, os.fstat(source))
+    finally:
+        os.close(target)
+
+
+def copy_entry(name: str, source: int, target: int) -> None:
+    """Copies one entry of a directory, a directory with all below it."""
+    found = os.stat(name, dir_fd=source, follow_symlinks=False)
+    if stat.S_ISDIR(found.st_mode):
+        os.mkdir(name, 0o700, dir_fd=target)
+        inside = os.open(name, DIRECTORY_FLAGS, dir_fd=source)
+        try:
+            copy_tree(inside, os.open(name, DIRECTORY_FLAGS, dir_fd=target))
+        finally:
+            os.close(inside)
+    elif stat.S_ISLNK(found.st_mode):
+        os.symlink(os.readlink(name, dir_fd=source), name, dir_fd=target)
+    elif stat.S_ISREG(found.st_mode):
+        copy_file(name, source, target)
+
+
+def copy_file(name: str | bytes, source: int, target: int) -> None:
+    """Copies a file: its bytes, mode, owner, time and extended attributes."""
+    reading = os.open(name, FILE_FLAGS, dir_fd=source)
+    try:
+        flags = os.O_WRONLY | os.O_CREAT | os.O_EXCL | os.O_CLOEXEC
+        writing = os.open(name, flags, 0o600, dir_fd=target)
+        try:
+            copy_bytes(reading, writing)
+            copy_attributes(reading, writing)
+            give(writing, os.fstat(reading))
+        finally:
+            os.close(writing)
+    finally:
+        os.close(reading)
+
+
+def copy_bytes(reading: int, writing: int) -> None:
+    """Copies the content of a file; on shared blocks if the file system has them."""
+    import fcntl
+
+    try:
+        fcntl.ioctl(writing, FICLONE, reading)
+        return
+    except OSError as error:
+        if error.errno not in NO_CLONE:
+            raise
+    while os.sendfile(writing, reading, None, 1 << 30):
+        pass
+
+
+def copy_attributes(reading: int, writing: int) -> None:
+    """Copies the extended attributes of a file, as far as the file system of the copy has them."""
+    for name, value in attributes_of(reading).items():
+        try:
+            os.setxattr(writing, name, value)
+        except OSError:
+            continue
+
+
+def give(fd: int, found: os.stat_result) -> None:
+    """Gives an open entry the owner, mode and times of another; an owner only if one may."""
+    there = os.fstat(fd)
+    if (there.st_uid, there.st_gid) != (found.st_uid, found.st_gid):
+        try:
+            os.fchown(fd, found.st_uid, found.st_gid)
+        except PermissionError:
+            pass
+    os.fchmod(fd, stat.S_IMODE(found.st_mode))
+    os.utime(fd, ns=(found.st_atime_ns, found.st_mtime_ns))
+
+
+# ---- extended attributes
+
+
+def attributes_of(where: bytes | str | int) -> dict[str, bytes]:
+    """The extended attributes of a file or directory that a tree keeps, access lists among them."""
+    found: dict[str, bytes] = {}
+    follow = isinstance(where, int)
+    try:
+        names = os.listxattr(where, follow_symlinks=follow)
+    except OSError:
+        return found
+    for name in names:
+        if name.startswith(("user.overlay.", "trusted.", "security.", "system.nfs4")):
+            continue
+        try:
+            found[name] = os.getxattr(where, name, follow_symlinks=follow)
+        except OSError:
+            continue
+    return found
+
+
+def kept_attributes(reader: Reader, path: Path) -> dict[str, bytes]:
+    """The extended attributes of a file of a tree."""
+    try:
+        fd = os.open(path[-1], FILE_FLAGS, dir_fd=reader.directory(path[:-1]))
+    except OSError:
+        return {}
+    try:
+        return attributes_of(fd)
+    finally:
+        os.close(fd)
+
+
+# ---- all of a tree as one text
+
+
+def digest_of(root: int, skip: frozenset[bytes] = frozenset(), is_first: bool = False) -> bytes:
+    """One text for all that stands in a tree: paths, kinds, modes, owners, inodes, sizes, times.
+
+    `skip` are names at its root that are passed over. With `is_first` it waits until any later
+    change would show in a time. No content is read; of directories the times don't count.
+    """
+    import time
+
+    for _ in range(20):
+        made, young = new_digest(), 0
+        reader = Reader(root)
+        work: list[Path] = [()]
+        while work:
+            path = work.pop()
+            try:
+                fd = reader.directory(path)
+                with os.scandir(fd) as found:
+                    here = sorted(found, key=lambda entry: entry.name)
+                for entry in here:
+                    inside = (*path, os.fsencode(entry.name))
+                    if not path and inside[0] in skip:
+                        continue
+                    it = os.stat(entry.name, dir_fd=fd, follow_symlinks=False)
+                    line = b"%o %d %d %d" % (it.st_mode, it.st_ino, it.st_uid, it.st_gid)
+                    if stat.S_ISDIR(it.st_mode):
+                        work.append(inside)
+                    else:
+                        line += b" %d %d %d" % (it.st_size, it.st_mtime_ns, it.st_ctime_ns)
+                        young = max(young, it.st_ctime_ns)
+                    made.update(b"/".join(inside) + b"\0" + line + b"\0")
+            except (FileNotFoundError, NotADirectoryError):
+                young = time.time_ns()
+            except PermissionError:
+                made.update(b"/".join(path) + b"\0closed\0")
+        reader.close()
+        if not is_first or time.time_ns() - young > 20_000_000:
+            break
+        time.sleep(0.02)
+    return b"tree " + made.hexdigest().encode()
+
+
+# ---- what is left of a copy
+
+
+def remove_tree(path: str | bytes) -> None:
+    """Removes a folder of one's own with all below it, also what may not be written."""
+    path = os.fsencode(path)
+    try:
+        with os.scandir(path) as found:
+            here = list(found)
+    except PermissionError:
+        os.chmod(path, 0o700)
+        with os.scandir(path) as found:
+            here = list(found)
+    except FileNotFoundError:
+        return
+    for entry in here:
+        if entry.is_dir(follow_symlinks=False):
+            remove_tree(entry.path)
+            continue
+        try:
+            os.unlink(entry.path)
+        except PermissionError:
+            os.chmod(path, 0o700)
+            os.unlink(entry.path)
+        except FileNotFoundError:
+            continue
+    try:
+        os.rmdir(path)
+    except PermissionError as error:
+        raise Failed(Status.SYSTEM, f"{shown(path)}: {error.strerror}") from None
