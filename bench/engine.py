@@ -1,14 +1,19 @@
-"""The engine on described trees: `trace` of many transactions over 16 projects, each with a counter and a log, and one
-transaction that goes through many files by `each`: reading, by `next` or by `to`, or storing.
+"""The engine on described trees.
+
+`trace` of many transactions over 16 projects, each with a counter and a log. And one transaction
+that goes through many files by `each`: reading, by `next` or by `to`, or storing.
 """
+
+from __future__ import annotations
 
 import os
 import shutil
 import tempfile
+from collections.abc import Iterator
 
 import measure
 import sqlite_peer
-from goals import growth, of_peer, seconds
+from goals import Goals, growth, of_peer, seconds
 from looks import THROUGH, looking
 from threads import set_of
 from trace import traced, write_scripts
@@ -26,39 +31,62 @@ COUNT = 'txn{to("%s")down into down fetch n:str store(text((int(n)+1)))}'
 STORE = 'txn{to("%s")down into down store("1")}'
 COUNTS_IN = 8
 TO = "txn { into next fetch all : names each n in (all) { to(n) down fetch x : str up out } }\n"
-CHANGED = 'txn { into next fetch all : names into each n in (all) { down fetch x : str store((x ++ "!")) up try end next } }\n'
-EACH = [
+CHANGED = (
+    "txn { into next fetch all : names into"
+    ' each n in (all) { down fetch x : str store((x ++ "!")) up try end next } }\n'
+)
+EACH: list[tuple[str, str, Goals]] = [
     ("run: files read by one `each`, by `next`", THROUGH, ()),
     ("run: files read by one `each`, by `to`", TO, (LOOP,)),
     ("run: files changed by one `each`", CHANGED, (LOOP,)),
 ]
 
 
-def project_of(i):
+def project_of(i: int) -> int:
+    """The project of a transaction."""
     return i * 5 % len(PROJECTS)
 
 
-def projects(count):
-    """A trace of so many transactions: one of eight counts, the others store, so that 100,000 fit into 64 scripts."""
+def projects(count: int) -> measure.Line:
+    """A trace of `count` transactions.
+
+    One of eight counts, and the others store, so that 100,000 fit into 64 scripts.
+    """
     with tempfile.TemporaryDirectory() as scratch:
         folder = os.path.join(scratch, "in")
         for name in PROJECTS:
             os.makedirs(os.path.join(folder, name, "log"))
             measure.write(os.path.join(folder, name), "count", "0")
         spec = measure.write(scratch, "spec", DESCRIPTION % set_of(PROJECTS))
-        texts = [(STORE if i % COUNTS_IN else COUNT) % PROJECTS[project_of(i)] for i in range(count)]
-        scripts, steps, turns = write_scripts(scratch, texts), [(project_of(i), None) for i in range(count)], []
+        texts = [
+            (STORE if i % COUNTS_IN else COUNT) % PROJECTS[project_of(i)] for i in range(count)
+        ]
+        scripts = write_scripts(scratch, texts)
+        steps: list[sqlite_peer.Step] = [(project_of(i), None) for i in range(count)]
+        runs, peers = [], []
         for _ in range(REPEATS):
-            turns.append((traced(scratch, spec, folder, scripts, count), sqlite_peer.in_memory(len(PROJECTS), [steps])))
+            runs.append(traced(scratch, spec, folder, scripts, count))
+            peers.append(sqlite_peer.in_memory(len(PROJECTS), [steps]))
             shutil.rmtree(os.path.join(scratch, "out"))
-    ran = min((ran for ran, _ in turns), key=lambda it: it.seconds)
-    goals = [TRACED[count]] if count in TRACED else []
-    return measure.Line("trace: transactions on 16 projects", count, ran.seconds, ran.peak_kib, "SQLite, memory", min(peer for _, peer in turns), f"{len(scripts)} scripts", goals)
+    ran = min(runs, key=lambda it: it.seconds)
+    goals = (TRACED[count],) if count in TRACED else ()
+    return measure.Line(
+        "trace: transactions on 16 projects",
+        count,
+        ran.seconds,
+        ran.peak_kib,
+        "SQLite, memory",
+        min(peers),
+        f"{len(scripts)} scripts",
+        goals,
+    )
 
 
-def lines(sizes):
+def lines(sizes: list[int]) -> Iterator[measure.Line]:
+    """The lines of this bench, of these sizes or its own."""
     for count in sizes or SIZES:
         yield projects(count)
     for kind, script, goals in EACH:
         for count in sizes or EACH_SIZES:
-            yield looking(kind, [], script, count, [*goals, LOOPED[count]] if goals and count in LOOPED else goals)
+            more = (LOOPED[count],) if goals and count in LOOPED else ()
+            yield looking(kind, [], script, count, (*goals, *more))

@@ -1,6 +1,12 @@
-"""`txforest run` over folders of directories, of deep trees and of links, against `cp -r` of the same folder, in memory and on a disk."""
+"""`txforest run` over folders of directories, of deep trees and of links.
+
+Beside it stands `cp -r` of the same folder, in memory and on a disk.
+"""
+
+from __future__ import annotations
 
 import os
+from collections.abc import Iterator
 
 import measure
 from run import beside_cp, everywhere
@@ -14,7 +20,8 @@ DESCRIPTION = "dir\n"
 SCRIPT = "txn { }\n"
 
 
-def directories(path, count):
+def directories(path: str, count: int) -> None:
+    """A folder of directories of 100 files."""
     os.mkdir(path)
     for i in range(count):
         if i % IN_EACH == 0:
@@ -23,20 +30,27 @@ def directories(path, count):
         measure.write(below, f"f{i:05}", f"{i % 1000}")
 
 
-def deep(path, count):
+def deep(path: str, count: int) -> None:
+    """Files below a chain of directories."""
     below = os.path.join(path, *(f"d{i:02}" for i in range(LEVELS)))
     os.makedirs(below)
     for i in range(count):
         measure.write(below, f"f{i:05}", f"{i % 1000}")
 
 
-def links(path, count):
+def links(path: str, count: int) -> None:
+    """A folder with a table of links alone."""
     os.mkdir(path)
     measure.write(path, ".forest-links", "".join(f"/l{i:05} -> gone/{i}\n" for i in range(count)))
 
 
-def lines(sizes):
-    yield from everywhere(f"run: files in directories of {IN_EACH}", directories, sizes or SIZES, DESCRIPTION, SCRIPT)
-    yield from everywhere(f"run: files below {LEVELS} directories", deep, [DEEP_FILES], DESCRIPTION, SCRIPT)
+def lines(sizes: list[int]) -> Iterator[measure.Line]:
+    """The lines of this bench, of these sizes or its own."""
+    yield from everywhere(
+        f"run: files in directories of {IN_EACH}", directories, sizes or SIZES, DESCRIPTION, SCRIPT
+    )
+    yield from everywhere(
+        f"run: files below {LEVELS} directories", deep, [DEEP_FILES], DESCRIPTION, SCRIPT
+    )
     line = beside_cp("run: links in one folder", links, LINKS, DESCRIPTION, SCRIPT)
     yield measure.Line(line.kind, line.size, line.seconds, line.peak_kib, more="one file for cp -r")

@@ -1,9 +1,12 @@
-"""A commit by `txforest journal` on a disk, beside a commit by SQLite with its rollback journal and `synchronous=full`, measured in
-turns on the same file system; and in memory, where a sync costs nothing, beside `trace` of the same scripts.
+"""A commit by `txforest journal`.
 
-The time of a run that settles nothing, with its loading and saving, is left out on the side of `journal`. SQLite with a WAL,
-which syncs less at a commit, is told beside.
+On a disk it stands beside a commit by SQLite with its rollback journal and `synchronous=full`,
+measured in turns on the same file system. In memory, where a sync costs nothing, it stands beside
+`trace` of the same scripts. The time of a run that settles nothing, with its loading and saving, is
+left out on the side of `journal`. SQLite with a WAL, which syncs less at a commit, is told beside.
 """
+
+from __future__ import annotations
 
 import os
 import shutil
@@ -11,6 +14,7 @@ import sqlite3
 import sys
 import tempfile
 import time
+from collections.abc import Iterator
 
 import measure
 import trace
@@ -22,8 +26,8 @@ REPEATS = 3
 RECORD = 9
 
 
-def case(scratch, count):
-    """A folder of one file, its description and scripts of so many transactions that store in it."""
+def case(scratch: str, count: int) -> tuple[str, str, list[str]]:
+    """A folder of one file, its description, and scripts of `count` transactions that store."""
     folder = os.path.join(scratch, "in")
     os.makedirs(folder, exist_ok=True)
     measure.write(folder, "a", "0")
@@ -31,20 +35,22 @@ def case(scratch, count):
     return spec, folder, trace.write_scripts(scratch, [trace.TRANSACTION] * count)
 
 
-def journaled(scratch, spec, folder, scripts, count):
-    """A journal of so many commits, of which each has its record."""
+def journaled(scratch: str, spec: str, folder: str, scripts: list[str], count: int) -> measure.Run:
+    """A journal of `count` commits, each with its record."""
     out, journal = os.path.join(scratch, "out"), os.path.join(scratch, "journal")
     shutil.rmtree(out, ignore_errors=True)
     if os.path.exists(journal):
         os.remove(journal)
-    ran = measure.done([measure.program(), "journal", spec, folder, out, journal, "none", *scripts], scratch)
+    ran = measure.done(
+        [measure.program(), "journal", spec, folder, out, journal, "none", *scripts], scratch
+    )
     if os.path.getsize(journal) != RECORD * count + 1:
         sys.exit(f"the journal has not {count} records")
     return ran
 
 
-def committed(scratch, mode, count):
-    """The seconds of so many commits of SQLite with a journal of this mode, each of which stores one row."""
+def committed(scratch: str, mode: str, count: int) -> float:
+    """The seconds of `count` commits of SQLite with a journal of this mode, a row each."""
     path = os.path.join(scratch, "peer.db")
     for end in ("", "-wal", "-shm", "-journal"):
         if os.path.exists(path + end):
@@ -64,7 +70,8 @@ def committed(scratch, mode, count):
     return seconds
 
 
-def on_disk(parent, count):
+def on_disk(parent: str, count: int) -> measure.Line:
+    """Commits on a disk, beside SQLite."""
     with tempfile.TemporaryDirectory(dir=parent) as scratch:
         spec, folder, scripts = case(scratch, count)
         nothing = [measure.write(scratch, "nothing", "")]
@@ -78,10 +85,21 @@ def on_disk(parent, count):
             idle.append(journaled(scratch, spec, folder, nothing, 0).seconds)
     seconds = max(min(ours) - min(idle), 0.001)
     more = f"load and save, {min(idle):.3f} s, left out; SQLite with a WAL {min(wal):.3f} s"
-    return measure.Line("journal: commits on a disk", count, seconds, peak, "SQLite, rollback journal, full", min(rollback), more, (of_peer(1.0),), parent)
+    return measure.Line(
+        "journal: commits on a disk",
+        count,
+        seconds,
+        peak,
+        "SQLite, rollback journal, full",
+        min(rollback),
+        more,
+        (of_peer(1.0),),
+        parent,
+    )
 
 
-def in_memory(count):
+def in_memory(count: int) -> measure.Line:
+    """Commits in memory, beside `trace`."""
     with tempfile.TemporaryDirectory() as scratch:
         spec, folder, scripts = case(scratch, count)
         pairs = []
@@ -91,10 +109,19 @@ def in_memory(count):
             pairs.append((ran, trace.traced(scratch, spec, folder, scripts, count)))
     ours = min((pair[0] for pair in pairs), key=lambda ran: ran.seconds)
     plain = min(pair[1].seconds for pair in pairs)
-    return measure.Line("journal: commits in memory", count, ours.seconds, ours.peak_kib, "trace", plain, goals=(of_peer(1.5),))
+    return measure.Line(
+        "journal: commits in memory",
+        count,
+        ours.seconds,
+        ours.peak_kib,
+        "trace",
+        plain,
+        goals=(of_peer(1.5),),
+    )
 
 
-def lines(sizes):
+def lines(sizes: list[int]) -> Iterator[measure.Line]:
+    """The lines of this bench, of these sizes or its own."""
     for disk in measure.disks():
         for count in sizes or SIZES:
             yield on_disk(disk, count)

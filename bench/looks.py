@@ -1,25 +1,33 @@
-"""One transaction that looks many times, under `trace`, whose steps are handed out one by one, and under `run`. And one transaction that has to start again, since another shell stores at the file
-that it reads after each of its looks.
+"""One transaction that looks many times, and one that starts again many times.
+
+The first is run under `trace`, whose steps are handed out one by one, and under `run`. The second
+has to start again, since another shell stores at the file that it reads after each of its looks.
 """
+
+from __future__ import annotations
 
 import os
 import sys
 import tempfile
+from collections.abc import Iterator
 
 import measure
-from goals import NEAR_LINEAR
+from goals import NEAR_LINEAR, Goals
 
 SIZES = [500, 2_000, 8_000]
 ATTEMPTS = [500, 1_000, 2_000]
 REPEATS = 3
 LISTED = '<l : ("list" :: file), {(n :: file) | n in lines(l)}>\n'
-THROUGH = "txn { into next fetch all : names into each n in (all) { down fetch x : str up try end next } }\n"
+THROUGH = (
+    "txn { into next fetch all : names into"
+    " each n in (all) { down fetch x : str up try end next } }\n"
+)
 READER = "txn{down fetch x : str print(x)}\n"
 STORES = ['txn{down store("1")}\n', 'txn{down store("2")}\n']
 ROUND = ["0", "1", "1", "0"]
 
 
-def listed_files(path, count):
+def listed_files(path: str, count: int) -> None:
     """A file that lists the others."""
     os.mkdir(path)
     names = [f"f{i:05}" for i in range(count)]
@@ -28,21 +36,32 @@ def listed_files(path, count):
         measure.write(path, name, "0")
 
 
-def looking(kind, schedule, script, count, goals=()):
-    """A line of a transaction over so many listed files."""
+def looking(
+    kind: str, schedule: list[str], script: str, count: int, goals: Goals = ()
+) -> measure.Line:
+    """A line of a transaction over `count` listed files."""
     with tempfile.TemporaryDirectory() as scratch:
         folder = os.path.join(scratch, "in")
         listed_files(folder, count)
         spec = measure.write(scratch, "spec", LISTED)
         command = "trace" if schedule else "run"
-        words_of = lambda out, shell: [measure.program(), command, spec, folder, out, *schedule, shell]
+        words_of = lambda out, shell: [
+            measure.program(),
+            command,
+            spec,
+            folder,
+            out,
+            *schedule,
+            shell,
+        ]
         ran, seconds, more, _ = measure.beyond(scratch, words_of, "txn { }\n", script, REPEATS)
     if b"\nentry 0 shell 0 txn 0 done\n" not in ran.out:
         sys.exit(f"the transaction was refused: {ran.out[-200:]!r}")
     return measure.Line(kind, count, seconds, ran.peak_kib, more=more, goals=goals)
 
 
-def started_again(count):
+def started_again(count: int) -> measure.Line:
+    """A line of a transaction that comes to its end at attempt `count`."""
     with tempfile.TemporaryDirectory() as scratch:
         folder = os.path.join(scratch, "in")
         os.mkdir(folder)
@@ -51,14 +70,27 @@ def started_again(count):
         reader = measure.write(scratch, "reader", READER)
         writer = measure.write(scratch, "writer", "".join(STORES[i % 2] for i in range(count - 1)))
         schedule = ",".join(ROUND * (count - 1))
-        ran = measure.done([measure.program(), "trace", spec, folder, os.path.join(scratch, "out"), schedule, reader, writer], scratch)
+        ran = measure.done(
+            [
+                measure.program(),
+                "trace",
+                spec,
+                folder,
+                os.path.join(scratch, "out"),
+                schedule,
+                reader,
+                writer,
+            ],
+            scratch,
+        )
     looks = sum(line.startswith(b"look 0 ") for line in ran.out.splitlines())
     if looks != count:
         sys.exit(f"the transaction looked {looks} times, not {count}")
     return measure.Line("trace: attempts of one transaction", count, ran.seconds, ran.peak_kib)
 
 
-def lines(sizes):
+def lines(sizes: list[int]) -> Iterator[measure.Line]:
+    """The lines of this bench, of these sizes or its own."""
     for count in sizes or SIZES:
         yield looking("trace: looks of one transaction", ["none"], THROUGH, count, (NEAR_LINEAR,))
     yield looking("run: looks of one transaction", [], THROUGH, max(sizes or SIZES))

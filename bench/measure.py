@@ -1,8 +1,12 @@
-"""What the benches share: where folders are made, a command that is run once and measured, and the table of what was measured.
+"""What the benches share: where folders are made, commands that are measured, and the table.
 
-Folders are made in memory, below /dev/shm, where that is one; what is measured on a disk below TMPDIR, or below BENCH_DISK. Measured are seconds of wall clock, the command's own seconds of processor (those of the system left out), peak memory in
-KiB, status and its two outputs. The peak is at least that of the script that measures, some 13 MiB.
+Folders are made in memory, below /dev/shm, if that is a file system in memory. What is measured on
+a disk is made below BENCH_DISK, or else below TMPDIR. Measured are seconds of wall clock, the
+command's own seconds of processor (those of the system left out), peak memory in KiB, status and
+both outputs. The peak is at least that of the script that measures, some 13 MiB.
 """
+
+from __future__ import annotations
 
 import os
 import shutil
@@ -10,12 +14,15 @@ import subprocess
 import sys
 import tempfile
 import time
+from collections.abc import Callable, Iterable, Sequence
 from dataclasses import dataclass
+
+from goals import Goals
 
 KIB_OF_MIB = 1024
 
 
-def file_system(folder):
+def file_system(folder: str) -> str:
     """The kind of the file system on which a folder lies."""
     ran = subprocess.run(["df", "--output=fstype", folder], capture_output=True, text=True)
     return ran.stdout.split()[-1] if ran.returncode == 0 else "unknown"
@@ -23,27 +30,40 @@ def file_system(folder):
 
 IN_MEMORY = {"tmpfs", "ramfs"}
 MEMORY, DISK = "/dev/shm", os.environ.get("BENCH_DISK") or tempfile.gettempdir()
-if file_system(MEMORY) in IN_MEMORY and os.access(MEMORY, os.W_OK):
-    tempfile.tempdir = MEMORY
 
 
-def disks():
+def use_memory() -> None:
+    """Has all folders made in memory that are not asked for on a disk."""
+    if file_system(MEMORY) in IN_MEMORY and os.access(MEMORY, os.W_OK):
+        tempfile.tempdir = MEMORY
+
+
+def disks() -> list[str]:
     """The folder on a disk, if there is one."""
     return [] if file_system(DISK) in IN_MEMORY else [DISK]
 
 
+@dataclass
 class Run:
-    def __init__(self, seconds, user, peak_kib, status, out, err):
-        self.seconds = seconds
-        self.user = user
-        self.peak_kib = peak_kib
-        self.status = status
-        self.out = out
-        self.err = err
+    """A command that has ended: its seconds, its memory, its status and what it printed."""
+
+    seconds: float
+    user: float
+    peak_kib: int
+    status: int
+    out: bytes
+    err: bytes
 
 
-def run(words, scratch):
-    """Runs the words. The outputs go through files of the folder `scratch`, so that no pipe slows the program."""
+Maker = Callable[[str], "list[str]"]
+"""The words of a command that writes to this folder."""
+
+
+def run(words: list[str], scratch: str) -> Run:
+    """Runs the words.
+
+    The outputs go through files of the folder `scratch`, so that no pipe slows the program.
+    """
     out_path = os.path.join(scratch, "stdout")
     err_path = os.path.join(scratch, "stderr")
     with open(out_path, "wb") as out, open(err_path, "wb") as err:
@@ -53,51 +73,63 @@ def run(words, scratch):
         seconds = time.monotonic() - begin
         child.returncode = os.waitstatus_to_exitcode(status)
     with open(out_path, "rb") as out, open(err_path, "rb") as err:
-        return Run(seconds, usage.ru_utime, usage.ru_maxrss, child.returncode, out.read(), err.read())
+        return Run(
+            seconds, usage.ru_utime, usage.ru_maxrss, child.returncode, out.read(), err.read()
+        )
 
 
-def done(words, scratch):
-    """Runs the words, and ends the bench where their status is not 0."""
+def done(words: list[str], scratch: str) -> Run:
+    """Runs the words, and ends the bench if their status is not 0."""
     ran = run(words, scratch)
     if ran.status != 0:
         sys.exit(f"status {ran.status}: {ran.err.decode(errors='replace')}")
     return ran
 
 
-def best(scratch, makers, repeats):
-    """Of each command the fastest of some runs, and the folder that its last run made. The commands take turns, so that a
-    machine that is busy for a while slows all of them.
+def best(scratch: str, makers: Sequence[Maker], repeats: int) -> list[tuple[Run, str]]:
+    """Of each command the fastest of some runs, and the folder that its last run made.
+
+    The commands take turns, so that a machine that is busy for a while slows all of them.
     """
-    fastest, outs = [None for _ in makers], [os.path.join(scratch, f"out{i}") for i in range(len(makers))]
+    outs = [os.path.join(scratch, f"out{i}") for i in range(len(makers))]
+    runs: list[list[Run]] = [[] for _ in makers]
     for _ in range(repeats):
-        for i, (words_of, out) in enumerate(zip(makers, outs)):
+        for words_of, out, ran in zip(makers, outs, runs):
             shutil.rmtree(out, ignore_errors=True)
-            ran = done(words_of(out), scratch)
-            if fastest[i] is None or ran.seconds < fastest[i].seconds:
-                fastest[i] = ran
-    return list(zip(fastest, outs))
+            ran.append(done(words_of(out), scratch))
+    return [(min(ran, key=lambda it: it.seconds), out) for ran, out in zip(runs, outs)]
 
 
-def beyond(scratch, words_of, none, script, repeats):
-    """A run of a script, its seconds without those of a script that does nothing, and a word on these."""
-    texts = [write(scratch, name, text) for name, text in (("none", none), ("some", script))]
-    makers = [lambda out, shell=shell: words_of(out, shell) for shell in texts]
+def beyond(
+    scratch: str, words_of: Callable[[str, str], list[str]], none: str, some: str, repeats: int
+) -> tuple[Run, float, str, str]:
+    """A run of the script `some`, what it took beyond that of `none`, and the folder that it made.
+
+    The second is its seconds without those of `none`, the third a word on these.
+    """
+
+    def maker(name: str, text: str) -> Maker:
+        shell = write(scratch, name, text)
+        return lambda out: words_of(out, shell)
+
+    makers = [maker("none", none), maker("some", some)]
     (idle, _), (ran, out) = best(scratch, makers, repeats)
-    return ran, max(ran.seconds - idle.seconds, 0.001), f"load and save, {idle.seconds:.3f} s, left out", out
+    more = f"load and save, {idle.seconds:.3f} s, left out"
+    return ran, max(ran.seconds - idle.seconds, 0.001), more, out
 
 
-def check_same(folder, out):
-    """Ends the bench where two folders differ."""
+def check_same(folder: str, out: str) -> None:
+    """Ends the bench if two folders differ."""
     if subprocess.run(["diff", "-r", "-q", folder, out], stdout=subprocess.DEVNULL).returncode != 0:
         sys.exit("the folder that was written differs from the one that was read")
 
 
-def program():
+def program() -> str:
     """The program that all.sh built."""
     return os.environ["TXFOREST"]
 
 
-def write(folder, name, text):
+def write(folder: str, name: str, text: str) -> str:
     """A file of a folder, and its path."""
     path = os.path.join(folder, name)
     with open(path, "w") as file:
@@ -107,7 +139,10 @@ def write(folder, name, text):
 
 @dataclass
 class Line:
-    """A line of the table, with what it has to reach. Lines of one kind that follow each other are told by their growth."""
+    """A line of the table, with what it has to reach.
+
+    Lines of one kind that follow each other are told by their growth.
+    """
 
     kind: str
     size: int
@@ -116,51 +151,86 @@ class Line:
     peer: str = ""
     peer_seconds: float | None = None
     more: str = ""
-    goals: tuple = ()
+    goals: Goals = ()
     folder: str | None = None
 
+    def peer_time(self) -> float:
+        """The peer's seconds, of a line that has a peer."""
+        assert self.peer_seconds is not None, "a goal of the peer is for a line with a peer"
+        return self.peer_seconds
 
-HEAD = ["", "size", "on", "s", "peak MiB", "per size", "peer s", "ratio", "goal: at most", "", "peer"]
+
+HEAD = [
+    "",
+    "size",
+    "on",
+    "s",
+    "peak MiB",
+    "per size",
+    "peer s",
+    "ratio",
+    "goal: at most",
+    "",
+    "peer",
+]
 WIDTHS = [46, 11, 6, 8, 8, 8, 8, 6, 28, 7, 0]
 TO_THE_LEFT = {0, 2, 8, 9, 10}
 
 
-def growth(after, before):
+def growth(after: Line, before: Line | None) -> str:
     """How many times more seconds, per how many times more input; 1 is linear."""
     if before is None:
         return ""
     return f"{after.seconds / before.seconds * before.size / after.size:.2f}"
 
 
-def verdict(line, before):
-    """Whether a line reaches its goals: None where none of them says anything."""
+def verdict(line: Line, before: Line | None) -> bool | None:
+    """Whether a line reaches its goals; None if none of them says anything."""
     said = [met for met in (goal.is_met(line, before) for goal in line.goals) if met is not None]
     return all(said) if said else None
 
 
-def cells(line, before, is_first):
+def cells(line: Line, before: Line | None, is_first: bool) -> list[str]:
+    """The cells of a line; its kind stands in the first of its lines."""
     peer, more = ["", ""], line.more
     if line.peer_seconds is not None:
         more = f"{line.peer}; {line.more}" if line.more else line.peer
         peer = [f"{line.peer_seconds:.3f}", f"{line.seconds / line.peer_seconds:.2f}"]
-    kind, met = line.kind if is_first else "", {None: "", True: "met", False: "not met"}[verdict(line, before)]
+    kind = line.kind if is_first else ""
+    met = {None: "", True: "met", False: "not met"}[verdict(line, before)]
     where = file_system(line.folder or tempfile.gettempdir())
     numbers = [f"{line.seconds:.3f}", f"{line.peak_kib // KIB_OF_MIB}", growth(line, before)]
-    return [kind, f"{line.size:,}", where, *numbers, *peer, ", ".join(goal.words for goal in line.goals), met, more]
+    return [
+        kind,
+        f"{line.size:,}",
+        where,
+        *numbers,
+        *peer,
+        ", ".join(goal.words for goal in line.goals),
+        met,
+        more,
+    ]
 
 
-def row(words):
-    print("  ".join(word.ljust(width) if i in TO_THE_LEFT else word.rjust(width) for i, (word, width) in enumerate(zip(words, WIDTHS))).rstrip(), flush=True)
+def row(words: list[str]) -> None:
+    """Prints a row of the table."""
+    laid_out = [
+        word.ljust(width) if i in TO_THE_LEFT else word.rjust(width)
+        for i, (word, width) in enumerate(zip(words, WIDTHS))
+    ]
+    print("  ".join(laid_out).rstrip(), flush=True)
 
 
-def print_table(lines):
+def print_table(lines: Iterable[Line]) -> None:
     """Prints each line as soon as it is measured, and at the end how many reach their goals."""
     row(HEAD)
-    last, verdicts = None, []
+    last: Line | None = None
+    verdicts = []
     for line in lines:
         is_first = last is None or (last.kind, last.folder) != (line.kind, line.folder)
-        before = None if is_first or last.size == line.size else last
+        before = None if last is None or is_first or last.size == line.size else last
         row(cells(line, before, is_first))
         verdicts.append(verdict(line, before))
         last = line
-    print(f"{verdicts.count(True)} met, {verdicts.count(False)} not met, {verdicts.count(None)} without a goal")
+    met, missed, open_ = (verdicts.count(verdict) for verdict in (True, False, None))
+    print(f"{met} met, {missed} not met, {open_} without a goal")

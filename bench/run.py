@@ -1,6 +1,10 @@
-"""`txforest run` over flat folders of small files and over one large file, against `cp -r` of the same folder, in memory and on a disk. Beside
-both stands what the calls alone take (`bare.c`).
+"""`txforest run` over flat folders of small files, and over one large file.
+
+Beside it stands `cp -r` of the same folder, in memory and on a disk, and what the calls alone take
+(`bare.c`).
 """
+
+from __future__ import annotations
 
 import atexit
 import functools
@@ -9,9 +13,10 @@ import shutil
 import subprocess
 import sys
 import tempfile
+from collections.abc import Callable, Iterator
 
 import measure
-from goals import of_peer
+from goals import Goals, of_peer
 
 SIZES = [1_000, 10_000, 99_999]
 LARGE_FILE = 1_048_576
@@ -25,19 +30,19 @@ LARGE = 20_000
 OF_CP, OF_CP_ON_DISK = of_peer(0.9), of_peer(0.3)
 
 
-def flat_folder(path, count):
+def flat_folder(path: str, count: int) -> None:
     os.mkdir(path)
     for i in range(count):
         measure.write(path, f"f{i:05}", f"{i % 1000}")
 
 
-def large_folder(path, size):
+def large_folder(path: str, size: int) -> None:
     os.mkdir(path)
     measure.write(path, "f00000", "x" * size)
 
 
 @functools.cache
-def bare():
+def bare() -> list[str]:
     """The program of the calls alone, as a list of it, or nothing where no compiler is."""
     compiler = shutil.which("cc")
     if compiler is None:
@@ -50,32 +55,57 @@ def bare():
     return [program]
 
 
-def beside_cp(kind, make, size, description=DESCRIPTION, script=SCRIPT, goals=(), disk=None):
-    """A run over a folder that `make` makes, beside `cp -r` of it, where the run leaves the folder as it is."""
+def beside_cp(
+    kind: str,
+    make: Callable[[str, int], None],
+    size: int,
+    description: str = DESCRIPTION,
+    script: str = SCRIPT,
+    goals: Goals = (),
+    disk: str | None = None,
+) -> measure.Line:
+    """A run over a folder that `make` makes, beside `cp -r` of it; the run leaves it as it is."""
     with tempfile.TemporaryDirectory(dir=disk) as scratch:
         folder = os.path.join(scratch, "in")
         make(folder, size)
         spec = measure.write(scratch, "spec", description)
         shell = measure.write(scratch, "script", script)
-        ours_of = lambda out: [measure.program(), "run", spec, folder, out, shell]
-        copied_of = lambda out: ["cp", "-r", folder, out]
-        bare_of = [lambda out: [*bare(), folder, out]] if bare() else []
-        (ours, out), (copied, _), *calls = measure.best(scratch, [ours_of, copied_of, *bare_of], REPEATS_ON_DISK if disk else REPEATS)
+        makers: list[measure.Maker] = [
+            lambda out: [measure.program(), "run", spec, folder, out, shell],
+            lambda out: ["cp", "-r", folder, out],
+        ]
+        if bare():
+            makers.append(lambda out: [*bare(), folder, out])
+        repeats = REPEATS_ON_DISK if disk else REPEATS
+        (ours, out), (copied, _), *calls = measure.best(scratch, makers, repeats)
         if ours.out != REPORT:
             sys.exit(f"another report: {ours.out[:200]!r}")
         measure.check_same(folder, out)
-        more = "".join(f"its calls alone {ran.seconds:.3f} s, " for ran, _ in calls) + f"{ours.user:.3f} s in the program"
-        return measure.Line(kind, size, ours.seconds, ours.peak_kib, "cp -r", copied.seconds, more, goals, disk)
+        alone = "".join(f"its calls alone {ran.seconds:.3f} s, " for ran, _ in calls)
+        more = f"{alone}{ours.user:.3f} s in the program"
+        return measure.Line(
+            kind, size, ours.seconds, ours.peak_kib, "cp -r", copied.seconds, more, goals, disk
+        )
 
 
-def everywhere(kind, make, sizes, description=DESCRIPTION, script=SCRIPT):
+def everywhere(
+    kind: str,
+    make: Callable[[str, int], None],
+    sizes: list[int],
+    description: str = DESCRIPTION,
+    script: str = SCRIPT,
+) -> Iterator[measure.Line]:
     """Lines of these sizes in memory, and of the last one on a disk."""
     for size in sizes:
-        yield beside_cp(kind, make, size, description, script, (OF_CP,) if size >= LARGE else ())
+        goals = (OF_CP,) if size >= LARGE else ()
+        yield beside_cp(kind, make, size, description, script, goals)
+    most = sizes[-1]
     for disk in measure.disks():
-        yield beside_cp(kind, make, sizes[-1], description, script, (OF_CP_ON_DISK,) if sizes[-1] >= LARGE else (), disk)
+        goals = (OF_CP_ON_DISK,) if most >= LARGE else ()
+        yield beside_cp(kind, make, most, description, script, goals, disk)
 
 
-def lines(sizes):
+def lines(sizes: list[int]) -> Iterator[measure.Line]:
+    """The lines of this bench, of these sizes or its own."""
     yield beside_cp("run: bytes in one file", large_folder, LARGE_FILE, goals=(of_peer(1.5),))
     yield from everywhere("run: files in one folder", flat_folder, sizes or SIZES)

@@ -1,8 +1,10 @@
-"""SQLite by python's sqlite3, which does the same counts, appends and insertions as shells do: in memory on one thread, or in a
-file with a journal (WAL, without sync) on a thread a shell.
+"""SQLite by Python's sqlite3, which does the same counts, appends and insertions as shells do.
 
-A step is a pair of a counter and of None, where it counts, or of a text, where it appends that. Each is a transaction.
+It works in memory on one thread, or in a file with a journal (WAL, without sync) on a thread for
+each shell. Each step is a transaction.
 """
+
+from __future__ import annotations
 
 import os
 import sqlite3
@@ -10,14 +12,19 @@ import tempfile
 import threading
 import time
 
+Step = tuple[int, "str | None"]
+"""A counter, and what is appended to its log; None if it counts."""
 
-def made(connection, counters):
+
+def made(connection: sqlite3.Connection, counters: int) -> None:
+    """Makes the tables."""
     connection.execute("CREATE TABLE counts (id INTEGER PRIMARY KEY, n INTEGER)")
     connection.execute("CREATE TABLE logs (id INTEGER, name TEXT, PRIMARY KEY (id, name))")
     connection.executemany("INSERT INTO counts VALUES (?, 0)", [(i,) for i in range(counters)])
 
 
-def do(connection, counter, text):
+def do(connection: sqlite3.Connection, counter: int, text: str | None) -> None:
+    """Does a step."""
     connection.execute("BEGIN IMMEDIATE")
     if text is None:
         (n,) = connection.execute("SELECT n FROM counts WHERE id = ?", (counter,)).fetchone()
@@ -27,7 +34,8 @@ def do(connection, counter, text):
     connection.execute("COMMIT")
 
 
-def do_all(connection, steps):
+def do_all(connection: sqlite3.Connection, steps: list[Step]) -> None:
+    """Does steps, each again until it is done."""
     for counter, text in steps:
         while True:
             try:
@@ -38,7 +46,8 @@ def do_all(connection, steps):
                     connection.execute("ROLLBACK")
 
 
-def in_memory(counters, shells):
+def in_memory(counters: int, shells: list[list[Step]]) -> float:
+    """The seconds of all steps, in memory on one thread."""
     connection = sqlite3.connect(":memory:", isolation_level=None)
     made(connection, counters)
     begin = time.monotonic()
@@ -47,8 +56,8 @@ def in_memory(counters, shells):
     return time.monotonic() - begin
 
 
-def insertions(there, count):
-    """Adds so many names to a table of names in memory, a transaction each."""
+def insertions(there: int, count: int) -> float:
+    """Adds `count` names to a table of names in memory, a transaction each."""
     connection = sqlite3.connect(":memory:", isolation_level=None)
     connection.execute("CREATE TABLE names (name TEXT PRIMARY KEY)")
     connection.executemany("INSERT INTO names VALUES (?)", [(f"f{i:05}",) for i in range(there)])
@@ -60,21 +69,23 @@ def insertions(there, count):
     return time.monotonic() - begin
 
 
-def connected(path):
+def connected(path: str) -> sqlite3.Connection:
+    """A connection to a file with a WAL, without sync."""
     connection = sqlite3.connect(path, timeout=60, isolation_level=None)
     connection.execute("PRAGMA journal_mode=WAL")
     connection.execute("PRAGMA synchronous=OFF")
     return connection
 
 
-def with_journal(counters, shells):
+def with_journal(counters: int, shells: list[list[Step]]) -> float:
+    """The seconds of all steps, in a file on a thread for each shell."""
     with tempfile.TemporaryDirectory() as scratch:
         path = os.path.join(scratch, "db")
         first = connected(path)
         made(first, counters)
         first.close()
 
-        def work(steps):
+        def work(steps: list[Step]) -> None:
             connection = connected(path)
             do_all(connection, steps)
             connection.close()
@@ -88,23 +99,25 @@ def with_journal(counters, shells):
         return time.monotonic() - begin
 
 
-def with_reader(rows, writers, each):
-    """So many threads that count so often in a row of their own, and a reader beside them that looks at every row in one
-    transaction. The seconds of the writers, and those of the reader.
+def with_reader(rows: int, writers: int, each: int) -> tuple[float, float]:
+    """The seconds of writers that count, and those of a reader beside them.
+
+    Each writer is a thread that counts `each` times in a row of its own. The reader looks at every
+    row in one transaction.
     """
     with tempfile.TemporaryDirectory() as scratch:
         path = os.path.join(scratch, "db")
         first = connected(path)
         made(first, rows + writers)
         first.close()
-        reading = []
+        reading: list[float] = []
 
-        def work(steps):
+        def work(steps: list[Step]) -> None:
             connection = connected(path)
             do_all(connection, steps)
             connection.close()
 
-        def look():
+        def look() -> None:
             connection = connected(path)
             begin = time.monotonic()
             connection.execute("BEGIN")
@@ -115,7 +128,9 @@ def with_reader(rows, writers, each):
             connection.close()
 
         reader = threading.Thread(target=look)
-        threads = [threading.Thread(target=work, args=([(rows + i, None)] * each,)) for i in range(writers)]
+        threads = [
+            threading.Thread(target=work, args=([(rows + i, None)] * each,)) for i in range(writers)
+        ]
         begin = time.monotonic()
         for thread in [*threads, reader]:
             thread.start()

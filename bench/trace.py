@@ -1,8 +1,11 @@
 """`txforest trace` over many transactions of one file each, by the schedule `none`."""
 
+from __future__ import annotations
+
 import os
 import sys
 import tempfile
+from collections.abc import Iterator
 
 import measure
 
@@ -12,7 +15,7 @@ TEXT_LIMIT = 65_536
 SCRIPT_LIMIT = 64
 
 
-def write_scripts(scratch, transactions):
+def write_scripts(scratch: str, transactions: list[str]) -> list[str]:
     """Scripts of these transactions, as few as their limit of bytes allows."""
     texts = [""]
     for transaction in transactions:
@@ -24,15 +27,19 @@ def write_scripts(scratch, transactions):
     return [measure.write(scratch, f"s{i}", text) for i, text in enumerate(texts)]
 
 
-def traced(scratch, spec, folder, scripts, count):
+def traced(scratch: str, spec: str, folder: str, scripts: list[str], count: int) -> measure.Run:
     """A trace of so many transactions, which all become entries."""
-    ran = measure.done([measure.program(), "trace", spec, folder, os.path.join(scratch, "out"), "none", *scripts], scratch)
+    ran = measure.done(
+        [measure.program(), "trace", spec, folder, os.path.join(scratch, "out"), "none", *scripts],
+        scratch,
+    )
     if f"entries {count}\n".encode() not in ran.out:
         sys.exit(f"the report has not {count} entries")
     return ran
 
 
-def lines(sizes):
+def lines(sizes: list[int]) -> Iterator[measure.Line]:
+    """The lines of this bench, of these sizes or its own."""
     for count in sizes or SIZES:
         with tempfile.TemporaryDirectory() as scratch:
             folder = os.path.join(scratch, "in")
@@ -42,4 +49,6 @@ def lines(sizes):
             scripts = write_scripts(scratch, [TRANSACTION] * count)
             ran = traced(scratch, spec, folder, scripts, count)
         more = f"{len(scripts)} scripts, {len(ran.out):,} bytes printed"
-        yield measure.Line("trace: transactions on one file", count, ran.seconds, ran.peak_kib, more=more)
+        yield measure.Line(
+            "trace: transactions on one file", count, ran.seconds, ran.peak_kib, more=more
+        )

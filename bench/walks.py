@@ -1,10 +1,15 @@
-"""Walks and edits where there are many names: moves from element to element of a comprehension over 50,000 names; names that
-one transaction adds one by one to a directory of 50,000; files that are created there, by a transaction each.
+"""Walks and edits in the midst of many names.
+
+Moves from element to element of a comprehension over 50,000 names. Names that one transaction adds
+one by one to a directory of 50,000. Files that are created there, by a transaction each.
 """
+
+from __future__ import annotations
 
 import os
 import sys
 import tempfile
+from collections.abc import Iterator
 
 import measure
 import sqlite_peer
@@ -22,39 +27,65 @@ MOVE_REPEATS = 5
 LISTED = '<l : ("list" :: file), {(n :: file) | n in lines(l)}>\n'
 
 
-def walked(scratch, spec, commands, repeats):
-    """A run of a transaction of these commands over the folder `in`, as `measure.beyond` tells it."""
+def walked(
+    scratch: str, spec: str, commands: str, repeats: int
+) -> tuple[measure.Run, float, str, str]:
+    """A run of a transaction of commands over the folder `in`, as `measure.beyond` tells it."""
     spec = measure.write(scratch, "spec", spec)
-    words_of = lambda out, shell: [measure.program(), "run", spec, os.path.join(scratch, "in"), out, shell]
-    ran, seconds, more, out = measure.beyond(scratch, words_of, "txn { }\n", f"txn {{ {commands} }}\n", repeats)
+    words_of = lambda out, shell: [
+        measure.program(),
+        "run",
+        spec,
+        os.path.join(scratch, "in"),
+        out,
+        shell,
+    ]
+    ran, seconds, more, out = measure.beyond(
+        scratch, words_of, "txn { }\n", f"txn {{ {commands} }}\n", repeats
+    )
     if b"\nentry 0 shell 0 txn 0 done\n" not in ran.out:
         sys.exit(f"the transaction was refused: {ran.out[:200]!r}")
     return ran, seconds, more, out
 
 
-def moves(count):
+def moves(count: int) -> measure.Line:
+    """A transaction of `count` moves."""
     with tempfile.TemporaryDirectory() as scratch:
         folder = os.path.join(scratch, "in")
         os.mkdir(folder)
         measure.write(folder, "list", "".join(f"f{i:05}\n" for i in range(NAMES)))
-        ran, seconds, more, _ = walked(scratch, LISTED, "into next into " + "next " * count, MOVE_REPEATS)
-    return measure.Line(f"run: `next` among {NAMES:,} names", count, seconds, ran.peak_kib, more=more)
+        ran, seconds, more, _ = walked(
+            scratch, LISTED, "into next into " + "next " * count, MOVE_REPEATS
+        )
+    return measure.Line(
+        f"run: `next` among {NAMES:,} names", count, seconds, ran.peak_kib, more=more
+    )
 
 
-def additions(count):
+def additions(count: int) -> measure.Line:
+    """A transaction that adds `count` names."""
     with tempfile.TemporaryDirectory() as scratch:
         empty_files(os.path.join(scratch, "in"), NAMES)
         added = "".join(f"a{i:04}\\n" for i in range(count))
-        commands = f'fetch d : names each n in (lines("{added}")) {{ set d = (d union one(n)) store(d) }}'
+        commands = (
+            f'fetch d : names each n in (lines("{added}")) {{ set d = (d union one(n)) store(d) }}'
+        )
         ran, seconds, more, out = walked(scratch, "dir\n", commands, 1)
         if len(os.listdir(out)) != NAMES + count:
             sys.exit("not every name was added")
     goal = each(3, MILLISECONDS, count)
-    return measure.Line(f"run: names added to {NAMES:,} one by one", count, seconds, ran.peak_kib, more=more, goals=(goal,))
+    return measure.Line(
+        f"run: names added to {NAMES:,} one by one",
+        count,
+        seconds,
+        ran.peak_kib,
+        more=more,
+        goals=(goal,),
+    )
 
 
-def created(names):
-    """So many files, each made by a transaction of its own in a directory that has these names already."""
+def created(names: int) -> measure.Line:
+    """Files, each made by a transaction of its own in a directory that has `names` names."""
     with tempfile.TemporaryDirectory() as scratch:
         folder = os.path.join(scratch, "in")
         empty_files(folder, names)
@@ -66,11 +97,24 @@ def created(names):
         ran, seconds, more, out = measure.beyond(scratch, words_of, "", script, CREATED_REPEATS)
         if ran.out.count(b" done\n") != CREATED or len(os.listdir(out)) != names + CREATED:
             sys.exit(f"not every file was made: {ran.out[:200]!r}")
-    peer, goals = sqlite_peer.insertions(names, CREATED), (each(30, MICROSECONDS, CREATED), NEAR_LINEAR)
-    return measure.Line(f"run: {CREATED:,} files created among names", names, seconds, ran.peak_kib, "SQLite, memory", peer, more, goals)
+    peer, goals = sqlite_peer.insertions(names, CREATED), (
+        each(30, MICROSECONDS, CREATED),
+        NEAR_LINEAR,
+    )
+    return measure.Line(
+        f"run: {CREATED:,} files created among names",
+        names,
+        seconds,
+        ran.peak_kib,
+        "SQLite, memory",
+        peer,
+        more,
+        goals,
+    )
 
 
-def lines(sizes):
+def lines(sizes: list[int]) -> Iterator[measure.Line]:
+    """The lines of this bench, of these sizes or its own."""
     yield from (moves(count) for count in sizes or SIZES)
     yield from (additions(count) for count in sizes or ADDED)
     yield from (created(names) for names in CREATED_AMONG)

@@ -1,10 +1,14 @@
-"""`txforest watch` beside `txforest trace` of the same scripts, in a folder of 50,000 files: many entries that change no path on
-which the answer rests, and a few that do, which are told by the walk.
+"""`txforest watch` beside `txforest trace` of the same scripts, in a folder of 50,000 files.
+
+Most entries change no path on which the answer rests. A few do, and the walk tells these.
 """
+
+from __future__ import annotations
 
 import os
 import sys
 import tempfile
+from collections.abc import Iterator
 
 import measure
 from folders import directories
@@ -24,35 +28,60 @@ LOOK = 'txn{into next to("d0000")down into next to("f00000")down fetch x:str}\n'
 STORE_INSIDE = 'txn{into next to("d0000")down into next to("f00000")down store("%d")}\n'
 
 
-def beside_trace(description, transactions, files):
+def beside_trace(
+    description: str, transactions: list[str], files: int
+) -> tuple[measure.Run, measure.Run]:
     """The fastest runs of `watch` and of `trace`."""
     with tempfile.TemporaryDirectory() as scratch:
         folder = os.path.join(scratch, "in")
         directories(folder, files)
         spec = measure.write(scratch, "spec", description)
         scripts = write_scripts(scratch, transactions)
-        makers = [lambda out, word=word: [measure.program(), word, spec, folder, out, "none", *scripts] for word in ("watch", "trace")]
+        makers = [
+            lambda out, word=word: [measure.program(), word, spec, folder, out, "none", *scripts]
+            for word in ("watch", "trace")
+        ]
         (watched, _), (traced, _) = measure.best(scratch, makers, REPEATS)
-    if watched.out.count(b"\nvalid ") != len(transactions) or watched.out.count(b" done\n") != len(transactions):
+    if watched.out.count(b"\nvalid ") != len(transactions) or watched.out.count(b" done\n") != len(
+        transactions
+    ):
         sys.exit(f"not every transaction is done and watched: {watched.out[:200]!r}")
     return watched, traced
 
 
-def spared(kind, description, transactions):
+def spared(kind: str, description: str, transactions: list[str]) -> measure.Line:
+    """Transactions that change nothing on which the answer rests."""
     watched, traced = beside_trace(description, transactions, FILES)
-    return measure.Line(kind, len(transactions), watched.seconds, watched.peak_kib, "trace", traced.seconds, goals=(of_peer(1.3),))
+    return measure.Line(
+        kind,
+        len(transactions),
+        watched.seconds,
+        watched.peak_kib,
+        "trace",
+        traced.seconds,
+        goals=(of_peer(1.3),),
+    )
 
 
-def walked(files):
+def walked(files: int) -> measure.Line:
     """The time of one walk: that of the folder as it was read, and one behind each entry."""
     watched, traced = beside_trace(WHOLE, [STORE_INSIDE % i for i in range(WALKS)], files)
     seconds = max(watched.seconds - traced.seconds, 0.001) / (WALKS + 1)
-    return measure.Line("watch: one walk, by files", files, seconds, watched.peak_kib, more=f"of {WALKS + 1}; trace, {traced.seconds:.3f} s, left out")
+    return measure.Line(
+        "watch: one walk, by files",
+        files,
+        seconds,
+        watched.peak_kib,
+        more=f"of {WALKS + 1}; trace, {traced.seconds:.3f} s, left out",
+    )
 
 
-def lines(sizes):
+def lines(sizes: list[int]) -> Iterator[measure.Line]:
+    """The lines of this bench, of these sizes or its own."""
     for count in sizes or ENTRIES:
-        yield spared("watch: stores that the answer does not rest on", FEW, [STORE % i for i in range(count)])
+        yield spared(
+            "watch: stores that the answer does not rest on", FEW, [STORE % i for i in range(count)]
+        )
     for count in sizes or ENTRIES:
         yield spared("watch: transactions that only read", WHOLE, [LOOK] * count)
     yield from (walked(files) for files in WALKED)

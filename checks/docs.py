@@ -1,13 +1,20 @@
-"""Runs the commands that documents show, and compares what they print; follows the links between the documents.
+"""Runs the commands that documents show, and follows the links between documents.
 
 usage: docs.py PROGRAM DOCUMENT..
 
-A line `<!-- stage FOLDER -->` begins a stage: a fresh copy of that folder of the repository, or an empty folder for `-`. In
-a block of kind `console` a line that begins with `$ ` is a command, lines that begin with `> ` go on with it, and the others
-are what it prints. A block of kind `sh` is commands that can be pasted as they are, and a block of kind `text` right behind
-it what they print, nothing where there is none. Standard error is printed too. `txforest` stands for PROGRAM, and the tools
-are on the PATH. Ends with 1 where something else is printed, or where a link leads nowhere, and shows it.
+A line `<!-- stage FOLDER -->` begins a stage: a fresh copy of that folder of the repository, or an
+empty folder for `-`. In a block of kind `console` a line that begins with `$ ` is a command, lines
+that begin with `> ` go on with it, and the others are what it prints. A block of kind `sh` is
+commands that can be pasted as they are. A block of kind `text` right behind it is what they print;
+without one they print nothing. Standard error is printed too. `txforest` stands for PROGRAM, and
+the tools are on the PATH.
+
+Then every link of every page is followed, in the repository and once `./install` has put the pages
+elsewhere; each folder of examples/ has its paragraph; and the words of the language and of the
+commands are the same wherever they are listed. Ends with 1 at the first fault, which it shows.
 """
+
+from __future__ import annotations
 
 import os
 import re
@@ -15,49 +22,95 @@ import shutil
 import subprocess
 import sys
 import tempfile
+from collections.abc import Iterator
 
-top = os.path.dirname(os.path.dirname(os.path.abspath(__file__)))
-program, documents = os.path.abspath(sys.argv[1]), sys.argv[2:]
-BLOCKS = re.compile(r"<!-- stage (\S+) -->|^```console\n(.*?)^```$|^```sh\n(.*?)^```$(?:\n\n^```text\n(.*?)^```$)?", re.DOTALL | re.MULTILINE)
+import words_of_language
+from repository import TOP
+
+BLOCKS = re.compile(
+    r"<!-- stage (\S+) -->"
+    r"|^```console\n(.*?)^```$"
+    r"|^```sh\n(.*?)^```$(?:\n\n^```text\n(.*?)^```$)?",
+    re.DOTALL | re.MULTILINE,
+)
+FENCED = re.compile(r"(?ms)^```.*?^```$")
+LINK = re.compile(r"\]\(([^()\s]+)\)")
+SECONDS = 120
 
 
-def commands_of(block):
+def text_of(path: str) -> str:
+    """What a file holds."""
+    with open(path, encoding="utf-8") as it:
+        return it.read()
+
+
+# ---- commands
+
+
+def commands_of(block: str) -> list[tuple[str, str]]:
     """The commands of a console block, each with what it is to print."""
-    found = []
+    found: list[tuple[str, str]] = []
     for line in block.splitlines():
         if line.startswith("$ "):
-            found.append([line[2:], ""])
-        elif line.startswith("> ") and not found[-1][1]:
-            found[-1][0] += "\n" + line[2:]
+            found.append((line[2:], ""))
+            continue
+        command, printed = found[-1]
+        if line.startswith("> ") and not printed:
+            found[-1] = (f"{command}\n{line[2:]}", "")
         else:
-            found[-1][1] += line + "\n"
+            found[-1] = (command, f"{printed}{line}\n")
     return found
 
 
-def run(document, room):
+def steps_of(text: str) -> Iterator[tuple[str, str, str]]:
+    """The stages, commands and scripts of a page: which of them, its text, and what it prints."""
+    for folder, console, script, printed in BLOCKS.findall(text):
+        if folder:
+            yield "stage", folder, ""
+        elif script:
+            yield "script", script, printed
+        else:
+            for command, wanted in commands_of(console):
+                yield "command", command, wanted
+
+
+def run(program: str, document: str, room: str) -> int:
     """Runs the commands of a document; answers how many there were."""
     os.mkdir(f"{room}/bin")
     os.symlink(program, f"{room}/bin/txforest")
-    words = {**os.environ, "PATH": f"{room}/bin:{top}/tools:{os.environ['PATH']}", "TXFOREST": program, "LC_ALL": "C.UTF-8"}
-    stage, count = None, 0
-    with open(os.path.join(top, document), encoding="utf-8") as it:
-        text = it.read()
-    for folder, console, script, printed in BLOCKS.findall(text):
-        if folder:
+    path = f"{room}/bin:{TOP}/tools:{os.environ['PATH']}"
+    words = {**os.environ, "PATH": path, "TXFOREST": program, "LC_ALL": "C.UTF-8"}
+    stage, count = room, 0
+    for kind, text, wanted in steps_of(text_of(os.path.join(TOP, document))):
+        if kind == "stage":
             stage = f"{room}/{len(os.listdir(room))}"
-            os.mkdir(stage) if folder == "-" else shutil.copytree(os.path.join(top, folder), stage)
+            if text == "-":
+                os.mkdir(stage)
+            else:
+                shutil.copytree(os.path.join(TOP, text), stage)
             continue
-        for command, wanted in commands_of(console) if console else [(script, printed)]:
-            ran = subprocess.run(["bash", "-c", command], cwd=stage, env=words, stdin=subprocess.DEVNULL, stdout=subprocess.PIPE, stderr=subprocess.STDOUT, text=True, timeout=120)
-            if ran.stdout != wanted:
-                sys.exit(f"{document}: $ {command}\n--- prints\n{ran.stdout}--- and not\n{wanted}")
-            count += sum(not line.startswith((" ", "#", "}")) for line in outside(command)) if script else 1
+        ran = subprocess.run(
+            ["bash", "-c", text],
+            cwd=stage,
+            env=words,
+            stdin=subprocess.DEVNULL,
+            stdout=subprocess.PIPE,
+            stderr=subprocess.STDOUT,
+            text=True,
+            timeout=SECONDS,
+        )
+        if ran.stdout != wanted:
+            sys.exit(f"{document}: $ {text}\n--- prints\n{ran.stdout}--- and not\n{wanted}")
+        if kind == "command":
+            count += 1
+        else:
+            count += sum(not line.startswith((" ", "#", "}")) for line in outside(text))
     return count
 
 
-def outside(script):
+def outside(script: str) -> Iterator[str]:
     """The lines of a script that are no part of a here-document."""
-    end = None
+    end: str | None = None
     for line in script.splitlines():
         if end is None:
             if line.strip():
@@ -68,35 +121,71 @@ def outside(script):
             end = None
 
 
-def anchors(text):
-    """The anchors that the headings of a text make."""
-    heads = re.findall(r"(?m)^#+ (.*)$", re.sub(r"(?ms)^```.*?^```$", "", text))
+# ---- links
+
+
+def anchors(text: str) -> set[str]:
+    """The anchors that the headings of a page make."""
+    heads = re.findall(r"(?m)^#+ (.*)$", FENCED.sub("", text))
     return {re.sub(r"[^\w\- ]", "", head.lower()).replace(" ", "-") for head in heads}
 
 
-def links(document):
-    """Follows the links of a document; answers how many there were."""
-    with open(os.path.join(top, document), encoding="utf-8") as it:
-        text = it.read()
-    found = re.findall(r"\[[^\]\n]+\]\(([^)\s]+)\)", re.sub(r"`[^`\n]*`", "", re.sub(r"(?ms)^```.*?^```$", "", text)))
+def links(top: str, document: str) -> int:
+    """Follows the links of a page that stands below a folder; answers how many there were."""
+    page = os.path.join(top, document)
+    found = LINK.findall(FENCED.sub("", text_of(page)))
     for link in found:
         if re.match(r"https?:", link):
             continue
         path, _, anchor = link.partition("#")
-        there = os.path.normpath(os.path.join(top, os.path.dirname(document), path)) if path else os.path.join(top, document)
-        if not os.path.exists(there):
-            sys.exit(f"{document}: the link {link} leads nowhere")
-        if anchor:
-            with open(there, encoding="utf-8") as it:
-                if anchor not in anchors(it.read()):
-                    sys.exit(f"{document}: the link {link} leads to no heading")
+        there = os.path.normpath(os.path.join(os.path.dirname(page), path)) if path else page
+        if not os.path.exists(there) or not there.startswith(top + os.sep):
+            sys.exit(f"{page}: the link {link} leads nowhere")
+        if anchor and anchor not in anchors(text_of(there)):
+            sys.exit(f"{page}: the link {link} leads to no heading")
     return len(found)
 
 
-count = 0
-for document in documents:
-    with tempfile.TemporaryDirectory(prefix="docs-") as room:
-        count += run(document, room)
-pages = ["README.md", "bench/README.md", *sorted(f"docs/{name}" for name in os.listdir(os.path.join(top, "docs")))]
-followed = sum(map(links, pages))
-print(f"{count} commands print what the documents show; {followed} links lead somewhere")
+def pages_below(top: str) -> list[str]:
+    """The pages of a folder of documents."""
+    pages = ["README.md", "SECURITY.md", "bench/README.md", "examples/README.md"]
+    return pages + sorted(f"docs/{name}" for name in os.listdir(os.path.join(top, "docs")))
+
+
+def links_installed(program: str) -> int:
+    """Follows the links of the pages that `./install` puts elsewhere; answers how many there are."""
+    with tempfile.TemporaryDirectory(prefix="docs-") as prefix:
+        words = {**os.environ, "TXFOREST": program}
+        install = [os.path.join(TOP, "install"), prefix]
+        subprocess.run(install, env=words, stdout=subprocess.DEVNULL, check=True)
+        top = os.path.join(os.path.realpath(prefix), "share", "doc", "txforest")
+        return sum(links(top, page) for page in pages_below(top))
+
+
+def examples_told() -> int:
+    """Holds the paragraphs of examples/README.md against the folders there; how many they are."""
+    folder = os.path.join(TOP, "examples")
+    found = sorted(it.name for it in os.scandir(folder) if it.is_dir())
+    told = re.findall(r"(?m)^\*\*\[(\w+)\]\(\1\)\*\*:", text_of(os.path.join(folder, "README.md")))
+    if sorted(told) != found:
+        sys.exit(f"examples/README.md tells of {sorted(told)}, and there are {found}")
+    return len(found)
+
+
+def main() -> None:
+    """Does all of it."""
+    program, documents = os.path.abspath(sys.argv[1]), sys.argv[2:]
+    count = 0
+    for document in documents:
+        with tempfile.TemporaryDirectory(prefix="docs-") as room:
+            count += run(program, document, room)
+    followed = sum(links(TOP, page) for page in pages_below(TOP))
+    installed = links_installed(program)
+    print(f"{count} commands print what the documents show")
+    print(f"{followed} links lead somewhere, and {installed} of the installed pages")
+    print(f"{examples_told()} examples have their paragraph")
+    words_of_language.main()
+
+
+if __name__ == "__main__":
+    main()

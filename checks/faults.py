@@ -1,13 +1,16 @@
-"""Runs the built program on small inputs again and again, each time with another call for memory, for a thread or to the
-system that goes wrong.
+"""Runs the built program on small inputs again and again, each time with another call that fails.
 
 usage: faults.py PROGRAM LIBRARY [INPUT...]
 
-LIBRARY is faults.c, built; an INPUT is the front of a name of inputs, and where there is none all are taken. Each run has to end by itself, with a status that such a fault may give: then it prints what the
-run without a fault prints and leaves the same folder, or it prints a front of that and leaves a part of it, and FOLDER is as
-before. Prints for each input and kind of fault how many calls were counted and how many of them were made to go wrong, and
-ends with 1 at the first run that is not so.
+LIBRARY is faults.c, built. The call is one for memory, for a thread or to the system. An INPUT is
+the front of a name of inputs; without one all are taken. Each run has to end by itself, with a
+status that such a fault may give. Then it prints what the run without a fault prints and leaves the
+same folder, or it prints a front of that and leaves a part of it, and FOLDER is as before. Prints
+for each input and kind of fault how many calls were counted and how many of them were made to go
+wrong, and ends with 1 at the first run that is not so.
 """
+
+from __future__ import annotations
 
 import itertools
 import os
@@ -15,19 +18,23 @@ import signal
 import subprocess
 import sys
 import tempfile
+from typing import NamedTuple
 
-sys.path.insert(0, os.path.join(os.path.dirname(os.path.abspath(__file__)), "..", "tools"))
-from txforest import model
+from repository import model
 from waiting import finished
 
-PROGRAM, LIBRARY = (os.path.abspath(word) for word in sys.argv[1:3])
 SECONDS = 120
 MOST = 1_000
 
 DONE, READ, WRITE, MEMORY = 0, 5, 7, 8
-LINES = {DONE: b"", READ: b"txforest: read fault\n", WRITE: b"txforest: write fault\n", MEMORY: b"txforest: out of memory\n"}
+LINES = {
+    DONE: b"",
+    READ: b"txforest: read fault\n",
+    WRITE: b"txforest: write fault\n",
+    MEMORY: b"txforest: out of memory\n",
+}
 
-# The statuses that may come where one call goes wrong.
+# The statuses that may come if one call goes wrong.
 KINDS = {
     "memory": {DONE, MEMORY},
     "thread": {DONE},
@@ -44,11 +51,16 @@ FILES = {
     "first": 'txn { into down fetch a : str up next down store((a ++ "0")) print(a) }',
     "second": 'txn { into next down fetch b : str up prev down store((b ++ "0")) print(b) }',
     "deep": '<d : dir, (("current" ++ "/n") :: file)>',
-    "adds": 'txn { into next down fetch n : str store(text((int(n) + 1))) top into fetch d : names store((d union one("new"))) print(n) }',
-    "looks": 'txn { into down fetch a : str up next down fetch b : str print((a ++ b)) store("seen") }' * 2,
-    "tree": 'def tree(n : int) = <d : dir, <f : {(k :: file) | k in (d only "n")}, {(k :: part((n + 1), k)) | k in ((d only "r") union (d only "*o*"))}>> '
-    'def part(n : int, k : str) = <x : pred(((n < 9) and (0 < size(k)))), tree(n)> tree(0)',
-    "walks": 'txn { into into next into next into down into into next into into next into next into down into into next into into next '
+    "adds": "txn { into next down fetch n : str store(text((int(n) + 1)))"
+    ' top into fetch d : names store((d union one("new"))) print(n) }',
+    "looks": "txn { into down fetch a : str up next down fetch b : str"
+    ' print((a ++ b)) store("seen") }'
+    * 2,
+    "tree": 'def tree(n : int) = <d : dir, <f : {(k :: file) | k in (d only "n")},'
+    ' {(k :: part((n + 1), k)) | k in ((d only "r") union (d only "*o*"))}>> '
+    "def part(n : int, k : str) = <x : pred(((n < 9) and (0 < size(k)))), tree(n)> tree(0)",
+    "walks": "txn { into into next into next into down into into next into into next into next"
+    " into down into into next into into next "
     'into to("n") down fetch n : str store((n ++ "0")) top into validate v print(v) print(n) }',
     "whole": "txn { into value v : pair(names, pair(table(str), table(bool))) print(v) }" * 2,
     "in1/a": "hi",
@@ -78,7 +90,7 @@ INPUTS = {
     "watch, definitions": ["watch", "tree", "in3", "out", "none", "walks"],
     "views, definitions": ["views", "tree", "in3", "out", "whole", "walks"],
 }
-# What stands in the stage besides, made by the program: the report that `audit` reads, the journal that `recover` reads.
+# What the program itself makes: the report that `audit` reads, the journal that `recover` reads.
 MADE = {
     "report": ["run", "two", "in2", "out", "first", "second"],
     "kept": ["journal", "two", "in2", "out", "kept", "0,0,1,1,0,1", "first", "second"],
@@ -90,9 +102,26 @@ class Wrong(Exception):
     """A run that did not go as it should."""
 
 
-def tree(folder):
-    """Everything below a folder: None for a folder, else the bytes."""
-    found = {}
+Tree = dict[str, "bytes | None"]
+"""What stands below a folder: None for a folder, else the bytes of a file."""
+
+Whole = tuple[bytes, "Tree | None"]
+"""What a run without a fault prints, and leaves at OUT."""
+
+
+class Ran(NamedTuple):
+    """A run: its status, what it printed, its line on standard error, OUT, the calls counted."""
+
+    status: int
+    printed: bytes
+    line: bytes
+    out: Tree | None
+    counted: int
+
+
+def tree(folder: str) -> Tree:
+    """Everything below a folder."""
+    found: Tree = {}
     for at, folders, files in os.walk(folder):
         for name in folders:
             found[os.path.relpath(os.path.join(at, name), folder)] = None
@@ -102,15 +131,19 @@ def tree(folder):
     return found
 
 
-def is_part(part, whole):
+def is_part(part: Tree, whole: Tree) -> bool:
     """Whether all that stands in a tree stands in the other, of its files maybe a front."""
-    return all(
-        path in whole and (bytes_ is None) == (whole[path] is None) and (bytes_ is None or whole[path].startswith(bytes_))
-        for path, bytes_ in part.items()
-    )
+    return all(path in whole and is_front(bytes_, whole[path]) for path, bytes_ in part.items())
 
 
-def answers(printed):
+def is_front(bytes_: bytes | None, whole: bytes | None) -> bool:
+    """Whether a folder is one in the other tree too, or a file the front of one there."""
+    if bytes_ is None or whole is None:
+        return bytes_ is whole
+    return whole.startswith(bytes_)
+
+
+def answers(printed: bytes) -> bytes:
     """What is printed of entries: neither events nor retries, which differ by how threads meet."""
     lines = printed.splitlines(True)
     begin = next((i for i, line in enumerate(lines) if line.startswith(b"forest report")), 0)
@@ -120,7 +153,8 @@ def answers(printed):
 class Stage:
     """A folder with all inputs."""
 
-    def __init__(self):
+    def __init__(self, program: str, library: str) -> None:
+        self.program, self.library = program, library
         self.room = tempfile.TemporaryDirectory(prefix="faults-")
         self.top = self.room.name
         for name, text in FILES.items():
@@ -134,11 +168,25 @@ class Stage:
                 with open(os.path.join(self.top, name), "wb") as it:
                     it.write(printed)
 
-    def run(self, words, kind, at):
-        """One run: status, what is printed, the line on standard error, what stands at OUT, and how many calls were counted."""
-        subprocess.run(["rm", "-rf", f"{self.top}/out", f"{self.top}/log", f"{self.top}/count"], check=True)
-        given = {"LD_PRELOAD": LIBRARY, "FAULT_KIND": kind, "FAULT_AT": f"{at}", "FAULT_COUNT": f"{self.top}/count"}
-        child = subprocess.Popen([PROGRAM, *words], cwd=self.top, stdin=subprocess.DEVNULL, stdout=subprocess.PIPE, stderr=subprocess.PIPE, env=given)
+    def run(self, words: list[str], kind: str, at: int) -> Ran:
+        """A run in which the call of this kind and number fails; none for 0."""
+        subprocess.run(
+            ["rm", "-rf", f"{self.top}/out", f"{self.top}/log", f"{self.top}/count"], check=True
+        )
+        given = {
+            "LD_PRELOAD": self.library,
+            "FAULT_KIND": kind,
+            "FAULT_AT": f"{at}",
+            "FAULT_COUNT": f"{self.top}/count",
+        }
+        child = subprocess.Popen(
+            [self.program, *words],
+            cwd=self.top,
+            stdin=subprocess.DEVNULL,
+            stdout=subprocess.PIPE,
+            stderr=subprocess.PIPE,
+            env=given,
+        )
         try:
             printed, line = finished(child, SECONDS)
         except TimeoutError as late:
@@ -151,11 +199,11 @@ class Stage:
         except OSError:
             raise Wrong("it does not tell how many calls it counted") from None
         out = tree(f"{self.top}/out") if os.path.isdir(f"{self.top}/out") else None
-        return child.returncode, printed, line, out, counted
+        return Ran(child.returncode, printed, line, out, counted)
 
 
-def check(ran, allowed, wholes):
-    """Compares a run with those without a fault, of which there is one for each order of the scripts."""
+def check(ran: Ran, allowed: set[int], wholes: list[Whole]) -> None:
+    """Compares a run with those without a fault: one for each order of the scripts."""
     status, printed, line, out, _ = ran
     if status not in allowed or line != LINES[status]:
         raise Wrong(f"status {status} with {line!r}")
@@ -167,12 +215,14 @@ def check(ran, allowed, wholes):
         raise Wrong(f"status {status}, and OUT is no part of the folder: {out}")
     if status == READ and out is not None or status in (READ, MEMORY) and printed:
         raise Wrong(f"status {status}, and something is printed or written")
-    if printed and all(out != tree_ or not answers(whole).startswith(answers(printed)) for whole, tree_ in wholes):
+    if printed and all(
+        out != tree_ or not answers(whole).startswith(answers(printed)) for whole, tree_ in wholes
+    ):
         raise Wrong(f"status {status}, printed is {printed!r}, and OUT {out}")
 
 
-def check_journal(stage, ran, kind, whole):
-    """Compares a run of `journal` with the one without a fault, and sees that no commit that it told is lost."""
+def check_journal(stage: Stage, ran: Ran, kind: str, whole: Whole) -> None:
+    """Compares a run of `journal` with the one without a fault: no commit that it told is lost."""
     status, printed, line, out, _ = ran
     if status not in KINDS[kind] or line != LINES[status]:
         raise Wrong(f"status {status} with {line!r}")
@@ -185,16 +235,22 @@ def check_journal(stage, ran, kind, whole):
     if len(printed) < events:
         begun = out is None
     else:
-        begun = out is None or is_part(out, tree_) if len(printed) == events else out == tree_
+        begun = out is None or is_part(out, tree_ or {}) if len(printed) == events else out == tree_
     if not fits.get(status, text.startswith(printed) and begun):
         raise Wrong(f"status {status}, printed is {printed!r}, and OUT {out}")
-    told = sum(1 for it in printed.splitlines(True) if it.startswith(b"settled") and it.endswith(b"\n"))
-    status, printed, line, _, _ = stage.run(["recover", "two", "in2", "log.kept", "out", "first", "second"], "", 0)
+    told = sum(
+        1 for it in printed.splitlines(True) if it.startswith(b"settled") and it.endswith(b"\n")
+    )
+    status, printed, line, _, _ = stage.run(
+        ["recover", "two", "in2", "log.kept", "out", "first", "second"], "", 0
+    )
     if status != DONE or not told <= int(printed.split()[1]) <= told + 1:
-        raise Wrong(f"{told} commits were told, and recover ends with {status}, {printed!r}, {line!r}")
+        raise Wrong(
+            f"{told} commits were told, and recover ends with {status}, {printed!r}, {line!r}"
+        )
 
 
-def wholes_of(stage, words):
+def wholes_of(stage: Stage, words: list[str]) -> list[Whole]:
     """The runs without a fault."""
     command, *inputs = words
     if command == "views":
@@ -205,7 +261,7 @@ def wholes_of(stage, words):
     return [whole(stage, line) for line in lines]
 
 
-def whole(stage, words):
+def whole(stage: Stage, words: list[str]) -> Whole:
     """What a run without a fault prints, and leaves at OUT."""
     status, printed, line, out, _ = stage.run(words, "", 0)
     if status != DONE:
@@ -213,11 +269,15 @@ def whole(stage, words):
     return printed, out
 
 
-def viewed(stage, spec, folder, out, views, *scripts):
-    """The runs with views: for each order of the scripts, with each number of entries at which each view may look."""
-    text = lambda name: FILES[name].encode()
-    root, plan, looks = model.read_description(text(spec)), [model.read_script(text(name)) for name in scripts], model.read_script(text(views))
-    store, found = model.load(f"{stage.top}/{folder}"), []
+def viewed(
+    stage: Stage, spec: str, folder: str, out: str, views: str, *scripts: str
+) -> list[Whole]:
+    """The runs with views, for each order of the scripts and each moment of each view."""
+    root = model.read_description(FILES[spec].encode())
+    plan = [model.read_script(FILES[name].encode()) for name in scripts]
+    looks = model.read_script(FILES[views].encode())
+    store = model.load(f"{stage.top}/{folder}")
+    found: list[Whole] = []
     for order in ORDERS[: len(scripts)]:
         printed, left = whole(stage, ["trace", spec, folder, out, order, *scripts])
         _, _, _, states = model.steps(root, plan, store, [int(k) for k in order.split(",")])
@@ -226,10 +286,19 @@ def viewed(stage, spec, folder, out, views, *scripts):
     return found
 
 
-def swept(stage, words, kind, wholes):
-    """Lets calls go wrong, each in a run of its own: all of them, or so many at even distances. How many were counted, tried."""
+def swept(
+    stage: Stage, words: list[str], kind: str, wholes: list[Whole]
+) -> tuple[int, int]:
+    """Lets calls go wrong, each in a run of its own; how many were counted, and how many tried.
+
+    All of them are tried, or MOST of them at even distances.
+    """
     *_, counted = stage.run(words, kind, 0)
-    tried = range(1, counted + 1) if counted <= MOST else sorted({1 + i * (counted - 1) // (MOST - 1) for i in range(MOST)})
+    tried = (
+        range(1, counted + 1)
+        if counted <= MOST
+        else sorted({1 + i * (counted - 1) // (MOST - 1) for i in range(MOST)})
+    )
     for at in tried:
         try:
             ran = stage.run(words, kind, at)
@@ -246,8 +315,10 @@ def swept(stage, words, kind, wholes):
     return counted, len(tried)
 
 
-def main():
-    stage = Stage()
+def main() -> None:
+    """Sweeps each input by each kind of fault."""
+    program, library = (os.path.abspath(word) for word in sys.argv[1:3])
+    stage = Stage(program, library)
     given = {name: tree(f"{stage.top}/{name}") for name in ("in1", "in2", "in3")}
     runs = 0
     for name, words in INPUTS.items():
@@ -266,7 +337,10 @@ def main():
                 sys.exit(f"{name}, {kind}: FOLDER changed")
             runs += tried
             print(f"{name}, {kind}: {tried} of {counted} calls", flush=True)
-    print(f"{runs} runs, each with an allowed status, and what was printed and left as it should be")
+    print(
+        f"{runs} runs, each with an allowed status, and what was printed and left as it should be"
+    )
 
 
-main()
+if __name__ == "__main__":
+    main()

@@ -1,11 +1,15 @@
 """How the checks wait for the program."""
 
+from __future__ import annotations
+
 import subprocess
 
 
-def finished(child, seconds):
-    """What a child has printed on both outputs, once it has ended; a TimeoutError where it does not end. A machine that is held
-    still lets a wait pass in which the child could not run, so the child gets two.
+def finished(child: subprocess.Popen[bytes], seconds: float) -> tuple[bytes, bytes]:
+    """What a child has printed on both outputs, once it has ended.
+
+    Raises TimeoutError if it does not end. A machine that is held still lets a wait pass in which
+    the child could not run, so the child gets two.
     """
     for _ in range(2):
         try:
