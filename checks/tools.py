@@ -87,10 +87,14 @@ def trees(room):
         shell(f"cp -a {tree} {room}/copy")
         offenders = shell(f"find copy ! -type d ! -type f ! -type l -printf '/%P\\n' -o -type f -size +1048576c -printf '/%P\\n'", room)[1].splitlines()
         total = int(shell("find copy -type f -size -1048577c -printf '%s\\n' | awk '{ n += $1 } END { print n + 0 }'", room)[1])
-        if offenders or total > 67_000_000:
+        if total > 67_000_000:
+            tool("import", "copy", "folder", "--as", tree, status=4, say=["--only narrows what is taken"], room=room)
+            large += 1
+            continue
+        if offenders:
             told = tool("import", "copy", "folder", "--as", tree, status=1, say=["none is; --leave-out"], room=room)
             for path in offenders:
-                if f": {path} (" not in told:
+                if f": {path} (" not in told and f": {path}: " not in told:
                     raise Wrong(f"{tree}: {path} is not told")
             same("left behind", left(room, "dir", "nothing", "copy"), [])
             large += len(offenders)
@@ -113,7 +117,7 @@ def trees(room):
         count += 1
         entries += int(shell("find copy | wc -l", room)[1])
         links += int(shell("find copy -type l | wc -l", room)[1])
-    return f"{count} real trees of {entries:,} entries, {links:,} of them links, came back as they were; {large} entries that can't be taken were told"
+    return f"{count} real trees of {entries:,} entries, {links:,} of them links, came back as they were; {large} entries and trees that can't be taken were told"
 
 
 def spelled(path):
@@ -160,19 +164,19 @@ def hostile(room):
         refused_tree(room, *given, **more)
         tries += 1
 
-    bad("fifo", lambda t: os.mkfifo(f"{t}/a\npipe"), 1, ['"/a\\npipe" (0 bytes): a FIFO'])
-    bad("socket", lambda t: socket.socket(socket.AF_UNIX).bind(f"{t}/s"), 1, ["/s (0 bytes): a socket"])
+    bad("fifo", lambda t: os.mkfifo(f"{t}/a\npipe"), 1, ['"/a\\npipe": a FIFO'])
+    bad("socket", lambda t: socket.socket(socket.AF_UNIX).bind(f"{t}/s"), 1, ["/s: a socket"])
     if os.geteuid() == 0:
-        bad("device", lambda t: os.mknod(f"{t}/null", stat.S_IFCHR | 0o666, os.makedev(1, 3)), 1, ["/null (0 bytes): a character device"])
-        bad("unreadable", lambda t: (os.mkdir(f"{t}/shut", 0o700), write(f"{t}/key"), os.chmod(f"{t}/key", 0o600)), 1, ["/key (0 bytes): can't be read: Permission denied", "/shut: can't be read: Permission denied"], preexec_fn=as_nobody)
+        bad("device", lambda t: os.mknod(f"{t}/null", stat.S_IFCHR | 0o666, os.makedev(1, 3)), 1, ["/null: a character device"])
+        bad("unreadable", lambda t: (os.mkdir(f"{t}/shut", 0o700), write(f"{t}/key"), os.chmod(f"{t}/key", 0o600)), 1, ["/key (0 bytes): can't be read", "/shut: can't be read: Permission denied"], preexec_fn=as_nobody)
     bad("name", lambda t: open(os.fsencode(t) + b"/\xff\xfe", "wb").write(b"abc"), 1, ['"/\\xff\\xfe" (3 bytes): its name is no UTF-8'])
-    bad("folder of a name", lambda t: (os.mkdir(os.fsencode(t) + b"/\xff"), open(os.fsencode(t) + b"/\xff/x", "wb").write(b"abcd")), 1, ['"/\\xff" (4 bytes): its name'])
+    bad("folder of a name", lambda t: (os.mkdir(os.fsencode(t) + b"/\xff"), open(os.fsencode(t) + b"/\xff/x", "wb").write(b"abcd")), 1, ['"/\\xff": its name'])
     bad("table", lambda t: write(f"{t}/.forest-links"), 1, ["/.forest-links (0 bytes): a name that txforest keeps"])
-    bad("large", lambda t: full_of(t, 2, 1_048_577), 1, ["/000 (1,048,577 bytes): a file has at most 1,048,576 bytes", "/001 (1,048,577 bytes)", "2 entries can't be taken"])
-    bad("together", lambda t: full_of(t, 66, 1_048_576), 1, ["/064 (1,048,576 bytes): files and links have at most 67,108,864 bytes together", "/065"])
-    bad("deep", lambda t: deep(t, 66), 1, ["/d/d (0 bytes): more than 64 names deep"])
-    bad("link text", lambda t: (os.symlink("/".join(["x"] * 65), f"{t}/l"), os.symlink(b"\xff", f"{t}/m")), 1, ["/l (129 bytes): a link to x/x", '/m (1 byte): a link to "\\xff", which is no text of a link'])
-    bad("clash", lambda t: (os.mkdir(f"{t}/usr"), write(f"{t}/usr/x"), os.symlink("/usr/x", f"{t}/l")), 1, ["/l (6 bytes): a link to /usr/x leads out of the tree, and in the folder it would lead to /usr/x"])
+    bad("large", lambda t: full_of(t, 2, 1_048_577), 1, ["/000 (1,048,577 bytes): a file above 1 MiB", "/001 (1,048,577 bytes)", "2 entries can't be taken"])
+    bad("together", lambda t: full_of(t, 66, 1_048_576), 4, ["the program takes at most 100,000 and 67,108,864; --only narrows what is taken"])
+    bad("deep", lambda t: deep(t, 66), 1, ["/d/d: more than 64 names deep"])
+    bad("link text", lambda t: (os.symlink("/".join(["x"] * 65), f"{t}/l"), os.symlink(b"\xff", f"{t}/m")), 1, ["/l: a link to x/x", '/m: a link to "\\xff", which is no text of a link'])
+    bad("clash", lambda t: (os.mkdir(f"{t}/usr"), write(f"{t}/usr/x"), os.symlink("/usr/x", f"{t}/l")), 1, ["/l: a link to /usr/x leads out of the tree, and in the folder it would lead to /usr/x"])
 
     # What is left out is told, and the rest comes back.
     tree = f"{room}/tree"
@@ -192,7 +196,7 @@ def hostile(room):
         os.setxattr(f"{tree}/run", "user.note", b"a %\n")
     except OSError:
         pass
-    told = tool("import", "--leave-out", tree, f"{room}/f", say=["/d/p (0 bytes): a FIFO", "/root (1 byte): a link to / leads out of the tree, and in the folder it would lead to /", "/up (2 bytes): a link to .. leads out", "/out: a link to ../elsewhere leads out of the tree; it is kept"])
+    told = tool("import", "--leave-out", tree, f"{room}/f", say=["/d/p: a FIFO", "/root: a link to / leads out of the tree, and in the folder it would lead to /", "/up: a link to .. leads out", "/out: a link to ../elsewhere leads out of the tree; it is kept"])
     shell("rm tree/d/p tree/root tree/up; touch -r f/d tree/d; touch -r f tree", room)
     same("the table", read(f"{room}/f/.forest-links").startswith("version 2\n"), True)
     same("a flag", "/run *" in read(f"{room}/f/.forest-links").splitlines(), True)
@@ -212,19 +216,20 @@ def hostile(room):
     same("a new link", os.readlink(f"{room}/back/d/ln"), "../d/made")
     tool("export", f"{room}/plain", f"{room}/plainback")
     same("without flags", attributes(f"{room}/plainback") == attributes(tree), True)
-    # In the place of the tree itself, whose modes count where nothing else is kept; what was there is kept.
-    shell("cp -a tree standing; rm f.attributes", room)
+    # Into the tree itself: only what OUT changed; and not without what was kept of it.
+    shell("cp -a tree standing", room)
     tool("export", "out", "standing", status=6, say=["--replace"], room=room)
-    tool("export", "--replace", "out", "standing", room=room)
-    same("what stood there", len([n for n in os.listdir(room) if n.startswith("standing.before-")]), 1)
-    same("in its place", attributes(f"{room}/standing").split("\n")[1:] != "", True)
-    same("a mode there", stat.S_IMODE(os.lstat(f"{room}/standing/secret").st_mode), 0o600)
+    tool("export", "--replace", "out", "standing", status=2, say=["nobody knows what OUT changed"], room=room)
+    tool("export", "--attributes", "f.attributes", "--replace", "out", "standing", room=room)
+    modes = {name: f"{stat.S_IMODE(os.lstat(f'{room}/standing/{name}').st_mode):o}" for name in ("run", "secret", "new", "d", "d/made")}
+    same("modes there", modes, {"run": "4640", "secret": "600", "new": "644", "d": "2711", "d/made": "700"})
+    same("what differs", [line for line in shell("diff -r --no-dereference tree standing", room)[1].splitlines() if line.startswith("Only")], ["Only in standing/d: ln", "Only in standing/d: made", "Only in standing: new"])
     tool("import", tree, f"{tree}/d/f", status=2, say=["lies in the tree itself"])
     tool("import", tree, f"{room}/out", status=6, say=["something stands there"])
     tool("import", f"{room}/none", f"{room}/x", status=2, say=["no folder stands there"])
     tool("export", f"{room}/out", f"{room}/out/x", status=2, say=["lies in the folder itself"])
     os.symlink("x", f"{room}/out/link")
-    tool("export", "out", "x", status=4, say=["/link: a symbolic link; a folder of txforest has none"], room=room)
+    tool("export", "out", "x", status=4, say=["/link (1 byte): a symbolic link to x; links stand in the table"], room=room)
     return f"{tries + 12} hostile trees and folders were told with their paths, or came back as they were"
 
 
@@ -364,43 +369,39 @@ runpy.run_path(tool, run_name="__main__")
 
 
 def steps(room):
-    """A kill before each single call that changes something, in each tool that puts a folder in place."""
+    """A kill before each single call that changes something, of import and export; then somebody settles."""
     write(f"{room}/hook.py", HOOK)
     write(f"{room}/d", '<a : ("a" :: file), ("d/b" :: file)>')
-    write(f"{room}/s", "txn { into down fetch a : str store(text((int(a) + 1))) up next down store(text((int(a) + 1))) }")
     write(f"{room}/none")
     kills = ended = 0
-    ways = [("export", ["--replace", "new", "f"], {}), ("import", ["new", "g"], {})]
-    for name, words, more in ways:
-        environment = {**os.environ, **more, "PYTHONDONTWRITEBYTECODE": "1"}
+    environment = {**os.environ, "PYTHONDONTWRITEBYTECODE": "1"}
+    make = "chmod -R u+w f* g* 2> /dev/null; rm -rf f* g* .f* .g* out; mkdir -p f/d; printf 1 > f/a; printf 1 > f/d/b"
+    for name, words, before in [
+        ("import", ["f", "g"], "true"),
+        ("export", ["--attributes", "g.attributes", "out", "fresh"], f"{TOOLS}/txforest-import f g > told; cp -r g out"),
+        ("export", ["--attributes", "g.attributes", "--replace", "out", "f"], f"{TOOLS}/txforest-import f g > told; cp -r g out; printf 2 > out/a; printf 2 > out/d/b"),
+    ]:
         for at in range(1000):
-            shell("rm -rf f* g* live* new; mkdir -p f/d new/d; printf 1 > f/a; printf 1 > f/d/b; printf 2 > new/a; printf 2 > new/d/b", room)
-            if "--link" in words:
-                os.symlink("f", f"{room}/live")
+            shell(f"{make}; {before}", room)
             ran = subprocess.run([sys.executable, "-B", f"{room}/hook.py", str(at), f"{TOOLS}/txforest-{name}", *words], cwd=room, env=environment, stdout=subprocess.PIPE, stderr=subprocess.STDOUT)
-            target = f"{room}/{'g' if name == 'import' else 'live' if '--link' in words else 'f'}"
-            found = (read(f"{target}/a"), read(f"{target}/d/b")) if os.path.lexists(target) else None
             if ran.returncode == 0:
-                same(f"{name} {words}", found, ("2", "2"))
                 break
             same(f"{name} {words}, killed before call {at}: {ran.stdout.decode()}", ran.returncode, -signal.SIGKILL)
-            wanted = [None, ("2", "2")] if name == "import" else [("1", "1"), ("2", "2")] + [None] * ("TXFOREST_NO_EXCHANGE" in more)
-            same(f"{name} {words}, killed before call {at}, leaves {found}", found in wanted, True)
             kills += 1
-            if name != "import":
-                again = ["--in-place" if name == "export" else words[0], os.path.basename(target), "d", "none"]
-                tool("apply", *again, room=room, env=environment)
-                after = read(f"{target}/a"), read(f"{target}/d/b")
-                same(f"{name} {words}, killed before call {at}, then", after, found or after)
-                ended += found is None
-                for old in os.listdir(room):
-                    if ".before-" in old:
-                        same("the folder of before", (read(f"{room}/{old}/a"), read(f"{room}/{old}/d/b")), ("1", "1"))
-                same("what is left", [n for n in os.listdir(room) if n.startswith(".")], [])
-                same("folders of a time", len([n for n in os.listdir(room) if re.fullmatch(r"live\.\d{8}T\d{12}", n)]), int("--link" in words and after == ("2", "2")))
+            target = f"{room}/{words[-1]}"
+            if "--replace" in words:
+                tool("apply", "--settle", "f", room=room, env=environment)
+                found = read(f"{target}/a"), read(f"{target}/d/b")
+                same(f"{words}, killed before call {at}, leaves {found}", found in [("1", "1"), ("2", "2")], True)
+                ended += found == ("2", "2")
+                same("what is left", [n for n in os.listdir(room) if n.startswith(".f.")], [])
             else:
-                shell("rm -rf .g*", room)
-    return f"{kills} kills, before each call that changes something, in 5 ways to put a folder in place: the old or the new folder stood there whole; {ended} times, between two renames, the next job put it there"
+                found = (read(f"{target}/a"), read(f"{target}/d/b")) if os.path.lexists(target) else None
+                same(f"{words}, killed before call {at}, leaves {found}", found in [None, ("1", "1")], True)
+                if found is None:
+                    tool(name, *words, room=room, env=environment)
+                    same("what is left", [n for n in os.listdir(room) if n.startswith(f".{words[-1]}.")], [])
+    return f"{kills} kills of import and export, before each call that changes something: the tree or folder was there whole or not at all, {ended} times as soon as it was settled"
 
 
 def refusals(room):
@@ -595,6 +596,27 @@ def outcomes(room):
     return f"{sum(found)} outcomes of the five examples, each with a schedule that leads to it"
 
 
+def replays(room):
+    """The schedules of reports of threaded runs: each leads to that report byte for byte."""
+    counted(f"{room}/c")
+    shell("printf 0 > c/f/m", room)
+    write(f"{room}/c/d", '{(k :: file) | k in (one("n") union one("m"))}')
+    step = 'to("{0}") down fetch n : str store(text((int(n) + 1))) top '
+    look = 'to("{0}") down fetch m : str print(m) '
+    draw = random.Random(2)
+    for i in range(4):
+        write(f"{room}/c/s{i}", "".join("txn { " + (step + look.replace("fetch m", "fetch o").replace("print(m)", "print(o)")).format(draw.choice("nm")) + "}\n" for _ in range(15)))
+    found = 0
+    for _ in range(12):
+        shell("rm -rf out; $TXFOREST run d f out s0 s1 s2 s3 > report", f"{room}/c")
+        found += len(re.findall(r"(?m)^retry", read(f"{room}/c/report")))
+        status, told = shell(f"{TOOLS}/txforest-schedules --of report d f s0 s1 s2 s3 2> schedule | sed -n '/^forest report/,$p' | cmp - report", f"{room}/c")
+        same(f"a replay: {told}", status, 0)
+    write(f"{room}/c/report", read(f"{room}/c/report").replace("retries 0\n", "retries 1\nretry shell 0 txn 0 entry 59 path \"/n\"\n"))
+    tool("schedules", "--of", "report", "d", "f", "s0", "s1", "s2", status=2, say=["the report is not of these scripts"], room=f"{room}/c")
+    return f"12 reports of runs on threads, with {found} retries, came again by a schedule"
+
+
 def pictures(room):
     """Pictures of the examples' traces and reports, and one of 10,000 events, in time and in a browser."""
     drawn = 0
@@ -683,7 +705,7 @@ def installed(room):
     return f"{len(files)} files installed, {len(pages)} manual pages among them, and all taken back" + (f"; not tried: {', '.join(missing)}" if missing else "")
 
 
-PARTS = [trees, hostile, together, killed, steps, refusals, full, explain, outcomes, pictures, installed]
+PARTS = [trees, hostile, together, killed, steps, refusals, full, explain, outcomes, replays, pictures, installed]
 wanted = sys.argv[1:] or [part.__name__ for part in PARTS]
 for part in PARTS:
     if part.__name__ in wanted:
