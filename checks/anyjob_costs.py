@@ -114,8 +114,10 @@ class Bench:
         found = []
         for number in range(rounds):
             begun = used()
-            quiet = subprocess.DEVNULL
-            subprocess.run(self.words(kind, 0), cwd=self.room, check=True, stdout=quiet, stderr=quiet)
+            pipe = subprocess.PIPE
+            ran = subprocess.run(self.words(kind, 0), cwd=self.room, stdout=pipe, stderr=pipe)
+            if ran.returncode:
+                sys.exit(f"{self.words(kind, 0)}: {ran}")
             found.append(used() - begun)
             shutil.rmtree(f"{self.room}/out0", ignore_errors=True)
         if kind == "python20":

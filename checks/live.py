@@ -540,6 +540,36 @@ def statuses_say_what_is_true(room: str, _: int) -> str:
     return f"{tries} odd calls: each status is of the table, and says whether the tree was changed"
 
 
+def attributes_stay_and_rights_go(room: str, _: int) -> str:
+    """A file that is replaced keeps its owner, mode, lists and attributes, and loses set-id bits
+    and capabilities; another one keeps all."""
+    needs_root()
+    tree = new_tree(room)
+    capability = struct.pack("<IIIII", 0x02000001, 1 << 10, 0, 0, 0)
+    lists = shutil.which("setfacl") is not None
+    for name in ("n", "x"):
+        os.chown(f"{tree}/{name}", 33, 1001)
+        os.chmod(f"{tree}/{name}", 0o6751)
+        os.setxattr(f"{tree}/{name}", "security.capability", capability)
+        os.setxattr(f"{tree}/{name}", "user.note", b"kept")
+        if lists:
+            shell(f"setfacl -m u:{NOBODY}:rw '{tree}/{name}'; chmod 6751 '{tree}/{name}'")
+    wanted = shell(f"getfacl -cp '{tree}/n' | grep -v '^# flags'")[1]
+    before = listing(tree)
+    apply(tree)
+    it = os.stat(f"{tree}/n")
+    same("owner", (it.st_uid, it.st_gid), (33, 1001))
+    same("mode", oct(stat.S_IMODE(it.st_mode)), "0o751")
+    names = [name for name in os.listxattr(f"{tree}/n") if not name.startswith("system.")]
+    same("attributes", names, ["user.note"])
+    if lists:
+        same("access lists", shell(f"getfacl -cp '{tree}/n' | grep -v '^# flags'")[1], wanted)
+    same("another file", listing(tree)["x"], before["x"])
+    same("its attributes", os.getxattr(f"{tree}/x", "security.capability")[:4], capability[:4])
+    more = "" if lists else "; access lists not tried"
+    return f"owner, mode and attributes stay, set-id bits and the capability go{more}"
+
+
 # ---- kills, cuts, refused calls, races, without the program
 
 
@@ -750,6 +780,51 @@ def on_file_system(at: str, kind: str) -> str:
     return f"14 jobs, {shot} of them killed, --exchange {'refused' if wanted else 'done'}"
 
 
+def the_question_agrees_with_show(room: str, number: int) -> str:
+    """A last transaction that validates says of each result what `show` says of it."""
+    from txforest.attempt import Attempt
+    from txforest.lock import lock
+    from txforest.place import Tree
+    from txforest.program import is_valid
+
+    number = number or 4
+    cases: list[tuple[str, str, list[str]]] = []
+    for example in sorted(os.listdir(f"{TOP}/examples")):
+        at = f"{TOP}/examples/{example}"
+        if os.path.isdir(f"{at}/folder") and os.path.isfile(f"{at}/description"):
+            names = [n for n in sorted(os.listdir(at)) if read_head(f"{at}/{n}")]
+            cases.append((f"{at}/folder", f"{at}/description", [f"{at}/{n}" for n in names]))
+    for seed in range(1, number + 1):
+        made = f"{room}/g{seed}"
+        shell(f"'{os.environ['TXFOREST']}' gen {seed} '{made}'")
+        cases.append((f"{made}/in", f"{made}/spec", [f"{made}/s{i}" for i in range(8)]))
+    asked, valid = 0, 0
+    for folder, spec, scripts in cases:
+        tree = f"{room}/t"
+        shutil.rmtree(tree, ignore_errors=True)
+        shutil.copytree(folder, tree)
+        names = [n for n in os.listdir(tree) if n[0] != "."]
+        for turn, name in enumerate(names[:3]):
+            text = f'txn {{ into down store("{name}") }}\ntxn {{ down remove }}\n'
+            write(f"{room}/b{turn}", text)
+            scripts.append(f"{room}/b{turn}")
+        held = lock(tree)
+        with Tree(tree) as opened, Attempt(opened, held) as it:
+            for script in scripts:
+                if it.run(spec, [script]).status or it.valid is None:
+                    continue
+                same(f"{folder} {script}", it.valid, is_valid(spec, it.out, [it.room.fd]))
+                asked += 1
+                valid += it.valid
+        os.close(held)
+    return f"{asked} results of {len(cases)} folders, {valid} of them valid: the two agree"
+
+
+def read_head(path: str) -> bool:
+    """Whether a file is a script."""
+    return os.path.isfile(path) and "txn {" in read(path)[:4000]
+
+
 # ---- costs
 
 
@@ -820,6 +895,7 @@ ROWS = [
     planted_places_and_locks_do_nothing,
     a_name_exchanged_with_a_link_leaks_nothing,
     statuses_say_what_is_true,
+    attributes_stay_and_rights_go,
 ]
 PARTS = [
     *ROWS,
@@ -831,6 +907,7 @@ PARTS = [
     jobs_at_once,
     real_trees,
     file_systems,
+    the_question_agrees_with_show,
     costs,
     *live_queue.PARTS,
 ]
