@@ -54,13 +54,17 @@ class Jobs:
             err = os.open(os.path.join(self.room, "err"), os.O_WRONLY | os.O_CREAT | os.O_APPEND)
             os.dup2(err, 2)
             status = self.job(name, step, call)
+        except SystemExit as ended:
+            status = int(ended.code or 0)
         except BaseException:
             traceback.print_exc()
         os._exit(status)
 
     def job(self, name: str, step: str | None, call: int | None) -> int:
         """The job, in a process of its own."""
-        from txforest import calls, do, jobs
+        from txforest import calls, do, jobs, terminal
+
+        terminal.take_signals()
 
         def reached(clerk: object, at: str) -> None:
             if at == step:
@@ -212,9 +216,11 @@ def at_random(top: str, count: int) -> tuple[str, str]:
         status = status_of(pid)
         status_of(it.begin("x"))  # whoever comes next ends what was begun
         now = it.read("a")
-        if now not in (expected, expected + "a\n") or status == 0 and now == expected:
-            return "", f"kill {number}: {now!r} behind {expected!r}, status {status}"
-        kept += now != expected
+        stands = now != expected
+        lies = status >= 0 and stands != (status == 0)  # a status of its own says what is so
+        if now not in (expected, expected + "a\n") or lies:
+            return "", f"kill {number}: {now!r} behind {expected!r}, status {status}: {it.errors()}"
+        kept += stands
         expected = now
-    told = f"{count} kills at random moments: {kept} kept, of the others nothing"
+    told = f"{count} jobs ended at random moments: {kept} kept, and told so; of the others nothing"
     return told, f"left {it.left()}" if it.left() else ""

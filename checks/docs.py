@@ -153,7 +153,7 @@ def pages_below(top: str) -> list[str]:
 
 
 def links_installed(program: str) -> int:
-    """Follows the links of the pages that `./install` puts elsewhere; answers how many there are."""
+    """Follows the links of the pages that `./install` puts elsewhere; how many there are."""
     with tempfile.TemporaryDirectory(prefix="docs-") as prefix:
         words = {**os.environ, "TXFOREST": program}
         install = [os.path.join(TOP, "install"), prefix]
@@ -177,7 +177,7 @@ def main() -> None:
     program, documents = os.path.abspath(sys.argv[1]), sys.argv[2:]
     count = 0
     for document in documents:
-        with tempfile.TemporaryDirectory(prefix="docs-") as room:
+        with tempfile.TemporaryDirectory(prefix="docs-", ignore_cleanup_errors=True) as room:
             count += run(program, document, room)
     followed = sum(links(TOP, page) for page in pages_below(TOP))
     installed = links_installed(program)

@@ -587,6 +587,13 @@ def cuts(_: str, number: int) -> str:
     return breaking.cuts(number or 4000)
 
 
+def mutations(_: str, number: int) -> str:
+    """Commits without one of their syncs."""
+    from tests import breaking
+
+    return breaking.mutations(number or 2000)
+
+
 def refused(_: str, number: int) -> str:
     """Refused calls."""
     from tests import breaking
@@ -901,6 +908,7 @@ PARTS = [
     *ROWS,
     kills,
     cuts,
+    mutations,
     refused,
     races,
     killed_jobs,

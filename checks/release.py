@@ -23,8 +23,8 @@ from docs import steps_of, text_of
 from repository import TOP
 
 PROGRAMS = (
-    "bash env cat chmod cp cut dirname find grep head id install ln ls mkdir mktemp mv printf realpath"
-    " rm rmdir sed sleep sort tac test touch tr true uname wc"
+    "bash env cat chmod cp cut dirname find grep head id install ln ls mkdir mktemp mv printf"
+    " realpath rm rmdir sed sleep sort tac test touch tr true uname wc"
 ).split()
 PATH = "/usr/local/bin:/usr/bin:/bin"
 PYTHON = "/usr/bin/python3"

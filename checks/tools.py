@@ -431,7 +431,7 @@ def refusals(room):
         same("the folder", attributes(f"{room}/f") == before, True)
         same("what is left", left(room, "f", "d", "s", "g", "bad", "none", "stops", "empties", "live", "f.lock"), [])
     shell("mkdir f/sub; ln -s .. f/sub/back", room)
-    tool("apply", "--link", "f/sub/back", "../d", "s", status=2, say=["lies in the folder itself"], room=room)
+    tool("apply", "--link", "f/sub/back", "d", "s", status=2, say=["lies in the folder itself"], room=room)
     shell("rm -r f/sub", room)
     tool("apply", "--in-place", "f", "--allow-stopped", "d", "stops", room=room, say=["entry 2 shell 0 txn 2 done"])
     same("what went on", read(f"{room}/f/n"), "1")

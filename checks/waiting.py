@@ -1,11 +1,9 @@
 """How the checks wait for the program."""
 
-from __future__ import annotations
-
 import subprocess
 
 
-def finished(child: subprocess.Popen[bytes], seconds: float) -> tuple[bytes, bytes]:
+def finished(child: "subprocess.Popen[bytes]", seconds: float) -> tuple[bytes, bytes]:
     """What a child has printed on both outputs, once it has ended.
 
     Raises TimeoutError if it does not end. A machine that is held still lets a wait pass in which

@@ -109,7 +109,8 @@ def options_of(tool: str) -> Words:
     ran = subprocess.run(
         [os.path.join(TOP, "tools", tool), "--help"], capture_output=True, text=True, check=True
     )
-    return set(re.findall(r"(?m)^  (?:-\w(?: \S+)?, )?--([\w-]+)", ran.stdout)) - {"help", "version"}
+    found = re.findall(r"(?m)^  (?:-\w(?: \S+)?, )?--([\w-]+)", ran.stdout)
+    return set(found) - {"help", "version"}
 
 
 def option_faults(top: str, tool: str) -> Iterator[str]:

@@ -65,7 +65,6 @@ byte place_disk[PLACES]; /* on the device */
 byte jobs[PLACES];       /* the jobs that are done in it */
 byte old[PLACES];        /* what its operations expect to find */
 byte answers[PLACES];    /* those whose answers stand in it */
-byte fresh = 0;          /* the next place */
 
 #define HAS(set, j) ((set) & (1 << (j)))
 
@@ -85,7 +84,7 @@ byte fresh = 0;          /* the next place */
 /* The power fails: all processes are gone, and what was not synced is there or not. */
 inline fail() {
     byte p = 0, j = 0;
-    d_step { power = false; epoch++; lock_of = FREE; j = 0; do :: j < JOBS -> alive[j] = false; j++ :: else -> break od }
+    d_step { power = false; epoch++; lock_of = FREE; j = 0; do :: j < JOBS -> alive[j] = false; queue[j] = NOT; answered[j] = false; j++ :: else -> break od }
     if :: one = one_disk :: skip fi;
     if :: two = two_disk :: skip fi;
     one_disk = one; two_disk = two;
@@ -124,7 +123,7 @@ inline sync_home() {
         do
         :: h < PLACES ->
             if
-            :: place[h] == NONE -> place_disk[h] = NONE
+            :: place[h] == NONE -> place_disk[h] = NONE; jobs[h] = 0; old[h] = 0; answers[h] = 0
             :: place[h] != NONE && place_disk[h] == NONE -> place_disk[h] = MADE
             :: else
             fi;
@@ -176,7 +175,8 @@ inline settle() {
         if
         :: epoch != mine -> goto dead
         :: else ->
-            d_step { s = 0; do :: s < PLACES && place[s] == NONE -> s++ :: else -> break od };
+            s = 0;
+            do :: s < PLACES && place[s] == NONE -> s++ :: else -> break od;
             if
             :: s == PLACES -> s = 0; break
             :: else
@@ -209,7 +209,13 @@ inline lead(own) {
     :: else -> k = 0; break
     od;
 #endif
-    STEP(assert(one == two); p = fresh; fresh++; place[p] = MADE; jobs[p] = mates; old[p] = one);
+    STEP(
+        assert(one == two);
+        p = 0;
+        do :: place[p] != NONE || place_disk[p] != NONE -> p++ :: else -> break od;
+        assert(p < PLACES);
+        place[p] = MADE; jobs[p] = mates; old[p] = one
+    );
     STEP(answers[p] = mates & ~(1 << own));
 #ifdef ANSWER_FIRST
     k = 0;
@@ -273,10 +279,7 @@ done:
     STEP(told[j] = DONE);
     goto leave;
 later:                                                                 /* the system refused a part for now */
-    if
-    :: HAS(jobs[s % PLACES], j) || (commits[j] == 1) -> STEP(told[j] = LATER)
-    :: else -> STEP(told[j] = REFUSED)
-    fi;
+    STEP(if :: commits[j] == 1 -> told[j] = LATER :: else -> told[j] = REFUSED fi);
     goto leave;
 refused:
     k = 0;
@@ -296,14 +299,16 @@ leave:
 #endif
     STEP(lock_of = FREE);
 out:
-    atomic { queue[j] = NOT; answered[j] = false; alive[j] = false; ended++ }
+    skip;
+    d_step { queue[j] = NOT; answered[j] = false; alive[j] = false };
     goto end;
 killed:
-    atomic { if :: lock_of == me -> lock_of = FREE :: else fi; alive[j] = false }
+    skip;
+    d_step { if :: lock_of == me -> lock_of = FREE :: else fi; alive[j] = false };
 dead:
-    ended++;
 end:
-    skip
+    skip;
+    d_step { mine = 0; s = 0; g = 0; k = 0; p = 0; mates = 0; ended++ }
 }
 
 /* txforest-apply --settle */
@@ -317,14 +322,14 @@ proctype Settler(byte me) {
     settle();
 later:
     STEP(lock_of = FREE);
-    ended++;
     goto end;
 killed:
-    atomic { if :: lock_of == me -> lock_of = FREE :: else fi }
+    skip;
+    d_step { if :: lock_of == me -> lock_of = FREE :: else fi };
 dead:
-    ended++;
 end:
-    skip
+    skip;
+    d_step { mine = 0; s = 0; g = 0; ended++ }
 }
 
 /* The power fails at some moment, or never. A settler that is started behind that is a new process. */

@@ -321,6 +321,30 @@ class Recorded(Calls):
         self.events.append(("fsync", self.uid(fd)))
 
 
+class Forgetful(Recorded):
+    """Passes over the syncs of one kind, as a commit without them would."""
+
+    KINDS = ("staged", "intent", "place", "home", "commit", "directory")
+
+    def __init__(self, above: bytes, left_out: str) -> None:
+        super().__init__(above)
+        self.left_out = left_out
+
+    def fsync(self, fd: int) -> None:
+        if self.kind(os.readlink(b"/proc/self/fd/%d" % fd), fd) != self.left_out:
+            super().fsync(fd)
+
+    def kind(self, path: bytes, fd: int) -> str:
+        """Which sync it is."""
+        name = os.path.basename(path)
+        if not os.path.isdir(path):
+            in_place = b".txforest-" in os.path.dirname(path)
+            return "intent" if name == b"intent.new" else "staged" if in_place else "target"
+        if b".txforest-" in name:
+            return "commit" if b"intent" in map(os.fsencode, os.listdir(fd)) else "place"
+        return "home" if self.uid(fd) == self.above else "directory"
+
+
 Names = dict[int, dict[bytes, Any]]
 
 
@@ -444,8 +468,33 @@ def cuts(number: int, seed: int = 1, models: str = "loose journal") -> str:
     return f"{done} cuts in {rounds} pairs of commits ({told})"
 
 
-def cut_pair(top: str, above: str, number: int, models: list[str], tally: Counter[str]) -> int:
-    """The cuts of one pair of commits."""
+def mutations(number: int, seed: int = 1) -> str:
+    """Of each kind of sync: power cuts of commits without it have to find a fault."""
+    found = []
+    for kind in Forgetful.KINDS:
+        random.seed(seed)
+        done = 0
+        while True:
+            with work_folder() as top:
+                os.mkdir(f"{top}/c")
+                try:
+                    done += cut_pair(top, f"{top}/c", 40, ["loose"], Counter(), kind)
+                except AssertionError:
+                    break
+            assert done < number, f"{done} power cuts without the sync '{kind}' find no fault"
+        found.append(f"{kind} within {done + 40}")
+    return f"power cuts find that a sync is left out: {', '.join(found)}"
+
+
+def cut_pair(
+    top: str,
+    above: str,
+    number: int,
+    models: list[str],
+    tally: Counter[str],
+    left_out: str | None = None,
+) -> int:
+    """The cuts of one pair of commits, of which a kind of sync may be left out."""
     tree = new_tree(f"{above}/tree")
     changes = some_changes()
     states = [*expected(changes, tree, f"{top}/expected")]
@@ -456,7 +505,7 @@ def cut_pair(top: str, above: str, number: int, models: list[str], tally: Counte
         Change("remove", "a/b/x"),
     ]
     real_ino = os.lstat(tree).st_ino
-    record = Recorded(os.fsencode(above))
+    record = Forgetful(os.fsencode(above), left_out) if left_out else Recorded(os.fsencode(above))
     first, marks = len(record.events), list[int]()
     with using(record):
         for it in (changes, second):

@@ -10,6 +10,7 @@ from typing import Any
 from unittest import mock
 
 from txforest import model
+from txforest.blind import are_blind
 from txforest.parts import one_by_one, parted
 from txforest.place import Tree
 from txforest.queue import (
@@ -29,7 +30,7 @@ from txforest.queue import (
 from txforest.report import read_report
 from txforest.statuses import Failed, Status
 
-from . import queues
+from . import pretended, queues
 from .queues import JOB, SPEC, left, new_tree, request
 from .trees import read, work_folder, write
 
@@ -284,6 +285,46 @@ class Waits(unittest.TestCase):
         os.unlink(f"{self.tree.path}/log")
         self.assertEqual(self.statuses(request("txn { }")), [10])
         self.assertEqual(self.statuses(request(JOB % "c"), request("txn { }"), mends), [0, 0, 0])
+
+    def test_large_trees_look_at_the_last_state_alone_if_that_speaks_for_all(self) -> None:
+        watched = []
+        original = pretended.call
+
+        def call(words: Any, *more: Any, **given: Any) -> Any:
+            watched.append(words[0])
+            return original(words, *more, **given)
+
+        blind = 'txn { to("n") down fetch n : str store(text((int(n) + 1))) }'
+        for changes, command in (
+            ((blind, blind), "run"),
+            ((blind, JOB % "a", JOB % "b"), "run"),
+            ((blind, 'txn { to("log") down try a store("x") }', "txn { abort }"), "run"),
+            ((blind, 'txn { to("log") down remove store("") }'), "watch"),
+            ((blind, 'txn { to("log") down try c create }'), "watch"),
+        ):
+            watched.clear()
+            with mock.patch("txforest.batch.LARGE", 0), mock.patch.object(pretended, "call", call):
+                statuses = self.statuses(*map(request, changes))
+            self.assertEqual(statuses, [int("abort" in it) for it in changes])
+            self.assertEqual(watched[0], command, changes)
+            self.assertEqual(set(watched) - {command, "show"}, set())
+        breaks = request('txn { to("log") down remove }')
+        with mock.patch("txforest.batch.LARGE", 0):
+            self.assertEqual(self.statuses(request(blind), breaks, request(blind)), [0, 10, 0])
+
+    def test_which_texts_are_blind(self) -> None:
+        yes = (SPEC, b"<d : dir, {(k :: <e : dir, {(f :: opt(file)) | f in e}>) | k in d}>")
+        no = (
+            b'<c : ("n" :: file), {(k :: file) | k in lines(c)}>',
+            b'("l" :: link)',
+            b'<o : ("n" :: opt(file)), dir>',
+            b'def f() = <c : file, pred((c == "1"))> ("n" :: f())',
+            b"dir $",
+        )
+        for spec in yes + no:
+            self.assertEqual(are_blind(spec, [b"txn { down }"]), spec in yes, spec)
+        for script in (b"txn { remove }", b"txn { fetch d : names store(d) }", b"txn { $ }"):
+            self.assertFalse(are_blind(SPEC, [script]), script)
 
     def test_nothing_to_do(self) -> None:
         self.assertEqual(self.statuses(request(""), request(""), request("txn { }")), [0, 0, 0])

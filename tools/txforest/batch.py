@@ -32,12 +32,14 @@ if TYPE_CHECKING:
     from .differences import Change
     from .only import Only
     from .place import Tree
+    from .program import Answer as Run
     from .queue import Taken
     from .survey import Survey
 
     Put = Callable[[Attempt, Sequence[Change], dict[str, bytes]], Committed]
 
 SHELLS = 64
+LARGE = 20_000  # entries of a tree times transactions, from which on fewer states are looked at
 STATES = 256  # how many transactions are watched in one go at most
 SEVERAL = (Status.UNWRITTEN, Status.NO_MEMORY)
 
@@ -93,6 +95,7 @@ class Batch:
         self.put = put
         self.surveyed: Callable[[Survey], None] = lambda found: None  # told of each survey
         self.rooms: list[Attempt] = []  # what is to be closed behind the answers
+        self.known: list[Change] | None = None  # what the last run changes, if that was asked
         self.standing: list[Member] = []  # whose answers stand in a place, for whoever settles it
 
     def do(self, own: Member, taken: Sequence[Taken]) -> Answer:
@@ -146,9 +149,7 @@ class Batch:
     def attempted(self, attempt: Attempt, group: list[Member]) -> list[list[Member]]:
         """One attempt at a group. Answers the groups that are still to be done."""
         self.surveyed(attempt.found)
-        scripts = [script for member in group for script in member.scripts]
-        schedule = one_by_one(len(scripts)) if len(group) > 1 else None
-        answer = attempt.run(group[0].spec, scripts, schedule)
+        answer = self.ran(attempt, group)
         if answer.status:
             attempt.look_again()
             return self.refused(attempt, group, answer.status, answer.told())
@@ -171,6 +172,28 @@ class Batch:
         ]
         self.commit(attempt, group, answers, answer.printed)
         return []
+
+    def ran(self, attempt: Attempt, group: list[Member]) -> Run:
+        """The run of a group. That of several is watched, so that each state is known to have a value
+        or not; unless the tree is large, and it is seen that the last state speaks for all."""
+        self.known = None
+        spec = group[0].spec
+        scripts = [script for member in group for script in member.scripts]
+        if len(group) == 1:
+            return attempt.run(spec, scripts)
+        transactions = sum(member.request.transactions for member in group)
+        if len(attempt.found.taken) * transactions > LARGE:
+            from .blind import are_blind, keep_all
+
+            if are_blind(spec.text, [script.text for script in scripts]):
+                answer = attempt.run(spec, scripts)
+                if answer.status:
+                    return answer
+                changes = attempt.changes()
+                if keep_all(changes, attempt.found) and attempt.is_valid():
+                    self.known = changes
+                    return answer
+        return attempt.run(spec, scripts, one_by_one(len(scripts)))
 
     def alone(
         self, attempt: Attempt, member: Member, part: Part, report: bytes
@@ -213,7 +236,7 @@ class Batch:
         self, attempt: Attempt, group: list[Member], answers: list[Answer], printed: bytes
     ) -> None:
         """Puts the result of an attempt in place, with the answers of those who wait."""
-        changes = attempt.changes()
+        changes = attempt.changes() if self.known is None else self.known
         carried = self.carried(attempt, group, answers, printed)
         if not changes:
             # Nothing is to be kept across a stop: an answer that is lost is come to again.

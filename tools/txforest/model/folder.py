@@ -11,7 +11,7 @@ from .spelling import Path, path_text, quote
 from .store import TABLE, Dir, File, Filestore, is_name
 from .table import read_table, table_of
 
-Saved = dict[Path, "tuple[Literal['file'], bytes] | tuple[Literal['dir'], frozenset[bytes]]"]
+Saved = dict[Path, tuple[Literal["file"], bytes] | tuple[Literal["dir"], frozenset[bytes]]]
 """What stands in a folder: of a path its kind, and a file's bytes or a directory's names."""
 
 
