@@ -1,17 +1,19 @@
 """Proves the program and the crates below it, and prints the path of the executable.
 
 A gate of their own, which stands beside the repository, proves them side by side. With no change
-since the last time nothing is proved again.
+since the last time nothing is proved again. One that works there holds a lock, and a second waits.
 """
 
 from __future__ import annotations
 
+import fcntl
 import hashlib
 import os
 import shutil
 import subprocess
 import sys
 from collections.abc import Iterator
+from contextlib import contextmanager
 
 TOP = os.path.dirname(os.path.dirname(os.path.realpath(__file__)))
 ROOM = os.path.join(os.environ.get("XDG_CACHE_HOME") or os.path.expanduser("~/.cache"), "txforest")
@@ -78,6 +80,19 @@ def state_of(files: dict[str, bytes]) -> bytes:
     return state.hexdigest().encode()
 
 
+@contextmanager
+def held() -> Iterator[None]:
+    """Holds the lock of the room, ROOM.lock, and tells if another one works there."""
+    os.makedirs(os.path.dirname(ROOM), exist_ok=True)
+    with open(f"{ROOM}.lock", "w") as lock:
+        try:
+            fcntl.flock(lock, fcntl.LOCK_EX | fcntl.LOCK_NB)
+        except BlockingIOError:
+            print(f"another one builds in {ROOM}; waiting", file=sys.stderr, flush=True)
+            fcntl.flock(lock, fcntl.LOCK_EX)
+        yield
+
+
 def lay_out(files: dict[str, bytes]) -> None:
     shutil.rmtree(ROOM, ignore_errors=True)
     for path, content in files.items():
@@ -113,10 +128,11 @@ def prove(count: int) -> None:
 def main() -> None:
     files = contents()
     state, kept = state_of(files), os.path.join(ROOM, "state")
-    if not (os.path.isfile(kept) and os.path.isfile(PROGRAM) and read(kept) == state):
-        lay_out(files)
-        prove(files["crates.txt"].count(b"\n"))
-        write(kept, state)
+    with held():
+        if not (os.path.isfile(kept) and os.path.isfile(PROGRAM) and read(kept) == state):
+            lay_out(files)
+            prove(files["crates.txt"].count(b"\n"))
+            write(kept, state)
     print(PROGRAM)
 
 
