@@ -669,7 +669,8 @@ def installed(room):
     same(f"install: {told}", status, 0)
     files = [os.path.join(at, name) for at, _, names in os.walk(prefix) for name in names]
     programs = sorted(os.listdir(f"{prefix}/bin"))
-    same("the programs", programs, sorted(["txforest", *(f"txforest-{name}" for name in NAMES)]))
+    tools = [name for name in os.listdir(TOOLS) if name.startswith("txforest-")]
+    same("the programs", programs, sorted(["txforest", *tools]))
     bare = {key: value for key, value in os.environ.items() if key != "TXFOREST"}
     shutil.copytree(CONFIG, f"{room}/c")
     for name in NAMES:

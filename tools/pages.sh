@@ -1,3 +1,4 @@
+# shellcheck shell=bash
 # What `install` and `dist` share: the documents and the examples as they stand outside the repository.
 
 lay_out_pages() { # TOP FOLDER: puts them into the folder, with no link to what stands in the repository alone

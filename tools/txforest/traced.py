@@ -29,7 +29,6 @@ from .lines import read_lines, seen_line, seen_of, written_lines
 from .mounts import NODEV, NOSUID, READ_ONLY, mount, own_mounts
 from .states import (
     LINK,
-    NOTHING,
     Kind,
     Reader,
     identity,
