@@ -247,11 +247,16 @@ WIDE = "<d : dir, {(k :: <e : dir, {(f :: file) | f in e}>) | k in d}>\n"
 Commands = Callable[[str, list[str]], list[list[str]]]
 
 
+def folders_of(number: int) -> int:
+    """How many folders a tree of so many files has: each of 64 jobs has one of its own."""
+    return max(64, number // 100)
+
+
 def many_files(tree: str, number: int) -> None:
-    """A tree of so many files, a hundred in each folder, of which one counts."""
-    for folder in range(max(1, number // 100)):
+    """A tree of so many files, in each of its folders one that counts."""
+    for folder in range(folders_of(number)):
         os.makedirs(f"{tree}/d{folder:04d}")
-        for file in range(99):
+        for file in range(number // folders_of(number) - 1):
             write(f"{tree}/d{folder:04d}/f{file:02d}", f"{file}\n" * 20)
         write(f"{tree}/d{folder:04d}/count", "0\n")
 
@@ -370,7 +375,7 @@ def costs_on(base: str, files: int) -> list[str]:
             assert total == jobs, (way, jobs, total)
             row = f"{used:.3f} s | {used / run:.1f} | {clock:.2f} s |"
             lines.append(f"| {files:,} | {jobs} | {way} | {row}")
-            for name in os.listdir(base):
+            for name in sorted(os.listdir(base)):
                 if name not in ("tree", "spec"):
                     path = f"{base}/{name}"
                     shutil.rmtree(path) if os.path.isdir(path) else os.unlink(path)

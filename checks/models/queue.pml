@@ -16,8 +16,8 @@
    changed and not synced is on the device or not, each by itself, when the power fails. What a place has and what `home`
    has are two directories: a place that was removed may be back, until its home is synced.
 
-   Faults that the model has to find, by -D: NO_PLACE_SYNC, NO_HOME_SYNC, NO_TREE_SYNC, ANSWER_APART, ANSWER_FIRST, TAKE_NOTHING,
-   NO_SETTLE, CLEAR_FIRST. */
+   Faults that the model has to find, by -D: NO_PLACE_SYNC, NO_HOME_SYNC, NO_TREE_SYNC, ANSWER_APART, ANSWER_FIRST, NO_SETTLE,
+   CLEAR_FIRST, LEAVE_LATE. */
 
 #define JOBS 2
 #define PLACES 3
@@ -196,7 +196,6 @@ inline settle() {
 inline lead(own) {
     mates = 1 << own;
     k = 0;
-#ifndef TAKE_NOTHING
     do
     :: k < JOBS ->
         if
@@ -208,7 +207,6 @@ inline lead(own) {
         k++
     :: else -> k = 0; break
     od;
-#endif
     STEP(
         assert(one == two);
         p = 0;
