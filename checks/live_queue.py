@@ -287,10 +287,11 @@ def with_git(base: str, folders: list[str]) -> list[list[str]]:
     )
     subprocess.run(["bash", "-c", make.format(base)], check=True, stdout=subprocess.DEVNULL)
     one = (
-        "cd {0}/t && git worktree add -q --detach {0}/w{2} main 2> /dev/null && cd {0}/w{2} &&"
+        "git clone -q --shared {0}/t {0}/w{2} && cd {0}/w{2} &&"
+        " git config user.name a && git config user.email a@b &&"
         " echo $(($(cat {1}/count) + 1)) > {1}/count && git commit -qm {2} {1}/count &&"
         " until git push -q {0}/t HEAD:main 2> /dev/null; do"
-        " git fetch -q {0}/t main && git rebase -q FETCH_HEAD || exit 1; done"
+        " git fetch -q {0}/t main && git rebase -q FETCH_HEAD 2> /dev/null || exit 1; done"
     )
     return [["bash", "-c", one.format(base, name, i)] for i, name in enumerate(folders)]
 
@@ -362,9 +363,7 @@ def costs_on(base: str, files: int) -> list[str]:
             if not shutil.which(way.split(" ")[0].rstrip(",")) and way.startswith("git"):
                 continue
             shutil.copytree(f"{base}/tree", f"{base}/t")
-            folders = [
-                f"d{i * max(1, files // 100 // jobs) % (files // 100):04d}" for i in range(jobs)
-            ]
+            folders = [f"d{i * (folders_of(files) // jobs):04d}" for i in range(jobs)]
             used, clock = measured(commands(base, folders))
             if way == "SQLite":
                 total = sum_of_rows(f"{base}/data")
