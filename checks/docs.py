@@ -130,6 +130,16 @@ def anchors(text: str) -> set[str]:
     return {re.sub(r"[^\w\- ]", "", head.lower()).replace(" ", "-") for head in heads}
 
 
+def has_part(path: str, anchor: str) -> bool:
+    """Whether a file has what stands behind the `#` of a link to it: of a page a heading, of any
+    other file a line, as `L20`."""
+    text = text_of(path)
+    if path.endswith(".md"):
+        return anchor in anchors(text)
+    line = re.fullmatch(r"L([1-9][0-9]*)", anchor)
+    return line is not None and int(line[1]) <= text.count("\n")
+
+
 def links(top: str, document: str) -> int:
     """Follows the links of a page that stands below a folder; answers how many there were."""
     page = os.path.join(top, document)
@@ -141,8 +151,8 @@ def links(top: str, document: str) -> int:
         there = os.path.normpath(os.path.join(os.path.dirname(page), path)) if path else page
         if not os.path.exists(there) or not there.startswith(top + os.sep):
             sys.exit(f"{page}: the link {link} leads nowhere")
-        if anchor and anchor not in anchors(text_of(there)):
-            sys.exit(f"{page}: the link {link} leads to no heading")
+        if anchor and not has_part(there, anchor):
+            sys.exit(f"{page}: the link {link} leads to no such part")
     return len(found)
 
 
