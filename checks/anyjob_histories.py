@@ -97,7 +97,7 @@ def function_of(r: random.Random, label: str) -> list[tuple]:
     return made
 
 
-def follow(t: object, steps: list[tuple]) -> list:
+def follow(t: Any, steps: list[tuple]) -> list:
     """Does such a list with a transaction, or with a plain folder that has the same words."""
     told: list = []
     for step, *w in steps:
@@ -315,7 +315,7 @@ class History:
         os.write(fd, text.encode() + b"\n")
         os.close(fd)
 
-    def job(self, k: int, work: object) -> int:
+    def job(self, k: int, work: Any) -> int:
         """One job, in a process of its own: its status."""
         for number, name in ((1, "out"), (2, "err")):
             where = os.path.join(self.room, f"{name}{k}")
@@ -347,7 +347,7 @@ class History:
             print(failed.lines, file=sys.stderr, flush=True)
             return 98
 
-    def python(self, work: object) -> int:
+    def python(self, work: Any) -> int:
         """A job of the interface."""
         import txforest
 
@@ -366,16 +366,16 @@ class History:
 
         submit, put, settled = jobs.Clerk.submit, jobs.Leader.put, do.Transaction.settled
 
-        def submitted(clerk, room, looked, *more):
+        def submitted(clerk: Any, room: Any, looked: Any, *more: Any) -> Any:
             self.line(f"room {room.name} {k}")
             plant(self.fault, looked)
             return submit(clerk, room, looked, *more)
 
-        def placed(leader, group, order, *more):
+        def placed(leader: Any, group: Any, order: Any, *more: Any) -> None:
             put(leader, group, order, *more)
             self.line(" ".join(["group", *(group[number].name for number in order)]))
 
-        def ended(transaction, room, copy, status, held):
+        def ended(transaction: Any, room: Any, copy: Any, status: Any, held: Any) -> Any:
             rooms = len(self.told())
             found = settled(transaction, room, copy, status, held)
             if held is not None and found == status and len(self.told()) == rooms:
