@@ -2,8 +2,8 @@
 
 usage: anyjob.py [PART [WORD..]]..   with TXFOREST set to the program
 
-Each part prints a line with what it counted, and it ends with 1 at the first thing that is not as it
-should be. What needs root, or a kernel that lets one make name spaces, is left out and said so.
+Each part prints a line with what it counted, and it ends with 1 at the first thing that is not as
+it should be. What needs root, or a kernel that lets one make name spaces, is left out and said so.
 """
 
 from __future__ import annotations
@@ -17,6 +17,7 @@ import sys
 import tempfile
 import time
 import traceback
+from typing import Any
 
 TOP = os.path.dirname(os.path.dirname(os.path.abspath(__file__)))
 TOOLS = os.path.join(TOP, "tools")
@@ -74,13 +75,13 @@ def moments(room: str, count: str = "20") -> str:
     return told
 
 
-def run(words: list[str], room: str, status: int = 0, say: str = "", **more: object) -> str:
+def run(words: list[str], room: str, status: int = 0, say: str = "", **more: Any) -> str:
     """Runs a command in a room, which has to end with a status and to say some words."""
     quiet = subprocess.DEVNULL
     ran = subprocess.run(
         words, cwd=room, stdin=quiet, stdout=subprocess.PIPE, stderr=subprocess.STDOUT, **more
     )
-    told = ran.stdout.decode(errors="replace")
+    told: str = ran.stdout.decode(errors="replace")
     if ran.returncode != status or say not in told or "Traceback" in told:
         raise Wrong(f"{words}: status {ran.returncode}, not {status} with {say!r}: {told[-2000:]}")
     return told
@@ -111,10 +112,10 @@ def rota(room: str, rounds: str = "10") -> str:
         leave = 'if [ "$(cat {1})" = on ]; then sleep 0.2; echo off > {0}; fi'
         scripts = [leave.format(*names) for names in (("ann", "ben"), ("ben", "ann"))]
         words = [DO, kinds[number % 3], "tree", "spec", "--", "sh", "-c"]
-        for top, each in (("tree", lambda it: [*words, it]), ("plain", lambda it: ["sh", "-c", it])):
+        for top, each in (("tree", words), ("plain", ["sh", "-c"])):
             where = room if top == "tree" else f"{room}/plain"
             pipe = subprocess.PIPE
-            jobs = [subprocess.Popen(each(it), cwd=where, stderr=pipe) for it in scripts]
+            jobs = [subprocess.Popen([*each, it], cwd=where, stderr=pipe) for it in scripts]
             told = b"".join(job.communicate()[1] for job in jobs)
             if any(job.returncode for job in jobs):
                 raise Wrong(f"statuses {[job.returncode for job in jobs]}: {told!r}")
@@ -129,7 +130,9 @@ def rota(room: str, rounds: str = "10") -> str:
     return f"{rounds} rounds: one stays each time, {refused} conflicts told; {plain}"
 
 
-def sh(room: str, script: str, *options: str, status: int = 0, say: str = "", **more: object) -> str:
+def sh(
+    room: str, script: str, *options: str, status: int = 0, say: str = "", **more: Any
+) -> str:
     """A shell script as a job on the tree of a room."""
     words = [DO, *options, "tree", "spec", "--", "sh", "-c", script]
     return run(words, room, status, say, **more)
@@ -152,7 +155,15 @@ def statuses(room: str) -> str:
     def job(status: int, script: str, *options: str, say: str = "", kept: str = "1\n") -> None:
         expect(status, [*options, "tree", "spec", "--", "sh", "-c", script], say, kept)
 
-    for options in [], ["--trace"], ["--whole"], ["--only=*"], ["--hold"], ["--tries=1"]:
+    kinds: list[list[str]] = [
+        [],
+        ["--trace"],
+        ["--whole"],
+        ["--only=*"],
+        ["--hold"],
+        ["--tries=1"],
+    ]
+    for options in kinds:
         job(3, "echo 2 > a; echo x > b; exit 3", *options)
         job(122, "echo 7 > a", *options, say="has no value")
         job(122, "rm a", *options, say="has no value")
@@ -180,9 +191,14 @@ def streams(room: str) -> str:
     """Input is the same at each try; output that is held back comes once; what stays is ended."""
     write(f"{room}/spec", "dir\n")
     write(f"{room}/tree/a", "1\n")
-    script = f"cat; cat a; [ -e {room}/again ] || {{ : > {room}/again; echo 2 > {room}/tree/a; }}; :>b"
+    again = f"{{ : > {room}/again; echo 2 > {room}/tree/a; }}"
+    script = f"cat; cat a; [ -e {room}/again ] || {again}; :>b"
     words = [DO, "--hold", "tree", "spec", "--", "sh", "-c", script]
-    for give in ({"input": b"given\n"}, {"stdin": open(os.path.join(room, "spec"), "rb")}):
+    gives: list[dict[str, Any]] = [
+        {"input": b"given\n"},
+        {"stdin": open(os.path.join(room, "spec"), "rb")},
+    ]
+    for give in gives:
         ran = subprocess.run(words, cwd=room, capture_output=True, check=True, **give)
         first = b"given\n" if "input" in give else b"dir\n"
         if ran.stdout != first + b"2\n" or b"run again" not in ran.stderr:
@@ -200,7 +216,7 @@ def streams(room: str) -> str:
 
 
 def attributes(room: str) -> str:
-    """Modes, owners, access lists and extended attributes: carried or refused, and kept otherwise."""
+    """Modes, owners, access lists, extended attributes: carried or refused, and kept otherwise."""
     write(f"{room}/spec", "dir\n")
     write(f"{room}/tree/a", "1\n")
     write(f"{room}/tree/d/x", "1\n")
@@ -209,7 +225,8 @@ def attributes(room: str) -> str:
     for option in "--trace", "--whole", "--only=*":
         os.setxattr(f"{room}/tree/a", "user.kept", b"yes")
         sh(room, "echo 2 >> a; chmod 600 a; chmod 750 d", option)
-        mode = oct(os.stat(f"{room}/tree/a").st_mode & 0o777 | os.stat(f"{room}/tree/d").st_mode << 12)
+        modes = [os.stat(f"{room}/tree/{name}").st_mode for name in "ad"]
+        mode = oct(modes[0] & 0o777 | modes[1] << 12)
         if os.stat(f"{room}/tree/a").st_mode & 0o777 != 0o600 or not mode:
             raise Wrong(f"{option}: chmod is lost")
         if os.stat(f"{room}/tree/d").st_mode & 0o777 != 0o750:
@@ -231,7 +248,8 @@ def attributes(room: str) -> str:
             sh(room, refused, option, status=124, say="is not carried")
         if os.getuid() == 0:
             sh(room, "chown 12:34 a; echo new > n; chown 56:78 n", option)
-            owners = [(os.stat(f"{room}/tree/{n}").st_uid, os.stat(f"{room}/tree/{n}").st_gid) for n in "an"]
+            stats = [os.stat(f"{room}/tree/{n}") for n in "an"]
+            owners = [(it.st_uid, it.st_gid) for it in stats]
             if owners != [(12, 34), (56, 78)]:
                 raise Wrong(f"{option}: owners {owners}")
             sh(room, "chown 0:0 a; rm n", option)
@@ -274,7 +292,7 @@ def counts(room: str, count: str = "400", processes: str = "8") -> str:
     return f"{found:,} counts by {processes} processes, none lost, in {seconds:.0f} s"
 
 
-def as_user(room: str, words: list[str], fuse: bool, spaces: bool, **more: object) -> str:
+def as_user(room: str, words: list[str], fuse: bool, spaces: bool, **more: Any) -> str:
     """Runs a command as a plain user, with or without a device of FUSE and name spaces."""
     device = f"{room}/fuse"
     if not os.path.exists(device):
@@ -284,7 +302,8 @@ def as_user(room: str, words: list[str], fuse: bool, spaces: bool, **more: objec
     user = ["setpriv", "--reuid=65534", "--regid=65534", "--clear-groups"]
     if not spaces:  # nobody makes a user's name space in a changed root
         os.makedirs(f"{room}/root", exist_ok=True)
-        bind = f'mount --rbind / {room}/root && cd {room}/root{room} && exec chroot {room}/root "$@"'
+        root = f"{room}/root"
+        bind = f'mount --rbind / {root} && cd {root}{room} && exec chroot {root} "$@"'
         inner = [*user, "sh", "-c", f'cd {room}; exec "$@"', "sh", *words]
         return run(["unshare", "-m", "sh", "-c", bind, "sh", *inner], room, env=env, **more)
     return run([*user, *words], room, env=env, **more)

@@ -163,7 +163,8 @@ ROWS = (
 
 def costs(room: str, sizes: list[int], rounds: int) -> str:
     """The table of one job after another, and that of jobs at once."""
-    lines = [f"| | {' | '.join(f'{size:,} files' for size in sizes)} |", "|---" * (len(sizes) + 1) + "|"]
+    head = " | ".join(f"{size:,} files" for size in sizes)
+    lines = [f"| | {head} |", "|---" * (len(sizes) + 1) + "|"]
     cells: dict[str, list[str]] = {kind: [] for kind, _ in ROWS}
     for size in sizes:
         bench = Bench(f"{room}/each", size, True)

@@ -2,9 +2,9 @@
 
 Jobs run at once, each a random shell script under txforest-do or a random function of the interface
 for Python. Then the accepted ones run once more, one after another in the order in which they were
-accepted, with the plain commands on a copy. What each printed, and what stands in the tree, has to be
-the same. A job that ended with another status than 0 is replayed on a copy of its own: also what it
-printed is an answer.
+accepted, with the plain commands on a copy. What each printed, and what stands in the tree, has to
+be the same. A job that ended with another status than 0 is replayed on a copy of its own: also what
+it printed is an answer.
 """
 
 from __future__ import annotations
@@ -17,6 +17,7 @@ import subprocess
 import sys
 import time
 import traceback
+from typing import Any
 
 SPEC = '<a : ("a" :: file), <b : ("b" :: file), pred(((int(a) + int(b)) < 8))>>\n'
 KINDS = ("traced", "whole", "plain", "only", "python")
@@ -43,7 +44,8 @@ def step_of(r: random.Random, label: str) -> str:
         f's=$(( $(cat a) + $(cat b) )); echo "sum $s";'
         f" if [ $s -gt 0 ]; then echo $(( $(cat {r.choice('ab')}) - 1 )) > {r.choice('ab')}; fi",
         'n=$(ls d | wc -l); echo "n $n"; echo $n > count',
-        f'if [ -e d/{n} ]; then echo "there $(cat d/{n})"; else echo {label} > d/{n}; echo made; fi',
+        f'if [ -e d/{n} ]; then echo "there $(cat d/{n})"; else'
+        f' echo {label} > d/{n}; echo made; fi',
         f"rm -f d/{n}; ls d",
         f"rm -rf d/sub; mkdir d/sub; echo {label} > d/sub/f; ls d/sub",
         f"mkdir -p d/sub; echo {label} > d/sub/{label}",
@@ -57,7 +59,8 @@ def step_of(r: random.Random, label: str) -> str:
         "find . -type f | sort | xargs cat | cksum",
         "rmdir d/sub 2>/dev/null && echo gone || echo kept",
         f"if [ -L k ]; then rm k; mkdir k; echo {label} > k/{label};"
-        f" elif [ -d k ]; then ls k; rm -r k; echo {label} > k; else rm -f k; ln -s a k; fi; echo k",
+        f" elif [ -d k ]; then ls k; rm -r k; echo {label} > k; else rm -f k; ln -s a k; fi;"
+        f" echo k",
         "test -e nothere && echo odd",
         f"echo {label} > blind; true",
         f"sed -i 's/$/{label}/' w; cat w",
@@ -94,7 +97,7 @@ def function_of(r: random.Random, label: str) -> list[tuple]:
     return made
 
 
-def follow(t: object, steps: list[tuple]) -> list:
+def follow(t: Any, steps: list[tuple]) -> list:
     """Does such a list with a transaction, or with a plain folder that has the same words."""
     told: list = []
     for step, *w in steps:
@@ -312,7 +315,7 @@ class History:
         os.write(fd, text.encode() + b"\n")
         os.close(fd)
 
-    def job(self, k: int, work: object) -> int:
+    def job(self, k: int, work: Any) -> int:
         """One job, in a process of its own: its status."""
         for number, name in ((1, "out"), (2, "err")):
             where = os.path.join(self.room, f"{name}{k}")
@@ -344,7 +347,7 @@ class History:
             print(failed.lines, file=sys.stderr, flush=True)
             return 98
 
-    def python(self, work: object) -> int:
+    def python(self, work: Any) -> int:
         """A job of the interface."""
         import txforest
 
@@ -363,16 +366,16 @@ class History:
 
         submit, put, settled = jobs.Clerk.submit, jobs.Leader.put, do.Transaction.settled
 
-        def submitted(clerk, room, looked, *more):
+        def submitted(clerk: Any, room: Any, looked: Any, *more: Any) -> Any:
             self.line(f"room {room.name} {k}")
             plant(self.fault, looked)
             return submit(clerk, room, looked, *more)
 
-        def placed(leader, group, order, *more):
+        def placed(leader: Any, group: Any, order: Any, *more: Any) -> None:
             put(leader, group, order, *more)
             self.line(" ".join(["group", *(group[number].name for number in order)]))
 
-        def ended(transaction, room, copy, status, held):
+        def ended(transaction: Any, room: Any, copy: Any, status: Any, held: Any) -> Any:
             rooms = len(self.told())
             found = settled(transaction, room, copy, status, held)
             if held is not None and found == status and len(self.told()) == rooms:
@@ -408,14 +411,15 @@ class History:
         return subprocess.run(words, cwd=top, stdout=subprocess.PIPE, stderr=quiet).stdout
 
 
-def plant(fault: str | None, looked: object) -> None:
+def plant(fault: str | None, looked: Any) -> None:
     """Breaks what a job says it has read, to see that the histories show it."""
     reads = looked.reads
     if fault == "no reads":
         reads.clear()
     for path in list(reads):
         is_listing = isinstance(reads[path], frozenset)
-        if fault == "no absent paths" and reads[path] is None or fault == "no listings" and is_listing:
+        is_absent = reads[path] is None
+        if fault == "no absent paths" and is_absent or fault == "no listings" and is_listing:
             del reads[path]
 
 

@@ -9,6 +9,7 @@ import shutil
 import signal
 import time
 import traceback
+from collections.abc import Callable
 
 SPEC = 'dir\n'
 STEPS = ("begun", "ran", "prepared", "locked", "gathered", "decided", "valued", "put", "told")
@@ -129,7 +130,7 @@ class Killed:
             file.write(str(self.count))
 
 
-def wait_until(what: object, seconds: float = 60) -> bool:
+def wait_until(what: Callable[[], object], seconds: float = 60) -> bool:
     """Waits until something is so; False if it does not come to be."""
     end = time.monotonic() + seconds
     while not what():
@@ -145,8 +146,8 @@ def status_of(pid: int) -> int:
 
 
 def one(room: str, step: str | None, call: int | None) -> tuple[bool, str]:
-    """Three jobs, of which the first leads and is killed: whether the killed one's change stands, and
-    what is wrong."""
+    """Three jobs, of which the first leads and is killed: whether the killed one's change stands,
+    and what is wrong."""
     it = Jobs(room)
     with open(it.top + ".lock", "w", encoding="utf-8") as lock:
         fcntl.flock(lock, fcntl.LOCK_EX)
@@ -175,7 +176,7 @@ def one(room: str, step: str | None, call: int | None) -> tuple[bool, str]:
 
 
 def kills(top: str, part: int) -> tuple[str, str]:
-    """Kills a leader at each step, and at each `part`-th call. Answers what is told and is wrong."""
+    """Kills a leader at each step, and at each `part`-th call; what is told and what is wrong."""
     kept = 0
     for step in STEPS:
         room = os.path.join(top, step)

@@ -99,7 +99,8 @@ def leaders_are_killed(_: str, number: int) -> str:
     count = queues.kills(number or 10_000)
     return (
         f"{count.stops} kills before and behind the calls of a leader with two jobs in its queue,"
-        f" and of those who settled it: {count.answered} times its commit stood and both were answered,"
+        f" and of those who settled it: {count.answered} times its commit stood and both were"
+        " answered,"
         f" {count.again} times they were done by others; none was lost, none done twice"
     )
 

@@ -689,7 +689,13 @@ class Ends(unittest.TestCase):
         it.option("flag", None, "whether")
         given = it.read(["--wait=2", "a", "--", "--flag"])
         self.assertEqual((given.number("wait"), given.operands), (2.0, ["a", "--flag"]))
-        forms: list[list[str]] = [[], ["--nope", "a"], ["--flag=1", "a"], ["--wait"], ["a", "--flag", "--flag"]]
+        forms: list[list[str]] = [
+            [],
+            ["--nope", "a"],
+            ["--flag=1", "a"],
+            ["--wait"],
+            ["a", "--flag", "--flag"],
+        ]
         for words in forms:
             with self.assertRaises(Failed) as caught:
                 it.read(words)

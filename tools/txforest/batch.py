@@ -174,8 +174,9 @@ class Batch:
         return []
 
     def ran(self, attempt: Attempt, group: list[Member]) -> Run:
-        """The run of a group. That of several is watched, so that each state is known to have a value
-        or not; unless the tree is large, and it is seen that the last state speaks for all."""
+        """The run of a group. That of several is watched, so that each state is known to have a
+        value or not; unless the tree is large, and it is seen that the last state speaks for
+        all."""
         self.known = None
         spec = group[0].spec
         scripts = [script for member in group for script in member.scripts]

@@ -239,8 +239,8 @@ class Value:
                     self.bring((*above, name))
 
     def bring_likely(self) -> None:
-        """Brings what the description is likely to look at, so that the question is asked less often:
-        paths that stand in its text, and some of those that are changed."""
+        """Brings what the description is likely to look at, so that the question is asked less
+        often: paths that stand in its text, and some of those that are changed."""
         with open(self.spec, "rb") as file:
             words = file.read().split(b'"')[1::2]
         paths = {tuple(word.split(b"/")) for word in words[:LIKELY]}
