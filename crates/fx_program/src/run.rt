@@ -10,6 +10,7 @@ use fx_command::Message;
 use fx_disk::{Disk, Output};
 use fx_outside::{HostText, OpenGate, Words};
 use fx_real_disk::RealDisk;
+use fx_threads::STACK_BYTES;
 use fx_top::status::Status;
 use fx_top::top::top;
 use std::alloc::Global;
@@ -21,10 +22,6 @@ use std::process::{ExitCode, Termination};
 use std::rt::{Env, Files};
 use std::sync::Wait;
 use std::thread::{self, Promise, Scope, Threads};
-
-/// The bytes of the stack on which the run's own thread works, whatever the shell's limit is. The deepest description takes
-/// a quarter of it.
-const STACK_BYTES: usize = 16_777_216;
 
 /// The number of the last standard stream.
 const LAST_STREAM: i32 = 2;

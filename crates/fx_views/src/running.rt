@@ -23,10 +23,10 @@ use fx_outside::Gate;
 use fx_report::Viewed;
 use fx_snap::{Snaps, Versioned};
 use fx_spec::Base;
+use fx_threads::{join, map_vec};
 use fx_workers::{Crew, Worked, passes_of, take_in, work_on_versions};
 use std::alloc::{AllocError, Global};
 use std::sync::{Arc, Wait};
-use std::thread;
 use std::thread::Threads;
 
 /// What the worker of a script comes to.
@@ -41,7 +41,7 @@ fn work_all<R: Threads + Wait + Sync, G: Gate + Sync>(
     ensures all { IfOk result (λ all. length all.items ≡ length passes.items) }
     ensures done { IfOk result (λ all. AreDone (base_of crew.now) crew.now.shares.now all.items) }
 {
-    thread::map_vec(
+    map_vec(
         crew.rt,
         passes,
         &|pass: SnapPass| -> Work
@@ -110,7 +110,7 @@ fn work_beside<R: Threads + Wait + Sync, G: Gate + Sync>(
         let alloc = *passes.allocator();
         work_all(&crew_of(rt, alloc, base, shares, gate), passes)
     };
-    let (all, onlooker) = thread::join(rt, work, look);
+    let (all, onlooker) = join(rt, work, look);
     let all = all?;
     Ok((onlooker?, all))
 }

@@ -11,10 +11,10 @@ use fx_outside::Gate;
 use fx_shared::{Board, Logged, Pass, Shares};
 use fx_snap::Versioned;
 use fx_spec::Base;
+use fx_threads::map_vec;
 use fx_turn::Seat;
 use std::alloc::{AllocError, Global};
 use std::sync::{Arc, Wait};
-use std::thread;
 use std::thread::Threads;
 
 /// What the workers of a run share: the runtime, the base, the log and the gate.
@@ -76,7 +76,7 @@ pub(crate) fn work_all<R: Threads + Wait + Sync, G: Gate + Sync>(
     ensures all { IfOk result (λ all. length all.items ≡ length passes.items) }
     ensures done { IfOk result (λ all. AreDone (base_of crew.now) crew.now.shares.now all.items) }
 {
-    thread::map_vec(
+    map_vec(
         crew.rt,
         passes,
         &|pass: Pass| -> Result<Worked<Board>, NoMemory>
