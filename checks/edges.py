@@ -1,5 +1,6 @@
 """What a shell may give the program besides words: closed streams, devices, limits."""
 
+import itertools
 import os
 import re
 import resource
@@ -11,7 +12,7 @@ from collections.abc import Callable, Collection, Iterator
 from contextlib import contextmanager
 
 from deep import AROUND, BODIES, CALLS, WALKED, deep
-from stage import DESCRIPTIONS, DONE, FILES, READ, TEXT, USAGE, WRITE, Stage, Wrong
+from stage import DONE, FILES, READ, TEXT, USAGE, WRITE, Stage, Wrong
 
 # Each of these streams is closed, and the others are open.
 CLOSED = ((0,), (1,), (2,), (0, 1), (0, 2), (1, 2), (0, 1, 2))
@@ -199,7 +200,7 @@ def file_sizes() -> None:
 
 
 def stacks() -> None:
-    """The deepest descriptions and 64 scripts, on stacks of 64 KiB to unlimited"""
+    """The deepest descriptions, in 64 scripts at once too, on stacks of 64 KiB to unlimited"""
     deepest = "/".join(["in", *["d"] * 64])
     hard = resource.getrlimit(resource.RLIMIT_STACK)[1]
     sizes = [size for size in STACKS if hard == resource.RLIM_INFINITY or 0 <= size <= hard]
@@ -211,23 +212,19 @@ def stacks() -> None:
             lines = [
                 ["show", "spec", "in"],
                 ["run", "spec", "in", "out", "script"],
+                ["run", "spec", "in", "out", "script", "short"],
+                ["views", "spec", "in", "out", "short", "short", "script"],
                 ["watch", "spec", "in", "out", "none", "script"],
                 ["journal", "spec", "in", "out", "log", "none", "script"],
             ]
-            on_threads = [
-                ["run", "spec", "in", "out", "script", "short"],
-                ["views", "spec", "in", "out", "short", "short", "script"],
-            ]
             if kind == "all":
-                lines.append(["trace", "spec", "in", "out", "none", *["short"] * 64])
-                on_threads += [
-                    ["run", "spec", "in", "out", *["short"] * 64],
-                    ["views", "spec", "in", "out", "short", *["short"] * 63],
+                lines += [
+                    ["run", "spec", "in", "out", *["script"] * 64],
+                    ["views", "spec", "in", "out", "script", *["script"] * 63],
+                    ["trace", "spec", "in", "out", "none", *["script"] * 64],
+                    ["large", "7", "out"],
                 ]
-            # A thread of a further script has the stack that the shell's limit gives it.
-            tries = [(line, size) for line in lines for size in sizes]
-            tries += [(line, 8 << 20) for line in on_threads]
-            for line, size in tries:
+            for line, size in itertools.product(lines, sizes):
                 limit = with_limit(resource.RLIMIT_STACK, size)
                 printed = stage.run({DONE}, line, writes=["log"], preexec_fn=limit)[1]
                 if line[0] == "show" and not printed.startswith(b"valid yes\n"):
