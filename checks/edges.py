@@ -11,7 +11,7 @@ from collections.abc import Callable, Collection, Iterator
 from contextlib import contextmanager
 
 from deep import AROUND, BODIES, CALLS, WALKED, deep
-from stage import DESCRIPTIONS, DONE, FILES, READ, TEXT, USAGE, WRITE, Stage, Wrong
+from stage import DONE, FILES, READ, TEXT, USAGE, WRITE, Stage, Wrong
 
 # Each of these streams is closed, and the others are open.
 CLOSED = ((0,), (1,), (2,), (0, 1), (0, 2), (1, 2), (0, 1, 2))

@@ -22,8 +22,13 @@ class States(Room):
         huge = self.write("h", b"0" * ((1 << 20) + 1))
         owner = b"%d %d" % (os.geteuid(), os.getegid())
         self.assertEqual(token_of(small, -1), b"f 0644 " + owner + b" x")
-        self.assertRegex(token_of(large, -1), rb"h 0644 \d+ \d+ 2000 [0-9a-f]{64}")
-        self.assertRegex(token_of(huge, -1), rb"i 0644 \d+ \d+ 1048577 \d+ \d+ \d+")
+        for where, form in (
+            (large, rb"h 0644 \d+ \d+ 2000 [0-9a-f]{64}"),
+            (huge, rb"i 0644 \d+ \d+ 1048577 \d+ \d+ \d+"),
+        ):
+            found = token_of(where, -1)
+            assert isinstance(found, bytes)
+            self.assertRegex(found, form)
         self.assertTrue(settled(os.stat(huge)))
         os.symlink("x", os.path.join(self.top, "k"))
         os.mkfifo(os.path.join(self.top, "p"))
@@ -138,7 +143,8 @@ class Asked(Server):
 
     def look(self, node: int, name: bytes) -> int:
         """The number of a node, 0 if nothing stands there."""
-        return struct.unpack_from("=Q", self.ask(traced.LOOKUP, node, name + b"\0")[1])[0]
+        found: int = struct.unpack_from("=Q", self.ask(traced.LOOKUP, node, name + b"\0")[1])[0]
+        return found
 
     def listing(self, node: int) -> list[bytes]:
         """The names in a directory."""
@@ -221,7 +227,7 @@ class Words(Room):
     def test_forms(self) -> None:
         given = given_words(["--only", "a", "--only=b", "--tries=3", "t", "s", "--", "x", "--hold"])
         self.assertEqual((given.only, given.tries, given.command), (["a", "b"], 3, ["x", "--hold"]))
-        for words in (
+        refused: list[list[str]] = [
             [],
             ["t", "s"],
             ["t", "s", "--"],
@@ -232,7 +238,8 @@ class Words(Room):
             ["--wait", "-1", "t", "s", "--", "x"],
             ["--odd", "t", "s", "--", "x"],
             ["--whole=1", "t", "s", "--", "x"],
-        ):
+        ]
+        for words in refused:
             with self.assertRaises(Failed, msg=str(words)):
                 given_words(words)
         self.assertTrue(USAGE_LINE)
