@@ -21,11 +21,10 @@ import errno
 import os
 import stat
 import time
-from enum import Enum
 
 TYPE_CHECKING = False
 if TYPE_CHECKING:
-    from typing import Protocol, Union
+    from typing import ClassVar, Protocol, Union
 
     class Digest(Protocol):
         """What hashlib gives."""
@@ -49,11 +48,27 @@ FILE_FLAGS = os.O_RDONLY | os.O_NOFOLLOW | os.O_NONBLOCK | os.O_CLOEXEC | os.O_N
 NOTHING = (errno.ENOENT, errno.ENOTDIR, errno.ELOOP)
 
 
-class Kind(Enum):
-    """What is known of an entry without its content."""
+class Kind:
+    """What is known of an entry without its content. There are these two, which `is` tells apart.
 
-    DIRECTORY = "directory"
-    SOME_FILE = "file"  # of reads alone: a file, whatever it holds
+    DIRECTORY   a directory
+    SOME_FILE   of reads alone: a file, whatever it holds
+
+    The module enum costs each start of a tool.
+    """
+
+    __slots__ = ("word",)
+    DIRECTORY: ClassVar[Kind]
+    SOME_FILE: ClassVar[Kind]
+
+    def __init__(self, word: str) -> None:
+        self.word = word
+
+    def __repr__(self) -> str:
+        return f"<{self.word}>"
+
+
+Kind.DIRECTORY, Kind.SOME_FILE = Kind("directory"), Kind("some file")
 
 
 def new_digest() -> Digest:
