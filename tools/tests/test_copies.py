@@ -5,12 +5,14 @@ from __future__ import annotations
 import os
 import struct
 import subprocess
+from unittest import mock
 
 from tests.rooms import Room
 from txforest import traced
 from txforest.copies import Changes, Copy, Plain, digest_of, entries, remove_tree
-from txforest.declared import declared, matches, parts_of
+from txforest.declared import Declared, declared
 from txforest.do import CONFLICT, USAGE_LINE, Command, given_words
+from txforest.only import Only
 from txforest.states import Kind, Reader, kind_of, settled, token_of
 from txforest.statuses import Failed
 from txforest.traced import Server
@@ -101,19 +103,27 @@ class Copies(Room):
     def test_patterns(self) -> None:
         for pattern, path, found in (
             ("a", "a", True),
+            ("a/", "a", True),
             ("a", "a/b", True),
             ("a", "b", False),
             ("d/*.c", "d/x.c", True),
+            ("d/*.c", "d", False),
             ("d/*.c", "d/e/x.c", False),
+            ("d/?.c", "d/ü.c", True),
+            ("d/[ab]", "d/[ab]", False),
             ("**/x", "d/e/x", True),
             ("**/x", "x", True),
             ("d/**", "d/e/x", True),
         ):
-            names = tuple(os.fsencode(path).split(b"/"))
-            self.assertEqual(matches(parts_of(pattern), names), found, (pattern, path))
-        for pattern in ("", "/a", "a/../b"):
+            self.assertEqual(Only([pattern]).takes(path), found, (pattern, path))
+        for pattern in ("", "/", "/a", "a/../b"):
             with self.assertRaises(Failed):
-                parts_of(pattern)
+                declared([pattern])
+        only = Only(["d/e/f", "d/g"])
+        states, ended = only.step(only.start(), "d")
+        self.assertEqual((only.named(only.start()), ended), (["d"], False))
+        self.assertEqual(only.named(states), ["e", "g"])
+        self.assertIsNone(Only(["d", "*"]).named(Only(["d", "*"]).start()))
 
     def test_declared(self) -> None:
         for path in ("a", "b", "d/x.c", "d/y.h", "d/e/z.c"):
@@ -128,6 +138,39 @@ class Copies(Room):
         self.assertNotIn((b"b",), reads)
         with self.assertRaises(Failed):
             self.copied(declared(["a"]), "echo 1 > b")
+
+    def test_declared_has_nothing_beside_the_way(self) -> None:
+        for path in ("a", "d/x", "e/y"):
+            self.write(path, path)
+        os.symlink("d", os.path.join(self.top, "l"))
+        copy, made = self.copied(declared(["*/x"]), "test -e d/x; test ! -e a")
+        self.assertFalse(made)
+        found = {os.fsdecode(b"/".join(path)) for path, _ in entries(copy.tree)}
+        self.assertEqual(found, {"d", "d/x", "e", "l"})
+        reads = copy.looked().reads
+        self.assertIs(reads[(b"a",)], Kind.SOME_FILE)
+        self.assertEqual((reads[(b"l",)], reads[b"e", b"x"]), (b"l d", None))
+
+    def test_declared_file_that_changes_and_changes_back(self) -> None:
+        """A copy of another moment than what counts as read never commits."""
+        large = b"0" * ((1 << 20) + 1)
+        cases = (b"on", b"off"), (b"0" * 2000, b"1" * 2000), (large, b""), (b"x", None)
+        for content, other in cases:
+            where = self.write("a", content)
+            copying = Declared.copy
+
+            def torn(copy: Declared, reader: Reader) -> None:
+                os.unlink(where)
+                if other is not None:
+                    self.write("a", other)
+                copying(copy, reader)
+                self.write("a", content)
+
+            with mock.patch.object(Declared, "copy", torn):
+                copy, _ = self.copied(declared(["a"]), "")
+            self.assertEqual(copy.looked().spoiled, (b"a",))
+        copy, _ = self.copied(declared(["a"]), "")
+        self.assertIsNone(copy.looked().spoiled)
 
     def test_what_no_tree_has(self) -> None:
         _, made = self.copied(Plain, "mkfifo p")

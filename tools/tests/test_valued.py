@@ -82,7 +82,7 @@ class Values(Room):
         self.assertFalse(value.holds())
 
     def test_kinds_that_alone_decide(self) -> None:
-        """Of files whose contents decide nothing none is brought, and a new content asks nothing."""
+        """Of files whose contents decide nothing none is brought; a new content asks nothing."""
         for number in range(30):
             self.write(f"f{number}", "text")
         value = self.value("<d : dir, {(k :: file) | k in d}>")
@@ -123,15 +123,14 @@ class Values(Room):
             value.go_back(back)
             self.assertTrue(value.holds())
             for content, holds in (("8", False), ("7", True)):
-                made = {(b"new",): token(content.encode())}
-                back = value.change(made, {(b"new",): self.source(content)})
+                back = value.change({(b"new",): token(content.encode())}, {(b"new",): self.source(content)})
                 self.assertEqual(value.holds(), holds)
                 value.go_back(back)
                 self.assertTrue(value.holds())
             value.change({(b"f7",): None}, {})
             self.assertTrue(value.holds())
-            table = {(b".forest-links",): token(b"/l -> f1\n")}
-            value.change(table, {(b".forest-links",): self.source("/l -> f1\n")})
+            table = (b".forest-links",)
+            value.change({table: token(b"")}, {table: self.source("/l -> f1\n")})
             self.assertTrue(value.holds())
             self.assertFalse(value.is_whole)
 

@@ -129,6 +129,12 @@ def token_of_large(found: os.stat_result) -> bytes:
     return b"i " + head(found) + b"%d %d %d %d" % times
 
 
+def same_content(one: bytes, other: bytes) -> bool:
+    """Whether two tokens are of files with the same content, whatever their modes and owners."""
+    first, second = one.split(b" ", 4), other.split(b" ", 4)
+    return first[:1] + first[4:] == second[:1] + second[4:]
+
+
 def content_of(name: bytes | str, dir_fd: int) -> tuple[os.stat_result, bytes | None]:
     """The stat of a file and its content, both of one moment; no content of one above 1 MiB.
 
