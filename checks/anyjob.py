@@ -17,6 +17,7 @@ import sys
 import tempfile
 import time
 import traceback
+from collections.abc import Callable
 from typing import Any
 
 TOP = os.path.dirname(os.path.dirname(os.path.abspath(__file__)))
@@ -411,7 +412,7 @@ def together(room: str, *pairs: str) -> str:
     return told + ("\n" + anyjob_costs.together(room, few, ["git"]) if few else "")
 
 
-PARTS = {
+PARTS: dict[str, Callable[..., str]] = {
     "statuses": statuses,
     "streams": streams,
     "attributes": attributes,

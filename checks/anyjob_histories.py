@@ -17,6 +17,7 @@ import subprocess
 import sys
 import time
 import traceback
+from collections.abc import Sequence
 from typing import Any
 
 SPEC = '<a : ("a" :: file), <b : ("b" :: file), pred(((int(a) + int(b)) < 8))>>\n'
@@ -68,9 +69,9 @@ def step_of(r: random.Random, label: str) -> str:
     return r.choice(steps)
 
 
-def function_of(r: random.Random, label: str) -> list[tuple]:
+def function_of(r: random.Random, label: str) -> list[Sequence[Any]]:
     """A random function of a transaction, as a list of what it does."""
-    made: list[tuple] = []
+    made: list[Sequence[Any]] = []
     for _ in range(r.randint(1, 4)):
         x, y = r.sample("abc", 2)
         n, m = r.choice("pqr"), r.choice("pqrs")
@@ -97,9 +98,9 @@ def function_of(r: random.Random, label: str) -> list[tuple]:
     return made
 
 
-def follow(t: Any, steps: list[tuple]) -> list:
+def follow(t: Any, steps: Sequence[Sequence[Any]]) -> list[Any]:
     """Does such a list with a transaction, or with a plain folder that has the same words."""
-    told: list = []
+    told: list[Any] = []
     for step, *w in steps:
         if step == "move":
             v, u = int(t.read(w[0])), int(t.read(w[1]))
@@ -157,7 +158,10 @@ class PlainFolder:
     """The words of a transaction on a folder itself."""
 
     def __init__(self, top: str) -> None:
-        self.at = lambda path: os.path.join(top, path)
+        self.top = top
+
+    def at(self, path: str) -> str:
+        return os.path.join(self.top, path)
 
     def read(self, path: str) -> bytes:
         with open(self.at(path), "rb") as file:
@@ -214,9 +218,9 @@ def seed(top: str) -> None:
     os.symlink("a", os.path.join(top, "cur"))
 
 
-def picture(top: str) -> dict:
+def picture(top: str) -> dict[str, tuple[object, ...]]:
     """What stands in a tree: kinds, modes, contents, texts of links."""
-    found: dict = {}
+    found: dict[str, tuple[object, ...]] = {}
     for at, folders, files in os.walk(top):
         for name in folders + files:
             where = os.path.join(at, name)
@@ -329,13 +333,13 @@ class History:
         from txforest import do
         from txforest.statuses import Failed
 
-        options = {
+        kinds: dict[str, list[str]] = {
             "traced": ["--trace"],
             "whole": ["--whole"],
             "plain": [],
             "only": ["--only", "*"],
-        }[self.kind]
-        words = ["--hold", *options, self.top, self.spec, "--", "sh", where]
+        }
+        words = ["--hold", *kinds[self.kind], self.top, self.spec, "--", "sh", where]
         given = do.given_words(words)
         if self.kind == "plain":
             from txforest.copies import Plain
@@ -382,8 +386,9 @@ class History:
                 self.line(f"alone {k}")
             return found
 
-        jobs.Clerk.submit, jobs.Leader.put = submitted, placed
-        do.Transaction.settled = ended
+        setattr(jobs.Clerk, "submit", submitted)
+        setattr(jobs.Leader, "put", placed)
+        setattr(do.Transaction, "settled", ended)
 
     def replayed(self, order: list[int], statuses: dict[int, int]) -> str | None:
         """Runs the accepted jobs once more in their order; what is other then."""

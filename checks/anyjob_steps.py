@@ -71,13 +71,14 @@ class Jobs:
             if at == step:
                 os.kill(os.getpid(), signal.SIGKILL)
 
-        jobs.Clerk.reached = reached
+        setattr(jobs.Clerk, "reached", reached)
         if call is not None:
-            calls.S = Killed(call, os.path.join(self.room, "count"))
+            setattr(calls, "S", Killed(call, os.path.join(self.room, "count")))
         words = ["--tries", "9", self.top, self.spec, "--", "sh", "-c", f"echo {name} >> {name}"]
         status = do.transaction(do.given_words(words))
-        if isinstance(calls.S, Killed):
-            calls.S.tell()
+        killed: object = calls.S
+        if isinstance(killed, Killed):
+            killed.tell()
         return status
 
     def prepared(self) -> int:

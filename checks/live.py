@@ -9,7 +9,6 @@ TMPDIR. What needs root, or a program that is missing here, is passed over and s
 from __future__ import annotations
 
 import ctypes
-import errno
 import os
 import random
 import resource
@@ -389,7 +388,7 @@ def planted_places_and_locks_do_nothing(room: str, _: int) -> str:
     ino = os.lstat(tree)
     tries = 0
     steps = [
-        f"link - ../victim",
+        "link - ../victim",
         f"folder {ino.st_dev}:{ino.st_ino} /../../folder",
         "folder 1:1 x/../../folder",
         "rubbish",

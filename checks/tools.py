@@ -135,8 +135,8 @@ def trees(room: str) -> str:
         shell(f"cp -a {tree} {room}/copy")
         offenders = shell(
             (
-                f"find copy ! -type d ! -type f ! -type l -printf '/%P\\n' -o -type f -size"
-                f" +1048576c -printf '/%P\\n'"
+                "find copy ! -type d ! -type f ! -type l -printf '/%P\\n' -o -type f -size"
+                " +1048576c -printf '/%P\\n'"
             ),
             room,
         )[1].splitlines()
@@ -392,7 +392,7 @@ def hostile(room: str) -> str:
         os.setxattr(f"{tree}/run", "user.note", b"a %\n")
     except OSError:
         pass
-    told = tool(
+    tool(
         "import",
         "--leave-out",
         tree,
@@ -979,10 +979,6 @@ def full(room: str) -> str:
 def explain(room: str) -> str:
     """Broken texts, folders and runs, each explained with its line and column, or its path."""
     shutil.copytree(CONFIG, room, dirs_exist_ok=True)
-    describe = (
-        '<s : ("services" :: file), {(n :: <p : ("port" :: file), ("replicas" :: file)>) | n in'
-        " lines(s)}>"
-    )
     texts = [
         ('("services" : file)', "t:1:13: Unexpected 12", "expected `::`"),
         ('<s : ("a" :: file),\n {(m :: file) | n in lines(s)}>', "t:2:4: Unknown m", "no name m"),

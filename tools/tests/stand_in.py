@@ -17,7 +17,8 @@ def call(
     words: Sequence[str | bytes], pass_fds: Sequence[int] = (), until_line: bool = False
 ) -> Answer:
     """As program.call."""
-    name, spec, folder, out, *rest = words
+    name, spec, folder, *rest = words
+    out = rest.pop(0) if name != "show" else b""
     if name == "trace":
         rest = rest[1:]
     try:
@@ -26,6 +27,8 @@ def call(
         store = model.load(os.fsencode(folder))
     except model.Refused as refused:
         return Answer(3, b"", str(refused).encode() + b"\n")
+    if name == "show":
+        return Answer(0, model.valid_line(root, store).encode() + b"\n", b"")
     if name == "trace":
         events, order, retries, last = model.trace(root, plan, store, [])
     else:

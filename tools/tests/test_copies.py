@@ -5,12 +5,14 @@ from __future__ import annotations
 import os
 import struct
 import subprocess
+from unittest import mock
 
 from tests.rooms import Room
 from txforest import traced
 from txforest.copies import Changes, Copy, Plain, digest_of, entries, remove_tree
-from txforest.declared import declared, matches, parts_of
+from txforest.declared import Declared, declared
 from txforest.do import CONFLICT, USAGE_LINE, Command, given_words
+from txforest.only import Only
 from txforest.states import Kind, Reader, kind_of, settled, token_of
 from txforest.statuses import Failed
 from txforest.traced import Server
@@ -22,8 +24,13 @@ class States(Room):
         huge = self.write("h", b"0" * ((1 << 20) + 1))
         owner = b"%d %d" % (os.geteuid(), os.getegid())
         self.assertEqual(token_of(small, -1), b"f 0644 " + owner + b" x")
-        self.assertRegex(token_of(large, -1), rb"h 0644 \d+ \d+ 2000 [0-9a-f]{64}")
-        self.assertRegex(token_of(huge, -1), rb"i 0644 \d+ \d+ 1048577 \d+ \d+ \d+")
+        for where, form in (
+            (large, rb"h 0644 \d+ \d+ 2000 [0-9a-f]{64}"),
+            (huge, rb"i 0644 \d+ \d+ 1048577 \d+ \d+ \d+"),
+        ):
+            found = token_of(where, -1)
+            assert isinstance(found, bytes)
+            self.assertRegex(found, form)
         self.assertTrue(settled(os.stat(huge)))
         os.symlink("x", os.path.join(self.top, "k"))
         os.mkfifo(os.path.join(self.top, "p"))
@@ -96,19 +103,27 @@ class Copies(Room):
     def test_patterns(self) -> None:
         for pattern, path, found in (
             ("a", "a", True),
+            ("a/", "a", True),
             ("a", "a/b", True),
             ("a", "b", False),
             ("d/*.c", "d/x.c", True),
+            ("d/*.c", "d", False),
             ("d/*.c", "d/e/x.c", False),
+            ("d/?.c", "d/ü.c", True),
+            ("d/[ab]", "d/[ab]", False),
             ("**/x", "d/e/x", True),
             ("**/x", "x", True),
             ("d/**", "d/e/x", True),
         ):
-            names = tuple(os.fsencode(path).split(b"/"))
-            self.assertEqual(matches(parts_of(pattern), names), found, (pattern, path))
-        for pattern in ("", "/a", "a/../b"):
+            self.assertEqual(Only([pattern]).takes(path), found, (pattern, path))
+        for pattern in ("", "/", "/a", "a/../b"):
             with self.assertRaises(Failed):
-                parts_of(pattern)
+                declared([pattern])
+        only = Only(["d/e/f", "d/g"])
+        states, ended = only.step(only.start(), "d")
+        self.assertEqual((only.named(only.start()), ended), (["d"], False))
+        self.assertEqual(only.named(states), ["e", "g"])
+        self.assertIsNone(Only(["d", "*"]).named(Only(["d", "*"]).start()))
 
     def test_declared(self) -> None:
         for path in ("a", "b", "d/x.c", "d/y.h", "d/e/z.c"):
@@ -124,6 +139,39 @@ class Copies(Room):
         with self.assertRaises(Failed):
             self.copied(declared(["a"]), "echo 1 > b")
 
+    def test_declared_has_nothing_beside_the_way(self) -> None:
+        for path in ("a", "d/x", "e/y"):
+            self.write(path, path)
+        os.symlink("d", os.path.join(self.top, "l"))
+        copy, made = self.copied(declared(["*/x"]), "test -e d/x; test ! -e a")
+        self.assertFalse(made)
+        found = {os.fsdecode(b"/".join(path)) for path, _ in entries(copy.tree)}
+        self.assertEqual(found, {"d", "d/x", "e", "l"})
+        reads = copy.looked().reads
+        self.assertIs(reads[(b"a",)], Kind.SOME_FILE)
+        self.assertEqual((reads[(b"l",)], reads[b"e", b"x"]), (b"l d", None))
+
+    def test_declared_file_that_changes_and_changes_back(self) -> None:
+        """A copy of another moment than what counts as read never commits."""
+        large = b"0" * ((1 << 20) + 1)
+        cases = (b"on", b"off"), (b"0" * 2000, b"1" * 2000), (large, b""), (b"x", None)
+        for content, other in cases:
+            where = self.write("a", content)
+            copying = Declared.copy
+
+            def torn(copy: Declared, reader: Reader) -> None:
+                os.unlink(where)
+                if other is not None:
+                    self.write("a", other)
+                copying(copy, reader)
+                self.write("a", content)
+
+            with mock.patch.object(Declared, "copy", torn):
+                copy, _ = self.copied(declared(["a"]), "")
+            self.assertEqual(copy.looked().spoiled, (b"a",))
+        copy, _ = self.copied(declared(["a"]), "")
+        self.assertIsNone(copy.looked().spoiled)
+
     def test_what_no_tree_has(self) -> None:
         _, made = self.copied(Plain, "mkfifo p")
         with self.assertRaises(Failed):
@@ -138,7 +186,8 @@ class Asked(Server):
 
     def look(self, node: int, name: bytes) -> int:
         """The number of a node, 0 if nothing stands there."""
-        return struct.unpack_from("=Q", self.ask(traced.LOOKUP, node, name + b"\0")[1])[0]
+        found: int = struct.unpack_from("=Q", self.ask(traced.LOOKUP, node, name + b"\0")[1])[0]
+        return found
 
     def listing(self, node: int) -> list[bytes]:
         """The names in a directory."""
@@ -221,7 +270,7 @@ class Words(Room):
     def test_forms(self) -> None:
         given = given_words(["--only", "a", "--only=b", "--tries=3", "t", "s", "--", "x", "--hold"])
         self.assertEqual((given.only, given.tries, given.command), (["a", "b"], 3, ["x", "--hold"]))
-        for words in (
+        refused: list[list[str]] = [
             [],
             ["t", "s"],
             ["t", "s", "--"],
@@ -232,7 +281,8 @@ class Words(Room):
             ["--wait", "-1", "t", "s", "--", "x"],
             ["--odd", "t", "s", "--", "x"],
             ["--whole=1", "t", "s", "--", "x"],
-        ):
+        ]
+        for words in refused:
             with self.assertRaises(Failed, msg=str(words)):
                 given_words(words)
         self.assertTrue(USAGE_LINE)

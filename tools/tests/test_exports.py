@@ -10,12 +10,13 @@ import subprocess
 import sys
 import time
 import unittest
+from collections.abc import Callable
 from contextlib import redirect_stdout
 from io import StringIO
 from typing import Any
 from unittest import mock
 
-from txforest import exports, imports
+from txforest import exports, imports, view
 from txforest.attributes import Kept, Left, Record, read_record
 from txforest.statuses import Failed, Status
 
@@ -146,7 +147,7 @@ class Exports(Trees):
         self.assertFalse(os.path.exists(f"{self.tree}/bin/run"))
 
     def test_edits_that_clash(self) -> None:
-        clashes = [
+        clashes: list[tuple[Callable[[], None], Callable[[], None]]] = [
             (lambda: write(f"{self.tree}/data/a", "x"), lambda: write(f"{self.out}/data/a", "y")),
             (lambda: os.unlink(f"{self.tree}/data/a"), lambda: write(f"{self.out}/data/a", "y")),
             (lambda: write(f"{self.tree}/data/a", "x"), lambda: os.unlink(f"{self.out}/data/a")),
@@ -272,7 +273,7 @@ class Imports(Trees):
     def test_a_name_that_turns_into_a_link(self) -> None:
         self.new_tree()
         write(f"{self.top}/secret", "secret")
-        original = imports.copied
+        original = view.copied
 
         def copied(*words: Any) -> set[str]:
             if os.path.isfile(f"{self.tree}/data/a") and not os.path.islink(f"{self.tree}/data/a"):

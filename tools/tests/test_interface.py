@@ -5,6 +5,7 @@ from __future__ import annotations
 import doctest
 import os
 import threading
+from unittest import mock
 
 import txforest
 from tests.rooms import Room
@@ -86,6 +87,41 @@ class Interface(Room):
             for name in names:
                 t.exists(name)
             raise FileNotFoundError("ben")
+
+    def torn(self, t: txforest.Transaction) -> None:
+        """A look at a file that goes away just then."""
+        with mock.patch.object(t._reader, "content", side_effect=FileNotFoundError(2, "gone")):
+            t.read("ben")
+
+    def test_look_that_meets_a_change_is_tried_again(self) -> None:
+        tries = 0
+        for t in txforest.attempts(self.top, self.rota):
+            with t:
+                tries += 1
+                if tries == 1:
+                    self.torn(t)
+                t.write("ann", "off\n")
+        self.assertEqual((tries, self.read("ann")), (2, "off\n"))
+        with self.assertRaises(txforest.Conflict), self.transaction() as t:
+            self.torn(t)
+
+    def test_conflict_that_the_body_catches_never_commits(self) -> None:
+        with self.assertRaises(txforest.Conflict) as caught, self.transaction() as t:
+            try:
+                self.torn(t)
+            except txforest.Conflict:
+                t.write("ann", "off\n")
+        self.assertEqual((caught.exception.path, self.read("ann")), ("ben", "on\n"))
+
+    def test_conflict_of_another_transaction_is_the_bodys(self) -> None:
+        tries = 0
+        with self.assertRaises(txforest.Conflict):
+            for t in txforest.attempts(self.top, self.rota):
+                with t:
+                    tries += 1
+                    with self.transaction() as other:
+                        self.torn(other)
+        self.assertEqual(tries, 1)
 
     def test_reads_are_exact(self) -> None:
         t = self.transaction()

@@ -3,6 +3,7 @@
 from __future__ import annotations
 
 import os
+from typing import TYPE_CHECKING
 from unittest import mock
 
 from tests.rooms import Room as TestRoom
@@ -25,6 +26,9 @@ from txforest.states import LINK, Kind, Reader, token_of
 from txforest.statuses import Failed
 from txforest.waiting import BETWEEN, Room, clear_left, give_answer, hand_out, rooms, take
 
+if TYPE_CHECKING:
+    from txforest.states import Seen
+
 ODD = (b"a b", b"\xff%", b"d\n")
 
 
@@ -42,7 +46,7 @@ class Lines(TestRoom):
             read_lines(where, b"kind")
 
     def test_seen_there_and_back(self) -> None:
-        names = frozenset(), frozenset(ODD)
+        names: list[Seen] = [frozenset(), frozenset(ODD)]
         for seen in (None, Kind.DIRECTORY, Kind.SOME_FILE, b"f 0644 0 0 \n%", *names):
             for path in ((), (b"a",), ODD):
                 self.assertEqual(seen_of(seen_line(path, seen)), (path, seen))

@@ -43,7 +43,7 @@ class InFolder(unittest.TestCase):
         with Tree(self.tree) as tree:
             return survey(tree.root, only=only)
 
-    def assert_fails(self, status: Status, work: Callable[[], object], word: str = "") -> None:
+    def assert_fails(self, status: int, work: Callable[[], object], word: str = "") -> None:
         """Work has to end with a status, and to tell a word."""
         with self.assertRaises(Failed) as caught:
             work()

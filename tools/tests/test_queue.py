@@ -6,6 +6,7 @@ import fcntl
 import os
 import random
 import unittest
+from collections.abc import Callable
 from typing import Any
 from unittest import mock
 
@@ -67,18 +68,18 @@ class Texts(unittest.TestCase):
         draw = random.Random(4)
         job = request_text(request(JOB % "x", "txn { }"))
         answer = answer_text(Answer(1, b"report", ["line"]))
-        for data, reader, text_of in (
+        forms: list[tuple[bytes, Callable[[bytes], Any], Callable[[Any], bytes]]] = [
             (job, read_request, request_text),
             (answer, read_answer, answer_text),
-        ):
+        ]
+        for data, reader, text_of in forms:
             refused = 0
             for _ in range(400):
                 at = draw.randrange(len(data))
                 how = draw.randrange(3)
                 bad = data[:at] + (b"" if how else b"\n ") + data[at + (how == 1) :][: -how or None]
                 try:
-                    again: Any = reader(bad)
-                    self.assertEqual(text_of(again), bad)
+                    self.assertEqual(text_of(reader(bad)), bad)
                 except ValueError:
                     refused += 1
             self.assertGreater(refused, 200)
@@ -159,12 +160,13 @@ class Waits(unittest.TestCase):
         asked = request(JOB % "x")
         path = f"{self.top}/f.queue"
         write(f"{self.top}/file", "")
-        for plant in (
+        plants: list[Callable[[], None]] = [
             lambda: os.mkdir(path, 0o755),
             lambda: os.symlink("f", path),
             lambda: write(path, ""),
             lambda: os.mkfifo(path),
-        ):
+        ]
+        for plant in plants:
             plant()
             self.assertIsNone(queue_of(self.tree))
             self.assertIsNone(enqueue(self.tree, asked, new_ident()))
@@ -367,7 +369,7 @@ class Parts(unittest.TestCase):
     def test_each_job_gets_its_own(self) -> None:
         draw = random.Random(6)
         root = model.read_description(SPEC)
-        store = {
+        store: model.Filestore = {
             (): model.Dir("dir", frozenset([b"log", b"n"])),
             (b"log",): model.File("file", b"", False),
             (b"n",): model.File("file", b"0", False),

@@ -13,7 +13,6 @@ from txforest.report import (
     End,
     Entry,
     Look,
-    Report,
     Retry,
     Settled,
     Show,

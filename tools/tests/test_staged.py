@@ -3,6 +3,7 @@
 from __future__ import annotations
 
 import os
+from typing import TYPE_CHECKING
 
 from tests import stand_in
 from tests.rooms import Room
@@ -22,6 +23,9 @@ from txforest.staged import (
 )
 from txforest.states import LINK, Kind, Reader
 from txforest.statuses import Failed
+
+if TYPE_CHECKING:
+    from txforest.states import Path, Seen
 
 A, B, D = (b"a",), (b"b",), (b"d",)
 
@@ -76,7 +80,7 @@ class Decisions(Room):
         self.addCleanup(self.tree.close)
         self.count = 0
 
-    def decide(self, *jobs: Job) -> tuple[list[int], dict]:
+    def decide(self, *jobs: Job) -> tuple[list[int], dict[int, Path | None]]:
         self.count += 1
         place = os.path.join(self.room, f"place{self.count}")
         self.made = decide(stand_in.called, place, jobs, self.tree)
@@ -130,8 +134,8 @@ class Decisions(Room):
         self.assertEqual(self.decide(is_file), ([], {0: D}))
 
     def test_directory_becomes_file(self) -> None:
-        before = {D: Kind.DIRECTORY, (b"d", b"x"): token(b"x")}
-        reads = {D: frozenset([b"x"]), (b"d", b"x"): token(b"x")}
+        before: dict[Path, Seen] = {D: Kind.DIRECTORY, (b"d", b"x"): token(b"x")}
+        reads: dict[Path, Seen] = {D: frozenset([b"x"]), (b"d", b"x"): token(b"x")}
         job = Job("x", reads, {D: token(b"now"), (b"d", b"x"): None}, before)
         other = Job("y", {}, {(b"d", b"z"): token(b"")}, {})
         self.assertEqual(self.decide(job, other), ([0], {1: D}))

@@ -3,6 +3,7 @@
 from __future__ import annotations
 
 import os
+from unittest import mock
 
 from tests import stand_in
 from tests.rooms import Room
@@ -79,6 +80,59 @@ class Values(Room):
         self.assertLess(value.asked, 10)
         value.change({(b"k1", b"sub"): Kind.DIRECTORY}, {})
         self.assertFalse(value.holds())
+
+    def test_kinds_that_alone_decide(self) -> None:
+        """Of files whose contents decide nothing none is brought; a new content asks nothing."""
+        for number in range(30):
+            self.write(f"f{number}", "text")
+        value = self.value("<d : dir, {(k :: file) | k in d}>")
+        with mock.patch("txforest.valued.MANY", 20):
+            self.assertTrue(value.holds())
+            self.assertEqual((value.asked, value.of_shape), (2, True))
+            value.change({(b"f7",): token(b"8")}, {(b"f7",): self.source("8")})
+            self.assertTrue(value.holds())
+            self.assertEqual(value.asked, 2)
+            back = value.change({(b"f7",): Kind.DIRECTORY}, {})
+            self.assertFalse(value.holds())
+            value.go_back(back)
+            self.assertTrue(value.holds())
+            value.change({(b"new",): Kind.DIRECTORY}, {})
+            self.assertFalse(value.holds())
+
+    def test_contents_that_decide_one_by_one(self) -> None:
+        for number in range(30):
+            self.write(f"d{number}/n", "7")
+        value = self.value(
+            '<d : dir, {(k :: <n : ("n" :: file), pred((int(n) == 7))>) | k in d}>'
+        )
+        with mock.patch("txforest.valued.MANY", 1 << 30):
+            self.assertTrue(value.holds())
+        self.assertLess(value.asked, 5)
+
+    def test_most_of_the_tree_is_looked_at(self) -> None:
+        """Then further states are asked without what is looked at, and all changes are brought."""
+        for number in range(30):
+            self.write(f"f{number}", "7")
+        value = self.value("<d : dir, {<n : (k :: file), pred((int(n) == 7))> | k in d}>")
+        with mock.patch("txforest.valued.MANY", 20):
+            self.assertTrue(value.holds())
+            self.assertFalse(value.is_whole)
+            back = value.change({(b"f7",): token(b"8")}, {(b"f7",): self.source("8")})
+            self.assertFalse(value.holds())
+            self.assertTrue(value.is_whole)
+            value.go_back(back)
+            self.assertTrue(value.holds())
+            for content, holds in (("8", False), ("7", True)):
+                back = value.change({(b"new",): token(content.encode())}, {(b"new",): self.source(content)})
+                self.assertEqual(value.holds(), holds)
+                value.go_back(back)
+                self.assertTrue(value.holds())
+            value.change({(b"f7",): None}, {})
+            self.assertTrue(value.holds())
+            table = (b".forest-links",)
+            value.change({table: token(b"")}, {table: self.source("/l -> f1\n")})
+            self.assertTrue(value.holds())
+            self.assertFalse(value.is_whole)
 
     def test_list_that_names_files(self) -> None:
         names = [f"n{number}" for number in range(60)]

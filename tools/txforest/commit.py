@@ -118,15 +118,14 @@ def commit(
 
 def hold_signals() -> set[int]:
     """Signals that would end the tool wait from now on; answers those that waited before."""
-    import signal
+    from .signals import ENDING, signal
 
-    ending = {signal.SIGTERM, signal.SIGHUP, signal.SIGINT}
-    return {int(number) for number in signal.pthread_sigmask(signal.SIG_BLOCK, ending)}
+    return {int(number) for number in signal.pthread_sigmask(signal.SIG_BLOCK, ENDING)}
 
 
 def let_signals(before: set[int]) -> None:
     """Signals that did not wait before don't from now on."""
-    import signal
+    from .signals import signal
 
     signal.pthread_sigmask(signal.SIG_SETMASK, before)
 

@@ -3,61 +3,33 @@ may change nothing else."""
 
 from __future__ import annotations
 
-import fnmatch
 import os
 
 from .copies import Copy, Changes, Looked, Plain, copy_file, give
-from .states import DIRECTORY_FLAGS, Kind, Reader
+from .only import Only
+from .states import DIRECTORY_FLAGS, LINK, Kind, Reader, same_content, token_of
 from .statuses import Failed, Status
-from .terminal import below, shown
+from .terminal import below
 
 TYPE_CHECKING = False
 if TYPE_CHECKING:
-    from collections.abc import Sequence
-
+    from .only import States
     from .states import Path, Seen
 
-ANY = b"**"  # any number of names
 
-
-def declared(patterns: Sequence[str]) -> type[Copy]:
+def declared(patterns: list[str]) -> type[Copy]:
     """The kind of copy that has the paths of these patterns, a directory with all below it.
 
-    A pattern is names with `/` between them; in a name `*`, `?` and `[..]` match as in a shell, and
-    the name `**` stands for any number of names. Raises Failed with USAGE for one of no form.
+    Raises Failed with USAGE for a pattern of no form.
     """
-    parts = [parts_of(pattern) for pattern in patterns]
+    wanted = Only(patterns)
 
-    class Only(Declared):
+    class OfPatterns(Declared):
         """The copy of these patterns."""
 
-        patterns = parts
+        only = wanted
 
-    return Only
-
-
-def parts_of(pattern: str) -> Path:
-    """The names of a pattern."""
-    parts = tuple(part for part in os.fsencode(pattern).split(b"/") if part not in (b"", b"."))
-    if not parts or b".." in parts or pattern.startswith("/"):
-        raise Failed(Status.USAGE, f"{shown(pattern)}: no pattern of paths below the tree")
-    return parts
-
-
-def is_plain(part: bytes) -> bool:
-    """Whether a name of a pattern stands for itself alone."""
-    return not any(mark in part for mark in b"*?[")
-
-
-def matches(parts: Path, path: Path) -> bool:
-    """Whether a path, or a directory above it, is one of a pattern."""
-    if not parts:
-        return True
-    if parts[0] == ANY:
-        return any(matches(parts[1:], path[skip:]) for skip in range(len(path) + 1))
-    if not path or not fnmatch.fnmatchcase(path[0], parts[0]):
-        return False
-    return matches(parts[1:], path[1:])
+    return OfPatterns
 
 
 class Declared(Plain):
@@ -65,57 +37,50 @@ class Declared(Plain):
 
     name = "a copy of the declared paths, which count as read"
     word = "only"
-    patterns: list[Path] = []
+    only: Only
 
     def first_look(self) -> bytes | None:
         return None
 
     def fill(self) -> None:
         self.reads: dict[Path, Seen] = {}
+        self.spoiled: Path | None = None
         reader = Reader(self.root)
         try:
-            for parts in self.patterns:
-                self.expand(reader, parts, ())
+            self.expand(reader, (), self.only.start())
             self.copy(reader)
+            self.compare_all(reader)
         finally:
             reader.close()
 
-    def expand(self, reader: Reader, parts: Path, path: Path) -> None:
-        """Reads what a pattern leads to from a path on, and what was needed to get there."""
+    def expand(self, reader: Reader, path: Path, states: States | None) -> None:
+        """Reads what the patterns lead to at a path and below, and what was needed to get there.
+
+        `states` are how far they have come; without them all is taken.
+        """
         state = reader.state(path)
         if state is not Kind.DIRECTORY:
-            if not parts or state is None or is_plain(parts[0]):
-                self.reads[path] = state
+            is_on_the_way = states is not None and isinstance(state, bytes) and state[:1] in b"fhi"
+            self.reads[path] = Kind.SOME_FILE if is_on_the_way else state
             return
-        if not parts:
-            names = reader.names(path)
-            self.reads[path] = frozenset(names)
-            for name in names:
-                self.expand(reader, (), (*path, name))
-            return
-        self.reads.setdefault(path, Kind.DIRECTORY)
-        if is_plain(parts[0]):
-            self.expand(reader, parts[1:], (*path, parts[0]))
-            return
-        names = reader.names(path)
-        self.reads[path] = frozenset(names)
+        names = None if states is None else self.only.named(states)
+        if names is None:
+            found = reader.names(path)
+            self.reads[path] = frozenset(found)
+            names = [os.fsdecode(name) for name in found]
+        else:
+            self.reads[path] = Kind.DIRECTORY
         for name in names:
-            if parts[0] == ANY:
-                self.deeper(reader, parts, (*path, name))
-            elif fnmatch.fnmatchcase(name, parts[0]):
-                self.expand(reader, parts[1:], (*path, name))
-        if parts[0] == ANY and len(parts) > 1:
-            self.expand(reader, parts[1:], path)
-
-    def deeper(self, reader: Reader, parts: Path, path: Path) -> None:
-        """Reads what a pattern that begins with any number of names leads to below a name."""
-        if len(parts) == 1:
-            self.expand(reader, (), path)
-        elif reader.state(path) is Kind.DIRECTORY:
-            self.expand(reader, parts, path)
+            inside = (*path, os.fsencode(name))
+            if states is None:
+                self.expand(reader, inside, None)
+                continue
+            inner, is_taken = self.only.step(states, name)
+            if is_taken or inner:
+                self.expand(reader, inside, None if is_taken else inner)
 
     def copy(self, reader: Reader) -> None:
-        """Copies what was read."""
+        """Copies what was read; a file on the way alone is none of it."""
         top = os.fsencode(self.tree)
         folders = {
             path
@@ -133,11 +98,11 @@ class Declared(Plain):
                 continue
             target = os.open(b"/".join((top, *path[:-1])), DIRECTORY_FLAGS)
             try:
-                if state.startswith(b"l "):
-                    os.symlink(state[2:], path[-1], dir_fd=target)
+                if state.startswith(LINK):
+                    os.symlink(state[len(LINK) :], path[-1], dir_fd=target)
                 elif not state.startswith(b"x "):
                     copy_file(path[-1], reader.directory(path[:-1]), target)
-            except FileNotFoundError:  # it went meanwhile, which shows at the commit
+            except FileNotFoundError:  # it went meanwhile
                 continue
             finally:
                 os.close(target)
@@ -150,13 +115,28 @@ class Declared(Plain):
                 finally:
                     os.close(fd)
 
+    def compare_all(self, reader: Reader) -> None:
+        """Looks whether each file of the copy is what was read: somebody may have changed it in
+        between, and may change it back before the commit."""
+        top = os.fsencode(self.tree)
+        for path, state in self.reads.items():
+            if not isinstance(state, bytes) or state[:1] not in b"fhi":
+                continue
+            if state[:1] == b"i":
+                is_same = reader.state(path) == state
+            else:
+                made = token_of(b"/".join((top, *path)), -1)
+                is_same = isinstance(made, bytes) and same_content(made, state)
+            if not is_same:
+                self.spoiled = path
+
     def looked(self) -> Looked:
-        return Looked(dict(self.reads))
+        return Looked(dict(self.reads), spoiled=self.spoiled)
 
     def changes(self, looked: Looked) -> Changes:
         made = super().changes(looked)
         for path in (*made.writes, *made.modes, *made.attributes):
-            if not any(matches(parts, path) for parts in self.patterns):
+            if not self.only.takes(os.fsdecode(b"/".join(path))):
                 raise Failed(
                     Status.SYSTEM,
                     f"{below(path)}: is changed, but no --only names it; nothing was changed",

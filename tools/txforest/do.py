@@ -179,10 +179,9 @@ class Command:
 
         Raises CannotEnter if the system makes no such copy.
         """
-        import signal
-
         from .copies import CannotEnter
         from .mounts import adopt_orphans
+        from .signals import ENDING, signal
 
         adopt_orphans()
         self.drop()
@@ -200,7 +199,7 @@ class Command:
         try:
             status = waited(child, copy.helper(), self.words)
         except BaseException:
-            signal.pthread_sigmask(signal.SIG_BLOCK, {signal.SIGTERM, signal.SIGHUP, signal.SIGINT})
+            signal.pthread_sigmask(signal.SIG_BLOCK, ENDING)
             end_children()
             raise
         if refused:
@@ -209,10 +208,9 @@ class Command:
 
     def become(self, copy: Copy, told: int) -> NoReturn:
         """In the process that becomes the command."""
-        import signal
-
         from .copies import CannotEnter
         from .mounts import end_with_parent
+        from .signals import ENDING, signal
 
         status = REFUSED
         try:
@@ -224,7 +222,7 @@ class Command:
             except (OSError, CannotEnter) as error:
                 os.write(told, str(error).encode())
                 os._exit(REFUSED)
-            for signal_ in (signal.SIGTERM, signal.SIGHUP, signal.SIGINT, signal.SIGPIPE):
+            for signal_ in (*ENDING, signal.SIGPIPE):
                 if signal.getsignal(signal_) != signal.SIG_IGN or signal_ == signal.SIGPIPE:
                     signal.signal(signal_, signal.SIG_DFL)
             signal.signal(signal.SIGXFSZ, signal.SIG_DFL)

@@ -23,7 +23,7 @@ from . import calls
 from .calls import DIR, EXCHANGE, FILE, NEW, NOREPLACE
 from .commit import Committed, Unfinished, commit, give_answers, write_answers
 from .intent import number_of
-from .place import Place, Tree, clear, hold, new_place, place_names
+from .place import Place, Tree, clear, new_place
 from .spelling import spelled, unspelled
 from .stage import Refused
 from .statuses import Failed, Status

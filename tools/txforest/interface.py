@@ -148,11 +148,10 @@ class Transaction:
         trace: TracebackType | None,
     ) -> bool:
         try:
-            if error is None:
-                self._commit()
-                self.done = True
-            elif isinstance(error, Exception) and not isinstance(error, Conflict):
-                self._look_again(error)
+            if error is not None and error is self.conflict:
+                return self._quiet
+            if error is None or isinstance(error, Exception):
+                self._end(error)
             return False
         except Conflict as conflict:
             self.conflict = conflict
@@ -162,8 +161,17 @@ class Transaction:
         finally:
             self._reader.close()
             self._tree.close()
-            if isinstance(error, Conflict):
-                self.conflict = error
+
+    def _end(self, error: Exception | None) -> None:
+        """Commits, unless the block raised an exception. Raises Conflict if what it has read is no
+        longer so, also if it caught a conflict of its own."""
+        if self.conflict is not None:
+            raise self.conflict from error
+        if error is not None:
+            self._look_again(error)
+        else:
+            self._commit()
+            self.done = True
 
     def __truediv__(self, name: AnyPath) -> TreePath:
         return TreePath(self, PurePosixPath(os.fsdecode(name)))
@@ -339,7 +347,7 @@ class Transaction:
                 return Kind.DIRECTORY if isinstance(seen, frozenset) else seen
         found = self._look(lambda: self._looked_at(path, loosely), path)
         if path in self._reads and kind_of(found) != "file":
-            raise Conflict(_told(path))
+            raise self._torn(path)
         self._reads[path] = found
         return found
 
@@ -371,7 +379,7 @@ class Transaction:
             return look()
         except OSError as error:
             if error.errno in (errno.ESTALE, errno.ENOENT, errno.ENOTDIR, errno.ELOOP):
-                raise Conflict(_told(path)) from None
+                raise self._torn(path) from None
             raise
 
     def _listing(self, path: Path) -> frozenset[bytes]:
@@ -386,8 +394,13 @@ class Transaction:
             content = file.read()
             is_same = identity(before) == identity(os.fstat(file.fileno()))
         if not is_same or token_of_large(before) != self._reads[path]:
-            raise Conflict(_told(path))
+            raise self._torn(path)
         return content
+
+    def _torn(self, path: Path) -> Conflict:
+        """The conflict of a look that met a change; nothing of this transaction is kept."""
+        self.conflict = Conflict(_told(path))
+        return self.conflict
 
     def _regular(self, path: Path) -> Seen:
         """The state of a path at which a file stands."""
@@ -437,7 +450,7 @@ class Transaction:
         """Raises Conflict if an exception may come from a look at two moments."""
         for path, seen in self._reads.items():
             if again(self._reader, path, seen) != seen:
-                raise Conflict(_told(path)) from error
+                raise self._torn(path) from error
 
     def _commit(self) -> None:
         """Commits. Raises Conflict, NoValue or Failed; then nothing is kept."""

@@ -398,6 +398,10 @@ class Leader:
         """What the program prints. It keeps the lock while it lives."""
         return called(words, (self.held,))
 
+    def ask(self, words: list[str | bytes], *, until_line: bool = False) -> ProgramAnswer:
+        """What the program comes to. It keeps the lock while it lives."""
+        return self.told_of(call(words, (self.held,), until_line))
+
     def description(self) -> str:
         """The path of the description as it was when the job was called."""
         path = self.room.inside("description")
@@ -429,8 +433,7 @@ class Leader:
         writing = [number for number in order if group[number].changes.writes]
         if not writing:
             return []
-        ask = lambda words: self.told_of(call(words, (self.held,)))  # noqa: E731
-        value = Value(self.description(), self.fresh("valued"), held, ask)
+        value = Value(self.description(), self.fresh("valued"), held, self.ask)
         bad: list[int] = []
         for number in writing:
             made = group[number].changes

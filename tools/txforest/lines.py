@@ -73,10 +73,8 @@ def seen_line(path: Path, seen: Seen) -> list[bytes]:
     words = path_words(path)
     if seen is None:
         return [b"absent", *words]
-    if seen is Kind.DIRECTORY:
-        return [b"directory", *words]
-    if seen is Kind.SOME_FILE:
-        return [b"some-file", *words]
+    if isinstance(seen, Kind):
+        return [b"directory" if seen is Kind.DIRECTORY else b"some-file", *words]
     if isinstance(seen, bytes):
         return [b"token", *words, seen]
     return [b"names", *words, *sorted(seen)]

@@ -46,7 +46,7 @@ def adopt_orphans() -> None:
 
 def end_with_parent() -> None:
     """This process is killed if the one that started it ends."""
-    import signal
+    from .signals import signal
 
     if libc().prctl(PARENT_DEATH_SIGNAL, int(signal.SIGKILL), 0, 0, 0) < 0:
         raise failed(b"prctl")

@@ -8,10 +8,11 @@ from .terminal import shown
 
 TYPE_CHECKING = False
 if TYPE_CHECKING:
-    from re import Pattern as Matcher
+    import re
+    from typing import Union
 
-    Names = tuple["Matcher[str] | None", ...]
-    States = frozenset["tuple[int, int]"]
+    Name = Union[None, str, re.Pattern[str]]  # `**`, a name itself, a name with marks
+    States = frozenset[tuple[int, int]]
 
 
 class Only:
@@ -22,18 +23,13 @@ class Only:
     """
 
     def __init__(self, patterns: list[str]) -> None:
-        from fnmatch import translate
-        from re import compile as matcher
-
-        self.patterns: list[Names] = []
+        self.patterns: list[tuple[Name, ...]] = []
         for pattern in patterns:
-            names = pattern.split("/")
-            if not pattern or any(name in ("", ".", "..") for name in names):
+            names = pattern.removesuffix("/").split("/")
+            if any(name in ("", ".", "..") for name in names):
                 why = "a pattern is names with / between them, below the tree, without . and .."
                 raise Failed(Status.USAGE, f"--only {shown(pattern)}: {why}")
-            self.patterns.append(
-                tuple(None if name == "**" else matcher(translate(name)) for name in names)
-            )
+            self.patterns.append(tuple(map(name_of, names)))
 
     def start(self) -> States:
         """How far each pattern has come at the root."""
@@ -56,21 +52,52 @@ class Only:
             names = self.patterns[k]
             if at == len(names):
                 continue
-            matcher = names[at]
-            if matcher is None:
+            wanted = names[at]
+            if wanted is None:
                 found.add((k, at))
                 ended = ended or at + 1 == len(names)
-            elif matcher.match(name):
+            elif name == wanted if isinstance(wanted, str) else wanted.match(name):
                 found.add((k, at + 1))
         closed = self.closed(found)
         ended = ended or any(at == len(self.patterns[k]) for k, at in closed)
         return closed, ended
 
+    def named(self, states: States) -> list[str] | None:
+        """The names that lead on from here, if they are known without a look at the directory."""
+        wanted: set[str] = set()
+        for k, at in states:
+            name = self.patterns[k][at] if at < len(self.patterns[k]) else ""
+            if not isinstance(name, str):
+                return None
+            wanted.add(name)
+        return sorted(wanted - {""})
+
     def asks(self, path: str) -> bool:
         """Whether a path is taken, or might be a directory above one that is."""
-        states = self.start()
+        states, ended = self.along(path)
+        return ended or bool(states)
+
+    def takes(self, path: str) -> bool:
+        """Whether a path is taken."""
+        return self.along(path)[1]
+
+    def along(self, path: str) -> tuple[States, bool]:
+        """How far the patterns are behind the names of a path, up to the first that ends one."""
+        states, ended = self.start(), False
         for name in path.split("/"):
             states, ended = self.step(states, name)
             if ended:
-                return True
-        return bool(states)
+                break
+        return states, ended
+
+
+def name_of(name: str) -> Name:
+    """A name of a pattern: nothing for `**`, and compiled if it has marks."""
+    if name == "**":
+        return None
+    if not any(mark in name for mark in "*?["):
+        return name
+    from fnmatch import translate
+    from re import compile as compiled
+
+    return compiled(translate(name))

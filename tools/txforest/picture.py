@@ -7,7 +7,6 @@ import sys
 from collections import Counter
 from collections.abc import Iterator
 from html import escape
-from typing import NamedTuple
 
 from .report import Conflict, Entry, Event, Look, Printed, Report, Settled
 from .statuses import Failed, Status

@@ -10,7 +10,7 @@ import stat
 import time
 
 from . import calls
-from .calls import DIR, FILE, NEW, WRITE
+from .calls import FILE, NEW, WRITE
 from .differences import Change
 from .intent import Operation
 from .place import Tree, listed

@@ -334,10 +334,10 @@ class Staged:
         """The entry of one thing seen."""
         if seen is None:
             entries.add("a", spelled(path))
-        elif seen is Kind.SOME_FILE:
-            entries.add("e", spelled(path), b"")
-        elif seen is Kind.DIRECTORY:
-            if path:
+        elif isinstance(seen, Kind):
+            if seen is Kind.SOME_FILE:
+                entries.add("e", spelled(path), b"")
+            elif path:
                 entries.add("d", spelled(path))
         elif isinstance(seen, bytes):
             entries.add("f", spelled(path), seen)

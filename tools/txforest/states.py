@@ -21,11 +21,10 @@ import errno
 import os
 import stat
 import time
-from enum import Enum
 
 TYPE_CHECKING = False
 if TYPE_CHECKING:
-    from typing import Protocol, Union
+    from typing import ClassVar, Protocol, Union
 
     class Digest(Protocol):
         """What hashlib gives."""
@@ -49,11 +48,27 @@ FILE_FLAGS = os.O_RDONLY | os.O_NOFOLLOW | os.O_NONBLOCK | os.O_CLOEXEC | os.O_N
 NOTHING = (errno.ENOENT, errno.ENOTDIR, errno.ELOOP)
 
 
-class Kind(Enum):
-    """What is known of an entry without its content."""
+class Kind:
+    """What is known of an entry without its content. There are these two, which `is` tells apart.
 
-    DIRECTORY = "directory"
-    SOME_FILE = "file"  # of reads alone: a file, whatever it holds
+    DIRECTORY   a directory
+    SOME_FILE   of reads alone: a file, whatever it holds
+
+    The module enum costs each start of a tool.
+    """
+
+    __slots__ = ("word",)
+    DIRECTORY: ClassVar[Kind]
+    SOME_FILE: ClassVar[Kind]
+
+    def __init__(self, word: str) -> None:
+        self.word = word
+
+    def __repr__(self) -> str:
+        return f"<{self.word}>"
+
+
+Kind.DIRECTORY, Kind.SOME_FILE = Kind("directory"), Kind("some file")
 
 
 def new_digest() -> Digest:
@@ -112,6 +127,12 @@ def token_of_large(found: os.stat_result) -> bytes:
     """The token of a file above 1 MiB, whose content is not read."""
     times = found.st_size, found.st_ino, found.st_mtime_ns, found.st_ctime_ns
     return b"i " + head(found) + b"%d %d %d %d" % times
+
+
+def same_content(one: bytes, other: bytes) -> bool:
+    """Whether two tokens are of files with the same content, whatever their modes and owners."""
+    first, second = one.split(b" ", 4), other.split(b" ", 4)
+    return first[:1] + first[4:] == second[:1] + second[4:]
 
 
 def content_of(name: bytes | str, dir_fd: int) -> tuple[os.stat_result, bytes | None]:

@@ -2,11 +2,12 @@
 
 from __future__ import annotations
 
-from enum import IntEnum
 
+class Status:
+    """What a tool's status says. A number from 3 to 8 is the program's own, with its line.
 
-class Status(IntEnum):
-    """What a tool's status says. A number from 3 to 8 is the program's own, with its line."""
+    Plain numbers: the module enum costs each start of a tool.
+    """
 
     DONE = 0
     NOT_DONE = 1  # a transaction stopped or was aborted; nothing was changed

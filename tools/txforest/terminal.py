@@ -274,9 +274,9 @@ def leave(number: int, _frame: object) -> NoReturn:
 
 def take_signals() -> None:
     """SIGTERM, SIGHUP and SIGINT end the tool in order; a file above a limit is an error."""
-    import signal
+    from .signals import ENDING, signal
 
-    for number in (signal.SIGTERM, signal.SIGHUP, signal.SIGINT):
+    for number in ENDING:
         if signal.getsignal(number) != signal.SIG_IGN:
             signal.signal(number, leave)
     signal.signal(signal.SIGXFSZ, signal.SIG_IGN)

@@ -52,6 +52,7 @@ EVER = 1 << 30
 KEEP_CACHE, CACHE_DIR = 2, 8
 ASYNC_READ, PARALLEL_DIRECTORIES, CACHE_LINKS = 1, 1 << 18, 1 << 23
 BUFFER = 1 << 18
+DESCRIPTOR = struct.Struct("=i")  # the number of an open file
 
 
 class Known:
@@ -400,17 +401,17 @@ class Traced(Copy):
 
     def serve(self, here: socket) -> int:
         """In a process of its own: takes the device, serves, and leaves the account."""
-        import array
-        import signal
         from _socket import CMSG_SPACE
 
-        for number in (signal.SIGTERM, signal.SIGHUP, signal.SIGINT):
+        from .signals import ENDING, signal
+
+        for number in ENDING:
             signal.signal(number, signal.SIG_IGN)
-        _, more, _, _ = here.recvmsg(1, CMSG_SPACE(4))
+        _, more, _, _ = here.recvmsg(1, CMSG_SPACE(DESCRIPTOR.size))
         here.close()
         if not more:
             return 0
-        it = Server(array.array("i", more[0][2])[0], self.root)
+        it = Server(DESCRIPTOR.unpack_from(more[0][2])[0], self.root)
         it.serve()
         looked = it.looked()
         lines = [seen_line(path, seen) for path, seen in looked.reads.items()]
@@ -423,7 +424,6 @@ class Traced(Copy):
         self.there.close()
 
     def enter(self) -> None:
-        import array
         from _socket import SCM_RIGHTS, SOL_SOCKET
 
         own_mounts()
@@ -432,8 +432,7 @@ class Traced(Copy):
         words = f"fd={device},rootmode=40000,user_id={user},group_id={group}"
         flags = READ_ONLY | NOSUID | NODEV
         mount(b"txforest", os.fsencode(self.under), b"fuse.txforest", flags, words.encode())
-        numbers = array.array("i", [device])
-        self.there.sendmsg([b"d"], [(SOL_SOCKET, SCM_RIGHTS, numbers)])
+        self.there.sendmsg([b"d"], [(SOL_SOCKET, SCM_RIGHTS, DESCRIPTOR.pack(device))])
         self.there.close()
         os.close(device)
         self.mount_overlay()

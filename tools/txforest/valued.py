@@ -20,17 +20,27 @@ from .statuses import Failed, Status
 
 TYPE_CHECKING = False
 if TYPE_CHECKING:
-    from collections.abc import Callable, Iterable, Mapping
+    from collections.abc import Iterable, Iterator, Mapping
+    from typing import Protocol
 
     from .program import Answer
     from .states import Made, Path, Reader
 
     Changed = tuple[dict[Path, tuple[Made, str | None]], bool | None, list[Path]]
+    Entry = tuple[str, bytes, bool]
+
+    class Run(Protocol):
+        """A call of the program, of which one may want the first line alone."""
+
+        def __call__(self, words: list[str | bytes], *, until_line: bool = False) -> Answer:
+            """What it came to."""
 
 QUESTION = "txn { validate there print(there) }\n"
 ASKED = 40  # how often the question is asked before all of the tree is brought
 LIKELY = 64
-NEIGHBOURS = 512  # how many entries of one directory are brought at once
+FEW = 3  # a question that looks at no more paths than these for the first time goes one by one
+NEIGHBOURS = 512  # how many paths like such a one are brought too; then eight times as many
+MANY = 1000  # looks, for which it pays to see what they have in common
 DEPTH = 64
 
 
@@ -40,9 +50,7 @@ class Value:
     `place` is a path where nothing stands; what is made there stays. `run` calls the program.
     """
 
-    def __init__(
-        self, spec: str, place: str, tree: Reader, run: Callable[[list[str | bytes]], Answer]
-    ) -> None:
+    def __init__(self, spec: str, place: str, tree: Reader, run: Run) -> None:
         os.mkdir(place, 0o700)
         self.spec = spec
         self.place = place
@@ -57,6 +65,9 @@ class Value:
         self.exact: set[Path] = set()
         self.looks: set[Path] = set()
         self.asked = 0
+        self.likely = NEIGHBOURS
+        self.is_whole = False  # all of the tree was brought, and has no table
+        self.of_shape: bool | None = None  # whether kinds and names alone decide, once it matters
         self.answer: bool | None = None
 
     # ---- the question
@@ -66,16 +77,58 @@ class Value:
         if self.answer is None:
             if not self.asked:
                 self.bring_likely()
+            elif self.has_nearly_all():
+                self.bring_below(())
+                self.is_whole = True
+            if self.is_whole:
+                self.answer = self.shows()
+                return self.answer
             for _ in range(ASKED):
                 self.looks, answer = self.ask()
                 fresh = self.looks - self.exact
-                if not fresh:
+                if not fresh or self.is_alike(fresh):
                     self.answer = answer
                     return answer
                 self.bring_all(fresh)
             self.bring_below(())
             self.looks, self.answer = self.ask()
         return self.answer
+
+    def shows(self) -> bool:
+        """The answer of a folder that has all of the tree: then nobody asks what was looked at."""
+        self.folder.finish()
+        self.asked += 1
+        answer = self.run(["show", self.spec, self.folder.place], until_line=True)
+        first = answer.printed.partition(b"\n")[0]
+        if first not in (b"valid yes", b"valid no"):
+            raise Failed(answer.status or Status.SYSTEM, answer.told())
+        return first == b"valid yes"
+
+    def has_nearly_all(self) -> bool:
+        """Whether the description has looked at most of the tree, in each directory of it, so that
+        it pays to bring the rest, and to ask of further states without what is looked at."""
+        if len(self.looks) < MANY or 2 * len(self.looks) < len(self.folder.kinds):
+            return False
+        folders = (path for path, is_folder in self.folder.kinds.items() if is_folder)
+        return not self.has_table() and self.exact.issuperset(folders)
+
+    def is_alike(self, paths: set[Path]) -> bool:
+        """Whether kinds and names alone decide, and these many paths are files in the folder as in
+        the tree: then it makes no difference that nothing stands in them."""
+        if len(paths) < MANY or self.has_table():
+            return False
+        if self.of_shape is None:
+            from .blind import are_blind
+
+            with open(self.spec, "rb") as file:
+                self.of_shape = are_blind(file.read(), [])
+        kinds = self.folder.kinds
+        if not self.of_shape or any(
+            path[:-1] not in self.exact or kinds.get(path) is not False for path in paths
+        ):
+            return False
+        self.exact |= paths
+        return True
 
     def ask(self) -> tuple[set[Path], bool]:
         """What the question looks at in the folder as it is, and its answer."""
@@ -119,18 +172,25 @@ class Value:
         old = {path: self.entry(path) for path in paths}
         self.made = made
         stale: set[Path] = set()
+        deciding: set[Path] = set()
         for path, was in old.items():
             stale.add(path)
-            if (was is None) != (self.entry(path) is None):
+            now = self.entry(path)
+            if (was is None) != (now is None):
                 stale.add(path[:-1])
-        for path in sorted(stale & self.exact, key=len):
+                deciding.add(path[:-1])
+            if not self.of_shape or was != now or was is None or was[0] != "file":
+                deciding.add(path)
+        for path in sorted(stale if self.is_whole else stale & self.exact, key=len):
             self.bring(path, again=True)
-        if stale & self.looks or () in self.exact and self.has_table():
+        if () in self.exact and self.has_table():
+            self.answer, self.is_whole = None, False
+        elif self.is_whole or deciding & self.looks:
             self.answer = None
 
     # ---- what stands in the tree with its changes
 
-    def entry(self, path: Path) -> tuple[str, bytes, bool] | None:
+    def entry(self, path: Path) -> Entry | None:
         """What a description can see at a path: `file`, `link` or `dir`, its bytes, its flag.
 
         The bytes of a file are left out here; `content` has them. Nothing is told of what the
@@ -161,7 +221,7 @@ class Value:
         fd = self.tree.directory(path[:-1])
         return os.access(path[-1], os.R_OK, dir_fd=fd, effective_ids=True)
 
-    def made_entry(self, path: Path, length: int) -> tuple[str, bytes, bool] | None:
+    def made_entry(self, path: Path, length: int) -> Entry | None:
         """The same at a path that is changed, or below a directory that is."""
         new, source = self.made[path[:length]]
         if length < len(path):
@@ -178,7 +238,7 @@ class Value:
             return None
         return "file", b"", bool(int(new.split(b" ", 2)[1], 8) & 0o111)
 
-    def link_entry(self, path: Path, text: bytes) -> tuple[str, bytes, bool] | None:
+    def link_entry(self, path: Path, text: bytes) -> Entry | None:
         """A link with the text that it has for a description.
 
         Nothing if the table can't have it, or if it leads out of the tree and in the folder would
@@ -206,8 +266,8 @@ class Value:
                 return None
             raise
 
-    def names(self, path: Path) -> set[bytes]:
-        """The names in a directory that a description can see."""
+    def names(self, path: Path) -> dict[bytes, Entry]:
+        """The names in a directory that a description can see, and what stands there."""
         found: set[bytes] = set()
         if not any(path[:length] in self.made for length in range(len(path) + 1)):
             found = set(self.tree.names(path))
@@ -215,7 +275,8 @@ class Value:
             found = set(self.tree.names(path))
         deep = len(path) + 1
         found |= {made[-1] for made in self.made if len(made) == deep and made[:-1] == path}
-        return {name for name in found if self.entry((*path, name)) is not None}
+        entries = ((name, self.entry((*path, name))) for name in found)
+        return {name: entry for name, entry in entries if entry is not None}
 
     def has_table(self) -> bool:
         """Whether the tree is a folder of the program, with a table of its links."""
@@ -232,11 +293,24 @@ class Value:
         found = sorted(paths, key=len)
         for path in found:
             self.bring(path)
-        if len(found) == 1 and found[0] and self.asked > 2:  # one by one: its neighbours come too
-            above = found[0][:-1]
-            if (entry := self.entry(above)) is not None and entry[0] == "dir":
-                for name in sorted(self.names(above))[:NEIGHBOURS]:
-                    self.bring((*above, name))
+        if len(found) <= FEW and self.asked > 1:
+            likely = (path for path in self.cousins(found[-1]) if path not in self.exact)
+            for _, path in zip(range(self.likely), likely):
+                self.bring(path)
+            self.likely *= 8
+
+    def cousins(self, path: Path) -> Iterator[Path]:
+        """The paths like this one that have one name otherwise, first those with another last name,
+        as far as the names of the directory were brought."""
+        for place in reversed(range(len(path))):
+            above = path[:place]
+            if self.has_folder(above):
+                for name in sorted(os.listdir(self.folder.at(above))):
+                    yield (*above, name, *path[place + 1 :])
+
+    def has_folder(self, path: Path) -> bool:
+        """Whether a directory stands at a path that was brought."""
+        return path in self.exact and self.folder.kinds.get(path) is True
 
     def bring_likely(self) -> None:
         """Brings what the description is likely to look at, so that the question is asked less
@@ -252,7 +326,7 @@ class Value:
         """Brings what stands at a path, and what stands above it; of a directory its names."""
         if path in self.exact and not again:
             return
-        for length in range(1, len(path)):
+        for length in range(1, 0 if self.has_folder(path[:-1]) else len(path)):
             above = self.entry(path[:length])
             if above is None or above[0] != "dir":
                 if above is not None:
@@ -266,7 +340,7 @@ class Value:
             self.bring_names(path)
         self.exact.add(path)
 
-    def place_entry(self, path: Path, entry: tuple[str, bytes, bool] | None) -> None:
+    def place_entry(self, path: Path, entry: Entry | None) -> None:
         """Makes what stands at a path; a directory is left as it is."""
         if entry is None:
             self.folder.drop(path)
@@ -284,28 +358,23 @@ class Value:
     def bring_names(self, path: Path) -> None:
         """Makes the names of a directory just those of the tree; what is new stands there bare."""
         names = self.names(path)
-        deep = len(path) + 1
-        held = {p for p in (*self.folder.kinds, *self.folder.links) if len(p) == deep}
-        for inside in held:
-            if inside[:-1] == path and inside[-1] not in names:
-                self.folder.drop(inside)
-        for name in names:
+        held = set(os.listdir(self.folder.at(path)))
+        held |= {link[-1] for link in self.folder.links if link[:-1] == path}
+        for name in held - names.keys() - {TABLE}:
+            self.folder.drop((*path, name))
+        for name in names.keys() - held:
             inside = (*path, name)
-            if inside in held:
-                continue
-            entry = self.entry(inside)
-            if entry is None or entry[0] == "file":
+            if names[name][0] == "file":
                 self.folder.put(inside, b"")
             else:
-                self.place_entry(inside, entry)
+                self.place_entry(inside, names[name])
 
     def bring_below(self, path: Path) -> None:
         """Brings a directory with all below it, and the table of a tree that has one."""
         self.bring(path)
-        for name in self.names(path):
+        for name, entry in self.names(path).items():
             inside = (*path, name)
-            entry = self.entry(inside)
-            if entry is not None and entry[0] == "dir":
+            if entry[0] == "dir":
                 self.bring_below(inside)
             else:
                 self.bring(inside)
