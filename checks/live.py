@@ -29,6 +29,7 @@ TOP = os.path.dirname(os.path.dirname(os.path.abspath(__file__)))
 TOOLS = os.environ.get("TOOLS", os.path.join(TOP, "tools"))
 sys.path.insert(0, os.path.join(TOP, "tools"))
 
+import live_looks  # noqa: E402
 import live_queue  # noqa: E402
 
 NOBODY = 65534
@@ -916,6 +917,7 @@ PARTS = [
     file_systems,
     the_question_agrees_with_show,
     costs,
+    *live_looks.PARTS,
     *live_queue.PARTS,
 ]
 

@@ -30,11 +30,16 @@ def write_folder(store: Any, out: Any) -> None:
                 it.write(node[1])
 
 
-def call(words: Sequence[Any], pass_fds: Sequence[int] = (), until_line: bool = False) -> Answer:
-    """What the program prints: of `run`, `watch` and `show`."""
+def call(
+    words: Sequence[Any],
+    pass_fds: Sequence[int] = (),
+    until_line: bool = False,
+    at: int | None = None,
+) -> Answer:
+    """What the program prints: of `run`, `trace`, `watch` and `show`."""
     command, spec, folder, *more = words
     out = more.pop(0) if command != "show" else None
-    schedule = more.pop(0) if command == "watch" else "none"
+    schedule = more.pop(0) if command in ("trace", "watch") else "none"
     word = spec
     try:
         root = model.read_description(text_of(spec))
@@ -50,6 +55,8 @@ def call(words: Sequence[Any], pass_fds: Sequence[int] = (), until_line: bool = 
     lines: list[str] = []
     if command == "watch":
         lines, order, retries, after = model.watch(root, plan, store, short(steps, plan))
+    elif command == "trace":
+        lines, order, retries, after = model.trace(root, plan, store, short(steps, plan))
     else:
         _, order, retries, after = model.trace(root, plan, store, [])
     write_folder(after, out)
@@ -77,7 +84,6 @@ def is_valid(spec: Any, folder: Any, _fds: Sequence[int] = ()) -> bool:
 @contextmanager
 def program() -> Iterator[None]:
     """The stand-in in place of the program."""
-    with mock.patch("txforest.attempt.call", call), mock.patch(
-        "txforest.attempt.is_valid", is_valid
-    ):
-        yield
+    with mock.patch("txforest.attempt.call", call), mock.patch("txforest.looked.call", call):
+        with mock.patch("txforest.attempt.is_valid", is_valid):
+            yield

@@ -11,6 +11,7 @@ import sys
 import time
 import unittest
 from collections.abc import Callable
+from unittest import mock
 
 from txforest import calls, exchange, intent, links, lock, terminal
 from txforest.attempt import without_question
@@ -278,6 +279,21 @@ class Narrowed(InFolder):
             self.assert_fails(Status.USAGE, lambda: Only([pattern]), "--only")
 
 
+class Calls(unittest.TestCase):
+    """How the C library is reached."""
+
+    def test_without_the_core_of_ctypes_all_of_it_serves(self) -> None:
+        with mock.patch("txforest.calls.core_of_ctypes", side_effect=AttributeError):
+            getpid = calls.function_of("getpid")
+        self.assertEqual((getpid(), calls.function_of("getpid")()), (os.getpid(), os.getpid()))
+
+    def test_errors_have_their_numbers(self) -> None:
+        at = os.open("/", os.O_RDONLY)
+        self.addCleanup(os.close, at)
+        with self.assertRaises(FileNotFoundError):
+            calls.PLAIN.rename2(b"nothing here", at, b"nor here", at, calls.NOREPLACE)
+
+
 class Results(InFolder):
     """The view, and what an OUT changes."""
 
@@ -287,7 +303,7 @@ class Results(InFolder):
             found = survey(tree.root)
             room = room_of(tree, found)
             view = view_of(tree, found, room.fd)
-            out = copy(os.readlink(view.path), f"{self.top}/out")
+            out = copy(view.path, f"{self.top}/out")
             work(out)
             fd = os.open(out, DIR)
             try:

@@ -298,9 +298,9 @@ class Waits(unittest.TestCase):
 
         blind = 'txn { to("n") down fetch n : str store(text((int(n) + 1))) }'
         for changes, command in (
-            ((blind, blind), "run"),
-            ((blind, JOB % "a", JOB % "b"), "run"),
-            ((blind, 'txn { to("log") down try a store("x") }', "txn { abort }"), "run"),
+            ((blind, blind), "trace"),
+            ((blind, JOB % "a", JOB % "b"), "trace"),
+            ((blind, 'txn { to("log") down try a store("x") }', "txn { abort }"), "trace"),
             ((blind, 'txn { to("log") down remove store("") }'), "watch"),
             ((blind, 'txn { to("log") down try c create }'), "watch"),
         ):

@@ -18,7 +18,8 @@ import os
 
 from .attempt import Attempt, attempts
 from .commit import hold_signals, let_signals
-from .parts import Part, one_by_one, parted, report_in
+from .looked import Looker
+from .parts import Part, parted, report_in
 from .queue import Answer, Request, Text, answer_text
 from .sources import Source, spelled
 from .statuses import Failed, Status
@@ -95,6 +96,7 @@ class Batch:
         self.put = put
         self.surveyed: Callable[[Survey], None] = lambda found: None  # told of each survey
         self.rooms: list[Attempt] = []  # what is to be closed behind the answers
+        self.looker: Looker | None = None  # of the last run
         self.known: list[Change] | None = None  # what the last run changes, if that was asked
         self.standing: list[Member] = []  # whose answers stand in a place, for whoever settles it
 
@@ -178,23 +180,24 @@ class Batch:
         value or not; unless the tree is large, and it is seen that the last state speaks for
         all."""
         self.known = None
+        looker = self.looker = Looker(attempt)
         spec = group[0].spec
         scripts = [script for member in group for script in member.scripts]
         if len(group) == 1:
-            return attempt.run(spec, scripts)
+            return looker.run(spec, scripts)
         transactions = sum(member.request.transactions for member in group)
         if len(attempt.found.taken) * transactions > LARGE:
             from .blind import are_blind, keep_all
 
             if are_blind(spec.text, [script.text for script in scripts]):
-                answer = attempt.run(spec, scripts)
+                answer = looker.run(spec, scripts)
                 if answer.status:
                     return answer
-                changes = attempt.changes()
+                changes = looker.changes()
                 if keep_all(changes, attempt.found) and attempt.is_valid():
                     self.known = changes
                     return answer
-        return attempt.run(spec, scripts, one_by_one(len(scripts)))
+        return looker.watch(spec, scripts)
 
     def alone(
         self, attempt: Attempt, member: Member, part: Part, report: bytes
@@ -237,7 +240,9 @@ class Batch:
         self, attempt: Attempt, group: list[Member], answers: list[Answer], printed: bytes
     ) -> None:
         """Puts the result of an attempt in place, with the answers of those who wait."""
-        changes = attempt.changes() if self.known is None else self.known
+        if self.looker is None:
+            raise ValueError("nothing was run")
+        changes = self.looker.changes() if self.known is None else self.known
         carried = self.carried(attempt, group, answers, printed)
         if not changes:
             # Nothing is to be kept across a stop: an answer that is lost is come to again.

@@ -6,11 +6,14 @@ from __future__ import annotations
 
 import errno
 import os
+import sys
 
 TYPE_CHECKING = False
 if TYPE_CHECKING:
-    import ctypes
-    from collections.abc import Sequence
+    from collections.abc import Callable, Sequence
+    from typing import Any
+
+    Function = Callable[..., int]
 
 NOREPLACE, EXCHANGE = 1, 2
 OPENAT2 = 437
@@ -20,23 +23,54 @@ FILE = os.O_RDONLY | os.O_NOFOLLOW | os.O_NONBLOCK | os.O_CLOEXEC
 WRITE = os.O_WRONLY | os.O_NOFOLLOW | os.O_CLOEXEC
 NEW = WRITE | os.O_CREAT | os.O_EXCL
 
-_libc: list[ctypes.CDLL] = []
+
+class Library:
+    """The C library. Its functions take numbers, bytes or nothing, and answer a number; each is
+    loaded at its first use."""
+
+    def __getattr__(self, name: str) -> Function:
+        made = function_of(name)
+        setattr(self, name, made)
+        return made
 
 
-def libc() -> ctypes.CDLL:
-    """The C library, loaded at the first use."""
-    if not _libc:
+LIBC = Library()
+
+
+def libc() -> Library:
+    """The C library."""
+    return LIBC
+
+
+def function_of(name: str) -> Function:
+    """A function of the C library.
+
+    It is made by the core of the module ctypes. All of that module is loaded only if its core is
+    another than is known here: to load it costs a tool more than all its calls.
+    """
+    try:
+        core = core_of_ctypes()
+        number = type("Number", (core._SimpleCData,), {"_type_": "i"})
+        flags = core.FUNCFLAG_CDECL | core.FUNCFLAG_USE_ERRNO
+        words = {"_flags_": flags, "_restype_": number}
+        made: Function = type("Function", (core.CFuncPtr,), words)(
+            core.dlsym(core.dlopen(None, 0), name)
+        )
+    except (ImportError, AttributeError, TypeError):
         import ctypes
 
-        _libc.append(ctypes.CDLL(None, use_errno=True))
-    return _libc[0]
+        made = getattr(ctypes.CDLL(None, use_errno=True), name)
+    return made
+
+
+def core_of_ctypes() -> Any:
+    """The module that does the work of ctypes."""
+    return __import__("_ctypes")
 
 
 def failed(name: bytes) -> OSError:
     """The error of the last call of the C library, with a name."""
-    import ctypes
-
-    number = ctypes.get_errno()
+    number = core_of_ctypes().get_errno()
     return OSError(number, os.strerror(number), name)
 
 
@@ -75,11 +109,9 @@ class Calls:
 
     def openat2(self, root: int, path: bytes) -> int | None:
         """A directory by openat2, or nothing if the system has no such call."""
-        import ctypes
-
         resolve = BENEATH | NO_SYMLINKS | NO_MAGICLINKS | NO_XDEV
-        how = (ctypes.c_uint64 * 3)(DIR, 0, resolve)
-        fd: int = libc().syscall(OPENAT2, root, path, ctypes.byref(how), ctypes.sizeof(how))
+        how = b"".join(it.to_bytes(8, sys.byteorder) for it in (DIR, 0, resolve))
+        fd = libc().syscall(OPENAT2, root, path, how, len(how))
         if fd >= 0:
             return fd
         error = failed(path)

@@ -6,13 +6,14 @@ from __future__ import annotations
 import os
 import stat
 
+from . import calls
 from .calls import DIR, FILE
 from .survey import TABLE, Survey
 from .view import View, order, read_table
 
 TYPE_CHECKING = False
 if TYPE_CHECKING:
-    from collections.abc import Iterator, Mapping
+    from collections.abc import Iterable, Iterator, Mapping
 
 
 class InTheWay(Exception):
@@ -134,6 +135,44 @@ class Differences:
             if inner is not None:
                 os.close(inner)
 
+    def compare_at(self, paths: Iterable[str], view: int, out: int) -> None:
+        """Compares OUT with the view at these paths alone. Paths above and below others that differ
+        are among them."""
+        for front, names in by_folder(paths).items():
+            made = folder_at(out, front)
+            if made is None:
+                continue  # what the view has there is gone
+            was = folder_at(view, front)
+            try:
+                for name in names:
+                    self.compare_one(front + "/" + name if front else name, name, was, made)
+            finally:
+                os.close(made)
+                if was is not None:
+                    os.close(was)
+
+    def compare_one(self, path: str, name: str, view: int | None, out: int) -> None:
+        """Compares an entry of a directory of OUT with that of the view."""
+        y = calls.PLAIN.look(os.fsencode(name), out)
+        if y is None or path == TABLE and self.flags is not None:
+            return
+        x = self.taken.get(path)
+        if x is None:
+            self.look_out(path)
+        self.seen.add(path)
+        if stat.S_ISDIR(y.st_mode):
+            if x is None or not stat.S_ISDIR(x.st_mode):
+                self.new.append(Change("mkdir", path))
+            return
+        flag = None if self.flags is None else path in self.flags
+        data = content(out, name)
+        if view is None or x is None or not stat.S_ISREG(x.st_mode):
+            self.appears(path, x, data, flag)
+        elif x.st_size != len(data) or content(view, name) != data:
+            self.other.append(Change("store", path, data, flag))
+        elif flag is not None and flag != bool(x.st_mode & 0o111):
+            self.other.append(Change("mode", path, b"", flag))
+
     def appears(self, path: str, x: os.stat_result | None, data: bytes, flag: bool | None) -> None:
         """A file where none was."""
         self.make_room(path, x)
@@ -161,10 +200,10 @@ class Differences:
                 self.make_room(path, x)
             (self.other if was else self.new).append(Change("link", path, real))
 
-    def find_gone(self, holds: set[str]) -> None:
-        """What the view has and OUT has not."""
-        for path in self.taken.keys() - self.seen:
-            if not path:
+    def find_gone(self, holds: set[str], paths: Iterable[str]) -> None:
+        """What the view has of some paths, and OUT has not."""
+        for path in paths:
+            if not path or path in self.seen or path not in self.taken:
                 continue
             is_dir = stat.S_ISDIR(self.taken[path].st_mode)
             if path == TABLE:
@@ -206,16 +245,48 @@ def differences(view: View, out: int, found: Survey) -> list[Change]:
 
     First what makes room, then what is new, then what is another, then what goes. Raises InTheWay.
     """
-    links: dict[str, bytes] = {}
-    flags: set[str] | None = None
-    if not found.table:
-        links, flags = read_table(out)
+    links, flags = table_of(out, found)
     it = Differences(view, found, flags)
     it.compare("", view.fd, out)
     if links:
         it.compare_links(links, found)
-    it.find_gone(found.holds)
+    it.find_gone(found.holds, found.taken)
     return it.in_order(found.holds)
+
+
+def differences_at(view: View, out: int, found: Survey, paths: set[str]) -> list[Change]:
+    """The same, if what differs is among some paths; a table differs wherever it wants."""
+    links, flags = table_of(out, found)
+    it = Differences(view, found, flags)
+    paths = paths | {TABLE}
+    it.compare_at(paths, view.fd, out)
+    if links:
+        it.compare_links(links, found)
+    it.find_gone(found.holds, paths)
+    return it.in_order(found.holds)
+
+
+def table_of(out: int, found: Survey) -> tuple[dict[str, bytes], set[str] | None]:
+    """The links and flags of OUT; none, if the tree's own table is a file like others."""
+    return ({}, None) if found.table else read_table(out)
+
+
+def by_folder(paths: Iterable[str]) -> dict[str, list[str]]:
+    """The last names of paths, by the directories in which they stand."""
+    found: dict[str, list[str]] = {}
+    for path in paths:
+        front, _, name = path.rpartition("/")
+        if name:
+            found.setdefault(front, []).append(name)
+    return found
+
+
+def folder_at(top: int, path: str) -> int | None:
+    """A directory below another one, or nothing."""
+    try:
+        return calls.PLAIN.down(top, os.fsencode(path).split(b"/") if path else [])
+    except (FileNotFoundError, NotADirectoryError):
+        return None
 
 
 def by_path(change: Change) -> list[bytes]:

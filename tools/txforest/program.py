@@ -37,12 +37,17 @@ class Answer:
 
 
 def call(
-    words: Sequence[str | bytes], pass_fds: Sequence[int] = (), until_line: bool = False
+    words: Sequence[str | bytes],
+    pass_fds: Sequence[int] = (),
+    until_line: bool = False,
+    at: int | None = None,
 ) -> Answer:
     """Runs the program with these words and reads all it prints.
 
     With `until_line` it reads the first line and ends the program then; the status is 0 then.
     `pass_fds` are descriptors that the program inherits: so it keeps a lock while it lives.
+    `at` is a directory that a word names by its descriptor: the program is started in it, and finds
+    it as `.`, so that each of its calls has a shorter way. For processes of one thread alone.
     Python ignores SIGXFSZ, and the program inherits that: a limit of file sizes is status 7.
     Raises Failed with SYSTEM if the program can't be started or a signal ended it.
     """
@@ -50,10 +55,43 @@ def call(
     told = os.memfd_create("told")
     try:
         reading, writing = os.pipe()
-        pid = started([name, *words], writing, told, pass_fds)
+        pid = started_at(at, [name, *words], writing, told, pass_fds)
         return answer_of(name, pid, reading, told, until_line)
     finally:
         os.close(told)
+
+
+def started_at(
+    at: int | None,
+    words: Sequence[str | bytes],
+    printed: int,
+    told: int,
+    pass_fds: Sequence[int],
+) -> int:
+    """Starts a program in a directory, if this process can go there and back."""
+    back = None if at is None else way_back()
+    if at is None or back is None:
+        return started(words, printed, told, pass_fds)
+    name, *rest = words
+    here = [os.path.abspath(name) if os.sep in os.fsdecode(name) else name]
+    here += ["." if word == f"/proc/self/fd/{at}" else word for word in rest]
+    try:
+        os.fchdir(at)
+        return started(here, printed, told, pass_fds)
+    finally:
+        os.fchdir(back)
+        os.close(back)
+
+
+def way_back() -> int | None:
+    """A descriptor of the directory in which this process is. Nothing if there is none, or if
+    programs are looked for from there on."""
+    if not all(map(os.path.isabs, os.environ.get("PATH", os.defpath).split(os.pathsep))):
+        return None
+    try:
+        return os.open(".", os.O_PATH | os.O_DIRECTORY | os.O_CLOEXEC)
+    except OSError:
+        return None
 
 
 def started(

@@ -312,7 +312,7 @@ def status_of(tool: Callable[[], int | None]) -> int:
 
 
 def main(tool: Callable[[], int | None]) -> NoReturn:
-    """Runs a tool and ends as it says."""
+    """Runs a tool and ends as it says, at once: to take a large survey apart would take long."""
     hold_streams()
     take_signals()
     status = status_of(tool)
@@ -321,7 +321,7 @@ def main(tool: Callable[[], int | None]) -> NoReturn:
     except OSError:
         no_output()
         status = status or int(Status.SYSTEM)
-    sys.exit(status)
+    os._exit(status)
 
 
 def no_output() -> None:
