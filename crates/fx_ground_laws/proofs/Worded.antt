@@ -6,6 +6,7 @@ use Rattle.std.specs.List.{join_with_byte, slice_split}
 use Rattle.std.specs.Option.{option_map, option_and_then}
 use Rattle.std.specs.Str.{bytes_eq}
 use Rattle.std.specs.Str.Parse.{digits_value}
+use Rattle.std.proofs.lemmas.Bool.{and_parts}
 use Rattle.std.proofs.lemmas.List.Splits.{length-slice_split, join_with_byte-slice_split}
 use Rattle.fx_text.proofs.Canon.{nat_list_exact}
 use Rattle.fx_words.specs.Forms.{word_of, commands, named_in, command_named, is_count, is_count_with_views}
@@ -28,10 +29,6 @@ mapped f (Some a) y e = let same : f a ≡ y = cc in (a, refl, same)
 gone_on : {A B : Type 0} (f : A → Option B) (x : Option A) (y : B) → option_and_then f x ≡ Some y → (a : A) × (x ≡ Some a) × (f a ≡ Some y)
 gone_on f None y e = cc
 gone_on f (Some a) y e = (a, refl, e)
-
-both : (a b : Bool) → (a && b) ≡ true → a ≡ true
-both true b e = refl
-both false b e = e
 
 -- ---- schedules
 
@@ -110,7 +107,7 @@ gen_is (number ∷ out ∷ []) j e =
     let value = digits_value 10 number in
     let number_is = some_if (bytes_eq (decimal value) number && nat_lt value (2 ^ 32)) (Some value) is.0 is.1 in
     let same : value ≡ is.0 = cc in
-    ap (λ (j : GenJob). decimal j.number ∷ j.out ∷ []) (sym is.2) ∙ ap (λ t. t ∷ out ∷ []) (ap decimal (sym same) ∙ nat_list_exact (decimal value) number (both (bytes_eq (decimal value) number) (nat_lt value (2 ^ 32)) number_is.0))
+    ap (λ (j : GenJob). decimal j.number ∷ j.out ∷ []) (sym is.2) ∙ ap (λ t. t ∷ out ∷ []) (ap decimal (sym same) ∙ nat_list_exact (decimal value) number (and_parts (bytes_eq (decimal value) number) (nat_lt value (2 ^ 32)) number_is.0).0)
 
 audit_is : (args : Words) (j : AuditJob) → audit_job args ≡ Some j → codes "audit" ∷ args ≡ words_of (Audit j)
 audit_is [] j e = cc

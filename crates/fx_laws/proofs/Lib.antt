@@ -23,6 +23,12 @@ pub mod Swapped
 pub mod Undone
 pub mod Serial
 pub mod Valid
+pub mod Landed
+pub mod Ways
 pub mod Fetched
+pub mod Created
+pub mod Standing
 pub mod Scoped
 pub mod Moved
+pub mod Stepping
+pub mod Neighbours
