@@ -68,13 +68,13 @@ module _ (U : Store) (at : PlaceTree) (q : Path) (v : Tree) where
 -- ---- the node that a store makes
 
 -- the node by the place's form
-node_at : (S : Store) (at : PlaceTree) (form : SpecTree) (v : Tree) (node : Node) → at.spec ≡ form → ((made : Node) → stored_node form v ≡ Ok made → made ≡ node) → (cs : List Change) → answer S (store_at v at) ≡ Ok cs → stored_node at.spec v ≡ Ok node
+pub node_at : (S : Store) (at : PlaceTree) (form : SpecTree) (v : Tree) (node : Node) → at.spec ≡ form → ((made : Node) → stored_node form v ≡ Ok made → made ≡ node) → (cs : List Change) → answer S (store_at v at) ≡ Ok cs → stored_node at.spec v ≡ Ok node
 node_at S at form v node is only cs e =
     let made = node_of S at v cs e in
     made.1 ∙ ap Ok (only made.0 (ap (λ s. stored_node s v) (sym is) ∙ made.1))
 
 -- a store where its path lands at something replaces the node
-store_replaces : (S : Store) (at : PlaceTree) (q : Path) (v : Tree) (node : Node) → lands S at.path (follows_last node) ≡ At q → stored_node at.spec v ≡ Ok node → answer S (store_at v at) ≡ answer S (replaced (is_flag v) q node (S q))
+pub store_replaces : (S : Store) (at : PlaceTree) (q : Path) (v : Tree) (node : Node) → lands S at.path (follows_last node) ≡ At q → stored_node at.spec v ≡ Ok node → answer S (store_at v at) ≡ answer S (replaced (is_flag v) q node (S q))
 store_replaces S at q v node landing stores =
     ap (λ x. answer S (unrefused (λ node. resolve at.path (follows_last node) >>= store_landed (is_flag v) at.path node) x)) stores
     ∙ (answer-bind S (resolve at.path (follows_last node)) (store_landed (is_flag v) at.path node) ∙ ap (λ l. answer S (store_landed (is_flag v) at.path node l)) landing)
@@ -82,11 +82,11 @@ store_replaces S at q v node landing stores =
 -- ---- a file that is there
 
 -- what a replaced file holds, by what was stored
-data Replaced (S : Store) (q : Path) (flag : Bool) (bytes : List ℕ) (exec : Bool) (cs : List Change) : Type 0 where
+pub data Replaced (S : Store) (q : Path) (flag : Bool) (bytes : List ℕ) (exec : Bool) (cs : List Change) : Type 0 where
   flagged : flag ≡ true → (old : List ℕ) (was : Bool) → S q ≡ Some (File old was) → cs ≡ set_to q (File old exec) ∷ [] → Replaced S q flag bytes exec cs
   filled : flag ≡ false → (old : List ℕ) (was : Bool) → S q ≡ Some (File old was) → cs ≡ set_to q (File bytes was) ∷ [] → Replaced S q flag bytes exec cs
 
-was_replaced : (S : Store) (q : Path) (flag : Bool) (bytes : List ℕ) (exec : Bool) (cs : List Change) → answer S (replaced flag q (File bytes exec) (S q)) ≡ Ok cs → Replaced S q flag bytes exec cs
+pub was_replaced : (S : Store) (q : Path) (flag : Bool) (bytes : List ℕ) (exec : Bool) (cs : List Change) → answer S (replaced flag q (File bytes exec) (S q)) ≡ Ok cs → Replaced S q flag bytes exec cs
 was_replaced S q flag bytes exec cs e = at (S q) refl flag refl e
   where
     at : (n : Option Node) → S q ≡ n → (f : Bool) → flag ≡ f → answer S (replaced f q (File bytes exec) n) ≡ Ok cs → Replaced S q flag bytes exec cs
@@ -97,7 +97,7 @@ was_replaced S q flag bytes exec cs e = at (S q) refl flag refl e
     at (Some (File old was)) is false same e = filled same old was is (let given : (set_to q (File bytes was) ∷ []) ≡ cs = cc in sym given)
 
 -- the path lands at the file as before
-lands_at_file : (S : Store) (at : PlaceTree) (q : Path) (old bytes : List ℕ) (was exec : Bool) → S q ≡ Some (File old was) → lands S at.path true ≡ At q → lands (over S (set_to q (File bytes exec) ∷ [])) at.path true ≡ At q
+pub lands_at_file : (S : Store) (at : PlaceTree) (q : Path) (old bytes : List ℕ) (was exec : Bool) → S q ≡ Some (File old was) → lands S at.path true ≡ At q → lands (over S (set_to q (File bytes exec) ∷ [])) at.path true ≡ At q
 lands_at_file S at q old bytes was exec there landing =
     let U : Store = over S (set_to q (File bytes exec) ∷ []) in
     lands_alike S U at.path true (each_of_all (AlikeAt S U) (one_file S q old bytes was exec there) (looks S at.path true)) ∙ landing

@@ -20,6 +20,7 @@ pub mod Among
 pub mod Touched
 pub mod Apart
 pub mod Swapped
+pub mod Long
 pub mod Undone
 pub mod Serial
 pub mod Valid
@@ -27,6 +28,8 @@ pub mod Landed
 pub mod Ways
 pub mod Fetched
 pub mod Created
+pub mod Overwritten
+pub mod Tried
 pub mod Standing
 pub mod Scoped
 pub mod Moved

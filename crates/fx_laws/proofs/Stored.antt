@@ -142,7 +142,7 @@ same_content_is_accepted S whole at v node q held =
 
 -- ----------------------------------------------------------------------------------------------------------- tasks
 
-after-asking : {A B : Type 0} (S : Store) (rule : Ask A) (next : A → Task B) → after S (asking rule next) ≡ after S (next (answer S rule))
+pub after-asking : {A B : Type 0} (S : Store) (rule : Ask A) (next : A → Task B) → after S (asking rule next) ≡ after S (next (answer S rule))
 after-asking S (Answer a) next = refl
 after-asking S (Look p rule) next = after-asking S (rule (S p)) next
 after-asking S (Tick rule) next = after-asking S rule next

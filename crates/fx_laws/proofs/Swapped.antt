@@ -1,8 +1,8 @@
 -- Neighbours in an order that are apart, and the order of one script.
-use Rattle.std.proofs.Common.{◌≡◌, ◌≢◌, ℕ, zero, suc, ◌+◌, ◌<◌, ◌≤◌, Bool, true, false, cond, nat_eq, refl, ap, sym, subst, ◌∙◌, List, [], ◌∷◌, map, take, length, Some, None, arith, ⊎_elim, eq-eqb}
+use Rattle.std.proofs.Common.{◌≡◌, ◌≢◌, ℕ, suc, ◌+◌, ◌<◌, ◌≤◌, Bool, true, false, cond, nat_eq, refl, ap, sym, subst, ◌∙◌, List, [], ◌∷◌, map, take, length, Some, None, arith, ⊎_elim, eq-eqb}
 use Rattle.std.proofs.lemmas.Bool.{cases_eq, cases_lt}
 use Rattle.std.proofs.lemmas.List.{get_or_past}
-use Rattle.std.proofs.lemmas.List.Elements.{All-nil, All-cons, All-head, All-push, All-weaker, All-contains, All-contains_itself, Contains-append_right}
+use Rattle.std.proofs.lemmas.List.Elements.{All-nil, All-cons, All-head, All-weaker, All-contains, All-contains_itself, Contains-append_right}
 use Rattle.std.specs.FinMap.{get}
 use Rattle.std.specs.List.{All, Contains, cons_option}
 use Rattle.fx_store.specs.Whole.{Nodes, Store}
@@ -94,7 +94,7 @@ turns_counted shell (t ∷ o) =
     more false n h = h
 
 -- a complete order has all of a shell's transactions
-all_there : (base : BaseTree) (o : List Turn) (shell : ℕ) → IsComplete base o → length (numbers_of shell o) ≡ count_of base.plan shell
+pub all_there : (base : BaseTree) (o : List Turn) (shell : ℕ) → IsComplete base o → length (numbers_of shell o) ≡ count_of base.plan shell
 all_there base o shell complete = ⊎_elim
     (λ (h : length (numbers_of shell o) < count_of base.plan shell).
     let n : ℕ = length (numbers_of shell o) in

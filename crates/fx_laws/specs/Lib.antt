@@ -19,3 +19,5 @@ pub mod Moved
 pub mod Stepping
 pub mod Standing
 pub mod Created
+pub mod Overwritten
+pub mod Tried

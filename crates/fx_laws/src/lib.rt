@@ -14,5 +14,6 @@ pub mod retries;
 pub mod scripts;
 pub mod stores;
 pub mod tokens;
+pub mod tries;
 pub mod values;
 pub mod vectors;

@@ -1,5 +1,6 @@
-//! Laws of stores: storing what is there changes nothing, and what is stored is fetched.
+//! Laws of stores: storing what is there changes nothing, what is stored is fetched, and a second store overwrites the first.
 ghost use Rattle.fx_laws.specs.Fetched.{FileStoresAreFetched, NewStoresAreFetched, LinkStoresAreFetched, DirectoryStoresAreFetched};
+ghost use Rattle.fx_laws.specs.Overwritten.{FileStoresOverwrite};
 ghost use Rattle.fx_laws.specs.Stored.{SameContentIsAccepted, SameContentChangesNothing, FetchedIsAccepted, SameStoreChangesNothing, SameStoreLeavesNothing, FetchedStoreChangesNothing, FetchedStoreLeavesNothing};
 
 /// On a whole filestore the store of what a file, a directory or a link holds already is accepted, and sets the node to
@@ -58,4 +59,10 @@ pub fn what_is_stored_at_a_link_is_fetched()
 /// directory itself.
 pub fn what_is_stored_at_a_directory_is_fetched()
     ensures { DirectoryStoresAreFetched }
+{}
+
+/// Two stores at a file that is there, one after the other, leave what the second one leaves by itself, be they of its bytes or
+/// of its flag.
+pub fn a_second_store_overwrites_the_first()
+    ensures { FileStoresOverwrite }
 {}
