@@ -389,6 +389,12 @@ LAWS_AT = {
     "fx_spec::laws::a_transaction_depends_on_its_way": "Transactions, run whole",
     "fx_progress::lib::a_transaction_looks_at_paths_alone": "Transactions, run whole",
     "fx_laws_above::reports::a_run_begins_in_one_way": "The claim",
+    "fx_laws::filestores::directories_list_what_stands": "Filestores",
+    "fx_laws::moves::neighbours_come_back": "Moves and fetches",
+    "fx_laws::moves::steps_reach_each_element": "Moves and fetches",
+    "fx_ground_laws::words::a_job_tells_its_words": "The words",
+    "fx_laws_above::twice::what_is_said_twice_is_the_same": "The folder of a filestore",
+    "fx_laws_above::twice::numerals_are_the_limits": "The folder of a filestore",
 }
 
 EXAMPLES = (

@@ -7,7 +7,7 @@ use Rattle.std.specs.List.Sorted.{IsStrictlySortedBy}
 use Rattle.std.specs.Map.{keys_of}
 use Rattle.std.specs.FinMap.{find, put, is_sorted}
 use Rattle.std.specs.FinMap.Entries.{below_all, same_entries}
-use Rattle.std.proofs.lemmas.Bool.{false≢true}
+use Rattle.std.proofs.lemmas.Bool.{false≢true, and_parts}
 use Rattle.std.proofs.lemmas.Option.{same_Some}
 use Rattle.std.proofs.lemmas.List.Elements.{All-head, All-tail}
 use Rattle.fx_outside.proofs.Sorted.{both, first, second, sorted_test}
@@ -168,14 +168,10 @@ Fits None o = Unit {0}
 Fits (Some (Target text)) o = is_none o ≡ true
 Fits (Some Executable) o = is_file o ≡ true
 
-and_right : (a b : Bool) → (a && b) ≡ true → b ≡ true
-and_right true b e = e
-and_right false b e = absurd (false≢true e)
-
 fits : (S : Store) (q : Paths) (m : Option Mark) → ((mark : Mark) → m ≡ Some mark → can_mark (over S true) q mark ≡ true) → Fits m (S q)
 unfolding Fits
 fits S q None can = tt
-fits S q (Some (Target text)) can = and_right (is_dir (S (parent q))) (is_none (S q)) (can (Target text) refl)
+fits S q (Some (Target text)) can = (and_parts (is_dir (S (parent q))) (is_none (S q)) (can (Target text) refl)).1
 fits S q (Some Executable) can = can Executable refl
 
 -- a file or a directory, or nothing

@@ -2,7 +2,7 @@
 use Rattle.std.proofs.Common.{◌≡◌, ℕ, suc, ◌+◌, ◌-◌, ◌*◌, ◌≤◌, Bool, true, false, cond, not, ◌&&◌, ◌||◌, inl, inr, ◌⊎◌, pos, List, [], ◌∷◌, ◌++◌, map, length, take, drop, get_or, is_none, is_some, refl, sym, ap, ◌∙◌, subst, arith, append_assoc, length-append}
 use Rattle.std.specs.Prelude.{nat_le, ◌==◌, Some, None, Option}
 use Rattle.std.specs.List.{list_all, flat_map, prefix_len}
-use Rattle.std.proofs.lemmas.Bool.{false≢true, leb-true, eqb-true, and_parts, or_cases}
+use Rattle.std.proofs.lemmas.Bool.{false≢true, leb-true, eqb-true, and_parts, not-true, or_cases}
 use Rattle.std.proofs.Common.{eq-eqb}
 use Rattle.std.proofs.lemmas.Grind.{flat_map-append}
 use Rattle.std.proofs.lemmas.List.{append-nil}
@@ -158,10 +158,6 @@ abbrev pub goods : List Bit → ℕ → Bool
 goods [] next = true
 goods (b ∷ bits) next = good b (first (bytes_of (pieces_of bits) ++ next ∷ [])) && goods bits next
 
-not_true : (b : Bool) → not b ≡ true → b ≡ false
-not_true true e = sym e
-not_true false e = refl
-
 some_mark : (o : Option Mark) → is_some o ≡ true → (m : Mark) × (o ≡ Some m)
 some_mark None e = absurd (false≢true e)
 some_mark (Some m) e = (m, refl)
@@ -173,7 +169,7 @@ no_mark (Some m) e = absurd (false≢true e)
 alone : (b next : ℕ) → (is_none (mark_of_two b) || not (next == b)) ≡ true → (mark_of_two b ≡ None) ⊎ (next ≡ b → ⊥)
 alone b next e = elim (or_cases (is_none (mark_of_two b)) (not (next == b)) e) [
   | inl none ↦ inl (no_mark (mark_of_two b) none)
-  | inr other ↦ inr (λ same. false≢true (sym (not_true (next == b) other) ∙ eq-eqb next b same))
+  | inr other ↦ inr (λ same. false≢true (sym (not-true (next == b) other) ∙ eq-eqb next b same))
 ]
 
 good_at : (b : Bit) (rest : List ℕ) → good b (first rest) ≡ true → IsPiece (bit_piece b) rest
@@ -182,8 +178,8 @@ good_at (word w) rest e =
     let p = and_parts _ _ e in
     let q = and_parts _ _ p.1 in
     let r = and_parts _ _ q.1 in
-    word_piece w rest p.0 q.0 (leb-true (length w) 64 r.0) (not_true _ r.1)
-good_at (digit d) rest e = let p = and_parts _ _ e in digit_piece d rest p.0 (not_true _ p.1)
+    word_piece w rest p.0 q.0 (leb-true (length w) 64 r.0) (not-true _ r.1)
+good_at (digit d) rest e = let p = and_parts _ _ e in digit_piece d rest p.0 (not-true _ p.1)
 good_at (one b) rest e =
     let p = and_parts _ _ e in
     let q = and_parts _ _ p.1 in

@@ -1,6 +1,6 @@
 -- On a whole filestore the store of what is fetched is accepted.
 use Rattle.std.proofs.Common.{◌≡◌, ℕ, ◌<◌, ◌≤◌, nat_lt, nat_le, Bool, true, false, cond, ◌&&◌, refl, ap, subst, sym, ◌∙◌, List, [], ◌∷◌, length, Some, Ok, Err, nat_eq, arith, lt-ltb, le-leb}
-use Rattle.std.proofs.lemmas.Bool.{true≢false, leb-true, ltb-true}
+use Rattle.std.proofs.lemmas.Bool.{true≢false, leb-true, ltb-true, and_from}
 use Rattle.std.proofs.lemmas.List.Elements.{All-head, All-tail}
 use Rattle.std.specs.Cmp.Lexicographic.{pointwise}
 use Rattle.std.specs.List.{All, list_all}
@@ -27,22 +27,18 @@ use Rattle.fx_spec.specs.Place.{PlaceTree}
 use Rattle.fx_laws.specs.Stored.{IsHeld, has_content, FetchedIsAccepted}
 use Rattle.fx_laws.proofs.Stored.{content_there, file_there, flag_there, dir_there, link_there, held_of, flag_of_file, of_its_shape, same_content_is_accepted}
 
-both : (a b : Bool) → a ≡ true → b ≡ true → (a && b) ≡ true
-both true b e f = f
-both false b e f = absurd (true≢false (sym e))
-
 each_passes : {A : Type 0} (P : A → Type 0) (test : A → Bool) → ((x : A) → P x → test x ≡ true) → (xs : List A) → All P xs → list_all test xs ≡ true
 each_passes P test h [] all = refl
-each_passes P test h (x ∷ xs) all = both (test x) (list_all test xs) (h x (All-head P x xs all)) (each_passes P test h xs (All-tail P x xs all))
+each_passes P test h (x ∷ xs) all = and_from (test x) (list_all test xs) (h x (All-head P x xs all)) (each_passes P test h xs (All-tail P x xs all))
 
 same_texts : (xs : List (List ℕ)) → pointwise (pointwise nat_eq) xs xs ≡ true
 same_texts [] = refl
-same_texts (x ∷ xs) = both (pointwise nat_eq x x) (pointwise (pointwise nat_eq) xs xs) (same_text x) (same_texts xs)
+same_texts (x ∷ xs) = and_from (pointwise nat_eq x x) (pointwise (pointwise nat_eq) xs xs) (same_text x) (same_texts xs)
 
 -- content within its limits can be stored
 content_passes : (bytes : List ℕ) → length bytes ≤ 1048576 → All (λ b. b < 256) bytes → is_content bytes ≡ true
 content_passes bytes short all =
-    both (nat_le (length bytes) 1048576) (list_all (λ b. nat_lt b 256) bytes) (le-leb (length bytes) 1048576 short) (each_passes (λ b. b < 256) (λ b. nat_lt b 256) (λ b l. lt-ltb b 256 l) bytes all)
+    and_from (nat_le (length bytes) 1048576) (list_all (λ b. nat_lt b 256) bytes) (le-leb (length bytes) 1048576 short) (each_passes (λ b. b < 256) (λ b. nat_lt b 256) (λ b l. lt-ltb b 256 l) bytes all)
 
 file_stored : (bytes : List ℕ) → IsContent bytes → stored_node SpecTree.file (Tree.str bytes) ≡ Ok (File bytes false)
 file_stored bytes ok = ap (λ b. cond b (Ok (File bytes false)) (Err Refusal.WrongForm)) (content_passes bytes ok.short ok.bytes)

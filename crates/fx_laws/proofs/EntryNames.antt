@@ -1,9 +1,9 @@
 -- The names of a path are some bytes each, none of them a slash.
-use Rattle.std.proofs.Common.{◌≡◌, ℕ, ◌+◌, ◌/◌, ◌%◌, ◌<◌, Bool, true, false, not, List, [], ◌∷◌, length, arith, refl, subst, ⊎_elim}
+use Rattle.std.proofs.Common.{◌≡◌, ℕ, ◌+◌, ◌/◌, ◌%◌, ◌<◌, true, false, not, List, [], ◌∷◌, length, arith, subst, ⊎_elim}
 use Rattle.std.specs.Prelude.{nat_lt}
 use Rattle.std.specs.List.{All, list_any}
 use Rattle.std.specs.Str.{is_utf8}
-use Rattle.std.proofs.lemmas.Bool.{and_parts, cond_both, false≢true, ltb-true, or_parts}
+use Rattle.std.proofs.lemmas.Bool.{and_parts, cond_both, false≢true, ltb-true, not-true, or_parts}
 use Rattle.std.proofs.lemmas.List.Elements.{All-nil, All-cons, All-head, All-tail, All-append}
 use Rattle.std.proofs.lemmas.Str.{IsUtf8-from_is_utf8}
 use lib.Utf8.{scalar, scalars, encode, encodes, scalar_cases}
@@ -45,10 +45,6 @@ lacks_slash (b ∷ name) all none =
     let both = or_parts (is_slash b) (list_any is_slash name) none in
     (All-head IsByte b name all, both.0, lacks_slash name (All-tail IsByte b name all) both.1)
 
-not_true : (b : Bool) → not b ≡ true → b ≡ false
-not_true true e = absurd (false≢true e)
-not_true false e = refl
-
 some_bytes : (name : List ℕ) → nat_lt 0 (length name) ≡ true → LacksSlash name → IsEntryName name
 some_bytes [] some h = false≢true some
 some_bytes (b ∷ name) some h = h
@@ -61,7 +57,7 @@ entry_name name is =
     let no_nul = and_parts _ _ kept.0 in
     let no_slash = and_parts _ (not (list_any is_slash name)) no_nul.0 in
     let long = and_parts (nat_lt 0 (length name)) _ no_slash.0 in
-    some_bytes name long.0 (lacks_slash name (text_bytes name text.1) (not_true (list_any is_slash name) no_slash.1))
+    some_bytes name long.0 (lacks_slash name (text_bytes name text.1) (not-true (list_any is_slash name) no_slash.1))
 
 pub entry_names : (path : List (List ℕ)) → All IsName path → AreEntryNames path
 entry_names [] all = tt

@@ -1,7 +1,7 @@
 -- What a transaction leaves, by the changes that it keeps: equality of small filestores at each path, from that at the paths
 -- of their nodes and changes.
 use Rattle.std.proofs.Common.{◌≡◌, ℕ, Bool, true, false, cond, ◌||◌, refl, ap, sym, ◌∙◌, List, [], ◌∷◌, map, Some, None}
-use Rattle.std.proofs.lemmas.Bool.{true≢false}
+use Rattle.std.proofs.lemmas.Bool.{true≢false, or_parts}
 use Rattle.std.specs.Ordering.{eq_by_cmp}
 use Rattle.fx_store.specs.declared.changes.Change.{Change}
 use Rattle.fx_store.specs.Changes.{changed_paths}
@@ -31,22 +31,18 @@ leaves_kept root commands S T changes e same p = left-kept root commands S p ∙
 abbrev pub paths_of : Entries → List (List (List ℕ))
 paths_of es = map (λ e. e.0) es
 
-none_of : (a b : Bool) → (a || b) ≡ false → (a ≡ false) × (b ≡ false)
-none_of true b e = absurd (true≢false e)
-none_of false b e = (refl, e)
-
 -- nothing is at other paths than those of the nodes
 nowhere_else : (es : Entries) (p : List (List ℕ)) → has_path (paths_of es) p ≡ false → store_of es p ≡ None
 nowhere_else [] p h = refl
 nowhere_else (e ∷ es) p h =
-    let none : (eq_by_cmp path_cmp p e.0 ≡ false) × (has_path (paths_of es) p ≡ false) = none_of (eq_by_cmp path_cmp p e.0) (has_path (paths_of es) p) h in
+    let none : (eq_by_cmp path_cmp p e.0 ≡ false) × (has_path (paths_of es) p ≡ false) = or_parts (eq_by_cmp path_cmp p e.0) (has_path (paths_of es) p) h in
     ap (λ b. cond b (Some e.1) (store_of es p)) none.0 ∙ nowhere_else es p none.1
 
 -- no other path is changed than those of the changes
 as_before : (S : Store) (cs : List Change) (p : List (List ℕ)) → has_path (changed_paths cs) p ≡ false → over S cs p ≡ S p
 as_before S [] p h = refl
 as_before S (c ∷ cs) p h =
-    let none : (eq_by_cmp path_cmp p c.path ≡ false) × (has_path (changed_paths cs) p ≡ false) = none_of (eq_by_cmp path_cmp p c.path) (has_path (changed_paths cs) p) h in
+    let none : (eq_by_cmp path_cmp p c.path ≡ false) × (has_path (changed_paths cs) p ≡ false) = or_parts (eq_by_cmp path_cmp p c.path) (has_path (changed_paths cs) p) h in
     as_before (update S c) cs p none.1 ∙ ap (λ b. cond b c.node (S p)) none.0
 
 at_one_of : (ps : List (List (List ℕ))) (S T : Store) (p : List (List ℕ)) → SameOn ps S T → has_path ps p ≡ true → S p ≡ T p

@@ -1,5 +1,6 @@
 -- Moves that are not refused lead to places, and are undone by others.
 use Rattle.std.proofs.Common.{◌≡◌, ℕ, zero, suc, Bool, true, false, cond, ◌||◌, refl, ap, sym, subst, ◌∙◌, List, [], ◌∷◌, Option, Some, None, Result, Ok, Err, is_some}
+use Rattle.std.proofs.lemmas.Bool.{or_left, or_right}
 use Rattle.std.specs.Prelude.{IsSome, nat_eq}
 use Rattle.std.specs.Option.{option_map}
 use Rattle.std.specs.Ordering.{is_lt, nat_cmp}
@@ -20,7 +21,6 @@ use Rattle.fx_spec.specs.Move.{Answered, unrefused, needed, at_place, then_step,
 use Rattle.fx_spec.specs.Place.{Step, First, Second, Inside, Down, Body, Elem, Address, PlaceTree, placed, where_true, has_element, at_path, in_body, lead, place}
 use Rattle.fx_spec.specs.Transaction.{from_place}
 use Rattle.fx_laws.specs.Moved.{Leads, MovesLeadToPlaces, MovesAreUndone}
-use Rattle.fx_laws.proofs.Among.{or_first, or_else}
 
 -- ---- rules and places
 
@@ -28,7 +28,7 @@ answer-behind : {A : Type 0} (S : Store) (n : ℕ) (rule : Ask A) → answer S (
 answer-behind S zero rule = refl
 answer-behind S (suc n) rule = answer-behind S n rule
 
-place_step : (S : Store) (root : SpecTree) (a : Address) (at : PlaceTree) (step : Step) → answer S (place root a) ≡ Some at → answer S (place root (step ∷ a)) ≡ answer S (lead step at.path at.env at.spec)
+pub place_step : (S : Store) (root : SpecTree) (a : Address) (at : PlaceTree) (step : Step) → answer S (place root a) ≡ Some at → answer S (place root (step ∷ a)) ≡ answer S (lead step at.path at.env at.spec)
 unfolding place
 place_step S root a at step e =
     answer-bind S (place root a) (with_some λ at. lead step at.path at.env at.spec) ∙ ap (λ o. answer S (with_some (λ (at : PlaceTree). lead step at.path at.env at.spec) o)) e
@@ -44,23 +44,23 @@ data Descends (S : Store) (a : Address) (p : List (List ℕ)) (env : Bindings) (
 
 least_in : (ts : List (List ℕ)) (t : List ℕ) → least ts ≡ Some t → has_text t ts ≡ true
 least_in [] t e = cc
-least_in (u ∷ us) t e = let same : u ≡ t = cc in or_first (pointwise nat_eq u t) (has_text t us) (subst (λ v. pointwise nat_eq u v ≡ true) same (same_text u))
+least_in (u ∷ us) t e = let same : u ≡ t = cc in or_left (pointwise nat_eq u t) (has_text t us) (subst (λ v. pointwise nat_eq u v ≡ true) same (same_text u))
 
-above_in : (t : List ℕ) (ts : List (List ℕ)) (u : List ℕ) → least_above t ts ≡ Some u → has_text u ts ≡ true
+pub above_in : (t : List ℕ) (ts : List (List ℕ)) (u : List ℕ) → least_above t ts ≡ Some u → has_text u ts ≡ true
 above_in t [] u e = cc
 above_in t (x ∷ xs) u e = by (is_lt (slice_cmp nat_cmp t x)) e (λ k. above_in t xs u k)
   where
     by : (b : Bool) → cond b (Some x) (least_above t xs) ≡ Some u → (least_above t xs ≡ Some u → has_text u xs ≡ true) → (pointwise nat_eq x u || has_text u xs) ≡ true
-    by true e rest = let same : x ≡ u = cc in or_first (pointwise nat_eq x u) (has_text u xs) (subst (λ v. pointwise nat_eq x v ≡ true) same (same_text x))
-    by false e rest = or_else (pointwise nat_eq x u) (has_text u xs) (rest e)
+    by true e rest = let same : x ≡ u = cc in or_left (pointwise nat_eq x u) (has_text u xs) (subst (λ v. pointwise nat_eq x v ≡ true) same (same_text x))
+    by false e rest = or_right (pointwise nat_eq x u) (has_text u xs) (rest e)
 
-below_in : (t : List ℕ) (ts : List (List ℕ)) (u : List ℕ) → greatest_below t ts ≡ Some u → has_text u ts ≡ true
+pub below_in : (t : List ℕ) (ts : List (List ℕ)) (u : List ℕ) → greatest_below t ts ≡ Some u → has_text u ts ≡ true
 below_in t [] u e = cc
 below_in t (x ∷ xs) u e = by (greatest_below t xs) (is_lt (slice_cmp nat_cmp x t)) e (λ k. below_in t xs u k)
   where
     by : (o : Option (List ℕ)) (b : Bool) → later_or o (cond b (Some x) None) ≡ Some u → (o ≡ Some u → has_text u xs ≡ true) → (pointwise nat_eq x u || has_text u xs) ≡ true
-    by (Some v) b e rest = or_else (pointwise nat_eq x u) (has_text u xs) (rest e)
-    by None true e rest = let same : x ≡ u = cc in or_first (pointwise nat_eq x u) (has_text u xs) (subst (λ v. pointwise nat_eq x v ≡ true) same (same_text x))
+    by (Some v) b e rest = or_right (pointwise nat_eq x u) (has_text u xs) (rest e)
+    by None true e rest = let same : x ≡ u = cc in or_left (pointwise nat_eq x u) (has_text u xs) (subst (λ v. pointwise nat_eq x v ≡ true) same (same_text x))
     by None false e rest = cc
 
 this_in : (t u : List ℕ) (ts : List (List ℕ)) → this_if t (has_text t ts) ≡ Some u → has_text u ts ≡ true
@@ -151,7 +151,7 @@ module _ (S : Store) (root : SpecTree) (a : Address) where
   abbrev Move : Type 0
   Move = Address → List (List ℕ) → Bindings → SpecTree → Ask (Answered Address)
 
-  placed_move : {P : Type 0} (next : PlaceTree → Ask (Answered Address)) (b : Address) → ((at : PlaceTree) → answer S (place root a) ≡ Some at → answer S (next at) ≡ Ok b → P) → answer S (at_place root a next) ≡ Ok b → P
+  pub placed_move : {P : Type 0} (next : PlaceTree → Ask (Answered Address)) (b : Address) → ((at : PlaceTree) → answer S (place root a) ≡ Some at → answer S (next at) ≡ Ok b → P) → answer S (at_place root a next) ≡ Ok b → P
   placed_move {P} next b on e = go (answer S (place root a)) refl (sym (answer-bind S (place root a) (λ at. unrefused next (needed Refusal.NoPlace at))) ∙ e)
     where
       go : (o : Option PlaceTree) → answer S (place root a) ≡ o → answer S (unrefused next (needed Refusal.NoPlace o)) ≡ Ok b → P
@@ -197,7 +197,7 @@ goes_down : (root : SpecTree) (S : Store) (a : Address) → Leads root S (from_p
 goes_down root S a b e = placed_move S root a (λ at. go_down a at.path at.env at.spec) b (λ at is h. down_leads S root a at b is (down_steps S a at.path at.env at.spec b h)) e
 
 -- where the first part has a place, the second is led to where the first has a value
-second_leads : (S : Store) (root : SpecTree) (a : Address) (at above : PlaceTree) → answer S (place root a) ≡ Some above → answer S (place root (First ∷ a)) ≡ Some at → IsSome (answer S (value at.path at.env at.spec)) → IsSome (answer S (place root (Second ∷ a)))
+pub second_leads : (S : Store) (root : SpecTree) (a : Address) (at above : PlaceTree) → answer S (place root a) ≡ Some above → answer S (place root (First ∷ a)) ≡ Some at → IsSome (answer S (value at.path at.env at.spec)) → IsSome (answer S (place root (Second ∷ a)))
 second_leads S root a at above is first valued = ap is_some (place_step S root a above Second is) ∙ by above.path above.env above.spec (sym (place_step S root a above First is) ∙ first)
   where
     by : (p : List (List ℕ)) (env : Bindings) (s : SpecTree) → answer S (lead First p env s) ≡ Some at → IsSome (answer S (lead Second p env s))
@@ -219,7 +219,7 @@ second_leads S root a at above is first valued = ap is_some (place_step S root a
         mapped None h = cc
         mapped (Some v) h = refl
 
-above_first : (S : Store) (root : SpecTree) (a : Address) (step : Step) (at : PlaceTree) → answer S (place root (step ∷ a)) ≡ Some at → (above : PlaceTree) × (answer S (place root a) ≡ Some above)
+pub above_first : (S : Store) (root : SpecTree) (a : Address) (step : Step) (at : PlaceTree) → answer S (place root (step ∷ a)) ≡ Some at → (above : PlaceTree) × (answer S (place root a) ≡ Some above)
 unfolding place
 above_first S root a step at e = by (answer S (place root a)) refl (sym (answer-bind S (place root a) (with_some λ at. lead step at.path at.env at.spec)) ∙ e)
   where
@@ -227,7 +227,7 @@ above_first S root a step at e = by (answer S (place root a)) refl (sym (answer-
     by None is h = cc
     by (Some above) is h = (above, is)
 
-no_step : (S : Store) (root : SpecTree) (a b : Address) → answer S (at_place root a (λ at. Answer (Err Refusal.NoStep))) ≡ Ok b → ⊥
+pub no_step : (S : Store) (root : SpecTree) (a b : Address) → answer S (at_place root a (λ at. Answer (Err Refusal.NoStep))) ≡ Ok b → ⊥
 no_step S root a b e = placed_move S root a (λ at. Answer (Err Refusal.NoStep)) b (λ at is h. wrong h) e
   where
     wrong : ◌≡◌ {A = Answered Address} (Err Refusal.NoStep) (Ok b) → ⊥
@@ -253,7 +253,7 @@ next_leads root S (Down ∷ a) b e = absurd (no_step S root (Down ∷ a) b e)
 next_leads root S (Body ∷ a) b e = absurd (no_step S root (Body ∷ a) b e)
 
 -- where the second part has a place, so has the first
-first_leads : (S : Store) (root : SpecTree) (a : Address) (at above : PlaceTree) → answer S (place root a) ≡ Some above → answer S (place root (Second ∷ a)) ≡ Some at → IsSome (answer S (place root (First ∷ a)))
+pub first_leads : (S : Store) (root : SpecTree) (a : Address) (at above : PlaceTree) → answer S (place root a) ≡ Some above → answer S (place root (Second ∷ a)) ≡ Some at → IsSome (answer S (place root (First ∷ a)))
 first_leads S root a at above is second = ap is_some (place_step S root a above First is) ∙ by above.path above.env above.spec (sym (place_step S root a above Second is) ∙ second)
   where
     by : (p : List (List ℕ)) (env : Bindings) (s : SpecTree) → answer S (lead Second p env s) ≡ Some at → IsSome (answer S (lead First p env s))

@@ -15,7 +15,7 @@ use Rattle.fx_spec.specs.SpecTree.{SpecTree}
 use Rattle.fx_spec.specs.CommandTree.{ActTree}
 use Rattle.fx_laws.specs.Shorthands.{union, one, into, next, down, store, remove, try_and_show}
 use Rattle.fx_laws.specs.Retried.{all_files}
-use Rattle.fx_laws.specs.Scripted.{a_and_b, b_alone, nested_and_g, g_and_h, LeavesNoPlace, DropsSubtree, JoinsChosenFiles, NumbersFault, RefusedAtRoot}
+use Rattle.fx_laws.specs.Scripted.{a_and_b, b_alone, nested_and_g, g_and_h, LeavesNoPlace, DropsSubtree, JoinsChosenFiles, NumbersFault, RefusedAtRoot, TakesItsWayAway}
 use Rattle.fx_laws.proofs.Left.{leaves_kept, same_stores}
 
 pub leaves_no_place : LeavesNoPlace
@@ -40,3 +40,10 @@ numbers_fault = record {
 pub refused_at_root : RefusedAtRoot
 unfolding is_utf8 chars encode is_name resolve value place clear transaction
 refused_at_root = record { outputs = refl; end = refl; way = refl; kept = refl }
+
+pub takes_its_way_away : TakesItsWayAway
+unfolding is_utf8 chars encode is_name resolve value place clear transaction
+takes_its_way_away = record {
+  directory = record { outputs = refl; end = refl; way = refl; kept = refl };
+  link = record { outputs = refl; end = refl; way = refl; kept = refl };
+}

@@ -55,7 +55,7 @@ pub record IsSmall (t : Turn) : Type 0 where
   pub shell : t.0 < 64
   pub txn : t.1 < 100000
 
-shells_planned : (base : BaseTree) (o : List Turn) → IsLegal base o → All (λ (t : Turn). t.0 < length base.plan) o
+pub shells_planned : (base : BaseTree) (o : List Turn) → IsLegal base o → All (λ (t : Turn). t.0 < length base.plan) o
 shells_planned base o legal =
     All-weaker (λ (t : Turn). t.1 < count_of base.plan t.0) (λ (t : Turn). t.0 < length base.plan) (λ t h. in_plan base.plan t.0 (some t.1 (count_of base.plan t.0) h)) o (planned base o legal)
   where

@@ -1,6 +1,6 @@
 -- A store of what is there changes nothing.
 use Rattle.std.proofs.Common.{◌≡◌, ℕ, ◌+◌, ◌<◌, ◌≤◌, nat_lt, Bool, true, false, cond, ◌&&◌, ◌||◌, refl, ap, subst, sym, ◌∙◌, List, [], ◌∷◌, ◌++◌, length, Option, Some, None, Ok, Err, nat_eq, arith}
-use Rattle.std.proofs.lemmas.Bool.{true≢false, ltb-true}
+use Rattle.std.proofs.lemmas.Bool.{true≢false, ltb-true, or_left, or_right}
 use Rattle.std.proofs.lemmas.List.Folds.{list_any-append}
 use Rattle.std.specs.Cmp.Lexicographic.{pointwise}
 use Rattle.std.specs.List.{list_all}
@@ -37,7 +37,6 @@ use Rattle.fx_spec.specs.Place.{Address, PlaceTree, place}
 use Rattle.fx_spec.specs.Task.{Task, Ends, Looks, Sets, result, after, asking, ◌>=>◌}
 use Rattle.fx_spec.specs.Transaction.{edits, effect, Standing, Flow, On, Over, go_on, binding, or_stop, taking, run, run_block, transaction, flow_end, is_done, end}
 use Rattle.fx_spec.proofs.EditsClear.{has-set_of}
-use Rattle.fx_laws.proofs.Among.{or_else, or_first}
 use Rattle.fx_laws.specs.Stored.{IsHeld, Same, SameContentIsAccepted, SameContentChangesNothing, storing, fetching_and_storing, ChangesNothing, SameStoreChangesNothing, FetchedStoreChangesNothing, LastLeaveNothing, SameStoreLeavesNothing, FetchedStoreLeavesNothing}
 
 -- ---------------------------------------------------------------------------------------------- the changes of such a store
@@ -63,7 +62,7 @@ entries_none S q names [] h = refl
 entries_none S q names (n ∷ ns) h =
     answer-bind S (entry q names names n) (λ first. entries (entry q names names) ns >>= λ rest. Answer (first ++ rest))
     ∙ answer-bind S (entries (entry q names names) ns) (λ rest. Answer (answer S (entry q names names n) ++ rest))
-    ∙ (λ i. entry_none S q names n (h n (or_first (eq_by_cmp name_cmp n n) (has ns n) (same_name n))) i ++ entries_none S q names ns (λ m g. h m (or_else (eq_by_cmp name_cmp m n) (has ns m) g)) i)
+    ∙ (λ i. entry_none S q names n (h n (or_left (eq_by_cmp name_cmp n n) (has ns n) (same_name n))) i ++ entries_none S q names ns (λ m g. h m (or_right (eq_by_cmp name_cmp m n) (has ns m) g)) i)
 
 same_names : (S : Store) (q names : List (List ℕ)) → answer S (new_names q names names) ≡ Ok (set_to q (Dir names) ∷ [])
 same_names S q names =
@@ -143,7 +142,7 @@ same_content_is_accepted S whole at v node q held =
 
 -- ----------------------------------------------------------------------------------------------------------- tasks
 
-after-asking : {A B : Type 0} (S : Store) (rule : Ask A) (next : A → Task B) → after S (asking rule next) ≡ after S (next (answer S rule))
+pub after-asking : {A B : Type 0} (S : Store) (rule : Ask A) (next : A → Task B) → after S (asking rule next) ≡ after S (next (answer S rule))
 after-asking S (Answer a) next = refl
 after-asking S (Look p rule) next = after-asking S (rule (S p)) next
 after-asking S (Tick rule) next = after-asking S rule next
@@ -251,20 +250,20 @@ one_node : (b : Bool) (made node : Node) (f : Refusal) → ◌≡◌ {A = Answer
 one_node true made node f e = cc
 one_node false made node f e = absurd (cc)
 
-file_node : (bytes : List ℕ) (node : Node) → stored_node SpecTree.file (Tree.str bytes) ≡ Ok node → node ≡ File bytes false
+pub file_node : (bytes : List ℕ) (node : Node) → stored_node SpecTree.file (Tree.str bytes) ≡ Ok node → node ≡ File bytes false
 file_node bytes node e = one_node (is_storable (Tree.str bytes)) (File bytes false) node Refusal.WrongForm e
 
-flag_node : (exec : Bool) (node : Node) → stored_node SpecTree.file (Tree.bool exec) ≡ Ok node → node ≡ File [] exec
+pub flag_node : (exec : Bool) (node : Node) → stored_node SpecTree.file (Tree.bool exec) ≡ Ok node → node ≡ File [] exec
 flag_node exec node e = one_node (is_storable (Tree.bool exec)) (File [] exec) node Refusal.WrongForm e
 
-dir_node : (names : List (List ℕ)) (node : Node) → stored_node SpecTree.dir (Tree.names names) ≡ Ok node → node ≡ Dir names
+pub dir_node : (names : List (List ℕ)) (node : Node) → stored_node SpecTree.dir (Tree.names names) ≡ Ok node → node ≡ Dir names
 dir_node names node e = at (is_storable (Tree.names names)) e
   where
     at : (b : Bool) → cond b (names_node names) (Err Refusal.WrongForm) ≡ Ok node → node ≡ Dir names
     at true f = one_node (list_all is_name names) (Dir names) node Refusal.BadName f
     at false f = absurd (cc)
 
-link_node_is : (text : List ℕ) (node : Node) → stored_node SpecTree.link (Tree.str text) ≡ Ok node → node ≡ Link text
+pub link_node_is : (text : List ℕ) (node : Node) → stored_node SpecTree.link (Tree.str text) ≡ Ok node → node ≡ Link text
 link_node_is text node e = at (is_storable (Tree.str text)) e
   where
     short : (b : Bool) → link_node (cond b (Err TooDeep) (Ok text)) ≡ Ok node → node ≡ Link text
@@ -280,7 +279,7 @@ link_node_is text node e = at (is_storable (Tree.str text)) e
     at false f = absurd (cc)
 
 -- the node of an accepted store
-node_of : (S : Store) (at : PlaceTree) (v : Tree) (changes : List Change) → answer S (store_at v at) ≡ Ok changes → (node : Node) × (stored_node at.spec v ≡ Ok node)
+pub node_of : (S : Store) (at : PlaceTree) (v : Tree) (changes : List Change) → answer S (store_at v at) ≡ Ok changes → (node : Node) × (stored_node at.spec v ≡ Ok node)
 node_of S at v changes e = go (stored_node at.spec v) refl e
   where
     go : (o : Answered Node) → stored_node at.spec v ≡ o → answer S (unrefused (λ node. resolve at.path (follows_last node) >>= store_landed (is_flag v) at.path node) o) ≡ Ok changes → (node : Node) × (stored_node at.spec v ≡ Ok node)

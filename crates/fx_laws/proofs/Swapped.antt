@@ -1,8 +1,8 @@
 -- Neighbours in an order that are apart, and the order of one script.
-use Rattle.std.proofs.Common.{◌≡◌, ◌≢◌, ℕ, zero, suc, ◌+◌, ◌<◌, ◌≤◌, Bool, true, false, cond, nat_eq, refl, ap, sym, subst, ◌∙◌, List, [], ◌∷◌, map, take, length, Some, None, arith, ⊎_elim, eq-eqb}
+use Rattle.std.proofs.Common.{◌≡◌, ◌≢◌, ℕ, suc, ◌+◌, ◌<◌, ◌≤◌, Bool, true, false, cond, nat_eq, refl, ap, sym, subst, ◌∙◌, List, [], ◌∷◌, map, take, length, Some, None, arith, ⊎_elim, eq-eqb}
 use Rattle.std.proofs.lemmas.Bool.{cases_eq, cases_lt}
 use Rattle.std.proofs.lemmas.List.{get_or_past}
-use Rattle.std.proofs.lemmas.List.Elements.{All-nil, All-cons, All-head, All-push, All-weaker, All-contains, All-contains_itself, Contains-append_right}
+use Rattle.std.proofs.lemmas.List.Elements.{All-nil, All-cons, All-head, All-weaker, All-contains, All-contains_itself, Contains-append_right}
 use Rattle.std.specs.FinMap.{get}
 use Rattle.std.specs.List.{All, Contains, cons_option}
 use Rattle.fx_store.specs.Whole.{Nodes, Store}
@@ -15,6 +15,7 @@ use Rattle.fx_spec.specs.Order.{BaseTree, after_txn, after_all, state, numbers_o
 use Rattle.fx_spec.specs.Transaction.{left, left_nodes}
 use Rattle.fx_spec.proofs.Tasks.{leaves_as_data}
 use Rattle.fx_laws.specs.Apart.{AreApart}
+use Rattle.fx_machine.proofs.Complete.{below_first}
 use Rattle.fx_laws.specs.Swapped.{NeighboursMaySwap, OneScriptOneOrder}
 use Rattle.fx_laws.proofs.Apart.{apart_commute}
 use Rattle.fx_laws.proofs.Undone.{state_past}
@@ -92,17 +93,13 @@ turns_counted shell (t ∷ o) =
     more true n h = Contains-later t.1 (numbers_of shell o) n h
     more false n h = h
 
-first_below : (n : ℕ) → All (λ m. m < n) (first_numbers n)
-first_below zero = All-nil (λ m. m < 0)
-first_below (suc n) = All-push (λ m. m < suc n) (first_numbers n) n (All-weaker (λ m. m < n) (λ m. m < suc n) (λ m h. omega (arith, h)) (first_numbers n) (first_below n)) (omega arith)
-
 -- a complete order has all of a shell's transactions
-all_there : (base : BaseTree) (o : List Turn) (shell : ℕ) → IsComplete base o → length (numbers_of shell o) ≡ count_of base.plan shell
+pub all_there : (base : BaseTree) (o : List Turn) (shell : ℕ) → IsComplete base o → length (numbers_of shell o) ≡ count_of base.plan shell
 all_there base o shell complete = ⊎_elim
     (λ (h : length (numbers_of shell o) < count_of base.plan shell).
     let n : ℕ = length (numbers_of shell o) in
     let here : Contains (numbers_of shell o) n = All-contains (λ (t : Turn). t.0 ≡ shell → Contains (numbers_of shell o) t.1) o (shell, n) (turns_counted shell o) (complete.all shell n h) refl in
-    let low : n < n = All-contains (λ m. m < n) (first_numbers n) n (first_below n) (subst (λ l. Contains l n) (complete.legal shell).in_turn here) in
+    let low : n < n = All-contains (λ m. m < n) (first_numbers n) n (below_first n) (subst (λ l. Contains l n) (complete.legal shell).in_turn here) in
     absurd (omega (arith, low)))
     (λ (h : count_of base.plan shell ≤ length (numbers_of shell o)). omega (arith, h, (complete.legal shell).planned))
     (cases_lt (length (numbers_of shell o)) (count_of base.plan shell))

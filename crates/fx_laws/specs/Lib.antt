@@ -16,3 +16,8 @@ pub mod Valid
 pub mod Fetched
 pub mod Scoped
 pub mod Moved
+pub mod Stepping
+pub mod Standing
+pub mod Created
+pub mod Overwritten
+pub mod Tried

@@ -1,6 +1,6 @@
 -- Worked transactions of one shell.
 use Rattle.std.specs.Prelude.{false, List, [], ◌∷◌, codes, pos}
-use Rattle.fx_store.specs.declared.node.Node.TheVariants.{File, Dir}
+use Rattle.fx_store.specs.declared.node.Node.TheVariants.{File, Dir, Link}
 use Rattle.fx_store.specs.Examples.{store_of}
 use Rattle.fx_expr.specs.declared.expr.BinOp.{BinOp}
 use Rattle.fx_expr.specs.declared.expr.UnOp.{UnOp}
@@ -78,3 +78,19 @@ RefusedAtRoot =
     Does SpecTree.dir (store_of nothing_there)
     (try_and_show (codes "e") (ActTree.store (one (codes ".forest-links"))) (try_and_show (codes "f") (ActTree.store (text (codes "x"))) (try_and_show (codes "g") ActTree.create (try_and_show (codes "h") ActTree.remove []))))
     (numbers (8 ∷ 5 ∷ 12 ∷ 6 ∷ [])) End.Done [] []
+
+-- a directory that is reached through a link in it, which leads to the directory
+abbrev pub own_link : Entries
+own_link = ([], Dir (codes "d" ∷ [])) ∷ (codes "d" ∷ [], Dir (codes "l" ∷ [])) ∷ (codes "d" ∷ codes "l" ∷ [], Link (codes "/d")) ∷ []
+
+-- a link to the directory that it stands in
+abbrev pub link_to_here : Entries
+link_to_here = ([], Dir (codes "l" ∷ [])) ∷ (codes "l" ∷ [], Link (codes ".")) ∷ []
+
+-- a store that is not refused takes its own way away: it drops the link that leads to the directory, or turns the link that
+-- leads to itself; so nothing is fetched
+pub record TakesItsWayAway : Type 0 where
+  pub directory : Does (SpecTree.focus (text (codes "d/l")) SpecTree.dir) (store_of own_link) (down ∷ store (one (codes "x")) ∷ fetch_names (codes "v") ∷ []) [] (End.Stopped 2 Refusal.Lacks)
+      ((codes "d" ∷ []) ∷ (codes "d" ∷ codes "l" ∷ []) ∷ (codes "d" ∷ codes "x" ∷ []) ∷ []) []
+  pub link : Does (SpecTree.focus (text (codes "l/l")) SpecTree.link) (store_of link_to_here) (down ∷ store (text (codes "nowhere")) ∷ fetch_text (codes "v") ∷ []) [] (End.Stopped 2 Refusal.Lacks)
+      ((codes "l" ∷ []) ∷ (codes "nowhere" ∷ []) ∷ []) []

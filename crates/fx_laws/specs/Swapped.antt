@@ -1,6 +1,7 @@
 -- Which orders are as good as others.
 use Rattle.std.specs.Prelude.{◌≡◌, ℕ, ◌+◌, List, ◌∷◌, ◌++◌, length, map, Some}
 use Rattle.std.specs.FinMap.{get}
+use Rattle.std.specs.List.{sum_by}
 use Rattle.fx_spec.specs.CommandTree.{CommandTree}
 use Rattle.fx_spec.specs.Plans.{Turn, txn_of, count_of}
 use Rattle.fx_spec.specs.Order.{BaseTree, IsComplete, state, first_numbers}
@@ -26,3 +27,7 @@ alone count = map (λ n. (0, n)) (first_numbers count)
 -- of one script there is one complete order: the script's
 abbrev pub OneScriptOneOrder : Type 0
 OneScriptOneOrder = (base : BaseTree) (o : List Turn) → length base.plan ≡ 1 → IsComplete base o → o ≡ alone (count_of base.plan 0)
+
+-- a complete order has as many entries as the scripts have transactions together
+abbrev pub CompleteOrdersAreLong : Type 0
+CompleteOrdersAreLong = (base : BaseTree) (o : List Turn) → IsComplete base o → length o ≡ sum_by length base.plan

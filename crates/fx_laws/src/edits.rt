@@ -1,4 +1,5 @@
 //! Laws of edits: what removals, stores of names and nodes that are made leave of a filestore.
+ghost use Rattle.fx_laws.specs.Created.{CreationsAreUndone};
 ghost use Rattle.fx_laws.specs.Edited.{RemovalsRemove, StoresRelist, StoresMake, CreationsMake};
 
 /// A removal that is not refused leaves the filestore without the entry where the place's own path lands and without all
@@ -18,4 +19,10 @@ pub fn a_store_of_names_relists_a_directory()
 pub fn a_missing_node_is_made()
     ensures store { StoresMake }
     ensures create { CreationsMake }
+{}
+
+/// A creation that makes no directories above its node is undone by a removal, which is not refused: each path has then what
+/// it had at first.
+pub fn a_creation_is_undone_by_a_removal()
+    ensures { CreationsAreUndone }
 {}

@@ -1,9 +1,10 @@
-//! Laws of the definitions: of edits, of stores, of moves and values, of two transactions and of orders, of the tokens of
+//! Laws of the definitions: of filestores, of edits, of stores, of moves and values, of two transactions and of orders, of the tokens of
 //! trees, of what a printed report spells, and worked examples that the checker computes. Each law stands on a function that
 //! does nothing, so that it is proved with the crate.
 #![tactic(auto)]
 
 pub mod edits;
+pub mod filestores;
 pub mod limits;
 pub mod moves;
 pub mod orders;
@@ -13,5 +14,6 @@ pub mod retries;
 pub mod scripts;
 pub mod stores;
 pub mod tokens;
+pub mod tries;
 pub mod values;
 pub mod vectors;

@@ -1,5 +1,5 @@
 //! Laws of orders: which of them lead to the same states, and what a shell that settles has seen.
-ghost use Rattle.fx_laws.specs.Swapped.{NeighboursMaySwap, OneScriptOneOrder};
+ghost use Rattle.fx_laws.specs.Swapped.{NeighboursMaySwap, OneScriptOneOrder, CompleteOrdersAreLong};
 ghost use Rattle.fx_laws.specs.Undone.{UndoneMayBeLeftOut};
 ghost use Rattle.fx_laws.specs.Serial.{SettledSawTheState};
 
@@ -17,6 +17,12 @@ pub fn an_undone_transaction_may_be_left_out()
 /// Of one script there is one complete order.
 pub fn one_script_has_one_order()
     ensures { OneScriptOneOrder }
+{}
+
+/// A complete order has as many entries as the scripts have transactions together. So every run of the same scripts commits
+/// equally many.
+pub fn a_complete_order_has_all_transactions()
+    ensures { CompleteOrdersAreLong }
 {}
 
 /// A shell that settles has looked at what stands in the last state: its transaction, run whole there, consults nothing that

@@ -1,5 +1,5 @@
 //! Worked transactions of one shell.
-ghost use Rattle.fx_laws.specs.Scripted.{LeavesNoPlace, DropsSubtree, JoinsChosenFiles, NumbersFault, RefusedAtRoot};
+ghost use Rattle.fx_laws.specs.Scripted.{LeavesNoPlace, DropsSubtree, JoinsChosenFiles, NumbersFault, RefusedAtRoot, TakesItsWayAway};
 
 /// Moves from an address whose element the transaction has removed.
 pub fn moving_on_from_a_removed_element()
@@ -24,4 +24,9 @@ pub fn faulting_at_numbers()
 /// What is refused at the root directory.
 pub fn editing_the_root()
     ensures { RefusedAtRoot }
+{}
+
+/// A store that takes its own way away, at a directory and at a link: it is not refused, and what was stored is not fetched.
+pub fn storing_what_takes_its_own_way_away()
+    ensures { TakesItsWayAway }
 {}

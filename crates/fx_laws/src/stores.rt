@@ -1,5 +1,6 @@
-//! Laws of stores: storing what is there changes nothing, and what is stored at a file is fetched there.
-ghost use Rattle.fx_laws.specs.Fetched.{FileStoresAreFetched};
+//! Laws of stores: storing what is there changes nothing, what is stored is fetched, and a second store overwrites the first.
+ghost use Rattle.fx_laws.specs.Fetched.{FileStoresAreFetched, NewStoresAreFetched, LinkStoresAreFetched, DirectoryStoresAreFetched};
+ghost use Rattle.fx_laws.specs.Overwritten.{FileStoresOverwrite};
 ghost use Rattle.fx_laws.specs.Stored.{SameContentIsAccepted, SameContentChangesNothing, FetchedIsAccepted, SameStoreChangesNothing, SameStoreLeavesNothing, FetchedStoreChangesNothing, FetchedStoreLeavesNothing};
 
 /// On a whole filestore the store of what a file, a directory or a link holds already is accepted, and sets the node to
@@ -42,4 +43,26 @@ pub fn a_transaction_that_fetches_and_stores_leaves_the_same()
 /// What is stored at a file that is there is fetched there: bytes as bytes, a flag as the flag.
 pub fn what_is_stored_at_a_file_is_fetched()
     ensures { FileStoresAreFetched }
+{}
+
+/// What is stored where nothing is, is fetched there: a file's bytes, its flag, a directory's names, a link's text.
+pub fn what_is_stored_where_nothing_is_is_fetched()
+    ensures { NewStoresAreFetched }
+{}
+
+/// What is stored at a link that is there is fetched there, if resolution looks at the link last and not before.
+pub fn what_is_stored_at_a_link_is_fetched()
+    ensures { LinkStoresAreFetched }
+{}
+
+/// What is stored at a directory that is there is fetched there, if the store changes nothing that resolution looks at but the
+/// directory itself.
+pub fn what_is_stored_at_a_directory_is_fetched()
+    ensures { DirectoryStoresAreFetched }
+{}
+
+/// Two stores at a file that is there, one after the other, leave what the second one leaves by itself, be they of its bytes or
+/// of its flag.
+pub fn a_second_store_overwrites_the_first()
+    ensures { FileStoresOverwrite }
 {}

@@ -11,7 +11,7 @@ use Rattle.fx_spec.specs.Plans.{Turn, txn_of, count_of, script_of}
 use Rattle.fx_spec.specs.Order.{BaseTree, after_txn, after_all, state, numbers_of, IsLegal}
 use Rattle.fx_spec.specs.Transaction.{outputs, end}
 use Rattle.fx_report.specs.Entries.{commands_or_none, entry, entries_from, entries_of}
-use Rattle.fx_laws.proofs.Swapped.{turns_counted}
+use Rattle.fx_laws.proofs.Spelled.{shells_planned}
 use Rattle.fx_laws_above.specs.Viewed.{beside, put_in, as_entry, ViewsAreEntries}
 
 -- the entry of a turn that stands behind some
@@ -25,23 +25,6 @@ all_take : (P : Turn → Type 0) (n : ℕ) (xs : List Turn) → All P xs → All
 all_take P zero xs all = All-nil P
 all_take P (suc n) [] all = All-nil P
 all_take P (suc n) (x ∷ xs) all = All-cons P x (take n xs) (All-head P x xs all) (all_take P n xs (All-tail P x xs all))
-
-none_in : (x : ℕ) (ns : List ℕ) → length ns ≤ 0 → Contains ns x → ⊥
-none_in x ns few h = let at = h.1 in absurd (omega (arith, few, at))
-
--- the turns of a legal order are of shells of the plan
-own_shells : (base : BaseTree) (o : List Turn) → IsLegal base o → All (λ (t : Turn). t.0 < length base.plan) o
-own_shells base o legal = All-weaker (Contains o) (λ (t : Turn). t.0 < length base.plan) each o (All-contains_itself o)
-  where
-    each : (t : Turn) → Contains o t → t.0 < length base.plan
-    each t h = ⊎_elim
-        (λ (l : t.0 < length base.plan). l)
-        (λ (g : length base.plan ≤ t.0).
-        let past : script_of base.plan t.0 ≡ [] = get_or_past base.plan t.0 [] g in
-        let empty : count_of base.plan t.0 ≡ 0 = ap length past in
-        let here : Contains (numbers_of t.0 o) t.1 = All-contains (λ (u : Turn). u.0 ≡ t.0 → Contains (numbers_of t.0 o) u.1) o t (turns_counted t.0 o) h refl in
-        absurd (none_in t.1 (numbers_of t.0 o) (omega (arith, empty, (legal t.0).planned)) here))
-        (cases_lt t.0 (length base.plan))
 
 -- one script more behind the others changes none of their transactions
 same_txn : (base : BaseTree) (t : List CommandTree) (turn : Turn) → turn.0 < length base.plan → txn_of (beside base t).plan turn ≡ txn_of base.plan turn
@@ -57,7 +40,7 @@ same_state : (base : BaseTree) (t : List CommandTree) (o : List Turn) (n : ℕ) 
 unfolding state
 same_state base t o n legal within =
     ap (after_all (beside base t) base.loaded) (take_at (take n o) ((length base.plan, 0) ∷ drop n o) n (length-take-le n o within))
-    ∙ same_after base t base.loaded (take n o) (all_take (λ (u : Turn). u.0 < length base.plan) n o (own_shells base o legal))
+    ∙ same_after base t base.loaded (take n o) (all_take (λ (u : Turn). u.0 < length base.plan) n o (shells_planned base o legal))
 
 its_txn : (base : BaseTree) (t : List CommandTree) → txn_of (beside base t).plan (length base.plan, 0) ≡ Some t
 its_txn base t = ap (λ script. slice_get script 0) (get_or_at base.plan (t ∷ []) [] [] (length base.plan) refl)

@@ -2,3 +2,4 @@ pub mod Begun
 pub mod Viewed
 pub mod Recovering
 pub mod Limits
+pub mod Twice

@@ -1,0 +1,3 @@
+pub mod PathTexts
+pub mod Written
+pub mod Worded

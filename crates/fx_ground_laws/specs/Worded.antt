@@ -1,0 +1,30 @@
+-- The words that ask for a job.
+use Rattle.std.specs.Prelude.{◌≡◌, ℕ, List, [], ◌∷◌, map, codes, Some}
+use Rattle.std.specs.Fmt.{decimal}
+use Rattle.std.specs.List.{join_with_byte}
+use Rattle.fx_words.specs.Job.{Mode, Plain, Scheduled, Watched, Inputs, Job, Run, Show, Gen, Large, Audit, Journal, Recover, Views, job_of, shells_of}
+
+-- a schedule as a word: `none`, or the numbers of its shells with `,` between each two
+abbrev pub schedule_word : List ℕ → List ℕ
+schedule_word [] = codes "none"
+schedule_word (k ∷ ks) = join_with_byte 44 (map decimal (k ∷ ks))
+
+abbrev pub run_words : Mode → Inputs → List ℕ → List (List ℕ)
+run_words Plain i out = codes "run" ∷ i.spec ∷ i.folder ∷ out ∷ i.scripts
+run_words (Scheduled shells) i out = codes "trace" ∷ i.spec ∷ i.folder ∷ out ∷ schedule_word shells ∷ i.scripts
+run_words (Watched shells) i out = codes "watch" ∷ i.spec ∷ i.folder ∷ out ∷ schedule_word shells ∷ i.scripts
+
+-- a job as words: the command, and its arguments in their order
+abbrev pub words_of : Job → List (List ℕ)
+words_of (Run j) = run_words j.mode j.inputs j.out
+words_of (Show j) = codes "show" ∷ j.spec ∷ j.folder ∷ []
+words_of (Gen j) = codes "gen" ∷ decimal j.number ∷ j.out ∷ []
+words_of (Large j) = codes "large" ∷ decimal j.number ∷ j.out ∷ []
+words_of (Audit j) = codes "audit" ∷ j.inputs.spec ∷ j.inputs.folder ∷ j.report ∷ j.inputs.scripts
+words_of (Journal j) = codes "journal" ∷ j.run.inputs.spec ∷ j.run.inputs.folder ∷ j.run.out ∷ j.journal ∷ schedule_word (shells_of j.run) ∷ j.run.inputs.scripts
+words_of (Recover j) = codes "recover" ∷ j.inputs.spec ∷ j.inputs.folder ∷ j.journal ∷ j.out ∷ j.inputs.scripts
+words_of (Views j) = codes "views" ∷ j.inputs.spec ∷ j.inputs.folder ∷ j.out ∷ j.views ∷ j.inputs.scripts
+
+-- words that ask for a job are the job's
+abbrev pub JobsTellTheirWords : Type 0
+JobsTellTheirWords = (words : List (List ℕ)) (job : Job) → job_of words ≡ Some job → words ≡ words_of job

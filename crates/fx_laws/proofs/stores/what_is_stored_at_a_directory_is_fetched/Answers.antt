@@ -1,0 +1,5 @@
+use Rattle.fx_laws.proofs.Fetched.{directory_stores_are_fetched}
+use Rattle.fx_laws.proofs.stores.what_is_stored_at_a_directory_is_fetched.Goals as goal
+
+pub returns : goal.returns
+returns c = directory_stores_are_fetched
