@@ -18,7 +18,7 @@ _SHARED = (
 )
 _RUN = (
     "fx_run_command.Rows.RunRow",
-    "fx_run_command.Rows.RunAsksFit",
+    "fx_run_command.Rows.RunAsks",
     "fx_run_command.Rows.IsProperRun",
 )
 
@@ -39,7 +39,7 @@ COMMANDS = (
         "views",
         (
             "fx_views_command.Rows.ViewsRow",
-            "fx_views_command.Rows.ViewsAskFit",
+            "fx_views_command.Rows.ViewsAsk",
             "fx_views_command.Rows.IsProperViews",
         ),
     ),
@@ -48,7 +48,7 @@ COMMANDS = (
         (
             "fx_journal_command.Rows.JournalRow",
             "fx_journal_command.Rows.KeepsJournal",
-            "fx_journal_command.Rows.JournalAsksFit",
+            "fx_journal_command.Rows.JournalAsks",
             "fx_journal_command.Rows.IsProperJournal",
             "fx_durable::disk::Disk",
         ),
@@ -57,7 +57,7 @@ COMMANDS = (
         "recover",
         (
             "fx_recover_command.Rows.RecoverRow",
-            "fx_recover_command.Rows.RecoverAsksFit",
+            "fx_recover_command.Rows.RecoverAsks",
             "fx_recover_command.Rows.IsProperRecover",
             "fx_durable::disk::Disk",
         ),
@@ -66,19 +66,20 @@ COMMANDS = (
         "audit",
         (
             "fx_audit_command.Rows.AuditRow",
-            "fx_audit_command.Rows.AuditAsksFit",
+            "fx_audit_command.Rows.AuditAsks",
             "fx_audit_command.Rows.IsProperAudit",
         ),
     ),
     Command(
         "show",
-        ("fx_show.Rows.ShowRow", "fx_show.Rows.ShowAsksFit", "fx_show.Shows.IsProperShow"),
+        ("fx_show.Rows.ShowRow", "fx_show.Rows.ShowAsks", "fx_show.Shows.IsProperShow"),
     ),
     Command(
         "gen",
         (
             "fx_command.Making.MakingRow",
             "fx_large.GenRows.gen_making",
+            "fx_command.Out.WritesOut",
             "fx_command.Out.IsProperOut",
         ),
     ),
@@ -87,6 +88,7 @@ COMMANDS = (
         (
             "fx_command.Making.MakingRow",
             "fx_large.LargeRows.large_making",
+            "fx_command.Out.WritesOut",
             "fx_command.Out.IsProperOut",
         ),
     ),

@@ -286,7 +286,7 @@ SECTIONS = (
         "This is the table of all statuses of `run`, `trace` and `watch`.",
         (
             "fx_run_command.Rows.RunRow",
-            "fx_run_command.Rows.RunAsksFit",
+            "fx_run_command.Rows.RunAsks",
             "fx_run_command.Rows.IsProperRun",
         ),
         ("fx_run_command.Rows.RunRow",),
@@ -294,14 +294,14 @@ SECTIONS = (
     Section(
         "`show`",
         "It is printed whether the folder has a value by the description, and which.",
-        ("fx_show.Rows.ShowRow", "fx_show.Shows.IsProperShow", "fx_show.Rows.ShowAsksFit"),
+        ("fx_show.Rows.ShowRow", "fx_show.Shows.IsProperShow", "fx_show.Rows.ShowAsks"),
     ),
     Section(
         "`views`",
         "A view is a transaction, run whole at one state of the order; it changes nothing.",
         (
             "fx_views_command.Rows.ViewsRow",
-            "fx_views_command.Rows.ViewsAskFit",
+            "fx_views_command.Rows.ViewsAsk",
             "fx_views_command.Rows.IsProperViews",
         ),
         ("fx_views.Views.IsView",),
@@ -312,7 +312,7 @@ SECTIONS = (
         " order can have had; or it is the first fault.",
         (
             "fx_audit_command.Rows.AuditRow",
-            "fx_audit_command.Rows.AuditAsksFit",
+            "fx_audit_command.Rows.AuditAsks",
             "fx_audit_command.Rows.IsProperAudit",
         ),
         ("fx_audit.Audits.IsTrueReport",),
@@ -329,7 +329,7 @@ SECTIONS = (
         (
             "fx_journal_command.Rows.JournalRow",
             "fx_journal_command.Rows.KeepsJournal",
-            "fx_journal_command.Rows.JournalAsksFit",
+            "fx_journal_command.Rows.JournalAsks",
             "fx_journal_command.Rows.IsProperJournal",
         ),
         ("fx_durable.Journal.reading", "fx_journaling.Kept.LeavesEither"),
@@ -339,7 +339,7 @@ SECTIONS = (
         "OUT holds the folder after the commits that a journal keeps.",
         (
             "fx_recover_command.Rows.RecoverRow",
-            "fx_recover_command.Rows.RecoverAsksFit",
+            "fx_recover_command.Rows.RecoverAsks",
             "fx_recover_command.Rows.IsProperRecover",
         ),
     ),
@@ -350,6 +350,7 @@ SECTIONS = (
             "fx_large.GenRows.gen_making",
             "fx_command.Making.MakingRow",
             "fx_large.LargeRows.large_making",
+            "fx_command.Out.WritesOut",
         ),
     ),
     Section(

@@ -1,11 +1,10 @@
 -- The rows of the table of statuses for `audit`, from what its stages ensure.
-use Rattle.std.proofs.Common.{◌≡◌, ◌⊎◌, inl, inr, ℕ, ◌≤◌, ◌<◌, true, false, List, ◌++◌, take, length, Option, Some, None, Result, Ok, Err, IfOk, IfErr, IfSome, IsSomeAnd, refl, subst, arith}
+use Rattle.std.proofs.Common.{◌≡◌, ◌⊎◌, inl, inr, ℕ, ◌≤◌, ◌<◌, false, List, ◌++◌, take, length, Option, Some, None, Result, Ok, Err, IfOk, IfErr, IfSome, IsSomeAnd, refl, subst, arith}
 use Rattle.std.specs.Prelude.{◌↔◌}
 use Rattle.fx_base.specs.Causes.{Rose}
 use Rattle.fx_outside.specs.declared.kind.HostFault.{HostFault}
 use Rattle.fx_outside.specs.declared.kind.HostFault.TheVariants as fails
 use Rattle.fx_outside.specs.Host.{HostView, ReadsOnly, FaultAt, HasFailed}
-use Rattle.fx_outside.specs.Path.{is_fit}
 use Rattle.fx_outside.specs.Sink.{SinkView}
 use Rattle.fx_outside.specs.Tree.{Tree, is_file_at, bytes_at}
 use Rattle.fx_outside.proofs.Views.{reads_then, fault_back}
@@ -15,9 +14,9 @@ use Rattle.fx_command.specs.declared.status.Status.{Status}
 use Rattle.fx_command.specs.declared.status.Status.TheVariants as status
 use Rattle.fx_command.specs.declared.status.TextFault.TheVariants as fault
 use Rattle.fx_command.specs.StatusOf.{read_status}
-use Rattle.fx_command.proofs.Told.{if_some_map, if_some_both, some_and, same, grows_front, grows_all, cause_back, some_back, same_back, left_true, right_true}
+use Rattle.fx_command.proofs.Told.{if_some_map, if_some_both, some_and, same, grows_front, grows_all, cause_back, some_back, same_back}
 use Rattle.fx_inputs.specs.Inputs.{HasBase, HasInputs, CannotRead, IsFirstRefused, HasTexts}
-use Rattle.fx_inputs.specs.Reads.{ReadRow, has_fit_inputs}
+use Rattle.fx_inputs.specs.Reads.{ReadRow}
 use Rattle.fx_inputs.proofs.ReadRows.{read_fault_back}
 use Rattle.fx_audit.specs.Audits.{IsVerdictOn, IsTrueReport}
 use Rattle.fx_audit.specs.declared.verdict.Verdict.{Verdict}
@@ -25,7 +24,7 @@ use Rattle.fx_audit.specs.declared.verdict.Verdict.TheVariants as verdict
 use Rattle.fx_audit_command.specs.declared.reading.TheConstants.{REPORT_LIMIT, REPORT_WORD}
 use Rattle.fx_words.specs.Job.{AuditJob}
 use Rattle.fx_audit_command.specs.Lines.{verdict_line}
-use Rattle.fx_audit_command.specs.Rows.{AuditEndsAs, AuditReadFault, AuditRow, CannotAudit, HasReport, IsAudited, IsAuditedInPart, IsAuditing, IsFirstRefusedOf, has_fit_audit}
+use Rattle.fx_audit_command.specs.Rows.{AuditEndsAs, AuditReadFault, AuditRow, CannotAudit, HasReport, IsAudited, IsAuditedInPart, IsAuditing, IsFirstRefusedOf}
 use Rattle.fx_command.specs.Texts.{IsReadAt}
 
 -- ---- stages that only read
@@ -134,12 +133,3 @@ audit_done j output host host' sink sink' reads is all = (
   grows_all sink sink' output all,
   if_some_map (λ t. IsAuditing t j output) (λ t. IsAudited t j sink.written sink'.written) host.told (λ t is. record { output = output; auditing = is; written = all }) is,
 )
-
--- ---- fit paths
-
-module _ (j : AuditJob) (fit : has_fit_audit j ≡ true) where
-  pub audit_fit_inputs : has_fit_inputs j.inputs ≡ true
-  audit_fit_inputs = left_true (has_fit_inputs j.inputs) (is_fit j.report) fit
-
-  pub audit_fit_report : is_fit j.report ≡ true
-  audit_fit_report = right_true (has_fit_inputs j.inputs) (is_fit j.report) fit

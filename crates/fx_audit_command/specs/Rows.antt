@@ -1,8 +1,7 @@
 -- What each status of `audit` says: where it comes, and what is then left at the host and at the sink.
-use Rattle.std.specs.Prelude.{◌≡◌, ◌⊎◌, ◌↔◌, ◌&&◌, ℕ, ◌<◌, ◌≤◌, Bool, true, false, List, ◌++◌, length, take, Option, Some, IfSome, IsSomeAnd}
+use Rattle.std.specs.Prelude.{◌≡◌, ◌⊎◌, ◌↔◌, ℕ, ◌<◌, ◌≤◌, Bool, true, false, List, ◌++◌, length, take, Option, Some, IfSome, IsSomeAnd}
 use Rattle.fx_base.specs.Causes.{Rose}
 use Rattle.fx_outside.specs.Host.{HostView, ReadsOnly, FaultAt}
-use Rattle.fx_outside.specs.Path.{is_fit}
 use Rattle.fx_outside.specs.Sink.{SinkView}
 use Rattle.fx_outside.specs.Tree.{Tree, is_file_at, bytes_at}
 use Rattle.fx_folder.specs.Loads.{IsRefused}
@@ -13,7 +12,7 @@ use Rattle.fx_command.specs.declared.status.TextFault.{TextFault}
 use Rattle.fx_command.specs.declared.status.TextFault.TheVariants as fault
 use Rattle.fx_command.specs.Left.{IsSame, Grows}
 use Rattle.fx_inputs.specs.Inputs.{HasBase, HasInputs, HasTexts, CannotRead, IsFirstRefused}
-use Rattle.fx_inputs.specs.Reads.{HasReadFault, has_fit_inputs}
+use Rattle.fx_inputs.specs.Reads.{HasReadFault, LetsInputs}
 use Rattle.fx_audit.specs.Audits.{IsVerdictOn, IsTrueReport}
 use Rattle.fx_audit.specs.declared.verdict.Verdict.{Verdict}
 use Rattle.fx_audit.specs.declared.verdict.Verdict.TheVariants as verdicts
@@ -98,13 +97,14 @@ AuditRow j host host' sink sink' (status.BadJournal place) = ⊥
 abbrev pub AuditEndsAs : AuditJob → HostView → HostView → Status → Type 0
 AuditEndsAs j host host' st = (sink : SinkView) → AuditRow j host host' sink sink st
 
--- the paths of the command are fit
-abbrev pub has_fit_audit : AuditJob → Bool
-has_fit_audit j = has_fit_inputs j.inputs && is_fit j.report
+-- a fence lets through the texts that are read, the folder and the report
+pub record LetsAudit (may : List ℕ → Bool) (j : AuditJob) : Type 0 where
+  pub inputs : LetsInputs may j.inputs
+  pub report : may j.report ≡ true
 
--- where they are, no call is made at an unfit one
-abbrev pub AuditAsksFit : AuditJob → HostView → HostView → Type 0
-AuditAsksFit j host host' = has_fit_audit j ≡ true → host'.unfit ≡ host.unfit
+-- nothing is asked but at the texts and in the folder
+abbrev pub AuditAsks : AuditJob → HostView → HostView → Type 0
+AuditAsks j host host' = LetsAudit host.guard.may_read j → host'.guard ≡ host.guard
 
 -- texts that stand for a description and scripts, a folder that loads, and a text at REPORT within its limit
 pub record IsProperAudit (t : Tree) (j : AuditJob) : Type 0 where

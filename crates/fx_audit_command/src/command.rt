@@ -5,7 +5,7 @@ ghost use Rattle.fx_spec.specs.Bases.{base_tree};
 ghost use Rattle.fx_command.specs.StatusOf.{status_of};
 ghost use Rattle.fx_inputs.specs.Inputs.{HasBase};
 ghost use Rattle.fx_words.specs.JobOf.{asked_audit, AreInputs};
-ghost use Rattle.fx_audit_command.specs.Rows.{AuditRow, AuditEndsAs, AuditAsksFit, IsAuditing};
+ghost use Rattle.fx_audit_command.specs.Rows.{AuditRow, AuditEndsAs, AuditAsks, IsAuditing};
 
 use crate::line::verdict_line;
 use crate::reading::read_report;
@@ -29,7 +29,7 @@ fn line_by<H: Host>(
     ensures said { IfOk result (λ line. IfSome (H.view host.old).told
         (λ t. IsAuditing t (asked_audit job.now) line.items)) }
     ensures same { ReadsOnly (H.view host.old) (H.view host.new) }
-    ensures fit { AuditAsksFit (asked_audit job.now) (H.view host.old) (H.view host.new) }
+    ensures fit { AuditAsks (asked_audit job.now) (H.view host.old) (H.view host.new) }
     ensures ends { IfErr result
         (AuditEndsAs (asked_audit job.now) (H.view host.old) (H.view host.new)) }
 {
@@ -45,7 +45,7 @@ fn line_of<H: Host>(alloc: Global, job: &AuditJob, host: &mut H) -> Result<Vec<u
     ensures said { IfOk result (λ line. IfSome (H.view host.old).told
         (λ t. IsAuditing t (asked_audit job.now) line.items)) }
     ensures same { ReadsOnly (H.view host.old) (H.view host.new) }
-    ensures fit { AuditAsksFit (asked_audit job.now) (H.view host.old) (H.view host.new) }
+    ensures fit { AuditAsks (asked_audit job.now) (H.view host.old) (H.view host.new) }
     ensures ends { IfErr result
         (AuditEndsAs (asked_audit job.now) (H.view host.old) (H.view host.new)) }
 {
@@ -64,7 +64,7 @@ pub fn audit<H: Host, S: Sink>(
     requires { AreInputs job.now.inputs }
     ensures row { AuditRow (asked_audit job.now) (H.view host.old) (H.view host.new)
         (S.view out.old) (S.view out.new) (status_of result) }
-    ensures fit { AuditAsksFit (asked_audit job.now) (H.view host.old) (H.view host.new) }
+    ensures fit { AuditAsks (asked_audit job.now) (H.view host.old) (H.view host.new) }
 {
     let line = line_of(alloc, job, host)?;
     match print_all(out, &line) {

@@ -3,7 +3,7 @@ ghost use Rattle.std.specs.Prelude.{IfOk, IfErr, IfSome};
 ghost use Rattle.fx_outside.specs.Host.{ReadsOnly};
 ghost use Rattle.fx_inputs.specs.Inputs.{HasInputs};
 ghost use Rattle.fx_words.specs.JobOf.{asked_audit};
-ghost use Rattle.fx_audit_command.specs.Rows.{AuditAsksFit, AuditEndsAs, HasReport};
+ghost use Rattle.fx_audit_command.specs.Rows.{AuditAsks, AuditEndsAs, HasReport};
 
 use fx_command::{Status, TextFault, read_text};
 use fx_outside::Host;
@@ -26,7 +26,7 @@ pub(crate) fn read_report<H: Host>(
     ensures read { IfOk result (λ bytes. IfSome (H.view host.old).told
         (λ t. HasReport t (asked_audit job.now) bytes.items)) }
     ensures same { ReadsOnly (H.view host.old) (H.view host.new) }
-    ensures fit { AuditAsksFit (asked_audit job.now) (H.view host.old) (H.view host.new) }
+    ensures fit { AuditAsks (asked_audit job.now) (H.view host.old) (H.view host.new) }
     ensures ends { IfErr result
         (AuditEndsAs (asked_audit job.now) (H.view host.old) (H.view host.new)) }
 {

@@ -4,8 +4,8 @@ use Rattle.std.specs.Prelude.{IsOk, IsErr}
 use Rattle.std.proofs.Math.Seq.{take-add, take-length, take-append_seam}
 use Rattle.std.proofs.lemmas.List.{length-take}
 use Rattle.fx_outside.specs.declared.kind.HostFault.{HostFault}
-use Rattle.fx_outside.specs.Host.{HostView, HasCause, IsFaultless, ReadsAt, ReadsOnly, AsksFit}
-use Rattle.fx_outside.proofs.Views.{reads_none, reads_then, fit_then}
+use Rattle.fx_outside.specs.Host.{HostView, HasCause, IsFaultless, ReadsAt, ReadsOnly, AsksAt}
+use Rattle.fx_outside.proofs.Views.{reads_none, reads_then, at_then}
 use Rattle.fx_outside.specs.Tree.{Tree, is_file_at, bytes_at}
 use Rattle.fx_command.specs.Texts.{IsFrontAt, IsReadAt}
 
@@ -43,7 +43,7 @@ cut (Some tree) path buffer from n bound reads = cut_piece (bytes_at tree path) 
 -- between two reads
 pub record IsReading (old now : HostView) (path text : List ℕ) : Type 0 where
   pub reads : ReadsOnly old now
-  pub fit : AsksFit path old now
+  pub fit : AsksAt path old now
   pub front : IfSome old.told (λ tree. IsFrontAt tree path text)
 
 front_more : (tree : Tree) (path text piece : List ℕ) → IsFrontAt tree path text → ReadsAt (bytes_at tree path) (length text) (length piece) piece → is_file_at tree path ≡ true → IsFrontAt tree path (text ++ piece)
@@ -102,12 +102,12 @@ pub goes_on : (old host host' : HostView) (path text piece text' : List ℕ)
     → IfSome host.told (λ tree. ReadsAt (bytes_at tree path) (length text) (length piece) piece)
     → IfSome host.told (λ tree. is_file_at tree path ≡ true)
     → ReadsOnly host host'
-    → AsksFit path host host'
+    → AsksAt path host host'
     → text' ≡ text ++ piece
     → IsReading old host' path text'
 goes_on old host host' path text piece text' was reads file then fit more = record {
   reads = reads_then old host host' was.reads then;
-  fit = fit_then path old host host' was.fit fit;
+  fit = at_then path old host host' was.fit fit;
   front = subst (λ text. IfSome old.told (λ tree. IsFrontAt tree path text)) (sym more) (front_goes_on old.told host.told path text piece was.reads.same was.front reads file);
 }
 

@@ -1,5 +1,5 @@
 -- What the rows of the tables of statuses are made of: told trees, and reads before a row.
-use Rattle.std.proofs.Common.{◌≡◌, ◌⊎◌, inl, inr, ℕ, Bool, true, false, ◌&&◌, List, ◌++◌, take, Option, Some, None, IfSome, IsSomeAnd, refl, sym, subst}
+use Rattle.std.proofs.Common.{◌≡◌, ◌⊎◌, inl, inr, ℕ, List, ◌++◌, take, Option, Some, None, IfSome, IsSomeAnd, refl, sym, subst}
 use Rattle.fx_outside.specs.Host.{HostView, ReadsOnly}
 use Rattle.fx_outside.specs.Sink.{SinkView}
 use Rattle.fx_outside.specs.Tree.{Tree}
@@ -57,12 +57,3 @@ some_back P a b reads is = subst (λ o. IfSome o P) reads.same is
 
 pub same_back : (a b c : HostView) (sink sink' : SinkView) → ReadsOnly a b → IsSame b c sink sink' → IsSame a c sink sink'
 same_back a b c sink sink' reads is = record { reads = reads_then a b c reads is.reads; unprinted = is.unprinted }
-
--- fit paths
-pub left_true : (a b : Bool) → (a && b) ≡ true → a ≡ true
-left_true true b e = refl
-left_true false b e = cc
-
-pub right_true : (a b : Bool) → (a && b) ≡ true → b ≡ true
-right_true true b e = e
-right_true false b e = cc

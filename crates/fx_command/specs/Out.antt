@@ -2,7 +2,7 @@
 use Rattle.std.specs.Prelude.{◌≡◌, ◌⊎◌, ℕ, Bool, true, false, List, IfSome, ⊤}
 use Rattle.fx_outside.specs.Path.{parts, is_fit, above}
 use Rattle.fx_outside.specs.Tree.{Tree, has_folder}
-use Rattle.fx_outside.specs.Host.{HostView, FaultIn, HasFailed}
+use Rattle.fx_outside.specs.Host.{HostView, Guard, LetsIn, FaultIn, HasFailed}
 use Rattle.fx_folder.specs.Folder.{IsReady, IsTaken}
 use Rattle.fx_command.specs.declared.status.Status.{Status}
 use Rattle.fx_command.specs.declared.status.Status.TheVariants as status
@@ -21,6 +21,15 @@ pub record IsProperOut (t : Tree) (out : List ℕ) : Type 0 where
   pub there : Bool
   pub free : IsReady t out there
   pub above : FitsOut t out there
+
+-- the fences let OUT be asked for, and it and what is below it by names be written
+pub record LetsOut (guard : Guard) (out : List ℕ) : Type 0 where
+  pub ready : guard.may_read out ≡ true
+  pub written : LetsIn guard.may_write out
+
+-- nothing is asked but whether OUT is ready, and to write it
+abbrev pub WritesOut : List ℕ → HostView → HostView → Type 0
+WritesOut out host host' = LetsOut host.guard out → host'.guard ≡ host.guard
 
 -- why a command ends that finds OUT not ready
 abbrev pub IsUnready : List ℕ → HostView → HostView → Status → Type 0

@@ -1,6 +1,6 @@
 //! The stage that sees whether OUT can be written.
 ghost use Rattle.std.specs.Prelude.{IfOk, IfErr, IfSome};
-ghost use Rattle.fx_outside.specs.Host.{ReadsOnly, AsksFit};
+ghost use Rattle.fx_outside.specs.Host.{ReadsOnly, AsksAt};
 ghost use Rattle.fx_folder.specs.Folder.{IsReady};
 ghost use Rattle.fx_command.specs.Out.{IsUnready};
 
@@ -14,7 +14,7 @@ pub fn ready_out<H: Host>(alloc: Global, path: &HostText, host: &mut H) -> Resul
     ensures ready { IfOk result (λ there.
         IfSome (H.view host.old).told (λ t. IsReady t path.now there)) }
     ensures same { ReadsOnly (H.view host.old) (H.view host.new) }
-    ensures fit { AsksFit path.now (H.view host.old) (H.view host.new) }
+    ensures fit { AsksAt path.now (H.view host.old) (H.view host.new) }
     ensures unready { IfErr result (IsUnready path.now (H.view host.old) (H.view host.new)) }
 {
     let there = ready(alloc, host, path)?;

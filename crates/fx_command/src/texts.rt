@@ -1,7 +1,7 @@
 //! Reading a whole text of the host into memory.
 ghost use Rattle.std.specs.Prelude.{◌≡◌, ◌<◌, true, IfOk, IfErr, OnOk, IfSome, length};
 ghost use Rattle.fx_outside.specs.Tree.{is_file_at, bytes_at};
-ghost use Rattle.fx_outside.specs.Host.{ReadsAt, ReadsOnly, AsksFit, FaultAt, HasFailed};
+ghost use Rattle.fx_outside.specs.Host.{ReadsAt, ReadsOnly, AsksAt, FaultAt, HasFailed};
 ghost use Rattle.fx_outside.specs.declared.kind.HostFault.TheVariants.{Failed};
 ghost use Rattle.fx_command.specs.Texts.{IsReadAt};
 
@@ -32,7 +32,7 @@ fn read_piece<H: Host>(
     ensures file { OnOk result (IfSome (H.view host.old).told
         (λ tree. is_file_at tree path.now ≡ true)) }
     ensures same { ReadsOnly (H.view host.old) (H.view host.new) }
-    ensures fit { AsksFit path.now (H.view host.old) (H.view host.new) }
+    ensures fit { AsksAt path.now (H.view host.old) (H.view host.new) }
     ensures failed { IfErr result (λ fault. fault ≡ Failed
         → HasFailed (FaultAt path.now) (λ tree. is_file_at tree path.now)
         (H.view host.old) (H.view host.new)) }
@@ -54,7 +54,7 @@ pub fn read_text<H: Host>(
     ensures read { IfOk result (λ text. IfSome (H.view host.old).told
         (λ tree. IsReadAt tree path.now limit text.items)) }
     ensures same { ReadsOnly (H.view host.old) (H.view host.new) }
-    ensures fit { AsksFit path.now (H.view host.old) (H.view host.new) }
+    ensures fit { AsksAt path.now (H.view host.old) (H.view host.new) }
     ensures failed { IfErr result (λ fault. fault ≡ Failed
         → HasFailed (FaultAt path.now) (λ tree. is_file_at tree path.now)
         (H.view host.old) (H.view host.new)) }

@@ -17,14 +17,14 @@ use std::rt::Files;
 pub const MOST_ENTRIES: usize = 1_000_000;
 
 /// The machine's files. It tells nothing of what it holds, and counts each error of the system: a name that is not UTF-8
-/// and a folder of more than [`MOST_ENTRIES`] entries too. It keeps the path of the last one, and counts the calls at unfit
-/// paths besides. A file that is read on stays open, so that a pipe is read too.
+/// and a folder of more than [`MOST_ENTRIES`] entries too. It keeps the path of the last one. Its fences let fit paths
+/// through, and it counts the calls at others. A file that is read on stays open, so that a pipe is read too.
 #[derive(Drop)]
 pub struct Disk<R: Files + AllocGlobal + Clone + Drop> {
     rt: R,
     faults: u64,
     last_fault: Option<HostText>,
-    unfit: u64,
+    strays: u64,
     reading: Option<Reading<R::File>>,
 }
 
@@ -114,17 +114,17 @@ fn write_file<R: Files>(rt: &R, path: &str, bytes: &[u8]) -> io::Result<()> {
 }
 
 impl<R: Files + AllocGlobal + Clone + Drop> Disk<R> {
-    /// The files that `rt` reaches, with no error and no unfit path counted yet.
+    /// The files that `rt` reaches, with no error and no stray call counted yet.
     pub fn new(rt: R) -> Disk<R>
         ensures faults { result.faults ≡ 0 }
         ensures last { result.last_fault ≡ None }
-        ensures unfit { result.unfit ≡ 0 }
+        ensures strays { result.strays ≡ 0 }
     {
         Disk {
             rt,
             faults: 0,
             last_fault: None,
-            unfit: 0,
+            strays: 0,
             reading: None,
         }
     }
@@ -137,22 +137,22 @@ impl<R: Files + AllocGlobal + Clone + Drop> Disk<R> {
     }
 
     /// Counts a call at an unfit path.
-    fn count_unfit(&mut self, path: &HostText)
-        ensures fit { is_fit path.now ≡ true → self.new.unfit ≡ self.old.unfit }
-        ensures unfit { is_fit path.now ≡ false → Rose self.old.unfit self.new.unfit }
+    fn count_stray(&mut self, path: &HostText)
+        ensures inside { is_fit path.now ≡ true → self.new.strays ≡ self.old.strays }
+        ensures outside { is_fit path.now ≡ false → Rose self.old.strays self.new.strays }
         ensures faults { self.new.faults ≡ self.old.faults }
         ensures last { self.new.last_fault ≡ self.old.last_fault }
     {
         if !path.is_fit() {
-            self.unfit = self.unfit.saturating_add(1);
+            self.strays = self.strays.saturating_add(1);
         }
     }
 
     /// A fault at this path, counted unless memory runs out.
     fn failed(&mut self, alloc: Global, path: &HostText) -> HostFault
-        ensures counts { Counts path.now (silent self.old.faults self.old.last_fault self.old.unfit)
-            (silent self.new.faults self.new.last_fault self.new.unfit) result }
-        ensures unfit { self.new.unfit ≡ self.old.unfit }
+        ensures counts { Counts path.now (silent self.old.faults self.old.last_fault self.old.strays)
+            (silent self.new.faults self.new.last_fault self.new.strays) result }
+        ensures strays { self.new.strays ≡ self.old.strays }
     {
         let place = match path.copy(alloc) {
             Ok(place) => place,
@@ -165,9 +165,9 @@ impl<R: Files + AllocGlobal + Clone + Drop> Disk<R> {
 
     /// An error of the system at this path, counted unless it is want of memory.
     fn fault(&mut self, alloc: Global, path: &HostText, error: io::Error) -> HostFault
-        ensures counts { Counts path.now (silent self.old.faults self.old.last_fault self.old.unfit)
-            (silent self.new.faults self.new.last_fault self.new.unfit) result }
-        ensures unfit { self.new.unfit ≡ self.old.unfit }
+        ensures counts { Counts path.now (silent self.old.faults self.old.last_fault self.old.strays)
+            (silent self.new.faults self.new.last_fault self.new.strays) result }
+        ensures strays { self.new.strays ≡ self.old.strays }
     {
         if error.kind() == ErrorKind::OutOfMemory {
             HostFault::NoMemory
@@ -181,13 +181,13 @@ impl<R: Files + AllocGlobal + Clone + Drop> Host for Disk<R> {
     ghost use Rattle.std.specs.Prelude.{◌≤◌, IfOk};
     ghost use Rattle.std.specs.FinMap.{len};
     ghost use Rattle.fx_outside.specs.Tree.{is_folder_at};
-    ghost use Rattle.fx_outside.specs.Host.{ReadsOnly, HasCause, CountsUnfit};
+    ghost use Rattle.fx_outside.specs.Host.{ReadsOnly, HasCause, CountsStray};
     ghost use Rattle.fx_disk.specs.Silent.{silent};
 
-    ghost view = { λ disk. silent disk.faults disk.last_fault disk.unfit };
+    ghost view = { λ disk. silent disk.faults disk.last_fault disk.strays };
 
     fn standing(&mut self, alloc: Global, path: &HostText) -> Result<Standing, HostFault> {
-        self.count_unfit(path);
+        self.count_stray(path);
         match fs::symlink_metadata(&self.rt, path.as_str()) {
             Ok(metadata) => Ok(Standing::Is(kind_of(metadata.file_type()))),
             Err(error) => match error.kind() {
@@ -199,16 +199,16 @@ impl<R: Files + AllocGlobal + Clone + Drop> Host for Disk<R> {
 
     fn list(&mut self, alloc: Global, path: &HostText) -> Result<Listing, HostFault>
         ensures few { IfOk result (λ names. len names ≤ MOST_ENTRIES) }
-        ensures same { ReadsOnly (silent self.old.faults self.old.last_fault self.old.unfit)
-            (silent self.new.faults self.new.last_fault self.new.unfit) }
+        ensures same { ReadsOnly (silent self.old.faults self.old.last_fault self.old.strays)
+            (silent self.new.faults self.new.last_fault self.new.strays) }
         ensures cause { HasCause path.now (λ t. is_folder_at t path.now)
-            (silent self.old.faults self.old.last_fault self.old.unfit)
-            (silent self.new.faults self.new.last_fault self.new.unfit) result }
-        ensures unfit { CountsUnfit path.now
-            (silent self.old.faults self.old.last_fault self.old.unfit)
-            (silent self.new.faults self.new.last_fault self.new.unfit) }
+            (silent self.old.faults self.old.last_fault self.old.strays)
+            (silent self.new.faults self.new.last_fault self.new.strays) result }
+        ensures strays { CountsStray is_fit path.now
+            (silent self.old.faults self.old.last_fault self.old.strays)
+            (silent self.new.faults self.new.last_fault self.new.strays) }
     {
-        self.count_unfit(path);
+        self.count_stray(path);
         let found = match entries(&self.rt, alloc, path.as_str()) {
             Ok(found) => found,
             Err(error) => return Err(self.fault(alloc, path, error)),
@@ -227,7 +227,7 @@ impl<R: Files + AllocGlobal + Clone + Drop> Host for Disk<R> {
         from: u64,
         buf: &mut [u8],
     ) -> Result<usize, HostFault> {
-        self.count_unfit(path);
+        self.count_stray(path);
         match read_on(&self.rt, alloc, &mut self.reading, path, from, buf) {
             Ok(count) => Ok(count),
             Err(error) => Err(self.fault(alloc, path, error)),
@@ -235,7 +235,7 @@ impl<R: Files + AllocGlobal + Clone + Drop> Host for Disk<R> {
     }
 
     fn make_dir(&mut self, alloc: Global, path: &HostText) -> Result<(), HostFault> {
-        self.count_unfit(path);
+        self.count_stray(path);
         match fs::create_dir(&self.rt, path.as_str()) {
             Ok(()) => Ok(()),
             Err(error) => Err(self.fault(alloc, path, error)),
@@ -243,7 +243,7 @@ impl<R: Files + AllocGlobal + Clone + Drop> Host for Disk<R> {
     }
 
     fn write_new(&mut self, alloc: Global, path: &HostText, bytes: &[u8]) -> Result<(), HostFault> {
-        self.count_unfit(path);
+        self.count_stray(path);
         match write_file(&self.rt, path.as_str(), bytes) {
             Ok(()) => Ok(()),
             Err(error) => Err(self.fault(alloc, path, error)),

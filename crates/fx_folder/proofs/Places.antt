@@ -10,6 +10,7 @@ use Rattle.std.proofs.lemmas.List.Elements.{All-head, All-tail}
 use Rattle.fx_outside.specs.declared.kind.HostKind.{HostKind}
 use Rattle.fx_outside.specs.declared.kind.HostKind.TheVariants as kinds
 use Rattle.fx_outside.specs.Listing.{Names}
+use Rattle.fx_outside.specs.Host.{LetsIn}
 use Rattle.fx_outside.specs.Path.{Parts, parts, is_fit, parts_cmp, is_fit_part, has_no_slash, above}
 use Rattle.fx_outside.specs.Tree.{Tree, Entry, IsWhole, Lists, entry_at, is_folder_at, is_file_at, bytes_at, is_folder_kind, is_file_kind, has_folder}
 use Rattle.fx_outside.proofs.Trees.{parts_total, parts_same}
@@ -26,7 +27,7 @@ use Rattle.fx_folder.specs.Reads.{path_below, place, refused_size}
 use Rattle.fx_folder.specs.Deep.{all_below, walked, last_name, refused_kind, refused_bytes, refused_entry, node_of_kind}
 use Rattle.fx_table.specs.Places.{place_of}
 use Rattle.fx_folder.specs.Walks.{item_path, items_of, bytes_in, held_of, behind, ahead, IsThere, IsEntered, AnswersEntry, AnswersFile, refused_path, IsNoRefusal, size_of}
-use Rattle.fx_folder.proofs.Texts.{parts_below, fit_below}
+use Rattle.fx_folder.proofs.Texts.{parts_below, fit_below, lets_place}
 use Rattle.fx_folder.proofs.Below.{folder_fit}
 use Rattle.fx_folder.proofs.Filled.{stands_in}
 use Rattle.fx_folder.proofs.Branches.{all_sorted, find_below, items_ahead, items_there, find_none}
@@ -60,6 +61,9 @@ parts_of_text folder text p path is = ap (λ l. parts (folder ++ l)) is ∙ plac
 
 pub fit_of_text : (folder text : List ℕ) (p : Parts) → IsPath p → 47 ∷ text ≡ place_of p → is_fit folder ≡ true → is_fit (path_below folder text) ≡ true
 fit_of_text folder text p path is fit = ap (λ l. is_fit (folder ++ l)) is ∙ place_fit folder p (are_names p path.names) fit
+
+pub lets_text : (may : List ℕ → Bool) (folder text : List ℕ) (p : Parts) → IsPath p → 47 ∷ text ≡ place_of p → LetsIn may folder → may (path_below folder text) ≡ true
+lets_text may folder text p path is lets = ap (λ l. may (folder ++ l)) is ∙ lets_place may folder p lets path.names
 
 entry_of_text : (t : Tree) (folder text : List ℕ) (p : Parts) → is_folder_at t folder ≡ true → IsPath p → 47 ∷ text ≡ place_of p → entry_at t (path_below folder text) ≡ get t (parts folder ++ p)
 entry_of_text t folder text p here path is =

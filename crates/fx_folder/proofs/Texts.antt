@@ -9,6 +9,7 @@ use Rattle.std.proofs.lemmas.List.Folds.{list_all-append}
 use Rattle.std.proofs.lemmas.List.Splits.{length-slice_split}
 use Rattle.std.proofs.lemmas.Str.{IsUtf8-from_is_utf8}
 use Rattle.fx_store.specs.Names.{IsName, is_name, is_slash, is_nul, is_reserved}
+use Rattle.fx_outside.specs.Host.{LetsIn}
 use Rattle.fx_outside.specs.Path.{Parts, parts, is_fit, is_fit_part}
 use Rattle.std.proofs.lemmas.List.Elements.{All-head, All-tail}
 use Rattle.fx_folder.specs.Reads.{path_below}
@@ -123,7 +124,26 @@ fit_place folder [] fit all = ap is_fit (append-nil folder) ∙ fit
 fit_place folder (n ∷ p) fit all =
     ap is_fit (sym (append_assoc folder (47 ∷ n) (place_of p))) ∙ fit_place (path_below folder n) p (fit_below folder n fit (named n p all)) (All-tail IsName n p all)
 
+-- where a fence lets a folder through, it lets through what is below it by the names of a path
+
+pub fit_alone : (name : List ℕ) → IsName name → is_fit name ≡ true
+fit_alone name is = ap (list_all is_fit_part) (one_part name (name_parts name is).no_slash) ∙ both (is_fit_part name) true (fit_name name is) refl
+
+pub lets_place : (may : List ℕ → Bool) (folder : List ℕ) (p : Parts) → LetsIn may folder → All IsName p → may (folder ++ place_of p) ≡ true
+lets_place may folder [] lets all = ap may (append-nil folder) ∙ lets.itself
+lets_place may folder (n ∷ p) lets all = lets.below (n ++ place_of p) (fit_place n p (fit_alone n (named n p all)) (All-tail IsName n p all))
+
+-- a folder below it is let through too
+pub lets_inner : (may : List ℕ → Bool) (folder name : List ℕ) → LetsIn may folder → is_fit name ≡ true → LetsIn may (path_below folder name)
+lets_inner may folder name lets fit = record {
+  itself = lets.below name fit;
+  below = λ names fits. ap may (append_assoc folder (47 ∷ name) (47 ∷ names)) ∙ lets.below (name ++ 47 ∷ names) (ap (list_all is_fit_part) (parts_joined name names) ∙ list_all-append is_fit_part (parts name) (parts names) ∙ both (is_fit name) _ fit fits);
+}
+
 -- the table below a folder
+
+pub lets_table : (may : List ℕ → Bool) (folder : List ℕ) → LetsIn may folder → may (path_below folder table_name) ≡ true
+lets_table may folder lets = lets.below table_name refl
 
 pub parts_table : (folder : List ℕ) → parts (path_below folder table_name) ≡ parts folder ++ table_name ∷ []
 parts_table folder = parts_joined folder table_name ∙ ap (λ p. parts folder ++ p) (one_part table_name refl)

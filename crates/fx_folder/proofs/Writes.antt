@@ -7,8 +7,8 @@ use Rattle.fx_store.specs.declared.node.Node.TheVariants.{Dir}
 use Rattle.fx_store.specs.Names.{path_cmp}
 use Rattle.fx_store.specs.Whole.{Nodes, IsWhole}
 use Rattle.fx_outside.specs.Path.{Parts, parts}
-use Rattle.fx_outside.specs.Host.{HostView, AsksFit}
-use Rattle.fx_outside.proofs.Views.{fit_then}
+use Rattle.fx_outside.specs.Host.{HostView, WritesIn}
+use Rattle.fx_outside.proofs.Views.{writes_then}
 use Rattle.fx_outside.specs.Tree as tree
 use Rattle.fx_outside.specs.Tree.{Tree, Entry, file, is_free_at}
 use Rattle.fx_folder.specs.Places.{host_entry}
@@ -76,7 +76,7 @@ unless_empty bytes (b ∷ text) is some = ap (λ x. Some (file x)) is
 
 pub record IsWriting (old now : HostView) (path : List ℕ) (nodes : Nodes) (left : List (List (List ℕ) × Node)) : Type 0 where
   pub later : old.faults ≤ now.faults
-  pub fit : AsksFit path old now
+  pub fit : WritesIn path old now
   pub done : List (List (List ℕ) × Node)
   pub split : entries nodes ≡ done ++ left
   pub some : IsSome (find path_cmp [] done)
@@ -99,14 +99,14 @@ some_or (Some x) b e = refl
 next_split : (nodes : Nodes) (done left left' : List Mapped) (p : Parts) (node : Node) → entries nodes ≡ done ++ left → left ≡ (p, node) ∷ left' → entries nodes ≡ done ++ (p, node) ∷ left'
 next_split nodes done left left' p node split is = split ∙ ap (λ l. done ++ l) is
 
-pub goes_on : (old host host' : HostView) (path : List ℕ) (nodes : Nodes) (left left' : List Mapped) (p : Parts) → IsWriting old host path nodes left → ComesNext nodes left left' (Some p) → host.faults ≤ host'.faults → AsksFit path host host' → IfTold host.told host'.told (λ t t'. t' ≡ with_entry t (parts path ++ p) (host_entry (get nodes p))) → IsWriting old host' path nodes left'
+pub goes_on : (old host host' : HostView) (path : List ℕ) (nodes : Nodes) (left left' : List Mapped) (p : Parts) → IsWriting old host path nodes left → ComesNext nodes left left' (Some p) → host.faults ≤ host'.faults → WritesIn path host host' → IfTold host.told host'.told (λ t t'. t' ≡ with_entry t (parts path ++ p) (host_entry (get nodes p))) → IsWriting old host' path nodes left'
 goes_on old host host' path nodes left left' p was next later fit wrote =
     let node = next.0 in
     let one : List Mapped = (p, node) ∷ [] in
     let split = next_split nodes was.done left left' p node was.split next.2 in
     record {
       later = omega (arith, later, was.later);
-      fit = fit_then path old host host' was.fit fit;
+      fit = writes_then path old host host' was.fit fit;
       done = was.done ++ one;
       split = split ∙ sym (append_assoc was.done one left');
       some = subst IsSome (sym (find_append [] was.done one)) (some_or (find path_cmp [] was.done) (find path_cmp [] one) was.some);

@@ -1,7 +1,7 @@
 //! The table of a folder, and what was found with its lines.
 ghost use Rattle.std.specs.Prelude.{◌≡◌, ◌≤◌, ◌<◌, ◌∷◌, [], length, true, Ok, Err, IfOk, IfErr, IfSome, option_map};
 ghost use Rattle.std.specs.FinMap.{get};
-ghost use Rattle.fx_outside.specs.Host.{ReadsOnly, AsksFit, FaultIn};
+ghost use Rattle.fx_outside.specs.Host.{ReadsOnly, AsksAt, AsksIn, FaultIn};
 ghost use Rattle.fx_outside.specs.Path.{parts};
 ghost use Rattle.fx_outside.specs.Tree.{is_folder_at, is_file_at, bytes_at};
 ghost use Rattle.fx_table.specs.declared.fault.LoadFault.TheVariants.{ReadFault};
@@ -57,7 +57,7 @@ pub(crate) fn with_table<H: Host>(
     ensures fault { result ≡ Err ReadFault
         → FaultIn folder.now (H.view host.old) (H.view host.new) }
     ensures same { ReadsOnly (H.view host.old) (H.view host.new) }
-    ensures fit { AsksFit folder.now (H.view host.old) (H.view host.new) }
+    ensures fit { AsksIn folder.now (H.view host.old) (H.view host.new) }
 {
     let text = read_text(alloc, host, folder, kind, buf)?;
     joined(alloc, walked, &text)
@@ -99,7 +99,7 @@ fn read_text<H: Host>(
     ensures fault { result ≡ Err ReadFault
         → FaultIn folder.now (H.view host.old) (H.view host.new) }
     ensures same { ReadsOnly (H.view host.old) (H.view host.new) }
-    ensures fit { AsksFit folder.now (H.view host.old) (H.view host.new) }
+    ensures fit { AsksIn folder.now (H.view host.old) (H.view host.new) }
 {
     match kind {
         HostKind::File => read_table_file(alloc, host, folder, buf),
@@ -123,7 +123,7 @@ fn read_table_file<H: Host>(
     ensures fault { result ≡ Err ReadFault
         → FaultIn folder.now (H.view host.old) (H.view host.new) }
     ensures same { ReadsOnly (H.view host.old) (H.view host.new) }
-    ensures fit { AsksFit (path_below folder.now table_name) (H.view host.old) (H.view host.new) }
+    ensures fit { AsksAt (path_below folder.now table_name) (H.view host.old) (H.view host.new) }
 {
     let path = table_below(alloc, folder)?;
     match read_whole(alloc, host, &path, MAX_TABLE, buf)? {

@@ -2,7 +2,7 @@
 ghost use Rattle.std.specs.Prelude.{◌≡◌, ◌⊎◌, ◌+◌, ◌-◌, ◌<◌, ◌≤◌, length, true, false, min, Ok, Err, IfOk, IfErr, IfSome, option_map};
 ghost use Rattle.fx_outside.specs.Path.{parts};
 ghost use Rattle.fx_outside.specs.Tree.{Lists, is_folder_at, is_file_at, bytes_at};
-ghost use Rattle.fx_outside.specs.Host.{ReadsOnly, AsksFit, HasFailed, FaultAt, FaultIn};
+ghost use Rattle.fx_outside.specs.Host.{ReadsOnly, AsksAt, AsksIn, HasFailed, FaultAt, FaultIn};
 ghost use Rattle.fx_outside.specs.declared.kind.HostFault.TheVariants.{Failed};
 ghost use Rattle.fx_table.specs.declared.fault.LoadFault.TheVariants.{ReadFault, NoMemory};
 ghost use Rattle.fx_folder.specs.Tables.{ReadsWhole, AnswersFound, items_in};
@@ -39,7 +39,7 @@ pub fn load<H: Host>(alloc: Global, host: &mut H, folder: &HostText) -> Result<F
         IfSome (H.view host.old).told (λ tree. Loads tree folder.now s.nodes)) }
     ensures fault { IfErr result (LoadCause folder.now (H.view host.old) (H.view host.new)) }
     ensures same { ReadsOnly (H.view host.old) (H.view host.new) }
-    ensures fit { AsksFit folder.now (H.view host.old) (H.view host.new) }
+    ensures fit { AsksIn folder.now (H.view host.old) (H.view host.new) }
 {
     load_folder(alloc, host, folder)
 }
@@ -57,7 +57,7 @@ fn load_folder<H: Host>(
     ensures missing { IfSome (H.view host.old).told (λ tree.
         is_folder_at tree folder.now ≡ false → (result ≡ Err ReadFault) ⊎ (result ≡ Err NoMemory)) }
     ensures same { ReadsOnly (H.view host.old) (H.view host.new) }
-    ensures fit { AsksFit folder.now (H.view host.old) (H.view host.new) }
+    ensures fit { AsksIn folder.now (H.view host.old) (H.view host.new) }
 {
     let names = host.list(alloc, folder)?;
     let mut buf = buffer(alloc, CHUNK)?;
@@ -82,7 +82,7 @@ fn find_all<H: Host>(
     ensures fault { result ≡ Err ReadFault
         → FaultIn folder.now (H.view host.old) (H.view host.new) }
     ensures same { ReadsOnly (H.view host.old) (H.view host.new) }
-    ensures fit { AsksFit folder.now (H.view host.old) (H.view host.new) }
+    ensures fit { AsksIn folder.now (H.view host.old) (H.view host.new) }
 {
     let table = table_kind(alloc, names)?;
     let walked = walk(alloc, host, folder, names, buf)?;
@@ -123,7 +123,7 @@ pub(crate) fn read_file<H: Host>(
     ensures fault { result ≡ Err ReadFault
         → FaultIn folder.now (H.view host.old) (H.view host.new) }
     ensures same { ReadsOnly (H.view host.old) (H.view host.new) }
-    ensures fit { AsksFit (path_below folder.now name.now) (H.view host.old) (H.view host.new) }
+    ensures fit { AsksAt (path_below folder.now name.now) (H.view host.old) (H.view host.new) }
 {
     let path = path_below(alloc, folder, name)?;
     let limit = left.min(MAX_FILE) as usize;
@@ -148,7 +148,7 @@ pub(crate) fn read_whole<H: Host>(
     ensures short { IfOk result (λ bytes. IfSome bytes (λ v. length v.items ≤ limit)) }
     ensures fault { result ≡ Err Failed → FaultAt path.now (H.view host.old) (H.view host.new) }
     ensures same { ReadsOnly (H.view host.old) (H.view host.new) }
-    ensures fit { AsksFit path.now (H.view host.old) (H.view host.new) }
+    ensures fit { AsksAt path.now (H.view host.old) (H.view host.new) }
 {
     let mut bytes = Vec::new(alloc);
     loop {

@@ -1,7 +1,7 @@
 //! Whether a folder can be written at a path.
 ghost use Rattle.std.specs.Prelude.{◌≡◌, true, IfOk, IfErr, IfSome};
 ghost use Rattle.fx_outside.specs.Tree.{is_folder_at};
-ghost use Rattle.fx_outside.specs.Host.{ReadsOnly, AsksFit, FaultIn};
+ghost use Rattle.fx_outside.specs.Host.{ReadsOnly, AsksAt, FaultIn};
 ghost use Rattle.fx_folder.specs.Folder.{IsReady, IsTaken, ReadyCause};
 
 use crate::fault::SaveFault;
@@ -12,7 +12,7 @@ use std::alloc::Global;
 /// above.
 pub fn ready<H: Host>(alloc: Global, host: &mut H, folder: &HostText) -> Result<bool, SaveFault>
     ensures same { ReadsOnly (H.view host.old) (H.view host.new) }
-    ensures fit { AsksFit folder.now (H.view host.old) (H.view host.new) }
+    ensures fit { AsksAt folder.now (H.view host.old) (H.view host.new) }
     ensures ready { IfOk result (λ there.
         IfSome (H.view host.old).told (λ tree. IsReady tree folder.now there)) }
     ensures fault { IfErr result (ReadyCause folder.now (H.view host.old) (H.view host.new)) }
@@ -31,7 +31,7 @@ pub fn ready<H: Host>(alloc: Global, host: &mut H, folder: &HostText) -> Result<
 fn find_empty<H: Host>(alloc: Global, host: &mut H, folder: &HostText) -> Result<bool, SaveFault>
     requires { IfSome (H.view host.old).told (λ tree. is_folder_at tree folder.now ≡ true) }
     ensures same { ReadsOnly (H.view host.old) (H.view host.new) }
-    ensures fit { AsksFit folder.now (H.view host.old) (H.view host.new) }
+    ensures fit { AsksAt folder.now (H.view host.old) (H.view host.new) }
     ensures ready { IfOk result (λ there.
         IfSome (H.view host.old).told (λ tree. IsReady tree folder.now there)) }
     ensures taken { result ≡ Err SaveFault.NotEmpty

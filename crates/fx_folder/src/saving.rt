@@ -4,7 +4,7 @@ ghost use Rattle.std.specs.FinMap.{get, entries};
 ghost use Rattle.fx_store.specs.Whole.{IsWhole};
 ghost use Rattle.fx_store.specs.Names.{IsPath, IsName};
 ghost use Rattle.fx_outside.specs.Path.{parts};
-ghost use Rattle.fx_outside.specs.Host.{AsksFit, HasFailed, CountsUnfit, FaultAt, FaultIn};
+ghost use Rattle.fx_outside.specs.Host.{WritesAt, WritesIn, HasFailed, FaultAt, FaultIn};
 ghost use Rattle.fx_outside.specs.Tree.{is_free_at, file, folder};
 ghost use Rattle.fx_folder.specs.declared.fault.SaveFault.TheVariants.{WriteFault, NotEmpty};
 ghost use Rattle.fx_table.specs.Places.{place_of, table_name};
@@ -40,7 +40,7 @@ pub fn save<H: Host>(
         (SavesPart folder.now store.now.nodes (H.view host.old) (H.view host.new)) }
     ensures fault { IfErr result (SaveCause folder.now there (H.view host.old) (H.view host.new)) }
     ensures later { (H.view host.old).faults ≤ (H.view host.new).faults }
-    ensures fit { AsksFit folder.now (H.view host.old) (H.view host.new) }
+    ensures fit { WritesIn folder.now (H.view host.old) (H.view host.new) }
 {
     let descent = Descent::new(alloc, store)?;
     make_folder(alloc, host, folder, there)?;
@@ -62,7 +62,7 @@ pub fn make_folder<H: Host>(
         (λ tree tree'. MadePart tree tree' (parts folder.now) there)) }
     ensures fault { IfErr result (SaveCause folder.now there (H.view host.old) (H.view host.new)) }
     ensures later { (H.view host.old).faults ≤ (H.view host.new).faults }
-    ensures fit { AsksFit folder.now (H.view host.old) (H.view host.new) }
+    ensures fit { WritesAt folder.now (H.view host.old) (H.view host.new) }
 {
     if there {
         return Ok(());
@@ -96,7 +96,7 @@ fn write_entries<H: Host>(
         → FaultIn folder.now (H.view host.old) (H.view host.new) }
     ensures free { result ≡ Err NotEmpty → ⊥ }
     ensures later { (H.view host.old).faults ≤ (H.view host.new).faults }
-    ensures fit { AsksFit folder.now (H.view host.old) (H.view host.new) }
+    ensures fit { WritesIn folder.now (H.view host.old) (H.view host.new) }
 {
     let mut table = TableText::new(alloc);
     'writing: while let Some(entry) = descent.next(alloc, store)? {
@@ -125,7 +125,7 @@ fn write_entry<H: Host>(
         → FaultIn folder.now (H.view host.old) (H.view host.new) }
     ensures free { result ≡ Err NotEmpty → ⊥ }
     ensures later { (H.view host.old).faults ≤ (H.view host.new).faults }
-    ensures fit { AsksFit folder.now (H.view host.old) (H.view host.new) }
+    ensures fit { WritesIn folder.now (H.view host.old) (H.view host.new) }
 {
     let place = place_below(alloc, folder, &entry.path)?;
     write_node(alloc, host, &place, entry.node)
@@ -147,7 +147,7 @@ fn write_node<H: Host>(
         → FaultAt place.now (H.view host.old) (H.view host.new) }
     ensures free { result ≡ Err NotEmpty → ⊥ }
     ensures later { (H.view host.old).faults ≤ (H.view host.new).faults }
-    ensures fit { AsksFit place.now (H.view host.old) (H.view host.new) }
+    ensures fit { WritesAt place.now (H.view host.old) (H.view host.new) }
 {
     match node {
         Node::Dir(_) => write_folder(alloc, host, place),
@@ -166,7 +166,7 @@ fn write_folder<H: Host>(alloc: Global, host: &mut H, place: &HostText) -> Resul
         → FaultAt place.now (H.view host.old) (H.view host.new) }
     ensures free { result ≡ Err NotEmpty → ⊥ }
     ensures later { (H.view host.old).faults ≤ (H.view host.new).faults }
-    ensures fit { AsksFit place.now (H.view host.old) (H.view host.new) }
+    ensures fit { WritesAt place.now (H.view host.old) (H.view host.new) }
 {
     match host.make_dir(alloc, place) {
         Ok(()) => Ok(()),
@@ -191,7 +191,7 @@ pub fn write_file<H: Host>(
         → FaultAt place.now (H.view host.old) (H.view host.new) }
     ensures free { result ≡ Err NotEmpty → ⊥ }
     ensures later { (H.view host.old).faults ≤ (H.view host.new).faults }
-    ensures fit { AsksFit place.now (H.view host.old) (H.view host.new) }
+    ensures fit { WritesAt place.now (H.view host.old) (H.view host.new) }
 {
     match host.write_new(alloc, place, bytes) {
         Ok(()) => Ok(()),
@@ -219,7 +219,7 @@ fn add_table<H: Host>(
         → FaultIn folder.now (H.view host.old) (H.view host.new) }
     ensures free { result ≡ Err NotEmpty → ⊥ }
     ensures later { (H.view host.old).faults ≤ (H.view host.new).faults }
-    ensures fit { AsksFit folder.now (H.view host.old) (H.view host.new) }
+    ensures fit { WritesIn folder.now (H.view host.old) (H.view host.new) }
 {
     if text.len() == 0 {
         return Ok(());

@@ -3,7 +3,7 @@ ghost use Rattle.std.specs.Prelude.{◌≡◌, ◌<◌, ◌≤◌, ◌+◌, ◌+
 ghost use Rattle.std.specs.FinMap.{entries};
 ghost use Rattle.fx_outside.specs.Path.{parts};
 ghost use Rattle.fx_outside.specs.Tree.{Lists, is_folder_at, is_file_at, bytes_at};
-ghost use Rattle.fx_outside.specs.Host.{ReadsOnly, AsksFit, FaultIn};
+ghost use Rattle.fx_outside.specs.Host.{ReadsOnly, AsksAt, AsksIn, FaultIn};
 ghost use Rattle.fx_store.specs.Names.{IsPath};
 ghost use Rattle.fx_table.specs.declared.fault.LoadFault.TheVariants.{ReadFault};
 ghost use Rattle.fx_table.specs.Places.{place_of};
@@ -51,7 +51,7 @@ pub(crate) fn walk<H: Host>(
     ensures fault { result ≡ Err ReadFault
         → FaultIn folder.now (H.view host.old) (H.view host.new) }
     ensures same { ReadsOnly (H.view host.old) (H.view host.new) }
-    ensures fit { AsksFit folder.now (H.view host.old) (H.view host.new) }
+    ensures fit { AsksIn folder.now (H.view host.old) (H.view host.new) }
 {
     let root = Path::root(alloc);
     let mut todo = Vec::new(alloc);
@@ -85,7 +85,7 @@ fn walk_items<H: Host>(
     ensures fault { result ≡ Err ReadFault
         → FaultIn folder.now (H.view host.old) (H.view host.new) }
     ensures same { ReadsOnly (H.view host.old) (H.view host.new) }
-    ensures fit { AsksFit folder.now (H.view host.old) (H.view host.new) }
+    ensures fit { AsksIn folder.now (H.view host.old) (H.view host.new) }
 {
     let mut left = MAX_BYTES;
     'walking: while let Some(item) = todo.pop() {
@@ -120,7 +120,7 @@ fn walk_item<H: Host>(
     ensures fault { result ≡ Err ReadFault
         → FaultIn folder.now (H.view host.old) (H.view host.new) }
     ensures same { ReadsOnly (H.view host.old) (H.view host.new) }
-    ensures fit { AsksFit folder.now (H.view host.old) (H.view host.new) }
+    ensures fit { AsksIn folder.now (H.view host.old) (H.view host.new) }
 {
     let nodes = found.len() as u64;
     let change = enter(alloc, host, folder, item, todo, nodes, left, buf)?;
@@ -154,7 +154,7 @@ fn enter<H: Host>(
     ensures fault { result ≡ Err ReadFault
         → FaultIn folder.now (H.view host.old) (H.view host.new) }
     ensures same { ReadsOnly (H.view host.old) (H.view host.new) }
-    ensures fit { AsksFit folder.now (H.view host.old) (H.view host.new) }
+    ensures fit { AsksIn folder.now (H.view host.old) (H.view host.new) }
 {
     let text = text_of(alloc, item)?;
     let path = entry_path(alloc, item, &text, nodes)?;
@@ -188,7 +188,7 @@ fn enter_file<H: Host>(
     ensures fault { result ≡ Err ReadFault
         → FaultIn folder.now (H.view host.old) (H.view host.new) }
     ensures same { ReadsOnly (H.view host.old) (H.view host.new) }
-    ensures fit { AsksFit (path_below folder.now text.now) (H.view host.old) (H.view host.new) }
+    ensures fit { AsksAt (path_below folder.now text.now) (H.view host.old) (H.view host.new) }
 {
     let bytes = read_file(alloc, host, folder, text, left, buf)?;
     prove!(bytes.as_slice().len() <= 1_048_576);
@@ -218,7 +218,7 @@ fn enter_folder<H: Host>(
     ensures fault { result ≡ Err ReadFault
         → FaultIn folder.now (H.view host.old) (H.view host.new) }
     ensures same { ReadsOnly (H.view host.old) (H.view host.new) }
-    ensures fit { AsksFit (path_below folder.now text.now) (H.view host.old) (H.view host.new) }
+    ensures fit { AsksAt (path_below folder.now text.now) (H.view host.old) (H.view host.new) }
 {
     let place = path_below(alloc, folder, text)?;
     let names = host.list(alloc, &place)?;

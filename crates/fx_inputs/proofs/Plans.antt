@@ -7,8 +7,7 @@ use Rattle.std.proofs.Math.Seq.{get_or-append_seam}
 use Rattle.std.proofs.lemmas.List.{append-nil}
 use Rattle.std.proofs.lemmas.List.Elements.{All-append, All-cons, All-nil}
 use Rattle.std.proofs.lemmas.List.Sums.{sum_by_push}
-use Rattle.fx_outside.specs.Host.{HostView, ReadsOnly, AsksFit, FaultAt, HasFailed}
-use Rattle.fx_outside.specs.Path.{is_fit}
+use Rattle.fx_outside.specs.Host.{HostView, ReadsOnly, AsksAt, FaultAt, HasFailed}
 use Rattle.fx_outside.specs.Tree.{Tree, is_file_at}
 use Rattle.fx_outside.proofs.Views.{reads_none, reads_then, fault_back}
 use Rattle.fx_spec.specs.CommandTree.{CommandTree}
@@ -95,7 +94,7 @@ front_more t paths plan i before path txns at goes was =
 -- between two scripts
 pub record IsReading (old now : HostView) (paths : Paths) (plan : Plan) (i before : ℕ) : Type 0 where
   pub reads : ReadsOnly old now
-  pub fit : list_all is_fit paths ≡ true → now.unfit ≡ old.unfit
+  pub fit : list_all old.guard.may_read paths ≡ true → now.guard ≡ old.guard
   pub front : IfSome old.told (λ t. IsFront t paths plan i before)
   pub count : length plan ≡ i
   pub sum : sum_by length plan ≡ before
@@ -140,16 +139,19 @@ and_right : (a b : Bool) → (a && b) ≡ true → b ≡ true
 and_right true b e = e
 and_right false b e = cc
 
--- each of fit paths is fit
-fit_at : (paths : Paths) (i : ℕ) (path : List ℕ) → slice_get paths i ≡ Some path → list_all is_fit paths ≡ true → is_fit path ≡ true
-fit_at [] i path at fit = cc
-fit_at (p ∷ paths) zero path at fit = let same : p ≡ path = cc in subst (λ x. is_fit x ≡ true) same (and_left (is_fit p) (list_all is_fit paths) fit)
-fit_at (p ∷ paths) (suc i) path at fit = fit_at paths i path at (and_right (is_fit p) (list_all is_fit paths) fit)
+-- each of the paths that a fence lets through
+let_at : (may : List ℕ → Bool) (paths : Paths) (i : ℕ) (path : List ℕ) → slice_get paths i ≡ Some path → list_all may paths ≡ true → may path ≡ true
+let_at may [] i path at all = cc
+let_at may (p ∷ paths) zero path at all = let same : p ≡ path = cc in subst (λ x. may x ≡ true) same (and_left (may p) (list_all may paths) all)
+let_at may (p ∷ paths) (suc i) path at all = let_at may paths i path at (and_right (may p) (list_all may paths) all)
 
-reads_one : (old now then : HostView) (paths : Paths) (plan : Plan) (i before : ℕ) (path : List ℕ) (script : List (List CommandTree)) → IsReading old now paths plan i before → slice_get paths i ≡ Some path → ReadsOnly now then → AsksFit path now then → IfSome now.told (λ t. GoesOn t path before script) → IsPlan (plan ++ script ∷ []) → IsReading old then paths (plan ++ script ∷ []) (i + 1) (before + length script)
+lets_on : (old now : HostView) (paths : Paths) (i : ℕ) (path : List ℕ) → slice_get paths i ≡ Some path → now.guard ≡ old.guard → list_all old.guard.may_read paths ≡ true → now.guard.may_read path ≡ true
+lets_on old now paths i path at same all = subst (λ g. g.may_read path ≡ true) (sym same) (let_at old.guard.may_read paths i path at all)
+
+reads_one : (old now then : HostView) (paths : Paths) (plan : Plan) (i before : ℕ) (path : List ℕ) (script : List (List CommandTree)) → IsReading old now paths plan i before → slice_get paths i ≡ Some path → ReadsOnly now then → AsksAt path now then → IfSome now.told (λ t. GoesOn t path before script) → IsPlan (plan ++ script ∷ []) → IsReading old then paths (plan ++ script ∷ []) (i + 1) (before + length script)
 reads_one old now then paths plan i before path script was at reads fit goes planned = record {
   reads = reads_then old now then was.reads reads;
-  fit = λ all. fit (fit_at paths i path at all) ∙ was.fit all;
+  fit = λ all. fit (lets_on old now paths i path at (was.fit all) all) ∙ was.fit all;
   front = front_goes_on old.told now.told paths plan i before path script was.reads.same at was.front goes;
   count = length-append plan (script ∷ []) ∙ ap (λ n. n + 1) was.count;
   sum = sum_by_push length plan script ∙ ap (λ n. n + length script) was.sum;
@@ -161,15 +163,15 @@ count_pushed : (plan : Plan) (i : ℕ) (script : List (List CommandTree)) → le
 count_pushed plan i script is =
     ap (λ n. length (get_or (plan ++ script ∷ []) n [])) (sym is) ∙ ap (λ s. length s) (get_or-append_seam plan script [] [])
 
-pub reads_on : (old now then : HostView) (paths : Paths) (plan plan' : Plan) (i before count : ℕ) (path : List ℕ) (script : List (List CommandTree)) → IsReading old now paths plan i before → slice_get paths i ≡ Some path → plan' ≡ plan ++ script ∷ [] → count ≡ count_of plan' i → IsScript script → ReadsOnly now then → AsksFit path now then → IfSome now.told (λ t. GoesOn t path before script) → before + length script ≤ 100000 → length plan < 64 → IsReading old then paths plan' (i + 1) (before + count)
+pub reads_on : (old now then : HostView) (paths : Paths) (plan plan' : Plan) (i before count : ℕ) (path : List ℕ) (script : List (List CommandTree)) → IsReading old now paths plan i before → slice_get paths i ≡ Some path → plan' ≡ plan ++ script ∷ [] → count ≡ count_of plan' i → IsScript script → ReadsOnly now then → AsksAt path now then → IfSome now.told (λ t. GoesOn t path before script) → before + length script ≤ 100000 → length plan < 64 → IsReading old then paths plan' (i + 1) (before + count)
 reads_on old now then paths plan plan' i before count path script was at pushed counted is reads fit goes few room =
     let one = reads_one old now then paths plan i before path script was at reads fit goes (fits plan script before was.planned was.sum is room few) in
     let adds : length script ≡ count = sym (count_pushed plan i script was.count) ∙ ap (λ p. count_of p i) (sym pushed) ∙ sym counted in
     subst (λ p. IsReading old then paths p (i + 1) (before + count)) (sym pushed) (subst (λ n. IsReading old then paths (plan ++ script ∷ []) (i + 1) (before + n)) adds one)
 
--- where reading stops, no call was made at an unfit path either
-pub fit_stop : (old now then : HostView) (paths : Paths) (plan : Plan) (i before : ℕ) (path : List ℕ) → IsReading old now paths plan i before → slice_get paths i ≡ Some path → AsksFit path now then → list_all is_fit paths ≡ true → then.unfit ≡ old.unfit
-fit_stop old now then paths plan i before path was at fit all = fit (fit_at paths i path at all) ∙ was.fit all
+-- where reading stops, nothing else was asked either
+pub fit_stop : (old now then : HostView) (paths : Paths) (plan : Plan) (i before : ℕ) (path : List ℕ) → IsReading old now paths plan i before → slice_get paths i ≡ Some path → AsksAt path now then → list_all old.guard.may_read paths ≡ true → then.guard ≡ old.guard
+fit_stop old now then paths plan i before path was at fit all = fit (lets_on old now paths i path at (was.fit all) all) ∙ was.fit all
 
 -- at the end the plan is that of all the scripts
 whole : (t : Tree) (paths : Paths) (plan : Plan) (i before : ℕ) → i ≡ length paths → IsFront t paths plan i before → HasScripts t 0 paths plan

@@ -1,11 +1,9 @@
 -- How the stages that read end, from what each of them asks.
-use Rattle.std.proofs.Common.{◌≡◌, inl, inr, ℕ, Bool, true, false, ◌&&◌, List, IfSome, refl, sym, subst}
-use Rattle.std.specs.List.{list_all}
+use Rattle.std.proofs.Common.{◌≡◌, inl, inr, ℕ, Bool, false, List, IfSome, refl, sym, subst}
 use Rattle.fx_base.specs.Causes.{Rose}
 use Rattle.fx_outside.specs.declared.kind.HostFault.{HostFault}
 use Rattle.fx_outside.specs.declared.kind.HostFault.TheVariants as fails
 use Rattle.fx_outside.specs.Host.{HostView, ReadsOnly, FaultAt, HasFailed}
-use Rattle.fx_outside.specs.Path.{is_fit}
 use Rattle.fx_outside.specs.Tree.{Tree, is_file_at}
 use Rattle.fx_outside.proofs.Views.{fault_back, fault_in_back}
 use Rattle.fx_table.specs.declared.fault.LoadFault.TheVariants as load
@@ -15,7 +13,7 @@ use Rattle.fx_command.specs.declared.status.TextFault.{TextFault}
 use Rattle.fx_command.specs.StatusOf.{read_status}
 use Rattle.fx_base.specs.Limits.{source_limit}
 use Rattle.fx_command.specs.Texts.{IsReadAt}
-use Rattle.fx_command.proofs.Told.{if_some_map, some_and, some_unit, cause_back, some_back, left_true, right_true}
+use Rattle.fx_command.proofs.Told.{if_some_map, some_and, some_unit, cause_back, some_back}
 use Rattle.fx_show.specs.Described.{Describes, IsRefusedFor, IsUndescribed}
 use Rattle.fx_show.specs.Faults.{status_of_fault}
 use Rattle.fx_show.specs.declared.fault.DescriptionFault.{DescriptionFault}
@@ -24,7 +22,7 @@ use Rattle.fx_show.proofs.Showing.{refused_whole}
 use Rattle.fx_spec.specs.SpecTree.{SpecTree}
 use Rattle.fx_inputs.specs.declared.scripts.Unread.TheVariants as unread
 use Rattle.fx_inputs.specs.Inputs.{IsOnlySpec, HasNoSpec, HasSomeSpec, HasTexts, CannotRead, IsFirstRefused}
-use Rattle.fx_inputs.specs.Reads.{FailsAtScript, HasReadFault, ReadRow, has_fit_inputs}
+use Rattle.fx_inputs.specs.Reads.{FailsAtScript, HasReadFault, ReadRow}
 use Rattle.fx_words.specs.Job.{Inputs}
 
 -- a read that failed, after what came before
@@ -84,18 +82,3 @@ pub read_fault_rose : (inputs : Inputs) (host host' : HostView) → HasReadFault
 read_fault_rose inputs host host' (inl fault) = fault.rose
 read_fault_rose inputs host host' (inr (inl (fault, spec))) = fault.fault.rose
 read_fault_rose inputs host host' (inr (inr (fault, texts))) = fault.rose
-
--- ---- fit paths
-
-module _ (inputs : Inputs) (fit : has_fit_inputs inputs ≡ true) where
-  pub fit_spec : is_fit inputs.spec ≡ true
-  fit_spec = left_true (is_fit inputs.spec) _ fit
-
-  after_spec : (is_fit inputs.folder && list_all is_fit inputs.scripts) ≡ true
-  after_spec = right_true (is_fit inputs.spec) _ fit
-
-  pub fit_folder : is_fit inputs.folder ≡ true
-  fit_folder = left_true (is_fit inputs.folder) _ after_spec
-
-  pub fit_scripts : list_all is_fit inputs.scripts ≡ true
-  fit_scripts = right_true (is_fit inputs.folder) _ after_spec

@@ -1,11 +1,10 @@
 -- How the stages of a run with views end that read, from what each of them asks.
-use Rattle.std.proofs.Common.{◌≡◌, inl, inr, ℕ, true, false, List, [], ◌∷◌, IfSome, refl, sym, subst}
+use Rattle.std.proofs.Common.{◌≡◌, inl, inr, ℕ, false, List, [], ◌∷◌, IfSome, refl, sym, subst}
 use Rattle.fx_base.specs.Causes.{Rose}
 use Rattle.fx_base.specs.Limits.{source_limit}
 use Rattle.fx_outside.specs.declared.kind.HostFault.{HostFault}
 use Rattle.fx_outside.specs.declared.kind.HostFault.TheVariants as fails
 use Rattle.fx_outside.specs.Host.{HostView, ReadsOnly, FaultAt, HasFailed}
-use Rattle.fx_outside.specs.Path.{is_fit}
 use Rattle.fx_spec.specs.CommandTree.{CommandTree}
 use Rattle.fx_spec.specs.SpecTree.{SpecTree}
 use Rattle.fx_spec.specs.Order.{BaseTree}
@@ -16,7 +15,7 @@ use Rattle.fx_command.specs.declared.status.Status.{Status}
 use Rattle.fx_command.specs.declared.status.Status.TheVariants as status
 use Rattle.fx_command.specs.StatusOf.{read_status}
 use Rattle.fx_command.specs.Texts.{IsReadAt}
-use Rattle.fx_command.proofs.Told.{if_some_map, if_some_both, some_and, some_unit, cause_back, some_back, left_true, right_true}
+use Rattle.fx_command.proofs.Told.{if_some_map, if_some_both, some_and, some_unit, cause_back, some_back}
 use Rattle.fx_show.specs.Described.{IsUndescribed}
 use Rattle.fx_show.specs.Faults.{status_of_fault}
 use Rattle.fx_show.specs.declared.fault.DescriptionFault.{DescriptionFault}
@@ -26,9 +25,9 @@ use Rattle.fx_inputs.specs.declared.scripts.ScriptUnread.TheVariants as script
 use Rattle.fx_inputs.specs.declared.views.TheConstants.{VIEWS_WORD}
 use Rattle.fx_inputs.specs.Causes.{ScriptCause}
 use Rattle.fx_inputs.specs.Inputs.{HasBase, HasScript, HasSpec, HasSomeSpec, HasNoScript, CannotRead, GoesOn, IsFirstRefused}
-use Rattle.fx_inputs.specs.Reads.{ReadRow, has_fit_inputs}
+use Rattle.fx_inputs.specs.Reads.{ReadRow}
 use Rattle.fx_inputs.specs.Unread.{unread_at, unread_status}
-use Rattle.fx_inputs.specs.Views.{CannotReadViews, HasBases, HasSomeViews, HasViewsAlone, HasViewsReadFault, ViewsFirstRefused, ViewsReadRow, has_fit_views}
+use Rattle.fx_inputs.specs.Views.{CannotReadViews, HasBases, HasSomeViews, HasViewsAlone, HasViewsReadFault, ViewsFirstRefused, ViewsReadRow}
 use Rattle.fx_inputs.proofs.ReadRows.{read_fault_back, read_fault_rose, spec_refused_for}
 use Rattle.fx_words.specs.Job.{ViewsJob}
 
@@ -118,12 +117,3 @@ pub views_fault_rose : (j : ViewsJob) (host host' : HostView) → HasViewsReadFa
 views_fault_rose j host host' (inl fault) = fault.rose
 views_fault_rose j host host' (inr (inl (fault, spec))) = fault.rose
 views_fault_rose j host host' (inr (inr (fault, views))) = read_fault_rose j.inputs host host' fault
-
--- ---- fit paths
-
-module _ (j : ViewsJob) (fit : has_fit_views j ≡ true) where
-  pub fit_inputs : has_fit_inputs j.inputs ≡ true
-  fit_inputs = left_true (has_fit_inputs j.inputs) _ fit
-
-  pub fit_views : is_fit j.views ≡ true
-  fit_views = right_true (has_fit_inputs j.inputs) _ fit

@@ -1,8 +1,7 @@
 -- How a command ends whose inputs are not read, and which paths reading asks.
-use Rattle.std.specs.Prelude.{◌≡◌, ◌⊎◌, ◌&&◌, ℕ, Bool, true, List, slice_get, Some, IfSome, IsSomeAnd, ⊤}
+use Rattle.std.specs.Prelude.{◌≡◌, ◌⊎◌, ℕ, Bool, true, List, slice_get, Some, IfSome, IsSomeAnd, ⊤}
 use Rattle.std.specs.List.{list_all}
-use Rattle.fx_outside.specs.Host.{HostView, FaultAt, FaultIn}
-use Rattle.fx_outside.specs.Path.{is_fit}
+use Rattle.fx_outside.specs.Host.{HostView, LetsIn, FaultAt, FaultIn}
 use Rattle.fx_folder.specs.Loads.{IsRefused}
 use Rattle.fx_command.specs.declared.status.Status.{Status}
 use Rattle.fx_command.specs.declared.status.Status.TheVariants as status
@@ -34,14 +33,16 @@ ReadRow inputs host host' status.WriteFault = ⊥
 ReadRow inputs host host' status.NoMemory = ⊤
 ReadRow inputs host host' (status.BadJournal place) = ⊥
 
--- where all these paths are fit, no call is made at an unfit one
-abbrev pub AsksAllFit : List (List ℕ) → HostView → HostView → Type 0
-AsksAllFit paths host host' = list_all is_fit paths ≡ true → host'.unfit ≡ host.unfit
+-- nothing is asked but at these paths
+abbrev pub AsksAtAll : List (List ℕ) → HostView → HostView → Type 0
+AsksAtAll paths host host' = list_all host.guard.may_read paths ≡ true → host'.guard ≡ host.guard
 
--- the paths that are read are fit
-abbrev pub has_fit_inputs : Inputs → Bool
-has_fit_inputs inputs = is_fit inputs.spec && (is_fit inputs.folder && list_all is_fit inputs.scripts)
+-- a fence lets through the texts that are read and the folder
+pub record LetsInputs (may : List ℕ → Bool) (inputs : Inputs) : Type 0 where
+  pub spec : may inputs.spec ≡ true
+  pub folder : LetsIn may inputs.folder
+  pub scripts : list_all may inputs.scripts ≡ true
 
--- where they are, no call is made at an unfit path
-abbrev pub InputsAskFit : Inputs → HostView → HostView → Type 0
-InputsAskFit inputs host host' = has_fit_inputs inputs ≡ true → host'.unfit ≡ host.unfit
+-- nothing is asked but at the texts and in the folder
+abbrev pub InputsAsk : Inputs → HostView → HostView → Type 0
+InputsAsk inputs host host' = LetsInputs host.guard.may_read inputs → host'.guard ≡ host.guard

@@ -1,7 +1,6 @@
 -- What a run with views reads: the texts of the description, of the views and of the scripts, and the folder.
-use Rattle.std.specs.Prelude.{◌≡◌, ◌⊎◌, ◌&&◌, ℕ, Bool, true, false, List, length, IfSome, IsSomeAnd, ⊤}
+use Rattle.std.specs.Prelude.{◌≡◌, ◌⊎◌, ℕ, Bool, true, false, List, length, IfSome, IsSomeAnd, ⊤}
 use Rattle.fx_outside.specs.Host.{HostView, FaultAt}
-use Rattle.fx_outside.specs.Path.{is_fit}
 use Rattle.fx_outside.specs.Tree.{Tree, is_file_at}
 use Rattle.fx_folder.specs.Loads.{IsRefused}
 use Rattle.fx_spec.specs.CommandTree.{CommandTree}
@@ -13,7 +12,7 @@ use Rattle.fx_command.specs.declared.status.TextFault.{TextFault}
 use Rattle.fx_words.specs.Job.{ViewsJob}
 use Rattle.fx_inputs.specs.declared.views.TheConstants.{VIEWS_WORD}
 use Rattle.fx_inputs.specs.Inputs.{HasNoSpec, HasSomeSpec, HasScript, HasNoScript, HasTexts, HasInputs, HasBase, CannotRead, IsFirstRefused}
-use Rattle.fx_inputs.specs.Reads.{HasReadFault, has_fit_inputs}
+use Rattle.fx_inputs.specs.Reads.{HasReadFault, LetsInputs}
 
 -- the file at VIEWS stands for the one script of a plan; it follows no others
 abbrev pub HasViewsAlone : Tree → ViewsJob → List (List (List CommandTree)) → Type 0
@@ -68,10 +67,11 @@ ViewsReadRow j host host' status.WriteFault = ⊥
 ViewsReadRow j host host' status.NoMemory = ⊤
 ViewsReadRow j host host' (status.BadJournal place) = ⊥
 
--- the paths that are read are fit
-abbrev pub has_fit_views : ViewsJob → Bool
-has_fit_views j = has_fit_inputs j.inputs && is_fit j.views
+-- a fence lets through the texts that are read and the folder
+pub record LetsViews (may : List ℕ → Bool) (j : ViewsJob) : Type 0 where
+  pub inputs : LetsInputs may j.inputs
+  pub views : may j.views ≡ true
 
--- where they are, no call is made at an unfit path
-abbrev pub ViewsInputsAskFit : ViewsJob → HostView → HostView → Type 0
-ViewsInputsAskFit j host host' = has_fit_views j ≡ true → host'.unfit ≡ host.unfit
+-- nothing is asked but at the texts and in the folder
+abbrev pub ViewsInputsAsk : ViewsJob → HostView → HostView → Type 0
+ViewsInputsAsk j host host' = LetsViews host.guard.may_read j → host'.guard ≡ host.guard

@@ -5,7 +5,7 @@ ghost use Rattle.fx_folder.specs.Loads.{Loads};
 ghost use Rattle.fx_spec.specs.Bases.{base_tree};
 ghost use Rattle.fx_words.specs.JobOf.{asked_inputs, AreInputs};
 ghost use Rattle.fx_inputs.specs.Inputs.{HasSpec, IsOnlySpec, HasScripts, AreOnlyScripts, HasSomeSpec, HasTexts, HasBase, IsOnlyBase, HasEachScript};
-ghost use Rattle.fx_inputs.specs.Reads.{ReadRow, InputsAskFit};
+ghost use Rattle.fx_inputs.specs.Reads.{ReadRow, InputsAsk};
 
 use crate::scripts::read_plan;
 use fx_base::{NoMemory, SOURCE_LIMIT};
@@ -30,7 +30,7 @@ fn read_description<H: Host>(
     ensures only { IfOk result (λ spec.
         IfSome (H.view host.old).told (λ t. IsOnlySpec t (asked_inputs inputs.now) spec)) }
     ensures same { ReadsOnly (H.view host.old) (H.view host.new) }
-    ensures fit { InputsAskFit (asked_inputs inputs.now) (H.view host.old) (H.view host.new) }
+    ensures fit { InputsAsk (asked_inputs inputs.now) (H.view host.old) (H.view host.new) }
     ensures ends { IfErr result
         (ReadRow (asked_inputs inputs.now) (H.view host.old) (H.view host.new)) }
 {
@@ -50,7 +50,7 @@ fn read_scripts<H: Host>(alloc: Global, inputs: &Inputs, host: &mut H) -> Result
     ensures count { IfOk result
         (λ plan. length plan ≡ length (asked_inputs inputs.now).scripts) }
     ensures same { ReadsOnly (H.view host.old) (H.view host.new) }
-    ensures fit { InputsAskFit (asked_inputs inputs.now) (H.view host.old) (H.view host.new) }
+    ensures fit { InputsAsk (asked_inputs inputs.now) (H.view host.old) (H.view host.new) }
     ensures ends { IfErr result
         (ReadRow (asked_inputs inputs.now) (H.view host.old) (H.view host.new)) }
 {
@@ -64,7 +64,7 @@ fn read_folder<H: Host>(alloc: Global, inputs: &Inputs, host: &mut H) -> Result<
     ensures loaded { IfOk result (λ s. IfSome (H.view host.old).told
         (λ t. Loads t (asked_inputs inputs.now).folder s.nodes)) }
     ensures same { ReadsOnly (H.view host.old) (H.view host.new) }
-    ensures fit { InputsAskFit (asked_inputs inputs.now) (H.view host.old) (H.view host.new) }
+    ensures fit { InputsAsk (asked_inputs inputs.now) (H.view host.old) (H.view host.new) }
     ensures ends { IfErr result
         (ReadRow (asked_inputs inputs.now) (H.view host.old) (H.view host.new)) }
 {
@@ -107,7 +107,7 @@ pub(crate) fn read_rest<H: Host>(
     ensures only { IfOk result (λ base. IfSome (H.view host.old).told
         (λ t. AreOnlyScripts t (asked_inputs inputs.now) (base_tree base.value).plan)) }
     ensures same { ReadsOnly (H.view host.old) (H.view host.new) }
-    ensures fit { InputsAskFit (asked_inputs inputs.now) (H.view host.old) (H.view host.new) }
+    ensures fit { InputsAsk (asked_inputs inputs.now) (H.view host.old) (H.view host.new) }
     ensures ends { IfErr result
         (ReadRow (asked_inputs inputs.now) (H.view host.old) (H.view host.new)) }
 {
@@ -128,7 +128,7 @@ pub fn read_base<H: Host>(alloc: Global, inputs: &Inputs, host: &mut H) -> Resul
     ensures count { IfOk result
         (λ base. HasEachScript (asked_inputs inputs.now) (base_tree base.value)) }
     ensures same { ReadsOnly (H.view host.old) (H.view host.new) }
-    ensures fit { InputsAskFit (asked_inputs inputs.now) (H.view host.old) (H.view host.new) }
+    ensures fit { InputsAsk (asked_inputs inputs.now) (H.view host.old) (H.view host.new) }
     ensures ends { IfErr result
         (ReadRow (asked_inputs inputs.now) (H.view host.old) (H.view host.new)) }
 {

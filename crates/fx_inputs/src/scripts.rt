@@ -1,12 +1,12 @@
 //! The scripts, read from the host.
 ghost use Rattle.std.specs.Prelude.{◌≡◌, ◌+◌, ◌≤◌, IfOk, IfErr, IfSome, length};
 ghost use Rattle.fx_base.specs.Limits.{txn_limit};
-ghost use Rattle.fx_outside.specs.Host.{ReadsOnly, AsksFit};
+ghost use Rattle.fx_outside.specs.Host.{ReadsOnly, AsksAt};
 ghost use Rattle.fx_spec.specs.WellShaped.{IsScript};
 ghost use Rattle.fx_words.specs.JobOf.{asked_inputs, AreInputs};
 ghost use Rattle.fx_inputs.specs.Inputs.{GoesOn, HasScripts, AreOnlyScripts};
 ghost use Rattle.fx_inputs.specs.Causes.{ScriptCause, UnreadCause};
-ghost use Rattle.fx_inputs.specs.Reads.{AsksAllFit};
+ghost use Rattle.fx_inputs.specs.Reads.{AsksAtAll};
 ghost use Rattle.fx_inputs.specs.Unread.{unread_at};
 
 use fx_base::SOURCE_LIMIT;
@@ -89,7 +89,7 @@ pub(crate) fn read_script_at<H: Host>(
     ensures few { IfOk result (λ script. before + length script ≤ txn_limit) }
     ensures shaped { IfOk result IsScript }
     ensures same { ReadsOnly (H.view host.old) (H.view host.new) }
-    ensures fit { AsksFit path.now (H.view host.old) (H.view host.new) }
+    ensures fit { AsksAt path.now (H.view host.old) (H.view host.new) }
     ensures unread { IfErr result
         (ScriptCause path.now before (H.view host.old) (H.view host.new)) }
 {
@@ -112,7 +112,7 @@ pub(crate) fn read_plan<H: Host>(
     ensures count { IfOk result
         (λ plan. length plan ≡ length (asked_inputs inputs.now).scripts) }
     ensures same { ReadsOnly (H.view host.old) (H.view host.new) }
-    ensures fit { AsksAllFit (asked_inputs inputs.now).scripts
+    ensures fit { AsksAtAll (asked_inputs inputs.now).scripts
         (H.view host.old) (H.view host.new) }
     ensures unread { IfErr result
         (UnreadCause (asked_inputs inputs.now) (H.view host.old) (H.view host.new)) }

@@ -7,7 +7,7 @@ ghost use Rattle.fx_spec.specs.WellShaped.{IsScript};
 ghost use Rattle.fx_words.specs.JobOf.{asked_views, IsViewsJob};
 ghost use Rattle.fx_show.specs.Described.{Describes};
 ghost use Rattle.fx_inputs.specs.Inputs.{HasSpec, HasSomeSpec, HasEachScript};
-ghost use Rattle.fx_inputs.specs.Views.{HasBases, HasViewsAlone, IsBeside, ViewsInputsAskFit, ViewsReadRow};
+ghost use Rattle.fx_inputs.specs.Views.{HasBases, HasViewsAlone, IsBeside, ViewsInputsAsk, ViewsReadRow};
 
 use crate::reading::{gathered, read_rest};
 use crate::scripts::{ScriptUnread, read_script_at};
@@ -41,7 +41,7 @@ fn read_description<H: Host>(
         (λ t. HasSpec t (asked_views job.now).inputs r.0)) }
     ensures text { IfOk result (λ r. Describes r.1.items r.0) }
     ensures same { ReadsOnly (H.view host.old) (H.view host.new) }
-    ensures fit { ViewsInputsAskFit (asked_views job.now) (H.view host.old) (H.view host.new) }
+    ensures fit { ViewsInputsAsk (asked_views job.now) (H.view host.old) (H.view host.new) }
     ensures ends { IfErr result
         (ViewsReadRow (asked_views job.now) (H.view host.old) (H.view host.new)) }
 {
@@ -70,7 +70,7 @@ fn read_views<H: Host>(alloc: Global, job: &ViewsJob, host: &mut H) -> Result<Pl
         (λ t. HasViewsAlone t (asked_views job.now) plan)) }
     ensures one { IfOk result (λ plan. length plan ≡ 1) }
     ensures same { ReadsOnly (H.view host.old) (H.view host.new) }
-    ensures fit { ViewsInputsAskFit (asked_views job.now) (H.view host.old) (H.view host.new) }
+    ensures fit { ViewsInputsAsk (asked_views job.now) (H.view host.old) (H.view host.new) }
     ensures ends { IfErr result
         (ViewsReadRow (asked_views job.now) (H.view host.old) (H.view host.new)) }
 {
@@ -125,7 +125,7 @@ pub fn read_bases<H: Host>(alloc: Global, job: &ViewsJob, host: &mut H) -> Resul
     ensures beside { IfOk result
         (λ bases. IsBeside (base_tree bases.scripts.value) (base_tree bases.views.value)) }
     ensures same { ReadsOnly (H.view host.old) (H.view host.new) }
-    ensures fit { ViewsInputsAskFit (asked_views job.now) (H.view host.old) (H.view host.new) }
+    ensures fit { ViewsInputsAsk (asked_views job.now) (H.view host.old) (H.view host.new) }
     ensures ends { IfErr result
         (ViewsReadRow (asked_views job.now) (H.view host.old) (H.view host.new)) }
 {

@@ -16,7 +16,7 @@ use Rattle.fx_command.specs.declared.status.Status.TheVariants as status
 use Rattle.fx_command.specs.Left.{IsSame, Grows}
 use Rattle.fx_inputs.specs.Inputs.{HasTexts, HasInputs, HasBase, CannotRead, IsFirstRefused}
 use Rattle.fx_inputs.specs.Reads.{HasReadFault}
-use Rattle.fx_run_command.specs.Rows.{IsDone, IsProperRun, CannotSave, RunAsksFit}
+use Rattle.fx_run_command.specs.Rows.{IsDone, IsProperRun, CannotSave, RunAsks}
 use Rattle.fx_durable.specs.Disk.{File, DiskView, LeftSince, GoesOn, IsUnstarted, IsAsTold, TellsLength, TellsOther, TellsAt, ChoosesTold, moment}
 use Rattle.fx_journaling.specs.Kept.{IfFile, KeepsOrder}
 use Rattle.fx_journaling.specs.Written.{HasWritten, HasWrittenEvents, HasWrittenReport, IsBeforeSettled, IsFrontOfOutput}
@@ -165,9 +165,9 @@ abbrev pub KeepsJournal : JournalJob → HostView → SinkView → SinkView → 
 KeepsJournal j host sink sink' disk disk' =
     IfFile (λ old new. GoesOn old new × (HasNothing j sink sink' old new ⊎ IsKept j host sink sink' old new)) disk.told disk'.told
 
--- where the paths are fit, no call is made at an unfit path of the host
-abbrev pub JournalAsksFit : JournalJob → HostView → HostView → Type 0
-JournalAsksFit j host host' = RunAsksFit j.run host host'
+-- nothing is asked of the host but at the texts, in the folder and in OUT
+abbrev pub JournalAsks : JournalJob → HostView → HostView → Type 0
+JournalAsks j host host' = RunAsks j.run host host'
 
 -- what a run needs, and an empty journal at the path that the disk tells
 pub record IsProperJournal (t : Tree) (disk : DiskView) (j : JournalJob) : Type 0 where

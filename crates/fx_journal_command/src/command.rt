@@ -1,6 +1,6 @@
 //! The command `journal`, stage by stage.
 ghost use Rattle.std.specs.Prelude.{◌≡◌, IfOk, IfErr, OnOk, OnErr, IfSome};
-ghost use Rattle.fx_outside.specs.Host.{AsksFit};
+ghost use Rattle.fx_outside.specs.Host.{WritesIn};
 ghost use Rattle.fx_folder.specs.Folder.{IsReady};
 ghost use Rattle.fx_spec.specs.Bases.{base_tree};
 ghost use Rattle.fx_board.specs.Board.{last_state};
@@ -10,7 +10,7 @@ ghost use Rattle.fx_command.specs.StatusOf.{status_of};
 ghost use Rattle.fx_inputs.specs.Inputs.{HasBase, HasEachScript};
 ghost use Rattle.fx_durable.specs.Disk.{Continues, StaysUnstarted, ChoosesTold, TellsLength};
 ghost use Rattle.fx_journaling.specs.Recorded.{IsStarted, EndsRecorded};
-ghost use Rattle.fx_journal_command.specs.Rows.{JournalEnd, JournalRow, JournalAsksFit, KeepsJournal};
+ghost use Rattle.fx_journal_command.specs.Rows.{JournalEnd, JournalRow, JournalAsks, KeepsJournal};
 ghost use Rattle.fx_journal_command.specs.Stages.{MayLeaveGate, StartCause, RecordCause, FinishEnd, run_report};
 
 use fx_command::{Status, print_all, ready_out};
@@ -82,7 +82,7 @@ fn finish<H: Host, S: Sink>(
     ensures end { FinishEnd out_path.now there (last_state recorded.now.board)
         (run_report recorded.now)
         (H.view host.old) (H.view host.new) (S.view out.old) (S.view out.new) (status_of result) }
-    ensures fit { AsksFit out_path.now (H.view host.old) (H.view host.new) }
+    ensures fit { WritesIn out_path.now (H.view host.old) (H.view host.new) }
 {
     let report = report(alloc, &recorded.board, &recorded.retries)?;
     save(alloc, host, out_path, there, recorded.board.store())?;
@@ -112,7 +112,7 @@ fn keep<H: Host, S: Sink, D: Disk>(
     ensures others { ChoosesTold job.now.journal.now (D.view disk.old) (D.view disk.new) }
     ensures keeps { KeepsJournal (asked_journal job.now) (H.view host.old)
         (S.view out.old) (S.view out.new) (D.view disk.old) (D.view disk.new) }
-    ensures fit { AsksFit job.now.run.out.now (H.view host.old) (H.view host.new) }
+    ensures fit { WritesIn job.now.run.out.now (H.view host.old) (H.view host.new) }
 {
     let _whole = base.loaded.places();
     let journal = start(job.journal, disk)?;
@@ -134,7 +134,7 @@ pub fn journal<H: Host, S: Sink, D: Disk>(
         (S.view out.old) (S.view out.new) (D.view disk.old) (D.view disk.new) (status_of result) }
     ensures keeps { KeepsJournal (asked_journal job.now) (H.view host.old)
         (S.view out.old) (S.view out.new) (D.view disk.old) (D.view disk.new) }
-    ensures fit { JournalAsksFit (asked_journal job.now) (H.view host.old) (H.view host.new) }
+    ensures fit { JournalAsks (asked_journal job.now) (H.view host.old) (H.view host.new) }
 {
     let base = read_base(alloc, &job.run.inputs, host)?;
     let there = ready_out(alloc, job.run.out, host)?;

@@ -10,12 +10,12 @@ use Rattle.std.proofs.lemmas.Option.{same_Some}
 use Rattle.fx_store.specs.declared.node.Node.{Node}
 use Rattle.fx_store.specs.declared.node.Node.TheVariants.{File, Dir}
 use Rattle.fx_store.specs.Names.{IsName, path_cmp}
-use Rattle.fx_outside.specs.Host.{HostView, AsksFit}
+use Rattle.fx_outside.specs.Host.{HostView, LetsIn, WritesIn}
 use Rattle.fx_outside.specs.Path.{Parts, parts, parts_cmp, is_fit, above}
 use Rattle.fx_outside.specs.Tree as tree
 use Rattle.fx_outside.specs.Tree.{Tree, Entry, file, folder, entry_at, has_folder, is_free, is_free_at}
 use Rattle.fx_outside.proofs.Trees.{parts_total}
-use Rattle.fx_outside.proofs.Views.{fit_then, fault_in_back, fault_in_outer}
+use Rattle.fx_outside.proofs.Views.{writes_then, fault_in_back, fault_in_outer}
 use Rattle.fx_folder.specs.declared.fault.SaveFault.{SaveFault}
 use Rattle.fx_folder.specs.declared.fault.SaveFault.TheVariants as save
 use Rattle.fx_folder.specs.Folder.{IfTold, IsReady, IsSaved, IsPartlySaved, IsFrontOf, SaveCause, LacksFolder}
@@ -26,7 +26,7 @@ use Rattle.fx_table.proofs.Descents.{find_append}
 use Rattle.fx_folder.proofs.Filled.{above_pushed, opens}
 use Rattle.fx_table.proofs.Rests.{same_front, parts_is, no_rest}
 use Rattle.fx_folder.proofs.Fronts.{begins, adds, from_old, has_it}
-use Rattle.fx_folder.proofs.Texts.{parts_below, fit_below}
+use Rattle.fx_folder.proofs.Texts.{parts_below, fit_below, fit_alone, lets_inner}
 use Rattle.fx_folder.proofs.Writes.{told_then}
 use Rattle.fx_large.specs.Case.{Case, script_name, case_entry, is_listed_before, IsWritten, IsPartOfCase, IsPartlyWritten}
 use Rattle.fx_large.specs.Wrote.{Mapped, text_nodes, scripts_to, IsBegun, WroteTexts}
@@ -67,7 +67,7 @@ free_name t u path name done fit named has none =
 
 pub record IsWriting (old now : HostView) (path : List ℕ) (c : Case) (i : ℕ) : Type 0 where
   pub later : old.faults ≤ now.faults
-  pub fit : AsksFit path old now
+  pub fit : WritesIn path old now
   pub stands : IfTold old.told now.told (λ t t'. HasEntries t t' (parts path) (text_nodes (scripts_to i c)))
 
 pub spec_free : (host : HostView) (path : List ℕ) → IfSome host.told (λ t. IsOpen t path) → IfSome host.told (λ t. is_free_at t (path_below path (codes "spec")) ≡ true)
@@ -77,7 +77,7 @@ spec_free host path open_ = go host.told open_
     go None is = tt
     go (Some t) is = free_name t t path (codes "spec") [] is.fit spec_named (begins t path [] is) refl
 
-pub spec_written : (old now : HostView) (path : List ℕ) (c : Case) → IfSome old.told (λ t. IsOpen t path) → old.faults ≤ now.faults → AsksFit path old now → IfTold old.told now.told (λ t t'. t' ≡ with_entry t (parts path ++ codes "spec" ∷ []) (Some (file c.description))) → IsWriting old now path c 0
+pub spec_written : (old now : HostView) (path : List ℕ) (c : Case) → IfSome old.told (λ t. IsOpen t path) → old.faults ≤ now.faults → WritesIn path old now → IfTold old.told now.told (λ t t'. t' ≡ with_entry t (parts path ++ codes "spec" ∷ []) (Some (file c.description))) → IsWriting old now path c 0
 spec_written old now path c open_ later fit wrote = record {
   later = later;
   fit = fit;
@@ -93,10 +93,10 @@ script_free old now path c i open_ was small there =
     told_next old.told now.told (λ t. IsOpen t path) (λ t t'. HasEntries t t' (parts path) (text_nodes (scripts_to i c))) (λ t. is_free_at t (path_below path (script_name i)) ≡ true) open_ was.stands
     (λ t u is has. free_name t u path (script_name i) _ is.fit (script_named i small) has (script_fresh c i small there))
 
-pub script_written : (old now then : HostView) (path : List ℕ) (c : Case) (i : ℕ) (text : List ℕ) → IsWriting old now path c i → i < 10 → slice_get c.scripts i ≡ Some text → i ≤ length c.scripts → now.faults ≤ then.faults → AsksFit path now then → IfTold now.told then.told (λ t t'. t' ≡ with_entry t (parts path ++ script_name i ∷ []) (Some (file text))) → IsWriting old then path c (i + 1)
+pub script_written : (old now then : HostView) (path : List ℕ) (c : Case) (i : ℕ) (text : List ℕ) → IsWriting old now path c i → i < 10 → slice_get c.scripts i ≡ Some text → i ≤ length c.scripts → now.faults ≤ then.faults → WritesIn path now then → IfTold now.told then.told (λ t t'. t' ≡ with_entry t (parts path ++ script_name i ∷ []) (Some (file text))) → IsWriting old then path c (i + 1)
 script_written old now then path c i text was small is there later fit wrote = record {
   later = omega (arith, later, was.later);
-  fit = fit_then path old now then was.fit fit;
+  fit = writes_then path old now then was.fit fit;
   stands =
       told_then old.told now.told then.told (λ t t'. HasEntries t t' (parts path) (text_nodes (scripts_to i c))) (λ t t'. t' ≡ with_entry t (parts path ++ script_name i ∷ []) (Some (file text))) (λ t t'. HasEntries t t' (parts path) (text_nodes (scripts_to (i + 1) c))) was.stands wrote
       (λ t u v at has added.
@@ -314,5 +314,5 @@ inner_cause (Err save.WriteFault) a b d e path there c later wrote (inr lacks) =
 inner_cause (Err save.NotEmpty) a b d e path there c later wrote cause = absurd cause
 inner_cause (Err save.NoMemory) a b d e path there c later wrote cause = tt
 
-pub inner_fit : (a d e : HostView) (path : List ℕ) → AsksFit path a d → AsksFit (path_below path inner) d e → AsksFit path a e
-inner_fit a d e path before after = λ fit. after (fit_below path inner fit inner_named) ∙ before fit
+pub inner_fit : (a d e : HostView) (path : List ℕ) → WritesIn path a d → WritesIn (path_below path inner) d e → WritesIn path a e
+inner_fit a d e path before after = λ lets. after (subst (λ g. LetsIn g.may_write (path_below path inner)) (sym (before lets)) (lets_inner a.guard.may_write path inner lets (fit_alone inner inner_named))) ∙ before lets

@@ -1,6 +1,7 @@
 //! The command `gen`.
 ghost use Rattle.std.specs.Prelude.{◌≡◌, IfSome};
-ghost use Rattle.fx_outside.specs.Host.{AsksFit};
+ghost use Rattle.fx_outside.specs.Host.{WritesIn};
+ghost use Rattle.fx_command.specs.Out.{WritesOut};
 ghost use Rattle.fx_folder.specs.Folder.{IsReady};
 ghost use Rattle.fx_command.specs.Making.{MakingRow};
 ghost use Rattle.fx_command.specs.StatusOf.{status_of};
@@ -27,7 +28,7 @@ fn write_and_print<H: Host, S: Sink>(
     requires case { case_in case.now ≡ case_of number }
     ensures row { MakingRow (gen_making number path.now) (H.view host.old) (H.view host.new)
         (S.view out.old) (S.view out.new) (status_of result) }
-    ensures fit { AsksFit path.now (H.view host.old) (H.view host.new) }
+    ensures fit { WritesIn path.now (H.view host.old) (H.view host.new) }
 {
     write_case(alloc, host, path, there, case)?;
     match print_all(out, b"generated\n") {
@@ -46,7 +47,7 @@ pub fn write_generated<H: Host, S: Sink>(
 ) -> Result<(), Status>
     ensures row { MakingRow (gen_making number path.now) (H.view host.old) (H.view host.new)
         (S.view out.old) (S.view out.new) (status_of result) }
-    ensures fit { AsksFit path.now (H.view host.old) (H.view host.new) }
+    ensures fit { WritesOut path.now (H.view host.old) (H.view host.new) }
 {
     let there = ready_out(alloc, path, host)?;
     let case = generate(alloc, number)?;

@@ -1,6 +1,7 @@
 //! The command `large`.
 ghost use Rattle.std.specs.Prelude.{◌≡◌, IfOk, IfSome};
-ghost use Rattle.fx_outside.specs.Host.{AsksFit};
+ghost use Rattle.fx_outside.specs.Host.{WritesIn};
+ghost use Rattle.fx_command.specs.Out.{WritesOut};
 ghost use Rattle.fx_folder.specs.Folder.{IsReady};
 ghost use Rattle.fx_command.specs.StatusOf.{status_of};
 ghost use Rattle.fx_command.specs.Making.{MakingRow};
@@ -51,7 +52,7 @@ fn save_and_print<H: Host, S: Sink>(
     requires output { output.now ≡ sums.summary board.now.base board.now.order }
     ensures row { MakingRow (large_making number path.now) (H.view host.old) (H.view host.new)
         (S.view out.old) (S.view out.new) (status_of result) }
-    ensures fit { AsksFit path.now (H.view host.old) (H.view host.new) }
+    ensures fit { WritesIn path.now (H.view host.old) (H.view host.new) }
 {
     save(alloc, host, path, there, board.store())?;
     match print_all(out, output.as_slice()) {
@@ -73,7 +74,7 @@ pub fn run_generated<R: Threads + Wait + Sync, H: Host, S: Sink, G: Gate + Sync>
 ) -> Result<(), Status>
     ensures row { MakingRow (large_making number path.now) (H.view host.old) (H.view host.new)
         (S.view out.old) (S.view out.new) (status_of result) }
-    ensures fit { AsksFit path.now (H.view host.old) (H.view host.new) }
+    ensures fit { WritesOut path.now (H.view host.old) (H.view host.new) }
 {
     let there = ready_out(alloc, path, host)?;
     let board = run(rt, alloc, number, gate)?;

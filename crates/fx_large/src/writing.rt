@@ -2,7 +2,7 @@
 ghost use Rattle.std.specs.Prelude.{◌≡◌, ◌<◌, ◌≤◌, ◌++◌, ◌∷◌, [], true, Some, Err, IfOk, IfErr, OnOk, OnErr, IfSome, length, string_bytes};
 ghost use Rattle.fx_store.specs.Names.{IsName};
 ghost use Rattle.fx_outside.specs.Path.{parts};
-ghost use Rattle.fx_outside.specs.Host.{AsksFit, FaultIn};
+ghost use Rattle.fx_outside.specs.Host.{WritesIn, FaultIn};
 ghost use Rattle.fx_outside.specs.Tree.{is_free_at, file};
 ghost use Rattle.fx_folder.specs.declared.fault.SaveFault.TheVariants.{WriteFault, NotEmpty};
 ghost use Rattle.fx_folder.specs.Reads.{path_below};
@@ -37,7 +37,7 @@ pub(crate) fn write_case<H: Host>(
     ensures part { OnErr result (IfTold (H.view host.old).told (H.view host.new).told
         (λ t t'. IsPartlyWritten t t' (parts path.now) (case_in case.now))) }
     ensures fault { IfErr result (SaveCause path.now there (H.view host.old) (H.view host.new)) }
-    ensures fit { AsksFit path.now (H.view host.old) (H.view host.new) }
+    ensures fit { WritesIn path.now (H.view host.old) (H.view host.new) }
 {
     make_folder(alloc, host, path, there)?;
     write_texts(alloc, host, path, case)?;
@@ -62,7 +62,7 @@ fn write_texts<H: Host>(
         → FaultIn folder.now (H.view host.old) (H.view host.new) }
     ensures free { result ≡ Err NotEmpty → ⊥ }
     ensures later { (H.view host.old).faults ≤ (H.view host.new).faults }
-    ensures fit { AsksFit folder.now (H.view host.old) (H.view host.new) }
+    ensures fit { WritesIn folder.now (H.view host.old) (H.view host.new) }
 {
     write_text(alloc, host, folder, "spec", case.description.as_slice())?;
     'scripts: for number in 0..case.scripts.len() {
@@ -94,7 +94,7 @@ fn write_text<H: Host>(
         → FaultIn folder.now (H.view host.old) (H.view host.new) }
     ensures free { result ≡ Err NotEmpty → ⊥ }
     ensures later { (H.view host.old).faults ≤ (H.view host.new).faults }
-    ensures fit { AsksFit folder.now (H.view host.old) (H.view host.new) }
+    ensures fit { WritesIn folder.now (H.view host.old) (H.view host.new) }
 {
     let place = place_below(alloc, folder, name)?;
     write_file(alloc, host, &place, text)

@@ -1,7 +1,7 @@
 -- Calls on a host, one after another.
-use Rattle.std.proofs.Common.{◌≡◌, inl, inr, ℕ, ◌≤◌, Bool, false, List, ◌∷◌, ◌++◌, Option, Some, None, IsSomeAnd, refl, sym, ◌∙◌, subst, arith, append_assoc}
+use Rattle.std.proofs.Common.{◌≡◌, inl, inr, ℕ, ◌≤◌, Bool, true, false, List, ◌∷◌, ◌++◌, Option, Some, None, IsSomeAnd, refl, sym, ◌∙◌, subst, arith, append_assoc}
 use Rattle.fx_base.specs.Causes.{Rose}
-use Rattle.fx_outside.specs.Host.{HostView, ReadsOnly, AsksFit, FaultAt, IsIn, FaultIn, HasFailed}
+use Rattle.fx_outside.specs.Host.{HostView, ReadsOnly, Guard, LetsIn, AsksAt, WritesIn, FaultAt, IsIn, FaultIn, HasFailed}
 use Rattle.fx_outside.specs.Tree.{Tree}
 
 pub reads_none : (a : HostView) → ReadsOnly a a
@@ -10,8 +10,19 @@ reads_none a = record { same = refl; later = omega arith }
 pub reads_then : (a b c : HostView) → ReadsOnly a b → ReadsOnly b c → ReadsOnly a c
 reads_then a b c first then = record { same = then.same ∙ first.same; later = omega (arith, first.later, then.later) }
 
-pub fit_then : (path : List ℕ) (a b c : HostView) → AsksFit path a b → AsksFit path b c → AsksFit path a c
-fit_then path a b c first then = λ fit. then fit ∙ first fit
+-- what fences let through they let through later, if they stayed and nothing was asked outside of them
+lets_on : (Lets : Guard → Type 0) (a b : HostView) → b.guard ≡ a.guard → Lets a.guard → Lets b.guard
+lets_on Lets a b same lets = subst Lets (sym same) lets
+
+-- two stages, each of which asks nothing but what fences of some kind let through
+pub asks_both : (Lets : Guard → Type 0) (a b c : HostView) → (Lets a.guard → b.guard ≡ a.guard) → (Lets b.guard → c.guard ≡ b.guard) → Lets a.guard → c.guard ≡ a.guard
+asks_both Lets a b c first then lets = then (lets_on Lets a b (first lets) lets) ∙ first lets
+
+pub at_then : (path : List ℕ) (a b c : HostView) → AsksAt path a b → AsksAt path b c → AsksAt path a c
+at_then path = asks_both (λ guard. guard.may_read path ≡ true)
+
+pub writes_then : (path : List ℕ) (a b c : HostView) → WritesIn path a b → WritesIn path b c → WritesIn path a c
+writes_then path = asks_both (λ guard. LetsIn guard.may_write path)
 
 pub rose_back : (a b c : HostView) → a.faults ≤ b.faults → Rose b.faults c.faults → Rose a.faults c.faults
 rose_back a b c later rose = omega (arith, later, rose)

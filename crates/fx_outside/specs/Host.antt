@@ -8,27 +8,49 @@ use Rattle.fx_outside.specs.Listing.{Names}
 use Rattle.fx_outside.specs.Path.{parts, is_fit}
 use Rattle.fx_outside.specs.Tree.{Tree, Entry, Lists, standing_of, entry_at, bytes_at, file, told_with}
 
--- the tree that a host holds, if it tells one; how often it has failed; the path that was asked when it failed last; and how
--- many calls were made at unfit paths
+-- Fences: where a host may be asked what stands, and where it may be asked to write; and how many calls were made outside.
+pub record Guard : Type 0 where
+  pub may_read : List ℕ → Bool
+  pub may_write : List ℕ → Bool
+  pub strays : ℕ
+
+-- the tree that a host holds, if it tells one; how often it has failed; the path that was asked when it failed last; and its
+-- fences
 pub record HostView : Type 0 where
   pub told : Option Tree
   pub faults : ℕ
   pub last_fault : Option (List ℕ)
-  pub unfit : ℕ
+  pub guard : Guard
 
 -- the told tree stays, and the count of faults does not fall
 pub record ReadsOnly (old new : HostView) : Type 0 where
   pub same : new.told ≡ old.told
   pub later : old.faults ≤ new.faults
 
--- a call at an unfit path is counted, and no other call is
-pub record CountsUnfit (path : List ℕ) (old new : HostView) : Type 0 where
-  pub fit : is_fit path ≡ true → new.unfit ≡ old.unfit
-  pub unfit : is_fit path ≡ false → Rose old.unfit new.unfit
+-- the fences stay, and a call outside of the one that it goes by is counted, and no other call is
+pub record CountsStray (may : List ℕ → Bool) (path : List ℕ) (old new : HostView) : Type 0 where
+  pub fences : (new.guard.may_read ≡ old.guard.may_read) × (new.guard.may_write ≡ old.guard.may_write)
+  pub inside : may path ≡ true → new.guard ≡ old.guard
+  pub outside : may path ≡ false → Rose old.guard.strays new.guard.strays
 
--- where the path is fit, calls are made at fit paths alone
-abbrev pub AsksFit : List ℕ → HostView → HostView → Type 0
-AsksFit path old new = is_fit path ≡ true → new.unfit ≡ old.unfit
+-- a fence lets through a path and all that is below it by names
+pub record LetsIn (may : List ℕ → Bool) (path : List ℕ) : Type 0 where
+  pub itself : may path ≡ true
+  pub below : (names : List ℕ) → is_fit names ≡ true → may (path ++ 47 ∷ names) ≡ true
+
+-- nothing is asked but what stands at a path; at it and below it by names
+abbrev pub AsksAt : List ℕ → HostView → HostView → Type 0
+AsksAt path old new = old.guard.may_read path ≡ true → new.guard ≡ old.guard
+
+abbrev pub AsksIn : List ℕ → HostView → HostView → Type 0
+AsksIn path old new = LetsIn old.guard.may_read path → new.guard ≡ old.guard
+
+-- nothing is asked but to write at a path; at it and below it by names
+abbrev pub WritesAt : List ℕ → HostView → HostView → Type 0
+WritesAt path old new = old.guard.may_write path ≡ true → new.guard ≡ old.guard
+
+abbrev pub WritesIn : List ℕ → HostView → HostView → Type 0
+WritesIn path old new = LetsIn old.guard.may_write path → new.guard ≡ old.guard
 
 -- the count of faults rose, and the last fault was at this path
 pub record FaultAt (path : List ℕ) (old new : HostView) : Type 0 where

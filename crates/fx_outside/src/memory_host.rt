@@ -18,28 +18,28 @@ pub struct MemoryHost {
     tree: Entries,
     calls: Calls,
     last_fault: Option<HostText>,
-    unfit: u64,
+    strays: u64,
     ghost whole: { IsWhole (tree_of tree.entries) },
 }
 
 impl MemoryHost {
     ghost use Rattle.fx_outside.specs.Calls.{no_calls, with_call, with_failing, with_fault, is_next_failing};
     ghost use Rattle.fx_outside.specs.Tree.{is_file_kind};
-    ghost use Rattle.fx_outside.specs.Host.{CountsUnfit, FaultAt};
-    ghost use Rattle.fx_outside.specs.MemoryHost.{host_tree, host_calls, host_last_fault, host_unfit, host_view};
+    ghost use Rattle.fx_outside.specs.Host.{CountsStray, FaultAt};
+    ghost use Rattle.fx_outside.specs.MemoryHost.{host_tree, host_calls, host_last_fault, host_guard, host_view};
 
     /// The tree's root alone.
     pub fn new(alloc: Global) -> MemoryHost
         ensures tree { host_tree result ≡ empty }
         ensures calls { host_calls result ≡ no_calls }
         ensures last { host_last_fault result ≡ None }
-        ensures unfit { host_unfit result ≡ 0 }
+        ensures strays { (host_guard result).strays ≡ 0 }
     {
         MemoryHost {
             tree: BTreeMap::new(alloc),
             calls: Calls::new(alloc),
             last_fault: None,
-            unfit: 0,
+            strays: 0,
         }
     }
 
@@ -69,7 +69,7 @@ impl MemoryHost {
         ensures same { OnErr result (host_tree self.new ≡ host_tree self.old) }
         ensures calls { host_calls self.new ≡ host_calls self.old }
         ensures last { host_last_fault self.new ≡ host_last_fault self.old }
-        ensures unfit { host_unfit self.new ≡ host_unfit self.old }
+        ensures guard { host_guard self.new ≡ host_guard self.old }
     {
         match Parts::read(alloc, path)? {
             None => unreachable!(),
@@ -87,7 +87,7 @@ impl MemoryHost {
         ensures same { OnErr result (host_calls self.new ≡ host_calls self.old) }
         ensures last { host_last_fault self.new ≡ host_last_fault self.old }
         ensures tree { host_tree self.new ≡ host_tree self.old }
-        ensures unfit { host_unfit self.new ≡ host_unfit self.old }
+        ensures guard { host_guard self.new ≡ host_guard self.old }
     {
         self.calls.fail(call)
     }
@@ -105,10 +105,10 @@ impl MemoryHost {
         ensures counts { host_calls self.new ≡ with_call (host_calls self.old) }
         ensures last { host_last_fault self.new ≡ host_last_fault self.old }
         ensures tree { host_tree self.new ≡ host_tree self.old }
-        ensures unfit { CountsUnfit path.now (host_view self.old) (host_view self.new) }
+        ensures strays { CountsStray is_fit path.now (host_view self.old) (host_view self.new) }
     {
         if !path.is_fit() {
-            self.unfit = self.unfit.saturating_add(1);
+            self.strays = self.strays.saturating_add(1);
         }
         self.calls.begin()
     }
@@ -122,7 +122,7 @@ impl MemoryHost {
         ensures calls { OnErr result (host_calls self.new ≡ host_calls self.old) }
         ensures later { (host_view self.old).faults ≤ (host_view self.new).faults }
         ensures tree { host_tree self.new ≡ host_tree self.old }
-        ensures unfit { host_unfit self.new ≡ host_unfit self.old }
+        ensures guard { host_guard self.new ≡ host_guard self.old }
     {
         let place = path.copy(alloc)?;
         self.calls.fault();
@@ -135,7 +135,7 @@ impl Host for MemoryHost {
     ghost use Rattle.std.specs.Prelude.{◌≡◌, ◌<◌, ◌≤◌, length, IfOk, OnOk, IfSome, Some, true, false};
     ghost use Rattle.fx_outside.specs.Path.{is_fit};
     ghost use Rattle.fx_outside.specs.Tree.{is_folder_at, is_file_at, is_free_at, file, folder};
-    ghost use Rattle.fx_outside.specs.Host.{ReadsOnly, HasCause, CountsUnfit, TellsStanding, TellsNames, TellsBytes, IsAsTold, Adds, MayAdd, MayHoldPrefix};
+    ghost use Rattle.fx_outside.specs.Host.{ReadsOnly, HasCause, CountsStray, TellsStanding, TellsNames, TellsBytes, IsAsTold, Adds, MayAdd, MayHoldPrefix};
     ghost use Rattle.fx_outside.specs.Calls.{FollowsPlan};
     ghost use Rattle.fx_outside.specs.MemoryHost.{host_tree, host_calls, host_view};
     ghost use Rattle.fx_outside.specs.declared.kind.HostFault.TheVariants.{Failed, NoMemory};
@@ -149,7 +149,7 @@ impl Host for MemoryHost {
         ensures same { ReadsOnly (host_view self.old) (host_view self.new) }
         ensures cause { HasCause path.now (λ _. is_fit path.now) (host_view self.old)
             (host_view self.new) result }
-        ensures unfit { CountsUnfit path.now (host_view self.old) (host_view self.new) }
+        ensures strays { CountsStray is_fit path.now (host_view self.old) (host_view self.new) }
         ensures plan { FollowsPlan (host_calls self.old) (host_calls self.new)
             (is_fit path.now) Failed result }
     {
@@ -172,7 +172,7 @@ impl Host for MemoryHost {
         ensures same { ReadsOnly (host_view self.old) (host_view self.new) }
         ensures cause { HasCause path.now (λ t. is_folder_at t path.now) (host_view self.old)
             (host_view self.new) result }
-        ensures unfit { CountsUnfit path.now (host_view self.old) (host_view self.new) }
+        ensures strays { CountsStray is_fit path.now (host_view self.old) (host_view self.new) }
         ensures plan { FollowsPlan (host_calls self.old) (host_calls self.new)
             (is_folder_at (host_tree self.old) path.now) Failed result }
     {
@@ -203,7 +203,7 @@ impl Host for MemoryHost {
         ensures same { ReadsOnly (host_view self.old) (host_view self.new) }
         ensures cause { HasCause path.now (λ t. is_file_at t path.now) (host_view self.old)
             (host_view self.new) result }
-        ensures unfit { CountsUnfit path.now (host_view self.old) (host_view self.new) }
+        ensures strays { CountsStray is_fit path.now (host_view self.old) (host_view self.new) }
         ensures plan { FollowsPlan (host_calls self.old) (host_calls self.new)
             (is_file_at (host_tree self.old) path.now) Failed result }
     {
@@ -230,7 +230,7 @@ impl Host for MemoryHost {
             → IsAsTold (host_view self.old) (host_view self.new) }
         ensures cause { HasCause path.now (λ t. is_free_at t path.now) (host_view self.old)
             (host_view self.new) result }
-        ensures unfit { CountsUnfit path.now (host_view self.old) (host_view self.new) }
+        ensures strays { CountsStray is_fit path.now (host_view self.old) (host_view self.new) }
         ensures plan { FollowsPlan (host_calls self.old) (host_calls self.new)
             (is_free_at (host_tree self.old) path.now) Failed result }
     {
@@ -258,7 +258,7 @@ impl Host for MemoryHost {
             → IsAsTold (host_view self.old) (host_view self.new) }
         ensures cause { HasCause path.now (λ t. is_free_at t path.now) (host_view self.old)
             (host_view self.new) result }
-        ensures unfit { CountsUnfit path.now (host_view self.old) (host_view self.new) }
+        ensures strays { CountsStray is_fit path.now (host_view self.old) (host_view self.new) }
         ensures plan { FollowsPlan (host_calls self.old) (host_calls self.new)
             (is_free_at (host_tree self.old) path.now) Failed result }
     {

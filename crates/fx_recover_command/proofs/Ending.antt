@@ -1,5 +1,5 @@
 -- How `recover` ends, from what its stages ensure.
-use Rattle.std.proofs.Common.{◌≡◌, ◌⊎◌, inl, inr, ℕ, Bool, true, false, List, ◌++◌, length, take, Option, Some, None, IfSome, IsSomeAnd, refl, subst}
+use Rattle.std.proofs.Common.{◌≡◌, ◌⊎◌, inl, inr, ℕ, Bool, false, List, ◌++◌, length, take, Option, Some, None, IfSome, IsSomeAnd, refl, subst}
 use Rattle.fx_base.specs.Causes.{Rose}
 use Rattle.fx_store.specs.Whole.{Nodes}
 use Rattle.fx_outside.specs.Host.{HostView, ReadsOnly, FaultIn, HasFailed}
@@ -15,17 +15,17 @@ use Rattle.fx_spec.specs.Order.{BaseTree, IsLegal, state}
 use Rattle.fx_command.specs.declared.status.Status.{Status}
 use Rattle.fx_command.specs.declared.status.Status.TheVariants as status
 use Rattle.fx_command.specs.StatusOf.{save_status}
-use Rattle.fx_command.proofs.Told.{if_some_map, if_some_both, some_and, if_told_same, if_told_map, some_unit, same, grows_front, grows_all, cause_back, told_back, some_back, same_back, left_true, right_true}
+use Rattle.fx_command.proofs.Told.{if_some_map, if_some_both, some_and, if_told_same, if_told_map, some_unit, same, grows_front, grows_all, cause_back, told_back, some_back, same_back}
 use Rattle.fx_command.specs.Out.{IsUnready}
 use Rattle.fx_inputs.specs.Inputs.{HasBase, IsOnlyBase, HasInputs, CannotRead}
-use Rattle.fx_inputs.specs.Reads.{ReadRow, has_fit_inputs}
+use Rattle.fx_inputs.specs.Reads.{ReadRow}
 use Rattle.fx_inputs.proofs.ReadRows.{read_fault_back}
 use Rattle.fx_inputs.proofs.Stages.{then_told}
 use Rattle.fx_words.specs.Job.{RecoverJob}
 use Rattle.fx_durable.specs.Disk.{DiskView}
 use Rattle.fx_durable.specs.Journal.{Spells}
 use Rattle.fx_recover_command.specs.Recovered.{recovered_line, HasImage, HasOrder, HasSomeOrder, IsOutcome, IsAnswered, IsBad}
-use Rattle.fx_recover_command.specs.Rows.{MayHoldPart, IsDone, IsCutShort, RecoverReadFault, CannotSave, RecoverEnd, has_fit_recover}
+use Rattle.fx_recover_command.specs.Rows.{MayHoldPart, IsDone, IsCutShort, RecoverReadFault, CannotSave, RecoverEnd}
 use Rattle.fx_recover_command.specs.Unread.{OrderCause}
 
 -- ---- stages that only read
@@ -164,12 +164,3 @@ module _ (j : RecoverJob) (nodes : Nodes) (output : List ℕ) (there : Bool) (ho
     if_told_map (λ t t'. IsSaved t t' (parts j.out) nodes) (λ t t'. IsDone t t' j disk sink.written sink'.written) (λ t. IsAnswered t j disk nodes output there) host.told host'.told
         (λ t t' is saved. record { nodes = nodes; output = output; there = there; outcome = is.outcome; free = is.free; saved = saved; written = whole }) is saved,
   )
-
--- ---- fit paths
-
-module _ (j : RecoverJob) (fit : has_fit_recover j ≡ true) where
-  pub fit_inputs : has_fit_inputs j.inputs ≡ true
-  fit_inputs = left_true (has_fit_inputs j.inputs) _ fit
-
-  pub fit_out : is_fit j.out ≡ true
-  fit_out = right_true (has_fit_inputs j.inputs) _ fit

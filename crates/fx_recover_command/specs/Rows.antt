@@ -1,9 +1,9 @@
 -- What each status of `recover` says: where it comes, and what is then left at the host, at the sink and at the disk.
-use Rattle.std.specs.Prelude.{◌≡◌, ◌⊎◌, ◌&&◌, ℕ, Bool, true, List, ◌++◌, take, Option, Some, IfSome, IsSomeAnd}
+use Rattle.std.specs.Prelude.{◌≡◌, ◌⊎◌, ℕ, Bool, List, ◌++◌, take, Option, Some, IfSome, IsSomeAnd}
 use Rattle.fx_base.specs.Causes.{Rose}
 use Rattle.fx_store.specs.Whole.{Nodes}
-use Rattle.fx_outside.specs.Host.{HostView, FaultIn}
-use Rattle.fx_outside.specs.Path.{parts, is_fit}
+use Rattle.fx_outside.specs.Host.{HostView, Guard, FaultIn}
+use Rattle.fx_outside.specs.Path.{parts}
 use Rattle.fx_outside.specs.Sink.{SinkView}
 use Rattle.fx_outside.specs.Tree.{Tree}
 use Rattle.fx_folder.specs.Folder.{IfTold, IsReady, IsTaken, IsSaved, IsPartlySaved}
@@ -12,9 +12,9 @@ use Rattle.fx_words.specs.Job.{RecoverJob}
 use Rattle.fx_command.specs.declared.status.Status.{Status}
 use Rattle.fx_command.specs.declared.status.Status.TheVariants as status
 use Rattle.fx_command.specs.Left.{IsSame, Grows}
-use Rattle.fx_command.specs.Out.{CannotWrite, FitsOut}
+use Rattle.fx_command.specs.Out.{CannotWrite, FitsOut, LetsOut}
 use Rattle.fx_inputs.specs.Inputs.{HasBase, HasTexts, HasInputs, CannotRead, IsFirstRefused}
-use Rattle.fx_inputs.specs.Reads.{HasReadFault, has_fit_inputs}
+use Rattle.fx_inputs.specs.Reads.{HasReadFault, LetsInputs}
 use Rattle.fx_spec.specs.Plans.{Turn}
 use Rattle.fx_spec.specs.Order.{BaseTree, IsLegal}
 use Rattle.fx_durable.specs.Disk.{DiskView, File, IsAsTold, TellsOther, ChoosesTold}
@@ -96,13 +96,14 @@ StaysCalm disk disk' st = (disk'.faults ≡ disk.faults) ⊎ ((st ≡ status.Rea
 abbrev pub RecoverRow : RecoverJob → HostView → HostView → SinkView → SinkView → DiskView → DiskView → Status → Type 0
 RecoverRow j host host' sink sink' disk disk' st = IsAsTold disk disk' × ChoosesTold j.journal disk disk' × StaysCalm disk disk' st × RecoverEnd j host host' sink sink' disk disk' st
 
--- the paths at the host are fit
-abbrev pub has_fit_recover : RecoverJob → Bool
-has_fit_recover j = has_fit_inputs j.inputs && is_fit j.out
+-- the fences let the description, the scripts and the folder be read, and OUT be written
+pub record LetsRecover (guard : Guard) (j : RecoverJob) : Type 0 where
+  pub inputs : LetsInputs guard.may_read j.inputs
+  pub out : LetsOut guard j.out
 
--- where they are, no call is made at an unfit one
-abbrev pub RecoverAsksFit : RecoverJob → HostView → HostView → Type 0
-RecoverAsksFit j host host' = has_fit_recover j ≡ true → host'.unfit ≡ host.unfit
+-- nothing is asked of the host but at the texts, in the folder and in OUT
+abbrev pub RecoverAsks : RecoverJob → HostView → HostView → Type 0
+RecoverAsks j host host' = LetsRecover host.guard j → host'.guard ≡ host.guard
 
 -- the disk tells JOURNAL's path and a file that spells an order, which is legal of what the texts and the folder stand for
 pub record HasJournal (t : Tree) (j : RecoverJob) (disk : DiskView) : Type 0 where

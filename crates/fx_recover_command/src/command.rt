@@ -1,11 +1,11 @@
 //! The command `recover`.
-ghost use Rattle.fx_outside.specs.Host.{AsksFit};
+ghost use Rattle.fx_command.specs.Out.{WritesOut};
 ghost use Rattle.fx_spec.specs.Bases.{base_tree};
 ghost use Rattle.fx_spec.specs.Order.{IsLegal};
 ghost use Rattle.fx_words.specs.JobOf.{asked_recover, AreInputs};
 ghost use Rattle.fx_command.specs.StatusOf.{status_of};
 ghost use Rattle.fx_durable.specs.Journal.{turns_of};
-ghost use Rattle.fx_recover_command.specs.Rows.{RecoverRow, RecoverAsksFit};
+ghost use Rattle.fx_recover_command.specs.Rows.{RecoverRow, RecoverAsks};
 ghost use Rattle.fx_recover_command.specs.Stages.{LeaveEnd};
 
 use crate::journal::read_order;
@@ -31,7 +31,7 @@ fn leave<H: Host, S: Sink>(
     requires { IsLegal (base_tree base.now.value) (turns_of order.now) }
     ensures end { LeaveEnd (asked_recover job.now) (base_tree base.now.value) (turns_of order.now)
         (H.view host.old) (H.view host.new) (S.view out.old) (S.view out.new) (status_of result) }
-    ensures fit { AsksFit (asked_recover job.now).out (H.view host.old) (H.view host.new) }
+    ensures fit { WritesOut (asked_recover job.now).out (H.view host.old) (H.view host.new) }
 {
     let there = ready_out(alloc, job.out, host)?;
     let recovered = replayed(alloc, base, order)?;
@@ -50,7 +50,7 @@ pub fn recover<H: Host, S: Sink, D: Disk>(
     requires { AreInputs job.now.inputs }
     ensures row { RecoverRow (asked_recover job.now) (H.view host.old) (H.view host.new)
         (S.view out.old) (S.view out.new) (D.view disk.old) (D.view disk.new) (status_of result) }
-    ensures fit { RecoverAsksFit (asked_recover job.now) (H.view host.old) (H.view host.new) }
+    ensures fit { RecoverAsks (asked_recover job.now) (H.view host.old) (H.view host.new) }
 {
     let base = read_base(alloc, &job.inputs, host)?;
     let order = read_order(alloc, job.journal, &base, disk)?;

@@ -1,6 +1,6 @@
 //! The stage that replays the order, and the one that saves and prints.
 ghost use Rattle.std.specs.Prelude.{◌≡◌, IfOk, IfSome, length};
-ghost use Rattle.fx_outside.specs.Host.{AsksFit};
+ghost use Rattle.fx_outside.specs.Host.{WritesIn};
 ghost use Rattle.fx_folder.specs.Folder.{IsReady};
 ghost use Rattle.fx_spec.specs.Bases.{base_tree};
 ghost use Rattle.fx_spec.specs.Order.{IsLegal, state};
@@ -71,7 +71,7 @@ pub(crate) fn save_and_print<H: Host, S: Sink>(
     ensures end { SaveEnd (asked_recover job.now)
         recovered.now.store.nodes recovered.now.line.items there
         (H.view host.old) (H.view host.new) (S.view out.old) (S.view out.new) (status_of result) }
-    ensures fit { AsksFit (asked_recover job.now).out (H.view host.old) (H.view host.new) }
+    ensures fit { WritesIn (asked_recover job.now).out (H.view host.old) (H.view host.new) }
 {
     save(alloc, host, job.out, there, &recovered.store)?;
     match print_all(out, &recovered.line) {

@@ -1,5 +1,5 @@
 -- The rows of the table of statuses, from what the stages of a run ensure.
-use Rattle.std.proofs.Common.{◌≡◌, ◌⊎◌, inl, inr, ℕ, Bool, true, false, List, ◌++◌, take, Option, Some, None, IfSome, IsSomeAnd, refl, subst}
+use Rattle.std.proofs.Common.{◌≡◌, ◌⊎◌, inl, inr, ℕ, Bool, false, List, ◌++◌, take, Option, Some, None, IfSome, IsSomeAnd, refl, subst}
 use Rattle.fx_base.specs.Causes.{Rose}
 use Rattle.fx_store.specs.Whole.{Nodes}
 use Rattle.fx_outside.specs.Host.{HostView, ReadsOnly, FaultIn, HasFailed}
@@ -13,13 +13,13 @@ use Rattle.fx_folder.specs.declared.fault.SaveFault.TheVariants as save
 use Rattle.fx_command.specs.declared.status.Status.{Status}
 use Rattle.fx_command.specs.declared.status.Status.TheVariants as status
 use Rattle.fx_command.specs.StatusOf.{save_status}
-use Rattle.fx_command.proofs.Told.{if_some_map, if_some_both, some_and, if_told_same, if_told_map, some_unit, same, grows_front, grows_all, cause_back, told_back, some_back, same_back, left_true, right_true}
+use Rattle.fx_command.proofs.Told.{if_some_map, if_some_both, some_and, if_told_same, if_told_map, some_unit, same, grows_front, grows_all, cause_back, told_back, some_back, same_back}
 use Rattle.fx_inputs.specs.Inputs.{HasInputs, CannotRead}
-use Rattle.fx_inputs.specs.Reads.{HasReadFault, ReadRow, has_fit_inputs}
+use Rattle.fx_inputs.specs.Reads.{HasReadFault, ReadRow}
 use Rattle.fx_inputs.proofs.ReadRows.{read_fault_back}
 use Rattle.fx_run_command.specs.Answers.{IsAnswered}
 use Rattle.fx_run_command.specs.Outcome.{IsOutcome}
-use Rattle.fx_run_command.specs.Rows.{RunRow, EndsAs, MayHoldPart, IsDone, IsCutShort, CannotSave, has_fit_paths}
+use Rattle.fx_run_command.specs.Rows.{RunRow, EndsAs, MayHoldPart, IsDone, IsCutShort, CannotSave}
 use Rattle.fx_words.specs.Job.{RunJob}
 
 -- ---- stages that only read
@@ -116,12 +116,3 @@ row_back j a b c sink sink' (status.BadJournal place) reads row = row
 
 pub ends_back : (j : RunJob) (a b c : HostView) (st : Status) → ReadsOnly a b → EndsAs j b c st → EndsAs j a c st
 ends_back j a b c st reads ends sink = row_back j a b c sink sink st reads (ends sink)
-
--- ---- fit paths
-
-module _ (j : RunJob) (fit : has_fit_paths j ≡ true) where
-  pub fit_inputs : has_fit_inputs j.inputs ≡ true
-  fit_inputs = left_true (has_fit_inputs j.inputs) _ fit
-
-  pub fit_out : is_fit j.out ≡ true
-  fit_out = right_true (has_fit_inputs j.inputs) _ fit

@@ -1,9 +1,9 @@
 -- What each status of a run says: where it comes, and what is then left at the host and at the sink.
-use Rattle.std.specs.Prelude.{◌≡◌, ◌⊎◌, ◌&&◌, ℕ, Bool, true, List, ◌++◌, take, Option, Some, IfSome, IsSomeAnd}
+use Rattle.std.specs.Prelude.{◌≡◌, ◌⊎◌, ℕ, Bool, List, ◌++◌, take, Option, Some, IfSome, IsSomeAnd}
 use Rattle.fx_base.specs.Causes.{Rose}
 use Rattle.fx_store.specs.Whole.{Nodes}
-use Rattle.fx_outside.specs.Host.{HostView, FaultIn}
-use Rattle.fx_outside.specs.Path.{parts, is_fit}
+use Rattle.fx_outside.specs.Host.{HostView, Guard, FaultIn}
+use Rattle.fx_outside.specs.Path.{parts}
 use Rattle.fx_outside.specs.Sink.{SinkView}
 use Rattle.fx_outside.specs.Tree.{Tree}
 use Rattle.fx_folder.specs.Folder.{IfTold, IsReady, IsTaken, IsSaved, IsPartlySaved}
@@ -12,9 +12,9 @@ use Rattle.fx_words.specs.Job.{RunJob}
 use Rattle.fx_command.specs.declared.status.Status.{Status}
 use Rattle.fx_command.specs.declared.status.Status.TheVariants as status
 use Rattle.fx_command.specs.Left.{IsSame, Grows}
-use Rattle.fx_command.specs.Out.{CannotWrite, FitsOut}
+use Rattle.fx_command.specs.Out.{CannotWrite, FitsOut, LetsOut}
 use Rattle.fx_inputs.specs.Inputs.{HasTexts, HasInputs, CannotRead, IsFirstRefused}
-use Rattle.fx_inputs.specs.Reads.{HasReadFault, has_fit_inputs}
+use Rattle.fx_inputs.specs.Reads.{HasReadFault, LetsInputs}
 use Rattle.fx_run_command.specs.Outcome.{IsOutcome}
 
 -- all is done: the report is written after what was written before, and the last filestore's folder stands at OUT; all else
@@ -83,13 +83,14 @@ RunRow j host host' sink sink' (status.BadJournal place) = ⊥
 abbrev pub EndsAs : RunJob → HostView → HostView → Status → Type 0
 EndsAs j host host' st = (sink : SinkView) → RunRow j host host' sink sink st
 
--- the paths of a command are fit
-abbrev pub has_fit_paths : RunJob → Bool
-has_fit_paths j = has_fit_inputs j.inputs && is_fit j.out
+-- the fences let the texts and the folder be read, and OUT be written
+pub record LetsRun (guard : Guard) (j : RunJob) : Type 0 where
+  pub inputs : LetsInputs guard.may_read j.inputs
+  pub out : LetsOut guard j.out
 
--- where they are, no call is made at an unfit path
-abbrev pub RunAsksFit : RunJob → HostView → HostView → Type 0
-RunAsksFit j host host' = has_fit_paths j ≡ true → host'.unfit ≡ host.unfit
+-- nothing is asked but at the texts, in the folder and in OUT
+abbrev pub RunAsks : RunJob → HostView → HostView → Type 0
+RunAsks j host host' = LetsRun host.guard j → host'.guard ≡ host.guard
 
 -- texts that stand for a description and scripts, a folder that loads, and an OUT that is an empty folder or can be made
 pub record IsProperRun (t : Tree) (j : RunJob) : Type 0 where

@@ -6,7 +6,7 @@ ghost use Rattle.fx_folder.specs.Folder.{IsReady};
 ghost use Rattle.fx_inputs.specs.Inputs.{HasInputs};
 ghost use Rattle.fx_words.specs.JobOf.{asked, IsJob};
 ghost use Rattle.fx_run_command.specs.Answers.{last_of, IsAnswered};
-ghost use Rattle.fx_run_command.specs.Rows.{RunRow, EndsAs, RunAsksFit};
+ghost use Rattle.fx_run_command.specs.Rows.{RunRow, EndsAs, RunAsks};
 ghost use Rattle.fx_command.specs.StatusOf.{status_of};
 
 use crate::runs::{Answer, run_base};
@@ -25,7 +25,7 @@ pub fn make_ready<H: Host>(alloc: Global, job: &RunJob, host: &mut H) -> Result<
     ensures ready { IfOk result (λ there.
         IfSome (H.view host.old).told (λ t. IsReady t (asked job.now).out there)) }
     ensures same { ReadsOnly (H.view host.old) (H.view host.new) }
-    ensures fit { RunAsksFit (asked job.now) (H.view host.old) (H.view host.new) }
+    ensures fit { RunAsks (asked job.now) (H.view host.old) (H.view host.new) }
     ensures ends { IfErr result (EndsAs (asked job.now) (H.view host.old) (H.view host.new)) }
 {
     let there = ready(alloc, host, job.out)?;
@@ -45,7 +45,7 @@ pub fn save_and_print<H: Host, S: Sink>(
         IsAnswered t (asked job.now) (last_of answer.now) answer.now.output there) }
     ensures row { RunRow (asked job.now) (H.view host.old) (H.view host.new)
         (S.view out.old) (S.view out.new) (status_of result) }
-    ensures fit { RunAsksFit (asked job.now) (H.view host.old) (H.view host.new) }
+    ensures fit { RunAsks (asked job.now) (H.view host.old) (H.view host.new) }
 {
     save(alloc, host, job.out, there, answer.board.store())?;
     match print_all(out, answer.output.as_slice()) {
@@ -66,7 +66,7 @@ pub fn run<R: Threads + Wait + Sync, H: Host, S: Sink, G: Gate + Sync>(
     requires { IsJob job.now }
     ensures row { RunRow (asked job.now) (H.view host.old) (H.view host.new)
         (S.view out.old) (S.view out.new) (status_of result) }
-    ensures fit { RunAsksFit (asked job.now) (H.view host.old) (H.view host.new) }
+    ensures fit { RunAsks (asked job.now) (H.view host.old) (H.view host.new) }
 {
     let base = read_base(alloc, &job.inputs, host)?;
     let there = make_ready(alloc, job, host)?;

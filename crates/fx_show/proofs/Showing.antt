@@ -1,10 +1,9 @@
 -- The rows of the table of statuses for `show`, from what its stages ensure.
-use Rattle.std.proofs.Common.{◌≡◌, ◌⊎◌, inl, inr, ℕ, ◌≤◌, ◌<◌, true, ◌&&◌, List, ◌++◌, length, Some, Result, Ok, Err, IfOk, IfErr, IfSome, refl, ◌∙◌, subst, arith}
+use Rattle.std.proofs.Common.{◌≡◌, ◌⊎◌, inl, inr, ℕ, ◌≤◌, ◌<◌, List, ◌++◌, length, Some, Result, Ok, Err, IfOk, IfErr, IfSome, refl, ◌∙◌, subst, arith}
 use Rattle.std.specs.FinMap.{get}
 use Rattle.fx_store.specs.Whole.{Nodes}
 use Rattle.fx_outside.specs.declared.kind.HostFault.TheVariants as fails
 use Rattle.fx_outside.specs.Host.{HostView, ReadsOnly}
-use Rattle.fx_outside.specs.Path.{is_fit}
 use Rattle.fx_outside.specs.Sink.{SinkView}
 use Rattle.fx_outside.specs.Tree.{Tree, bytes_at}
 use Rattle.fx_outside.proofs.Views.{reads_then, fault_back, fault_in_back}
@@ -25,7 +24,7 @@ use Rattle.fx_show.specs.Shows.{HasDescription, HasNoDescription, HasSomeDescrip
 use Rattle.fx_show.specs.Faults.{status_of_fault}
 use Rattle.fx_base.specs.Limits.{source_limit}
 use Rattle.fx_command.specs.Texts.{IsReadAt}
-use Rattle.fx_command.proofs.Told.{if_some_map, if_some_both, same, grows_all, cause_back, some_back, same_back, left_true, right_true}
+use Rattle.fx_command.proofs.Told.{if_some_map, if_some_both, same, grows_all, cause_back, some_back, same_back}
 use Rattle.fx_words.specs.Job.{ShowJob}
 
 -- ---- the text
@@ -109,12 +108,3 @@ show_done j output host host' sink sink' reads is all = (
   grows_all sink sink' output all,
   if_some_map (λ t. IsShowing t j output) (λ t. IsShown t j sink.written sink'.written) host.told (λ t is. record { output = output; showing = is; written = all }) is,
 )
-
--- ---- fit paths
-
-module _ (j : ShowJob) (fit : (is_fit j.spec && is_fit j.folder) ≡ true) where
-  pub show_fit_spec : is_fit j.spec ≡ true
-  show_fit_spec = left_true (is_fit j.spec) (is_fit j.folder) fit
-
-  pub show_fit_folder : is_fit j.folder ≡ true
-  show_fit_folder = right_true (is_fit j.spec) (is_fit j.folder) fit

@@ -1,8 +1,7 @@
 -- What each status of `show` says: where it comes, and what is then left at the host and at the sink.
-use Rattle.std.specs.Prelude.{◌≡◌, ◌⊎◌, ◌&&◌, ℕ, true, List, ◌++◌, take, Option, Some, IfSome, IsSomeAnd}
+use Rattle.std.specs.Prelude.{◌≡◌, ◌⊎◌, ℕ, Bool, true, List, ◌++◌, take, Option, Some, IfSome, IsSomeAnd}
 use Rattle.fx_base.specs.Causes.{Rose}
-use Rattle.fx_outside.specs.Host.{HostView, ReadsOnly, FaultAt, FaultIn}
-use Rattle.fx_outside.specs.Path.{is_fit}
+use Rattle.fx_outside.specs.Host.{HostView, ReadsOnly, LetsIn, FaultAt, FaultIn}
 use Rattle.fx_outside.specs.Sink.{SinkView}
 use Rattle.fx_outside.specs.Tree.{Tree}
 use Rattle.fx_folder.specs.Loads.{IsRefused}
@@ -51,6 +50,11 @@ ShowRow j host host' sink sink' (status.BadJournal place) = ⊥
 abbrev pub ShowEndsAs : ShowJob → HostView → HostView → Status → Type 0
 ShowEndsAs j host host' st = (sink : SinkView) → ShowRow j host host' sink sink st
 
--- where both paths are fit, no call is made at an unfit one
-abbrev pub ShowAsksFit : ShowJob → HostView → HostView → Type 0
-ShowAsksFit j host host' = (is_fit j.spec && is_fit j.folder) ≡ true → host'.unfit ≡ host.unfit
+-- a fence lets through the text that is read and the folder
+pub record LetsShow (may : List ℕ → Bool) (j : ShowJob) : Type 0 where
+  pub spec : may j.spec ≡ true
+  pub folder : LetsIn may j.folder
+
+-- nothing is asked but at the text and in the folder
+abbrev pub ShowAsks : ShowJob → HostView → HostView → Type 0
+ShowAsks j host host' = LetsShow host.guard.may_read j → host'.guard ≡ host.guard

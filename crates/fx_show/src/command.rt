@@ -3,7 +3,7 @@ ghost use Rattle.std.specs.Prelude.{◌≡◌, IfOk, IfErr, IfSome};
 ghost use Rattle.fx_outside.specs.Host.{ReadsOnly};
 ghost use Rattle.fx_folder.specs.Loads.{Loads};
 ghost use Rattle.fx_words.specs.JobOf.{asked_show};
-ghost use Rattle.fx_show.specs.Rows.{ShowRow, ShowEndsAs, ShowAsksFit};
+ghost use Rattle.fx_show.specs.Rows.{ShowRow, ShowEndsAs, ShowAsks};
 ghost use Rattle.fx_show.specs.Shows.{HasDescription, HasSomeDescription, IsShowing};
 ghost use Rattle.fx_command.specs.StatusOf.{status_of};
 
@@ -23,7 +23,7 @@ fn read_description<H: Host>(alloc: Global, job: &ShowJob, host: &mut H) -> Resu
     ensures read { IfOk result (λ spec.
         IfSome (H.view host.old).told (λ t. HasDescription t (asked_show job.now) spec)) }
     ensures same { ReadsOnly (H.view host.old) (H.view host.new) }
-    ensures fit { ShowAsksFit (asked_show job.now) (H.view host.old) (H.view host.new) }
+    ensures fit { ShowAsks (asked_show job.now) (H.view host.old) (H.view host.new) }
     ensures ends { IfErr result
         (ShowEndsAs (asked_show job.now) (H.view host.old) (H.view host.new)) }
 {
@@ -38,7 +38,7 @@ fn read_folder<H: Host>(alloc: Global, job: &ShowJob, host: &mut H) -> Result<Fi
     ensures loaded { IfOk result (λ s.
         IfSome (H.view host.old).told (λ t. Loads t (asked_show job.now).folder s.nodes)) }
     ensures same { ReadsOnly (H.view host.old) (H.view host.new) }
-    ensures fit { ShowAsksFit (asked_show job.now) (H.view host.old) (H.view host.new) }
+    ensures fit { ShowAsks (asked_show job.now) (H.view host.old) (H.view host.new) }
     ensures ends { IfErr result
         (ShowEndsAs (asked_show job.now) (H.view host.old) (H.view host.new)) }
 {
@@ -58,7 +58,7 @@ fn output_by<H: Host>(
     ensures shows { IfOk result (λ output.
         IfSome (H.view host.old).told (λ t. IsShowing t (asked_show job.now) output)) }
     ensures same { ReadsOnly (H.view host.old) (H.view host.new) }
-    ensures fit { ShowAsksFit (asked_show job.now) (H.view host.old) (H.view host.new) }
+    ensures fit { ShowAsks (asked_show job.now) (H.view host.old) (H.view host.new) }
     ensures ends { IfErr result
         (ShowEndsAs (asked_show job.now) (H.view host.old) (H.view host.new)) }
 {
@@ -72,7 +72,7 @@ fn output_of<H: Host>(alloc: Global, job: &ShowJob, host: &mut H) -> Result<Long
     ensures shows { IfOk result (λ output.
         IfSome (H.view host.old).told (λ t. IsShowing t (asked_show job.now) output)) }
     ensures same { ReadsOnly (H.view host.old) (H.view host.new) }
-    ensures fit { ShowAsksFit (asked_show job.now) (H.view host.old) (H.view host.new) }
+    ensures fit { ShowAsks (asked_show job.now) (H.view host.old) (H.view host.new) }
     ensures ends { IfErr result
         (ShowEndsAs (asked_show job.now) (H.view host.old) (H.view host.new)) }
 {
@@ -93,7 +93,7 @@ pub fn show<H: Host, S: Sink>(
 ) -> Result<(), Status>
     ensures row { ShowRow (asked_show job.now) (H.view host.old) (H.view host.new)
         (S.view out.old) (S.view out.new) (status_of result) }
-    ensures fit { ShowAsksFit (asked_show job.now) (H.view host.old) (H.view host.new) }
+    ensures fit { ShowAsks (asked_show job.now) (H.view host.old) (H.view host.new) }
 {
     let output = output_of(alloc, job, host)?;
     match print_all(out, output.as_slice()) {

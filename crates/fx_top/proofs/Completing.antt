@@ -20,7 +20,7 @@ use Rattle.fx_run_command.proofs.Ending.{no_memory}
 use Rattle.fx_show.proofs.Completing.{show_completes}
 use Rattle.fx_views_command.proofs.Completing.{views_completes}
 use Rattle.fx_views_command.proofs.Ending as viewing
-use Rattle.fx_top.specs.Rows.{AsksFitPaths, Row, LeavesDisk, KeepsOrder, IsProper, HasDiskFault, Completes}
+use Rattle.fx_top.specs.Rows.{AsksInside, Row, LeavesDisk, KeepsOrder, IsProper, HasDiskFault, Completes}
 use Rattle.fx_words.specs.Job.{Job, Run, Show, Gen, Large, Audit, Journal, Recover, Views}
 
 abbrev Ends : Status → Type 0
@@ -58,7 +58,7 @@ unread_row (Journal j) host sink disk = journal_no_memory j host sink disk
 unread_row (Recover j) host sink disk = (refl, λ _. refl, inl refl, recovering.no_memory j host host (still host) sink disk disk)
 unread_row (Views j) host sink disk = viewing.no_memory j host host (still host) sink
 
-pub unread_fit : (j : Job) (host : HostView) → AsksFitPaths j host host
+pub unread_fit : (j : Job) (host : HostView) → AsksInside j host host
 unread_fit (Run j) host = λ fit. refl
 unread_fit (Show j) host = λ fit. refl
 unread_fit (Gen j) host = λ fit. refl

@@ -1,24 +1,24 @@
 -- What each status of a command says: where it comes, and what is then left at the host, at the sink and on the disk.
 use Rattle.std.specs.Prelude.{◌≡◌, ◌⊎◌, IfSome}
 use Rattle.fx_base.specs.Causes.{Rose}
-use Rattle.fx_outside.specs.Host.{HostView, AsksFit}
+use Rattle.fx_outside.specs.Host.{HostView}
 use Rattle.fx_outside.specs.Sink.{SinkView}
 use Rattle.fx_outside.specs.Tree.{Tree}
 use Rattle.fx_words.specs.Job.{Job, Run, Show, Gen, Large, Audit, Journal, Recover, Views}
-use Rattle.fx_audit_command.specs.Rows.{AuditRow, AuditAsksFit, IsProperAudit}
+use Rattle.fx_audit_command.specs.Rows.{AuditRow, AuditAsks, IsProperAudit}
 use Rattle.fx_command.specs.declared.status.Status.{Status}
 use Rattle.fx_command.specs.declared.status.Status.TheVariants as status
 use Rattle.fx_durable.specs.Disk.{DiskView}
 use Rattle.fx_large.specs.GenRows.{gen_making}
-use Rattle.fx_journal_command.specs.Rows.{JournalRow, JournalAsksFit, KeepsJournal, IsProperJournal}
+use Rattle.fx_journal_command.specs.Rows.{JournalRow, JournalAsks, KeepsJournal, IsProperJournal}
 use Rattle.fx_large.specs.LargeRows.{large_making}
 use Rattle.fx_command.specs.Making.{MakingRow}
-use Rattle.fx_command.specs.Out.{IsProperOut}
-use Rattle.fx_recover_command.specs.Rows.{RecoverRow, RecoverAsksFit, IsProperRecover}
-use Rattle.fx_run_command.specs.Rows.{RunRow, RunAsksFit, IsProperRun}
-use Rattle.fx_show.specs.Rows.{ShowRow, ShowAsksFit}
+use Rattle.fx_command.specs.Out.{IsProperOut, WritesOut}
+use Rattle.fx_recover_command.specs.Rows.{RecoverRow, RecoverAsks, IsProperRecover}
+use Rattle.fx_run_command.specs.Rows.{RunRow, RunAsks, IsProperRun}
+use Rattle.fx_show.specs.Rows.{ShowRow, ShowAsks}
 use Rattle.fx_show.specs.Shows.{IsProperShow}
-use Rattle.fx_views_command.specs.Rows.{ViewsRow, ViewsAskFit, IsProperViews}
+use Rattle.fx_views_command.specs.Rows.{ViewsRow, ViewsAsk, IsProperViews}
 
 -- the table, by the command
 abbrev pub Row : Job → HostView → HostView → SinkView → SinkView → DiskView → DiskView → Status → Type 0
@@ -53,16 +53,16 @@ KeepsOrder (Journal j) host sink sink' disk disk' = KeepsJournal j host sink sin
 KeepsOrder (Recover j) host sink sink' disk disk' = Unit {0}
 KeepsOrder (Views j) host sink sink' disk disk' = Unit {0}
 
--- where the paths of a command are fit, no call is made at an unfit path
-abbrev pub AsksFitPaths : Job → HostView → HostView → Type 0
-AsksFitPaths (Run j) host host' = RunAsksFit j host host'
-AsksFitPaths (Show j) host host' = ShowAsksFit j host host'
-AsksFitPaths (Gen j) host host' = AsksFit j.out host host'
-AsksFitPaths (Large j) host host' = AsksFit j.out host host'
-AsksFitPaths (Audit j) host host' = AuditAsksFit j host host'
-AsksFitPaths (Journal j) host host' = JournalAsksFit j host host'
-AsksFitPaths (Recover j) host host' = RecoverAsksFit j host host'
-AsksFitPaths (Views j) host host' = ViewsAskFit j host host'
+-- a command asks nothing but at its texts, in its FOLDER and in its OUT, and writes nothing but in its OUT
+abbrev pub AsksInside : Job → HostView → HostView → Type 0
+AsksInside (Run j) host host' = RunAsks j host host'
+AsksInside (Show j) host host' = ShowAsks j host host'
+AsksInside (Gen j) host host' = WritesOut j.out host host'
+AsksInside (Large j) host host' = WritesOut j.out host host'
+AsksInside (Audit j) host host' = AuditAsks j host host'
+AsksInside (Journal j) host host' = JournalAsks j host host'
+AsksInside (Recover j) host host' = RecoverAsks j host host'
+AsksInside (Views j) host host' = ViewsAsk j host host'
 
 -- a host, and a disk where the command asks it, at which nothing keeps the command from being done
 abbrev pub IsProper : Tree → DiskView → Job → Type 0

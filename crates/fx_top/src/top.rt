@@ -2,7 +2,7 @@
 ghost use Rattle.std.specs.Prelude.{◌≡◌, ◌⊎◌, None, IfSome};
 ghost use Rattle.fx_words.specs.Job.{job_of};
 ghost use Rattle.fx_words.specs.JobOf.{asked_job, IsAnyJob};
-ghost use Rattle.fx_top.specs.Rows.{Row, LeavesDisk, KeepsOrder, AsksFitPaths, Completes};
+ghost use Rattle.fx_top.specs.Rows.{Row, LeavesDisk, KeepsOrder, AsksInside, Completes};
 ghost use Rattle.fx_command.specs.Left.{IsIdle};
 ghost use Rattle.fx_command.specs.StatusOf.{status_of};
 
@@ -34,7 +34,7 @@ fn run_job<R: Threads + Wait + Sync, H: Host, S: Sink, G: Gate + Sync, D: Disk>(
     requires { IsAnyJob job.now }
     ensures row { Row (asked_job job.now) (H.view host.old) (H.view host.new)
         (S.view out.old) (S.view out.new) (D.view disk.old) (D.view disk.new) (status_of result) }
-    ensures fit { AsksFitPaths (asked_job job.now) (H.view host.old) (H.view host.new) }
+    ensures fit { AsksInside (asked_job job.now) (H.view host.old) (H.view host.new) }
     ensures disk { LeavesDisk (asked_job job.now) (D.view disk.old) (D.view disk.new) }
     ensures kept { KeepsOrder (asked_job job.now) (H.view host.old)
         (S.view out.old) (S.view out.new) (D.view disk.old) (D.view disk.new) }
@@ -86,9 +86,10 @@ pub fn top<R: Threads + Wait + Sync, H: Host, S: Sink, G: Gate + Sync, D: Disk>(
         Row j (H.view host.old) (H.view host.new) (S.view out.old) (S.view out.new)
         (D.view disk.old) (D.view disk.new) result) }
 
-    // Where the command's paths are fit, no call is made at an unfit one, whatever the host tells.
+    // Where the host's fences let through the texts of the words, FOLDER and OUT, no call is outside of them, whatever the
+    // host tells.
     ensures fit { IfSome (job_of words.now) (λ j.
-        AsksFitPaths j (H.view host.old) (H.view host.new)) }
+        AsksInside j (H.view host.old) (H.view host.new)) }
 
     // A command that neither keeps nor reads a journal leaves the disk as it was.
     ensures disk { IfSome (job_of words.now) (λ j.

@@ -1,9 +1,9 @@
 -- What each status of `views` says: where it comes, and what is then left at the host and at the sink.
-use Rattle.std.specs.Prelude.{◌≡◌, ◌⊎◌, ◌&&◌, ℕ, Bool, true, List, ◌++◌, take, Option, Some, IfSome, IsSomeAnd}
+use Rattle.std.specs.Prelude.{◌≡◌, ◌⊎◌, ℕ, Bool, List, ◌++◌, take, Option, Some, IfSome, IsSomeAnd}
 use Rattle.fx_base.specs.Causes.{Rose}
 use Rattle.fx_store.specs.Whole.{Nodes}
-use Rattle.fx_outside.specs.Host.{HostView, FaultIn}
-use Rattle.fx_outside.specs.Path.{parts, is_fit}
+use Rattle.fx_outside.specs.Host.{HostView, Guard, FaultIn}
+use Rattle.fx_outside.specs.Path.{parts}
 use Rattle.fx_outside.specs.Sink.{SinkView}
 use Rattle.fx_outside.specs.Tree.{Tree}
 use Rattle.fx_folder.specs.Folder.{IfTold, IsReady, IsTaken, IsSaved, IsPartlySaved}
@@ -12,8 +12,8 @@ use Rattle.fx_words.specs.Job.{ViewsJob}
 use Rattle.fx_command.specs.declared.status.Status.{Status}
 use Rattle.fx_command.specs.declared.status.Status.TheVariants as status
 use Rattle.fx_command.specs.Left.{IsSame, Grows}
-use Rattle.fx_command.specs.Out.{CannotWrite, FitsOut}
-use Rattle.fx_inputs.specs.Views.{HasViewsTexts, HasViewsInputs, CannotReadViews, ViewsFirstRefused, HasViewsReadFault, has_fit_views}
+use Rattle.fx_command.specs.Out.{CannotWrite, FitsOut, LetsOut}
+use Rattle.fx_inputs.specs.Views.{HasViewsTexts, HasViewsInputs, CannotReadViews, ViewsFirstRefused, HasViewsReadFault, LetsViews}
 use Rattle.fx_views_command.specs.Outcome.{IsViewsOutcome}
 
 -- all is done: the output is written after what was written before, and the last filestore's folder stands at OUT; all else
@@ -82,13 +82,14 @@ ViewsRow j host host' sink sink' (status.BadJournal place) = ⊥
 abbrev pub EndsAs : ViewsJob → HostView → HostView → Status → Type 0
 EndsAs j host host' st = (sink : SinkView) → ViewsRow j host host' sink sink st
 
--- the paths of a command are fit
-abbrev pub has_fit_paths : ViewsJob → Bool
-has_fit_paths j = has_fit_views j && is_fit j.out
+-- the fences let the texts and the folder be read, and OUT be written
+pub record LetsViewsRun (guard : Guard) (j : ViewsJob) : Type 0 where
+  pub inputs : LetsViews guard.may_read j
+  pub out : LetsOut guard j.out
 
--- where they are, no call is made at an unfit path
-abbrev pub ViewsAskFit : ViewsJob → HostView → HostView → Type 0
-ViewsAskFit j host host' = has_fit_paths j ≡ true → host'.unfit ≡ host.unfit
+-- nothing is asked but at the texts, in the folder and in OUT
+abbrev pub ViewsAsk : ViewsJob → HostView → HostView → Type 0
+ViewsAsk j host host' = LetsViewsRun host.guard j → host'.guard ≡ host.guard
 
 -- texts that stand for a description, views and scripts, a folder that loads, and an OUT that is an empty folder or can be made
 pub record IsProperViews (t : Tree) (j : ViewsJob) : Type 0 where

@@ -6,7 +6,7 @@ ghost use Rattle.fx_inputs.specs.Views.{HasViewsInputs};
 ghost use Rattle.fx_words.specs.JobOf.{asked_views, IsViewsJob};
 ghost use Rattle.fx_command.specs.StatusOf.{status_of};
 ghost use Rattle.fx_views_command.specs.Answers.{last_of, IsAnswered};
-ghost use Rattle.fx_views_command.specs.Rows.{ViewsRow, EndsAs, ViewsAskFit};
+ghost use Rattle.fx_views_command.specs.Rows.{ViewsRow, EndsAs, ViewsAsk};
 
 use crate::viewing::{Answer, run_bases};
 use fx_command::{Status, print_all};
@@ -24,7 +24,7 @@ fn make_ready<H: Host>(alloc: Global, job: &ViewsJob, host: &mut H) -> Result<bo
     ensures ready { IfOk result (λ there.
         IfSome (H.view host.old).told (λ t. IsReady t (asked_views job.now).out there)) }
     ensures same { ReadsOnly (H.view host.old) (H.view host.new) }
-    ensures fit { ViewsAskFit (asked_views job.now) (H.view host.old) (H.view host.new) }
+    ensures fit { ViewsAsk (asked_views job.now) (H.view host.old) (H.view host.new) }
     ensures ends { IfErr result (EndsAs (asked_views job.now) (H.view host.old) (H.view host.new)) }
 {
     let there = ready(alloc, host, job.out)?;
@@ -44,7 +44,7 @@ fn save_and_print<H: Host, S: Sink>(
         IsAnswered t (asked_views job.now) (last_of answer.now) answer.now.output there) }
     ensures row { ViewsRow (asked_views job.now) (H.view host.old) (H.view host.new)
         (S.view out.old) (S.view out.new) (status_of result) }
-    ensures fit { ViewsAskFit (asked_views job.now) (H.view host.old) (H.view host.new) }
+    ensures fit { ViewsAsk (asked_views job.now) (H.view host.old) (H.view host.new) }
 {
     save(alloc, host, job.out, there, answer.log.board().store())?;
     match print_all(out, answer.output.as_slice()) {
@@ -66,7 +66,7 @@ pub fn views<R: Threads + Wait + Sync, H: Host, S: Sink, G: Gate + Sync>(
     requires { IsViewsJob job.now }
     ensures row { ViewsRow (asked_views job.now) (H.view host.old) (H.view host.new)
         (S.view out.old) (S.view out.new) (status_of result) }
-    ensures fit { ViewsAskFit (asked_views job.now) (H.view host.old) (H.view host.new) }
+    ensures fit { ViewsAsk (asked_views job.now) (H.view host.old) (H.view host.new) }
 {
     let bases = read_bases(alloc, job, host)?;
     let there = make_ready(alloc, job, host)?;

@@ -1,11 +1,12 @@
-use Rattle.std.proofs.Common.{◌∙◌}
 use Rattle.fx_base.proofs.Errors.{if_err_of}
 use Rattle.fx_spec.specs.Bases.{base_tree}
 use Rattle.fx_inputs.specs.Inputs.{HasBase}
 use Rattle.fx_inputs.proofs.Stages.{then_told}
 use Rattle.fx_words.specs.JobOf.{asked_audit}
 use Rattle.fx_audit_command.specs.Rows.{AuditEndsAs}
-use Rattle.fx_audit_command.proofs.Auditing.{audit_ends_before, audit_fit_inputs, auditing_before, inputs_unread}
+use Rattle.fx_audit_command.proofs.Auditing.{audit_ends_before, auditing_before, inputs_unread}
+use Rattle.fx_outside.proofs.Views.{asks_both}
+use Rattle.fx_audit_command.specs.Rows.{LetsAudit}
 use Rattle.fx_audit_command.proofs.command.line_of.Goals as goal
 
 pub returns-in_err-base-clause-ends : goal.returns-in_err-base-clause-ends
@@ -30,7 +31,9 @@ returns-clause-ends g c =
     audit_ends_before (asked_audit c.args.job.now) (g.H.Host.view c.args.host.now) (g.H.Host.view c.read_base.new.host) (g.H.Host.view c.line_by.new.host) c.line_by.result c.in_ok-base.ensures.same c.line_by.ensures.ends
 
 pub returns-clause-fit : goal.returns-clause-fit
-returns-clause-fit g c = λ fit. c.line_by.ensures.fit fit ∙ c.in_ok-base.ensures.fit (audit_fit_inputs (asked_audit c.args.job.now) fit)
+returns-clause-fit g c =
+    asks_both (λ guard. LetsAudit guard.may_read (asked_audit c.args.job.now)) (g.H.Host.view c.args.host.now) (g.H.Host.view c.read_base.new.host) (g.H.Host.view c.line_by.new.host)
+    (λ lets. c.in_ok-base.ensures.fit lets.inputs) c.line_by.ensures.fit
 
 pub returns-in_err-base-clause-fit : goal.returns-in_err-base-clause-fit
-returns-in_err-base-clause-fit g c = λ fit. c.in_err-base.ensures.fit (audit_fit_inputs (asked_audit c.args.job.now) fit)
+returns-in_err-base-clause-fit g c = λ lets. c.in_err-base.ensures.fit lets.inputs

@@ -1,5 +1,5 @@
 use Rattle.std.proofs.Common.{◌≡◌, ◌-◌, ◌≤◌, length, take, IfSome}
-use Rattle.fx_outside.specs.Host.{ReadsOnly, AsksFit}
+use Rattle.fx_outside.specs.Host.{ReadsOnly, AsksAt}
 use Rattle.fx_outside.specs.Tree.{bytes_at}
 use Rattle.fx_folder.proofs.loading.read_whole.Given as goal
 
@@ -7,7 +7,7 @@ abbrev pub invariant-loop-bytes : goal.invariant-loop-bytes
 invariant-loop-bytes g l = record {
   within : length l.bytes.items ≤ l.limit;
   reads : ReadsOnly (g.H.Host.view l.fn.host) (g.H.Host.view l.host);
-  fit : AsksFit l.path (g.H.Host.view l.fn.host) (g.H.Host.view l.host);
+  fit : AsksAt l.path (g.H.Host.view l.fn.host) (g.H.Host.view l.host);
   front : IfSome (g.H.Host.view l.fn.host).told (λ tree. l.bytes.items ≡ take (length l.bytes.items) (bytes_at tree l.path));
 }
 

@@ -1,7 +1,7 @@
 use Rattle.std.proofs.Common.{refl}
 use Rattle.fx_folder.specs.Reads.{path_below}
 use Rattle.fx_folder.proofs.Growing.{file_found, folder_found}
-use Rattle.fx_folder.proofs.Places.{passed_of, on_ok, on_ok_then, file_there, folder_there, file_told, folder_result, entered_file, entered_folder, fit_of_text, text_is}
+use Rattle.fx_folder.proofs.Places.{passed_of, on_ok, on_ok_then, file_there, folder_there, file_told, folder_result, entered_file, entered_folder, lets_text, text_is}
 use Rattle.fx_folder.proofs.walking.enter.Goals as goal
 
 pub enter_file-requires-clause-file : goal.enter_file-requires-clause-file
@@ -14,7 +14,7 @@ pub returns-in-File-clause-entered : goal.returns-in-File-clause-entered
 returns-in-File-clause-entered g c = on_ok c.enter_file.result _ (entered_file (g.H.Host.view c.args.host.now).told (g.met.H.Host.whole c.args.host.now) c.args.folder.now c.args.item.now c.args.todo.now.items c.args.todo.now.items c.requires.there c.in-File.is refl)
 
 pub returns-in-File-clause-fit : goal.returns-in-File-clause-fit
-returns-in-File-clause-fit g c = λ fit. c.enter_file.ensures.fit (fit_of_text c.args.folder.now c.in_ok-text.text c.in_ok-path.path c.in_ok-path.ensures.names (text_is c.in_ok-text.text c.in_ok-path.path _ c.in_ok-text.ensures c.in_ok-path.ensures.path.1) fit)
+returns-in-File-clause-fit g c = λ fit. c.enter_file.ensures.fit (lets_text (g.H.Host.view c.args.host.now).guard.may_read c.args.folder.now c.in_ok-text.text c.in_ok-path.path c.in_ok-path.ensures.names (text_is c.in_ok-text.text c.in_ok-path.path _ c.in_ok-text.ensures c.in_ok-path.ensures.path.1) fit)
 
 pub enter_folder-requires : goal.enter_folder-requires
 enter_folder-requires g c = record { folder = folder_there (g.H.Host.view c.args.host.now).told c.args.folder.now c.in_ok-text.text c.in_ok-path.path c.args.item.now c.requires.there (passed_of c.args.folder.now c.in_ok-text.text c.in_ok-path.path c.args.item.now c.in_ok-text.ensures c.in_ok-path.ensures.path.1 c.in_ok-path.ensures.names) c.in-Folder.is }
@@ -26,7 +26,7 @@ pub returns-in-Folder-clause-entered : goal.returns-in-Folder-clause-entered
 returns-in-Folder-clause-entered g c = on_ok_then c.enter_folder.result _ _ (λ a. entered_folder (g.H.Host.view c.args.host.now).told (g.met.H.Host.whole c.args.host.now) c.args.folder.now c.in_ok-text.text c.in_ok-path.path c.args.item.now a.0 c.args.todo.now.items _ (passed_of c.args.folder.now c.in_ok-text.text c.in_ok-path.path c.args.item.now c.in_ok-text.ensures c.in_ok-path.ensures.path.1 c.in_ok-path.ensures.names) a.1 a.2) c.enter_folder.ensures.todo
 
 pub returns-in-Folder-clause-fit : goal.returns-in-Folder-clause-fit
-returns-in-Folder-clause-fit g c = λ fit. c.enter_folder.ensures.fit (fit_of_text c.args.folder.now c.in_ok-text.text c.in_ok-path.path c.in_ok-path.ensures.names (text_is c.in_ok-text.text c.in_ok-path.path _ c.in_ok-text.ensures c.in_ok-path.ensures.path.1) fit)
+returns-in-Folder-clause-fit g c = λ fit. c.enter_folder.ensures.fit (lets_text (g.H.Host.view c.args.host.now).guard.may_read c.args.folder.now c.in_ok-text.text c.in_ok-path.path c.in_ok-path.ensures.names (text_is c.in_ok-text.text c.in_ok-path.path _ c.in_ok-text.ensures c.in_ok-path.ensures.path.1) fit)
 
 pub returns-in-File-clause-found : goal.returns-in-File-clause-found
 returns-in-File-clause-found g c = file_found c.args.item.now c.args.todo.now.items c.in_ok-path.path c.enter_file.result c.in_ok-path.ensures.names c.in_ok-path.ensures.path.1 c.enter_file.ensures.found

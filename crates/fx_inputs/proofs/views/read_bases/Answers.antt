@@ -1,4 +1,4 @@
-use Rattle.std.proofs.Common.{sym, subst, ◌∙◌}
+use Rattle.std.proofs.Common.{sym, subst}
 use Rattle.fx_base.proofs.Errors.{if_err_of}
 use Rattle.fx_outside.proofs.Views.{reads_then}
 use Rattle.fx_spec.specs.Bases.{base_tree}
@@ -7,7 +7,10 @@ use Rattle.fx_show.specs.Described.{Describes}
 use Rattle.fx_inputs.specs.Inputs.{HasSpec}
 use Rattle.fx_inputs.specs.Views.{ViewsReadRow}
 use Rattle.fx_inputs.proofs.Stages.{some_spec, then_told}
-use Rattle.fx_inputs.proofs.ViewsRows.{after_views, fit_inputs, some_views, views_row_back, whole_bases}
+use Rattle.fx_inputs.proofs.ViewsRows.{after_views, some_views, views_row_back, whole_bases}
+use Rattle.fx_outside.specs.Host.{Guard}
+use Rattle.fx_outside.proofs.Views.{asks_both}
+use Rattle.fx_inputs.specs.Views.{LetsViews}
 use Rattle.fx_inputs.proofs.views.read_bases.Goals as goal
 
 pub read_views-requires : goal.read_views-requires
@@ -57,7 +60,17 @@ beside-requires g c =
     subst (Describes c.deref.result.now) (sym c.in_ok-scripts.ensures.described) (subst (λ x. Describes x c.in_ok-description.description) (sym c.deref.ensures.value) c.in_ok-description.ensures.text)
 
 pub returns-in_err-scripts-clause-fit : goal.returns-in_err-scripts-clause-fit
-returns-in_err-scripts-clause-fit g c = λ fit. c.in_err-scripts.ensures.fit (fit_inputs (asked_views c.args.job.now) fit) ∙ c.in_ok-plan.ensures.fit fit ∙ c.in_ok-description.ensures.fit fit
+returns-in_err-scripts-clause-fit g c =
+    let Lets : Guard → Type 0 = λ guard. LetsViews guard.may_read (asked_views c.args.job.now) in
+    let a = g.H.Host.view c.args.host.now in
+    let b = g.H.Host.view c.read_description.new.host in
+    let d = g.H.Host.view c.read_views.new.host in
+    asks_both Lets a b (g.H.Host.view c.read_rest.new.host) c.in_ok-description.ensures.fit (asks_both Lets b d (g.H.Host.view c.read_rest.new.host) c.in_ok-plan.ensures.fit (λ lets. c.in_err-scripts.ensures.fit lets.inputs))
 
 pub returns-clause-fit : goal.returns-clause-fit
-returns-clause-fit g c = λ fit. c.in_ok-scripts.ensures.fit (fit_inputs (asked_views c.args.job.now) fit) ∙ c.in_ok-plan.ensures.fit fit ∙ c.in_ok-description.ensures.fit fit
+returns-clause-fit g c =
+    let Lets : Guard → Type 0 = λ guard. LetsViews guard.may_read (asked_views c.args.job.now) in
+    let a = g.H.Host.view c.args.host.now in
+    let b = g.H.Host.view c.read_description.new.host in
+    let d = g.H.Host.view c.read_views.new.host in
+    asks_both Lets a b (g.H.Host.view c.read_rest.new.host) c.in_ok-description.ensures.fit (asks_both Lets b d (g.H.Host.view c.read_rest.new.host) c.in_ok-plan.ensures.fit (λ lets. c.in_ok-scripts.ensures.fit lets.inputs))

@@ -1,4 +1,4 @@
-use Rattle.std.proofs.Common.{refl, sym, subst, ◌∙◌}
+use Rattle.std.proofs.Common.{refl, sym, subst}
 use Rattle.fx_outside.proofs.Views.{reads_then}
 use Rattle.fx_spec.specs.Bases.{base_tree}
 use Rattle.fx_words.specs.JobOf.{asked, asked_journal}
@@ -7,10 +7,12 @@ use Rattle.fx_base.proofs.Errors.{err_of}
 use Rattle.fx_inputs.proofs.Stages.{inputs_read, then_told}
 use Rattle.fx_inputs.specs.Inputs.{HasBase}
 use Rattle.fx_folder.specs.Folder.{IsReady}
-use Rattle.fx_run_command.proofs.Ending.{fit_inputs, fit_out}
 use Rattle.fx_journal_command.specs.Rows.{JournalEnd}
 use Rattle.fx_journal_command.proofs.Ending.{inputs_unread, out_unready, end_back}
 use Rattle.fx_journal_command.proofs.Keeping.{keeps_back, unbegun_keeps}
+use Rattle.fx_outside.specs.Host.{Guard}
+use Rattle.fx_outside.proofs.Views.{asks_both}
+use Rattle.fx_run_command.specs.Rows.{LetsRun}
 use Rattle.fx_journal_command.proofs.command.journal.Goals as goal
 
 pub returns-in_err-base-clause-row : goal.returns-in_err-base-clause-row
@@ -69,4 +71,10 @@ returns-clause-keeps g c =
     keeps_back (asked_journal c.args.job.now) a d (g.S.Sink.view c.args.out.now) (g.S.Sink.view c.keep.new.out) (g.D.Disk.view c.args.disk.now) (g.D.Disk.view c.keep.new.disk) (reads_then a b d c.in_ok-base.ensures.same c.in_ok-there.ensures.same) c.keep.ensures.keeps
 
 pub returns-clause-fit : goal.returns-clause-fit
-returns-clause-fit g c = λ fit. c.keep.ensures.fit (fit_out (asked c.args.job.now.run) fit) ∙ c.in_ok-there.ensures.fit (fit_out (asked c.args.job.now.run) fit) ∙ c.in_ok-base.ensures.fit (fit_inputs (asked c.args.job.now.run) fit)
+returns-clause-fit g c =
+    let a = g.H.Host.view c.args.host.now in
+    let b = g.H.Host.view c.read_base.new.host in
+    let d = g.H.Host.view c.ready_out.new.host in
+    let e = g.H.Host.view c.keep.new.host in
+    let Lets : Guard → Type 0 = λ guard. LetsRun guard (asked c.args.job.now.run) in
+    asks_both Lets a b e (λ lets. c.in_ok-base.ensures.fit lets.inputs) (asks_both Lets b d e (λ lets. c.in_ok-there.ensures.fit lets.out.ready) (λ lets. c.keep.ensures.fit lets.out.written))

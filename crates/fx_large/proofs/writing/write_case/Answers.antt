@@ -1,8 +1,10 @@
-use Rattle.std.proofs.Common.{false, IfSome, sym, subst, ◌∙◌, arith}
+use Rattle.std.proofs.Common.{false, IfSome, sym, subst, arith}
 use Rattle.fx_folder.specs.Folder.{IsReady}
 use Rattle.fx_folder.proofs.Writes.{err_holds, opened}
 use Rattle.fx_large.specs.Case.{case_in}
 use Rattle.fx_large.proofs.Writings.{folder_part, stopped_in_texts, stopped_before_filestore, inner_ready, case_all, case_stopped, inner_cause, inner_fit}
+use Rattle.fx_outside.specs.Host.{LetsIn}
+use Rattle.fx_outside.proofs.Views.{asks_both}
 use Rattle.fx_large.proofs.writing.write_case.Goals as goal
 
 pub returns-in_err-make_folder-clause-part : goal.returns-in_err-make_folder-clause-part
@@ -40,4 +42,4 @@ returns-clause-fault g c =
 
 pub returns-clause-fit : goal.returns-clause-fit
 returns-clause-fit g c =
-    inner_fit (g.H.Host.view c.args.host.now) (g.H.Host.view c.write_texts.new.host) (g.H.Host.view c.save.new.host) c.args.path.now (λ fit. c.write_texts.ensures.fit fit ∙ c.make_folder.ensures.fit fit) (rw c.in_ok-inside.ensures at c.save.ensures.fit)
+    inner_fit (g.H.Host.view c.args.host.now) (g.H.Host.view c.write_texts.new.host) (g.H.Host.view c.save.new.host) c.args.path.now (asks_both (λ guard. LetsIn guard.may_write c.args.path.now) (g.H.Host.view c.args.host.now) (g.H.Host.view c.make_folder.new.host) (g.H.Host.view c.write_texts.new.host) (λ lets. c.make_folder.ensures.fit lets.itself) c.write_texts.ensures.fit) (rw c.in_ok-inside.ensures at c.save.ensures.fit)

@@ -1,4 +1,4 @@
-use Rattle.std.proofs.Common.{sym, subst, ◌∙◌}
+use Rattle.std.proofs.Common.{sym, subst}
 use Rattle.fx_spec.specs.Bases.{base_tree}
 use Rattle.fx_words.specs.JobOf.{asked_recover}
 use Rattle.fx_command.specs.StatusOf.{status_of}
@@ -9,6 +9,8 @@ use Rattle.fx_inputs.proofs.Stages.{then_told}
 use Rattle.fx_durable.specs.Journal.{turns_of}
 use Rattle.fx_recover_command.specs.Rows.{RecoverEnd}
 use Rattle.fx_recover_command.proofs.Ending.{unready, no_memory, answered, end_back}
+use Rattle.fx_command.specs.Out.{LetsOut}
+use Rattle.fx_outside.proofs.Views.{asks_both}
 use Rattle.fx_recover_command.proofs.command.leave.Goals as goal
 
 pub returns-in_err-there-clause-end : goal.returns-in_err-there-clause-end
@@ -47,4 +49,6 @@ returns-clause-end g c disk disk' has =
     (c.save_and_print.ensures.end disk disk' (answered j (base_tree c.args.base.now.value) (turns_of c.args.order.now) r.store.nodes r.line.items c.in_ok-there.there a b disk c.in_ok-there.ensures.same has c.in_ok-there.ensures.ready c.in_ok-recovered.ensures.last c.in_ok-recovered.ensures.line))
 
 pub returns-clause-fit : goal.returns-clause-fit
-returns-clause-fit g c = λ fit. c.save_and_print.ensures.fit fit ∙ c.in_ok-there.ensures.fit fit
+returns-clause-fit g c =
+    asks_both (λ guard. LetsOut guard (asked_recover c.args.job.now).out) (g.H.Host.view c.args.host.now) (g.H.Host.view c.ready_out.new.host) (g.H.Host.view c.save_and_print.new.host)
+    (λ lets. c.in_ok-there.ensures.fit lets.ready) (λ lets. c.save_and_print.ensures.fit lets.written)

@@ -1,4 +1,4 @@
-use Rattle.std.proofs.Common.{inl, refl, sym, subst, ◌∙◌}
+use Rattle.std.proofs.Common.{inl, refl, sym, subst}
 use Rattle.fx_spec.specs.Bases.{base_tree}
 use Rattle.fx_spec.specs.Order.{IsLegal}
 use Rattle.fx_words.specs.JobOf.{asked_recover}
@@ -7,7 +7,9 @@ use Rattle.fx_base.proofs.Errors.{err_of}
 use Rattle.fx_durable.specs.Journal.{turns_of}
 use Rattle.fx_recover_command.specs.Rows.{RecoverEnd, StaysCalm}
 use Rattle.fx_recover_command.specs.Unread.{OrderCause}
-use Rattle.fx_recover_command.proofs.Ending.{inputs_unread, order_unread, has_order, end_back, fit_inputs, fit_out}
+use Rattle.fx_recover_command.proofs.Ending.{inputs_unread, order_unread, has_order, end_back}
+use Rattle.fx_outside.proofs.Views.{asks_both}
+use Rattle.fx_recover_command.specs.Rows.{LetsRecover}
 use Rattle.fx_recover_command.proofs.command.recover.Goals as goal
 
 pub returns-in_err-base-clause-row : goal.returns-in_err-base-clause-row
@@ -53,4 +55,6 @@ returns-clause-row g c =
     )
 
 pub returns-clause-fit : goal.returns-clause-fit
-returns-clause-fit g c = λ fit. c.leave.ensures.fit (fit_out (asked_recover c.args.job.now) fit) ∙ c.in_ok-base.ensures.fit (fit_inputs (asked_recover c.args.job.now) fit)
+returns-clause-fit g c =
+    asks_both (λ guard. LetsRecover guard (asked_recover c.args.job.now)) (g.H.Host.view c.args.host.now) (g.H.Host.view c.read_base.new.host) (g.H.Host.view c.leave.new.host)
+    (λ lets. c.in_ok-base.ensures.fit lets.inputs) (λ lets. c.leave.ensures.fit lets.out)

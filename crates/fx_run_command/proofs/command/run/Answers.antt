@@ -1,4 +1,4 @@
-use Rattle.std.proofs.Common.{sym, subst, ◌∙◌}
+use Rattle.std.proofs.Common.{sym, subst}
 use Rattle.fx_spec.specs.Bases.{base_tree}
 use Rattle.fx_words.specs.JobOf.{asked}
 use Rattle.fx_run_command.specs.Answers.{last_of}
@@ -6,8 +6,11 @@ use Rattle.fx_run_command.specs.Rows.{RunRow}
 use Rattle.fx_command.specs.StatusOf.{status_of}
 use Rattle.fx_base.proofs.Errors.{err_of}
 use Rattle.fx_inputs.proofs.Stages.{inputs_read}
-use Rattle.fx_run_command.proofs.Ending.{read_row, ends_back, fit_inputs}
+use Rattle.fx_run_command.proofs.Ending.{read_row, ends_back}
 use Rattle.fx_run_command.proofs.Stages.{can_save}
+use Rattle.fx_outside.specs.Host.{Guard}
+use Rattle.fx_outside.proofs.Views.{asks_both}
+use Rattle.fx_run_command.specs.Rows.{LetsRun}
 use Rattle.fx_run_command.proofs.command.run.Goals as goal
 
 pub returns-in_err-base-clause-row : goal.returns-in_err-base-clause-row
@@ -38,4 +41,10 @@ save_and_print-requires g c =
     c.in_ok-base.ensures.same c.in_ok-there.ensures.same c.in_ok-base.ensures.read c.in_ok-there.ensures.ready c.in_ok-answer.ensures
 
 pub returns-clause-fit : goal.returns-clause-fit
-returns-clause-fit g c = λ fit. c.save_and_print.ensures.fit fit ∙ c.in_ok-there.ensures.fit fit ∙ c.in_ok-base.ensures.fit (fit_inputs (asked c.args.job.now) fit)
+returns-clause-fit g c =
+    let a = g.H.Host.view c.args.host.now in
+    let b = g.H.Host.view c.read_base.new.host in
+    let d = g.H.Host.view c.make_ready.new.host in
+    let e = g.H.Host.view c.save_and_print.new.host in
+    let Lets : Guard → Type 0 = λ guard. LetsRun guard (asked c.args.job.now) in
+    asks_both Lets a b e (λ lets. c.in_ok-base.ensures.fit lets.inputs) (asks_both Lets b d e c.in_ok-there.ensures.fit c.save_and_print.ensures.fit)
