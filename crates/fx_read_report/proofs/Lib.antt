@@ -16,3 +16,4 @@ pub mod Texts
 pub mod Printing
 pub mod Taking
 pub mod Reporting
+pub mod LooseLaws

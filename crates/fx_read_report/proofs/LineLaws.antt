@@ -1,5 +1,5 @@
 -- The lines of entries and retries are read as they are spelled, and in no other way.
-use Rattle.std.proofs.Common.{◌≡◌, ℕ, ◌^◌, ◌<◌, List, [], ◌++◌, Option, Some, None, Result, Ok, Err, IfOk, Bool, true, false, codes, refl, sym, ap, subst, ◌∙◌, append_assoc, append-nil}
+use Rattle.std.proofs.Common.{◌≡◌, ℕ, ◌^◌, ◌<◌, List, [], ◌++◌, Option, Some, None, Result, Ok, Err, IfOk, Bool, true, false, codes, refl, sym, ap, ◌∙◌, append_assoc, append-nil}
 use Rattle.std.specs.Option.{option_map, option_and_then}
 use Rattle.std.specs.Prelude.{bytes_eq}
 use Rattle.std.specs.Cmp.Lexicographic.{bytes_decides}
@@ -9,20 +9,20 @@ use Rattle.fx_machine.specs.declared.retry.Retry.{Retry}
 use Rattle.fx_report.specs.Print.{quote, value_text}
 use Rattle.fx_report.specs.Report.{end_text, field}
 use Rattle.fx_read_report.specs.Numbers.{EndsDigits, after}
-use Rattle.fx_read_report.proofs.Digits.{after_read, after_spelled, chained, mapped}
+use Rattle.fx_read_report.proofs.Digits.{after_read, after_spelled}
 use Rattle.fx_read_report.specs.Form.{IsFormEnd, IsFormRetry}
-use Rattle.fx_read_report.specs.Lines.{FindsLine, Line, IsLine, head, entries, entry, print, retries, retry, final, line_of, line_text}
+use Rattle.fx_read_report.specs.Lines.{FindsLine, Tells, Line, IsLine, head, entries, entry, print, retries, retry, final, line_of, line_text}
 use Rattle.fx_read_report.specs.Kinds.{kind_of}
 use Rattle.fx_read_report.specs.declared.lines.Line as held
 use Rattle.fx_read_report.specs.declared.lines.Kind.{Kind}
 use Rattle.fx_read_report.specs.declared.lines.Kind.TheVariants as kind
 use Rattle.fx_expr.specs.Tree.{Tree}
 use Rattle.fx_read_report.specs.Values.{IsPrinted, IsWholeValue}
-use Rattle.fx_read_report.proofs.Cancels.{one_value}
+use Rattle.fx_read_report.proofs.LooseLaws.{one_value}
 use Rattle.fx_read_report.proofs.Finds.{ends_at}
 use Rattle.fx_read_report.specs.declared.values.TheConstants.{VALUE_LEVELS}
-use Rattle.fx_read_report.specs.Reads.{end_at, entry_at, field_at, last_at, path_at, retry_at, small_at}
-use Rattle.fx_read_report.proofs.PartLaws.{end_read, end_spelled, field_read, field_spelled, last_read, last_spelled, path_read, path_spelled, small_read, small_spelled}
+use Rattle.fx_read_report.specs.Reads.{end_at, entries_at, entry_at, field_at, final_at, head_at, last_at, path_at, retries_at, retry_at, small_at}
+use Rattle.fx_read_report.proofs.PartLaws.{end_read, field_read, last_read, path_read, small_read}
 
 field_ends : (words : List ℕ) (n : ℕ) (x : List ℕ) → EndsDigits (codes " " ++ words) → EndsDigits (field (codes " " ++ words) n ++ x)
 unfolding field
@@ -54,35 +54,6 @@ entry_read i k j e p q r s =
     ∙ (ap (λ o. option_and_then (λ x. with_shell i x) o) (small_read (codes " shell ") k txn q (field_ends (codes "txn ") j end_ refl))
     ∙ (ap (λ o. option_and_then (λ x. with_txn i k x) o) (small_read (codes " txn ") j end_ r refl)
     ∙ (ap (λ o. option_and_then (λ x. ended_entry i k j x) o) (after_read (codes " ") (end_text e)) ∙ ap (λ o. option_map (λ x. entry i k j x) o) (end_read e s)))))
-
-pub record ReadsLine (text : List ℕ) (l : Line) : Type 0 where
-  pub is : IsLine l
-  pub spelled : text ≡ line_text l
-
-pub entry_spelled : (text : List ℕ) (l : Line) → entry_at text ≡ Some l → ReadsLine text l
-unfolding entry_at
-entry_spelled text l h =
-    let one = chained with_number (field_at (codes "entry ") text) l h in
-    let i = one.0 in
-    let two = chained (λ k. with_shell i.0 k) (small_at (codes " shell ") i.1) l one.2 in
-    let k = two.0 in
-    let three = chained (λ j. with_txn i.0 k.0 j) (small_at (codes " txn ") k.1) l two.2 in
-    let j = three.0 in
-    let four = chained (λ rest. ended_entry i.0 k.0 j.0 rest) (after (codes " ") j.1) l three.2 in
-    let rest = four.0 in
-    let five = mapped (λ e. entry i.0 k.0 j.0 e) (end_at rest) l four.2 in
-    let e = five.0 in
-    let number = field_spelled (codes "entry ") text i.0 i.1 one.1 in
-    let shell = small_spelled (codes " shell ") i.1 k.0 k.1 two.1 in
-    let txn = small_spelled (codes " txn ") k.1 j.0 j.1 three.1 in
-    let behind = after_spelled (codes " ") j.1 rest four.1 in
-    let end_ = end_spelled rest e five.1 in
-    subst (ReadsLine text) five.2 (record {
-      is = (number.small, shell.small, txn.small, end_.form);
-      spelled =
-          number.parts ∙ (ap (λ t. field (codes "entry ") i.0 ++ t) (shell.parts ∙ ap (λ t. field (codes " shell ") k.0 ++ t) (txn.parts ∙ ap (λ t. field (codes " txn ") j.0 ++ t) (behind ∙ ap (λ t. codes " " ++ t) end_.spelled)))
-          ∙ sym (entry_form (field (codes "entry ") i.0) (field (codes " shell ") k.0) (field (codes " txn ") j.0) (end_text e)));
-    })
 
 -- retries
 
@@ -116,31 +87,6 @@ retry_read r p =
     ∙ (ap (λ o. option_and_then (λ x. retry_entry r.shell r.txn x) o) (field_read (codes " entry ") r.entry path p.entry refl)
     ∙ (ap (λ o. option_and_then (λ x. pathed r.shell r.txn r.entry x) o) (after_read (codes " path ") (quote (path_text r.path))) ∙ ap (λ o. option_map (λ x. retry_of r.shell r.txn r.entry x) o) (path_read r.path p.path)))))
 
-pub retry_spelled : (text : List ℕ) (l : Line) → retry_at text ≡ Some l → ReadsLine text l
-unfolding retry_at
-retry_spelled text l h =
-    let one = chained retry_shell (small_at (codes "retry shell ") text) l h in
-    let k = one.0 in
-    let two = chained (λ j. retry_txn k.0 j) (small_at (codes " txn ") k.1) l one.2 in
-    let j = two.0 in
-    let three = chained (λ i. retry_entry k.0 j.0 i) (field_at (codes " entry ") j.1) l two.2 in
-    let i = three.0 in
-    let four = chained (λ rest. pathed k.0 j.0 i.0 rest) (after (codes " path ") i.1) l three.2 in
-    let rest = four.0 in
-    let five = mapped (λ p. retry_of k.0 j.0 i.0 p) (path_at rest) l four.2 in
-    let p = five.0 in
-    let shell = small_spelled (codes "retry shell ") text k.0 k.1 one.1 in
-    let txn = small_spelled (codes " txn ") k.1 j.0 j.1 two.1 in
-    let number = field_spelled (codes " entry ") j.1 i.0 i.1 three.1 in
-    let behind = after_spelled (codes " path ") i.1 rest four.1 in
-    let path = path_spelled rest p five.1 in
-    subst (ReadsLine text) five.2 (record {
-      is = record { shell = shell.small; txn = txn.small; entry = number.small; path = path.0 };
-      spelled =
-          shell.parts ∙ (ap (λ t. field (codes "retry shell ") k.0 ++ t) (txn.parts ∙ ap (λ t. field (codes " txn ") j.0 ++ t) (number.parts ∙ ap (λ t. field (codes " entry ") i.0 ++ t) (behind ∙ ap (λ t. codes " path " ++ t) path.1)))
-          ∙ sym (retry_form (field (codes "retry shell ") k.0) (field (codes " txn ") j.0) (field (codes " entry ") i.0) (quote (path_text p))));
-    })
-
 -- ---- kinds
 
 abbrev kind_in : Line → Kind
@@ -165,43 +111,71 @@ line_kind final = refl
 same_kind : (text : List ℕ) (l : Line) → text ≡ line_text l → kind_in l ≡ kind_of text
 same_kind text l e = sym (line_kind l) ∙ ap kind_of (sym e)
 
-pub head_none : (text : List ℕ) → kind_of text ≡ kind.Head → (text ≡ codes "forest report 1" → ⊥) → FindsLine text None
-head_none text k none head p e = none e
-head_none text k none l p e = let h = same_kind text l e ∙ k in absurd (cc)
+-- what a reader of lines of one kind reads, if it reads each of them as it is spelled
+tells : (text : List ℕ) (o : Option Line) (k : Kind) (at : List ℕ → Option Line) → kind_of text ≡ k → o ≡ at text → ((l : Line) → IsLine l → kind_in l ≡ k → at (line_text l) ≡ Some l) → Tells text o
+tells text o k at is read law l p e = read ∙ (ap at e ∙ law l p (same_kind text l e ∙ is))
 
-pub final_none : (text : List ℕ) → kind_of text ≡ kind.Final → (text ≡ codes "end" → ⊥) → FindsLine text None
-final_none text k none final p e = none e
-final_none text k none l p e = let h = same_kind text l e ∙ k in absurd (cc)
+pub tells_head : (text : List ℕ) (o : Option Line) → kind_of text ≡ kind.Head → o ≡ head_at text → Tells text o
+unfolding head_at
+tells_head text o is read = tells text o kind.Head head_at is read law
+  where
+    law : (l : Line) → IsLine l → kind_in l ≡ kind.Head → head_at (line_text l) ≡ Some l
+    law head p k = refl
+    law l p k = absurd (cc)
 
-pub entries_none : (text : List ℕ) → kind_of text ≡ kind.Entries → None ≡ last_at (codes "entries ") text → FindsLine text None
-entries_none text k none (entries n) p e = let there = ap (last_at (codes "entries ")) e ∙ last_read (codes "entries ") n p in absurd (cc)
-entries_none text k none l p e = let h = same_kind text l e ∙ k in absurd (cc)
+pub tells_entries : (text : List ℕ) (o : Option Line) → kind_of text ≡ kind.Entries → o ≡ entries_at text → Tells text o
+unfolding entries_at
+tells_entries text o is read = tells text o kind.Entries entries_at is read law
+  where
+    law : (l : Line) → IsLine l → kind_in l ≡ kind.Entries → entries_at (line_text l) ≡ Some l
+    law (entries n) p k = ap (option_map entries) (last_read (codes "entries ") n p)
+    law l p k = absurd (cc)
 
-pub entries_some : (text : List ℕ) (n : ℕ) → Some n ≡ last_at (codes "entries ") text → FindsLine text (Some (entries n))
-entries_some text n e = last_spelled (codes "entries ") text n (sym e)
+pub tells_entry : (text : List ℕ) (o : Option Line) → kind_of text ≡ kind.Entry → o ≡ entry_at text → Tells text o
+tells_entry text o is read = tells text o kind.Entry entry_at is read law
+  where
+    law : (l : Line) → IsLine l → kind_in l ≡ kind.Entry → entry_at (line_text l) ≡ Some l
+    law (entry i s t d) p k = entry_read i s t d p.0 p.1 p.2 p.3
+    law l p k = absurd (cc)
 
-pub retries_none : (text : List ℕ) → kind_of text ≡ kind.Retries → None ≡ last_at (codes "retries ") text → FindsLine text None
-retries_none text k none (retries n) p e = let there = ap (last_at (codes "retries ")) e ∙ last_read (codes "retries ") n p in absurd (cc)
-retries_none text k none l p e = let h = same_kind text l e ∙ k in absurd (cc)
+pub tells_retries : (text : List ℕ) (o : Option Line) → kind_of text ≡ kind.Retries → o ≡ retries_at text → Tells text o
+unfolding retries_at
+tells_retries text o is read = tells text o kind.Retries retries_at is read law
+  where
+    law : (l : Line) → IsLine l → kind_in l ≡ kind.Retries → retries_at (line_text l) ≡ Some l
+    law (retries n) p k = ap (option_map retries) (last_read (codes "retries ") n p)
+    law l p k = absurd (cc)
 
-pub retries_some : (text : List ℕ) (n : ℕ) → Some n ≡ last_at (codes "retries ") text → FindsLine text (Some (retries n))
-retries_some text n e = last_spelled (codes "retries ") text n (sym e)
+pub tells_retry : (text : List ℕ) (o : Option Line) → kind_of text ≡ kind.Retry → o ≡ retry_at text → Tells text o
+tells_retry text o is read = tells text o kind.Retry retry_at is read law
+  where
+    law : (l : Line) → IsLine l → kind_in l ≡ kind.Retry → retry_at (line_text l) ≡ Some l
+    law (retry r) p k = retry_read r p
+    law l p k = absurd (cc)
 
-entry_none : (text : List ℕ) → kind_of text ≡ kind.Entry → entry_at text ≡ None → FindsLine text None
-entry_none text k none (entry i s j d) p e = let there = ap entry_at e ∙ entry_read i s j d p.0 p.1 p.2 p.3 in absurd (cc)
-entry_none text k none l p e = let h = same_kind text l e ∙ k in absurd (cc)
+pub tells_final : (text : List ℕ) (o : Option Line) → kind_of text ≡ kind.Final → o ≡ final_at text → Tells text o
+unfolding final_at
+tells_final text o is read = tells text o kind.Final final_at is read law
+  where
+    law : (l : Line) → IsLine l → kind_in l ≡ kind.Final → final_at (line_text l) ≡ Some l
+    law final p k = refl
+    law l p k = absurd (cc)
 
-pub entry_finds : (text : List ℕ) (o : Option Line) → kind_of text ≡ kind.Entry → o ≡ entry_at text → FindsLine text o
-entry_finds text None k e = entry_none text k (sym e)
-entry_finds text (Some l) k e = let r = entry_spelled text l (sym e) in (r.is, r.spelled)
+-- ---- what is printed again
 
-retry_none : (text : List ℕ) → kind_of text ≡ kind.Retry → retry_at text ≡ None → FindsLine text None
-retry_none text k none (retry r) p e = let there = ap retry_at e ∙ retry_read r p in absurd (cc)
-retry_none text k none l p e = let h = same_kind text l e ∙ k in absurd (cc)
+pub found_same : (text : List ℕ) (l : Line) (b : Bool) → IsLine l → b ≡ bytes_eq (line_text l) text → b ≡ true → FindsLine text (Some l)
+found_same text l b is e t = (is, sym ((bytes_decides (line_text l) text).0 (sym e ∙ t)))
 
-pub retry_finds : (text : List ℕ) (o : Option Line) → kind_of text ≡ kind.Retry → o ≡ retry_at text → FindsLine text o
-retry_finds text None k e = retry_none text k (sym e)
-retry_finds text (Some l) k e = let r = retry_spelled text l (sym e) in (r.is, r.spelled)
+pub found_other : (text : List ℕ) (l : Line) (b : Bool) → Tells text (Some l) → b ≡ bytes_eq (line_text l) text → b ≡ false → FindsLine text None
+found_other text l b tell e f k p s =
+    let same : Some l ≡ Some k = tell k p s in
+    let is : l ≡ k = cc in
+    let spelled : bytes_eq (line_text l) text ≡ true = (bytes_decides (line_text l) text).1 (ap line_text is ∙ sym s) in
+    let wrong : true ≡ false = sym spelled ∙ (sym e ∙ f) in
+    absurd (cc)
+
+pub found_none : (text : List ℕ) → Tells text None → FindsLine text None
+found_none text tell l p s = let wrong : None ≡ Some l = tell l p s in absurd (cc)
 
 pub print_unopened : (text : List ℕ) → kind_of text ≡ kind.Print → None ≡ after (codes "print ") text → FindsLine text None
 print_unopened text k none (print v) p e = let there = ap (after (codes "print ")) e ∙ after_read (codes "print ") (value_text v) in absurd (cc)
@@ -216,23 +190,13 @@ print_none text rest k there none l p e = let h = same_kind text l e ∙ k in ab
 pub print_some : (text rest : List ℕ) (v : Tree) → Some rest ≡ after (codes "print ") text → IsWholeValue VALUE_LEVELS rest (Some v) → FindsLine text (Some (print v))
 print_some text rest v there is = (is.0, after_spelled (codes "print ") text rest (sym there) ∙ ap (λ t. codes "print " ++ t) is.1)
 
-pub finds_ok : {E : Type 0} (text : List ℕ) (r : Result (Option held.Line) E) (at : List ℕ → Option Line) → ((o : Option Line) → o ≡ at text → FindsLine text o) → IfOk r (λ found. option_map line_of found ≡ at text) → IfOk r (λ found. FindsLine text (option_map line_of found))
-finds_ok text (Ok found) at law e = law (option_map line_of found) e
-finds_ok text (Err f) at law e = tt
-
-pub not_word : (text word slice : List ℕ) (b : Bool) → slice ≡ word → b ≡ bytes_eq text slice → b ≡ false → text ≡ word → ⊥
-not_word text word slice b is e f same =
-    let there : bytes_eq text slice ≡ true = (bytes_decides text slice).1 (same ∙ sym is) in
-    let wrong : true ≡ false = sym there ∙ (sym e ∙ f) in
-    absurd (cc)
-
 -- ---- a line's text tells the line
 
 kinds_of : (l k : Line) → line_text l ≡ line_text k → kind_in l ≡ kind_in k
 kinds_of l k e = sym (line_kind l) ∙ (ap kind_of e ∙ line_kind k)
 
 value_same : (v w : Tree) → IsPrinted VALUE_LEVELS v → IsPrinted VALUE_LEVELS w → value_text v ≡ value_text w → v ≡ w
-value_same v w p q e = (one_value VALUE_LEVELS VALUE_LEVELS v w [] [] p q (ends_at v [] tt) (ends_at w [] tt) (append-nil (value_text v) ∙ (e ∙ sym (append-nil (value_text w))))).0
+value_same v w p q e = (one_value VALUE_LEVELS v w [] [] p q (ends_at v [] tt) (ends_at w [] tt) (append-nil (value_text v) ∙ (e ∙ sym (append-nil (value_text w))))).0
 
 pub one_line : (l k : Line) → IsLine l → IsLine k → line_text l ≡ line_text k → l ≡ k
 one_line head head p q e = refl
@@ -260,3 +224,16 @@ one_line (retry r) (retry s) p q e =
 one_line (retry r) k p q e = let h = kinds_of (retry r) k e in absurd (cc)
 one_line final final p q e = refl
 one_line final k p q e = let h = kinds_of final k e in absurd (cc)
+
+-- the line that was found is the only one
+pub tells_found : (text : List ℕ) (o : Option Line) → FindsLine text o → Tells text o
+tells_found text None none l p s = absurd (none l p s)
+tells_found text (Some k) found l p s = ap Some (one_line k l found.0 p (sym found.1 ∙ s))
+
+pub tells_ok : {E : Type 0} (text : List ℕ) (r : Result (Option held.Line) E) (at : List ℕ → Option Line) → ((o : Option Line) → o ≡ at text → Tells text o) → IfOk r (λ found. option_map line_of found ≡ at text) → IfOk r (λ found. Tells text (option_map line_of found))
+tells_ok text (Ok found) at law e = law (option_map line_of found) e
+tells_ok text (Err f) at law e = tt
+
+pub tells_print : {E : Type 0} (text : List ℕ) (r : Result (Option held.Line) E) → IfOk r (λ found. FindsLine text (option_map line_of found)) → IfOk r (λ found. Tells text (option_map line_of found))
+tells_print text (Ok found) h = tells_found text (option_map line_of found) h
+tells_print text (Err f) h = tt

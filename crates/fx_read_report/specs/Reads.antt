@@ -10,7 +10,7 @@ use Rattle.fx_spec.specs.declared.refusal.End.{End}
 use Rattle.fx_spec.specs.declared.refusal.End.TheVariants as end
 use Rattle.fx_read_report.specs.Numbers.{after, leading_number}
 use Rattle.fx_read_report.specs.Quotes.{unquoted}
-use Rattle.fx_read_report.specs.Lines.{Line, entry, retry}
+use Rattle.fx_read_report.specs.Lines.{Line, entries, entry, final, head, retries, retry}
 
 -- the number behind words, and what stands behind it
 unfoldable pub field_at : List ℕ → List ℕ → Option (ℕ × List ℕ)
@@ -47,29 +47,6 @@ abbrev pub plain_of : ℕ → Option Refusal
 plain_of n =
     cond (nat_eq n 1) (Some refusal.NoStep) (cond (nat_eq n 2) (Some refusal.NoElement) (cond (nat_eq n 3) (Some refusal.NoPlace) (cond (nat_eq n 4) (Some refusal.Lacks) (cond (nat_eq n 5) (Some refusal.WrongForm) (cond (nat_eq n 7) (Some refusal.TooDeep) (cond (nat_eq n 8) (Some refusal.BadName) (cond (nat_eq n 9) (Some refusal.NoDefault) (cond (nat_eq n 11) (Some refusal.Absent) (cond (nat_eq n 12) (Some refusal.Exists) (cond (nat_eq n 13) (Some refusal.TooUnfolded) None))))))))))
 
-abbrev pub plain_name : Refusal → List ℕ
-plain_name refusal.NoStep = codes "NoStep"
-plain_name refusal.NoElement = codes "NoElement"
-plain_name refusal.NoPlace = codes "NoPlace"
-plain_name refusal.Lacks = codes "Lacks"
-plain_name refusal.WrongForm = codes "WrongForm"
-plain_name (refusal.Blocked path) = []
-plain_name refusal.TooDeep = codes "TooDeep"
-plain_name refusal.BadName = codes "BadName"
-plain_name refusal.NoDefault = codes "NoDefault"
-plain_name (refusal.Expr f) = []
-plain_name refusal.Absent = codes "Absent"
-plain_name refusal.Exists = codes "Exists"
-plain_name refusal.TooUnfolded = codes "TooUnfolded"
-
-abbrev pub when_named : List ℕ → Option Refusal → Option Refusal
-when_named name None = None
-when_named name (Some r) = cond (bytes_eq name (plain_name r)) (Some r) None
-
--- the refusal of this number and name, if it carries nothing
-unfoldable pub plain_at : ℕ → List ℕ → Option Refusal
-plain_at n name = when_named name (plain_of n)
-
 -- the refusal of an expression's fault
 unfoldable pub fault_at : List ℕ → Option Refusal
 fault_at name =
@@ -78,9 +55,9 @@ fault_at name =
 unfoldable pub blocked_at : List ℕ → Option Refusal
 blocked_at name = option_map refusal.Blocked (option_and_then path_at (after (codes "Blocked ") name))
 
--- the refusal of this number and name
+-- the refusal of this number, and of this name where it carries something
 unfoldable pub refusal_at : ℕ → List ℕ → Option Refusal
-refusal_at n name = cond (nat_eq n 6) (blocked_at name) (cond (nat_eq n 10) (fault_at name) (plain_at n name))
+refusal_at n name = cond (nat_eq n 6) (blocked_at name) (cond (nat_eq n 10) (fault_at name) (plain_of n))
 
 -- where a transaction stopped
 unfoldable pub stop_at : List ℕ → Option End
@@ -89,6 +66,18 @@ stop_at bytes =
 
 unfoldable pub end_at : List ℕ → Option End
 end_at bytes = cond (bytes_eq bytes (codes "done")) (Some end.Done) (cond (bytes_eq bytes (codes "aborted")) (Some end.Aborted) (stop_at bytes))
+
+unfoldable pub head_at : List ℕ → Option Line
+head_at text = cond (bytes_eq text (codes "forest report 1")) (Some head) None
+
+unfoldable pub entries_at : List ℕ → Option Line
+entries_at text = option_map entries (last_at (codes "entries ") text)
+
+unfoldable pub retries_at : List ℕ → Option Line
+retries_at text = option_map retries (last_at (codes "retries ") text)
+
+unfoldable pub final_at : List ℕ → Option Line
+final_at text = cond (bytes_eq text (codes "end")) (Some final) None
 
 -- the line of an entry
 unfoldable pub entry_at : List ℕ → Option Line

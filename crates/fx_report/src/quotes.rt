@@ -9,7 +9,7 @@ use fx_store::{Name, Path};
 use itoa::Buffer;
 
 /// Adds the bytes at the end of the text.
-pub(crate) fn add_bytes(out: &mut Vec<u8>, bytes: &[u8]) -> Result<(), NoMemory>
+pub fn add_bytes(out: &mut Vec<u8>, bytes: &[u8]) -> Result<(), NoMemory>
     ensures { OnOk result (out.new.items ≡ out.old.items ++ bytes.now) }
 {
     out.extend_from_slice(bytes)?;
@@ -17,7 +17,7 @@ pub(crate) fn add_bytes(out: &mut Vec<u8>, bytes: &[u8]) -> Result<(), NoMemory>
 }
 
 /// Adds a number in decimal digits, without leading zeros.
-pub(crate) fn add_number(out: &mut Vec<u8>, number: u64) -> Result<(), NoMemory>
+pub fn add_number(out: &mut Vec<u8>, number: u64) -> Result<(), NoMemory>
     ensures { OnOk result (out.new.items ≡ out.old.items ++ decimal number) }
 {
     let mut buffer = Buffer::new();
@@ -100,7 +100,7 @@ fn add_spelled_names(out: &mut Vec<u8>, path: &Path) -> Result<(), NoMemory>
 }
 
 /// Adds the text of a path between quotation marks.
-pub(crate) fn add_quoted_path(out: &mut Vec<u8>, path: &Path) -> Result<(), NoMemory>
+pub fn add_quoted_path(out: &mut Vec<u8>, path: &Path) -> Result<(), NoMemory>
     ensures { OnOk result (out.new.items ≡ out.old.items ++ quote (path_text path.now)) }
 {
     if path.len() == 0 {
