@@ -1,7 +1,7 @@
 -- Numbers are read as they are spelled, in decimal digits without leading zeros.
-use Rattle.std.proofs.Common.{◌≡◌, ℕ, zero, suc, ◌+◌, ◌-◌, ◌^◌, ◌<◌, ℤ, pos, negsuc, Bool, true, false, cond, ◌&&◌, nat_eq, nat_lt, List, [], ◌∷◌, ◌++◌, length, take, drop, Option, Some, None, Result, Ok, MatchOption, Bor, refl, ap, sym, subst, ◌∙◌, arith, rules, codes, take-append-drop}
+use Rattle.std.proofs.Common.{◌≡◌, ℕ, suc, ◌+◌, ◌-◌, ◌^◌, ◌<◌, ℤ, pos, negsuc, Bool, true, false, cond, ◌&&◌, nat_eq, nat_lt, List, [], ◌∷◌, ◌++◌, length, take, drop, Option, Some, None, Result, Ok, MatchOption, Bor, refl, ap, sym, subst, ◌∙◌, arith, rules, codes}
 use Rattle.std.specs.Result.{result_ok}
-use Rattle.std.specs.Option.{option_map, option_and_then}
+use Rattle.std.specs.Option.{option_map}
 use Rattle.std.specs.List.{list_all, prefix_len}
 use Rattle.std.specs.Fmt.{decimal, signed_decimal}
 use Rattle.std.specs.Prelude.{bytes_eq}
@@ -12,7 +12,7 @@ use Rattle.std.proofs.lemmas.Bool.Decides.{nat_tests}
 use Rattle.std.proofs.lemmas.Str.Parse.{IsNumeralModel, numerals_by_value}
 use Rattle.std.proofs.lemmas.Str.{IsUtf8-from_ascii}
 use Rattle.std.proofs.lemmas.Fmt.{IsAscii-from_digits, decimal_is_IsNumeral, digits_decimal, decimal_nonempty, parse-decimal}
-use Rattle.std.proofs.lemmas.Option.{cond_some}
+use Rattle.std.proofs.lemmas.Option.{cond_some, some_pair_parts}
 use Rattle.std.specs.Cmp.Lexicographic.{nat_list_eq_equiv, bytes_decides}
 use Rattle.fx_report.specs.Readable.{IsInteger}
 use Rattle.fx_read_report.specs.Numbers.{EndsDigits, after, is_digit, number_of, leading_number, leading_integer, integer_by, signed, positive, negative}
@@ -114,38 +114,9 @@ leading_read n x small s =
     ∙ (ap (λ t. option_map (λ v. (v, drop (length ds) b)) (number_of t)) (take_front ds x)
     ∙ (ap (λ o. option_map (λ v. (v, drop (length ds) b)) o) (number_read n small) ∙ ap (λ t. Some (n, t)) (drop_front ds x)))
 
-pub record Leads (bytes : List ℕ) (n : ℕ) (x : List ℕ) : Type 0 where
-  pub small : n < 2 ^ 64
-  pub parts : bytes ≡ decimal n ++ x
-  pub ends : EndsDigits x
-
-pub mapped : {A B : Type 0} (f : A → B) (o : Option A) (y : B) → option_map f o ≡ Some y → (a : A) × (o ≡ Some a) × (f a ≡ y)
-mapped f None y e = absurd (cc)
-mapped f (Some a) y e = (a, refl, cc)
-
-ends_step : (b : Bool) (d : ℕ) (ds : List ℕ) → is_digit d ≡ b → EndsDigits (drop (prefix_len is_digit ds) ds) → EndsDigits (drop (cond b (1 + prefix_len is_digit ds) 0) (d ∷ ds))
-ends_step true d ds e h =
-    let one : suc (prefix_len is_digit ds) ≡ 1 + prefix_len is_digit ds = omega arith in
-    subst (λ (k : ℕ). EndsDigits (drop k (d ∷ ds))) one h
-ends_step false d ds e h = e
-
-prefix_ends : (bytes : List ℕ) → EndsDigits (drop (prefix_len is_digit bytes) bytes)
-prefix_ends [] = tt
-prefix_ends (d ∷ ds) = ends_step (is_digit d) d ds refl (prefix_ends ds)
-
-pub leading_spelled : (bytes : List ℕ) (n : ℕ) (x : List ℕ) → leading_number bytes ≡ Some (n, x) → Leads bytes n x
-unfolding leading_number
-leading_spelled bytes n x e =
-    let k = prefix_len is_digit bytes in
-    let found = mapped (λ v. (v, drop k bytes)) (number_of (take k bytes)) (n, x) e in
-    let spelled = number_spelled (take k bytes) found.0 found.1 in
-    let same : found.0 ≡ n = ap (λ z. z.0) found.2 in
-    let left : drop k bytes ≡ x = ap (λ z. z.1) found.2 in
-    record {
-      small = subst (λ (v : ℕ). v < 2 ^ 64) same spelled.1;
-      parts = sym (take-append-drop k bytes) ∙ (ap (λ t. t ++ drop k bytes) (sym spelled.0) ∙ (ap (λ v. decimal v ++ drop k bytes) same ∙ ap (λ t. decimal n ++ t) left));
-      ends = subst EndsDigits left (prefix_ends bytes);
-    }
+-- what is spelled tells the number
+pub decimal_cancel : (m n : ℕ) (x y : List ℕ) → m < 2 ^ 64 → n < 2 ^ 64 → EndsDigits x → EndsDigits y → decimal m ++ x ≡ decimal n ++ y → (m ≡ n) × (x ≡ y)
+decimal_cancel m n x y p q s t e = some_pair_parts m n x y (sym (leading_read m x p s) ∙ (ap leading_number e ∙ leading_read n y q t))
 
 -- words
 
@@ -154,13 +125,6 @@ unfolding after
 after_read words x =
     let same : bytes_eq (take (length words) (words ++ x)) words ≡ true = ap (λ t. bytes_eq t words) (take_front words x) ∙ nat_list_eq_equiv.refl words in
     ap (λ b. cond b (Some (drop (length words) (words ++ x))) None) same ∙ ap Some (drop_front words x)
-
-pub after_spelled : (words bytes x : List ℕ) → after words bytes ≡ Some x → bytes ≡ words ++ x
-unfolding after
-after_spelled words bytes x e =
-    let chosen = cond_some (bytes_eq (take (length words) bytes) words) (drop (length words) bytes) x e in
-    let same : take (length words) bytes ≡ words = (bytes_decides (take (length words) bytes) words).0 chosen.0 in
-    sym (take-append-drop (length words) bytes) ∙ (ap (λ t. t ++ drop (length words) bytes) same ∙ ap (λ t. words ++ t) chosen.1)
 
 -- integers
 
@@ -189,59 +153,3 @@ integer_read (negsuc n) x small s =
     ap (λ o. signed negative o) (leading_read (suc n) x less s)
     ∙ (ap (λ b. option_map (λ z. (z, x)) (cond (nat_eq (suc n) 0) None (cond b None (Some (negsuc (suc n - 1)))))) fits
     ∙ (ap (λ b. option_map (λ z. (z, x)) (cond b None (Some (negsuc (suc n - 1))))) some ∙ ap (λ m. Some (negsuc m, x)) back))
-
-pub record LeadsInteger (bytes : List ℕ) (z : ℤ) (x : List ℕ) : Type 0 where
-  pub small : IsInteger z
-  pub parts : bytes ≡ signed_decimal z ++ x
-  pub ends : EndsDigits x
-
-pub chained : {A B : Type 0} (f : A → Option B) (o : Option A) (y : B) → option_and_then f o ≡ Some y → (a : A) × (o ≡ Some a) × (f a ≡ Some y)
-chained f None y e = absurd (cc)
-chained f (Some a) y e = (a, refl, e)
-
-skipped : {A : Type 0} (b : Bool) (o : Option A) (y : A) → cond b None o ≡ Some y → (b ≡ false) × (o ≡ Some y)
-skipped true o y e = absurd (cc)
-skipped false o y e = (refl, e)
-
-positive_is : (n : ℕ) (z : ℤ) → positive n ≡ Some z → (n < 2 ^ 63) × (pos n ≡ z)
-positive_is n z e = let h = cond_some (nat_lt n (2 ^ 63)) (pos n) z e in (ltb-true n (2 ^ 63) h.0, h.1)
-
-negative_is : (n : ℕ) (z : ℤ) → negative n ≡ Some z → (m : ℕ) × (n ≡ suc m) × (m < 2 ^ 63) × (negsuc m ≡ z)
-negative_is zero z e = absurd (cc)
-negative_is (suc m) z e =
-    let one = skipped (nat_eq (suc m) 0) (cond (nat_lt (2 ^ 63) (suc m)) None (Some (negsuc (suc m - 1)))) z e in
-    let two = skipped (nat_lt (2 ^ 63) (suc m)) (Some (negsuc (suc m - 1))) z one.1 in
-    let back : suc m - 1 ≡ m = omega arith in
-    let is : negsuc (suc m - 1) ≡ z = cc in
-    (m, refl, small m two.0, ap negsuc (sym back) ∙ is)
-  where
-    small : (m : ℕ) → nat_lt (2 ^ 63) (suc m) ≡ false → m < 2 ^ 63
-    small m few = grind (arith, nat_tests)
-
-signed_is : (sign : ℕ → Option ℤ) (o : Option (ℕ × List ℕ)) (z : ℤ) (x : List ℕ) → signed sign o ≡ Some (z, x) → (n : ℕ) × (o ≡ Some (n, x)) × (sign n ≡ Some z)
-signed_is sign None z x e = absurd (cc)
-signed_is sign (Some r) z x e =
-    let found = mapped (λ v. (v, r.1)) (sign r.0) (z, x) e in
-    let left : r.1 ≡ x = ap (λ p. p.1) found.2 in
-    let is : found.0 ≡ z = ap (λ p. p.0) found.2 in
-    (r.0, ap (λ t. Some (r.0, t)) left, found.1 ∙ ap Some is)
-
-integer_at : (o : Option (List ℕ)) (bytes : List ℕ) (z : ℤ) (x : List ℕ) → after (codes "-") bytes ≡ o → integer_by o bytes ≡ Some (z, x) → LeadsInteger bytes z x
-integer_at None bytes z x a e =
-    let found = signed_is positive (leading_number bytes) z x e in
-    let leads = leading_spelled bytes found.0 x found.1 in
-    let is = positive_is found.0 z found.2 in
-    record { small = subst IsInteger is.1 is.0; parts = leads.parts ∙ ap (λ v. signed_decimal v ++ x) is.1; ends = leads.ends }
-integer_at (Some digits) bytes z x a e =
-    let found = signed_is negative (leading_number digits) z x e in
-    let leads = leading_spelled digits found.0 x found.1 in
-    let is = negative_is found.0 z found.2 in
-    record {
-      small = subst IsInteger is.3 is.2;
-      parts = after_spelled (codes "-") bytes digits a ∙ (ap (λ t. 45 ∷ t) (leads.parts ∙ ap (λ n. decimal n ++ x) is.1) ∙ ap (λ v. signed_decimal v ++ x) is.3);
-      ends = leads.ends;
-    }
-
-pub integer_spelled : (bytes : List ℕ) (z : ℤ) (x : List ℕ) → leading_integer bytes ≡ Some (z, x) → LeadsInteger bytes z x
-unfolding leading_integer
-integer_spelled bytes z x e = integer_at (after (codes "-") bytes) bytes z x refl e

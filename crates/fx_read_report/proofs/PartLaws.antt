@@ -1,5 +1,5 @@
 -- The parts of a line are read as they are spelled.
-use Rattle.std.proofs.Common.{◌≡◌, ℕ, ◌^◌, ◌<◌, ◌≤◌, cond, nat_lt, List, [], ◌∷◌, ◌++◌, length, All, Option, Some, None, Result, Ok, Err, codes, refl, sym, ap, ◌∙◌, append_assoc, append-nil, arith, lit<}
+use Rattle.std.proofs.Common.{◌≡◌, ℕ, ◌^◌, ◌<◌, ◌≤◌, cond, nat_lt, List, [], ◌∷◌, ◌++◌, length, All, Option, Some, None, Result, Ok, Err, codes, refl, sym, ap, subst, ◌∙◌, append_assoc, append-nil, arith, lit<}
 use Rattle.std.specs.Fmt.{decimal}
 use Rattle.std.specs.List.{flat_map}
 use Rattle.std.specs.Option.{option_map, option_and_then}
@@ -26,7 +26,9 @@ use Rattle.fx_read_report.proofs.Digits.{after_read, leading_read}
 use Rattle.fx_read_report.proofs.Scans.{quote_read}
 use Rattle.fx_read_report.proofs.NameBytes.{name_bytes}
 use Rattle.fx_read_report.specs.Form.{IsFormEnd, IsFormRefusal}
-use Rattle.fx_read_report.specs.Reads.{alone, blocked_at, end_at, fault_at, field_at, last_at, path_alone, path_at, path_or_none, refusal_at, small_at, stop_at}
+use Rattle.fx_read_report.specs.Limits.{Limits, path_or_none, strict}
+use Rattle.fx_read_report.specs.Values.{alone}
+use Rattle.fx_read_report.specs.Reads.{blocked_at, end_at, fault_at, field_at, last_at, path_at, refusal_at, small_at, stop_at}
 
 -- ---- numbers behind words
 
@@ -56,7 +58,7 @@ names_bytes : (path : List (List ℕ)) → All IsName path → AreBytes (flat_ma
 names_bytes [] all = tt
 names_bytes (n ∷ ns) all = (lit< tt, are_append n (flat_map (λ n. 47 ∷ n) ns) (name_bytes n (All-head IsName n ns all)) (names_bytes ns (All-tail IsName n ns all)))
 
-pub path_bytes : (path : List (List ℕ)) → All IsName path → AreBytes (path_text path)
+path_bytes : (path : List (List ℕ)) → All IsName path → AreBytes (path_text path)
 path_bytes [] all = (lit< tt, tt)
 path_bytes (n ∷ ns) all = names_bytes (n ∷ ns) all
 
@@ -66,37 +68,59 @@ few n x f h = grind (arith, nat_tests)
 path_text_read : (p : List (List ℕ)) → IsPath p → read_path (path_text p) ≡ Ok p
 path_text_read p path = (path_texts_read (path_text p) p).reads (record { names = path.names; spelled = refl }) ∙ few (length p) (Ok p) TooDeep path.short
 
-pub path_read : (p : List (List ℕ)) → IsPath p → path_at (quote (path_text p)) ≡ Some p
+-- a path that a reader takes
+pub record IsPathIn (limits : Limits) (path : List (List ℕ)) : Type 0 where
+  pub bytes : AreBytes (path_text path)
+  pub taken : limits.path_of (path_text path) ≡ Some path
+
+pub strict_path : (p : List (List ℕ)) → IsPath p → IsPathIn strict p
+strict_path p is = record { bytes = path_bytes p is.names; taken = ap path_or_none (path_text_read p is) }
+
+pub path_read : (m : Limits) (p : List (List ℕ)) → IsPathIn m p → path_at m (quote (path_text p)) ≡ Some p
 unfolding path_at
-path_read p is =
-    ap (λ t. path_alone (unquoted t)) (sym (append-nil (quote (path_text p))))
-    ∙ (ap path_alone (quote_read (path_text p) [] (path_bytes p is.names)) ∙ ap path_or_none (path_text_read p is))
+path_read m p is =
+    ap (λ t. option_and_then m.path_of (alone (unquoted t))) (sym (append-nil (quote (path_text p))))
+    ∙ (ap (λ o. option_and_then m.path_of (alone o)) (quote_read (path_text p) [] is.bytes) ∙ is.taken)
 
 -- ---- refusals
 
-blocked_read : (p : List (List ℕ)) → IsPath p → blocked_at (codes "Blocked " ++ quote (path_text p)) ≡ Some (refusal.Blocked p)
+blocked_read : (m : Limits) (p : List (List ℕ)) → IsPathIn m p → blocked_at m (codes "Blocked " ++ quote (path_text p)) ≡ Some (refusal.Blocked p)
 unfolding blocked_at
-blocked_read p is =
-    ap (λ o. option_map refusal.Blocked (option_and_then path_at o)) (after_read (codes "Blocked ") (quote (path_text p)))
-    ∙ ap (λ o. option_map refusal.Blocked o) (path_read p is)
+blocked_read m p is =
+    ap (λ o. option_map refusal.Blocked (option_and_then (path_at m) o)) (after_read (codes "Blocked ") (quote (path_text p)))
+    ∙ ap (λ o. option_map refusal.Blocked o) (path_read m p is)
 
-pub refusal_read : (r : Refusal) → IsFormRefusal r → refusal_at (refusal_number r) (refusal_text r) ≡ Some r
+-- the path of a refusal is one that a reader takes
+abbrev pub IsRefusalIn : Limits → Refusal → Type 0
+IsRefusalIn m r = (p : List (List ℕ)) → r ≡ refusal.Blocked p → IsPathIn m p
+
+abbrev pub IsEndIn : Limits → End → Type 0
+IsEndIn m end.Done = Unit {0}
+IsEndIn m (end.Stopped c r) = (c < 2 ^ 32) × IsRefusalIn m r
+IsEndIn m end.Aborted = Unit {0}
+
+pub strict_end : (e : End) → IsFormEnd e → IsEndIn strict e
+strict_end end.Done p = tt
+strict_end (end.Stopped c r) p = (p.0, λ path e. strict_path path (subst IsFormRefusal e p.1))
+strict_end end.Aborted p = tt
+
+refusal_read : (m : Limits) (r : Refusal) → IsRefusalIn m r → refusal_at m (refusal_number r) (refusal_text r) ≡ Some r
 unfolding refusal_at fault_at
-refusal_read refusal.NoStep p = refl
-refusal_read refusal.NoElement p = refl
-refusal_read refusal.NoPlace p = refl
-refusal_read refusal.Lacks p = refl
-refusal_read refusal.WrongForm p = refl
-refusal_read (refusal.Blocked path) p = blocked_read path p
-refusal_read refusal.TooDeep p = refl
-refusal_read refusal.BadName p = refl
-refusal_read refusal.NoDefault p = refl
-refusal_read (refusal.Expr fault.TooLong) p = refl
-refusal_read (refusal.Expr fault.Overflow) p = refl
-refusal_read (refusal.Expr fault.NotNumber) p = refl
-refusal_read refusal.Absent p = refl
-refusal_read refusal.Exists p = refl
-refusal_read refusal.TooUnfolded p = refl
+refusal_read m refusal.NoStep p = refl
+refusal_read m refusal.NoElement p = refl
+refusal_read m refusal.NoPlace p = refl
+refusal_read m refusal.Lacks p = refl
+refusal_read m refusal.WrongForm p = refl
+refusal_read m (refusal.Blocked path) p = blocked_read m path (p path refl)
+refusal_read m refusal.TooDeep p = refl
+refusal_read m refusal.BadName p = refl
+refusal_read m refusal.NoDefault p = refl
+refusal_read m (refusal.Expr fault.TooLong) p = refl
+refusal_read m (refusal.Expr fault.Overflow) p = refl
+refusal_read m (refusal.Expr fault.NotNumber) p = refl
+refusal_read m refusal.Absent p = refl
+refusal_read m refusal.Exists p = refl
+refusal_read m refusal.TooUnfolded p = refl
 
 -- ---- ends
 
@@ -118,32 +142,31 @@ number_small refusal.TooUnfolded = lit< tt
 stop_form : (a b r : List ℕ) → ((a ++ b) ++ codes " ") ++ r ≡ a ++ (b ++ (codes " " ++ r))
 stop_form a b r = simp append_assoc
 
-pub space_ends : (n : ℕ) (x : List ℕ) → EndsDigits (field (codes " ") n ++ x)
+space_ends : (n : ℕ) (x : List ℕ) → EndsDigits (field (codes " ") n ++ x)
 unfolding field
 space_ends n x = refl
 
-abbrev named_stop : ℕ → ℕ → List ℕ → Option End
-named_stop c n name = option_map (λ r. end.Stopped c r) (refusal_at n name)
+abbrev named_stop : Limits → ℕ → ℕ → List ℕ → Option End
+named_stop m c n name = option_map (λ r. end.Stopped c r) (refusal_at m n name)
 
-abbrev numbered_stop : ℕ → ℕ × List ℕ → Option End
-numbered_stop c n = option_and_then (λ name. named_stop c n.0 name) (after (codes " ") n.1)
+abbrev numbered_stop : Limits → ℕ → ℕ × List ℕ → Option End
+numbered_stop m c n = option_and_then (λ name. named_stop m c n.0 name) (after (codes " ") n.1)
 
-abbrev stop_of : ℕ × List ℕ → Option End
-stop_of c = option_and_then (λ n. numbered_stop c.0 n) (field_at (codes " ") c.1)
+abbrev stop_of : Limits → ℕ × List ℕ → Option End
+stop_of m c = option_and_then (λ n. numbered_stop m c.0 n) (field_at (codes " ") c.1)
 
-stop_read : (c : ℕ) (r : Refusal) → c < 2 ^ 32 → IsFormRefusal r → stop_at (end_text (end.Stopped c r)) ≡ Some (end.Stopped c r)
+stop_read : (m : Limits) (c : ℕ) (r : Refusal) → c < 2 ^ 32 → IsRefusalIn m r → stop_at m (end_text (end.Stopped c r)) ≡ Some (end.Stopped c r)
 unfolding stop_at
-stop_read c r small is =
+stop_read m c r small is =
     let name = refusal_text r in
     let n = refusal_number r in
-    ap stop_at (stop_form (field (codes "stopped ") c) (field (codes " ") n) name)
-    ∙ (ap (λ o. option_and_then stop_of o) (small_read (codes "stopped ") c (field (codes " ") n ++ (codes " " ++ name)) small (space_ends n (codes " " ++ name)))
-    ∙ (ap (λ o. option_and_then (λ m. numbered_stop c m) o) (field_read (codes " ") n (codes " " ++ name) (number_small r) refl)
-    ∙ (ap (λ o. option_and_then (λ t. named_stop c n t) o) (after_read (codes " ") name) ∙ ap (λ o. option_map (λ q. end.Stopped c q) o) (refusal_read r is))))
+    ap (stop_at m) (stop_form (field (codes "stopped ") c) (field (codes " ") n) name)
+    ∙ (ap (λ o. option_and_then (stop_of m) o) (small_read (codes "stopped ") c (field (codes " ") n ++ (codes " " ++ name)) small (space_ends n (codes " " ++ name)))
+    ∙ (ap (λ o. option_and_then (λ k. numbered_stop m c k) o) (field_read (codes " ") n (codes " " ++ name) (number_small r) refl)
+    ∙ (ap (λ o. option_and_then (λ t. named_stop m c n t) o) (after_read (codes " ") name) ∙ ap (λ o. option_map (λ q. end.Stopped c q) o) (refusal_read m r is))))
 
-pub end_read : (e : End) → IsFormEnd e → end_at (end_text e) ≡ Some e
+pub end_read : (m : Limits) (e : End) → IsEndIn m e → end_at m (end_text e) ≡ Some e
 unfolding end_at field
-end_read end.Done p = refl
-end_read end.Aborted p = refl
-end_read (end.Stopped c r) p = stop_read c r p.0 p.1
-
+end_read m end.Done p = refl
+end_read m end.Aborted p = refl
+end_read m (end.Stopped c r) p = stop_read m c r p.0 p.1

@@ -7,4 +7,4 @@ pub mod Kinds
 pub mod Lines
 pub mod Reads
 pub mod Stages
-pub mod LooseSpec
+pub mod Limits

@@ -57,10 +57,6 @@ abbrev pub FindsLine : List ℕ → Option Line → Type 0
 FindsLine text None = (l : Line) → IsLine l → text ≡ line_text l → ⊥
 FindsLine text (Some l) = IsLine l × (text ≡ line_text l)
 
--- the bytes are no line but this
-abbrev pub Tells : List ℕ → Option Line → Type 0
-Tells text found = (l : Line) → IsLine l → text ≡ line_text l → found ≡ Some l
-
 -- the line that the program holds
 abbrev pub line_of : lines.Line → Line
 line_of held.Head = head

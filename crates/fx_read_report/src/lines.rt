@@ -1,13 +1,14 @@
 //! The lines of a report, one by one.
 ghost use Rattle.std.specs.Prelude.{◌≡◌, ◌++◌, IfOk, IfSome, OnOk, bytes_eq, slice_index};
 ghost use Rattle.std.specs.Option.{option_map};
-ghost use Rattle.fx_read_report.specs.Lines.{FindsLine, IsLine, Tells, entry, line_of, line_text, retry};
-ghost use Rattle.fx_read_report.specs.Reads.{entries_at, entry_at, final_at, head_at, retries_at, retry_at};
+ghost use Rattle.fx_read_report.specs.Limits.{strict};
+ghost use Rattle.fx_read_report.specs.Lines.{FindsLine, IsLine, entry, line_of, line_text, retry};
+ghost use Rattle.fx_read_report.specs.Reads.{entries_at, entry_at, final_at, head_at, line_at, print_at, retries_at, retry_at};
 ghost use Rattle.fx_read_report.specs.Kinds.{kind_by, kind_of};
 
 use crate::numbers::after;
 use crate::parts::{end, field, last_field, quoted_path, small_field};
-use crate::values::read_value;
+use crate::values::{VALUE_LEVELS, read_value};
 use fx_base::NoMemory;
 use fx_expr::Value;
 use fx_machine::Retry;
@@ -107,7 +108,7 @@ fn entries_line(text: &[u8]) -> Option<Line>
 
 #[tactic(auto, unfolding(crate::specs::Reads::entry_at))]
 fn entry_line(alloc: Global, text: &[u8]) -> Result<Option<Line>, NoMemory>
-    ensures read { IfOk result (λ found. option_map line_of found ≡ entry_at text.now) }
+    ensures read { IfOk result (λ found. option_map line_of found ≡ entry_at strict text.now) }
     ensures fit { IfOk result (λ found. IfSome found (λ line. IsLine (line_of line))) }
 {
     let Some((number, rest)) = field(text, b"entry ") else {
@@ -133,9 +134,11 @@ fn entry_line(alloc: Global, text: &[u8]) -> Result<Option<Line>, NoMemory>
     }
 }
 
+#[tactic(auto, unfolding(crate::specs::Reads::print_at))]
 fn print_line(alloc: Global, text: &[u8]) -> Result<Option<Line>, NoMemory>
-    requires { kind_of text.now ≡ Kind.Print }
-    ensures { IfOk result (λ found. FindsLine text.now (option_map line_of found)) }
+    ensures read { IfOk result
+        (λ found. option_map line_of found ≡ print_at strict VALUE_LEVELS text.now) }
+    ensures fit { IfOk result (λ found. IfSome found (λ line. IsLine (line_of line))) }
 {
     let Some(rest) = after(text, b"print ") else {
         return Ok(None);
@@ -159,7 +162,7 @@ fn retries_line(text: &[u8]) -> Option<Line>
 
 #[tactic(auto, unfolding(crate::specs::Reads::retry_at))]
 fn retry_line(alloc: Global, text: &[u8]) -> Result<Option<Line>, NoMemory>
-    ensures read { IfOk result (λ found. option_map line_of found ≡ retry_at text.now) }
+    ensures read { IfOk result (λ found. option_map line_of found ≡ retry_at strict text.now) }
     ensures fit { IfOk result (λ found. IfSome found (λ line. IsLine (line_of line))) }
 {
     let Some((shell, rest)) = small_field(text, b"retry shell ") else {
@@ -198,7 +201,8 @@ fn final_line(text: &[u8]) -> Option<Line>
 
 /// The only line that the bytes can be.
 fn line_in(alloc: Global, text: &[u8]) -> Result<Option<Line>, NoMemory>
-    ensures tells { IfOk result (λ found. Tells text.now (option_map line_of found)) }
+    ensures read { IfOk result
+        (λ found. option_map line_of found ≡ line_at strict VALUE_LEVELS text.now) }
     ensures fit { IfOk result (λ found. IfSome found (λ line. IsLine (line_of line))) }
 {
     match kind_of(text) {

@@ -4,7 +4,8 @@ ghost use Rattle.std.specs.Option.{option_map};
 ghost use Rattle.fx_store.specs.Faults.{read_path};
 ghost use Rattle.fx_store.specs.Names.{IsPath};
 ghost use Rattle.fx_read_report.specs.Form.{IsFormEnd, IsFormRefusal};
-ghost use Rattle.fx_read_report.specs.Reads.{blocked_at, end_at, fault_at, field_at, last_at, path_at, path_or_none, plain_of, refusal_at, small_at, stop_at};
+ghost use Rattle.fx_read_report.specs.Limits.{path_or_none, strict};
+ghost use Rattle.fx_read_report.specs.Reads.{blocked_at, end_at, fault_at, field_at, last_at, path_at, plain_of, refusal_at, small_at, stop_at};
 
 use crate::numbers::{after, leading_number};
 use crate::quotes::unquoted;
@@ -57,7 +58,7 @@ pub(crate) fn last_field(bytes: &[u8], words: &[u8]) -> Option<u64>
 /// The path of a quote, with nothing behind it.
 #[tactic(auto, unfolding(crate::specs::Reads::path_at))]
 pub(crate) fn quoted_path(alloc: Global, bytes: &[u8]) -> Result<Option<Path>, NoMemory>
-    ensures read { IfOk result (λ path. path ≡ path_at bytes.now) }
+    ensures read { IfOk result (λ path. path ≡ path_at strict bytes.now) }
     ensures fit { IfOk result (λ path. IfSome path IsPath) }
 {
     match unquoted(alloc, bytes)? {
@@ -118,7 +119,7 @@ fn fault_refusal(name: &[u8]) -> Option<Refusal>
 
 #[tactic(auto, unfolding(crate::specs::Reads::blocked_at))]
 fn blocked_refusal(alloc: Global, name: &[u8]) -> Result<Option<Refusal>, NoMemory>
-    ensures read { IfOk result (λ refusal. refusal ≡ blocked_at name.now) }
+    ensures read { IfOk result (λ refusal. refusal ≡ blocked_at strict name.now) }
     ensures fit { IfOk result (λ refusal. IfSome refusal IsFormRefusal) }
 {
     match after(name, b"Blocked ") {
@@ -133,7 +134,7 @@ fn blocked_refusal(alloc: Global, name: &[u8]) -> Result<Option<Refusal>, NoMemo
 /// The refusal of a number, and of a name where it carries something.
 #[tactic(auto, unfolding(crate::specs::Reads::refusal_at))]
 fn refusal(alloc: Global, number: u64, name: &[u8]) -> Result<Option<Refusal>, NoMemory>
-    ensures read { IfOk result (λ refusal. refusal ≡ refusal_at number name.now) }
+    ensures read { IfOk result (λ refusal. refusal ≡ refusal_at strict number name.now) }
     ensures fit { IfOk result (λ refusal. IfSome refusal IsFormRefusal) }
 {
     if number == 6 {
@@ -147,7 +148,7 @@ fn refusal(alloc: Global, number: u64, name: &[u8]) -> Result<Option<Refusal>, N
 
 #[tactic(auto, unfolding(crate::specs::Reads::stop_at))]
 fn stop(alloc: Global, bytes: &[u8]) -> Result<Option<End>, NoMemory>
-    ensures read { IfOk result (λ end. end ≡ stop_at bytes.now) }
+    ensures read { IfOk result (λ end. end ≡ stop_at strict bytes.now) }
     ensures fit { IfOk result (λ end. IfSome end IsFormEnd) }
 {
     let Some((command, rest)) = small_field(bytes, b"stopped ") else {
@@ -168,7 +169,7 @@ fn stop(alloc: Global, bytes: &[u8]) -> Result<Option<End>, NoMemory>
 /// How a transaction ended.
 #[tactic(auto, unfolding(crate::specs::Reads::end_at))]
 pub(crate) fn end(alloc: Global, bytes: &[u8]) -> Result<Option<End>, NoMemory>
-    ensures read { IfOk result (λ end. end ≡ end_at bytes.now) }
+    ensures read { IfOk result (λ end. end ≡ end_at strict bytes.now) }
     ensures fit { IfOk result (λ end. IfSome end IsFormEnd) }
 {
     if bytes == b"done".as_slice() {

@@ -1,7 +1,6 @@
 //! The printed forms: values, events, the report of a run, and views.
 #![tactic(auto)]
 
-pub mod laws;
 mod lines;
 mod printed;
 mod quotes;
