@@ -10,7 +10,7 @@ use Rattle.fx_report.specs.Print.{quote, value_text}
 use Rattle.fx_report.specs.Report.{end_text, entries_text, entry_line, entry_text, field, print_line, report_text, retry_line}
 use Rattle.fx_report.specs.Readable.{AreRetries, IsHeldReport, IsHeldRetry}
 use Rattle.fx_report.specs.declared.printed.PrintedEntry.{PrintedEntry}
-use Rattle.fx_report.proofs.Lines.{apart, first, rest}
+use Rattle.fx_report.proofs.OneLine.{apart, first, rest}
 use Rattle.fx_read_report.specs.Numbers.{EndsDigits}
 use Rattle.fx_read_report.proofs.Digits.{decimal_cancel}
 use Rattle.fx_read_report.proofs.Readable.{report_cancel}

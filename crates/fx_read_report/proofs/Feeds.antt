@@ -6,7 +6,7 @@ use Rattle.std.proofs.Common.{arith}
 use Rattle.fx_store.specs.Names.{path_text}
 use Rattle.fx_report.specs.Print.{quote}
 use Rattle.fx_report.specs.Report.{end_text, field}
-use Rattle.fx_report.proofs.Lines as fed
+use Rattle.fx_report.proofs.OneLine as fed
 use Rattle.fx_read_report.specs.Form.{LacksFeed}
 use Rattle.fx_read_report.specs.Lines.{Line, head, entries, entry, print, retries, retry, final, line_text}
 

@@ -1,6 +1,6 @@
 pub mod Scans
 pub mod Digits
-pub mod Values
+pub mod ValueLaws
 pub mod ValueLoops
 pub mod ValueFits
 pub mod NameBytes

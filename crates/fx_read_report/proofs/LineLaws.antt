@@ -12,7 +12,7 @@ use Rattle.fx_report.specs.Print.{quote, value_text}
 use Rattle.fx_report.specs.Report.{end_text, field}
 use Rattle.fx_read_report.specs.Limits.{Limits, strict}
 use Rattle.fx_read_report.specs.Numbers.{EndsDigits, after}
-use Rattle.fx_read_report.specs.Values.{ArePrintedRows, ArePrintedTexts, IsPrinted, IsPrintedText, alone, value_at}
+use Rattle.fx_read_report.specs.Values.{ArePrintedRows, ArePrintedTexts, IsPrinted, IsPrintedText, alone, keys_in, value_at}
 use Rattle.fx_read_report.specs.declared.values.TheConstants.{VALUE_LEVELS}
 use Rattle.fx_read_report.specs.Kinds.{kind_of}
 use Rattle.fx_read_report.specs.declared.lines.Kind.{Kind}
@@ -22,7 +22,7 @@ use Rattle.fx_read_report.specs.Reads.{end_at, entries_at, entry_at, field_at, f
 use Rattle.fx_read_report.proofs.Digits.{after_read}
 use Rattle.fx_read_report.proofs.PartLaws.{IsEndIn, IsPathIn, end_read, field_read, last_read, path_read, small_read, strict_end, strict_path}
 use Rattle.fx_read_report.proofs.ValueLoops.{ascends_of}
-use Rattle.fx_read_report.proofs.Values.{AreRowsIn, AreTextsIn, IsIn, IsTextIn, ends_at, value_read}
+use Rattle.fx_read_report.proofs.ValueLaws.{AreRowsIn, AreTextsIn, IsIn, IsTextIn, ends_at, value_read}
 
 field_ends : (words : List ℕ) (n : ℕ) (x : List ℕ) → EndsDigits (codes " " ++ words) → EndsDigits (field (codes " " ++ words) n ++ x)
 unfolding field
@@ -173,7 +173,7 @@ mutual
   strict_value (suc l) (pair a b) p = (strict_value l a p.0, strict_value l b p.1)
   strict_value (suc l) nothing p = tt
   strict_value (suc l) (some a) p = strict_value l a p
-  strict_value (suc l) (table rs) p = (strict_rows l rs p.0, ascends_of _ p.1)
+  strict_value (suc l) (table rs) p = (strict_rows l rs p.0, ascends_of (keys_in rs) p.1)
 
   strict_rows : (levels : ℕ) (rs : TreeRows) → ArePrintedRows levels rs → AreRowsIn strict levels rs
   strict_rows l no_rows p = tt

@@ -23,7 +23,7 @@ use Rattle.fx_read_report.proofs.PartLaws.{IsEndIn, IsPathIn}
 use Rattle.fx_read_report.proofs.Running.{one_list}
 use Rattle.fx_read_report.proofs.Scans.{quote_read}
 use Rattle.fx_read_report.proofs.Texts.{AreAll, lines_join, report_is, report_lines_are, same_texts}
-use Rattle.fx_read_report.proofs.Values.{AreRowsIn, AreTextsIn, IsIn, ends_at, value_read}
+use Rattle.fx_read_report.proofs.ValueLaws.{AreRowsIn, AreTextsIn, IsIn, ends_at, value_read}
 
 abbrev free : Limits
 free = record { takes_text = λ text. true; takes_set = λ texts. true; path_of = λ text. Some (components text) }
@@ -119,7 +119,7 @@ path_in path p = record { bytes = path_bytes path p; taken = ap Some (names_read
 abbrev IsHeldLine : Line → Type 0
 IsHeldLine head = Unit {0}
 IsHeldLine (entries n) = n < 2 ^ 64
-IsHeldLine (entry i shell txn end) = (i < 2 ^ 64) × (shell < 2 ^ 32) × (txn < 2 ^ 32) × IsHeldEnd end
+IsHeldLine (entry i k j e) = (i < 2 ^ 64) × (k < 2 ^ 32) × (j < 2 ^ 32) × IsHeldEnd e
 IsHeldLine (print v) = IsHeld v
 IsHeldLine (retries n) = n < 2 ^ 64
 IsHeldLine (retry r) = IsHeldRetry r
@@ -133,7 +133,7 @@ end_in end.Aborted p = tt
 abbrev line_size : Line → ℕ
 line_size head = 0
 line_size (entries n) = 0
-line_size (entry i shell txn end) = 0
+line_size (entry i k j e) = 0
 line_size (print v) = size v
 line_size (retries n) = 0
 line_size (retry r) = 0

@@ -5,7 +5,7 @@ use Rattle.fx_expr.specs.Tree.{Tree}
 use Rattle.fx_machine.specs.declared.retry.Retry.{Retry}
 use Rattle.fx_report.specs.declared.printed.PrintedEntry.{PrintedEntry}
 use Rattle.fx_report.specs.Print.{value_text}
-use Rattle.fx_report.proofs.Lines.{first, rest}
+use Rattle.fx_report.proofs.OneLine.{first, rest}
 use Rattle.fx_report.specs.Report.{entries_text, entry_line, entry_text, line, print_line, report_text, retry_line}
 use Rattle.fx_read_report.specs.Form.{AllLackFeed, AreFormEntries, AreFormRetries, ArePrinted, IsForm, LacksFeed}
 use Rattle.fx_read_report.specs.Lines.{Line, IsLine, head, entries, entry, print, retries, retry, final, entry_lines, line_text, report_lines}

@@ -88,11 +88,15 @@ module _ {A : Type 0} (read : List ℕ → Option (A × List ℕ)) (close : ℕ)
 abbrev pub sides : List (List ℕ) → List Value → List (List ℕ × Tree)
 sides ks vs = zip ks (map tree_of vs)
 
-pub sides_push : (ks : List (List ℕ)) (vs : List Value) (k : List ℕ) (v : Value) → length vs ≡ length ks → sides (ks ++ k ∷ []) (vs ++ v ∷ []) ≡ sides ks vs ++ (k, tree_of v) ∷ []
+sides_push : (ks : List (List ℕ)) (vs : List Value) (k : List ℕ) (v : Value) → length vs ≡ length ks → sides (ks ++ k ∷ []) (vs ++ v ∷ []) ≡ sides ks vs ++ (k, tree_of v) ∷ []
 sides_push [] [] k v e = refl
 sides_push [] (w ∷ vs) k v e = absurd (omega arith)
 sides_push (l ∷ ks) [] k v e = absurd (omega arith)
 sides_push (l ∷ ks) (w ∷ vs) k v e = ap (λ t. (l, tree_of w) ∷ t) (sides_push ks vs k v (omega arith))
+
+-- one row more, by the lists that were pushed to
+pub sides_more : (ks ls : List (List ℕ)) (vs ws : List Value) (k : List ℕ) (v : Value) → length vs ≡ length ks → ls ≡ ks ++ k ∷ [] → ws ≡ vs ++ v ∷ [] → sides ls ws ≡ sides ks vs ++ (k, tree_of v) ∷ []
+sides_more ks ls vs ws k v e f g = ap (λ a. sides a ws) f ∙ (ap (λ a. sides (ks ++ k ∷ []) a) g ∙ sides_push ks vs k v e)
 
 pub lengths_push : {A B : Type 0} (ks ls : List A) (vs ws : List B) (k : A) (v : B) → length vs ≡ length ks → ls ≡ ks ++ k ∷ [] → ws ≡ vs ++ v ∷ [] → length ws ≡ length ls
 lengths_push ks ls vs ws k v e f g = ap length g ∙ (length-append vs (v ∷ []) ∙ (ap (λ n. n + 1) e ∙ (sym (length-append ks (k ∷ [])) ∙ ap length (sym f))))

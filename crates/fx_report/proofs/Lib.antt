@@ -1,4 +1,4 @@
-pub mod Lines
+pub mod OneLine
 pub mod Rows
 pub mod Spelling
 pub mod Steps

@@ -1,0 +1,35 @@
+use Rattle.std.proofs.Common.{refl}
+use Rattle.fx_expr.specs.Views.{tree_of}
+use Rattle.fx_read_report.specs.Limits.{strict}
+use Rattle.fx_read_report.specs.Values.{row_at, value_at}
+use Rattle.fx_read_report.proofs.ValueLoops.{closes, going_more, going_none, lengths_push, no_comma, no_piece, sides, sides_more, too_many}
+use Rattle.fx_read_report.proofs.values.+value.Goals as goal
+
+pub rows-loop-i-init : goal.rows-loop-i-init
+rows-loop-i-init t c = record { going = going_none (row_at strict (value_at strict c.args.levels)) 93 c.args.most c.args.bytes.now; same = refl }
+
+pub rows-returns-in-Some-clause-found : goal.rows-returns-in-Some-clause-found
+rows-returns-in-Some-clause-found t c =
+    closes (row_at strict (value_at strict c.args.levels)) 93 c.args.most c.args.bytes.now c.loop-i.i (sides c.loop-i.keys.items c.loop-i.values.items) c.loop-i.rest.now c.in-Some.end.now c.loop-i.invariant.going c.loop-i-test.true c.in-Some.ensures
+
+pub rows-returns-in_default-piece_at-clause-found : goal.rows-returns-in_default-piece_at-clause-found
+rows-returns-in_default-piece_at-clause-found t c =
+    no_comma (row_at strict (value_at strict c.args.levels)) 93 c.args.most c.args.bytes.now c.loop-i.i (sides c.loop-i.keys.items c.loop-i.values.items) c.loop-i.rest.now c.loop-i.invariant.going c.loop-i-test.true c.in_default.ensures c.in_default-piece_at.ensures
+
+pub rows-returns-in_default-2-clause-found : goal.rows-returns-in_default-2-clause-found
+rows-returns-in_default-2-clause-found t c =
+    no_piece (row_at strict (value_at strict c.args.levels)) 93 c.args.most c.args.bytes.now c.loop-i.i (sides c.loop-i.keys.items c.loop-i.values.items) c.loop-i.rest.now c.in-Some-piece_at.start.now c.loop-i.invariant.going c.loop-i-test.true c.in_default.ensures c.in-Some-piece_at.ensures (rw c.in_default-2.is at c.in_ok-key.ensures)
+
+pub rows-loop-i-preserved : goal.rows-loop-i-preserved
+rows-loop-i-preserved t c =
+    let grown = sides_more c.loop-i.keys.items c.push.new.self.items c.loop-i.values.items c.push-2.new.self.items c.in-Some-2.key c.in-Some-2.value c.loop-i.invariant.same c.in_ok-push.ensures.items c.in_ok-push-2.ensures.items in
+    record {
+      going =
+          going_more (row_at strict (value_at strict c.args.levels)) 93 c.args.most c.args.bytes.now c.loop-i.i (sides c.loop-i.keys.items c.loop-i.values.items) (sides c.push.new.self.items c.push-2.new.self.items) c.loop-i.rest.now c.in-Some-piece_at.start.now (c.in-Some-2.key, tree_of c.in-Some-2.value) c.in-Some-2.behind.now
+          c.loop-i.invariant.going c.loop-i-test.true c.in_default.ensures c.in-Some-piece_at.ensures (rw c.in-Some-2.is at c.in_ok-key.ensures) grown;
+      same = lengths_push c.loop-i.keys.items c.push.new.self.items c.loop-i.values.items c.push-2.new.self.items c.in-Some-2.key c.in-Some-2.value c.loop-i.invariant.same c.in_ok-push.ensures.items c.in_ok-push-2.ensures.items;
+    }
+
+pub rows-returns-clause-found : goal.rows-returns-clause-found
+rows-returns-clause-found t c =
+    too_many (row_at strict (value_at strict c.args.levels)) 93 c.args.most c.args.bytes.now c.loop-i.i (sides c.loop-i.keys.items c.loop-i.values.items) c.loop-i.rest.now c.loop-i.invariant.going c.loop-i-test.false
