@@ -362,9 +362,9 @@ SECTIONS = (
 )
 
 LAWS_AT = {
-    "fx_report::laws::quotes_are_readable": "The report",
-    "fx_report::laws::values_are_readable": "The report",
-    "fx_report::laws::reports_are_readable": "The report",
+    "fx_read_report::laws::quotes_are_readable": "The report",
+    "fx_read_report::laws::values_are_readable": "The report",
+    "fx_read_report::laws::reports_are_readable": "The report",
     "fx_laws::reports::orders_are_spelled": "The report",
     "fx_laws::tokens::one_tree": "Texts: tokens and trees",
     "fx_laws::tokens::one_reading": "Texts: tokens and trees",

@@ -10,8 +10,10 @@ use Rattle.fx_report.specs.Print.{quote, value_text}
 use Rattle.fx_report.specs.Report.{end_text, entries_text, entry_line, entry_text, field, print_line, report_text, retry_line}
 use Rattle.fx_report.specs.Readable.{AreRetries, IsHeldReport, IsHeldRetry}
 use Rattle.fx_report.specs.declared.printed.PrintedEntry.{PrintedEntry}
-use Rattle.fx_report.proofs.Cancel.{Stops, apart, decimal_cancel, first, not_digit, rest}
-use Rattle.fx_report.proofs.CancelReport.{report_cancel}
+use Rattle.fx_report.proofs.OneLine.{apart, first, rest}
+use Rattle.fx_read_report.specs.Numbers.{EndsDigits}
+use Rattle.fx_read_report.proofs.Digits.{decimal_cancel}
+use Rattle.fx_read_report.proofs.Readable.{report_cancel}
 use Rattle.fx_laws.proofs.Lines.{IsLine, line_append, line_cancel, quote_line, value_line, field_line, end_line}
 
 -- what is left after the same front
@@ -20,7 +22,7 @@ same_front [] x y e = e
 same_front (c ∷ t) x y e = same_front t x y (ap rest e)
 
 -- a field that begins with the same words
-field_cancel : (words : List ℕ) (m n : ℕ) (x y : List ℕ) → m < 2 ^ 64 → n < 2 ^ 64 → Stops x → Stops y → field words m ++ x ≡ field words n ++ y → (m ≡ n) × (x ≡ y)
+field_cancel : (words : List ℕ) (m n : ℕ) (x y : List ℕ) → m < 2 ^ 64 → n < 2 ^ 64 → EndsDigits x → EndsDigits y → field words m ++ x ≡ field words n ++ y → (m ≡ n) × (x ≡ y)
 unfolding field
 field_cancel words m n x y p q s t e =
     let inner = sym (append_assoc words (decimal m) x) ∙ (e ∙ append_assoc words (decimal n) y) in
@@ -88,8 +90,8 @@ entry_words_cancel i e f p q same =
     let u = 32 ∷ end_text e.end in
     let v = 32 ∷ end_text f.end in
     let parts = sym (entry_form number b c (end_text e.end)) ∙ (same ∙ entry_form number g h (end_text f.end)) in
-    let shell = field_cancel (codes " shell ") e.shell f.shell (c ++ u) (h ++ v) p.shell q.shell (not_digit 32 refl) (not_digit 32 refl) (same_front number (b ++ (c ++ u)) (g ++ (h ++ v)) parts) in
-    let txn = field_cancel (codes " txn ") e.txn f.txn u v p.txn q.txn (not_digit 32 refl) (not_digit 32 refl) shell.1 in
+    let shell = field_cancel (codes " shell ") e.shell f.shell (c ++ u) (h ++ v) p.shell q.shell refl refl (same_front number (b ++ (c ++ u)) (g ++ (h ++ v)) parts) in
+    let txn = field_cancel (codes " txn ") e.txn f.txn u v p.txn q.txn refl refl shell.1 in
     λ k. (shell.0 k, txn.0 k)
 
 entries_form : (l o r x : List ℕ) → ((l ++ o) ++ r) ++ x ≡ l ++ (o ++ (r ++ x))

@@ -1,7 +1,6 @@
--- A line is taken exactly where a report goes on with it.
-use Rattle.std.proofs.Common.{◌≡◌, ℕ, suc, ◌+◌, ◌^◌, ◌<◌, ◌≤◌, Bool, true, false, ◌&&◌, nat_eq, nat_lt, List, [], ◌∷◌, ◌++◌, length, map, refl, sym, ap, subst, ◌∙◌, ◌⊎◌, inl, inr, append_assoc, append-nil, length-append, arith}
-use Rattle.std.proofs.lemmas.Bool.{and_parts, eqb-true, ltb-true, lt-ltb}
-use Rattle.std.proofs.lemmas.Bool.Decides.{nat_tests}
+-- A line that may follow is a step: what was read, with one line more.
+use Rattle.std.proofs.Common.{◌≡◌, ℕ, suc, ◌+◌, ◌^◌, ◌<◌, ◌≤◌, true, nat_eq, nat_lt, List, [], ◌∷◌, ◌++◌, length, map, refl, sym, ap, subst, ◌∙◌, append_assoc, append-nil, length-append, arith}
+use Rattle.std.proofs.lemmas.Bool.{and_parts, eqb-true, ltb-true}
 use Rattle.fx_expr.specs.Tree.{Tree}
 use Rattle.fx_spec.specs.declared.refusal.End.{End}
 use Rattle.fx_machine.specs.declared.retry.Retry.{Retry}
@@ -9,55 +8,11 @@ use Rattle.fx_report.specs.declared.printed.PrintedEntry.{PrintedEntry}
 use Rattle.fx_read_report.specs.Form.{AreFormEntries, AreFormRetries, ArePrinted, IsFormEntry, IsFormRetry}
 use Rattle.fx_read_report.specs.Values.{IsPrinted}
 use Rattle.fx_read_report.specs.declared.values.TheConstants.{VALUE_LEVELS}
-use Rattle.fx_read_report.specs.Lines.{Line, IsLine, head, entries, entry, print, retries, retry, final, entry_lines, report_lines}
-use Rattle.fx_read_report.specs.Stages.{IsState, State, advanced, allows, entered, lines_at, lines_in, printed}
+use Rattle.fx_read_report.specs.Lines.{Line, IsLine, head, entries, entry, print, retries, retry, final, entry_lines}
+use Rattle.fx_read_report.specs.Stages.{IsState, State, advanced, allows, entered, lines_in, printed}
 use Rattle.fx_read_report.specs.declared.reading.Stage.{Stage}
 use Rattle.fx_read_report.specs.declared.reading.Stage.TheVariants as stage
-use Rattle.fx_read_report.proofs.Tokens as tokens
-
-both : (a b : Bool) → a ≡ true → b ≡ true → (a && b) ≡ true
-both a b e f = ap (λ x. x && b) e ∙ f
-
-same_test : (m n : ℕ) → m ≡ n → nat_eq m n ≡ true
-same_test m n e = grind (arith, nat_tests)
-
-wrong : {A : Type 0} (b : Bool) → b ≡ false → b ≡ true → A
-wrong b e f = absurd (cc)
-
--- ---- what is not allowed does not follow
-
-entries_allow : (n : ℕ) (es : List PrintedEntry) (rs : ℕ) (all : ℕ) (t : List Line) (m : ℕ) (l : Line) (more : List Line) → n ≡ all → tokens.Follows 0 (length es) all (retries m ∷ t) l more → allows (stage.Entries n) (length es) rs l ≡ true
-entries_allow n es rs all t m l more e (tokens.prints v is some) = ap (allows (stage.Entries n) (length es) rs) is ∙ lt-ltb 0 (length es) some
-entries_allow n es rs all t m l more e (tokens.enters shell txn d is few) =
-    let less : length es < n = omega arith in
-    ap (allows (stage.Entries n) (length es) rs) is ∙ both (nat_eq (0 + length es) (length es)) (nat_lt (length es) n) (same_test (0 + length es) (length es) (omega arith)) (lt-ltb (length es) n less)
-entries_allow n es rs all t m l more e (tokens.counts is whole) =
-    let same : retries m ≡ l = ap tokens.first is in
-    ap (allows (stage.Entries n) (length es) rs) (sym same) ∙ same_test (length es) n (whole ∙ sym e)
-
-retries_allow : (n : ℕ) (es : ℕ) (rs : List Retry) (all : ℕ) (l : Line) (more : List Line) → all ≡ n → ((r : Retry) × (l ≡ retry r) × (length rs < all)) ⊎ ((l ≡ final) × (more ≡ []) × (length rs ≡ all)) → allows (stage.Retries n) es (length rs) l ≡ true
-retries_allow n es rs all l more e (inl next) =
-    let less : length rs < n = omega (arith, e, next.2) in
-    ap (allows (stage.Retries n) es (length rs)) next.1 ∙ lt-ltb (length rs) n less
-retries_allow n es rs all l more e (inr last) = ap (allows (stage.Retries n) es (length rs)) last.0 ∙ same_test (length rs) n (last.2 ∙ e)
-
-pub not_next : (s : State) (l : Line) → allows s.stage (length s.entries) (length s.retries) l ≡ false → (fs : List PrintedEntry) (ss : List Retry) (more : List Line) → report_lines fs ss ≡ lines_in s ++ l ∷ more → ⊥
-not_next s l no_ fs ss more e = at s.stage no_ e
-  where
-    at : (g : Stage) → allows g (length s.entries) (length s.retries) l ≡ false → report_lines fs ss ≡ lines_at g s.entries s.retries ++ l ∷ more → ⊥
-    at stage.Start h f = wrong (allows stage.Start (length s.entries) (length s.retries) l) h (ap (allows stage.Start (length s.entries) (length s.retries)) (tokens.after_start fs ss l more f))
-    at stage.Headed h f = wrong (allows stage.Headed (length s.entries) (length s.retries) l) h (ap (allows stage.Headed (length s.entries) (length s.retries)) (tokens.after_head fs ss l more f))
-    at (stage.Entries n) h f =
-        let r = tokens.after_entries fs s.entries ss n l more f in
-        wrong (allows (stage.Entries n) (length s.entries) (length s.retries) l) h (entries_allow n s.entries (length s.retries) (length fs) (map retry ss ++ final ∷ []) (length ss) l more r.0 r.1)
-    at (stage.Retries n) h f =
-        let form : (head ∷ entries (length s.entries) ∷ (entry_lines 0 s.entries ++ retries n ∷ map retry s.retries)) ++ l ∷ more ≡ head ∷ entries (length s.entries) ∷ (entry_lines 0 s.entries ++ retries n ∷ (map retry s.retries ++ l ∷ more)) =
-        ap (λ t. head ∷ entries (length s.entries) ∷ t) (append_assoc (entry_lines 0 s.entries) (retries n ∷ map retry s.retries) (l ∷ more)) in
-        let r = tokens.after_retries fs s.entries ss s.retries n l more (f ∙ form) in
-        wrong (allows (stage.Retries n) (length s.entries) (length s.retries) l) h (retries_allow n (length s.entries) s.retries (length ss) l more r.0 r.1)
-    at stage.Ended h f = tokens.after_all fs s.entries ss s.retries l more f
-
--- ---- what is allowed is a step
+use Rattle.fx_read_report.proofs.Running.{at}
 
 forms_push : (es : List PrintedEntry) (e : PrintedEntry) → AreFormEntries es → IsFormEntry e → AreFormEntries (es ++ e ∷ [])
 forms_push [] e p q = (q, tt)
@@ -104,9 +59,6 @@ lines_printed i (e ∷ f ∷ es) v some =
 pub record Steps (s : State) (l : Line) : Type 0 where
   pub is : IsState (advanced s l)
   pub lines : lines_in (advanced s l) ≡ lines_in s ++ l ∷ []
-
-abbrev at : Stage → List PrintedEntry → List Retry → State
-at g es rs = record { stage = g; entries = es; retries = rs }
 
 none_long : {A : Type 0} (xs : List A) (n : ℕ) → xs ≡ [] → length xs ≤ n
 none_long xs n e = let size = ap length e in omega (arith, size)

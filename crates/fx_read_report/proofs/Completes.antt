@@ -1,15 +1,18 @@
 -- What was read can be completed to a report.
-use Rattle.std.proofs.Common.{◌≡◌, ℕ, zero, suc, ◌+◌, ◌-◌, ◌^◌, ◌<◌, ◌≤◌, List, [], ◌∷◌, ◌++◌, length, map, refl, sym, ap, subst, ◌∙◌, append_assoc, append-nil, length-append, arith, lit<}
+use Rattle.std.proofs.Common.{◌≡◌, ℕ, zero, suc, ◌+◌, ◌-◌, ◌^◌, ◌<◌, true, nat_eq, nat_lt, List, [], ◌∷◌, ◌++◌, length, refl, sym, ap, ◌∙◌, append_assoc, append-nil, length-append, arith, lit<}
+use Rattle.std.proofs.lemmas.Bool.{lt-ltb, and_from}
 use Rattle.std.proofs.lemmas.List.Elements.{All-nil}
 use Rattle.fx_spec.specs.declared.refusal.End.TheVariants as end
 use Rattle.fx_machine.specs.declared.retry.Retry.{Retry}
 use Rattle.fx_report.specs.declared.printed.PrintedEntry.{PrintedEntry}
 use Rattle.fx_store.specs.Names.{IsName, IsPath}
-use Rattle.fx_read_report.specs.Form.{AreFormEntries, AreFormRetries, IsForm}
-use Rattle.fx_read_report.specs.Lines.{Line, head, entries, entry, print, retries, retry, final, entry_lines, report_lines}
-use Rattle.fx_read_report.specs.Stages.{IsState, State, lines_in, entered}
+use Rattle.fx_read_report.specs.Form.{IsForm}
+use Rattle.fx_read_report.specs.Lines.{IsLine, Line, head, entries, entry, retries, retry, final, report_lines}
+use Rattle.fx_read_report.specs.Stages.{IsState, State, advanced, entered, lines_in, may_follow}
 use Rattle.fx_read_report.specs.declared.reading.Stage.{Stage}
 use Rattle.fx_read_report.specs.declared.reading.Stage.TheVariants as stage
+use Rattle.fx_read_report.proofs.Advances.{steps}
+use Rattle.fx_read_report.proofs.Running.{at, same_test}
 
 -- a report that begins with the lines that were read
 pub record Completed (s : State) : Type 0 where
@@ -19,99 +22,21 @@ pub record Completed (s : State) : Type 0 where
   pub form : IsForm entries retries
   pub lines : report_lines entries retries ≡ lines_in s ++ more
 
-copies : {A : Type 0} → ℕ → A → List A
-copies zero a = []
-copies (suc n) a = a ∷ copies n a
-
-copies_length : {A : Type 0} (n : ℕ) (a : A) → length (copies n a) ≡ n
-unfolding copies
-copies_length zero a = refl
-copies_length (suc n) a = ap suc (copies_length n a)
-
-abbrev blank : PrintedEntry
-blank = entered 0 0 end.Done
+-- by a line that may follow, and what completes the report behind it
+through : (s : State) (l : Line) → IsState s → IsLine l → may_follow s l ≡ true → (IsState (advanced s l) → Completed (advanced s l)) → Completed s
+through s l is line ok later =
+    let step = steps s l is line ok in
+    let c = later step.is in
+    record { entries = c.entries; retries = c.retries; more = l ∷ c.more; form = c.form; lines = c.lines ∙ (ap (λ t. t ++ c.more) step.lines ∙ append_assoc (lines_in s) (l ∷ []) c.more) }
 
 abbrev blank_retry : Retry
 blank_retry = record { shell = 0; txn = 0; entry = 0; path = [] }
 
-blanks_form : (n : ℕ) → AreFormEntries (copies n blank)
-unfolding copies
-blanks_form zero = tt
-blanks_form (suc n) = (record { shell = lit< tt; txn = lit< tt; outputs = tt; ended = tt }, blanks_form n)
-
 root_path : IsPath []
 root_path = record { names = All-nil IsName; short = omega arith }
 
-blank_retries : (n : ℕ) → AreFormRetries (copies n blank_retry)
-unfolding copies
-blank_retries zero = tt
-blank_retries (suc n) = (record { shell = lit< tt; txn = lit< tt; entry = lit< tt; path = root_path }, blank_retries n)
-
-forms_append : (es fs : List PrintedEntry) → AreFormEntries es → AreFormEntries fs → AreFormEntries (es ++ fs)
-forms_append [] fs p q = q
-forms_append (e ∷ es) fs p q = (p.0, forms_append es fs p.1 q)
-
-retries_append : (rs ss : List Retry) → AreFormRetries rs → AreFormRetries ss → AreFormRetries (rs ++ ss)
-retries_append [] ss p q = q
-retries_append (r ∷ rs) ss p q = (p.0, retries_append rs ss p.1 q)
-
-lines_append : (i : ℕ) (es fs : List PrintedEntry) → entry_lines i (es ++ fs) ≡ entry_lines i es ++ entry_lines (i + length es) fs
-lines_append i [] fs = let same : i ≡ i + 0 = omega arith in ap (λ k. entry_lines k fs) same
-lines_append i (e ∷ es) fs =
-    let same : (i + 1) + length es ≡ i + suc (length es) = omega arith in
-    ap (λ t. entry i e.shell e.txn e.end ∷ (map print e.outputs ++ t)) (lines_append (i + 1) es fs ∙ ap (λ k. entry_lines (i + 1) es ++ entry_lines k fs) same)
-    ∙ ap (λ t. entry i e.shell e.txn e.end ∷ t) (sym (append_assoc (map print e.outputs) (entry_lines (i + 1) es) (entry_lines (i + suc (length es)) fs)))
-
-map_append : {A : Type 0} (f : A → Line) (xs ys : List A) → map f (xs ++ ys) ≡ map f xs ++ map f ys
-map_append f [] ys = refl
-map_append f (x ∷ xs) ys = ap (λ t. f x ∷ t) (map_append f xs ys)
-
-empty_form : IsForm [] []
-empty_form = record { entries_fit = lit< tt; retries_fit = lit< tt; entries_form = tt; retries_form = tt }
-
-filled : {A : Type 0} (xs : List A) (n : ℕ) (a : A) → length xs ≤ n → length (xs ++ copies (n - length xs) a) ≡ n
-filled xs n a h = let size = length-append xs (copies (n - length xs) a) in let rest = copies_length (n - length xs) a in omega (arith, size, rest)
-
-completed_at : (g : Stage) (es : List PrintedEntry) (rs : List Retry) → IsState (record { stage = g; entries = es; retries = rs }) → Completed (record { stage = g; entries = es; retries = rs })
-completed_at stage.Start es rs is = record { entries = []; retries = []; more = report_lines [] []; form = empty_form; lines = refl }
-completed_at stage.Headed es rs is = record { entries = []; retries = []; more = entries 0 ∷ retries 0 ∷ final ∷ []; form = empty_form; lines = refl }
-completed_at (stage.Entries n) es rs is =
-    let blanks = copies (n - length es) blank in
-    let whole = filled es n blank is.fits.0 in
-    record {
-      entries = es ++ blanks;
-      retries = [];
-      more = entry_lines (0 + length es) blanks ++ retries 0 ∷ final ∷ [];
-      form = record {
-        entries_fit = subst (λ (k : ℕ). k < 2 ^ 64) (sym whole) is.fits.1;
-        retries_fit = lit< tt;
-        entries_form = forms_append es blanks is.entries_form (blanks_form (n - length es));
-        retries_form = tt;
-      };
-      lines =
-          ap (λ k. head ∷ entries k ∷ (entry_lines 0 (es ++ blanks) ++ retries 0 ∷ final ∷ [])) whole
-          ∙ ap (λ t. head ∷ entries n ∷ t) (ap (λ t. t ++ retries 0 ∷ final ∷ []) (lines_append 0 es blanks) ∙ append_assoc (entry_lines 0 es) (entry_lines (0 + length es) blanks) (retries 0 ∷ final ∷ []));
-    }
-completed_at (stage.Retries n) es rs is =
-    let blanks = copies (n - length rs) blank_retry in
-    let whole = filled rs n blank_retry is.fits.1 in
-    record {
-      entries = es;
-      retries = rs ++ blanks;
-      more = map retry blanks ++ final ∷ [];
-      form = record {
-        entries_fit = is.fits.0;
-        retries_fit = subst (λ (k : ℕ). k < 2 ^ 64) (sym whole) is.fits.2;
-        entries_form = is.entries_form;
-        retries_form = retries_append rs blanks is.retries_form (blank_retries (n - length rs));
-      };
-      lines =
-          ap (λ k. head ∷ entries (length es) ∷ (entry_lines 0 es ++ retries k ∷ (map retry (rs ++ blanks) ++ final ∷ []))) whole
-          ∙ ap (λ t. head ∷ entries (length es) ∷ t)
-          (ap (λ t. entry_lines 0 es ++ retries n ∷ t) (ap (λ t. t ++ final ∷ []) (map_append retry rs blanks) ∙ append_assoc (map retry rs) (map retry blanks) (final ∷ []))
-          ∙ sym (append_assoc (entry_lines 0 es) (retries n ∷ map retry rs) (map retry blanks ++ final ∷ [])));
-    }
-completed_at stage.Ended es rs is =
+after_end : (es : List PrintedEntry) (rs : List Retry) → IsState (at stage.Ended es rs) → Completed (at stage.Ended es rs)
+after_end es rs is =
     record {
       entries = es;
       retries = rs;
@@ -119,6 +44,37 @@ completed_at stage.Ended es rs is =
       form = record { entries_fit = is.fits.0; retries_fit = is.fits.1; entries_form = is.entries_form; retries_form = is.retries_form };
       lines = sym (append-nil (report_lines es rs));
     }
+
+after_retries : (k n : ℕ) (es : List PrintedEntry) (rs : List Retry) → length rs + k ≡ n → IsState (at (stage.Retries n) es rs) → Completed (at (stage.Retries n) es rs)
+after_retries zero n es rs e is = through (at (stage.Retries n) es rs) final is tt (same_test (length rs) n (omega (arith, e))) (λ next. after_end es rs next)
+after_retries (suc k) n es rs e is =
+    let size = length-append rs (blank_retry ∷ []) in
+    through (at (stage.Retries n) es rs) (retry blank_retry) is (record { shell = lit< tt; txn = lit< tt; entry = lit< tt; path = root_path }) (lt-ltb (length rs) n (omega (arith, e)))
+    (λ next. after_retries k n es (rs ++ blank_retry ∷ []) (omega (arith, e, size)) next)
+
+after_entries : (k n : ℕ) (es : List PrintedEntry) (rs : List Retry) → length es + k ≡ n → IsState (at (stage.Entries n) es rs) → Completed (at (stage.Entries n) es rs)
+after_entries zero n es rs e is =
+    through (at (stage.Entries n) es rs) (retries (length rs)) is (no_more rs is.fits.2) (same_test (length es) n (omega (arith, e))) (λ next. after_retries 0 (length rs) es rs (omega arith) next)
+  where
+    no_more : (rs : List Retry) → rs ≡ [] → length rs < 2 ^ 64
+    no_more rs none = let size = ap length none in omega (arith, size)
+after_entries (suc k) n es rs e is =
+    let blank = entered 0 0 end.Done in
+    let size = length-append es (blank ∷ []) in
+    through (at (stage.Entries n) es rs) (entry (length es) 0 0 end.Done) is (omega (arith, e, is.fits.1), lit< tt, lit< tt, tt)
+    (and_from (nat_eq (length es) (length es)) (nat_lt (length es) n) (same_test (length es) (length es) refl) (lt-ltb (length es) n (omega (arith, e))))
+    (λ next. after_entries k n (es ++ blank ∷ []) rs (omega (arith, e, size)) next)
+
+after_head : (es : List PrintedEntry) (rs : List Retry) → IsState (at stage.Headed es rs) → Completed (at stage.Headed es rs)
+after_head es rs is =
+    through (at stage.Headed es rs) (entries 0) is (lit< tt) refl (λ next. after_entries 0 0 es rs (let size = ap length is.fits.0 in omega (arith, size)) next)
+
+completed_at : (g : Stage) (es : List PrintedEntry) (rs : List Retry) → IsState (at g es rs) → Completed (at g es rs)
+completed_at stage.Start es rs is = through (at stage.Start es rs) head is tt refl (λ next. after_head es rs next)
+completed_at stage.Headed es rs is = after_head es rs is
+completed_at (stage.Entries n) es rs is = after_entries (n - length es) n es rs (let few = is.fits.0 in omega (arith, few)) is
+completed_at (stage.Retries n) es rs is = after_retries (n - length rs) n es rs (let few = is.fits.1 in omega (arith, few)) is
+completed_at stage.Ended es rs is = after_end es rs is
 
 pub completed : (s : State) → IsState s → Completed s
 completed s is = completed_at s.stage s.entries s.retries is

@@ -1,21 +1,21 @@
 -- Numbers are read as they are spelled, in decimal digits without leading zeros.
-use Rattle.std.proofs.Common.{◌≡◌, ◌≢◌, ℕ, zero, suc, ◌+◌, ◌-◌, ◌^◌, ◌≤◌, ◌<◌, ℤ, pos, negsuc, Bool, true, false, not, cond, ◌&&◌, nat_eq, nat_lt, nat_le, List, [], ◌∷◌, ◌++◌, length, take, drop, get_or, slice_index, Option, Some, None, Result, Ok, Err, MatchOption, Bor, refl, ap, sym, subst, ◌∙◌, ◌⊎◌, inl, inr, arith, rules, codes, take-append-drop}
-use Rattle.std.specs.Result.{result_ok, OkIff}
-use Rattle.std.specs.Option.{option_map, option_and_then}
+use Rattle.std.proofs.Common.{◌≡◌, ℕ, suc, ◌+◌, ◌-◌, ◌^◌, ◌<◌, ℤ, pos, negsuc, Bool, true, false, cond, ◌&&◌, nat_eq, nat_lt, List, [], ◌∷◌, ◌++◌, length, take, drop, Option, Some, None, Result, Ok, MatchOption, Bor, refl, ap, sym, subst, ◌∙◌, arith, rules, codes}
+use Rattle.std.specs.Result.{result_ok}
+use Rattle.std.specs.Option.{option_map}
 use Rattle.std.specs.List.{list_all, prefix_len}
 use Rattle.std.specs.Fmt.{decimal, signed_decimal}
 use Rattle.std.specs.Prelude.{bytes_eq}
 use Rattle.std.specs.Str.{IsUtf8}
 use Rattle.std.specs.Str.Parse.{digits_value, ParsesUnsigned}
-use Rattle.std.proofs.lemmas.Bool.{ltb-true, lt-ltb, eqb-true, and_parts}
+use Rattle.std.proofs.lemmas.Bool.{ltb-true, lt-ltb, and_parts}
 use Rattle.std.proofs.lemmas.Bool.Decides.{nat_tests}
-use Rattle.std.proofs.lemmas.Str.Parse.{IsNumeralModel, IsDigitsTest, numerals_by_value, parse_digits}
+use Rattle.std.proofs.lemmas.Str.Parse.{IsNumeralModel, numerals_by_value}
 use Rattle.std.proofs.lemmas.Str.{IsUtf8-from_ascii}
-use Rattle.std.proofs.lemmas.Fmt.{IsAscii-from_digits, decimal-digits_value, digits_decimal, digits_value-decimal, decimal_nonempty, decimal_digit, first_decimal}
-use Rattle.std.proofs.lemmas.Option.{cond_some}
+use Rattle.std.proofs.lemmas.Fmt.{IsAscii-from_digits, decimal_is_IsNumeral, digits_decimal, decimal_nonempty, parse-decimal}
+use Rattle.std.proofs.lemmas.Option.{cond_some, some_pair_parts}
 use Rattle.std.specs.Cmp.Lexicographic.{nat_list_eq_equiv, bytes_decides}
 use Rattle.fx_report.specs.Readable.{IsInteger}
-use Rattle.fx_read_report.specs.Numbers.{EndsDigits, after, is_digit, leads_zero, is_number, number_of, leading_number, leading_integer, integer_by, signed, positive, negative}
+use Rattle.fx_read_report.specs.Numbers.{EndsDigits, after, is_digit, number_of, leading_number, leading_integer, integer_by, signed, positive, negative}
 
 pub after_is : (words bytes : List ℕ) (r : Option (Bor (List ℕ))) → MatchOption r (bytes_eq (take (length words) bytes) words ≡ false) (λ x. (bytes_eq (take (length words) bytes) words ≡ true) × (x.now ≡ drop (length words) bytes) × (length x.now + length words ≡ length bytes)) → option_map (λ rest. rest.now) r ≡ after words bytes
 unfolding after
@@ -25,54 +25,8 @@ after_is words bytes (Some x) h = ap Some h.1 ∙ ap (λ b. cond b (Some (drop (
 pub own : IsNumeralModel (λ ds. list_all is_digit ds ≡ true) (digits_value 10)
 own = numerals_by_value _ (search rules)
 
-none_of : (ds : List ℕ) → is_number ds ≡ false → None ≡ number_of ds
-unfolding number_of
-none_of ds e = ap (λ b. cond b (Some (digits_value 10 ds)) None) (sym e)
-
-some_of : (ds : List ℕ) → is_number ds ≡ true → Some (digits_value 10 ds) ≡ number_of ds
-unfolding number_of
-some_of ds e = ap (λ b. cond b (Some (digits_value 10 ds)) None) (sym e)
-
-and_false : (b : Bool) → (b && false) ≡ false
-and_false true = refl
-and_false false = refl
-
 both : (a b : Bool) → a ≡ true → b ≡ true → (a && b) ≡ true
 both a b e f = ap (λ x. x && b) e ∙ f
-
-true_or_false : (b : Bool) → (b ≡ true) ⊎ (b ≡ false)
-true_or_false true = inl refl
-true_or_false false = inr refl
-
-pub empty_none : (ds : List ℕ) → length ds ≡ 0 → None ≡ number_of ds
-empty_none ds e = none_of ds (let few : nat_lt 0 (length ds) ≡ false = grind (arith, nat_tests) in ap (λ b. b && (not (leads_zero ds) && nat_lt (digits_value 10 ds) (2 ^ 64))) few)
-
-pub zero_none : (ds : List ℕ) → 1 < length ds → slice_index ds 0 ≡ 48 → None ≡ number_of ds
-zero_none ds long e =
-    let many : nat_lt 1 (length ds) ≡ true = lt-ltb 1 (length ds) long in
-    let is : nat_eq (slice_index ds 0) 48 ≡ true = ap (λ c. nat_eq c 48) e in
-    let z : leads_zero ds ≡ true = both _ _ many is in
-    none_of ds (ap (λ b. nat_lt 0 (length ds) && (not b && nat_lt (digits_value 10 ds) (2 ^ 64))) z ∙ and_false (nat_lt 0 (length ds)))
-
-pub short_leads : (ds : List ℕ) → length ds ≤ 1 → leads_zero ds ≡ false
-short_leads ds h = let few : nat_lt 1 (length ds) ≡ false = grind (arith, nat_tests) in ap (λ b. b && nat_eq (slice_index ds 0) 48) few
-
-pub other_leads : (ds : List ℕ) → slice_index ds 0 ≢ 48 → leads_zero ds ≡ false
-other_leads ds h = let is : nat_eq (slice_index ds 0) 48 ≡ false = grind (arith, nat_tests) in ap (λ b. nat_lt 1 (length ds) && b) is ∙ and_false (nat_lt 1 (length ds))
-
-test_of : (ds : List ℕ) → leads_zero ds ≡ false → is_number ds ≡ (nat_lt 0 (length ds) && nat_lt (digits_value 10 ds) (2 ^ 64))
-test_of ds z = ap (λ b. nat_lt 0 (length ds) && (not b && nat_lt (digits_value 10 ds) (2 ^ 64))) z
-
-read_is : {E : Type 0} (ds : List ℕ) (r : Result ℕ E) → OkIff r ((0 < length ds) × (digits_value 10 ds < 2 ^ 64)) (digits_value 10 ds) → leads_zero ds ≡ false → result_ok r ≡ number_of ds
-read_is ds (Ok n) h z = ap Some h.1 ∙ some_of ds (test_of ds z ∙ both _ _ (lt-ltb 0 (length ds) h.0.0) (lt-ltb (digits_value 10 ds) (2 ^ 64) h.0.1))
-read_is ds (Err e) h z =
-    elim (true_or_false (is_number ds)) [
-      | inl is ↦ let parts = and_parts _ _ (sym (test_of ds z) ∙ is) in absurd (h (ltb-true 0 (length ds) parts.0, ltb-true (digits_value 10 ds) (2 ^ 64) parts.1))
-      | inr fails ↦ none_of ds fails
-    ]
-
-pub parsed : {E : Type 0} (ds : List ℕ) (r : Result ℕ E) → ParsesUnsigned 64 10 ds r → list_all is_digit ds ≡ true → leads_zero ds ≡ false → result_ok r ≡ number_of ds
-parsed ds r h digits z = read_is ds r (parse_digits own 64 ds r h digits) z
 
 pub digits_utf8 : (ds : List ℕ) → list_all is_digit ds ≡ true → IsUtf8 ds
 digits_utf8 ds digits = IsUtf8-from_ascii ds (IsAscii-from_digits ds (own.to ds digits))
@@ -92,42 +46,45 @@ front_digits bytes count e = ap (λ n. list_all is_digit (take n bytes)) e ∙ p
 
 -- ---- the laws
 
-number_leads : (n : ℕ) → n < 2 ^ 64 → leads_zero (decimal n) ≡ false
-number_leads zero small = short_leads (decimal 0) (let one = ap length (decimal_digit 0 (omega arith)) in omega (arith, one))
-number_leads (suc n) small = other_leads (decimal (suc n)) (λ e. let first = first_decimal (suc n) (omega arith) small in absurd (omega (arith, first, e)))
+-- a number of that text is the one
+pub number_is : (text : List ℕ) (n : ℕ) → n < 2 ^ 64 → decimal n ≡ text → number_of text ≡ Some n
+unfolding number_of
+number_is text n small e =
+    let same : digits_value 10 text ≡ n = ap (digits_value 10) (sym e) ∙ (decimal_is_IsNumeral n small).1 in
+    let spelled : bytes_eq (decimal n) text ≡ true = (bytes_decides (decimal n) text).1 e in
+    rw (same, spelled, lt-ltb n (2 ^ 64) small) refl
 
 pub number_read : (n : ℕ) → n < 2 ^ 64 → number_of (decimal n) ≡ Some n
-number_read n small =
-    let value = digits_value-decimal own n small in
-    let few : digits_value 10 (decimal n) < 2 ^ 64 = omega (arith, value) in
-    let is : is_number (decimal n) ≡ true = test_of (decimal n) (number_leads n small) ∙ both _ _ (lt-ltb 0 (length (decimal n)) (decimal_nonempty n small)) (lt-ltb (digits_value 10 (decimal n)) (2 ^ 64) few) in
-    sym (some_of (decimal n) is) ∙ ap Some value
+number_read n small = number_is (decimal n) n small refl
 
-one_digit : (ds : List ℕ) → 0 < length ds → leads_zero ds ≡ false → slice_index ds 0 ≡ 48 → length ds ≡ 1
-one_digit ds some z e =
-    elim (true_or_false (nat_lt 1 (length ds))) [
-      | inl many ↦ let is : nat_eq (slice_index ds 0) 48 ≡ true = ap (λ c. nat_eq c 48) e in let wrong : true ≡ false = sym (both _ _ many is) ∙ z in absurd (cc)
-      | inr few ↦ not_many (length ds) some few
-    ]
-  where
-    not_many : (n : ℕ) → 0 < n → nat_lt 1 n ≡ false → n ≡ 1
-    not_many n some few = grind (arith, nat_tests)
-
-not_true : (b : Bool) → not b ≡ true → b ≡ false
-not_true true e = absurd (cc)
-not_true false e = refl
-
-pub number_spelled : (ds : List ℕ) (n : ℕ) → list_all is_digit ds ≡ true → number_of ds ≡ Some n → (decimal n ≡ ds) × (n < 2 ^ 64)
+pub number_spelled : (text : List ℕ) (n : ℕ) → number_of text ≡ Some n → (decimal n ≡ text) × (n < 2 ^ 64)
 unfolding number_of
-number_spelled ds n digits e =
-    let chosen = cond_some (is_number ds) (digits_value 10 ds) n e in
-    let parts = and_parts _ _ chosen.0 in
-    let inner = and_parts _ _ parts.1 in
-    let some = ltb-true 0 (length ds) parts.0 in
-    let small = ltb-true (digits_value 10 ds) (2 ^ 64) inner.1 in
-    let z = not_true (leads_zero ds) inner.0 in
-    let spelled = decimal-digits_value own ds digits some (one_digit ds some z) small in
-    (ap decimal (sym chosen.1) ∙ spelled, subst (λ (v : ℕ). v < 2 ^ 64) chosen.1 small)
+number_spelled text n e =
+    let v = digits_value 10 text in
+    let chosen = cond_some (bytes_eq (decimal v) text && nat_lt v (2 ^ 64)) v n e in
+    let parts = and_parts (bytes_eq (decimal v) text) (nat_lt v (2 ^ 64)) chosen.0 in
+    (ap decimal (sym chosen.1) ∙ (bytes_decides (decimal v) text).0 parts.0, subst (λ (m : ℕ). m < 2 ^ 64) chosen.1 (ltb-true v (2 ^ 64) parts.1))
+
+no_number : (text : List ℕ) (o : Option ℕ) → number_of text ≡ o → ((n : ℕ) → n < 2 ^ 64 → decimal n ≡ text → ⊥) → o ≡ None
+no_number text None e none = refl
+no_number text (Some n) e none = let is = number_spelled text n e in absurd (none n is.1 is.0)
+
+-- what `parse` cannot read is no number's text
+pub not_parsed : {E : Type 0} (text : List ℕ) (r : Result ℕ E) → None ≡ result_ok r → ParsesUnsigned 64 10 text r → number_of text ≡ None
+not_parsed text r none parsed = no_number text (number_of text) refl (λ n small is.
+    let read : r ≡ Ok n = parse-decimal 64 n text r small (omega arith) (sym is) parsed in
+    let bad : None ≡ Some n = none ∙ ap result_ok read in
+    cc)
+
+-- a text that is not that of the number read is none's
+pub not_spelled : {E : Type 0} (text : List ℕ) (r : Result ℕ E) (k : ℕ) → Some k ≡ result_ok r → ParsesUnsigned 64 10 text r → bytes_eq (decimal k) text ≡ false → number_of text ≡ None
+not_spelled text r k some parsed isnt = no_number text (number_of text) refl (λ n small is.
+    let read : r ≡ Ok n = parse-decimal 64 n text r small (omega arith) (sym is) parsed in
+    let found : Some k ≡ Some n = some ∙ ap result_ok read in
+    let same : k ≡ n = cc in
+    let spelled : bytes_eq (decimal k) text ≡ true = (bytes_decides (decimal k) text).1 (ap decimal same ∙ is) in
+    let bad : true ≡ false = sym spelled ∙ isnt in
+    cc)
 
 none_first : (x : List ℕ) → EndsDigits x → prefix_len is_digit x ≡ 0
 none_first [] s = refl
@@ -157,38 +114,9 @@ leading_read n x small s =
     ∙ (ap (λ t. option_map (λ v. (v, drop (length ds) b)) (number_of t)) (take_front ds x)
     ∙ (ap (λ o. option_map (λ v. (v, drop (length ds) b)) o) (number_read n small) ∙ ap (λ t. Some (n, t)) (drop_front ds x)))
 
-pub record Leads (bytes : List ℕ) (n : ℕ) (x : List ℕ) : Type 0 where
-  pub small : n < 2 ^ 64
-  pub parts : bytes ≡ decimal n ++ x
-  pub ends : EndsDigits x
-
-pub mapped : {A B : Type 0} (f : A → B) (o : Option A) (y : B) → option_map f o ≡ Some y → (a : A) × (o ≡ Some a) × (f a ≡ y)
-mapped f None y e = absurd (cc)
-mapped f (Some a) y e = (a, refl, cc)
-
-ends_step : (b : Bool) (d : ℕ) (ds : List ℕ) → is_digit d ≡ b → EndsDigits (drop (prefix_len is_digit ds) ds) → EndsDigits (drop (cond b (1 + prefix_len is_digit ds) 0) (d ∷ ds))
-ends_step true d ds e h =
-    let one : suc (prefix_len is_digit ds) ≡ 1 + prefix_len is_digit ds = omega arith in
-    subst (λ (k : ℕ). EndsDigits (drop k (d ∷ ds))) one h
-ends_step false d ds e h = e
-
-prefix_ends : (bytes : List ℕ) → EndsDigits (drop (prefix_len is_digit bytes) bytes)
-prefix_ends [] = tt
-prefix_ends (d ∷ ds) = ends_step (is_digit d) d ds refl (prefix_ends ds)
-
-pub leading_spelled : (bytes : List ℕ) (n : ℕ) (x : List ℕ) → leading_number bytes ≡ Some (n, x) → Leads bytes n x
-unfolding leading_number
-leading_spelled bytes n x e =
-    let k = prefix_len is_digit bytes in
-    let found = mapped (λ v. (v, drop k bytes)) (number_of (take k bytes)) (n, x) e in
-    let spelled = number_spelled (take k bytes) found.0 (prefix_all bytes) found.1 in
-    let same : found.0 ≡ n = ap (λ z. z.0) found.2 in
-    let left : drop k bytes ≡ x = ap (λ z. z.1) found.2 in
-    record {
-      small = subst (λ (v : ℕ). v < 2 ^ 64) same spelled.1;
-      parts = sym (take-append-drop k bytes) ∙ (ap (λ t. t ++ drop k bytes) (sym spelled.0) ∙ (ap (λ v. decimal v ++ drop k bytes) same ∙ ap (λ t. decimal n ++ t) left));
-      ends = subst EndsDigits left (prefix_ends bytes);
-    }
+-- what is spelled tells the number
+pub decimal_cancel : (m n : ℕ) (x y : List ℕ) → m < 2 ^ 64 → n < 2 ^ 64 → EndsDigits x → EndsDigits y → decimal m ++ x ≡ decimal n ++ y → (m ≡ n) × (x ≡ y)
+decimal_cancel m n x y p q s t e = some_pair_parts m n x y (sym (leading_read m x p s) ∙ (ap leading_number e ∙ leading_read n y q t))
 
 -- words
 
@@ -197,13 +125,6 @@ unfolding after
 after_read words x =
     let same : bytes_eq (take (length words) (words ++ x)) words ≡ true = ap (λ t. bytes_eq t words) (take_front words x) ∙ nat_list_eq_equiv.refl words in
     ap (λ b. cond b (Some (drop (length words) (words ++ x))) None) same ∙ ap Some (drop_front words x)
-
-pub after_spelled : (words bytes x : List ℕ) → after words bytes ≡ Some x → bytes ≡ words ++ x
-unfolding after
-after_spelled words bytes x e =
-    let chosen = cond_some (bytes_eq (take (length words) bytes) words) (drop (length words) bytes) x e in
-    let same : take (length words) bytes ≡ words = (bytes_decides (take (length words) bytes) words).0 chosen.0 in
-    sym (take-append-drop (length words) bytes) ∙ (ap (λ t. t ++ drop (length words) bytes) same ∙ ap (λ t. words ++ t) chosen.1)
 
 -- integers
 
@@ -232,59 +153,3 @@ integer_read (negsuc n) x small s =
     ap (λ o. signed negative o) (leading_read (suc n) x less s)
     ∙ (ap (λ b. option_map (λ z. (z, x)) (cond (nat_eq (suc n) 0) None (cond b None (Some (negsuc (suc n - 1)))))) fits
     ∙ (ap (λ b. option_map (λ z. (z, x)) (cond b None (Some (negsuc (suc n - 1))))) some ∙ ap (λ m. Some (negsuc m, x)) back))
-
-pub record LeadsInteger (bytes : List ℕ) (z : ℤ) (x : List ℕ) : Type 0 where
-  pub small : IsInteger z
-  pub parts : bytes ≡ signed_decimal z ++ x
-  pub ends : EndsDigits x
-
-pub chained : {A B : Type 0} (f : A → Option B) (o : Option A) (y : B) → option_and_then f o ≡ Some y → (a : A) × (o ≡ Some a) × (f a ≡ Some y)
-chained f None y e = absurd (cc)
-chained f (Some a) y e = (a, refl, e)
-
-skipped : {A : Type 0} (b : Bool) (o : Option A) (y : A) → cond b None o ≡ Some y → (b ≡ false) × (o ≡ Some y)
-skipped true o y e = absurd (cc)
-skipped false o y e = (refl, e)
-
-positive_is : (n : ℕ) (z : ℤ) → positive n ≡ Some z → (n < 2 ^ 63) × (pos n ≡ z)
-positive_is n z e = let h = cond_some (nat_lt n (2 ^ 63)) (pos n) z e in (ltb-true n (2 ^ 63) h.0, h.1)
-
-negative_is : (n : ℕ) (z : ℤ) → negative n ≡ Some z → (m : ℕ) × (n ≡ suc m) × (m < 2 ^ 63) × (negsuc m ≡ z)
-negative_is zero z e = absurd (cc)
-negative_is (suc m) z e =
-    let one = skipped (nat_eq (suc m) 0) (cond (nat_lt (2 ^ 63) (suc m)) None (Some (negsuc (suc m - 1)))) z e in
-    let two = skipped (nat_lt (2 ^ 63) (suc m)) (Some (negsuc (suc m - 1))) z one.1 in
-    let back : suc m - 1 ≡ m = omega arith in
-    let is : negsuc (suc m - 1) ≡ z = cc in
-    (m, refl, small m two.0, ap negsuc (sym back) ∙ is)
-  where
-    small : (m : ℕ) → nat_lt (2 ^ 63) (suc m) ≡ false → m < 2 ^ 63
-    small m few = grind (arith, nat_tests)
-
-signed_is : (sign : ℕ → Option ℤ) (o : Option (ℕ × List ℕ)) (z : ℤ) (x : List ℕ) → signed sign o ≡ Some (z, x) → (n : ℕ) × (o ≡ Some (n, x)) × (sign n ≡ Some z)
-signed_is sign None z x e = absurd (cc)
-signed_is sign (Some r) z x e =
-    let found = mapped (λ v. (v, r.1)) (sign r.0) (z, x) e in
-    let left : r.1 ≡ x = ap (λ p. p.1) found.2 in
-    let is : found.0 ≡ z = ap (λ p. p.0) found.2 in
-    (r.0, ap (λ t. Some (r.0, t)) left, found.1 ∙ ap Some is)
-
-integer_at : (o : Option (List ℕ)) (bytes : List ℕ) (z : ℤ) (x : List ℕ) → after (codes "-") bytes ≡ o → integer_by o bytes ≡ Some (z, x) → LeadsInteger bytes z x
-integer_at None bytes z x a e =
-    let found = signed_is positive (leading_number bytes) z x e in
-    let leads = leading_spelled bytes found.0 x found.1 in
-    let is = positive_is found.0 z found.2 in
-    record { small = subst IsInteger is.1 is.0; parts = leads.parts ∙ ap (λ v. signed_decimal v ++ x) is.1; ends = leads.ends }
-integer_at (Some digits) bytes z x a e =
-    let found = signed_is negative (leading_number digits) z x e in
-    let leads = leading_spelled digits found.0 x found.1 in
-    let is = negative_is found.0 z found.2 in
-    record {
-      small = subst IsInteger is.3 is.2;
-      parts = after_spelled (codes "-") bytes digits a ∙ (ap (λ t. 45 ∷ t) (leads.parts ∙ ap (λ n. decimal n ++ x) is.1) ∙ ap (λ v. signed_decimal v ++ x) is.3);
-      ends = leads.ends;
-    }
-
-pub integer_spelled : (bytes : List ℕ) (z : ℤ) (x : List ℕ) → leading_integer bytes ≡ Some (z, x) → LeadsInteger bytes z x
-unfolding leading_integer
-integer_spelled bytes z x e = integer_at (after (codes "-") bytes) bytes z x refl e

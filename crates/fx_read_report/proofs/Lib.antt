@@ -1,14 +1,13 @@
-pub mod Pieces
-pub mod Cancels
-pub mod Finds
-pub mod Loops
-pub mod Trees
 pub mod Scans
 pub mod Digits
+pub mod ValueLaws
+pub mod ValueLoops
+pub mod ValueFits
 pub mod NameBytes
 pub mod PartLaws
 pub mod LineLaws
-pub mod Tokens
+pub mod Machine
+pub mod Running
 pub mod Feeds
 pub mod Advances
 pub mod Completes
@@ -16,3 +15,4 @@ pub mod Texts
 pub mod Printing
 pub mod Taking
 pub mod Reporting
+pub mod Readable

@@ -1,28 +1,28 @@
--- The lines of entries and retries are read as they are spelled, and in no other way.
-use Rattle.std.proofs.Common.{◌≡◌, ℕ, ◌^◌, ◌<◌, List, [], ◌++◌, Option, Some, None, Result, Ok, Err, IfOk, Bool, true, false, codes, refl, sym, ap, subst, ◌∙◌, append_assoc, append-nil}
+-- The lines of a report are read as they are spelled.
+use Rattle.std.proofs.Common.{◌≡◌, ℕ, zero, suc, ◌^◌, ◌<◌, ◌≤◌, Bool, true, false, nat_le, List, [], ◌∷◌, ◌++◌, length, Option, Some, None, codes, refl, sym, ap, ◌∙◌, append-nil, append_assoc, arith}
 use Rattle.std.specs.Option.{option_map, option_and_then}
 use Rattle.std.specs.Prelude.{bytes_eq}
 use Rattle.std.specs.Cmp.Lexicographic.{bytes_decides}
+use Rattle.std.proofs.lemmas.Bool.Decides.{nat_tests}
+use Rattle.fx_expr.specs.Tree.{Tree, TreeRows, str, int, bool, names, pair, nothing, some, table, no_rows, row}
 use Rattle.fx_store.specs.Names.{path_text}
 use Rattle.fx_spec.specs.declared.refusal.End.{End}
 use Rattle.fx_machine.specs.declared.retry.Retry.{Retry}
 use Rattle.fx_report.specs.Print.{quote, value_text}
 use Rattle.fx_report.specs.Report.{end_text, field}
+use Rattle.fx_read_report.specs.Limits.{Limits, strict}
 use Rattle.fx_read_report.specs.Numbers.{EndsDigits, after}
-use Rattle.fx_read_report.proofs.Digits.{after_read, after_spelled, chained, mapped}
-use Rattle.fx_read_report.specs.Form.{IsFormEnd, IsFormRetry}
-use Rattle.fx_read_report.specs.Lines.{FindsLine, Line, IsLine, head, entries, entry, print, retries, retry, final, line_of, line_text}
+use Rattle.fx_read_report.specs.Values.{ArePrintedRows, ArePrintedTexts, IsPrinted, IsPrintedText, alone, keys_in, value_at}
+use Rattle.fx_read_report.specs.declared.values.TheConstants.{VALUE_LEVELS}
 use Rattle.fx_read_report.specs.Kinds.{kind_of}
-use Rattle.fx_read_report.specs.declared.lines.Line as held
 use Rattle.fx_read_report.specs.declared.lines.Kind.{Kind}
 use Rattle.fx_read_report.specs.declared.lines.Kind.TheVariants as kind
-use Rattle.fx_expr.specs.Tree.{Tree}
-use Rattle.fx_read_report.specs.Values.{IsPrinted, IsWholeValue}
-use Rattle.fx_read_report.proofs.Cancels.{one_value}
-use Rattle.fx_read_report.proofs.Finds.{ends_at}
-use Rattle.fx_read_report.specs.declared.values.TheConstants.{VALUE_LEVELS}
-use Rattle.fx_read_report.specs.Reads.{end_at, entry_at, field_at, last_at, path_at, retry_at, small_at}
-use Rattle.fx_read_report.proofs.PartLaws.{end_read, end_spelled, field_read, field_spelled, last_read, last_spelled, path_read, path_spelled, small_read, small_spelled}
+use Rattle.fx_read_report.specs.Lines.{FindsLine, IsLine, Line, head, entries, entry, print, retries, retry, final, line_text}
+use Rattle.fx_read_report.specs.Reads.{end_at, entries_at, entry_at, field_at, final_at, head_at, line_at, line_by, path_at, print_at, retries_at, retry_at, small_at}
+use Rattle.fx_read_report.proofs.Digits.{after_read}
+use Rattle.fx_read_report.proofs.PartLaws.{IsEndIn, IsPathIn, end_read, field_read, last_read, path_read, small_read, strict_end, strict_path}
+use Rattle.fx_read_report.proofs.ValueLoops.{ascends_of}
+use Rattle.fx_read_report.proofs.ValueLaws.{AreRowsIn, AreTextsIn, IsIn, IsTextIn, ends_at, value_read}
 
 field_ends : (words : List ℕ) (n : ℕ) (x : List ℕ) → EndsDigits (codes " " ++ words) → EndsDigits (field (codes " " ++ words) n ++ x)
 unfolding field
@@ -31,58 +31,29 @@ field_ends words n x s = refl
 entry_form : (a b c d : List ℕ) → (((a ++ b) ++ c) ++ codes " ") ++ d ≡ a ++ (b ++ (c ++ (codes " " ++ d)))
 entry_form a b c d = simp append_assoc
 
-abbrev ended_entry : ℕ → ℕ → ℕ → List ℕ → Option Line
-ended_entry i k j rest = option_map (λ e. entry i k j e) (end_at rest)
+abbrev ended_entry : Limits → ℕ → ℕ → ℕ → List ℕ → Option Line
+ended_entry m i k j rest = option_map (λ e. entry i k j e) (end_at m rest)
 
-abbrev with_txn : ℕ → ℕ → ℕ × List ℕ → Option Line
-with_txn i k j = option_and_then (λ rest. ended_entry i k j.0 rest) (after (codes " ") j.1)
+abbrev with_txn : Limits → ℕ → ℕ → ℕ × List ℕ → Option Line
+with_txn m i k j = option_and_then (λ rest. ended_entry m i k j.0 rest) (after (codes " ") j.1)
 
-abbrev with_shell : ℕ → ℕ × List ℕ → Option Line
-with_shell i k = option_and_then (λ j. with_txn i k.0 j) (small_at (codes " txn ") k.1)
+abbrev with_shell : Limits → ℕ → ℕ × List ℕ → Option Line
+with_shell m i k = option_and_then (λ j. with_txn m i k.0 j) (small_at (codes " txn ") k.1)
 
-abbrev with_number : ℕ × List ℕ → Option Line
-with_number i = option_and_then (λ k. with_shell i.0 k) (small_at (codes " shell ") i.1)
+abbrev with_number : Limits → ℕ × List ℕ → Option Line
+with_number m i = option_and_then (λ k. with_shell m i.0 k) (small_at (codes " shell ") i.1)
 
-pub entry_read : (i k j : ℕ) (e : End) → i < 2 ^ 64 → k < 2 ^ 32 → j < 2 ^ 32 → IsFormEnd e → entry_at (line_text (entry i k j e)) ≡ Some (entry i k j e)
+entry_read : (m : Limits) (i k j : ℕ) (e : End) → i < 2 ^ 64 → k < 2 ^ 32 → j < 2 ^ 32 → IsEndIn m e → entry_at m (line_text (entry i k j e)) ≡ Some (entry i k j e)
 unfolding entry_at
-entry_read i k j e p q r s =
+entry_read m i k j e p q r s =
     let end_ = codes " " ++ end_text e in
     let txn = field (codes " txn ") j ++ end_ in
     let shell = field (codes " shell ") k ++ txn in
-    ap entry_at (entry_form (field (codes "entry ") i) (field (codes " shell ") k) (field (codes " txn ") j) (end_text e))
-    ∙ (ap (λ o. option_and_then with_number o) (field_read (codes "entry ") i shell p (field_ends (codes "shell ") k txn refl))
-    ∙ (ap (λ o. option_and_then (λ x. with_shell i x) o) (small_read (codes " shell ") k txn q (field_ends (codes "txn ") j end_ refl))
-    ∙ (ap (λ o. option_and_then (λ x. with_txn i k x) o) (small_read (codes " txn ") j end_ r refl)
-    ∙ (ap (λ o. option_and_then (λ x. ended_entry i k j x) o) (after_read (codes " ") (end_text e)) ∙ ap (λ o. option_map (λ x. entry i k j x) o) (end_read e s)))))
-
-pub record ReadsLine (text : List ℕ) (l : Line) : Type 0 where
-  pub is : IsLine l
-  pub spelled : text ≡ line_text l
-
-pub entry_spelled : (text : List ℕ) (l : Line) → entry_at text ≡ Some l → ReadsLine text l
-unfolding entry_at
-entry_spelled text l h =
-    let one = chained with_number (field_at (codes "entry ") text) l h in
-    let i = one.0 in
-    let two = chained (λ k. with_shell i.0 k) (small_at (codes " shell ") i.1) l one.2 in
-    let k = two.0 in
-    let three = chained (λ j. with_txn i.0 k.0 j) (small_at (codes " txn ") k.1) l two.2 in
-    let j = three.0 in
-    let four = chained (λ rest. ended_entry i.0 k.0 j.0 rest) (after (codes " ") j.1) l three.2 in
-    let rest = four.0 in
-    let five = mapped (λ e. entry i.0 k.0 j.0 e) (end_at rest) l four.2 in
-    let e = five.0 in
-    let number = field_spelled (codes "entry ") text i.0 i.1 one.1 in
-    let shell = small_spelled (codes " shell ") i.1 k.0 k.1 two.1 in
-    let txn = small_spelled (codes " txn ") k.1 j.0 j.1 three.1 in
-    let behind = after_spelled (codes " ") j.1 rest four.1 in
-    let end_ = end_spelled rest e five.1 in
-    subst (ReadsLine text) five.2 (record {
-      is = (number.small, shell.small, txn.small, end_.form);
-      spelled =
-          number.parts ∙ (ap (λ t. field (codes "entry ") i.0 ++ t) (shell.parts ∙ ap (λ t. field (codes " shell ") k.0 ++ t) (txn.parts ∙ ap (λ t. field (codes " txn ") j.0 ++ t) (behind ∙ ap (λ t. codes " " ++ t) end_.spelled)))
-          ∙ sym (entry_form (field (codes "entry ") i.0) (field (codes " shell ") k.0) (field (codes " txn ") j.0) (end_text e)));
-    })
+    ap (entry_at m) (entry_form (field (codes "entry ") i) (field (codes " shell ") k) (field (codes " txn ") j) (end_text e))
+    ∙ (ap (λ o. option_and_then (with_number m) o) (field_read (codes "entry ") i shell p (field_ends (codes "shell ") k txn refl))
+    ∙ (ap (λ o. option_and_then (λ x. with_shell m i x) o) (small_read (codes " shell ") k txn q (field_ends (codes "txn ") j end_ refl))
+    ∙ (ap (λ o. option_and_then (λ x. with_txn m i k x) o) (small_read (codes " txn ") j end_ r refl)
+    ∙ (ap (λ o. option_and_then (λ x. ended_entry m i k j x) o) (after_read (codes " ") (end_text e)) ∙ ap (λ o. option_map (λ x. entry i k j x) o) (end_read m e s)))))
 
 -- retries
 
@@ -92,54 +63,36 @@ retry_form a b c d = simp append_assoc
 abbrev retry_of : ℕ → ℕ → ℕ → List (List ℕ) → Line
 retry_of k j i p = retry (record { shell = k; txn = j; entry = i; path = p })
 
-abbrev pathed : ℕ → ℕ → ℕ → List ℕ → Option Line
-pathed k j i rest = option_map (λ p. retry_of k j i p) (path_at rest)
+abbrev pathed : Limits → ℕ → ℕ → ℕ → List ℕ → Option Line
+pathed m k j i rest = option_map (λ p. retry_of k j i p) (path_at m rest)
 
-abbrev retry_entry : ℕ → ℕ → ℕ × List ℕ → Option Line
-retry_entry k j i = option_and_then (λ rest. pathed k j i.0 rest) (after (codes " path ") i.1)
+abbrev retry_entry : Limits → ℕ → ℕ → ℕ × List ℕ → Option Line
+retry_entry m k j i = option_and_then (λ rest. pathed m k j i.0 rest) (after (codes " path ") i.1)
 
-abbrev retry_txn : ℕ → ℕ × List ℕ → Option Line
-retry_txn k j = option_and_then (λ i. retry_entry k j.0 i) (field_at (codes " entry ") j.1)
+abbrev retry_txn : Limits → ℕ → ℕ × List ℕ → Option Line
+retry_txn m k j = option_and_then (λ i. retry_entry m k j.0 i) (field_at (codes " entry ") j.1)
 
-abbrev retry_shell : ℕ × List ℕ → Option Line
-retry_shell k = option_and_then (λ j. retry_txn k.0 j) (small_at (codes " txn ") k.1)
+abbrev retry_shell : Limits → ℕ × List ℕ → Option Line
+retry_shell m k = option_and_then (λ j. retry_txn m k.0 j) (small_at (codes " txn ") k.1)
 
-pub retry_read : (r : Retry) → IsFormRetry r → retry_at (line_text (retry r)) ≡ Some (retry r)
+-- a retry whose numbers fit and whose path a reader takes
+pub record IsRetryIn (limits : Limits) (r : Retry) : Type 0 where
+  pub shell : r.shell < 2 ^ 32
+  pub txn : r.txn < 2 ^ 32
+  pub entry : r.entry < 2 ^ 64
+  pub path : IsPathIn limits r.path
+
+retry_read : (m : Limits) (r : Retry) → IsRetryIn m r → retry_at m (line_text (retry r)) ≡ Some (retry r)
 unfolding retry_at
-retry_read r p =
+retry_read m r p =
     let path = codes " path " ++ quote (path_text r.path) in
     let number = field (codes " entry ") r.entry ++ path in
     let txn = field (codes " txn ") r.txn ++ number in
-    ap retry_at (retry_form (field (codes "retry shell ") r.shell) (field (codes " txn ") r.txn) (field (codes " entry ") r.entry) (quote (path_text r.path)))
-    ∙ (ap (λ o. option_and_then retry_shell o) (small_read (codes "retry shell ") r.shell txn p.shell (field_ends (codes "txn ") r.txn number refl))
-    ∙ (ap (λ o. option_and_then (λ x. retry_txn r.shell x) o) (small_read (codes " txn ") r.txn number p.txn (field_ends (codes "entry ") r.entry path refl))
-    ∙ (ap (λ o. option_and_then (λ x. retry_entry r.shell r.txn x) o) (field_read (codes " entry ") r.entry path p.entry refl)
-    ∙ (ap (λ o. option_and_then (λ x. pathed r.shell r.txn r.entry x) o) (after_read (codes " path ") (quote (path_text r.path))) ∙ ap (λ o. option_map (λ x. retry_of r.shell r.txn r.entry x) o) (path_read r.path p.path)))))
-
-pub retry_spelled : (text : List ℕ) (l : Line) → retry_at text ≡ Some l → ReadsLine text l
-unfolding retry_at
-retry_spelled text l h =
-    let one = chained retry_shell (small_at (codes "retry shell ") text) l h in
-    let k = one.0 in
-    let two = chained (λ j. retry_txn k.0 j) (small_at (codes " txn ") k.1) l one.2 in
-    let j = two.0 in
-    let three = chained (λ i. retry_entry k.0 j.0 i) (field_at (codes " entry ") j.1) l two.2 in
-    let i = three.0 in
-    let four = chained (λ rest. pathed k.0 j.0 i.0 rest) (after (codes " path ") i.1) l three.2 in
-    let rest = four.0 in
-    let five = mapped (λ p. retry_of k.0 j.0 i.0 p) (path_at rest) l four.2 in
-    let p = five.0 in
-    let shell = small_spelled (codes "retry shell ") text k.0 k.1 one.1 in
-    let txn = small_spelled (codes " txn ") k.1 j.0 j.1 two.1 in
-    let number = field_spelled (codes " entry ") j.1 i.0 i.1 three.1 in
-    let behind = after_spelled (codes " path ") i.1 rest four.1 in
-    let path = path_spelled rest p five.1 in
-    subst (ReadsLine text) five.2 (record {
-      is = record { shell = shell.small; txn = txn.small; entry = number.small; path = path.0 };
-      spelled =
-          shell.parts ∙ (ap (λ t. field (codes "retry shell ") k.0 ++ t) (txn.parts ∙ ap (λ t. field (codes " txn ") j.0 ++ t) (number.parts ∙ ap (λ t. field (codes " entry ") i.0 ++ t) (behind ∙ ap (λ t. codes " path " ++ t) path.1)))
-          ∙ sym (retry_form (field (codes "retry shell ") k.0) (field (codes " txn ") j.0) (field (codes " entry ") i.0) (quote (path_text p))));
-    })
+    ap (retry_at m) (retry_form (field (codes "retry shell ") r.shell) (field (codes " txn ") r.txn) (field (codes " entry ") r.entry) (quote (path_text r.path)))
+    ∙ (ap (λ o. option_and_then (retry_shell m) o) (small_read (codes "retry shell ") r.shell txn p.shell (field_ends (codes "txn ") r.txn number refl))
+    ∙ (ap (λ o. option_and_then (λ x. retry_txn m r.shell x) o) (small_read (codes " txn ") r.txn number p.txn (field_ends (codes "entry ") r.entry path refl))
+    ∙ (ap (λ o. option_and_then (λ x. retry_entry m r.shell r.txn x) o) (field_read (codes " entry ") r.entry path p.entry refl)
+    ∙ (ap (λ o. option_and_then (λ x. pathed m r.shell r.txn r.entry x) o) (after_read (codes " path ") (quote (path_text r.path))) ∙ ap (λ o. option_map (λ x. retry_of r.shell r.txn r.entry x) o) (path_read m r.path p.path)))))
 
 -- ---- kinds
 
@@ -162,101 +115,97 @@ line_kind (retries n) = refl
 line_kind (retry r) = refl
 line_kind final = refl
 
-same_kind : (text : List ℕ) (l : Line) → text ≡ line_text l → kind_in l ≡ kind_of text
-same_kind text l e = sym (line_kind l) ∙ ap kind_of (sym e)
+-- ---- the line of a text
 
-pub head_none : (text : List ℕ) → kind_of text ≡ kind.Head → (text ≡ codes "forest report 1" → ⊥) → FindsLine text None
-head_none text k none head p e = none e
-head_none text k none l p e = let h = same_kind text l e ∙ k in absurd (cc)
+-- a line that a reader reads
+abbrev pub IsLineIn : Limits → ℕ → Line → Type 0
+IsLineIn m levels head = Unit {0}
+IsLineIn m levels (entries n) = n < 2 ^ 64
+IsLineIn m levels (entry i shell txn end) = (i < 2 ^ 64) × (shell < 2 ^ 32) × (txn < 2 ^ 32) × IsEndIn m end
+IsLineIn m levels (print v) = IsIn m levels v
+IsLineIn m levels (retries n) = n < 2 ^ 64
+IsLineIn m levels (retry r) = IsRetryIn m r
+IsLineIn m levels final = Unit {0}
 
-pub final_none : (text : List ℕ) → kind_of text ≡ kind.Final → (text ≡ codes "end" → ⊥) → FindsLine text None
-final_none text k none final p e = none e
-final_none text k none l p e = let h = same_kind text l e ∙ k in absurd (cc)
+whole_value : (m : Limits) (levels : ℕ) (v : Tree) → IsIn m levels v → value_at m levels (value_text v) ≡ Some (v, [])
+whole_value m levels v p = ap (value_at m levels) (sym (append-nil (value_text v))) ∙ value_read m levels v [] p (ends_at v [] tt)
 
-pub entries_none : (text : List ℕ) → kind_of text ≡ kind.Entries → None ≡ last_at (codes "entries ") text → FindsLine text None
-entries_none text k none (entries n) p e = let there = ap (last_at (codes "entries ")) e ∙ last_read (codes "entries ") n p in absurd (cc)
-entries_none text k none l p e = let h = same_kind text l e ∙ k in absurd (cc)
+of_kind : (m : Limits) (levels : ℕ) (l : Line) → IsLineIn m levels l → line_by m levels (kind_in l) (line_text l) ≡ Some l
+unfolding head_at entries_at print_at retries_at final_at
+of_kind m levels head p = refl
+of_kind m levels (entries n) p = ap (option_map entries) (last_read (codes "entries ") n p)
+of_kind m levels (entry i s t e) p = entry_read m i s t e p.0 p.1 p.2 p.3
+of_kind m levels (print v) p =
+    ap (λ o. option_map print (option_and_then (λ rest. alone (value_at m levels rest)) o)) (after_read (codes "print ") (value_text v))
+    ∙ ap (λ o. option_map print (alone o)) (whole_value m levels v p)
+of_kind m levels (retries n) p = ap (option_map retries) (last_read (codes "retries ") n p)
+of_kind m levels (retry r) p = retry_read m r p
+of_kind m levels final p = refl
 
-pub entries_some : (text : List ℕ) (n : ℕ) → Some n ≡ last_at (codes "entries ") text → FindsLine text (Some (entries n))
-entries_some text n e = last_spelled (codes "entries ") text n (sym e)
+line_read : (m : Limits) (levels : ℕ) (l : Line) → IsLineIn m levels l → line_at m levels (line_text l) ≡ Some l
+line_read m levels l p = ap (λ k. line_by m levels k (line_text l)) (line_kind l) ∙ of_kind m levels l p
 
-pub retries_none : (text : List ℕ) → kind_of text ≡ kind.Retries → None ≡ last_at (codes "retries ") text → FindsLine text None
-retries_none text k none (retries n) p e = let there = ap (last_at (codes "retries ")) e ∙ last_read (codes "retries ") n p in absurd (cc)
-retries_none text k none l p e = let h = same_kind text l e ∙ k in absurd (cc)
+-- the text of a line tells the line
+pub one_line_in : (m : Limits) (levels : ℕ) (l k : Line) → IsLineIn m levels l → IsLineIn m levels k → line_text l ≡ line_text k → l ≡ k
+one_line_in m levels l k p q e =
+    let same : Some l ≡ Some k = sym (line_read m levels l p) ∙ (ap (line_at m levels) e ∙ line_read m levels k q) in
+    cc
 
-pub retries_some : (text : List ℕ) (n : ℕ) → Some n ≡ last_at (codes "retries ") text → FindsLine text (Some (retries n))
-retries_some text n e = last_spelled (codes "retries ") text n (sym e)
+-- ---- the lines of the form
 
-entry_none : (text : List ℕ) → kind_of text ≡ kind.Entry → entry_at text ≡ None → FindsLine text None
-entry_none text k none (entry i s j d) p e = let there = ap entry_at e ∙ entry_read i s j d p.0 p.1 p.2 p.3 in absurd (cc)
-entry_none text k none l p e = let h = same_kind text l e ∙ k in absurd (cc)
+strict_text : (t : List ℕ) → IsPrintedText t → IsTextIn strict t
+strict_text t p = record { bytes = p.bytes; taken = le_true (length t) p.short }
+  where
+    le_true : (n : ℕ) → n ≤ 1048576 → nat_le n 1048576 ≡ true
+    le_true n h = grind (arith, nat_tests)
 
-pub entry_finds : (text : List ℕ) (o : Option Line) → kind_of text ≡ kind.Entry → o ≡ entry_at text → FindsLine text o
-entry_finds text None k e = entry_none text k (sym e)
-entry_finds text (Some l) k e = let r = entry_spelled text l (sym e) in (r.is, r.spelled)
+strict_texts : (ts : List (List ℕ)) → ArePrintedTexts ts → AreTextsIn strict ts
+strict_texts [] p = tt
+strict_texts (t ∷ ts) p = (strict_text t p.0, strict_texts ts p.1)
 
-retry_none : (text : List ℕ) → kind_of text ≡ kind.Retry → retry_at text ≡ None → FindsLine text None
-retry_none text k none (retry r) p e = let there = ap retry_at e ∙ retry_read r p in absurd (cc)
-retry_none text k none l p e = let h = same_kind text l e ∙ k in absurd (cc)
+mutual
+  strict_value : (levels : ℕ) (v : Tree) → IsPrinted levels v → IsIn strict levels v
+  strict_value zero v p = absurd p
+  strict_value (suc l) (str t) p = strict_text t p
+  strict_value (suc l) (int n) p = p
+  strict_value (suc l) (bool b) p = tt
+  strict_value (suc l) (names ts) p = (strict_texts ts p.0, ascends_of ts p.1)
+  strict_value (suc l) (pair a b) p = (strict_value l a p.0, strict_value l b p.1)
+  strict_value (suc l) nothing p = tt
+  strict_value (suc l) (some a) p = strict_value l a p
+  strict_value (suc l) (table rs) p = (strict_rows l rs p.0, ascends_of (keys_in rs) p.1)
 
-pub retry_finds : (text : List ℕ) (o : Option Line) → kind_of text ≡ kind.Retry → o ≡ retry_at text → FindsLine text o
-retry_finds text None k e = retry_none text k (sym e)
-retry_finds text (Some l) k e = let r = retry_spelled text l (sym e) in (r.is, r.spelled)
+  strict_rows : (levels : ℕ) (rs : TreeRows) → ArePrintedRows levels rs → AreRowsIn strict levels rs
+  strict_rows l no_rows p = tt
+  strict_rows l (row k v rs) p = (strict_text k p.0, strict_value l v p.1, strict_rows l rs p.2)
 
-pub print_unopened : (text : List ℕ) → kind_of text ≡ kind.Print → None ≡ after (codes "print ") text → FindsLine text None
-print_unopened text k none (print v) p e = let there = ap (after (codes "print ")) e ∙ after_read (codes "print ") (value_text v) in absurd (cc)
-print_unopened text k none l p e = let h = same_kind text l e ∙ k in absurd (cc)
-
-pub print_none : (text rest : List ℕ) → kind_of text ≡ kind.Print → Some rest ≡ after (codes "print ") text → IsWholeValue VALUE_LEVELS rest None → FindsLine text None
-print_none text rest k there none (print v) p e =
-    let same : Some rest ≡ Some (value_text v) = there ∙ (ap (after (codes "print ")) e ∙ after_read (codes "print ") (value_text v)) in
-    none v p (cc)
-print_none text rest k there none l p e = let h = same_kind text l e ∙ k in absurd (cc)
-
-pub print_some : (text rest : List ℕ) (v : Tree) → Some rest ≡ after (codes "print ") text → IsWholeValue VALUE_LEVELS rest (Some v) → FindsLine text (Some (print v))
-print_some text rest v there is = (is.0, after_spelled (codes "print ") text rest (sym there) ∙ ap (λ t. codes "print " ++ t) is.1)
-
-pub finds_ok : {E : Type 0} (text : List ℕ) (r : Result (Option held.Line) E) (at : List ℕ → Option Line) → ((o : Option Line) → o ≡ at text → FindsLine text o) → IfOk r (λ found. option_map line_of found ≡ at text) → IfOk r (λ found. FindsLine text (option_map line_of found))
-finds_ok text (Ok found) at law e = law (option_map line_of found) e
-finds_ok text (Err f) at law e = tt
-
-pub not_word : (text word slice : List ℕ) (b : Bool) → slice ≡ word → b ≡ bytes_eq text slice → b ≡ false → text ≡ word → ⊥
-not_word text word slice b is e f same =
-    let there : bytes_eq text slice ≡ true = (bytes_decides text slice).1 (same ∙ sym is) in
-    let wrong : true ≡ false = sym there ∙ (sym e ∙ f) in
-    absurd (cc)
-
--- ---- a line's text tells the line
-
-kinds_of : (l k : Line) → line_text l ≡ line_text k → kind_in l ≡ kind_in k
-kinds_of l k e = sym (line_kind l) ∙ (ap kind_of e ∙ line_kind k)
-
-value_same : (v w : Tree) → IsPrinted VALUE_LEVELS v → IsPrinted VALUE_LEVELS w → value_text v ≡ value_text w → v ≡ w
-value_same v w p q e = (one_value VALUE_LEVELS VALUE_LEVELS v w [] [] p q (ends_at v [] tt) (ends_at w [] tt) (append-nil (value_text v) ∙ (e ∙ sym (append-nil (value_text w))))).0
+strict_line : (l : Line) → IsLine l → IsLineIn strict VALUE_LEVELS l
+strict_line head p = tt
+strict_line (entries n) p = p
+strict_line (entry i s t e) p = (p.0, p.1, p.2, strict_end e p.3)
+strict_line (print v) p = strict_value VALUE_LEVELS v p
+strict_line (retries n) p = p
+strict_line (retry r) p = record { shell = p.shell; txn = p.txn; entry = p.entry; path = strict_path r.path p.path }
+strict_line final p = tt
 
 pub one_line : (l k : Line) → IsLine l → IsLine k → line_text l ≡ line_text k → l ≡ k
-one_line head head p q e = refl
-one_line head k p q e = let h = kinds_of head k e in absurd (cc)
-one_line (entries m) (entries n) p q e =
-    let same : Some m ≡ Some n = sym (last_read (codes "entries ") m p) ∙ (ap (last_at (codes "entries ")) e ∙ last_read (codes "entries ") n q) in
-    ap entries (cc)
-one_line (entries m) k p q e = let h = kinds_of (entries m) k e in absurd (cc)
-one_line (entry i s t d) (entry j u v f) p q e =
-    let same : Some (entry i s t d) ≡ Some (entry j u v f) = sym (entry_read i s t d p.0 p.1 p.2 p.3) ∙ (ap entry_at e ∙ entry_read j u v f q.0 q.1 q.2 q.3) in
-    cc
-one_line (entry i s t d) k p q e = let h = kinds_of (entry i s t d) k e in absurd (cc)
-one_line (print v) (print w) p q e =
-    let same : Some (value_text v) ≡ Some (value_text w) = sym (after_read (codes "print ") (value_text v)) ∙ (ap (after (codes "print ")) e ∙ after_read (codes "print ") (value_text w)) in
-    let texts : value_text v ≡ value_text w = cc in
-    ap print (value_same v w p q texts)
-one_line (print v) k p q e = let h = kinds_of (print v) k e in absurd (cc)
-one_line (retries m) (retries n) p q e =
-    let same : Some m ≡ Some n = sym (last_read (codes "retries ") m p) ∙ (ap (last_at (codes "retries ")) e ∙ last_read (codes "retries ") n q) in
-    ap retries (cc)
-one_line (retries m) k p q e = let h = kinds_of (retries m) k e in absurd (cc)
-one_line (retry r) (retry s) p q e =
-    let same : Some (retry r) ≡ Some (retry s) = sym (retry_read r p) ∙ (ap retry_at e ∙ retry_read s q) in
-    cc
-one_line (retry r) k p q e = let h = kinds_of (retry r) k e in absurd (cc)
-one_line final final p q e = refl
-one_line final k p q e = let h = kinds_of final k e in absurd (cc)
+one_line l k p q e = one_line_in strict VALUE_LEVELS l k (strict_line l p) (strict_line k q) e
+
+-- ---- what is read, printed again
+
+told : (text : List ℕ) (l : Line) → IsLine l → text ≡ line_text l → line_at strict VALUE_LEVELS text ≡ Some l
+told text l p e = ap (line_at strict VALUE_LEVELS) e ∙ line_read strict VALUE_LEVELS l (strict_line l p)
+
+pub found_none : (text : List ℕ) → None ≡ line_at strict VALUE_LEVELS text → FindsLine text None
+found_none text none l p e = let wrong : None ≡ Some l = none ∙ told text l p e in absurd (cc)
+
+pub found_same : (text : List ℕ) (l : Line) (b : Bool) → IsLine l → b ≡ bytes_eq (line_text l) text → b ≡ true → FindsLine text (Some l)
+found_same text l b is e t = (is, sym ((bytes_decides (line_text l) text).0 (sym e ∙ t)))
+
+pub found_other : (text : List ℕ) (l : Line) (b : Bool) → Some l ≡ line_at strict VALUE_LEVELS text → b ≡ bytes_eq (line_text l) text → b ≡ false → FindsLine text None
+found_other text l b found e f k p s =
+    let same : Some l ≡ Some k = found ∙ told text k p s in
+    let is : l ≡ k = cc in
+    let spelled : bytes_eq (line_text l) text ≡ true = (bytes_decides (line_text l) text).1 (ap line_text is ∙ sym s) in
+    let wrong : true ≡ false = sym spelled ∙ (sym e ∙ f) in
+    absurd (cc)

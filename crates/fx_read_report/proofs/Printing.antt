@@ -1,5 +1,6 @@
 -- What the steps of the program give.
-use Rattle.std.proofs.Common.{◌≡◌, ℕ, zero, suc, ◌+◌, ◌<◌, ◌≤◌, List, [], ◌∷◌, ◌++◌, length, take, drop, get_or, refl, sym, ap, subst, ◌∙◌, arith}
+use Rattle.std.proofs.Common.{◌≡◌, ℕ, zero, suc, ◌+◌, ◌<◌, ◌≤◌, List, [], ◌∷◌, ◌++◌, length, take, drop, get_or, Bool, true, false, nat_eq, refl, sym, ap, subst, ◌∙◌, arith}
+use Rattle.std.proofs.lemmas.Bool.{eqb-true}
 use Rattle.std.proofs.lemmas.List.{take_all}
 use Rattle.fx_expr.specs.Tree.{Tree}
 use Rattle.fx_report.specs.declared.printed.PrintedEntry.{PrintedEntry}
@@ -7,10 +8,10 @@ use Rattle.fx_read_report.specs.Feeds.{IsFeedAt}
 use Rattle.fx_read_report.specs.Form.{LacksFeed}
 use Rattle.fx_read_report.specs.Stages.{printed}
 
-abbrev with_output : PrintedEntry → Tree → PrintedEntry
+abbrev pub with_output : PrintedEntry → Tree → PrintedEntry
 with_output e v = record { shell = e.shell; txn = e.txn; outputs = e.outputs ++ v ∷ []; end = e.end }
 
-printed_last : (xs : List PrintedEntry) (e : PrintedEntry) (v : Tree) → printed (xs ++ e ∷ []) v ≡ xs ++ with_output e v ∷ []
+pub printed_last : (xs : List PrintedEntry) (e : PrintedEntry) (v : Tree) → printed (xs ++ e ∷ []) v ≡ xs ++ with_output e v ∷ []
 printed_last [] e v = refl
 printed_last (x ∷ []) e v = refl
 printed_last (x ∷ y ∷ xs) e v = ap (λ t. x ∷ t) (printed_last (y ∷ xs) e v)
@@ -47,3 +48,11 @@ feed_at text i lt same before = record { within = lt; before = before; parts = d
 
 pub none_at_all : (text : List ℕ) (i : ℕ) → length text ≤ i → LacksFeed (take i text) → LacksFeed text
 none_at_all text i h before = subst LacksFeed (take_all i text h) before
+
+-- no bytes, by their length
+pub empty_is : (x : List ℕ) (b : Bool) → b ≡ nat_eq (length x) 0 → b ≡ true → x ≡ []
+empty_is [] b e t = refl
+empty_is (c ∷ x) b e t = let size : length (c ∷ x) ≡ 0 = eqb-true (length (c ∷ x)) 0 (sym e ∙ t) in absurd (omega (arith, size))
+
+pub some_is : (x : List ℕ) (b : Bool) → b ≡ nat_eq (length x) 0 → b ≡ false → x ≡ [] → ⊥
+some_is x b e f none = let wrong : true ≡ false = sym (ap (λ t. nat_eq (length t) 0) none) ∙ (sym e ∙ f) in absurd (cc)

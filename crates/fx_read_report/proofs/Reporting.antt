@@ -1,26 +1,26 @@
 -- The first line that goes wrong.
-use Rattle.std.proofs.Common.{◌≡◌, ℕ, ◌+◌, ◌<◌, ◌≤◌, true, false, List, [], ◌∷◌, ◌++◌, length, map, take, drop, refl, sym, ap, subst, ◌∙◌, append_assoc, append-nil, length-append, take-append-drop, length-drop, ◌-◌, arith}
+use Rattle.std.proofs.Common.{◌≡◌, ℕ, ◌+◌, ◌<◌, ◌≤◌, true, false, List, [], ◌∷◌, ◌++◌, length, map, take, drop, refl, sym, ap, subst, ◌∙◌, append_assoc, append-nil, length-append, take-append-drop, arith}
 use Rattle.std.specs.List.{flat_map}
-use Rattle.std.proofs.lemmas.List.{length-map, length-take-le, take_all}
-use Rattle.fx_expr.specs.Tree.{Tree}
+use Rattle.std.proofs.lemmas.List.{length-map, length-take-le}
 use Rattle.fx_machine.specs.declared.retry.Retry.{Retry}
 use Rattle.fx_report.specs.declared.printed.PrintedEntry.{PrintedEntry}
 use Rattle.fx_report.specs.Report.{line}
 use Rattle.fx_read_report.specs.Feeds.{IsFeedAt}
 use Rattle.fx_read_report.specs.Form.{AllLackFeed, BeginsReport, IsFirstBadLine, IsReportOf, LacksFeed}
-use Rattle.fx_read_report.specs.Lines.{Line, IsLine, head, entries, entry, print, retries, retry, final, entry_lines, line_text, report_lines}
+use Rattle.fx_read_report.specs.Lines.{Line, IsLine, entries, retries, line_text, report_lines}
 use Rattle.fx_read_report.specs.Stages.{IsState, State, TakesText, is_ended, lines_at, lines_in, start}
 use Rattle.fx_read_report.specs.declared.reading.Stage.{Stage}
 use Rattle.fx_read_report.specs.declared.reading.Stage.TheVariants as stage
 use Rattle.fx_read_report.proofs.Completes.{completed}
 use Rattle.fx_read_report.proofs.Feeds.{line_lacks}
 use Rattle.fx_read_report.proofs.LineLaws.{one_line}
-use Rattle.fx_read_report.proofs.Texts.{AreLines, front_of, line_form, lines_join, lines_left, lines_right, report_is, report_lines_are, same_line, text_append, text_of}
+use Rattle.fx_read_report.proofs.Running.{lines_end}
+use Rattle.fx_read_report.proofs.Texts.{AreAll, first_line, front_of, line_form, lines_join, lines_left, lines_right, report_is, report_lines_are, same_line, text_append, text_of}
 
 -- what was read so far, and the number of the next line
 pub record Reached (bytes : List ℕ) (s : State) (x : List ℕ) (number : ℕ) : Type 0 where
   pub is : IsState s
-  pub lines : AreLines (lines_in s)
+  pub lines : AreAll IsLine (lines_in s)
   pub parts : bytes ≡ text_of (lines_in s) ++ x
   pub count : number ≡ length (lines_in s) + 1
   pub room : number + length x ≤ length bytes + 1
@@ -39,7 +39,7 @@ reached_next bytes s t x number i r f taken =
     let whole : text_of (lines_in t) ≡ text_of (lines_in s) ++ line (line_text l) = ap text_of grown ∙ (text_append (lines_in s) (l ∷ []) ∙ ap (λ u. text_of (lines_in s) ++ u) (append-nil (line (line_text l)))) in
     record {
       is = taken.3;
-      lines = subst AreLines (sym grown) (lines_join (lines_in s) (l ∷ []) r.lines (taken.1, tt));
+      lines = subst (AreAll IsLine) (sym grown) (lines_join IsLine (lines_in s) (l ∷ []) r.lines (taken.1, tt));
       parts = r.parts ∙ (ap (λ u. text_of (lines_in s) ++ u) ends ∙ (sym (append_assoc (text_of (lines_in s)) (line (line_text l)) y) ∙ ap (λ u. u ++ y) (sym whole)));
       count = (let more = ap length grown in let size = length-append (lines_in s) (l ∷ []) in let was = r.count in omega (arith, more, size, was));
       room = (let cut = ap length f.parts in let size = length-append (take i x) (10 ∷ y) in let was = r.room in omega (arith, cut, size, was));
@@ -51,15 +51,15 @@ Stuck s x = (u : Line) (y : List ℕ) (fs : List PrintedEntry) (ss : List Retry)
 abbrev pub NoEnd : State → List ℕ → Type 0
 NoEnd s x = x ≡ [] → (fs : List PrintedEntry) (ss : List Retry) → report_lines fs ss ≡ lines_in s → ⊥
 
-texts_lack : (ls : List Line) → AreLines ls → AllLackFeed (map line_text ls)
-texts_lack [] p = tt
-texts_lack (l ∷ ls) p = (line_lacks l p.0, texts_lack ls p.1)
+texts_lack : (ls : List Line) → AllLackFeed (map line_text ls)
+texts_lack [] = tt
+texts_lack (l ∷ ls) = (line_lacks l, texts_lack ls)
 
 texts_of : (ls : List Line) → flat_map line (map line_text ls) ≡ text_of ls
 texts_of [] = refl
 texts_of (l ∷ ls) = ap (λ t. line (line_text l) ++ t) (texts_of ls)
 
-same_lines : (ls ks : List Line) → AreLines ls → AreLines ks → map line_text ls ≡ map line_text ks → ls ≡ ks
+same_lines : (ls ks : List Line) → AreAll IsLine ls → AreAll IsLine ks → map line_text ls ≡ map line_text ks → ls ≡ ks
 same_lines [] [] p q e = refl
 same_lines [] (k ∷ ks) p q e = absurd (cc)
 same_lines (l ∷ ls) [] p q e = absurd (cc)
@@ -68,9 +68,6 @@ same_lines (l ∷ ls) (k ∷ ks) p q e =
     let later : map line_text ls ≡ map line_text ks = cc in
     ap (λ x. x ∷ ls) (one_line l k p.0 q.0 here) ∙ ap (λ t. k ∷ t) (same_lines ls ks p.1 q.1 later)
 
-first_line : (k : Line) (ks : List Line) (y : List ℕ) → text_of (k ∷ ks) ++ y ≡ line_text k ++ 10 ∷ (text_of ks ++ y)
-first_line k ks y = append_assoc (line (line_text k)) (text_of ks) y ∙ line_form (line_text k) (text_of ks ++ y)
-
 -- one line more than others at the front of the same bytes
 pub record Longer (ls ks : List Line) (x y : List ℕ) : Type 0 where
   pub next : Line
@@ -78,18 +75,15 @@ pub record Longer (ls ks : List Line) (x y : List ℕ) : Type 0 where
   pub whole : ks ≡ ls ++ next ∷ []
   pub parts : x ≡ line_text next ++ 10 ∷ y
 
-longer : (ls ks : List Line) (x y : List ℕ) → AreLines ls → AreLines ks → text_of ls ++ x ≡ text_of ks ++ y → length ks ≡ length ls + 1 → Longer ls ks x y
+longer : (ls ks : List Line) (x y : List ℕ) → AreAll IsLine ls → AreAll IsLine ks → text_of ls ++ x ≡ text_of ks ++ y → length ks ≡ length ls + 1 → Longer ls ks x y
 longer [] [] x y p q e n = absurd (omega arith)
 longer [] (k ∷ []) x y p q e n = record { next = k; is = q.0; whole = refl; parts = e ∙ first_line k [] y }
 longer [] (k ∷ j ∷ ks) x y p q e n = absurd (omega arith)
 longer (l ∷ ls) [] x y p q e n = absurd (omega arith)
 longer (l ∷ ls) (k ∷ ks) x y p q e n =
-    let here = same_line (line_text l) (line_text k) (text_of ls ++ x) (text_of ks ++ y) (line_lacks l p.0) (line_lacks k q.0) (sym (first_line l ls x) ∙ (e ∙ first_line k ks y)) in
+    let here = same_line (line_text l) (line_text k) (text_of ls ++ x) (text_of ks ++ y) (line_lacks l) (line_lacks k) (sym (first_line l ls x) ∙ (e ∙ first_line k ks y)) in
     let later = longer ls ks x y p.1 q.1 here.1 (omega arith) in
     record { next = later.next; is = later.is; whole = ap (λ j. j ∷ ks) (sym (one_line l k p.0 q.0 here.0)) ∙ ap (λ t. l ∷ t) later.whole; parts = later.parts }
-
-take_drop : (k : ℕ) (ls : List Line) → take k ls ++ drop k ls ≡ ls
-take_drop k ls = take-append-drop k ls
 
 begins : (bytes : List ℕ) (s : State) (x : List ℕ) (number k : ℕ) → Reached bytes s x number → k < number → BeginsReport bytes k
 begins bytes s x number k r less =
@@ -97,13 +91,12 @@ begins bytes s x number k r less =
     let ls = take k (lines_in s) in
     let ms = drop k (lines_in s) in
     let split = take-append-drop k (lines_in s) in
-    let are = lines_left ls ms (subst AreLines (sym split) r.lines) in
     record {
       lines = map line_text ls;
       rest = text_of ms ++ x;
       parts = r.parts ∙ (ap (λ l. text_of l ++ x) (sym split) ∙ (ap (λ t. t ++ x) (text_append ls ms) ∙ (append_assoc (text_of ls) (text_of ms) x ∙ ap (λ t. t ++ (text_of ms ++ x)) (sym (texts_of ls)))));
       count = (let size = length-map ls line_text in let few : k ≤ length (lines_in s) = (let was = r.count in omega (arith, was, less)) in let cut = length-take-le k (lines_in s) few in size ∙ cut);
-      whole = texts_lack ls are;
+      whole = texts_lack ls;
       entries = c.entries;
       retries = c.retries;
       later = text_of (ms ++ c.more);
@@ -119,11 +112,11 @@ no_report bytes s x number r stuck no_end fs ss is =
     let ls = lines_in s in
     let ks = report_lines fs ss in
     let are = report_lines_are fs ss is.form in
-    let front = front_of (map line_text ls) ks x (texts_lack ls r.lines) are (ap (λ t. t ++ x) (texts_of ls) ∙ (sym r.parts ∙ (is.spelled ∙ report_is fs ss))) in
-    let same = same_lines front.taken ls (lines_left front.taken front.more (subst AreLines front.whole are)) r.lines front.texts in
-    ends front.more (front.whole ∙ ap (λ t. t ++ front.more) same) front.left (lines_right front.taken front.more (subst AreLines front.whole are))
+    let front = front_of (map line_text ls) ks x (texts_lack ls) (ap (λ t. t ++ x) (texts_of ls) ∙ (sym r.parts ∙ (is.spelled ∙ report_is fs ss))) in
+    let same = same_lines front.taken ls (lines_left front.taken front.more (subst (AreAll IsLine) front.whole are)) r.lines front.texts in
+    ends front.more (front.whole ∙ ap (λ t. t ++ front.more) same) front.left (lines_right front.taken front.more (subst (AreAll IsLine) front.whole are))
   where
-    ends : (more : List Line) → report_lines fs ss ≡ lines_in s ++ more → x ≡ text_of more → AreLines more → ⊥
+    ends : (more : List Line) → report_lines fs ss ≡ lines_in s ++ more → x ≡ text_of more → AreAll IsLine more → ⊥
     ends [] e f p = no_end f fs ss (e ∙ append-nil (lines_in s))
     ends (u ∷ more) e f p = stuck u (text_of more) fs ss more p.0 (f ∙ line_form (line_text u) (text_of more)) e
 
@@ -132,8 +125,8 @@ stops bytes s x number r stuck b =
     let ls = lines_in s in
     let ks = report_lines b.entries b.retries in
     let are = report_lines_are b.entries b.retries b.report.form in
-    let front = front_of b.lines ks b.later b.whole are (b.report.spelled ∙ report_is b.entries b.retries) in
-    let taken = lines_left front.taken front.more (subst AreLines front.whole are) in
+    let front = front_of b.lines ks b.later b.whole (b.report.spelled ∙ report_is b.entries b.retries) in
+    let taken = lines_left front.taken front.more (subst (AreAll IsLine) front.whole are) in
     let same : text_of ls ++ x ≡ text_of front.taken ++ b.rest =
     sym r.parts ∙ (b.parts ∙ (ap (λ t. flat_map line t ++ b.rest) (sym front.texts) ∙ ap (λ t. t ++ b.rest) (texts_of front.taken))) in
     let sizes : length front.taken ≡ length ls + 1 = sym (length-map front.taken line_text) ∙ (ap length front.texts ∙ (b.count ∙ r.count)) in
@@ -157,7 +150,7 @@ first_bad bytes s x number r stuck no_end =
 pub bad_text : (bytes : List ℕ) (s t : State) (x : List ℕ) (number i : ℕ) → Reached bytes s x number → IsFeedAt x i → TakesText s (take i x) t false → IsFirstBadLine bytes number
 bad_text bytes s t x number i r f refused =
     first_bad bytes s x number r
-    (λ u y fs ss more is parts e. refused u is (same_line (take i x) (line_text u) (drop (i + 1) x) y f.before (line_lacks u is) (sym f.parts ∙ parts)).0 fs ss more e)
+    (λ u y fs ss more is parts e. refused u is (same_line (take i x) (line_text u) (drop (i + 1) x) y f.before (line_lacks u) (sym f.parts ∙ parts)).0 fs ss more e)
     (λ none fs ss e. let size = ap length none in let inside = f.within in absurd (omega (arith, size, inside)))
 
 has_feed : (t y : List ℕ) → LacksFeed (t ++ 10 ∷ y) → ⊥
@@ -172,60 +165,17 @@ no_feed s x p u y fs ss more is parts e = has_feed (line_text u) y (subst LacksF
 pub reached_more : (bytes : List ℕ) (s t : State) (x y : List ℕ) (number i : ℕ) → Reached bytes s x number → IsFeedAt x i → TakesText s (take i x) t true → y ≡ drop (i + 1) x → Reached bytes t y (number + 1)
 reached_more bytes s t x y number i r f taken e = subst (λ (z : List ℕ). Reached bytes t z (number + 1)) (sym e) (reached_next bytes s t x number i r f taken)
 
-pub rest_is : (n : ℕ) (text : List ℕ) → take (length text - n) (drop n text) ≡ drop n text
-rest_is n text = take_all (length text - n) (drop n text) (let size = length-drop n text in omega (arith, size))
-
 pub bad_end : (bytes : List ℕ) (s : State) (x : List ℕ) (number : ℕ) → Reached bytes s x number → LacksFeed x → (x ≡ [] → ⊥) → IsFirstBadLine bytes number
 bad_end bytes s x number r p some = first_bad bytes s x number r (no_feed s x p) (λ none fs ss e. absurd (some none))
 
 -- a line that is missing
 
-abbrev NotFinal : Line → Type 0
-NotFinal head = Unit {0}
-NotFinal (entries n) = Unit {0}
-NotFinal (entry i k j e) = Unit {0}
-NotFinal (print v) = Unit {0}
-NotFinal (retries n) = Unit {0}
-NotFinal (retry r) = Unit {0}
-NotFinal final = ⊥
-
-abbrev NoFinal : List Line → Type 0
-NoFinal [] = Unit {0}
-NoFinal (l ∷ ls) = NotFinal l × NoFinal ls
-
-no_final_join : (xs ys : List Line) → NoFinal xs → NoFinal ys → NoFinal (xs ++ ys)
-no_final_join [] ys p q = q
-no_final_join (x ∷ xs) ys p q = (p.0, no_final_join xs ys p.1 q)
-
-no_final_right : (xs ys : List Line) → NoFinal (xs ++ ys) → NoFinal ys
-no_final_right [] ys p = p
-no_final_right (x ∷ xs) ys p = no_final_right xs ys p.1
-
-prints_go_on : (vs : List Tree) → NoFinal (map print vs)
-prints_go_on [] = tt
-prints_go_on (v ∷ vs) = (tt, prints_go_on vs)
-
-entries_go_on : (i : ℕ) (es : List PrintedEntry) → NoFinal (entry_lines i es)
-entries_go_on i [] = tt
-entries_go_on i (e ∷ es) = (tt, no_final_join (map print e.outputs) (entry_lines (i + 1) es) (prints_go_on e.outputs) (entries_go_on (i + 1) es))
-
-retries_go_on : (rs : List Retry) → NoFinal (map retry rs)
-retries_go_on [] = tt
-retries_go_on (r ∷ rs) = (tt, retries_go_on rs)
-
-goes_on : (g : Stage) (es : List PrintedEntry) (rs : List Retry) → is_ended g ≡ false → NoFinal (lines_at g es rs)
-goes_on stage.Start es rs e = tt
-goes_on stage.Headed es rs e = (tt, tt)
-goes_on (stage.Entries n) es rs e = (tt, (tt, entries_go_on 0 es))
-goes_on (stage.Retries n) es rs e = (tt, (tt, no_final_join (entry_lines 0 es) (retries n ∷ map retry rs) (entries_go_on 0 es) (tt, retries_go_on rs)))
-goes_on stage.Ended es rs e = absurd (cc)
-
-report_ends : (fs : List PrintedEntry) (ss : List Retry) → NoFinal (report_lines fs ss) → ⊥
-report_ends fs ss p = (no_final_right (map retry ss) (final ∷ []) (no_final_right (entry_lines 0 fs) (retries (length ss) ∷ (map retry ss ++ final ∷ [])) p.1.1).1).0
+still_open : (g : Stage) → is_ended g ≡ false → g ≡ stage.Ended → ⊥
+still_open g open_ e = let wrong : true ≡ false = ap is_ended (sym e) ∙ open_ in absurd (cc)
 
 pub bad_rest : (bytes : List ℕ) (s : State) (x : List ℕ) (number : ℕ) → Reached bytes s x number → LacksFeed x → is_ended s.stage ≡ false → IsFirstBadLine bytes number
 bad_rest bytes s x number r p open_ =
-    first_bad bytes s x number r (no_feed s x p) (λ none fs ss e. report_ends fs ss (subst NoFinal (sym e) (goes_on s.stage s.entries s.retries open_)))
+    first_bad bytes s x number r (no_feed s x p) (λ none fs ss e. still_open s.stage open_ (ap (λ (t : State). t.stage) (lines_end s fs ss r.is e)))
 
 -- a whole report
 

@@ -5,7 +5,7 @@ use Rattle.fx_expr.specs.Tree.{Tree}
 use Rattle.fx_machine.specs.declared.retry.Retry.{Retry}
 use Rattle.fx_report.specs.declared.printed.PrintedEntry.{PrintedEntry}
 use Rattle.fx_report.specs.Print.{value_text}
-use Rattle.fx_report.proofs.Cancel.{first, rest}
+use Rattle.fx_report.proofs.OneLine.{first, rest}
 use Rattle.fx_report.specs.Report.{entries_text, entry_line, entry_text, line, print_line, report_text, retry_line}
 use Rattle.fx_read_report.specs.Form.{AllLackFeed, AreFormEntries, AreFormRetries, ArePrinted, IsForm, LacksFeed}
 use Rattle.fx_read_report.specs.Lines.{Line, IsLine, head, entries, entry, print, retries, retry, final, entry_lines, line_text, report_lines}
@@ -54,38 +54,38 @@ report_is es rs =
 
 -- lines of the form
 
-abbrev pub AreLines : List Line → Type 0
-AreLines [] = Unit {0}
-AreLines (l ∷ ls) = IsLine l × AreLines ls
+abbrev pub AreAll : (Line → Type 0) → List Line → Type 0
+AreAll Is [] = Unit {0}
+AreAll Is (l ∷ ls) = Is l × AreAll Is ls
 
-pub lines_join : (xs ys : List Line) → AreLines xs → AreLines ys → AreLines (xs ++ ys)
-lines_join [] ys p q = q
-lines_join (x ∷ xs) ys p q = (p.0, lines_join xs ys p.1 q)
+pub lines_join : (Is : Line → Type 0) (xs ys : List Line) → AreAll Is xs → AreAll Is ys → AreAll Is (xs ++ ys)
+lines_join Is [] ys p q = q
+lines_join Is (x ∷ xs) ys p q = (p.0, lines_join Is xs ys p.1 q)
 
-pub lines_right : (xs ys : List Line) → AreLines (xs ++ ys) → AreLines ys
+pub lines_right : (xs ys : List Line) → AreAll IsLine (xs ++ ys) → AreAll IsLine ys
 lines_right [] ys p = p
 lines_right (x ∷ xs) ys p = lines_right xs ys p.1
 
-pub lines_left : (xs ys : List Line) → AreLines (xs ++ ys) → AreLines xs
+pub lines_left : (xs ys : List Line) → AreAll IsLine (xs ++ ys) → AreAll IsLine xs
 lines_left [] ys p = tt
 lines_left (x ∷ xs) ys p = (p.0, lines_left xs ys p.1)
 
-prints_lines : (vs : List Tree) → ArePrinted vs → AreLines (map print vs)
+prints_lines : (vs : List Tree) → ArePrinted vs → AreAll IsLine (map print vs)
 prints_lines [] p = tt
 prints_lines (v ∷ vs) p = (p.0, prints_lines vs p.1)
 
-entries_lines : (i : ℕ) (es : List PrintedEntry) → i + length es < 2 ^ 64 → AreFormEntries es → AreLines (entry_lines i es)
+entries_lines : (i : ℕ) (es : List PrintedEntry) → i + length es < 2 ^ 64 → AreFormEntries es → AreAll IsLine (entry_lines i es)
 entries_lines i [] few p = tt
 entries_lines i (e ∷ es) few p =
-    ((omega arith, p.0.shell, p.0.txn, p.0.ended), lines_join (map print e.outputs) (entry_lines (i + 1) es) (prints_lines e.outputs p.0.outputs) (entries_lines (i + 1) es (omega arith) p.1))
+    ((omega arith, p.0.shell, p.0.txn, p.0.ended), lines_join IsLine (map print e.outputs) (entry_lines (i + 1) es) (prints_lines e.outputs p.0.outputs) (entries_lines (i + 1) es (omega arith) p.1))
 
-retries_lines : (rs : List Retry) → AreFormRetries rs → AreLines (map retry rs)
+retries_lines : (rs : List Retry) → AreFormRetries rs → AreAll IsLine (map retry rs)
 retries_lines [] p = tt
 retries_lines (r ∷ rs) p = (p.0, retries_lines rs p.1)
 
-pub report_lines_are : (es : List PrintedEntry) (rs : List Retry) → IsForm es rs → AreLines (report_lines es rs)
+pub report_lines_are : (es : List PrintedEntry) (rs : List Retry) → IsForm es rs → AreAll IsLine (report_lines es rs)
 report_lines_are es rs f =
-    (tt, (f.entries_fit, lines_join (entry_lines 0 es) (retries (length rs) ∷ (map retry rs ++ final ∷ [])) (entries_lines 0 es (let fit = f.entries_fit in omega arith) f.entries_form) (f.retries_fit, lines_join (map retry rs) (final ∷ []) (retries_lines rs f.retries_form) (tt, tt))))
+    (tt, (f.entries_fit, lines_join IsLine (entry_lines 0 es) (retries (length rs) ∷ (map retry rs ++ final ∷ [])) (entries_lines 0 es (let fit = f.entries_fit in omega arith) f.entries_form) (f.retries_fit, lines_join IsLine (map retry rs) (final ∷ []) (retries_lines rs f.retries_form) (tt, tt))))
 
 -- bytes up to a line feed
 
@@ -113,13 +113,13 @@ pub record Front (ts : List (List ℕ)) (ks : List Line) (x : List ℕ) : Type 0
   pub left : x ≡ text_of more
 
 -- lines of bytes at the front of a report are the texts of its first lines
-pub front_of : (ts : List (List ℕ)) (ks : List Line) (x : List ℕ) → AllLackFeed ts → AreLines ks → flat_map line ts ++ x ≡ text_of ks → Front ts ks x
-front_of [] ks x p q e = record { taken = []; more = ks; whole = refl; texts = refl; left = e }
-front_of (t ∷ ts) [] x p q e = absurd (no_line t (flat_map line ts ++ x) (sym (sym (line_form t (flat_map line ts ++ x)) ∙ (sym (append_assoc (line t) (flat_map line ts) x) ∙ e))))
-front_of (t ∷ ts) (k ∷ ks) x p q e =
+pub front_of : (ts : List (List ℕ)) (ks : List Line) (x : List ℕ) → AllLackFeed ts → flat_map line ts ++ x ≡ text_of ks → Front ts ks x
+front_of [] ks x p e = record { taken = []; more = ks; whole = refl; texts = refl; left = e }
+front_of (t ∷ ts) [] x p e = absurd (no_line t (flat_map line ts ++ x) (sym (sym (line_form t (flat_map line ts ++ x)) ∙ (sym (append_assoc (line t) (flat_map line ts) x) ∙ e))))
+front_of (t ∷ ts) (k ∷ ks) x p e =
     let parts = sym (line_form t (flat_map line ts ++ x)) ∙ (sym (append_assoc (line t) (flat_map line ts) x) ∙ (e ∙ line_form (line_text k) (text_of ks))) in
-    let here = same_line t (line_text k) (flat_map line ts ++ x) (text_of ks) p.0 (line_lacks k q.0) parts in
-    let later = front_of ts ks x p.1 q.1 here.1 in
+    let here = same_line t (line_text k) (flat_map line ts ++ x) (text_of ks) p.0 (line_lacks k) parts in
+    let later = front_of ts ks x p.1 here.1 in
     record {
       taken = k ∷ later.taken;
       more = later.more;
@@ -127,3 +127,15 @@ front_of (t ∷ ts) (k ∷ ks) x p q e =
       texts = ap (λ u. u ∷ map line_text later.taken) (sym here.0) ∙ ap (λ l. t ∷ l) later.texts;
       left = later.left;
     }
+
+pub first_line : (k : Line) (ks : List Line) (y : List ℕ) → text_of (k ∷ ks) ++ y ≡ line_text k ++ 10 ∷ (text_of ks ++ y)
+first_line k ks y = append_assoc (line (line_text k)) (text_of ks) y ∙ line_form (line_text k) (text_of ks ++ y)
+
+-- lines that their texts tell are told by the text of all
+pub same_texts : (Is : Line → Type 0) → ((l k : Line) → Is l → Is k → line_text l ≡ line_text k → l ≡ k) → (ls ks : List Line) → AreAll Is ls → AreAll Is ks → text_of ls ≡ text_of ks → ls ≡ ks
+same_texts Is one [] [] p q e = refl
+same_texts Is one [] (k ∷ ks) p q e = absurd (no_line (line_text k) (text_of ks) (e ∙ line_form (line_text k) (text_of ks)))
+same_texts Is one (l ∷ ls) [] p q e = absurd (no_line (line_text l) (text_of ls) (sym e ∙ line_form (line_text l) (text_of ls)))
+same_texts Is one (l ∷ ls) (k ∷ ks) p q e =
+    let here = same_line (line_text l) (line_text k) (text_of ls) (text_of ks) (line_lacks l) (line_lacks k) (sym (line_form (line_text l) (text_of ls)) ∙ (e ∙ line_form (line_text k) (text_of ks))) in
+    ap (λ x. x ∷ ls) (one l k p.0 q.0 here.0) ∙ ap (λ t. k ∷ t) (same_texts Is one ls ks p.1 q.1 here.1)

@@ -7,3 +7,4 @@ pub mod Kinds
 pub mod Lines
 pub mod Reads
 pub mod Stages
+pub mod Limits

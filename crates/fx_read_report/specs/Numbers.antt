@@ -1,7 +1,8 @@
 -- Words and numbers at the front of bytes.
-use Rattle.std.specs.Prelude.{◌≡◌, ℕ, ◌-◌, ◌^◌, ◌==◌, ℤ, pos, negsuc, Bool, false, cond, not, ◌&&◌, List, [], ◌∷◌, take, drop, length, slice_index, nat_le, nat_lt, nat_eq, bytes_eq, Option, Some, None, codes}
+use Rattle.std.specs.Prelude.{◌≡◌, ℕ, ◌-◌, ◌^◌, ℤ, pos, negsuc, Bool, false, cond, ◌&&◌, List, [], ◌∷◌, take, drop, length, nat_le, nat_lt, nat_eq, bytes_eq, Option, Some, None, codes}
 use Rattle.std.specs.Option.{option_map, option_and_then}
 use Rattle.std.specs.List.{prefix_len}
+use Rattle.std.specs.Fmt.{decimal}
 use Rattle.std.specs.Str.Parse.{digits_value}
 
 -- what stands behind the words
@@ -17,17 +18,11 @@ abbrev pub EndsDigits : List ℕ → Type 0
 EndsDigits [] = Unit {0}
 EndsDigits (c ∷ x) = is_digit c ≡ false
 
--- a `0` before other digits
-abbrev pub leads_zero : List ℕ → Bool
-leads_zero digits = nat_lt 1 (length digits) && (slice_index digits 0 == 48)
-
--- some digits without a leading zero, of a number below 2 ^ 64
-abbrev pub is_number : List ℕ → Bool
-is_number digits = nat_lt 0 (length digits) && (not (leads_zero digits) && nat_lt (digits_value 10 digits) (2 ^ 64))
-
--- the number that digits write
+-- the number below 2 ^ 64 whose decimal text this is
 unfoldable pub number_of : List ℕ → Option ℕ
-number_of digits = cond (is_number digits) (Some (digits_value 10 digits)) None
+number_of text =
+    let number = digits_value 10 text in
+    cond (bytes_eq (decimal number) text && nat_lt number (2 ^ 64)) (Some number) None
 
 -- the number at the front, and what stands behind its digits
 unfoldable pub leading_number : List ℕ → Option (ℕ × List ℕ)

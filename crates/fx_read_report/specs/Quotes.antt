@@ -1,5 +1,6 @@
--- Bytes between quotation marks, read byte by byte: 34 is `"`, 92 is `\`, 110 is `n`, 120 is `x`.
-use Rattle.std.specs.Prelude.{ℕ, ◌+◌, ◌-◌, ◌*◌, ◌==◌, Bool, cond, not, ◌&&◌, ◌||◌, ◌<◌, List, [], ◌∷◌, nat_le, Option, Some, None}
+-- Bytes between quotation marks, read byte by byte: 34 is `"`, 92 is `\`, 110 is `n`, 120 is `x`. What is spelled is read,
+-- and more: a byte that has a shorter spelling is read by its two digits too.
+use Rattle.std.specs.Prelude.{ℕ, ◌+◌, ◌-◌, ◌*◌, ◌==◌, cond, ◌&&◌, ◌||◌, ◌<◌, List, [], ◌∷◌, nat_le, Option, Some, None}
 use Rattle.std.specs.Option.{option_map}
 use Rattle.fx_report.specs.Print.{is_printable}
 use Rattle.fx_read_report.specs.declared.quotes.Place.{Place}
@@ -10,10 +11,6 @@ use Rattle.fx_read_report.specs.declared.quotes.Step.TheVariants.{Go, Byte, End,
 -- the value of a lower-case hexadecimal digit
 abbrev pub digit_value : ℕ → Option ℕ
 digit_value c = cond (nat_le 48 c && nat_le c 57) (Some (c - 48)) (cond (nat_le 97 c && nat_le c 102) (Some (c - 87)) None)
-
--- the byte has a spelling without two digits
-abbrev pub is_short : ℕ → Bool
-is_short b = (b == 10) || is_printable b
 
 -- what follows from a byte between the marks
 abbrev pub plain_step : ℕ → Step
@@ -28,7 +25,7 @@ high_step (Some high) = Go (Low high)
 
 abbrev pub low_step : ℕ → Option ℕ → Step
 low_step high None = Bad
-low_step high (Some low) = cond (is_short (16 * high + low)) Bad (Byte (16 * high + low))
+low_step high (Some low) = Byte (16 * high + low)
 
 abbrev pub step : Place → ℕ → Step
 step Plain b = plain_step b

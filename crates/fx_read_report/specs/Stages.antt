@@ -1,5 +1,5 @@
 -- How far a report is read, and which line may follow.
-use Rattle.std.specs.Prelude.{◌≡◌, ℕ, ◌^◌, ◌<◌, ◌≤◌, Bool, true, false, ◌&&◌, nat_eq, nat_lt, List, [], ◌∷◌, ◌++◌, length, map}
+use Rattle.std.specs.Prelude.{◌≡◌, ℕ, ◌^◌, ◌<◌, ◌≤◌, Bool, true, false, cond, Option, Some, None, ◌&&◌, nat_eq, nat_lt, List, [], ◌∷◌, ◌++◌, length, map}
 use Rattle.fx_expr.specs.Tree.{Tree}
 use Rattle.fx_spec.specs.declared.refusal.End.{End}
 use Rattle.fx_machine.specs.declared.retry.Retry.{Retry}
@@ -136,6 +136,10 @@ is_ended stage.Ended = true
 -- whether a line may follow what was read
 abbrev pub may_follow : State → Line → Bool
 may_follow s l = allows s.stage (length s.entries) (length s.retries) l
+
+-- the report with one line more, if this line may follow
+abbrev pub next : State → Line → Option State
+next s l = cond (may_follow s l) (Some (advanced s l)) None
 
 -- a line is taken, or no report goes on with it
 abbrev pub TakesText : State → List ℕ → State → Bool → Type 0

@@ -1,18 +1,17 @@
--- The values that a report can print, and what stands at the front of bytes.
-use Rattle.std.specs.Prelude.{◌≡◌, ℕ, zero, suc, ◌||◌, ◌&&◌, Bool, true, false, cond, nat_eq, nat_le, List, [], ◌∷◌, ◌++◌, map, IsTrue, Option, Some, None, codes}
+-- The values that a report can print, and what is read of them at the front of bytes. What is spelled is read; what else is
+-- read is told apart by printing it again.
+use Rattle.std.specs.Prelude.{ℕ, zero, suc, ◌||◌, Bool, true, false, cond, nat_eq, List, [], ◌∷◌, length, Option, Some, None, codes}
 use Rattle.std.specs.Borrow.{Bor}
-use Rattle.std.specs.Cmp.Lexicographic.{slice_cmp}
-use Rattle.std.specs.List.{join_by, zip}
-use Rattle.std.specs.Ordering.{is_lt, nat_cmp}
-use Rattle.std.specs.Option.{option_map}
+use Rattle.std.specs.Option.{option_map, option_and_then}
 use Rattle.fx_expr.specs.Bytes.{IsText}
 use Rattle.fx_expr.specs.Sets.{IsAscending}
-use Rattle.fx_expr.specs.Tree.{Tree, TreeRows, str, int, bool, names, pair, nothing, some, table, no_rows, row}
+use Rattle.fx_expr.specs.Tree.{Tree, TreeRows, str, int, bool, names, pair, nothing, some, table, no_rows, row, rows}
 use Rattle.fx_expr.specs.Views.{tree_of}
 use Rattle.fx_expr.specs.declared.value.Value.{Value}
-use Rattle.fx_report.specs.Print.{comma, quote, row_text, value_text}
 use Rattle.fx_report.specs.Readable.{AreBytes, IsInteger}
-use Rattle.fx_read_report.specs.Numbers.{EndsDigits, after, is_digit}
+use Rattle.fx_read_report.specs.Limits.{Limits}
+use Rattle.fx_read_report.specs.Numbers.{EndsDigits, after, is_digit, leading_integer}
+use Rattle.fx_read_report.specs.Quotes.{unquoted}
 use Rattle.fx_read_report.specs.declared.values.Kind.{Kind}
 use Rattle.fx_read_report.specs.declared.values.Kind.TheVariants as kind
 
@@ -59,87 +58,6 @@ EndsAt nothing rest = Unit {0}
 EndsAt (some a) rest = Unit {0}
 EndsAt (table rows) rest = Unit {0}
 
--- a value at the front of bytes, and what stands behind it
-pub record Stands (levels : ℕ) (bytes : List ℕ) (v : Tree) (rest : List ℕ) : Type 0 where
-  pub value : IsPrinted levels v
-  pub parts : bytes ≡ value_text v ++ rest
-  pub ends : EndsAt v rest
-
-abbrev pub FindsValue : ℕ → List ℕ → Option (Tree × List ℕ) → Type 0
-FindsValue levels bytes None = (v : Tree) (rest : List ℕ) → Stands levels bytes v rest → ⊥
-FindsValue levels bytes (Some found) = Stands levels bytes found.0 found.1
-
--- a text with no digit behind it
-pub record StandsEnded (bytes text rest : List ℕ) : Type 0 where
-  pub is : IsPrintedText text
-  pub parts : bytes ≡ quote text ++ rest
-  pub ends : EndsDigits rest
-
-abbrev pub FindsEnded : List ℕ → Option (List ℕ × List ℕ) → Type 0
-FindsEnded bytes None = (text rest : List ℕ) → StandsEnded bytes text rest → ⊥
-FindsEnded bytes (Some found) = StandsEnded bytes found.0 found.1
-
--- what stands behind the comma before a next piece
-abbrev pub piece_at : List ℕ → Bool → Option (List ℕ)
-piece_at bytes true = Some bytes
-piece_at bytes false = after (codes ", ") bytes
-
--- whether each text is below the next
-abbrev pub ascends : List (List ℕ) → Bool
-ascends [] = true
-ascends (t ∷ []) = true
-ascends (t ∷ u ∷ rest) = is_lt (slice_cmp nat_cmp t u) && ascends (u ∷ rest)
-
--- a value with these bytes behind it
-pub record StandsBefore (levels : ℕ) (words bytes : List ℕ) (v : Tree) (rest : List ℕ) : Type 0 where
-  pub value : IsPrinted levels v
-  pub parts : bytes ≡ value_text v ++ (words ++ rest)
-
-abbrev pub FindsBefore : ℕ → List ℕ → List ℕ → Option (Tree × List ℕ) → Type 0
-FindsBefore levels words bytes None = (v : Tree) (rest : List ℕ) → StandsBefore levels words bytes v rest → ⊥
-FindsBefore levels words bytes (Some found) = StandsBefore levels words bytes found.0 found.1
-
-pub record StandsText (bytes text rest : List ℕ) : Type 0 where
-  pub is : IsPrintedText text
-  pub parts : bytes ≡ quote text ++ rest
-
-abbrev pub FindsText : List ℕ → Option (List ℕ × List ℕ) → Type 0
-FindsText bytes None = (text rest : List ℕ) → StandsText bytes text rest → ⊥
-FindsText bytes (Some found) = StandsText bytes found.0 found.1
-
--- the texts of a set up to its closing brace
-pub record StandTexts (bytes : List ℕ) (texts : List (List ℕ)) (rest : List ℕ) : Type 0 where
-  pub are : ArePrintedTexts texts
-  pub parts : bytes ≡ join_by quote comma texts ++ 125 ∷ rest
-
-abbrev pub FindsTexts : List ℕ → Option (List (List ℕ) × List ℕ) → Type 0
-FindsTexts bytes None = (texts : List (List ℕ)) (rest : List ℕ) → StandTexts bytes texts rest → ⊥
-FindsTexts bytes (Some found) = StandTexts bytes found.0 found.1
-
--- a row up to what must stand behind it: a comma or the closing bracket
-pub record StandsRow (levels : ℕ) (bytes : List ℕ) (entry : List ℕ × Tree) (rest : List ℕ) : Type 0 where
-  pub key : IsPrintedText entry.0
-  pub value : IsPrinted levels entry.1
-  pub parts : bytes ≡ row_text entry ++ rest
-  pub ends : EndsDigits rest
-
-abbrev pub FindsRow : ℕ → List ℕ → Option ((List ℕ × Tree) × List ℕ) → Type 0
-FindsRow levels bytes None = (entry : List ℕ × Tree) (rest : List ℕ) → StandsRow levels bytes entry rest → ⊥
-FindsRow levels bytes (Some found) = StandsRow levels bytes found.0 found.1
-
--- the rows of a table up to its closing bracket
-abbrev pub AreEntries : ℕ → List (List ℕ × Tree) → Type 0
-AreEntries levels [] = Unit {0}
-AreEntries levels (e ∷ rest) = (IsPrintedText e.0 × IsPrinted levels e.1) × AreEntries levels rest
-
-pub record StandRows (levels : ℕ) (bytes : List ℕ) (entries : List (List ℕ × Tree)) (rest : List ℕ) : Type 0 where
-  pub are : AreEntries levels entries
-  pub parts : bytes ≡ join_by row_text comma entries ++ 93 ∷ rest
-
-abbrev pub FindsRows : ℕ → List ℕ → Option (List (List ℕ × Tree) × List ℕ) → Type 0
-FindsRows levels bytes None = (entries : List (List ℕ × Tree)) (rest : List ℕ) → StandRows levels bytes entries rest → ⊥
-FindsRows levels bytes (Some found) = StandRows levels bytes found.0 found.1
-
 -- the kind of value that begins with a byte
 abbrev pub kind_of : ℕ → Kind
 kind_of b =
@@ -153,7 +71,95 @@ kind_at (b ∷ rest) = kind_of b
 abbrev pub value_found : Option (Value × Bor (List ℕ)) → Option (Tree × List ℕ)
 value_found found = option_map (λ r. (tree_of r.0, r.1.now)) found
 
--- the whole of the bytes is this value, or no value
-abbrev pub IsWholeValue : ℕ → List ℕ → Option Tree → Type 0
-IsWholeValue levels bytes None = (v : Tree) → IsPrinted levels v → bytes ≡ value_text v → ⊥
-IsWholeValue levels bytes (Some v) = IsPrinted levels v × (bytes ≡ value_text v)
+-- ---- texts, and lists of pieces
+
+-- the text of a quote
+abbrev pub text_at : Limits → List ℕ → Option (List ℕ × List ℕ)
+text_at limits bytes = option_and_then (λ t. cond (limits.takes_text t.0) (Some t) None) (unquoted bytes)
+
+-- what stands behind the comma before a next piece
+abbrev pub piece_at : List ℕ → Bool → Option (List ℕ)
+piece_at bytes true = Some bytes
+piece_at bytes false = after (codes ", ") bytes
+
+abbrev pub or_pieces : {A : Type 0} → Option (List ℕ) → Option (List A × List ℕ) → Option (List A × List ℕ)
+or_pieces (Some rest) other = Some ([], rest)
+or_pieces None other = other
+
+-- pieces with a comma and a space between them, fewer than so many, up to a closing byte
+abbrev pub pieces_at : {A : Type 0} → (List ℕ → Option (A × List ℕ)) → ℕ → ℕ → Bool → List ℕ → Option (List A × List ℕ)
+pieces_at read close zero first bytes = None
+pieces_at read close (suc more) first bytes =
+    or_pieces (after (close ∷ []) bytes) (option_and_then (λ start. option_and_then (λ r. option_map (λ m. (r.0 ∷ m.0, m.1)) (pieces_at read close more false r.1)) (read start)) (piece_at bytes first))
+
+-- ---- values, by a reader of what is inside
+
+abbrev pub Reader : Type 0
+Reader = List ℕ → Option (Tree × List ℕ)
+
+abbrev pub row_at : Limits → Reader → List ℕ → Option ((List ℕ × Tree) × List ℕ)
+row_at limits read bytes = option_and_then (λ k. option_and_then (λ start. option_map (λ v. ((k.0, v.0), v.1)) (read start)) (after (codes " = ") k.1)) (text_at limits bytes)
+
+-- a value with words behind it
+abbrev pub before : Reader → List ℕ → List ℕ → Option (Tree × List ℕ)
+before read words bytes = option_and_then (λ v. option_map (λ rest. (v.0, rest)) (after words v.1)) (read bytes)
+
+abbrev pub keys_of : List (List ℕ × Tree) → List (List ℕ)
+keys_of [] = []
+keys_of (e ∷ es) = e.0 ∷ keys_of es
+
+abbrev pub set_of : Limits → List (List ℕ) × List ℕ → Option (Tree × List ℕ)
+set_of limits ts = cond (limits.takes_set ts.0) (Some (names ts.0, ts.1)) None
+
+abbrev pub table_of : Limits → List (List ℕ × Tree) × List ℕ → Option (Tree × List ℕ)
+table_of limits es = cond (limits.takes_set (keys_of es.0)) (Some (table (rows es.0), es.1)) None
+
+abbrev pub text_value : Limits → List ℕ → Option (Tree × List ℕ)
+text_value limits bytes = option_map (λ t. (str t.0, t.1)) (text_at limits bytes)
+
+abbrev pub integer_value : List ℕ → Option (Tree × List ℕ)
+integer_value bytes = option_map (λ z. (int z.0, z.1)) (leading_integer bytes)
+
+abbrev pub or_false : Option (List ℕ) → Option (List ℕ) → Option (Tree × List ℕ)
+or_false (Some rest) other = Some (bool true, rest)
+or_false None other = option_map (λ rest. (bool false, rest)) other
+
+abbrev pub truth_value : List ℕ → Option (Tree × List ℕ)
+truth_value bytes = or_false (after (codes "true") bytes) (after (codes "false") bytes)
+
+abbrev pub names_value : Limits → List ℕ → Option (Tree × List ℕ)
+names_value limits bytes = option_and_then (λ inner. option_and_then (set_of limits) (pieces_at (text_at limits) 125 (length bytes) true inner)) (after (codes "{") bytes)
+
+abbrev pub pair_value : Reader → List ℕ → Option (Tree × List ℕ)
+pair_value read bytes = option_and_then (λ inner. option_and_then (λ a. option_map (λ b. (pair a.0 b.0, b.1)) (before read (codes ">") a.1)) (before read (codes ", ") inner)) (after (codes "<") bytes)
+
+abbrev pub nothing_value : List ℕ → Option (Tree × List ℕ)
+nothing_value bytes = option_map (λ rest. (nothing, rest)) (after (codes "none") bytes)
+
+abbrev pub some_value : Reader → List ℕ → Option (Tree × List ℕ)
+some_value read bytes = option_and_then (λ inner. option_map (λ a. (some a.0, a.1)) (before read (codes ")") inner)) (after (codes "some(") bytes)
+
+abbrev pub table_value : Limits → Reader → List ℕ → Option (Tree × List ℕ)
+table_value limits read bytes = option_and_then (λ inner. option_and_then (table_of limits) (pieces_at (row_at limits read) 93 (length bytes) true inner)) (after (codes "[") bytes)
+
+abbrev pub value_by : Limits → Reader → Kind → Reader
+value_by limits read kind.Text bytes = text_value limits bytes
+value_by limits read kind.Integer bytes = integer_value bytes
+value_by limits read kind.Truth bytes = truth_value bytes
+value_by limits read kind.Names bytes = names_value limits bytes
+value_by limits read kind.Pair bytes = pair_value read bytes
+value_by limits read kind.Nothing bytes = nothing_value bytes
+value_by limits read kind.Some bytes = some_value read bytes
+value_by limits read kind.Table bytes = table_value limits read bytes
+value_by limits read kind.Other bytes = None
+
+-- the value at the front, which nests at most so deep, and what stands behind it
+abbrev pub value_at : Limits → ℕ → List ℕ → Option (Tree × List ℕ)
+value_at limits zero bytes = None
+value_at limits (suc levels) bytes = value_by limits (value_at limits levels) (kind_at bytes) bytes
+
+-- what was read with nothing behind it
+abbrev pub alone : {A : Type 0} → Option (A × List ℕ) → Option A
+alone None = None
+alone (Some (a, [])) = Some a
+alone (Some (a, b ∷ rest)) = None

@@ -1,6 +1,7 @@
 //! The reader of a report: words, numbers and quotes, values, lines, and the whole.
 #![tactic(auto)]
 
+pub mod laws;
 mod lines;
 mod numbers;
 mod parts;

@@ -1,16 +1,18 @@
 //! The lines of a report, one by one.
-ghost use Rattle.std.specs.Prelude.{◌≡◌, IfOk, slice_index};
+ghost use Rattle.std.specs.Prelude.{◌≡◌, ◌++◌, IfOk, IfSome, OnOk, bytes_eq, slice_index};
 ghost use Rattle.std.specs.Option.{option_map};
-ghost use Rattle.fx_read_report.specs.Lines.{FindsLine, line_of};
-ghost use Rattle.fx_read_report.specs.Reads.{entry_at, retry_at};
+ghost use Rattle.fx_read_report.specs.Limits.{strict};
+ghost use Rattle.fx_read_report.specs.Lines.{FindsLine, IsLine, entry, line_of, line_text, retry};
+ghost use Rattle.fx_read_report.specs.Reads.{entries_at, entry_at, final_at, head_at, line_at, print_at, retries_at, retry_at};
 ghost use Rattle.fx_read_report.specs.Kinds.{kind_by, kind_of};
 
 use crate::numbers::after;
 use crate::parts::{end, field, last_field, quoted_path, small_field};
-use crate::values::read_value;
+use crate::values::{VALUE_LEVELS, read_value};
 use fx_base::NoMemory;
 use fx_expr::Value;
 use fx_machine::Retry;
+use fx_report::{add_bytes, add_end, add_field, add_quoted_path, add_value};
 use fx_spec::End;
 use std::alloc::Global;
 
@@ -82,9 +84,10 @@ fn kind_of(text: &[u8]) -> Kind
     kind_by(byte_at(text, 0), byte_at(text, 4))
 }
 
+#[tactic(auto, unfolding(crate::specs::Reads::head_at))]
 fn head_line(text: &[u8]) -> Option<Line>
-    requires { kind_of text.now ≡ Kind.Head }
-    ensures { FindsLine text.now (option_map line_of result) }
+    ensures read { option_map line_of result ≡ head_at text.now }
+    ensures fit { IfSome result (λ line. IsLine (line_of line)) }
 {
     if text == b"forest report 1".as_slice() {
         return Some(Line::Head);
@@ -92,9 +95,10 @@ fn head_line(text: &[u8]) -> Option<Line>
     None
 }
 
+#[tactic(auto, unfolding(crate::specs::Reads::entries_at))]
 fn entries_line(text: &[u8]) -> Option<Line>
-    requires { kind_of text.now ≡ Kind.Entries }
-    ensures { FindsLine text.now (option_map line_of result) }
+    ensures read { option_map line_of result ≡ entries_at text.now }
+    ensures fit { IfSome result (λ line. IsLine (line_of line)) }
 {
     match last_field(text, b"entries ") {
         Some(number) => Some(Line::Entries(number)),
@@ -104,7 +108,8 @@ fn entries_line(text: &[u8]) -> Option<Line>
 
 #[tactic(auto, unfolding(crate::specs::Reads::entry_at))]
 fn entry_line(alloc: Global, text: &[u8]) -> Result<Option<Line>, NoMemory>
-    ensures { IfOk result (λ found. option_map line_of found ≡ entry_at text.now) }
+    ensures read { IfOk result (λ found. option_map line_of found ≡ entry_at strict text.now) }
+    ensures fit { IfOk result (λ found. IfSome found (λ line. IsLine (line_of line))) }
 {
     let Some((number, rest)) = field(text, b"entry ") else {
         return Ok(None);
@@ -129,9 +134,11 @@ fn entry_line(alloc: Global, text: &[u8]) -> Result<Option<Line>, NoMemory>
     }
 }
 
+#[tactic(auto, unfolding(crate::specs::Reads::print_at))]
 fn print_line(alloc: Global, text: &[u8]) -> Result<Option<Line>, NoMemory>
-    requires { kind_of text.now ≡ Kind.Print }
-    ensures { IfOk result (λ found. FindsLine text.now (option_map line_of found)) }
+    ensures read { IfOk result
+        (λ found. option_map line_of found ≡ print_at strict VALUE_LEVELS text.now) }
+    ensures fit { IfOk result (λ found. IfSome found (λ line. IsLine (line_of line))) }
 {
     let Some(rest) = after(text, b"print ") else {
         return Ok(None);
@@ -142,9 +149,10 @@ fn print_line(alloc: Global, text: &[u8]) -> Result<Option<Line>, NoMemory>
     }
 }
 
+#[tactic(auto, unfolding(crate::specs::Reads::retries_at))]
 fn retries_line(text: &[u8]) -> Option<Line>
-    requires { kind_of text.now ≡ Kind.Retries }
-    ensures { FindsLine text.now (option_map line_of result) }
+    ensures read { option_map line_of result ≡ retries_at text.now }
+    ensures fit { IfSome result (λ line. IsLine (line_of line)) }
 {
     match last_field(text, b"retries ") {
         Some(number) => Some(Line::Retries(number)),
@@ -154,7 +162,8 @@ fn retries_line(text: &[u8]) -> Option<Line>
 
 #[tactic(auto, unfolding(crate::specs::Reads::retry_at))]
 fn retry_line(alloc: Global, text: &[u8]) -> Result<Option<Line>, NoMemory>
-    ensures { IfOk result (λ found. option_map line_of found ≡ retry_at text.now) }
+    ensures read { IfOk result (λ found. option_map line_of found ≡ retry_at strict text.now) }
+    ensures fit { IfOk result (λ found. IfSome found (λ line. IsLine (line_of line))) }
 {
     let Some((shell, rest)) = small_field(text, b"retry shell ") else {
         return Ok(None);
@@ -179,9 +188,10 @@ fn retry_line(alloc: Global, text: &[u8]) -> Result<Option<Line>, NoMemory>
     }
 }
 
+#[tactic(auto, unfolding(crate::specs::Reads::final_at))]
 fn final_line(text: &[u8]) -> Option<Line>
-    requires { kind_of text.now ≡ Kind.Final }
-    ensures { FindsLine text.now (option_map line_of result) }
+    ensures read { option_map line_of result ≡ final_at text.now }
+    ensures fit { IfSome result (λ line. IsLine (line_of line)) }
 {
     if text == b"end".as_slice() {
         return Some(Line::Final);
@@ -189,9 +199,11 @@ fn final_line(text: &[u8]) -> Option<Line>
     None
 }
 
-/// The line that the bytes are: `None` where they are no line of a report. They lack the line feed.
-pub(crate) fn read_line(alloc: Global, text: &[u8]) -> Result<Option<Line>, NoMemory>
-    ensures { IfOk result (λ found. FindsLine text.now (option_map line_of found)) }
+/// The only line that the bytes can be.
+fn line_in(alloc: Global, text: &[u8]) -> Result<Option<Line>, NoMemory>
+    ensures read { IfOk result
+        (λ found. option_map line_of found ≡ line_at strict VALUE_LEVELS text.now) }
+    ensures fit { IfOk result (λ found. IfSome found (λ line. IsLine (line_of line))) }
 {
     match kind_of(text) {
         Kind::Head => Ok(head_line(text)),
@@ -202,4 +214,83 @@ pub(crate) fn read_line(alloc: Global, text: &[u8]) -> Result<Option<Line>, NoMe
         Kind::Retry => retry_line(alloc, text),
         Kind::Final => Ok(final_line(text)),
     }
+}
+
+fn add_entry(
+    out: &mut Vec<u8>,
+    number: u64,
+    shell: u32,
+    txn: u32,
+    end: &End,
+) -> Result<(), NoMemory>
+    ensures { OnOk result
+        (out.new.items ≡ out.old.items ++ line_text (entry number shell txn end.now)) }
+{
+    add_field(out, b"entry ", number)?;
+    add_field(out, b" shell ", u64::from(shell))?;
+    add_field(out, b" txn ", u64::from(txn))?;
+    add_bytes(out, b" ")?;
+    add_end(out, end)?;
+    Ok(())
+}
+
+fn add_retry(out: &mut Vec<u8>, told: &Retry) -> Result<(), NoMemory>
+    ensures { OnOk result (out.new.items ≡ out.old.items ++ line_text (retry told.now)) }
+{
+    add_field(out, b"retry shell ", u64::from(told.shell))?;
+    add_field(out, b" txn ", u64::from(told.txn))?;
+    add_field(out, b" entry ", told.entry)?;
+    add_bytes(out, b" path ")?;
+    add_quoted_path(out, &told.path)?;
+    Ok(())
+}
+
+/// Adds a line, without its line feed.
+fn add_line(out: &mut Vec<u8>, line: &Line) -> Result<(), NoMemory>
+    ensures { OnOk result (out.new.items ≡ out.old.items ++ line_text (line_of line.now)) }
+{
+    match line {
+        Line::Head => add_bytes(out, b"forest report 1"),
+        Line::Entries(number) => add_field(out, b"entries ", *number),
+        Line::Entry {
+            number,
+            shell,
+            txn,
+            end,
+        } => add_entry(out, *number, *shell, *txn, end),
+        Line::Print(value) => {
+            add_bytes(out, b"print ")?;
+            add_value(out, value)
+        }
+        Line::Retries(number) => add_field(out, b"retries ", *number),
+        Line::Retry(retry) => add_retry(out, retry),
+        Line::Final => add_bytes(out, b"end"),
+    }
+}
+
+/// Whether a line, printed, is these bytes.
+fn is_printed(out: &mut Vec<u8>, line: &Line, text: &[u8]) -> Result<bool, NoMemory>
+    ensures { IfOk result (λ same. same ≡ bytes_eq (line_text (line_of line.now)) text.now) }
+{
+    out.clear();
+    add_line(out, line)?;
+    Ok(out.as_slice() == text)
+}
+
+/// The line that the bytes are: `None` where they are no line of a report. They lack the line feed. What is read is
+/// printed again, behind `out`, and compared.
+pub(crate) fn read_line(
+    alloc: Global,
+    text: &[u8],
+    out: &mut Vec<u8>,
+) -> Result<Option<Line>, NoMemory>
+    ensures { IfOk result (λ found. FindsLine text.now (option_map line_of found)) }
+{
+    let Some(line) = line_in(alloc, text)? else {
+        return Ok(None);
+    };
+    if !is_printed(out, &line, text)? {
+        return Ok(None);
+    }
+    Ok(Some(line))
 }

@@ -4,6 +4,7 @@ ghost use Rattle.std.specs.Option.{option_map};
 ghost use Rattle.std.specs.List.{prefix_len, list_all};
 ghost use Rattle.fx_read_report.specs.Numbers.{is_digit, after, number_of, leading_number, leading_integer, positive, negative, signed};
 
+use itoa::Buffer;
 use std::str;
 
 /// What stands behind the words, if the bytes begin with them.
@@ -32,19 +33,25 @@ fn digits_len(bytes: &[u8]) -> usize
     bytes.len()
 }
 
-/// The number that digits write, if it has no leading zero and is below 2 ^ 64.
+/// The number whose decimal text this is, if a `u64` holds it.
+fn decimal_of(text: &str) -> Option<u64>
+    ensures { result ≡ number_of text.now }
+{
+    let number: u64 = text.parse().ok()?;
+    let mut buffer = Buffer::new();
+    if buffer.format(number) != text {
+        return None;
+    }
+    Some(number)
+}
+
+/// The number whose decimal text the digits are.
 fn number_of(digits: &[u8]) -> Option<u64>
     requires { list_all is_digit digits.now ≡ true }
     ensures { result ≡ number_of digits.now }
 {
-    if digits.is_empty() {
-        return None;
-    }
-    if digits.len() > 1 && digits[0] == b'0' {
-        return None;
-    }
     match str::from_utf8(digits) {
-        Ok(text) => text.parse::<u64>().ok(),
+        Ok(text) => decimal_of(text),
         Err(_) => None,
     }
 }

@@ -1,8 +1,11 @@
 //! The parts of a line.
-ghost use Rattle.std.specs.Prelude.{◌≡◌, IfOk, bytes_eq};
+ghost use Rattle.std.specs.Prelude.{◌≡◌, IfOk, IfSome};
 ghost use Rattle.std.specs.Option.{option_map};
 ghost use Rattle.fx_store.specs.Faults.{read_path};
-ghost use Rattle.fx_read_report.specs.Reads.{blocked_at, end_at, fault_at, field_at, last_at, path_at, path_or_none, plain_at, plain_name, plain_of, refusal_at, small_at, stop_at};
+ghost use Rattle.fx_store.specs.Names.{IsPath};
+ghost use Rattle.fx_read_report.specs.Form.{IsFormEnd, IsFormRefusal};
+ghost use Rattle.fx_read_report.specs.Limits.{path_or_none, strict};
+ghost use Rattle.fx_read_report.specs.Reads.{blocked_at, end_at, fault_at, field_at, last_at, path_at, plain_of, refusal_at, small_at, stop_at};
 
 use crate::numbers::{after, leading_number};
 use crate::quotes::unquoted;
@@ -55,7 +58,8 @@ pub(crate) fn last_field(bytes: &[u8], words: &[u8]) -> Option<u64>
 /// The path of a quote, with nothing behind it.
 #[tactic(auto, unfolding(crate::specs::Reads::path_at))]
 pub(crate) fn quoted_path(alloc: Global, bytes: &[u8]) -> Result<Option<Path>, NoMemory>
-    ensures { IfOk result (λ path. path ≡ path_at bytes.now) }
+    ensures read { IfOk result (λ path. path ≡ path_at strict bytes.now) }
+    ensures fit { IfOk result (λ path. IfSome path IsPath) }
 {
     match unquoted(alloc, bytes)? {
         Some((text, [])) => path_of(alloc, &text),
@@ -65,7 +69,8 @@ pub(crate) fn quoted_path(alloc: Global, bytes: &[u8]) -> Result<Option<Path>, N
 }
 
 fn path_of(alloc: Global, text: &[u8]) -> Result<Option<Path>, NoMemory>
-    ensures { IfOk result (λ path. path ≡ path_or_none (read_path text.now)) }
+    ensures read { IfOk result (λ path. path ≡ path_or_none (read_path text.now)) }
+    ensures fit { IfOk result (λ path. IfSome path IsPath) }
 {
     match Path::read(alloc, text) {
         Ok(path) => Ok(Some(path)),
@@ -76,7 +81,8 @@ fn path_of(alloc: Global, text: &[u8]) -> Result<Option<Path>, NoMemory>
 }
 
 fn plain_of(number: u64) -> Option<Refusal>
-    ensures { result ≡ plain_of number }
+    ensures read { result ≡ plain_of number }
+    ensures fit { IfSome result IsFormRefusal }
 {
     match number {
         1 => Some(Refusal::NoStep),
@@ -94,45 +100,10 @@ fn plain_of(number: u64) -> Option<Refusal>
     }
 }
 
-fn is_named(refusal: &Refusal, name: &[u8]) -> bool
-    ensures { result ≡ bytes_eq name.now (plain_name refusal.now) }
-{
-    match refusal {
-        Refusal::NoStep => name == b"NoStep".as_slice(),
-        Refusal::NoElement => name == b"NoElement".as_slice(),
-        Refusal::NoPlace => name == b"NoPlace".as_slice(),
-        Refusal::Lacks => name == b"Lacks".as_slice(),
-        Refusal::WrongForm => name == b"WrongForm".as_slice(),
-        Refusal::Blocked(_) => name == b"".as_slice(),
-        Refusal::TooDeep => name == b"TooDeep".as_slice(),
-        Refusal::BadName => name == b"BadName".as_slice(),
-        Refusal::NoDefault => name == b"NoDefault".as_slice(),
-        Refusal::Expr(_) => name == b"".as_slice(),
-        Refusal::Absent => name == b"Absent".as_slice(),
-        Refusal::Exists => name == b"Exists".as_slice(),
-        Refusal::TooUnfolded => name == b"TooUnfolded".as_slice(),
-    }
-}
-
-#[tactic(auto, unfolding(crate::specs::Reads::plain_at))]
-fn plain_refusal(number: u64, name: &[u8]) -> Option<Refusal>
-    ensures { result ≡ plain_at number name.now }
-{
-    match plain_of(number) {
-        Some(refusal) => {
-            if is_named(&refusal, name) {
-                Some(refusal)
-            } else {
-                None
-            }
-        }
-        None => None,
-    }
-}
-
 #[tactic(auto, unfolding(crate::specs::Reads::fault_at))]
 fn fault_refusal(name: &[u8]) -> Option<Refusal>
-    ensures { result ≡ fault_at name.now }
+    ensures read { result ≡ fault_at name.now }
+    ensures fit { IfSome result IsFormRefusal }
 {
     if name == b"Expr TooLong".as_slice() {
         return Some(Refusal::Expr(ExprFault::TooLong));
@@ -148,7 +119,8 @@ fn fault_refusal(name: &[u8]) -> Option<Refusal>
 
 #[tactic(auto, unfolding(crate::specs::Reads::blocked_at))]
 fn blocked_refusal(alloc: Global, name: &[u8]) -> Result<Option<Refusal>, NoMemory>
-    ensures { IfOk result (λ refusal. refusal ≡ blocked_at name.now) }
+    ensures read { IfOk result (λ refusal. refusal ≡ blocked_at strict name.now) }
+    ensures fit { IfOk result (λ refusal. IfSome refusal IsFormRefusal) }
 {
     match after(name, b"Blocked ") {
         Some(quote) => match quoted_path(alloc, quote)? {
@@ -159,10 +131,11 @@ fn blocked_refusal(alloc: Global, name: &[u8]) -> Result<Option<Refusal>, NoMemo
     }
 }
 
-/// The refusal of a number and a name, which must agree.
+/// The refusal of a number, and of a name where it carries something.
 #[tactic(auto, unfolding(crate::specs::Reads::refusal_at))]
 fn refusal(alloc: Global, number: u64, name: &[u8]) -> Result<Option<Refusal>, NoMemory>
-    ensures { IfOk result (λ refusal. refusal ≡ refusal_at number name.now) }
+    ensures read { IfOk result (λ refusal. refusal ≡ refusal_at strict number name.now) }
+    ensures fit { IfOk result (λ refusal. IfSome refusal IsFormRefusal) }
 {
     if number == 6 {
         return blocked_refusal(alloc, name);
@@ -170,12 +143,13 @@ fn refusal(alloc: Global, number: u64, name: &[u8]) -> Result<Option<Refusal>, N
     if number == 10 {
         return Ok(fault_refusal(name));
     }
-    Ok(plain_refusal(number, name))
+    Ok(plain_of(number))
 }
 
 #[tactic(auto, unfolding(crate::specs::Reads::stop_at))]
 fn stop(alloc: Global, bytes: &[u8]) -> Result<Option<End>, NoMemory>
-    ensures { IfOk result (λ end. end ≡ stop_at bytes.now) }
+    ensures read { IfOk result (λ end. end ≡ stop_at strict bytes.now) }
+    ensures fit { IfOk result (λ end. IfSome end IsFormEnd) }
 {
     let Some((command, rest)) = small_field(bytes, b"stopped ") else {
         return Ok(None);
@@ -195,7 +169,8 @@ fn stop(alloc: Global, bytes: &[u8]) -> Result<Option<End>, NoMemory>
 /// How a transaction ended.
 #[tactic(auto, unfolding(crate::specs::Reads::end_at))]
 pub(crate) fn end(alloc: Global, bytes: &[u8]) -> Result<Option<End>, NoMemory>
-    ensures { IfOk result (λ end. end ≡ end_at bytes.now) }
+    ensures read { IfOk result (λ end. end ≡ end_at strict bytes.now) }
+    ensures fit { IfOk result (λ end. IfSome end IsFormEnd) }
 {
     if bytes == b"done".as_slice() {
         return Ok(Some(End::Done));

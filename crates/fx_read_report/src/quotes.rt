@@ -1,7 +1,7 @@
 //! Bytes between quotation marks.
 ghost use Rattle.std.specs.Prelude.{◌≡◌, ◌<◌, IfOk, IfSome};
 ghost use Rattle.std.specs.Option.{option_map};
-ghost use Rattle.fx_read_report.specs.Quotes.{digit_value, is_short, plain_step, escape_step, high_step, low_step, step, scan, unquoted, IsPlace, GoesToPlace};
+ghost use Rattle.fx_read_report.specs.Quotes.{digit_value, plain_step, escape_step, high_step, low_step, step, scan, unquoted, IsPlace, GoesToPlace};
 
 use fx_base::NoMemory;
 use std::alloc::Global;
@@ -49,19 +49,6 @@ fn digit_value(digit: u8) -> Option<u8>
 }
 
 #[tactic(auto, using(std::proofs::lemmas::Bool::Decides::nat_tests))]
-fn is_short(byte: u8) -> bool
-    ensures { result ≡ is_short byte }
-{
-    if byte == b'\n' {
-        return true;
-    }
-    if byte < b' ' {
-        return false;
-    }
-    byte <= b'~'
-}
-
-#[tactic(auto, using(std::proofs::lemmas::Bool::Decides::nat_tests))]
 fn plain_step(byte: u8) -> Step
     ensures value { result ≡ plain_step byte }
     ensures within { GoesToPlace result }
@@ -105,14 +92,7 @@ fn low_step(high: u8, digit: Option<u8>) -> Step
     ensures within { GoesToPlace result }
 {
     match digit {
-        Some(low) => {
-            let byte = 16 * high + low;
-            if is_short(byte) {
-                Step::Bad
-            } else {
-                Step::Byte(byte)
-            }
-        }
+        Some(low) => Step::Byte(16 * high + low),
         None => Step::Bad,
     }
 }

@@ -2,7 +2,7 @@
 ghost use Rattle.std.specs.Prelude.{◌≡◌, IfOk, OnOk};
 ghost use Rattle.fx_expr.specs.Views.{tree_of};
 ghost use Rattle.fx_read_report.specs.Lines.{line_of};
-ghost use Rattle.fx_read_report.specs.Stages.{advanced, allows, is_ended, may_follow, printed, start, counts, ends, enters, is_headed, is_start, prints, repeats, state_of};
+ghost use Rattle.fx_read_report.specs.Stages.{advanced, allows, counts, ends, enters, is_ended, is_headed, is_start, may_follow, printed, prints, repeats, start, state_of};
 
 use crate::lines::Line;
 use fx_base::NoMemory;

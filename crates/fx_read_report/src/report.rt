@@ -50,11 +50,16 @@ fn feed_in(bytes: &[u8]) -> Option<usize>
 }
 
 /// Takes the line that the bytes are, if they are one that may follow. They lack the line feed.
-fn take_text(alloc: Global, text: &[u8], reading: &mut Reading) -> Result<bool, NoMemory>
+fn take_text(
+    alloc: Global,
+    text: &[u8],
+    out: &mut Vec<u8>,
+    reading: &mut Reading,
+) -> Result<bool, NoMemory>
     requires { IsState (state_of reading.old) }
     ensures { IfOk result (TakesText (state_of reading.old) text.now (state_of reading.new)) }
 {
-    let Some(line) = read_line(alloc, text)? else {
+    let Some(line) = read_line(alloc, text, out)? else {
         return Ok(false);
     };
     if !reading.allows(&line) {
@@ -73,10 +78,11 @@ pub fn read_report(alloc: Global, bytes: &[u8]) -> Result<Printed, ReportFault>
     ensures cause { IfErr result (ReportCause bytes.now) }
 {
     let mut reading = Reading::new(alloc);
+    let mut out = Vec::new(alloc);
     let mut rest = bytes;
     let mut number = 1;
     'reading: while let Some(end) = feed_in(rest) {
-        if !take_text(alloc, &rest[..end], &mut reading)? {
+        if !take_text(alloc, &rest[..end], &mut out, &mut reading)? {
             return Err(ReportFault::BadLine(number));
         }
         rest = &rest[end + 1..];

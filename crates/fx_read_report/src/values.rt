@@ -1,10 +1,10 @@
 //! Printed values at the front of bytes.
-ghost use Rattle.std.specs.Prelude.{◌≡◌, ℕ, List, ◌++◌, suc, length, map, IfOk, IfSome, IsTrue, ◌↔◌};
+ghost use Rattle.std.specs.Prelude.{◌≡◌, true, length, map, IfOk, IfSome};
 ghost use Rattle.std.specs.List.{zip};
 ghost use Rattle.std.specs.Option.{option_map};
 ghost use Rattle.fx_expr.specs.Views.{tree_of};
-ghost use Rattle.fx_read_report.specs.Numbers.{EndsDigits};
-ghost use Rattle.fx_read_report.specs.Values.{ascends, piece_at, FindsEnded, FindsValue, FindsBefore, FindsText, FindsTexts, FindsRow, FindsRows, IsWholeValue, kind_of, kind_at, value_found};
+ghost use Rattle.fx_read_report.specs.Limits.{ascends, strict};
+ghost use Rattle.fx_read_report.specs.Values.{IsPrinted, alone, before, integer_value, kind_at, kind_of, names_value, nothing_value, pair_value, piece_at, pieces_at, row_at, some_value, table_value, text_at, text_value, truth_value, value_at, value_found};
 
 use crate::numbers::{after, leading_integer};
 use crate::quotes::unquoted;
@@ -60,23 +60,23 @@ fn kind_at(bytes: &[u8]) -> Kind
 
 /// The text of a quote at the front.
 fn text(alloc: Global, bytes: &[u8]) -> Result<Option<(Text, &[u8])>, NoMemory>
-    ensures { IfOk result (λ found. FindsText bytes.now (option_map (λ r. (r.0, r.1.now)) found)) }
+    ensures { IfOk result
+        (λ found. option_map (λ r. (r.0, r.1.now)) found ≡ text_at strict bytes.now) }
 {
     match unquoted(alloc, bytes)? {
         Some((text, rest)) => {
-            if text.len() > TEXT_LIMIT {
-                return Ok(None);
+            if text.len() <= TEXT_LIMIT {
+                Ok(Some((Text::from_vec(text), rest)))
+            } else {
+                Ok(None)
             }
-            Ok(Some((Text::from_vec(text), rest)))
         }
         None => Ok(None),
     }
 }
 
 fn text_value(alloc: Global, bytes: &[u8]) -> Result<Option<(Value, &[u8])>, NoMemory>
-    requires { kind_at bytes.now ≡ Kind.Text }
-    ensures { IfOk result
-        (λ found. (levels : ℕ) → FindsValue (suc levels) bytes.now (value_found found)) }
+    ensures { IfOk result (λ found. value_found found ≡ text_value strict bytes.now) }
 {
     match text(alloc, bytes)? {
         Some((text, rest)) => Ok(Some((Value::Str(text), rest))),
@@ -85,8 +85,7 @@ fn text_value(alloc: Global, bytes: &[u8]) -> Result<Option<(Value, &[u8])>, NoM
 }
 
 fn integer_value(bytes: &[u8]) -> Option<(Value, &[u8])>
-    requires { kind_at bytes.now ≡ Kind.Integer }
-    ensures { (levels : ℕ) → FindsValue (suc levels) bytes.now (value_found result) }
+    ensures { value_found result ≡ integer_value bytes.now }
 {
     match leading_integer(bytes) {
         Some((integer, rest)) => Some((Value::Int(integer), rest)),
@@ -95,8 +94,7 @@ fn integer_value(bytes: &[u8]) -> Option<(Value, &[u8])>
 }
 
 fn truth_value(bytes: &[u8]) -> Option<(Value, &[u8])>
-    requires { kind_at bytes.now ≡ Kind.Truth }
-    ensures { (levels : ℕ) → FindsValue (suc levels) bytes.now (value_found result) }
+    ensures { value_found result ≡ truth_value bytes.now }
 {
     if let Some(rest) = after(bytes, b"true") {
         return Some((Value::Bool(true), rest));
@@ -108,8 +106,7 @@ fn truth_value(bytes: &[u8]) -> Option<(Value, &[u8])>
 }
 
 fn nothing_value(bytes: &[u8]) -> Option<(Value, &[u8])>
-    requires { kind_at bytes.now ≡ Kind.Nothing }
-    ensures { (levels : ℕ) → FindsValue (suc levels) bytes.now (value_found result) }
+    ensures { value_found result ≡ nothing_value bytes.now }
 {
     match after(bytes, b"none") {
         Some(rest) => Some((Value::Nothing, rest)),
@@ -128,52 +125,31 @@ fn piece_at(bytes: &[u8], first: bool) -> Option<&[u8]>
     }
 }
 
-/// Whether no digit stands at the front.
-fn ends_digits(bytes: &[u8]) -> bool
-    ensures { IsTrue result ↔ EndsDigits bytes.now }
-{
-    match bytes {
-        [first, ..] => !first.is_ascii_digit(),
-        [] => true,
-    }
-}
-
-/// A text of a set. No digit stands behind it, but a comma or a closing brace.
-fn text_before(alloc: Global, bytes: &[u8]) -> Result<Option<(Text, &[u8])>, NoMemory>
-    ensures { IfOk result (λ found. FindsEnded bytes.now (option_map (λ r. (r.0, r.1.now)) found)) }
-{
-    match text(alloc, bytes)? {
-        Some((text, rest)) => {
-            if ends_digits(rest) {
-                Ok(Some((text, rest)))
-            } else {
-                Ok(None)
-            }
-        }
-        None => Ok(None),
-    }
-}
-
-/// The texts of a set, up to its closing brace.
-fn texts(alloc: Global, bytes: &[u8]) -> Result<Option<(Vec<Text>, &[u8])>, NoMemory>
-    ensures { IfOk result
-        (λ found. FindsTexts bytes.now (option_map (λ r. (r.0.items, r.1.now)) found)) }
+/// The texts of a set, fewer than so many, up to its closing brace.
+fn texts(
+    alloc: Global,
+    bytes: &[u8],
+    most: usize,
+) -> Result<Option<(Vec<Text>, &[u8])>, NoMemory>
+    ensures { IfOk result (λ found. option_map (λ r. (r.0.items, r.1.now)) found
+        ≡ pieces_at (text_at strict) 125 most true bytes.now) }
 {
     let mut texts = Vec::new(alloc);
     let mut rest = bytes;
-    'reading: loop {
+    for i in 0..most {
         if let Some(end) = after(rest, b"}") {
             return Ok(Some((texts, end)));
         }
-        let Some(start) = piece_at(rest, texts.as_slice().is_empty()) else {
+        let Some(start) = piece_at(rest, i == 0) else {
             return Ok(None);
         };
-        let Some((text, behind)) = text_before(alloc, start)? else {
+        let Some((text, behind)) = text(alloc, start)? else {
             return Ok(None);
         };
         texts.push(text)?;
         rest = behind;
     }
+    Ok(None)
 }
 
 /// Whether each text is below the next.
@@ -192,14 +168,12 @@ fn is_ascending(texts: &[Text]) -> bool
 }
 
 fn names_value(alloc: Global, bytes: &[u8]) -> Result<Option<(Value, &[u8])>, NoMemory>
-    requires { kind_at bytes.now ≡ Kind.Names }
-    ensures { IfOk result
-        (λ found. (levels : ℕ) → FindsValue (suc levels) bytes.now (value_found found)) }
+    ensures { IfOk result (λ found. value_found found ≡ names_value strict bytes.now) }
 {
     let Some(inner) = after(bytes, b"{") else {
         return Ok(None);
     };
-    let Some((texts, rest)) = texts(alloc, inner)? else {
+    let Some((texts, rest)) = texts(alloc, inner, bytes.len())? else {
         return Ok(None);
     };
     if !is_ascending(&texts) {
@@ -212,7 +186,7 @@ fn names_value(alloc: Global, bytes: &[u8]) -> Result<Option<(Value, &[u8])>, No
 /// The value at the front, which nests at most so deep, itself counted, and what stands behind it.
 #[cycle(value)]
 fn value(alloc: Global, bytes: &[u8], levels: u32) -> Result<Option<(Value, &[u8])>, NoMemory>
-    ensures { IfOk result (λ found. FindsValue levels bytes.now (value_found found)) }
+    ensures { IfOk result (λ found. value_found found ≡ value_at strict levels bytes.now) }
 {
     if levels == 0 {
         return Ok(None);
@@ -238,8 +212,8 @@ fn value_before<'a>(
     levels: u32,
     words: &[u8],
 ) -> Result<Option<(Value, &'a [u8])>, NoMemory>
-    requires { (rest : List ℕ) → EndsDigits (words.now ++ rest) }
-    ensures { IfOk result (λ found. FindsBefore levels words.now bytes.now (value_found found)) }
+    ensures { IfOk result
+        (λ found. value_found found ≡ before (value_at strict levels) words.now bytes.now) }
 {
     let Some((value, rest)) = value(alloc, bytes, levels)? else {
         return Ok(None);
@@ -252,8 +226,8 @@ fn value_before<'a>(
 
 #[cycle(value)]
 fn pair_value(alloc: Global, bytes: &[u8], levels: u32) -> Result<Option<(Value, &[u8])>, NoMemory>
-    requires { kind_at bytes.now ≡ Kind.Pair }
-    ensures { IfOk result (λ found. FindsValue (suc levels) bytes.now (value_found found)) }
+    ensures { IfOk result
+        (λ found. value_found found ≡ pair_value (value_at strict levels) bytes.now) }
 {
     let Some(inner) = after(bytes, b"<") else {
         return Ok(None);
@@ -270,8 +244,8 @@ fn pair_value(alloc: Global, bytes: &[u8], levels: u32) -> Result<Option<(Value,
 
 #[cycle(value)]
 fn some_value(alloc: Global, bytes: &[u8], levels: u32) -> Result<Option<(Value, &[u8])>, NoMemory>
-    requires { kind_at bytes.now ≡ Kind.Some }
-    ensures { IfOk result (λ found. FindsValue (suc levels) bytes.now (value_found found)) }
+    ensures { IfOk result
+        (λ found. value_found found ≡ some_value (value_at strict levels) bytes.now) }
 {
     let Some(inner) = after(bytes, b"some(") else {
         return Ok(None);
@@ -282,11 +256,11 @@ fn some_value(alloc: Global, bytes: &[u8], levels: u32) -> Result<Option<(Value,
     Ok(Some((Value::Some(Box::new(alloc, value)?), rest)))
 }
 
-/// The row at the front. No digit stands behind it, but a comma or the closing bracket.
+/// The row at the front.
 #[cycle(value)]
 fn row(alloc: Global, bytes: &[u8], levels: u32) -> Result<Option<(Text, Value, &[u8])>, NoMemory>
-    ensures { IfOk result (λ found.
-        FindsRow levels bytes.now (option_map (λ r. ((r.0, tree_of r.1), r.2.now)) found)) }
+    ensures { IfOk result (λ found. option_map (λ r. ((r.0, tree_of r.1), r.2.now)) found
+        ≡ row_at strict (value_at strict levels) bytes.now) }
 {
     let Some((key, rest)) = text(alloc, bytes)? else {
         return Ok(None);
@@ -294,35 +268,33 @@ fn row(alloc: Global, bytes: &[u8], levels: u32) -> Result<Option<(Text, Value, 
     let Some(start) = after(rest, b" = ") else {
         return Ok(None);
     };
-    let Some((value, behind)) = value(alloc, start, levels)? else {
-        return Ok(None);
-    };
-    if ends_digits(behind) {
-        Ok(Some((key, value, behind)))
-    } else {
-        Ok(None)
+    match value(alloc, start, levels)? {
+        Some((value, behind)) => Ok(Some((key, value, behind))),
+        None => Ok(None),
     }
 }
 
-/// The texts and the values of a table's rows, up to its closing bracket.
+/// The texts and the values of a table's rows, fewer than so many, up to its closing bracket.
 #[cycle(value)]
 fn rows(
     alloc: Global,
     bytes: &[u8],
     levels: u32,
+    most: usize,
 ) -> Result<Option<(Vec<Text>, Vec<Value>, &[u8])>, NoMemory>
-    ensures found { IfOk result (λ found. FindsRows levels bytes.now
-        (option_map (λ r. (zip r.0.items (map tree_of r.1.items), r.2.now)) found)) }
+    ensures found { IfOk result
+        (λ found. option_map (λ r. (zip r.0.items (map tree_of r.1.items), r.2.now)) found
+        ≡ pieces_at (row_at strict (value_at strict levels)) 93 most true bytes.now) }
     ensures sides { IfOk result (λ found. IfSome found (λ r. length r.1.items ≡ length r.0.items)) }
 {
     let mut keys = Vec::new(alloc);
     let mut values = Vec::new(alloc);
     let mut rest = bytes;
-    'reading: loop {
+    for i in 0..most {
         if let Some(end) = after(rest, b"]") {
             return Ok(Some((keys, values, end)));
         }
-        let Some(start) = piece_at(rest, keys.as_slice().is_empty()) else {
+        let Some(start) = piece_at(rest, i == 0) else {
             return Ok(None);
         };
         let Some((key, value, behind)) = row(alloc, start, levels)? else {
@@ -332,17 +304,18 @@ fn rows(
         values.push(value)?;
         rest = behind;
     }
+    Ok(None)
 }
 
 #[cycle(value)]
 fn table_value(alloc: Global, bytes: &[u8], levels: u32) -> Result<Option<(Value, &[u8])>, NoMemory>
-    requires { kind_at bytes.now ≡ Kind.Table }
-    ensures { IfOk result (λ found. FindsValue (suc levels) bytes.now (value_found found)) }
+    ensures { IfOk result
+        (λ found. value_found found ≡ table_value strict (value_at strict levels) bytes.now) }
 {
     let Some(inner) = after(bytes, b"[") else {
         return Ok(None);
     };
-    let Some((keys, values, rest)) = rows(alloc, inner, levels)? else {
+    let Some((keys, values, rest)) = rows(alloc, inner, levels, bytes.len())? else {
         return Ok(None);
     };
     if !is_ascending(&keys) {
@@ -352,20 +325,18 @@ fn table_value(alloc: Global, bytes: &[u8], levels: u32) -> Result<Option<(Value
     Ok(Some((Value::Table(Keyed::from_parts(keys, values)), rest)))
 }
 
-/// The value whose printed form the bytes are: `None` where they are that of no value. It nests at most
-/// [`VALUE_LEVELS`] deep, itself counted, its texts have at most [`TEXT_LIMIT`] bytes, and its sets and tables ascend.
+/// The value that the bytes can be the printed form of, and no other. It nests at most [`VALUE_LEVELS`] deep, itself
+/// counted, its texts have at most [`TEXT_LIMIT`] bytes, and its sets and tables ascend. Some other bytes are read as a
+/// value too: to tell, print it again and compare.
 pub(crate) fn read_value(alloc: Global, bytes: &[u8]) -> Result<Option<Value>, NoMemory>
-    ensures { IfOk result
-        (λ found. IsWholeValue VALUE_LEVELS bytes.now (option_map tree_of found)) }
+    ensures read { IfOk result
+        (λ found. option_map tree_of found ≡ alone (value_at strict VALUE_LEVELS bytes.now)) }
+    ensures fit { IfOk result
+        (λ found. IfSome found (λ value. IsPrinted VALUE_LEVELS (tree_of value))) }
 {
     match value(alloc, bytes, VALUE_LEVELS)? {
-        Some((value, rest)) => {
-            if rest.is_empty() {
-                Ok(Some(value))
-            } else {
-                Ok(None)
-            }
-        }
+        Some((value, [])) => Ok(Some(value)),
+        Some((_, [_, ..])) => Ok(None),
         None => Ok(None),
     }
 }

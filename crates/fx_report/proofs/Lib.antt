@@ -1,5 +1,5 @@
-pub mod Cancel
-pub mod CancelReport
+pub mod OneLine
 pub mod Rows
+pub mod Spelling
 pub mod Steps
 pub mod Logs

@@ -1,7 +1,6 @@
 //! The printed forms: values, events, the report of a run, and views.
 #![tactic(auto)]
 
-pub mod laws;
 mod lines;
 mod printed;
 mod quotes;
@@ -9,6 +8,8 @@ mod values;
 mod views;
 
 pub use fx_board::{Retries, Retry};
-pub use lines::{event_lines, printed_report, report, value_line};
+pub use lines::{add_end, add_field, event_lines, printed_report, report, value_line};
 pub use printed::{PrintedEntries, PrintedEntry, View, Viewed};
+pub use quotes::{add_bytes, add_quoted_path};
+pub use values::add_value;
 pub use views::views_text;

@@ -17,7 +17,7 @@ use std::alloc::Global;
 
 /// Adds the words and the number after them.
 #[tactic(auto, unfolding(crate::specs::Report::field))]
-pub(crate) fn add_field(out: &mut Vec<u8>, words: &[u8], number: u64) -> Result<(), NoMemory>
+pub fn add_field(out: &mut Vec<u8>, words: &[u8], number: u64) -> Result<(), NoMemory>
     ensures { OnOk result (out.new.items ≡ out.old.items ++ report.field words.now number) }
 {
     add_bytes(out, words)?;
@@ -79,7 +79,8 @@ fn add_stop(out: &mut Vec<u8>, command: u32, refusal: &Refusal) -> Result<(), No
     add_refusal(out, refusal)
 }
 
-pub(crate) fn add_end(out: &mut Vec<u8>, end: &End) -> Result<(), NoMemory>
+/// Adds how a transaction ended.
+pub fn add_end(out: &mut Vec<u8>, end: &End) -> Result<(), NoMemory>
     ensures { OnOk result (out.new.items ≡ out.old.items ++ report.end_text end.now) }
 {
     match end {

@@ -1,4 +1,4 @@
-ghost use Rattle.std.specs.Prelude.{◌≡◌, ◌<◌, ◌++◌, [], ◌∷◌, false, OnOk};
+ghost use Rattle.std.specs.Prelude.{◌≡◌, ◌<◌, ◌≤◌, ◌++◌, [], ◌∷◌, true, false, length, take, OnOk};
 ghost use Rattle.std.specs.Fmt.{decimal, digit_glyph};
 ghost use Rattle.std.specs.List.{flat_map};
 ghost use Rattle.fx_store.specs.Names.{path_text};
@@ -9,7 +9,7 @@ use fx_store::{Name, Path};
 use itoa::Buffer;
 
 /// Adds the bytes at the end of the text.
-pub(crate) fn add_bytes(out: &mut Vec<u8>, bytes: &[u8]) -> Result<(), NoMemory>
+pub fn add_bytes(out: &mut Vec<u8>, bytes: &[u8]) -> Result<(), NoMemory>
     ensures { OnOk result (out.new.items ≡ out.old.items ++ bytes.now) }
 {
     out.extend_from_slice(bytes)?;
@@ -17,7 +17,7 @@ pub(crate) fn add_bytes(out: &mut Vec<u8>, bytes: &[u8]) -> Result<(), NoMemory>
 }
 
 /// Adds a number in decimal digits, without leading zeros.
-pub(crate) fn add_number(out: &mut Vec<u8>, number: u64) -> Result<(), NoMemory>
+pub fn add_number(out: &mut Vec<u8>, number: u64) -> Result<(), NoMemory>
     ensures { OnOk result (out.new.items ≡ out.old.items ++ decimal number) }
 {
     let mut buffer = Buffer::new();
@@ -59,13 +59,46 @@ fn add_spelled(out: &mut Vec<u8>, byte: u8) -> Result<(), NoMemory>
     }
 }
 
+/// Whether a byte is spelled as itself between quotation marks.
+#[tactic(auto, using(std::proofs::lemmas::Bool::Decides::nat_tests), unfolding(crate::specs::Print::spelled))]
+fn is_plain(byte: u8) -> bool
+    ensures { result ≡ true → spelled byte ≡ byte ∷ [] }
+{
+    match byte {
+        b'"' => false,
+        b'\\' => false,
+        b' '..=b'~' => true,
+        _ => false,
+    }
+}
+
+/// How many bytes at the front are spelled as themselves.
+fn plain_len(bytes: &[u8]) -> usize
+    ensures within { result ≤ length bytes.now }
+    ensures plain { flat_map spelled (take result bytes.now) ≡ take result bytes.now }
+{
+    for (at, byte) in bytes.iter().enumerate() {
+        if !is_plain(*byte) {
+            return at;
+        }
+    }
+    bytes.len()
+}
+
+/// Adds bytes as they are spelled: those that are spelled as themselves in runs, and each other by itself.
 pub(crate) fn add_all_spelled(out: &mut Vec<u8>, bytes: &[u8]) -> Result<(), NoMemory>
     ensures { OnOk result (out.new.items ≡ out.old.items ++ flat_map spelled bytes.now) }
 {
-    for byte in bytes {
-        add_spelled(out, *byte)?;
+    let mut rest = bytes;
+    'adding: loop {
+        let plain = plain_len(rest);
+        add_bytes(out, &rest[..plain])?;
+        if plain == rest.len() {
+            return Ok(());
+        }
+        add_spelled(out, rest[plain])?;
+        rest = &rest[plain + 1..];
     }
-    Ok(())
 }
 
 /// Adds the bytes between quotation marks.
@@ -100,7 +133,7 @@ fn add_spelled_names(out: &mut Vec<u8>, path: &Path) -> Result<(), NoMemory>
 }
 
 /// Adds the text of a path between quotation marks.
-pub(crate) fn add_quoted_path(out: &mut Vec<u8>, path: &Path) -> Result<(), NoMemory>
+pub fn add_quoted_path(out: &mut Vec<u8>, path: &Path) -> Result<(), NoMemory>
     ensures { OnOk result (out.new.items ≡ out.old.items ++ quote (path_text path.now)) }
 {
     if path.len() == 0 {

@@ -57,7 +57,7 @@ fn add_names(out: &mut Vec<u8>, names: &TextSet) -> Result<(), NoMemory>
 
 /// Adds the printed form of a value.
 #[cycle(value)]
-pub(crate) fn add_value(out: &mut Vec<u8>, value: &Value) -> Result<(), NoMemory>
+pub fn add_value(out: &mut Vec<u8>, value: &Value) -> Result<(), NoMemory>
     ensures { OnOk result (out.new.items ≡ out.old.items ++ value_text (tree_of value.now)) }
 {
     match value {

@@ -1,7 +1,8 @@
 use Rattle.std.proofs.Common.{sym, ◌∙◌, ◌+◌}
-use Rattle.fx_read_report.proofs.Trees.{empty_is, some_is}
+use Rattle.std.proofs.lemmas.List.{take_rest}
+use Rattle.fx_read_report.proofs.Printing.{empty_is, some_is}
 use Rattle.fx_read_report.specs.Stages.{state_of}
-use Rattle.fx_read_report.proofs.Reporting.{bad_end, bad_rest, bad_text, reached_more, reached_none, read_as, rest_is, whole_report}
+use Rattle.fx_read_report.proofs.Reporting.{bad_end, bad_rest, bad_text, reached_more, reached_none, read_as, whole_report}
 use Rattle.fx_read_report.proofs.report.read_report.Goals as goal
 
 pub reading-init : goal.reading-init
@@ -13,7 +14,7 @@ returns-then-not-branch-clause-cause c =
 
 pub reading-preserved : goal.reading-preserved
 reading-preserved c =
-    reached_more c.args.bytes.now (state_of c.reading.reading) (state_of c.take_text.new.reading) c.reading.rest.now _ c.reading.number c.in-Some.end c.reading.invariant c.in-Some.ensures (rw c.if-not-branch.false at c.in_ok-take_text.ensures) (rest_is (c.in-Some.end + 1) c.reading.rest.now)
+    reached_more c.args.bytes.now (state_of c.reading.reading) (state_of c.take_text.new.reading) c.reading.rest.now _ c.reading.number c.in-Some.end c.reading.invariant c.in-Some.ensures (rw c.if-not-branch.false at c.in_ok-take_text.ensures) (take_rest c.reading.rest.now (c.in-Some.end + 1))
 
 pub returns-then-not-is_empty-clause-cause : goal.returns-then-not-is_empty-clause-cause
 returns-then-not-is_empty-clause-cause c =

@@ -1,5 +1,7 @@
-use Rattle.std.proofs.Common.{◌≡◌, ◌+◌, ◌*◌, length, map}
-use Rattle.fx_read_report.proofs.Loops.{Reading}
+use Rattle.std.proofs.Common.{◌≡◌, ◌+◌, ◌*◌, length}
+use Rattle.fx_read_report.specs.Limits.{strict}
+use Rattle.fx_read_report.specs.Values.{row_at, value_at}
+use Rattle.fx_read_report.proofs.ValueLoops.{Going, sides}
 use Rattle.fx_read_report.proofs.values.+value.Given as goal
 
 abbrev pub decreases-value : goal.decreases-value
@@ -23,8 +25,8 @@ decreases-some_value l = 5 * l.levels + 2
 abbrev pub decreases-table_value : goal.decreases-table_value
 decreases-table_value l = 5 * l.levels + 3
 
-abbrev pub invariant-rows-reading : goal.invariant-rows-reading
-invariant-rows-reading l = Reading l.levels l.bytes l.keys.items l.values.items l.rest
-
-abbrev pub decreases-rows-reading : goal.decreases-rows-reading
-decreases-rows-reading l = length l.rest
+abbrev pub invariant-rows-loop-i : goal.invariant-rows-loop-i
+invariant-rows-loop-i l = record {
+  going : Going (row_at strict (value_at strict l.levels)) 93 l.most l.bytes l.i (sides l.keys.items l.values.items) l.rest;
+  same : length l.values.items ≡ length l.keys.items;
+}

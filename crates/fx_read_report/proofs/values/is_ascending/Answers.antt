@@ -1,5 +1,5 @@
 use Rattle.std.proofs.Common.{sym, ◌∙◌, arith}
-use Rattle.fx_read_report.proofs.Loops.{ascends_short}
+use Rattle.fx_read_report.proofs.ValueLoops.{ascends_short}
 use Rattle.fx_read_report.proofs.values.is_ascending.Goals as goal
 
 pub returns : goal.returns

@@ -1,5 +1,5 @@
 use Rattle.std.proofs.Common.{◌≡◌, length}
-use Rattle.fx_read_report.specs.Values.{ascends}
+use Rattle.fx_read_report.specs.Limits.{ascends}
 use Rattle.fx_read_report.proofs.values.is_ascending.Given as goal
 
 abbrev pub invariant-rising : goal.invariant-rising

@@ -1,10 +1,7 @@
-use Rattle.std.proofs.Common.{length}
-use Rattle.fx_read_report.proofs.Pieces.{Front}
-use Rattle.fx_read_report.proofs.Cancels.{text_listing}
+use Rattle.fx_read_report.specs.Limits.{strict}
+use Rattle.fx_read_report.specs.Values.{text_at}
+use Rattle.fx_read_report.proofs.ValueLoops.{Going}
 use Rattle.fx_read_report.proofs.values.texts.Given as goal
 
-abbrev pub invariant-reading : goal.invariant-reading
-invariant-reading l = Front text_listing l.bytes l.texts.items l.rest
-
-abbrev pub decreases-reading : goal.decreases-reading
-decreases-reading l = length l.rest
+abbrev pub invariant-loop-i : goal.invariant-loop-i
+invariant-loop-i l = Going (text_at strict) 125 l.most l.bytes l.i l.texts.items l.rest

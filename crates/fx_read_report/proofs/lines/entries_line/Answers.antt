@@ -1,8 +1,0 @@
-use Rattle.fx_read_report.proofs.LineLaws.{entries_none, entries_some}
-use Rattle.fx_read_report.proofs.lines.entries_line.Goals as goal
-
-pub returns-in-Some : goal.returns-in-Some
-returns-in-Some c = entries_some c.args.text.now c.in-Some.number c.in-Some.ensures
-
-pub returns-in-None : goal.returns-in-None
-returns-in-None c = entries_none c.args.text.now c.requires c.in-None.ensures
