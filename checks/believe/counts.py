@@ -6,7 +6,7 @@ from typing import NamedTuple
 
 from believe.closure import Size, closure, size
 from believe.names import World
-from believe.plan import HEADLINE, TOP, TRACED, WATCHED
+from believe.plan import DONE, HEADLINE, TOP, TRACED, WATCHED
 
 _SHARED = (
     "fx_words.Job.job_of",
@@ -77,7 +77,7 @@ COMMANDS = (
     Command(
         "gen",
         (
-            "fx_command.Making.MakingRow",
+            "fx_command.Table.CommandRow",
             "fx_large.GenRows.gen_making",
             "fx_command.Out.WritesOut",
             "fx_command.Out.IsProperOut",
@@ -86,7 +86,7 @@ COMMANDS = (
     Command(
         "large",
         (
-            "fx_command.Making.MakingRow",
+            "fx_command.Table.CommandRow",
             "fx_large.LargeRows.large_making",
             "fx_command.Out.WritesOut",
             "fx_command.Out.IsProperOut",
@@ -104,9 +104,9 @@ def counts(world: World) -> list[str]:
     told = [f"{'':26}{'definitions':>12}{'specs':>8}{'src':>6}   beyond run: definitions, lines"]
     top = world.function(*TOP)
     told.append(_line(top, size(world, closure(world, [top]))))
-    plain = closure(world, [HEADLINE], [WATCHED]) - {WATCHED}
+    plain = closure(world, [DONE, HEADLINE], [WATCHED]) - {WATCHED}
     told.append(_line("status 0 of run", size(world, plain)))
-    without = closure(world, [HEADLINE], [WATCHED, TRACED]) - {WATCHED, TRACED}
+    without = closure(world, [DONE, HEADLINE], [WATCHED, TRACED]) - {WATCHED, TRACED}
     told.append(_line("without the machine", size(world, without)))
     run: set[str] = set()
     for command in COMMANDS:

@@ -11,7 +11,8 @@ from typing import NamedTuple
 
 WATCHED = "fx_watched.Outcome.IsWatchedAs"
 TRACED = "fx_run_command.Outcome.IsTracedAs"
-HEADLINE = "fx_run_command.Rows.IsDone"
+DONE = "fx_command.Table.IsDone"
+HEADLINE = "fx_run_command.Rows.run_making"
 TOP = ("fx_top", "top")
 
 
@@ -54,6 +55,7 @@ SECTIONS = (
         " and all else of the host is as before. The other sections say what these words mean.",
         (),
         (
+            DONE,
             HEADLINE,
             "fx_run_command.Outcome.IsOutcome",
             "fx_inputs.Inputs.HasBase",
@@ -266,7 +268,7 @@ SECTIONS = (
     Section(
         "What is left of `run`, status 0",
         "With these the definitions of status 0 of `run` are complete.",
-        (HEADLINE,),
+        (DONE, HEADLINE),
         ("fx_run_command.Outcome.IsBehindSomeTrace",),
     ),
     Section(
@@ -283,18 +285,20 @@ SECTIONS = (
     ),
     Section(
         "The other statuses of `run`",
-        "This is the table of all statuses of `run`, `trace` and `watch`.",
+        "This is the table of all statuses of a command, with what `run`, `trace` and `watch` put into"
+        " it.",
         (
             "fx_run_command.Rows.RunRow",
             "fx_run_command.Rows.RunAsks",
             "fx_run_command.Rows.IsProperRun",
         ),
-        ("fx_run_command.Rows.RunRow",),
+        ("fx_command.Table.CommandRow", "fx_run_command.Rows.run_command"),
     ),
     Section(
         "`show`",
         "It is printed whether the folder has a value by the description, and which.",
         ("fx_show.Rows.ShowRow", "fx_show.Shows.IsProperShow", "fx_show.Rows.ShowAsks"),
+        ("fx_command.Query.QueryRow",),
     ),
     Section(
         "`views`",
@@ -348,7 +352,7 @@ SECTIONS = (
         "`gen` writes a case that a number gives. `large` runs that case and sums up what came out.",
         (
             "fx_large.GenRows.gen_making",
-            "fx_command.Making.MakingRow",
+            "fx_command.Table.making_only",
             "fx_large.LargeRows.large_making",
             "fx_command.Out.WritesOut",
         ),

@@ -1,5 +1,5 @@
 -- The rows of the table of statuses for `audit`, from what its stages ensure.
-use Rattle.std.proofs.Common.{◌≡◌, ◌⊎◌, inl, inr, ℕ, ◌≤◌, ◌<◌, false, List, ◌++◌, take, length, Option, Some, None, Result, Ok, Err, IfOk, IfErr, IfSome, IsSomeAnd, refl, subst, arith}
+use Rattle.std.proofs.Common.{◌≡◌, ◌⊎◌, inl, inr, ℕ, ◌≤◌, ◌<◌, false, List, length, Option, Some, None, Result, Ok, Err, IfOk, IfErr, IfSome, IsSomeAnd, refl, subst, arith}
 use Rattle.std.specs.Prelude.{◌↔◌}
 use Rattle.fx_base.specs.Causes.{Rose}
 use Rattle.fx_outside.specs.declared.kind.HostFault.{HostFault}
@@ -7,24 +7,28 @@ use Rattle.fx_outside.specs.declared.kind.HostFault.TheVariants as fails
 use Rattle.fx_outside.specs.Host.{HostView, ReadsOnly, FaultAt, HasFailed}
 use Rattle.fx_outside.specs.Sink.{SinkView}
 use Rattle.fx_outside.specs.Tree.{Tree, is_file_at, bytes_at}
-use Rattle.fx_outside.proofs.Views.{reads_then, fault_back}
-use Rattle.fx_folder.specs.Loads.{IsRefused}
+use Rattle.fx_outside.proofs.Views.{fault_back}
 use Rattle.fx_spec.specs.Order.{BaseTree}
 use Rattle.fx_command.specs.declared.status.Status.{Status}
 use Rattle.fx_command.specs.declared.status.Status.TheVariants as status
 use Rattle.fx_command.specs.declared.status.TextFault.TheVariants as fault
 use Rattle.fx_command.specs.StatusOf.{read_status}
-use Rattle.fx_command.proofs.Told.{if_some_map, if_some_both, some_and, same, grows_front, grows_all, cause_back, some_back, same_back}
-use Rattle.fx_inputs.specs.Inputs.{HasBase, HasInputs, CannotRead, IsFirstRefused, HasTexts}
-use Rattle.fx_inputs.specs.Reads.{ReadRow}
+use Rattle.fx_command.specs.Saved.{Prints, PrintsPart}
+use Rattle.fx_command.proofs.Queries as queries
+use Rattle.fx_command.proofs.Readings.{IsSteady, ends_within}
+use Rattle.fx_command.proofs.Told.{if_some_map, if_some_both, some_and, same, cause_back, some_back}
+use Rattle.fx_inputs.specs.Inputs.{HasBase, HasInputs, CannotRead, IsFirstRefused}
+use Rattle.fx_inputs.specs.Reads.{HasReadFault, ReadRow}
+use Rattle.fx_inputs.specs.Readings.{inputs_reading}
 use Rattle.fx_inputs.proofs.ReadRows.{read_fault_back}
+use Rattle.fx_inputs.proofs.Readings.{inputs_unread, inputs_steady}
 use Rattle.fx_audit.specs.Audits.{IsVerdictOn, IsTrueReport}
 use Rattle.fx_audit.specs.declared.verdict.Verdict.{Verdict}
 use Rattle.fx_audit.specs.declared.verdict.Verdict.TheVariants as verdict
 use Rattle.fx_audit_command.specs.declared.reading.TheConstants.{REPORT_LIMIT, REPORT_WORD}
 use Rattle.fx_words.specs.Job.{AuditJob}
 use Rattle.fx_audit_command.specs.Lines.{verdict_line}
-use Rattle.fx_audit_command.specs.Rows.{AuditEndsAs, AuditReadFault, AuditRow, CannotAudit, HasReport, IsAudited, IsAuditedInPart, IsAuditing, IsFirstRefusedOf}
+use Rattle.fx_audit_command.specs.Rows.{audit_query, AuditEndsAs, AuditReadFault, AuditRow, CannotAudit, HasReport, IsAuditing, IsFirstRefusedOf}
 use Rattle.fx_command.specs.Texts.{IsReadAt}
 
 -- ---- stages that only read
@@ -33,23 +37,23 @@ no_memory : (j : AuditJob) (host host' : HostView) → ReadsOnly host host' → 
 no_memory j host host' reads sink = same host host' sink reads
 
 -- what a run reads is not read, or is refused
-pub inputs_unread : (j : AuditJob) (host host' : HostView) (st : Status) → ReadsOnly host host' → ReadRow j.inputs host host' st → AuditEndsAs j host host' st
-inputs_unread j host host' status.Done reads row sink = absurd row
-inputs_unread j host host' status.Usage reads row sink = absurd row
-inputs_unread j host host' (status.TextRefused word cause) reads row sink =
-    (same host host' sink reads, if_some_map (λ t. IsFirstRefused t j.inputs word cause) (λ t. IsFirstRefusedOf t j word cause) host.told (λ t first. inl first) row)
-inputs_unread j host host' (status.FolderRefused cause) reads row sink = (same host host' sink reads, row)
-inputs_unread j host host' status.ReadFault reads (inl fault) sink = (same host host' sink reads, inl (inl fault))
-inputs_unread j host host' status.ReadFault reads (inr none) sink =
-    (same host host' sink reads, inr (cannot host.told none))
+pub not_read : (j : AuditJob) (host host' : HostView) (st : Status) → ReadsOnly host host' → ReadRow j.inputs host host' st → AuditEndsAs j host host' st
+not_read j host host' st reads row =
+    queries.not_read (audit_query j) host host' st reads
+    (ends_within (inputs_reading j.inputs) (audit_query j).reads host host' st (record {
+      refused = λ word cause row. if_some_map (λ t. IsFirstRefused t j.inputs word cause) (λ t. IsFirstRefusedOf t j word cause) host.told (λ t first. inl first) row;
+      unloaded = λ cause row. row;
+      failed = failed;
+      bad = λ place row. row;
+    }) (inputs_unread j.inputs host host' st row))
   where
     cannot : (o : Option Tree) → IsSomeAnd o (λ t. CannotRead t j.inputs) → IsSomeAnd o (λ t. CannotAudit t j)
     cannot None none = none
     cannot (Some t) none = inl none
-inputs_unread j host host' status.NotEmpty reads row sink = absurd row
-inputs_unread j host host' status.WriteFault reads row sink = absurd row
-inputs_unread j host host' status.NoMemory reads row sink = no_memory j host host' reads sink
-inputs_unread j host host' (status.BadJournal place) reads row sink = absurd row
+
+    failed : HasReadFault j.inputs host host' ⊎ IsSomeAnd host.told (λ t. CannotRead t j.inputs) → AuditReadFault j host host' ⊎ IsSomeAnd host.told (λ t. CannotAudit t j)
+    failed (inl fault) = inl (inl fault)
+    failed (inr none) = inr (cannot host.told none)
 
 -- the report is not read
 pub report_unread : (j : AuditJob) (host host' : HostView) (f : HostFault) → ReadsOnly host host' → IfSome host.told (λ t. HasInputs t j.inputs) → (f ≡ fails.Failed → HasFailed (FaultAt j.report) (λ t. is_file_at t j.report) host host') → AuditEndsAs j host host' (read_status f)
@@ -94,24 +98,16 @@ audit_fault_back : (j : AuditJob) (a b c : HostView) → ReadsOnly a b → Audit
 audit_fault_back j a b c reads (inl fault) = inl (read_fault_back j.inputs a b c reads fault)
 audit_fault_back j a b c reads (inr (fault, inputs)) = inr (fault_back j.report a b c reads.later fault, some_back (λ t. HasInputs t j.inputs) a b reads inputs)
 
-audit_row_back : (j : AuditJob) (a b c : HostView) (sink sink' : SinkView) (st : Status) → ReadsOnly a b → AuditRow j b c sink sink' st → AuditRow j a c sink sink' st
-audit_row_back j a b c sink sink' status.Done reads row = (reads_then a b c reads row.0, row.1, some_back (λ t. IsAudited t j sink.written sink'.written) a b reads row.2)
-audit_row_back j a b c sink sink' status.Usage reads row = row
-audit_row_back j a b c sink sink' (status.TextRefused word cause) reads row = (same_back a b c sink sink' reads row.0, some_back (λ t. IsFirstRefusedOf t j word cause) a b reads row.1)
-audit_row_back j a b c sink sink' (status.FolderRefused cause) reads row = (same_back a b c sink sink' reads row.0, some_back (λ t. HasTexts t j.inputs × IsRefused t j.inputs.folder cause) a b reads row.1)
-audit_row_back j a b c sink sink' status.ReadFault reads row = (same_back a b c sink sink' reads row.0, cause_back (AuditReadFault j) (λ t. CannotAudit t j) a b c reads (audit_fault_back j a b c reads) row.1)
-audit_row_back j a b c sink sink' status.NotEmpty reads row = row
-audit_row_back j a b c sink sink' status.WriteFault reads row = record {
-  reads = reads_then a b c reads row.reads;
-  cause = row.cause;
-  grows = row.grows;
-  left = some_back (λ t. IsAuditedInPart t j sink.written sink'.written) a b reads row.left;
+steady : (j : AuditJob) → IsSteady (audit_query j).reads
+steady j = record {
+  refused = λ a b word cause reads is. some_back (λ t. IsFirstRefusedOf t j word cause) a b reads is;
+  unloaded = (inputs_steady j.inputs).unloaded;
+  failed = λ a b c reads why. cause_back (AuditReadFault j) (λ t. CannotAudit t j) a b c reads (audit_fault_back j a b c reads) why;
+  bad = λ a b place reads is. is;
 }
-audit_row_back j a b c sink sink' status.NoMemory reads row = same_back a b c sink sink' reads row
-audit_row_back j a b c sink sink' (status.BadJournal place) reads row = row
 
 pub audit_ends_back : (j : AuditJob) (a b c : HostView) (st : Status) → ReadsOnly a b → AuditEndsAs j b c st → AuditEndsAs j a c st
-audit_ends_back j a b c st reads ends sink = audit_row_back j a b c sink sink st reads (ends sink)
+audit_ends_back j = queries.ends_back (audit_query j) (steady j)
 
 pub audit_ends_before : {X : Type 0} (j : AuditJob) (a b c : HostView) (result : Result X Status) → ReadsOnly a b → IfErr result (AuditEndsAs j b c) → IfErr result (AuditEndsAs j a c)
 audit_ends_before j a b c (Ok x) reads ends = tt
@@ -119,17 +115,8 @@ audit_ends_before j a b c (Err st) reads ends = audit_ends_back j a b c st reads
 
 -- ---- the last stage
 
-pub audit_unprinted : (j : AuditJob) (output : List ℕ) (host host' : HostView) (sink sink' : SinkView) → ReadsOnly host host' → IfSome host.told (λ t. IsAuditing t j output) → IfSome sink.written (λ w. (n : ℕ) × (sink'.written ≡ Some (w ++ take n output))) → Rose sink.faults sink'.faults → AuditRow j host host' sink sink' status.WriteFault
-audit_unprinted j output host host' sink sink' reads is front rose = record {
-  reads = reads;
-  cause = rose;
-  grows = grows_front sink sink' output front;
-  left = if_some_map (λ t. IsAuditing t j output) (λ t. IsAuditedInPart t j sink.written sink'.written) host.told (λ t is. record { output = output; auditing = is; written = front }) is;
-}
+pub audit_unprinted : (j : AuditJob) (output : List ℕ) (host host' : HostView) (sink sink' : SinkView) → ReadsOnly host host' → IfSome host.told (λ t. IsAuditing t j output) → PrintsPart output sink sink' → Rose sink.faults sink'.faults → AuditRow j host host' sink sink' status.WriteFault
+audit_unprinted j = queries.not_printed (audit_query j)
 
-pub audit_done : (j : AuditJob) (output : List ℕ) (host host' : HostView) (sink sink' : SinkView) → ReadsOnly host host' → IfSome host.told (λ t. IsAuditing t j output) → IfSome sink.written (λ w. sink'.written ≡ Some (w ++ output)) → AuditRow j host host' sink sink' status.Done
-audit_done j output host host' sink sink' reads is all = (
-  reads,
-  grows_all sink sink' output all,
-  if_some_map (λ t. IsAuditing t j output) (λ t. IsAudited t j sink.written sink'.written) host.told (λ t is. record { output = output; auditing = is; written = all }) is,
-)
+pub audit_done : (j : AuditJob) (output : List ℕ) (host host' : HostView) (sink sink' : SinkView) → ReadsOnly host host' → IfSome host.told (λ t. IsAuditing t j output) → Prints output sink sink' → AuditRow j host host' sink sink' status.Done
+audit_done j = queries.done (audit_query j)

@@ -1,19 +1,19 @@
 -- With all that `audit` reads in order, and no fault of host or sink, it is done, or memory runs out.
-use Rattle.std.proofs.Common.{◌≡◌, ◌⊎◌, inl, inr, ℕ, ◌≤◌, ◌<◌, length, subst, Some, IfSome, IsSomeAnd, refl, arith}
+use Rattle.std.proofs.Common.{◌≡◌, ◌⊎◌, inl, inr, ℕ, ◌≤◌, ◌<◌, length, subst, Some, IfSome, IsSomeAnd, arith}
 use Rattle.fx_base.specs.Causes.{Rose}
 use Rattle.fx_outside.specs.Host.{HostView}
 use Rattle.fx_outside.specs.Sink.{SinkView}
 use Rattle.fx_outside.specs.Tree.{Tree, is_file_at, bytes_at}
-use Rattle.fx_folder.specs.Loads.{IsRefused}
 use Rattle.fx_command.specs.declared.status.Status.{Status}
 use Rattle.fx_command.specs.declared.status.Status.TheVariants as status
 use Rattle.fx_command.specs.declared.status.TextFault.{TextFault}
-use Rattle.fx_inputs.specs.Inputs.{HasTexts}
-use Rattle.fx_inputs.proofs.AllRead.{can_read, none_refused, not_both, two}
+use Rattle.fx_command.proofs.Queries.{completes}
+use Rattle.fx_inputs.proofs.AllRead.{can_read, none_refused, two}
 use Rattle.fx_inputs.proofs.ReadRows.{read_fault_rose}
+use Rattle.fx_inputs.proofs.Readings.{inputs_all_read}
 use Rattle.fx_audit_command.specs.declared.reading.TheConstants.{REPORT_LIMIT}
 use Rattle.fx_words.specs.Job.{AuditJob}
-use Rattle.fx_audit_command.specs.Rows.{AuditReadFault, AuditRow, CannotAudit, IsFirstRefusedOf, IsProperAudit}
+use Rattle.fx_audit_command.specs.Rows.{audit_query, AuditReadFault, AuditRow, CannotAudit, IsFirstRefusedOf, IsProperAudit}
 
 not_refused : (t : Tree) (j : AuditJob) (word : ℕ) (cause : TextFault) → IsProperAudit t j → IsFirstRefusedOf t j word cause → ⊥
 not_refused t j word cause proper (inl first) = none_refused t j.inputs word cause proper.inputs.0 first
@@ -31,15 +31,14 @@ fault_rose j host host' (inl fault) = read_fault_rose j.inputs host host' fault
 fault_rose j host host' (inr (fault, inputs)) = fault.rose
 
 pub audit_completes : (j : AuditJob) (t : Tree) (host host' : HostView) (sink sink' : SinkView) (st : Status) → host.told ≡ Some t → IsProperAudit t j → (Rose host.faults host'.faults → ⊥) → (Rose sink.faults sink'.faults → ⊥) → AuditRow j host host' sink sink' st → (st ≡ status.Done) ⊎ (st ≡ status.NoMemory)
-audit_completes j t host host' sink sink' status.Done is proper none quiet row = inl refl
-audit_completes j t host host' sink sink' status.Usage is proper none quiet row = absurd row
-audit_completes j t host host' sink sink' (status.TextRefused word cause) is proper none quiet row =
-    absurd (not_refused t j word cause proper (subst (λ o. IfSome o (λ t. IsFirstRefusedOf t j word cause)) is row.1))
-audit_completes j t host host' sink sink' (status.FolderRefused cause) is proper none quiet row =
-    absurd (not_both t j.inputs.folder proper.inputs.1.0 cause proper.inputs.1.1 (subst (λ o. IfSome o (λ t. HasTexts t j.inputs × IsRefused t j.inputs.folder cause)) is row.1).1)
-audit_completes j t host host' sink sink' status.ReadFault is proper none quiet (same, inl fault) = absurd (none (fault_rose j host host' fault))
-audit_completes j t host host' sink sink' status.ReadFault is proper none quiet (same, inr cannot) = absurd (can_audit t j proper (subst (λ o. IsSomeAnd o (λ t. CannotAudit t j)) is cannot))
-audit_completes j t host host' sink sink' status.NotEmpty is proper none quiet row = absurd row
-audit_completes j t host host' sink sink' status.WriteFault is proper none quiet row = absurd (quiet row.cause)
-audit_completes j t host host' sink sink' status.NoMemory is proper none quiet row = inr refl
-audit_completes j t host host' sink sink' (status.BadJournal place) is proper none quiet row = absurd row
+audit_completes j t host host' sink sink' st is proper none quiet row =
+    completes (audit_query j) host host' sink sink' st (record {
+      refused = λ word cause why. not_refused t j word cause proper (subst (λ o. IfSome o (λ t. IsFirstRefusedOf t j word cause)) is why);
+      unloaded = (inputs_all_read j.inputs t host host' is proper.inputs none).unloaded;
+      failed = failed;
+      bad = λ place why. why;
+    }) quiet row
+  where
+    failed : AuditReadFault j host host' ⊎ IsSomeAnd host.told (λ t. CannotAudit t j) → ⊥
+    failed (inl fault) = none (fault_rose j host host' fault)
+    failed (inr cannot) = can_audit t j proper (subst (λ o. IsSomeAnd o (λ t. CannotAudit t j)) is cannot)

@@ -1,18 +1,16 @@
 -- What each status of `audit` says: where it comes, and what is then left at the host and at the sink.
-use Rattle.std.specs.Prelude.{◌≡◌, ◌⊎◌, ◌↔◌, ℕ, ◌<◌, ◌≤◌, Bool, true, false, List, ◌++◌, length, take, Option, Some, IfSome, IsSomeAnd}
-use Rattle.fx_base.specs.Causes.{Rose}
-use Rattle.fx_outside.specs.Host.{HostView, ReadsOnly, FaultAt}
+use Rattle.std.specs.Prelude.{◌≡◌, ◌⊎◌, ◌↔◌, ℕ, ◌<◌, ◌≤◌, Bool, true, false, List, length, IfSome, IsSomeAnd}
+use Rattle.fx_outside.specs.Host.{HostView, FaultAt}
 use Rattle.fx_outside.specs.Sink.{SinkView}
 use Rattle.fx_outside.specs.Tree.{Tree, is_file_at, bytes_at}
-use Rattle.fx_folder.specs.Loads.{IsRefused}
 use Rattle.fx_spec.specs.Order.{BaseTree}
 use Rattle.fx_command.specs.declared.status.Status.{Status}
-use Rattle.fx_command.specs.declared.status.Status.TheVariants as status
 use Rattle.fx_command.specs.declared.status.TextFault.{TextFault}
 use Rattle.fx_command.specs.declared.status.TextFault.TheVariants as fault
-use Rattle.fx_command.specs.Left.{IsSame, Grows}
-use Rattle.fx_inputs.specs.Inputs.{HasBase, HasInputs, HasTexts, CannotRead, IsFirstRefused}
+use Rattle.fx_command.specs.Query.{Query, QueryRow}
+use Rattle.fx_inputs.specs.Inputs.{HasBase, HasInputs, CannotRead, IsFirstRefused}
 use Rattle.fx_inputs.specs.Reads.{HasReadFault, LetsInputs}
+use Rattle.fx_inputs.specs.Readings.{inputs_reading}
 use Rattle.fx_audit.specs.Audits.{IsVerdictOn, IsTrueReport}
 use Rattle.fx_audit.specs.declared.verdict.Verdict.{Verdict}
 use Rattle.fx_audit.specs.declared.verdict.Verdict.TheVariants as verdicts
@@ -43,25 +41,6 @@ pub record IsAuditing (t : Tree) (j : AuditJob) (output : List ℕ) : Type 0 whe
   pub exact : (verdict ≡ verdicts.Yes) ↔ IsTrueReport base bytes
   pub printed : output ≡ verdict_line verdict
 
--- the line stands after what was written before
-pub record IsAudited (t : Tree) (j : AuditJob) (before after : Option (List ℕ)) : Type 0 where
-  pub output : List ℕ
-  pub auditing : IsAuditing t j output
-  pub written : IfSome before (λ w. after ≡ Some (w ++ output))
-
--- a front of it is written
-pub record IsAuditedInPart (t : Tree) (j : AuditJob) (before after : Option (List ℕ)) : Type 0 where
-  pub output : List ℕ
-  pub auditing : IsAuditing t j output
-  pub written : IfSome before (λ w. (n : ℕ) × (after ≡ Some (w ++ take n output)))
-
--- the sink failed, and a front of the line is printed
-pub record IsUnsaid (j : AuditJob) (host host' : HostView) (sink sink' : SinkView) : Type 0 where
-  pub reads : ReadsOnly host host'
-  pub cause : Rose sink.faults sink'.faults
-  pub grows : Grows sink sink'
-  pub left : IfSome host.told (λ t. IsAuditedInPart t j sink.written sink'.written)
-
 -- a fault at what a run reads; or at REPORT, and then all that is read
 abbrev pub AuditReadFault : AuditJob → HostView → HostView → Type 0
 AuditReadFault j host host' = HasReadFault j.inputs host host' ⊎ (FaultAt j.report host host' × IfSome host.told (λ t. HasInputs t j.inputs))
@@ -81,17 +60,19 @@ pub record IsTooLarge (t : Tree) (j : AuditJob) (word : ℕ) (cause : TextFault)
 abbrev pub IsFirstRefusedOf : Tree → AuditJob → ℕ → TextFault → Type 0
 IsFirstRefusedOf t j word cause = IsFirstRefused t j.inputs word cause ⊎ IsTooLarge t j word cause
 
--- the table for `audit`: however it ends, the tree that the host tells is as it was; and it ends alike for every verdict
+-- `audit` reads what a run does, and then the report; it prints the verdict, and ends alike for every verdict
+abbrev pub audit_query : AuditJob → Query
+audit_query j = record {
+  reads = record (inputs_reading j.inputs) {
+    refused = λ host word cause. IfSome host.told (λ t. IsFirstRefusedOf t j word cause);
+    failed = λ host host'. AuditReadFault j host host' ⊎ IsSomeAnd host.told (λ t. CannotAudit t j);
+  };
+  prints = λ t output. IsAuditing t j output;
+}
+
+-- the table for `audit`
 abbrev pub AuditRow : AuditJob → HostView → HostView → SinkView → SinkView → Status → Type 0
-AuditRow j host host' sink sink' status.Done = ReadsOnly host host' × Grows sink sink' × IfSome host.told (λ t. IsAudited t j sink.written sink'.written)
-AuditRow j host host' sink sink' status.Usage = ⊥
-AuditRow j host host' sink sink' (status.TextRefused word cause) = IsSame host host' sink sink' × IfSome host.told (λ t. IsFirstRefusedOf t j word cause)
-AuditRow j host host' sink sink' (status.FolderRefused cause) = IsSame host host' sink sink' × IfSome host.told (λ t. HasTexts t j.inputs × IsRefused t j.inputs.folder cause)
-AuditRow j host host' sink sink' status.ReadFault = IsSame host host' sink sink' × (AuditReadFault j host host' ⊎ IsSomeAnd host.told (λ t. CannotAudit t j))
-AuditRow j host host' sink sink' status.NotEmpty = ⊥
-AuditRow j host host' sink sink' status.WriteFault = IsUnsaid j host host' sink sink'
-AuditRow j host host' sink sink' status.NoMemory = IsSame host host' sink sink'
-AuditRow j host host' sink sink' (status.BadJournal place) = ⊥
+AuditRow j = QueryRow (audit_query j)
 
 -- a stage that only reads ends the command so, whatever the sink
 abbrev pub AuditEndsAs : AuditJob → HostView → HostView → Status → Type 0

@@ -10,8 +10,8 @@ ghost use Rattle.fx_audit_command.specs.Rows.{AuditRow, AuditEndsAs, AuditAsks, 
 use crate::line::verdict_line;
 use crate::reading::read_report;
 use fx_command::{Status, print_all};
-use fx_inputs::read_base;
-use fx_outside::{Host, Sink, SinkFailed};
+use fx_inputs::{let_go, read_base};
+use fx_outside::{Host, Sink};
 use fx_spec::Base;
 use fx_words::AuditJob;
 use std::alloc::Global;
@@ -33,7 +33,13 @@ fn line_by<H: Host>(
     ensures ends { IfErr result
         (AuditEndsAs (asked_audit job.now) (H.view host.old) (H.view host.new)) }
 {
-    let bytes = read_report(alloc, job, host)?;
+    let bytes = match read_report(alloc, job, host) {
+        Ok(bytes) => bytes,
+        Err(status) => {
+            let_go(base);
+            return Err(status);
+        }
+    };
     let verdict = fx_audit::audit(alloc, base, &bytes)?;
     let line = verdict_line(alloc, verdict)?;
     Ok(line)
@@ -67,8 +73,6 @@ pub fn audit<H: Host, S: Sink>(
     ensures fit { AuditAsks (asked_audit job.now) (H.view host.old) (H.view host.new) }
 {
     let line = line_of(alloc, job, host)?;
-    match print_all(out, &line) {
-        Ok(()) => Ok(()),
-        Err(SinkFailed) => Err(Status::WriteFault),
-    }
+    print_all(out, &line)?;
+    Ok(())
 }

@@ -1,6 +1,9 @@
-pub mod Making
 pub mod Out
 pub mod Codes
 pub mod Left
+pub mod Query
+pub mod Reading
+pub mod Saved
 pub mod StatusOf
+pub mod Table
 pub mod Texts

@@ -5,7 +5,7 @@ ghost use Rattle.fx_command.specs.Codes.{status_code};
 use fx_base::NoMemory;
 use fx_expr::{Shape, Word};
 use fx_folder::{FolderCause, LoadFault, SaveFault};
-use fx_outside::HostFault;
+use fx_outside::{HostFault, SinkFailed};
 
 /// Why a text is refused. A place is a byte of the text, its length at its end.
 #[derive(Debug, Drop)]
@@ -124,5 +124,17 @@ impl From<SaveFault> for Status {
             SaveFault::NotEmpty => Status::NotEmpty,
             SaveFault::NoMemory => Status::NoMemory,
         }
+    }
+}
+
+/// An output that is not written.
+impl From<SinkFailed> for Status {
+    ghost use Rattle.std.specs.Prelude.{◌≡◌};
+    ghost use Rattle.fx_command.specs.declared.status.Status.TheVariants.{WriteFault};
+
+    ghost from_gives = { λ _ status. status ≡ WriteFault };
+
+    fn from(_: SinkFailed) -> Status {
+        Status::WriteFault
     }
 }

@@ -2,11 +2,10 @@
 -- of which the highest comes first.
 use Rattle.std.specs.Prelude.{false, ◌≡◌, ◌⊎◌, ◌==◌, ◌<◌, ◌≤◌, ◌+◌, ◌^◌, ℕ, zero, suc, List, [], ◌∷◌, ◌++◌, length, take, drop, if◌then◌else◌, nat_lt, Bool, Option, Some, None, Result, Ok, Err, IfSome, IsSomeAnd, All, map}
 use Rattle.std.specs.Int.{w32, to_be_bytes, from_be_bytes}
-use Rattle.fx_base.specs.Causes.{Rose}
 use Rattle.fx_base.specs.Limits.{txn_limit}
 use Rattle.fx_spec.specs.Plans.{Turn}
 use Rattle.fx_machine.specs.declared.entry.Pair.{Pair}
-use Rattle.fx_durable.specs.Disk.{File, DiskView, MayLeave, LeavesOnly, TellsOther, TellsAt}
+use Rattle.fx_durable.specs.Disk.{File, DiskView, MayLeave, LeavesOnly, FailsAt, TellsAt}
 use Rattle.fx_durable.specs.declared.journal_fault.JournalFault.{JournalFault}
 use Rattle.fx_durable.specs.declared.journal_fault.JournalFault.TheVariants as fault
 
@@ -114,11 +113,11 @@ Reads image (Err (fault.Broken record_number)) = Breaks record_number image
 Reads image (Err fault.Failed) = Unit {0}
 Reads image (Err fault.NoMemory) = Unit {0}
 
--- a told file of which bytes were read is at this path; at Failed the disk failed, or tells a file at another path
+-- a told file of which bytes were read is at this path; at Failed the disk failed, or tells a file at another path and has not failed
 abbrev pub HasReadFault : {A : Type 0} → List ℕ → DiskView → DiskView → Result A JournalFault → Type 0
 HasReadFault path old new (Ok a) = TellsAt old path
 HasReadFault path old new (Err (fault.Broken record_number)) = TellsAt old path
-HasReadFault path old new (Err fault.Failed) = Rose old.faults new.faults ⊎ TellsOther old path
+HasReadFault path old new (Err fault.Failed) = FailsAt path old new
 HasReadFault path old new (Err fault.NoMemory) = Unit {0}
 
 -- where an order was read, or a record that breaks, the count of faults stays

@@ -1,9 +1,8 @@
 //! A journal: a record of nine bytes for each commit, a gate and the numbers of a shell and of a transaction. A gate stands
 //! closed on the disk before anything is written behind it, and is opened by a write of its own.
-ghost use Rattle.std.specs.Prelude.{◌≡◌, ◌≤◌, ◌<◌, ◌⊎◌, ◌+◌, ◌∷◌, ◌++◌, [], length, is_ok, true, IfOk, OnOk, OnErr, IfSome, Err};
-ghost use Rattle.fx_base.specs.Causes.{Rose};
+ghost use Rattle.std.specs.Prelude.{◌≡◌, ◌≤◌, ◌<◌, ◌+◌, ◌∷◌, ◌++◌, [], length, is_ok, true, IfOk, OnOk, OnErr, IfSome, Err};
 ghost use Rattle.fx_base.specs.Limits.{txn_limit};
-ghost use Rattle.fx_durable.specs.Disk.{Continues, StaysUnstarted, IsAsTold, TellsOther, TellsAt, TellsLength, HasFault, ChoosesTold};
+ghost use Rattle.fx_durable.specs.Disk.{Continues, StaysUnstarted, IsAsTold, FailsAt, TellsAt, TellsLength, HasFault, ChoosesTold};
 ghost use Rattle.fx_durable.specs.Journal.{payload, RestsAt, Rests, LeavesOrder, AddsTurn};
 ghost use Rattle.fx_durable.specs.declared.journal.StartFault.TheVariants.{NotEmpty, Failed};
 
@@ -73,8 +72,7 @@ impl Journal {
             → (D.view disk.new).faults ≡ (D.view disk.old).faults }
         ensures others { ChoosesTold path.now (D.view disk.old) (D.view disk.new) }
         ensures failed { result ≡ Err Failed
-            → Rose (D.view disk.old).faults (D.view disk.new).faults
-            ⊎ TellsOther (D.view disk.old) path.now }
+            → FailsAt path.now (D.view disk.old) (D.view disk.new) }
     {
         if disk.choose(path)? > 0 {
             return Err(StartFault::NotEmpty);

@@ -8,16 +8,15 @@ use Rattle.fx_outside.specs.Sink.{SinkView}
 use Rattle.fx_outside.specs.Tree.{Tree}
 use Rattle.fx_outside.proofs.Views.{reads_none}
 use Rattle.fx_folder.specs.Folder.{IsReady, IsTaken}
-use Rattle.fx_folder.specs.Loads.{IsRefused}
 use Rattle.fx_command.specs.declared.status.Status.{Status}
 use Rattle.fx_command.specs.declared.status.Status.TheVariants as status
+use Rattle.fx_command.specs.Table.{CannotSave}
 use Rattle.fx_command.proofs.Told.{same}
 use Rattle.fx_command.proofs.Outs.{not_taken, can_write, not_unfit}
-use Rattle.fx_inputs.specs.Inputs.{HasTexts, HasInputs, CannotRead, IsFirstRefused}
-use Rattle.fx_inputs.proofs.AllRead.{can_read, none_refused, not_both}
-use Rattle.fx_inputs.proofs.ReadRows.{read_fault_rose}
+use Rattle.fx_inputs.specs.Inputs.{HasInputs}
+use Rattle.fx_inputs.proofs.Readings.{inputs_all_read}
 use Rattle.fx_words.specs.Job.{JournalJob}
-use Rattle.fx_run_command.specs.Rows.{CannotSave}
+use Rattle.fx_run_command.specs.Rows.{run_command}
 use Rattle.fx_durable.specs.Disk.{File, DiskView}
 use Rattle.fx_journal_command.specs.Rows.{JournalEnd, JournalRow, KeepsJournal, CannotLeave, CannotReach, CannotStart, HasBroken, HoldsBytes, IsProperJournal}
 use Rattle.fx_journal_command.proofs.Keeping.{unbegun_keeps}
@@ -37,16 +36,16 @@ not_other path (Some file) empty other = other empty.0
 module _ (j : JournalJob) (t : Tree) (host host' : HostView) (sink sink' : SinkView) (disk disk' : DiskView) (is : host.told ≡ Some t) (proper : IsProperJournal t disk j) (none : Rose host.faults host'.faults → ⊥) (quiet : Rose sink.faults sink'.faults → ⊥) (calm : Rose disk.faults disk'.faults → ⊥) where
   not_left : CannotLeave j.run host host' → ⊥
   not_left (inl fault) = none fault.rose
-  not_left (inr cannot) = can_write t j.run.out proper.run.there proper.run.free proper.run.above (subst (λ o. IsSomeAnd o (λ t. CannotSave t j.run)) is cannot).1
+  not_left (inr cannot) = can_write t j.run.out proper.run.out.there proper.run.out.free proper.run.out.above (subst (λ o. IsSomeAnd o (CannotSave (run_command j.run))) is cannot).1
 
   not_reached : CannotReach j.run host host' → ⊥
   not_reached (inl fault) = none fault.rose
-  not_reached (inr unfit) = not_unfit t j.run.out proper.run.there proper.run.free (subst (λ o. IsSomeAnd o (λ _. is_fit j.run.out ≡ false)) is unfit)
+  not_reached (inr unfit) = not_unfit t j.run.out proper.run.out.there proper.run.out.free (subst (λ o. IsSomeAnd o (λ _. is_fit j.run.out ≡ false)) is unfit)
 
   not_unbegun : (CannotReach j.run host host' × (disk' ≡ disk)) ⊎ CannotStart j host disk disk' → ⊥
   not_unbegun (inl (cannot, same)) = not_reached cannot
   not_unbegun (inr (inl rose, free)) = calm rose
-  not_unbegun (inr (inr other, free)) = not_other j.journal disk.told proper.empty other
+  not_unbegun (inr (inr (other, stays), free)) = not_other j.journal disk.told proper.empty other
 
   not_broken : HasBroken j.run host host' sink sink' disk disk' → ⊥
   not_broken (inl (stays, inl cannot, left)) = not_left cannot
@@ -54,19 +53,15 @@ module _ (j : JournalJob) (t : Tree) (host host' : HostView) (sink sink' : SinkV
   not_broken (inr (rose, left)) = calm rose
 
   not_full : IsTaken t j.run.out ⊎ (((there : Bool) × IsReady t j.run.out there) × HoldsBytes j.journal disk) → ⊥
-  not_full (inl taken) = not_taken t j.run.out proper.run.there proper.run.free taken
+  not_full (inl taken) = not_taken t j.run.out proper.run.out.there proper.run.out.free taken
   not_full (inr held) = not_held j.journal disk.told proper.empty held.1.1
 
 completes : (j : JournalJob) (t : Tree) (host host' : HostView) (sink sink' : SinkView) (disk disk' : DiskView) (st : Status) → host.told ≡ Some t → IsProperJournal t disk j → (Rose host.faults host'.faults → ⊥) → (Rose sink.faults sink'.faults → ⊥) → (Rose disk.faults disk'.faults → ⊥) → JournalEnd j host host' sink sink' disk disk' st → Ends st
 completes j t host host' sink sink' disk disk' status.Done is proper none quiet calm row = inl refl
 completes j t host host' sink sink' disk disk' status.Usage is proper none quiet calm row = absurd row
-completes j t host host' sink sink' disk disk' (status.TextRefused word cause) is proper none quiet calm row =
-    absurd (none_refused t j.run.inputs word cause proper.run.inputs.0 (subst (λ o. IfSome o (λ t. IsFirstRefused t j.run.inputs word cause)) is row.2))
-completes j t host host' sink sink' disk disk' (status.FolderRefused cause) is proper none quiet calm row =
-    absurd (not_both t j.run.inputs.folder proper.run.inputs.1.0 cause proper.run.inputs.1.1 (subst (λ o. IfSome o (λ t. HasTexts t j.run.inputs × IsRefused t j.run.inputs.folder cause)) is row.2).1)
-completes j t host host' sink sink' disk disk' status.ReadFault is proper none quiet calm (same, told, inl fault) = absurd (none (read_fault_rose j.run.inputs host host' fault))
-completes j t host host' sink sink' disk disk' status.ReadFault is proper none quiet calm (same, told, inr cannot) =
-    absurd (can_read t j.run.inputs proper.run.inputs (subst (λ o. IsSomeAnd o (λ t. CannotRead t j.run.inputs)) is cannot))
+completes j t host host' sink sink' disk disk' (status.TextRefused word cause) is proper none quiet calm row = absurd ((inputs_all_read j.run.inputs t host host' is proper.run.inputs none).refused word cause row.2)
+completes j t host host' sink sink' disk disk' (status.FolderRefused cause) is proper none quiet calm row = absurd ((inputs_all_read j.run.inputs t host host' is proper.run.inputs none).unloaded cause row.2)
+completes j t host host' sink sink' disk disk' status.ReadFault is proper none quiet calm row = absurd ((inputs_all_read j.run.inputs t host host' is proper.run.inputs none).failed row.2)
 completes j t host host' sink sink' disk disk' status.NotEmpty is proper none quiet calm row =
     absurd (not_full j t host host' sink sink' disk disk' is proper none quiet calm (subst (λ o. IfSome o (λ t. HasInputs t j.run.inputs × (IsTaken t j.run.out ⊎ (((there : Bool) × IsReady t j.run.out there) × HoldsBytes j.journal disk)))) is row.3).1)
 completes j t host host' sink sink' disk disk' status.WriteFault is proper none quiet calm (inl row) = absurd (not_unbegun j t host host' sink sink' disk disk' is proper none quiet calm row.cause)

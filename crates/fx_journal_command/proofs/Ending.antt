@@ -20,14 +20,16 @@ use Rattle.fx_report.specs.Entries.{report}
 use Rattle.fx_report.specs.Events.{lines}
 use Rattle.fx_command.specs.declared.status.Status.{Status}
 use Rattle.fx_command.specs.declared.status.Status.TheVariants as status
+use Rattle.fx_command.specs.Saved.{SaveEnd, done, unmade, unsaved, unprinted}
+use Rattle.fx_command.specs.Table.{IsDone, CannotSave}
 use Rattle.fx_command.proofs.Told.{if_some_map, if_some_both, some_and, if_told_same, if_told_map, same, grows_all, cause_back, told_back, some_back, same_back}
-use Rattle.fx_inputs.specs.Inputs.{HasInputs, HasBase, CannotRead}
-use Rattle.fx_inputs.specs.Reads.{HasReadFault, ReadRow}
-use Rattle.fx_inputs.proofs.ReadRows.{read_fault_back}
+use Rattle.fx_inputs.specs.Inputs.{HasInputs, HasBase}
+use Rattle.fx_inputs.specs.Reads.{ReadRow}
+use Rattle.fx_inputs.proofs.Readings.{inputs_steady}
 use Rattle.fx_command.specs.Out.{IsUnready}
 use Rattle.fx_words.specs.Job.{RunJob, JournalJob, Scheduled, shells_of}
 use Rattle.fx_run_command.specs.Outcome.{IsPrintedAs, IsTracedAs}
-use Rattle.fx_run_command.specs.Rows.{IsDone, CannotSave}
+use Rattle.fx_run_command.specs.Rows.{run_making, run_command}
 use Rattle.fx_durable.specs.Disk.{DiskView}
 use Rattle.fx_journaling.specs.declared.fault.RecordFault.{RecordFault}
 use Rattle.fx_journaling.specs.declared.fault.RecordFault.TheVariants as fault
@@ -36,7 +38,7 @@ use Rattle.fx_journaling.specs.Taken.{HasGrown}
 use Rattle.fx_journaling.proofs.Fronts.{written_is_front}
 use Rattle.fx_journaling.proofs.Taking.{grown_as, grown_more}
 use Rattle.fx_journal_command.specs.Rows.{HasWrittenAll, IsStopped, IsStoppedAtDisk, IsLeft, IsLeftOrWhole, CannotLeave, CannotReach, CannotStart, HasEmptyJournal, IsUnbegun, HasBroken, IsBrokenOff, JournalEnd}
-use Rattle.fx_journal_command.specs.Stages.{StartCause, holds, fails, status_in, RecordCause, FinishEnd, done, unmade, unsaved, unwritten}
+use Rattle.fx_journal_command.specs.Stages.{StartCause, holds, fails, status_in, RecordCause}
 use Rattle.fx_journal_command.proofs.Keeping.{nothing_more, front_of, bytes_of, report_of, grown_by}
 
 -- what a run has left that is cut before its report
@@ -185,12 +187,12 @@ module _ (j : JournalJob) (base : BaseTree) (there : Bool) (host host' : HostVie
       if_told_map (λ t t'. IsPartlySaved t t' (parts j.run.out) nodes) (IsLeft j.run sink.written sink'.written) Begins host.told host'.told
       (λ t t' is part. inr (record { base = base; nodes = nodes; there = there; all = all_written t 0 is.0 grown; free = is.1; part = part })) both part
 
-  no_folder : (t : Tree) → Begins t → LacksFolder t j.run.out there → CannotSave t j.run
+  no_folder : (t : Tree) → Begins t → LacksFolder t j.run.out there → CannotSave (run_command j.run) t
   no_folder t is lacks = (inputs_of t j.run base is.0, inr (subst (λ b. IsReady t j.run.out b) lacks.0 is.1, lacks.1))
 
   unsaved_cause : SaveCause j.run.out there host host' save.WriteFault → CannotLeave j.run host host'
   unsaved_cause (inl fault) = inl fault
-  unsaved_cause (inr lacks) = inr (some_and Begins (λ t. LacksFolder t j.run.out there) (λ t. CannotSave t j.run) host.told no_folder both lacks)
+  unsaved_cause (inr lacks) = inr (some_and Begins (λ t. LacksFolder t j.run.out there) (CannotSave (run_command j.run)) host.told no_folder both lacks)
 
   -- the report is not written whole
   whole : (n : ℕ) → Saves j.run.out nodes host host' → HasGrown (take n text) mid sink' → IfTold host.told host'.told (IsLeftOrWhole j.run sink.written sink'.written)
@@ -214,31 +216,30 @@ module _ (j : JournalJob) (base : BaseTree) (there : Bool) (host host' : HostVie
   all_grown : HasGrown text mid sink' → HasGrown output sink sink'
   all_grown grown = grown_more (lines had.events) (report base board.order retries) sink mid sink' had.printed (grown_as text (report base board.order retries) mid sink' text_as grown)
 
-  is_done : (t t' : Tree) → HasGrown output sink sink' → Begins t → IsSaved t t' (parts j.run.out) nodes → IsDone t t' j.run sink.written sink'.written
+  is_done : (t t' : Tree) → HasGrown output sink sink' → Begins t → IsSaved t t' (parts j.run.out) nodes → IsDone (run_making j.run) t t' sink.written sink'.written
   is_done t t' grown is saved = record {
-    nodes = nodes;
-    output = output;
+    end = (nodes, output);
     there = there;
-    outcome = record { base = base; order = board.order; retries = retries; begins = is.0; complete = had.traced.complete; tried = had.traced.tried; printed = printed; last = last };
+    comes = record { base = base; order = board.order; retries = retries; begins = is.0; complete = had.traced.complete; tried = had.traced.tried; printed = printed; last = last };
     free = is.1;
-    saved = saved;
+    stands = saved;
     written = grown;
   }
 
   all_calm : disk'.faults ≡ disk.faults
   all_calm = had.calm ∙ calm
 
-  pub finished : (st : Status) → FinishEnd j.run.out there nodes text host host' mid sink' st → JournalEnd j host host' sink sink' disk disk' st
+  pub finished : (st : Status) → SaveEnd j.run.out there nodes text host host' mid sink' st → JournalEnd j host host' sink sink' disk disk' st
   finished st (done saves grown) =
       let grows = all_grown grown in (
         empty,
         all_calm,
         grows_all sink sink' output grows,
-        if_told_map (λ t t'. IsSaved t t' (parts j.run.out) nodes) (λ t t'. IsDone t t' j.run sink.written sink'.written) Begins host.told host'.told (λ t t' is saved. is_done t t' grows is saved) both saves,
+        if_told_map (λ t t'. IsSaved t t' (parts j.run.out) nodes) (λ t t'. IsDone (run_making j.run) t t' sink.written sink'.written) Begins host.told host'.told (λ t t' is saved. is_done t t' grows is saved) both saves,
       )
   finished st (unmade part none) = inr (empty, all_calm, partly part none)
   finished st (unsaved part cause none) = inr (record { empty = empty; broken = inl (all_calm, inl (unsaved_cause cause), part_at_most j.run sink sink' host.told host'.told (partly part none)) })
-  finished st (unwritten saves front rose) =
+  finished st (unprinted saves front rose) =
       let count = front_of text mid sink' front in
       let all : Rose sink.faults sink'.faults = omega (arith, had.later, rose) in
       inr (record { empty = empty; broken = inl (all_calm, inr all, whole count.0 saves count.1) })
@@ -246,7 +247,7 @@ module _ (j : JournalJob) (base : BaseTree) (there : Bool) (host host' : HostVie
 -- ---- a row from a later moment on is one from an earlier moment on, where only reads lie between
 
 leave_back : (j : RunJob) (a b c : HostView) → ReadsOnly a b → CannotLeave j b c → CannotLeave j a c
-leave_back j a b c reads cannot = cause_back (FaultIn j.out) (λ t. CannotSave t j) a b c reads (fault_in_back j.out a b c reads.later) cannot
+leave_back j a b c reads cannot = cause_back (FaultIn j.out) (CannotSave (run_command j)) a b c reads (fault_in_back j.out a b c reads.later) cannot
 
 unbegun_back : (j : JournalJob) (a b c : HostView) (sink sink' : SinkView) (disk disk' : DiskView) → ReadsOnly a b → IsUnbegun j b c sink sink' disk disk' → IsUnbegun j a c sink sink' disk disk'
 unbegun_back j a b c sink sink' disk disk' reads is = record {
@@ -273,9 +274,9 @@ broken_back j a b c sink sink' disk disk' reads is = record { empty = is.empty; 
 pub end_back : (j : JournalJob) (a b c : HostView) (sink sink' : SinkView) (disk disk' : DiskView) (st : Status) → ReadsOnly a b → JournalEnd j b c sink sink' disk disk' st → JournalEnd j a c sink sink' disk disk' st
 end_back j a b c sink sink' disk disk' status.Done reads row = (row.0, row.1, row.2, told_back _ a b c reads row.3)
 end_back j a b c sink sink' disk disk' status.Usage reads row = row
-end_back j a b c sink sink' disk disk' (status.TextRefused word cause) reads row = (same_back a b c sink sink' reads row.0, row.1, some_back _ a b reads row.2)
-end_back j a b c sink sink' disk disk' (status.FolderRefused cause) reads row = (same_back a b c sink sink' reads row.0, row.1, some_back _ a b reads row.2)
-end_back j a b c sink sink' disk disk' status.ReadFault reads row = (same_back a b c sink sink' reads row.0, row.1, cause_back (HasReadFault j.run.inputs) (λ t. CannotRead t j.run.inputs) a b c reads (read_fault_back j.run.inputs a b c reads) row.2)
+end_back j a b c sink sink' disk disk' (status.TextRefused word cause) reads row = (same_back a b c sink sink' reads row.0, row.1, (inputs_steady j.run.inputs).refused a b word cause reads row.2)
+end_back j a b c sink sink' disk disk' (status.FolderRefused cause) reads row = (same_back a b c sink sink' reads row.0, row.1, (inputs_steady j.run.inputs).unloaded a b cause reads row.2)
+end_back j a b c sink sink' disk disk' status.ReadFault reads row = (same_back a b c sink sink' reads row.0, row.1, (inputs_steady j.run.inputs).failed a b c reads row.2)
 end_back j a b c sink sink' disk disk' status.NotEmpty reads row = (same_back a b c sink sink' reads row.0, row.1, row.2, some_back _ a b reads row.3)
 end_back j a b c sink sink' disk disk' status.WriteFault reads (inl row) = inl (unbegun_back j a b c sink sink' disk disk' reads row)
 end_back j a b c sink sink' disk disk' status.WriteFault reads (inr row) = inr (broken_back j a b c sink sink' disk disk' reads row)

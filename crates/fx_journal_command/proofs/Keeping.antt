@@ -24,15 +24,16 @@ use Rattle.fx_durable.specs.Journal.{JournalView}
 use Rattle.fx_durable.proofs.Moments.{goes_over, stays}
 use Rattle.fx_sched.specs.World as World
 use Rattle.fx_journaling.specs.declared.fault.RecordFault.TheVariants as fault
-use Rattle.fx_journaling.specs.Kept.{IfFile, KeepsOrder}
-use Rattle.fx_journaling.specs.Recorded.{IsStarted, HasRecorded}
+use Rattle.fx_journaling.specs.Kept.{IfFile}
+use Rattle.fx_journaling.specs.Recorded.{IsStarted, KeepsRun, HasRecorded}
 use Rattle.fx_journaling.specs.Taken.{HasGrown}
-use Rattle.fx_journaling.specs.Written.{HasWritten, HasWrittenReport}
+use Rattle.fx_journaling.specs.Written.{HasWritten, events_written, HasWrittenReport}
 use Rattle.fx_journaling.proofs.Ending.{begun, paused}
 use Rattle.fx_journaling.proofs.Holding.{at_present, some_and_map, if_file_map}
 use Rattle.fx_journaling.proofs.Taking.{grown_none, grown_as, grown_more}
 use Rattle.fx_journal_command.specs.Rows.{HasEmptyJournal, KeepsJournal, HasNothing, IsKept}
-use Rattle.fx_journal_command.specs.Stages.{MayLeaveGate, RecordCause, FinishEnd, done, unmade, unsaved, unwritten}
+use Rattle.fx_command.specs.Saved.{SaveEnd, done, unmade, unsaved, unprinted}
+use Rattle.fx_journal_command.specs.Stages.{MayLeaveGate, RecordCause}
 
 -- ---- before the first byte
 
@@ -72,7 +73,10 @@ none_long [] none = refl
 none_long (x ∷ bytes) none = absurd (omega (arith, none))
 
 module _ (j : JournalJob) (base : BaseTree) (host : HostView) (sink sink' : SinkView) (begins : IfSome host.told (λ t. HasBase t j.run.inputs base)) (machine : Machine) (bytes : List ℕ) (written : HasWritten base (shells_of j.run) machine bytes) (printed : HasGrown bytes sink sink') where
-  kept_at : (old started new : File) → (old.path ≡ j.journal) × (0 ≡ length old.seen) → GoesOn old started → MayLeave started.steps (0 ∷ []) → KeepsOrder base machine.order started new → IsKept j host sink sink' old new
+  abbrev pub Keeps : File → File → Type 0
+  Keeps = KeepsRun base (shells_of j.run) (events_written base (shells_of j.run) machine bytes written) machine
+
+  kept_at : (old started new : File) → (old.path ≡ j.journal) × (0 ≡ length old.seen) → GoesOn old started → MayLeave started.steps (0 ∷ []) → Keeps started new → IsKept j host sink sink' old new
   kept_at old started new empty later gate keeps = record {
     base = base;
     begins = begins;
@@ -80,7 +84,7 @@ module _ (j : JournalJob) (base : BaseTree) (host : HostView) (sink sink' : Sink
     empty = none_long old.seen empty.1;
     started = started;
     later = later;
-    gate = stays started new (moment started) (0 ∷ []) keeps.leaves.goes_on (omega arith) (at_present (moment started) started.steps (0 ∷ []) gate);
+    gate = stays started new (moment started) (0 ∷ []) keeps.keeps.leaves.goes_on (omega arith) (at_present (moment started) started.steps (0 ∷ []) gate);
     machine = machine;
     bytes = bytes;
     written = written;
@@ -91,11 +95,11 @@ module _ (j : JournalJob) (base : BaseTree) (host : HostView) (sink sink' : Sink
   abbrev pub Kept : File → File → Type 0
   Kept old new = GoesOn old new × (HasNothing j sink sink' old new ⊎ IsKept j host sink sink' old new)
 
-  pub told_kept : (a b c : Option File) → IfSome a (λ file. (file.path ≡ j.journal) × (0 ≡ length file.seen)) → StaysTold a b → IfSome b (λ file. MayLeave file.steps (0 ∷ [])) → IfFile (KeepsOrder base machine.order) b c → IfFile Kept a c
-  told_kept None b c empty told gate keeps = subst (λ o. IfFile (KeepsOrder base machine.order) o c) told keeps
+  pub told_kept : (a b c : Option File) → IfSome a (λ file. (file.path ≡ j.journal) × (0 ≡ length file.seen)) → StaysTold a b → IfSome b (λ file. MayLeave file.steps (0 ∷ [])) → IfFile Keeps b c → IfFile Kept a c
+  told_kept None b c empty told gate keeps = subst (λ o. IfFile Keeps o c) told keeps
   told_kept (Some old) None c empty told gate keeps = absurd told
   told_kept (Some old) (Some started) c empty told gate keeps =
-      some_and_map c (KeepsOrder base machine.order started) (Kept old) (λ new keeps. (goes_over old started new told keeps.leaves.goes_on, inr (kept_at old started new empty told gate keeps))) keeps
+      some_and_map c (Keeps started) (Kept old) (λ new keeps. (goes_over old started new told keeps.keeps.leaves.goes_on, inr (kept_at old started new empty told gate keeps))) keeps
 
 pub broken_keeps : (j : JournalJob) (base : BaseTree) (host : HostView) (sink sink' : SinkView) (disk mid disk' : DiskView) (st : Status) → IfSome host.told (λ t. HasBase t j.run.inputs base) → HasEmptyJournal j disk → Continues disk mid → MayLeaveGate mid → RecordCause base (shells_of j.run) mid disk' sink sink' st → KeepsJournal j host sink sink' disk disk'
 broken_keeps j base host sink sink' disk mid disk' st begins empty continues gate cause =
@@ -124,11 +128,11 @@ pub front_of : (text : List ℕ) (sink sink' : SinkView) → IfSome sink.written
 front_of text sink sink' front = count_of sink.written (λ w n. sink'.written ≡ Some (w ++ take n text)) front
 
 -- how much of the report is written
-pub front_left : (out : List ℕ) (there : Bool) (nodes : Nodes) (text : List ℕ) (host host' : HostView) (sink sink' : SinkView) (st : Status) → FinishEnd out there nodes text host host' sink sink' st → (n : ℕ) × HasGrown (take n text) sink sink'
+pub front_left : (out : List ℕ) (there : Bool) (nodes : Nodes) (text : List ℕ) (host host' : HostView) (sink sink' : SinkView) (st : Status) → SaveEnd out there nodes text host host' sink sink' st → (n : ℕ) × HasGrown (take n text) sink sink'
 front_left out there nodes text host host' sink sink' st (done saves grown) = (length text, grown_as text (take (length text) text) sink sink' (sym (take_all (length text) text (omega arith))) grown)
 front_left out there nodes text host host' sink sink' st (unmade part same) = (0, nothing_more text sink sink' same)
 front_left out there nodes text host host' sink sink' st (unsaved part cause same) = (0, nothing_more text sink sink' same)
-front_left out there nodes text host host' sink sink' st (unwritten saves front rose) = front_of text sink sink' front
+front_left out there nodes text host host' sink sink' st (unprinted saves front rose) = front_of text sink sink' front
 
 module _ (base : BaseTree) (schedule : List ℕ) (disk disk' : DiskView) (sink mid : SinkView) (board : Log) (retries : List Retry) (had : HasRecorded base schedule disk disk' sink mid board retries) where
   abbrev pub text : List ℕ
@@ -150,7 +154,7 @@ module _ (base : BaseTree) (schedule : List ℕ) (disk disk' : DiskView) (sink m
   grown_by n sink' grown = grown_more (lines had.events) (take n text_by_events) sink mid sink' had.printed (grown_as (take n text) (take n text_by_events) mid sink' (ap (λ l. take n l) text_same) grown)
 
 pub finished_keeps : (j : JournalJob) (base : BaseTree) (there : Bool) (host host' : HostView) (sink mid sink' : SinkView) (disk started disk' : DiskView) (board : Log) (retries : List Retry) (st : Status) → IfSome host.told (λ t. HasBase t j.run.inputs base) → HasEmptyJournal j disk → Continues disk started → MayLeaveGate started → HasRecorded base (shells_of j.run) started disk' sink mid board retries
-    → FinishEnd j.run.out there (last_state board) (report board.base board.order retries) host host' mid sink' st → KeepsJournal j host sink sink' disk disk'
+    → SaveEnd j.run.out there (last_state board) (report board.base board.order retries) host host' mid sink' st → KeepsJournal j host sink sink' disk disk'
 finished_keeps j base there host host' sink mid sink' disk started disk' board retries st begins empty continues gate had end =
     let front = front_left j.run.out there (last_state board) (report board.base board.order retries) host host' mid sink' st end in
     told_kept j base host sink sink' begins (resting base board.order) (bytes_of base (shells_of j.run) started disk' sink mid board retries had front.0) (inr (report_of base (shells_of j.run) started disk' sink mid board retries had front.0))

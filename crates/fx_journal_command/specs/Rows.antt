@@ -7,19 +7,20 @@ use Rattle.fx_outside.specs.Path.{parts, is_fit}
 use Rattle.fx_outside.specs.Sink.{SinkView}
 use Rattle.fx_outside.specs.Tree.{Tree}
 use Rattle.fx_folder.specs.Folder.{IfTold, IsReady, IsTaken, IsSaved, IsPartlySaved}
-use Rattle.fx_folder.specs.Loads.{IsRefused}
 use Rattle.fx_spec.specs.Order.{BaseTree, state}
 use Rattle.fx_machine.specs.Machine.{Machine}
 use Rattle.fx_words.specs.Job.{RunJob, JournalJob, shells_of}
 use Rattle.fx_command.specs.declared.status.Status.{Status}
 use Rattle.fx_command.specs.declared.status.Status.TheVariants as status
 use Rattle.fx_command.specs.Left.{IsSame, Grows}
-use Rattle.fx_inputs.specs.Inputs.{HasTexts, HasInputs, HasBase, CannotRead, IsFirstRefused}
-use Rattle.fx_inputs.specs.Reads.{HasReadFault}
-use Rattle.fx_run_command.specs.Rows.{IsDone, IsProperRun, CannotSave, RunAsks}
-use Rattle.fx_durable.specs.Disk.{File, DiskView, LeftSince, GoesOn, IsUnstarted, IsAsTold, TellsLength, TellsOther, TellsAt, ChoosesTold, moment}
-use Rattle.fx_journaling.specs.Kept.{IfFile, KeepsOrder}
-use Rattle.fx_journaling.specs.Written.{HasWritten, HasWrittenEvents, HasWrittenReport, IsBeforeSettled, IsFrontOfOutput}
+use Rattle.fx_command.specs.Table.{IsDone, CannotSave}
+use Rattle.fx_inputs.specs.Inputs.{HasInputs, HasBase}
+use Rattle.fx_inputs.specs.Readings.{inputs_reading}
+use Rattle.fx_run_command.specs.Rows.{run_making, run_command, IsProperRun, RunAsks}
+use Rattle.fx_durable.specs.Disk.{File, DiskView, LeftSince, GoesOn, IsUnstarted, IsAsTold, TellsLength, FailsAt, TellsAt, ChoosesTold, moment}
+use Rattle.fx_journaling.specs.Kept.{IfFile}
+use Rattle.fx_journaling.specs.Recorded.{KeepsRun}
+use Rattle.fx_journaling.specs.Written.{HasWritten, events_written, HasWrittenEvents, HasWrittenReport, IsBeforeSettled, IsFrontOfOutput}
 
 -- some of a run's events are written, which is a front of the output of a whole run, and OUT is as before
 pub record IsStopped (t t' : Tree) (j : RunJob) (before after : Option (List ℕ)) : Type 0 where
@@ -78,15 +79,11 @@ IsLeftOrWhole j before after t t' = IsLeft j before after t t' ⊎ IsWholeLeft t
 
 -- a call at OUT failed, OUT is unfit, or nothing stands there and no folder above
 abbrev pub CannotLeave : RunJob → HostView → HostView → Type 0
-CannotLeave j host host' = FaultIn j.out host host' ⊎ IsSomeAnd host.told (λ t. CannotSave t j)
-
--- the disk failed, or tells a file at another path
-abbrev pub HasJournalFault : List ℕ → DiskView → DiskView → Type 0
-HasJournalFault path disk disk' = Rose disk.faults disk'.faults ⊎ TellsOther disk path
+CannotLeave j host host' = FaultIn j.out host host' ⊎ IsSomeAnd host.told (CannotSave (run_command j))
 
 -- the journal is not started, and OUT is free
 abbrev pub CannotStart : JournalJob → HostView → DiskView → DiskView → Type 0
-CannotStart j host disk disk' = HasJournalFault j.journal disk disk' × IfSome host.told (λ t. (there : Bool) × IsReady t j.run.out there)
+CannotStart j host disk disk' = FailsAt j.journal disk disk' × IfSome host.told (λ t. (there : Bool) × IsReady t j.run.out there)
 
 -- a call at OUT failed, or OUT is unfit
 abbrev pub CannotReach : RunJob → HostView → HostView → Type 0
@@ -124,11 +121,11 @@ HoldsBytes path disk = TellsAt disk path × IfSome disk.told (λ file. 0 < lengt
 
 -- how `journal` ends
 abbrev pub JournalEnd : JournalJob → HostView → HostView → SinkView → SinkView → DiskView → DiskView → Status → Type 0
-JournalEnd j host host' sink sink' disk disk' status.Done = HasEmptyJournal j disk × (disk'.faults ≡ disk.faults) × Grows sink sink' × IfTold host.told host'.told (λ t t'. IsDone t t' j.run sink.written sink'.written)
+JournalEnd j host host' sink sink' disk disk' status.Done = HasEmptyJournal j disk × (disk'.faults ≡ disk.faults) × Grows sink sink' × IfTold host.told host'.told (λ t t'. IsDone (run_making j.run) t t' sink.written sink'.written)
 JournalEnd j host host' sink sink' disk disk' status.Usage = ⊥
-JournalEnd j host host' sink sink' disk disk' (status.TextRefused word cause) = IsSame host host' sink sink' × (disk' ≡ disk) × IfSome host.told (λ t. IsFirstRefused t j.run.inputs word cause)
-JournalEnd j host host' sink sink' disk disk' (status.FolderRefused cause) = IsSame host host' sink sink' × (disk' ≡ disk) × IfSome host.told (λ t. HasTexts t j.run.inputs × IsRefused t j.run.inputs.folder cause)
-JournalEnd j host host' sink sink' disk disk' status.ReadFault = IsSame host host' sink sink' × (disk' ≡ disk) × (HasReadFault j.run.inputs host host' ⊎ IsSomeAnd host.told (λ t. CannotRead t j.run.inputs))
+JournalEnd j host host' sink sink' disk disk' (status.TextRefused word cause) = IsSame host host' sink sink' × (disk' ≡ disk) × (inputs_reading j.run.inputs).refused host word cause
+JournalEnd j host host' sink sink' disk disk' (status.FolderRefused cause) = IsSame host host' sink sink' × (disk' ≡ disk) × (inputs_reading j.run.inputs).unloaded host cause
+JournalEnd j host host' sink sink' disk disk' status.ReadFault = IsSame host host' sink sink' × (disk' ≡ disk) × (inputs_reading j.run.inputs).failed host host'
 JournalEnd j host host' sink sink' disk disk' status.NotEmpty =
     IsSame host host' sink sink' × IsAsTold disk disk' × (disk'.faults ≡ disk.faults) × IfSome host.told (λ t. HasInputs t j.run.inputs × (IsTaken t j.run.out ⊎ (((there : Bool) × IsReady t j.run.out there) × HoldsBytes j.journal disk)))
 JournalEnd j host host' sink sink' disk disk' status.WriteFault = IsUnbegun j host host' sink sink' disk disk' ⊎ IsBrokenOff j host host' sink sink' disk disk'
@@ -140,7 +137,7 @@ abbrev pub JournalRow : JournalJob → HostView → HostView → SinkView → Si
 JournalRow j host host' sink sink' disk disk' st = ChoosesTold j.journal disk disk' × JournalEnd j host host' sink sink' disk disk' st
 
 -- The file was at JOURNAL and empty. The journal was started in it at a moment of this call, and from then on keeps the order of
--- the settled lines that were written.
+-- the settled lines that were written, maybe with the entry of the event that comes next.
 pub record IsKept (j : JournalJob) (host : HostView) (sink sink' : SinkView) (old new : File) : Type 0 where
   pub base : BaseTree
   pub begins : IfSome host.told (λ t. HasBase t j.run.inputs base)
@@ -153,7 +150,7 @@ pub record IsKept (j : JournalJob) (host : HostView) (sink sink' : SinkView) (ol
   pub bytes : List ℕ
   pub written : HasWritten base (shells_of j.run) machine bytes
   pub printed : IfSome sink.written (λ w. sink'.written ≡ Some (w ++ bytes))
-  pub keeps : KeepsOrder base machine.order started new
+  pub keeps : KeepsRun base (shells_of j.run) (events_written base (shells_of j.run) machine bytes written) machine started new
 
 -- the journal was not started, and nothing is written
 pub record HasNothing (j : JournalJob) (sink sink' : SinkView) (old new : File) : Type 0 where

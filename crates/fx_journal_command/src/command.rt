@@ -6,19 +6,19 @@ ghost use Rattle.fx_spec.specs.Bases.{base_tree};
 ghost use Rattle.fx_board.specs.Board.{last_state};
 ghost use Rattle.fx_words.specs.Job.{shells_of};
 ghost use Rattle.fx_words.specs.JobOf.{asked, asked_journal, IsJob, IsJournalJob};
+ghost use Rattle.fx_command.specs.Saved.{SaveEnd};
 ghost use Rattle.fx_command.specs.StatusOf.{status_of};
 ghost use Rattle.fx_inputs.specs.Inputs.{HasBase, HasEachScript};
 ghost use Rattle.fx_durable.specs.Disk.{Continues, StaysUnstarted, ChoosesTold, TellsLength};
 ghost use Rattle.fx_journaling.specs.Recorded.{IsStarted, EndsRecorded};
 ghost use Rattle.fx_journal_command.specs.Rows.{JournalEnd, JournalRow, JournalAsks, KeepsJournal};
-ghost use Rattle.fx_journal_command.specs.Stages.{MayLeaveGate, StartCause, RecordCause, FinishEnd, run_report};
+ghost use Rattle.fx_journal_command.specs.Stages.{MayLeaveGate, StartCause, RecordCause, run_report};
 
-use fx_command::{Status, print_all, ready_out};
+use fx_command::{Status, ready_out, save_and_print};
 use fx_durable::{Disk, Journal, StartFault};
-use fx_folder::save;
 use fx_inputs::read_base;
 use fx_journaling::{RecordFault, Recorded, record};
-use fx_outside::{Host, HostText, Sink, SinkFailed};
+use fx_outside::{Host, HostText, Sink};
 use fx_report::report;
 use fx_spec::Base;
 use fx_words::{JournalJob, RunJob};
@@ -79,17 +79,14 @@ fn finish<H: Host, S: Sink>(
     out: &mut S,
 ) -> Result<(), Status>
     requires { IfSome (H.view host.old).told (λ t. IsReady t out_path.now there) }
-    ensures end { FinishEnd out_path.now there (last_state recorded.now.board)
+    ensures end { SaveEnd out_path.now there (last_state recorded.now.board)
         (run_report recorded.now)
         (H.view host.old) (H.view host.new) (S.view out.old) (S.view out.new) (status_of result) }
     ensures fit { WritesIn out_path.now (H.view host.old) (H.view host.new) }
 {
     let report = report(alloc, &recorded.board, &recorded.retries)?;
-    save(alloc, host, out_path, there, recorded.board.store())?;
-    match print_all(out, report.as_slice()) {
-        Ok(()) => Ok(()),
-        Err(SinkFailed) => Err(Status::WriteFault),
-    }
+    let store = recorded.board.store();
+    save_and_print(alloc, out_path, there, store, report.as_slice(), host, out)
 }
 
 /// Starts the journal, runs the scripts over it, and leaves the folder that they make.

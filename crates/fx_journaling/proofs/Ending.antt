@@ -26,10 +26,10 @@ use Rattle.fx_sched.specs.World as World
 use Rattle.fx_sched.proofs.Runs.{run_same}
 use Rattle.fx_journaling.specs.declared.fault.RecordFault.{RecordFault}
 use Rattle.fx_journaling.specs.declared.fault.RecordFault.TheVariants as fault
-use Rattle.fx_journaling.specs.Kept.{HasAtMostOneMore, IfFile, HoldsOrder, LeavesEither, KeepsOrder}
+use Rattle.fx_journaling.specs.Kept.{HasAtMostOneMore, IfFile, HoldsOrder, LeavesEither}
 use Rattle.fx_journaling.specs.Written.{IsPartOfLine, IsBeforeSettled}
 use Rattle.fx_journaling.specs.Taken.{Beginning, beginning, HasTaken, IsUnkept, IsUntold, HasRefused}
-use Rattle.fx_journaling.specs.Recorded.{IsStarted, HasRecorded, HasBrokenOff, fault_in}
+use Rattle.fx_journaling.specs.Recorded.{IsStarted, IsNextOrder, KeepsRun, HasRecorded, HasBrokenOff, fault_in}
 use Rattle.fx_journaling.proofs.Holding.{holds_leaves, if_file_map, spells_rested}
 use Rattle.fx_journaling.proofs.Taking.{lines_more, grown_none, grown_as, run_more}
 
@@ -50,9 +50,9 @@ module _ (base : BaseTree) (schedule : List ℕ) (disk disk' : DiskView) (sink s
   abbrev began : Beginning
   began = beginning base disk sink disk_name sink_name
 
-  keeps : (order longer : List Turn) → HasAtMostOneMore order longer → IfFile (LeavesEither base order longer) disk.told disk'.told → IfFile (KeepsOrder base order) disk.told disk'.told
-  keeps order longer more leaves =
-      if_file_map (LeavesEither base order longer) (KeepsOrder base order) (λ old new leaves. record { longer = longer; more = more; leaves = leaves }) disk.told disk'.told leaves
+  keeps : (events : List Event) (m : Machine) (longer : List Turn) → HasAtMostOneMore m.order longer → (longer ≡ m.order) ⊎ IsNextOrder base schedule events m longer → IfFile (LeavesEither base m.order longer) disk.told disk'.told → IfFile (KeepsRun base schedule events m) disk.told disk'.told
+  keeps events m longer more next leaves =
+      if_file_map (LeavesEither base m.order longer) (KeepsRun base schedule events m) (λ old new leaves. record { keeps = record { longer = longer; more = more; leaves = leaves }; next = next }) disk.told disk'.told leaves
 
   held_leaves : (before order : List Turn) → IfFile (HoldsOrder base order) disk.told disk'.told → IfFile (LeavesEither base before order) disk.told disk'.told
   held_leaves before order held = if_file_map (HoldsOrder base order) (LeavesEither base before order) (λ old new holds. holds_leaves base order before old new holds) disk.told disk'.told held
@@ -65,7 +65,7 @@ module _ (base : BaseTree) (schedule : List ℕ) (disk disk' : DiskView) (sink s
       bytes = lines events;
       written = record { events = events; run = taken.run; turns = ([], subst (BeginsTurns base [] schedule) (sym (append-nil events)) begins); rest = []; printed = sym (append-nil (lines events)); behind = inl refl };
       printed = taken.printed;
-      keeps = keeps running.machine.order running.machine.order (inl refl) (held_leaves running.machine.order running.machine.order taken.held.told);
+      keeps = keeps events running.machine running.machine.order (inl refl) (inl refl) (held_leaves running.machine.order running.machine.order taken.held.told);
       cause = tt;
       others = taken.held.others;
       calm = λ _. taken.held.calm;
@@ -75,7 +75,6 @@ module _ (base : BaseTree) (schedule : List ℕ) (disk disk' : DiskView) (sink s
     pub recorded : (board : Log) (retries : List Retry) → IsTraced base schedule (record { board = board; retries = retries; events = events }) → HasRecorded base schedule disk disk' sink sink' board retries
     recorded board retries traced =
         let same : running.machine ≡ resting base board.order = run_same base (resting base []) running.machine (resting base board.order) events taken.run traced.run in
-        let order : running.machine.order ≡ board.order = ap (λ (m : Machine). m.order) same in
         record {
           events = events;
           traced = traced;
@@ -83,7 +82,7 @@ module _ (base : BaseTree) (schedule : List ℕ) (disk disk' : DiskView) (sink s
           later = taken.later;
           calm = taken.held.calm;
           others = taken.held.others;
-          keeps = subst (λ o. IfFile (KeepsOrder base o) disk.told disk'.told) order (keeps running.machine.order running.machine.order (inl refl) (held_leaves running.machine.order running.machine.order taken.held.told));
+          keeps = subst (λ m. IfFile (KeepsRun base schedule events m) disk.told disk'.told) same (keeps events running.machine running.machine.order (inl refl) (inl refl) (held_leaves running.machine.order running.machine.order taken.held.told));
         }
 
   -- a run of which an event is refused
@@ -98,7 +97,7 @@ module _ (base : BaseTree) (schedule : List ℕ) (disk disk' : DiskView) (sink s
       bytes = lines events ++ take refused.count (event_line e);
       written = record { events = events; run = refused.run; turns = (e ∷ [], begins); rest = take refused.count (event_line e); printed = refl; behind = behind };
       printed = refused.printed;
-      keeps = keeps refused.before.order running.machine.order (step_more base refused.before e running.machine refused.step) leaves;
+      keeps = keeps events refused.before running.machine.order (step_more base refused.before e running.machine refused.step) (inr (record { next = e; after = running.machine; step = refused.step; turns = begins; is = refl })) leaves;
       cause = refused.cause;
       others = refused.others;
       calm = calm;
@@ -135,7 +134,7 @@ module _ (base : BaseTree) (schedule : List ℕ) (disk disk' : DiskView) (sink s
             behind = inl refl;
           };
           printed = grown_as (lines events ++ take refused.count (event_line e)) (lines (events ++ e ∷ [])) sink sink' line refused.printed;
-          keeps = keeps running.machine.order running.machine.order (inl refl) (held_leaves running.machine.order running.machine.order held.holds);
+          keeps = keeps (events ++ e ∷ []) running.machine running.machine.order (inl refl) (inl refl) (held_leaves running.machine.order running.machine.order held.holds);
           cause = refused.cause;
           others = refused.others;
           calm = λ _. held.calm;

@@ -1,4 +1,5 @@
 -- What is written of a run by a schedule: the lines of its events as they come, and then its report.
+use Rattle.std.proofs.Common.{inl, inr}
 use Rattle.std.specs.Prelude.{◌≡◌, ◌⊎◌, ◌<◌, ℕ, List, [], ◌∷◌, ◌++◌, length, take}
 use Rattle.fx_spec.specs.Plans.{Turn}
 use Rattle.fx_spec.specs.Order.{BaseTree, IsComplete}
@@ -52,6 +53,11 @@ pub record HasWrittenReport (base : BaseTree) (schedule : List ℕ) (m : Machine
 
 abbrev pub HasWritten : BaseTree → List ℕ → Machine → List ℕ → Type 0
 HasWritten base schedule m bytes = HasWrittenEvents base schedule m bytes ⊎ HasWrittenReport base schedule m bytes
+
+-- the events whose lines are written
+abbrev pub events_written : (base : BaseTree) (schedule : List ℕ) (m : Machine) (bytes : List ℕ) → HasWritten base schedule m bytes → List Event
+events_written base schedule m bytes (inl written) = written.events
+events_written base schedule m bytes (inr written) = written.events
 
 -- the bytes are a front of the output of a whole run by the schedule: the lines of all its events, and then its report
 pub record IsFrontOfOutput (base : BaseTree) (schedule : List ℕ) (bytes : List ℕ) : Type 0 where

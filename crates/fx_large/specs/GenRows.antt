@@ -1,7 +1,7 @@
 -- What `gen` makes of its words, a number and OUT: the folder of the number's case, and a line.
 use Rattle.std.specs.Prelude.{◌≡◌, ℕ, List, codes}
 use Rattle.fx_outside.specs.Path.{parts}
-use Rattle.fx_command.specs.Making.{Making}
+use Rattle.fx_command.specs.Table.{Making}
 use Rattle.fx_large.specs.Case.{Case, case_of, IsWritten, IsPartlyWritten}
 
 abbrev pub generated : List ℕ
@@ -10,7 +10,7 @@ generated = codes "generated\n"
 abbrev pub gen_making : ℕ → List ℕ → Making Case
 gen_making number out = record {
   out = out;
-  comes = λ c. c ≡ case_of number;
+  comes = λ c t. c ≡ case_of number;
   stands = λ c t t'. IsWritten t t' (parts out) c;
   begun = λ c t t'. IsPartlyWritten t t' (parts out) c;
   prints = λ c. generated;

@@ -4,7 +4,7 @@ use Rattle.fx_outside.specs.Path.{parts}
 use Rattle.fx_folder.specs.Folder.{IsSaved, IsPartlySaved}
 use Rattle.fx_spec.specs.Order.{IsComplete, state}
 use Rattle.fx_spec.specs.Plans.{Turn}
-use Rattle.fx_command.specs.Making.{Making}
+use Rattle.fx_command.specs.Table.{Making}
 use Rattle.fx_large.specs.Summary.{summary}
 use Rattle.fx_large.specs.Base.{generated_base}
 
@@ -12,7 +12,7 @@ use Rattle.fx_large.specs.Base.{generated_base}
 abbrev pub large_making : ℕ → List ℕ → Making (List Turn)
 large_making number out = record {
   out = out;
-  comes = IsComplete (generated_base number);
+  comes = λ o t. IsComplete (generated_base number) o;
   stands = λ o t t'. IsSaved t t' (parts out) (state (generated_base number) o (length o));
   begun = λ o t t'. IsPartlySaved t t' (parts out) (state (generated_base number) o (length o));
   prints = summary (generated_base number);

@@ -4,7 +4,7 @@ ghost use Rattle.fx_outside.specs.Host.{WritesIn};
 ghost use Rattle.fx_command.specs.Out.{WritesOut};
 ghost use Rattle.fx_folder.specs.Folder.{IsReady};
 ghost use Rattle.fx_command.specs.StatusOf.{status_of};
-ghost use Rattle.fx_command.specs.Making.{MakingRow};
+ghost use Rattle.fx_command.specs.Table.{CommandRow, making_only};
 ghost use Rattle.fx_large.specs.Summary as sums;
 ghost use Rattle.fx_large.specs.Base.{IsRunOf};
 ghost use Rattle.fx_large.specs.LargeRows.{large_making};
@@ -13,9 +13,8 @@ use crate::base::base;
 use crate::lines::summary;
 use fx_base::NoMemory;
 use fx_board::Board;
-use fx_command::{Status, print_all, ready_out};
-use fx_folder::save;
-use fx_outside::{Gate, Host, HostText, Sink, SinkFailed};
+use fx_command::{Status, ready_out, save_and_print};
+use fx_outside::{Gate, Host, HostText, Sink};
 use fx_store::LongText;
 use fx_workers::run_all;
 use std::alloc::Global;
@@ -37,7 +36,7 @@ fn run<R: Threads + Wait + Sync, G: Gate + Sync>(
 }
 
 /// Saves the last filestore, and then prints the summary.
-fn save_and_print<H: Host, S: Sink>(
+fn leave<H: Host, S: Sink>(
     alloc: Global,
     number: u32,
     path: &HostText,
@@ -50,15 +49,11 @@ fn save_and_print<H: Host, S: Sink>(
     requires ready { IfSome (H.view host.old).told (λ t. IsReady t path.now there) }
     requires run { IsRunOf number board.now }
     requires output { output.now ≡ sums.summary board.now.base board.now.order }
-    ensures row { MakingRow (large_making number path.now) (H.view host.old) (H.view host.new)
+    ensures row { CommandRow (making_only (large_making number path.now)) (H.view host.old) (H.view host.new)
         (S.view out.old) (S.view out.new) (status_of result) }
     ensures fit { WritesIn path.now (H.view host.old) (H.view host.new) }
 {
-    save(alloc, host, path, there, board.store())?;
-    match print_all(out, output.as_slice()) {
-        Ok(()) => Ok(()),
-        Err(SinkFailed) => Err(Status::WriteFault),
-    }
+    save_and_print(alloc, path, there, board.store(), output.as_slice(), host, out)
 }
 
 /// Runs the case of a number on threads, leaves the folder that it makes at a path, and prints what the run is summed up
@@ -72,12 +67,12 @@ pub fn run_generated<R: Threads + Wait + Sync, H: Host, S: Sink, G: Gate + Sync>
     out: &mut S,
     gate: &G,
 ) -> Result<(), Status>
-    ensures row { MakingRow (large_making number path.now) (H.view host.old) (H.view host.new)
+    ensures row { CommandRow (making_only (large_making number path.now)) (H.view host.old) (H.view host.new)
         (S.view out.old) (S.view out.new) (status_of result) }
     ensures fit { WritesOut path.now (H.view host.old) (H.view host.new) }
 {
     let there = ready_out(alloc, path, host)?;
     let board = run(rt, alloc, number, gate)?;
     let output = summary(alloc, &board)?;
-    save_and_print(alloc, number, path, there, &board, &output, host, out)
+    leave(alloc, number, path, there, &board, &output, host, out)
 }

@@ -1,9 +1,8 @@
 -- What `recover` comes to: the order that the journal spells, the filestore after it, and the line that tells its length.
-use Rattle.std.specs.Prelude.{◌≡◌, ◌++◌, ℕ, Bool, List, codes, length, IfSome}
+use Rattle.std.specs.Prelude.{◌≡◌, ◌++◌, ℕ, List, codes, length, IfSome}
 use Rattle.std.specs.Fmt.{decimal}
 use Rattle.fx_store.specs.Whole.{Nodes}
 use Rattle.fx_outside.specs.Tree.{Tree}
-use Rattle.fx_folder.specs.Folder.{IsReady}
 use Rattle.fx_spec.specs.Plans.{Turn}
 use Rattle.fx_spec.specs.Order.{BaseTree, IsLegal, state}
 use Rattle.fx_report.specs.Report.{line}
@@ -38,11 +37,6 @@ pub record IsOutcome (t : Tree) (j : RecoverJob) (disk : DiskView) (nodes : Node
   pub read : HasOrder t j disk base order
   pub last : nodes ≡ state base order (length order)
   pub printed : output ≡ recovered_line (length order)
-
--- it is made, and OUT can be written
-pub record IsAnswered (t : Tree) (j : RecoverJob) (disk : DiskView) (nodes : Nodes) (output : List ℕ) (there : Bool) : Type 0 where
-  pub outcome : IsOutcome t j disk nodes output
-  pub free : IsReady t j.out there
 
 -- The inputs stand for one base alone, and of the file at JOURNAL the record of this number, counted from 0, is the first that
 -- is cut short or is one too many, or with whose transaction the order is not legal.

@@ -1,18 +1,20 @@
 //! The command `recover`.
+ghost use Rattle.std.specs.Prelude.{IfSome};
 ghost use Rattle.fx_command.specs.Out.{WritesOut};
 ghost use Rattle.fx_spec.specs.Bases.{base_tree};
 ghost use Rattle.fx_spec.specs.Order.{IsLegal};
 ghost use Rattle.fx_words.specs.JobOf.{asked_recover, AreInputs};
 ghost use Rattle.fx_command.specs.StatusOf.{status_of};
 ghost use Rattle.fx_durable.specs.Journal.{turns_of};
+ghost use Rattle.fx_inputs.specs.Inputs.{HasBase, IsOnlyBase};
 ghost use Rattle.fx_recover_command.specs.Rows.{RecoverRow, RecoverAsks};
 ghost use Rattle.fx_recover_command.specs.Stages.{LeaveEnd};
 
 use crate::journal::read_order;
-use crate::replaying::{replayed, save_and_print};
-use fx_command::{Status, ready_out};
+use crate::replaying::replayed;
+use fx_command::{Status, ready_out, save_and_print};
 use fx_durable::{Disk, Pairs};
-use fx_inputs::read_base;
+use fx_inputs::{let_go, read_base};
 use fx_outside::{Host, Sink};
 use fx_spec::Base;
 use fx_words::RecoverJob;
@@ -35,7 +37,28 @@ fn leave<H: Host, S: Sink>(
 {
     let there = ready_out(alloc, job.out, host)?;
     let recovered = replayed(alloc, base, order)?;
-    save_and_print(alloc, job, there, &recovered, host, out)
+    save_and_print(alloc, job.out, there, &recovered.store, &recovered.line, host, out)
+}
+
+/// Reads the journal by the base that is read, and leaves the folder after its order at OUT.
+fn restore<H: Host, S: Sink, D: Disk>(
+    alloc: Global,
+    job: &RecoverJob,
+    base: &Arc<Base>,
+    host: &mut H,
+    out: &mut S,
+    disk: &mut D,
+) -> Result<(), Status>
+    requires begins { IfSome (H.view host.old).told (λ t.
+        HasBase t (asked_recover job.now).inputs (base_tree base.now.value)) }
+    requires only { IfSome (H.view host.old).told (λ t.
+        IsOnlyBase t (asked_recover job.now).inputs (base_tree base.now.value)) }
+    ensures row { RecoverRow (asked_recover job.now) (H.view host.old) (H.view host.new)
+        (S.view out.old) (S.view out.new) (D.view disk.old) (D.view disk.new) (status_of result) }
+    ensures fit { WritesOut (asked_recover job.now).out (H.view host.old) (H.view host.new) }
+{
+    let order = read_order(alloc, job.journal, base, disk)?;
+    leave(alloc, job, base, &order, host, out)
 }
 
 /// Leaves at OUT the folder after the commits that the journal keeps, and prints how many they are. A journal that breaks, or
@@ -53,6 +76,7 @@ pub fn recover<H: Host, S: Sink, D: Disk>(
     ensures fit { RecoverAsks (asked_recover job.now) (H.view host.old) (H.view host.new) }
 {
     let base = read_base(alloc, &job.inputs, host)?;
-    let order = read_order(alloc, job.journal, &base, disk)?;
-    leave(alloc, job, &base, &order, host, out)
+    let ended = restore(alloc, job, &base, host, out, disk);
+    let_go(base);
+    ended
 }

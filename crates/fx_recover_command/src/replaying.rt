@@ -1,24 +1,15 @@
-//! The stage that replays the order, and the one that saves and prints.
-ghost use Rattle.std.specs.Prelude.{◌≡◌, IfOk, IfSome, length};
-ghost use Rattle.fx_outside.specs.Host.{WritesIn};
-ghost use Rattle.fx_folder.specs.Folder.{IsReady};
+//! The stage that replays the order.
+ghost use Rattle.std.specs.Prelude.{◌≡◌, IfOk, length};
 ghost use Rattle.fx_spec.specs.Bases.{base_tree};
 ghost use Rattle.fx_spec.specs.Order.{IsLegal, state};
-ghost use Rattle.fx_command.specs.StatusOf.{status_of};
 ghost use Rattle.fx_durable.specs.Journal.{turns_of};
-ghost use Rattle.fx_words.specs.JobOf.{asked_recover};
 ghost use Rattle.fx_recover_command.specs.Recovered.{recovered_line};
-ghost use Rattle.fx_recover_command.specs.Stages.{SaveEnd};
 
 use fx_base::NoMemory;
-use fx_command::{Status, print_all};
 use fx_durable::Pairs;
-use fx_folder::save;
-use fx_outside::{Host, Sink, SinkFailed};
 use fx_replay_log::replay;
 use fx_spec::Base;
 use fx_store::Filestore;
-use fx_words::RecoverJob;
 use std::alloc::Global;
 use std::sync::Arc;
 
@@ -55,27 +46,4 @@ pub(crate) fn replayed(
     let line = line_of(alloc, order.len() as u64)?;
     let store = replay(alloc, base, order)?;
     Ok(Recovered { store, line })
-}
-
-/// Saves the filestore, and then prints the line.
-pub(crate) fn save_and_print<H: Host, S: Sink>(
-    alloc: Global,
-    job: &RecoverJob,
-    there: bool,
-    recovered: &Recovered,
-    host: &mut H,
-    out: &mut S,
-) -> Result<(), Status>
-    requires { IfSome (H.view host.old).told
-        (λ t. IsReady t (asked_recover job.now).out there) }
-    ensures end { SaveEnd (asked_recover job.now)
-        recovered.now.store.nodes recovered.now.line.items there
-        (H.view host.old) (H.view host.new) (S.view out.old) (S.view out.new) (status_of result) }
-    ensures fit { WritesIn (asked_recover job.now).out (H.view host.old) (H.view host.new) }
-{
-    save(alloc, host, job.out, there, &recovered.store)?;
-    match print_all(out, &recovered.line) {
-        Ok(()) => Ok(()),
-        Err(SinkFailed) => Err(Status::WriteFault),
-    }
 }

@@ -1,43 +1,16 @@
 -- With fit inputs and no fault of host or sink a run is done, or memory runs out.
-use Rattle.std.proofs.Common.{◌≡◌, ◌⊎◌, inl, inr, subst, Some, IfSome, IsSomeAnd, refl}
+use Rattle.std.proofs.Common.{◌≡◌, ◌⊎◌, Some}
 use Rattle.fx_base.specs.Causes.{Rose}
-use Rattle.fx_outside.specs.Host.{HostView, FaultIn}
+use Rattle.fx_outside.specs.Host.{HostView}
 use Rattle.fx_outside.specs.Sink.{SinkView}
 use Rattle.fx_outside.specs.Tree.{Tree}
-use Rattle.fx_folder.specs.Folder.{IsTaken}
-use Rattle.fx_folder.specs.Loads.{IsRefused}
 use Rattle.fx_command.specs.declared.status.Status.{Status}
 use Rattle.fx_command.specs.declared.status.Status.TheVariants as status
-use Rattle.fx_command.proofs.Outs.{not_taken, can_write}
-use Rattle.fx_inputs.specs.Inputs.{HasTexts, HasInputs, CannotRead, IsFirstRefused}
-use Rattle.fx_inputs.proofs.AllRead.{can_read, none_refused, not_both}
-use Rattle.fx_inputs.proofs.ReadRows.{read_fault_rose}
+use Rattle.fx_command.proofs.Tables.{completes}
+use Rattle.fx_inputs.proofs.Readings.{inputs_all_read}
 use Rattle.fx_words.specs.Job.{RunJob}
-use Rattle.fx_run_command.specs.Rows.{RunRow, CannotSave, IsProperRun}
+use Rattle.fx_run_command.specs.Rows.{run_command, RunRow, IsProperRun}
 
-can_save : (t : Tree) (j : RunJob) → IsProperRun t j → CannotSave t j → ⊥
-can_save t j proper cannot = can_write t j.out proper.there proper.free proper.above cannot.1
-
-abbrev Ends : Status → Type 0
-Ends st = (st ≡ status.Done) ⊎ (st ≡ status.NoMemory)
-
-pub run_completes : (j : RunJob) (t : Tree) (host host' : HostView) (sink sink' : SinkView) (st : Status) → host.told ≡ Some t → IsProperRun t j → (Rose host.faults host'.faults → ⊥) → (Rose sink.faults sink'.faults → ⊥) → RunRow j host host' sink sink' st → Ends st
-run_completes j t host host' sink sink' status.Done is proper none quiet row = inl refl
-run_completes j t host host' sink sink' status.Usage is proper none quiet row = absurd row
-run_completes j t host host' sink sink' (status.TextRefused word cause) is proper none quiet row =
-    absurd (none_refused t j.inputs word cause proper.inputs.0 (subst (λ o. IfSome o (λ t. IsFirstRefused t j.inputs word cause)) is row.1))
-run_completes j t host host' sink sink' (status.FolderRefused cause) is proper none quiet row =
-    absurd (not_both t j.inputs.folder proper.inputs.1.0 cause proper.inputs.1.1 (subst (λ o. IfSome o (λ t. HasTexts t j.inputs × IsRefused t j.inputs.folder cause)) is row.1).1)
-run_completes j t host host' sink sink' status.ReadFault is proper none quiet (same, inl fault) = absurd (none (read_fault_rose j.inputs host host' fault))
-run_completes j t host host' sink sink' status.ReadFault is proper none quiet (same, inr cannot) =
-    absurd (can_read t j.inputs proper.inputs (subst (λ o. IsSomeAnd o (λ t. CannotRead t j.inputs)) is cannot))
-run_completes j t host host' sink sink' status.NotEmpty is proper none quiet row =
-    absurd (not_taken t j.out proper.there proper.free (subst (λ o. IfSome o (λ t. HasInputs t j.inputs × IsTaken t j.out)) is row.1).1)
-run_completes j t host host' sink sink' status.WriteFault is proper none quiet (inl row) = absurd (not_unsaved row.cause)
-  where
-    not_unsaved : FaultIn j.out host host' ⊎ IsSomeAnd host.told (λ t. CannotSave t j) → ⊥
-    not_unsaved (inl fault) = none fault.rose
-    not_unsaved (inr cannot) = can_save t j proper (subst (λ o. IsSomeAnd o (λ t. CannotSave t j)) is cannot)
-run_completes j t host host' sink sink' status.WriteFault is proper none quiet (inr row) = absurd (quiet row.cause)
-run_completes j t host host' sink sink' status.NoMemory is proper none quiet row = inr refl
-run_completes j t host host' sink sink' (status.BadJournal place) is proper none quiet row = absurd row
+pub run_completes : (j : RunJob) (t : Tree) (host host' : HostView) (sink sink' : SinkView) (st : Status) → host.told ≡ Some t → IsProperRun t j → (Rose host.faults host'.faults → ⊥) → (Rose sink.faults sink'.faults → ⊥) → RunRow j host host' sink sink' st → (st ≡ status.Done) ⊎ (st ≡ status.NoMemory)
+run_completes j t host host' sink sink' st is proper none quiet row =
+    completes (run_command j) t host host' sink sink' st is (inputs_all_read j.inputs t host host' is proper.inputs none) proper.out none quiet row

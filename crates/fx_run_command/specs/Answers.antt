@@ -1,19 +1,17 @@
 -- What a run has come to between its stages.
-use Rattle.std.specs.Prelude.{◌≡◌, ◌++◌, ℕ, Bool, List, map, length}
+use Rattle.std.specs.Prelude.{◌≡◌, ◌++◌, ℕ, List, map, length}
 use Rattle.fx_store.specs.Whole.{Nodes}
-use Rattle.fx_outside.specs.Tree.{Tree}
-use Rattle.fx_folder.specs.Folder.{IsReady}
 use Rattle.fx_spec.specs.Plans.{Turn}
 use Rattle.fx_spec.specs.Order.{BaseTree, IsComplete, RetriesOk, state}
 use Rattle.fx_machine.specs.declared.retry.Retry.{Retry}
 use Rattle.fx_machine.specs.Tried.{retry_tree}
-use Rattle.fx_words.specs.Job.{RunJob, Mode}
+use Rattle.fx_words.specs.Job.{Mode}
 use Rattle.fx_board.specs.Board.{last_state}
 use Rattle.fx_report.specs.Entries.{report}
 use Rattle.fx_report.specs.Events.{lines}
 use Rattle.fx_sched.specs.declared.schedule.Traced.{Traced}
 use Rattle.fx_run_command.specs.declared.runs.Answer.{Answer}
-use Rattle.fx_run_command.specs.Outcome.{IsPrintedAs, IsOutcome}
+use Rattle.fx_run_command.specs.Outcome.{IsPrintedAs}
 
 -- a whole run from a base on: the output, and the last filestore
 pub record IsRunFrom (base : BaseTree) (mode : Mode) (nodes : Nodes) (output : List ℕ) : Type 0 where
@@ -23,11 +21,6 @@ pub record IsRunFrom (base : BaseTree) (mode : Mode) (nodes : Nodes) (output : L
   pub tried : RetriesOk base order (map retry_tree retries)
   pub printed : IsPrintedAs mode base order retries output
   pub last : nodes ≡ state base order (length order)
-
--- the output is made, and OUT can be written
-pub record IsAnswered (t : Tree) (j : RunJob) (nodes : Nodes) (output : List ℕ) (there : Bool) : Type 0 where
-  pub outcome : IsOutcome t j nodes output
-  pub free : IsReady t j.out there
 
 -- the last filestore of a run
 abbrev pub last_of : Answer → Nodes

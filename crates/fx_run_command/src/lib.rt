@@ -4,5 +4,4 @@
 mod command;
 mod runs;
 
-pub use command::{make_ready, run, save_and_print};
-pub use runs::{Answer, run_base};
+pub use command::{run, trace};

@@ -22,7 +22,7 @@ use std::thread::Threads;
 
 /// A whole run: its log and its output.
 #[derive(Drop)]
-pub struct Answer {
+pub(crate) struct Answer {
     pub board: Board,
     pub output: LongText,
 }
@@ -37,7 +37,7 @@ fn joined(front: LongText, back: &LongText) -> Result<LongText, NoMemory>
 }
 
 /// Runs each script on a thread of its own.
-fn run_on_threads<R: Threads + Wait + Sync, G: Gate + Sync>(
+pub(crate) fn run_base<R: Threads + Wait + Sync, G: Gate + Sync>(
     rt: &R,
     alloc: Global,
     base: Arc<Base>,
@@ -86,21 +86,16 @@ fn run_watching(alloc: Global, base: Arc<Base>, schedule: &[u32]) -> Result<Answ
     })
 }
 
-/// Runs all scripts on the loaded filestore: on threads, or by the job's schedule, watched or not.
-pub fn run_base<R: Threads + Wait + Sync, G: Gate + Sync>(
-    rt: &R,
-    alloc: Global,
-    job: &RunJob,
-    base: Arc<Base>,
-    gate: &G,
-) -> Result<Answer, NoMemory>
+/// Runs all scripts on one thread, by the job's schedule, watched or not.
+pub(crate) fn trace_base(alloc: Global, job: &RunJob, base: Arc<Base>) -> Result<Answer, NoMemory>
     requires job { IsJob job.now }
+    requires scheduled { (asked job.now).mode ≡ Plain → ⊥ }
     requires count { HasEachScript (asked job.now).inputs (base_tree base.value) }
     ensures { IfOk result (λ a.
         IsRunFrom (base_tree base.value) (asked job.now).mode (last_of a) a.output) }
 {
     match job.mode {
-        RunMode::Plain => run_on_threads(rt, alloc, base, gate),
+        RunMode::Plain => unreachable!(),
         RunMode::Scheduled(_) => {
             let schedule = job.shells(alloc)?;
             run_by(alloc, base, &schedule)

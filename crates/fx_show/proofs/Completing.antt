@@ -1,5 +1,5 @@
 -- With a description and a folder that loads, and no fault of host or sink, `show` is done, or memory runs out.
-use Rattle.std.proofs.Common.{◌≡◌, ◌⊎◌, inl, inr, ℕ, Bool, true, false, List, Option, Some, Ok, Err, IfSome, IsSomeAnd, refl, sym, ◌∙◌, subst}
+use Rattle.std.proofs.Common.{◌≡◌, ◌⊎◌, inl, inr, ℕ, Bool, true, false, List, Option, Some, Ok, Err, IfSome, IsSomeAnd, sym, ◌∙◌, subst}
 use Rattle.fx_base.specs.Causes.{Rose}
 use Rattle.fx_outside.specs.Host.{HostView}
 use Rattle.fx_outside.specs.Sink.{SinkView}
@@ -9,7 +9,8 @@ use Rattle.fx_table.specs.declared.fault.FolderCause.{FolderCause}
 use Rattle.fx_store.specs.Whole.{Nodes}
 use Rattle.fx_command.specs.declared.status.Status.{Status}
 use Rattle.fx_command.specs.declared.status.Status.TheVariants as status
-use Rattle.fx_show.specs.Rows.{ShowRow, ShowReadFault}
+use Rattle.fx_command.proofs.Queries.{completes}
+use Rattle.fx_show.specs.Rows.{show_query, ShowRow, ShowReadFault}
 use Rattle.fx_show.specs.Shows.{HasNoDescription, HasSomeDescription, CannotShow, IsProperShow}
 use Rattle.fx_words.specs.Job.{ShowJob}
 
@@ -19,9 +20,6 @@ two b is isnt = let both : true ≡ false = sym is ∙ isnt in cc
 not_both : (t : Tree) (path : List ℕ) (nodes : Nodes) (cause : FolderCause) → Loads t path nodes → IsRefused t path cause → ⊥
 not_both t path nodes cause loads refused = let both : Ok nodes ≡ Err cause = sym loads.1 ∙ refused.1 in cc
 
-abbrev Ends : Status → Type 0
-Ends st = (st ≡ status.Done) ⊎ (st ≡ status.NoMemory)
-
 can_show : (t : Tree) (j : ShowJob) → IsProperShow t j → CannotShow t j → ⊥
 can_show t j proper (inl spec) = two (is_file_at t j.spec) proper.described.1.file spec
 can_show t j proper (inr (described, folder)) = two (is_folder_at t j.folder) proper.loaded.0 folder
@@ -30,16 +28,15 @@ fault_rose : (j : ShowJob) (host host' : HostView) → ShowReadFault j host host
 fault_rose j host host' (inl fault) = fault.rose
 fault_rose j host host' (inr (fault, described)) = fault.rose
 
-pub show_completes : (j : ShowJob) (t : Tree) (host host' : HostView) (sink sink' : SinkView) (st : Status) → host.told ≡ Some t → IsProperShow t j → (Rose host.faults host'.faults → ⊥) → (Rose sink.faults sink'.faults → ⊥) → ShowRow j host host' sink sink' st → Ends st
-show_completes j t host host' sink sink' status.Done is proper none quiet row = inl refl
-show_completes j t host host' sink sink' status.Usage is proper none quiet row = absurd row
-show_completes j t host host' sink sink' (status.TextRefused word cause) is proper none quiet row =
-    absurd ((subst (λ o. IfSome o (λ t. HasNoDescription t j cause)) is row.2).refused.none proper.described.0 proper.described.1.describes)
-show_completes j t host host' sink sink' (status.FolderRefused cause) is proper none quiet row =
-    absurd (not_both t j.folder proper.nodes cause proper.loaded (subst (λ o. IfSome o (λ t. HasSomeDescription t j × IsRefused t j.folder cause)) is row.1).1)
-show_completes j t host host' sink sink' status.ReadFault is proper none quiet (same, inl fault) = absurd (none (fault_rose j host host' fault))
-show_completes j t host host' sink sink' status.ReadFault is proper none quiet (same, inr cannot) = absurd (can_show t j proper (subst (λ o. IsSomeAnd o (λ t. CannotShow t j)) is cannot))
-show_completes j t host host' sink sink' status.NotEmpty is proper none quiet row = absurd row
-show_completes j t host host' sink sink' status.WriteFault is proper none quiet row = absurd (quiet row.cause)
-show_completes j t host host' sink sink' status.NoMemory is proper none quiet row = inr refl
-show_completes j t host host' sink sink' (status.BadJournal place) is proper none quiet row = absurd row
+pub show_completes : (j : ShowJob) (t : Tree) (host host' : HostView) (sink sink' : SinkView) (st : Status) → host.told ≡ Some t → IsProperShow t j → (Rose host.faults host'.faults → ⊥) → (Rose sink.faults sink'.faults → ⊥) → ShowRow j host host' sink sink' st → (st ≡ status.Done) ⊎ (st ≡ status.NoMemory)
+show_completes j t host host' sink sink' st is proper none quiet row =
+    completes (show_query j) host host' sink sink' st (record {
+      refused = λ word cause why. (subst (λ o. IfSome o (λ t. HasNoDescription t j cause)) is why.1).refused.none proper.described.0 proper.described.1.describes;
+      unloaded = λ cause why. not_both t j.folder proper.nodes cause proper.loaded (subst (λ o. IfSome o (λ t. HasSomeDescription t j × IsRefused t j.folder cause)) is why).1;
+      failed = failed;
+      bad = λ place why. why;
+    }) quiet row
+  where
+    failed : ShowReadFault j host host' ⊎ IsSomeAnd host.told (λ t. CannotShow t j) → ⊥
+    failed (inl fault) = none (fault_rose j host host' fault)
+    failed (inr cannot) = can_show t j proper (subst (λ o. IsSomeAnd o (λ t. CannotShow t j)) is cannot)

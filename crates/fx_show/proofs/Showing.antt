@@ -1,13 +1,14 @@
 -- The rows of the table of statuses for `show`, from what its stages ensure.
 use Rattle.std.proofs.Common.{◌≡◌, ◌⊎◌, inl, inr, ℕ, ◌≤◌, ◌<◌, List, ◌++◌, length, Some, Result, Ok, Err, IfOk, IfErr, IfSome, refl, ◌∙◌, subst, arith}
 use Rattle.std.specs.FinMap.{get}
+use Rattle.fx_base.specs.Causes.{Rose}
 use Rattle.fx_store.specs.Whole.{Nodes}
 use Rattle.fx_outside.specs.declared.kind.HostFault.TheVariants as fails
 use Rattle.fx_outside.specs.Host.{HostView, ReadsOnly}
 use Rattle.fx_outside.specs.Sink.{SinkView}
 use Rattle.fx_outside.specs.Tree.{Tree, bytes_at}
-use Rattle.fx_outside.proofs.Views.{reads_then, fault_back, fault_in_back}
-use Rattle.fx_folder.specs.Loads.{Loads}
+use Rattle.fx_outside.proofs.Views.{fault_back, fault_in_back}
+use Rattle.fx_folder.specs.Loads.{Loads, IsRefused}
 use Rattle.fx_table.specs.declared.fault.LoadFault.TheVariants as load
 use Rattle.fx_grammar.specs.Texts as texts
 use Rattle.fx_spec.specs.SpecTree.{SpecTree}
@@ -19,12 +20,15 @@ use Rattle.fx_show.specs.Described.{Describes, IsRefusedFor, IsUndescribed}
 use Rattle.fx_show.specs.Shown.{root_value, shown}
 use Rattle.fx_command.specs.declared.status.Status.{Status}
 use Rattle.fx_command.specs.declared.status.Status.TheVariants as status
-use Rattle.fx_show.specs.Rows.{ShowReadFault, ShowRow, ShowEndsAs, IsShown, IsShownInPart}
+use Rattle.fx_show.specs.Rows.{ShowReadFault, show_query, ShowRow, ShowEndsAs}
 use Rattle.fx_show.specs.Shows.{HasDescription, HasNoDescription, HasSomeDescription, IsShowing, CannotShow}
 use Rattle.fx_show.specs.Faults.{status_of_fault}
 use Rattle.fx_base.specs.Limits.{source_limit}
+use Rattle.fx_command.specs.Saved.{PrintsPart}
 use Rattle.fx_command.specs.Texts.{IsReadAt}
-use Rattle.fx_command.proofs.Told.{if_some_map, if_some_both, same, grows_all, cause_back, some_back, same_back}
+use Rattle.fx_command.proofs.Queries.{row_back, done, not_printed}
+use Rattle.fx_command.proofs.Readings.{IsSteady}
+use Rattle.fx_command.proofs.Told.{if_some_map, if_some_both, same, cause_back, some_back}
 use Rattle.fx_words.specs.Job.{ShowJob}
 
 -- ---- the text
@@ -77,21 +81,16 @@ show_fault_back : (j : ShowJob) (a b c : HostView) → ReadsOnly a b → ShowRea
 show_fault_back j a b c reads (inl fault) = inl (fault_back j.spec a b c reads.later fault)
 show_fault_back j a b c reads (inr (fault, described)) = inr (fault_in_back j.folder a b c reads.later fault, some_back (λ t. HasSomeDescription t j) a b reads described)
 
-show_row_back : (j : ShowJob) (a b c : HostView) (sink sink' : SinkView) (st : Status) → ReadsOnly a b → ShowRow j b c sink sink' st → ShowRow j a c sink sink' st
-show_row_back j a b c sink sink' status.Done reads row = (reads_then a b c reads row.0, row.1, some_back (λ t. IsShown t j sink.written sink'.written) a b reads row.2)
-show_row_back j a b c sink sink' status.Usage reads row = row
-show_row_back j a b c sink sink' (status.TextRefused word cause) reads row = (same_back a b c sink sink' reads row.0, row.1, some_back (λ t. HasNoDescription t j cause) a b reads row.2)
-show_row_back j a b c sink sink' (status.FolderRefused cause) reads row = (same_back a b c sink sink' reads row.0, some_back _ a b reads row.1)
-show_row_back j a b c sink sink' status.ReadFault reads row = (same_back a b c sink sink' reads row.0, cause_back (ShowReadFault j) (λ t. CannotShow t j) a b c reads (show_fault_back j a b c reads) row.1)
-show_row_back j a b c sink sink' status.NotEmpty reads row = row
-show_row_back j a b c sink sink' status.WriteFault reads row = record {
-  reads = reads_then a b c reads row.reads;
-  cause = row.cause;
-  grows = row.grows;
-  left = some_back (λ t. IsShownInPart t j sink.written sink'.written) a b reads row.left;
+steady : (j : ShowJob) → IsSteady (show_query j).reads
+steady j = record {
+  refused = λ a b word cause reads is. (is.0, some_back (λ t. HasNoDescription t j cause) a b reads is.1);
+  unloaded = λ a b cause reads is. some_back (λ t. HasSomeDescription t j × IsRefused t j.folder cause) a b reads is;
+  failed = λ a b c reads why. cause_back (ShowReadFault j) (λ t. CannotShow t j) a b c reads (show_fault_back j a b c reads) why;
+  bad = λ a b place reads is. is;
 }
-show_row_back j a b c sink sink' status.NoMemory reads row = same_back a b c sink sink' reads row
-show_row_back j a b c sink sink' (status.BadJournal place) reads row = row
+
+show_row_back : (j : ShowJob) (a b c : HostView) (sink sink' : SinkView) (st : Status) → ReadsOnly a b → ShowRow j b c sink sink' st → ShowRow j a c sink sink' st
+show_row_back j = row_back (show_query j) (steady j)
 
 pub show_ends_back : (j : ShowJob) (a b c : HostView) (st : Status) → ReadsOnly a b → ShowEndsAs j b c st → ShowEndsAs j a c st
 show_ends_back j a b c st reads ends sink = show_row_back j a b c sink sink st reads (ends sink)
@@ -103,8 +102,7 @@ show_ends_before j a b c (Err st) reads ends = show_ends_back j a b c st reads e
 -- ---- the last stage
 
 pub show_done : (j : ShowJob) (output : List ℕ) (host host' : HostView) (sink sink' : SinkView) → ReadsOnly host host' → IfSome host.told (λ t. IsShowing t j output) → IfSome sink.written (λ w. sink'.written ≡ Some (w ++ output)) → ShowRow j host host' sink sink' status.Done
-show_done j output host host' sink sink' reads is all = (
-  reads,
-  grows_all sink sink' output all,
-  if_some_map (λ t. IsShowing t j output) (λ t. IsShown t j sink.written sink'.written) host.told (λ t is. record { output = output; showing = is; written = all }) is,
-)
+show_done j output host host' sink sink' reads is all = done (show_query j) output host host' sink sink' reads is all
+
+pub show_unprinted : (j : ShowJob) (output : List ℕ) (host host' : HostView) (sink sink' : SinkView) → ReadsOnly host host' → IfSome host.told (λ t. IsShowing t j output) → PrintsPart output sink sink' → Rose sink.faults sink'.faults → ShowRow j host host' sink sink' status.WriteFault
+show_unprinted j output host host' sink sink' reads is front rose = not_printed (show_query j) output host host' sink sink' reads is front rose

@@ -1,50 +1,32 @@
 -- What each status of `show` says: where it comes, and what is then left at the host and at the sink.
-use Rattle.std.specs.Prelude.{◌≡◌, ◌⊎◌, ℕ, Bool, true, List, ◌++◌, take, Option, Some, IfSome, IsSomeAnd}
-use Rattle.fx_base.specs.Causes.{Rose}
-use Rattle.fx_outside.specs.Host.{HostView, ReadsOnly, LetsIn, FaultAt, FaultIn}
+use Rattle.std.specs.Prelude.{◌≡◌, ◌⊎◌, ℕ, Bool, true, List, IfSome, IsSomeAnd}
+use Rattle.fx_outside.specs.Host.{HostView, FaultAt, FaultIn, LetsIn}
 use Rattle.fx_outside.specs.Sink.{SinkView}
-use Rattle.fx_outside.specs.Tree.{Tree}
 use Rattle.fx_folder.specs.Loads.{IsRefused}
 use Rattle.fx_command.specs.declared.status.Status.{Status}
-use Rattle.fx_command.specs.declared.status.Status.TheVariants as status
-use Rattle.fx_command.specs.Left.{IsSame, Grows}
+use Rattle.fx_command.specs.Query.{Query, QueryRow}
 use Rattle.fx_show.specs.Shows.{HasSomeDescription, HasNoDescription, IsShowing, CannotShow}
 use Rattle.fx_words.specs.Job.{ShowJob}
-
--- what is shown stands after what was written before
-pub record IsShown (t : Tree) (j : ShowJob) (before after : Option (List ℕ)) : Type 0 where
-  pub output : List ℕ
-  pub showing : IsShowing t j output
-  pub written : IfSome before (λ w. after ≡ Some (w ++ output))
-
--- a front of it is written
-pub record IsShownInPart (t : Tree) (j : ShowJob) (before after : Option (List ℕ)) : Type 0 where
-  pub output : List ℕ
-  pub showing : IsShowing t j output
-  pub written : IfSome before (λ w. (n : ℕ) × (after ≡ Some (w ++ take n output)))
-
--- the sink failed, and a front of the output is printed
-pub record IsUnshown (j : ShowJob) (host host' : HostView) (sink sink' : SinkView) : Type 0 where
-  pub reads : ReadsOnly host host'
-  pub cause : Rose sink.faults sink'.faults
-  pub grows : Grows sink sink'
-  pub left : IfSome host.told (λ t. IsShownInPart t j sink.written sink'.written)
 
 -- a fault at SPEC; or in FOLDER, and then the description is read
 abbrev pub ShowReadFault : ShowJob → HostView → HostView → Type 0
 ShowReadFault j host host' = FaultAt j.spec host host' ⊎ (FaultIn j.folder host host' × IfSome host.told (λ t. HasSomeDescription t j))
 
--- the table for `show`: the host's tree stays, however it ends
+-- `show` reads the description and the folder, and prints what is shown of the one by the other
+abbrev pub show_query : ShowJob → Query
+show_query j = record {
+  reads = record {
+    refused = λ host word cause. (word ≡ 1) × IfSome host.told (λ t. HasNoDescription t j cause);
+    unloaded = λ host cause. IfSome host.told (λ t. HasSomeDescription t j × IsRefused t j.folder cause);
+    failed = λ host host'. ShowReadFault j host host' ⊎ IsSomeAnd host.told (λ t. CannotShow t j);
+    bad = λ host place. ⊥;
+  };
+  prints = λ t output. IsShowing t j output;
+}
+
+-- the table for `show`
 abbrev pub ShowRow : ShowJob → HostView → HostView → SinkView → SinkView → Status → Type 0
-ShowRow j host host' sink sink' status.Done = ReadsOnly host host' × Grows sink sink' × IfSome host.told (λ t. IsShown t j sink.written sink'.written)
-ShowRow j host host' sink sink' status.Usage = ⊥
-ShowRow j host host' sink sink' (status.TextRefused word cause) = IsSame host host' sink sink' × (word ≡ 1) × IfSome host.told (λ t. HasNoDescription t j cause)
-ShowRow j host host' sink sink' (status.FolderRefused cause) = IsSame host host' sink sink' × IfSome host.told (λ t. HasSomeDescription t j × IsRefused t j.folder cause)
-ShowRow j host host' sink sink' status.ReadFault = IsSame host host' sink sink' × (ShowReadFault j host host' ⊎ IsSomeAnd host.told (λ t. CannotShow t j))
-ShowRow j host host' sink sink' status.NotEmpty = ⊥
-ShowRow j host host' sink sink' status.WriteFault = IsUnshown j host host' sink sink'
-ShowRow j host host' sink sink' status.NoMemory = IsSame host host' sink sink'
-ShowRow j host host' sink sink' (status.BadJournal place) = ⊥
+ShowRow j = QueryRow (show_query j)
 
 -- a stage that only reads ends the command so, whatever the sink
 abbrev pub ShowEndsAs : ShowJob → HostView → HostView → Status → Type 0

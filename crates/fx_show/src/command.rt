@@ -12,7 +12,7 @@ use crate::values::shown;
 use fx_base::SOURCE_LIMIT;
 use fx_command::{Status, print_all, read_text};
 use fx_folder::load;
-use fx_outside::{Host, Sink, SinkFailed};
+use fx_outside::{Host, Sink};
 use fx_spec::Checked;
 use fx_store::{Filestore, LongText};
 use fx_words::ShowJob;
@@ -96,8 +96,6 @@ pub fn show<H: Host, S: Sink>(
     ensures fit { ShowAsks (asked_show job.now) (H.view host.old) (H.view host.new) }
 {
     let output = output_of(alloc, job, host)?;
-    match print_all(out, output.as_slice()) {
-        Ok(()) => Ok(()),
-        Err(SinkFailed) => Err(Status::WriteFault),
-    }
+    print_all(out, output.as_slice())?;
+    Ok(())
 }

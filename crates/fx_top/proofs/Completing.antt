@@ -12,7 +12,9 @@ use Rattle.fx_durable.specs.Disk.{DiskView}
 use Rattle.fx_large.specs.GenRows.{gen_making}
 use Rattle.fx_journal_command.proofs.Completing.{journal_completes, journal_no_memory, journal_not_begun}
 use Rattle.fx_large.specs.LargeRows.{large_making}
-use Rattle.fx_command.proofs.Makings.{making_completes, making_no_memory}
+use Rattle.fx_command.specs.Table.{making_only}
+use Rattle.fx_command.proofs.Readings.{nothing_refused}
+use Rattle.fx_command.proofs.Tables as tables
 use Rattle.fx_recover_command.proofs.Completing.{recover_completes}
 use Rattle.fx_recover_command.proofs.Ending as recovering
 use Rattle.fx_run_command.proofs.Completing.{run_completes}
@@ -29,8 +31,8 @@ Ends st = (st ≡ status.Done) ⊎ (st ≡ status.NoMemory)
 told : (j : Job) (t : Tree) (host host' : HostView) (sink sink' : SinkView) (disk disk' : DiskView) (st : Status) → host.told ≡ Some t → IsProper t disk j → (Rose host.faults host'.faults → ⊥) → (Rose sink.faults sink'.faults → ⊥) → (HasDiskFault j disk disk' → ⊥) → Row j host host' sink sink' disk disk' st → Ends st
 told (Run j) t host host' sink sink' disk disk' st is proper none quiet calm row = run_completes j t host host' sink sink' st is proper none quiet row
 told (Show j) t host host' sink sink' disk disk' st is proper none quiet calm row = show_completes j t host host' sink sink' st is proper none quiet row
-told (Gen j) t host host' sink sink' disk disk' st is proper none quiet calm row = making_completes (gen_making j.number j.out) t host host' sink sink' st is proper none quiet row
-told (Large j) t host host' sink sink' disk disk' st is proper none quiet calm row = making_completes (large_making j.number j.out) t host host' sink sink' st is proper none quiet row
+told (Gen j) t host host' sink sink' disk disk' st is proper none quiet calm row = tables.completes (making_only (gen_making j.number j.out)) t host host' sink sink' st is (nothing_refused host host') proper none quiet row
+told (Large j) t host host' sink sink' disk disk' st is proper none quiet calm row = tables.completes (making_only (large_making j.number j.out)) t host host' sink sink' st is (nothing_refused host host') proper none quiet row
 told (Audit j) t host host' sink sink' disk disk' st is proper none quiet calm row = audit_completes j t host host' sink sink' st is proper none quiet row
 told (Journal j) t host host' sink sink' disk disk' st is proper none quiet calm row = journal_completes j t host host' sink sink' disk disk' st is proper none quiet calm row
 told (Recover j) t host host' sink sink' disk disk' st is proper none quiet calm row = recover_completes j t host host' sink sink' disk disk' is proper none quiet calm st row
@@ -51,11 +53,11 @@ still host = record { same = refl; later = omega arith }
 pub unread_row : (j : Job) (host : HostView) (sink : SinkView) (disk : DiskView) → Row j host host sink sink disk disk status.NoMemory
 unread_row (Run j) host sink disk = no_memory j host host (still host) sink
 unread_row (Show j) host sink disk = same host host sink (still host)
-unread_row (Gen j) host sink disk = making_no_memory (gen_making j.number j.out) host host (still host) sink
-unread_row (Large j) host sink disk = making_no_memory (large_making j.number j.out) host host (still host) sink
+unread_row (Gen j) host sink disk = tables.no_memory (making_only (gen_making j.number j.out)) host host (still host) sink
+unread_row (Large j) host sink disk = tables.no_memory (making_only (large_making j.number j.out)) host host (still host) sink
 unread_row (Audit j) host sink disk = same host host sink (still host)
 unread_row (Journal j) host sink disk = journal_no_memory j host sink disk
-unread_row (Recover j) host sink disk = (refl, λ _. refl, inl refl, recovering.no_memory j host host (still host) sink disk disk)
+unread_row (Recover j) host sink disk = (refl, λ _. refl, inl refl, recovering.no_memory j disk disk host host (still host) sink)
 unread_row (Views j) host sink disk = viewing.no_memory j host host (still host) sink
 
 pub unread_fit : (j : Job) (host : HostView) → AsksInside j host host

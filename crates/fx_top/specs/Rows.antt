@@ -12,8 +12,8 @@ use Rattle.fx_durable.specs.Disk.{DiskView}
 use Rattle.fx_large.specs.GenRows.{gen_making}
 use Rattle.fx_journal_command.specs.Rows.{JournalRow, JournalAsks, KeepsJournal, IsProperJournal}
 use Rattle.fx_large.specs.LargeRows.{large_making}
-use Rattle.fx_command.specs.Making.{MakingRow}
 use Rattle.fx_command.specs.Out.{IsProperOut, WritesOut}
+use Rattle.fx_command.specs.Table.{CommandRow, making_only}
 use Rattle.fx_recover_command.specs.Rows.{RecoverRow, RecoverAsks, IsProperRecover}
 use Rattle.fx_run_command.specs.Rows.{RunRow, RunAsks, IsProperRun}
 use Rattle.fx_show.specs.Rows.{ShowRow, ShowAsks}
@@ -24,8 +24,8 @@ use Rattle.fx_views_command.specs.Rows.{ViewsRow, ViewsAsk, IsProperViews}
 abbrev pub Row : Job → HostView → HostView → SinkView → SinkView → DiskView → DiskView → Status → Type 0
 Row (Run j) host host' sink sink' disk disk' st = RunRow j host host' sink sink' st
 Row (Show j) host host' sink sink' disk disk' st = ShowRow j host host' sink sink' st
-Row (Gen j) host host' sink sink' disk disk' st = MakingRow (gen_making j.number j.out) host host' sink sink' st
-Row (Large j) host host' sink sink' disk disk' st = MakingRow (large_making j.number j.out) host host' sink sink' st
+Row (Gen j) host host' sink sink' disk disk' st = CommandRow (making_only (gen_making j.number j.out)) host host' sink sink' st
+Row (Large j) host host' sink sink' disk disk' st = CommandRow (making_only (large_making j.number j.out)) host host' sink sink' st
 Row (Audit j) host host' sink sink' disk disk' st = AuditRow j host host' sink sink' st
 Row (Journal j) host host' sink sink' disk disk' st = JournalRow j host host' sink sink' disk disk' st
 Row (Recover j) host host' sink sink' disk disk' st = RecoverRow j host host' sink sink' disk disk' st

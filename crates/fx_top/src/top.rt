@@ -1,8 +1,9 @@
 //! The top call.
-ghost use Rattle.std.specs.Prelude.{◌≡◌, ◌⊎◌, None, IfSome};
+ghost use Rattle.std.specs.Prelude.{◌≡◌, ◌⊎◌, false, None, IfSome};
 ghost use Rattle.fx_words.specs.Job.{job_of};
 ghost use Rattle.fx_words.specs.JobOf.{asked_job, IsAnyJob};
 ghost use Rattle.fx_top.specs.Rows.{Row, LeavesDisk, KeepsOrder, AsksInside, Completes};
+ghost use Rattle.fx_top.specs.Waits.{may_wait};
 ghost use Rattle.fx_command.specs.Left.{IsIdle};
 ghost use Rattle.fx_command.specs.StatusOf.{status_of};
 
@@ -13,13 +14,42 @@ use fx_journal_command::journal;
 use fx_large::{run_generated, write_generated};
 use fx_outside::{Gate, Host, Sink, Words};
 use fx_recover_command::recover;
-use fx_run_command::run;
+use fx_run_command::{run, trace};
 use fx_show::show;
 use fx_views_command::views;
-use fx_words::{Job, WordsFault, job_of};
+use fx_words::{Job, RunMode, WordsFault, job_of};
 use std::alloc::Global;
 use std::sync::Wait;
 use std::thread::Threads;
+
+/// Does what a command asks for that runs no threads. It returns.
+fn still<H: Host, S: Sink, D: Disk>(
+    alloc: Global,
+    job: &Job,
+    host: &mut H,
+    out: &mut S,
+    disk: &mut D,
+) -> Result<(), Status>
+    requires job { IsAnyJob job.now }
+    requires still { may_wait (asked_job job.now) ≡ false }
+    ensures row { Row (asked_job job.now) (H.view host.old) (H.view host.new)
+        (S.view out.old) (S.view out.new) (D.view disk.old) (D.view disk.new) (status_of result) }
+    ensures fit { AsksInside (asked_job job.now) (H.view host.old) (H.view host.new) }
+    ensures disk { LeavesDisk (asked_job job.now) (D.view disk.old) (D.view disk.new) }
+    ensures kept { KeepsOrder (asked_job job.now) (H.view host.old)
+        (S.view out.old) (S.view out.new) (D.view disk.old) (D.view disk.new) }
+{
+    match job {
+        Job::Run(job) => trace(alloc, job, host, out),
+        Job::Show(job) => show(alloc, job, host, out),
+        Job::Gen(job) => write_generated(alloc, job.number, job.out, host, out),
+        Job::Audit(job) => audit(alloc, job, host, out),
+        Job::Journal(job) => journal(alloc, job, host, out, disk),
+        Job::Recover(job) => recover(alloc, job, host, out, disk),
+        Job::Large(_) => unreachable!(),
+        Job::Views(_) => unreachable!(),
+    }
+}
 
 /// Does what a command asks for.
 fn run_job<R: Threads + Wait + Sync, H: Host, S: Sink, G: Gate + Sync, D: Disk>(
@@ -40,14 +70,15 @@ fn run_job<R: Threads + Wait + Sync, H: Host, S: Sink, G: Gate + Sync, D: Disk>(
         (S.view out.old) (S.view out.new) (D.view disk.old) (D.view disk.new) }
 {
     match job {
-        Job::Run(job) => run(rt, alloc, job, host, out, gate),
-        Job::Show(job) => show(alloc, job, host, out),
-        Job::Gen(job) => write_generated(alloc, job.number, job.out, host, out),
+        Job::Run(run_as) => match run_as.mode {
+            RunMode::Plain => run(rt, alloc, run_as, host, out, gate),
+            RunMode::Scheduled(_) | RunMode::Watched(_) => still(alloc, job, host, out, disk),
+        },
         Job::Large(job) => run_generated(rt, alloc, job.number, job.out, host, out, gate),
-        Job::Audit(job) => audit(alloc, job, host, out),
-        Job::Journal(job) => journal(alloc, job, host, out, disk),
-        Job::Recover(job) => recover(alloc, job, host, out, disk),
         Job::Views(job) => views(rt, alloc, job, host, out, gate),
+        Job::Show(_) | Job::Gen(_) | Job::Audit(_) | Job::Journal(_) | Job::Recover(_) => {
+            still(alloc, job, host, out, disk)
+        }
     }
 }
 

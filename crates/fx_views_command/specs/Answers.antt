@@ -1,8 +1,6 @@
 -- What a run with views has come to between its stages.
-use Rattle.std.specs.Prelude.{◌≡◌, ◌++◌, ℕ, Bool, List, map, length}
+use Rattle.std.specs.Prelude.{◌≡◌, ◌++◌, ℕ, List, map, length}
 use Rattle.fx_store.specs.Whole.{Nodes}
-use Rattle.fx_outside.specs.Tree.{Tree}
-use Rattle.fx_folder.specs.Folder.{IsReady}
 use Rattle.fx_spec.specs.CommandTree.{CommandTree}
 use Rattle.fx_spec.specs.Plans.{Turn}
 use Rattle.fx_spec.specs.Order.{BaseTree, IsComplete, RetriesOk, state}
@@ -14,9 +12,7 @@ use Rattle.fx_report.specs.Entries.{report}
 use Rattle.fx_report.specs.Views.{views_text}
 use Rattle.fx_run_command.specs.Outcome.{IsBehindSomeTrace}
 use Rattle.fx_views.specs.Views.{AreViews}
-use Rattle.fx_words.specs.Job.{ViewsJob}
 use Rattle.fx_views_command.specs.declared.viewing.Answer.{Answer}
-use Rattle.fx_views_command.specs.Outcome.{IsViewsOutcome}
 
 -- a whole run from a base on, and the views beside it: the output, and the last filestore
 pub record IsViewsRunFrom (base : BaseTree) (views : List (List CommandTree)) (nodes : Nodes) (output : List ℕ) : Type 0 where
@@ -29,11 +25,6 @@ pub record IsViewsRunFrom (base : BaseTree) (views : List (List CommandTree)) (n
   pub viewed : AreViews base views order answers
   pub printed : output ≡ report base order retries ++ views_text answers
   pub last : nodes ≡ state base order (length order)
-
--- the output is made, and OUT can be written
-pub record IsAnswered (t : Tree) (j : ViewsJob) (nodes : Nodes) (output : List ℕ) (there : Bool) : Type 0 where
-  pub outcome : IsViewsOutcome t j nodes output
-  pub free : IsReady t j.out there
 
 -- the last filestore of a run
 abbrev pub last_of : Answer → Nodes

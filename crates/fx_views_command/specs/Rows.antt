@@ -1,86 +1,28 @@
--- What each status of `views` says: where it comes, and what is then left at the host and at the sink.
-use Rattle.std.specs.Prelude.{◌≡◌, ◌⊎◌, ℕ, Bool, List, ◌++◌, take, Option, Some, IfSome, IsSomeAnd}
-use Rattle.fx_base.specs.Causes.{Rose}
+-- What each status of `views` says: the table of statuses, for what it reads, comes to and prints.
+use Rattle.std.specs.Prelude.{◌≡◌, ℕ, List}
 use Rattle.fx_store.specs.Whole.{Nodes}
-use Rattle.fx_outside.specs.Host.{HostView, Guard, FaultIn}
-use Rattle.fx_outside.specs.Path.{parts}
+use Rattle.fx_outside.specs.Host.{HostView, Guard}
 use Rattle.fx_outside.specs.Sink.{SinkView}
 use Rattle.fx_outside.specs.Tree.{Tree}
-use Rattle.fx_folder.specs.Folder.{IfTold, IsReady, IsTaken, IsSaved, IsPartlySaved}
-use Rattle.fx_folder.specs.Loads.{IsRefused}
 use Rattle.fx_words.specs.Job.{ViewsJob}
 use Rattle.fx_command.specs.declared.status.Status.{Status}
-use Rattle.fx_command.specs.declared.status.Status.TheVariants as status
-use Rattle.fx_command.specs.Left.{IsSame, Grows}
-use Rattle.fx_command.specs.Out.{CannotWrite, FitsOut, LetsOut}
-use Rattle.fx_inputs.specs.Views.{HasViewsTexts, HasViewsInputs, CannotReadViews, ViewsFirstRefused, HasViewsReadFault, LetsViews}
+use Rattle.fx_command.specs.Out.{IsProperOut, LetsOut}
+use Rattle.fx_command.specs.Table.{Making, Command, CommandRow, leaving}
+use Rattle.fx_inputs.specs.Readings.{views_reading}
+use Rattle.fx_inputs.specs.Views.{HasViewsInputs, LetsViews}
 use Rattle.fx_views_command.specs.Outcome.{IsViewsOutcome}
 
--- all is done: the output is written after what was written before, and the last filestore's folder stands at OUT; all else
--- of the host is as before
-pub record IsDone (t t' : Tree) (j : ViewsJob) (before after : Option (List ℕ)) : Type 0 where
-  pub nodes : Nodes
-  pub output : List ℕ
-  pub there : Bool
-  pub outcome : IsViewsOutcome t j nodes output
-  pub free : IsReady t j.out there
-  pub saved : IsSaved t t' (parts j.out) nodes
-  pub written : IfSome before (λ w. after ≡ Some (w ++ output))
+-- `views` leaves the last filestore of a whole run at OUT, and prints its output
+abbrev pub views_making : ViewsJob → Making (Nodes × List ℕ)
+views_making j = leaving j.out (λ t nodes output. IsViewsOutcome t j nodes output)
 
--- OUT is whole, and a front of the output is written: the folder and the output of one run that could have been done
-pub record IsCutShort (t t' : Tree) (j : ViewsJob) (before after : Option (List ℕ)) : Type 0 where
-  pub nodes : Nodes
-  pub output : List ℕ
-  pub there : Bool
-  pub outcome : IsViewsOutcome t j nodes output
-  pub free : IsReady t j.out there
-  pub saved : IsSaved t t' (parts j.out) nodes
-  pub written : IfSome before (λ w. (n : ℕ) × (after ≡ Some (w ++ take n output)))
-
--- OUT holds a part of the last filestore's folder
-pub record IsPartThere (t t' : Tree) (j : ViewsJob) : Type 0 where
-  pub nodes : Nodes
-  pub output : List ℕ
-  pub there : Bool
-  pub outcome : IsViewsOutcome t j nodes output
-  pub free : IsReady t j.out there
-  pub part : IsPartlySaved t t' (parts j.out) nodes
-
--- OUT is as before, or holds such a part
-abbrev pub MayHoldPart : ViewsJob → Tree → Tree → Type 0
-MayHoldPart j t t' = (t' ≡ t) ⊎ IsPartThere t t' j
-
--- OUT is unfit, or nothing stands there and no folder above
-abbrev pub CannotSave : Tree → ViewsJob → Type 0
-CannotSave t j = HasViewsInputs t j × CannotWrite t j.out
-
--- OUT was not written whole, and nothing is printed
-pub record IsUnsaved (j : ViewsJob) (host host' : HostView) (sink sink' : SinkView) : Type 0 where
-  pub cause : FaultIn j.out host host' ⊎ IsSomeAnd host.told (λ t. CannotSave t j)
-  pub unprinted : sink' ≡ sink
-  pub left : IfTold host.told host'.told (λ t t'. HasViewsInputs t j × MayHoldPart j t t')
-
--- the sink failed, OUT is whole, and a front of the output is printed
-pub record IsUnprinted (j : ViewsJob) (host host' : HostView) (sink sink' : SinkView) : Type 0 where
-  pub cause : Rose sink.faults sink'.faults
-  pub grows : Grows sink sink'
-  pub left : IfTold host.told host'.told (λ t t'. IsCutShort t t' j sink.written sink'.written)
+-- before that it reads texts and a folder
+abbrev pub views_command : ViewsJob → Command (Nodes × List ℕ)
+views_command j = record { reads = views_reading j; all = λ t. HasViewsInputs t j; makes = views_making j }
 
 -- the table of the statuses, for `views`
 abbrev pub ViewsRow : ViewsJob → HostView → HostView → SinkView → SinkView → Status → Type 0
-ViewsRow j host host' sink sink' status.Done = Grows sink sink' × IfTold host.told host'.told (λ t t'. IsDone t t' j sink.written sink'.written)
-ViewsRow j host host' sink sink' status.Usage = ⊥
-ViewsRow j host host' sink sink' (status.TextRefused word cause) = IsSame host host' sink sink' × IfSome host.told (λ t. ViewsFirstRefused t j word cause)
-ViewsRow j host host' sink sink' (status.FolderRefused cause) = IsSame host host' sink sink' × IfSome host.told (λ t. HasViewsTexts t j × IsRefused t j.inputs.folder cause)
-ViewsRow j host host' sink sink' status.ReadFault = IsSame host host' sink sink' × (HasViewsReadFault j host host' ⊎ IsSomeAnd host.told (λ t. CannotReadViews t j))
-ViewsRow j host host' sink sink' status.NotEmpty = IsSame host host' sink sink' × IfSome host.told (λ t. HasViewsInputs t j × IsTaken t j.out)
-ViewsRow j host host' sink sink' status.WriteFault = IsUnsaved j host host' sink sink' ⊎ IsUnprinted j host host' sink sink'
-ViewsRow j host host' sink sink' status.NoMemory = (sink' ≡ sink) × IfTold host.told host'.told (MayHoldPart j)
-ViewsRow j host host' sink sink' (status.BadJournal place) = ⊥
-
--- a stage that only reads ends the command so, whatever the sink
-abbrev pub EndsAs : ViewsJob → HostView → HostView → Status → Type 0
-EndsAs j host host' st = (sink : SinkView) → ViewsRow j host host' sink sink st
+ViewsRow j = CommandRow (views_command j)
 
 -- the fences let the texts and the folder be read, and OUT be written
 pub record LetsViewsRun (guard : Guard) (j : ViewsJob) : Type 0 where
@@ -94,6 +36,4 @@ ViewsAsk j host host' = LetsViewsRun host.guard j → host'.guard ≡ host.guard
 -- texts that stand for a description, views and scripts, a folder that loads, and an OUT that is an empty folder or can be made
 pub record IsProperViews (t : Tree) (j : ViewsJob) : Type 0 where
   pub inputs : HasViewsInputs t j
-  pub there : Bool
-  pub free : IsReady t j.out there
-  pub above : FitsOut t j.out there
+  pub out : IsProperOut t j.out

@@ -8,5 +8,5 @@ read_report-requires g c = has_inputs (asked_audit c.args.job.now) (base_tree c.
 
 pub returns-clause-said : goal.returns-clause-said
 returns-clause-said g c =
-    auditing (asked_audit c.args.job.now) (base_tree c.args.base.value) c.in_ok-bytes.bytes.items c.deref.result.now c.in_ok-verdict.verdict c.in_ok-line.line.items (g.H.Host.view c.args.host.now) c.deref.ensures.value
-    c.requires c.in_ok-bytes.ensures.read c.in_ok-verdict.ensures.verdict c.in_ok-verdict.ensures.exact c.in_ok-line.ensures
+    auditing (asked_audit c.args.job.now) (base_tree c.args.base.value) c.in-Ok.bytes.items c.deref.result.now c.in_ok-verdict.verdict c.in_ok-line.line.items (g.H.Host.view c.args.host.now) c.deref.ensures.value
+    c.requires c.in-Ok.ensures.read c.in_ok-verdict.ensures.verdict c.in_ok-verdict.ensures.exact c.in_ok-line.ensures

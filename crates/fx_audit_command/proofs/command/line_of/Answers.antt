@@ -4,7 +4,7 @@ use Rattle.fx_inputs.specs.Inputs.{HasBase}
 use Rattle.fx_inputs.proofs.Stages.{then_told}
 use Rattle.fx_words.specs.JobOf.{asked_audit}
 use Rattle.fx_audit_command.specs.Rows.{AuditEndsAs}
-use Rattle.fx_audit_command.proofs.Auditing.{audit_ends_before, auditing_before, inputs_unread}
+use Rattle.fx_audit_command.proofs.Auditing.{audit_ends_before, auditing_before, not_read}
 use Rattle.fx_outside.proofs.Views.{asks_both}
 use Rattle.fx_audit_command.specs.Rows.{LetsAudit}
 use Rattle.fx_audit_command.proofs.command.line_of.Goals as goal
@@ -15,7 +15,7 @@ returns-in_err-base-clause-ends g c =
     let a = g.H.Host.view c.args.host.now in
     let b = g.H.Host.view c.read_base.new.host in
     let status = c.in_err-base.field-0.0 in
-    if_err_of (AuditEndsAs j a b) c.from_residual.result status c.from_residual.ensures.1 (inputs_unread j a b status c.in_err-base.ensures.same c.in_err-base.ensures.ends)
+    if_err_of (AuditEndsAs j a b) c.from_residual.result status c.from_residual.ensures.1 (not_read j a b status c.in_err-base.ensures.same c.in_err-base.ensures.ends)
 
 pub line_by-requires : goal.line_by-requires
 line_by-requires g c =

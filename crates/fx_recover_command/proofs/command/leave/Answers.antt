@@ -1,6 +1,7 @@
 use Rattle.std.proofs.Common.{sym, subst}
 use Rattle.fx_spec.specs.Bases.{base_tree}
 use Rattle.fx_words.specs.JobOf.{asked_recover}
+use Rattle.fx_command.specs.Saved.{SaveEnd}
 use Rattle.fx_command.specs.StatusOf.{status_of}
 use Rattle.fx_command.specs.declared.status.Status.TheVariants as status
 use Rattle.fx_folder.specs.Folder.{IsReady}
@@ -8,7 +9,7 @@ use Rattle.fx_base.proofs.Errors.{err_of}
 use Rattle.fx_inputs.proofs.Stages.{then_told}
 use Rattle.fx_durable.specs.Journal.{turns_of}
 use Rattle.fx_recover_command.specs.Rows.{RecoverEnd}
-use Rattle.fx_recover_command.proofs.Ending.{unready, no_memory, answered, end_back}
+use Rattle.fx_recover_command.proofs.Ending.{not_ready, no_memory, left}
 use Rattle.fx_command.specs.Out.{LetsOut}
 use Rattle.fx_outside.proofs.Views.{asks_both}
 use Rattle.fx_recover_command.proofs.command.leave.Goals as goal
@@ -22,7 +23,7 @@ returns-in_err-there-clause-end g c disk disk' has =
     let st = c.in_err-there.field-0.0 in
     let is = err_of c.from_residual.result st c.from_residual.ensures.1 in
     subst (λ r. RecoverEnd j a b sink sink disk disk' (status_of r)) (sym is)
-    (unready j a b (base_tree c.args.base.now.value) (turns_of c.args.order.now) disk has st c.in_err-there.ensures.same c.in_err-there.ensures.unready sink disk')
+    (not_ready j disk disk' a b (base_tree c.args.base.now.value) (turns_of c.args.order.now) st c.in_err-there.ensures.same has c.in_err-there.ensures.unready sink)
 
 pub returns-in_err-recovered-clause-end : goal.returns-in_err-recovered-clause-end
 returns-in_err-recovered-clause-end g c disk disk' has =
@@ -31,7 +32,7 @@ returns-in_err-recovered-clause-end g c disk disk' has =
     let b = g.H.Host.view c.ready_out.new.host in
     let sink = g.S.Sink.view c.args.out.now in
     let is = err_of c.from_residual-in_err-recovered.result status.NoMemory c.from_residual-in_err-recovered.ensures.1 in
-    subst (λ r. RecoverEnd j a b sink sink disk disk' (status_of r)) (sym is) (no_memory j a b c.in_ok-there.ensures.same sink disk disk')
+    subst (λ r. RecoverEnd j a b sink sink disk disk' (status_of r)) (sym is) (no_memory j disk disk' a b c.in_ok-there.ensures.same sink)
 
 pub save_and_print-requires : goal.save_and_print-requires
 save_and_print-requires g c = then_told (λ t. IsReady t c.args.job.now.out.now c.in_ok-there.there) (g.H.Host.view c.args.host.now) (g.H.Host.view c.ready_out.new.host) c.in_ok-there.ensures.same c.in_ok-there.ensures.ready
@@ -44,9 +45,11 @@ returns-clause-end g c disk disk' has =
     let d = g.H.Host.view c.save_and_print.new.host in
     let sink = g.S.Sink.view c.args.out.now in
     let sink' = g.S.Sink.view c.save_and_print.new.out in
+    let st = status_of c.save_and_print.result in
     let r = c.in_ok-recovered.recovered in
-    end_back j a b d sink sink' disk disk' (status_of c.save_and_print.result) c.in_ok-there.ensures.same
-    (c.save_and_print.ensures.end disk disk' (answered j (base_tree c.args.base.now.value) (turns_of c.args.order.now) r.store.nodes r.line.items c.in_ok-there.there a b disk c.in_ok-there.ensures.same has c.in_ok-there.ensures.ready c.in_ok-recovered.ensures.last c.in_ok-recovered.ensures.line))
+    left j disk disk' (base_tree c.args.base.now.value) (turns_of c.args.order.now) r.store.nodes r.line.items c.in_ok-there.there a b d sink sink' st
+    c.in_ok-there.ensures.same has c.in_ok-there.ensures.ready c.in_ok-recovered.ensures.last c.in_ok-recovered.ensures.line
+    (subst (λ l. SaveEnd j.out c.in_ok-there.there r.store.nodes l b d sink sink' st) c.deref.ensures.value c.save_and_print.ensures.end)
 
 pub returns-clause-fit : goal.returns-clause-fit
 returns-clause-fit g c =

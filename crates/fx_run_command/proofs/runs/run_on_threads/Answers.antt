@@ -1,8 +1,0 @@
-use Rattle.fx_spec.specs.Bases.{base_tree}
-use Rattle.fx_run_command.proofs.Tracing.{threaded_run}
-use Rattle.fx_run_command.proofs.runs.run_on_threads.Goals as goal
-
-pub returns : goal.returns
-returns g c =
-    let ran = c.in_ok-board.ensures in
-    threaded_run (base_tree c.args.base.value) c.in_ok-board.board c.in_ok-board.retries c.in_ok-output.output ran.base ran.complete ran.retries ran.ran c.in_ok-output.ensures
