@@ -1,7 +1,8 @@
+use Rattle.fx_outside.proofs.Views.{asks_both}
 use Rattle.fx_spec.specs.Bases.{base_tree}
 use Rattle.fx_words.specs.JobOf.{asked_inputs}
 use Rattle.fx_inputs.specs.Inputs.{HasBase}
-use Rattle.fx_inputs.specs.Reads.{ReadRow}
+use Rattle.fx_inputs.specs.Reads.{ReadRow, LetsInputs}
 use Rattle.fx_base.proofs.Errors.{if_err_of}
 use Rattle.fx_command.proofs.Told.{some_back}
 use Rattle.fx_inputs.proofs.ReadRows.{read_row_back}
@@ -26,3 +27,11 @@ pub returns-clause-only : goal.returns-clause-only
 returns-clause-only g c =
     base_only (asked_inputs c.args.inputs.now) (base_tree c.in_ok-base.base.value) c.in_ok-description.description (g.H.Host.view c.args.host.now) (g.H.Host.view c.read_description.new.host)
     c.in_ok-description.ensures.same c.in_ok-base.ensures.described c.in_ok-description.ensures.only c.in_ok-base.ensures.only c.in_ok-base.ensures.read
+
+pub returns-in_err-base-clause-fit : goal.returns-in_err-base-clause-fit
+returns-in_err-base-clause-fit g c =
+    asks_both (λ guard. LetsInputs guard.may_read (asked_inputs c.args.inputs.now)) (g.H.Host.view c.args.host.now) (g.H.Host.view c.read_description.new.host) (g.H.Host.view c.read_rest.new.host) c.in_ok-description.ensures.fit c.in_err-base.ensures.fit
+
+pub returns-clause-fit : goal.returns-clause-fit
+returns-clause-fit g c =
+    asks_both (λ guard. LetsInputs guard.may_read (asked_inputs c.args.inputs.now)) (g.H.Host.view c.args.host.now) (g.H.Host.view c.read_description.new.host) (g.H.Host.view c.read_rest.new.host) c.in_ok-description.ensures.fit c.in_ok-base.ensures.fit

@@ -1,9 +1,9 @@
 use Rattle.std.proofs.Common.{IfSome, ap, sym, subst}
-use Rattle.fx_outside.proofs.Views.{reads_none}
+use Rattle.fx_outside.proofs.Views.{reads_none, asks_both}
 use Rattle.fx_spec.specs.Bases.{base_tree}
 use Rattle.fx_words.specs.JobOf.{asked_inputs}
 use Rattle.fx_inputs.specs.Inputs.{AreOnlyScripts}
-use Rattle.fx_inputs.specs.Reads.{ReadRow}
+use Rattle.fx_inputs.specs.Reads.{ReadRow, LetsInputs}
 use Rattle.fx_base.proofs.Errors.{if_err_of}
 use Rattle.fx_inputs.proofs.ReadRows.{read_row_back}
 use Rattle.fx_inputs.proofs.Stages.{whole_base}
@@ -30,3 +30,15 @@ pub returns-clause-only : goal.returns-clause-only
 returns-clause-only g c =
     let a = g.H.Host.view c.args.host.now in
     subst (λ plan. IfSome a.told (λ t. AreOnlyScripts t (asked_inputs c.args.inputs.now) plan)) (sym (ap (λ b. (base_tree b).plan) c.in_ok-base.ensures)) c.in_ok-plan.ensures.only
+
+pub returns-in_err-loaded-clause-fit : goal.returns-in_err-loaded-clause-fit
+returns-in_err-loaded-clause-fit g c =
+    asks_both (λ guard. LetsInputs guard.may_read (asked_inputs c.args.inputs.now)) (g.H.Host.view c.args.host.now) (g.H.Host.view c.read_scripts.new.host) (g.H.Host.view c.read_folder.new.host) c.in_ok-plan.ensures.fit c.in_err-loaded.ensures.fit
+
+pub returns-in_err-base-clause-fit : goal.returns-in_err-base-clause-fit
+returns-in_err-base-clause-fit g c =
+    asks_both (λ guard. LetsInputs guard.may_read (asked_inputs c.args.inputs.now)) (g.H.Host.view c.args.host.now) (g.H.Host.view c.read_scripts.new.host) (g.H.Host.view c.read_folder.new.host) c.in_ok-plan.ensures.fit c.in_ok-loaded.ensures.fit
+
+pub returns-clause-fit : goal.returns-clause-fit
+returns-clause-fit g c =
+    asks_both (λ guard. LetsInputs guard.may_read (asked_inputs c.args.inputs.now)) (g.H.Host.view c.args.host.now) (g.H.Host.view c.read_scripts.new.host) (g.H.Host.view c.read_folder.new.host) c.in_ok-plan.ensures.fit c.in_ok-loaded.ensures.fit
