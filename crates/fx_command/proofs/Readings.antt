@@ -22,13 +22,13 @@ pub record CannotBeRefused (r : Reading) (host host' : HostView) : Type 0 where
   pub bad : (place : ℕ) → r.bad host place → ⊥
 
 -- what is refused of the one is refused of the other
-pub record IsWithin (r wider : Reading) (host host' : HostView) : Type 0 where
+pub record IsNarrower (r wider : Reading) (host host' : HostView) : Type 0 where
   pub refused : (word : ℕ) (cause : TextFault) → r.refused host word cause → wider.refused host word cause
   pub unloaded : (cause : FolderCause) → r.unloaded host cause → wider.unloaded host cause
   pub failed : r.failed host host' → wider.failed host host'
   pub bad : (place : ℕ) → r.bad host place → wider.bad host place
 
-pub ends_within : (r wider : Reading) (host host' : HostView) (st : Status) → IsWithin r wider host host' → ReadEnds r host host' st → ReadEnds wider host host' st
+pub ends_within : (r wider : Reading) (host host' : HostView) (st : Status) → IsNarrower r wider host host' → ReadEnds r host host' st → ReadEnds wider host host' st
 ends_within r wider host host' status.Done within row = row
 ends_within r wider host host' status.Usage within row = row
 ends_within r wider host host' (status.TextRefused word cause) within row = within.refused word cause row

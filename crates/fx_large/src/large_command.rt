@@ -53,7 +53,9 @@ fn leave<H: Host, S: Sink>(
         (S.view out.old) (S.view out.new) (status_of result) }
     ensures fit { WritesIn path.now (H.view host.old) (H.view host.new) }
 {
-    save_and_print(alloc, path, there, board.store(), output.as_slice(), host, out)
+    let store = board.store();
+    let output = output.as_slice();
+    save_and_print(alloc, path, there, store, output, host, out)
 }
 
 /// Runs the case of a number on threads, leaves the folder that it makes at a path, and prints what the run is summed up

@@ -37,7 +37,15 @@ fn leave<H: Host, S: Sink>(
 {
     let there = ready_out(alloc, job.out, host)?;
     let recovered = replayed(alloc, base, order)?;
-    save_and_print(alloc, job.out, there, &recovered.store, &recovered.line, host, out)
+    save_and_print(
+        alloc,
+        job.out,
+        there,
+        &recovered.store,
+        &recovered.line,
+        host,
+        out,
+    )
 }
 
 /// Reads the journal by the base that is read, and leaves the folder after its order at OUT.

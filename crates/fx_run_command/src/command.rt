@@ -23,11 +23,7 @@ use std::sync::{Arc, Wait};
 use std::thread::Threads;
 
 /// Reads what a run begins with, and then sees that OUT can be written: whether an empty folder stands there already.
-fn begin<H: Host>(
-    alloc: Global,
-    job: &RunJob,
-    host: &mut H,
-) -> Result<(Arc<Base>, bool), Status>
+fn begin<H: Host>(alloc: Global, job: &RunJob, host: &mut H) -> Result<(Arc<Base>, bool), Status>
     requires { IsJob job.now }
     ensures read { IfOk result (λ r. IfSome (H.view host.old).told
         (λ t. HasBase t (asked job.now).inputs (base_tree r.0.value))) }
@@ -61,7 +57,8 @@ fn leave<H: Host, S: Sink>(
     ensures fit { RunAsks (asked job.now) (H.view host.old) (H.view host.new) }
 {
     let store = answer.board.store();
-    save_and_print(alloc, job.out, there, store, answer.output.as_slice(), host, out)
+    let output = answer.output.as_slice();
+    save_and_print(alloc, job.out, there, store, output, host, out)
 }
 
 /// Runs the scripts on the folder, by the description, each on a thread of its own, and leaves the folder that they make at

@@ -31,7 +31,8 @@ fn leave<H: Host, S: Sink>(
     ensures fit { ViewsAsk (asked_views job.now) (H.view host.old) (H.view host.new) }
 {
     let store = answer.log.board().store();
-    save_and_print(alloc, job.out, there, store, answer.output.as_slice(), host, out)
+    let output = answer.output.as_slice();
+    save_and_print(alloc, job.out, there, store, output, host, out)
 }
 
 /// Runs the scripts on the folder, by the description, while the views look on, and leaves the folder that the scripts make

@@ -26,5 +26,5 @@ returns-clause-end g c =
     let sink = g.S.Sink.view c.args.out.now in
     let sink' = g.S.Sink.view c.save_and_print.new.out in
     let st = status_of c.save_and_print.result in
-    subst (λ n. SaveEnd path c.args.there n (report r.board.base r.board.order r.retries) host host' sink sink' st) c.store.ensures.nodes
-    (subst (λ t. SaveEnd path c.args.there c.store.result.now.nodes t host host' sink sink' st) (c.as_slice.ensures ∙ c.in_ok-report.ensures) c.save_and_print.ensures.end)
+    subst (λ n. SaveEnd path c.args.there n (report r.board.base r.board.order r.retries) host host' sink sink' st) c.store-store.ensures.nodes
+    (subst (λ t. SaveEnd path c.args.there c.store-store.result.now.nodes t host host' sink sink' st) (c.as_slice.ensures ∙ c.in_ok-report.ensures) c.save_and_print.ensures.end)

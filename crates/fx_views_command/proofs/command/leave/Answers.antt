@@ -28,8 +28,8 @@ returns-clause-row g c =
     let st = status_of c.save_and_print.result in
     let nodes = last_of c.args.answer.now in
     left j nodes c.args.answer.now.output c.args.there host host' sink sink' st c.requires
-    (subst (λ n. SaveEnd j.out c.args.there n c.args.answer.now.output host host' sink sink' st) (c.store.ensures.nodes ∙ ap last_state c.board.ensures)
-    (subst (λ b. SaveEnd j.out c.args.there c.store.result.now.nodes b host host' sink sink' st) c.as_slice.ensures c.save_and_print.ensures.end))
+    (subst (λ n. SaveEnd j.out c.args.there n c.args.answer.now.output host host' sink sink' st) (c.store-store.ensures.nodes ∙ ap last_state c.board.ensures)
+    (subst (λ b. SaveEnd j.out c.args.there c.store-store.result.now.nodes b host host' sink sink' st) c.as_slice-output.ensures c.save_and_print.ensures.end))
 
 pub returns-clause-fit : goal.returns-clause-fit
 returns-clause-fit g c = λ lets. c.save_and_print.ensures.fit lets.out.written
