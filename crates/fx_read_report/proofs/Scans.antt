@@ -32,7 +32,7 @@ printed_read c x byte not_quote not_slash not_feed =
     let whole : 16 * (c / 16) + c % 16 ≡ c = omega arith in
     rw (not_quote, not_slash, not_feed) (elim (true_or_false (is_printable c)) [
       | inl e ↦ rw (e, not_quote, not_slash, e) refl
-      | inr e ↦ rw (e, high, low, whole, not_feed, e) refl
+      | inr e ↦ rw (e, high, low, whole) refl
     ])
 
 spelled_read : (c : ℕ) (x : List ℕ) → c < 256 → scan Plain (spelled c ++ x) ≡ onto c (scan Plain x)

@@ -33,10 +33,11 @@ module _ {A : Type 0} (read : List ℕ → Option (A × List ℕ)) (close : ℕ)
   pub record Going (most : ℕ) (bytes : List ℕ) (i : ℕ) (front : List A) (x : List ℕ) : Type 0 where
     pub so_far : pieces_at read close most true bytes ≡ prepended front (pieces_at read close (most - i) (nat_eq i 0) x)
 
-  pub going_none : (most : ℕ) (bytes : List ℕ) → Going most bytes 0 [] bytes
-  going_none most bytes =
+  pub going_none : (most : ℕ) (bytes : List ℕ) (front : List A) → front ≡ [] → Going most bytes 0 front bytes
+  going_none most bytes front e =
       let all : most ≡ most - 0 = omega arith in
-      record { so_far = ap (λ n. pieces_at read close n true bytes) all ∙ prepended_none (pieces_at read close (most - 0) true bytes) }
+      let o = pieces_at read close (most - 0) true bytes in
+      record { so_far = ap (λ n. pieces_at read close n true bytes) all ∙ (prepended_none o ∙ ap (λ f. prepended f o) (sym e)) }
 
   abbrev behind : ℕ → Option (A × List ℕ) → Option (List A × List ℕ)
   behind n o = option_and_then (λ r. option_map (λ m. (r.0 ∷ m.0, m.1)) (pieces_at read close n false r.1)) o
@@ -100,6 +101,9 @@ sides_more ks ls vs ws k v e f g = ap (λ a. sides a ws) f ∙ (ap (λ a. sides 
 
 pub lengths_push : {A B : Type 0} (ks ls : List A) (vs ws : List B) (k : A) (v : B) → length vs ≡ length ks → ls ≡ ks ++ k ∷ [] → ws ≡ vs ++ v ∷ [] → length ws ≡ length ls
 lengths_push ks ls vs ws k v e f g = ap length g ∙ (length-append vs (v ∷ []) ∙ (ap (λ n. n + 1) e ∙ (sym (length-append ks (k ∷ [])) ∙ ap length (sym f))))
+
+pub sides_none : (ks : List (List ℕ)) (vs : List Value) → ks ≡ [] → sides ks vs ≡ []
+sides_none ks vs e = ap (λ a. sides a vs) e
 
 pub sides_keys : (ks : List (List ℕ)) (vs : List Value) → length vs ≡ length ks → keys_of (sides ks vs) ≡ ks
 sides_keys [] vs e = refl

@@ -1,12 +1,18 @@
-use Rattle.std.proofs.Common.{refl}
+use Rattle.std.proofs.Common.{◌≡◌, [], length, sym, ap, ◌∙◌, rules}
 use Rattle.fx_expr.specs.Views.{tree_of}
 use Rattle.fx_read_report.specs.Limits.{strict}
 use Rattle.fx_read_report.specs.Values.{row_at, value_at}
-use Rattle.fx_read_report.proofs.ValueLoops.{closes, going_more, going_none, lengths_push, no_comma, no_piece, sides, sides_more, too_many}
+use Rattle.fx_read_report.proofs.ValueLoops.{closes, going_more, going_none, lengths_push, no_comma, no_piece, sides, sides_more, sides_none, too_many}
 use Rattle.fx_read_report.proofs.values.+value.Goals as goal
 
 pub rows-loop-i-init : goal.rows-loop-i-init
-rows-loop-i-init t c = record { going = going_none (row_at strict (value_at strict c.args.levels)) 93 c.args.most c.args.bytes.now; same = refl }
+rows-loop-i-init t c =
+    let keys : c.new-keys.result.items ≡ [] = search rules in
+    let values : c.new-values.result.items ≡ [] = search rules in
+    record {
+      going = going_none (row_at strict (value_at strict c.args.levels)) 93 c.args.most c.args.bytes.now (sides c.new-keys.result.items c.new-values.result.items) (sides_none c.new-keys.result.items c.new-values.result.items keys);
+      same = ap length values ∙ sym (ap length keys);
+    }
 
 pub rows-returns-in-Some-clause-found : goal.rows-returns-in-Some-clause-found
 rows-returns-in-Some-clause-found t c =

@@ -1,10 +1,13 @@
+use Rattle.std.proofs.Common.{◌≡◌, [], rules}
 use Rattle.fx_read_report.specs.Limits.{strict}
 use Rattle.fx_read_report.specs.Values.{text_at}
 use Rattle.fx_read_report.proofs.ValueLoops.{closes, going_more, going_none, no_comma, no_piece, too_many}
 use Rattle.fx_read_report.proofs.values.texts.Goals as goal
 
 pub loop-i-init : goal.loop-i-init
-loop-i-init c = going_none (text_at strict) 125 c.args.most c.args.bytes.now
+loop-i-init c =
+    let none : c.new-texts.result.items ≡ [] = search rules in
+    going_none (text_at strict) 125 c.args.most c.args.bytes.now c.new-texts.result.items none
 
 pub returns-in-Some : goal.returns-in-Some
 returns-in-Some c = closes (text_at strict) 125 c.args.most c.args.bytes.now c.loop-i.i c.loop-i.texts.items c.loop-i.rest.now c.in-Some.end.now c.loop-i.invariant c.loop-i-test.true c.in-Some.ensures
