@@ -126,11 +126,7 @@ fn piece_at(bytes: &[u8], first: bool) -> Option<&[u8]>
 }
 
 /// The texts of a set, fewer than so many, up to its closing brace.
-fn texts(
-    alloc: Global,
-    bytes: &[u8],
-    most: usize,
-) -> Result<Option<(Vec<Text>, &[u8])>, NoMemory>
+fn texts(alloc: Global, bytes: &[u8], most: usize) -> Result<Option<(Vec<Text>, &[u8])>, NoMemory>
     ensures { IfOk result (λ found. option_map (λ r. (r.0.items, r.1.now)) found
         ≡ pieces_at (text_at strict) 125 most true bytes.now) }
 {
