@@ -63,7 +63,7 @@ show_no_memory j host host' reads sink = same host host' sink reads
 
 pub text_refused : (j : ShowJob) (host host' : HostView) (text : List ℕ) (refusal : DescriptionFault) → ReadsOnly host host' → IfSome host.told (λ t. IsReadAt t j.spec source_limit text) → IsUndescribed text refusal → ShowEndsAs j host host' (status_of_fault refusal)
 text_refused j host host' text (description.Refused cause) reads read is sink =
-    (same host host' sink reads, refl, if_some_map (λ t. IsReadAt t j.spec source_limit text) (λ t. HasNoDescription t j cause) host.told (λ t read. record { file = read.file; refused = refused_whole t j.spec text cause read is }) read)
+    (same host host' sink reads, (refl, if_some_map (λ t. IsReadAt t j.spec source_limit text) (λ t. HasNoDescription t j cause) host.told (λ t read. record { file = read.file; refused = refused_whole t j.spec text cause read is }) read))
 text_refused j host host' text description.NoMemory reads read is sink = show_no_memory j host host' reads sink
 
 -- ---- from one stage to the next
