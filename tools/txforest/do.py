@@ -63,11 +63,12 @@ SPEC.
 exit status:
   0        the command ended with 0, and what it changed is in place
   1-119    the command's own: nothing of it is kept
-  120      it is kept, but something of it is not in place, which is told
+  120      it is kept, but something of it is not in place or not printed, which is told
   121      others changed what the command had read, at each try: nothing of it is kept
   122      the result has no value by SPEC: nothing of it is kept
   123      the lock was not had within --wait: nothing of it is kept
-  124      the program or the system refused something, which is told: nothing of it is kept
+  124      the program or the system refused something, which is told: nothing of it is kept.
+           So ends a command whose own status is one of 120 to 125
   125      the words have no form of this tool
   126      the command can't be run; 127: it is not found; 128+N: signal N ended it
 
