@@ -410,7 +410,30 @@ def users(room: str) -> str:
             trace = [DO, "--trace", "tree", "spec", "--", "true"]
             as_user(own, trace, fuse, spaces, status=124, say="makes no such copy")
         found.append(word)
-    return f"as a plain user: {', '.join(found)} (without the device, without name spaces)"
+    kinds = ", ".join(found)
+    return f"as a plain user: {kinds} (without the device, without name spaces); {two_users(room)}"
+
+
+def two_users(room: str, count: int = 8) -> str:
+    """Two users count at once in a tree of root's that both may write: none is lost. The lock has
+    to be root's."""
+    own = f"{room}/both"
+    write(f"{own}/spec", "dir\n")
+    write(f"{own}/tree/n", "0\n")
+    write(f"{own}/tree.lock", "")
+    for path, mode in (("", 0o1777), ("/tree", 0o777), ("/tree/n", 0o666)):
+        os.chmod(own + path, mode)
+    words = [DO, "tree", "spec", "--", "sh", "-c", "v=$(cat n); echo $((v + 1)) > n"]
+    user = ["setpriv", "--reuid=65534", "--regid=65534", "--clear-groups"]
+    both = (words, [*user, *words])
+    quiet = subprocess.DEVNULL
+    for _ in range(count):
+        jobs = [subprocess.Popen(each, cwd=own, stderr=quiet) for each in both]
+        if any([job.wait() for job in jobs]):
+            raise Wrong(f"two users: statuses {[job.returncode for job in jobs]}")
+    if read(f"{own}/tree/n") != f"{2 * count}\n":
+        raise Wrong(f"two users: {read(f'{own}/tree/n')} of {2 * count} counted")
+    return f"two users at once, {2 * count} counts, none lost"
 
 
 def systems(room: str) -> str:

@@ -221,7 +221,11 @@ class Command:
             end_with_parent()
             try:
                 copy.enter()
-            except (OSError, CannotEnter) as error:
+            except OSError as error:
+                where = f"{shown(error.filename)}: " if error.filename else ""
+                os.write(told, f"{where}{error.strerror}".encode())
+                os._exit(REFUSED)
+            except CannotEnter as error:
                 os.write(told, str(error).encode())
                 os._exit(REFUSED)
             for signal_ in (*ENDING, signal.SIGPIPE):
