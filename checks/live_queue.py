@@ -9,13 +9,12 @@ import resource
 import shutil
 import signal
 import sqlite3
-import statistics
 import subprocess
 import sys
 import tempfile
 import time
 from collections import Counter
-from collections.abc import Callable
+from collections.abc import Callable, Iterator
 
 TOP = os.path.dirname(os.path.dirname(os.path.abspath(__file__)))
 TOOLS = os.environ.get("TOOLS", os.path.join(TOP, "tools"))
@@ -337,60 +336,97 @@ def measured(words: list[list[str]]) -> tuple[float, float]:
     return used, time.perf_counter() - started
 
 
+BARE = """
+import os, sys
+for turn in range(2):
+    left = [sys.argv[1]]
+    while left:
+        with os.scandir(left.pop()) as entries:
+            for entry in entries:
+                entry.stat(follow_symlinks=False)
+                if entry.is_dir(follow_symlinks=False):
+                    left.append(entry.path)
+"""
+TURNS = {100: 7, 10_000: 5, 60_000: 3}
+WORK_TREES = 700_000  # files that all clones of git may have together
+
+
 def costs_of_many(room: str, number: int) -> str:
     """1, 8 and 64 jobs at once on trees of 100, 10,000 and 60,000 files, each in a folder of its
-    own, beside `txforest run` alone; a number is the largest of the trees."""
+    own, beside `txforest run` alone; a number is the largest of the trees. Least of several."""
     lines = ["", "| files | jobs | by | processor | of a run | by the clock |", "|" + "---|" * 6]
-    for files in (100, 10_000, 60_000):
+    for files in TURNS:
         if number and files > number:
             continue
         base = tempfile.mkdtemp(dir="/dev/shm" if os.access("/dev/shm", os.W_OK) else room)
         try:
-            lines += costs_on(base, files)
+            for line in costs_on(base, files):
+                print(line, file=sys.stderr, flush=True)  # the whole may take long
+                lines.append(line)
         finally:
             shutil.rmtree(base)
-    load = os.getloadavg()[0]
-    return "\n".join([*lines, f"load {load:.0f} on {os.cpu_count()} processors"])
+    return "\n".join([*lines, machine()])
 
 
-def costs_on(base: str, files: int) -> list[str]:
+def machine() -> str:
+    """What was measured on."""
+    with open("/proc/cpuinfo", encoding="utf-8", errors="replace") as it:
+        models = [line.split(":", 1)[1].strip() for line in it if line.startswith("model name")]
+    return (
+        f"{os.cpu_count()} processors ({models[0] if models else os.uname().machine}),"
+        f" Linux {os.uname().release}, Python {sys.version.split(' ')[0]},"
+        f" load {os.getloadavg()[0]:.0f}"
+    )
+
+
+def costs_on(base: str, files: int) -> Iterator[str]:
     """The rows of one tree."""
     many_files(f"{base}/tree", files)
     write(f"{base}/spec", WIDE)
-    run, lines = run_alone(base), []
-    lines.append(f"| {files:,} | 1 | `txforest run` | {run:.3f} s | 1.0 | |")
+    run = run_alone(base, TURNS[files])
+    yield f"| {files:,} | 1 | `txforest run` | {run:.3f} s | 1.0 | |"
+    words = [sys.executable, "-IS", "-c", BARE, f"{base}/tree"]
+    bare = run + min(measured([words])[0] for _ in range(TURNS[files]))
+    told = "the run, and two bare looks at each entry"
+    yield f"| {files:,} | 1 | {told} | {bare:.3f} s | {bare / run:.1f} | |"
     for jobs in (1, 8, 64):
-        for way, commands in WAYS.items():
-            if not shutil.which(way.split(" ")[0].rstrip(",")) and way.startswith("git"):
+        for way in WAYS:
+            if way.startswith("git") and (not shutil.which("git") or jobs * files > WORK_TREES):
                 continue
-            shutil.copytree(f"{base}/tree", f"{base}/t")
-            folders = [f"d{i * (folders_of(files) // jobs):04d}" for i in range(jobs)]
-            used, clock = measured(commands(base, folders))
-            if way == "SQLite":
-                total = sum_of_rows(f"{base}/data")
-            else:
-                head = "git -C {0}/t checkout -qf main" if way.startswith("git") else "true"
-                subprocess.run(["bash", "-c", head.format(base)], check=True)
-                total = sum(int(read(f"{base}/t/{name}/count")) for name in set(folders))
-            assert total == jobs, (way, jobs, total)
+            turns = 1 if way.startswith("git") and jobs > 8 else TURNS[files]
+            used, clock = map(min, zip(*(turn(base, files, jobs, way) for _ in range(turns))))
             row = f"{used:.3f} s | {used / run:.1f} | {clock:.2f} s |"
-            lines.append(f"| {files:,} | {jobs} | {way} | {row}")
-            for name in sorted(os.listdir(base)):
-                if name not in ("tree", "spec"):
-                    path = f"{base}/{name}"
-                    shutil.rmtree(path) if os.path.isdir(path) else os.unlink(path)
-    return lines
+            yield f"| {files:,} | {jobs} | {way} | {row}"
 
 
-def run_alone(base: str) -> float:
+def turn(base: str, files: int, jobs: int, way: str) -> tuple[float, float]:
+    """The processor time and the time of so many jobs at once, each of which has to count."""
+    shutil.copytree(f"{base}/tree", f"{base}/t")
+    folders = [f"d{i * (folders_of(files) // jobs):04d}" for i in range(jobs)]
+    used = measured(WAYS[way](base, folders))
+    if way == "SQLite":
+        total = sum_of_rows(f"{base}/data")
+    else:
+        head = "git -C {0}/t checkout -qf main" if way.startswith("git") else "true"
+        subprocess.run(["bash", "-c", head.format(base)], check=True)
+        total = sum(int(read(f"{base}/t/{name}/count")) for name in set(folders))
+    assert total == jobs, (way, jobs, total)
+    for name in sorted(os.listdir(base)):
+        if name not in ("tree", "spec"):
+            path = f"{base}/{name}"
+            shutil.rmtree(path) if os.path.isdir(path) else os.unlink(path)
+    return used
+
+
+def run_alone(base: str, turns: int) -> float:
     """What the program alone takes for a job, without OUT's removal."""
     with_apply(base, ["d0000"])
     used = []
-    for _ in range(3):
+    for _ in range(turns):
         words = ["run", f"{base}/spec", f"{base}/tree", f"{base}/out", f"{base}/j0"]
         used.append(measured([[os.environ["TXFOREST"], *words]])[0])
         shutil.rmtree(f"{base}/out")
-    return statistics.median(used)
+    return min(used)
 
 
 def sum_of_rows(path: str) -> int:

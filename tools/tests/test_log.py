@@ -65,6 +65,22 @@ class Logs(unittest.TestCase):
         log.append(self.tree, ident, self.asked, 0)
         self.assertEqual(self.lines(), [["1", "0"]])
 
+    def test_what_is_kept_is_on_the_device_before_the_commit(self) -> None:
+        seen: list[list[str]] = []
+
+        def sync_all(fd: int) -> None:
+            self.assertEqual(read(f"{self.tree.path}/n"), "0")
+            seen.append(sorted(os.listdir(fd)) + sorted(os.listdir(f"/proc/self/fd/{fd}/folder")))
+
+        self.asked.keep = f"{self.top}/kept"
+        with mock.patch("txforest.log.sync_all", sync_all):
+            self.assertEqual(queues.lead(self.tree, self.asked).status, 0)
+        self.assertEqual(seen, [["0", "folder", "report", "spec", "log", "n"]])
+        failed = OSError(5, "Input/output error")
+        with mock.patch("txforest.log.sync_all", side_effect=failed):
+            answer = queues.lead(self.tree, self.asked)
+        self.assertEqual((answer.status, read(f"{self.tree.path}/n")), (9, "1"))
+
     def test_what_is_kept(self) -> None:
         for change in (JOB % "a", "txn { print(1) }"):
             asked = request(change)

@@ -74,6 +74,12 @@ def failed(name: bytes) -> OSError:
     return OSError(number, os.strerror(number), name)
 
 
+def sync_all(fd: int) -> None:
+    """Waits until all that was written to a descriptor's file system is on its device."""
+    if libc().syncfs(fd) < 0:
+        raise failed(b".")
+
+
 class Calls:
     """Each call as the system has it."""
 

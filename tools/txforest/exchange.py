@@ -20,7 +20,7 @@ import stat
 import time
 
 from . import calls
-from .calls import DIR, EXCHANGE, FILE, NEW, NOREPLACE
+from .calls import DIR, EXCHANGE, FILE, NEW, NOREPLACE, sync_all
 from .commit import Committed, Unfinished, commit, give_answers, write_answers
 from .intent import number_of
 from .place import Place, Tree, clear, new_place
@@ -200,12 +200,6 @@ def write_step(place: Place, step: Step) -> None:
     finally:
         calls.S.close(fd)
     calls.S.fsync(place.fd)
-
-
-def sync_all(fd: int) -> None:
-    """Waits until all that was written to a file system is on its device."""
-    if calls.libc().syncfs(fd) < 0:
-        raise calls.failed(b"made")
 
 
 def take(tree: Tree, place: Place, step: Step) -> None:

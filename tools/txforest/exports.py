@@ -18,9 +18,8 @@ from typing import NamedTuple
 from . import calls
 from .attempt import Attempt, attempts
 from .attributes import Kept, Record, content, digest_of, names_of, record_in
-from .calls import DIR, NEW
+from .calls import DIR, NEW, sync_all
 from .differences import Change, parents
-from .exchange import sync_all
 from .imports import Room, is_free
 from .links import real_text
 from .lock import lock

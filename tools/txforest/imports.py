@@ -10,8 +10,7 @@ from typing import NamedTuple
 
 from . import calls
 from .attributes import Record, record_of, walked
-from .calls import DIR, NEW
-from .exchange import sync_all
+from .calls import DIR, NEW, sync_all
 from .lock import lock
 from .only import Only
 from .place import Place, Tree, beside_front, hold, new_place, place_names

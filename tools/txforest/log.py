@@ -10,7 +10,7 @@ committed.
 
 What is kept of a job is a directory ID with the files `spec`, `0`, `1` .. (the scripts of the run,
 in the order of its shells), `report`, and the folder `folder` as it was before: so `txforest audit`
-can be said of it later. It comes under its name behind the commit.
+can be said of it later. It is on the device before the commit, and comes under its name behind it.
 """
 
 from __future__ import annotations
@@ -21,7 +21,7 @@ import os
 import stat
 import time
 
-from .calls import DIR, NEW
+from .calls import DIR, NEW, sync_all
 from .place import clear
 from .spelling import spelled, unspelled
 from .terminal import shown, tell
@@ -138,8 +138,8 @@ def last_number(fd: int, ident: bytes) -> tuple[int | None, bool]:
 def kept(
     attempt: Attempt, ident: str, folder: str, scripts: Sequence[Source], report: bytes
 ) -> bytes:
-    """Keeps the inputs of an attempt's run and its report, not yet under their name; answers what
-    the place carries for it. Raises OSError."""
+    """Keeps the inputs of an attempt's run and its report, not yet under their name, and waits until
+    they are on the device; answers what the place carries for it. Raises OSError."""
     from .view import copied, table_text, write_new
 
     os.makedirs(folder, exist_ok=True)
@@ -172,6 +172,7 @@ def kept(
                 write_new(inner, b".forest-links", table_text(found.links, flags))
         finally:
             os.close(inner)
+        sync_all(fd)
     finally:
         os.close(fd)
     return spelled(os.fsencode(folder)) + b"\n"
