@@ -394,7 +394,8 @@ def costs_on(base: str, files: int) -> Iterator[str]:
             if way.startswith("git") and (not shutil.which("git") or jobs * files > WORK_TREES):
                 continue
             turns = 1 if way.startswith("git") and jobs > 8 else TURNS[files]
-            used, clock = map(min, zip(*(turn(base, files, jobs, way) for _ in range(turns))))
+            went = [turn(base, files, jobs, way) for _ in range(turns)]
+            used, clock = min(it[0] for it in went), min(it[1] for it in went)
             row = f"{used:.3f} s | {used / run:.1f} | {clock:.2f} s |"
             yield f"| {files:,} | {jobs} | {way} | {row}"
 
