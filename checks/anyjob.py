@@ -12,6 +12,7 @@ import fcntl
 import os
 import shutil
 import stat
+import struct
 import subprocess
 import sys
 import tempfile
@@ -216,48 +217,114 @@ def streams(room: str) -> str:
     return "the same input at each try, held output once, what stays is told and ended"
 
 
-def attributes(room: str) -> str:
-    """Modes, owners, access lists, extended attributes: carried or refused, and kept otherwise."""
+def access_list(default: bool = False) -> bytes:
+    """An access list as the kernel has it: the group 4711 may read, besides what 0640 gives."""
+    entries = [(1, 6, -1), (4, 4, -1), (8, 4, 4711), (16, 4, -1), (32, 5 if default else 0, -1)]
+    return struct.pack("<I", 2) + b"".join(struct.pack("<HHi", *entry) for entry in entries)
+
+
+CAPABLE = struct.pack("<IIIII", 0x02000000 | 1, 1 << 13, 0, 0, 0)  # cap_net_raw=ep
+ACL, DEFAULT = "system.posix_acl_access", "system.posix_acl_default"
+
+
+def rights(room: str) -> dict[str, tuple[object, ...]]:
+    """The modes, owners and extended attributes of all that stands in the tree of a room."""
+    found: dict[str, tuple[object, ...]] = {}
+    for above, folders, files in os.walk(f"{room}/tree"):
+        for path in (above, *(os.path.join(above, name) for name in folders + files)):
+            it = os.lstat(path)
+            names = sorted(os.listxattr(path, follow_symlinks=False))
+            kept = tuple((n, os.getxattr(path, n, follow_symlinks=False)) for n in names)
+            where = os.path.relpath(path, f"{room}/tree")
+            found[where] = (oct(it.st_mode), it.st_uid, it.st_gid, kept)
+    return found
+
+
+def attribute_changes(is_root: bool) -> list[tuple[str, bool]]:
+    """Changes of modes, owners, lists and attributes alone, as what Python does in the copy, and
+    whether they are carried; else they are refused."""
+    found = [
+        ('os.chmod("a", 0o600)', True),
+        ('os.chmod("a", 0o755)', True),
+        ('os.chmod("d", 0o750)', True),
+        ('os.chmod("d/e", 0o2711)', True),
+        ('os.chmod(".", 0o711)', False),
+        ('os.setxattr("a", "user.new", b"1")', True),
+        ('os.setxattr("a", "user.kept", b"other")', True),
+        ('os.removexattr("a", "user.kept")', True),
+        ('os.removexattr("a", "user.kept"); open("a", "a").write("more")', True),
+        ('os.setxattr("d", "user.x", b"1")', False),
+        ('os.removexattr("d/e", "user.held")', False),
+        ('os.setxattr("d/e", "user.held", b"other")', False),
+        ('os.mkdir("n"); os.setxattr("n", "user.x", b"1")', False),
+        ('os.mkdir("n", 0o711); open("n/f", "w").close(); os.chmod("n/f", 0o640)', True),
+        (f'os.setxattr("a", "{ACL}", {access_list()!r})', True),
+        (f'os.setxattr("d", "{ACL}", {access_list()!r})', False),
+        (f'os.setxattr("d", "{DEFAULT}", {access_list(True)!r})', False),
+    ]
+    if is_root:
+        found += [
+            ('os.chown("a", 12, 34)', True),
+            ('os.chown("d", 12, 34)', True),
+            ('os.mkdir("n"); os.chown("n", 12, 34)', True),
+            ('open("n", "w").close(); os.chown("n", 12, 34)', True),
+            (f'os.setxattr("a", "security.capability", {CAPABLE!r})', True),
+            ('os.setxattr("a", "trusted.x", b"1")', True),
+            (f'os.removexattr("listed", "{ACL}")', True),
+            ('open("listed", "a").write("more")', True),
+            (f'os.removexattr("open", "{DEFAULT}")', False),
+            ('os.mkdir("open/n"); open("open/f", "w").close()', True),
+        ]
+    return found
+
+
+def attributes(room: str, *options: str) -> str:
+    """Modes, owners, access lists, extended attributes alone: each is carried or refused, and what
+    others have changed meanwhile stays."""
     write(f"{room}/spec", "dir\n")
-    write(f"{room}/tree/a", "1\n")
-    write(f"{room}/tree/d/x", "1\n")
-    python = sys.executable + " -c 'import os; {}'"
-    found = []
-    for option in "--trace", "--whole", "--only=*":
-        os.setxattr(f"{room}/tree/a", "user.kept", b"yes")
-        sh(room, "echo 2 >> a; chmod 600 a; chmod 750 d", option)
-        modes = [os.stat(f"{room}/tree/{name}").st_mode for name in "ad"]
-        mode = oct(modes[0] & 0o777 | modes[1] << 12)
-        if os.stat(f"{room}/tree/a").st_mode & 0o777 != 0o600 or not mode:
-            raise Wrong(f"{option}: chmod is lost")
-        if os.stat(f"{room}/tree/d").st_mode & 0o777 != 0o750:
-            raise Wrong(f"{option}: chmod of a directory is lost")
-        if os.getxattr(f"{room}/tree/a", "user.kept") != b"yes":
-            raise Wrong(f"{option}: an attribute is lost with the content's change")
-        change = 'os.setxattr("a", "user.new", b"1"); os.removexattr("a", "user.kept")'
-        sh(room, python.format(change), option)
-        if os.listxattr(f"{room}/tree/a") != ["user.new"]:
-            raise Wrong(f"{option}: {os.listxattr(f'{room}/tree/a')}")
-        os.removexattr(f"{room}/tree/a", "user.new")
-        there = 'assert os.getxattr("a", "user.x") == b"seen"'
-        os.setxattr(f"{room}/tree/a", "user.x", b"seen")
-        sh(room, python.format(there), option)
-        os.removexattr(f"{room}/tree/a", "user.x")
-        sh(room, "chmod 711 .", option, status=124, say="is not carried")
-        refused = python.format('os.setxattr("d", "user.x", b"1")')
-        if option != "--only=*":
-            sh(room, refused, option, status=124, say="is not carried")
-        if os.getuid() == 0:
-            sh(room, "chown 12:34 a; echo new > n; chown 56:78 n", option)
-            stats = [os.stat(f"{room}/tree/{n}") for n in "an"]
-            owners = [(it.st_uid, it.st_gid) for it in stats]
-            if owners != [(12, 34), (56, 78)]:
-                raise Wrong(f"{option}: owners {owners}")
-            sh(room, "chown 0:0 a; rm n", option)
-        os.chmod(f"{room}/tree/a", 0o644)
-        os.chmod(f"{room}/tree/d", 0o755)
-        found.append(option)
-    return f"modes, owners and extended attributes are carried or refused with {', '.join(found)}"
+    is_root = os.getuid() == 0
+    carried = refused = 0
+    for option in options or ("--trace", "--whole", "--only=*"):
+        for change, is_carried in attribute_changes(is_root):
+            shutil.rmtree(f"{room}/tree", ignore_errors=True)
+            for path in "a", "listed", "d/x", "d/e/y", "open/z":
+                write(f"{room}/tree/{path}", "1\n")
+            os.setxattr(f"{room}/tree/a", "user.kept", b"yes")
+            os.setxattr(f"{room}/tree/d/e", "user.held", b"yes")
+            os.setxattr(f"{room}/tree/listed", ACL, access_list())
+            os.setxattr(f"{room}/tree/open", DEFAULT, access_list(True))
+            before = rights(room)
+            shutil.copytree(f"{room}/tree", f"{room}/plain/tree", symlinks=True)
+            for name in before:
+                it = os.lstat(f"{room}/tree/{name}")
+                os.chown(f"{room}/plain/tree/{name}", it.st_uid, it.st_gid)
+            python = [sys.executable, "-c", f"import os; {change}"]
+            run(python, f"{room}/plain/tree")
+            wanted = rights(f"{room}/plain")
+            shutil.rmtree(f"{room}/plain")
+            status = 0 if is_carried else 124
+            say = "" if is_carried else "is not carried"
+            told = run([DO, option, "tree", "spec", "--", *python], room, status, say)
+            now = rights(room)
+            odd = {path for path in wanted | now if wanted.get(path) != now.get(path)}
+            if is_carried and not odd <= {"open/f", "open/n"}:
+                path = min(odd)
+                raise Wrong(f"{option} {change}: {now.get(path)}, not {wanted.get(path)}: {told}")
+            if not is_carried and now != before:
+                raise Wrong(f"{option} {change}: is refused, and the tree is another: {told}")
+            carried, refused = carried + is_carried, refused + (not is_carried)
+        modes(room, option)
+    as_plain = "are carried as plain commands make them"
+    return f"{carried} changes of rights alone {as_plain}, {refused} refused"
+
+
+def modes(room: str, option: str) -> None:
+    """A job that changes something in a directory leaves a mode that another job has given it."""
+    for mode in 0o700, 0o755:
+        now = f"{room}/tree/d"
+        sh(room, f"echo 3 > d/x; chmod {mode:o} {now}", option)
+        if os.stat(now).st_mode & 0o777 != mode:
+            raise Wrong(f"{option}: another job's mode of a directory is undone")
 
 
 def counts(room: str, count: str = "400", processes: str = "8") -> str:
@@ -343,7 +410,30 @@ def users(room: str) -> str:
             trace = [DO, "--trace", "tree", "spec", "--", "true"]
             as_user(own, trace, fuse, spaces, status=124, say="makes no such copy")
         found.append(word)
-    return f"as a plain user: {', '.join(found)} (without the device, without name spaces)"
+    kinds = ", ".join(found)
+    return f"as a plain user: {kinds} (without the device, without name spaces); {two_users(room)}"
+
+
+def two_users(room: str, count: int = 8) -> str:
+    """Two users count at once in a tree of root's that both may write: none is lost. The lock has
+    to be root's."""
+    own = f"{room}/both"
+    write(f"{own}/spec", "dir\n")
+    write(f"{own}/tree/n", "0\n")
+    write(f"{own}/tree.lock", "")
+    for path, mode in (("", 0o1777), ("/tree", 0o777), ("/tree/n", 0o666)):
+        os.chmod(own + path, mode)
+    words = [DO, "tree", "spec", "--", "sh", "-c", "v=$(cat n); echo $((v + 1)) > n"]
+    user = ["setpriv", "--reuid=65534", "--regid=65534", "--clear-groups"]
+    both = (words, [*user, *words])
+    quiet = subprocess.DEVNULL
+    for _ in range(count):
+        jobs = [subprocess.Popen(each, cwd=own, stderr=quiet) for each in both]
+        if any([job.wait() for job in jobs]):
+            raise Wrong(f"two users: statuses {[job.returncode for job in jobs]}")
+    if read(f"{own}/tree/n") != f"{2 * count}\n":
+        raise Wrong(f"two users: {read(f'{own}/tree/n')} of {2 * count} counted")
+    return f"two users at once, {2 * count} counts, none lost"
 
 
 def systems(room: str) -> str:

@@ -14,6 +14,7 @@ from collections.abc import Callable
 SPEC = 'dir\n'
 STEPS = ("begun", "ran", "prepared", "locked", "gathered", "decided", "valued", "put", "told")
 EARLY = ("begun", "ran", "prepared")
+FOLLOWED = (*EARLY, "locked")  # the steps of a job that another one does
 CALLS = (
     "open", "close", "down", "look", "mkdir", "unlink", "rmdir", "link", "link_open", "rename",
     "rename2", "write", "fsync", "chown", "chmod", "chmod_at",
@@ -146,20 +147,22 @@ def status_of(pid: int) -> int:
     return os.waitstatus_to_exitcode(os.waitpid(pid, 0)[1])
 
 
-def one(room: str, step: str | None, call: int | None) -> tuple[bool, str]:
-    """Three jobs, of which the first leads and is killed: whether the killed one's change stands,
-    and what is wrong."""
+def one(
+    room: str, step: str | None, call: int | None, follows: bool = False
+) -> tuple[bool, str]:
+    """Three jobs, of which one is killed, the first or one that follows: whether the killed one's
+    change stands, and what is wrong."""
     it = Jobs(room)
+    pids: dict[str, int] = {}
     with open(it.top + ".lock", "w", encoding="utf-8") as lock:
         fcntl.flock(lock, fcntl.LOCK_EX)
-        first = it.begin("a", step, call)
-        if step not in EARLY:
-            wait_until(lambda: it.prepared() == 1)
-            time.sleep(0.05)  # it waits for the lock by now, as the first one
-        others = [it.begin(name) for name in "bc"]
-        wait_until(lambda: it.prepared() >= (2 if step in EARLY else 3))
-        time.sleep(0.05)
-    statuses = [status_of(first), *map(status_of, others)]
+        for count, name in enumerate("bac" if follows else "abc", 1):
+            is_killed = name == "a"
+            pids[name] = it.begin(name, step if is_killed else None, call if is_killed else None)
+            gone = step in EARLY and "a" in pids
+            wait_until(lambda: it.prepared() >= count - gone)
+            time.sleep(0.05)  # it waits for the lock by now, behind those before it
+    statuses = [status_of(pids[name]) for name in NAMES]
     last = status_of(it.begin("x"))
     found = {name: it.read(name) for name in (*NAMES, "x")}
     killed = -9 if call is None or statuses[0] == -9 else 0
@@ -179,13 +182,14 @@ def one(room: str, step: str | None, call: int | None) -> tuple[bool, str]:
 def kills(top: str, part: int) -> tuple[str, str]:
     """Kills a leader at each step, and at each `part`-th call; what is told and what is wrong."""
     kept = 0
-    for step in STEPS:
-        room = os.path.join(top, step)
-        stands, wrong = one(room, step, None)
-        if wrong:
-            return "", wrong
-        kept += stands
-        shutil.rmtree(room)
+    for follows, steps in ((False, STEPS), (True, FOLLOWED)):
+        for step in steps:
+            room = os.path.join(top, step)
+            stands, wrong = one(room, step, None, follows)
+            if wrong:
+                return "", f"{'a follower, ' if follows else ''}{wrong}"
+            kept += stands
+            shutil.rmtree(room)
     room = os.path.join(top, "count")
     one(room, None, 10**9)
     with open(os.path.join(room, "count"), encoding="utf-8") as file:
@@ -200,8 +204,9 @@ def kills(top: str, part: int) -> tuple[str, str]:
         tried, stood = tried + 1, stood + stands
         shutil.rmtree(room)
     told = (
-        f"a leader of three jobs, killed at each of {len(STEPS)} steps ({kept} kept) and before "
-        f"{tried} of {calls} calls ({stood} kept): the others' changes stand exactly once"
+        f"one of three jobs, killed at each of {len(STEPS)} steps as their leader and of "
+        f"{len(FOLLOWED)} as a follower ({kept} kept), and before {tried} of {calls} calls as the "
+        f"leader ({stood} kept): each of the others' changes stands exactly once"
     )
     return told, ""
 

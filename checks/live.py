@@ -432,44 +432,78 @@ def planted_places_and_locks_do_nothing(room: str, _: int) -> str:
     return f"{tries} planted places and locks: nothing is moved, removed or waited for"
 
 
+EXCHANGES = """
+import os, sys
+os.setgid(65534)
+os.setuid(65534)
+os.chdir(sys.argv[1])
+n = 0
+while True:
+    n += 1
+    p = 'd/f%d' % (n % 200)
+    os.symlink(sys.argv[2], 'd/.l')
+    os.rename(p, 'd/.f')
+    os.rename('d/.l', p)
+    os.rename('d/.f', p)
+"""
+
+
+def ways_of_root(room: str, tree: str) -> dict[str, str]:
+    """Each way in which root copies of a tree, as a command."""
+    tool = f"'{TOOLS}/txforest-apply'"
+    job = f"'{tree}' r/spec r/job"
+    run = f"'{os.environ['TXFOREST']}' run r/spec in out r/job"
+    return {
+        "by files": f"{tool} {job}",
+        "--exchange": f"{tool} --exchange {job}",
+        "--keep": f"{tool} --keep kept {job}",
+        "import, export": "rm -rf in in.attributes out;"
+        f" '{TOOLS}/txforest-import' --leave-out '{tree}' in && {run} &&"
+        f" '{TOOLS}/txforest-export' --attributes in.attributes --replace out '{tree}'",
+        "import, export anew": "rm -rf in in.attributes out new;"
+        f" '{TOOLS}/txforest-import' --leave-out '{tree}' in && {run} &&"
+        f" '{TOOLS}/txforest-export' --attributes in.attributes out new",
+    }
+
+
 def a_name_exchanged_with_a_link_leaks_nothing(room: str, number: int) -> str:
-    """While root's jobs run, the tree's owner exchanges a file with a link to a secret."""
+    """While root's jobs run, the tree's owner exchanges a file with a link to a secret: no copy of
+    root's has the secret, nor has what is printed or told."""
     needs_root()
-    number = number or 40
+    number = number or 60
     os.chmod(os.path.dirname(room), 0o755)
-    write(f"{room}/secret", "SECRET\n")
-    os.chmod(f"{room}/secret", 0o600)
+    secret = tempfile.mkdtemp(prefix="live-secret-")
+    write(f"{secret}/secret", "SECRET\n")
+    os.chmod(f"{secret}/secret", 0o600)
+    os.chmod(secret, 0o711)
     os.makedirs(f"{room}/r")
     tree = new_tree(f"{room}/r")
     for i in range(200):
         write(f"{tree}/d/f{i}", "x" * 100)
     shell(f"chown -R {NOBODY}:{NOBODY} '{room}/r'")
-    code = (
-        "import os, sys\nos.setgid(65534)\nos.setuid(65534)\nos.chdir(sys.argv[1])\nn = 0\n"
-        "while True:\n    n += 1\n    p = 'd/f%d' % (n % 200)\n"
-        "    os.symlink(sys.argv[2], 'd/.l')\n"
-        "    os.rename(p, 'd/.f')\n    os.rename('d/.l', p)\n    os.rename('d/.f', p)\n"
-    )
-    words = [sys.executable, "-c", code, tree, f"{room}/secret"]
+    ways = ways_of_root(room, tree)
+    words = [sys.executable, "-c", EXCHANGES, tree, f"{secret}/secret"]
     other = subprocess.Popen(words)
-    ends: dict[int, int] = {}
+    ends: dict[tuple[str, int], int] = {}
     try:
         for turn in range(number):
-            more = ["--exchange"] if turn % 2 and TOOLS.startswith(TOP) else []
-            ran = subprocess.run(
-                command(tree, *more), stdout=subprocess.DEVNULL, stderr=subprocess.PIPE, timeout=120
-            )
-            ends[ran.returncode] = ends.get(ran.returncode, 0) + 1
-            if ran.returncode not in STATUSES or b"Traceback" in ran.stderr:
-                raise Wrong(f"status {ran.returncode}: {ran.stderr.decode()[-1000:]}")
-            leaks = shell(f"grep -rlsx SECRET '{room}/r' --devices=skip", room)[1]
-            files = [p for p in leaks.split() if not os.path.islink(p)]
-            same("leaks", files, [])
+            way = list(ways)[turn % len(ways)]
+            status, told = shell(ways[way], room)
+            ends[way, status] = ends.get((way, status), 0) + 1
+            if status not in STATUSES or "Traceback" in told or "SECRET" in told:
+                raise Wrong(f"{way}: status {status}: {told[-1000:]}")
+            leaks = shell(f"grep -rlsx SECRET '{room}' --devices=skip", room)[1]
+            same(f"leaks, {way}", [p for p in leaks.split() if not os.path.islink(p)], [])
     finally:
         other.kill()
         other.wait()
-    told = ", ".join(f"status {key} {value} times" for key, value in sorted(ends.items()))
-    return f"{number} jobs of root beside an owner who exchanges files with links: no leak ({told})"
+        shutil.rmtree(secret)
+    told = ", ".join(f"{way} {key}: {value}" for (way, key), value in sorted(ends.items()))
+    same("jobs that were done", any(key == 0 for _, key in ends), True)
+    return (
+        f"{number} jobs of root by {len(ways)} ways beside an owner who exchanges files with links:"
+        f" no leak (statuses: {told})"
+    )
 
 
 def statuses_say_what_is_true(room: str, _: int) -> str:

@@ -11,7 +11,8 @@ from tests.rooms import Room
 from txforest import traced
 from txforest.copies import Changes, Copy, Plain, digest_of, entries, remove_tree
 from txforest.declared import Declared, declared
-from txforest.do import CONFLICT, USAGE_LINE, Command, given_words
+from txforest.do import CONFLICT, NOT_FOUND, PARTLY, REFUSED, USAGE_LINE
+from txforest.do import Command, Transaction, given_words, own_status
 from txforest.only import Only
 from txforest.states import Kind, Reader, kind_of, settled, token_of
 from txforest.statuses import Failed
@@ -294,4 +295,21 @@ class Words(Room):
         for words, status in ((["true"], 0), (["false"], 1), (["sh", "-c", "exit 7"], 7)):
             self.assertEqual(Command(words, True).run(copy), status)
         self.assertEqual(Command(["sh", "-c", "kill -9 $$"], True).run(copy), 137)
+        self.assertEqual(Command(["/no/such/command"], True).run(copy), NOT_FOUND)
+        with mock.patch("txforest.do.tell"):
+            self.assertEqual(Command(["no-such-command"], True).run(copy), NOT_FOUND)
+            for status in range(256):  # a status of the tool's own would say what is not so
+                own = own_status(status, ["sh"])
+                self.assertEqual(own, REFUSED if 120 <= status <= 125 else status)
         self.assertGreater(CONFLICT, 120)
+
+    def test_output_that_nobody_takes(self) -> None:
+        """What is done stays done, and the status says so."""
+        it = Transaction.__new__(Transaction)
+        it.command = Command(["true"], True)
+        broken = BrokenPipeError(32, "Broken pipe")
+        with mock.patch.object(it.command, "release", side_effect=broken), mock.patch(
+            "txforest.do.tell"
+        ) as told:
+            self.assertEqual((it.released(0), it.released(3)), (PARTLY, 3))
+        self.assertEqual(told.call_count, 2)

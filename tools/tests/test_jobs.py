@@ -107,6 +107,7 @@ class Jobs(TestRoom):
             made.before = {(b"n",): None, (b"d",): Kind.DIRECTORY, (b"d", b"x"): b"f 0644 0 0 x"}
             made.files = {(b"n",): room.inside("new file")}
             made.modes = {ODD: 0o750}
+            made.owners = {ODD: (12, 34)}
             made.attributes = {(b"n",): {"user.x": b"\0\xff"}, (b"d",): {}}
             Prepared(room.name, b"text\n", looked, made, room.path).write()
             self.assertTrue(take(room.fd))
@@ -117,6 +118,7 @@ class Jobs(TestRoom):
         self.assertEqual(found.changes.writes, made.writes)
         self.assertEqual(found.changes.files, made.files)
         self.assertEqual(found.changes.modes, made.modes)
+        self.assertEqual(found.changes.owners, made.owners)
         self.assertEqual(found.changes.attributes, made.attributes)
         self.assertEqual(found.job(self.tree).removes, {(b"d",), (b"d", b"x")})
 
@@ -282,6 +284,16 @@ class Rooms(TestRoom):
             self.assertEqual(clear_left(self.tree), 1)
             self.assertEqual(os.listdir(os.path.dirname(one.path)), [one.name])
         self.assertEqual(self.left(), [])
+
+    def test_what_cant_be_removed_stops_nobody(self) -> None:
+        with Room(self.tree) as one:
+            other = os.path.join(os.path.dirname(one.path), "do-" + "0" * 12)
+            os.mkdir(other, 0o700)
+            with mock.patch("txforest.copies.os.rmdir", side_effect=PermissionError(1, "no")):
+                self.assertEqual(clear_left(self.tree), 0)
+                one.close()
+            self.assertEqual(one.stays, "no")
+            one.fd = os.open(one.path, os.O_RDONLY)
 
     def test_without_a_queue(self) -> None:
         os.symlink("/nowhere", self.top + ".queue")

@@ -123,7 +123,9 @@ class Values(Room):
             value.go_back(back)
             self.assertTrue(value.holds())
             for content, holds in (("8", False), ("7", True)):
-                back = value.change({(b"new",): token(content.encode())}, {(b"new",): self.source(content)})
+                back = value.change(
+                    {(b"new",): token(content.encode())}, {(b"new",): self.source(content)}
+                )
                 self.assertEqual(value.holds(), holds)
                 value.go_back(back)
                 self.assertTrue(value.holds())

@@ -15,17 +15,24 @@ import errno
 import os
 import stat
 
+from .calls import PLAIN
 from .states import DIRECTORY_FLAGS, FILE_FLAGS, Kind, Reader, new_digest, token_of
 from .statuses import Failed, Status
-from .terminal import below, shown
+from .terminal import below
 
 TYPE_CHECKING = False
 if TYPE_CHECKING:
-    from collections.abc import Iterator
+    from collections.abc import Iterator, Mapping
+    from typing import NoReturn
 
     from .states import Made, Path, Seen
 
+    Rights = tuple[int, int, int]
+
 FICLONE = 0x40049409
+SYSTEMS_OWN = ("user.overlay.", "trusted.overlay.", "security.", "system.nfs4")  # attributes
+CAPABILITY = "security.capability"
+DEFAULT, ACCESS = "system.posix_acl_default", "system.posix_acl_access"
 NO_CLONE = (errno.EOPNOTSUPP, errno.EINVAL, errno.EXDEV, errno.ENOTTY, errno.EPERM)
 
 
@@ -38,6 +45,7 @@ class Looked:
 
     `total` is a digest of the whole tree if all of it counts as read. `spoiled` is a path that
     changed while the command ran, so that it may have seen two moments; it has to run again.
+    `rights` are the modes and owners of directories as it has seen them; they are not compared.
     """
 
     def __init__(
@@ -45,10 +53,12 @@ class Looked:
         reads: dict[Path, Seen] | None = None,
         total: bytes | None = None,
         spoiled: Path | None = None,
+        rights: dict[Path, Rights] | None = None,
     ) -> None:
         self.reads = reads or {}
         self.total = total
         self.spoiled = spoiled
+        self.rights = rights or {}
 
 
 class Changes:
@@ -58,6 +68,7 @@ class Changes:
     files       of each file among these where its content stands
     before      of each of these paths what stood there
     modes       the modes of directories that were there before and have another one now
+    owners      the owners of such directories, user and group, if root has given another one
     attributes  the extended attributes of files that have other ones now
     """
 
@@ -66,16 +77,27 @@ class Changes:
         self.files: dict[Path, str] = {}
         self.before: dict[Path, Seen] = {}
         self.modes: dict[Path, int] = {}
+        self.owners: dict[Path, tuple[int, int]] = {}
         self.attributes: dict[Path, dict[str, bytes]] = {}
 
     def __bool__(self) -> bool:
-        return bool(self.writes or self.modes or self.attributes)
+        return bool(self.writes or self.modes or self.owners or self.attributes)
 
     def put(self, path: Path, before: Made, new: Made, where: bytes = b"") -> None:
         """One change; `where` is the file of its content."""
         self.writes[path], self.before[path] = new, before
         if where:
             self.files[path] = os.fsdecode(where)
+
+    def take_rights(self, path: Path, before: Rights | None, now: os.stat_result) -> None:
+        """Takes another mode or owner of a directory than the command has seen there."""
+        if before is None:
+            return
+        mode, user, group = rights_of(now)
+        if mode != before[0]:
+            self.modes[path] = mode
+        if os.geteuid() == 0 and (user, group) != before[1:]:
+            self.owners[path] = user, group
 
     def check(self) -> None:
         """Refuses what no tree of the tools can have."""
@@ -148,8 +170,17 @@ class Plain(Copy):
         super().__init__(room, root)
         self.total = self.first_look()
         self.fill()
-        self.marks = {path: mark(found) for path, found in entries(self.tree)}
+        self.marks: dict[Path, tuple[int, int, int, int]] = {}
+        self.folders: dict[Path, dict[str, bytes]] = {}  # the attributes of directories
+        for path, found in entries(self.tree):
+            self.marks[path] = mark(found)
+            if stat.S_ISDIR(found.st_mode):
+                self.folders[path] = attributes_of(self.inside(path))
         wait_for_clock()
+
+    def inside(self, path: Path) -> bytes:
+        """Where an entry of the copy stands."""
+        return b"/".join((os.fsencode(self.tree), *path))
 
     def first_look(self) -> bytes | None:
         """The digest of the tree before it is copied."""
@@ -171,21 +202,28 @@ class Plain(Copy):
                 now.add(path)
                 if self.marks.get(path) != mark(found):
                     self.compare(made, path, found, reader)
+                if stat.S_ISDIR(found.st_mode):
+                    self.refuse_folder(path)
             for path in self.marks.keys() - now:
                 made.put(path, reader.state(path), None)
         finally:
             reader.close()
         return made
 
+    def refuse_folder(self, path: Path) -> None:
+        """Refuses a directory whose attributes are none that it had, or has from the one above."""
+        found = attributes_of(self.inside(path))
+        if found != self.folders.get(path, inherited(self.inside(path[:-1]), found)):
+            refuse_attributes(path)
+
     def compare(self, made: Changes, path: Path, found: os.stat_result, reader: Reader) -> None:
         """Takes what stands at one path of the copy, if it is another than in the tree."""
-        where = b"/".join((os.fsencode(self.tree), *path))
+        where = self.inside(path)
         before, new = reader.state(path), token_of(where, -1)
         if new is Kind.DIRECTORY and before is Kind.DIRECTORY:
-            there = reader.look(path)
-            mode = stat.S_IMODE(found.st_mode)
-            if there is not None and stat.S_IMODE(there.st_mode) != mode:
-                made.modes[path] = mode
+            seen = self.marks.get(path)
+            rights = (stat.S_IMODE(seen[3]), seen[1], seen[2]) if seen is not None else None
+            made.take_rights(path, rights, found)
             return
         if stat.S_ISREG(found.st_mode):
             attributes = attributes_of(where)
@@ -195,10 +233,21 @@ class Plain(Copy):
             made.put(path, before, new, where)
 
 
+def rights_of(found: os.stat_result) -> Rights:
+    """The mode, the user and the group of an entry."""
+    return stat.S_IMODE(found.st_mode), found.st_uid, found.st_gid
+
+
+def refuse_attributes(path: Path) -> NoReturn:
+    """Refuses a directory with other attributes than it had, which no commit carries."""
+    line = "its access list or attributes were changed, which is not carried for a directory"
+    raise Failed(Status.SYSTEM, f"{below(path)}: {line}; nothing was changed")
+
+
 def mark(found: os.stat_result) -> tuple[int, int, int, int]:
     """What is another for an entry of a copy that was changed."""
-    if stat.S_ISDIR(found.st_mode):
-        return found.st_ino, 0, 0, found.st_mode
+    if stat.S_ISDIR(found.st_mode):  # its ctime is that of its entries too
+        return found.st_ino, found.st_uid, found.st_gid, found.st_mode
     return found.st_ino, found.st_ctime_ns, found.st_size, found.st_mode
 
 
@@ -230,6 +279,7 @@ def copy_tree(source: int, target: int) -> None:
                 copy_entry(entry.name, source, target)
             except FileNotFoundError:  # it went meanwhile, which shows in the tree's digest
                 continue
+        copy_attributes(source, target)
         give(target, os.fstat(source))
     finally:
         os.close(target)
@@ -282,7 +332,7 @@ def copy_bytes(reading: int, writing: int) -> None:
 
 
 def copy_attributes(reading: int, writing: int) -> None:
-    """Copies the extended attributes of a file, as far as the file system of the copy has them."""
+    """Copies extended attributes, as far as the file system of the copy has them."""
     for name, value in attributes_of(reading).items():
         try:
             os.setxattr(writing, name, value)
@@ -314,13 +364,22 @@ def attributes_of(where: bytes | str | int) -> dict[str, bytes]:
     except OSError:
         return found
     for name in names:
-        if name.startswith(("user.overlay.", "trusted.", "security.", "system.nfs4")):
+        if name.startswith(SYSTEMS_OWN) and (name != CAPABILITY or os.geteuid() != 0):
             continue
         try:
             found[name] = os.getxattr(where, name, follow_symlinks=follow)
         except OSError:
             continue
     return found
+
+
+def inherited(above: bytes, found: Mapping[str, bytes]) -> Mapping[str, bytes]:
+    """The attributes that a new directory has if nobody gave it any: with a default access list of
+    the directory above its own lists are what that makes of them."""
+    default = attributes_of(above).get(DEFAULT)
+    if default is None:
+        return {}
+    return {DEFAULT: default, **({ACCESS: found[ACCESS]} if ACCESS in found else {})}
 
 
 def kept_attributes(reader: Reader, path: Path) -> dict[str, bytes]:
@@ -383,29 +442,41 @@ def digest_of(root: int, skip: frozenset[bytes] = frozenset(), is_first: bool = 
 
 
 def remove_tree(path: str | bytes) -> None:
-    """Removes a folder of one's own with all below it, also what may not be written."""
-    path = os.fsencode(path)
+    """Removes a folder of one's own with all below it, also what may not be written.
+
+    Raises OSError for what the system does not let go. A mount that somebody made there is such a
+    thing: what stands in it is not this tool's.
+    """
+    above, name = os.path.split(os.fsencode(path))
     try:
-        with os.scandir(path) as found:
-            here = list(found)
-    except PermissionError:
-        os.chmod(path, 0o700)
-        with os.scandir(path) as found:
-            here = list(found)
+        fd = os.open(above or b".", DIRECTORY_FLAGS & ~os.O_NOFOLLOW)
     except FileNotFoundError:
         return
-    for entry in here:
-        if entry.is_dir(follow_symlinks=False):
-            remove_tree(entry.path)
-            continue
-        try:
-            os.unlink(entry.path)
-        except PermissionError:
-            os.chmod(path, 0o700)
-            os.unlink(entry.path)
-        except FileNotFoundError:
-            continue
     try:
-        os.rmdir(path)
-    except PermissionError as error:
-        raise Failed(Status.SYSTEM, f"{shown(path)}: {error.strerror}") from None
+        remove_folder(fd, name)
+    except FileNotFoundError:
+        return
+    finally:
+        os.close(fd)
+
+
+def remove_folder(above: int, name: bytes) -> None:
+    """Removes a directory of another one, with all below it."""
+    try:
+        fd = PLAIN.down(above, [name])
+    except PermissionError:
+        os.chmod(name, 0o700, dir_fd=above)
+        fd = PLAIN.down(above, [name])
+    try:
+        if os.fstat(fd).st_mode & 0o700 != 0o700:
+            os.fchmod(fd, 0o700)
+        with os.scandir(fd) as found:
+            here = [(os.fsencode(it.name), it.is_dir(follow_symlinks=False)) for it in found]
+        for inside, is_folder in here:
+            if is_folder:
+                remove_folder(fd, inside)
+            else:
+                os.unlink(inside, dir_fd=fd)
+    finally:
+        os.close(fd)
+    os.rmdir(name, dir_fd=above)

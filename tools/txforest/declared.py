@@ -5,7 +5,7 @@ from __future__ import annotations
 
 import os
 
-from .copies import Copy, Changes, Looked, Plain, copy_file, give
+from .copies import Copy, Changes, Looked, Plain, copy_attributes, copy_file, give
 from .only import Only
 from .states import DIRECTORY_FLAGS, LINK, Kind, Reader, same_content, token_of
 from .statuses import Failed, Status
@@ -107,13 +107,15 @@ class Declared(Plain):
             finally:
                 os.close(target)
         for path in sorted(folders, reverse=True):
-            found = reader.look(path)
-            if found is not None:
-                fd = os.open(b"/".join((top, *path)), DIRECTORY_FLAGS)
-                try:
-                    give(fd, found)
-                finally:
-                    os.close(fd)
+            fd = os.open(b"/".join((top, *path)), DIRECTORY_FLAGS)
+            try:
+                source = reader.directory(path)
+                copy_attributes(source, fd)
+                give(fd, os.fstat(source))
+            except FileNotFoundError:  # it went meanwhile, which shows at the commit
+                continue
+            finally:
+                os.close(fd)
 
     def compare_all(self, reader: Reader) -> None:
         """Looks whether each file of the copy is what was read: somebody may have changed it in
@@ -135,7 +137,7 @@ class Declared(Plain):
 
     def changes(self, looked: Looked) -> Changes:
         made = super().changes(looked)
-        for path in (*made.writes, *made.modes, *made.attributes):
+        for path in (*made.writes, *made.modes, *made.owners, *made.attributes):
             if not self.only.takes(os.fsdecode(b"/".join(path))):
                 raise Failed(
                     Status.SYSTEM,

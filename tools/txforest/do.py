@@ -7,6 +7,7 @@ time with the lock held, so that nobody is kept out for ever.
 
 from __future__ import annotations
 
+import errno
 import os
 import sys
 
@@ -62,11 +63,12 @@ SPEC.
 exit status:
   0        the command ended with 0, and what it changed is in place
   1-119    the command's own: nothing of it is kept
-  120      it is kept, but something of it is not in place, which is told
+  120      it is kept, but something of it is not in place or not printed, which is told
   121      others changed what the command had read, at each try: nothing of it is kept
   122      the result has no value by SPEC: nothing of it is kept
   123      the lock was not had within --wait: nothing of it is kept
-  124      the program or the system refused something, which is told: nothing of it is kept
+  124      the program or the system refused something, which is told: nothing of it is kept.
+           So ends a command whose own status is one of 120 to 125
   125      the words have no form of this tool
   126      the command can't be run; 127: it is not found; 128+N: signal N ended it
 
@@ -219,7 +221,11 @@ class Command:
             end_with_parent()
             try:
                 copy.enter()
-            except (OSError, CannotEnter) as error:
+            except OSError as error:
+                where = f"{shown(error.filename)}: " if error.filename else ""
+                os.write(told, f"{where}{error.strerror}".encode())
+                os._exit(REFUSED)
+            except CannotEnter as error:
                 os.write(told, str(error).encode())
                 os._exit(REFUSED)
             for signal_ in (*ENDING, signal.SIGPIPE):
@@ -228,7 +234,7 @@ class Command:
             signal.signal(signal.SIGXFSZ, signal.SIG_DFL)
             status = CANNOT_RUN
             try:
-                os.execvp(self.words[0], self.words)
+                execute(self.words)
             except FileNotFoundError as error:
                 status = NOT_FOUND
                 tell(f"{shown(self.words[0])}: {error.strerror}")
@@ -238,12 +244,11 @@ class Command:
             os._exit(status)
 
     def release(self) -> None:
-        """Prints what was kept back."""
+        """Prints what was kept back. Raises OSError if that can't be written."""
         for number, stream in enumerate(self.outputs, 1):
             os.lseek(stream, 0, os.SEEK_SET)
             while piece := os.read(stream, 1 << 20):
-                while piece:
-                    piece = piece[os.write(number, piece) :]
+                write_all(number, piece)
         self.drop()
 
     def drop(self) -> None:
@@ -251,6 +256,22 @@ class Command:
         for stream in self.outputs:
             os.close(stream)
         self.outputs = []
+
+
+def execute(words: list[str]) -> None:
+    """Becomes a command, as os.execvp does, which loads a module for it. Raises OSError."""
+    if "/" in words[0]:
+        os.execv(words[0], words)
+    refused: OSError | None = None
+    missing = FileNotFoundError(errno.ENOENT, os.strerror(errno.ENOENT))
+    for folder in os.environ.get("PATH", os.defpath).split(os.pathsep):
+        try:
+            os.execv(os.path.join(folder, words[0]), words)
+        except (FileNotFoundError, NotADirectoryError):
+            continue
+        except OSError as error:
+            refused = refused or error
+    raise refused or missing
 
 
 def unnamed_file() -> int:
@@ -272,15 +293,21 @@ def first_input() -> int | None:
         return None
     kept = unnamed_file()
     while piece := os.read(0, 1 << 18):
-        os.write(kept, piece)
+        write_all(kept, piece)
     os.dup2(kept, 0)
     os.close(kept)
     return 0
 
 
+def write_all(fd: int, data: bytes) -> None:
+    """Writes all of some bytes."""
+    while data:
+        data = data[os.write(fd, data) :]
+
+
 def children() -> list[int]:
     """The processes that this one has started, or that were left to it."""
-    with open(f"/proc/self/task/{os.getpid()}/children", encoding="ascii") as file:
+    with open(f"/proc/self/task/{os.getpid()}/children", "rb") as file:
         return [int(number) for number in file.read().split()]
 
 
@@ -374,8 +401,7 @@ class Transaction:
             else:
                 found = self.attempt(None)
             if isinstance(found, int):
-                self.command.release()
-                return found
+                return self.released(found)
             last = found
             if self.tried < given.tries:
                 tell(f"{last.where()} was changed by another job: run again")
@@ -384,30 +410,43 @@ class Transaction:
         tell(f"{last.where()} was changed by another job, {times} of {times}: nothing was changed")
         return CONFLICT
 
+    def released(self, status: int) -> int:
+        """Prints what was kept back of a job that has come to a status; the status then."""
+        try:
+            self.command.release()
+        except OSError as error:
+            tell(f"what the command printed can't be written: {error.strerror}")
+            return status or PARTLY
+        return status
+
     def attempt(self, held: int | None) -> int | Answer:
         """Runs the command once: the status of the whole, or an answer that makes it run again."""
         from .copies import CannotEnter
         from .waiting import Room
 
         while True:
-            with Room(self.tree) as room:
+            room = Room(self.tree)
+            try:
                 self.ident = room.name
                 self.check_description(room)
-                try:
-                    self.clerk.reached("begun")
-                    copy = self.kinds[0](room.path, self.tree.root)
-                    self.verbose(f"try {self.tried}: {copy.name}")
-                    self.command.ready()
-                    status = self.command.run(copy)
-                    self.clerk.reached("ran")
-                    return self.settled(room, copy, status, held)
-                except CannotEnter as error:
-                    kind = self.kinds.pop(0)
-                    if not self.kinds:
-                        raise Failed(
-                            Status.SYSTEM, f"this system makes no such copy: {error}"
-                        ) from None
-                    self.verbose(f"not {kind.name}: {error}")
+                self.clerk.reached("begun")
+                copy = self.kinds[0](room.path, self.tree.root)
+                self.verbose(f"try {self.tried}: {copy.name}")
+                self.command.ready()
+                status = self.command.run(copy)
+                self.clerk.reached("ran")
+                return self.settled(room, copy, status, held)
+            except CannotEnter as error:
+                kind = self.kinds.pop(0)
+                if not self.kinds:
+                    raise Failed(
+                        Status.SYSTEM, f"this system makes no such copy: {error}"
+                    ) from None
+                self.verbose(f"not {kind.name}: {error}")
+            finally:
+                room.close()
+                if room.stays:
+                    tell(f"{shown(room.path)}: stays, and is in nobody's way: {room.stays}")
 
     def check_description(self, room: Room) -> None:
         """Raises Failed if the program refuses the description, before the command runs first."""
@@ -433,7 +472,7 @@ class Transaction:
         if looked.spoiled is not None:
             return Answer(CONFLICT, looked.spoiled)
         if not changes and (held is not None or not looked.reads and looked.total is None):
-            return status
+            return own_status(status, self.given.command)
         log = b"" if status else self.log_of_commit()
         answer = self.clerk.submit(room, looked, changes, held, log)
         for line in (*self.clerk.told, *answer.conflicts):
@@ -442,7 +481,7 @@ class Transaction:
         if answer.what == CONFLICT:
             return answer
         if answer.what == DONE:
-            return PARTLY if answer.conflicts else status
+            return PARTLY if answer.conflicts else own_status(status, self.given.command)
         tell(f"the result has no value by {shown(self.given.spec)}, so nothing was changed")
         return NO_VALUE
 
@@ -482,6 +521,14 @@ class Transaction:
         put_line(where, ident, now(), b"%d" % status, self.log_words())
 
 
+def own_status(status: int, words: Sequence[str]) -> int:
+    """The status of a command, if it can't be taken for one of this tool; else REFUSED."""
+    if PARTLY <= status <= USAGE:
+        tell(f"{shown(words[0])}: ended with status {status}, so nothing was changed")
+        return REFUSED
+    return status
+
+
 def kinds_of(given: Given) -> list[type[Copy]]:
     """How the private copy may be made: the closest first, as far as the system lets one."""
     from .copies import Plain
@@ -516,6 +563,9 @@ def transaction(given: Given) -> int:
             status = it.run()
         except Failed as failed:
             status = OWN.get(int(failed.status), REFUSED)
+            raise
+        except SystemExit as ended:  # a signal
+            status = int(ended.code or 0)
             raise
         finally:
             it.log(status)

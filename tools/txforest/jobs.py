@@ -15,6 +15,7 @@ The text of a prepared job, the file `job` of its room, is one of lines.py, with
     gone PATH                   nothing
     clear PATH                  what stands there goes first, being of another kind
     mode PATH MODE              a directory that was there gets this mode
+    owner PATH USER GROUP       and this owner
     attribute PATH NAME VALUE   the file has this extended attribute, and no others but those told
     plain PATH                  the file has no extended attributes
 """
@@ -48,6 +49,7 @@ if TYPE_CHECKING:
     from .states import Made, Path, Seen
 
 DONE, CONFLICT, NO_VALUE = b"done", b"conflict", b"no value"
+MADE = (b"put", b"make", b"gone", b"clear", b"mode", b"owner", b"plain", b"attribute")
 AGAIN = 3  # how often a leader begins again if somebody without the lock changes the tree
 
 
@@ -132,6 +134,8 @@ class Prepared:
                 yield [b"clear", *words]
         for path, mode in made.modes.items():
             yield [b"mode", *path_words(path), b"%o" % mode]
+        for path, (user, group) in made.owners.items():
+            yield [b"owner", *path_words(path), b"%d" % user, b"%d" % group]
         for path, attributes in made.attributes.items():
             yield [b"plain", *path_words(path)]
             for name, value in attributes.items():
@@ -163,7 +167,7 @@ def prepared_in(room: int, name: str, path: str) -> Prepared | None:
                 log = line[1]
             elif line[0] == b"total":
                 looked.total = line[1]
-            elif line[0] in (b"put", b"make", b"gone", b"clear", b"mode", b"plain", b"attribute"):
+            elif line[0] in MADE:
                 take_line(made, line, path)
             else:
                 at, seen = seen_of(line)
@@ -190,6 +194,8 @@ def take_line(made: Changes, line: list[bytes], room: str) -> None:
         made.before[path] = b"x" if made.writes[path] is Kind.DIRECTORY else Kind.DIRECTORY
     elif line[0] == b"mode":
         made.modes[path] = int(rest[0], 8)
+    elif line[0] == b"owner":
+        made.owners[path] = int(rest[0]), int(rest[1])
     elif line[0] == b"plain":
         made.attributes[path] = {}
     else:
@@ -511,12 +517,14 @@ def changes_of(
                 turn = "room"
             turns[turn].append(change)
     for it in done:
-        for path, mode in it.changes.modes.items():
+        modes, owners = it.changes.modes, it.changes.owners
+        for path in sorted({*modes, *owners}):
             old = held.look(path)
             if old is not None and stat.S_ISDIR(old.st_mode) and path not in after:
                 name = os.fsdecode(b"/".join(path))
                 found.taken[name] = old
-                turns["other"].append(Change("mode", name, mode=mode))
+                mode = modes.get(path, stat.S_IMODE(old.st_mode))
+                turns["other"].append(Change("mode", name, mode=mode, owner=owners.get(path)))
     room, gone = reversed(turns["room"]), reversed(turns["gone"])
     return [*room, *turns["new"], *turns["other"], *gone]
 
@@ -547,8 +555,10 @@ def change_of(
         return
     if new is Kind.DIRECTORY:
         if not was_directory:
-            mode = stat.S_IMODE(os.lstat(source).st_mode) if source else None
-            yield "new", Change("mkdir", name, mode=mode)
+            made = os.lstat(source) if source else None
+            mode = stat.S_IMODE(made.st_mode) if made else None
+            owner = (made.st_uid, made.st_gid) if made and os.geteuid() == 0 else None
+            yield "new", Change("mkdir", name, mode=mode, owner=owner)
         return
     assert isinstance(new, bytes)
     if was_directory:

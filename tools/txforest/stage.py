@@ -25,6 +25,7 @@ FRESH = 300 * 10**9  # nanoseconds: what was changed earlier is on the device
 OPEN_AT_ONCE = 64  # directories kept open while changes are staged
 GET_FLAGS = 0x80086601
 FIXED = 0x30  # the flags of files that refuse changes: immutable, append only
+HELD_BACK = ("system.nfs4", "trusted.overlay.")  # attributes that are the system's own
 DEFAULT, ACCESS = "system.posix_acl_default", "system.posix_acl_access"
 GONE = (errno.ENOENT, errno.ELOOP, errno.ENOTDIR, errno.EXDEV)
 
@@ -285,7 +286,7 @@ def handed_on(fd: int) -> list[tuple[str, bytes]]:
     return [
         (name, os.getxattr(fd, name))
         for name in listed(fd)
-        if name != "security.capability" and not name.startswith(("system.nfs4", "trusted."))
+        if name != "security.capability" and not name.startswith(HELD_BACK)
     ]
 
 

@@ -23,9 +23,12 @@ from .copies import (
     Looked,
     attributes_of,
     digest_of,
+    inherited,
     kept_attributes,
+    refuse_attributes,
+    rights_of,
 )
-from .lines import read_lines, seen_line, seen_of, written_lines
+from .lines import path_of, path_words, read_lines, seen_line, seen_of, written_lines
 from .mounts import NODEV, NOSUID, READ_ONLY, mount, own_mounts
 from .states import (
     LINK,
@@ -335,7 +338,12 @@ class Server:
                 reads[path] = self.state(path, known)
         for path, names in self.names.items():
             reads[path] = frozenset(name for _, name, _ in names)
-        return Looked(reads, spoiled=self.spoiled)
+        folders = {
+            path: rights_of(known.found)
+            for path, known in self.known.items()
+            if known.found is not None and stat.S_ISDIR(known.found.st_mode)
+        }
+        return Looked(reads, spoiled=self.spoiled, rights=folders)
 
     def state(self, path: Path, known: Known) -> Seen:
         """What a path was when it was looked up. A file that nobody opened is read now."""
@@ -417,6 +425,8 @@ class Traced(Copy):
         lines = [seen_line(path, seen) for path, seen in looked.reads.items()]
         if looked.spoiled is not None:
             lines.append([b"spoiled", *looked.spoiled])
+        for path, rights in looked.rights.items():
+            lines.append([b"rights", *path_words(path), *(b"%d" % number for number in rights)])
         written_lines(self.account, b"looked", lines)
         return 0
 
@@ -455,20 +465,24 @@ class Traced(Copy):
             raise Failed(
                 Status.SYSTEM, "what the command has read is not known; nothing was changed"
             ) from None
-        reads: dict[Path, Seen] = {}
-        spoiled: Path | None = None
+        found = Looked()
         for line in lines:
             if line[0] == b"spoiled":
-                spoiled = tuple(line[1:])
+                found.spoiled = tuple(line[1:])
+            elif line[0] == b"rights":
+                path, numbers = path_of(line[1:])
+                mode, user, group = map(int, numbers)
+                found.rights[path] = mode, user, group
             else:
                 path, seen = seen_of(line)
-                reads[path] = seen
-        return Looked(reads, spoiled=spoiled)
+                found.reads[path] = seen
+        return found
 
     def changes(self, looked: Looked) -> Changes:
         walk = Walk(self, looked)
         self.refuse_root(self.upper)
-        walk.refuse_attributes((), os.fsencode(self.upper))
+        if attributes_of(self.upper):
+            refuse_attributes(())
         try:
             walk.into((), False, False)
         finally:
@@ -491,7 +505,8 @@ class Whole(Traced):
 
     def looked(self) -> Looked:
         looked = super().looked()
-        return Looked(looked.reads, self.total, looked.spoiled)
+        looked.total = self.total
+        return looked
 
 
 class Walk:
@@ -556,13 +571,14 @@ class Walk:
         """A directory of the upper layer: new, another one, or one in which something changed."""
         if before is not Kind.DIRECTORY:
             self.made.put(path, before, Kind.DIRECTORY, where)
+            found = attributes_of(where)
+            if found != inherited(os.path.dirname(where), found):
+                refuse_attributes(path)
             self.into(path, True, False)
             return
-        there = self.reader.look(path)
-        mode = stat.S_IMODE(it.st_mode)
-        if there is not None and stat.S_IMODE(there.st_mode) != mode:
-            self.made.modes[path] = mode
-        self.refuse_attributes(path, where)
+        self.made.take_rights(path, self.looked.rights.get(path), it)
+        if attributes_of(where) != self.attributes(path):
+            refuse_attributes(path)
         is_other = is_hiding or is_opaque(where)
         if is_other:
             held = set(os.listdir(where))
@@ -570,18 +586,6 @@ class Walk:
                 if name not in held:
                     self.gone((*path, name), self.before((*path, name)))
         self.into(path, False, is_other)
-
-    def refuse_attributes(self, path: Path, where: bytes) -> None:
-        """Refuses a directory that was given other attributes, which no commit carries."""
-        new = attributes_of(where)
-        if new and new != self.attributes(path):
-            from .terminal import below
-
-            raise Failed(
-                Status.SYSTEM,
-                f"{below(path)}: its access list or attributes were changed, which is not carried "
-                "for a directory; nothing was changed",
-            )
 
     def attributes(self, path: Path) -> dict[str, bytes]:
         """The attributes of an entry as the command could see them."""

@@ -21,8 +21,8 @@ import os
 import stat
 
 from .calls import DIR, FILE, S
-from .copies import remove_tree
-from .place import DIGITS, IDENT
+from .copies import DEFAULT, remove_tree
+from .place import DIGITS, IDENT, listed
 
 TYPE_CHECKING = False
 if TYPE_CHECKING:
@@ -43,6 +43,7 @@ class Room:
 
     def __init__(self, tree: Tree) -> None:
         self.name = KIND + os.urandom(IDENT // 2).hex()
+        self.stays = ""  # why it could not be removed, once it is closed
         folder = queue_of(tree)
         self.is_shared = folder is not None
         if folder is None:
@@ -53,6 +54,8 @@ class Room:
         os.mkdir(fresh, 0o700)
         self.fd = os.open(fresh, DIR)
         fcntl.flock(self.fd, fcntl.LOCK_EX)
+        if DEFAULT in listed(self.fd):  # else what is made here has rights that the tree has not
+            os.removexattr(self.fd, DEFAULT)
         self.path = os.path.join(folder, self.name if self.is_shared else fresh)
         os.rename(fresh, self.path)
 
@@ -74,9 +77,11 @@ class Room:
             renamed(self.fd, JOB, GONE)
 
     def close(self) -> None:
-        """Removes it."""
+        """Removes it. What can't be removed stays, and is in nobody's way."""
         try:
             remove_tree(self.path)
+        except OSError as error:
+            self.stays = error.strerror or str(error)
         finally:
             os.close(self.fd)
 
@@ -189,13 +194,18 @@ def is_used(fd: int) -> bool:
 
 
 def clear_left(tree: Tree) -> int:
-    """Removes the rooms of jobs that were killed; answers how many. The tree's lock is held."""
+    """Removes the rooms of jobs that were killed; answers how many. The tree's lock is held. What
+    can't be removed stays, and stops no job."""
     count = 0
     for name, fd, used in rooms(tree):
         is_young = name.startswith(NEW) and os.fstat(fd).st_ctime + 60 > now()
-        if not used and not is_young:
+        if used or is_young:
+            continue
+        try:
             remove_tree(os.path.join(tree.beside(QUEUE), name))
             count += 1
+        except OSError:
+            continue
     return count
 
 

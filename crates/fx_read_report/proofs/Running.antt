@@ -90,11 +90,13 @@ runs_at : (g : Stage) (es : List PrintedEntry) (rs : List Retry) → Counted g e
 runs_at stage.Start es rs c = λ i. Some (at stage.Start (sym c.0 i) (sym c.1 i))
 runs_at stage.Headed es rs c = λ i. Some (at stage.Headed (sym c.0 i) (sym c.1 i))
 runs_at (stage.Entries n) es rs c =
+    let few : length es ≤ n = c.0 in
     ap (λ t. ran (at (stage.Entries n) [] []) t) (sym (append-nil (entry_lines 0 es)))
-    ∙ (entries_run n [] es 0 [] refl c.0 ∙ ap (λ (qs : List Retry). Some (at (stage.Entries n) es qs)) (sym c.1))
+    ∙ (entries_run n [] es 0 [] refl (omega (arith, few)) ∙ ap (λ (qs : List Retry). Some (at (stage.Entries n) es qs)) (sym c.1))
 runs_at (stage.Retries n) es rs c =
+    let few : length rs ≤ n = c in
     counted es n (map retry rs)
-    ∙ (ap (λ t. ran (at (stage.Retries n) es []) t) (sym (append-nil (map retry rs))) ∙ retries_run n es [] rs [] c)
+    ∙ (ap (λ t. ran (at (stage.Retries n) es []) t) (sym (append-nil (map retry rs))) ∙ retries_run n es [] rs [] (omega (arith, few)))
 runs_at stage.Ended es rs c =
     let n = length rs in
     counted es n (map retry rs ++ final ∷ [])

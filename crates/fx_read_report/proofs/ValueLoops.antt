@@ -1,5 +1,5 @@
 -- Pieces that are read one after another, and what the program holds of them.
-use Rattle.std.proofs.Common.{◌≡◌, ℕ, suc, ◌+◌, ◌-◌, ◌<◌, ◌≤◌, true, false, ◌&&◌, nat_eq, List, [], ◌∷◌, ◌++◌, map, length, Option, Some, None, refl, sym, ap, ◌∙◌, append_assoc, append-nil, length-append, arith}
+use Rattle.std.proofs.Common.{◌≡◌, ℕ, zero, suc, ◌+◌, ◌-◌, ◌<◌, ◌≤◌, Bool, true, false, cond, ◌&&◌, nat_eq, List, [], ◌∷◌, ◌++◌, map, length, Option, Some, None, Result, Ok, Err, IfOk, Bor, codes, refl, sym, ap, ◌∙◌, append_assoc, append-nil, length-append, arith}
 use Rattle.std.specs.Option.{option_map, option_and_then}
 use Rattle.std.specs.List.{AllByRecursion, zip}
 use Rattle.std.specs.List.Sorted.{IsStrictlySortedBy}
@@ -15,10 +15,11 @@ use Rattle.fx_expr.specs.Views.{tree_of, entry_tree}
 use Rattle.fx_expr.specs.declared.value.Value.{Value}
 use Rattle.fx_expr.specs.declared.value.Value.TheVariants.{Table}
 use Rattle.fx_expr.proofs.Trees.{table_tree}
-use Rattle.fx_read_report.specs.Limits.{ascends}
+use Rattle.fx_read_report.specs.Limits.{ascends, strict}
 use Rattle.fx_read_report.specs.Numbers.{after}
 use Rattle.fx_read_report.proofs.Scans.{prepended}
-use Rattle.fx_read_report.specs.Values.{keys_of, or_pieces, piece_at, pieces_at}
+use Rattle.fx_read_report.specs.Values.{Reader, keys_of, kind_at, or_pieces, piece_at, pieces_at, row_at, table_of, table_value, value_at, value_by, value_found}
+use Rattle.fx_read_report.specs.declared.values.Kind.{Kind}
 
 prepended_none : {A : Type 0} (o : Option (List A × List ℕ)) → o ≡ prepended [] o
 prepended_none None = refl
@@ -149,3 +150,37 @@ unfolding IsStrictlySortedBy
 ascends_of [] p = refl
 ascends_of (t ∷ []) p = refl
 ascends_of (t ∷ u ∷ ts) p = ap (λ o. is_lt o && ascends (u ∷ ts)) p.0.0 ∙ ascends_of (u ∷ ts) p.1
+
+-- ---- tables
+
+module _ (levels : ℕ) (bytes inner : List ℕ) (ks : List (List ℕ)) (vs : List Value) (x : List ℕ) where
+  abbrev read_rows : List ℕ → Option (List (List ℕ × Tree) × List ℕ)
+  read_rows y = pieces_at (row_at strict (value_at strict levels)) 93 (length bytes) true y
+
+  abbrev made_if : Bool → Option (Tree × List ℕ)
+  made_if b = cond b (Some (table (rows (sides ks vs)), x)) None
+
+  table_by : (b : Bool) → length vs ≡ length ks → Some inner ≡ after (codes "[") bytes → Some (sides ks vs, x) ≡ read_rows inner → ascends ks ≡ b → table_value strict (value_at strict levels) bytes ≡ made_if b
+  table_by b same opened found is =
+      ap (λ o. option_and_then (λ y. option_and_then (table_of strict) (read_rows y)) o) (sym opened)
+      ∙ (ap (λ o. option_and_then (table_of strict) o) (sym found) ∙ ap (λ b. made_if b) (ap ascends (sides_keys ks vs same) ∙ is))
+
+  pub table_falls : length vs ≡ length ks → Some inner ≡ after (codes "[") bytes → Some (sides ks vs, x) ≡ read_rows inner → ascends ks ≡ false → None ≡ table_value strict (value_at strict levels) bytes
+  table_falls same opened found falls = sym (table_by false same opened found falls)
+
+  pub table_stands : (set : List (List ℕ)) (es : List (List ℕ × Value)) → length vs ≡ length ks → set ≡ ks → es ≡ zip set vs → Some inner ≡ after (codes "[") bytes → Some (sides ks vs, x) ≡ read_rows inner → ascends ks ≡ true → Some (tree_of (Table es), x) ≡ table_value strict (value_at strict levels) bytes
+  table_stands set es same kept made opened found up =
+      ap (λ v. Some (v, x)) (table_of_sides es set ks vs kept made) ∙ sym (table_by true same opened found up)
+
+-- ---- levels
+
+by_kind : (levels : ℕ) (bytes : List ℕ) (k : Kind) (found : Option (Tree × List ℕ)) → (levels ≡ 0 → ⊥) → k ≡ kind_at bytes → found ≡ value_by strict (value_at strict (levels - 1)) k bytes → found ≡ value_at strict levels bytes
+by_kind zero bytes k found some is e = absurd (some refl)
+by_kind (suc l) bytes k found some is e =
+    let below : suc l - 1 ≡ l = omega arith in
+    e ∙ (ap (λ n. value_by strict (value_at strict n) k bytes) below ∙ ap (λ j. value_by strict (value_at strict l) j bytes) is)
+
+-- what a reader of one kind found is what the reader of all kinds is to find
+pub at_level : {E : Type 0} (levels : ℕ) (bytes : List ℕ) (k : Kind) (r : Result (Option (Value × Bor (List ℕ))) E) → (levels ≡ 0 → ⊥) → k ≡ kind_at bytes → IfOk r (λ f. value_found f ≡ value_by strict (value_at strict (levels - 1)) k bytes) → IfOk r (λ f. value_found f ≡ value_at strict levels bytes)
+at_level levels bytes k (Ok f) some is e = by_kind levels bytes k (value_found f) some is e
+at_level levels bytes k (Err f) some is e = tt
