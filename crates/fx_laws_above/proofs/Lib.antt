@@ -1,4 +1,4 @@
 pub mod Begun
 pub mod Viewed
 pub mod Recovered
-pub mod Twice
+pub mod Agreeing
