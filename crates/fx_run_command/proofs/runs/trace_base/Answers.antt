@@ -10,9 +10,9 @@ below : (job : code.RunJob) (shells : List ℕ) (count : ℕ) → IsJob job → 
 below job shells count is each same = subst (λ n. All (λ k. k < n) shells) (sym each) (subst (λ ks. All (λ k. k < length (asked job).inputs.scripts) ks) same (job_below job is))
 
 pub run_by-requires : goal.run_by-requires
-run_by-requires g c =
+run_by-requires c =
     below c.args.job.now c.deref.result.now (length c.args.base.value.plan) c.requires.job c.requires.count (sym c.in_ok-schedule-in-Scheduled.ensures ∙ sym c.deref.ensures.value)
 
 pub run_watching-requires : goal.run_watching-requires
-run_watching-requires g c =
+run_watching-requires c =
     below c.args.job.now c.deref-in-Watched.result.now (length c.args.base.value.plan) c.requires.job c.requires.count (sym c.in_ok-schedule-in-Watched.ensures ∙ sym c.deref-in-Watched.ensures.value)
