@@ -1,4 +1,5 @@
-use Rattle.std.proofs.Common.{IfSome, subst, ap, ◌∙◌}
+use Rattle.std.proofs.Common.{ℕ, List, IfSome, subst, ap, ◌∙◌}
+use Rattle.fx_store.specs.Whole.{Nodes}
 use Rattle.fx_outside.specs.Tree.{Tree}
 use Rattle.fx_folder.specs.Folder.{IsReady}
 use Rattle.fx_board.specs.Board.{last_state}
@@ -15,7 +16,7 @@ use Rattle.fx_views_command.proofs.command.leave.Goals as goal
 pub save_and_print-requires : goal.save_and_print-requires
 save_and_print-requires g c =
     let j = asked_views c.args.job.now in
-    let end = (last_of c.args.answer.now, c.args.answer.now.output) in
+    let end : Nodes × List ℕ = (last_of c.args.answer.now, c.args.answer.now.output) in
     if_some_map (λ t. IsComing (views_making j) t end c.args.there) (λ t. IsReady t j.out c.args.there) (g.H.Host.view c.args.host.now).told (λ t is. is.free) c.requires
 
 pub returns-clause-row : goal.returns-clause-row
