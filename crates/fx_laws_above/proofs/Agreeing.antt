@@ -3,7 +3,8 @@ use Rattle.std.proofs.Common.{◌≡◌, ℕ, Bool, true, false, cond, refl, Lis
 use Rattle.fx_spec.specs.Written.{names_in}
 use Rattle.fx_spec.proofs.Meaning.{shape_meant}
 use Rattle.fx_table.specs.declared.fault.FolderCause.TheVariants.{BadTable}
-use Rattle.fx_table.specs.Table.{TableLine, lacks_flags}
+use Rattle.fx_table.specs.declared.line.TableLine.{TableLine}
+use Rattle.fx_table.specs.Table.{lacks_flags}
 use Rattle.fx_laws_above.specs.Twice.{bad_line, SaidTwice, NumeralsAreLimits}
 
 lacking : (lines : List TableLine) (b : Bool) → cond b (Some (BadTable 1)) None ≡ bad_line (cond b (Err 1) (Ok lines))

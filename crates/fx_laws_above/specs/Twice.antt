@@ -13,7 +13,8 @@ use Rattle.fx_spec.specs.WellShaped.{written_shape}
 use Rattle.fx_spec.specs.Written.{DefTree, WrittenTree, part_tree}
 use Rattle.fx_table.specs.declared.fault.FolderCause.{FolderCause}
 use Rattle.fx_table.specs.declared.fault.FolderCause.TheVariants.{BadTable}
-use Rattle.fx_table.specs.Table.{TableLine, unless_lacking}
+use Rattle.fx_table.specs.declared.line.TableLine.{TableLine}
+use Rattle.fx_table.specs.Table.{unless_lacking}
 use Rattle.fx_folder.specs.Deep as folder
 use Rattle.fx_folder.specs.Limits.{most_in_file}
 
