@@ -177,8 +177,9 @@ def meddling_program(room: str, once: str) -> str:
     write(
         path,
         f'#!/bin/sh\n"{os.environ["TXFOREST"]}" "$@"\nstatus=$?\n'
-        f'if [ "$1" = run ] && [ ! -e "{room}/done" ]; then touch "{room}/done"; {once}; fi\n'
-        "exit $status\n",
+        f'if [ ! -e "{room}/done" ]; then\n'
+        f'    case $1 in run | trace) touch "{room}/done"; (cd "{room}"; {once}) ;; esac\n'
+        "fi\nexit $status\n",
     )
     os.chmod(path, 0o755)
     return path
