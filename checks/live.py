@@ -500,6 +500,8 @@ def a_name_exchanged_with_a_link_leaks_nothing(room: str, number: int) -> str:
         other.kill()
         other.wait()
         shutil.rmtree(secret)
+    if not any(status == 0 for _, status in ends):
+        raise Wrong(f"no job was done: {ends}")
     told = ", ".join(f"{way} {key}: {value}" for (way, key), value in sorted(ends.items()))
     return (
         f"{number} jobs of root by {len(ways)} ways beside an owner who exchanges files with links:"
