@@ -304,3 +304,7 @@ loads_are_whole tree whole P nodes is bytes =
     let same : (q : Paths) → found (listed es) q ≡ get nodes q = λ q. sym (get-from_entries path_total (listed es) q) ∙ ap (λ m. get m q) made.is in
     let held : AreOfBytes (found es) = λ q. bytes_listed es q (found es q) (subst (λ o. IfSome o IsOfBytes) (sym (same q) ∙ find_listed es es q) (bytes q)) in
     IsWhole-same (found (listed es)) (get nodes) same (listed_whole es (strictly_sorted path_cmp es linked.sorted) linked.shape held)
+
+-- a folder that loads is not refused
+pub not_both : (t : Tree) (path : List ℕ) (nodes : Nodes) (cause : FolderCause) → Loads t path nodes → IsRefused t path cause → ⊥
+not_both t path nodes cause loads refused = let both : Ok nodes ≡ Err cause = sym loads.1 ∙ refused.1 in cc

@@ -299,3 +299,14 @@ wholes_have_shapes root d S a shape =
     (λ at h. of_shape_has S (same_shape (value_shape at.spec) shape) (value at.path at.env at.spec >>= λ v. Answer (needed Refusal.Lacks v)) shape
     (λ e. subst (λ s. Gets s (answer S (value at.path at.env at.spec >>= λ v. Answer (needed Refusal.Lacks v)))) (same_shapes (value_shape at.spec) shape e)
     (needed_value S (value at.path at.env at.spec) (value_shape at.spec) (value_has S at.spec h.0 at.env at.path h.1.shapes h.1.bindings))))
+
+-- ------------------------------------------------------------------------------------------------------- a shape and itself
+
+pub shape_itself : (s : ShapeTree) → same_shape s s ≡ true
+shape_itself ShapeTree.str = refl
+shape_itself ShapeTree.int = refl
+shape_itself ShapeTree.bool = refl
+shape_itself ShapeTree.names = refl
+shape_itself (ShapeTree.pair a b) = (λ i. shape_itself a i && shape_itself b i)
+shape_itself (ShapeTree.opt a) = shape_itself a
+shape_itself (ShapeTree.table a) = shape_itself a

@@ -45,3 +45,8 @@ pub ask-bind-assoc : {A B C : Type 0} (rule : Ask A) (f : A → Ask B) (g : B �
 ask-bind-assoc (Answer a) f g = refl
 ask-bind-assoc (Tick rule) f g = ap Tick (ask-bind-assoc rule f g)
 ask-bind-assoc {A} {B} {C} (Look p next) f g = ap (λ (h : Option Node → Ask C). Look p h) (fun_ext (λ n. ask-bind-assoc (next n) f g))
+
+-- paths that are all known, one by one
+pub all_known : (known : Known) (ps : List (List (List ℕ))) → AllKnown known ps → All (λ p. IsSome (known p)) ps
+all_known known [] h = All-nil (λ p. IsSome (known p))
+all_known known (p ∷ ps) h = All-cons (λ p. IsSome (known p)) p ps h.0 (all_known known ps h.1)

@@ -39,3 +39,7 @@ IsWhole-same S U same whole = subst IsWhole (λ i q. same q i) whole
 -- the filestore that changes leave is whole where the changed look-up is
 pub IsWhole-over_nodes : (m : Nodes) (cs : List Change) → IsWhole (over (get m) cs) → IsWhole (get (over_nodes m cs))
 IsWhole-over_nodes m cs whole = IsWhole-same (over (get m) cs) (get (over_nodes m cs)) (λ q. sym (get-over_nodes m cs q)) whole
+
+-- what stands in a whole filestore is a node for its path
+pub node_at : (S : Store) → IsWhole S → (p : List (List ℕ)) (node : Node) → S p ≡ Some node → IsNode p node
+node_at S whole p node here = subst (λ o. IfSome o (IsNode p)) here (whole.nodes p)

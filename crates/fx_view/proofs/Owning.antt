@@ -70,3 +70,16 @@ read_more own old new more kept read = subst (AreRead own) (sym kept) (AreRead-m
 pub read_put : (own : OwnList) (reads : ReadList) (cs : List Change) → AllKnown (known_of reads) (changed_paths cs) → AreRead own reads → AreRead (put_all own cs) reads
 read_put own reads [] known read = read
 read_put own reads (c ∷ cs) known read = read_put (put_own own c.path c.node) reads cs known.1 (AreRead-put own reads c.path c.node read (read_known reads c.path known.0))
+
+-- ---- own changes over a filestore
+
+pub changed-put : (S : Store) (own : OwnList) (c : Change) → changed (own_at (put_own own c.path c.node)) S ≡ update (changed (own_at own) S) c
+changed-put S own c = fun_ext (λ p. ap (λ o. seen o (S p)) (own_at-put own c.path c.node p) ∙ at (eq_by_cmp path_cmp p c.path) (own_at own p) (S p))
+  where
+    at : (b : Bool) (o : Option (Option Node)) (s : Option Node) → seen (cond b (Some c.node) o) s ≡ cond b c.node (seen o s)
+    at true o s = refl
+    at false o s = refl
+
+pub changed-put_all : (S : Store) (own : OwnList) (cs : List Change) → changed (own_at (put_all own cs)) S ≡ over (changed (own_at own) S) cs
+changed-put_all S own [] = refl
+changed-put_all S own (c ∷ cs) = changed-put_all S (put_own own c.path c.node) cs ∙ ap (λ T. over T cs) (changed-put S own c)
