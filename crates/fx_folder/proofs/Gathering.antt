@@ -1,5 +1,5 @@
 -- What was walked, with the links of the table, is what the definition of loading gives.
-use Rattle.std.proofs.Common.{◌≡◌, ◌⊎◌, inl, inr, ℕ, suc, ◌+◌, ◌-◌, ◌<◌, ◌≤◌, Bool, true, false, cond, ◌&&◌, ◌||◌, List, [], ◌∷◌, ◌++◌, map, length, Option, Some, None, Result, Ok, Err, IfOk, IfErr, IfSome, is_some, option_map, refl, sym, ◌∙◌, ap, subst, arith}
+use Rattle.std.proofs.Common.{◌≡◌, ◌⊎◌, inl, inr, ℕ, suc, ◌+◌, ◌-◌, ◌<◌, ◌≤◌, Bool, true, false, cond, ◌&&◌, ◌||◌, List, [], ◌∷◌, ◌++◌, map, length, Option, Some, None, Result, Ok, Err, IfOk, IfErr, IfSome, option_map, refl, sym, ◌∙◌, ap, subst, arith}
 use Rattle.std.specs.Prelude.{nat_lt, unwrap_or}
 use Rattle.std.specs.Option.{option_or, option_map_or}
 use Rattle.std.specs.Ordering.{eq_by_cmp}
@@ -15,6 +15,7 @@ use Rattle.fx_outside.specs.Listing.{Names}
 use Rattle.fx_outside.specs.Tree.{Tree, Entry, Lists, entry_at, is_folder_at, is_file_at, is_file_kind, bytes_at}
 use Rattle.std.specs.Global.{Global}
 use Rattle.std.specs.Prelude.{Vec}
+use Rattle.fx_base.proofs.Results.{some_of}
 use Rattle.fx_folder.specs.Loads.{loads, AnswersAs}
 use Rattle.fx_folder.specs.Reads.{path_below}
 use Rattle.fx_folder.proofs.Below.{folder_fit}
@@ -87,10 +88,6 @@ each_at P (c ∷ cs) q node all set is = by (eq_by_cmp path_cmp q c.path) refl i
         let here : c.node ≡ Some node = ap head_or set ∙ is in
         subst (λ p. P p (Some node)) (sym (path_eq_same q c.path same)) (subst (P c.path) here all.0)
     by false other is further = further is
-
-some_of : (o : Option Node) → is_some o ≡ true → (node : Node) × (o ≡ Some node)
-some_of None e = cc
-some_of (Some node) e = (node, refl)
 
 module _ (cs : List Change) (are : AreFound cs) where
   abbrev es : List Mapped

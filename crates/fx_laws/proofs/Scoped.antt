@@ -5,7 +5,6 @@ use Rattle.std.specs.Cmp.Lexicographic.{pointwise}
 use Rattle.fx_store.specs.Rule.{Ask, Answer, answer}
 use Rattle.fx_store.specs.Whole.{Store}
 use Rattle.fx_store.proofs.Asks.{answer-bind}
-use Rattle.fx_text.proofs.Canon.{nat_list_exact}
 use Rattle.fx_expr.specs.Bindings.{bind, bound, newer_or, assigned, assign_or, own_assigned, first_some, or_same}
 use Rattle.fx_expr.specs.Eval.{Outcome, eval_of, names_in, truth_in}
 use Rattle.fx_expr.specs.ShapeTree.{ShapeTree}
@@ -16,23 +15,18 @@ use Rattle.fx_spec.specs.declared.refusal.Refusal.{Refusal}
 use Rattle.fx_spec.specs.Refusals.{refusal_number}
 use Rattle.fx_spec.specs.SpecTree.{SpecTree}
 use Rattle.fx_spec.specs.CommandTree.{CommandTree, Block, count, count_block}
-use Rattle.fx_spec.specs.Describe.{Bindings, value}
+use Rattle.fx_spec.specs.Describe.{value}
 use Rattle.fx_spec.specs.Move.{Answered, evaluated, unrefused, needed, at_place, fetch_at, whole_at, validate_at}
 use Rattle.fx_spec.specs.Place.{Address, PlaceTree, place}
 use Rattle.fx_spec.specs.Task.{Task, Ends, result, after, asking}
 use Rattle.fx_spec.specs.Transaction.{Effect, Moves, Changes, effect, Standing, Flow, On, Over, go_on, binding, assigning, or_stop, taking, tried, leaving, within, each_in, run, run_block}
 use Rattle.fx_spec.specs.WellShaped.{Scope, IsDescription, IsBlock}
 use Rattle.fx_spec.proofs.Shaped.{fetches_have_shapes, wholes_have_shapes}
+use Rattle.fx_spec.proofs.Scoped.{bind_has, set_has, cut_has}
 use Rattle.fx_laws.proofs.Stored.{result-asking, result-then}
 use Rattle.fx_laws.specs.Scoped.{IfOn, Opens, CommandsKeepShapes, BlocksKeepShapes}
 
 -- ---- values that are bound, and bound again
-
-bind_has : (env : Bindings) (g : Scope) (x : List ℕ) (v : Tree) (s : ShapeTree) → BindingsHave env g → ValueHas v s → BindingsHave (bind env x v) (bind g x s)
-bind_has [] [] x v s b h = (refl, h, tt)
-bind_has [] (t ∷ g) x v s b h = absurd b
-bind_has (e ∷ env) [] x v s b h = absurd b
-bind_has (e ∷ env) (t ∷ g) x v s b h = (b.0, b.1, bind_has env g x v s b.2 h)
 
 -- ---- what follows
 

@@ -2,7 +2,6 @@
 use Rattle.std.proofs.Common.{◌≡◌, ℕ, Bool, true, false, cond, List, [], ◌∷◌, ◌++◌, length, take, Some, None, Result, Ok, Err, refl, ap, ◌∙◌, sym, subst, append-nil, append_assoc}
 use Rattle.std.specs.Prelude.{IfOk, nat_eq, pos}
 use Rattle.std.specs.Cmp.Lexicographic.{pointwise}
-use Rattle.fx_text.proofs.Canon.{nat_list_exact}
 use Rattle.fx_expr.specs.Bindings.{bind, bound, newer_or, assigned, assign_or, own_assigned, first_some, or_same}
 use Rattle.fx_expr.specs.Eval.{Outcome, eval_of}
 use Rattle.fx_expr.specs.ExprTree.{ExprTree}
@@ -14,17 +13,12 @@ use Rattle.fx_spec.specs.CommandTree.{ActTree, CommandTree, Block}
 use Rattle.fx_spec.specs.Describe.{Bindings}
 use Rattle.fx_spec.specs.Move.{evaluated}
 use Rattle.fx_spec.specs.WellShaped.{Scope, IsBlock}
+use Rattle.fx_spec.proofs.Scoped.{bind_has, set_has, cut_has}
 use Rattle.fx_run.specs.Acts.{HasAct}
 use Rattle.fx_run.specs.declared.leave.Leave.{Leave}
 use Rattle.fx_run.specs.Scopes.{HasBlock, HasCommand, HasTurn, Opens, Scopes, ScopesBlock, Keeps, KeepsTurn}
 
 -- ---- values that are bound, and bound again
-
-pub bind_has : (env : Bindings) (g : Scope) (x : List ℕ) (v : Tree) (s : ShapeTree) → BindingsHave env g → ValueHas v s → BindingsHave (bind env x v) (bind g x s)
-bind_has [] [] x v s b h = (refl, h, tt)
-bind_has [] (t ∷ g) x v s b h = absurd b
-bind_has (e ∷ env) [] x v s b h = absurd b
-bind_has (e ∷ env) (t ∷ g) x v s b h = (b.0, b.1, bind_has env g x v s b.2 h)
 
 -- ---- what a command's own parts need
 

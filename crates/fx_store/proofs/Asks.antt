@@ -1,9 +1,10 @@
 -- What a rule answers and consults depends on what it consulted alone; following it over what is known finds just that.
-use Rattle.std.proofs.Common.{◌≡◌, ℕ, ◌+◌, refl, sym, ap, zero-add, arith, List, ◌∷◌, Option, Some, None}
+use Rattle.std.proofs.Common.{◌≡◌, ℕ, ◌+◌, refl, sym, ap, zero-add, arith, List, ◌∷◌, Option, Some, None, [], IsSome, All}
+use Rattle.std.proofs.lemmas.List.Elements.{All-nil, All-cons}
 use mathlib.Core.Path.{fun_ext}
 use Rattle.fx_store.specs.declared.node.Node.{Node}
 use Rattle.fx_store.specs.Whole.{Store}
-use Rattle.fx_store.specs.Rule.{Known, Ask, Answer, Look, Tick, answer, ticks, ◌>>=◌, Outcome, Found, Needs, seen, if_known, follow, DependsOnAsked, AgreesWith, FollowedAt}
+use Rattle.fx_store.specs.Rule.{Known, Ask, Answer, Look, Tick, answer, ticks, ◌>>=◌, Outcome, Found, Needs, seen, if_known, follow, DependsOnAsked, AgreesWith, FollowedAt, AllKnown}
 
 pub depends : {A : Type 0} (rule : Ask A) → DependsOnAsked rule
 depends (Answer a) S T h = (refl, refl)

@@ -1,12 +1,12 @@
 -- Filestores as data and as look-ups, under changes.
-use Rattle.std.proofs.Common.{◌≡◌, ℕ, cond, List, [], ◌∷◌, ◌++◌, Option, Some, None, refl, sym, ap, subst, ◌∙◌}
+use Rattle.std.proofs.Common.{◌≡◌, ℕ, cond, List, [], ◌∷◌, ◌++◌, Option, Some, None, refl, sym, ap, subst, ◌∙◌, IfSome}
 use Rattle.std.specs.Ordering.{eq_by_cmp}
 use Rattle.std.specs.FinMap.{get, get-insert, get-remove, same_map}
 use Rattle.fx_store.specs.declared.node.Node.{Node}
 use Rattle.fx_store.specs.declared.changes.Change.{Change}
 use Rattle.fx_store.specs.Names.{path_cmp}
 use Rattle.fx_store.specs.Orders.{path_total, path_same}
-use Rattle.fx_store.specs.Whole.{Store, Nodes, IsWhole, update, over, set_node, over_nodes}
+use Rattle.fx_store.specs.Whole.{Store, Nodes, IsWhole, update, over, set_node, over_nodes, IsNode}
 
 -- what a changed map gives
 pub get-set_node : (m : Nodes) (path q : List (List ℕ)) (node : Option Node) → get (set_node m path node) q ≡ cond (eq_by_cmp path_cmp q path) node (get m q)

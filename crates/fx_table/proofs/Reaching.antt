@@ -5,7 +5,7 @@ use Rattle.std.specs.Fmt.{digit_glyph}
 use Rattle.std.proofs.lemmas.List.Sums.{sum_by-cons}
 use Rattle.std.specs.declared.cmp.Ordering.{Ordering}
 use Rattle.std.specs.declared.cmp.Ordering.TheVariants.{Less, Equal, Greater}
-use Rattle.std.specs.Ordering.{is_eq, eq_by_cmp}
+use Rattle.std.specs.Ordering.{eq_by_cmp}
 use Rattle.std.specs.List.{AllByRecursion, cons_option}
 use Rattle.std.specs.List.Sorted.{IsStrictlySortedBy}
 use Rattle.std.specs.Map.{keys_of}
@@ -24,7 +24,7 @@ use Rattle.fx_store.specs.Changes.{IsChanges, changed_paths, change_at}
 use Rattle.fx_store.specs.Names.{path_cmp, path_text, IsNameSet}
 use Rattle.fx_store.specs.Orders.{path_total, path_eq_same}
 use Rattle.fx_store.specs.Whole.{Nodes, IsWhole, IsNode, lists, over, over_nodes}
-use Rattle.fx_store.proofs.Overlays.{over-change_at}
+use Rattle.fx_store.proofs.Overlays.{over-change_at, none_above}
 use Rattle.fx_store.proofs.Stores.{get-over_nodes, same_nodes}
 use Rattle.fx_table.specs.declared.fault.FolderCause.TheVariants.{BadName, Strange, TooLarge, BadTable}
 use Rattle.fx_table.specs.declared.fault.LoadFault.{LoadFault}
@@ -116,10 +116,6 @@ over_cases q (l ∷ ls) = by (eq_by_cmp path_cmp q l.path) refl (over_cases q ls
 keep : Parts → Option Node → Option (Option Node) → Option (Option Node)
 keep q there None = None
 keep q there (Some node) = option_map (λ (c : Change). c.node) (kept_change q there node)
-
-none_above : (cs : List Change) (p : Parts) → AllByRecursion (λ q. path_cmp p q ≡ Less) (changed_paths cs) → change_at cs p ≡ None
-none_above [] p above = refl
-none_above (c ∷ cs) p above = ap (λ r. cond (is_eq r) (Some c.node) (change_at cs p)) above.0 ∙ none_above cs p above.1
 
 -- what is kept stands at the same path
 flag_path : (p : Parts) (exec : Bool) (there : Option Node) (d : Change) → flag_change p exec there ≡ Some d → d.path ≡ p

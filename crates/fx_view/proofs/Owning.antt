@@ -2,13 +2,15 @@
 use Rattle.std.proofs.Common.{◌≡◌, ℕ, Bool, true, false, cond, List, [], ◌∷◌, ◌++◌, Option, Some, None, is_some, IsSome, refl, sym, ap, subst, ◌∙◌}
 use Rattle.std.specs.Ordering.{eq_by_cmp}
 use Rattle.std.proofs.lemmas.Bool.{true≢false, false≢true}
+use mathlib.Core.Path.{fun_ext}
+use Rattle.fx_base.proofs.Names.{path_itself}
 use Rattle.fx_store.specs.declared.node.Node.{Node}
 use Rattle.fx_store.specs.declared.changes.Change.{Change}
 use Rattle.fx_store.specs.Changes.{changed_paths}
 use Rattle.fx_store.specs.Names.{path_cmp}
-use Rattle.fx_store.specs.Rule.{AllKnown}
+use Rattle.fx_store.specs.Rule.{AllKnown, changed, seen}
 use Rattle.fx_store.specs.Orders.{path_eq_same}
-use Rattle.fx_store.proofs.Tables.{path_itself}
+use Rattle.fx_store.specs.Whole.{Store, update, over}
 use Rattle.fx_view.specs.OwnList.{OwnList}
 use Rattle.fx_view.specs.ReadList.{ReadList}
 use Rattle.fx_view.specs.Reads.{read_at, known_of, IsRead}
