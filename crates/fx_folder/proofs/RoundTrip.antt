@@ -253,6 +253,10 @@ with_erased flag (Some (File bytes exec)) is = ap (λ f. Some (File bytes f)) (i
 with_erased flag (Some (Dir names)) is = refl
 with_erased flag (Some (Link text)) is = refl
 
+pub no_place : (n : List ℕ) (r : Paths) → bytes_eq n table_name ≡ false → is_table_place (n ∷ r) ≡ false
+no_place n [] e = e
+no_place n (a ∷ r) e = refl
+
 module _ (tree : Tree) (P : Paths) (nodes : Nodes) (whole : IsWhole (get nodes)) (limits : IsWithinLimits nodes) (stands : HasFolderOf tree P nodes) where
   abbrev hs : List Held
   hs = walked (all_below tree P)
@@ -269,10 +273,6 @@ module _ (tree : Tree) (P : Paths) (nodes : Nodes) (whole : IsWhole (get nodes))
       let path = whole.paths (n ∷ r) (ap is_some e) in
       let valid : is_name n ≡ true = All-head IsName n r path.names in
       absurd (false≢true (sym reserved ∙ (ap is_name (sym ((bytes_eq-Decides n table_name).0 same)) ∙ valid)))
-
-  no_place : (n : List ℕ) (r : Paths) → bytes_eq n table_name ≡ false → is_table_place (n ∷ r) ≡ false
-  no_place n [] e = e
-  no_place n (a ∷ r) e = refl
 
   below_is : (n : List ℕ) (r : Paths) → find parts_cmp (n ∷ r) hs ≡ host_entry (get nodes (n ∷ r))
   below_is n r = find_walked_below tree P n r ∙ elim (cases_Bool (bytes_eq n table_name)) [

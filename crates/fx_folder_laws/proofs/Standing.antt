@@ -145,11 +145,8 @@ module _ (tree : Tree) (whole : host.IsWhole tree) (P : Paths) (nodes : Nodes) (
   abbrev ws : List Mapped
   ws = with_lines (unlisted hs) lines
 
-  table_at : table_in (all_below tree P) ≡ get tree (P ++ table_name ∷ [])
-  table_at = find_below tree P table_name []
-
   has_table : IsTableOf (found (unlisted hs)) lines (get tree (P ++ table_name ∷ []))
-  has_table = subst (IsTableOf (found (unlisted hs)) lines) table_at (table_of _ _ (found (unlisted hs)) (table_in (all_below tree P)) lines made.read)
+  has_table = subst (IsTableOf (found (unlisted hs)) lines) (find_below tree P table_name []) (table_of _ _ (found (unlisted hs)) (table_in (all_below tree P)) lines made.read)
 
   nodes_are : (q : Paths) → get nodes q ≡ option_map (relisted ws q) (found ws q)
   nodes_are q = sym (ap (λ m. get m q) made.is) ∙ (get-from_entries path_total (listed ws) q ∙ find_listed ws ws q)

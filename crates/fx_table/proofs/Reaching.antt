@@ -179,6 +179,14 @@ kept_push nodes cs kept new c is keeps =
 
 -- ---- a whole filestore has a shape
 
+pub bytes_linked : (fs : List Mapped) (links : List TableLink) → AreOfBytes (found fs) → AreOfBytes (found (with_links fs links))
+bytes_linked fs [] held = held
+bytes_linked fs (k ∷ links) held = bytes_linked (put path_cmp k.path (Link k.text) fs) links (λ q. subst (λ o. IfSome o IsOfBytes) (sym (find_linked fs k q)) (by (eq_by_cmp path_cmp q k.path) q))
+  where
+    by : (b : Bool) (q : Parts) → IfSome (cond b (Some (Link k.text)) (found fs q)) IsOfBytes
+    by true q = tt
+    by false q = held q
+
 module _ (nodes : Nodes) (whole : IsWhole (get nodes)) where
   abbrev es : List Mapped
   es = entries nodes
@@ -233,14 +241,6 @@ module _ (nodes : Nodes) (whole : IsWhole (get nodes)) where
 
     made : IsLinked (get nodes) E
     made = lines_made (get nodes) true ls are.table es linked
-
-    bytes_linked : (fs : List Mapped) (links : List TableLink) → AreOfBytes (found fs) → AreOfBytes (found (with_links fs links))
-    bytes_linked fs [] held = held
-    bytes_linked fs (k ∷ links) held = bytes_linked (put path_cmp k.path (Link k.text) fs) links (λ q. subst (λ o. IfSome o IsOfBytes) (sym (find_linked fs k q)) (by (eq_by_cmp path_cmp q k.path) q))
-      where
-        by : (b : Bool) (q : Parts) → IfSome (cond b (Some (Link k.text)) (found fs q)) IsOfBytes
-        by true q = tt
-        by false q = held q
 
     bytes : AreOfBytes (found E)
     bytes = bytes_linked (with_flags es ls) ks (bytes_flags es ls (λ q. subst (λ o. IfSome o IsOfBytes) (at q) (bytes_of q (get nodes q) (whole.nodes q))))
