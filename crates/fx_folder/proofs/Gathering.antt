@@ -6,7 +6,7 @@ use Rattle.std.specs.Ordering.{eq_by_cmp}
 use Rattle.std.specs.List.{AllByRecursion}
 use Rattle.std.specs.List.Sorted.{IsStrictlySortedBy}
 use Rattle.std.specs.Map.{keys_of}
-use Rattle.std.specs.FinMap.{get, find, put}
+use Rattle.std.specs.FinMap.{get, find}
 use Rattle.std.proofs.lemmas.Bool.Decides.{nat_tests}
 use Rattle.fx_outside.specs.declared.kind.HostKind.{HostKind}
 use Rattle.fx_outside.specs.declared.kind.HostKind.TheVariants as kind
@@ -34,7 +34,7 @@ use Rattle.fx_table.specs.declared.fault.LoadFault.{LoadFault}
 use Rattle.fx_table.specs.declared.fault.LoadFault.TheVariants.{Refused, ReadFault, NoMemory}
 use Rattle.fx_folder.specs.declared.walking.Walked.{Walked}
 use Rattle.fx_folder.specs.Deep.{Held, all_below, walked, table_in, all_bytes, first_refused, refused_entry, node_of_kind, unlisted, most_in_table, unless_bad, lacking, read_lines, table_file_lines, linked, with_table, unless_refused, loaded, as_nodes}
-use Rattle.fx_table.specs.Listed.{Mapped, listed, with_links, with_flag, with_flags, with_lines}
+use Rattle.fx_table.specs.Listed.{Mapped, listed, with_flag, with_flags, with_lines}
 use Rattle.fx_table.specs.Places.{place_of, table_name}
 use Rattle.fx_folder.specs.Grown.{IsFoundNode, HasDir, IsFound, AreFound}
 use Rattle.fx_folder.specs.Limits.{most_nodes, most_bytes}
@@ -49,12 +49,13 @@ use Rattle.fx_folder.specs.Tables.{ReadsWhole, text_of, AnswersText, room_behind
 use Rattle.fx_folder.specs.Walks.{found_as, AnswersWalk}
 use Rattle.fx_folder.proofs.Branches.{find_below}
 use Rattle.fx_table.proofs.Flagging.{bytes_flags, lines_made, lines_merge}
-use Rattle.fx_table.proofs.Linking.{IsLinked, find_linked}
+use Rattle.fx_table.proofs.Linking.{IsLinked}
 use Rattle.fx_table.proofs.Making.{set_at}
 use Rattle.fx_table.proofs.Naming.{mapped_changes}
 use Rattle.fx_folder.proofs.Refusals.{same_first, fits_all}
 use Rattle.fx_table.proofs.Shapes.{found}
 use Rattle.fx_table.proofs.Versions.{body_read, lacks_none}
+use Rattle.fx_table.proofs.Reaching.{bytes_linked}
 use Rattle.fx_folder.proofs.TableRefusals.{lines_refused, same_many}
 
 -- ---- what was found has a shape
@@ -170,14 +171,6 @@ module _ (cs : List Change) (are : AreFound cs) (lines : List Change) (linked : 
 
   joined_lines : IsLinked (found (mapped_of cs)) (with_lines (mapped_of cs) (lines_in lines))
   joined_lines = lines_made (found (mapped_of cs)) true (lines_in lines) lines_table (mapped_of cs) (is_linked cs are)
-
-  bytes_linked : (fs : List Mapped) (ks : List TableLink) → AreOfBytes (found fs) → AreOfBytes (found (with_links fs ks))
-  bytes_linked fs [] held = held
-  bytes_linked fs (k ∷ ks) held = bytes_linked (put path_cmp k.path (Link k.text) fs) ks (λ q. subst (λ o. IfSome o IsOfBytes) (sym (find_linked fs k q)) (by (eq_by_cmp path_cmp q k.path) q))
-    where
-      by : (b : Bool) (q : Parts) → IfSome (cond b (Some (Link k.text)) (found fs q)) IsOfBytes
-      by true q = tt
-      by false q = held q
 
   pub joined_shaped : (all : List Change) → all ≡ changes_of (with_lines (mapped_of cs) (lines_in lines)) → AreShaped all
   joined_shaped all is =

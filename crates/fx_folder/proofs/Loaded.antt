@@ -11,7 +11,7 @@ use Rattle.std.proofs.lemmas.Bool.Decides.{nat_tests}
 use Rattle.std.proofs.lemmas.Option.{same_Some}
 use Rattle.std.proofs.lemmas.List.Elements.{All-nil, All-push}
 use Rattle.std.proofs.Math.Seq.{take-length, take-suc}
-use Rattle.fx_base.proofs.Results.{neither_some}
+use Rattle.fx_base.proofs.Results.{neither_some, some_of}
 use Rattle.fx_base.proofs.Names.{above_pushed}
 use Rattle.fx_outside.specs.declared.kind.HostKind.{HostKind}
 use Rattle.fx_outside.specs.declared.kind.HostKind.TheVariants as kind
@@ -122,10 +122,6 @@ pub find_unlisted : (hs : List Held) (n : List ℕ) (r : Paths) → found (unlis
 find_unlisted hs n r = find_nodes hs (n ∷ r)
 
 -- ---- a folder stands above each entry
-
-some_of : {A : Type 0} (o : Option A) → is_some o ≡ true → (x : A) × (o ≡ Some x)
-some_of None e = absurd (false≢true e)
-some_of (Some x) e = (x, refl)
 
 not_hidden : (b : Bool) (o : Option Entry) (e : Entry) → cond b o None ≡ Some e → (b ≡ true) × (o ≡ Some e)
 not_hidden true o e is = (refl, is)

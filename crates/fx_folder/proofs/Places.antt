@@ -9,6 +9,7 @@ use Rattle.std.proofs.lemmas.Bool.Decides.{nat_tests}
 use Rattle.std.proofs.lemmas.List.Elements.{All-head, All-tail}
 use Rattle.fx_base.proofs.Booleans.{never_both, fifth_true}
 use Rattle.fx_base.proofs.Lists.{no_length}
+use Rattle.fx_base.proofs.Results.{none_if_never}
 use Rattle.fx_outside.specs.declared.kind.HostKind.{HostKind}
 use Rattle.fx_outside.specs.declared.kind.HostKind.TheVariants as kinds
 use Rattle.fx_outside.specs.Listing.{Names}
@@ -197,18 +198,14 @@ folder_result told whole folder text path nodes left x (Err fault) there none pa
 
 -- ---- what is to be walked behind an item
 
-none_found : {A : Type 0} (o : Option A) → ((e : A) → o ≡ Some e → ⊥) → o ≡ None
-none_found None never = refl
-none_found (Some e) never = absurd (never e refl)
-
 has_entry : (t : Tree) (P : Parts) (a : List ℕ) → has_folder t (P ++ a ∷ []) ≡ option_map_or (λ e. is_folder_kind e.kind) (get t (P ++ a ∷ [])) false
 has_entry t [] a = refl
 has_entry t (p ∷ P) a = refl
 
 none_inside : (t : Tree) → IsWhole t → (P : Parts) → has_folder t P ≡ false → (a : List ℕ) (r : Parts) → get t (P ++ a ∷ r) ≡ None
-none_inside t whole P missing a [] = none_found _ λ x is. never_both (has_folder t P) (stands_in t whole P a x is) missing
+none_inside t whole P missing a [] = none_if_never _ λ x is. never_both (has_folder t P) (stands_in t whole P a x is) missing
 none_inside t whole P missing a (b ∷ r) =
-    let none : get t (P ++ a ∷ []) ≡ None = none_found _ λ x is. never_both (has_folder t P) (stands_in t whole P a x is) missing in
+    let none : get t (P ++ a ∷ []) ≡ None = none_if_never _ λ x is. never_both (has_folder t P) (stands_in t whole P a x is) missing in
     ap (get t) (sym (append_assoc P (a ∷ []) (b ∷ r))) ∙ none_inside t whole (P ++ a ∷ []) (has_entry t P a ∙ ap (λ o. option_map_or (λ (e : Entry). is_folder_kind e.kind) o false) none) b r
 
 none_below : (t : Tree) → IsWhole t → (P : Parts) → has_folder t P ≡ false → all_below t P ≡ []

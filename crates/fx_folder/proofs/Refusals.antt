@@ -31,7 +31,7 @@ use Rattle.fx_table.proofs.Lining.{minus}
 use Rattle.fx_folder.specs.Deep.{Held, all_below, table_in, last_name, all_bytes, refused_kind, refused_bytes, refused_entry, first_refused, unlisted, table_lines, linked, unless_refused, as_nodes, deep_loads}
 use Rattle.fx_folder.specs.RefusalLaws.{Stands, all_standing, is_one_too_many, is_too_much, is_strange, where_so, cause_of, IsFirstCause, HasNoCause, IsTableCause, EntriesAreListed, FirstCausesAreTold}
 use Rattle.fx_folder.proofs.Counted.{none_behind}
-use Rattle.fx_folder.proofs.TableRefusals.{IsCauseOf, table_is, table_refused}
+use Rattle.fx_folder.proofs.TableRefusals.{IsCauseOf, table_is, table_refused, over}
 use Rattle.fx_folder.proofs.Walked.{below_sorted, below_root, find_walked_below}
 use Rattle.fx_folder.proofs.Branches.{find_below}
 
@@ -53,9 +53,6 @@ deeper n = grind (arith, nat_tests)
 
 one_more : (n : ℕ) → not (nat_lt (n + 1) most_nodes) ≡ nat_lt most_nodes (n + 2)
 one_more n = grind (arith, nat_tests)
-
-over : (most b n : ℕ) → b ≤ most → nat_lt (most - b) n ≡ nat_lt most (b + n)
-over most b n le = grind (arith, nat_tests)
 
 same_cause : (before : List Held) (names : Parts) (e : Entry) → all_bytes before ≤ most_bytes → refused_entry (length before + 1) (most_bytes - all_bytes before) (names, e) ≡ cause_of before names e
 same_cause before names e fits =

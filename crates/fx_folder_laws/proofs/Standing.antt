@@ -29,12 +29,13 @@ use Rattle.fx_table.proofs.TableLines.{texts_are_lines}
 use Rattle.fx_table.proofs.Versions.{spells}
 use Rattle.fx_folder.specs.Places.{host_entry}
 use Rattle.fx_folder.specs.Loads.{most_bytes}
-use Rattle.fx_folder.specs.Deep.{Held, all_below, walked, table_in, node_of_kind, unlisted, unless_bad, are_too_many, lacking, read_lines, table_file_lines, table_lines, deep_loads, table_entry, is_table_place, folder_entry}
+use Rattle.fx_folder.specs.Deep.{Held, all_below, walked, table_in, node_of_kind, unlisted, unless_bad, are_too_many, lacking, read_lines, table_file_lines, table_lines, deep_loads, table_entry, folder_entry}
 use Rattle.fx_folder.specs.Folder.{entry_or}
 use Rattle.fx_folder.proofs.Filled.{stands_in, none_below}
 use Rattle.fx_folder.proofs.Loaded.{all_accepted, node_of, find_unlisted, IsLoaded, was_loaded, folder_entry_is, no_lines, some_bad, unless_large}
 use Rattle.fx_folder.proofs.Walked.{find_walked_below}
 use Rattle.fx_folder.proofs.Branches.{find_below}
+use Rattle.fx_folder.proofs.RoundTrip.{no_place}
 use Rattle.fx_folder_laws.specs.Stays.{StandsFor, LoadedFoldersStay, IsKept, SavedFoldersAreSame}
 use Rattle.fx_folder_laws.proofs.Marking.{IsNoLink, relisted_entry, entry_at as entry_with, lines_stay}
 
@@ -172,10 +173,6 @@ module _ (tree : Tree) (whole : host.IsWhole tree) (P : Paths) (nodes : Nodes) (
   entry_walked n r =
       entry_is (n ∷ r)
       ∙ (ap host_entry (find_unlisted hs n r) ∙ (entries_back (find parts_cmp (n ∷ r) hs) (known n r) ∙ find_walked_below tree P n r))
-
-  no_place : (n : List ℕ) (r : Paths) → bytes_eq n table_name ≡ false → is_table_place (n ∷ r) ≡ false
-  no_place n [] e = e
-  no_place n (a ∷ r) e = refl
 
   at_table : (n : List ℕ) (r : Paths) → bytes_eq n table_name ≡ true → StandsFor nodes (n ∷ r) (get tree (P ++ n ∷ r))
   at_table n [] same =

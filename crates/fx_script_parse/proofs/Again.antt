@@ -19,7 +19,7 @@ use Rattle.fx_parse.proofs.ReaderPlaces.{Follows}
 use Rattle.fx_parse.proofs.ExprLink.{expr_again, front_low, rest_low}
 use Rattle.fx_parse.proofs.ShapeLink.{shape_reader}
 use Rattle.fx_parse.proofs.Signs.{name_then, sign_is}
-use Rattle.fx_parse.proofs.Steps.{part_then}
+use Rattle.fx_parse.proofs.Steps.{part_then, then_ok}
 use Rattle.fx_spec.specs.CommandTree.{ActTree, CommandTree, Block, block}
 use Rattle.fx_grammar.specs.Tokens.{act_tokens, command_tokens, block_tokens, txn_tokens, act_names, command_names, block_names, txn_names}
 use Rattle.fx_grammar.specs.TokenLevels.{act_rest_levels, command_token_levels, block_token_levels, txn_token_levels}
@@ -44,9 +44,6 @@ block_again (Block.then c cs) = ap (Block.then c) (block_again cs)
 pub list_again : (cs : List CommandTree) → list_of (block cs) ≡ cs
 list_again [] = refl
 list_again (c ∷ cs) = ap (λ l. c ∷ l) (list_again cs)
-
-then_ok : {A B : Type 0} (r : Result A Stuck) (a : A) (k : A → Result B Stuck) → r ≡ Ok a → (r >>= k) ≡ k a
-then_ok r a k e = ap (λ r. r >>= k) e
 
 -- what readers read again
 abbrev ExprAgain : Read ExprTree → ExprTree → Type 0

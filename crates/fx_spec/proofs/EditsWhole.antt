@@ -15,7 +15,7 @@ use Rattle.fx_store.specs.Orders.{path_eq_same}
 use Rattle.fx_store.specs.Relisted.{rest_of, fresh_at, relist_at, IsLeaf, CanRelist}
 use Rattle.fx_store.specs.Resolve.{◌/ₚ◌}
 use Rattle.fx_store.specs.Whole.{Store, IsWhole, IsNode, lists, update, over}
-use Rattle.fx_store.proofs.Relisted.{IsWhole-relisted}
+use Rattle.fx_store.proofs.Relisted.{IsWhole-relisted, has_old}
 use Rattle.fx_store.proofs.PathLists.{rest_append, rest_is}
 use Rattle.fx_spec.proofs.Tasks.{over-append}
 use Rattle.fx_spec.specs.Edit.{set_to}
@@ -103,8 +103,6 @@ changes_of C [] = []
 changes_of C (n ∷ names) = C n ++ changes_of C names
 
 module _ (S : Store) (q old new : List (List ℕ)) (fresh : List ℕ → Node) (can : CanRelist S q old new fresh) where
-  pub has_old : (n : List ℕ) → is_some (S (q /ₚ n)) ≡ has old n
-  has_old n = can.whole.listed q n ∙ ap (λ x. lists x n) can.dir
 
   -- what is in the end at a path below the directory
   abbrev pub target : List ℕ → List (List ℕ) → Option Node
@@ -194,7 +192,7 @@ module _ (S : Store) (q old new : List (List ℕ)) (fresh : List ℕ → Node) (
 
   -- an entry that was not there stays so below
   pub absent_below : (n : List ℕ) (rest : List (List ℕ)) → has old n ≡ false → S (q ++ n ∷ rest) ≡ None
-  absent_below n rest h = subst (λ r. S r ≡ None) (append_assoc q (n ∷ []) rest) (nothing_below S can.whole rest (q /ₚ n) (none_of (S (q /ₚ n)) (has_old n ∙ h)))
+  absent_below n rest h = subst (λ r. S r ≡ None) (append_assoc q (n ∷ []) rest) (nothing_below S can.whole rest (q /ₚ n) (none_of (S (q /ₚ n)) (has_old S q old new fresh can n ∙ h)))
 
   -- a kept entry
   pub kept_target : (n : List ℕ) (rest : List (List ℕ)) → has new n ≡ has old n → S (q ++ n ∷ rest) ≡ target n rest

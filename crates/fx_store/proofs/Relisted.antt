@@ -47,7 +47,7 @@ has-all P (m ∷ names) n all h = at (eq_by_cmp name_cmp n m) refl h (has-all P 
     at false e h rest = rest h
 
 module _ (S : Store) (q old new : List (List ℕ)) (fresh : List ℕ → Node) (can : CanRelist S q old new fresh) where
-  has_old : (n : List ℕ) → is_some (S (q /ₚ n)) ≡ has old n
+  pub has_old : (n : List ℕ) → is_some (S (q /ₚ n)) ≡ has old n
   has_old n = can.whole.listed q n ∙ ap (λ x. lists x n) can.dir
 
   abbrev At : List (List ℕ) → Option (List (List ℕ)) → Option Node
