@@ -107,7 +107,6 @@ pub record IsTested (es : List Placed) : Type 0 where
   pub nodes : All (λ (e : Placed). IsNode e.0 e.1) es
 
 module _ (es : List Placed) (t : IsTested es) where
-
   at_end : (q : Path) (name : List ℕ) (n : Node) → is_listed es (q ++ name ∷ [], n) ≡ true → lists (store_of es (above (q ++ name ∷ []))) (last (q ++ name ∷ [])) ≡ true
   at_end [] name n h = h
   at_end (a ∷ q) name n h = h

@@ -103,7 +103,6 @@ changes_of C [] = []
 changes_of C (n ∷ names) = C n ++ changes_of C names
 
 module _ (S : Store) (q old new : List (List ℕ)) (fresh : List ℕ → Node) (can : CanRelist S q old new fresh) where
-
   -- what is in the end at a path below the directory
   abbrev pub target : List ℕ → List (List ℕ) → Option Node
   target n rest = relist_at S old new fresh (q ++ n ∷ rest) (Some (n ∷ rest))
