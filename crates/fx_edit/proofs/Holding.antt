@@ -1,9 +1,9 @@
 -- The node that a value makes.
 use Rattle.std.proofs.Common.{◌≡◌, ℕ, suc, ◌<◌, All, Bool, true, false, cond, List, [], ◌∷◌, length, Some, None, Result, Ok, Err, refl, sym, ap, ◌∙◌, arith}
-use Rattle.std.specs.Prelude.{nat_le, nat_lt, ◌&&◌, nat_eq, IsErrAnd}
+use Rattle.std.specs.Prelude.{nat_le, nat_lt, nat_eq, IsErrAnd}
 use Rattle.std.specs.Cmp.Lexicographic.{pointwise, nat_list_eq_equiv, lists_equiv}
 use Rattle.std.specs.List.{list_all}
-use Rattle.std.proofs.lemmas.Bool.{le-leb}
+use Rattle.std.proofs.lemmas.Bool.{le-leb, and_from}
 use Rattle.std.proofs.lemmas.List.Elements.{All-head, All-tail}
 use Rattle.fx_store.specs.declared.node.Node.{Node}
 use Rattle.fx_store.specs.declared.node.Node.TheVariants.{File}
@@ -25,16 +25,12 @@ use Rattle.fx_edit.proofs.Naming.{fault_told}
 
 -- ---- a text within its limits, and a set in order
 
-both_true : (a b : Bool) → a ≡ true → b ≡ true → a && b ≡ true
-both_true true b p q = q
-both_true false b p q = cc
-
 all_bytes : (bytes : List ℕ) → All (λ b. b < 256) bytes → list_all (λ b. nat_lt b 256) bytes ≡ true
 all_bytes [] all = refl
-all_bytes (b ∷ bytes) all = both_true (nat_lt b 256) (list_all (λ b. nat_lt b 256) bytes) (le-leb (suc b) 256 (omega (arith, All-head (λ b. b < 256) b bytes all))) (all_bytes bytes (All-tail (λ b. b < 256) b bytes all))
+all_bytes (b ∷ bytes) all = and_from (nat_lt b 256) (list_all (λ b. nat_lt b 256) bytes) (le-leb (suc b) 256 (omega (arith, All-head (λ b. b < 256) b bytes all))) (all_bytes bytes (All-tail (λ b. b < 256) b bytes all))
 
 is_content_of : (bytes : List ℕ) → IsContent bytes → is_content bytes ≡ true
-is_content_of bytes content = both_true (nat_le (length bytes) 1048576) (list_all (λ b. nat_lt b 256) bytes) (le-leb (length bytes) 1048576 content.short) (all_bytes bytes content.bytes)
+is_content_of bytes content = and_from (nat_le (length bytes) 1048576) (list_all (λ b. nat_lt b 256) bytes) (le-leb (length bytes) 1048576 content.short) (all_bytes bytes content.bytes)
 
 is_set_of : (texts : List (List ℕ)) → IsAscending texts → pointwise (pointwise nat_eq) (set_of texts) texts ≡ true
 is_set_of texts up =

@@ -19,7 +19,7 @@ use Rattle.fx_parse.proofs.ExprLink.{expr_follows}
 use Rattle.fx_parse.proofs.ShapeMachine as shape
 use Rattle.fx_parse.proofs.ShapeMachine.{Shape}
 use Rattle.fx_parse.proofs.ShapeLink.{shape_reader}
-use Rattle.fx_parse.proofs.Steps.{from_passed, on}
+use Rattle.fx_parse.proofs.Steps.{from_passed, on, on_ok}
 use Rattle.fx_parse.proofs.Within.{goes_within}
 use Rattle.fx_spec.specs.CommandTree.{CommandTree}
 use Rattle.fx_script_parse.specs.declared.start.ActStart.{ActStart}
@@ -63,11 +63,6 @@ expr_goes left d e stack ts = goes_within inner.table table Part holds (read_exp
 
 shape_goes : (left d : ℕ) → left ≡ 65 - d → ShapeGoesAs d (read_shape left)
 shape_goes left d e stack ts = goes_within shape.table table Shaped shape_holds (read_shape left) (Shape d) (λ ts. shape_reader.follows left d e [] ts) stack ts
-
--- a reading that goes on only where it gives something
-on_ok : {A B C : Type 0} {start : Result C Stuck} (r : Result A Stuck) (go : A → Result C Stuck) (k : A → Result B Stuck) (end : B → Result C Stuck) → start ≡ (r >>= go) → ((a : A) → r ≡ Ok a → go a ≡ (k a >>= end)) → start ≡ ((r >>= k) >>= end)
-on_ok (Ok a) go k end first rest = first ∙ rest a refl
-on_ok (Err e) go k end first rest = first
 
 -- what a command leaves is shorter
 shorter : (d : ℕ) (ts rest : List Token) → Empties table (Command d ∷ []) ts rest → length rest < length ts

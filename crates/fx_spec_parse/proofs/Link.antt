@@ -18,7 +18,7 @@ use Rattle.fx_parse.proofs.ExprLink.{expr_follows, then_then}
 use Rattle.fx_parse.proofs.ShapeMachine as shape
 use Rattle.fx_parse.proofs.ShapeMachine.{Shape}
 use Rattle.fx_parse.proofs.ShapeLink.{shape_reader}
-use Rattle.fx_parse.proofs.Steps.{passed, from_passed, on}
+use Rattle.fx_parse.proofs.Steps.{passed, from_passed, on, on_ok}
 use Rattle.fx_parse.proofs.Within.{goes_within}
 use Rattle.fx_spec.specs.Written.{DefTree, TextTree}
 use Rattle.fx_spec_parse.specs.declared.start.Start.{Start}
@@ -45,11 +45,6 @@ scan_name stack (token.Number n ∷ ts) = refl
 scan_name stack (token.Str v ∷ ts) = refl
 scan_name stack (token.Mark m ∷ ts) = refl
 scan_name stack (token.Def ∷ ts) = refl
-
--- a reading that goes on only where it gives something
-on_ok : {A B C : Type 0} {start : Result C Stuck} (r : Result A Stuck) (go : A → Result C Stuck) (k : A → Result B Stuck) (end : B → Result C Stuck) → start ≡ (r >>= go) → ((a : A) → r ≡ Ok a → go a ≡ (k a >>= end)) → start ≡ ((r >>= k) >>= end)
-on_ok (Ok a) go k end first rest = first ∙ rest a refl
-on_ok (Err e) go k end first rest = first
 
 -- what empties a stack with a symbol on it leaves fewer tokens
 shorter : (s : Sym) (stack : List Sym) (ts rest : List Token) → Empties table (s ∷ stack) ts rest → length rest < length ts

@@ -4,9 +4,8 @@ pub mod Landings
 pub mod Examples
 mod NameTests
 pub mod Ascending
-mod Placing
+pub mod Placing
 mod Sets
-mod Texts
 pub mod Stores
 pub mod Tables
 pub mod WholeStores
@@ -15,3 +14,4 @@ pub mod Overlays
 pub mod FlatStores
 pub mod SpellingLaws
 pub mod Crosses
+pub mod PathLists
