@@ -12,6 +12,5 @@ pub mod Tables
 pub mod WholeStores
 pub mod Relisted
 pub mod Overlays
-pub mod FlatStores
 pub mod SpellingLaws
 pub mod Crosses
