@@ -12,6 +12,7 @@ use Rattle.fx_store.specs.declared.name.PathFault.TheVariants.{BadName, TooDeep}
 use Rattle.fx_store.specs.Faults.{read_link, Answers as Reads}
 use Rattle.fx_store.specs.Names.{IsContent}
 use Rattle.fx_expr.specs.Sets.{IsAscending, set_of}
+use Rattle.fx_expr.specs.Parts.{text_of, truth_of, names_of}
 use Rattle.fx_expr.specs.Tree.{Tree}
 use Rattle.fx_text.proofs.Canon.{ascending_set, has_set, same_sets}
 use Rattle.fx_spec.specs.declared.refusal.Refusal.{Refusal}
@@ -20,7 +21,7 @@ use Rattle.fx_spec.specs.Move.{Answered}
 use Rattle.fx_spec.specs.SpecTree.{SpecTree}
 use Rattle.fx_session.specs.declared.halt.Halt.{Halt}
 use Rattle.fx_session.specs.Faults.{of_path}
-use Rattle.fx_edit.specs.Values.{text_of, texts_of, flag_of, Tells}
+use Rattle.fx_edit.specs.Values.{Tells}
 use Rattle.fx_edit.proofs.Naming.{fault_told}
 
 -- ---- a text within its limits, and a set in order
@@ -56,7 +57,7 @@ no_text Tree.nothing e = refl
 no_text (Tree.some a) e = refl
 no_text (Tree.table rows) e = refl
 
-no_flag : (v : Tree) → text_of v ≡ None → flag_of v ≡ None → form_node SpecTree.file v ≡ Err Refusal.WrongForm
+no_flag : (v : Tree) → text_of v ≡ None → truth_of v ≡ None → form_node SpecTree.file v ≡ Err Refusal.WrongForm
 no_flag (Tree.str t) e f = cc
 no_flag (Tree.int n) e f = refl
 no_flag (Tree.bool b) e f = cc
@@ -67,7 +68,7 @@ no_flag (Tree.some a) e f = refl
 no_flag (Tree.table rows) e f = refl
 
 -- a truth value at a file
-pub flag_told : (v : Tree) (b : Bool) → flag_of v ≡ Some b → stored_node SpecTree.file v ≡ Ok (File [] b)
+pub flag_told : (v : Tree) (b : Bool) → truth_of v ≡ Some b → stored_node SpecTree.file v ≡ Ok (File [] b)
 flag_told (Tree.str t) b e = cc
 flag_told (Tree.int n) b e = cc
 flag_told (Tree.bool a) b e = let same : a ≡ b = cc in ap (λ (b : Bool). Ok (File [] b)) same
@@ -77,7 +78,7 @@ flag_told Tree.nothing b e = cc
 flag_told (Tree.some a) b e = cc
 flag_told (Tree.table rows) b e = cc
 
-no_texts : (v : Tree) → texts_of v ≡ None → form_node SpecTree.dir v ≡ Err Refusal.WrongForm
+no_texts : (v : Tree) → names_of v ≡ None → form_node SpecTree.dir v ≡ Err Refusal.WrongForm
 no_texts (Tree.str t) e = refl
 no_texts (Tree.int n) e = refl
 no_texts (Tree.bool b) e = refl
@@ -87,13 +88,13 @@ no_texts Tree.nothing e = refl
 no_texts (Tree.some a) e = refl
 no_texts (Tree.table rows) e = refl
 
-pub file-wrong : (v : Tree) → text_of v ≡ None → flag_of v ≡ None → stored_node SpecTree.file v ≡ Err Refusal.WrongForm
+pub file-wrong : (v : Tree) → text_of v ≡ None → truth_of v ≡ None → stored_node SpecTree.file v ≡ Err Refusal.WrongForm
 file-wrong v e f = wrong SpecTree.file v (no_flag v e f)
 
 pub link-wrong : (v : Tree) → text_of v ≡ None → stored_node SpecTree.link v ≡ Err Refusal.WrongForm
 link-wrong v e = wrong SpecTree.link v (no_text v e)
 
-pub dir-wrong : (v : Tree) → texts_of v ≡ None → stored_node SpecTree.dir v ≡ Err Refusal.WrongForm
+pub dir-wrong : (v : Tree) → names_of v ≡ None → stored_node SpecTree.dir v ≡ Err Refusal.WrongForm
 dir-wrong v e = wrong SpecTree.dir v (no_texts v e)
 
 -- ---- those that do
@@ -108,7 +109,7 @@ text_is Tree.nothing t e = cc
 text_is (Tree.some a) t e = cc
 text_is (Tree.table rows) t e = cc
 
-pub texts_are : (v : Tree) (ts : List (List ℕ)) → texts_of v ≡ Some ts → v ≡ Tree.names ts
+pub texts_are : (v : Tree) (ts : List (List ℕ)) → names_of v ≡ Some ts → v ≡ Tree.names ts
 texts_are (Tree.str t) ts e = cc
 texts_are (Tree.int n) ts e = cc
 texts_are (Tree.bool b) ts e = cc
@@ -131,7 +132,7 @@ pub file_told : (v : Tree) (t bytes : List ℕ) → text_of v ≡ Some t → (by
 file_told v t bytes is held =
     ap (stored_node SpecTree.file) (text_is v t is) ∙ (text-stored SpecTree.file t held.1 ∙ ap (λ (b : List ℕ). Ok (File b false)) (sym held.0))
 
-pub dir_told : (v : Tree) (ts : List (List ℕ)) → texts_of v ≡ Some ts → IsAscending ts → stored_node SpecTree.dir v ≡ names_node ts
+pub dir_told : (v : Tree) (ts : List (List ℕ)) → names_of v ≡ Some ts → IsAscending ts → stored_node SpecTree.dir v ≡ names_node ts
 dir_told v ts is up = ap (stored_node SpecTree.dir) (texts_are v ts is) ∙ texts-stored ts up
 
 pub link_told : (v : Tree) (t : List ℕ) → text_of v ≡ Some t → stored_node SpecTree.link v ≡ stored_node SpecTree.link (Tree.str t)

@@ -13,7 +13,7 @@ use Rattle.fx_parse.specs.Stuck.{Stuck, Unexpected, ◌>>=◌}
 use Rattle.fx_parse.specs.Grammars.{word, opening, closing, expr_tokens, expr_levels, shape_tokens, shape_levels, is_name, has_names}
 use Rattle.fx_parse.specs.Reader.{read_expr}
 use Rattle.fx_parse.specs.ShapeReader.{read_shape}
-use Rattle.fx_parse.specs.Signs.{is_sign}
+use Rattle.fx_parse.specs.Signs.{is_sign, closed_by}
 use Rattle.fx_parse.proofs.Machine.{at_most, Runs}
 use Rattle.fx_parse.proofs.ReaderPlaces.{Follows}
 use Rattle.fx_parse.proofs.ExprLink.{expr_again, front_low, rest_low}
@@ -27,7 +27,7 @@ use Rattle.fx_grammar.specs.Grammars.{transactions}
 use Rattle.fx_grammar.proofs.Deep.{Low, tail, front, rest}
 use Rattle.fx_script_parse.specs.declared.start.Start.{Start}
 use Rattle.fx_script_parse.specs.declared.start.Start.TheVariants as start
-use Rattle.fx_script_parse.specs.Reader.{start_of, act_start, is_nothing, Read, bracketed_at, valued_at, typed_at, to_at, store_at, act_form_at, act_found, act_at, do_at, try_at, let_at, set_at, fetch_at, value_at, validate_at, print_at, added_at, closed_by, closed, ended_or, items_at, many_at, braced_at, branch_at, each_at, form_at, read_command, read_txn}
+use Rattle.fx_script_parse.specs.Reader.{start_of, act_start, is_nothing, Read, bracketed_at, valued_at, typed_at, to_at, store_at, act_form_at, act_found, act_at, do_at, try_at, let_at, set_at, fetch_at, value_at, validate_at, print_at, added_at, closed, ended_or, items_at, many_at, braced_at, branch_at, each_at, form_at, read_command, read_txn}
 use Rattle.fx_script_parse.proofs.Machine.{Txn, Command, table, start_word, act_word, act_of, act_rest, act_parts, act_starts, brace, end_brace, branch_tokens, each_tokens, command_runs}
 use Rattle.fx_script_parse.proofs.Means.{txn_fits}
 use Rattle.fx_script_parse.proofs.Link.{txn_follows}

@@ -11,7 +11,7 @@ use Rattle.fx_parse.specs.Stuck.{Stuck, Unexpected, TooNested, ◌>>=◌}
 use Rattle.fx_parse.specs.Grammars.{is_name}
 use Rattle.fx_parse.specs.Reader.{expect, read_expr}
 use Rattle.fx_parse.specs.ShapeReader.{read_shape}
-use Rattle.fx_parse.specs.Signs.{is_sign, name_at}
+use Rattle.fx_parse.specs.Signs.{is_sign, name_at, closed_by}
 use Rattle.fx_parse.proofs.Machine.{scan, scan_from, scan_says, Outcome, Empties, Runs}
 use Rattle.fx_parse.proofs.ExprMachine as inner
 use Rattle.fx_parse.proofs.ExprMachine.{Expr}
@@ -26,7 +26,7 @@ use Rattle.fx_script_parse.specs.declared.start.ActStart.{ActStart}
 use Rattle.fx_script_parse.specs.declared.start.ActStart.TheVariants as act
 use Rattle.fx_script_parse.specs.declared.start.Start.{Start}
 use Rattle.fx_script_parse.specs.declared.start.Start.TheVariants as start
-use Rattle.fx_script_parse.specs.Reader.{start_of, act_start, is_nothing, Read, bracketed_at, valued_at, typed_at, to_at, store_at, act_form_at, act_found, act_at, do_at, try_at, let_at, set_at, fetch_at, value_at, validate_at, print_at, added_at, closed_by, closed, ended_or, items_at, many_at, braced_at, branch_at, each_at, form_at, too_nested, read_command, read_txn}
+use Rattle.fx_script_parse.specs.Reader.{start_of, act_start, is_nothing, Read, bracketed_at, valued_at, typed_at, to_at, store_at, act_form_at, act_found, act_at, do_at, try_at, let_at, set_at, fetch_at, value_at, validate_at, print_at, added_at, closed, ended_or, items_at, many_at, braced_at, branch_at, each_at, form_at, too_nested, read_command, read_txn}
 use Rattle.fx_script_parse.proofs.Machine.{Sym, Txn, Command, Commands, Act, Part, Shaped, Name, Fixed, act_stack, found_stack, start_stack, items_stack, txn_stack, table, holds, shape_holds}
 
 abbrev pub go : List Sym → List Token → Result (List Token) Stuck

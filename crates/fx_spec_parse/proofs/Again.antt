@@ -14,7 +14,7 @@ use Rattle.fx_parse.specs.Stuck.{Stuck, Unexpected, ◌>>=◌}
 use Rattle.fx_parse.specs.Grammars.{word, opening, closing, comma, expr_tokens, expr_levels, shape_tokens, shape_levels, is_name, has_names}
 use Rattle.fx_parse.specs.Reader.{ReadExpr, read_expr}
 use Rattle.fx_parse.specs.ShapeReader.{read_shape}
-use Rattle.fx_parse.specs.Signs.{is_sign}
+use Rattle.fx_parse.specs.Signs.{is_sign, closed_by}
 use Rattle.fx_parse.proofs.Machine.{at_most}
 use Rattle.fx_parse.proofs.ReaderPlaces.{Follows}
 use Rattle.fx_parse.proofs.ExprLink.{expr_again, front_low, rest_low, tail_low}
@@ -27,7 +27,7 @@ use Rattle.fx_grammar.specs.TokenLevels.{listed_levels, spec_token_levels, param
 use Rattle.fx_grammar.specs.Grammars.{descriptions}
 use Rattle.fx_spec_parse.specs.declared.start.Start.{Start}
 use Rattle.fx_spec_parse.specs.declared.start.Start.TheVariants as start
-use Rattle.fx_spec_parse.specs.Lists.{Read, closed_by, closed, ended_or, added_at, another_at, others_at, rest_at, listed_at}
+use Rattle.fx_spec_parse.specs.Lists.{Read, closed, ended_or, added_at, another_at, others_at, rest_at, listed_at}
 use Rattle.fx_spec_parse.specs.Reader.{start_of, ReadSpec, focus_at, pair_at, comp_at, opt_at, pred_at, call_at, form_at, is_nothing, read_spec, param_at, def_at, read_def, begins_def, defs_from, defs_at, read_text}
 use Rattle.fx_spec_parse.proofs.Machine.{Text, table, start_word, start_name, focus_tokens, pair_tokens, comp_tokens, behind_def, def_parts}
 use Rattle.fx_spec_parse.proofs.Means.{text_fits}

@@ -10,7 +10,7 @@ use Rattle.fx_parse.specs.Stuck.{Stuck, Unexpected, TooNested, ◌>>=◌}
 use Rattle.fx_parse.specs.Grammars.{is_name}
 use Rattle.fx_parse.specs.Reader.{expect, ReadExpr, read_expr}
 use Rattle.fx_parse.specs.ShapeReader.{read_shape}
-use Rattle.fx_parse.specs.Signs.{is_sign, name_at}
+use Rattle.fx_parse.specs.Signs.{is_sign, name_at, closed_by}
 use Rattle.fx_parse.proofs.Machine.{scan, scan_from, scan_says, Outcome, Empties, Runs}
 use Rattle.fx_parse.proofs.ExprMachine as inner
 use Rattle.fx_parse.proofs.ExprMachine.{Expr}
@@ -23,7 +23,7 @@ use Rattle.fx_parse.proofs.Within.{goes_within}
 use Rattle.fx_spec.specs.Written.{DefTree, TextTree}
 use Rattle.fx_spec_parse.specs.declared.start.Start.{Start}
 use Rattle.fx_spec_parse.specs.declared.start.Start.TheVariants as start
-use Rattle.fx_spec_parse.specs.Lists.{Read, closed_by, closed, ended_or, added_at, another_at, others_at, rest_at, listed_at}
+use Rattle.fx_spec_parse.specs.Lists.{Read, closed, ended_or, added_at, another_at, others_at, rest_at, listed_at}
 use Rattle.fx_spec_parse.specs.Reader.{start_of, ReadSpec, focus_at, pair_at, comp_at, opt_at, pred_at, call_at, form_at, is_nothing, too_nested, read_spec, param_at, def_at, read_def, begins_def, defs_from, defs_at, read_text}
 use Rattle.fx_spec_parse.proofs.Machine.{Kind, Arg, Param, Sym, Text, Def, Spec, First, More, Part, Shaped, Name, Fixed, start_stack, part_top, part_after, top_stack, top_level, first_stack, more_stack, def_stack, text_stack, table, holds, shape_holds, top_expands, top_levels, regroup}
 

@@ -11,7 +11,6 @@ pub mod Tables
 pub mod WholeStores
 pub mod Relisted
 pub mod Overlays
-pub mod FlatStores
 pub mod SpellingLaws
 pub mod Crosses
 pub mod PathLists

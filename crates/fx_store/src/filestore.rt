@@ -6,11 +6,9 @@ ghost use Rattle.std.specs.Ordering.{eq_by_cmp};
 ghost use Rattle.indexmap.specs.IndexMap.{keys, IsUnique};
 ghost use Rattle.fx_store.specs.Names.{path_cmp, has_path};
 ghost use Rattle.fx_store.specs.Whole.{IsWhole, over, over_nodes, set_node};
-ghost use Rattle.fx_store.specs.Flat.{IsFiles, flat};
 ghost use Rattle.fx_store.specs.Filestore.{nodes_of, root_only, place_at, IsTable, HasEachOnce, HavePlaces, KeepsPlaces};
 
 use crate::changes::{Change, Changes};
-use crate::files::Files;
 use crate::names::Names;
 use crate::node::Node;
 use crate::path::Path;
@@ -48,18 +46,6 @@ impl Filestore {
         let root = Some(Node::Dir(Names::new(alloc)));
         let_go(table.insert(Path::root(alloc), root)?);
         Ok(Filestore { table })
-    }
-
-    /// The root with its files.
-    pub fn flat(alloc: Global, files: Files) -> Result<Filestore, NoMemory>
-        ensures nodes { IfOk result (λ s. s.nodes ≡ flat files) }
-        ensures files { IsFiles files }
-    {
-        let changes = files.into_changes(alloc)?;
-        let mut store = Filestore::new(alloc)?;
-        store.reserve(alloc, &changes)?;
-        store.apply(changes);
-        Ok(store)
     }
 
     /// What stands at a path.

@@ -1,6 +1,7 @@
 //! What was read of a filestore.
 ghost use Rattle.std.specs.Prelude.{◌≡◌, ◌<◌, ◌++◌, ◌∷◌, [], None, length, take, slice_get, OnOk, OnErr, option_copied, option_map};
 ghost use Rattle.std.specs.Map.Iter.{deref_pair};
+ghost use Rattle.fx_store.specs.Names.{IsPath};
 ghost use Rattle.fx_view.specs.Reads.{IsReads, read_at, placed, count_before};
 
 use fx_base::NoMemory;
@@ -107,6 +108,34 @@ impl Reads {
     {
         let_go(self.table.insert(path, (node, position))?);
         Ok(())
+    }
+
+    /// Adds a copy of what stands at a path that is new. A refusal changes nothing.
+    pub fn note(
+        &mut self,
+        alloc: Global,
+        path: &Path,
+        node: &Option<Node>,
+        position: u64,
+    ) -> Result<(), NoMemory>
+        requires { read_at self.old path.now ≡ None }
+        ensures ok { OnOk result (self.new ≡ self.old ++ (path.now, (node.now, position)) ∷ []) }
+        ensures path { OnOk result (IsPath path.now) }
+        ensures err { OnErr result (self.new ≡ self.old) }
+    {
+        let path = path.copy(alloc)?;
+        let node = node.clone()?;
+        self.add(alloc, path, node, position)
+    }
+
+    /// The reads, which are then none.
+    pub fn take(&mut self, alloc: Global) -> Reads
+        ensures taken { result ≡ self.old }
+        ensures none { self.new ≡ [] }
+    {
+        let mut taken = Reads::new(alloc);
+        std::mem::swap(self, &mut taken);
+        taken
     }
 }
 

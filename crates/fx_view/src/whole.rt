@@ -56,9 +56,7 @@ impl Reader for Whole<'_> {
     }
 
     fn take_reads(&mut self, alloc: Global) -> Reads {
-        let mut taken = Reads::new(alloc);
-        std::mem::swap(&mut self.reads, &mut taken);
-        taken
+        self.reads.take(alloc)
     }
 
     ghost begins = { λ reader. (refl, reader.of_store) };
