@@ -48,6 +48,9 @@ impl Filestore {
         Ok(Filestore { table })
     }
 
+    /// Lets go of the filestore.
+    pub fn let_go(self) {}
+
     /// What stands at a path.
     pub fn get(&self, path: &Path) -> Option<&Node>
         ensures node { option_copied result ≡ get self.now.nodes path.now }

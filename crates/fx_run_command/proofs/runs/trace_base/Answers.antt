@@ -5,8 +5,8 @@ use Rattle.fx_run_command.proofs.runs.trace_base.Goals as goal
 
 pub run_by-requires : goal.run_by-requires
 run_by-requires c =
-    shells_below c.args.job.now c.deref.result.now (length c.args.base.value.plan) c.requires.job c.requires.count (sym c.in_ok-schedule-in-Scheduled.ensures ∙ sym c.deref.ensures.value)
+    shells_below c.args.job.now c.deref.result.now (length c.args.base.value.plan) c.requires.job c.requires.count (sym c.in-Ok.ensures ∙ sym c.deref.ensures.value)
 
 pub run_watching-requires : goal.run_watching-requires
 run_watching-requires c =
-    shells_below c.args.job.now c.deref-in-Watched.result.now (length c.args.base.value.plan) c.requires.job c.requires.count (sym c.in_ok-schedule-in-Watched.ensures ∙ sym c.deref-in-Watched.ensures.value)
+    shells_below c.args.job.now c.deref-in-Watched.result.now (length c.args.base.value.plan) c.requires.job c.requires.count (sym c.in-Ok.ensures ∙ sym c.deref-in-Watched.ensures.value)
