@@ -4,9 +4,6 @@ use Rattle.fx_words.specs.declared.job.RunJob as code
 use Rattle.fx_words.specs.Job.{shells_of}
 use Rattle.fx_words.specs.JobOf.{asked}
 use Rattle.fx_words.proofs.Below.{shells_below}
-use Rattle.fx_command.specs.declared.status.Status.TheVariants as status
-use Rattle.fx_base.proofs.Errors.{if_err_of}
-use Rattle.fx_journal_command.specs.Stages.{RecordCause}
 use Rattle.fx_journal_command.proofs.Keeping.{unread}
 use Rattle.fx_journal_command.proofs.command.run_on.Goals as goal
 
