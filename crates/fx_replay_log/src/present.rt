@@ -26,6 +26,12 @@ impl<'a> Present<'a> {
             reads: Reads::new(alloc),
         }
     }
+
+    /// Lets go of what was read.
+    pub fn let_go(self) {
+        let Present { board: _, reads } = self;
+        reads.let_go();
+    }
 }
 
 impl Reader for Present<'_> {
@@ -41,8 +47,8 @@ impl Reader for Present<'_> {
             return Ok(node.clone()?);
         }
         let (node, position) = self.board.look(alloc, path)?;
-        self.reads.note(alloc, path, &node, position)?;
-        Ok(node)
+        let kept = self.reads.keep(alloc, path, node, position)?;
+        Ok(kept)
     }
 
     fn reads(&self) -> &Reads {

@@ -37,8 +37,8 @@ impl Reader for Present<'_> {
             return Ok(node.clone()?);
         }
         let (node, position) = self.board.look(alloc, path)?;
-        self.reads.note(alloc, path, &node, position)?;
-        Ok(node)
+        let kept = self.reads.keep(alloc, path, node, position)?;
+        Ok(kept)
     }
 
     fn reads(&self) -> &Reads {

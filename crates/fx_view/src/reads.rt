@@ -1,8 +1,8 @@
 //! What was read of a filestore.
-ghost use Rattle.std.specs.Prelude.{◌≡◌, ◌<◌, ◌++◌, ◌∷◌, [], None, length, take, slice_get, OnOk, OnErr, option_copied, option_map};
+ghost use Rattle.std.specs.Prelude.{◌≡◌, ◌<◌, ◌++◌, ◌∷◌, [], None, length, take, slice_get, IfOk, OnOk, OnErr, option_copied, option_map};
 ghost use Rattle.std.specs.Map.Iter.{deref_pair};
-ghost use Rattle.fx_store.specs.Names.{IsPath};
 ghost use Rattle.fx_view.specs.Reads.{IsReads, read_at, placed, count_before};
+ghost use Rattle.fx_store.specs.Names.{IsPath};
 
 use fx_base::NoMemory;
 use fx_store::{Node, Path};
@@ -110,23 +110,28 @@ impl Reads {
         Ok(())
     }
 
-    /// Adds a copy of what stands at a path that is new. A refusal changes nothing.
-    pub fn note(
+    /// Adds what was read at a path that is new, and hands it back. A refusal lets go of it, and changes nothing.
+    pub fn keep(
         &mut self,
         alloc: Global,
         path: &Path,
-        node: &Option<Node>,
+        node: Option<Node>,
         position: u64,
-    ) -> Result<(), NoMemory>
+    ) -> Result<Option<Node>, NoMemory>
         requires { read_at self.old path.now ≡ None }
-        ensures ok { OnOk result (self.new ≡ self.old ++ (path.now, (node.now, position)) ∷ []) }
+        ensures kept { OnOk result (self.new ≡ self.old ++ (path.now, (node, position)) ∷ []) }
+        ensures node { IfOk result (λ kept. kept ≡ node) }
         ensures path { OnOk result (IsPath path.now) }
         ensures err { OnErr result (self.new ≡ self.old) }
     {
         let path = path.copy(alloc)?;
-        let node = node.clone()?;
-        self.add(alloc, path, node, position)
+        let copy = node.clone()?;
+        self.add(alloc, path, copy, position)?;
+        Ok(node)
     }
+
+    /// Lets go of the reads.
+    pub fn let_go(self) {}
 
     /// The reads, which are then none.
     pub fn take(&mut self, alloc: Global) -> Reads

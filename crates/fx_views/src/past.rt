@@ -80,7 +80,7 @@ impl<'a, R: Wait, G: Gate> Past<'a, R, G> {
         ensures pass { result ≡ self.entry.pass }
     {
         let Past { pass, reads, .. } = self;
-        drop(reads);
+        reads.let_go();
         pass
     }
 
@@ -131,8 +131,8 @@ impl<R: Wait, G: Gate> Reader for Past<'_, R, G> {
             return Ok(node.clone()?);
         }
         let node = self.look(alloc, path)?;
-        self.reads.note(alloc, path, &node, self.position)?;
-        Ok(node)
+        let kept = self.reads.keep(alloc, path, node, self.position)?;
+        Ok(kept)
     }
 
     fn reads(&self) -> &Reads {

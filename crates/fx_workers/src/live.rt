@@ -47,7 +47,7 @@ impl<D: Desk> DeskReader<D> {
         ensures { result ≡ self.desk }
     {
         let DeskReader { desk, reads, .. } = self;
-        drop(reads);
+        reads.let_go();
         desk
     }
 
@@ -123,8 +123,8 @@ impl<D: Desk> Reader for DeskReader<D> {
             return Ok(node.clone()?);
         }
         let (node, position) = self.look(alloc, path)?;
-        self.reads.note(alloc, path, &node, position)?;
-        Ok(node)
+        let kept = self.reads.keep(alloc, path, node, position)?;
+        Ok(kept)
     }
 
     fn reads(&self) -> &Reads {
