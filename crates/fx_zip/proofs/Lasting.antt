@@ -49,7 +49,7 @@ same_within : (k n : ℕ) (reads : ReadList) (own now : Known) → k ≤ n → S
 same_within k n reads own now few same p some =
     let more = more_within k n reads few in
     let grows : Grows (known_of (take k reads)) (known_of (take n reads)) = subst (λ rs. Grows (known_of (take k reads)) (known_of rs)) (sym more.1) (Grows-reads (take k reads) more.0) in
-    same p (still_some (known_of (take k reads) p) (known_of (take n reads) p) (grows.keeps p) some)
+    same p (still_some (known_of (take k reads) p) (known_of (take n reads) p) (λ m is. ap is_some (grows.keeps p m is)) some)
 
 -- ---- frames
 
