@@ -40,10 +40,10 @@ content_passes : (bytes : List ℕ) → length bytes ≤ 1048576 → All (λ b. 
 content_passes bytes short all =
     and_from (nat_le (length bytes) 1048576) (list_all (λ b. nat_lt b 256) bytes) (le-leb (length bytes) 1048576 short) (each_passes (λ b. b < 256) (λ b. nat_lt b 256) (λ b l. lt-ltb b 256 l) bytes all)
 
-file_stored : (bytes : List ℕ) → IsContent bytes → stored_node SpecTree.file (Tree.str bytes) ≡ Ok (File bytes false)
+pub file_stored : (bytes : List ℕ) → IsContent bytes → stored_node SpecTree.file (Tree.str bytes) ≡ Ok (File bytes false)
 file_stored bytes ok = ap (λ b. cond b (Ok (File bytes false)) (Err Refusal.WrongForm)) (content_passes bytes ok.short ok.bytes)
 
-dir_stored : (names : List (List ℕ)) → IsNameSet names → stored_node SpecTree.dir (Tree.names names) ≡ Ok (Dir names)
+pub dir_stored : (names : List (List ℕ)) → IsNameSet names → stored_node SpecTree.dir (Tree.names names) ≡ Ok (Dir names)
 dir_stored names ok =
     let set : set_of names ≡ names = same_sets (set_of names) names (ascending_set names) ok.ascending (λ z. has_set z names) in
     ap (λ b. cond b (names_node names) (Err Refusal.WrongForm)) (ap (λ s. pointwise (pointwise nat_eq) s names) set ∙ same_texts names)

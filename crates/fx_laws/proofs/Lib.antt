@@ -35,3 +35,5 @@ pub mod Scoped
 pub mod Moved
 pub mod Stepping
 pub mod Neighbours
+pub mod Planned
+pub mod Wanting

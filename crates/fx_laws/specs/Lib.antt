@@ -21,3 +21,4 @@ pub mod Standing
 pub mod Created
 pub mod Overwritten
 pub mod Tried
+pub mod Wanting
