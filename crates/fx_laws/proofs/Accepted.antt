@@ -31,12 +31,12 @@ each_passes : {A : Type 0} (P : A → Type 0) (test : A → Bool) → ((x : A) �
 each_passes P test h [] all = refl
 each_passes P test h (x ∷ xs) all = and_from (test x) (list_all test xs) (h x (All-head P x xs all)) (each_passes P test h xs (All-tail P x xs all))
 
-same_texts : (xs : List (List ℕ)) → pointwise (pointwise nat_eq) xs xs ≡ true
+pub same_texts : (xs : List (List ℕ)) → pointwise (pointwise nat_eq) xs xs ≡ true
 same_texts [] = refl
 same_texts (x ∷ xs) = and_from (pointwise nat_eq x x) (pointwise (pointwise nat_eq) xs xs) (same_text x) (same_texts xs)
 
 -- content within its limits can be stored
-content_passes : (bytes : List ℕ) → length bytes ≤ 1048576 → All (λ b. b < 256) bytes → is_content bytes ≡ true
+pub content_passes : (bytes : List ℕ) → length bytes ≤ 1048576 → All (λ b. b < 256) bytes → is_content bytes ≡ true
 content_passes bytes short all =
     and_from (nat_le (length bytes) 1048576) (list_all (λ b. nat_lt b 256) bytes) (le-leb (length bytes) 1048576 short) (each_passes (λ b. b < 256) (λ b. nat_lt b 256) (λ b l. lt-ltb b 256 l) bytes all)
 
@@ -49,7 +49,7 @@ dir_stored names ok =
     ap (λ b. cond b (names_node names) (Err Refusal.WrongForm)) (ap (λ s. pointwise (pointwise nat_eq) s names) set ∙ same_texts names)
     ∙ ap (λ b. cond b (Ok (Dir names)) (Err Refusal.BadName)) (each_passes IsName is_name (λ n h. h) names ok.names)
 
-in_first : (a b c : Bool) → (a && b && c) ≡ true → b ≡ true
+pub in_first : (a b c : Bool) → (a && b && c) ≡ true → b ≡ true
 in_first true true c e = refl
 in_first true false c e = e
 in_first false b c e = absurd (true≢false (sym e))

@@ -37,3 +37,4 @@ pub mod Stepping
 pub mod Neighbours
 pub mod Planned
 pub mod Wanting
+pub mod Storable

@@ -22,3 +22,4 @@ pub mod Created
 pub mod Overwritten
 pub mod Tried
 pub mod Wanting
+pub mod Storable
