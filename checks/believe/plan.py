@@ -397,6 +397,7 @@ LAWS_AT = {
     "fx_laws::filestores::directories_list_what_stands": "Filestores",
     "fx_laws::moves::neighbours_come_back": "Moves and fetches",
     "fx_laws::moves::steps_reach_each_element": "Moves and fetches",
+    "fx_laws::values::what_is_evaluated_or_fetched_can_be_stored": "Edits",
     "fx_ground_laws::words::a_job_tells_its_words": "The words",
     "fx_laws_above::twice::what_is_said_twice_is_the_same": "The folder of a filestore",
     "fx_laws_above::twice::numerals_are_the_limits": "The folder of a filestore",

@@ -31,25 +31,25 @@ each_passes : {A : Type 0} (P : A → Type 0) (test : A → Bool) → ((x : A) �
 each_passes P test h [] all = refl
 each_passes P test h (x ∷ xs) all = and_from (test x) (list_all test xs) (h x (All-head P x xs all)) (each_passes P test h xs (All-tail P x xs all))
 
-same_texts : (xs : List (List ℕ)) → pointwise (pointwise nat_eq) xs xs ≡ true
+pub same_texts : (xs : List (List ℕ)) → pointwise (pointwise nat_eq) xs xs ≡ true
 same_texts [] = refl
 same_texts (x ∷ xs) = and_from (pointwise nat_eq x x) (pointwise (pointwise nat_eq) xs xs) (bytes_itself x) (same_texts xs)
 
 -- content within its limits can be stored
-content_passes : (bytes : List ℕ) → length bytes ≤ 1048576 → All (λ b. b < 256) bytes → is_content bytes ≡ true
+pub content_passes : (bytes : List ℕ) → length bytes ≤ 1048576 → All (λ b. b < 256) bytes → is_content bytes ≡ true
 content_passes bytes short all =
     and_from (nat_le (length bytes) 1048576) (list_all (λ b. nat_lt b 256) bytes) (le-leb (length bytes) 1048576 short) (each_passes (λ b. b < 256) (λ b. nat_lt b 256) (λ b l. lt-ltb b 256 l) bytes all)
 
-file_stored : (bytes : List ℕ) → IsContent bytes → stored_node SpecTree.file (Tree.str bytes) ≡ Ok (File bytes false)
+pub file_stored : (bytes : List ℕ) → IsContent bytes → stored_node SpecTree.file (Tree.str bytes) ≡ Ok (File bytes false)
 file_stored bytes ok = ap (λ b. cond b (Ok (File bytes false)) (Err Refusal.WrongForm)) (content_passes bytes ok.short ok.bytes)
 
-dir_stored : (names : List (List ℕ)) → IsNameSet names → stored_node SpecTree.dir (Tree.names names) ≡ Ok (Dir names)
+pub dir_stored : (names : List (List ℕ)) → IsNameSet names → stored_node SpecTree.dir (Tree.names names) ≡ Ok (Dir names)
 dir_stored names ok =
     let set : set_of names ≡ names = same_sets (set_of names) names (ascending_set names) ok.ascending (λ z. has_set z names) in
     ap (λ b. cond b (names_node names) (Err Refusal.WrongForm)) (ap (λ s. pointwise (pointwise nat_eq) s names) set ∙ same_texts names)
     ∙ ap (λ b. cond b (Ok (Dir names)) (Err Refusal.BadName)) (each_passes IsName is_name (λ n h. h) names ok.names)
 
-in_first : (a b c : Bool) → (a && b && c) ≡ true → b ≡ true
+pub in_first : (a b c : Bool) → (a && b && c) ≡ true → b ≡ true
 in_first true true c e = refl
 in_first true false c e = e
 in_first false b c e = absurd (true≢false (sym e))

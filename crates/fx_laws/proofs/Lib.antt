@@ -35,3 +35,6 @@ pub mod Scoped
 pub mod Moved
 pub mod Stepping
 pub mod Neighbours
+pub mod Planned
+pub mod Wanting
+pub mod Storable

@@ -42,7 +42,7 @@ of_each P (turn ∷ o) each =
     (All-head (P turn.0) turn.1 (numbers_of turn.0 o) (subst (λ b. All (P turn.0) (cons_option (cond b (Some turn.1) None) (numbers_of turn.0 o))) (eq-eqb turn.0 turn.0 refl) (each turn.0)))
     (of_each P o (λ shell. All-rest (P shell) (number_in shell turn) (numbers_of shell o) (each shell)))
 
-planned : (base : BaseTree) (o : List Turn) → IsLegal base o → All (λ (t : Turn). t.1 < count_of base.plan t.0) o
+pub planned : (base : BaseTree) (o : List Turn) → IsLegal base o → All (λ (t : Turn). t.1 < count_of base.plan t.0) o
 planned base o legal =
     of_each (λ shell txn. txn < count_of base.plan shell) o
     (λ shell. subst (All (λ txn. txn < count_of base.plan shell)) (sym (legal shell).in_turn) (below_count (length (numbers_of shell o)) (count_of base.plan shell) (legal shell).planned))

@@ -152,7 +152,7 @@ result-asking S (Answer a) next = refl
 result-asking S (Look p rule) next = result-asking S (rule (S p)) next
 result-asking S (Tick rule) next = result-asking S rule next
 
-after-then : {A B : Type 0} (S : Store) (t : Task A) (next : A → Task B) → after S (t >=> next) ≡ after (after S t) (next (result S t))
+pub after-then : {A B : Type 0} (S : Store) (t : Task A) (next : A → Task B) → after S (t >=> next) ≡ after (after S t) (next (result S t))
 after-then S (Ends a) next = refl
 after-then S (Looks p t) next = after-then S (t (S p)) next
 after-then S (Sets cs t) next = after-then (over S cs) t next
@@ -181,7 +181,7 @@ stores_same S i s (Err f) h p = refl
 placed_answer : {A : Type 0} (S : Store) (root : SpecTree) (a : Address) (at : PlaceTree) (next : PlaceTree → Ask (Answered A)) → answer S (place root a) ≡ Some at → answer S (at_place root a next) ≡ answer S (next at)
 placed_answer S root a at next e = answer-bind S (place root a) (λ at. unrefused next (needed Refusal.NoPlace at)) ∙ ap (λ o. answer S (unrefused next (needed Refusal.NoPlace o))) e
 
-store_effect : (S : Store) (root : SpecTree) (a : Address) (vars : Bindings) (e : ExprTree) (v : Tree) (at : PlaceTree) → answer S (place root a) ≡ Some at → eval_of vars e ≡ Ok v → answer S (effect root a vars (ActTree.store e)) ≡ edits (answer S (store_at v at))
+pub store_effect : (S : Store) (root : SpecTree) (a : Address) (vars : Bindings) (e : ExprTree) (v : Tree) (at : PlaceTree) → answer S (place root a) ≡ Some at → eval_of vars e ≡ Ok v → answer S (effect root a vars (ActTree.store e)) ≡ edits (answer S (store_at v at))
 store_effect S root a vars e v at there is =
     answer-bind S (unrefused (λ v. at_place root a (store_at v)) (evaluated (eval_of vars e))) (λ changes. Answer (edits changes))
     ∙ ap (λ o. edits (answer S (unrefused (λ v. at_place root a (store_at v)) (evaluated o)))) is

@@ -21,3 +21,5 @@ pub mod Standing
 pub mod Created
 pub mod Overwritten
 pub mod Tried
+pub mod Wanting
+pub mod Storable

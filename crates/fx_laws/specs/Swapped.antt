@@ -1,10 +1,10 @@
 -- Which orders are as good as others.
 use Rattle.std.specs.Prelude.{◌≡◌, ℕ, ◌+◌, List, ◌∷◌, ◌++◌, length, map, Some}
 use Rattle.std.specs.FinMap.{get}
-use Rattle.std.specs.List.{sum_by}
+use Rattle.std.specs.List.{All, sum_by}
 use Rattle.fx_spec.specs.CommandTree.{CommandTree}
 use Rattle.fx_spec.specs.Plans.{Turn, txn_of, count_of}
-use Rattle.fx_spec.specs.Order.{BaseTree, IsComplete, state, first_numbers}
+use Rattle.fx_spec.specs.Order.{BaseTree, IsLegal, IsComplete, state, first_numbers}
 use Rattle.fx_laws.specs.Apart.{AreApart}
 
 -- two transactions that come next, one after the other, and of which neither leaves another node at what the other consults
@@ -31,3 +31,10 @@ OneScriptOneOrder = (base : BaseTree) (o : List Turn) → length base.plan ≡ 1
 -- a complete order has as many entries as the scripts have transactions together
 abbrev pub CompleteOrdersAreLong : Type 0
 CompleteOrdersAreLong = (base : BaseTree) (o : List Turn) → IsComplete base o → length o ≡ sum_by length base.plan
+
+-- each entry of a legal order is of a transaction of the plan
+abbrev pub HasTransaction : BaseTree → Turn → Type 0
+HasTransaction base turn = (t : List CommandTree) × (txn_of base.plan turn ≡ Some t)
+
+abbrev pub EntriesAreOfThePlan : Type 0
+EntriesAreOfThePlan = (base : BaseTree) (o : List Turn) → IsLegal base o → All (HasTransaction base) o

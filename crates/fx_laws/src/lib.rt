@@ -9,6 +9,7 @@ pub mod limits;
 pub mod moves;
 pub mod orders;
 pub mod pairs;
+pub mod paths;
 pub mod reports;
 pub mod retries;
 pub mod scripts;

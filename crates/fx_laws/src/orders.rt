@@ -1,5 +1,5 @@
 //! Laws of orders: which of them lead to the same states, and what a shell that settles has seen.
-ghost use Rattle.fx_laws.specs.Swapped.{NeighboursMaySwap, OneScriptOneOrder, CompleteOrdersAreLong};
+ghost use Rattle.fx_laws.specs.Swapped.{NeighboursMaySwap, OneScriptOneOrder, EntriesAreOfThePlan, CompleteOrdersAreLong};
 ghost use Rattle.fx_laws.specs.Undone.{UndoneMayBeLeftOut};
 ghost use Rattle.fx_laws.specs.Serial.{SettledSawTheState};
 
@@ -17,6 +17,11 @@ pub fn an_undone_transaction_may_be_left_out()
 /// Of one script there is one complete order.
 pub fn one_script_has_one_order()
     ensures { OneScriptOneOrder }
+{}
+
+/// Each entry of a legal order is of a transaction of the scripts. So none stands for no transaction.
+pub fn each_entry_has_a_transaction()
+    ensures { EntriesAreOfThePlan }
 {}
 
 /// A complete order has as many entries as the scripts have transactions together. So every run of the same scripts commits

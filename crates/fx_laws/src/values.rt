@@ -1,5 +1,6 @@
 //! Laws of values: which descriptions have one, and which values a checked transaction meets.
 ghost use Rattle.fx_laws.specs.Valid.{ValidIsValued};
+ghost use Rattle.fx_laws.specs.Storable.{ValuesAreStorable};
 ghost use Rattle.fx_laws.specs.Scoped.{CommandsKeepShapes, BlocksKeepShapes};
 
 /// `validate` tells true exactly where `value` of the description's shape has an answer.
@@ -12,4 +13,10 @@ pub fn what_is_valid_has_a_value()
 pub fn a_checked_transaction_keeps_its_shapes()
     ensures command { CommandsKeepShapes }
     ensures block { BlocksKeepShapes }
+{}
+
+/// Over texts, integers and sets that can be stored, an expression gives such a value. So does a fetch from a whole filestore.
+/// Each such value can be stored, if the form takes its shape.
+pub fn what_is_evaluated_or_fetched_can_be_stored()
+    ensures { ValuesAreStorable }
 {}

@@ -2,3 +2,14 @@ pub mod Begun
 pub mod Viewed
 pub mod Recovered
 pub mod Agreeing
+pub mod Sixteen
+pub mod Reading
+pub mod Adding
+pub mod Walks
+pub mod Steps
+pub mod Tags
+pub mod Counting
+pub mod States
+pub mod Generated
+pub mod Totals
+pub mod Above

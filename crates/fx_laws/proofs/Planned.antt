@@ -1,0 +1,13 @@
+-- Each entry of a legal order has its transaction.
+use Rattle.std.proofs.Common.{ℕ, ◌<◌, List, length, get_or, [], Some}
+use Rattle.std.specs.List.{All}
+use Rattle.std.proofs.lemmas.List.Elements.{All-weaker}
+use Rattle.std.proofs.lemmas.Option.{slice_get-get_or}
+use Rattle.fx_spec.specs.Order.{BaseTree}
+use Rattle.fx_spec.specs.Plans.{Turn, script_of, count_of}
+use Rattle.fx_laws.specs.Swapped.{HasTransaction, EntriesAreOfThePlan}
+use Rattle.fx_laws.proofs.Spelled.{planned}
+
+pub entries_are_of_the_plan : EntriesAreOfThePlan
+entries_are_of_the_plan base o legal =
+    All-weaker (λ (t : Turn). t.1 < count_of base.plan t.0) (HasTransaction base) (λ t h. (get_or (script_of base.plan t.0) t.1 [], slice_get-get_or (script_of base.plan t.0) t.1 [] h)) o (planned base o legal)

@@ -1,0 +1,40 @@
+-- What `large` tells of a number, in words of the number alone.
+use Rattle.std.specs.Prelude.{◌≡◌, ℕ, ◌+◌, pos, List, ◌++◌, codes, length}
+use Rattle.std.specs.Fmt.{decimal}
+use Rattle.fx_store.specs.Whole.{Nodes}
+use Rattle.fx_spec.specs.Order.{BaseTree, IsComplete, state}
+use Rattle.fx_spec.specs.Plans.{Turn}
+use Rattle.fx_gen.specs.Scripts.{counting_of, logging_of}
+use Rattle.fx_large.specs.Base.{generated_base}
+use Rattle.fx_large.specs.Summary.{done_of, counted_in, logged_in, nodes_in, summary}
+
+-- how many of the 1600 transactions of the eight scripts count, and how many log
+abbrev pub counts : ℕ → ℕ
+counts number = counting_of number 1600
+
+abbrev pub logs : ℕ → ℕ
+logs number = logging_of number 1600
+
+-- the five lines: all transactions are done, each that counts has added one to a count and each that logs a name to a log, and
+-- the filestore has its first 195 nodes and one for each of those names
+abbrev pub five_lines : ℕ → List ℕ
+five_lines number =
+    codes "transactions 1600\ndone 1600\ncounted " ++ decimal (counts number) ++ codes "\nlogged " ++ decimal (logs number) ++ codes "\nnodes " ++ decimal (195 + logs number) ++ codes "\n"
+
+-- the filestore after all transactions of an order
+abbrev pub last : ℕ → List Turn → Nodes
+last number o = state (generated_base number) o (length o)
+
+-- an order is summed up to these numbers
+pub record SumsUp (number : ℕ) (o : List Turn) : Type 0 where
+  pub transactions : length o ≡ 1600
+  pub done : done_of (generated_base number) o ≡ 1600
+  pub counted : counted_in (last number o) ≡ pos (counts number)
+  pub logged : logged_in (last number o) ≡ logs number
+  pub nodes : nodes_in (last number o) ≡ 195 + logs number
+  pub printed : summary (generated_base number) o ≡ five_lines number
+
+-- so is each complete order, of whatever number; and each transaction counts or logs
+pub record LargeTellsTheSame : Type 0 where
+  pub each : (number : ℕ) (o : List Turn) → IsComplete (generated_base number) o → SumsUp number o
+  pub together : (number : ℕ) → counts number + logs number ≡ 1600
