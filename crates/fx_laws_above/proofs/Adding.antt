@@ -12,7 +12,7 @@ use Rattle.fx_store.specs.Resolve.{◌/ₚ◌}
 use Rattle.fx_store.specs.Rule.{Ask, Answer, Look, answer, ◌>>=◌}
 use Rattle.fx_store.specs.Whole.{Store}
 use Rattle.fx_store.proofs.Asks.{answer-bind}
-use Rattle.fx_store.proofs.Relisted.{same_name}
+use Rattle.fx_base.proofs.Names.{name_itself}
 use Rattle.fx_text.specs.declared.set.TheConstants.{UNION_LIMIT}
 use Rattle.fx_text.specs.Sets.{has_text, set_of, with_text, weight}
 use Rattle.fx_text.proofs.Merging.{set_alike, has_append}
@@ -42,7 +42,7 @@ module _ (S : Store) (q old : Path) (t : List ℕ) (set : IsNameSet old) (fresh 
   listed m h = has-with t old set m ∙ or_right (eq_by_cmp name_cmp m t) (has old m) h
 
   own_listed : has new t ≡ true
-  own_listed = has-with t old set t ∙ or_left (eq_by_cmp name_cmp t t) (has old t) (same_name t)
+  own_listed = has-with t old set t ∙ or_left (eq_by_cmp name_cmp t t) (has old t) (name_itself t)
 
   stays : (m : List ℕ) → has old m ≡ true → answer S (entry q old new m) ≡ []
   stays m h = rw (listed m h, h) refl
@@ -54,7 +54,7 @@ module _ (S : Store) (q old : Path) (t : List ℕ) (set : IsNameSet old) (fresh 
   none [] within = refl
   none (x ∷ xs) within =
       entries_more S (entry q old new) x xs
-      ∙ ap (λ l. l ++ answer S (entries (entry q old new) xs)) (stays x (within x (or_left (eq_by_cmp name_cmp x x) (has xs x) (same_name x))))
+      ∙ ap (λ l. l ++ answer S (entries (entry q old new) xs)) (stays x (within x (or_left (eq_by_cmp name_cmp x x) (has xs x) (name_itself x))))
       ∙ none xs (λ m h. within m (or_right (eq_by_cmp name_cmp m x) (has xs m) h))
 
   one : (xs : Path) → ((m : List ℕ) → has xs m ≡ true → has old m ≡ true) → answer S (entries (entry q old new) (with_text t xs)) ≡ file ∷ []
@@ -66,7 +66,7 @@ module _ (S : Store) (q old : Path) (t : List ℕ) (set : IsNameSet old) (fresh 
       by Equal e rest = absurd (true≢false (sym (within t (or_left (eq_by_cmp name_cmp t x) (has xs t) (ap is_eq e))) ∙ fresh))
       by Greater e rest =
           entries_more S (entry q old new) x (with_text t xs)
-          ∙ ap (λ l. l ++ answer S (entries (entry q old new) (with_text t xs))) (stays x (within x (or_left (eq_by_cmp name_cmp x x) (has xs x) (same_name x))))
+          ∙ ap (λ l. l ++ answer S (entries (entry q old new) (with_text t xs))) (stays x (within x (or_left (eq_by_cmp name_cmp x x) (has xs x) (name_itself x))))
           ∙ rest
 
   twice : set_of (old ++ old) ≡ old

@@ -15,7 +15,7 @@ use Rattle.fx_store.specs.Names.{path_cmp, name_cmp, IsNameSet, has}
 use Rattle.fx_store.specs.Orders.{path_total, path_same}
 use Rattle.fx_store.specs.Resolve.{◌/ₚ◌}
 use Rattle.fx_store.specs.Whole.{Nodes, IsWhole, over, over_nodes, update, lists}
-use Rattle.fx_store.proofs.Relisted.{eq_names}
+use Rattle.fx_base.proofs.Names.{name_is}
 use Rattle.fx_text.specs.declared.set.TheConstants.{UNION_LIMIT}
 use Rattle.fx_text.specs.Sets.{set_of, with_text, weight, IsWeighed}
 use Rattle.fx_text.proofs.Order.{ascending_one}
@@ -317,7 +317,7 @@ module _ (number k j : ℕ) (done : List Turn) (nodes : Nodes) (s : Stands numbe
     tags' q l n = by (nat_eq q p)
       where
         new_one : (b : Bool) → eq_by_cmp name_cmp n t ≡ b → (b || has old n) ≡ true → IsTagOf more n
-        new_one true e h = subst (IsTagOf more) (sym (eq_names n t e)) own_tag
+        new_one true e h = subst (IsTagOf more) (sym (name_is n t e)) own_tag
         new_one false e h = still_tag n (s.tags p inside n h)
 
         by : (b : Bool) → has (cond b new (s.logs q)) n ≡ true → IsTagOf more n
