@@ -20,7 +20,7 @@ use Rattle.fx_store.specs.Names.{is_name, IsName, IsContent, is_component, compo
 use Rattle.fx_store.specs.Rule.{Answer, answer, ◌>>=◌}
 use Rattle.fx_store.specs.Whole.{Store, IsWhole, IsNode}
 use Rattle.fx_store.proofs.Asks.{answer-bind}
-use Rattle.fx_base.proofs.TextBytes.{utf8_bytes}
+use Rattle.fx_store.proofs.PathLists.{name_bytes}
 use Rattle.fx_text.specs.declared.set.TheConstants.{UNION_LIMIT}
 use Rattle.fx_text.specs.declared.text.TheConstants.{TEXT_LIMIT}
 use Rattle.fx_text.specs.Sets.{IsAscending, has_text, with_text, set_of, without, weight}
@@ -366,7 +366,7 @@ name_within : (n : List ℕ) → IsName n → IsContent n
 unfolding is_name
 name_within n h = record {
   short = let l : length n ≤ 255 = leb-true (length n) 255 (and_parts _ _ (and_parts _ _ (and_parts _ _ (and_parts _ _ (and_parts _ _ h).0).0).0).0).1 in omega (arith, l);
-  bytes = utf8_bytes n h;
+  bytes = name_bytes n h;
 }
 
 evaluated_within : (o : Outcome) (v : Tree) → Gives o → evaluated o ≡ Ok v → IsWithin v
