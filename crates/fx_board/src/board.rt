@@ -79,6 +79,20 @@ impl Board {
         })
     }
 
+    /// Lets go of the log.
+    pub fn let_go(self) {
+        let Board {
+            base,
+            entries,
+            own,
+            index,
+        } = self;
+        Base::let_go(base);
+        drop(entries);
+        drop(own);
+        drop(index);
+    }
+
     /// The base: the description, the scripts and the loaded filestore.
     pub fn base(&self) -> &Base
         ensures base { base_tree result.now ≡ self.now.base }

@@ -11,8 +11,8 @@ below job shells count is each same = subst (λ n. All (λ k. k < n) shells) (sy
 
 pub run_by-requires : goal.run_by-requires
 run_by-requires c =
-    below c.args.job.now c.deref.result.now (length c.args.base.value.plan) c.requires.job c.requires.count (sym c.in_ok-schedule-in-Scheduled.ensures ∙ sym c.deref.ensures.value)
+    below c.args.job.now c.deref.result.now (length c.args.base.value.plan) c.requires.job c.requires.count (sym c.in-Ok.ensures ∙ sym c.deref.ensures.value)
 
 pub run_watching-requires : goal.run_watching-requires
 run_watching-requires c =
-    below c.args.job.now c.deref-in-Watched.result.now (length c.args.base.value.plan) c.requires.job c.requires.count (sym c.in_ok-schedule-in-Watched.ensures ∙ sym c.deref-in-Watched.ensures.value)
+    below c.args.job.now c.deref-in-Watched.result.now (length c.args.base.value.plan) c.requires.job c.requires.count (sym c.in-Ok.ensures ∙ sym c.deref-in-Watched.ensures.value)
