@@ -63,7 +63,8 @@ pub(crate) fn run_bases<R: Threads + Wait + Sync, G: Gate + Sync>(
     ensures { IfOk result (λ a. IsViewsRunFrom (base_tree bases.scripts.value)
         (script_of bases.views.value.plan 0) (last_of a) a.output) }
 {
-    let (log, retries, viewed) = run_views(rt, alloc, bases.scripts, bases.views, gate)?;
+    let Bases { scripts, views } = bases;
+    let (log, retries, viewed) = run_views(rt, alloc, scripts, views, gate)?;
     let output = printed(alloc, log.board(), &retries, &viewed);
     fx_machine::let_go(retries);
     fx_report::let_go(viewed);
