@@ -9,7 +9,7 @@ ghost use Rattle.fx_inputs.specs.Causes.{ScriptCause, UnreadCause};
 ghost use Rattle.fx_inputs.specs.Reads.{AsksAtAll};
 ghost use Rattle.fx_inputs.specs.Unread.{unread_at};
 
-use fx_base::{NoMemory, SOURCE_LIMIT};
+use fx_base::SOURCE_LIMIT;
 use fx_command::{Status, TextFault, read_text};
 use fx_outside::{Host, HostFault, HostText};
 use fx_scripts::{ScriptFault, script_of};
@@ -129,7 +129,10 @@ fn add_scripts<H: Host>(
             Ok(script) => script,
             Err(unread) => return Err(unread.at(inputs.place(i))),
         };
-        plan.add(alloc, script)?;
+        match plan.add(alloc, script) {
+            Ok(()) => {}
+            Err(_) => return Err(Unread::NoMemory),
+        }
         before += plan.count(i);
     }
     Ok(())
@@ -161,17 +164,6 @@ pub(crate) fn read_plan<H: Host>(
             plan.let_go();
             Err(unread)
         }
-    }
-}
-
-impl From<NoMemory> for Unread {
-    ghost use Rattle.std.specs.Prelude.{◌≡◌};
-    ghost use Rattle.fx_inputs.specs.declared.scripts.Unread.TheVariants.{NoMemory};
-
-    ghost from_gives = { λ _ unread. unread ≡ NoMemory };
-
-    fn from(_: fx_base::NoMemory) -> Unread {
-        Unread::NoMemory
     }
 }
 

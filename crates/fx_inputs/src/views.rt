@@ -169,9 +169,9 @@ pub fn read_bases<H: Host>(alloc: Global, job: &ViewsJob, host: &mut H) -> Resul
     };
     match beside(alloc, &scripts, &text, plan) {
         Ok(views) => Ok(Bases { scripts, views }),
-        Err(fault) => {
+        Err(_) => {
             Base::let_go(scripts);
-            Err(Status::from(fault))
+            Err(Status::NoMemory)
         }
     }
 }

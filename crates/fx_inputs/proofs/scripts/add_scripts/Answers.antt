@@ -25,7 +25,7 @@ pub scripts-preserved : goal.scripts-preserved
 scripts-preserved g c =
     let here : slice_get (asked_inputs c.args.inputs.now).scripts c.scripts.i ≡ Some c.in-Some.path.now = search rules in
     reads_on (g.H.Host.view c.args.host.now) (g.H.Host.view c.scripts.host) (g.H.Host.view c.read_script_at.new.host) (asked_inputs c.args.inputs.now).scripts c.scripts.plan c.add.new.self c.scripts.i c.scripts.before c.count-before.result c.in-Some.path.now c.in-Ok.script
-    c.scripts.invariant here c.in_ok-add.ensures.ok c.count-before.ensures c.in-Ok.ensures.shaped c.in-Ok.ensures.same c.in-Ok.ensures.fit c.in-Ok.ensures.read c.in-Ok.ensures.few (omega (arith, c.scripts.invariant.count, c.scripts-i-end.ensures.few, c.scripts-test.true))
+    c.scripts.invariant here c.in-Ok-add.ensures.ok c.count-before.ensures c.in-Ok.ensures.shaped c.in-Ok.ensures.same c.in-Ok.ensures.fit c.in-Ok.ensures.read c.in-Ok.ensures.few (omega (arith, c.scripts.invariant.count, c.scripts-i-end.ensures.few, c.scripts-test.true))
 
 pub returns-clause-read : goal.returns-clause-read
 returns-clause-read g c =
@@ -35,8 +35,8 @@ pub returns-clause-only : goal.returns-clause-only
 returns-clause-only g c =
     ends_alone (g.H.Host.view c.args.host.now).told (asked_inputs c.args.inputs.now) c.scripts.plan c.scripts.i c.scripts.before (omega (arith, c.scripts-test.false, c.scripts.auto.i-end, c.scripts-i-end.ensures.count)) c.scripts.invariant.front
 
-pub returns-in_err-add-clause-fit : goal.returns-in_err-add-clause-fit
-returns-in_err-add-clause-fit g c =
+pub returns-in-Err-add-clause-fit : goal.returns-in-Err-add-clause-fit
+returns-in-Err-add-clause-fit g c =
     let here : slice_get (asked_inputs c.args.inputs.now).scripts c.scripts.i ≡ Some c.in-Some.path.now = search rules in
     fit_stop (g.H.Host.view c.args.host.now) (g.H.Host.view c.scripts.host) (g.H.Host.view c.read_script_at.new.host) (asked_inputs c.args.inputs.now).scripts c.scripts.plan c.scripts.i c.scripts.before c.in-Some.path.now c.scripts.invariant here c.in-Ok.ensures.fit
 

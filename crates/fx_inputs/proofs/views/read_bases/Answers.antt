@@ -63,8 +63,16 @@ returns-in-Err-read_rest-clause-fit g c =
     let d = g.H.Host.view c.read_views.new.host in
     asks_both Lets a b (g.H.Host.view c.read_rest.new.host) c.in_ok-description.ensures.fit (asks_both Lets b d (g.H.Host.view c.read_rest.new.host) c.in-Ok.ensures.fit (λ lets. c.in-Err-read_rest.ensures.fit lets.inputs))
 
-pub returns-clause-fit : goal.returns-clause-fit
-returns-clause-fit g c =
+pub returns-in-Ok-beside-clause-fit : goal.returns-in-Ok-beside-clause-fit
+returns-in-Ok-beside-clause-fit g c =
+    let Lets : Guard → Type 0 = λ guard. LetsViews guard.may_read (asked_views c.args.job.now) in
+    let a = g.H.Host.view c.args.host.now in
+    let b = g.H.Host.view c.read_description.new.host in
+    let d = g.H.Host.view c.read_views.new.host in
+    asks_both Lets a b (g.H.Host.view c.read_rest.new.host) c.in_ok-description.ensures.fit (asks_both Lets b d (g.H.Host.view c.read_rest.new.host) c.in-Ok.ensures.fit (λ lets. c.in-Ok-read_rest.ensures.fit lets.inputs))
+
+pub returns-in-Err-beside-clause-fit : goal.returns-in-Err-beside-clause-fit
+returns-in-Err-beside-clause-fit g c =
     let Lets : Guard → Type 0 = λ guard. LetsViews guard.may_read (asked_views c.args.job.now) in
     let a = g.H.Host.view c.args.host.now in
     let b = g.H.Host.view c.read_description.new.host in

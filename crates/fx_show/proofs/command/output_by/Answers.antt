@@ -4,4 +4,4 @@ use Rattle.fx_show.proofs.command.output_by.Goals as goal
 
 pub returns-clause-shows : goal.returns-clause-shows
 returns-clause-shows g c =
-    showing (asked_show c.args.job.now) c.args.spec.now c.in_ok-store.store.nodes c.in_ok-output.output (g.H.Host.view c.args.host.now) c.requires c.in_ok-store.ensures.loaded c.in_ok-output.ensures
+    showing (asked_show c.args.job.now) c.args.spec.now c.in_ok-store.store.nodes c.in_ok-output.field-0 (g.H.Host.view c.args.host.now) c.requires c.in_ok-store.ensures.loaded c.in_ok-output.ensures
