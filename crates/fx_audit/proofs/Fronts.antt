@@ -29,8 +29,8 @@ next_told base es i e legal is =
 pub first_illegal_at : (base : BaseTree) (es : List PrintedEntry) (i : ℕ) (e : PrintedEntry) → slice_get es i ≡ Some e → IsLegal base (order_told (take i es)) → (IsNextIn base (order_told (take i es)) (turn_told e) → ⊥) → IsFirstIllegal base (order_told es) i
 first_illegal_at base es i e is legal other = record {
   inside = subst (λ n. i < n) (sym (length-map es turn_told)) (slice_get_within es i e is);
-  before = subst (IsLegal base) ((sym (take-map turn_told i es))) legal;
+  before = subst (IsLegal base) (sym (take-map turn_told i es)) legal;
   here = λ longer.
-      let whole : take (i + 1) (order_told es) ≡ order_told (take i es) ++ turn_told e ∷ [] = sym ((sym (take-map turn_told (i + 1) es))) ∙ told_more es i e is in
+      let whole : take (i + 1) (order_told es) ≡ order_told (take i es) ++ turn_told e ∷ [] = take-map turn_told (i + 1) es ∙ told_more es i e is in
       other (legal_turn base (order_told (take i es)) [] (turn_told e) (subst (IsLegal base) whole longer));
 }

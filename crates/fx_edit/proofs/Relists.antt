@@ -11,7 +11,7 @@ use Rattle.fx_base.proofs.Placing.{flipped, flipped_less, all_below}
 use Rattle.fx_store.specs.declared.changes.Change.{Change}
 use Rattle.fx_store.specs.Names.{has}
 use Rattle.fx_store.specs.Rule.{Ask, Answer, ◌>>=◌}
-use Rattle.fx_store.proofs.PathLists.{has-text, has_first}
+use Rattle.fx_store.proofs.PathLists.{has-text, has_first as has_head}
 use Rattle.fx_expr.specs.Sets.{IsAscending, has_text, set_of}
 use Rattle.fx_text.proofs.Canon.{ascending_set}
 use Rattle.fx_text.proofs.Merging.{least_of_first, least_of_second, least_less, least_equal, least_greater}
@@ -89,7 +89,7 @@ later true a n m w e =
     ap (λ l. has l m) w ∙ has-text (n ∷ drop 1 a) m ∙ ap (λ b. b || has_text m (drop 1 a)) (other_less n m e) ∙ sym (has-text (drop 1 a) m)
 
 has_first : (x : Bool) (a : List (List ℕ)) (n : List ℕ) → IsFirst x a n → has a n ≡ x
-has_first true a n w = ap (λ l. has l n) w ∙ has_first n (drop 1 a)
+has_first true a n w = ap (λ l. has l n) w ∙ has_head n (drop 1 a)
 has_first false a n w = w
 
 module _ (q a b : List (List ℕ)) (n : List ℕ) (x y : Bool) (next : IsNext a b n x y) where

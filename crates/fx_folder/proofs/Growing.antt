@@ -121,14 +121,14 @@ children_behind p (e ∷ es) = by (in_table (p ++ e.0 ∷ [])) (children_behind 
 -- ---- what is not below a folder comes behind all that is
 
 before_apart : (p s r : Parts) → path_cmp p r ≡ Less → rest_of p r ≡ None → path_cmp (p ++ s) r ≡ Less
-before_apart [] s r less entries_none = cc
-before_apart (a ∷ p) s [] less entries_none = cc
-before_apart (a ∷ p) s (b ∷ r) less entries_none = by (name_cmp a b) less entries_none (before_apart p s r)
+before_apart [] s r less none = cc
+before_apart (a ∷ p) s [] less none = cc
+before_apart (a ∷ p) s (b ∷ r) less none = by (name_cmp a b) less none (before_apart p s r)
   where
     by : (o : Ordering) → ordering_then o (path_cmp p r) ≡ Less → cond (is_eq o) (rest_of p r) None ≡ None → (path_cmp p r ≡ Less → rest_of p r ≡ None → path_cmp (p ++ s) r ≡ Less) → ordering_then o (path_cmp (p ++ s) r) ≡ Less
-    by Less less entries_none ih = refl
-    by Equal less entries_none ih = ih less entries_none
-    by Greater less entries_none ih = cc
+    by Less less none ih = refl
+    by Equal less none ih = ih less none
+    by Greater less none ih = cc
 
 not_before : (p s : Parts) → path_cmp (p ++ s) p ≡ Less → ⊥
 not_before p s less = by s (sym (same_front p s []) ∙ (ap (path_cmp (p ++ s)) (append-nil p) ∙ less))
@@ -148,14 +148,14 @@ rest_apart p q n before behind = by (rest_of p (q ++ n ∷ [])) refl
         last : (s : Parts) → (s ≡ []) ⊎ ((t : Parts) × (m : List ℕ) × (s ≡ t ++ m ∷ []))
         last [] = inl refl
         last (a ∷ s) = elim (last s) [
-          | inl entries_none ↦ inr ([], a, ap (λ l. a ∷ l) entries_none)
+          | inl none ↦ inr ([], a, ap (λ l. a ∷ l) none)
           | inr more ↦ inr (a ∷ more.0, more.1, ap (λ l. a ∷ l) more.2)
         ]
 
         at : (s : Parts) → q ++ n ∷ [] ≡ p ++ s → ⊥
         at s same = elim (last s) [
-          | inl entries_none ↦
-              let here : q ++ n ∷ [] ≡ p = same ∙ (ap (λ l. p ++ l) entries_none ∙ append-nil p) in
+          | inl none ↦
+              let here : q ++ n ∷ [] ≡ p = same ∙ (ap (λ l. p ++ l) none ∙ append-nil p) in
               not_before p [] (ap (λ l. path_cmp l p) (append-nil p) ∙ (ap (path_cmp p) (sym here) ∙ behind))
           | inr more ↦
               let whole : q ++ n ∷ [] ≡ (p ++ more.0) ++ more.1 ∷ [] = same ∙ (ap (λ l. p ++ l) more.2 ∙ sym (append_assoc p more.0 (more.1 ∷ []))) in
@@ -233,7 +233,7 @@ stand_more cs ds [] all = tt
 stand_more cs ds (x ∷ todo) all = (dir_more cs ds x.parent all.0, stand_more cs ds todo all.1)
 
 stand_new : (fs : List Mapped) (p : Parts) (es : List (List ℕ × HostKind)) → (es ≡ []) ⊎ HasDir fs p → AllByRecursion (λ (x : Item). HasDir fs x.parent) (items_of p es)
-stand_new fs p es (inl entries_none) = subst (λ l. AllByRecursion (λ (x : Item). HasDir fs x.parent) (items_of p l)) (sym entries_none) tt
+stand_new fs p es (inl none) = subst (λ l. AllByRecursion (λ (x : Item). HasDir fs x.parent) (items_of p l)) (sym none) tt
 stand_new fs p es (inr dir) = go es
   where
     go : (es : List (List ℕ × HostKind)) → AllByRecursion (λ (x : Item). HasDir fs x.parent) (items_of p es)
@@ -298,7 +298,7 @@ module _ (found : List Change) (todo todo' : List Item) (x : Item) (c : Change) 
 
   opened : (entries finds.names ≡ []) ⊎ HasDir (mapped_of (found ++ c ∷ [])) c.path
   opened = elim finds.inside [
-    | inl entries_none ↦ inl entries_none
+    | inl none ↦ inl none
     | inr dir ↦ inr (subst (λ l. HasDir l c.path) (sym (mapped_append found (c ∷ []) ∙ ap (λ o. es ++ (c.path, node_or_dir o) ∷ []) dir)) (dir_last es c.path (paths_ahead todo) ascends))
   ]
 

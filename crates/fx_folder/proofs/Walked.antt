@@ -10,15 +10,11 @@ use Rattle.fx_outside.proofs.Sorted.{both, first, second}
 use Rattle.fx_outside.proofs.Trees.{parts_same}
 use Rattle.fx_table.specs.Places.{table_name}
 use Rattle.fx_folder.specs.Deep.{Held, all_below, walked}
-use Rattle.fx_folder.proofs.Branches.{below_sorted, root_below, find_below}
+use Rattle.fx_folder.proofs.Branches.{all_sorted, root_below, find_below}
 
 -- ---- names behind those of a folder
 
-]
-
 -- ---- what stands below a folder
-
-]
 
 -- ---- the table is left out
 
@@ -49,7 +45,7 @@ below_walked k ((n ∷ ns, e) ∷ hs) h = below_kept k (n ∷ ns, e) (walked hs)
 
 -- the entries that are walked, in order and behind the root
 pub below_sorted : (tree : Tree) (P : Parts) → T (is_sorted parts_cmp (walked (all_below tree P)))
-below_sorted tree P = walked_sorted (all_below tree P) (below_sorted P (entries tree) (entries_sorted tree))
+below_sorted tree P = walked_sorted (all_below tree P) (all_sorted tree P)
 
 pub below_root : (tree : Tree) (P : Parts) → T (below_all parts_cmp [] (walked (all_below tree P)))
 below_root tree P = below_walked [] (all_below tree P) (root_below P (entries tree))

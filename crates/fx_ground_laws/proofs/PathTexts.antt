@@ -1,5 +1,5 @@
 -- A path is read from its text.
-use Rattle.std.proofs.Common.{ℕ, List, Result, Ok, ap, sym, ◌∙◌}
+use Rattle.std.proofs.Common.{◌≡◌, ℕ, List, Result, Ok, ap, sym, ◌∙◌}
 use Rattle.fx_store.specs.declared.name.PathFault.{PathFault}
 use Rattle.fx_store.specs.Faults.{read_path}
 use Rattle.fx_store.proofs.PathLists.{read_path_text}

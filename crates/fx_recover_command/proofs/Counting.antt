@@ -71,8 +71,8 @@ turns_more pairs i pair is =
 pub first_illegal_at : (base : BaseTree) (pairs : List Pair) (i : ℕ) (pair : Pair) (counts : List ℕ) → slice_get pairs i ≡ Some pair → AreCounts base (turns_of (take i pairs)) counts → (IsNextIn base (turns_of (take i pairs)) (turn_of pair) → ⊥) → IsFirstIllegal base (turns_of pairs) i
 first_illegal_at base pairs i pair counts is are isnt = record {
   inside = subst (λ n. i < n) (sym (length-map pairs turn_of)) (slice_get_within pairs i pair is);
-  before = subst (IsLegal base) ((sym (take-map turn_of i pairs))) are.legal;
-  here = λ legal. isnt (legal_turn base (turns_of (take i pairs)) [] (turn_of pair) (subst (IsLegal base) (sym ((sym (take-map turn_of (i + 1) pairs))) ∙ turns_more pairs i pair is) legal));
+  before = subst (IsLegal base) (sym (take-map turn_of i pairs)) are.legal;
+  here = λ legal. isnt (legal_turn base (turns_of (take i pairs)) [] (turn_of pair) (subst (IsLegal base) (take-map turn_of (i + 1) pairs ∙ turns_more pairs i pair is) legal));
 }
 
 -- the counts stand in the front of what holds them

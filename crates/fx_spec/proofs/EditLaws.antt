@@ -220,7 +220,7 @@ link_node_ok text content node e = at (has_link_form text) (nat_lt 64 (length (c
 
 content_ok : (bytes : List ℕ) → is_content bytes ≡ true → IsContent bytes
 content_ok bytes e = record { short = leb-true (length bytes) 1048576 (first_true (nat_le (length bytes) 1048576) (list_all (λ b. nat_lt b 256) bytes) e); bytes = small bytes (second_true (nat_le (length bytes) 1048576) (list_all (λ b. nat_lt b 256) bytes) e) }
-
+  where
     small : (bytes : List ℕ) → list_all (λ b. nat_lt b 256) bytes ≡ true → All (λ b. b < 256) bytes
     small bytes e = λ k d l. ltb-true (get_or bytes k d) 256 (all_pass (λ b. nat_lt b 256) bytes e k d l)
 

@@ -27,7 +27,7 @@ added_at part done ts = do
 -- `, part`
 unfoldable pub another_at : {Part : Type 0} → Read Part → List Part → Read (List Part)
 another_at part done ts = do
-  next ← expect (is_sign sign.Comma) ts
+  next ← expect (signs.is_sign sign.Comma) ts
   added_at part done next
 
 -- further parts up to the bracket, so many at most

@@ -5,7 +5,7 @@ use Rattle.std.specs.declared.cmp.Ordering.TheVariants.{Less}
 use Rattle.std.specs.List.{AllByRecursion, slice_split}
 use Rattle.std.proofs.lemmas.List.Splits.{slice_split_none, slice_split_at, length-slice_split}
 use Rattle.fx_base.specs.declared.NoMemory.{NoMemory as Memory}
-use Rattle.fx_base.proofs.Lists.{parts_at, all_push, all_last}
+use Rattle.fx_base.proofs.Lists.{All-at, at_middle, parts_at, all_push, all_last}
 use Rattle.fx_table.specs.TableSpelling.{unspelled}
 use Rattle.fx_table.specs.Unspells.{GivesLink, GivesFlag}
 use Rattle.std.specs.List.Sorted.{IsStrictlySortedBy}
@@ -129,9 +129,8 @@ agrees a b text r same is fails = ap (bytes_eq a) (sym same) ∙ not-false (byte
 
 -- ---- one link more
 
-all_last : {A : Type 0} (P : A → Type 0) (xs : List A) (x : A) → All P (xs ++ x ∷ []) → P x
-all_last P [] x all = All-head P x [] all
-all_last P (y ∷ xs) x all = all_last P xs x (All-tail P y (xs ++ x ∷ []) all)
+last_holds : {A : Type 0} (P : A → Type 0) (xs : List A) (x : A) → All P (xs ++ x ∷ []) → P x
+last_holds P xs x all = All-at P (xs ++ x ∷ []) (length xs) x all (at_middle xs [] x)
 
 paths_push : (old : List Change) (l : TableLine) → map (λ (k : TableLine). k.path) (lines_in old ++ l ∷ []) ≡ changed_paths old ++ l.path ∷ []
 paths_push [] l = refl
@@ -161,7 +160,7 @@ follow_of : (S : Setting) (old : List Change) (l : TableLine) → AreLinesOver S
 unfolding IsStrictlySortedBy
 follow_of S old l table =
     let up = subst (λ ps. IsStrictlySortedBy path_cmp ([] ∷ ps)) (paths_push old l) table.ascending in
-    record { some = some_name l.path (all_last (λ q. path_cmp [] q ≡ Less) (changed_paths old) l.path up.0); ascending = up.1; stands = all_last (Stands S) (lines_in old) l table.stand }
+    record { some = some_name l.path (all_last (λ q. path_cmp [] q ≡ Less) (changed_paths old) l.path up.0); ascending = up.1; stands = last_holds (Stands S) (lines_in old) l table.stand }
 
 -- ---- the first line
 
@@ -170,7 +169,7 @@ first_read : (text : List ℕ) (i : ℕ) (l : TableLine) (later : List ℕ) → 
 first_read text i l later first is valid = ap read_line (same_line (take i text) (drop (i + 1) text) l later first.before (sym first.parts ∙ is)) ∙ line_read l valid
 
 last_valid : (S : Setting) (old : List Change) (l : TableLine) → AreLinesOver S (lines_in old ++ l ∷ []) → IsLine l
-last_valid S old l table = all_last IsLine (lines_in old) l table.valid
+last_valid S old l table = last_holds IsLine (lines_in old) l table.valid
 
 pub no_line : (S : Setting) (text : List ℕ) (old : List Change) → IsAbsent 10 text → IsStopped S text old
 no_line S text old none l later is table = no_feed text l later none is

@@ -7,10 +7,6 @@ use Rattle.fx_store.proofs.PathLists.{rest_append}
 use Rattle.fx_outside.specs.Path.{Parts, parts_cmp}
 use Rattle.fx_table.specs.Places.{rest_of}
 
--- the rest of parts behind a folder
-
-]
-
 -- a place that is not behind the folder is none in it
 pub no_rest : (at q path : Parts) → rest_of at q ≡ None → eq_by_cmp parts_cmp q (at ++ path) ≡ false
 no_rest at q path none = elim (cases_Bool (eq_by_cmp parts_cmp q (at ++ path))) [

@@ -40,8 +40,6 @@ one a p = All-cons IsByte a [] p (All-nil IsByte)
 two : (a b : ℕ) → a < 256 → b < 256 → All IsByte (a ∷ b ∷ [])
 two a b p q = All-cons IsByte a (b ∷ []) p (one b q)
 
-]
-
 -- ---- paths and link texts
 
 few : {A : Type 0} (n : ℕ) (x : Result A PathFault) (f : PathFault) → n ≤ 64 → cond (nat_lt 64 n) (Err f) x ≡ x

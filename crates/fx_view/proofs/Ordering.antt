@@ -28,7 +28,7 @@ first_unknown-known known (x ∷ ps) qs all = ap (λ b. cond b (first_unknown kn
 
 pub AllKnown-grows : (known more : Known) (ps : List Path) → Grows known more → AllKnown known ps → AllKnown more ps
 AllKnown-grows known more [] grows all = tt
-AllKnown-grows known more (p ∷ ps) grows all = (still_some (known p) (more p) (grows.keeps p) all.0, AllKnown-grows known more ps grows all.1)
+AllKnown-grows known more (p ∷ ps) grows all = (still_some (known p) (more p) (λ n is. ap is_some (grows.keeps p n is)) all.0, AllKnown-grows known more ps grows all.1)
 
 -- ---- reads in order
 

@@ -10,7 +10,7 @@ use Rattle.std.proofs.lemmas.Bool.{true≢false, not-false}
 pub same_behind : (x y : List ℕ) (xs ys left others : List (List ℕ)) (differ : Bool) → left ≡ x ∷ xs → others ≡ y ∷ ys → differ ≡ not (bytes_eq x y) → differ ≡ false → (xs ≡ ys) ↔ (left ≡ others)
 same_behind x y xs ys left others differ first second tested equal =
     (λ h. first ∙ ((λ k. same k ∷ h k) ∙ sym second), λ h. let e : x ∷ xs ≡ y ∷ ys = sym first ∙ (h ∙ second) in cc)
-
+  where
     same : x ≡ y
     same = (bytes_decides x y).0 (not-false (bytes_eq x y) (sym tested ∙ equal))
 

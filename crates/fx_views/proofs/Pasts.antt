@@ -1,13 +1,13 @@
 -- What a reader of one state goes on to vouch for.
-use Rattle.std.proofs.Common.{◌≡◌, ℕ, ◌≤◌, List, [], ◌∷◌, ◌++◌, length, Option, Result, Ok, Err, sym, ap, subst, ◌∙◌, arith}
+use Rattle.std.proofs.Common.{◌≡◌, ◌⊎◌, inl, inr, ℕ, ◌≤◌, List, [], ◌∷◌, ◌++◌, length, Option, Some, None, option_map, Result, Ok, Err, refl, sym, ap, subst, ◌∙◌, arith}
 use Rattle.std.specs.Prelude.{OnOk, OnErr}
 use Rattle.std.specs.FinMap.{get}
-use Rattle.std.proofs.lemmas.Option.{same_Some}
+use Rattle.std.proofs.lemmas.Option.{same_Some, none-some}
 use Rattle.fx_store.specs.declared.node.Node.{Node}
-use Rattle.fx_store.specs.Whole.{Nodes}
+use Rattle.fx_store.specs.Whole.{Store, Nodes}
 use Rattle.fx_view.specs.ReadList.{ReadList}
-use Rattle.fx_view.specs.Reads.{Agrees}
-use Rattle.fx_view.proofs.Wholes.{agrees_more}
+use Rattle.fx_view.specs.Reads.{read_at, Agrees}
+use Rattle.fx_view.proofs.Lists.{read_more_cases}
 use Rattle.fx_spec.specs.Order.{state}
 use Rattle.fx_shared.specs.Passes.{LogView, HasSeenMore}
 use Rattle.fx_shared.proofs.Truths.{begins_short, state_later}
@@ -16,6 +16,21 @@ use Rattle.fx_views.specs.Past.{AreAt, WasAt, VouchesAt}
 
 abbrev Path : Type 0
 Path = List (List ℕ)
+
+abbrev Read : Type 0
+Read = Option Node × ℕ
+
+-- a filestore that agrees with reads agrees with one more of its own nodes
+agrees_more : (reads : ReadList) (path : Path) (S : Store) (n : Option Node) (position : ℕ) → S path ≡ n → Agrees reads S → Agrees (reads ++ (path, (n, position)) ∷ []) S
+agrees_more reads path S n position there agrees q m e = at (read_at (reads ++ (path, (n, position)) ∷ []) q) refl e
+  where
+    by : (r : Read) → (read_at reads q ≡ Some r) ⊎ ((q ≡ path) × (◌≡◌ {A = Read} (n, position) r)) → S q ≡ r.0
+    by r (inl h) = agrees q r.0 (ap (option_map (λ (r : Read). r.0)) h)
+    by r (inr h) = ap S h.0 ∙ there ∙ ap (λ (r : Read). r.0) h.1
+
+    at : (found : Option Read) → read_at (reads ++ (path, (n, position)) ∷ []) q ≡ found → option_map (λ (r : Read). r.0) found ≡ Some m → S q ≡ m
+    at None is known = absurd (none-some m known)
+    at (Some r) is known = by r (read_more_cases reads path (n, position) q r is) ∙ same_Some r.0 m known
 
 -- the state is within what the pass has seen, also when that is more
 pub within_on : (v w : LogView) (position : ℕ) → HasSeenMore v w → position ≤ length v.seen → position ≤ length w.seen

@@ -59,5 +59,5 @@ pub job_below : (j : code.RunJob) → IsJob j → All (λ k. k < length (scripts
 job_below j is = mode_below (length (scripts_in j.inputs)) j.mode is.mode
 
 -- and of those that a schedule names
-pub shells_below : (job : code.RunJob) (shells : List ℕ) (count : ℕ) → IsJob job → count ≡ length (asked job).inputs.scripts → shells_of (asked job) ≡ shells → All (λ k. k < count) shells
-shells_below job shells count is each same = subst (λ n. All (λ k. k < n) shells) (sym each) (subst (λ ks. All (λ k. k < length (asked job).inputs.scripts) ks) same (job_below job is))
+pub asked_below : (job : code.RunJob) (shells : List ℕ) (count : ℕ) → IsJob job → count ≡ length (asked job).inputs.scripts → shells_of (asked job) ≡ shells → All (λ k. k < count) shells
+asked_below job shells count is each same = subst (λ n. All (λ k. k < n) shells) (sym each) (subst (λ ks. All (λ k. k < length (asked job).inputs.scripts) ks) same (job_below job is))

@@ -3,7 +3,7 @@ use Rattle.fx_spec.specs.Bases.{base_tree}
 use Rattle.fx_words.specs.declared.job.RunJob as code
 use Rattle.fx_words.specs.Job.{shells_of}
 use Rattle.fx_words.specs.JobOf.{asked}
-use Rattle.fx_words.proofs.Below.{shells_below}
+use Rattle.fx_words.proofs.Below.{asked_below}
 use Rattle.fx_journal_command.proofs.Keeping.{unread}
 use Rattle.fx_journal_command.proofs.command.run_on.Goals as goal
 
@@ -16,4 +16,4 @@ returns-in-Err-clause-broken g c =
     unread base shells disk sink c.args.journal c.requires.started
 
 pub record-requires-clause-shells : goal.record-requires-clause-shells
-record-requires-clause-shells g c = shells_below c.args.job.now c.deref.result.now (length c.args.base.value.plan) c.requires.job c.requires.count (sym c.in-Ok.ensures ∙ sym c.deref.ensures.value)
+record-requires-clause-shells g c = asked_below c.args.job.now c.deref.result.now (length c.args.base.value.plan) c.requires.job c.requires.count (sym c.in-Ok.ensures ∙ sym c.deref.ensures.value)
