@@ -55,7 +55,9 @@ fn verdict_on(
         return Ok(Verdict::Order(i));
     }
     let mut board = Board::new(alloc, Arc::try_clone(base)?)?;
-    verdict_over(alloc, base, &mut board, &table, entries, retries)
+    let verdict = verdict_over(alloc, base, &mut board, &table, entries, retries);
+    board.let_go();
+    verdict
 }
 
 /// The verdict on entries in a legal order, over a log that has none yet.
@@ -77,6 +79,21 @@ fn verdict_over(
     }
 }
 
+/// The verdict on bytes as a report of a run of this base: the first of their faults.
+fn verdict_of(alloc: Global, base: &Arc<Base>, bytes: &[u8]) -> Result<Verdict, NoMemory>
+    ensures { IfOk result (IsVerdictOn (base_tree base.now.value) bytes.now) }
+{
+    match read_report(alloc, bytes) {
+        Ok(printed) => {
+            let verdict = verdict_on(alloc, base, &printed.entries, &printed.retries);
+            printed.let_go();
+            verdict
+        }
+        Err(ReportFault::BadLine(number)) => Ok(Verdict::BadLine(number)),
+        Err(ReportFault::NoMemory) => Err(NoMemory),
+    }
+}
+
 /// The verdict on bytes as a report of a run of this base: the first of their faults. They have none exactly where they are
 /// the report of a complete order and of retries that this order can have had.
 pub fn audit(alloc: Global, base: Arc<Base>, bytes: &[u8]) -> Result<Verdict, NoMemory>
@@ -84,9 +101,7 @@ pub fn audit(alloc: Global, base: Arc<Base>, bytes: &[u8]) -> Result<Verdict, No
     ensures exact { IfOk result (λ v. (v ≡ verdict.Yes)
         ↔ IsTrueReport (base_tree base.value) bytes.now) }
 {
-    match read_report(alloc, bytes) {
-        Ok(printed) => verdict_on(alloc, &base, &printed.entries, &printed.retries),
-        Err(ReportFault::BadLine(number)) => Ok(Verdict::BadLine(number)),
-        Err(ReportFault::NoMemory) => Err(NoMemory),
-    }
+    let verdict = verdict_of(alloc, &base, bytes);
+    Base::let_go(base);
+    verdict
 }

@@ -9,8 +9,9 @@ ghost use Rattle.fx_board.specs.Board.{IsLog, IsEntry, NeverChanged, IsLastChang
 use crate::growing::{grow, make};
 use crate::index::{last, note, stale};
 use fx_base::{NoMemory, SHELL_LIMIT};
+use fx_expr::Values;
 use fx_machine::{Attempt, Entry};
-use fx_spec::Base;
+use fx_spec::{Base, End};
 use fx_store::{Filestore, Node, Path};
 use fx_view::Reads;
 use indexmap::IndexMap;
@@ -57,6 +58,17 @@ pub enum Settle {
     NoMemory(Attempt),
 }
 
+/// Lets go of an attempt.
+pub fn let_go(_: Attempt) {}
+
+/// What an attempt has printed, and how it ended. The rest of it is let go.
+pub fn answer_of(attempt: Attempt) -> (Values, End)
+    ensures { result ≡ (attempt.outputs, attempt.end) }
+{
+    let Attempt { outputs, end, .. } = attempt;
+    (outputs, end)
+}
+
 /// A settled attempt: the number of its entry, and what it had read.
 #[derive(Drop)]
 pub struct Settled {
@@ -77,6 +89,15 @@ impl Board {
             own: None,
             index: IndexMap::new(alloc),
         })
+    }
+
+    /// Lets go of the log.
+    pub fn let_go(self) {
+        let Board { base, own, .. } = self;
+        Base::let_go(base);
+        if let Some(store) = own {
+            store.let_go();
+        }
     }
 
     /// The base: the description, the scripts and the loaded filestore.

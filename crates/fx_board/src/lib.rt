@@ -6,6 +6,6 @@ mod growing;
 mod index;
 mod kept;
 
-pub use board::{Board, Settle, Settled};
+pub use board::{Board, Settle, Settled, answer_of, let_go};
 pub use fx_machine::{Attempt, Entry, Event, Events, Pair, Retries, Retry};
 pub use kept::Ground;

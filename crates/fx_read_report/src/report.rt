@@ -18,6 +18,11 @@ pub struct Printed {
     pub retries: Retries,
 }
 
+impl Printed {
+    /// Lets go of what a report tells.
+    pub fn let_go(self) {}
+}
+
 /// Why bytes were not read as a report.
 #[derive(Clone, Copy, Debug, PartialEq, Eq)]
 pub enum ReportFault {

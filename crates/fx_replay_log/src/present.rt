@@ -1,6 +1,5 @@
 //! A reader of the filestore after all entries of a log.
-ghost use Rattle.std.specs.Prelude.{◌≡◌, ◌∷◌, ◌++◌, [], None, true, OnOk, OnErr, refl};
-ghost use Rattle.fx_view.specs.Reads.{read_at};
+ghost use Rattle.std.specs.Prelude.{◌≡◌, [], true, refl};
 ghost use Rattle.fx_replay_log.specs.Present.{AreNow};
 
 use fx_base::NoMemory;
@@ -28,23 +27,12 @@ impl<'a> Present<'a> {
             reads: Reads::new(alloc),
         }
     }
-}
 
-/// Adds a look at a new path to the reads.
-fn note(
-    alloc: Global,
-    reads: &mut Reads,
-    path: &Path,
-    node: &Option<Node>,
-    position: u64,
-) -> Result<(), NoMemory>
-    requires { read_at reads.old path.now ≡ None }
-    ensures ok { OnOk result (reads.new ≡ reads.old ++ (path.now, (node.now, position)) ∷ []) }
-    ensures err { OnErr result (reads.new ≡ reads.old) }
-{
-    let path = path.copy(alloc)?;
-    let node = node.clone()?;
-    reads.add(alloc, path, node, position)
+    /// Lets go of what was read.
+    pub fn let_go(self) {
+        let Present { board: _, reads } = self;
+        reads.let_go();
+    }
 }
 
 impl Reader for Present<'_> {
@@ -60,8 +48,8 @@ impl Reader for Present<'_> {
             return Ok(node.clone()?);
         }
         let (node, position) = self.board.look(alloc, path)?;
-        note(alloc, &mut self.reads, path, &node, position)?;
-        Ok(node)
+        let kept = self.reads.keep(alloc, path, node, position)?;
+        Ok(kept)
     }
 
     fn reads(&self) -> &Reads {

@@ -37,7 +37,9 @@ fn attempt(
     ensures reads { IfOk result (λ a. AreNow board.now a.reads) }
 {
     let mut reader = Present::new(alloc, board);
-    match run(alloc, base, shell, txn, &mut reader) {
+    let ended = run(alloc, base, shell, txn, &mut reader);
+    reader.let_go();
+    match ended {
         Ok(attempt) => Ok(attempt),
         Err(Stop::Needs(_)) => unreachable!(),
         Err(Stop::NoMemory) => Err(NoMemory),
@@ -75,16 +77,36 @@ pub fn enter(
     settle(alloc, board, attempt)
 }
 
+/// Enters the transactions of an order in a log that has no entries.
+fn enter_all(
+    alloc: Global,
+    base: &Arc<Base>,
+    board: &mut Board,
+    order: &Pairs,
+) -> Result<(), NoMemory>
+    requires begun { board.old ≡ started (base_tree base.now.value) }
+    requires legal { IsLegal (base_tree base.now.value) (turns_of order.now) }
+    ensures { OnOk result (board.new ≡ logged (base_tree base.now.value) (turns_of order.now)) }
+{
+    for pair in order.as_slice() {
+        enter(alloc, base, board, pair.shell, pair.txn)?;
+    }
+    Ok(())
+}
+
 /// The log of an order: its transactions run whole, one after another, on the loaded filestore.
 fn log_of(alloc: Global, base: &Arc<Base>, order: &Pairs) -> Result<Board, NoMemory>
     requires { IsLegal (base_tree base.now.value) (turns_of order.now) }
     ensures { IfOk result (λ board. board ≡ logged (base_tree base.now.value) (turns_of order.now)) }
 {
     let mut board = Board::new(alloc, Arc::try_clone(base)?)?;
-    for pair in order.as_slice() {
-        enter(alloc, base, &mut board, pair.shell, pair.txn)?;
+    match enter_all(alloc, base, &mut board, order) {
+        Ok(()) => Ok(board),
+        Err(fault) => {
+            board.let_go();
+            Err(fault)
+        }
     }
-    Ok(board)
 }
 
 /// The filestore that the transactions of an order leave, which needs to be legal.
@@ -94,5 +116,7 @@ pub fn replay(alloc: Global, base: &Arc<Base>, order: &Pairs) -> Result<Filestor
         ≡ state (base_tree base.now.value) (turns_of order.now) (length (turns_of order.now))) }
 {
     let board = log_of(alloc, base, order)?;
-    board.store().copy(alloc)
+    let store = board.store().copy(alloc);
+    board.let_go();
+    store
 }

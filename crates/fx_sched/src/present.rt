@@ -1,6 +1,5 @@
 //! A reader of the filestore as it stands in a log.
-ghost use Rattle.std.specs.Prelude.{◌≡◌, ◌∷◌, ◌++◌, true, [], None, OnOk, OnErr, refl};
-ghost use Rattle.fx_view.specs.Reads.{read_at};
+ghost use Rattle.std.specs.Prelude.{◌≡◌, true, refl};
 ghost use Rattle.fx_sched.specs.Present.{IsNowIn};
 
 use fx_base::NoMemory;
@@ -26,23 +25,6 @@ impl<'a> Present<'a> {
     }
 }
 
-/// Adds what stands at a new path to the reads.
-fn note(
-    alloc: Global,
-    reads: &mut Reads,
-    path: &Path,
-    node: &Option<Node>,
-    position: u64,
-) -> Result<(), NoMemory>
-    requires { read_at reads.old path.now ≡ None }
-    ensures ok { OnOk result (reads.new ≡ reads.old ++ (path.now, (node.now, position)) ∷ []) }
-    ensures err { OnErr result (reads.new ≡ reads.old) }
-{
-    let path = path.copy(alloc)?;
-    let node = node.clone()?;
-    reads.add(alloc, path, node, position)
-}
-
 impl Reader for Present<'_> {
     ghost meaning = { record {
       reads = λ p. p.reads;
@@ -56,8 +38,8 @@ impl Reader for Present<'_> {
             return Ok(node.clone()?);
         }
         let (node, position) = self.board.look(alloc, path)?;
-        note(alloc, &mut self.reads, path, &node, position)?;
-        Ok(node)
+        let kept = self.reads.keep(alloc, path, node, position)?;
+        Ok(kept)
     }
 
     fn reads(&self) -> &Reads {

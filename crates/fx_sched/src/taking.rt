@@ -162,7 +162,7 @@ pub fn play<T: Taker>(
     match take_all(alloc, &mut world, taker, schedule) {
         Ok(()) => Ok(world.finish()),
         Err(ended) => {
-            drop(world);
+            world.let_go();
             Err(ended)
         }
     }

@@ -48,13 +48,25 @@ impl World {
     pub fn new(alloc: Global, base: Arc<Base>) -> Result<World, NoMemory>
         ensures { IfOk result (λ w. w ≡ began (base_tree base.value)) }
     {
-        let shells = new_shells(alloc, base.plan.len())?;
+        let shells = match new_shells(alloc, base.plan.len()) {
+            Ok(shells) => shells,
+            Err(fault) => {
+                Base::let_go(base);
+                return Err(fault);
+            }
+        };
         let board = Board::new(alloc, base)?;
         Ok(World {
             board,
             shells,
             room: Room::new(alloc),
         })
+    }
+
+    /// Lets go of the log and the shells.
+    pub fn let_go(self) {
+        let World { board, .. } = self;
+        board.let_go();
     }
 
     /// The log.

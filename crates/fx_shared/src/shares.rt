@@ -186,5 +186,7 @@ impl<T: Versions> Shares<T> {
 fn entry_of(answer: Result<Settled, Settle>) -> Result<u64, Settle>
     ensures { result ≡ result_map_both (λ settled. settled.entry) (λ refusal. refusal) answer }
 {
-    Ok(answer?.entry)
+    let Settled { entry, reads } = answer?;
+    reads.let_go();
+    Ok(entry)
 }

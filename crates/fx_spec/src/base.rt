@@ -1,6 +1,11 @@
+ghost use Rattle.std.specs.Prelude.{◌≡◌, IfOk};
+
 use crate::checked::Checked;
 use crate::plan::Plan;
+use fx_base::NoMemory;
 use fx_store::Filestore;
+use std::alloc::Global;
+use std::sync::Arc;
 
 /// What a run begins with: a description, the scripts of its shells, and the loaded filestore.
 #[derive(Drop)]
@@ -8,4 +13,27 @@ pub struct Base {
     pub description: Checked,
     pub plan: Plan,
     pub loaded: Filestore,
+}
+
+impl Base {
+    /// A base of these parts, to be shared.
+    pub fn shared(
+        alloc: Global,
+        description: Checked,
+        plan: Plan,
+        loaded: Filestore,
+    ) -> Result<Arc<Base>, NoMemory>
+        ensures { IfOk result (λ base.
+            base.value ≡ record { description = description; plan = plan; loaded = loaded }) }
+    {
+        let base = Base {
+            description,
+            plan,
+            loaded,
+        };
+        Ok(Arc::new(alloc, base)?)
+    }
+
+    /// Lets go of a base.
+    pub fn let_go(_: Arc<Base>) {}
 }

@@ -44,6 +44,9 @@ impl Checked {
         Checked { description }
     }
 
+    /// Lets go of the description.
+    pub fn let_go(self) {}
+
     /// The root description, as it is written.
     pub fn spec(&self) -> &Spec
         ensures { (text : TextTree) × IsTextOf text self.now × (text.root ≡ spec_tree result.now) }
@@ -103,6 +106,9 @@ impl Script {
     {
         Script { txns }
     }
+
+    /// Lets go of the script.
+    pub fn let_go(self) {}
 
     /// The transactions of the script.
     pub(crate) fn txns(&self) -> &Txns

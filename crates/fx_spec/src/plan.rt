@@ -54,6 +54,24 @@ impl Plan {
         }
     }
 
+    /// Adds the script of one more shell; the caller keeps both limits. After a refusal the script is let go.
+    pub fn add(&mut self, alloc: Global, script: Script) -> Result<(), NoMemory>
+        requires { IsPlan (self.old ++ script ∷ []) }
+        ensures ok { OnOk result (self.new ≡ self.old ++ script ∷ []) }
+        ensures err { IfErr result (λ _. self.new ≡ self.old) }
+    {
+        match self.push(alloc, script) {
+            Ok(()) => Ok(()),
+            Err((script, fault)) => {
+                script.let_go();
+                Err(fault)
+            }
+        }
+    }
+
+    /// Lets go of the scripts.
+    pub fn let_go(self) {}
+
     /// The number of scripts.
     pub fn len(&self) -> u32
         ensures len { result ≡ length self.now }

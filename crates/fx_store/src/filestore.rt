@@ -50,6 +50,9 @@ impl Filestore {
         Ok(Filestore { table })
     }
 
+    /// Lets go of the filestore.
+    pub fn let_go(self) {}
+
     /// The root with its files.
     pub fn flat(alloc: Global, files: Files) -> Result<Filestore, NoMemory>
         ensures nodes { IfOk result (λ s. s.nodes ≡ flat files) }

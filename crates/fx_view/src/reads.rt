@@ -1,7 +1,8 @@
 //! What was read of a filestore.
-ghost use Rattle.std.specs.Prelude.{◌≡◌, ◌<◌, ◌++◌, ◌∷◌, [], None, length, take, slice_get, OnOk, OnErr, option_copied, option_map};
+ghost use Rattle.std.specs.Prelude.{◌≡◌, ◌<◌, ◌++◌, ◌∷◌, [], None, length, take, slice_get, IfOk, OnOk, OnErr, option_copied, option_map};
 ghost use Rattle.std.specs.Map.Iter.{deref_pair};
 ghost use Rattle.fx_view.specs.Reads.{IsReads, read_at, placed, count_before};
+ghost use Rattle.fx_store.specs.Names.{IsPath};
 
 use fx_base::NoMemory;
 use fx_store::{Node, Path};
@@ -108,6 +109,29 @@ impl Reads {
         let_go(self.table.insert(path, (node, position))?);
         Ok(())
     }
+
+    /// Adds what was read at a path that is new, and hands it back. A refusal lets go of it, and changes nothing.
+    pub fn keep(
+        &mut self,
+        alloc: Global,
+        path: &Path,
+        node: Option<Node>,
+        position: u64,
+    ) -> Result<Option<Node>, NoMemory>
+        requires { read_at self.old path.now ≡ None }
+        ensures kept { OnOk result (self.new ≡ self.old ++ (path.now, (node, position)) ∷ []) }
+        ensures node { IfOk result (λ kept. kept ≡ node) }
+        ensures path { OnOk result (IsPath path.now) }
+        ensures err { OnErr result (self.new ≡ self.old) }
+    {
+        let path = path.copy(alloc)?;
+        let copy = node.clone()?;
+        self.add(alloc, path, copy, position)?;
+        Ok(node)
+    }
+
+    /// Lets go of the reads.
+    pub fn let_go(self) {}
 }
 
 fn count_before_in(table: &IndexMap<Path, (Option<Node>, u64)>, path: &Path) -> u64

@@ -1,6 +1,5 @@
 //! A reader of one state of a shared log.
-ghost use Rattle.std.specs.Prelude.{◌≡◌, ◌≤◌, ◌∷◌, ◌++◌, [], true, false, Some, None, is_some, length, IfOk, OnOk, OnErr, refl};
-ghost use Rattle.fx_view.specs.Reads.{read_at};
+ghost use Rattle.std.specs.Prelude.{◌≡◌, ◌≤◌, [], true, false, Some, is_some, length, IfOk, OnErr, refl};
 ghost use Rattle.fx_turn.specs.Seats.{view};
 ghost use Rattle.fx_shared.specs.Passes.{HasSeenMore};
 ghost use Rattle.fx_shared.specs.Shared.{IsPassOf, IsReadyPass};
@@ -81,7 +80,7 @@ impl<'a, R: Wait, G: Gate> Past<'a, R, G> {
         ensures pass { result ≡ self.entry.pass }
     {
         let Past { pass, reads, .. } = self;
-        drop(reads);
+        reads.let_go();
         pass
     }
 
@@ -99,23 +98,6 @@ impl<'a, R: Wait, G: Gate> Past<'a, R, G> {
         self.snaps
             .look_at(self.rt, alloc, &mut self.pass, path, self.position)
     }
-}
-
-/// Adds a look at a new path to the reads.
-fn note(
-    alloc: Global,
-    reads: &mut Reads,
-    path: &Path,
-    node: &Option<Node>,
-    position: u64,
-) -> Result<(), NoMemory>
-    requires { read_at reads.old path.now ≡ None }
-    ensures ok { OnOk result (reads.new ≡ reads.old ++ (path.now, (node.now, position)) ∷ []) }
-    ensures err { OnErr result (reads.new ≡ reads.old) }
-{
-    let path = path.copy(alloc)?;
-    let node = node.clone()?;
-    reads.add(alloc, path, node, position)
 }
 
 impl<R: Wait, G: Gate> Reader for Past<'_, R, G> {
@@ -149,8 +131,8 @@ impl<R: Wait, G: Gate> Reader for Past<'_, R, G> {
             return Ok(node.clone()?);
         }
         let node = self.look(alloc, path)?;
-        note(alloc, &mut self.reads, path, &node, self.position)?;
-        Ok(node)
+        let kept = self.reads.keep(alloc, path, node, self.position)?;
+        Ok(kept)
     }
 
     fn reads(&self) -> &Reads {

@@ -162,6 +162,37 @@ fn look_over<R: Threads + Wait + Sync, G: Gate + Sync>(
     Ok((retries, viewed))
 }
 
+/// Runs the scripts of a shared base, and views beside them, as [`run_views`] does.
+fn run_shared<R: Threads + Wait + Sync, G: Gate + Sync>(
+    rt: &R,
+    alloc: Global,
+    base: &Arc<Base>,
+    views: &Arc<Base>,
+    gate: &G,
+) -> Result<(Versioned, Retries, Viewed), NoMemory>
+    requires few { length base.now.value.plan < shell_limit }
+    requires description { views.now.value.description ≡ base.now.value.description }
+    requires loaded { views.now.value.loaded.nodes ≡ base.now.value.loaded.nodes }
+    requires one { length views.now.value.plan ≡ 1 }
+    ensures base { IfOk result (λ r. r.0.base ≡ base_tree base.now.value) }
+    ensures complete { IfOk result (λ r. IsComplete r.0.base r.0.order) }
+    ensures ran { IfOk result (λ r. IsOfSomeRun r.0.base r.0.order r.1) }
+    ensures retries { IfOk result (λ r. RetriesOk r.0.base r.0.order (map retry_tree r.1)) }
+    ensures viewed { IfOk result (λ r.
+        AreViews r.0.base (script_of views.now.value.plan 0) r.0.order r.2) }
+{
+    let (snaps, mut maker) = Snaps::new(alloc, Arc::try_clone(base)?)?;
+    let crew = Crew {
+        rt,
+        alloc,
+        base,
+        shares: &snaps,
+        gate,
+    };
+    let (retries, viewed) = look_over(&crew, views, &mut maker)?;
+    Ok((snaps.close(maker), retries, viewed))
+}
+
 /// Runs the scripts of a plan over one shared log, each in a thread of its own, and beside them the views, one after
 /// another, in one more thread; answers the log, the retries by shell, and the views. Each view runs at the state after all
 /// entries of some moment, and none changes anything. The views' worker passes the gate as the shell after the last.
@@ -183,14 +214,8 @@ pub fn run_views<R: Threads + Wait + Sync, G: Gate + Sync>(
     ensures viewed { IfOk result (λ r.
         AreViews r.0.base (script_of views.value.plan 0) r.0.order r.2) }
 {
-    let (snaps, mut maker) = Snaps::new(alloc, Arc::try_clone(&base)?)?;
-    let crew = Crew {
-        rt,
-        alloc,
-        base: &base,
-        shares: &snaps,
-        gate,
-    };
-    let (retries, viewed) = look_over(&crew, &views, &mut maker)?;
-    Ok((snaps.close(maker), retries, viewed))
+    let ran = run_shared(rt, alloc, &base, &views, gate);
+    Base::let_go(base);
+    Base::let_go(views);
+    ran
 }

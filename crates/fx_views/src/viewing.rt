@@ -11,6 +11,7 @@ ghost use Rattle.fx_views.specs.Viewing.{AreAlike, IsOnlooker, HasLookedOn, IsVi
 
 use crate::past::{Past, SnapPass};
 use fx_base::NoMemory;
+use fx_board::answer_of;
 use fx_machine::Attempt;
 use fx_outside::{Gate, Moment};
 use fx_report::{View, Viewed};
@@ -57,8 +58,10 @@ fn view_at<R: Wait, G: Gate>(
         position,
         crew.gate,
     );
-    match run(crew.alloc, views, 0, txn, &mut past) {
-        Ok(attempt) => Ok((past.into_pass(), view_of(attempt, position))),
+    let ended = run(crew.alloc, views, 0, txn, &mut past);
+    let pass = past.into_pass();
+    match ended {
+        Ok(attempt) => Ok((pass, view_of(attempt, position))),
         Err(Stop::Needs(_)) => unreachable!(),
         Err(Stop::NoMemory) => Err(NoMemory),
     }
@@ -70,7 +73,7 @@ fn view_of(attempt: Attempt, position: u64) -> View
     ensures outputs { result.outputs ≡ attempt.outputs }
     ensures end { result.end ≡ attempt.end }
 {
-    let Attempt { outputs, end, .. } = attempt;
+    let (outputs, end) = answer_of(attempt);
     View {
         position,
         outputs,

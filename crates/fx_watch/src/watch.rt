@@ -53,8 +53,17 @@ impl Watch {
                 let found = Some(walked);
                 (steps, Ok(Watch { base, found }))
             }
-            (steps, Err(NoMemory)) => (steps, Err(NoMemory)),
+            (steps, Err(NoMemory)) => {
+                Base::let_go(base);
+                (steps, Err(NoMemory))
+            }
         }
+    }
+
+    /// Lets go of the watch.
+    pub fn let_go(self) {
+        let Watch { base, .. } = self;
+        Base::let_go(base);
     }
 
     /// Whether the description has a value on the filestore that was told last.

@@ -35,18 +35,23 @@ fn watch_by<L: Ledger>(alloc: Global, base: Arc<Base>, blank: Blank) -> Result<W
 }
 
 /// The start of a watched run: the loaded filestore was told, and its line is printed.
-fn begin<B: Based>(alloc: Global, base: Arc<Base>) -> Result<Watching<B>, NoMemory>
-    requires { base_tree base.value ≡ B.base }
+fn begin<B: Based>(alloc: Global, base: &Arc<Base>) -> Result<Watching<B>, NoMemory>
+    requires { base_tree base.now.value ≡ B.base }
     ensures { IfOk result (λ w. HasWatched B.base w.watch w.output.items [] (began B.base)) }
 {
-    let watch = watch_by::<Brand>(alloc, base, Blank::new(1))?;
+    let watch = watch_by::<Brand>(alloc, Arc::try_clone(base)?, Blank::new(1))?;
     let mut output = Vec::new(alloc);
-    add_valid(&mut output, watch.valid())?;
-    Ok(Watching {
-        watch,
-        output,
-        of: PhantomData,
-    })
+    match add_valid(&mut output, watch.valid()) {
+        Ok(()) => Ok(Watching {
+            watch,
+            output,
+            of: PhantomData,
+        }),
+        Err(fault) => {
+            watch.let_go();
+            Err(fault)
+        }
+    }
 }
 
 /// A watched run of the base that `B` names.
@@ -59,12 +64,24 @@ fn run_by<B: Based>(
     requires shells { All (λ k. k < length base.value.plan) schedule.now }
     ensures { IfOk result (λ run. IsWatched B.base schedule.now run.0 run.1) }
 {
-    let mut watching = begin::<B>(alloc, base.clone()?)?;
-    match play(alloc, base, schedule, &mut watching) {
-        Ok((board, retries)) => {
-            let output = with_report(alloc, watching.output, &board, &retries)?;
-            Ok((board, output))
+    let mut watching = match begin::<B>(alloc, &base) {
+        Ok(watching) => watching,
+        Err(fault) => {
+            Base::let_go(base);
+            return Err(fault);
         }
+    };
+    let ended = play(alloc, base, schedule, &mut watching);
+    let Watching { watch, output, .. } = watching;
+    watch.let_go();
+    match ended {
+        Ok((board, retries)) => match with_report(alloc, output, &board, &retries) {
+            Ok(output) => Ok((board, output)),
+            Err(fault) => {
+                board.let_go();
+                Err(fault)
+            }
+        },
         Err(_) => Err(NoMemory),
     }
 }

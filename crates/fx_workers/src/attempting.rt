@@ -10,6 +10,7 @@ use crate::desk::Desk;
 use crate::live::DeskReader;
 use crate::worker::Worker;
 use fx_base::NoMemory;
+use fx_board::let_go;
 use fx_machine::{Attempt, Retry};
 use fx_run::run;
 use fx_shared::Settle;
@@ -40,8 +41,10 @@ fn attempt<D: Desk>(
         HasTried (base_tree base.now.value) shell txn (D.view desk) (D.view r.0) r.1) }
 {
     let mut live = DeskReader::over(alloc, desk, txn);
-    match run(alloc, base, shell, txn, &mut live) {
-        Ok(attempt) => Ok((live.into_desk(), attempt)),
+    let ended = run(alloc, base, shell, txn, &mut live);
+    let desk = live.into_desk();
+    match ended {
+        Ok(attempt) => Ok((desk, attempt)),
         Err(Stop::Needs(_)) => unreachable!(),
         Err(Stop::NoMemory) => Err(NoMemory),
     }
@@ -66,10 +69,13 @@ fn settle<D: Desk>(alloc: Global, desk: &mut D, attempt: Attempt) -> Result<Outc
                 attempt,
             },
         ) => {
-            drop(attempt);
+            let_go(attempt);
             Ok(Outcome::Conflict(entry, path))
         }
-        Err(Settle::NoMemory(_)) => Err(NoMemory),
+        Err(Settle::NoMemory(refused)) => {
+            let_go(refused);
+            Err(NoMemory)
+        }
     }
 }
 

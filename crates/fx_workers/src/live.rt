@@ -1,9 +1,7 @@
 //! A reader of a shared log.
-ghost use Rattle.std.specs.Prelude.{◌≡◌, ◌∷◌, ◌++◌, [], true, None, IfOk, OnOk, OnErr, refl};
-ghost use Rattle.fx_view.specs.Reads.{read_at};
+ghost use Rattle.std.specs.Prelude.{◌≡◌, [], true, IfOk, OnErr, refl};
 ghost use Rattle.fx_shared.specs.Passes.{HasSeenMore, IsLook};
 ghost use Rattle.fx_shared.specs.Shared.{IsReadyPass};
-ghost use Rattle.fx_store.specs.Names.{IsPath};
 ghost use Rattle.fx_workers.specs.Live.{AreInTurn, AreInTurn-prop, AreTrueOver, AreTrueOver-prop, Vouches, begins_to_vouch};
 
 use crate::desk::{Desk, LogDesk};
@@ -49,7 +47,7 @@ impl<D: Desk> DeskReader<D> {
         ensures { result ≡ self.desk }
     {
         let DeskReader { desk, reads, .. } = self;
-        drop(reads);
+        reads.let_go();
         desk
     }
 
@@ -96,24 +94,6 @@ impl<'a, R: Wait, G: Gate> DeskReader<LogDesk<'a, R, G, Board>> {
     }
 }
 
-/// Adds a look at a new path to the reads.
-fn note(
-    alloc: Global,
-    reads: &mut Reads,
-    path: &Path,
-    node: &Option<Node>,
-    position: u64,
-) -> Result<(), NoMemory>
-    requires { read_at reads.old path.now ≡ None }
-    ensures ok { OnOk result (reads.new ≡ reads.old ++ (path.now, (node.now, position)) ∷ []) }
-    ensures path { OnOk result (IsPath path.now) }
-    ensures err { OnErr result (reads.new ≡ reads.old) }
-{
-    let path = path.copy(alloc)?;
-    let node = node.clone()?;
-    reads.add(alloc, path, node, position)
-}
-
 impl<D: Desk> Reader for DeskReader<D> {
     ghost use Rattle.std.specs.Prelude.{IfErr};
     ghost use Rattle.fx_view.specs.Reads.{IsRead};
@@ -143,8 +123,8 @@ impl<D: Desk> Reader for DeskReader<D> {
             return Ok(node.clone()?);
         }
         let (node, position) = self.look(alloc, path)?;
-        note(alloc, &mut self.reads, path, &node, position)?;
-        Ok(node)
+        let kept = self.reads.keep(alloc, path, node, position)?;
+        Ok(kept)
     }
 
     fn reads(&self) -> &Reads {

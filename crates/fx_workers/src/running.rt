@@ -118,6 +118,30 @@ fn work_over<R: Threads + Wait + Sync, G: Gate + Sync>(
     gather(crew, maker, all)
 }
 
+/// Runs the scripts of a shared base, as [`run_all`] does.
+fn run_shared<R: Threads + Wait + Sync, G: Gate + Sync>(
+    rt: &R,
+    alloc: Global,
+    base: &Arc<Base>,
+    gate: &G,
+) -> Result<(Board, Retries), NoMemory>
+    ensures base { IfOk result (λ r. r.0.base ≡ base_tree base.now.value) }
+    ensures complete { IfOk result (λ r. IsComplete r.0.base r.0.order) }
+    ensures ran { IfOk result (λ r. IsOfSomeRun r.0.base r.0.order r.1) }
+    ensures retries { IfOk result (λ r. RetriesOk r.0.base r.0.order (map retry_tree r.1)) }
+{
+    let (shares, mut maker) = Shared::new(alloc, Arc::try_clone(base)?)?;
+    let crew = Crew {
+        rt,
+        alloc,
+        base,
+        shares: &shares,
+        gate,
+    };
+    let retries = work_over(&crew, &mut maker)?;
+    Ok((shares.close(maker), retries))
+}
+
 /// Runs the scripts of a plan over one shared log, each in a thread of its own, and answers the log and the retries by
 /// shell. Before each look and each settle, and after each settled transaction, a worker passes the gate.
 pub fn run_all<R: Threads + Wait + Sync, G: Gate + Sync>(
@@ -131,14 +155,7 @@ pub fn run_all<R: Threads + Wait + Sync, G: Gate + Sync>(
     ensures ran { IfOk result (λ r. IsOfSomeRun r.0.base r.0.order r.1) }
     ensures retries { IfOk result (λ r. RetriesOk r.0.base r.0.order (map retry_tree r.1)) }
 {
-    let (shares, mut maker) = Shared::new(alloc, Arc::try_clone(&base)?)?;
-    let crew = Crew {
-        rt,
-        alloc,
-        base: &base,
-        shares: &shares,
-        gate,
-    };
-    let retries = work_over(&crew, &mut maker)?;
-    Ok((shares.close(maker), retries))
+    let ran = run_shared(rt, alloc, &base, gate);
+    Base::let_go(base);
+    ran
 }

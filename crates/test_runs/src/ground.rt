@@ -1,4 +1,6 @@
 //! What a run begins with, from texts.
+ghost use Rattle.std.specs.Prelude.{◌≡◌, []};
+
 use fx_base::{NoMemory, SHELL_LIMIT};
 use fx_check::check;
 use fx_folder::load;
@@ -75,36 +77,52 @@ fn file_alone(alloc: Global) -> Checked {
 /// The description of a text, and that of a file where it is refused.
 fn description_of(alloc: Global, text: &str) -> Checked {
     match parse(alloc, text.as_bytes()) {
-        Ok(description) => check(alloc, description).unwrap_or(file_alone(alloc)),
+        Ok(description) => match check(alloc, description) {
+            Ok(checked) => checked,
+            Err(_) => file_alone(alloc),
+        },
         Err(_) => file_alone(alloc),
     }
 }
 
-/// The scripts of some texts, up to the most that a run may have.
-fn plan_of(alloc: Global, texts: &[&str]) -> Result<Plan, ScriptFault> {
-    let mut plan = Plan::new(alloc);
+/// Adds the scripts of some texts to an empty plan, up to the most that a run may have.
+fn add_scripts(alloc: Global, plan: &mut Plan, texts: &[&str]) -> Result<(), ScriptFault>
+    requires { plan.old ≡ [] }
+{
     for text in texts {
         if plan.len() >= SHELL_LIMIT {
             break;
         }
         let script = script_of(alloc, text.as_bytes(), BEFORE)?;
-        match plan.push(alloc, script) {
-            Ok(()) => {}
-            Err(_) => return Err(ScriptFault::NoMemory),
+        plan.add(alloc, script)?;
+    }
+    Ok(())
+}
+
+/// The scripts of some texts, up to the most that a run may have.
+fn plan_of(alloc: Global, texts: &[&str]) -> Result<Plan, ScriptFault> {
+    let mut plan = Plan::new(alloc);
+    match add_scripts(alloc, &mut plan, texts) {
+        Ok(()) => Ok(plan),
+        Err(fault) => {
+            plan.let_go();
+            Err(fault)
         }
     }
-    Ok(plan)
 }
 
 /// What a run of a plan begins with.
 fn gathered(alloc: Global, ground: &Ground, plan: Plan) -> Result<Arc<Base>, NoMemory> {
-    let loaded = store_of(alloc, ground)?;
-    let base = Base {
-        description: description_of(alloc, ground.description),
-        plan,
-        loaded,
-    };
-    Ok(Arc::new(alloc, base)?)
+    match store_of(alloc, ground) {
+        Ok(loaded) => {
+            let description = description_of(alloc, ground.description);
+            Base::shared(alloc, description, plan, loaded)
+        }
+        Err(fault) => {
+            plan.let_go();
+            Err(fault)
+        }
+    }
 }
 
 /// What a run of scripts begins with. A script that is refused refuses the whole; a description that is refused stands for

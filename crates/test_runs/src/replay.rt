@@ -38,11 +38,22 @@ fn settle_next(alloc: Global, world: &mut World, shell: u32) -> Result<(), NoMem
     Ok(())
 }
 
+/// The next transactions of these shells, run whole, in this order.
+fn settle_all(alloc: Global, world: &mut World, shells: &[u32]) -> Result<(), NoMemory> {
+    for shell in shells {
+        settle_next(alloc, world, *shell)?;
+    }
+    Ok(())
+}
+
 /// What the next transactions of these shells leave, in this order.
 pub fn replayed(alloc: Global, base: &Arc<Base>, shells: &[u32]) -> Result<World, NoMemory> {
     let mut world = World::new(alloc, Arc::try_clone(base)?)?;
-    for shell in shells {
-        settle_next(alloc, &mut world, *shell)?;
+    match settle_all(alloc, &mut world, shells) {
+        Ok(()) => Ok(world),
+        Err(fault) => {
+            world.let_go();
+            Err(fault)
+        }
     }
-    Ok(world)
 }

@@ -45,7 +45,11 @@ fn add_attempt(attempt: &Attempt, out: &mut String) -> Result<(), NoMemory> {
 /// Tells an attempt, or what it lacks.
 fn tell_result(out: &mut String, result_of: Result<Attempt, Stop>) -> Result<(), NoMemory> {
     match result_of {
-        Ok(attempt) => add_attempt(&attempt, out),
+        Ok(attempt) => {
+            let added = add_attempt(&attempt, out);
+            fx_board::let_go(attempt);
+            added
+        }
         Err(Stop::Needs(path)) => {
             let names = path.len();
             writeln!(out, "> needs a path of {names} names")?;
@@ -74,7 +78,11 @@ pub fn tell_attempt<P: Program>(
     out: &mut String,
 ) -> Result<(), NoMemory> {
     match program.base(alloc, stage, script) {
-        Ok(base) => tell_first(alloc, &base, out),
+        Ok(base) => {
+            let told = tell_first(alloc, &base, out);
+            Base::let_go(base);
+            told
+        }
         Err(status) => tell_refused(out, &status),
     }
 }
@@ -215,7 +223,9 @@ fn tell_from(
     out: &mut String,
 ) -> Result<(), NoMemory> {
     let mut world = World::new(alloc, base)?;
-    tell_world(alloc, &mut world, turns, paths, out)
+    let told = tell_world(alloc, &mut world, turns, paths, out);
+    world.let_go();
+    told
 }
 
 /// Tells the events of the turns between commas, and then the log, with what stands at the paths between commas and which

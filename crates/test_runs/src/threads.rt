@@ -61,6 +61,12 @@ fn add_report(alloc: Global, board: &Board, left: &mut String) -> Result<(), NoM
     add_entries(left, printed.as_slice())
 }
 
+/// Adds what a log leaves.
+fn add_log(alloc: Global, board: &Board, left: &mut String) -> Result<(), NoMemory> {
+    add_report(alloc, board, left)?;
+    tell_folder(alloc, board.store(), left)
+}
+
 /// Adds what the next transactions of these shells leave, run whole.
 fn add_replayed(
     alloc: Global,
@@ -69,8 +75,9 @@ fn add_replayed(
     left: &mut String,
 ) -> Result<(), NoMemory> {
     let world = replayed(alloc, base, shells)?;
-    add_report(alloc, world.board(), left)?;
-    tell_folder(alloc, world.board().store(), left)
+    let added = add_log(alloc, world.board(), left);
+    world.let_go();
+    added
 }
 
 /// Whether what a run leaves is what its transactions leave that are run whole in the order that it prints.
@@ -89,7 +96,11 @@ fn is_as_printed<P: Program>(
     left: &str,
 ) -> Result<bool, NoMemory> {
     match program.base(alloc, stage, scripts) {
-        Ok(base) => is_replayed(alloc, &base, left),
+        Ok(base) => {
+            let same = is_replayed(alloc, &base, left);
+            Base::let_go(base);
+            same
+        }
         Err(_) => Ok(false),
     }
 }

@@ -4,6 +4,7 @@
 use crate::replay::replayed;
 use crate::shells::{entry_lines, shells_of};
 use fx_base::NoMemory;
+use fx_board::answer_of;
 use fx_outside::{MemoryHost, MemorySink, Words};
 use fx_report::{View, Viewed, views_text};
 use fx_run::run;
@@ -62,11 +63,14 @@ fn view_of(
     }
     let mut reader = Whole::new(alloc, store);
     match run(alloc, views, 0, txn, &mut reader) {
-        Ok(attempt) => Ok(Some(View {
-            position: u64::from(position),
-            outputs: attempt.outputs,
-            end: attempt.end,
-        })),
+        Ok(attempt) => {
+            let (outputs, end) = answer_of(attempt);
+            Ok(Some(View {
+                position: u64::from(position),
+                outputs,
+                end,
+            }))
+        }
         Err(Stop::Needs(_)) => Ok(None),
         Err(Stop::NoMemory) => Err(NoMemory),
     }
@@ -84,7 +88,9 @@ fn add_view(
 ) -> Result<(), NoMemory> {
     let front = shells.get(..position as usize).unwrap_or(shells);
     let world = replayed(alloc, base, front)?;
-    if let Some(view) = view_of(alloc, views, world.board().store(), txn, position)? {
+    let view = view_of(alloc, views, world.board().store(), txn, position);
+    world.let_go();
+    if let Some(view) = view? {
         viewed.push(view)?;
     }
     Ok(())
@@ -134,10 +140,16 @@ fn is_as_told<P: Program>(
         Ok(base) => base,
         Err(_) => return Ok(false),
     };
-    match program.base(alloc, stage, views) {
-        Ok(views) => are_views(alloc, &base, &views, printed),
+    let as_told = match program.base(alloc, stage, views) {
+        Ok(views) => {
+            let same = are_views(alloc, &base, &views, printed);
+            Base::let_go(views);
+            same
+        }
         Err(_) => Ok(false),
-    }
+    };
+    Base::let_go(base);
+    as_told
 }
 
 /// Runs a command, and adds what it prints.

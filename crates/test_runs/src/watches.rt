@@ -84,6 +84,23 @@ fn tell_after(
     }
 }
 
+/// Tells whether there is a value on each folder that the line names behind its paths.
+fn tell_folders(
+    alloc: Global,
+    watch: &mut Watch,
+    host: &mut MemoryHost,
+    line: &String,
+    out: &mut String,
+) -> Result<(), NoMemory> {
+    for told in line.as_str().split(' ') {
+        if let Some((paths, folder)) = told.split_once('=') {
+            let paths = paths_of(alloc, paths)?;
+            tell_after(alloc, watch, host, &paths, folder, out)?;
+        }
+    }
+    Ok(())
+}
+
 /// Tells the same of the loaded folder, and then of each that the line names behind its paths.
 fn tell_told(
     alloc: Global,
@@ -93,14 +110,12 @@ fn tell_told(
     out: &mut String,
 ) -> Result<(), NoMemory> {
     let mut watch = watch_by::<Brand>(alloc, base, Blank::new(1))?;
-    tell_valid(out, watch.valid())?;
-    for told in line.as_str().split(' ') {
-        if let Some((paths, folder)) = told.split_once('=') {
-            let paths = paths_of(alloc, paths)?;
-            tell_after(alloc, &mut watch, host, &paths, folder, out)?;
-        }
-    }
-    Ok(())
+    let told = match tell_valid(out, watch.valid()) {
+        Ok(()) => tell_folders(alloc, &mut watch, host, line, out),
+        Err(fault) => Err(fault),
+    };
+    watch.let_go();
+    told
 }
 
 /// Tells whether the folder has a value, and then whether each further one has that a watch is told: a line is a script, and

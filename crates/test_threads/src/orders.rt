@@ -53,7 +53,9 @@ fn has_left(alloc: Global, ran: &Ran, world: &World) -> Result<bool, NoMemory> {
 fn is_as_printed(alloc: Global, base: &Arc<Base>, ran: &Ran) -> Result<bool, NoMemory> {
     let shells = shells_of(alloc, ran.printed())?;
     let world = replayed(alloc, base, &shells)?;
-    has_left(alloc, ran, &world)
+    let left = has_left(alloc, ran, &world);
+    world.let_go();
+    left
 }
 
 /// What a run printed, where it has not left what its printed order says.
@@ -72,7 +74,9 @@ fn wrong_report<R: Threads + Wait + Sync>(
     number: u64,
 ) -> Result<Option<String>, NoMemory> {
     let ran = run(rt, alloc, Arc::try_clone(base)?, &Delays { run: number })?;
-    told_wrong(alloc, base, &ran)
+    let wrong = told_wrong(alloc, base, &ran);
+    ran.let_go();
+    wrong
 }
 
 /// What the first run prints that is not as its order says; an empty text where each run is.
@@ -171,7 +175,9 @@ const PLAYS: [Play; 4] = [LETTERS, NEIGHBOURS, LISTERS, MAKERS];
 fn shells_leave_what_the_printed_order_says(rt: HostRuntime) -> Result<(), Fail> {
     for play in &PLAYS {
         let base = base_of(rt.alloc(), &play.ground, &play.scripts)?;
-        assert_eq!(rt; first_wrong_report(&rt, rt.alloc(), &base)?.as_str(), "");
+        let wrong = first_wrong_report(&rt, rt.alloc(), &base);
+        Base::let_go(base);
+        assert_eq!(rt; wrong?.as_str(), "");
     }
     Ok(())
 }

@@ -25,8 +25,13 @@ pub fn run<R: Threads + Wait + Sync, G: Gate + Sync>(
     gate: &G,
 ) -> Result<Ran, NoMemory> {
     let (board, retries) = run_all(rt, alloc, base, gate)?;
-    let printed = report(alloc, &board, &retries)?;
-    Ok(Ran { board, printed })
+    match report(alloc, &board, &retries) {
+        Ok(printed) => Ok(Ran { board, printed }),
+        Err(fault) => {
+            board.let_go();
+            Err(fault)
+        }
+    }
 }
 
 /// A printed text; an empty one where it is no UTF-8.
@@ -35,6 +40,12 @@ pub fn text_of(printed: &LongText) -> &str {
 }
 
 impl Ran {
+    /// Lets go of the log and of what is printed.
+    pub fn let_go(self) {
+        let Ran { board, .. } = self;
+        board.let_go();
+    }
+
     pub fn printed(&self) -> &str {
         text_of(&self.printed)
     }
@@ -87,5 +98,7 @@ pub fn printed_with<R: Threads + Wait + Sync, G: Gate + Sync>(
     texts: &[(&str, &str)],
 ) -> Result<String, NoMemory> {
     let ran = run(rt, alloc, base, gate)?;
-    told(alloc, &ran, texts)
+    let told = told(alloc, &ran, texts);
+    ran.let_go();
+    told
 }

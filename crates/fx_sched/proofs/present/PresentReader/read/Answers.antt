@@ -8,6 +8,6 @@ use Rattle.fx_sched.proofs.present.PresentReader.read.Goals as goal
 pub returns-clause-vouched : goal.returns-clause-vouched
 returns-clause-vouched c = λ start v. (
   v.0,
-  now_added start.board.now start.reads c.args.self.now.reads c.note.new.reads c.args.path.now c.in_ok-node.node c.in_ok-node.position v.1 c.in_ok-note.ensures.ok
+  now_added start.board.now start.reads c.args.self.now.reads c.keep.new.self c.args.path.now c.in_ok-node.node c.in_ok-node.position v.1 c.in_ok-kept.ensures.kept
       (c.in_ok-node.ensures.node ∙ ap (λ (l : Log). get (last_state l) c.args.path.now) v.0),
 )

@@ -4,7 +4,7 @@ use Rattle.fx_board.proofs.Crosses.{Board-send}
 use Rattle.fx_turn.specs.Seats.{view}
 use Rattle.fx_diary.proofs.Closing.{run_ok}
 use Rattle.fx_workers.proofs.Gathers.{closes, closes_run}
-use Rattle.fx_workers.proofs.running.run_all.Goals as goal
+use Rattle.fx_workers.proofs.running.run_shared.Goals as goal
 
 pub new-requires-send-T : goal.new-requires-send-T
 new-requires-send-T g c κs = search (sendable, Board-send) depth 40
@@ -14,11 +14,11 @@ close-requires-send-T g c κs = search (sendable, Board-send) depth 40
 
 pub returns-clause-complete : goal.returns-clause-complete
 returns-clause-complete g c =
-    closes (base_tree c.args.base.value) (view c.work_over.new.maker) c.in_ok-retries.retries c.close.result c.in_ok-retries.ensures.gathered c.in_ok-retries.ensures.joins c.close.ensures.base c.close.ensures.log c.close.ensures.joined
+    closes (base_tree c.args.base.now.value) (view c.work_over.new.maker) c.in_ok-retries.retries c.close.result c.in_ok-retries.ensures.gathered c.in_ok-retries.ensures.joins c.close.ensures.base c.close.ensures.log c.close.ensures.joined
 
 pub returns-clause-ran : goal.returns-clause-ran
 returns-clause-ran g c =
-    closes_run (base_tree c.args.base.value) (view c.work_over.new.maker) c.in_ok-retries.retries c.close.result c.in_ok-retries.ensures.gathered c.in_ok-retries.ensures.joins c.close.ensures.base c.close.ensures.log c.close.ensures.joined c.close.ensures.seen
+    closes_run (base_tree c.args.base.now.value) (view c.work_over.new.maker) c.in_ok-retries.retries c.close.result c.in_ok-retries.ensures.gathered c.in_ok-retries.ensures.joins c.close.ensures.base c.close.ensures.log c.close.ensures.joined c.close.ensures.seen
 
 pub returns-clause-retries : goal.returns-clause-retries
 returns-clause-retries g c =
@@ -28,5 +28,5 @@ returns-clause-retries g c =
     let gathered = c.in_ok-retries.ensures.gathered in
     let joins = c.in_ok-retries.ensures.joins in
     let e = c.close.ensures in
-    let base = base_tree c.args.base.value in
+    let base = base_tree c.args.base.now.value in
     run_ok log.base log.order retries (closes base maker retries log gathered joins e.base e.log e.joined) (closes_run base maker retries log gathered joins e.base e.log e.joined e.seen)
