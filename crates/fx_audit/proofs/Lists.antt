@@ -1,22 +1,8 @@
 -- Lists, item by item.
-use Rattle.std.proofs.Common.{◌≡◌, ℕ, zero, suc, ◌+◌, ◌<◌, ◌≤◌, List, [], ◌∷◌, ◌++◌, length, take, drop, get_or, map, replicate, slice_get, Some, refl, sym, ap, subst, ◌∙◌, arith, length-append}
+use Rattle.std.proofs.Common.{◌≡◌, ℕ, zero, suc, ◌<◌, ◌≤◌, List, [], ◌∷◌, ◌++◌, length, take, drop, get_or, replicate, slice_get, Some, refl, sym, ap, subst, ◌∙◌, arith, length-append}
 use Rattle.std.specs.List.{Contains}
-use Rattle.std.proofs.lemmas.Option.{same_Some, none-some, slice_get_within, slice_get-get_or, get_or_from_slice_get}
-
-take_suc : {X : Type 0} (xs : List X) (i : ℕ) (x : X) → slice_get xs i ≡ Some x → take (suc i) xs ≡ take i xs ++ x ∷ []
-take_suc [] i x e = absurd (none-some x e)
-take_suc (y ∷ xs) zero x e = ap (λ z. z ∷ []) (same_Some y x e)
-take_suc (y ∷ xs) (suc i) x e = ap (λ l. y ∷ l) (take_suc xs i x e)
-
--- the items up to the next one
-pub take_more : {X : Type 0} (xs : List X) (i : ℕ) (x : X) → slice_get xs i ≡ Some x → take (i + 1) xs ≡ take i xs ++ x ∷ []
-take_more xs i x e = let one : i + 1 ≡ suc i = omega arith in ap (λ n. take n xs) one ∙ take_suc xs i x e
-
-pub map_take : {X Y : Type 0} (f : X → Y) (xs : List X) (i : ℕ) → map f (take i xs) ≡ take i (map f xs)
-map_take f [] zero = refl
-map_take f [] (suc i) = refl
-map_take f (x ∷ xs) zero = refl
-map_take f (x ∷ xs) (suc i) = ap (λ l. f x ∷ l) (map_take f xs i)
+use Rattle.std.proofs.lemmas.Option.{same_Some, none-some, slice_get_within, slice_get-get_or}
+use Rattle.fx_base.proofs.Lists.{at_middle}
 
 -- an item of a slice that holds the list
 pub item_at : {X : Type 0} (held xs : List X) (i : ℕ) (x : X) → held ≡ xs → i < length held → x ≡ get_or held i x → slice_get xs i ≡ Some x
@@ -26,20 +12,6 @@ pub length_front : {X : Type 0} (xs : List X) (i : ℕ) (x : X) → slice_get xs
 length_front [] i x e = absurd (none-some x e)
 length_front (y ∷ xs) zero x e = refl
 length_front (y ∷ xs) (suc i) x e = ap suc (length_front xs i x e)
-
-pub at_middle : {X : Type 0} (xs ys : List X) (x : X) → slice_get (xs ++ x ∷ ys) (length xs) ≡ Some x
-at_middle [] ys x = refl
-at_middle (z ∷ xs) ys x = at_middle xs ys x
-
-pub get_front : {X : Type 0} (xs ys : List X) (i : ℕ) (x : X) → slice_get xs i ≡ Some x → slice_get (xs ++ ys) i ≡ Some x
-get_front [] ys i x e = absurd (none-some x e)
-get_front (z ∷ zs) ys zero x e = e
-get_front (z ∷ zs) ys (suc i) x e = get_front zs ys i x e
-
-pub get_before : {X : Type 0} (xs ys : List X) (i : ℕ) (x : X) → i < length xs → slice_get (xs ++ ys) i ≡ Some x → slice_get xs i ≡ Some x
-get_before [] ys i x h e = absurd (omega (arith, h))
-get_before (z ∷ zs) ys zero x h e = e
-get_before (z ∷ zs) ys (suc i) x h e = get_before zs ys i x (omega (arith, h)) e
 
 -- an item of a list with one more is one of the list, or the one more
 pub record IsLast {X : Type 0} (xs : List X) (y : X) (i : ℕ) (x : X) : Type 0 where
@@ -51,9 +23,6 @@ last_is xs y i x h e =
     let within : i < length (xs ++ y ∷ []) = slice_get_within (xs ++ y ∷ []) i x e in
     let same : i ≡ length xs = omega (arith, h, within, length-append xs (y ∷ [])) in
     record { place = same; item = same_Some y x (sym (at_middle xs [] y) ∙ (ap (λ k. slice_get (xs ++ y ∷ []) k) (sym same) ∙ e)) }
-
-pub from_place : {X : Type 0} (xs : List X) (i : ℕ) (x : X) → slice_get xs i ≡ Some x → Contains xs x
-from_place xs i x e = (i, slice_get_within xs i x e, get_or_from_slice_get xs i x x e)
 
 pub place_of : {X : Type 0} (xs : List X) (x : X) (h : Contains xs x) → slice_get xs h.0 ≡ Some x
 place_of xs x h = slice_get-get_or xs h.0 x h.1 ∙ ap (λ y. Some y) h.2

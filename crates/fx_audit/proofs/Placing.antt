@@ -4,6 +4,7 @@ use Rattle.std.specs.List.{Contains}
 use Rattle.std.proofs.lemmas.Bool.{cases_lt, eqb-true, eqb-false}
 use Rattle.std.proofs.lemmas.List.{get_or-set_same, get_or-set_other, length-set}
 use Rattle.std.proofs.lemmas.Option.{slice_get_within, slice_get-get_or}
+use Rattle.fx_base.proofs.Lists.{at_middle, Contains-at, get_before, get_front}
 use Rattle.fx_spec.specs.Plans.{Turn, count_of}
 use Rattle.fx_spec.specs.Order.{BaseTree, IsComplete, IsLegal}
 use Rattle.fx_spec.proofs.Orders.{legal-next}
@@ -13,7 +14,7 @@ use Rattle.fx_machine.proofs.Reached.{shell_within}
 use Rattle.fx_replay_log.specs.Legal.{IsNextIn}
 use Rattle.fx_audit.specs.Places.{AddsNext, ArePlaces, AreShellPlaces, places_of}
 use Rattle.fx_audit.specs.Verdicts.{IsFirstMissing}
-use Rattle.fx_audit.proofs.Lists.{at_middle, from_place, get_before, get_front, last_is, place_of}
+use Rattle.fx_audit.proofs.Lists.{last_is, place_of}
 
 -- ---- no entries
 
@@ -100,7 +101,7 @@ not_added base o turn table false adds is next = adds next
 -- ---- complete orders
 
 stands : (o : List Turn) (shell txn : ℕ) (places : List ℕ) → AreShellPlaces o shell places → txn < length places → Contains o (shell, txn)
-stands o shell txn places are lt = from_place o (get_or places txn 0) (shell, txn) (are.stand txn (get_or places txn 0) (slice_get-get_or places txn 0 lt))
+stands o shell txn places are lt = Contains-at o (get_or places txn 0) (shell, txn) (are.stand txn (get_or places txn 0) (slice_get-get_or places txn 0 lt))
 
 -- the scripts of the shells below this one are all there
 abbrev pub HasAllBelow : BaseTree → List (List ℕ) → ℕ → Type 0

@@ -7,6 +7,7 @@ use Rattle.std.proofs.lemmas.List.Elements.{All-nil, All-cons, All-head, All-tai
 use Rattle.std.proofs.lemmas.Option.{slice_get_within}
 use Rattle.std.proofs.lemmas.Cmp.{eq_by_cmp_equiv}
 use Rattle.std.proofs.lemmas.Map.Views.{list_any-from_Contains, Contains-from_any}
+use Rattle.fx_base.proofs.Lists.{take_next}
 use Rattle.fx_store.specs.Names.{has_path}
 use Rattle.fx_store.specs.Orders.{path_eq_same, path_total}
 use Rattle.fx_spec.specs.Plans.{Turn}
@@ -18,7 +19,7 @@ use Rattle.fx_board.specs.Board.{IsEntry}
 use Rattle.fx_board.specs.Log.{Log}
 use Rattle.fx_audit.specs.Retries.{IsCause, IsNextRetry, MayFollow}
 use Rattle.fx_audit.specs.Verdicts.{IsFirstUntrue}
-use Rattle.fx_audit.proofs.Lists.{split, take_more}
+use Rattle.fx_audit.proofs.Lists.{split}
 
 -- ---- one retry
 
@@ -93,7 +94,7 @@ abbrev pub trees : List Retry → List RetryTree
 trees rs = map retry_tree rs
 
 trees_more : (rs : List Retry) (m : ℕ) (r : Retry) → slice_get rs m ≡ Some r → trees (take (m + 1) rs) ≡ trees (take m rs) ++ retry_tree r ∷ []
-trees_more rs m r is = ap trees (take_more rs m r is) ∙ map-append retry_tree (take m rs) (r ∷ [])
+trees_more rs m r is = ap trees (take_next rs m r is) ∙ map-append retry_tree (take m rs) (r ∷ [])
 
 -- the retries up to a number are good, and this is the last of them
 pub record AreTried (base : BaseTree) (o : List Turn) (rs : List Retry) (m : ℕ) (last : Option RetryTree) : Type 0 where

@@ -1,6 +1,7 @@
 -- With all that `audit` reads in order, and no fault of host or sink, it is done, or memory runs out.
 use Rattle.std.proofs.Common.{◌≡◌, ◌⊎◌, inl, inr, ℕ, ◌≤◌, ◌<◌, length, subst, Some, IfSome, IsSomeAnd, arith}
 use Rattle.fx_base.specs.Causes.{Rose}
+use Rattle.fx_base.proofs.Booleans.{never_both}
 use Rattle.fx_outside.specs.Host.{HostView}
 use Rattle.fx_outside.specs.Sink.{SinkView}
 use Rattle.fx_outside.specs.Tree.{Tree, is_file_at, bytes_at}
@@ -8,7 +9,7 @@ use Rattle.fx_command.specs.declared.status.Status.{Status}
 use Rattle.fx_command.specs.declared.status.Status.TheVariants as status
 use Rattle.fx_command.specs.declared.status.TextFault.{TextFault}
 use Rattle.fx_command.proofs.Queries.{completes}
-use Rattle.fx_inputs.proofs.AllRead.{can_read, none_refused, two}
+use Rattle.fx_inputs.proofs.AllRead.{can_read, none_refused}
 use Rattle.fx_inputs.proofs.ReadRows.{read_fault_rose}
 use Rattle.fx_inputs.proofs.Readings.{inputs_all_read}
 use Rattle.fx_audit_command.specs.declared.reading.TheConstants.{REPORT_LIMIT}
@@ -24,7 +25,7 @@ not_refused t j word cause proper (inr large) = apart (length (bytes_at t j.repo
 
 can_audit : (t : Tree) (j : AuditJob) → IsProperAudit t j → CannotAudit t j → ⊥
 can_audit t j proper (inl inputs) = can_read t j.inputs proper.inputs inputs
-can_audit t j proper (inr (inputs, none)) = two (is_file_at t j.report) proper.file none
+can_audit t j proper (inr (inputs, none)) = never_both (is_file_at t j.report) proper.file none
 
 fault_rose : (j : AuditJob) (host host' : HostView) → AuditReadFault j host host' → Rose host.faults host'.faults
 fault_rose j host host' (inl fault) = read_fault_rose j.inputs host host' fault

@@ -10,7 +10,7 @@ ghost use Rattle.fx_audit_command.specs.Rows.{AuditRow, AuditEndsAs, AuditAsks, 
 use crate::line::verdict_line;
 use crate::reading::read_report;
 use fx_command::{Status, print_all};
-use fx_inputs::{let_go, read_base};
+use fx_inputs::read_base;
 use fx_outside::{Host, Sink};
 use fx_spec::Base;
 use fx_words::AuditJob;
@@ -36,7 +36,7 @@ fn line_by<H: Host>(
     let bytes = match read_report(alloc, job, host) {
         Ok(bytes) => bytes,
         Err(status) => {
-            let_go(base);
+            Base::let_go(base);
             return Err(status);
         }
     };

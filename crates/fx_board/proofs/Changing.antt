@@ -1,22 +1,12 @@
 -- The paths of changes, one by one, are in ascending order.
 use Rattle.std.proofs.Common.{◌≡◌, ℕ, suc, ◌<◌, List, [], ◌∷◌, ◌++◌, length, get_or, take, drop, sym, ap, subst, ◌∙◌}
-use Rattle.std.specs.declared.cmp.Ordering.{Ordering}
-use Rattle.std.specs.List.{AllByRecursion}
 use Rattle.std.specs.List.Sorted.{IsStrictlySortedBy}
 use Rattle.std.proofs.Math.Seq.{take-suc}
 use Rattle.std.proofs.lemmas.List.{map-append, take-append-drop}
+use Rattle.fx_base.proofs.Lists.{ascending_front}
 use Rattle.fx_store.specs.declared.changes.Change.{Change}
 use Rattle.fx_store.specs.Names.{path_cmp}
 use Rattle.fx_store.specs.Changes.{IsChanges, changed_paths}
-
-all_front : {X : Type 0} (P : X → Type 0) (xs ys : List X) → AllByRecursion P (xs ++ ys) → AllByRecursion P xs
-all_front P [] ys all = tt
-all_front P (x ∷ xs) ys all = (all.0, all_front P xs ys all.1)
-
-ascending_front : {K : Type 0} (R : K → K → Ordering) (ks ls : List K) → IsStrictlySortedBy R (ks ++ ls) → IsStrictlySortedBy R ks
-unfolding IsStrictlySortedBy
-ascending_front R [] ls up = tt
-ascending_front R (k ∷ ks) ls up = (all_front _ ks ls up.0, ascending_front R ks ls up.1)
 
 -- one path more
 pub paths_more : (cs : List Change) (i : ℕ) (c : Change) → i < length cs → c ≡ get_or cs i c → changed_paths (take (suc i) cs) ≡ changed_paths (take i cs) ++ c.path ∷ []

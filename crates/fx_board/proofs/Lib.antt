@@ -3,3 +3,4 @@ pub mod Indexes
 pub mod Settling
 pub mod Empty
 pub mod Crosses
+pub mod Refused

@@ -5,9 +5,10 @@ use Rattle.std.specs.FinMap.{get}
 use Rattle.std.specs.List.{Contains}
 use Rattle.std.specs.Option.{option_map}
 use Rattle.std.specs.Ordering.{eq_by_cmp}
-use Rattle.std.proofs.lemmas.Bool.{true≢false}
 use Rattle.std.proofs.lemmas.List.{length-map, map-append}
-use Rattle.std.proofs.lemmas.Option.{same_Some, none-some, slice_get_within, slice_get-get_or, get_or_from_slice_get}
+use Rattle.std.proofs.lemmas.Option.{same_Some, none-some, slice_get_within, slice_get-get_or}
+use Rattle.fx_base.proofs.Lists.{get_front, Contains-at}
+use Rattle.fx_base.proofs.Names.{path_itself}
 use Rattle.fx_store.specs.declared.node.Node.{Node}
 use Rattle.fx_store.specs.declared.changes.Change.{Change}
 use Rattle.fx_store.specs.Changes.{IsChanges, changed_paths, change_at}
@@ -17,7 +18,6 @@ use Rattle.fx_store.specs.Orders.{path_eq_same}
 use Rattle.fx_store.specs.Whole.{Nodes, IsWhole, over, over_nodes}
 use Rattle.fx_store.proofs.Overlays.{over-change_at}
 use Rattle.fx_store.proofs.Stores.{IsWhole-same, get-over_nodes}
-use Rattle.fx_store.proofs.Tables.{path_itself}
 use Rattle.fx_view.specs.ReadList.{ReadList}
 use Rattle.fx_view.specs.Reads.{IsReads, read_at, Agrees}
 use Rattle.fx_spec.specs.declared.base.Base.{Base}
@@ -32,9 +32,8 @@ use Rattle.fx_machine.specs.declared.entry.Entry.{Entry}
 use Rattle.fx_machine.specs.Explained.{IsExplained, RunsAs, IsNew}
 use Rattle.fx_machine.specs.Machine.{next_number}
 use Rattle.fx_machine.specs.Passes.{AreTrueReads}
-use Rattle.fx_machine.specs.Measure.{same_node}
 use Rattle.fx_machine.proofs.Legal.{fewer_settled}
-use Rattle.fx_machine.proofs.Stale.{same_is, same_itself}
+use Rattle.fx_machine.proofs.Stays.{stays_through}
 use Rattle.fx_board.specs.Board.{IsEntry, IsBoard, IsIndex, IsFreshReads, IsNamed, log_of, turn_of, settled}
 use Rattle.fx_board.specs.Growing.{entry_of, nodes_by, StaysWhole}
 use Rattle.fx_board.specs.Log.{Log}
@@ -46,21 +45,7 @@ Path = List (List ℕ)
 
 -- ---- nodes that do not differ are the same
 
-pub same_unless : (a b : Option Node) → (a ≢ b → ⊥) → a ≡ b
-same_unless a b unless = at (same_node a b) refl
-  where
-    at : (t : Bool) → same_node a b ≡ t → a ≡ b
-    at true e = same_is a b e
-    at false e = absurd (unless (λ same. true≢false (sym (same_itself a) ∙ (ap (same_node a) same ∙ e))))
-
 -- ---- what stays where no entry changes it
-
-stays_through : (base : BaseTree) (o : List Turn) (path : Path) (position more : ℕ) → ((entry : ℕ) → position ≤ entry → entry < position + more → Changes base o entry path → ⊥) → get (state base o position) path ≡ get (state base o (position + more)) path
-stays_through base o path position zero none = ap (λ n. get (state base o n) path) (omega arith)
-stays_through base o path position (suc more) none =
-    stays_through base o path position more (λ entry le lt. none entry le (omega (arith, lt)))
-    ∙ (same_unless (get (state base o (position + more)) path) (get (state base o (suc (position + more))) path) (none (position + more) (omega arith) (omega arith))
-    ∙ ap (λ n. get (state base o n) path) (omega arith))
 
 -- where no entry from some position on changes a path, what stood there stands there now
 pub stands_now : (base : BaseTree) (o : List Turn) (path : Path) (position : ℕ) → position ≤ length o → ((entry : ℕ) → position ≤ entry → Changes base o entry path → ⊥) → get (state base o position) path ≡ get (state base o (length o)) path
@@ -103,9 +88,6 @@ is_changed (c ∷ cs) path now e = at (eq_by_cmp path_cmp path c.path) refl e (i
     at true f e rest = (0, ap Some (sym (path_eq_same path c.path f)))
     at false f e rest = let found = rest e in (suc found.0, found.1)
 
-contains_at : {X : Type 0} (xs : List X) (k : ℕ) (x : X) → slice_get xs k ≡ Some x → Contains xs x
-contains_at xs k x e = (k, slice_get_within xs k x e, get_or_from_slice_get xs k x x e)
-
 -- what the changes leave at a path
 left_at : (nodes : Nodes) (cs : List Change) → IsChanges cs → (path : Path) → get (over_nodes nodes cs) path ≡ unwrap_or (change_at cs path) (get nodes path)
 left_at nodes cs up path = get-over_nodes nodes cs path ∙ over-change_at (get nodes) cs up path
@@ -136,7 +118,7 @@ module _ (base : BaseTree) (o : List Turn) (a : Attempt) (explained : IsExplaine
     where
       at : (c : Option (Option Node)) → change_at a.changes path ≡ c → Contains (changed_paths a.changes) path
       at None e = absurd (other (sym (left_at (state base o (length o)) a.changes up path ∙ ap (λ c. unwrap_or c (get (state base o (length o)) path)) e)))
-      at (Some node) e = let found = is_changed a.changes path node e in contains_at (changed_paths a.changes) found.0 path found.1
+      at (Some node) e = let found = is_changed a.changes path node e in Contains-at (changed_paths a.changes) found.0 path found.1
 
   pub next_legal : IsLegal base o → IsLegal base (o ++ (a.shell, a.txn) ∷ [])
   next_legal legal =
@@ -150,11 +132,6 @@ order_of entries = map turn_of entries
 
 pub order_more : (entries : List Entry) (e : Entry) → order_of (entries ++ e ∷ []) ≡ order_of entries ++ turn_of e ∷ []
 order_more entries e = map-append turn_of entries (e ∷ [])
-
-front_at : {X : Type 0} (xs ys : List X) (i : ℕ) (x : X) → slice_get xs i ≡ Some x → slice_get (xs ++ ys) i ≡ Some x
-front_at [] ys i x e = absurd (none-some _ e)
-front_at (y ∷ xs) ys zero x e = e
-front_at (y ∷ xs) ys (suc i) x e = front_at xs ys i x e
 
 last_at : {X : Type 0} (xs : List X) (x : X) → slice_get (xs ++ x ∷ []) (length xs) ≡ Some x
 last_at [] x = refl
@@ -173,7 +150,7 @@ entry_stays log i e shell txn entry =
     let here : state log.base log.order i ≡ state log.base (log.order ++ (shell, txn) ∷ []) i = sym (state-front log.base log.order ((shell, txn) ∷ []) i (omega (arith, lt))) in
     let there : state log.base log.order (suc i) ≡ state log.base (log.order ++ (shell, txn) ∷ []) (suc i) = sym (state-front log.base log.order ((shell, txn) ∷ []) (suc i) (omega (arith, lt))) in
     record {
-      turn = front_at log.order ((shell, txn) ∷ []) i (turn_of e) entry.turn;
+      turn = get_front log.order ((shell, txn) ∷ []) i (turn_of e) entry.turn;
       txn = entry.txn;
       planned = entry.planned;
       outputs = subst (λ (n : Nodes). outputs log.base.description entry.txn (get n) ≡ e.outputs) here entry.outputs;

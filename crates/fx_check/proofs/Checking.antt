@@ -1,5 +1,5 @@
 -- The checks against what is well shaped.
-use Rattle.std.proofs.Common.{◌≡◌, ℕ, suc, take, length, arith, append_assoc, Bool, true, false, cond, ◌&&◌, nat_eq, All, List, [], ◌∷◌, ◌++◌, Option, Some, None, Result, Ok, Err, IsErrAnd, refl, sym, ap, subst, ◌∙◌}
+use Rattle.std.proofs.Common.{◌≡◌, ℕ, suc, take, length, arith, append_assoc, Bool, true, false, cond, nat_eq, All, List, [], ◌∷◌, ◌++◌, Option, Some, None, Result, Ok, Err, IsErrAnd, refl, sym, ap, subst, ◌∙◌}
 use Rattle.std.proofs.lemmas.Bool.Decides.{nat_tests}
 use Rattle.std.proofs.lemmas.List.{append-nil}
 use Rattle.std.proofs.Math.Seq.{take-append_seam}
@@ -11,7 +11,7 @@ use Rattle.fx_expr.specs.Closed.{IsShaped}
 use Rattle.fx_expr.specs.ExprTree.{ExprTree}
 use Rattle.fx_expr.specs.ShapeTree.{ShapeTree}
 use Rattle.fx_expr.specs.Shapes.{HasShape, BinShape, UnShape, IsComparable, IsOrdered, IsSized}
-use Rattle.fx_spec.proofs.Shaped.{same_shapes}
+use Rattle.fx_spec.proofs.Shaped.{same_shapes, shape_itself}
 use Rattle.fx_spec.specs.Written.{WrittenTree, DefTree, definition}
 use Rattle.fx_spec.specs.Move.{same_shape}
 use Rattle.fx_spec.specs.CommandTree.{ActTree, CommandTree, Block, block, count}
@@ -40,15 +40,6 @@ given o f x e = ap (λ o. o >>= f) e
 
 -- ---- equal shapes
 
-pub same_as_itself : (s : ShapeTree) → same_shape s s ≡ true
-same_as_itself ShapeTree.str = refl
-same_as_itself ShapeTree.int = refl
-same_as_itself ShapeTree.bool = refl
-same_as_itself ShapeTree.names = refl
-same_as_itself (ShapeTree.pair a b) = ap (λ t. t && same_shape b b) (same_as_itself a) ∙ same_as_itself b
-same_as_itself (ShapeTree.opt a) = same_as_itself a
-same_as_itself (ShapeTree.table a) = same_as_itself a
-
 -- ---- parts
 
 -- what is found is what was given, and it is the shape that is expected
@@ -64,7 +55,7 @@ pub needed_fits : (expected found given : ShapeTree) → needed expected found �
 needed_fits expected found given e = choose_fits (same_shape expected found) expected found given (Fault.differs expected found) (same_shapes expected found) e
 
 pub needed_self : (s : ShapeTree) → needed s s ≡ Ok s
-needed_self s = ap (λ b. cond {A = OrFault ShapeTree} b (Ok s) (Err (Fault.differs s s))) (same_as_itself s)
+needed_self s = ap (λ b. cond {A = OrFault ShapeTree} b (Ok s) (Err (Fault.differs s s))) (shape_itself s)
 
 allowed_fits : (b : Bool) (found given : ShapeTree) → allowed b found ≡ Ok given → (b ≡ true) × (given ≡ found)
 allowed_fits true found given e = (refl, cc)

@@ -32,10 +32,6 @@ take_whole [] (suc i) e = refl
 take_whole (x ∷ xs) zero e = absurd (cc)
 take_whole (x ∷ xs) (suc i) e = ap (λ l. x ∷ l) (take_whole xs i e)
 
-pub none_of : {A : Type 0} (xs : List A) → length xs ≡ 0 → xs ≡ []
-none_of [] e = refl
-none_of (x ∷ xs) e = absurd (omega (arith, e))
-
 -- ---- definitions
 
 -- so many definitions have been checked, and these are left

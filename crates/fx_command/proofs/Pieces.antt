@@ -1,12 +1,12 @@
 -- Reading a file piece by piece: what is read is a front of it, until the end.
 use Rattle.std.proofs.Common.{◌≡◌, ℕ, ◌+◌, ◌≤◌, ◌<◌, Bool, true, false, List, [], ◌++◌, length, take, drop, refl, sym, ap, subst, ◌∙◌, arith, Option, Some, None, Result, Ok, Err, IfSome, length-append}
 use Rattle.std.specs.Prelude.{IsOk, IsErr}
-use Rattle.std.proofs.Math.Seq.{take-add, take-length, take-append_seam}
-use Rattle.std.proofs.lemmas.List.{length-take}
+use Rattle.std.proofs.Math.Seq.{take-add, take-length}
 use Rattle.fx_outside.specs.declared.kind.HostFault.{HostFault}
 use Rattle.fx_outside.specs.Host.{HostView, HasCause, IsFaultless, ReadsAt, ReadsOnly, AsksAt}
 use Rattle.fx_outside.proofs.Views.{reads_none, reads_then, at_then}
 use Rattle.fx_outside.specs.Tree.{Tree, is_file_at, bytes_at}
+use Rattle.fx_outside.proofs.Pieces.{cut_piece}
 use Rattle.fx_command.specs.Texts.{IsFrontAt, IsReadAt}
 
 -- a call that answers suits the tree
@@ -25,16 +25,6 @@ suited result path suits old new ok cause = suits_told result suits old.told ((n
     if_pairs : (told : Option Tree) → IfSome told (λ tree. suits tree ≡ false → IsErr result × (new.told ≡ old.told) × IsFaultless old new) → IfSome told (λ tree. suits tree ≡ false → IsErr result × ((new.told ≡ old.told) × IsFaultless old new))
     if_pairs None h = tt
     if_pairs (Some tree) h = λ e. ((h e).0, ((h e).1, (h e).2))
-
--- the front of the buffer that was read, cut out
-cut_piece : (bytes buffer : List ℕ) (from n : ℕ) → n ≤ length buffer → ReadsAt bytes from n buffer → ReadsAt bytes from (length (take n buffer)) (take n buffer)
-cut_piece bytes buffer from n bound reads =
-    let count : length (take n buffer) ≡ n = length-take n buffer ∙ omega arith in
-    record {
-      bytes = take-length (take n buffer) ∙ reads.bytes ∙ ap (λ m. take m (drop from bytes)) (sym count);
-      within = omega (arith, count, reads.within);
-      ends = λ none. reads.ends (omega (arith, count));
-    }
 
 pub cut : (told : Option Tree) (path buffer : List ℕ) (from n : ℕ) → n ≤ length buffer → IfSome told (λ tree. ReadsAt (bytes_at tree path) from n buffer) → IfSome told (λ tree. ReadsAt (bytes_at tree path) from (length (take n buffer)) (take n buffer))
 cut None path buffer from n bound reads = tt
@@ -138,9 +128,6 @@ told_full (Some tree) path limit text front full = front_full tree path limit te
 
 pub is_full : (old host : HostView) (path : List ℕ) (limit : ℕ) (text : List ℕ) → IsReading old host path text → limit < length text → IfSome old.told (λ tree. IsReadAt tree path limit text)
 is_full old host path limit text was full = told_full old.told path limit text was.front full
-
-pub take_front : (buffer rest cut : List ℕ) (len n : ℕ) → cut ≡ take n (take len (buffer ++ rest)) → len ≡ length buffer → cut ≡ take n buffer
-take_front buffer rest cut len n is all = is ∙ ap (λ m. take n (take m (buffer ++ rest))) all ∙ ap (λ x. take n x) (take-append_seam buffer rest)
 
 pub cut_to : (told : Option Tree) (path buffer cut : List ℕ) (from n : ℕ) → cut ≡ take n buffer → IfSome told (λ tree. ReadsAt (bytes_at tree path) from (length (take n buffer)) (take n buffer)) → IfSome told (λ tree. ReadsAt (bytes_at tree path) from (length cut) cut)
 cut_to told path buffer cut from n is reads = subst (λ x. IfSome told (λ tree. ReadsAt (bytes_at tree path) from (length x) x)) (sym is) reads

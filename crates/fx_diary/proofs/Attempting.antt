@@ -7,6 +7,7 @@ use Rattle.std.proofs.lemmas.Bool.{cases_lt, eqb-false}
 use Rattle.std.proofs.lemmas.Bool.Decides.{nat_tests}
 use Rattle.std.proofs.lemmas.List.{append-nil, map-append}
 use Rattle.std.proofs.lemmas.Option.{none-some, same_Some}
+use Rattle.fx_base.proofs.Lists.{some_at}
 use Rattle.fx_store.specs.declared.node.Node.{Node}
 use Rattle.fx_store.specs.Names.{IsPath, path_cmp}
 use Rattle.fx_store.specs.Whole.{Nodes}
@@ -16,6 +17,7 @@ use Rattle.fx_spec.specs.Order.{BaseTree, state, numbers_of}
 use Rattle.fx_spec.proofs.Orders.{state-front}
 use Rattle.fx_view.specs.ReadList.{ReadList}
 use Rattle.fx_view.specs.Reads.{read_at, nodes_in}
+use Rattle.fx_view.proofs.Lists.{read_more_cases}
 use Rattle.fx_machine.specs.declared.event.Event.TheVariants as event
 use Rattle.fx_machine.specs.declared.retry.Retry.{Retry}
 use Rattle.fx_machine.specs.Machine.{Look, HasSeenAll, next_number}
@@ -26,7 +28,7 @@ use Rattle.fx_board.specs.Board.{IsFreshReads, IsNamed}
 use Rattle.fx_board.specs.Log.{Log}
 use Rattle.fx_sched.specs.Moves.{AllRead}
 use Rattle.fx_sched.specs.Shells.{looks_in}
-use Rattle.fx_sched.proofs.Looks.{unlooked, comes_next, has_seen_all, fresh_at, named_at, read_more_cases}
+use Rattle.fx_sched.proofs.Looks.{unlooked, comes_next, has_seen_all, fresh_at, named_at}
 use Rattle.fx_diary.specs.Diaries.{Does, Diary}
 use Rattle.fx_diary.specs.Positions.{InTurn}
 use Rattle.fx_diary.proofs.Growing.{by_event, by_other, by_own}
@@ -78,11 +80,6 @@ quiet_between o shell number first last old new time low high =
     let most = next_rises o shell time last high in
     omega (arith, old, new, more, most)
 
-there : (o : List Turn) (time : ℕ) → time < length o → (turn : Turn) × (slice_get o time ≡ Some turn)
-there [] time h = absurd (omega (arith, h))
-there (x ∷ o) zero h = (x, refl)
-there (x ∷ o) (suc time) h = there o time (omega (arith, h))
-
 -- ---- reads
 
 -- what a front of the reads has, all of them have
@@ -118,7 +115,7 @@ module _ (base : BaseTree) (o : List Turn) (shell number first last : ℕ) (with
   pub waits_to : (later time : ℕ) (looks : List Look) (retries : List Retry) → first ≤ time → time ≤ later → later ≤ last → Diary base o shell time looks retries → Diary base o shell later looks retries
   waits_to zero time looks retries low up high d = subst (λ t. Diary base o shell t looks retries) (let e : time ≡ 0 = omega (arith, up) in e) d
   waits_to (suc later) time looks retries low up high d = ⊎_elim
-      (λ (early : time < suc later). (let before : time ≤ later = omega (arith, early) in let turn = there o later (omega (arith, high, within)) in
+      (λ (early : time < suc later). (let before : time ≤ later = omega (arith, early) in let turn = some_at o later (omega (arith, high, within)) in
       by_other base o shell later looks retries turn.0 (waits_to later time looks retries low before (omega (arith, high)) d) turn.1 (others later turn.0 (omega (arith, low, before)) high turn.1)))
       (λ (late : suc later ≤ time). subst (λ t. Diary base o shell t looks retries) (let e : time ≡ suc later = omega (arith, up, late) in e) d) (cases_lt time (suc later))
 

@@ -4,6 +4,7 @@ use Rattle.std.specs.List.{All, Contains, cons_option}
 use Rattle.std.proofs.lemmas.Bool.Decides.{nat_tests}
 use Rattle.std.proofs.lemmas.List.Elements.{All-nil, All-cons, Contains-append_cases}
 use Rattle.std.specs.Prelude.{nat_lt}
+use Rattle.fx_base.proofs.Lists.{only_one}
 use Rattle.fx_spec.specs.Plans.{Turn, script_of, count_of}
 use Rattle.fx_spec.specs.Order.{BaseTree, IsComplete, numbers_of, first_numbers}
 use Rattle.fx_machine.specs.declared.event.Event.{Event}
@@ -19,15 +20,11 @@ use Rattle.fx_diary.specs.Laws.{RunsHaveSchedules}
 
 -- ---- nothing is left of a complete order
 
-one_of : (x k : ℕ) → Contains (x ∷ []) k → x ≡ k
-one_of x k (zero, h, same) = same
-one_of x k (suc i, h, same) = absurd (omega (arith, h))
-
 first_below : (n k : ℕ) → Contains (first_numbers n) k → k < n
 first_below zero k h = absurd (let l = h.1 in omega (arith, l))
 first_below (suc n) k h =
     ⊎_elim (λ (l : Contains (first_numbers n) k). (let below = first_below n k l in omega (arith, below)))
-    (λ (l : Contains (n ∷ []) k). (let same = one_of n k l in omega (arith, same))) (Contains-append_cases (first_numbers n) (n ∷ []) k h)
+    (λ (l : Contains (n ∷ []) k). (let same = only_one n k l in omega (arith, same))) (Contains-append_cases (first_numbers n) (n ∷ []) k h)
 
 -- the number of a shell's transaction that stands in an order
 has_number : (o : List Turn) (shell txn : ℕ) → Contains o (shell, txn) → Contains (numbers_of shell o) txn

@@ -1,5 +1,5 @@
 -- The events of all shells, by the time of each entry, one shell after another.
-use Rattle.std.proofs.Common.{Bool, true, false, cond, nat_eq, nat_lt, ◌≡◌, ◌≢◌, ⊎_elim, ℕ, zero, suc, ◌+◌, ◌<◌, ◌≤◌, List, [], ◌∷◌, ◌++◌, length, take, get_or, set, replicate, slice_get, Some, refl, sym, ap, subst, ◌∙◌, arith, length-take}
+use Rattle.std.proofs.Common.{Bool, true, false, cond, nat_eq, nat_lt, ◌≡◌, ◌≢◌, ⊎_elim, ℕ, zero, suc, ◌+◌, ◌<◌, ◌≤◌, List, [], ◌∷◌, ◌++◌, length, take, set, replicate, slice_get, Some, refl, sym, ap, subst, ◌∙◌, arith, length-take}
 use Rattle.std.proofs.lemmas.Bool.{cases_lt, cases_eq}
 use Rattle.std.proofs.lemmas.List.{length-set, length-replicate, ext_get_or, get_or-set_same, get_or-set_other, take_all}
 use Rattle.std.specs.List.{flat_map}
@@ -8,6 +8,7 @@ use Rattle.std.proofs.lemmas.Bool.{ne_eqb}
 use Rattle.std.proofs.lemmas.List.{append-nil}
 use Rattle.std.proofs.lemmas.List.Concat.{flat_map-append}
 use Rattle.std.proofs.lemmas.Option.{none-some, same_Some}
+use Rattle.fx_base.proofs.Lists.{some_at}
 use Rattle.fx_spec.specs.Plans.{Turn}
 use Rattle.fx_spec.specs.Order.{BaseTree, first_numbers}
 use Rattle.fx_machine.specs.declared.event.Event.{Event}
@@ -15,6 +16,7 @@ use Rattle.fx_machine.specs.declared.event.Event.TheVariants as event
 use Rattle.fx_machine.specs.declared.retry.Retry.{Retry}
 use Rattle.fx_machine.specs.Tried.{conflicts_of}
 use Rattle.fx_machine.specs.Machine.{Machine, Look, Run, Step, looks_of, next_number, resting}
+use Rattle.fx_machine.proofs.Reached.{none_looked}
 use Rattle.fx_progress.proofs.Turning.{runs_on, settled_by, settled_cons, next_counts}
 use Rattle.fx_sched.specs.Named.{NamesConflict, NameConflicts}
 use Rattle.fx_diary.proofs.Naming.{NamesAll, name_on, name_conflicts, same_run, same_step}
@@ -253,11 +255,6 @@ module _ (base : BaseTree) (o : List Turn) (retries : ℕ → List Retry) (diary
           let no : nat_lt k 0 ≡ false = grind (arith, nat_tests) in
           ap (λ c. front ++ cond c (retries_at o k (diary k).events time) []) no ∙ append-nil front
 
-  no_looks_at : (n k : ℕ) → get_or (replicate n (let none : List Look = [] in none)) k [] ≡ []
-  no_looks_at zero k = refl
-  no_looks_at (suc n) zero = refl
-  no_looks_at (suc n) (suc k) = no_looks_at n k
-
   -- a run to a time, before anything is done then
   comes_to : (time : ℕ) → time ≤ length o → Reach time 0
   comes_to zero early = record {
@@ -268,24 +265,19 @@ module _ (base : BaseTree) (o : List Turn) (retries : ℕ → List Retry) (diary
     order = refl;
     shells = length-replicate (length base.plan) [];
     past = λ k l h. absurd (omega (arith, l));
-    left = λ k l h. no_looks_at (length base.plan) k ∙ sym (diary k).starts;
+    left = λ k l h. none_looked (length base.plan) k ∙ sym (diary k).starts;
     told = λ k h. (let no : nat_lt k 0 ≡ false = grind (arith, nat_tests) in ap (λ c. cond c (retries_at o k (diary k).events 0) []) (sym no));
   }
   comes_to (suc time) early =
-      let turn = there o time early in
+      let turn = some_at o time early in
       an_entry time turn.0 turn.1 (all_shells time (length base.plan) (omega (arith, early)) (omega arith) (comes_to time (omega (arith, early))))
-    where
-      there : (o : List Turn) (time : ℕ) → time < length o → (turn : Turn) × (slice_get o time ≡ Some turn)
-      there [] time h = absurd (omega (arith, h))
-      there (x ∷ o) zero h = (x, refl)
-      there (x ∷ o) (suc time) h = there o time (omega (arith, h))
 
   -- all is done, and nothing is looked at any more
   rests : (r : Reach (length o) (length base.plan)) → r.m ≡ resting base o
   rests r =
       let m : Machine = r.m in
       let empty : m.looks ≡ replicate (length base.plan) [] = ext_get_or [] m.looks (replicate (length base.plan) []) (r.shells ∙ sym (length-replicate (length base.plan) []))
-      (λ k h. (let w : k < length base.plan = (let s = r.shells in omega (arith, h, s)) in r.past k w w ∙ (diary k).now ∙ sym (no_looks_at (length base.plan) k))) in
+      (λ k h. (let w : k < length base.plan = (let s = r.shells in omega (arith, h, s)) in r.past k w w ∙ (diary k).now ∙ sym (none_looked (length base.plan) k))) in
       let with_order : List Turn → Machine = λ order. record { order = order; looks = m.looks } in
       let with_all : List (List Look) → Machine = λ looks. record { order = o; looks = looks } in
       ap with_order (r.order ∙ take_all (length o) o (omega arith)) ∙ ap with_all empty

@@ -4,7 +4,7 @@ use Rattle.std.specs.Prelude.{nat_lt, if◌then◌else◌, IfSome, IfErr}
 use Rattle.std.specs.Int.{w32, from_be_bytes}
 use Rattle.std.proofs.lemmas.Bool.{cases_lt}
 use Rattle.std.proofs.lemmas.Bool.{false≢true}
-use Rattle.std.proofs.lemmas.List.{append-nil, drop_all, take_all, drop-take, length-take, length-drop, map-append}
+use Rattle.std.proofs.lemmas.List.{append-nil, take_all, drop-take, length-take, length-drop, map-append, drop-drop}
 use Rattle.std.proofs.lemmas.Bool.Decides.{nat_tests}
 use Rattle.fx_base.specs.Limits.{txn_limit}
 use Rattle.fx_durable.specs.Journal.{before, reading, is_open, turn_in, turn_of, turns_of, value_of, IsRead, Reads, IsUnread, HasReadFault, IsCalm}
@@ -61,14 +61,6 @@ reading_one : (left : ℕ) (image : List ℕ) → is_open image ≡ true → 8 �
 reading_one left [] open' long = absurd (false≢true open')
 reading_one left (gate ∷ rest) open' long = rw (open', is_long rest long) refl
 
-drops : (k n : ℕ) (l : List ℕ) → drop k (drop n l) ≡ drop (n + k) l
-drops k zero l = ap (λ m. drop m l) (omega arith)
-drops k (suc n) [] = drop_all k [] (omega arith) ∙ sym (drop_all (suc n + k) [] (omega arith))
-drops k (suc n) (x ∷ l) = drops k n l ∙ ap (λ m. drop m (x ∷ l)) (step n k)
-  where
-    step : (n k : ℕ) → suc (n + k) ≡ suc n + k
-    step n k = omega arith
-
 module _ (bytes : List ℕ) (order : List Turn) (place : ℕ) (so_far : IsReadTo bytes order place) where
   pub ends : is_open (drop place bytes) ≡ false → reading txn_limit bytes ≡ Ok order
   ends shut = so_far.read ∙ ap (behind_order order) (reading_end (txn_limit - length order) (drop place bytes) shut) ∙ ap (λ l. Ok l) (append-nil order)
@@ -80,7 +72,7 @@ module _ (bytes : List ℕ) (order : List Turn) (place : ℕ) (so_far : IsReadTo
   is_full open' full = breaks (reading_full (txn_limit - length order) (drop place bytes) open' (omega (arith, full)))
 
   behind : drop 1 (drop place bytes) ≡ drop (place + 1) bytes
-  behind = drops 1 place bytes
+  behind = drop-drop 1 place bytes
 
   pub is_cut : is_open (drop place bytes) ≡ true → length (drop (place + 1) bytes) < 8 → reading txn_limit bytes ≡ Err (length order)
   is_cut open' short = breaks (reading_short (txn_limit - length order) (drop place bytes) open' (omega (arith, short, ap length behind)))
@@ -97,7 +89,7 @@ module _ (bytes : List ℕ) (order : List Turn) (place : ℕ) (so_far : IsReadTo
             ∙ ap (λ n. behind_order order (reading n image)) left
             ∙ ap (behind_order order) (reading_one m image open' (omega (arith, long, ap length behind)))
             ∙ behind_more order (turn_in (drop 1 image)) (reading m (drop 9 image))
-            ∙ (λ i. behind_order (order ++ first i ∷ []) (reading m (drops 9 place bytes i)));
+            ∙ (λ i. behind_order (order ++ first i ∷ []) (reading m (drop-drop 9 place bytes i)));
         size = omega (arith, count, room);
         inside = omega (arith, long, length-drop (place + 1) bytes);
       }

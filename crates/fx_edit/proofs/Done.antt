@@ -1,13 +1,9 @@
 -- What an edit comes to: its changes are put, it is refused, or it stops.
-use Rattle.std.proofs.Common.{◌≡◌, ℕ, Bool, true, false, cond, List, [], ◌∷◌, ◌++◌, Option, Some, Result, Ok, Err, refl, sym, subst, ap, ◌∙◌}
+use Rattle.std.proofs.Common.{◌≡◌, ℕ, List, [], ◌∷◌, ◌++◌, Result, Ok, Err, refl, sym, subst, ap, ◌∙◌}
 use Rattle.std.specs.Prelude.{IsErrAnd}
-use mathlib.Core.Path.{fun_ext}
-use Rattle.std.specs.Ordering.{eq_by_cmp}
-use Rattle.fx_store.specs.declared.node.Node.{Node}
 use Rattle.fx_store.specs.declared.changes.Change.{Change}
-use Rattle.fx_store.specs.Names.{path_cmp}
-use Rattle.fx_store.specs.Rule.{Known, Ask, seen, changed}
-use Rattle.fx_store.specs.Whole.{Store, IsWhole, update, over}
+use Rattle.fx_store.specs.Rule.{Known, Ask, changed}
+use Rattle.fx_store.specs.Whole.{Store, IsWhole}
 use Rattle.fx_spec.specs.EditLooks.{LooksAtChanges}
 use Rattle.fx_spec.specs.Laws.{KeepsWhole}
 use Rattle.fx_spec.specs.Move.{Answered}
@@ -17,7 +13,7 @@ use Rattle.fx_view.specs.Own.{own_at, put_own, put_all, AreRead}
 use Rattle.fx_view.specs.OwnList.{OwnList}
 use Rattle.fx_view.specs.Reads.{known_of}
 use Rattle.fx_base.proofs.Errors.{err_of}
-use Rattle.fx_view.proofs.Owning.{own_at-put, read_more, read_put}
+use Rattle.fx_view.proofs.Owning.{read_more, read_put, changed-put_all}
 use Rattle.fx_view.proofs.Rules.{found_answer}
 use Rattle.fx_session.specs.declared.halt.Halt.{Halt}
 use Rattle.fx_session.specs.declared.halt.Halt.TheVariants as halt
@@ -26,17 +22,6 @@ use Rattle.fx_session.specs.Implements.{Answers}
 use Rattle.fx_edit.specs.Edits.{Edits, done, under}
 
 -- ---- own changes that are put on top
-
-changed-put : (S : Store) (own : OwnList) (c : Change) → changed (own_at (put_own own c.path c.node)) S ≡ update (changed (own_at own) S) c
-changed-put S own c = fun_ext (λ p. ap (λ o. seen o (S p)) (own_at-put own c.path c.node p) ∙ at (eq_by_cmp path_cmp p c.path) (own_at own p) (S p))
-  where
-    at : (b : Bool) (o : Option (Option Node)) (s : Option Node) → seen (cond b (Some c.node) o) s ≡ cond b c.node (seen o s)
-    at true o s = refl
-    at false o s = refl
-
-changed-put_all : (S : Store) (own : OwnList) (cs : List Change) → changed (own_at (put_all own cs)) S ≡ over (changed (own_at own) S) cs
-changed-put_all S own [] = refl
-changed-put_all S own (c ∷ cs) = changed-put_all S (put_own own c.path c.node) cs ∙ ap (λ T. over T cs) (changed-put S own c)
 
 -- ---- the three ways that an edit goes
 

@@ -1,9 +1,9 @@
 -- The node that a value makes.
 use Rattle.std.proofs.Common.{◌≡◌, ℕ, suc, ◌<◌, All, Bool, true, false, cond, List, [], ◌∷◌, length, Some, None, Result, Ok, Err, refl, sym, ap, ◌∙◌, arith}
-use Rattle.std.specs.Prelude.{nat_le, nat_lt, ◌&&◌, nat_eq, IsErrAnd}
+use Rattle.std.specs.Prelude.{nat_le, nat_lt, nat_eq, IsErrAnd}
 use Rattle.std.specs.Cmp.Lexicographic.{pointwise, nat_list_eq_equiv, lists_equiv}
 use Rattle.std.specs.List.{list_all}
-use Rattle.std.proofs.lemmas.Bool.{le-leb}
+use Rattle.std.proofs.lemmas.Bool.{le-leb, and_from}
 use Rattle.std.proofs.lemmas.List.Elements.{All-head, All-tail}
 use Rattle.fx_store.specs.declared.node.Node.{Node}
 use Rattle.fx_store.specs.declared.node.Node.TheVariants.{File}
@@ -12,6 +12,7 @@ use Rattle.fx_store.specs.declared.name.PathFault.TheVariants.{BadName, TooDeep}
 use Rattle.fx_store.specs.Faults.{read_link, Answers as Reads}
 use Rattle.fx_store.specs.Names.{IsContent}
 use Rattle.fx_expr.specs.Sets.{IsAscending, set_of}
+use Rattle.fx_expr.specs.Parts.{text_of, truth_of, names_of}
 use Rattle.fx_expr.specs.Tree.{Tree}
 use Rattle.fx_text.proofs.Canon.{ascending_set, has_set, same_sets}
 use Rattle.fx_spec.specs.declared.refusal.Refusal.{Refusal}
@@ -20,21 +21,17 @@ use Rattle.fx_spec.specs.Move.{Answered}
 use Rattle.fx_spec.specs.SpecTree.{SpecTree}
 use Rattle.fx_session.specs.declared.halt.Halt.{Halt}
 use Rattle.fx_session.specs.Faults.{of_path}
-use Rattle.fx_edit.specs.Values.{text_of, texts_of, flag_of, Tells}
+use Rattle.fx_edit.specs.Values.{Tells}
 use Rattle.fx_edit.proofs.Naming.{fault_told}
 
 -- ---- a text within its limits, and a set in order
 
-both_true : (a b : Bool) → a ≡ true → b ≡ true → a && b ≡ true
-both_true true b p q = q
-both_true false b p q = cc
-
 all_bytes : (bytes : List ℕ) → All (λ b. b < 256) bytes → list_all (λ b. nat_lt b 256) bytes ≡ true
 all_bytes [] all = refl
-all_bytes (b ∷ bytes) all = both_true (nat_lt b 256) (list_all (λ b. nat_lt b 256) bytes) (le-leb (suc b) 256 (omega (arith, All-head (λ b. b < 256) b bytes all))) (all_bytes bytes (All-tail (λ b. b < 256) b bytes all))
+all_bytes (b ∷ bytes) all = and_from (nat_lt b 256) (list_all (λ b. nat_lt b 256) bytes) (le-leb (suc b) 256 (omega (arith, All-head (λ b. b < 256) b bytes all))) (all_bytes bytes (All-tail (λ b. b < 256) b bytes all))
 
 is_content_of : (bytes : List ℕ) → IsContent bytes → is_content bytes ≡ true
-is_content_of bytes content = both_true (nat_le (length bytes) 1048576) (list_all (λ b. nat_lt b 256) bytes) (le-leb (length bytes) 1048576 content.short) (all_bytes bytes content.bytes)
+is_content_of bytes content = and_from (nat_le (length bytes) 1048576) (list_all (λ b. nat_lt b 256) bytes) (le-leb (length bytes) 1048576 content.short) (all_bytes bytes content.bytes)
 
 is_set_of : (texts : List (List ℕ)) → IsAscending texts → pointwise (pointwise nat_eq) (set_of texts) texts ≡ true
 is_set_of texts up =
@@ -60,7 +57,7 @@ no_text Tree.nothing e = refl
 no_text (Tree.some a) e = refl
 no_text (Tree.table rows) e = refl
 
-no_flag : (v : Tree) → text_of v ≡ None → flag_of v ≡ None → form_node SpecTree.file v ≡ Err Refusal.WrongForm
+no_flag : (v : Tree) → text_of v ≡ None → truth_of v ≡ None → form_node SpecTree.file v ≡ Err Refusal.WrongForm
 no_flag (Tree.str t) e f = cc
 no_flag (Tree.int n) e f = refl
 no_flag (Tree.bool b) e f = cc
@@ -71,7 +68,7 @@ no_flag (Tree.some a) e f = refl
 no_flag (Tree.table rows) e f = refl
 
 -- a truth value at a file
-pub flag_told : (v : Tree) (b : Bool) → flag_of v ≡ Some b → stored_node SpecTree.file v ≡ Ok (File [] b)
+pub flag_told : (v : Tree) (b : Bool) → truth_of v ≡ Some b → stored_node SpecTree.file v ≡ Ok (File [] b)
 flag_told (Tree.str t) b e = cc
 flag_told (Tree.int n) b e = cc
 flag_told (Tree.bool a) b e = let same : a ≡ b = cc in ap (λ (b : Bool). Ok (File [] b)) same
@@ -81,7 +78,7 @@ flag_told Tree.nothing b e = cc
 flag_told (Tree.some a) b e = cc
 flag_told (Tree.table rows) b e = cc
 
-no_texts : (v : Tree) → texts_of v ≡ None → form_node SpecTree.dir v ≡ Err Refusal.WrongForm
+no_texts : (v : Tree) → names_of v ≡ None → form_node SpecTree.dir v ≡ Err Refusal.WrongForm
 no_texts (Tree.str t) e = refl
 no_texts (Tree.int n) e = refl
 no_texts (Tree.bool b) e = refl
@@ -91,13 +88,13 @@ no_texts Tree.nothing e = refl
 no_texts (Tree.some a) e = refl
 no_texts (Tree.table rows) e = refl
 
-pub file-wrong : (v : Tree) → text_of v ≡ None → flag_of v ≡ None → stored_node SpecTree.file v ≡ Err Refusal.WrongForm
+pub file-wrong : (v : Tree) → text_of v ≡ None → truth_of v ≡ None → stored_node SpecTree.file v ≡ Err Refusal.WrongForm
 file-wrong v e f = wrong SpecTree.file v (no_flag v e f)
 
 pub link-wrong : (v : Tree) → text_of v ≡ None → stored_node SpecTree.link v ≡ Err Refusal.WrongForm
 link-wrong v e = wrong SpecTree.link v (no_text v e)
 
-pub dir-wrong : (v : Tree) → texts_of v ≡ None → stored_node SpecTree.dir v ≡ Err Refusal.WrongForm
+pub dir-wrong : (v : Tree) → names_of v ≡ None → stored_node SpecTree.dir v ≡ Err Refusal.WrongForm
 dir-wrong v e = wrong SpecTree.dir v (no_texts v e)
 
 -- ---- those that do
@@ -112,7 +109,7 @@ text_is Tree.nothing t e = cc
 text_is (Tree.some a) t e = cc
 text_is (Tree.table rows) t e = cc
 
-pub texts_are : (v : Tree) (ts : List (List ℕ)) → texts_of v ≡ Some ts → v ≡ Tree.names ts
+pub texts_are : (v : Tree) (ts : List (List ℕ)) → names_of v ≡ Some ts → v ≡ Tree.names ts
 texts_are (Tree.str t) ts e = cc
 texts_are (Tree.int n) ts e = cc
 texts_are (Tree.bool b) ts e = cc
@@ -135,7 +132,7 @@ pub file_told : (v : Tree) (t bytes : List ℕ) → text_of v ≡ Some t → (by
 file_told v t bytes is held =
     ap (stored_node SpecTree.file) (text_is v t is) ∙ (text-stored SpecTree.file t held.1 ∙ ap (λ (b : List ℕ). Ok (File b false)) (sym held.0))
 
-pub dir_told : (v : Tree) (ts : List (List ℕ)) → texts_of v ≡ Some ts → IsAscending ts → stored_node SpecTree.dir v ≡ names_node ts
+pub dir_told : (v : Tree) (ts : List (List ℕ)) → names_of v ≡ Some ts → IsAscending ts → stored_node SpecTree.dir v ≡ names_node ts
 dir_told v ts is up = ap (stored_node SpecTree.dir) (texts_are v ts is) ∙ texts-stored ts up
 
 pub link_told : (v : Tree) (t : List ℕ) → text_of v ≡ Some t → stored_node SpecTree.link v ≡ stored_node SpecTree.link (Tree.str t)

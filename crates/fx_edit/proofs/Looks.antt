@@ -2,13 +2,13 @@
 use Rattle.std.proofs.Common.{◌≡◌, ℕ, ◌+◌, ◌≤◌, List, ◌∷◌, length, drop, Option, Some, Result, Ok, Err, ap}
 use Rattle.std.specs.Prelude.{slice_get, IsErrAnd}
 use Rattle.std.proofs.lemmas.List.{drop_all}
+use Rattle.fx_base.proofs.Lists.{drop_next}
 use Rattle.fx_store.specs.declared.node.Node.{Node}
 use Rattle.fx_store.specs.declared.changes.Change.{Change}
 use Rattle.fx_store.specs.Changes.{changed_paths}
 use Rattle.fx_store.specs.Rule.{look}
 use Rattle.fx_view.specs.declared.reader.Stop.{Stop}
 use Rattle.fx_view.specs.Meaning.{Meaning}
-use Rattle.fx_view.proofs.Lists.{drop_at}
 use Rattle.fx_session.specs.declared.session.Session.{Session}
 use Rattle.fx_session.specs.Implements.{Implements}
 use Rattle.fx_session.proofs.Courses.{Goes, goes_on, goes_stop, goes_end}
@@ -24,7 +24,7 @@ module _ {R L : Type 0} {m : Meaning R} {cs : List Change} {start : Session R L}
 
   module _ {now : Session R L} {i : ℕ} (is : IsLooking m cs start now i) where
     opened : (c : Change) → slice_get cs i ≡ Some c → looking (changed_paths (drop i cs)) ≡ looking (changed_paths (c ∷ drop (i + 1) cs))
-    opened c here = ap (λ (cs : List Change). looking (changed_paths cs)) (drop_at cs i c here)
+    opened c here = ap (λ (cs : List Change). looking (changed_paths cs)) (drop_next cs i c here)
 
     pub looking_next : {c : Change} {new : Session R L} {n : Option Node} → slice_get cs i ≡ Some c → Implements m (λ n. n) now new (look c.path) (Ok n) → IsLooking m cs start new (i + 1)
     looking_next {c = c} here h = record {

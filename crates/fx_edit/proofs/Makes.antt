@@ -4,6 +4,7 @@ use Rattle.std.specs.Prelude.{slice_get, nat_lt, ◌&&◌}
 use Rattle.std.proofs.lemmas.Bool.Decides.{nat_tests}
 use Rattle.std.proofs.lemmas.List.{append-nil, drop_all}
 use mathlib.Core.Path.{fun_ext}
+use Rattle.fx_base.proofs.Lists.{drop_next}
 use Rattle.fx_store.specs.declared.node.Node.{Node}
 use Rattle.fx_store.specs.declared.node.Node.TheVariants.{File, Dir, Link}
 use Rattle.fx_store.specs.declared.changes.Change.{Change}
@@ -15,7 +16,7 @@ use Rattle.fx_expr.specs.Sets.{with_text}
 use Rattle.fx_spec.specs.declared.refusal.Refusal.{Refusal}
 use Rattle.fx_spec.specs.Edit.{set_to, names_of, children, made, make, lacks_room, is_too_deep}
 use Rattle.fx_spec.specs.Move.{Answered}
-use Rattle.fx_view.proofs.Lists.{drop_at, drop_past}
+use Rattle.fx_view.proofs.Lists.{drop_past}
 use Rattle.fx_edit.specs.Kinds.{lists_some}
 use Rattle.fx_edit.specs.Rules.{editing, looking, made_node, made_along, made_all, made_in, IsNextMade}
 
@@ -98,7 +99,7 @@ module _ (here : Path) (names : List (List ℕ)) (node : Node) (begun : List Cha
   making_next path more so_far longer i is next =
       let n = next.name in
       let rest = drop (i + 1) names in
-      let here_is : drop i names ≡ n ∷ rest = drop_at names i n next.here in
+      let here_is : drop i names ≡ n ∷ rest = drop_next names i n next.here in
       record {
         rest =
             ap (λ cs. cs ++ made_along more rest node) next.added
@@ -124,7 +125,7 @@ module _ (here : Path) (names : List (List ℕ)) (node : Node) (begun : List Cha
 
 module _ (names : List (List ℕ)) (i : ℕ) (node : Node) where
   pub before_some : (m : List ℕ) (one : List (List ℕ)) → slice_get names i ≡ Some m → one ≡ m ∷ [] → Dir one ≡ made_node (drop i names) node
-  before_some m one here is = ap (λ (ns : List (List ℕ)). Dir ns) is ∙ ap (λ ns. made_node ns node) (sym (drop_at names i m here))
+  before_some m one here is = ap (λ (ns : List (List ℕ)). Dir ns) is ∙ ap (λ ns. made_node ns node) (sym (drop_next names i m here))
 
   pub before_none : (copied : Node) → slice_get names i ≡ None → copied ≡ node → copied ≡ made_node (drop i names) node
   before_none copied past is = is ∙ ap (λ ns. made_node ns node) (sym (drop_past names i past))

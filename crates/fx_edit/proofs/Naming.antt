@@ -4,6 +4,7 @@ use Rattle.std.specs.Prelude.{IsErrAnd}
 use Rattle.std.specs.List.{list_all}
 use Rattle.std.proofs.lemmas.List.{append-nil, append_assoc}
 use Rattle.std.proofs.lemmas.List.Elements.{All-nil, All-cons}
+use Rattle.std.proofs.lemmas.Bool.{and_from}
 use Rattle.fx_store.specs.declared.node.Node.TheVariants.{Dir}
 use Rattle.fx_store.specs.declared.name.PathFault.{PathFault}
 use Rattle.fx_store.specs.declared.name.PathFault.TheVariants.{BadName, TooDeep, NoMemory}
@@ -19,18 +20,14 @@ use Rattle.fx_session.specs.declared.halt.Halt.TheVariants as halt
 use Rattle.fx_session.specs.Faults.{of_path}
 use Rattle.fx_edit.specs.Values.{name_read, Tells}
 
-both_true : (a b : Bool) → a ≡ true → b ≡ true → a && b ≡ true
-both_true true b p q = q
-both_true false b p q = cc
-
 first_true : (a b : Bool) → a && b ≡ true → (a ≡ true) × (b ≡ true)
 first_true true b e = (refl, e)
 first_true false b e = cc
 
 module _ (test : List ℕ → Bool) where
   all_more : (xs : List (List ℕ)) (x : List ℕ) → list_all test xs ≡ true → test x ≡ true → list_all test (xs ++ x ∷ []) ≡ true
-  all_more [] x all e = both_true (test x) true e refl
-  all_more (y ∷ xs) x all e = let p = first_true (test y) (list_all test xs) all in both_true (test y) (list_all test (xs ++ x ∷ [])) p.0 (all_more xs x p.1 e)
+  all_more [] x all e = and_from (test x) true e refl
+  all_more (y ∷ xs) x all e = let p = first_true (test y) (list_all test xs) all in and_from (test y) (list_all test (xs ++ x ∷ [])) p.0 (all_more xs x p.1 e)
 
   all_fails : (xs : List (List ℕ)) (x : List ℕ) (ys : List (List ℕ)) → test x ≡ false → list_all test (xs ++ x ∷ ys) ≡ false
   all_fails [] x ys e = ap (λ b. b && list_all test ys) e

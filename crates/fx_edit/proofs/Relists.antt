@@ -2,21 +2,20 @@
 use Rattle.std.proofs.Common.{◌≡◌, ℕ, ◌+◌, ◌<◌, ◌≤◌, Bool, true, false, ◌||◌, List, [], ◌∷◌, ◌++◌, length, drop, nat_eq, Result, Ok, Err, refl, sym, subst, ap, ◌∙◌, arith}
 use Rattle.std.specs.Prelude.{IsErrAnd}
 use Rattle.std.specs.declared.cmp.Ordering.TheVariants.{Less, Equal, Greater}
-use Rattle.std.specs.Ordering.{nat_cmp, eq_by_cmp}
-use Rattle.std.specs.Cmp.{eq_by_cmp_equiv}
-use Rattle.std.specs.Cmp.Lexicographic.{pointwise, slice_cmp, texts_ties}
+use Rattle.std.specs.Ordering.{nat_cmp}
+use Rattle.std.specs.Cmp.Lexicographic.{pointwise, slice_cmp}
 use Rattle.std.specs.List.{AllByRecursion}
 use Rattle.std.specs.List.Sorted.{IsStrictlySortedBy}
 use Rattle.std.proofs.lemmas.Map.Lookups.{exact_bytes}
 use Rattle.fx_base.proofs.Placing.{flipped, flipped_less, all_below}
 use Rattle.fx_store.specs.declared.changes.Change.{Change}
-use Rattle.fx_store.specs.Names.{has, name_cmp}
-use Rattle.fx_store.specs.Orders.{name_total}
+use Rattle.fx_store.specs.Names.{has}
 use Rattle.fx_store.specs.Rule.{Ask, Answer, ◌>>=◌}
+use Rattle.fx_store.proofs.PathLists.{has-text, has_first}
 use Rattle.fx_expr.specs.Sets.{IsAscending, has_text, set_of}
 use Rattle.fx_text.proofs.Canon.{ascending_set}
 use Rattle.fx_text.proofs.Merging.{least_of_first, least_of_second, least_less, least_equal, least_greater}
-use Rattle.fx_text.proofs.Order.{other_greater, other_less, same_text}
+use Rattle.fx_text.proofs.Order.{other_greater, other_less}
 use Rattle.fx_spec.specs.Edit.{entry, entries}
 use Rattle.fx_edit.specs.Rules.{adding, changed_entries, left_of, change_of, IsFirst, IsNext, IsNextOf}
 use Rattle.fx_view.specs.declared.reader.Stop.{Stop}
@@ -28,26 +27,12 @@ use Rattle.fx_edit.proofs.Addings.{adding-entries, adding-none}
 
 -- ---- which set has the least name
 
--- the two tests of a name among others agree
-has-text : (xs : List (List ℕ)) (n : List ℕ) → has xs n ≡ has_text n xs
-has-text [] n = refl
-has-text (x ∷ xs) n = λ i. tie i || has-text xs n i
-  where
-    tie : eq_by_cmp name_cmp n x ≡ pointwise nat_eq x n
-    tie = (eq_by_cmp_equiv name_total).symm n x ∙ sym (texts_ties x n)
-
 other : (n m : List ℕ) → slice_cmp nat_cmp n m ≡ Less → pointwise nat_eq m n ≡ false
 other n m e = other_greater m n (flipped_less n m e)
-
-unlike : (n m : List ℕ) → slice_cmp nat_cmp n m ≡ Less → pointwise nat_eq n m ≡ false
-unlike n m e = other_less n m e
 
 lacks : (n : List ℕ) (ns : List (List ℕ)) → AllByRecursion (λ m. slice_cmp nat_cmp n m ≡ Less) ns → has ns n ≡ false
 lacks n [] a = refl
 lacks n (m ∷ ns) a = has-text (m ∷ ns) n ∙ (λ i. other n m a.0 i || has_text n ns) ∙ sym (has-text ns n) ∙ lacks n ns a.1
-
-here : (n : List ℕ) (ns : List (List ℕ)) → has (n ∷ ns) n ≡ true
-here n ns = has-text (n ∷ ns) n ∙ ap (λ b. b || has_text n ns) (same_text n)
 
 module _ (s t : List ℕ) (c d : List (List ℕ)) (up : IsAscending (s ∷ c)) (vp : IsAscending (t ∷ d)) where
   at_less : slice_cmp nat_cmp s t ≡ Less → IsNext (s ∷ c) (t ∷ d) s true false
@@ -101,10 +86,10 @@ same_entries f g (n ∷ ns) h = λ i. h.0 i >>= λ first. same_entries f g ns h.
 later : (x : Bool) (a : List (List ℕ)) (n m : List ℕ) → IsFirst x a n → slice_cmp nat_cmp n m ≡ Less → has a m ≡ has (left_of x a) m
 later false a n m w e = refl
 later true a n m w e =
-    ap (λ l. has l m) w ∙ has-text (n ∷ drop 1 a) m ∙ ap (λ b. b || has_text m (drop 1 a)) (unlike n m e) ∙ sym (has-text (drop 1 a) m)
+    ap (λ l. has l m) w ∙ has-text (n ∷ drop 1 a) m ∙ ap (λ b. b || has_text m (drop 1 a)) (other_less n m e) ∙ sym (has-text (drop 1 a) m)
 
 has_first : (x : Bool) (a : List (List ℕ)) (n : List ℕ) → IsFirst x a n → has a n ≡ x
-has_first true a n w = ap (λ l. has l n) w ∙ here n (drop 1 a)
+has_first true a n w = ap (λ l. has l n) w ∙ has_first n (drop 1 a)
 has_first false a n w = w
 
 module _ (q a b : List (List ℕ)) (n : List ℕ) (x y : Bool) (next : IsNext a b n x y) where

@@ -10,7 +10,6 @@ use Rattle.fx_store.specs.Rule.{Ask, Answer, Look, ◌>>=◌}
 use Rattle.fx_spec.specs.Edit.{set_to, names_of, clear, without_name, remove_entry}
 use Rattle.fx_spec.specs.declared.refusal.Refusal.{Refusal}
 use Rattle.fx_spec.specs.Move.{Answered}
-use Rattle.fx_view.proofs.Lists.{none_past}
 use Rattle.fx_view.specs.declared.reader.Stop.{Stop}
 use Rattle.fx_view.specs.declared.reader.Stop.TheVariants as stop
 use Rattle.fx_view.specs.Meaning.{Meaning}
@@ -18,6 +17,7 @@ use Rattle.fx_session.specs.declared.session.Session.{Session}
 use Rattle.fx_session.specs.Implements.{Implements}
 use Rattle.fx_session.proofs.Calls.{then_on, stops, then_refused}
 use mathlib.Core.Path.{fun_ext}
+use Rattle.fx_base.proofs.Lists.{none_past}
 use Rattle.fx_edit.specs.Rules.{adding, editing, removing, HasLast}
 use Rattle.fx_edit.proofs.Addings.{editing-first}
 use Rattle.fx_edit.proofs.Exits.{by_rule, gathered, ungathered}

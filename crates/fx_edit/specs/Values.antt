@@ -8,21 +8,6 @@ use Rattle.fx_view.specs.declared.reader.Stop.TheVariants as stop
 use Rattle.fx_session.specs.declared.halt.Halt.{Halt}
 use Rattle.fx_session.specs.declared.halt.Halt.TheVariants as halt
 
--- the text that a value is
-abbrev pub text_of : Tree → Option (List ℕ)
-text_of (Tree.str text) = Some text
-text_of _ = None
-
--- the truth value that a value is
-abbrev pub flag_of : Tree → Option Bool
-flag_of (Tree.bool b) = Some b
-flag_of _ = None
-
--- the set that a value is
-abbrev pub texts_of : Tree → Option (List (List ℕ))
-texts_of (Tree.names texts) = Some texts
-texts_of _ = None
-
 -- the name that a text is
 abbrev pub name_read : List ℕ → Answered (List ℕ)
 name_read text = cond (is_name text) (Ok text) (Err Refusal.BadName)

@@ -1,8 +1,8 @@
 //! The node that a value makes at a form, and the empty node of a form.
 ghost use Rattle.std.specs.Prelude.{◌≡◌, None, [], false, IfOk, IfSome};
-ghost use Rattle.std.specs.Option.{option_copied};
 ghost use Rattle.fx_store.specs.declared.node.Node.TheVariants.{File, Dir};
 ghost use Rattle.fx_store.specs.Names.{IsContent};
+ghost use Rattle.fx_expr.specs.Parts.{text_of};
 ghost use Rattle.fx_expr.specs.Sets.{IsAscending};
 ghost use Rattle.fx_expr.specs.Tree.{Tree};
 ghost use Rattle.fx_expr.specs.Views.{tree_of};
@@ -11,7 +11,7 @@ ghost use Rattle.fx_spec.specs.Move.{needed};
 ghost use Rattle.fx_spec.specs.SpecTree.{SpecTree};
 ghost use Rattle.fx_spec.specs.Parts.{part_of};
 ghost use Rattle.fx_spec.specs.declared.refusal.Refusal.TheVariants as refusal;
-ghost use Rattle.fx_edit.specs.Values.{text_of, texts_of, flag_of, name_read, Tells};
+ghost use Rattle.fx_edit.specs.Values.{name_read, Tells};
 
 use fx_base::{Items, NoMemory};
 use fx_expr::{Text, TextSet, Value};
@@ -48,7 +48,7 @@ pub(crate) fn stored_node(
 fn file_node(alloc: Global, value: &Value) -> Result<Node, Halt>
     ensures { Tells (λ n. n) (edit.stored_node SpecTree.file (tree_of value.now)) result }
 {
-    match text_in(value) {
+    match value.as_text() {
         Some(text) => Ok(Node::File {
             bytes: content(alloc, text)?.share(alloc)?,
             exec: false,
@@ -62,7 +62,7 @@ fn flag_node(alloc: Global, value: &Value) -> Result<Node, Halt>
     requires { text_of (tree_of value.now) ≡ None }
     ensures { Tells (λ n. n) (edit.stored_node SpecTree.file (tree_of value.now)) result }
 {
-    match flag_in(value) {
+    match value.as_truth() {
         Some(exec) => Ok(Node::File {
             bytes: Bytes::new(alloc),
             exec,
@@ -78,22 +78,6 @@ pub(crate) fn empty_file(alloc: Global) -> Node
     Node::File {
         bytes: Bytes::new(alloc),
         exec: false,
-    }
-}
-
-/// The truth value that a value is.
-fn flag_in(value: &Value) -> Option<bool>
-    ensures { result ≡ flag_of (tree_of value.now) }
-{
-    match value {
-        Value::Bool(b) => Some(*b),
-        Value::Str(_)
-        | Value::Int(_)
-        | Value::Names(_)
-        | Value::Pair(_, _)
-        | Value::Nothing
-        | Value::Some(_)
-        | Value::Table(_) => None,
     }
 }
 
@@ -116,7 +100,7 @@ pub(crate) fn is_flag(value: &Value) -> bool
 fn link_node(alloc: Global, value: &Value) -> Result<Node, Halt>
     ensures { Tells (λ n. n) (edit.stored_node SpecTree.link (tree_of value.now)) result }
 {
-    match text_in(value) {
+    match value.as_text() {
         Some(text) => link_of(alloc, text),
         None => Err(Halt::Refused(Refusal::WrongForm)),
     }
@@ -125,41 +109,9 @@ fn link_node(alloc: Global, value: &Value) -> Result<Node, Halt>
 fn dir_node(alloc: Global, value: &Value, likely: &Names) -> Result<Node, Halt>
     ensures { Tells (λ n. n) (edit.stored_node SpecTree.dir (tree_of value.now)) result }
 {
-    match texts_in(value) {
+    match value.as_names() {
         Some(texts) => Ok(Node::Dir(names_of(alloc, texts, likely)?)),
         None => Err(Halt::Refused(Refusal::WrongForm)),
-    }
-}
-
-/// The text that a value is.
-fn text_in(value: &Value) -> Option<&Text>
-    ensures { option_copied result ≡ text_of (tree_of value.now) }
-{
-    match value {
-        Value::Str(text) => Some(text),
-        Value::Int(_)
-        | Value::Bool(_)
-        | Value::Names(_)
-        | Value::Pair(_, _)
-        | Value::Nothing
-        | Value::Some(_)
-        | Value::Table(_) => None,
-    }
-}
-
-/// The set that a value is.
-fn texts_in(value: &Value) -> Option<&TextSet>
-    ensures { option_copied result ≡ texts_of (tree_of value.now) }
-{
-    match value {
-        Value::Names(texts) => Some(texts),
-        Value::Str(_)
-        | Value::Int(_)
-        | Value::Bool(_)
-        | Value::Pair(_, _)
-        | Value::Nothing
-        | Value::Some(_)
-        | Value::Table(_) => None,
     }
 }
 

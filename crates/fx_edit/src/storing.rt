@@ -235,32 +235,17 @@ fn is_alike(node: &Node, found: &Option<Node>) -> bool
 fn is_file(found: &Option<Node>) -> bool
     ensures { result ≡ is_file found.now }
 {
-    match found {
-        Some(Node::File { .. }) => true,
-        Some(Node::Dir(_)) => false,
-        Some(Node::Link(_)) => false,
-        None => false,
-    }
+    matches!(found, Some(Node::File { .. }))
 }
 
 fn is_dir(found: &Option<Node>) -> bool
     ensures { result ≡ is_dir found.now }
 {
-    match found {
-        Some(Node::File { .. }) => false,
-        Some(Node::Dir(_)) => true,
-        Some(Node::Link(_)) => false,
-        None => false,
-    }
+    matches!(found, Some(Node::Dir(_)))
 }
 
 fn is_link(found: &Option<Node>) -> bool
     ensures { result ≡ is_link found.now }
 {
-    match found {
-        Some(Node::File { .. }) => false,
-        Some(Node::Dir(_)) => false,
-        Some(Node::Link(_)) => true,
-        None => false,
-    }
+    matches!(found, Some(Node::Link(_)))
 }

@@ -5,13 +5,13 @@ use Rattle.std.specs.Option.{option_map}
 use Rattle.std.specs.Cmp.Lexicographic.{pointwise}
 use Rattle.std.proofs.Math.Seq.{drop-cons}
 use Rattle.std.proofs.lemmas.List.{drop-map, length-map, map-set}
-use Rattle.std.proofs.lemmas.Option.{slice_get-map, slice_get-get_or, slice_get_within, get_or_from_slice_get}
+use Rattle.std.proofs.lemmas.Option.{slice_get-map, slice_get-get_or, slice_get_within, get_or_from_slice_get, same_Some}
+use Rattle.fx_base.proofs.Results.{not_some}
+use Rattle.fx_base.proofs.Orders.{nat_list_exact, bytes_itself}
 use Rattle.fx_expr.specs.declared.value.Value.{Value}
 use Rattle.fx_expr.specs.Bindings.{bound, newer_or, assigned, assign_or, own_assigned, first_some, or_same, IsNewest}
 use Rattle.fx_expr.specs.Tree.{Tree}
 use Rattle.fx_expr.specs.Views.{entry_tree, tree_of}
-use Rattle.fx_text.proofs.Canon.{nat_list_exact}
-use Rattle.fx_text.proofs.Order.{same_text}
 
 module _ {X : Type 0} where
   pub bound_drop : (xs : List (List ℕ × X)) (i : ℕ) (word : List ℕ) (v : X) → bound (drop i xs) word ≡ Some v → bound xs word ≡ Some v
@@ -28,7 +28,7 @@ module _ {X : Type 0} where
       let b : List ℕ × X = (word, n.value) in
       let within : i < length bindings = slice_get_within bindings i b n.here in
       let e : drop i bindings ≡ b ∷ drop (suc i) bindings = drop-cons bindings i b within ∙ ap (λ x. x ∷ drop (suc i) bindings) (get_or_from_slice_get bindings i b b n.here) in
-      bound_drop bindings i word n.value (ap (λ l. bound l word) e ∙ bound_here b (drop (suc i) bindings) word n.none_newer (same_text word))
+      bound_drop bindings i word n.value (ap (λ l. bound l word) e ∙ bound_here b (drop (suc i) bindings) word n.none_newer (bytes_itself word))
 
   none_here : (older newer : Option X) → newer_or newer older ≡ None → newer ≡ None
   none_here older None e = refl
@@ -54,7 +54,7 @@ module _ {X : Type 0} where
       let first : b ≡ (word, before) = cc in
       ap (λ o. first_some (assign_or b newer o) (own_assigned (pointwise nat_eq b.0 word) word x newer)) (assigned_none word x newer none)
       ∙ ap (λ (c : List ℕ × X). own_assigned (pointwise nat_eq c.0 word) word x newer) first
-      ∙ ap (λ t. own_assigned t word x newer) (same_text word)
+      ∙ ap (λ t. own_assigned t word x newer) (bytes_itself word)
   assigned_at (b ∷ newer) word (suc i) before x here none =
       ap (λ o. first_some (assign_or b newer o) (own_assigned (pointwise nat_eq b.0 word) word x newer)) (assigned_at newer word i before x here none)
 
@@ -71,13 +71,6 @@ newest_at {X} f ys i y word low high here none same =
       none_newer = ap (λ k. bound (drop k (map f ys)) word) j ∙ ap (λ (l : List (List ℕ × X)). bound l word) (drop-map f i ys) ∙ none;
     }
 
-not_some : {X : Type 0} (o : Option X) (x : X) → o ≡ None → o ≡ Some x → ⊥
-not_some None x e f = cc
-not_some (Some y) x e f = cc
-
-some_is : {X : Type 0} (x y : X) → Some x ≡ Some y → x ≡ y
-some_is x y e = cc
-
 -- the value at the place of the newest binding
 pub value_at : (bindings : List (List ℕ × Value)) (word : List ℕ) (i : ℕ) (b : List ℕ × Value) → IsNewest (map entry_tree bindings) word i
     → Some (tree_of (get_or bindings i b).1) ≡ bound (map entry_tree bindings) word
@@ -85,7 +78,7 @@ value_at bindings word i b n =
     let within : i < length bindings = omega (arith, slice_get_within (map entry_tree bindings) i (word, n.value) n.here, length-map bindings entry_tree) in
     let here : option_map entry_tree (slice_get bindings i) ≡ Some (word, n.value) = sym (slice_get-map entry_tree bindings i) ∙ n.here in
     let same : Some (entry_tree (get_or bindings i b)) ≡ Some (word, n.value) = ap (option_map entry_tree) (sym (slice_get-get_or bindings i b within)) ∙ here in
-    let is : entry_tree (get_or bindings i b) ≡ (word, n.value) = some_is (entry_tree (get_or bindings i b)) (word, n.value) same in
+    let is : entry_tree (get_or bindings i b) ≡ (word, n.value) = same_Some (entry_tree (get_or bindings i b)) (word, n.value) same in
     ap (λ (t : List ℕ × Tree). Some t.1) is ∙ sym (bound_newest (map entry_tree bindings) word i n)
 
 -- a binding with a new value, seen as trees
@@ -98,7 +91,7 @@ value_set bindings new word i value n put = by (slice_get bindings i) refl
     by None e = absurd (not_some (slice_get (map entry_tree bindings) i) (word, n.value) (slice_get-map entry_tree bindings i ∙ ap (option_map entry_tree) e) n.here)
     by (Some b) e =
         let same : Some (entry_tree b) ≡ Some (word, n.value) = sym (slice_get-map entry_tree bindings i ∙ ap (option_map entry_tree) e) ∙ n.here in
-        let named : b.0 ≡ word = ap (λ (t : List ℕ × Tree). t.0) (some_is (entry_tree b) (word, n.value) same) in
+        let named : b.0 ≡ word = ap (λ (t : List ℕ × Tree). t.0) (same_Some (entry_tree b) (word, n.value) same) in
         let is : new ≡ slice_set bindings i (b.0, value) = put b.0 b.1 e in
         ap (λ l. map entry_tree l) is
         ∙ map-set entry_tree bindings i (b.0, value)

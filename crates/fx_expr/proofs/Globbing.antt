@@ -1,30 +1,18 @@
 -- Globs: what one attempt tells of the others.
 use Rattle.std.proofs.Common.{◌≡◌, ◌≢◌, ℕ, zero, suc, ◌+◌, ◌<◌, Bool, true, false, cond, ◌&&◌, ◌||◌, List, [], ◌∷◌, length, drop, get_or, slice_index, eqb, refl, ap, sym, ◌∙◌, arith}
-use Rattle.std.proofs.lemmas.Bool.{eq-eqb, ne_eqb}
+use Rattle.std.proofs.lemmas.Bool.{eq-eqb, ne_eqb, or_right, or_left}
+use Rattle.fx_base.proofs.Booleans.{second_true, same_test}
 use Rattle.fx_expr.specs.Globs.{glob_matches, some_suffix, first_and_rest}
 use Rattle.fx_expr.specs.Attempts.{HasStar}
-
-same_test : (a b : Bool) → (a ≡ true → b ≡ true) → (b ≡ true → a ≡ true) → a ≡ b
-same_test true true f g = refl
-same_test true false f g = sym (f refl)
-same_test false true f g = g refl
-same_test false false f g = refl
-
-or_left_true : (a b : Bool) → a ≡ true → (a || b) ≡ true
-or_left_true a b e = ap (λ x. x || b) e
-
-or_right_true : (a b : Bool) → b ≡ true → (a || b) ≡ true
-or_right_true true b e = refl
-or_right_true false b e = e
 
 -- the whole text is a suffix
 pub whole_suffix : (test : List ℕ → Bool) (text : List ℕ) → test text ≡ true → some_suffix test text ≡ true
 whole_suffix test [] e = e
-whole_suffix test (b ∷ text) e = or_left_true (test (b ∷ text)) _ e
+whole_suffix test (b ∷ text) e = or_left (test (b ∷ text)) _ e
 
 -- a suffix of what follows n bytes is one of what follows n bytes of a longer text
 suffix_more : (test : List ℕ → Bool) (n b : ℕ) (text : List ℕ) → some_suffix test (drop n text) ≡ true → some_suffix test (drop n (b ∷ text)) ≡ true
-suffix_more test zero b text e = or_right_true (test (b ∷ text)) _ e
+suffix_more test zero b text e = or_right (test (b ∷ text)) _ e
 suffix_more test (suc zero) b [] e = e
 suffix_more test (suc (suc n)) b [] e = e
 suffix_more test (suc n) b (c ∷ text) e = suffix_more test n c text e
@@ -36,11 +24,6 @@ star_first g glob text e = ap (λ t. cond t (some_suffix (glob_matches glob) tex
 -- one that does not
 plain_first : (g : ℕ) (glob text : List ℕ) → g ≢ 42 → glob_matches (g ∷ glob) text ≡ first_and_rest (λ b. eqb g 63 || eqb g b) (glob_matches glob) text
 plain_first g glob text e = ap (λ t. cond t (some_suffix (glob_matches glob) text) (first_and_rest (λ b. eqb g 63 || eqb g b) (glob_matches glob) text)) (ne_eqb g 42 e)
-
-second_true : (a b : Bool) → (a && b) ≡ true → b ≡ true
-second_true true b e = e
-second_true false true e = refl
-second_true false false e = e
 
 -- what follows the first `*`, at n, matches a suffix of what follows n bytes of any text that the glob matches
 forced : (glob text : List ℕ) (n : ℕ) → n < length glob → slice_index glob n ≡ 42 → ((k : ℕ) → k < n → slice_index glob k ≢ 42) → glob_matches glob text ≡ true

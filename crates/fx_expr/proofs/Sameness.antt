@@ -1,5 +1,5 @@
 -- When two sets of texts are equal, and when two tables have equal trees.
-use Rattle.std.proofs.Common.{◌≡◌, ℕ, ◌<◌, Bool, get_or, length, true, false, ◌&&◌, List, [], ◌∷◌, map, nat_eq, refl, ap, sym, subst, ◌∙◌, rules}
+use Rattle.std.proofs.Common.{◌≡◌, ℕ, ◌<◌, get_or, length, true, List, [], ◌∷◌, map, nat_eq, refl, ap, sym, subst, ◌∙◌, rules}
 use Rattle.std.specs.Cmp.Lexicographic.{pointwise, lists_equiv, nat_list_eq_equiv}
 use Rattle.std.proofs.lemmas.List.{get_or-map}
 use Rattle.fx_expr.specs.declared.value.Value.{Value, the_lemmas}
@@ -8,19 +8,7 @@ use Rattle.fx_expr.specs.Tree.{Tree}
 use Rattle.fx_expr.specs.Eval.{entries_in}
 use Rattle.fx_expr.specs.Rows.{keys_of, values_of}
 use Rattle.fx_expr.specs.Views.{tree_of, entry_tree}
-use Rattle.fx_text.proofs.Canon.{nat_list_exact}
 use Rattle.fx_expr.proofs.Trees.{table_tree, table_keys, same_table, entries_rows}
-
-both : (a b : Bool) → (a && b) ≡ true → (a ≡ true) × (b ≡ true)
-both true b h = (refl, h)
-both false b h = absurd (cc)
-
--- sets of texts that are tested to be equal
-pub texts_exact : (xs ys : List (List ℕ)) → pointwise (pointwise nat_eq) xs ys ≡ true → xs ≡ ys
-texts_exact [] [] e = refl
-texts_exact [] (y ∷ ys) e = absurd (cc)
-texts_exact (x ∷ xs) [] e = absurd (cc)
-texts_exact (x ∷ xs) (y ∷ ys) e = let p = both (pointwise nat_eq x y) (pointwise (pointwise nat_eq) xs ys) e in λ i. nat_list_exact x y p.0 i ∷ texts_exact xs ys p.1 i
 
 pub texts_same : (xs ys : List (List ℕ)) → xs ≡ ys → pointwise (pointwise nat_eq) xs ys ≡ true
 texts_same xs ys e = subst (λ zs. pointwise (pointwise nat_eq) xs zs ≡ true) e ((lists_equiv nat_list_eq_equiv).refl xs)

@@ -3,9 +3,10 @@ use Rattle.std.proofs.Common.{◌≡◌, ℕ, zero, suc, false, cond, List, [], 
 use Rattle.std.specs.List.{zip}
 use Rattle.std.specs.Cmp.Lexicographic.{pointwise}
 use Rattle.std.proofs.lemmas.Bool.{or_parts}
+use Rattle.fx_base.proofs.Orders.{bytes_itself}
 use Rattle.fx_text.specs.Sets.{has_text, IsAscending}
 use Rattle.fx_expr.specs.Rows.{keys_of, look_up}
-use Rattle.fx_text.proofs.Order.{same_text, other_less, below_place, ascending_rest}
+use Rattle.fx_text.proofs.Order.{other_less, below_place, ascending_rest}
 
 module _ {X : Type 0} where
   pub length_zip : (ks : List (List ℕ)) (vs : List X) → length vs ≡ length ks → length (zip ks vs) ≡ length ks
@@ -54,7 +55,7 @@ module _ {X : Type 0} where
   look_up_place (l ∷ ks) [] k i up long e = absurd (omega arith)
   look_up_place (l ∷ ks) (w ∷ vs) k zero up long e =
       let same : l ≡ k = cc in
-      ap (λ b. cond b (Some w) (look_up k (zip ks vs))) (ap (λ t. pointwise nat_eq t k) same ∙ same_text k)
+      ap (λ b. cond b (Some w) (look_up k (zip ks vs))) (ap (λ t. pointwise nat_eq t k) same ∙ bytes_itself k)
   look_up_place (l ∷ ks) (w ∷ vs) k (suc i) up long e =
       ap (λ b. cond b (Some w) (look_up k (zip ks vs))) (other_less l k (below_place l ks k i up e))
       ∙ look_up_place ks vs k i (ascending_rest l ks up) (omega arith) e

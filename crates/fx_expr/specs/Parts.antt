@@ -1,14 +1,10 @@
 -- The part of a value of one kind, where the value is of that kind.
-use Rattle.std.specs.Prelude.{ℕ, ℤ, Bool, List, Option, Some, None}
+use Rattle.std.specs.Prelude.{ℕ, Bool, List, Option, Some, None}
 use Rattle.fx_expr.specs.Tree.{Tree}
 
 abbrev pub text_of : Tree → Option (List ℕ)
 text_of (Tree.str text) = Some text
 text_of _ = None
-
-abbrev pub integer_of : Tree → Option ℤ
-integer_of (Tree.int n) = Some n
-integer_of _ = None
 
 abbrev pub truth_of : Tree → Option Bool
 truth_of (Tree.bool b) = Some b

@@ -2,7 +2,7 @@
 ghost use Rattle.std.specs.Prelude.{◌≡◌};
 ghost use Rattle.std.specs.Option.{option_copied};
 ghost use Rattle.fx_expr.specs.Eval.{text_in, integer_in, truth_in, names_in};
-ghost use Rattle.fx_expr.specs.Parts.{text_of, integer_of, truth_of, names_of};
+ghost use Rattle.fx_expr.specs.Parts.{text_of, truth_of, names_of};
 ghost use Rattle.fx_expr.specs.Views.{tree_of};
 
 use crate::value::Value;
@@ -17,17 +17,6 @@ impl Value {
         match self {
             Value::Str(text) => Some(text),
             Value::Int(_) | Value::Bool(_) | Value::Names(_) => None,
-            Value::Pair(_, _) | Value::Nothing | Value::Some(_) | Value::Table(_) => None,
-        }
-    }
-
-    /// The integer; None exactly where this is no integer.
-    pub fn as_integer(&self) -> Option<i64>
-        ensures { result ≡ integer_of (tree_of self.now) }
-    {
-        match self {
-            Value::Int(n) => Some(*n),
-            Value::Str(_) | Value::Bool(_) | Value::Names(_) => None,
             Value::Pair(_, _) | Value::Nothing | Value::Some(_) | Value::Table(_) => None,
         }
     }

@@ -1,5 +1,5 @@
 -- What stands below a folder is, name by name of its listing, the entry of the name and what stands below that.
-use Rattle.std.proofs.Common.{◌≡◌, ◌≢◌, inl, inr, ℕ, Bool, true, false, not, cond, T, List, [], ◌∷◌, ◌++◌, map, Option, Some, None, option_map, refl, sym, ◌∙◌, ap, subst, append_assoc, append-nil}
+use Rattle.std.proofs.Common.{◌≡◌, inl, inr, ℕ, Bool, true, false, not, cond, T, List, [], ◌∷◌, ◌++◌, map, Option, Some, None, option_map, refl, sym, ◌∙◌, ap, subst, append_assoc, append-nil}
 use Rattle.std.specs.Prelude.{⊤}
 use Rattle.std.specs.declared.cmp.Ordering.{Ordering}
 use Rattle.std.specs.declared.cmp.Ordering.TheVariants.{Less, Equal, Greater}
@@ -12,6 +12,8 @@ use Rattle.std.specs.FinMap.Entries.{below_all, same_entries}
 use Rattle.std.proofs.lemmas.Bool.{cases_Bool}
 use Rattle.std.proofs.lemmas.List.{map-append}
 use Rattle.std.proofs.lemmas.List.Elements.{filter-append}
+use Rattle.fx_store.proofs.PathLists.{rest_append, rest_is}
+use Rattle.fx_base.proofs.Names.{pushed_some, same_front}
 use Rattle.fx_outside.specs.declared.kind.HostKind.{HostKind}
 use Rattle.fx_outside.specs.Listing.{Names, name_cmp}
 use Rattle.fx_outside.specs.Path.{Parts, parts_cmp}
@@ -23,14 +25,13 @@ use Rattle.fx_table.specs.Places.{rest_of}
 use Rattle.fx_folder.specs.Deep.{Held, inside, held_below, all_below, walked, is_table}
 use Rattle.fx_folder.specs.Walks.{item, items_of, item_path, in_table, bytes_in, held_of, behind, branch, ahead, IsThere, AreThere}
 use Rattle.fx_folder.proofs.Filled.{none_below, none_in}
-use Rattle.fx_table.proofs.Rests.{same_front, rest_append, rest_is}
 
 -- ---- what stands below a folder is sorted, and found by its names
 
 abbrev below_as : Option Parts → Entry → Option Held
 below_as o e = option_map (λ names. (names, e)) (option_and_then inside o)
 
-behind_all : (P r : Parts) (es : List (Parts × Entry)) → T (below_all parts_cmp (P ++ r) es) → T (below_all parts_cmp r (filter_map (held_below P) es))
+pub behind_all : (P r : Parts) (es : List (Parts × Entry)) → T (below_all parts_cmp (P ++ r) es) → T (below_all parts_cmp r (filter_map (held_below P) es))
 behind_all P r [] h = tt
 behind_all P r (e ∷ es) h =
     let rest = behind_all P r es (second (is_lt (parts_cmp (P ++ r) e.0)) _ h) in
@@ -43,7 +44,7 @@ behind_all P r (e ∷ es) h =
         let less : parts_cmp r (n ∷ q) ≡ Less = sym (same_front P r (n ∷ q)) ∙ (ap (parts_cmp (P ++ r)) (sym (rest_is P e.0 (n ∷ q) is)) ∙ is_less _ (first (is_lt (parts_cmp (P ++ r) e.0)) _ h)) in
         subst (λ o. T (below_all parts_cmp r (cons_option (below_as o e.1) (filter_map (held_below P) es)))) (sym is) (both (is_lt (parts_cmp r (n ∷ q))) _ (less_test _ less) rest)
 
-below_sorted : (P : Parts) (es : List (Parts × Entry)) → T (is_sorted parts_cmp es) → T (is_sorted parts_cmp (filter_map (held_below P) es))
+pub below_sorted : (P : Parts) (es : List (Parts × Entry)) → T (is_sorted parts_cmp es) → T (is_sorted parts_cmp (filter_map (held_below P) es))
 below_sorted P [] h = tt
 below_sorted P (e ∷ es) h =
     let rest = below_sorted P es (second (below_all parts_cmp e.0 es) _ h) in
@@ -57,7 +58,7 @@ below_sorted P (e ∷ es) h =
         subst (λ o. T (is_sorted parts_cmp (cons_option (below_as o e.1) (filter_map (held_below P) es)))) (sym is) (both (below_all parts_cmp (n ∷ q) (filter_map (held_below P) es)) _ above rest)
 
 -- no names lead to the folder itself
-root_below : (P : Parts) (es : List (Parts × Entry)) → T (below_all parts_cmp [] (filter_map (held_below P) es))
+pub root_below : (P : Parts) (es : List (Parts × Entry)) → T (below_all parts_cmp [] (filter_map (held_below P) es))
 root_below P [] = tt
 root_below P (e ∷ es) = by (rest_of P e.0) refl (root_below P es)
   where
@@ -78,7 +79,7 @@ apart_from P q r never = elim (cases_Bool (eq_by_cmp parts_cmp (P ++ r) q)) [
   | inr apart ↦ apart
 ]
 
-find_in : (P : Parts) (n : List ℕ) (r : Parts) (es : List (Parts × Entry)) → find parts_cmp (n ∷ r) (filter_map (held_below P) es) ≡ find parts_cmp (P ++ n ∷ r) es
+pub find_in : (P : Parts) (n : List ℕ) (r : Parts) (es : List (Parts × Entry)) → find parts_cmp (n ∷ r) (filter_map (held_below P) es) ≡ find parts_cmp (P ++ n ∷ r) es
 find_in P n r [] = refl
 find_in P n r (e ∷ es) = by (rest_of P e.0) refl (find_in P n r es)
   where
@@ -195,11 +196,6 @@ module _ (t : Tree) (P : Parts) where
         ∙ find_blocks n r es (second (below_all name_cmp e.0 es) _ h)
         ∙ ap (λ b. found_at n r (cond b (Some e.1) (find name_cmp n es))) (sym apart)
   ]
-
--- the entry of a kind that is found is that entry
-pushed_some : (P : Parts) (n : List ℕ) → P ++ n ∷ [] ≢ []
-pushed_some [] n e = cc
-pushed_some (x ∷ P) n e = cc
 
 found_same : (t : Tree) (whole : IsWhole t) (P : Parts) (n : List ℕ) (r : Parts) (o : Option Entry) → get t (P ++ n ∷ []) ≡ o → found_at t P n r (option_map (λ e. e.kind) o) ≡ get t (P ++ n ∷ r)
 found_same t whole P n [] None is = sym is

@@ -1,5 +1,5 @@
 -- What stands below a place of a host's tree, and a folder that is ready to be filled.
-use Rattle.std.proofs.Common.{◌≡◌, ◌≢◌, ℕ, ◌-◌, Bool, true, false, not, ◌==◌, cond, ◌&&◌, ◌||◌, List, [], ◌∷◌, ◌++◌, length, take, Option, Some, None, refl, sym, ◌∙◌, ap, subst, arith, append_assoc, length-append}
+use Rattle.std.proofs.Common.{◌≡◌, ◌≢◌, ℕ, Bool, true, false, not, ◌==◌, cond, ◌&&◌, ◌||◌, List, [], ◌∷◌, ◌++◌, length, Option, Some, None, refl, sym, ◌∙◌, ap, subst, arith, append_assoc}
 use Rattle.std.specs.Ordering.{is_eq, eq_by_cmp}
 use Rattle.std.specs.Cmp.{tied_itself}
 use Rattle.std.specs.List.{list_all}
@@ -7,7 +7,9 @@ use Rattle.std.specs.Option.{option_map_or}
 use Rattle.std.specs.FinMap.{get, get-insert}
 use Rattle.std.proofs.lemmas.Bool.Decides.{nat_tests}
 use Rattle.std.proofs.lemmas.List.Splits.{length-slice_split}
-use Rattle.std.proofs.Math.Seq.{take-append_seam}
+use Rattle.fx_base.proofs.Booleans.{fifth_true}
+use Rattle.fx_base.proofs.Results.{chosen_some, none_if_never}
+use Rattle.fx_base.proofs.Names.{pushed_some, above_pushed}
 use Rattle.fx_outside.specs.declared.kind.HostKind.{HostKind}
 use Rattle.fx_outside.specs.declared.kind.HostKind.TheVariants as kinds
 use Rattle.fx_outside.specs.Path.{Parts, parts, parts_cmp, above, is_fit, is_fit_part, has_no_slash}
@@ -19,11 +21,6 @@ use Rattle.fx_folder.specs.Folder.{IsReady}
 use Rattle.fx_folder.specs.Written.{with_folder, IsOpen}
 
 -- below a place where nothing stands, nothing stands
-
-pub above_pushed : (at : Parts) (n : List ℕ) → above (at ++ n ∷ []) ≡ at
-above_pushed at n =
-    let len : length (at ++ n ∷ []) - 1 ≡ length at = omega (arith, length-append at (n ∷ [])) in
-    ap (λ i. take i (at ++ n ∷ [])) len ∙ take-append_seam at (n ∷ [])
 
 fourth : (a b c d r : Bool) → (a && (b && (c && (d && r)))) ≡ true → d ≡ true
 fourth true true true true r e = refl
@@ -48,17 +45,9 @@ stands_in t whole at n e is =
     let around = fourth (not (length p == 0)) (list_all is_fit_part p) (list_all has_no_slash p) (has_folder t (above p)) (is_file_kind e.kind || length e.bytes == 0) placed in
     subst (λ q. has_folder t q ≡ true) (above_pushed at n) around
 
-none_or : (o : Option Entry) → ((e : Entry) → o ≡ Some e → ⊥) → o ≡ None
-none_or None h = refl
-none_or (Some e) h = absurd (h e refl)
-
-pushed_some : (at : Parts) (n : List ℕ) → at ++ n ∷ [] ≢ []
-pushed_some [] n e = cc
-pushed_some (a ∷ at) n e = cc
-
 -- a place with no entry has none in it
 pub none_in : (t : Tree) → tree.IsWhole t → (at : Parts) → at ≢ [] → get t at ≡ None → (n : List ℕ) → get t (at ++ n ∷ []) ≡ None
-none_in t whole at some none n = none_or _ λ e is. no_folder t at some none (stands_in t whole at n e is)
+none_in t whole at some none n = none_if_never _ λ e is. no_folder t at some none (stands_in t whole at n e is)
 
 -- a folder with no entry has nothing below
 pub none_below : (t : Tree) → tree.IsWhole t → (at : Parts) → ((n : List ℕ) → get t (at ++ n ∷ []) ≡ None) → (a : List ℕ) (r : Parts) → get t (at ++ a ∷ r) ≡ None
@@ -86,13 +75,6 @@ of_kind kinds.File bytes f e = cc
 of_kind kinds.Folder bytes f e = ap (λ b. record { kind = kinds.Folder; bytes = b }) (no_bytes 0 bytes e)
 of_kind kinds.Other bytes f e = cc
 
-fifth : (a b c d r : Bool) → (a && (b && (c && (d && r)))) ≡ true → r ≡ true
-fifth true true true true r e = e
-fifth true true true false r e = cc
-fifth true true false d r e = cc
-fifth true false c d r e = cc
-fifth false b c d r e = cc
-
 parts_some : (path : List ℕ) → parts path ≢ []
 parts_some path none = absurd (omega (arith, length-slice_split (λ b. b == 47) path, ap length none))
 
@@ -100,19 +82,15 @@ cond_fit : {A : Type 0} (b : Bool) (x y : A) → b ≡ true → cond b x y ≡ x
 cond_fit true x y e = refl
 cond_fit false x y e = cc
 
-stands : (o : Option Entry) → option_map_or (λ e. is_folder_kind e.kind) o false ≡ true → (e : Entry) × (o ≡ Some e) × (is_folder_kind e.kind ≡ true)
+pub stands : (o : Option Entry) → option_map_or (λ e. is_folder_kind e.kind) o false ≡ true → (e : Entry) × (o ≡ Some e) × (is_folder_kind e.kind ≡ true)
 stands None h = cc
 stands (Some e) h = (e, refl, h)
-
-fit_some : {A : Type 0} (b : Bool) (o : Option A) (x : A) → cond b o None ≡ Some x → (b ≡ true) × (o ≡ Some x)
-fit_some true o x e = (refl, e)
-fit_some false o x e = cc
 
 -- a path where a folder is ready is fit
 pub fit_of : (t : Tree) (path : List ℕ) (there : Bool) → IsReady t path there → is_fit path ≡ true
 fit_of t path true can =
     let here = stands (entry_at t path) can.0 in
-    (fit_some (is_fit path) (get t (parts path)) here.0 here.1).0
+    (chosen_some (is_fit path) (get t (parts path)) here.0 here.1).0
 fit_of t path false can = can.0
 
 -- a folder that is ready can be filled
@@ -121,8 +99,8 @@ can_fill t path true whole can =
     let here = stands (entry_at t path) can.0 in
     let e = here.0 in
     let p = parts path in
-    let found = (fit_some (is_fit path) (get t p) e here.1).1 in
-    let placed = fifth (not (length p == 0)) (list_all is_fit_part p) (list_all has_no_slash p) (has_folder t (above p)) (is_file_kind e.kind || length e.bytes == 0) (whole.placed p e found) in
+    let found = (chosen_some (is_fit path) (get t p) e here.1).1 in
+    let placed = fifth_true (not (length p == 0)) (list_all is_fit_part p) (list_all has_no_slash p) (has_folder t (above p)) (is_file_kind e.kind || length e.bytes == 0) (whole.placed p e found) in
     record {
       some = parts_some path;
       folder = found ∙ ap Some (of_kind e.kind e.bytes here.2 placed);

@@ -1,8 +1,7 @@
 -- The first of a filestore's nodes in a host's tree: one after another, and what stands there once the writing ends.
 use Rattle.std.proofs.Common.{◌≡◌, ◌⊎◌, inl, inr, ℕ, Bool, true, false, cond, ◌&&◌, ◌||◌, T, List, [], ◌∷◌, ◌++◌, is_none, is_some, Option, Some, None, IsSome, IsTrue, refl, sym, ◌∙◌, ap, subst, append_assoc, append-nil}
-use Rattle.std.specs.declared.cmp.Ordering.{Ordering}
-use Rattle.std.specs.declared.cmp.Ordering.TheVariants.{Less, Equal, Greater}
-use Rattle.std.specs.Ordering.{is_eq, is_lt, eq_by_cmp, ordering_then}
+use Rattle.std.specs.declared.cmp.Ordering.TheVariants.{Less}
+use Rattle.std.specs.Ordering.{is_eq, is_lt, eq_by_cmp}
 use Rattle.std.specs.Cmp.{tied_itself}
 use Rattle.std.specs.Cmp.Lexicographic.{texts_ties}
 use Rattle.std.specs.Option.{option_map_or, option_or}
@@ -11,10 +10,14 @@ use Rattle.std.specs.FinMap.Entries.{below_all, find-append}
 use Rattle.std.proofs.lemmas.Bool.{cases_Bool, false≢true}
 use Rattle.std.proofs.lemmas.List.Elements.{All-head}
 use Rattle.std.proofs.lemmas.Option.{same_Some}
+use Rattle.fx_base.proofs.Orders.{then_greater, then_equal_ties}
+use Rattle.fx_base.proofs.Names.{not_before_itself, above_pushed, same_front, path_is}
 use Rattle.fx_store.specs.declared.node.Node.{Node}
-use Rattle.fx_store.specs.declared.node.Node.TheVariants.{File, Dir, Link}
+use Rattle.fx_store.specs.declared.node.Node.TheVariants.{Dir}
 use Rattle.fx_store.specs.Names.{name_cmp, path_cmp, is_name, IsName}
-use Rattle.fx_store.specs.Whole.{Nodes, IsWhole, lists}
+use Rattle.fx_store.specs.Whole.{Nodes, IsWhole}
+use Rattle.fx_store.proofs.Landings.{listing_is_dir}
+use Rattle.fx_store.proofs.PathLists.{rest_is}
 use Rattle.fx_outside.specs.Path.{Parts, parts, parts_cmp, above, is_fit}
 use Rattle.fx_outside.specs.Tree as tree
 use Rattle.fx_outside.specs.Tree.{Tree, Entry, folder, has_folder, is_folder_kind, is_free, is_free_at}
@@ -26,8 +29,9 @@ use Rattle.fx_table.specs.Table.{lines_of}
 use Rattle.fx_folder.specs.Deep.{folder_entry, is_table_place, table_entry}
 use Rattle.fx_folder.specs.Folder.{IsReady, IsSaved, IsPartOf, IsPartlySaved, IsFrontOf, entry_or, is_written_before}
 use Rattle.fx_folder.specs.Written.{with_folder, MadePart, IsOpen, with_entry, WrotePart, HasEntries, WroteFront}
-use Rattle.fx_folder.proofs.Filled.{above_pushed, beside_folder, opens}
-use Rattle.fx_table.proofs.Rests.{same_front, rest_is, parts_is, no_rest, not_at}
+use Rattle.fx_folder.proofs.Filled.{beside_folder, opens}
+use Rattle.fx_folder.proofs.Items.{reserved}
+use Rattle.fx_table.proofs.Rests.{no_rest, not_at}
 use Rattle.fx_table.proofs.Descents.{find_append, root_first}
 
 abbrev Path : Type 0
@@ -61,7 +65,7 @@ before_later : (es fs : List Mapped) (q : Path) (x : Node) → T (is_sorted path
 before_later [] fs q x h found = cc
 before_later (e ∷ es) fs q x h found = elim (cases_Bool (eq_by_cmp path_cmp q e.0)) [
   | inl same ↦
-      subst (λ y. T (below_all path_cmp y fs)) (sym (parts_is q e.0 same)) (below_later e.0 es fs (first (below_all path_cmp e.0 (es ++ fs)) _ h))
+      subst (λ y. T (below_all path_cmp y fs)) (sym (path_is q e.0 same)) (below_later e.0 es fs (first (below_all path_cmp e.0 (es ++ fs)) _ h))
   | inr apart ↦
       before_later es fs q x (second (below_all path_cmp e.0 (es ++ fs)) _ h) (ap (λ b. cond b (Some e.1) (find path_cmp q es)) (sym apart) ∙ found)
 ]
@@ -69,9 +73,6 @@ before_later (e ∷ es) fs q x h found = elim (cases_Bool (eq_by_cmp path_cmp q 
 or_none : (o : Option Node) → option_or o None ≡ o
 or_none None = refl
 or_none (Some x) = refl
-
-not_less : (q : Path) → path_cmp q q ≡ Less → ⊥
-not_less q less = let tied : path_cmp q q ≡ Equal = tied_itself parts_total q in cc
 
 module _ (nodes : Nodes) (done left : List Mapped) (split : entries nodes ≡ done ++ left) where
   in_order : T (is_sorted path_cmp (done ++ left))
@@ -101,7 +102,7 @@ module _ (nodes : Nodes) (done rest : List Mapped) (path : Path) (node : Node) (
       go None e = refl
       go (Some x) e =
           let below = before_later done ((path, node) ∷ rest) path x (in_order nodes done ((path, node) ∷ rest) split) e in
-          absurd (not_less path (is_less _ (first (is_lt (path_cmp path path)) _ below)))
+          absurd (not_before_itself path (is_less _ (first (is_lt (path_cmp path path)) _ below)))
 
   -- a node before it is
   pub before_next : (b : Path) (y : Node) → path_cmp b path ≡ Less → get nodes b ≡ Some y → find path_cmp b done ≡ Some y
@@ -154,7 +155,7 @@ adds t u v at done path node has none added = record {
     one_more : (p : Path) → cond (eq_by_cmp path_cmp p path) (option_or (host_entry (Some node)) (host_entry (find path_cmp p done))) (host_entry (find path_cmp p done)) ≡ host_entry (cond (eq_by_cmp path_cmp p path) (Some node) (find path_cmp p done))
     one_more p = elim (cases_Bool (eq_by_cmp path_cmp p path)) [
       | inl same ↦
-          let gone : find path_cmp p done ≡ None = ap (λ q. find path_cmp q done) (parts_is p path same) ∙ none in
+          let gone : find path_cmp p done ≡ None = ap (λ q. find path_cmp q done) (path_is p path same) ∙ none in
           ap (λ b. cond b (option_or (host_entry (Some node)) (host_entry (find path_cmp p done))) (host_entry (find path_cmp p done))) same
           ∙ ap (λ o. option_or (host_entry (Some node)) (host_entry o)) gone ∙ or_new (host_entry (Some node))
           ∙ sym (ap (λ b. host_entry (cond b (Some node) (find path_cmp p done))) same)
@@ -172,10 +173,6 @@ from_old t0 t u at there es made has = record {
 
 -- the place of the table
 
-has_no_reserved : is_name table_name ≡ false
-unfolding is_name
-has_no_reserved = refl
-
 pub no_table : (nodes : Nodes) → IsWhole (get nodes) → get nodes (table_name ∷ []) ≡ None
 no_table nodes whole = go (get nodes (table_name ∷ [])) refl
   where
@@ -184,28 +181,18 @@ no_table nodes whole = go (get nodes (table_name ∷ [])) refl
     go (Some node) e =
         let path = whole.paths (table_name ∷ []) (ap is_some e) in
         let valid : is_name table_name ≡ true = All-head IsName table_name [] path.names in
-        absurd (false≢true (sym has_no_reserved ∙ valid))
-
-then_equal : (o : Ordering) → is_eq (ordering_then o Equal) ≡ is_eq o
-then_equal Less = refl
-then_equal Equal = refl
-then_equal Greater = refl
-
-then_greater : (o : Ordering) → is_eq (ordering_then o Greater) ≡ false
-then_greater Less = refl
-then_greater Equal = refl
-then_greater Greater = refl
+        absurd (false≢true (sym reserved ∙ valid))
 
 table_place : (p : Parts) → eq_by_cmp path_cmp p (table_name ∷ []) ≡ is_table_place p
 table_place [] = refl
-table_place (n ∷ []) = then_equal (name_cmp n table_name) ∙ sym (texts_ties n table_name)
+table_place (n ∷ []) = then_equal_ties (name_cmp n table_name) ∙ sym (texts_ties n table_name)
 table_place (n ∷ m ∷ p) = then_greater (name_cmp n table_name)
 
 -- a place with a node is not that of the table
 node_place : (nodes : Nodes) → IsWhole (get nodes) → (p : Parts) (node : Node) → get nodes p ≡ Some node → is_table_place p ≡ false
 node_place nodes whole p node here = elim (cases_Bool (is_table_place p)) [
   | inl table ↦
-      let it : p ≡ table_name ∷ [] = parts_is p (table_name ∷ []) (table_place p ∙ table) in
+      let it : p ≡ table_name ∷ [] = path_is p (table_name ∷ []) (table_place p ∙ table) in
       let none : get nodes p ≡ None = ap (get nodes) it ∙ no_table nodes whole in
       cc
   | inr other ↦ other
@@ -216,7 +203,7 @@ node_entry : (nodes : Nodes) → IsWhole (get nodes) → (p : Parts) (node : Nod
 node_entry nodes whole p node here =
     ap (λ b. cond b (table_entry (lines_of nodes)) (host_entry (get nodes p))) (node_place nodes whole p node here) ∙ ap host_entry here
 
-some_of : (o : Option Node) (e : Entry) → host_entry o ≡ Some e → (node : Node) × (o ≡ Some node)
+pub some_of : (o : Option Node) (e : Entry) → host_entry o ≡ Some e → (node : Node) × (o ≡ Some node)
 some_of None e is = cc
 some_of (Some node) e is = (node, refl)
 
@@ -281,7 +268,7 @@ module _ (nodes : Nodes) (whole : IsWhole (get nodes)) (t u : Tree) (at : Parts)
       apart q other = ap (λ x. get x q) added ∙ get_apart u (at ++ path) (Some e) q other
 
       at_next : (p : Parts) → eq_by_cmp path_cmp p path ≡ true → folder_entry nodes p ≡ Some whole_e
-      at_next p same = ap (folder_entry nodes) (parts_is p path same) ∙ node_entry nodes whole path node (the_next nodes done rest path node split) ∙ is
+      at_next p same = ap (folder_entry nodes) (path_is p path same) ∙ node_entry nodes whole path node (the_next nodes done rest path node split) ∙ is
 
       the_entry : (p : Parts) (d : Entry) → eq_by_cmp path_cmp p path ≡ true → get v (at ++ p) ≡ Some d → d ≡ e
       the_entry p d same here =
@@ -293,14 +280,14 @@ module _ (nodes : Nodes) (whole : IsWhole (get nodes)) (t u : Tree) (at : Parts)
       at_last : (p : Parts) (d : Entry) → eq_by_cmp path_cmp p path ≡ true → get v (at ++ p) ≡ Some d → (d ≡ whole_e) ⊎ ((p ≡ path) × IsFrontOf d whole_e)
       at_last p d same here = elim front [
         | inl it ↦ inl (the_entry p d same here ∙ it)
-        | inr part ↦ inr (parts_is p path same, subst (λ x. IsFrontOf x whole_e) (sym (the_entry p d same here)) part)
+        | inr part ↦ inr (path_is p path same, subst (λ x. IsFrontOf x whole_e) (sym (the_entry p d same here)) part)
       ]
 
       earlier : (p b : Parts) (d w : Entry) → get v (at ++ p) ≡ Some d → IsTrue (is_written_before b p) → folder_entry nodes b ≡ Some w → (y : Node) × (find path_cmp b done ≡ Some y) × (get u (at ++ b) ≡ Some w)
       earlier p b d w here before has_w = elim (cases_Bool (eq_by_cmp path_cmp p path)) [
         | inl same ↦
             let y = node_of b w (not_table b p before) has_w in
-            let it : p ≡ path = parts_is p path same in
+            let it : p ≡ path = path_is p path same in
             let other = node_place nodes whole path node (the_next nodes done rest path node split) in
             let less : path_cmp b path ≡ Less = in_path_order b path other (subst (λ x. IsTrue (is_written_before b x)) it before) in
             let there = before_next nodes done rest path node split b y.0 less y.1 in
@@ -313,7 +300,7 @@ module _ (nodes : Nodes) (whole : IsWhole (get nodes)) (t u : Tree) (at : Parts)
       beside : (b : Parts) (y : Node) → find path_cmp b done ≡ Some y → eq_by_cmp path_cmp b path ≡ false
       beside b y found = elim (cases_Bool (eq_by_cmp path_cmp b path)) [
         | inl same ↦
-            let none : find path_cmp b done ≡ None = ap (λ x. find path_cmp x done) (parts_is b path same) ∙ fresh nodes done rest path node split in
+            let none : find path_cmp b done ≡ None = ap (λ x. find path_cmp x done) (path_is b path same) ∙ fresh nodes done rest path node split in
             cc
         | inr other ↦ other
       ]
@@ -328,7 +315,7 @@ module _ (nodes : Nodes) (whole : IsWhole (get nodes)) (t u : Tree) (at : Parts)
       at_table : (p : Parts) → cond (is_table_place p) (option_or (table_entry (lines_of nodes)) (host_entry (get nodes p))) (host_entry (get nodes p)) ≡ folder_entry nodes p
       at_table p = elim (cases_Bool (is_table_place p)) [
         | inl hit ↦
-            let none : get nodes p ≡ None = ap (get nodes) (parts_is p (table_name ∷ []) (table_place p ∙ hit)) ∙ no_table nodes whole in
+            let none : get nodes p ≡ None = ap (get nodes) (path_is p (table_name ∷ []) (table_place p ∙ hit)) ∙ no_table nodes whole in
             ap (λ o. cond (is_table_place p) (option_or (table_entry (lines_of nodes)) (host_entry o)) (host_entry (get nodes p))) none
             ∙ ap (λ h. cond (is_table_place p) h (host_entry (get nodes p))) (or_new (table_entry (lines_of nodes)))
         | inr miss ↦
@@ -376,7 +363,7 @@ module _ (nodes : Nodes) (whole : IsWhole (get nodes)) (t u : Tree) (at : Parts)
       at_last : (p : Parts) (d : Entry) → is_table_place p ≡ true → get v (at ++ p) ≡ Some d → (d ≡ whole_e) ⊎ ((p ≡ table_name ∷ []) × IsFrontOf d whole_e)
       at_last p d hit here = elim front [
         | inl it ↦ inl (the_entry p d hit here ∙ it)
-        | inr part ↦ inr (parts_is p (table_name ∷ []) (table_place p ∙ hit), subst (λ x. IsFrontOf x whole_e) (sym (the_entry p d hit here)) part)
+        | inr part ↦ inr (path_is p (table_name ∷ []) (table_place p ∙ hit), subst (λ x. IsFrontOf x whole_e) (sym (the_entry p d hit here)) part)
       ]
 
 -- after a refusal a part of the folder stands
@@ -419,13 +406,7 @@ last_of : (x : List ℕ) (xs : Path) → (front : Path) × (last : List ℕ) × 
 last_of x [] = ([], x, refl)
 last_of x (y ∷ ys) = let l = last_of y ys in (x ∷ l.0, l.1, ap (λ r. x ∷ r) l.2)
 
-listing : (o : Option Node) (n : List ℕ) → lists o n ≡ true → (names : List (List ℕ)) × (o ≡ Some (Dir names))
-listing None n e = cc
-listing (Some (File bytes exec)) n e = cc
-listing (Some (Dir names)) n e = (names, refl)
-listing (Some (Link text)) n e = cc
-
-free_place : (u : Tree) (text : List ℕ) (p : Parts) → is_fit text ≡ true → parts text ≡ p → get u p ≡ None → has_folder u (above p) ≡ true → is_free_at u text ≡ true
+pub free_place : (u : Tree) (text : List ℕ) (p : Parts) → is_fit text ≡ true → parts text ≡ p → get u p ≡ None → has_folder u (above p) ≡ true → is_free_at u text ≡ true
 free_place u text p fit is none around =
     ap (λ b. b && is_free u (parts text)) fit ∙ ap (is_free u) is ∙ ap (λ o. is_none o && has_folder u (above p)) none ∙ around
 
@@ -438,7 +419,7 @@ next_free nodes whole t u at done rest (x ∷ xs) node split has some text fit i
     let r = l.0 in
     let n = l.1 in
     let mapped : get nodes (r ++ n ∷ []) ≡ Some node = ap (get nodes) (sym l.2) ∙ the_next nodes done rest (x ∷ xs) node split in
-    let dir = listing (get nodes r) n (sym (whole.listed r n) ∙ ap is_some mapped) in
+    let dir = listing_is_dir (get nodes r) n (sym (whole.listed r n) ∙ ap is_some mapped) in
     let less : path_cmp r (x ∷ xs) ≡ Less = ap (path_cmp r) l.2 ∙ ap (λ z. path_cmp z (r ++ n ∷ [])) (sym (append-nil r)) ∙ same_front r [] (n ∷ []) in
     let there = before_next nodes done rest (x ∷ xs) node split r (Dir dir.0) less dir.1 in
     let made : get u (at ++ r) ≡ Some folder = has.inside r ∙ ap host_entry there in

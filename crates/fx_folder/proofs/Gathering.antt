@@ -1,12 +1,12 @@
 -- What was walked, with the links of the table, is what the definition of loading gives.
-use Rattle.std.proofs.Common.{◌≡◌, ◌⊎◌, inl, inr, ℕ, suc, ◌+◌, ◌-◌, ◌<◌, ◌≤◌, Bool, true, false, cond, ◌&&◌, ◌||◌, List, [], ◌∷◌, ◌++◌, map, length, Option, Some, None, Result, Ok, Err, IfOk, IfErr, IfSome, is_some, option_map, refl, sym, ◌∙◌, ap, subst, arith}
+use Rattle.std.proofs.Common.{◌≡◌, ◌⊎◌, inl, inr, ℕ, suc, ◌+◌, ◌-◌, ◌<◌, ◌≤◌, Bool, true, false, cond, ◌&&◌, ◌||◌, List, [], ◌∷◌, ◌++◌, map, length, Option, Some, None, Result, Ok, Err, IfOk, IfErr, IfSome, option_map, refl, sym, ◌∙◌, ap, subst, arith}
 use Rattle.std.specs.Prelude.{nat_lt, unwrap_or}
 use Rattle.std.specs.Option.{option_or, option_map_or}
 use Rattle.std.specs.Ordering.{eq_by_cmp}
 use Rattle.std.specs.List.{AllByRecursion}
 use Rattle.std.specs.List.Sorted.{IsStrictlySortedBy}
 use Rattle.std.specs.Map.{keys_of}
-use Rattle.std.specs.FinMap.{get, find, put}
+use Rattle.std.specs.FinMap.{get, find}
 use Rattle.std.proofs.lemmas.Bool.Decides.{nat_tests}
 use Rattle.fx_outside.specs.declared.kind.HostKind.{HostKind}
 use Rattle.fx_outside.specs.declared.kind.HostKind.TheVariants as kind
@@ -15,6 +15,7 @@ use Rattle.fx_outside.specs.Listing.{Names}
 use Rattle.fx_outside.specs.Tree.{Tree, Entry, Lists, entry_at, is_folder_at, is_file_at, is_file_kind, bytes_at}
 use Rattle.std.specs.Global.{Global}
 use Rattle.std.specs.Prelude.{Vec}
+use Rattle.fx_base.proofs.Results.{some_of}
 use Rattle.fx_folder.specs.Loads.{loads, AnswersAs}
 use Rattle.fx_folder.specs.Reads.{path_below}
 use Rattle.fx_folder.proofs.Below.{folder_fit}
@@ -33,7 +34,7 @@ use Rattle.fx_table.specs.declared.fault.LoadFault.{LoadFault}
 use Rattle.fx_table.specs.declared.fault.LoadFault.TheVariants.{Refused, ReadFault, NoMemory}
 use Rattle.fx_folder.specs.declared.walking.Walked.{Walked}
 use Rattle.fx_folder.specs.Deep.{Held, all_below, walked, table_in, all_bytes, first_refused, refused_entry, node_of_kind, unlisted, most_in_table, unless_bad, lacking, read_lines, table_file_lines, linked, with_table, unless_refused, loaded, as_nodes}
-use Rattle.fx_table.specs.Listed.{Mapped, listed, with_links, with_flag, with_flags, with_lines}
+use Rattle.fx_table.specs.Listed.{Mapped, listed, with_flag, with_flags, with_lines}
 use Rattle.fx_table.specs.Places.{place_of, table_name}
 use Rattle.fx_folder.specs.Grown.{IsFoundNode, HasDir, IsFound, AreFound}
 use Rattle.fx_folder.specs.Limits.{most_nodes, most_bytes}
@@ -48,12 +49,13 @@ use Rattle.fx_folder.specs.Tables.{ReadsWhole, text_of, AnswersText, room_behind
 use Rattle.fx_folder.specs.Walks.{found_as, AnswersWalk}
 use Rattle.fx_folder.proofs.Branches.{find_below}
 use Rattle.fx_table.proofs.Flagging.{bytes_flags, lines_made, lines_merge}
-use Rattle.fx_table.proofs.Linking.{IsLinked, find_linked}
+use Rattle.fx_table.proofs.Linking.{IsLinked}
 use Rattle.fx_table.proofs.Making.{set_at}
 use Rattle.fx_table.proofs.Naming.{mapped_changes}
 use Rattle.fx_folder.proofs.Refusals.{same_first, fits_all}
 use Rattle.fx_table.proofs.Shapes.{found}
 use Rattle.fx_table.proofs.Versions.{body_read, lacks_none}
+use Rattle.fx_table.proofs.Reaching.{bytes_linked}
 use Rattle.fx_folder.proofs.TableRefusals.{lines_refused, same_many}
 
 -- ---- what was found has a shape
@@ -87,10 +89,6 @@ each_at P (c ∷ cs) q node all set is = by (eq_by_cmp path_cmp q c.path) refl i
         let here : c.node ≡ Some node = ap head_or set ∙ is in
         subst (λ p. P p (Some node)) (sym (path_eq_same q c.path same)) (subst (P c.path) here all.0)
     by false other is further = further is
-
-some_of : (o : Option Node) → is_some o ≡ true → (node : Node) × (o ≡ Some node)
-some_of None e = cc
-some_of (Some node) e = (node, refl)
 
 module _ (cs : List Change) (are : AreFound cs) where
   abbrev es : List Mapped
@@ -173,14 +171,6 @@ module _ (cs : List Change) (are : AreFound cs) (lines : List Change) (linked : 
 
   joined_lines : IsLinked (found (mapped_of cs)) (with_lines (mapped_of cs) (lines_in lines))
   joined_lines = lines_made (found (mapped_of cs)) true (lines_in lines) lines_table (mapped_of cs) (is_linked cs are)
-
-  bytes_linked : (fs : List Mapped) (ks : List TableLink) → AreOfBytes (found fs) → AreOfBytes (found (with_links fs ks))
-  bytes_linked fs [] held = held
-  bytes_linked fs (k ∷ ks) held = bytes_linked (put path_cmp k.path (Link k.text) fs) ks (λ q. subst (λ o. IfSome o IsOfBytes) (sym (find_linked fs k q)) (by (eq_by_cmp path_cmp q k.path) q))
-    where
-      by : (b : Bool) (q : Parts) → IfSome (cond b (Some (Link k.text)) (found fs q)) IsOfBytes
-      by true q = tt
-      by false q = held q
 
   pub joined_shaped : (all : List Change) → all ≡ changes_of (with_lines (mapped_of cs) (lines_in lines)) → AreShaped all
   joined_shaped all is =

@@ -2,7 +2,6 @@
 use Rattle.std.proofs.Common.{◌≡◌, ◌⊎◌, inl, inr, ℕ, ◌-◌, Bool, true, false, cond, T, List, [], ◌∷◌, ◌++◌, length, take, Option, Some, None, Result, Ok, Err, IfOk, OnOk, refl, sym, ◌∙◌, ap, subst, arith, append_assoc, append-nil}
 use Rattle.std.specs.declared.cmp.Ordering.{Ordering}
 use Rattle.std.specs.declared.cmp.Ordering.TheVariants.{Less, Equal, Greater}
-use Rattle.std.specs.Cmp.{tied_itself}
 use Rattle.std.specs.Ordering.{is_eq, is_lt, eq_by_cmp, ordering_then}
 use Rattle.std.specs.List.{AllByRecursion}
 use Rattle.std.specs.List.Sorted.{IsStrictlySortedBy}
@@ -11,6 +10,8 @@ use Rattle.std.specs.FinMap.{empty, entries, entries_sorted, find, is_sorted}
 use Rattle.std.specs.FinMap.Entries.{below_all}
 use Rattle.std.proofs.lemmas.Bool.{false≢true}
 use Rattle.std.proofs.lemmas.List.Elements.{All-nil}
+use Rattle.fx_base.proofs.Lists.{all_front, all_end, all_both}
+use Rattle.fx_base.proofs.Names.{path_itself, same_front, path_is, above_pushed}
 use Rattle.fx_outside.specs.declared.kind.HostKind.{HostKind}
 use Rattle.fx_outside.specs.Listing.{Names, name_cmp}
 use Rattle.fx_outside.specs.Path.{Parts}
@@ -19,6 +20,7 @@ use Rattle.fx_outside.proofs.Trees.{parts_total, in_folder_cmp, entries_none}
 use Rattle.fx_store.specs.declared.node.Node.TheVariants.{Dir}
 use Rattle.fx_store.specs.declared.changes.Change.{Change}
 use Rattle.fx_store.specs.Names.{path_cmp, IsPath, IsName}
+use Rattle.fx_store.proofs.PathLists.{rest_is}
 use Rattle.fx_folder.specs.declared.walking.Item.{Item}
 use Rattle.fx_table.specs.Places.{rest_of}
 use Rattle.fx_table.specs.Listed.{Mapped}
@@ -28,8 +30,6 @@ use Rattle.fx_table.specs.declared.fault.LoadFault.{LoadFault}
 use Rattle.fx_folder.specs.Walks.{item, item_path, items_of, in_table, root_found, AddsItems}
 use Rattle.fx_outside.specs.Tree.{Tree}
 use Rattle.fx_folder.specs.Grown.{IsFoundNode, HasDir, IsFound, AreFound, paths_ahead, IsGrown, Finds}
-use Rattle.fx_table.proofs.Rests.{same_front, rest_is, parts_is}
-use Rattle.fx_table.proofs.Shapes.{above_pushed}
 use Rattle.fx_folder.proofs.Ways.{root_pushed}
 
 abbrev AllAbove : Parts → List Parts → Type 0
@@ -121,14 +121,14 @@ children_behind p (e ∷ es) = by (in_table (p ++ e.0 ∷ [])) (children_behind 
 -- ---- what is not below a folder comes behind all that is
 
 before_apart : (p s r : Parts) → path_cmp p r ≡ Less → rest_of p r ≡ None → path_cmp (p ++ s) r ≡ Less
-before_apart [] s r less none = cc
-before_apart (a ∷ p) s [] less none = cc
-before_apart (a ∷ p) s (b ∷ r) less none = by (name_cmp a b) less none (before_apart p s r)
+before_apart [] s r less entries_none = cc
+before_apart (a ∷ p) s [] less entries_none = cc
+before_apart (a ∷ p) s (b ∷ r) less entries_none = by (name_cmp a b) less entries_none (before_apart p s r)
   where
     by : (o : Ordering) → ordering_then o (path_cmp p r) ≡ Less → cond (is_eq o) (rest_of p r) None ≡ None → (path_cmp p r ≡ Less → rest_of p r ≡ None → path_cmp (p ++ s) r ≡ Less) → ordering_then o (path_cmp (p ++ s) r) ≡ Less
-    by Less less none ih = refl
-    by Equal less none ih = ih less none
-    by Greater less none ih = cc
+    by Less less entries_none ih = refl
+    by Equal less entries_none ih = ih less entries_none
+    by Greater less entries_none ih = cc
 
 not_before : (p s : Parts) → path_cmp (p ++ s) p ≡ Less → ⊥
 not_before p s less = by s (sym (same_front p s []) ∙ (ap (path_cmp (p ++ s)) (append-nil p) ∙ less))
@@ -148,14 +148,14 @@ rest_apart p q n before behind = by (rest_of p (q ++ n ∷ [])) refl
         last : (s : Parts) → (s ≡ []) ⊎ ((t : Parts) × (m : List ℕ) × (s ≡ t ++ m ∷ []))
         last [] = inl refl
         last (a ∷ s) = elim (last s) [
-          | inl none ↦ inr ([], a, ap (λ l. a ∷ l) none)
+          | inl entries_none ↦ inr ([], a, ap (λ l. a ∷ l) entries_none)
           | inr more ↦ inr (a ∷ more.0, more.1, ap (λ l. a ∷ l) more.2)
         ]
 
         at : (s : Parts) → q ++ n ∷ [] ≡ p ++ s → ⊥
         at s same = elim (last s) [
-          | inl none ↦
-              let here : q ++ n ∷ [] ≡ p = same ∙ (ap (λ l. p ++ l) none ∙ append-nil p) in
+          | inl entries_none ↦
+              let here : q ++ n ∷ [] ≡ p = same ∙ (ap (λ l. p ++ l) entries_none ∙ append-nil p) in
               not_before p [] (ap (λ l. path_cmp l p) (append-nil p) ∙ (ap (path_cmp p) (sym here) ∙ behind))
           | inr more ↦
               let whole : q ++ n ∷ [] ≡ (p ++ more.0) ++ more.1 ∷ [] = same ∙ (ap (λ l. p ++ l) more.2 ∙ sym (append_assoc p more.0 (more.1 ∷ []))) in
@@ -199,25 +199,13 @@ less_than (e ∷ es) q p rs is up = by (eq_by_cmp path_cmp q e.0) refl (λ there
     at_last k (l ∷ ks) all = at_last k ks all.1
 
     by : (b : Bool) → eq_by_cmp path_cmp q e.0 ≡ b → (HasDir es q → path_cmp q p ≡ Less) → is_dir (cond b (Some e.1) (find path_cmp q es)) ≡ true → path_cmp q p ≡ Less
-    by true same rest is = subst (λ l. path_cmp l p ≡ Less) (sym (parts_is q e.0 same)) (at_last e.0 (keys_of es) up.0)
+    by true same rest is = subst (λ l. path_cmp l p ≡ Less) (sym (path_is q e.0 same)) (at_last e.0 (keys_of es) up.0)
     by false apart rest is = rest is
 
 rest_sorted : (bs : List Parts) (p : Parts) (rs : List Parts) → IsStrictlySortedBy path_cmp (bs ++ p ∷ rs) → AllAbove p rs
 unfolding IsStrictlySortedBy
 rest_sorted [] p rs up = up.0
 rest_sorted (a ∷ bs) p rs up = rest_sorted bs p rs up.1
-
-all_front : {X : Type 0} (P : X → Type 0) (xs ys : List X) → AllByRecursion P (xs ++ ys) → AllByRecursion P xs
-all_front P [] ys all = tt
-all_front P (x ∷ xs) ys all = (all.0, all_front P xs ys all.1)
-
-all_end : {X : Type 0} (P : X → Type 0) (xs ys : List X) → AllByRecursion P (xs ++ ys) → AllByRecursion P ys
-all_end P [] ys all = all
-all_end P (x ∷ xs) ys all = all_end P xs ys all.1
-
-all_both : {X : Type 0} (P : X → Type 0) (xs ys : List X) → AllByRecursion P xs → AllByRecursion P ys → AllByRecursion P (xs ++ ys)
-all_both P [] ys all more = more
-all_both P (x ∷ xs) ys all more = (all.0, all_both P xs ys all.1 more)
 
 -- what comes behind a path that was found stands in directories before it, so that it is not below it
 children_before : (p : Parts) (n : List ℕ) (todo : List Item) → AllAbove p (paths_ahead todo) → AllByRecursion (λ (x : Item). path_cmp x.parent p ≡ Less) todo → AllAbove (p ++ n ∷ []) (paths_ahead todo)
@@ -245,7 +233,7 @@ stand_more cs ds [] all = tt
 stand_more cs ds (x ∷ todo) all = (dir_more cs ds x.parent all.0, stand_more cs ds todo all.1)
 
 stand_new : (fs : List Mapped) (p : Parts) (es : List (List ℕ × HostKind)) → (es ≡ []) ⊎ HasDir fs p → AllByRecursion (λ (x : Item). HasDir fs x.parent) (items_of p es)
-stand_new fs p es (inl none) = subst (λ l. AllByRecursion (λ (x : Item). HasDir fs x.parent) (items_of p l)) (sym none) tt
+stand_new fs p es (inl entries_none) = subst (λ l. AllByRecursion (λ (x : Item). HasDir fs x.parent) (items_of p l)) (sym entries_none) tt
 stand_new fs p es (inr dir) = go es
   where
     go : (es : List (List ℕ × HostKind)) → AllByRecursion (λ (x : Item). HasDir fs x.parent) (items_of p es)
@@ -256,21 +244,17 @@ stand_new fs p es (inr dir) = go es
         by true = tt
         by false = (dir, tt)
 
--- a new path is found where it was put
-itself : (p : Parts) → eq_by_cmp path_cmp p p ≡ true
-itself p = ap is_eq (tied_itself parts_total p)
-
 before_last : (k p : Parts) (ks rs : List Parts) → AllAbove k (ks ++ p ∷ rs) → path_cmp k p ≡ Less
 before_last k p [] rs all = all.0
 before_last k p (l ∷ ks) rs all = before_last k p ks rs all.1
 
 dir_last : (es : List Mapped) (p : Parts) (rs : List Parts) → IsStrictlySortedBy path_cmp (keys_of es ++ p ∷ rs) → HasDir (es ++ (p, Dir []) ∷ []) p
 unfolding IsStrictlySortedBy
-dir_last [] p rs up = ap (λ b. is_dir (cond b (Some (Dir [])) None)) (itself p)
+dir_last [] p rs up = ap (λ b. is_dir (cond b (Some (Dir [])) None)) (path_itself p)
 dir_last (e ∷ es) p rs up = by (eq_by_cmp path_cmp p e.0) refl (dir_last es p rs up.1)
   where
     by : (b : Bool) → eq_by_cmp path_cmp p e.0 ≡ b → HasDir (es ++ (p, Dir []) ∷ []) p → is_dir (cond b (Some e.1) (find path_cmp p (es ++ (p, Dir []) ∷ []))) ≡ true
-    by true same rest = absurd (not_before p [] (ap (λ l. path_cmp l p) (append-nil p) ∙ (ap (λ l. path_cmp l p) (parts_is p e.0 same) ∙ before_last e.0 p (keys_of es) rs up.0)))
+    by true same rest = absurd (not_before p [] (ap (λ l. path_cmp l p) (append-nil p) ∙ (ap (λ l. path_cmp l p) (path_is p e.0 same) ∙ before_last e.0 p (keys_of es) rs up.0)))
     by false apart rest = rest
 
 module _ (found : List Change) (todo todo' : List Item) (x : Item) (c : Change) (was : IsGrown found (todo ++ x ∷ [])) (finds : Finds x todo todo' c) where
@@ -314,7 +298,7 @@ module _ (found : List Change) (todo todo' : List Item) (x : Item) (c : Change) 
 
   opened : (entries finds.names ≡ []) ⊎ HasDir (mapped_of (found ++ c ∷ [])) c.path
   opened = elim finds.inside [
-    | inl none ↦ inl none
+    | inl entries_none ↦ inl entries_none
     | inr dir ↦ inr (subst (λ l. HasDir l c.path) (sym (mapped_append found (c ∷ []) ∙ ap (λ o. es ++ (c.path, node_or_dir o) ∷ []) dir)) (dir_last es c.path (paths_ahead todo) ascends))
   ]
 
@@ -365,12 +349,9 @@ finds_file x todo todo' p c path at same is = record {
   valid = subst IsPath (sym is.0) path;
   node = is.1;
   names = empty;
-  more = same ∙ (sym (append-nil todo) ∙ ap (λ l. todo ++ items_of c.path l) (sym none));
-  inside = inl none;
+  more = same ∙ (sym (append-nil todo) ∙ ap (λ l. todo ++ items_of c.path l) (sym entries_none));
+  inside = inl entries_none;
 }
-  where
-    none : entries (empty {X = HostKind} {R = name_cmp}) ≡ []
-    none = entries_none
 
 pub finds_folder : (x : Item) (todo todo' : List Item) (p : Parts) (c : Change) (names : Names) → IsPath p → p ≡ item_path x → c ≡ record { path = p; node = Some (Dir []) } → todo' ≡ todo ++ items_of p (entries names) → Finds x todo todo' c
 finds_folder x todo todo' p c names path at is same = subst (Finds x todo todo') (sym is) (record { path = at; valid = path; node = refl; names = names; more = same; inside = inr refl })

@@ -6,6 +6,7 @@ use Rattle.std.proofs.lemmas.Bool.{false≢true}
 use Rattle.std.proofs.lemmas.Option.{same_Some}
 use Rattle.std.proofs.lemmas.List.Elements.{All-head}
 use Rattle.std.proofs.lemmas.Slice.Eq.{bytes_eq-Decides}
+use Rattle.fx_base.proofs.Lists.{none_past}
 use Rattle.fx_outside.specs.declared.kind.HostKind.{HostKind}
 use Rattle.fx_outside.specs.Path.{Parts}
 use Rattle.fx_store.specs.Names.{is_name, IsName, IsPath}
@@ -13,7 +14,7 @@ use Rattle.fx_folder.specs.declared.walking.Item.{Item}
 use Rattle.fx_table.specs.Places.{table_name, place_of}
 use Rattle.fx_folder.specs.Walks.{in_table, item, items_of}
 
-reserved : is_name table_name ≡ false
+pub reserved : is_name table_name ≡ false
 unfolding is_name
 reserved = refl
 
@@ -37,11 +38,6 @@ drop_at : {A : Type 0} (xs : List A) (i : ℕ) (x : A) → slice_get xs i ≡ So
 drop_at [] i x is = cc
 drop_at (y ∷ xs) zero x is = ap (λ z. z ∷ xs) (same_Some y x is)
 drop_at (y ∷ xs) (suc i) x is = drop_at xs i x is
-
-none_past : {A : Type 0} (xs : List A) (i : ℕ) → slice_get xs i ≡ None → length xs ≤ i
-none_past [] i e = omega arith
-none_past (x ∷ xs) zero e = cc
-none_past (x ∷ xs) (suc i) e = let rest = none_past xs i e in omega arith
 
 pub not_past : {A : Type 0} (xs : List A) (i : ℕ) → i < length xs → None ≡ slice_get xs i → ⊥
 not_past xs i lt none = let le = none_past xs i (sym none) in omega arith

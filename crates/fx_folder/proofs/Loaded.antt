@@ -1,16 +1,18 @@
 -- What a folder is loaded as is a whole filestore.
-use Rattle.std.proofs.Common.{◌≡◌, inl, inr, ℕ, zero, suc, ◌+◌, ◌-◌, ◌<◌, ◌≤◌, ◌==◌, Bool, true, false, cond, not, ◌&&◌, ◌||◌, T, List, [], ◌∷◌, ◌++◌, map, length, take, Option, Some, None, Result, Ok, Err, is_some, IsSome, IfSome, IsTrue, All, refl, sym, ◌∙◌, ap, subst, arith, append_assoc, length-take}
+use Rattle.std.proofs.Common.{◌≡◌, inl, inr, ℕ, zero, suc, ◌+◌, ◌-◌, ◌<◌, ◌≤◌, ◌==◌, Bool, true, false, cond, not, ◌&&◌, T, List, [], ◌∷◌, ◌++◌, map, length, take, Option, Some, None, Result, Ok, Err, is_some, IsSome, IfSome, IsTrue, All, refl, sym, ◌∙◌, ap, subst, arith, append_assoc, length-take}
 use Rattle.std.specs.Prelude.{nat_lt, nat_le, bytes_eq}
 use Rattle.std.specs.Ordering.{is_lt, eq_by_cmp}
 use Rattle.std.specs.Option.{option_or, option_map, option_map_or}
 use Rattle.std.specs.List.Sorted.{IsStrictlySortedBy}
 use Rattle.std.specs.FinMap.{get, find, is_sorted, from_entries, get-from_entries}
 use Rattle.std.specs.FinMap.Entries.{below_all}
-use Rattle.std.proofs.lemmas.Bool.{cases_Bool, false≢true}
+use Rattle.std.proofs.lemmas.Bool.{cases_Bool, false≢true, and_parts, or_parts}
 use Rattle.std.proofs.lemmas.Bool.Decides.{nat_tests}
 use Rattle.std.proofs.lemmas.Option.{same_Some}
 use Rattle.std.proofs.lemmas.List.Elements.{All-nil, All-push}
 use Rattle.std.proofs.Math.Seq.{take-length, take-suc}
+use Rattle.fx_base.proofs.Results.{neither_some, some_of}
+use Rattle.fx_base.proofs.Names.{above_pushed}
 use Rattle.fx_outside.specs.declared.kind.HostKind.{HostKind}
 use Rattle.fx_outside.specs.declared.kind.HostKind.TheVariants as kind
 use Rattle.fx_outside.specs.Path.{parts_cmp, above}
@@ -25,7 +27,7 @@ use Rattle.fx_store.specs.Whole.{Store, Nodes}
 use Rattle.fx_store.proofs.Stores.{IsWhole-same}
 use Rattle.fx_table.specs.declared.fault.FolderCause.{FolderCause}
 use Rattle.fx_table.specs.declared.fault.FolderCause.TheVariants.{BadTable}
-use Rattle.fx_folder.specs.Loads.{most_nodes, most_in_file, most_bytes}
+use Rattle.fx_folder.specs.Loads.{most_nodes, most_in_file, most_bytes, Loads, IsRefused}
 use Rattle.fx_table.specs.Places.{table_name}
 use Rattle.fx_table.specs.declared.line.TableLine.{TableLine}
 use Rattle.fx_table.specs.Table.{IsLine, IsTable, over, has_place, is_dir, setting_of, first_number, body_of, is_second, read_body, lines_before, links_among}
@@ -35,19 +37,16 @@ use Rattle.fx_folder.specs.LoadLaws.{LoadsAreWhole}
 use Rattle.fx_table.specs.Shaped.{IsOfBytes, AreOfBytes}
 use Rattle.fx_table.proofs.TableLines.{texts_are_lines}
 use Rattle.fx_table.proofs.Versions.{over_all}
-use Rattle.fx_table.proofs.Shapes.{found, IsLeaf, listed_whole, above_pushed, find_listed, relisted}
+use Rattle.fx_table.proofs.Shapes.{found, IsLeaf, listed_whole, find_listed, relisted}
 use Rattle.fx_table.proofs.Flagging.{lines_made}
 use Rattle.fx_table.proofs.Linking.{IsLinked}
 use Rattle.fx_folder.proofs.Walked.{below_sorted, below_root, find_walked_below}
+use Rattle.fx_folder.proofs.Filled.{stands}
 
 abbrev Paths : Type 0
 Paths = List (List ℕ)
 
 -- ---- no entry is refused
-
-or_none : {A : Type 0} (a b : Option A) → option_or a b ≡ None → (a ≡ None) × (b ≡ None)
-or_none None b e = (refl, e)
-or_none (Some x) b e = cc
 
 -- what an entry is that is not refused
 pub record IsAccepted (names : Paths) (e : Entry) : Type 0 where
@@ -57,7 +56,7 @@ pub record IsAccepted (names : Paths) (e : Entry) : Type 0 where
   pub small : length e.bytes ≤ most_in_file
 
 within : (named room : Bool) (k b : Option FolderCause) (c d : FolderCause) → cond named (cond room (option_or k b) (Some c)) (Some d) ≡ None → record { named : named ≡ true; room : room ≡ true; kind : k ≡ None; bytes : b ≡ None }
-within true true k b c d e = let two = or_none k b e in record { named = refl; room = refl; kind = two.0; bytes = two.1 }
+within true true k b c d e = let two = neither_some k b e in record { named = refl; room = refl; kind = two.0; bytes = two.1 }
 within true false k b c d e = cc
 within false room k b c d e = cc
 
@@ -70,19 +69,11 @@ unless : (b : Bool) (c : FolderCause) → cond b (Some c) None ≡ None → b �
 unless true c e = cc
 unless false c e = refl
 
-or_false : (a b : Bool) → (a || b) ≡ false → (a ≡ false) × (b ≡ false)
-or_false true b e = cc
-or_false false b e = (refl, e)
-
-and_true : (a b : Bool) → (a && b) ≡ true → (a ≡ true) × (b ≡ true)
-and_true true b e = (refl, e)
-and_true false b e = cc
-
 pub is_accepted : (nodes left : ℕ) (names : Paths) (e : Entry) → refused_entry nodes left (names, e) ≡ None → IsAccepted names e
 is_accepted nodes left names e none =
     let w = within (is_name (last_name names)) (nat_le (length names) 64 && nat_lt nodes most_nodes) (refused_kind names e.kind) (refused_bytes left names e.bytes) _ _ none in
-    let room = and_true (nat_le (length names) 64) (nat_lt nodes most_nodes) w.room in
-    let bytes = or_false (nat_lt most_in_file (length e.bytes)) (nat_lt left (length e.bytes)) (unless _ _ w.bytes) in
+    let room = and_parts (nat_le (length names) 64) (nat_lt nodes most_nodes) w.room in
+    let bytes = or_parts (nat_lt most_in_file (length e.bytes)) (nat_lt left (length e.bytes)) (unless _ _ w.bytes) in
     let short : nat_le (length names) 64 ≡ true = room.0 in
     let small : nat_lt most_in_file (length e.bytes) ≡ false = bytes.0 in
     record {
@@ -95,7 +86,7 @@ is_accepted nodes left names e none =
 pub all_accepted : (nodes left : ℕ) (hs : List Held) → first_refused nodes left hs ≡ None → (q : Paths) (e : Entry) → find parts_cmp q hs ≡ Some e → IsAccepted q e
 all_accepted nodes left [] none q e is = cc
 all_accepted nodes left ((names, x) ∷ hs) none q e is =
-    let two = or_none (refused_entry nodes left (names, x)) (first_refused (nodes + 1) (left - length x.bytes) hs) none in
+    let two = neither_some (refused_entry nodes left (names, x)) (first_refused (nodes + 1) (left - length x.bytes) hs) none in
     elim (cases_Bool (eq_by_cmp parts_cmp q names)) [
       | inl same ↦
           let it : x ≡ e = same_Some x e (sym (ap (λ b. cond b (Some x) (find parts_cmp q hs)) same) ∙ is) in
@@ -132,10 +123,6 @@ find_unlisted hs n r = find_nodes hs (n ∷ r)
 
 -- ---- a folder stands above each entry
 
-some_of : {A : Type 0} (o : Option A) → is_some o ≡ true → (x : A) × (o ≡ Some x)
-some_of None e = absurd (false≢true e)
-some_of (Some x) e = (x, refl)
-
 not_hidden : (b : Bool) (o : Option Entry) (e : Entry) → cond b o None ≡ Some e → (b ≡ true) × (o ≡ Some e)
 not_hidden true o e is = (refl, is)
 not_hidden false o e is = cc
@@ -144,11 +131,7 @@ some_mapped : {A B : Type 0} (f : A → B) (o : Option A) → is_some (option_ma
 some_mapped f None e = e
 some_mapped f (Some x) e = refl
 
-folder_is : (o : Option Entry) → option_map_or (λ x. is_folder_kind x.kind) o false ≡ true → (x : Entry) × (o ≡ Some x) × (is_folder_kind x.kind ≡ true)
-folder_is None e = absurd (false≢true e)
-folder_is (Some x) e = (x, refl, e)
-
-folder_entry_is : (tree : Tree) (P : Paths) (n : List ℕ) (r : Paths) → has_folder tree (P ++ n ∷ r) ≡ option_map_or (λ x. is_folder_kind x.kind) (get tree (P ++ n ∷ r)) false
+pub folder_entry_is : (tree : Tree) (P : Paths) (n : List ℕ) (r : Paths) → has_folder tree (P ++ n ∷ r) ≡ option_map_or (λ x. is_folder_kind x.kind) (get tree (P ++ n ∷ r)) false
 folder_entry_is tree [] n r = refl
 folder_entry_is tree (p ∷ P) n r = refl
 
@@ -161,10 +144,10 @@ stands_in : (tree : Tree) → host.IsWhole tree → (q : Paths) (n : List ℕ) (
 stands_in tree whole q n e is =
     let p = q ++ n ∷ [] in
     let placed = whole.placed p e is in
-    let one = and_true (not (length p == 0)) _ placed in
-    let two = and_true _ _ one.1 in
-    let three = and_true _ _ two.1 in
-    let four = and_true (has_folder tree (above p)) _ three.1 in
+    let one = and_parts (not (length p == 0)) _ placed in
+    let two = and_parts _ _ one.1 in
+    let three = and_parts _ _ two.1 in
+    let four = and_parts (has_folder tree (above p)) _ three.1 in
     sym (ap (has_folder tree) (above_pushed q n)) ∙ four.0
 
 module _ (tree : Tree) (whole : host.IsWhole tree) (P : Paths) where
@@ -177,7 +160,7 @@ module _ (tree : Tree) (whole : host.IsWhole tree) (P : Paths) where
       let there = some_of (find parts_cmp (a ∷ (p ++ name ∷ [])) hs) (some_mapped node_of _ (sym (ap is_some (find_unlisted hs a (p ++ name ∷ []))) ∙ some)) in
       let at = not_hidden (not (bytes_eq a table_name)) (get tree (P ++ a ∷ (p ++ name ∷ []))) there.0 (sym (find_walked_below tree P a (p ++ name ∷ [])) ∙ there.1) in
       let parted : get tree ((P ++ a ∷ p) ++ name ∷ []) ≡ Some there.0 = ap (get tree) (append_assoc P (a ∷ p) (name ∷ [])) ∙ at.1 in
-      let around = folder_is (get tree (P ++ a ∷ p)) (sym (folder_entry_is tree P a p) ∙ stands_in tree whole (P ++ a ∷ p) name there.0 parted) in
+      let around = stands (get tree (P ++ a ∷ p)) (sym (folder_entry_is tree P a p) ∙ stands_in tree whole (P ++ a ∷ p) name there.0 parted) in
       ap is_dir (
       find_unlisted hs a p
       ∙ ap (option_map node_of) (find_walked_below tree P a p ∙ (ap (λ b. cond b (get tree (P ++ a ∷ p)) None) at.0 ∙ around.1))
@@ -238,7 +221,7 @@ module _ (tree : Tree) (whole : host.IsWhole tree) (P : Paths) where
 
 -- ---- the lines are a table, or none
 
-no_lines : (S : Store) → IsTable S []
+pub no_lines : (S : Store) → IsTable S []
 unfolding IsStrictlySortedBy
 no_lines S = record { valid = All-nil IsLine; stand = All-nil (λ (l : TableLine). IsTrue (has_place (over S true) l)); ascending = (tt, tt) }
 
@@ -247,7 +230,7 @@ not_bad true c bad lines made e = cc
 not_bad false c None lines made e = cc
 not_bad false c (Some d) lines made e = cc
 
-some_bad : (b : Bool) (c d : FolderCause) (lines made : List TableLine) → cond b (Err c) (unless_bad lines (Some d)) ≡ Ok made → ⊥
+pub some_bad : (b : Bool) (c d : FolderCause) (lines made : List TableLine) → cond b (Err c) (unless_bad lines (Some d)) ≡ Ok made → ⊥
 some_bad true c d lines made e = cc
 some_bad false c d lines made e = cc
 
@@ -258,7 +241,7 @@ read_made nodes left S text (Ok found) lines is e =
     subst (IsTable S) same (over_all S found (is_second text) spells.table)
 read_made nodes left S text (Err number) lines is e = absurd (some_bad (are_too_many nodes left (links_among (lines_before S text number))) _ (BadTable number) (lines_before S text number) lines e)
 
-unless_large : (b : Bool) (c : FolderCause) (r : Result (List TableLine) FolderCause) (lines : List TableLine) → cond b (Err c) r ≡ Ok lines → r ≡ Ok lines
+pub unless_large : (b : Bool) (c : FolderCause) (r : Result (List TableLine) FolderCause) (lines : List TableLine) → cond b (Err c) r ≡ Ok lines → r ≡ Ok lines
 unless_large true c r lines e = cc
 unless_large false c r lines e = e
 
@@ -304,3 +287,7 @@ loads_are_whole tree whole P nodes is bytes =
     let same : (q : Paths) → found (listed es) q ≡ get nodes q = λ q. sym (get-from_entries path_total (listed es) q) ∙ ap (λ m. get m q) made.is in
     let held : AreOfBytes (found es) = λ q. bytes_listed es q (found es q) (subst (λ o. IfSome o IsOfBytes) (sym (same q) ∙ find_listed es es q) (bytes q)) in
     IsWhole-same (found (listed es)) (get nodes) same (listed_whole es (strictly_sorted path_cmp es linked.sorted) linked.shape held)
+
+-- a folder that loads is not refused
+pub not_both : (t : Tree) (path : List ℕ) (nodes : Nodes) (cause : FolderCause) → Loads t path nodes → IsRefused t path cause → ⊥
+not_both t path nodes cause loads refused = let both : Ok nodes ≡ Err cause = sym loads.1 ∙ refused.1 in cc

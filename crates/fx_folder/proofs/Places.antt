@@ -7,6 +7,9 @@ use Rattle.std.specs.FinMap.{get, entries, find}
 use Rattle.std.specs.FinMap.Entries.{same_entries}
 use Rattle.std.proofs.lemmas.Bool.Decides.{nat_tests}
 use Rattle.std.proofs.lemmas.List.Elements.{All-head, All-tail}
+use Rattle.fx_base.proofs.Booleans.{never_both, fifth_true}
+use Rattle.fx_base.proofs.Lists.{no_length}
+use Rattle.fx_base.proofs.Results.{none_if_never}
 use Rattle.fx_outside.specs.declared.kind.HostKind.{HostKind}
 use Rattle.fx_outside.specs.declared.kind.HostKind.TheVariants as kinds
 use Rattle.fx_outside.specs.Listing.{Names}
@@ -160,24 +163,12 @@ pub file_told : (told : Option Tree) (folder text : List ℕ) (path : Parts) (no
 file_told None folder text path nodes left x result there none passed kind answer = tt
 file_told (Some t) folder text path nodes left x result there none passed kind answer = file_entry t folder text path nodes left x result there none passed kind answer
 
--- only a file has bytes
-fifth : (a b c d r : Bool) → (a && (b && (c && (d && r)))) ≡ true → r ≡ true
-fifth true true true true r e = e
-fifth true true true false r e = cc
-fifth true true false d r e = cc
-fifth true false c d r e = cc
-fifth false b c d r e = cc
-
-no_bytes : (bytes : List ℕ) → (length bytes == 0) ≡ true → bytes ≡ []
-no_bytes [] e = refl
-no_bytes (b ∷ bytes) e = let long : (length (b ∷ bytes) == 0) ≡ false = grind (arith, nat_tests) in cc
-
 folder_bytes : (t : Tree) → IsWhole t → (q : Parts) (o : Option Entry) → get t q ≡ o → option_map (λ e. e.kind) o ≡ Some kinds.Folder → option_map_or (λ (e : Entry). e.bytes) o [] ≡ []
 folder_bytes t whole q None is kind = refl
 folder_bytes t whole q (Some e) is kind =
-    let fifth_is = fifth (not (length q == 0)) (list_all is_fit_part q) (list_all has_no_slash q) (has_folder t (above q)) (is_file_kind e.kind || length e.bytes == 0) (whole.placed q e is) in
+    let fifth_is = fifth_true (not (length q == 0)) (list_all is_fit_part q) (list_all has_no_slash q) (has_folder t (above q)) (is_file_kind e.kind || length e.bytes == 0) (whole.placed q e is) in
     let folder : e.kind ≡ kinds.Folder = cc in
-    no_bytes e.bytes (ap (λ k. is_file_kind k || length e.bytes == 0) (sym folder) ∙ fifth_is)
+    no_length e.bytes (ap (λ k. is_file_kind k || length e.bytes == 0) (sym folder) ∙ fifth_is)
 
 no_size : (left : ℕ) (p : Parts) → refused_bytes left p [] ≡ None
 no_size left p = let small : (nat_lt most_in_file 0 || nat_lt left 0) ≡ false = grind (arith, nat_tests) in ap (λ b. cond b (Some (TooLarge (place_of p))) None) small
@@ -207,22 +198,14 @@ folder_result told whole folder text path nodes left x (Err fault) there none pa
 
 -- ---- what is to be walked behind an item
 
-none_found : {A : Type 0} (o : Option A) → ((e : A) → o ≡ Some e → ⊥) → o ≡ None
-none_found None never = refl
-none_found (Some e) never = absurd (never e refl)
-
-true_is_false : (b : Bool) → b ≡ true → b ≡ false → ⊥
-true_is_false true p q = cc
-true_is_false false p q = cc
-
 has_entry : (t : Tree) (P : Parts) (a : List ℕ) → has_folder t (P ++ a ∷ []) ≡ option_map_or (λ e. is_folder_kind e.kind) (get t (P ++ a ∷ [])) false
 has_entry t [] a = refl
 has_entry t (p ∷ P) a = refl
 
 none_inside : (t : Tree) → IsWhole t → (P : Parts) → has_folder t P ≡ false → (a : List ℕ) (r : Parts) → get t (P ++ a ∷ r) ≡ None
-none_inside t whole P missing a [] = none_found _ λ x is. true_is_false (has_folder t P) (stands_in t whole P a x is) missing
+none_inside t whole P missing a [] = none_if_never _ λ x is. never_both (has_folder t P) (stands_in t whole P a x is) missing
 none_inside t whole P missing a (b ∷ r) =
-    let none : get t (P ++ a ∷ []) ≡ None = none_found _ λ x is. true_is_false (has_folder t P) (stands_in t whole P a x is) missing in
+    let none : get t (P ++ a ∷ []) ≡ None = none_if_never _ λ x is. never_both (has_folder t P) (stands_in t whole P a x is) missing in
     ap (get t) (sym (append_assoc P (a ∷ []) (b ∷ r))) ∙ none_inside t whole (P ++ a ∷ []) (has_entry t P a ∙ ap (λ o. option_map_or (λ (e : Entry). is_folder_kind e.kind) o false) none) b r
 
 none_below : (t : Tree) → IsWhole t → (P : Parts) → has_folder t P ≡ false → all_below t P ≡ []

@@ -12,6 +12,7 @@ use Rattle.std.proofs.lemmas.Bool.{cases_Bool}
 use Rattle.std.proofs.lemmas.Bool.Decides.{nat_tests}
 use Rattle.std.proofs.lemmas.Option.{same_Some}
 use Rattle.std.proofs.lemmas.List.Sums.{sum_by_push}
+use Rattle.fx_base.proofs.Results.{neither_some}
 use Rattle.fx_outside.specs.declared.kind.HostKind.{HostKind}
 use Rattle.fx_outside.specs.declared.kind.HostKind.TheVariants as kind
 use Rattle.fx_outside.specs.Path.{Parts, parts_cmp}
@@ -26,11 +27,13 @@ use Rattle.fx_table.specs.declared.fault.FolderCause.TheVariants.{BadName, Stran
 use Rattle.fx_folder.specs.Loads.{most_nodes, most_in_file, most_bytes}
 use Rattle.fx_table.specs.Places.{table_name, place_of}
 use Rattle.fx_table.specs.declared.line.TableLine.{TableLine}
+use Rattle.fx_table.proofs.Lining.{minus}
 use Rattle.fx_folder.specs.Deep.{Held, all_below, table_in, last_name, all_bytes, refused_kind, refused_bytes, refused_entry, first_refused, unlisted, table_lines, linked, unless_refused, as_nodes, deep_loads}
 use Rattle.fx_folder.specs.RefusalLaws.{Stands, all_standing, is_one_too_many, is_too_much, is_strange, where_so, cause_of, IsFirstCause, HasNoCause, IsTableCause, EntriesAreListed, FirstCausesAreTold}
 use Rattle.fx_folder.proofs.Counted.{none_behind}
-use Rattle.fx_folder.proofs.TableRefusals.{IsCauseOf, table_is, table_refused}
-use Rattle.fx_folder.proofs.Walked.{below_sorted, below_root, find_all_below, find_walked_below}
+use Rattle.fx_folder.proofs.TableRefusals.{IsCauseOf, table_is, table_refused, over}
+use Rattle.fx_folder.proofs.Walked.{below_sorted, below_root, find_walked_below}
+use Rattle.fx_folder.proofs.Branches.{find_below}
 
 -- ---- one entry has the same cause by counters and by what stands before it
 
@@ -50,9 +53,6 @@ deeper n = grind (arith, nat_tests)
 
 one_more : (n : ℕ) → not (nat_lt (n + 1) most_nodes) ≡ nat_lt most_nodes (n + 2)
 one_more n = grind (arith, nat_tests)
-
-over : (most b n : ℕ) → b ≤ most → nat_lt (most - b) n ≡ nat_lt most (b + n)
-over most b n le = grind (arith, nat_tests)
 
 same_cause : (before : List Held) (names : Parts) (e : Entry) → all_bytes before ≤ most_bytes → refused_entry (length before + 1) (most_bytes - all_bytes before) (names, e) ≡ cause_of before names e
 same_cause before names e fits =
@@ -98,9 +98,6 @@ more_bytes before h = sum_by_push (λ (x : Held). length x.1.bytes) before h
 more_nodes : (before : List Held) (h : Held) → length (before ++ h ∷ []) ≡ length before + 1
 more_nodes before h = length-append before (h ∷ [])
 
-taken_twice : (most a b : ℕ) → most - a - b ≡ most - (a + b)
-taken_twice most a b = omega arith
-
 pub same_first : (before hs : List Held) → all_bytes before ≤ most_bytes → first_refused (length before + 1) (most_bytes - all_bytes before) hs ≡ first_cause before hs
 same_first before [] fits = refl
 same_first before ((names, e) ∷ hs) fits =
@@ -110,18 +107,14 @@ same_first before ((names, e) ∷ hs) fits =
     let still = fits_still before names e none in
     let bytes = more_bytes before h in
     ap (λ n. first_refused (n + 1) (most_bytes - all_bytes before - length e.bytes) hs) (sym (more_nodes before h))
-    ∙ ap (λ n. first_refused (length (before ++ h ∷ []) + 1) n hs) (taken_twice most_bytes (all_bytes before) (length e.bytes) ∙ ap (λ n. most_bytes - n) (sym bytes))
+    ∙ ap (λ n. first_refused (length (before ++ h ∷ []) + 1) n hs) (minus most_bytes (all_bytes before) (length e.bytes) ∙ ap (λ n. most_bytes - n) (sym bytes))
     ∙ same_first (before ++ h ∷ []) hs (omega arith))
-
-nothing_then : {A : Type 0} (a b : Option A) → option_or a b ≡ None → (a ≡ None) × (b ≡ None)
-nothing_then None b e = (refl, e)
-nothing_then (Some x) b e = cc
 
 -- where no entry has a cause, the bytes of all are not too many
 pub fits_all : (before hs : List Held) → all_bytes before ≤ most_bytes → first_cause before hs ≡ None → all_bytes (before ++ hs) ≤ most_bytes
 fits_all before [] fits none = subst (λ l. all_bytes l ≤ most_bytes) (sym (append-nil before)) fits
 fits_all before (h ∷ hs) fits none =
-    let two = nothing_then (cause_of before h.0 h.1) (first_cause (before ++ h ∷ []) hs) none in
+    let two = neither_some (cause_of before h.0 h.1) (first_cause (before ++ h ∷ []) hs) none in
     let still = fits_still before h.0 h.1 two.0 in
     let bytes = more_bytes before h in
     subst (λ l. all_bytes l ≤ most_bytes) (append_assoc before (h ∷ []) hs) (fits_all (before ++ h ∷ []) hs (omega arith) two.1)
@@ -251,7 +244,7 @@ module _ (all : List Held) (up : T (is_sorted parts_cmp all)) where
   none_is : (before hs : List Held) → all ≡ before ++ hs → first_cause before hs ≡ None → HaveNone hs
   none_is before [] is e q x found = cc
   none_is before (h ∷ hs) is e q x found =
-      let two = nothing_then (cause_of before h.0 h.1) (first_cause (before ++ h ∷ []) hs) e in
+      let two = neither_some (cause_of before h.0 h.1) (first_cause (before ++ h ∷ []) hs) e in
       elim (found_at h hs q x found) [
         | inl it ↦ subst (λ k. at k x ≡ None) (sym it.0) (subst (λ y. at h.0 y ≡ None) it.1 (ap (λ l. cause_of l h.0 h.1) (head_before before h hs is) ∙ two.0))
         | inr after ↦ none_is (before ++ h ∷ []) hs (moved before h hs is) two.1 q x after
@@ -329,7 +322,7 @@ module _ (tree : Tree) (P : Parts) where
   not_linked (Err c) cause e = cc
 
   table_at : table_in (all_below tree P) ≡ get tree (P ++ table_name ∷ [])
-  table_at = find_all_below tree P table_name []
+  table_at = find_below tree P table_name []
 
   -- the table's cause, where all entries are loaded
   module _ (fits : all_bytes hs ≤ most_bytes) where

@@ -43,9 +43,11 @@ use Rattle.fx_table.proofs.Versions.{body_read, lacks_none}
 use Rattle.fx_table.proofs.TableLinks.{AreFound, all_found, lines_are_tables}
 use Rattle.fx_table.proofs.Shapes.{found, relisted, find_listed, has_below, names_ascend}
 use Rattle.fx_table.proofs.Linking.{find_linked}
-use Rattle.fx_folder.proofs.Walked.{below_sorted, below_root, find_all_below, find_walked_below}
+use Rattle.fx_folder.proofs.Walked.{below_sorted, below_root, find_walked_below}
 use Rattle.fx_folder.proofs.Loaded.{IsAccepted, node_of, find_unlisted, unlisted_sorted}
 use Rattle.fx_folder.proofs.Counted.{none_behind, none_again, rest_sorted, has_root, held_of, find_held, no_root_held, held_sorted, lines_in, links_in, texts_of, more_bytes, counted, sum_held}
+use Rattle.fx_folder.proofs.Items.{reserved}
+use Rattle.fx_folder.proofs.Branches.{find_below}
 
 abbrev Paths : Type 0
 Paths = List (List ℕ)
@@ -251,9 +253,9 @@ with_erased flag (Some (File bytes exec)) is = ap (λ f. Some (File bytes f)) (i
 with_erased flag (Some (Dir names)) is = refl
 with_erased flag (Some (Link text)) is = refl
 
-no_table_name : is_name table_name ≡ false
-unfolding is_name
-no_table_name = refl
+pub no_place : (n : List ℕ) (r : Paths) → bytes_eq n table_name ≡ false → is_table_place (n ∷ r) ≡ false
+no_place n [] e = e
+no_place n (a ∷ r) e = refl
 
 module _ (tree : Tree) (P : Paths) (nodes : Nodes) (whole : IsWhole (get nodes)) (limits : IsWithinLimits nodes) (stands : HasFolderOf tree P nodes) where
   abbrev hs : List Held
@@ -270,11 +272,7 @@ module _ (tree : Tree) (P : Paths) (nodes : Nodes) (whole : IsWhole (get nodes))
   nothing_there n r (Some node) e same =
       let path = whole.paths (n ∷ r) (ap is_some e) in
       let valid : is_name n ≡ true = All-head IsName n r path.names in
-      absurd (false≢true (sym no_table_name ∙ (ap is_name (sym ((bytes_eq-Decides n table_name).0 same)) ∙ valid)))
-
-  no_place : (n : List ℕ) (r : Paths) → bytes_eq n table_name ≡ false → is_table_place (n ∷ r) ≡ false
-  no_place n [] e = e
-  no_place n (a ∷ r) e = refl
+      absurd (false≢true (sym reserved ∙ (ap is_name (sym ((bytes_eq-Decides n table_name).0 same)) ∙ valid)))
 
   below_is : (n : List ℕ) (r : Paths) → find parts_cmp (n ∷ r) hs ≡ host_entry (get nodes (n ∷ r))
   below_is n r = find_walked_below tree P n r ∙ elim (cases_Bool (bytes_eq n table_name)) [
@@ -374,7 +372,7 @@ module _ (tree : Tree) (P : Paths) (nodes : Nodes) (whole : IsWhole (get nodes))
       ∙ all_pass 1 most_bytes (held_of (entries nodes)) (all_accepted (entries nodes) (all_found (entries nodes) (strictly_sorted path_cmp (entries nodes) (entries_sorted nodes)))) (omega arith) (omega arith)
 
   table_is : table_in (all_below tree P) ≡ table_entry lines
-  table_is = find_all_below tree P table_name [] ∙ stands (table_name ∷ [])
+  table_is = find_below tree P table_name [] ∙ stands (table_name ∷ [])
 
   lines_read : table_lines (length hs + 1) (most_bytes - all_bytes hs) (found (unlisted hs)) (table_in (all_below tree P)) ≡ Ok lines
   lines_read =

@@ -33,6 +33,9 @@ texts links = sum_by (λ (l : TableLink). length l.text) links
 more_too_many : (n b m k a c x y : ℕ) → a ≤ x → c ≤ y → (nat_lt m (n + a) || nat_lt k (b + c)) ≡ true → (nat_lt m (n + x) || nat_lt k (b + y)) ≡ true
 more_too_many n b m k a c x y p q e = grind (arith, nat_tests)
 
+pub over : (most b n : ℕ) → b ≤ most → nat_lt (most - b) n ≡ nat_lt most (b + n)
+over most b n le = grind (arith, nat_tests)
+
 module _ (all : List Held) where
   longer_too_many : (links more : List TableLink) → exceed_limits all links ≡ true → exceed_limits all (links ++ more) ≡ true
   unfolding texts
@@ -45,9 +48,6 @@ module _ (all : List Held) where
 
   abbrev left : ℕ
   left = most_bytes - all_bytes all
-
-  over : (most b n : ℕ) → b ≤ most → nat_lt (most - b) n ≡ nat_lt most (b + n)
-  over most b n le = grind (arith, nat_tests)
 
   pub same_many : all_bytes all ≤ most_bytes → (links : List TableLink) → deep.are_too_many nodes left links ≡ exceed_limits all links
   unfolding texts

@@ -3,7 +3,7 @@ use Rattle.std.proofs.Common.{◌≡◌, inl, inr, ℕ, ◌==◌, ◌<◌, Bool,
 use Rattle.std.specs.Prelude.{nat_lt, nat_le, bytes_eq, codes}
 use Rattle.std.specs.List.{list_all, list_any, slice_split, onto_first}
 use Rattle.std.specs.Str.{is_utf8, IsUtf8}
-use Rattle.std.proofs.lemmas.Bool.{cases_Bool}
+use Rattle.std.proofs.lemmas.Bool.{cases_Bool, and_from}
 use Rattle.std.proofs.lemmas.Bool.Decides.{nat_tests}
 use Rattle.std.proofs.lemmas.List.Folds.{list_all-append}
 use Rattle.std.proofs.lemmas.List.Splits.{length-slice_split}
@@ -12,16 +12,9 @@ use Rattle.fx_store.specs.Names.{IsName, is_name, is_slash, is_nul, is_reserved}
 use Rattle.fx_outside.specs.Host.{LetsIn}
 use Rattle.fx_outside.specs.Path.{Parts, parts, is_fit, is_fit_part}
 use Rattle.std.proofs.lemmas.List.Elements.{All-head, All-tail}
+use Rattle.fx_base.proofs.Booleans.{second_true, first_true}
 use Rattle.fx_folder.specs.Reads.{path_below}
 use Rattle.fx_table.specs.Places.{table_name, place_of}
-
-left : (a b : Bool) → (a && b) ≡ true → a ≡ true
-left true b e = refl
-left false b e = cc
-
-right : (a b : Bool) → (a && b) ≡ true → b ≡ true
-right true b e = e
-right false b e = cc
 
 -- what a name is, one fact after another
 pub record NameParts (name : List ℕ) : Type 0 where
@@ -38,14 +31,14 @@ name_parts name is =
     let c = not (list_any is_slash name) in
     let d = not (list_any is_nul name) in
     let e = not (is_reserved name) in
-    let to_e = left ((((a && b) && c) && d) && e) (is_utf8 name) is in
-    let to_d = left (((a && b) && c) && d) e to_e in
-    let to_c = left ((a && b) && c) d to_d in
+    let to_e = first_true ((((a && b) && c) && d) && e) (is_utf8 name) is in
+    let to_d = first_true (((a && b) && c) && d) e to_e in
+    let to_c = first_true ((a && b) && c) d to_d in
     record {
-      some = left a b (left (a && b) c to_c);
-      no_slash = right (a && b) c to_c;
-      unreserved = right (((a && b) && c) && d) e to_e;
-      text = right ((((a && b) && c) && d) && e) (is_utf8 name) is;
+      some = first_true a b (first_true (a && b) c to_c);
+      no_slash = second_true (a && b) c to_c;
+      unreserved = second_true (((a && b) && c) && d) e to_e;
+      text = second_true ((((a && b) && c) && d) && e) (is_utf8 name) is;
     }
 
 pub name_is_text : (name : List ℕ) → IsName name → IsUtf8 name
@@ -95,18 +88,15 @@ not_either false false c e = refl
 positive : (n : ℕ) → nat_lt 0 n ≡ true → not (n == 0) ≡ true
 positive n e = grind (arith, nat_tests)
 
-both : (a b : Bool) → a ≡ true → b ≡ true → (a && b) ≡ true
-both a b p q = ap (λ x. x && b) p ∙ q
-
 fit_name : (name : List ℕ) → IsName name → is_fit_part name ≡ true
 fit_name name is =
     let p = name_parts name is in
-    both (not (length name == 0)) _ (positive (length name) p.some) (not_either (bytes_eq name (codes ".")) (bytes_eq name (codes "..")) (bytes_eq name (codes ".forest-links")) p.unreserved)
+    and_from (not (length name == 0)) _ (positive (length name) p.some) (not_either (bytes_eq name (codes ".")) (bytes_eq name (codes "..")) (bytes_eq name (codes ".forest-links")) p.unreserved)
 
 pub fit_below : (folder name : List ℕ) → is_fit folder ≡ true → IsName name → is_fit (path_below folder name) ≡ true
 fit_below folder name fit is =
     ap (list_all is_fit_part) (parts_below folder name is) ∙ list_all-append is_fit_part (parts folder) (name ∷ [])
-    ∙ both (list_all is_fit_part (parts folder)) _ fit (both (is_fit_part name) true (fit_name name is) refl)
+    ∙ and_from (list_all is_fit_part (parts folder)) _ fit (and_from (is_fit_part name) true (fit_name name is) refl)
 
 -- the path below a folder of the names of a filestore's path
 
@@ -127,7 +117,7 @@ fit_place folder (n ∷ p) fit all =
 -- where a fence lets a folder through, it lets through what is below it by the names of a path
 
 pub fit_alone : (name : List ℕ) → IsName name → is_fit name ≡ true
-fit_alone name is = ap (list_all is_fit_part) (one_part name (name_parts name is).no_slash) ∙ both (is_fit_part name) true (fit_name name is) refl
+fit_alone name is = ap (list_all is_fit_part) (one_part name (name_parts name is).no_slash) ∙ and_from (is_fit_part name) true (fit_name name is) refl
 
 pub lets_place : (may : List ℕ → Bool) (folder : List ℕ) (p : Parts) → LetsIn may folder → All IsName p → may (folder ++ place_of p) ≡ true
 lets_place may folder [] lets all = ap may (append-nil folder) ∙ lets.itself
@@ -137,7 +127,7 @@ lets_place may folder (n ∷ p) lets all = lets.below (n ++ place_of p) (fit_pla
 pub lets_inner : (may : List ℕ → Bool) (folder name : List ℕ) → LetsIn may folder → is_fit name ≡ true → LetsIn may (path_below folder name)
 lets_inner may folder name lets fit = record {
   itself = lets.below name fit;
-  below = λ names fits. ap may (append_assoc folder (47 ∷ name) (47 ∷ names)) ∙ lets.below (name ++ 47 ∷ names) (ap (list_all is_fit_part) (parts_joined name names) ∙ list_all-append is_fit_part (parts name) (parts names) ∙ both (is_fit name) _ fit fits);
+  below = λ names fits. ap may (append_assoc folder (47 ∷ name) (47 ∷ names)) ∙ lets.below (name ++ 47 ∷ names) (ap (list_all is_fit_part) (parts_joined name names) ∙ list_all-append is_fit_part (parts name) (parts names) ∙ and_from (is_fit name) _ fit fits);
 }
 
 -- the table below a folder
@@ -150,4 +140,4 @@ parts_table folder = parts_joined folder table_name ∙ ap (λ p. parts folder +
 
 pub fit_table : (folder : List ℕ) → is_fit folder ≡ true → is_fit (path_below folder table_name) ≡ true
 fit_table folder fit =
-    ap (list_all is_fit_part) (parts_table folder) ∙ list_all-append is_fit_part (parts folder) (table_name ∷ []) ∙ both (is_fit folder) true fit refl
+    ap (list_all is_fit_part) (parts_table folder) ∙ list_all-append is_fit_part (parts folder) (table_name ∷ []) ∙ and_from (is_fit folder) true fit refl

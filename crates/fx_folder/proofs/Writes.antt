@@ -30,7 +30,7 @@ Mapped = List (List ℕ) × Node
 
 -- told trees
 
-told_open : (told : Option Tree) (P : Tree → Type 0) (Q : Tree → Tree → Type 0) → IfSome told P → ((t : Tree) → P t → Q t t) → IfTold told told Q
+pub told_open : (told : Option Tree) (P : Tree → Type 0) (Q : Tree → Tree → Type 0) → IfSome told P → ((t : Tree) → P t → Q t t) → IfTold told told Q
 told_open None P Q p h = refl
 told_open (Some t) P Q p h = h t p
 
@@ -46,17 +46,13 @@ told_map None b P Q p h = p
 told_map (Some t) None P Q p h = p
 told_map (Some t) (Some u) P Q p h = h t u refl p
 
-told_next : (a b : Option Tree) (P : Tree → Type 0) (Q : Tree → Tree → Type 0) (R : Tree → Type 0) → IfSome a P → IfTold a b Q → ((t u : Tree) → P t → Q t u → R u) → IfSome b R
+pub told_next : (a b : Option Tree) (P : Tree → Type 0) (Q : Tree → Tree → Type 0) (R : Tree → Type 0) → IfSome a P → IfTold a b Q → ((t u : Tree) → P t → Q t u → R u) → IfSome b R
 told_next None None P Q R p q h = tt
 told_next None (Some u) P Q R p q h = cc
 told_next (Some t) None P Q R p q h = tt
 told_next (Some t) (Some u) P Q R p q h = h t u p q
 
 -- one entry
-
-pub err_holds : {A E : Type 0} (r : Result A E) (P : Type 0) → P → OnErr r P
-err_holds (Ok a) P p = tt
-err_holds (Err e) P p = p
 
 -- the same place and entry, as the steps above name them
 

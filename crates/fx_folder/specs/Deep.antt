@@ -9,6 +9,7 @@ use Rattle.std.specs.Cmp.Lexicographic.{slice_cmp}
 use Rattle.fx_outside.specs.Listing.{name_cmp}
 use Rattle.fx_outside.specs.Path.{Parts}
 use Rattle.fx_outside.specs.Tree.{Tree, Entry, file}
+use Rattle.fx_store.specs.declared.limits.TheConstants.{MAX_PATH_NAMES}
 use Rattle.fx_store.specs.declared.node.Node.{Node}
 use Rattle.fx_store.specs.declared.node.Node.TheVariants.{File, Dir}
 use Rattle.fx_store.specs.Names.{is_name, path_cmp}
@@ -68,7 +69,7 @@ refused_bytes left names bytes = cond (nat_lt most_in_file (length bytes) || nat
 abbrev pub refused_entry : ℕ → ℕ → Held → Option FolderCause
 refused_entry nodes left (names, e) =
     cond (is_name (last_name names))
-    (cond (nat_le (length names) 64 && nat_lt nodes most_nodes)
+    (cond (nat_le (length names) MAX_PATH_NAMES && nat_lt nodes most_nodes)
     (option_or (refused_kind names e.kind) (refused_bytes left names e.bytes))
     (Some (TooLarge (place_of names))))
     (Some (BadName (place_of names)))

@@ -6,6 +6,7 @@ use Rattle.fx_outside.specs.declared.kind.HostKind.{HostKind}
 use Rattle.fx_outside.specs.Listing.{Names}
 use Rattle.fx_outside.specs.Path.{Parts, parts}
 use Rattle.fx_outside.specs.Tree.{Tree, Lists}
+use Rattle.fx_store.specs.declared.limits.TheConstants.{MAX_PATH_NAMES}
 use Rattle.fx_store.specs.declared.node.Node.{Node}
 use Rattle.fx_store.specs.declared.node.Node.TheVariants.{File, Dir, Link}
 use Rattle.fx_store.specs.declared.changes.Change.{Change}
@@ -131,7 +132,7 @@ IsNoRefusal NoMemory = ⊤
 -- why a path is refused, where so many nodes come before it
 abbrev pub refused_path : ℕ → Parts → Option FolderCause
 refused_path nodes names =
-    cond (is_name (last_name names)) (cond (nat_le (length names) 64 && nat_lt nodes most_nodes) None (Some (TooLarge (place_of names)))) (Some (BadName (place_of names)))
+    cond (is_name (last_name names)) (cond (nat_le (length names) MAX_PATH_NAMES && nat_lt nodes most_nodes) None (Some (TooLarge (place_of names)))) (Some (BadName (place_of names)))
 
 -- the path, or the refusal that is due
 abbrev pub PassesPath : ℕ → Parts → Result Path LoadFault → Type 0

@@ -14,6 +14,7 @@ use crate::building::filestore_of;
 use crate::joining::{table_kind, with_table};
 use crate::walking::{Walked, walk};
 use fx_outside::{Host, HostFault, HostText, Listing};
+use fx_store::limits::MAX_FILE_BYTES;
 use fx_store::{Bytes, Change, Filestore};
 use fx_table::{FolderCause, LoadFault};
 use std::alloc::{AllocError, Global};
@@ -21,9 +22,7 @@ use std::alloc::{AllocError, Global};
 /// The most nodes of a loaded filestore, its root among them.
 pub(crate) const MAX_NODES: u64 = 100_000;
 
-/// The most bytes of a loaded file, and of all of them.
-const MAX_FILE: u64 = 1_048_576;
-
+/// The most bytes of all loaded files together.
 pub(crate) const MAX_BYTES: u64 = 67_108_864;
 
 /// How many bytes are read at once.
@@ -126,7 +125,7 @@ pub(crate) fn read_file<H: Host>(
     ensures fit { AsksAt (path_below folder.now name.now) (H.view host.old) (H.view host.new) }
 {
     let path = path_below(alloc, folder, name)?;
-    let limit = left.min(MAX_FILE) as usize;
+    let limit = left.min(MAX_FILE_BYTES as u64) as usize;
     match read_whole(alloc, host, &path, limit, buf)? {
         Some(bytes) => Ok(Bytes::from_vec(bytes).share(alloc)?),
         None => Err(LoadFault::Refused(FolderCause::TooLarge(below_folder(alloc, name)?))),

@@ -14,6 +14,7 @@ ghost use Rattle.fx_folder.specs.Reads.{path_below};
 use crate::loading::{MAX_BYTES, MAX_NODES, TABLE, below_folder, path_below, read_file};
 use fx_base::NoMemory;
 use fx_outside::{Host, HostKind, HostText, Listing};
+use fx_store::limits::MAX_FILE_BYTES;
 use fx_store::{Change, Name, Names, Node, Path, PathFault};
 use fx_table::{FolderCause, LoadFault};
 use std::alloc::{AllocError, Global};
@@ -191,7 +192,7 @@ fn enter_file<H: Host>(
     ensures fit { AsksAt (path_below folder.now text.now) (H.view host.old) (H.view host.new) }
 {
     let bytes = read_file(alloc, host, folder, text, left, buf)?;
-    prove!(bytes.as_slice().len() <= 1_048_576);
+    prove!(bytes.as_slice().len() <= MAX_FILE_BYTES);
     Ok(Change {
         path,
         node: Some(Node::File { bytes, exec: false }),

@@ -1,14 +1,14 @@
 -- A folder that is loaded is the folder of the loaded filestore, but for a table without bytes.
-use Rattle.std.proofs.Common.{◌≡◌, ◌⊎◌, inl, inr, ℕ, Bool, true, false, cond, not, ◌==◌, ◌&&◌, ◌||◌, List, [], ◌∷◌, ◌++◌, length, IsTrue, Option, Some, None, Result, Ok, Err, refl, sym, ◌∙◌, ap, subst, arith, append-nil, append_assoc}
+use Rattle.std.proofs.Common.{◌≡◌, ◌⊎◌, inl, inr, ℕ, Bool, true, false, cond, not, ◌==◌, ◌||◌, List, [], ◌∷◌, ◌++◌, length, Option, Some, None, Result, Ok, Err, refl, sym, ◌∙◌, ap, subst, append-nil, append_assoc}
 use Rattle.std.specs.Prelude.{bytes_eq}
 use Rattle.std.specs.List.{list_all}
-use Rattle.std.specs.List.Sorted.{IsStrictlySortedBy}
 use Rattle.std.specs.Option.{option_map, option_map_or}
 use Rattle.std.specs.FinMap.{get, entries, find, get-from_entries, get-entries, entries_sorted}
 use Rattle.std.proofs.lemmas.Bool.{cases_Bool, false≢true}
-use Rattle.std.proofs.lemmas.Bool.Decides.{nat_tests}
-use Rattle.std.proofs.lemmas.List.Elements.{All-nil}
 use Rattle.std.proofs.lemmas.Slice.Eq.{bytes_eq-Decides}
+use Rattle.fx_base.proofs.Booleans.{fifth_true}
+use Rattle.fx_base.proofs.Results.{none_if_never}
+use Rattle.fx_base.proofs.Lists.{no_length}
 use Rattle.fx_outside.specs.declared.kind.HostKind.{HostKind}
 use Rattle.fx_outside.specs.declared.kind.HostKind.TheVariants as kind
 use Rattle.fx_outside.specs.Path.{Parts, parts, parts_cmp, above, is_fit, is_fit_part, has_no_slash}
@@ -16,24 +16,26 @@ use Rattle.fx_outside.specs.Tree as host
 use Rattle.fx_outside.specs.Tree.{Tree, Entry, file, folder, has_folder, is_folder_kind, is_file_kind, is_folder_at, entry_at}
 use Rattle.fx_store.specs.Orders.{path_total}
 use Rattle.fx_store.specs.Whole.{Store, Nodes}
+use Rattle.fx_store.proofs.PathLists.{rest_append}
 use Rattle.fx_table.specs.declared.fault.FolderCause.{FolderCause}
 use Rattle.fx_table.specs.declared.fault.FolderCause.TheVariants.{BadTable}
 use Rattle.fx_table.specs.Listed.{Mapped, with_lines, listed}
 use Rattle.fx_table.specs.Places.{table_name}
 use Rattle.fx_table.specs.declared.line.TableLine.{TableLine}
-use Rattle.fx_table.specs.Table.{IsTable, IsLine, over, has_place, table_text, lines_of, setting_of, first_number, body_of, read_body, lines_before, lacks_flags, links_among}
+use Rattle.fx_table.specs.Table.{IsTable, table_text, lines_of, setting_of, first_number, body_of, read_body, lines_before, lacks_flags, links_among}
 use Rattle.fx_table.specs.TableLaws.{Spells}
-use Rattle.fx_table.proofs.Rests.{rest_append}
 use Rattle.fx_table.proofs.Shapes.{found, relisted, find_listed}
 use Rattle.fx_table.proofs.TableLines.{texts_are_lines}
 use Rattle.fx_table.proofs.Versions.{spells}
 use Rattle.fx_folder.specs.Places.{host_entry}
 use Rattle.fx_folder.specs.Loads.{most_bytes}
-use Rattle.fx_folder.specs.Deep.{Held, all_below, walked, table_in, node_of_kind, unlisted, unless_bad, are_too_many, lacking, read_lines, table_file_lines, table_lines, deep_loads, table_entry, is_table_place, folder_entry}
+use Rattle.fx_folder.specs.Deep.{Held, all_below, walked, table_in, node_of_kind, unlisted, unless_bad, are_too_many, lacking, read_lines, table_file_lines, table_lines, deep_loads, table_entry, folder_entry}
 use Rattle.fx_folder.specs.Folder.{entry_or}
 use Rattle.fx_folder.proofs.Filled.{stands_in, none_below}
-use Rattle.fx_folder.proofs.Loaded.{all_accepted, node_of, find_unlisted, IsLoaded, was_loaded}
-use Rattle.fx_folder.proofs.Walked.{find_all_below, find_walked_below}
+use Rattle.fx_folder.proofs.Loaded.{all_accepted, node_of, find_unlisted, IsLoaded, was_loaded, folder_entry_is, no_lines, some_bad, unless_large}
+use Rattle.fx_folder.proofs.Walked.{find_walked_below}
+use Rattle.fx_folder.proofs.Branches.{find_below}
+use Rattle.fx_folder.proofs.RoundTrip.{no_place}
 use Rattle.fx_folder_laws.specs.Stays.{StandsFor, LoadedFoldersStay, IsKept, SavedFoldersAreSame}
 use Rattle.fx_folder_laws.proofs.Marking.{IsNoLink, relisted_entry, entry_at as entry_with, lines_stay}
 
@@ -50,10 +52,6 @@ record IsTableOf (S : Store) (lines : List TableLine) (o : Option Entry) : Type 
   table : IsTable S lines
   is : Spelled lines o
 
-no_lines : (S : Store) → IsTable S []
-unfolding IsStrictlySortedBy
-no_lines S = record { valid = All-nil IsLine; stand = All-nil (λ (l : TableLine). IsTrue (has_place (over S true) l)); ascending = (tt, tt) }
-
 not_lacking : (b : Bool) → cond b (Some (BadTable 1)) None ≡ None → b ≡ false
 not_lacking true e = cc
 not_lacking false e = refl
@@ -63,10 +61,6 @@ not_bad true c bad lines made e = cc
 not_bad false c None lines made e = (refl, cc)
 not_bad false c (Some d) lines made e = cc
 
-some_bad : (b : Bool) (c d : FolderCause) (lines made : List TableLine) → cond b (Err c) (unless_bad lines (Some d)) ≡ Ok made → ⊥
-some_bad true c d lines made e = cc
-some_bad false c d lines made e = cc
-
 -- a text whose lines are read spells them
 read_spells : (nodes left : ℕ) (S : Store) (text : List ℕ) (r : Result (List TableLine) ℕ) (lines : List TableLine) → read_body S text ≡ r → read_lines nodes left S text r ≡ Ok lines → Spells S text lines
 read_spells nodes left S text (Ok read) lines is e =
@@ -74,10 +68,6 @@ read_spells nodes left S text (Ok read) lines is e =
     let all = texts_are_lines (setting_of S text) (first_number text) (body_of text) read is in
     subst (Spells S text) good.1 (spells S text read all.table all.spelled (not_lacking (lacks_flags text read) good.0))
 read_spells nodes left S text (Err number) lines is e = absurd (some_bad (are_too_many nodes left (links_among (lines_before S text number))) _ (BadTable number) (lines_before S text number) lines e)
-
-unless_large : (b : Bool) (c : FolderCause) (r : Result (List TableLine) FolderCause) (lines : List TableLine) → cond b (Err c) r ≡ Ok lines → r ≡ Ok lines
-unless_large true c r lines e = cc
-unless_large false c r lines e = e
 
 of_file : (nodes left : ℕ) (S : Store) (k : HostKind) (text : List ℕ) (lines : List TableLine) → table_file_lines nodes left S k text ≡ Ok lines → IsTableOf S lines (Some (record { kind = k; bytes = text }))
 of_file nodes left S kind.File text lines e =
@@ -103,48 +93,29 @@ table_no_folder o lines (inr is) = ap (λ x. option_map_or (λ x. is_folder_kind
 
 -- ---- an entry that is loaded is that of its node
 
-no_bytes : (bytes : List ℕ) → (length bytes == 0) ≡ true → bytes ≡ []
-no_bytes [] e = refl
-no_bytes (b ∷ bytes) e = let long : (length (b ∷ bytes) == 0) ≡ false = grind (arith, nat_tests) in cc
-
 entry_back : (k : HostKind) (bytes : List ℕ) → (k ≡ kind.Other → ⊥) → (is_file_kind k || length bytes == 0) ≡ true → host_entry (Some (node_of_kind k bytes)) ≡ Some (record { kind = k; bytes = bytes })
 entry_back kind.File bytes known e = refl
-entry_back kind.Folder bytes known e = ap (λ l. Some (record { kind = kind.Folder; bytes = l })) (sym (no_bytes bytes e))
+entry_back kind.Folder bytes known e = ap (λ l. Some (record { kind = kind.Folder; bytes = l })) (sym (no_length bytes e))
 entry_back kind.Other bytes known e = absurd (known refl)
 
 entries_back : (o : Option Entry) → ((e : Entry) → o ≡ Some e → host_entry (Some (node_of e)) ≡ Some e) → host_entry (option_map node_of o) ≡ o
 entries_back None back = refl
 entries_back (Some e) back = back e refl
 
-fifth : (a b c d r : Bool) → (a && (b && (c && (d && r)))) ≡ true → r ≡ true
-fifth true true true true r e = e
-fifth true true true false r e = cc
-fifth true true false d r e = cc
-fifth true false c d r e = cc
-fifth false b c d r e = cc
-
 -- only a file has bytes
 bare : (tree : Tree) → host.IsWhole tree → (p : Paths) (e : Entry) → get tree p ≡ Some e → (is_file_kind e.kind || length e.bytes == 0) ≡ true
-bare tree whole p e is = fifth (not (length p == 0)) (list_all is_fit_part p) (list_all has_no_slash p) (has_folder tree (above p)) (is_file_kind e.kind || length e.bytes == 0) (whole.placed p e is)
+bare tree whole p e is = fifth_true (not (length p == 0)) (list_all is_fit_part p) (list_all has_no_slash p) (has_folder tree (above p)) (is_file_kind e.kind || length e.bytes == 0) (whole.placed p e is)
 
 of_folder : (k : HostKind) (bytes : List ℕ) → is_folder_kind k ≡ true → (is_file_kind k || length bytes == 0) ≡ true → ◌≡◌ {A = Entry} (record { kind = k; bytes = bytes }) folder
 of_folder kind.File bytes f e = absurd (false≢true f)
-of_folder kind.Folder bytes f e = ap (λ l. record { kind = kind.Folder; bytes = l }) (no_bytes bytes e)
+of_folder kind.Folder bytes f e = ap (λ l. record { kind = kind.Folder; bytes = l }) (no_length bytes e)
 of_folder kind.Other bytes f e = absurd (false≢true f)
 
 -- ---- below a table nothing stands
 
-folder_is : (tree : Tree) (P : Paths) (n : List ℕ) (r : Paths) → has_folder tree (P ++ n ∷ r) ≡ option_map_or (λ x. is_folder_kind x.kind) (get tree (P ++ n ∷ r)) false
-folder_is tree [] n r = refl
-folder_is tree (p ∷ P) n r = refl
-
-none_or : (o : Option Entry) → ((e : Entry) → o ≡ Some e → ⊥) → o ≡ None
-none_or None never = refl
-none_or (Some e) never = absurd (never e refl)
-
 below_none : (tree : Tree) → host.IsWhole tree → (P : Paths) (n : List ℕ) → option_map_or (λ x. is_folder_kind x.kind) (get tree (P ++ n ∷ [])) false ≡ false → (a : List ℕ) (r : Paths) → get tree (P ++ n ∷ a ∷ r) ≡ None
 below_none tree whole P n plain a r =
-    let none = none_below tree whole (P ++ n ∷ []) (λ b. none_or _ (λ e is. false≢true (sym (folder_is tree P n [] ∙ plain) ∙ stands_in tree whole (P ++ n ∷ []) b e is))) a r in
+    let none = none_below tree whole (P ++ n ∷ []) (λ b. none_if_never _ (λ e is. false≢true (sym (folder_entry_is tree P n [] ∙ plain) ∙ stands_in tree whole (P ++ n ∷ []) b e is))) a r in
     sym (ap (get tree) (append_assoc P (n ∷ []) (a ∷ r))) ∙ none
 
 -- ---- files and directories alone are walked
@@ -175,11 +146,8 @@ module _ (tree : Tree) (whole : host.IsWhole tree) (P : Paths) (nodes : Nodes) (
   abbrev ws : List Mapped
   ws = with_lines (unlisted hs) lines
 
-  table_at : table_in (all_below tree P) ≡ get tree (P ++ table_name ∷ [])
-  table_at = find_all_below tree P table_name []
-
   has_table : IsTableOf (found (unlisted hs)) lines (get tree (P ++ table_name ∷ []))
-  has_table = subst (IsTableOf (found (unlisted hs)) lines) table_at (table_of _ _ (found (unlisted hs)) (table_in (all_below tree P)) lines made.read)
+  has_table = subst (IsTableOf (found (unlisted hs)) lines) (find_below tree P table_name []) (table_of _ _ (found (unlisted hs)) (table_in (all_below tree P)) lines made.read)
 
   nodes_are : (q : Paths) → get nodes q ≡ option_map (relisted ws q) (found ws q)
   nodes_are q = sym (ap (λ m. get m q) made.is) ∙ (get-from_entries path_total (listed ws) q ∙ find_listed ws ws q)
@@ -205,10 +173,6 @@ module _ (tree : Tree) (whole : host.IsWhole tree) (P : Paths) (nodes : Nodes) (
   entry_walked n r =
       entry_is (n ∷ r)
       ∙ (ap host_entry (find_unlisted hs n r) ∙ (entries_back (find parts_cmp (n ∷ r) hs) (known n r) ∙ find_walked_below tree P n r))
-
-  no_place : (n : List ℕ) (r : Paths) → bytes_eq n table_name ≡ false → is_table_place (n ∷ r) ≡ false
-  no_place n [] e = e
-  no_place n (a ∷ r) e = refl
 
   at_table : (n : List ℕ) (r : Paths) → bytes_eq n table_name ≡ true → StandsFor nodes (n ∷ r) (get tree (P ++ n ∷ r))
   at_table n [] same =

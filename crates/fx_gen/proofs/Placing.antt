@@ -7,7 +7,7 @@ use Rattle.std.specs.List.{list_all, flat_map, range_with_len}
 use Rattle.std.specs.Str.{is_utf8, chars}
 use lib.Utf8.{encode}
 use Rattle.std.specs.FinMap.{get}
-use Rattle.std.proofs.lemmas.Bool.{leb-true}
+use Rattle.std.proofs.lemmas.Bool.{leb-true, not-true, and_parts}
 use Rattle.std.proofs.lemmas.List.{length-replicate}
 use Rattle.std.proofs.lemmas.List.Elements.{All-nil, All-cons, All-append, All-replicate}
 use Rattle.fx_store.specs.declared.node.Node.TheVariants.{File, Dir, Link}
@@ -16,10 +16,11 @@ use Rattle.fx_store.specs.Faults.{read_link}
 use Rattle.fx_store.specs.Changes.{IsChanges, changed_paths}
 use Rattle.fx_store.specs.Filestore.{root_only}
 use Rattle.fx_store.specs.Whole.{IsNode, IsWhole, over}
+use Rattle.fx_store.proofs.PathLists.{all_names}
 use Rattle.fx_gen.specs.Draws.{draw}
 use Rattle.fx_gen.specs.Notes.{Placed, two_digits, project, note_name, projects, note_names, linked, note, config, placed_note, placed_project, placed_top, placed, made, note_changes_to, changes_to, project_changes}
 use Rattle.fx_gen.proofs.Names as order
-use Rattle.fx_gen.proofs.Names.{sorted, both, paths_in_order}
+use Rattle.fx_gen.proofs.Names.{sorted, paths_in_order}
 use Rattle.std.proofs.lemmas.List.{map-append}
 use Rattle.fx_gen.proofs.Ranges.{map_more, flat_more}
 use Rattle.fx_gen.proofs.Wholes.{IsTested, is_listed, lists_all, over_made}
@@ -31,19 +32,15 @@ in_order number = sorted path_cmp (changed_paths (map made (placed number))) (pa
 
 each_from : (test : ℕ → Bool) (a n : ℕ) → list_all test (range_with_len a n) ≡ true → (i : ℕ) → i < n → test (a + i) ≡ true
 each_from test a zero pass i h = absurd (omega arith)
-each_from test a (suc n) pass zero h = let same : a ≡ a + 0 = omega arith in ap test (sym same) ∙ (both (test a) (list_all test (range_with_len (a + 1) n)) pass).0
+each_from test a (suc n) pass zero h = let same : a ≡ a + 0 = omega arith in ap test (sym same) ∙ (and_parts (test a) (list_all test (range_with_len (a + 1) n)) pass).0
 each_from test a (suc n) pass (suc i) h =
     let same : (a + 1) + i ≡ a + suc i = omega arith in
-    ap test (sym same) ∙ each_from test (a + 1) n (both (test a) (list_all test (range_with_len (a + 1) n)) pass).1 i (omega (arith, h))
+    ap test (sym same) ∙ each_from test (a + 1) n (and_parts (test a) (list_all test (range_with_len (a + 1) n)) pass).1 i (omega (arith, h))
 
 pub each_below : (test : ℕ → Bool) (n : ℕ) → list_all test (range_with_len 0 n) ≡ true → (i : ℕ) → i < n → test i ≡ true
 each_below test n pass i h = let same : 0 + i ≡ i = omega arith in ap test (sym same) ∙ each_from test 0 n pass i h
 
 -- ---- names
-
-all_names : (names : List (List ℕ)) → list_all is_name names ≡ true → All IsName names
-all_names [] pass = All-nil IsName
-all_names (n ∷ names) pass = let p = both (is_name n) (list_all is_name names) pass in All-cons IsName n names p.0 (all_names names p.1)
 
 name_set : (names : List (List ℕ)) → list_all is_name names ≡ true → order.in_order name_cmp names ≡ true → IsNameSet names
 name_set names valid up = record { names = all_names names valid; ascending = sorted name_cmp names up }
@@ -77,8 +74,8 @@ all_paths : (es : List Placed) → list_all (λ (e : Placed). is_path e.0) es �
 unfolding is_path
 all_paths [] pass = All-nil (λ (e : Placed). IsPath e.0)
 all_paths (e ∷ es) pass =
-    let p = both (is_path e.0) (list_all (λ (e : Placed). is_path e.0) es) pass in
-    let q = both (list_all is_name e.0) (nat_le (length e.0) 64) p.0 in
+    let p = and_parts (is_path e.0) (list_all (λ (e : Placed). is_path e.0) es) pass in
+    let q = and_parts (list_all is_name e.0) (nat_le (length e.0) 64) p.0 in
     All-cons (λ (e : Placed). IsPath e.0) e es (record { names = all_names e.0 q.0; short = leb-true (length e.0) 64 q.1 }) (all_paths es p.1)
 
 paths : (number : ℕ) → All (λ (e : Placed). IsPath e.0) (placed number)
@@ -128,7 +125,7 @@ linked_text number = link_text (draw number 0 16) (drawn_below number 0 16 (omeg
 bytes_test : (bytes : List ℕ) → list_all (λ b. nat_le b 255) bytes ≡ true → All (λ b. b < 256) bytes
 bytes_test [] pass = All-nil (λ b. b < 256)
 bytes_test (b ∷ bytes) pass =
-    let p = both (nat_le b 255) (list_all (λ b. nat_le b 255) bytes) pass in
+    let p = and_parts (nat_le b 255) (list_all (λ b. nat_le b 255) bytes) pass in
     let small = leb-true b 255 p.0 in
     All-cons (λ b. b < 256) b bytes (omega (arith, small)) (bytes_test bytes p.1)
 
@@ -260,14 +257,9 @@ top_made cs number current names bytes text at named listed leads =
     ∙ append_assoc cs (made ([], Dir names) ∷ []) (made (codes "config" ∷ [], File bytes false) ∷ made (current, Link text) ∷ [])
     ∙ (λ i. cs ++ made ([], Dir (named i)) ∷ made (codes "config" ∷ [], File (listed i) false) ∷ made (at i, Link (leads i)) ∷ [])
 
--- the text of the link is read
-not_true : (b : Bool) → not b ≡ true → b ≡ false
-not_true true e = sym e
-not_true false e = refl
-
 pub link_read : (p : ℕ) → p < 16 → read_link (project p) ≡ Ok (project p)
 link_read p h =
     let form = (link_text p h).form in
-    let few = not_true (nat_lt 64 (length (components (project p)))) (each_below (λ p. not (nat_lt 64 (length (components (project p))))) 16 refl p h) in
+    let few = not-true (nat_lt 64 (length (components (project p)))) (each_below (λ p. not (nat_lt 64 (length (components (project p))))) 16 refl p h) in
     ap (λ b. cond b (cond (nat_lt 64 (length (components (project p)))) (Err TooDeep) (Ok (project p))) (Err BadName)) form
     ∙ ap (λ b. cond b (Err TooDeep) (Ok (project p))) few

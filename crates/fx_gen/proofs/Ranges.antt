@@ -8,6 +8,7 @@ use Rattle.std.proofs.lemmas.Grind.{flat_map-append}
 use Rattle.std.proofs.lemmas.List.{append-nil}
 use mir.Val.{bool_byte}
 use Rattle.std.proofs.lemmas.List.FromFn.{map-range_with_len_more}
+use Rattle.fx_base.proofs.Booleans.{byte_is}
 use Rattle.fx_gen.specs.Notes.{project}
 use Rattle.fx_gen.specs.Scripts.{front, count_line, log_line, txn_line, first_lines, script_of, scripts_to, kind_of, logging_of, counting_of}
 
@@ -57,11 +58,7 @@ pub logging_more : (number t : ℕ) (logs : Bool) (a b : ℕ) → logs ≡ (kind
 unfolding logging_of
 logging_more number t logs a b is first more =
     let one : t + 1 ≡ suc t = omega arith in
-    ap (λ n. n + b) first ∙ ap (λ n. logging_of number t + n) (more ∙ byte logs ∙ ap (λ c. cond c 1 0) is) ∙ ap (logging_of number) (sym one)
-  where
-    byte : (c : Bool) → bool_byte c ≡ cond c 1 0
-    byte true = refl
-    byte false = refl
+    ap (λ n. n + b) first ∙ ap (λ n. logging_of number t + n) (more ∙ byte_is logs ∙ ap (λ c. cond c 1 0) is) ∙ ap (logging_of number) (sym one)
 
 pub at_most_one : (logs : Bool) (b : ℕ) → b ≡ bool_byte logs → b ≤ 1
 at_most_one true b e = omega arith

@@ -1,14 +1,16 @@
 -- Nodes at paths, in order, make a whole filestore: by tests of the list.
-use Rattle.std.proofs.Common.{◌≡◌, ℕ, Bool, true, false, cond, ◌&&◌, ◌||◌, List, [], ◌∷◌, ◌++◌, map, Option, Some, None, is_some, IfSome, All, refl, sym, ap, ◌∙◌, subst, inl, inr, ◌⊎◌}
+use Rattle.std.proofs.Common.{◌≡◌, ℕ, Bool, true, false, cond, ◌||◌, List, [], ◌∷◌, ◌++◌, map, Option, Some, None, is_some, IfSome, All, refl, sym, ap, ◌∙◌, subst, inl, inr, ◌⊎◌}
 use Rattle.std.specs.Prelude.{unwrap_or}
 use Rattle.std.specs.List.{list_all}
 use Rattle.std.specs.Option.{option_map}
 use Rattle.std.specs.Ordering.{eq_by_cmp}
 use Rattle.std.specs.FinMap.{get}
 use Rattle.std.specs.Cmp.{Equal-is}
-use Rattle.std.proofs.lemmas.Bool.{cases_Bool, false≢true}
+use Rattle.std.proofs.lemmas.Bool.{cases_Bool, false≢true, and_parts}
 use Rattle.std.proofs.lemmas.Option.{same_Some}
 use Rattle.std.proofs.lemmas.List.Elements.{All-head, All-tail}
+use Rattle.fx_base.proofs.Booleans.{same_test}
+use Rattle.fx_base.proofs.Results.{some_of}
 use Rattle.fx_store.specs.declared.node.Node.{Node}
 use Rattle.fx_store.specs.declared.node.Node.TheVariants.{File, Dir, Link}
 use Rattle.fx_store.specs.Names.{path_cmp, name_cmp, has, IsPath}
@@ -46,10 +48,6 @@ last_is [] n = refl
 last_is (a ∷ []) n = refl
 last_is (a ∷ b ∷ p) n = last_is (b ∷ p) n
 
-both : (a b : Bool) → (a && b) ≡ true → (a ≡ true) × (b ≡ true)
-both true b e = (refl, e)
-both false b e = absurd (false≢true e)
-
 -- what stands at a path is that of the first entry, or of a later one
 first_or_later : (x : Placed) (es : List Placed) (q : Path) (n : Node) → store_of (x ∷ es) q ≡ Some n → (x ≡ (q, n)) ⊎ (store_of es q ≡ Some n)
 first_or_later x es q n e = elim (cases_Bool (eq_by_cmp path_cmp q x.0)) [
@@ -72,8 +70,8 @@ found P (x ∷ es) all q n e = elim (first_or_later x es q n e) [
 pub tested : (test : Placed → Bool) (es : List Placed) → list_all test es ≡ true → (q : Path) (n : Node) → store_of es q ≡ Some n → test (q, n) ≡ true
 tested test [] pass q n e = cc
 tested test (x ∷ es) pass q n e = elim (first_or_later x es q n e) [
-  | inl here ↦ subst (λ z. test z ≡ true) here (both (test x) (list_all test es) pass).0
-  | inr later ↦ tested test es (both (test x) (list_all test es) pass).1 q n later
+  | inl here ↦ subst (λ z. test z ≡ true) here (and_parts (test x) (list_all test es) pass).0
+  | inr later ↦ tested test es (and_parts (test x) (list_all test es) pass).1 q n later
 ]
 
 either : (a b : Bool) → (a || b) ≡ true → (a ≡ true) ⊎ (b ≡ true)
@@ -84,8 +82,8 @@ either false b e = inr e
 named : (test : List ℕ → Bool) (names : List (List ℕ)) (n : List ℕ) → list_all test names ≡ true → has names n ≡ true → test n ≡ true
 named test [] n pass h = absurd (false≢true h)
 named test (m ∷ names) n pass h = elim (either (eq_by_cmp name_cmp n m) (has names n) h) [
-  | inl same ↦ ap test (name_same n m ((Equal-is (name_cmp n m)).0 same)) ∙ (both (test m) (list_all test names) pass).0
-  | inr later ↦ named test names n (both (test m) (list_all test names) pass).1 later
+  | inl same ↦ ap test (name_same n m ((Equal-is (name_cmp n m)).0 same)) ∙ (and_parts (test m) (list_all test names) pass).0
+  | inr later ↦ named test names n (and_parts (test m) (list_all test names) pass).1 later
 ]
 
 -- an entry stands in a directory that lists it, and each listed name stands
@@ -109,17 +107,13 @@ pub record IsTested (es : List Placed) : Type 0 where
   pub nodes : All (λ (e : Placed). IsNode e.0 e.1) es
 
 module _ (es : List Placed) (t : IsTested es) where
-  some_node : (o : Option Node) → is_some o ≡ true → (n : Node) × (o ≡ Some n)
-  some_node None e = absurd (false≢true e)
-  some_node (Some n) e = (n, refl)
-
   at_end : (q : Path) (name : List ℕ) (n : Node) → is_listed es (q ++ name ∷ [], n) ≡ true → lists (store_of es (above (q ++ name ∷ []))) (last (q ++ name ∷ [])) ≡ true
   at_end [] name n h = h
   at_end (a ∷ q) name n h = h
 
   upward : (p : Path) (name : List ℕ) → is_some (store_of es (p ++ name ∷ [])) ≡ true → lists (store_of es p) name ≡ true
   upward p name e =
-      let there = some_node (store_of es (p ++ name ∷ [])) e in
+      let there = some_of (store_of es (p ++ name ∷ [])) e in
       let pass = tested (is_listed es) es t.listed (p ++ name ∷ []) there.0 there.1 in
       ap (λ z. lists (store_of es z) name) (sym (above_is p name)) ∙ ap (λ z. lists (store_of es (above (p ++ name ∷ []))) z) (sym (last_is p name)) ∙ at_end p name there.0 pass
 
@@ -132,16 +126,11 @@ module _ (es : List Placed) (t : IsTested es) where
       by (Some (Dir names)) is h = named (λ n. is_some (store_of es (p ++ n ∷ []))) names name (tested (lists_all es) es t.lists p (Dir names) is) h
       by (Some (Link text)) is h = absurd (false≢true h)
 
-  same_test : (a b : Bool) → (a ≡ true → b ≡ true) → (b ≡ true → a ≡ true) → a ≡ b
-  same_test true b f g = sym (f refl)
-  same_test false true f g = g refl
-  same_test false false f g = refl
-
   pub store_whole : IsWhole (store_of es)
   store_whole = record {
     root = t.root;
     listed = λ p n. same_test _ _ (upward p n) (downward p n);
-    paths = λ p h. let there = some_node (store_of es p) h in found (λ e. IsPath e.0) es t.paths p there.0 there.1;
+    paths = λ p h. let there = some_of (store_of es p) h in found (λ e. IsPath e.0) es t.paths p there.0 there.1;
     nodes = λ p. by p (store_of es p) refl;
   }
     where

@@ -26,6 +26,18 @@ pub struct Generated {
     pub logged: u32,
 }
 
+impl Generated {
+    /// The filestore alone.
+    pub fn into_store(self) -> Filestore
+        ensures { result ≡ self.store }
+    {
+        self.store
+    }
+
+    /// Lets go of the case.
+    pub fn let_go(self) {}
+}
+
 /// The case of a number, always the same.
 pub fn generate(alloc: Global, number: u32) -> Result<Generated, NoMemory>
     ensures description { IfOk result (λ case. case.description ≡ description) }

@@ -26,13 +26,13 @@ none = record { low = refl }
 leaf_deep : {b d : ℕ} {l : List ℕ} → Low b (d ∷ l) → d + 1 ≤ suc b
 leaf_deep {b} {d} h = let most = leb-true d b (and_parts _ _ h.low).0 in omega (arith, most)
 
-tail : {b d : ℕ} {l : List ℕ} → Low b (d ∷ l) → Low b l
+pub tail : {b d : ℕ} {l : List ℕ} → Low b (d ∷ l) → Low b l
 tail {b} {d} {l} h = record { low = tail_low b d l h.low }
 
-front : {b : ℕ} (k l : List ℕ) → Low b (k ++ l) → Low b k
+pub front : {b : ℕ} (k l : List ℕ) → Low b (k ++ l) → Low b k
 front {b} k l h = record { low = front_low b k l h.low }
 
-rest : {b : ℕ} (k l : List ℕ) → Low b (k ++ l) → Low b l
+pub rest : {b : ℕ} (k l : List ℕ) → Low b (k ++ l) → Low b l
 rest {b} k l h = record { low = rest_low b k l h.low }
 
 cons : {b d : ℕ} {l : List ℕ} → d ≤ b → Low b l → Low b (d ∷ l)

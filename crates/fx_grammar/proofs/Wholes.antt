@@ -1,6 +1,7 @@
 -- What a reader says of whole texts.
 use Rattle.std.proofs.Common.{◌≡◌, ◌⊎◌, inl, inr, ℕ, Result, Ok, Err, List, [], ◌∷◌, ◌++◌, length, refl, sym, ap, ◌∙◌, append_assoc}
 use Rattle.std.proofs.lemmas.List.{append-nil}
+use Rattle.fx_base.proofs.Lists.{not_empty}
 use Rattle.fx_lex.specs.declared.token.Token.{Token}
 use Rattle.fx_parse.specs.Stuck.{Stuck, Unexpected, TooNested}
 use Rattle.fx_parse.specs.Readable.{Grammar, Stands, IsUnexpected, IsTooNested}
@@ -9,9 +10,6 @@ use Rattle.fx_parse.proofs.Places.{is_shallow}
 use Rattle.fx_parse.proofs.ReaderPlaces.{Follows, one_reading, read_stands, read_unexpected, read_too_nested}
 use Rattle.fx_parse.proofs.OnePlace.{Cut, Before, Same, Behind, cut, begins_next, one_place}
 use Rattle.fx_grammar.specs.Refused.{IsMisplaced, HasOnePlace}
-
-not_empty : (x : Token) (more : List Token) → x ∷ more ≡ [] → ⊥
-not_empty x more e = cc
 
 module _ {Tree : Type 0} (g : Grammar Tree) (ts : List Token) where
   pub misplaced_cut : (j k : ℕ) (p : IsMisplaced g ts j) (q : IsMisplaced g ts k) → Cut p.front p.rest q.front q.rest → j ≡ k

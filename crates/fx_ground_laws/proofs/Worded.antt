@@ -8,7 +8,8 @@ use Rattle.std.specs.Str.{bytes_eq}
 use Rattle.std.specs.Str.Parse.{digits_value}
 use Rattle.std.proofs.lemmas.Bool.{and_parts}
 use Rattle.std.proofs.lemmas.List.Splits.{length-slice_split, join_with_byte-slice_split}
-use Rattle.fx_text.proofs.Canon.{nat_list_exact}
+use Rattle.fx_base.proofs.Results.{chosen_some}
+use Rattle.fx_base.proofs.Orders.{nat_list_exact}
 use Rattle.fx_words.specs.Forms.{word_of, commands, named_in, command_named, is_count, is_count_with_views}
 use Rattle.fx_words.specs.Job.{Plain, Scheduled, Watched, RunJob, ShowJob, GenJob, AuditJob, JournalJob, RecoverJob, ViewsJob, Job, Run, Show, Gen, Large, Audit, Journal, Recover, Views, numbered, shell_named, shells_named, is_comma, schedule_of, are_plain, run_job, scheduled_job, audit_job, journal_job, recover_job, views_job, show_job, number_of, gen_job, command_job, named_job}
 use Rattle.fx_ground_laws.specs.Worded.{schedule_word, words_of, JobsTellTheirWords}
@@ -17,10 +18,6 @@ abbrev Words : Type 0
 Words = List (List ℕ)
 
 -- ---- answers that are there
-
-some_if : {A : Type 0} (b : Bool) (x : Option A) (y : A) → cond b x None ≡ Some y → (b ≡ true) × (x ≡ Some y)
-some_if true x y e = (refl, e)
-some_if false x y e = cc
 
 mapped : {A B : Type 0} (f : A → B) (x : Option A) (y : B) → option_map f x ≡ Some y → (a : A) × (x ≡ Some a) × (f a ≡ y)
 mapped f None y e = cc
@@ -67,7 +64,7 @@ run_is [] j e = cc
 run_is (a ∷ []) j e = cc
 run_is (a ∷ b ∷ []) j e = cc
 run_is (spec ∷ folder ∷ out ∷ scripts) j e =
-    let is = some_if (is_count (length scripts)) (Some (record { inputs = record { spec = spec; folder = folder; scripts = scripts; first = 4 }; out = out; mode = Plain })) j e in
+    let is = chosen_some (is_count (length scripts)) (Some (record { inputs = record { spec = spec; folder = folder; scripts = scripts; first = 4 }; out = out; mode = Plain })) j e in
     let same : record { inputs = record { spec = spec; folder = folder; scripts = scripts; first = 4 }; out = out; mode = Plain } ≡ j = cc in
     ap (λ j. words_of (Run j)) same
 
@@ -78,7 +75,7 @@ trace_is (a ∷ b ∷ []) j e = cc
 trace_is (a ∷ b ∷ c ∷ []) j e = cc
 trace_is (spec ∷ folder ∷ out ∷ schedule ∷ scripts) j e =
     let job : List ℕ → RunJob = λ shells. record { inputs = record { spec = spec; folder = folder; scripts = scripts; first = 5 }; out = out; mode = Scheduled shells } in
-    let is = mapped job (schedule_of (length scripts) schedule) j (some_if (is_count (length scripts)) (option_map job (schedule_of (length scripts) schedule)) j e).1 in
+    let is = mapped job (schedule_of (length scripts) schedule) j (chosen_some (is_count (length scripts)) (option_map job (schedule_of (length scripts) schedule)) j e).1 in
     ap (λ t. codes "trace" ∷ spec ∷ folder ∷ out ∷ t ∷ scripts) (schedule_is (length scripts) schedule is.0 is.1) ∙ ap (λ j. words_of (Run j)) is.2
 
 watch_is : (args : Words) (j : RunJob) → scheduled_job Watched args ≡ Some j → codes "watch" ∷ args ≡ words_of (Run j)
@@ -88,7 +85,7 @@ watch_is (a ∷ b ∷ []) j e = cc
 watch_is (a ∷ b ∷ c ∷ []) j e = cc
 watch_is (spec ∷ folder ∷ out ∷ schedule ∷ scripts) j e =
     let job : List ℕ → RunJob = λ shells. record { inputs = record { spec = spec; folder = folder; scripts = scripts; first = 5 }; out = out; mode = Watched shells } in
-    let is = mapped job (schedule_of (length scripts) schedule) j (some_if (is_count (length scripts)) (option_map job (schedule_of (length scripts) schedule)) j e).1 in
+    let is = mapped job (schedule_of (length scripts) schedule) j (chosen_some (is_count (length scripts)) (option_map job (schedule_of (length scripts) schedule)) j e).1 in
     ap (λ t. codes "watch" ∷ spec ∷ folder ∷ out ∷ t ∷ scripts) (schedule_is (length scripts) schedule is.0 is.1) ∙ ap (λ j. words_of (Run j)) is.2
 
 show_is : (args : Words) (j : ShowJob) → show_job args ≡ Some j → codes "show" ∷ args ≡ words_of (Show j)
@@ -105,7 +102,7 @@ gen_is (number ∷ out ∷ []) j e =
     let job : ℕ → GenJob = λ n. record { number = n; out = out } in
     let is = mapped job (number_of number) j e in
     let value = digits_value 10 number in
-    let number_is = some_if (bytes_eq (decimal value) number && nat_lt value (2 ^ 32)) (Some value) is.0 is.1 in
+    let number_is = chosen_some (bytes_eq (decimal value) number && nat_lt value (2 ^ 32)) (Some value) is.0 is.1 in
     let same : value ≡ is.0 = cc in
     ap (λ (j : GenJob). decimal j.number ∷ j.out ∷ []) (sym is.2) ∙ ap (λ t. t ∷ out ∷ []) (ap decimal (sym same) ∙ nat_list_exact (decimal value) number (and_parts (bytes_eq (decimal value) number) (nat_lt value (2 ^ 32)) number_is.0).0)
 
@@ -114,7 +111,7 @@ audit_is [] j e = cc
 audit_is (a ∷ []) j e = cc
 audit_is (a ∷ b ∷ []) j e = cc
 audit_is (spec ∷ folder ∷ report ∷ scripts) j e =
-    let is = some_if (is_count (length scripts)) (Some (record { inputs = record { spec = spec; folder = folder; scripts = scripts; first = 4 }; report = report })) j e in
+    let is = chosen_some (is_count (length scripts)) (Some (record { inputs = record { spec = spec; folder = folder; scripts = scripts; first = 4 }; report = report })) j e in
     let same : record { inputs = record { spec = spec; folder = folder; scripts = scripts; first = 4 }; report = report } ≡ j = cc in
     ap (λ j. words_of (Audit j)) same
 
@@ -126,7 +123,7 @@ journal_is (a ∷ b ∷ c ∷ []) j e = cc
 journal_is (a ∷ b ∷ c ∷ d ∷ []) j e = cc
 journal_is (spec ∷ folder ∷ out ∷ journal ∷ schedule ∷ scripts) j e =
     let job : List ℕ → JournalJob = λ shells. record { run = record { inputs = record { spec = spec; folder = folder; scripts = scripts; first = 6 }; out = out; mode = Scheduled shells }; journal = journal } in
-    let is = mapped job (schedule_of (length scripts) schedule) j (some_if (is_count (length scripts)) (option_map job (schedule_of (length scripts) schedule)) j e).1 in
+    let is = mapped job (schedule_of (length scripts) schedule) j (chosen_some (is_count (length scripts)) (option_map job (schedule_of (length scripts) schedule)) j e).1 in
     ap (λ t. codes "journal" ∷ spec ∷ folder ∷ out ∷ journal ∷ t ∷ scripts) (schedule_is (length scripts) schedule is.0 is.1) ∙ ap (λ j. words_of (Journal j)) is.2
 
 recover_is : (args : Words) (j : RecoverJob) → recover_job args ≡ Some j → codes "recover" ∷ args ≡ words_of (Recover j)
@@ -135,7 +132,7 @@ recover_is (a ∷ []) j e = cc
 recover_is (a ∷ b ∷ []) j e = cc
 recover_is (a ∷ b ∷ c ∷ []) j e = cc
 recover_is (spec ∷ folder ∷ journal ∷ out ∷ scripts) j e =
-    let is = some_if (is_count (length scripts)) (Some (record { inputs = record { spec = spec; folder = folder; scripts = scripts; first = 5 }; journal = journal; out = out })) j e in
+    let is = chosen_some (is_count (length scripts)) (Some (record { inputs = record { spec = spec; folder = folder; scripts = scripts; first = 5 }; journal = journal; out = out })) j e in
     let same : record { inputs = record { spec = spec; folder = folder; scripts = scripts; first = 5 }; journal = journal; out = out } ≡ j = cc in
     ap (λ j. words_of (Recover j)) same
 
@@ -145,7 +142,7 @@ views_is (a ∷ []) j e = cc
 views_is (a ∷ b ∷ []) j e = cc
 views_is (a ∷ b ∷ c ∷ []) j e = cc
 views_is (spec ∷ folder ∷ out ∷ views ∷ scripts) j e =
-    let is = some_if (is_count_with_views (length scripts)) (Some (record { inputs = record { spec = spec; folder = folder; scripts = scripts; first = 5 }; out = out; views = views })) j e in
+    let is = chosen_some (is_count_with_views (length scripts)) (Some (record { inputs = record { spec = spec; folder = folder; scripts = scripts; first = 5 }; out = out; views = views })) j e in
     let same : record { inputs = record { spec = spec; folder = folder; scripts = scripts; first = 5 }; out = out; views = views } ≡ j = cc in
     ap (λ j. words_of (Views j)) same
 
@@ -181,6 +178,6 @@ asks word args job (inr (inr (inr (inr (inr (inr (inr (inr (inr (inr none)))))))
 pub jobs_tell_their_words : JobsTellTheirWords
 jobs_tell_their_words [] job e = cc
 jobs_tell_their_words (word ∷ args) job e =
-    let h = (some_if (are_plain args) (named_job word args) job e).1 in
+    let h = (chosen_some (are_plain args) (named_job word args) job e).1 in
     let named = gone_on (λ name. command_job name args) (command_named word) job h in
     asks word args job (one_of commands word named.0 named.1) h

@@ -1,17 +1,12 @@
 -- Where all is read, nothing is refused, and all is there.
-use Rattle.std.proofs.Common.{◌≡◌, inl, inr, ℕ, ◌+◌, length, subst, Bool, true, false, List, [], ◌∷◌, Ok, Err, sym, ◌∙◌}
+use Rattle.std.proofs.Common.{◌≡◌, inl, inr, ℕ, ◌+◌, length, subst, List, [], ◌∷◌, sym}
+use Rattle.fx_base.proofs.Booleans.{never_both}
 use Rattle.fx_outside.specs.Tree.{Tree, is_file_at, is_folder_at}
-use Rattle.fx_folder.specs.Loads.{Loads, IsRefused}
-use Rattle.fx_table.specs.declared.fault.FolderCause.{FolderCause}
-use Rattle.fx_store.specs.Whole.{Nodes}
 use Rattle.fx_spec.specs.CommandTree.{CommandTree}
 use Rattle.fx_command.specs.declared.status.TextFault.{TextFault}
 use Rattle.fx_inputs.specs.Inputs.{HasTexts, HasInputs, CannotRead, IsFirstRefused, HasScript, HasNoScript, HasScripts, StopsAtScript, LacksFile}
 use Rattle.fx_inputs.specs.Views.{CannotReadViews, HasViewsInputs, HasViewsTexts, ViewsFirstRefused}
 use Rattle.fx_words.specs.Job.{Inputs, ViewsJob}
-
-pub two : (b : Bool) → b ≡ true → b ≡ false → ⊥
-two b is isnt = let both : true ≡ false = sym is ∙ isnt in cc
 
 -- scripts that are all read are not stopped at
 pub not_stopped : (stops : Tree → List ℕ → ℕ → Type 0) (t : Tree) (before : ℕ) (paths : List (List ℕ)) (plan : List (List (List CommandTree))) → ((path : List ℕ) (before : ℕ) (txns : List (List CommandTree)) → HasScript t path before txns → stops t path before → ⊥) → HasScripts t before paths plan → (i : ℕ) → StopsAtScript stops t before paths i → ⊥
@@ -28,15 +23,11 @@ pub none_refused : (t : Tree) (inputs : Inputs) (word : ℕ) (cause : TextFault)
 none_refused t inputs word cause has (inl first) = first.1.refused.none has.0.0 has.0.1.describes
 none_refused t inputs word cause has (inr second) = not_stopped (HasNoScript cause) t 0 inputs.scripts has.1.0 (λ path before txns read none. none.refused.none txns read.script) has.1.1 second.1.0 second.1.2
 
--- a folder that loads is not refused
-pub not_both : (t : Tree) (path : List ℕ) (nodes : Nodes) (cause : FolderCause) → Loads t path nodes → IsRefused t path cause → ⊥
-not_both t path nodes cause loads refused = let both : Ok nodes ≡ Err cause = sym loads.1 ∙ refused.1 in cc
-
 -- all is there
 pub can_read : (t : Tree) (inputs : Inputs) → HasInputs t inputs → CannotRead t inputs → ⊥
-can_read t inputs has (inl spec) = two (is_file_at t inputs.spec) has.0.0.1.file spec
-can_read t inputs has (inr (inl scripts)) = not_stopped LacksFile t 0 inputs.scripts has.0.1.0 (λ path before txns read lacks. two (is_file_at t path) read.file lacks) has.0.1.1 scripts.1.0 scripts.1.1
-can_read t inputs has (inr (inr folder)) = two (is_folder_at t inputs.folder) has.1.1.0 folder.1
+can_read t inputs has (inl spec) = never_both (is_file_at t inputs.spec) has.0.0.1.file spec
+can_read t inputs has (inr (inl scripts)) = not_stopped LacksFile t 0 inputs.scripts has.0.1.0 (λ path before txns read lacks. never_both (is_file_at t path) read.file lacks) has.0.1.1 scripts.1.0 scripts.1.1
+can_read t inputs has (inr (inr folder)) = never_both (is_folder_at t inputs.folder) has.1.1.0 folder.1
 
 -- ---- with views
 
@@ -46,6 +37,6 @@ views_none_refused t j word cause has (inr (inl second)) = second.2.refused.none
 views_none_refused t j word cause has (inr (inr later)) = none_refused t j.inputs word cause has.1 later.1
 
 pub can_read_views : (t : Tree) (j : ViewsJob) → HasViewsInputs t j → CannotReadViews t j → ⊥
-can_read_views t j has (inl spec) = two (is_file_at t j.inputs.spec) has.0.0.1.file spec
-can_read_views t j has (inr (inl views)) = two (is_file_at t j.views) has.0.1.1.file views.1
+can_read_views t j has (inl spec) = never_both (is_file_at t j.inputs.spec) has.0.0.1.file spec
+can_read_views t j has (inr (inl views)) = never_both (is_file_at t j.views) has.0.1.1.file views.1
 can_read_views t j has (inr (inr later)) = can_read t j.inputs has.1 later.1

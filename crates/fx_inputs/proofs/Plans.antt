@@ -1,5 +1,5 @@
 -- The scripts of a run, read one after another.
-use Rattle.std.proofs.Common.{◌≡◌, ◌⊎◌, inl, inr, ℕ, zero, suc, ◌+◌, ◌≤◌, ◌<◌, Bool, true, false, ◌&&◌, List, [], ◌∷◌, ◌++◌, length, drop, Option, Some, None, IfSome, IsSomeAnd, refl, sym, ap, ◌∙◌, subst, append_assoc, arith, length-append}
+use Rattle.std.proofs.Common.{◌≡◌, ◌⊎◌, inl, inr, ℕ, zero, suc, ◌+◌, ◌≤◌, ◌<◌, Bool, true, false, List, [], ◌∷◌, ◌++◌, length, drop, Option, Some, None, IfSome, IsSomeAnd, refl, sym, ap, ◌∙◌, subst, append_assoc, arith, length-append}
 use Rattle.std.specs.Prelude.{slice_get}
 use Rattle.std.specs.List.{list_all, sum_by}
 use Rattle.std.proofs.Math.ListN.{get_or}
@@ -7,6 +7,8 @@ use Rattle.std.proofs.Math.Seq.{get_or-append_seam}
 use Rattle.std.proofs.lemmas.List.{append-nil}
 use Rattle.std.proofs.lemmas.List.Elements.{All-append, All-cons, All-nil}
 use Rattle.std.proofs.lemmas.List.Sums.{sum_by_push}
+use Rattle.fx_base.proofs.Booleans.{second_true, first_true}
+use Rattle.fx_base.proofs.Lists.{drop_next}
 use Rattle.fx_outside.specs.Host.{HostView, ReadsOnly, AsksAt, FaultAt, HasFailed}
 use Rattle.fx_outside.specs.Tree.{Tree, is_file_at}
 use Rattle.fx_outside.proofs.Views.{reads_none, reads_then, fault_back}
@@ -28,14 +30,6 @@ Plan = List (List (List CommandTree))
 
 abbrev Paths : Type 0
 Paths = List (List ℕ)
-
-drop_there : {X : Type 0} (xs : List X) (i : ℕ) (x : X) → slice_get xs i ≡ Some x → drop i xs ≡ x ∷ drop (i + 1) xs
-drop_there [] i x e = cc
-drop_there (y ∷ ys) zero x e = let same : x ≡ y = cc in ap (λ z. z ∷ ys) (sym same)
-drop_there (y ∷ ys) (suc i) x e =
-    let rest = drop_there ys i x e in
-    let next : suc i + 1 ≡ suc (i + 1) = omega arith in
-    rest ∙ ap (λ n. x ∷ drop n (y ∷ ys)) (sym next)
 
 drop_all : {X : Type 0} (xs : List X) → drop (length xs) xs ≡ []
 drop_all [] = refl
@@ -82,7 +76,7 @@ begins_on t paths left plan others i before path txns (first ∷ more) is goes s
 
 front_more : (t : Tree) (paths : Paths) (plan : Plan) (i before : ℕ) (path : List ℕ) (txns : List (List CommandTree)) → slice_get paths i ≡ Some path → GoesOn t path before txns → IsFront t paths plan i before → IsFront t paths (plan ++ txns ∷ []) (i + 1) (before + length txns)
 front_more t paths plan i before path txns at goes was =
-    let left = drop_there paths i path at in
+    let left = drop_next paths i path at in
     record {
       on = λ more has. subst (λ all. HasScripts t 0 paths all) (sym (append_assoc plan (txns ∷ []) more)) (was.on (txns ∷ more) (subst (λ ps. HasScripts t before ps (txns ∷ more)) (sym left) (goes.script, has)));
       only = λ others has. let first = was.only others has in begins_on t paths (drop i paths) plan others i before path txns first.more left goes first.is first.follow;
@@ -131,19 +125,11 @@ front_goes_on : (told told' : Option Tree) (paths : Paths) (plan : Plan) (i befo
 front_goes_on None told' paths plan i before path script same at was goes = tt
 front_goes_on (Some t) told' paths plan i before path script same at was goes = front_more t paths plan i before path script at (subst (λ o. IfSome o (λ t. GoesOn t path before script)) same goes) was
 
-and_left : (a b : Bool) → (a && b) ≡ true → a ≡ true
-and_left true b e = refl
-and_left false b e = cc
-
-and_right : (a b : Bool) → (a && b) ≡ true → b ≡ true
-and_right true b e = e
-and_right false b e = cc
-
 -- each of the paths that a fence lets through
 let_at : (may : List ℕ → Bool) (paths : Paths) (i : ℕ) (path : List ℕ) → slice_get paths i ≡ Some path → list_all may paths ≡ true → may path ≡ true
 let_at may [] i path at all = cc
-let_at may (p ∷ paths) zero path at all = let same : p ≡ path = cc in subst (λ x. may x ≡ true) same (and_left (may p) (list_all may paths) all)
-let_at may (p ∷ paths) (suc i) path at all = let_at may paths i path at (and_right (may p) (list_all may paths) all)
+let_at may (p ∷ paths) zero path at all = let same : p ≡ path = cc in subst (λ x. may x ≡ true) same (first_true (may p) (list_all may paths) all)
+let_at may (p ∷ paths) (suc i) path at all = let_at may paths i path at (second_true (may p) (list_all may paths) all)
 
 lets_on : (old now : HostView) (paths : Paths) (i : ℕ) (path : List ℕ) → slice_get paths i ≡ Some path → now.guard ≡ old.guard → list_all old.guard.may_read paths ≡ true → now.guard.may_read path ≡ true
 lets_on old now paths i path at same all = subst (λ g. g.may_read path ≡ true) (sym same) (let_at old.guard.may_read paths i path at all)
@@ -203,15 +189,15 @@ stop_here S t path before left paths is stops = subst (λ ps. StopsAtScript S t 
 
 refused_at : (t : Tree) (cause : TextFault) (paths : Paths) (plan : Plan) (i before : ℕ) (path : List ℕ) → slice_get paths i ≡ Some path → IsFront t paths plan i before → HasNoScript cause t path before → StopsAtScript (HasNoScript cause) t 0 paths i
 refused_at t cause paths plan i before path at front none =
-    subst (λ n. StopsAtScript (HasNoScript cause) t 0 paths n) (omega arith) (front.refused cause 0 (stop_here (HasNoScript cause) t path before (drop i paths) (drop (i + 1) paths) (drop_there paths i path at) none))
+    subst (λ n. StopsAtScript (HasNoScript cause) t 0 paths n) (omega arith) (front.refused cause 0 (stop_here (HasNoScript cause) t path before (drop i paths) (drop (i + 1) paths) (drop_next paths i path at) none))
 
 lacking_at : (t : Tree) (paths : Paths) (plan : Plan) (i before : ℕ) (path : List ℕ) → slice_get paths i ≡ Some path → IsFront t paths plan i before → is_file_at t path ≡ false → StopsAtScript LacksFile t 0 paths i
 lacking_at t paths plan i before path at front none =
-    subst (λ n. StopsAtScript LacksFile t 0 paths n) (omega arith) (front.lacking 0 (stop_here LacksFile t path before (drop i paths) (drop (i + 1) paths) (drop_there paths i path at) none))
+    subst (λ n. StopsAtScript LacksFile t 0 paths n) (omega arith) (front.lacking 0 (stop_here LacksFile t path before (drop i paths) (drop (i + 1) paths) (drop_next paths i path at) none))
 
 reached_at : (t : Tree) (paths : Paths) (plan : Plan) (i before : ℕ) (path : List ℕ) → slice_get paths i ≡ Some path → IsFront t paths plan i before → StopsAtScript IsReached t 0 paths i
 reached_at t paths plan i before path at front =
-    subst (λ n. StopsAtScript IsReached t 0 paths n) (omega arith) (front.reached 0 (stop_here IsReached t path before (drop i paths) (drop (i + 1) paths) (drop_there paths i path at) tt))
+    subst (λ n. StopsAtScript IsReached t 0 paths n) (omega arith) (front.reached 0 (stop_here IsReached t path before (drop i paths) (drop (i + 1) paths) (drop_next paths i path at) tt))
 
 reached : (told : Option Tree) (paths : Paths) (plan : Plan) (i before : ℕ) (path : List ℕ) → slice_get paths i ≡ Some path → IfSome told (λ t. IsFront t paths plan i before) → IfSome told (λ t. StopsAtScript IsReached t 0 paths i)
 reached told paths plan i before path at front =

@@ -4,6 +4,7 @@ use Rattle.fx_base.specs.Causes.{Rose}
 use Rattle.fx_outside.specs.Host.{HostView}
 use Rattle.fx_outside.specs.Tree.{Tree}
 use Rattle.fx_folder.specs.Loads.{IsRefused}
+use Rattle.fx_folder.proofs.Loaded.{not_both}
 use Rattle.fx_command.specs.declared.status.Status.{Status}
 use Rattle.fx_command.specs.declared.status.Status.TheVariants as status
 use Rattle.fx_command.specs.Reading.{ReadEnds}
@@ -14,7 +15,7 @@ use Rattle.fx_inputs.specs.Inputs.{HasTexts, HasInputs, CannotRead, IsFirstRefus
 use Rattle.fx_inputs.specs.Reads.{HasReadFault, ReadRow}
 use Rattle.fx_inputs.specs.Readings.{inputs_reading, views_reading}
 use Rattle.fx_inputs.specs.Views.{HasViewsTexts, HasViewsInputs, CannotReadViews, ViewsFirstRefused, HasViewsReadFault, ViewsReadRow}
-use Rattle.fx_inputs.proofs.AllRead.{can_read, none_refused, not_both, can_read_views, views_none_refused}
+use Rattle.fx_inputs.proofs.AllRead.{can_read, none_refused, can_read_views, views_none_refused}
 use Rattle.fx_inputs.proofs.ReadRows.{read_fault_back, read_fault_rose}
 use Rattle.fx_inputs.proofs.ViewsRows.{views_fault_back, views_fault_rose}
 

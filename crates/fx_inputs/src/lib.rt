@@ -3,11 +3,9 @@
 #![tactic(auto)]
 
 mod reading;
-mod release;
 mod scripts;
 mod views;
 
 pub use reading::read_base;
-pub use release::let_go;
 pub use scripts::{ScriptUnread, Unread};
 pub use views::{Bases, VIEWS_WORD, read_bases};

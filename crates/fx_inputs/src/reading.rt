@@ -8,7 +8,7 @@ ghost use Rattle.fx_inputs.specs.Inputs.{HasSpec, IsOnlySpec, HasScripts, AreOnl
 ghost use Rattle.fx_inputs.specs.Reads.{ReadRow, InputsAsk};
 
 use crate::scripts::read_plan;
-use fx_base::{NoMemory, SOURCE_LIMIT};
+use fx_base::SOURCE_LIMIT;
 use fx_command::{Status, read_text};
 use fx_folder::load;
 use fx_outside::Host;
@@ -72,23 +72,6 @@ fn read_folder<H: Host>(alloc: Global, inputs: &Inputs, host: &mut H) -> Result<
     Ok(store)
 }
 
-pub(crate) fn gathered(
-    alloc: Global,
-    description: Checked,
-    plan: Plan,
-    loaded: Filestore,
-) -> Result<Arc<Base>, NoMemory>
-    ensures { IfOk result (λ base.
-        base.value ≡ record { description = description; plan = plan; loaded = loaded }) }
-{
-    let base = Base {
-        description,
-        plan,
-        loaded,
-    };
-    Ok(Arc::new(alloc, base)?)
-}
-
 /// Reads what a run begins with besides its description: the scripts in order, and the folder.
 pub(crate) fn read_rest<H: Host>(
     alloc: Global,
@@ -111,9 +94,22 @@ pub(crate) fn read_rest<H: Host>(
     ensures ends { IfErr result
         (ReadRow (asked_inputs inputs.now) (H.view host.old) (H.view host.new)) }
 {
-    let plan = read_scripts(alloc, inputs, host)?;
-    let loaded = read_folder(alloc, inputs, host)?;
-    let base = gathered(alloc, description, plan, loaded)?;
+    let plan = match read_scripts(alloc, inputs, host) {
+        Ok(plan) => plan,
+        Err(status) => {
+            description.let_go();
+            return Err(status);
+        }
+    };
+    let loaded = match read_folder(alloc, inputs, host) {
+        Ok(loaded) => loaded,
+        Err(status) => {
+            description.let_go();
+            plan.let_go();
+            return Err(status);
+        }
+    };
+    let base = Base::shared(alloc, description, plan, loaded)?;
     Ok(base)
 }
 

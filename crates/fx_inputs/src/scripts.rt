@@ -1,5 +1,5 @@
 //! The scripts, read from the host.
-ghost use Rattle.std.specs.Prelude.{◌≡◌, ◌+◌, ◌≤◌, IfOk, IfErr, IfSome, length};
+ghost use Rattle.std.specs.Prelude.{◌≡◌, ◌+◌, ◌≤◌, [], IfOk, IfErr, OnOk, IfSome, length};
 ghost use Rattle.fx_base.specs.Limits.{txn_limit};
 ghost use Rattle.fx_outside.specs.Host.{ReadsOnly, AsksAt};
 ghost use Rattle.fx_spec.specs.WellShaped.{IsScript};
@@ -9,7 +9,7 @@ ghost use Rattle.fx_inputs.specs.Causes.{ScriptCause, UnreadCause};
 ghost use Rattle.fx_inputs.specs.Reads.{AsksAtAll};
 ghost use Rattle.fx_inputs.specs.Unread.{unread_at};
 
-use fx_base::SOURCE_LIMIT;
+use fx_base::{NoMemory, SOURCE_LIMIT};
 use fx_command::{Status, TextFault, read_text};
 use fx_outside::{Host, HostFault, HostText};
 use fx_scripts::{ScriptFault, script_of};
@@ -98,6 +98,43 @@ pub(crate) fn read_script_at<H: Host>(
     Ok(script)
 }
 
+/// Adds the scripts, in order, to an empty plan.
+fn add_scripts<H: Host>(
+    alloc: Global,
+    inputs: &Inputs,
+    host: &mut H,
+    plan: &mut Plan,
+) -> Result<(), Unread>
+    requires inputs { AreInputs inputs.now }
+    requires none { plan.old ≡ [] }
+    ensures read { OnOk result (IfSome (H.view host.old).told
+        (λ t. HasScripts t 0 (asked_inputs inputs.now).scripts plan.new)) }
+    ensures only { OnOk result (IfSome (H.view host.old).told
+        (λ t. AreOnlyScripts t (asked_inputs inputs.now) plan.new)) }
+    ensures count { OnOk result
+        (length plan.new ≡ length (asked_inputs inputs.now).scripts) }
+    ensures same { ReadsOnly (H.view host.old) (H.view host.new) }
+    ensures fit { AsksAtAll (asked_inputs inputs.now).scripts
+        (H.view host.old) (H.view host.new) }
+    ensures unread { IfErr result
+        (UnreadCause (asked_inputs inputs.now) (H.view host.old) (H.view host.new)) }
+{
+    let mut before = 0;
+    'scripts: for i in 0..inputs.scripts() {
+        let path = match inputs.script(i) {
+            Some(path) => path,
+            None => unreachable!(),
+        };
+        let script = match read_script_at(alloc, host, path, before) {
+            Ok(script) => script,
+            Err(unread) => return Err(unread.at(inputs.place(i))),
+        };
+        plan.add(alloc, script)?;
+        before += plan.count(i);
+    }
+    Ok(())
+}
+
 /// The scripts, in order, as a plan.
 pub(crate) fn read_plan<H: Host>(
     alloc: Global,
@@ -118,23 +155,24 @@ pub(crate) fn read_plan<H: Host>(
         (UnreadCause (asked_inputs inputs.now) (H.view host.old) (H.view host.new)) }
 {
     let mut plan = Plan::new(alloc);
-    let mut before = 0;
-    'scripts: for i in 0..inputs.scripts() {
-        let path = match inputs.script(i) {
-            Some(path) => path,
-            None => unreachable!(),
-        };
-        let script = match read_script_at(alloc, host, path, before) {
-            Ok(script) => script,
-            Err(unread) => return Err(unread.at(inputs.place(i))),
-        };
-        match plan.push(alloc, script) {
-            Ok(()) => {}
-            Err(_) => return Err(Unread::NoMemory),
+    match add_scripts(alloc, inputs, host, &mut plan) {
+        Ok(()) => Ok(plan),
+        Err(unread) => {
+            plan.let_go();
+            Err(unread)
         }
-        before += plan.count(i);
     }
-    Ok(plan)
+}
+
+impl From<NoMemory> for Unread {
+    ghost use Rattle.std.specs.Prelude.{◌≡◌};
+    ghost use Rattle.fx_inputs.specs.declared.scripts.Unread.TheVariants.{NoMemory};
+
+    ghost from_gives = { λ _ unread. unread ≡ NoMemory };
+
+    fn from(_: fx_base::NoMemory) -> Unread {
+        Unread::NoMemory
+    }
 }
 
 impl From<Unread> for Status {

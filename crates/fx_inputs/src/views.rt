@@ -9,7 +9,7 @@ ghost use Rattle.fx_show.specs.Described.{Describes};
 ghost use Rattle.fx_inputs.specs.Inputs.{HasSpec, HasSomeSpec, HasEachScript};
 ghost use Rattle.fx_inputs.specs.Views.{HasBases, HasViewsAlone, IsBeside, ViewsInputsAsk, ViewsReadRow};
 
-use crate::reading::{gathered, read_rest};
+use crate::reading::read_rest;
 use crate::scripts::{ScriptUnread, read_script_at};
 use fx_base::{NoMemory, SOURCE_LIMIT};
 use fx_command::{Status, read_text};
@@ -25,10 +25,18 @@ pub const VIEWS_WORD: u32 = 4;
 
 /// What a run with views begins with: the scripts, and the views as the one script of a plan of their own, each with the
 /// description and the folder.
-#[derive(Drop)]
 pub struct Bases {
     pub scripts: Arc<Base>,
     pub views: Arc<Base>,
+}
+
+impl Bases {
+    /// Lets go of both.
+    pub fn let_go(self) {
+        let Bases { scripts, views } = self;
+        Base::let_go(scripts);
+        Base::let_go(views);
+    }
 }
 
 /// Reads the description, and keeps its text.
@@ -57,9 +65,12 @@ fn plan_of(alloc: Global, script: Script) -> Result<Plan, NoMemory>
     ensures { IfOk result (λ plan. plan ≡ script ∷ []) }
 {
     let mut plan = Plan::new(alloc);
-    match plan.push(alloc, script) {
+    match plan.add(alloc, script) {
         Ok(()) => Ok(plan),
-        Err(_) => Err(NoMemory),
+        Err(fault) => {
+            plan.let_go();
+            Err(fault)
+        }
     }
 }
 
@@ -107,9 +118,21 @@ fn beside(
         (λ base. base.value.description ≡ scripts.now.value.description) }
     ensures loaded { IfOk result (λ base. base.value.loaded.nodes ≡ scripts.now.value.loaded.nodes) }
 {
-    let loaded = scripts.loaded.copy(alloc)?;
-    let description = description_again(alloc, scripts, text)?;
-    gathered(alloc, description, views, loaded)
+    let description = match description_again(alloc, scripts, text) {
+        Ok(description) => description,
+        Err(fault) => {
+            views.let_go();
+            return Err(fault);
+        }
+    };
+    match scripts.loaded.copy(alloc) {
+        Ok(loaded) => Base::shared(alloc, description, views, loaded),
+        Err(fault) => {
+            views.let_go();
+            description.let_go();
+            Err(fault)
+        }
+    }
 }
 
 /// Reads what a run with views begins with: the description, the views, the scripts in order, and the folder. The tree that
@@ -130,8 +153,25 @@ pub fn read_bases<H: Host>(alloc: Global, job: &ViewsJob, host: &mut H) -> Resul
         (ViewsReadRow (asked_views job.now) (H.view host.old) (H.view host.new)) }
 {
     let (description, text) = read_description(alloc, job, host)?;
-    let plan = read_views(alloc, job, host)?;
-    let scripts = read_rest(alloc, &job.inputs, description, host)?;
-    let views = beside(alloc, &scripts, &text, plan)?;
-    Ok(Bases { scripts, views })
+    let plan = match read_views(alloc, job, host) {
+        Ok(plan) => plan,
+        Err(status) => {
+            description.let_go();
+            return Err(status);
+        }
+    };
+    let scripts = match read_rest(alloc, &job.inputs, description, host) {
+        Ok(scripts) => scripts,
+        Err(status) => {
+            plan.let_go();
+            return Err(status);
+        }
+    };
+    match beside(alloc, &scripts, &text, plan) {
+        Ok(views) => Ok(Bases { scripts, views }),
+        Err(fault) => {
+            Base::let_go(scripts);
+            Err(Status::from(fault))
+        }
+    }
 }

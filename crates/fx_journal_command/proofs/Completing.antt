@@ -18,8 +18,7 @@ use Rattle.fx_inputs.proofs.Readings.{inputs_all_read}
 use Rattle.fx_words.specs.Job.{JournalJob}
 use Rattle.fx_run_command.specs.Rows.{run_command}
 use Rattle.fx_durable.specs.Disk.{File, DiskView}
-use Rattle.fx_journal_command.specs.Rows.{JournalEnd, JournalRow, KeepsJournal, CannotLeave, CannotReach, CannotStart, HasBroken, HoldsBytes, IsProperJournal}
-use Rattle.fx_journal_command.proofs.Keeping.{unbegun_keeps}
+use Rattle.fx_journal_command.specs.Rows.{JournalEnd, JournalRow, CannotLeave, CannotReach, CannotStart, HasBroken, HoldsBytes, IsProperJournal}
 
 abbrev Ends : Status → Type 0
 Ends st = (st ≡ status.Done) ⊎ (st ≡ status.NoMemory)
@@ -76,6 +75,3 @@ journal_completes j t host host' sink sink' disk disk' st is proper none quiet c
 
 pub journal_no_memory : (j : JournalJob) (host : HostView) (sink : SinkView) (disk : DiskView) → JournalRow j host host sink sink disk disk status.NoMemory
 journal_no_memory j host sink disk = (λ _. refl, inl (same host host sink (reads_none host), refl))
-
-pub journal_not_begun : (j : JournalJob) (host : HostView) (sink : SinkView) (disk : DiskView) → KeepsJournal j host sink sink disk disk
-journal_not_begun j host sink disk = unbegun_keeps j host sink disk

@@ -37,6 +37,7 @@ use Rattle.fx_journaling.specs.Recorded.{HasRecorded, HasBrokenOff}
 use Rattle.fx_journaling.specs.Taken.{HasGrown}
 use Rattle.fx_journaling.proofs.Fronts.{written_is_front}
 use Rattle.fx_journaling.proofs.Taking.{grown_as, grown_more}
+use Rattle.fx_journaling.proofs.Ending.{not_disk}
 use Rattle.fx_journal_command.specs.Rows.{HasWrittenAll, IsStopped, IsStoppedAtDisk, IsLeft, IsLeftOrWhole, CannotLeave, CannotReach, CannotStart, HasEmptyJournal, IsUnbegun, HasBroken, IsBrokenOff, JournalEnd}
 use Rattle.fx_journal_command.specs.Stages.{StartCause, holds, fails, status_in, RecordCause}
 use Rattle.fx_journal_command.proofs.Keeping.{nothing_more, front_of, bytes_of, report_of, grown_by}
@@ -99,9 +100,6 @@ not_started j base there host sink disk disk' st begins free (fails cause) = inl
 
 -- ---- a run that ends before its end
 
-no_memory_there : fault.NoMemory ≡ fault.DiskFailed → ⊥
-no_memory_there is = cc
-
 sink_there : fault.SinkFailed ≡ fault.DiskFailed → ⊥
 sink_there is = cc
 
@@ -135,7 +133,7 @@ module _ (j : JournalJob) (base : BaseTree) (whole : IsWhole (get base.loaded)) 
     at_disk failed = each_stopped (λ t t'. IsStoppedAtDisk t t' j.run sink.written sink'.written) (λ t is free. record { stopped = stopped_at t is free; settled = broken.at_disk failed })
 
   broken_row : (stop : RecordFault) → HasBrokenOff base (shells_of j.run) mid disk' sink sink' stop → JournalEnd j host host sink sink' disk disk' (status_in stop)
-  broken_row fault.NoMemory broken = inr (empty, broken.calm no_memory_there ∙ calm, stopped fault.NoMemory broken)
+  broken_row fault.NoMemory broken = inr (empty, broken.calm not_disk ∙ calm, stopped fault.NoMemory broken)
   broken_row fault.DiskFailed broken =
       let rose : Rose mid.faults disk'.faults = broken.cause in
       let all : Rose disk.faults disk'.faults = omega (arith, calm, rose) in

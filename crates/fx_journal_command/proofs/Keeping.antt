@@ -2,6 +2,7 @@
 use Rattle.std.proofs.Common.{◌≡◌, ◌⊎◌, inl, inr, ℕ, Bool, List, [], ◌∷◌, ◌++◌, length, take, Option, Some, None, refl, sym, ap, subst, arith}
 use Rattle.std.specs.Prelude.{IfSome}
 use Rattle.std.proofs.lemmas.List.{take_all}
+use Rattle.fx_base.proofs.Results.{IsSomeAnd-weaker}
 use Rattle.fx_outside.specs.Host.{HostView, ReadsOnly}
 use Rattle.fx_outside.specs.Sink.{SinkView}
 use Rattle.fx_spec.specs.Order.{BaseTree}
@@ -29,8 +30,8 @@ use Rattle.fx_journaling.specs.Recorded.{IsStarted, KeepsRun, HasRecorded}
 use Rattle.fx_journaling.specs.Taken.{HasGrown}
 use Rattle.fx_journaling.specs.Written.{HasWritten, events_written, HasWrittenReport}
 use Rattle.fx_journaling.proofs.Ending.{begun, paused}
-use Rattle.fx_journaling.proofs.Holding.{at_present, some_and_map, if_file_map}
-use Rattle.fx_journaling.proofs.Taking.{grown_none, grown_as, grown_more}
+use Rattle.fx_journaling.proofs.Holding.{at_present, if_file_map}
+use Rattle.fx_journaling.proofs.Taking.{grown_none, grown_as, grown_more, count_of}
 use Rattle.fx_journal_command.specs.Rows.{HasEmptyJournal, KeepsJournal, HasNothing, IsKept}
 use Rattle.fx_command.specs.Saved.{SaveEnd, done, unmade, unsaved, unprinted}
 use Rattle.fx_journal_command.specs.Stages.{MayLeaveGate, RecordCause}
@@ -60,7 +61,7 @@ goes_unstarted path old new unstarted = record { path = unstarted.path; steps = 
 
 told_unstarted : (path : List ℕ) (P : File → File → Type 0) → ((old new : File) → IsUnstarted path old new → P old new) → (o o' : Option File) → StaysUnstarted path o o' → IfFile P o o'
 told_unstarted path P each None o' stays = stays
-told_unstarted path P each (Some file) o' stays = some_and_map o' (IsUnstarted path file) (P file) (each file) stays
+told_unstarted path P each (Some file) o' stays = IsSomeAnd-weaker o' (IsUnstarted path file) (P file) (each file) stays
 
 pub unstarted_keeps : (j : JournalJob) (host : HostView) (sink : SinkView) (disk disk' : DiskView) → StaysUnstarted j.journal disk.told disk'.told → KeepsJournal j host sink sink disk disk'
 unstarted_keeps j host sink disk disk' stays =
@@ -99,7 +100,7 @@ module _ (j : JournalJob) (base : BaseTree) (host : HostView) (sink sink' : Sink
   told_kept None b c empty told gate keeps = subst (λ o. IfFile Keeps o c) told keeps
   told_kept (Some old) None c empty told gate keeps = absurd told
   told_kept (Some old) (Some started) c empty told gate keeps =
-      some_and_map c (Keeps started) (Kept old) (λ new keeps. (goes_over old started new told keeps.keeps.leaves.goes_on, inr (kept_at old started new empty told gate keeps))) keeps
+      IsSomeAnd-weaker c (Keeps started) (Kept old) (λ new keeps. (goes_over old started new told keeps.keeps.leaves.goes_on, inr (kept_at old started new empty told gate keeps))) keeps
 
 pub broken_keeps : (j : JournalJob) (base : BaseTree) (host : HostView) (sink sink' : SinkView) (disk mid disk' : DiskView) (st : Status) → IfSome host.told (λ t. HasBase t j.run.inputs base) → HasEmptyJournal j disk → Continues disk mid → MayLeaveGate mid → RecordCause base (shells_of j.run) mid disk' sink sink' st → KeepsJournal j host sink sink' disk disk'
 broken_keeps j base host sink sink' disk mid disk' st begins empty continues gate cause =
@@ -119,10 +120,6 @@ none_taken (x ∷ text) = refl
 
 pub nothing_more : (text : List ℕ) (sink sink' : SinkView) → sink' ≡ sink → HasGrown (take 0 text) sink sink'
 nothing_more text sink sink' same = subst (λ s. HasGrown (take 0 text) sink s) (sym same) (grown_as [] (take 0 text) sink sink (none_taken text) (grown_none sink))
-
-count_of : (o : Option (List ℕ)) (P : List ℕ → ℕ → Type 0) → IfSome o (λ w. (n : ℕ) × P w n) → (n : ℕ) × IfSome o (λ w. P w n)
-count_of None P some = (0, tt)
-count_of (Some w) P some = some
 
 pub front_of : (text : List ℕ) (sink sink' : SinkView) → IfSome sink.written (λ w. (n : ℕ) × (sink'.written ≡ Some (w ++ take n text))) → (n : ℕ) × HasGrown (take n text) sink sink'
 front_of text sink sink' front = count_of sink.written (λ w n. sink'.written ≡ Some (w ++ take n text)) front

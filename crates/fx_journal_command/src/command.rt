@@ -61,7 +61,13 @@ fn run_on<D: Disk, S: Sink>(
     ensures broken { IfErr result (RecordCause (base_tree base.value) (shells_of (asked job.now))
         (D.view disk.old) (D.view disk.new) (S.view out.old) (S.view out.new)) }
 {
-    let schedule = job.shells(alloc)?;
+    let schedule = match job.shells(alloc) {
+        Ok(schedule) => schedule,
+        Err(_) => {
+            Base::let_go(base);
+            return Err(Status::NoMemory);
+        }
+    };
     match record(alloc, base, &schedule, journal, disk, out) {
         Ok(recorded) => Ok(recorded),
         Err(RecordFault::NoMemory) => Err(Status::NoMemory),
@@ -112,9 +118,17 @@ fn keep<H: Host, S: Sink, D: Disk>(
     ensures fit { WritesIn job.now.run.out.now (H.view host.old) (H.view host.new) }
 {
     let _whole = base.loaded.places();
-    let journal = start(job.journal, disk)?;
+    let journal = match start(job.journal, disk) {
+        Ok(journal) => journal,
+        Err(status) => {
+            Base::let_go(base);
+            return Err(status);
+        }
+    };
     let recorded = run_on(alloc, &job.run, base, journal, disk, out)?;
-    finish(alloc, job.run.out, there, &recorded, host, out)
+    let ended = finish(alloc, job.run.out, there, &recorded, host, out);
+    recorded.let_go();
+    ended
 }
 
 /// Runs the scripts on the folder by a schedule, keeps each commit in the journal before its line is written, and leaves the
@@ -134,6 +148,12 @@ pub fn journal<H: Host, S: Sink, D: Disk>(
     ensures fit { JournalAsks (asked_journal job.now) (H.view host.old) (H.view host.new) }
 {
     let base = read_base(alloc, &job.run.inputs, host)?;
-    let there = ready_out(alloc, job.run.out, host)?;
+    let there = match ready_out(alloc, job.run.out, host) {
+        Ok(there) => there,
+        Err(status) => {
+            Base::let_go(base);
+            return Err(status);
+        }
+    };
     keep(alloc, job, base, there, host, out, disk)
 }

@@ -24,6 +24,7 @@ use Rattle.fx_sched.specs.declared.taking.Ended.TheVariants as end
 use Rattle.fx_sched.specs.Traced.{IsTraced}
 use Rattle.fx_sched.specs.World as World
 use Rattle.fx_sched.proofs.Runs.{run_same}
+use Rattle.fx_sched.proofs.Worlds.{run_more}
 use Rattle.fx_journaling.specs.declared.fault.RecordFault.{RecordFault}
 use Rattle.fx_journaling.specs.declared.fault.RecordFault.TheVariants as fault
 use Rattle.fx_journaling.specs.Kept.{HasAtMostOneMore, IfFile, HoldsOrder, LeavesEither}
@@ -31,7 +32,7 @@ use Rattle.fx_journaling.specs.Written.{IsPartOfLine, IsBeforeSettled}
 use Rattle.fx_journaling.specs.Taken.{Beginning, beginning, HasTaken, IsUnkept, IsUntold, HasRefused}
 use Rattle.fx_journaling.specs.Recorded.{IsStarted, IsNextOrder, KeepsRun, HasRecorded, HasBrokenOff, fault_in}
 use Rattle.fx_journaling.proofs.Holding.{holds_leaves, if_file_map, spells_rested}
-use Rattle.fx_journaling.proofs.Taking.{lines_more, grown_none, grown_as, run_more}
+use Rattle.fx_journaling.proofs.Taking.{lines_more, grown_none, grown_as}
 
 -- ---- runs
 
@@ -43,7 +44,7 @@ step_more base m (event.Conflict shell entry path) m' s = inl (ap (λ (m : Machi
 
 -- ---- what is written
 
-not_disk : fault.NoMemory ≡ fault.DiskFailed → ⊥
+pub not_disk : fault.NoMemory ≡ fault.DiskFailed → ⊥
 not_disk is = cc
 
 module _ (base : BaseTree) (schedule : List ℕ) (disk disk' : DiskView) (sink sink' : SinkView) (disk_name sink_name : ℕ) where

@@ -3,6 +3,8 @@ use Rattle.std.proofs.Common.{◌≡◌, ◌⊎◌, inl, inr, ℕ, zero, suc, Li
 use Rattle.std.specs.FinMap.{get}
 use Rattle.std.proofs.lemmas.List.{append-nil, append_assoc}
 use Rattle.std.proofs.lemmas.List.Concat.{flat_map-append}
+use Rattle.fx_sched.proofs.Worlds.{run_more}
+use Rattle.fx_base.proofs.Lists.{same_heads}
 use Rattle.fx_store.specs.Whole.{IsWhole}
 use Rattle.fx_spec.specs.Order.{BaseTree}
 use Rattle.fx_machine.specs.declared.event.Event.{Event}
@@ -18,15 +20,12 @@ use Rattle.fx_report.specs.Entries.{report}
 use Rattle.fx_report.specs.Events.{event_line, lines}
 use Rattle.fx_journaling.specs.Laws.{WrittenIsFront}
 use Rattle.fx_journaling.specs.Written.{IsPartOfLine, HasWrittenEvents, HasWrittenReport, IsFrontOfOutput}
-use Rattle.fx_journaling.proofs.Taking.{lines_more, run_more}
+use Rattle.fx_journaling.proofs.Taking.{lines_more}
 
 front_and_rest : {X : Type 0} (n : ℕ) (xs : List X) → take n xs ++ drop n xs ≡ xs
 front_and_rest zero xs = refl
 front_and_rest (suc n) [] = refl
 front_and_rest (suc n) (x ∷ xs) = ap (λ l. x ∷ l) (front_and_rest n xs)
-
-first_same : {X : Type 0} (x y : X) (xs ys : List X) → x ∷ xs ≡ y ∷ ys → x ≡ y
-first_same x y xs ys e = cc
 
 others_same : {X : Type 0} (x y : X) (xs ys : List X) → x ∷ xs ≡ y ∷ ys → xs ≡ ys
 others_same x y xs ys e = cc
@@ -36,7 +35,7 @@ begins_with : (base : BaseTree) (before : List Event) (turns : List ℕ) (all ev
 begins_with base before turns all [] later same begins = stops
 begins_with base before (shell ∷ turns) all (e ∷ events) later same (leaves_out none begins) = leaves_out none (begins_with base before turns all (e ∷ events) later same begins)
 begins_with base before (_ ∷ turns) (x ∷ all) (e ∷ events) later same (goes has begins) =
-    let first : x ≡ e = first_same x e all (events ++ later) same in
+    let first : x ≡ e = same_heads x e all (events ++ later) same in
     let rest = begins_with base (before ++ x ∷ []) turns all events later (others_same x e all (events ++ later) same) begins in
     subst (λ y. BeginsTurns base before (shell_of x ∷ turns) (y ∷ events)) first (goes has rest)
 begins_with base before [] all (e ∷ events) later same (next_round shell has begins) = next_round shell has (begins_with base before _ all (e ∷ events) later same begins)

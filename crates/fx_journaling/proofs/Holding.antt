@@ -4,6 +4,7 @@ use Rattle.std.specs.Prelude.{IfSome, IsSomeAnd}
 use Rattle.std.specs.Option.{unwrap_or}
 use Rattle.std.proofs.lemmas.List.{append-nil}
 use Rattle.fx_base.specs.Limits.{txn_limit}
+use Rattle.fx_base.proofs.Results.{IsSomeAnd-weaker}
 use Rattle.fx_spec.specs.Plans.{Turn}
 use Rattle.fx_spec.specs.Order.{BaseTree, IsLegal}
 use Rattle.fx_durable.specs.Disk.{Step, File, MayLeave, LeftSince, GoesOn, LeavesOnly, StaysTold, moment}
@@ -71,13 +72,9 @@ holds_leaves base order before first new holds = record {
 
 -- ---- over what a disk tells
 
-pub some_and_map : (o : Option File) (P Q : File → Type 0) → ((file : File) → P file → Q file) → IsSomeAnd o P → IsSomeAnd o Q
-some_and_map None P Q f p = p
-some_and_map (Some file) P Q f p = f file p
-
 pub if_file_map : (P Q : File → File → Type 0) → ((old new : File) → P old new → Q old new) → (told told' : Option File) → IfFile P told told' → IfFile Q told told'
 if_file_map P Q f None told' p = p
-if_file_map P Q f (Some file) told' p = some_and_map told' (P file) (Q file) (f file) p
+if_file_map P Q f (Some file) told' p = IsSomeAnd-weaker told' (P file) (Q file) (f file) p
 
 module _ (base : BaseTree) (order : List Turn) (turn : Turn) (add : MayAdd base order turn) (count : ℕ) (counts : count ≡ length order) where
   abbrev pub Either : Option File → Option File → Type 0
@@ -93,7 +90,7 @@ module _ (base : BaseTree) (order : List Turn) (turn : Turn) (add : MayAdd base 
   told_lost None old new held stays either = subst (λ o. StaysTold o new) held stays
   told_lost (Some first) None new held stays either = absurd held
   told_lost (Some first) (Some mid) new held stays either =
-      some_and_map new _ (LeavesEither base order (order ++ turn ∷ []) first) (λ later only. leaves_either base order turn add first mid later held only) (either order (counted mid held.rests))
+      IsSomeAnd-weaker new _ (LeavesEither base order (order ++ turn ∷ []) first) (λ later only. leaves_either base order turn add first mid later held only) (either order (counted mid held.rests))
 
   both : (new : Option File) (P Q R : File → Type 0) → ((file : File) → P file → Q file → R file) → IsSomeAnd new P → IfSome new Q → IsSomeAnd new R
   both None P Q R f p q = p

@@ -7,14 +7,15 @@ use Rattle.std.proofs.lemmas.List.Concat.{flat_map-append}
 use Rattle.std.proofs.lemmas.Option.{same_Some}
 use Rattle.fx_base.specs.Causes.{Rose}
 use Rattle.fx_base.specs.Limits.{txn_limit}
+use Rattle.fx_base.proofs.Lists.{at_middle}
 use Rattle.fx_outside.specs.Sink.{SinkView}
 use Rattle.fx_spec.specs.Plans.{Turn}
-use Rattle.fx_spec.specs.Order.{BaseTree, IsLegal}
+use Rattle.fx_spec.specs.Order.{IsLegal}
 use Rattle.fx_machine.specs.declared.event.Event.{Event}
 use Rattle.fx_machine.specs.declared.event.Event.TheVariants as event
 use Rattle.fx_machine.specs.declared.entry.Pair.{Pair}
 use Rattle.fx_machine.specs.Laws.{IsReached}
-use Rattle.fx_machine.specs.Machine.{Machine, Step, Run, resting, next_number, shell_of}
+use Rattle.fx_machine.specs.Machine.{Machine, Step, resting, next_number, shell_of}
 use Rattle.fx_machine.proofs.Reached.{reached_sound, sound_step}
 use Rattle.fx_machine.proofs.Sums.{order_fits}
 use Rattle.fx_board.specs.Board.{IsLog}
@@ -24,6 +25,7 @@ use Rattle.fx_durable.specs.Journal.{JournalView, turn_of}
 use Rattle.fx_report.specs.Events.{event_line, lines}
 use Rattle.fx_sched.specs.Running.{Running}
 use Rattle.fx_sched.specs.World.{Leads}
+use Rattle.fx_sched.proofs.Worlds.{run_more}
 use Rattle.fx_journaling.specs.declared.fault.RecordFault.{RecordFault}
 use Rattle.fx_journaling.specs.declared.fault.RecordFault.TheVariants as fault
 use Rattle.fx_journaling.specs.Kept.{IfFile, HoldsOrder, LeavesEither, IsHeld, IsLost, MayAdd}
@@ -33,10 +35,6 @@ use Rattle.fx_journaling.specs.Taken.{Beginning, Extends, HasGrown, FaultCause, 
 
 abbrev log_after : Running → Log
 log_after r = record { base = r.base; order = r.machine.order }
-
-at_end : (o : List Turn) (turn : Turn) → slice_get (o ++ turn ∷ []) (length o) ≡ Some turn
-at_end [] turn = refl
-at_end (x ∷ o) turn = at_end o turn
 
 module _ (before after : Running) (shell entry : ℕ) (reached : IsReached before.base before.machine) (log : IsLog (log_after after)) (leads : Leads before shell after (event.Settled shell entry)) where
   abbrev next : Turn
@@ -58,7 +56,7 @@ module _ (before after : Running) (shell entry : ℕ) (reached : IsReached befor
   -- it is the last one
   last_entry : (turn : Turn) → slice_get after.machine.order entry ≡ Some turn → Extends before.base before.machine.order (Some turn) after.machine.order
   last_entry turn stands =
-      let here : slice_get after.machine.order entry ≡ Some next = ap (λ o. slice_get o entry) grown ∙ ap (slice_get (before.machine.order ++ next ∷ [])) leads.step.now ∙ at_end before.machine.order next in
+      let here : slice_get after.machine.order entry ≡ Some next = ap (λ o. slice_get o entry) grown ∙ ap (slice_get (before.machine.order ++ next ∷ [])) leads.step.now ∙ at_middle before.machine.order [] next in
       let same : next ≡ turn = same_Some next turn (sym here ∙ stands) in
       (grown ∙ ap (λ (t : Turn). before.machine.order ++ t ∷ []) same, subst (MayAdd before.base before.machine.order) same may_add)
 
@@ -95,15 +93,11 @@ grown_more b c first mid last one two = grown_at b c first.written mid.written l
 pub grown_as : (b c : List ℕ) (first last : SinkView) → b ≡ c → HasGrown b first last → HasGrown c first last
 grown_as b c first last same grown = subst (λ b. HasGrown b first last) same grown
 
-count_of : (o : Option (List ℕ)) (P : List ℕ → ℕ → Type 0) → IfSome o (λ w. (n : ℕ) × P w n) → (n : ℕ) × IfSome o (λ w. P w n)
+pub count_of : (o : Option (List ℕ)) (P : List ℕ → ℕ → Type 0) → IfSome o (λ w. (n : ℕ) × P w n) → (n : ℕ) × IfSome o (λ w. P w n)
 count_of None P some = (0, tt)
 count_of (Some w) P some = some
 
 -- ---- one event more was taken, or refused
-
-pub run_more : (base : BaseTree) (m : Machine) (events : List Event) (m' : Machine) (e : Event) (m'' : Machine) → Run base m events m' → Step base m' e m'' → Run base m (events ++ e ∷ []) m''
-run_more base m [] m' e m'' run step = (m'', subst (λ m. Step base m e m'') (sym run) step, refl)
-run_more base m (x ∷ events) m' e m'' run step = (run.0, run.1, run_more base run.0 events m' e m'' run.2 step)
 
 module _ (began : Beginning) (events : List Event) (e : Event) (before after : Running) (journal : JournalView) (disk : DiskView) (sink : SinkView) (taken : HasTaken began events before journal disk sink) (leads : Leads before (shell_of e) after e) where
   pub reached : IsReached before.base before.machine

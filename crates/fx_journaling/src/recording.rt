@@ -8,6 +8,7 @@ use crate::fault::RecordFault;
 use crate::recorder::{Origin, Recorder};
 use fx_board::{Board, Retries};
 use fx_durable::{Disk, Journal};
+use fx_machine::let_go;
 use fx_outside::Sink;
 use fx_sched::{Ended, play};
 use fx_spec::Base;
@@ -16,10 +17,18 @@ use std::marker::{Brand, PhantomData};
 use std::sync::Arc;
 
 /// A run that has come to its end: its log, and the attempts that had to start again, by shell.
-#[derive(Drop)]
 pub struct Recorded {
     pub board: Board,
     pub retries: Retries,
+}
+
+impl Recorded {
+    /// Lets go of the run.
+    pub fn let_go(self) {
+        let Recorded { board, retries } = self;
+        board.let_go();
+        let_go(retries);
+    }
 }
 
 /// Why a run has ended.

@@ -1,42 +1,31 @@
 -- What stands in the folder of a case, by the list of its texts.
 use Rattle.std.proofs.Common.{◌≡◌, ◌⊎◌, inl, inr, ℕ, ◌+◌, Bool, true, false, cond, ◌||◌, List, [], ◌∷◌, ◌++◌, map, Option, Some, None, option_map, IsTrue, refl, sym, ◌∙◌, ap, append_assoc, append-nil, codes}
 use Rattle.std.specs.Prelude.{bytes_eq}
-use Rattle.std.specs.declared.cmp.Ordering.{Ordering}
-use Rattle.std.specs.declared.cmp.Ordering.TheVariants.{Less, Equal, Greater}
-use Rattle.std.specs.Ordering.{is_eq, eq_by_cmp, ordering_then}
-use Rattle.std.specs.Cmp.{tied_itself}
+use Rattle.std.specs.Ordering.{is_eq, eq_by_cmp}
 use Rattle.std.specs.Cmp.Lexicographic.{texts_ties}
 use Rattle.std.specs.FinMap.{get, find}
 use Rattle.std.proofs.lemmas.Bool.{cases_Bool, or_cases}
 use Rattle.std.specs.Option.{option_or}
+use Rattle.fx_base.proofs.Orders.{then_greater, then_equal_ties}
+use Rattle.fx_base.proofs.Names.{name_itself, name_is}
 use Rattle.fx_store.specs.declared.node.Node.{Node}
 use Rattle.fx_store.specs.Names.{path_cmp}
+use Rattle.fx_store.proofs.PathLists.{rest_is}
 use Rattle.fx_outside.specs.Listing.{name_cmp}
 use Rattle.fx_outside.specs.Path.{Parts, parts_cmp}
 use Rattle.fx_outside.specs.Tree.{Tree, Entry, file}
-use Rattle.fx_outside.proofs.Trees.{name_total}
 use Rattle.fx_folder.specs.Deep.{folder_entry}
 use Rattle.fx_folder.specs.Folder.{IsSaved, IsPartlySaved, IsFrontOf, entry_or}
 use Rattle.fx_folder.specs.Places.{host_entry}
 use Rattle.fx_table.specs.Places.{rest_of}
 use Rattle.fx_folder.specs.Written.{HasEntries}
+use Rattle.fx_folder.proofs.Fronts.{some_of}
 use Rattle.fx_table.proofs.Descents.{find_append}
-use Rattle.fx_table.proofs.Rests.{name_is, rest_is}
 use Rattle.fx_large.specs.Case.{Case, Named, texts, scripts_from, text_entry, case_entry, case_entry_or, text_places, is_listed_before, is_node_before, is_before_in_case, IsWritten, IsPartOfCase, IsPartlyWritten}
 use Rattle.fx_large.specs.Wrote.{Mapped, file_of, text_nodes}
 
 abbrev pub inner : List ℕ
 inner = codes "in"
-
-then_equal : (o : Ordering) → is_eq (ordering_then o Equal) ≡ is_eq o
-then_equal Less = refl
-then_equal Equal = refl
-then_equal Greater = refl
-
-then_greater : (o : Ordering) → is_eq (ordering_then o Greater) ≡ false
-then_greater Less = refl
-then_greater Equal = refl
-then_greater Greater = refl
 
 -- a text is found by its name
 found_text : (named : List Named) (name : List ℕ) (names : Parts) → text_entry named name names ≡ host_entry (find path_cmp (name ∷ names) (map file_of named))
@@ -44,7 +33,7 @@ found_text [] name [] = refl
 found_text [] name (b ∷ bs) = refl
 found_text (n ∷ named) name [] =
     elim (is_eq (name_cmp name n.0)) as (λ t. option_map file (cond t (Some n.1) (find name_cmp name named)) ≡ host_entry (cond t (Some (file_of n).1) (find path_cmp (name ∷ []) (map file_of named)))) [ true ↦ refl | false ↦ found_text named name [] ]
-    ∙ ap (λ t. host_entry (cond t (Some (file_of n).1) (find path_cmp (name ∷ []) (map file_of named)))) (sym (then_equal (name_cmp name n.0)))
+    ∙ ap (λ t. host_entry (cond t (Some (file_of n).1) (find path_cmp (name ∷ []) (map file_of named)))) (sym (then_equal_ties (name_cmp name n.0)))
 found_text (n ∷ named) name (b ∷ bs) =
     found_text named name (b ∷ bs) ∙ ap (λ t. host_entry (cond t (Some (file_of n).1) (find path_cmp (name ∷ b ∷ bs) (map file_of named)))) (sym (then_greater (name_cmp name n.0)))
 
@@ -158,14 +147,10 @@ text_before c done left before path whole x split is reached order stands = elim
       cc
 ]
 
-pub node_at : (o : Option Node) (e : Entry) → host_entry o ≡ Some e → (x : Node) × (o ≡ Some x)
-node_at None e is = cc
-node_at (Some x) e is = (x, refl)
-
 -- where the first texts stand and nothing else, what comes before one of them is one of them, and stands whole
 pub first_before : (c : Case) (t u : Tree) (at : Parts) (done left : List Mapped) → text_nodes c ≡ done ++ left → HasEntries t u at done → (path before : Parts) (e whole : Entry) → get u (at ++ path) ≡ Some e → IsTrue (is_before_in_case c before path) → case_entry c before ≡ Some whole → IsTextAmong c done before whole
 first_before c t u at done left split has path before e whole here order stands =
-    let x = node_at (find path_cmp path done) e (sym (has.inside path) ∙ here) in
+    let x = some_of (find path_cmp path done) e (sym (has.inside path) ∙ here) in
     let text : find path_cmp path (text_nodes c) ≡ Some x.0 = ap (find path_cmp path) split ∙ find_append path done left ∙ ap (λ o. option_or o (find path_cmp path left)) x.1 in
     text_before c done left before path whole x.0 split text (inl x) order stands
 
@@ -175,9 +160,6 @@ texts_ordered c t u at done left split has path before e whole here order stands
     has.inside before ∙ ap host_entry y.1 ∙ y.3
 
 -- ---- places behind the folder, and behind the one in it
-
-same_name : (a : List ℕ) → eq_by_cmp name_cmp a a ≡ true
-same_name a = ap is_eq (tied_itself name_total a)
 
 rest_beyond : (at names q : Parts) → rest_of at q ≡ None → rest_of (at ++ names) q ≡ None
 rest_beyond [] names q none = cc
@@ -191,7 +173,7 @@ rest_beyond (a ∷ at) names (b ∷ q) none = elim (cases_Bool (eq_by_cmp name_c
 
 rest_behind : (at names path : Parts) → rest_of (at ++ names) (at ++ path) ≡ rest_of names path
 rest_behind [] names path = refl
-rest_behind (a ∷ at) names path = ap (λ t. cond t (rest_of (at ++ names) (at ++ path)) None) (same_name a) ∙ rest_behind at names path
+rest_behind (a ∷ at) names path = ap (λ t. cond t (rest_of (at ++ names) (at ++ path)) None) (name_itself a) ∙ rest_behind at names path
 
 named_apart : (name : List ℕ) (names : Parts) → bytes_eq name inner ≡ false → rest_of (inner ∷ []) (name ∷ names) ≡ None
 named_apart name names apart = elim (cases_Bool (eq_by_cmp name_cmp inner name)) [

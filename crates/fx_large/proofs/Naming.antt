@@ -1,5 +1,5 @@
 -- The names of the texts of a case: each is a name, and no two are the same.
-use Rattle.std.proofs.Common.{◌≡◌, inl, inr, ℕ, zero, suc, ◌+◌, ◌<◌, ◌≤◌, ◌^◌, false, cond, List, [], ◌∷◌, ◌++◌, map, take, length, get_or, Some, None, refl, sym, ◌∙◌, ap, arith, codes}
+use Rattle.std.proofs.Common.{◌≡◌, inl, inr, ℕ, zero, suc, ◌+◌, ◌<◌, ◌≤◌, ◌^◌, false, cond, List, [], ◌∷◌, ◌++◌, map, take, length, Some, None, refl, sym, ◌∙◌, ap, arith, codes}
 use Rattle.std.specs.Prelude.{slice_get}
 use Rattle.std.specs.Ordering.{eq_by_cmp}
 use Rattle.std.specs.Str.{is_utf8, chars}
@@ -7,16 +7,16 @@ use Rattle.std.specs.FinMap.{find}
 use Rattle.std.proofs.lemmas.Bool.{cases_Bool}
 use Rattle.std.proofs.lemmas.Fmt.{decimal_digit, decimal_injective}
 use Rattle.std.proofs.lemmas.List.{map-append, length-take-le}
-use Rattle.std.proofs.lemmas.Option.{slice_get_within, slice_get-get_or, get_or_from_slice_get}
-use Rattle.std.proofs.Math.Seq.{take-suc}
+use Rattle.std.proofs.lemmas.Option.{slice_get_within}
 use Rattle.fx_store.specs.declared.node.Node.TheVariants.{File}
 use Rattle.fx_store.specs.Names.{IsName, is_name, path_cmp}
-use Rattle.fx_table.proofs.Rests.{parts_is}
 use Rattle.fx_gen.specs.Scripts.{scripts, scripts_to as generated_to}
 use Rattle.fx_gen.proofs.Placing.{each_below}
 use Rattle.fx_large.specs.Case.{Case, scripts_from, script_name}
 use Rattle.fx_large.specs.Wrote.{Mapped, file_of, text_nodes, scripts_to}
 use lib.Utf8.{encode}
+use Rattle.fx_base.proofs.Lists.{take_next}
+use Rattle.fx_base.proofs.Names.{path_is}
 
 pub spec_named : IsName (codes "spec")
 unfolding is_utf8 chars encode is_name
@@ -40,7 +40,7 @@ script_named n h = ap is_name (as_digit n h) ∙ digit_named n h
 
 apart : (p q : List (List ℕ)) → (p ≡ q → ⊥) → eq_by_cmp path_cmp p q ≡ false
 apart p q other = elim (cases_Bool (eq_by_cmp path_cmp p q)) [
-  | inl same ↦ absurd (other (parts_is p q same))
+  | inl same ↦ absurd (other (path_is p q same))
   | inr isnt ↦ isnt
 ]
 
@@ -87,17 +87,12 @@ scripts_push k (x ∷ texts) text =
     let next : k + 1 + length texts ≡ k + suc (length texts) = omega arith in
     ap (λ l. (script_name k, x) ∷ l) (scripts_push (k + 1) texts text ∙ ap (λ n. scripts_from (k + 1) texts ++ (script_name n, text) ∷ []) next)
 
-take_more : (texts : List (List ℕ)) (i : ℕ) (text : List ℕ) → slice_get texts i ≡ Some text → take (i + 1) texts ≡ take i texts ++ text ∷ []
-take_more texts i text is =
-    let next : i + 1 ≡ suc i = omega arith in
-    ap (λ n. take n texts) next ∙ take-suc texts i [] (slice_get_within texts i text is) ∙ ap (λ x. take i texts ++ x ∷ []) (get_or_from_slice_get texts i text [] is)
-
 pub one_more : (c : Case) (i : ℕ) (text : List ℕ) → slice_get c.scripts i ≡ Some text → text_nodes (scripts_to (i + 1) c) ≡ text_nodes (scripts_to i c) ++ (script_name i ∷ [], File text false) ∷ []
 one_more c i text is =
     let within = slice_get_within c.scripts i text is in
     let front = take i c.scripts in
     let count : 0 + length front ≡ i = omega (arith, within, length-take-le i c.scripts (omega (arith, within))) in
-    ap (λ l. text_nodes (record c { scripts = l })) (take_more c.scripts i text is)
+    ap (λ l. text_nodes (record c { scripts = l })) (take_next c.scripts i text is)
     ∙ ap (λ l. text_nodes (record c { scripts = [] }) ++ map file_of l) (scripts_push 0 front text ∙ ap (λ n. scripts_from 0 front ++ (script_name n, text) ∷ []) count)
     ∙ ap (λ l. text_nodes (record c { scripts = [] }) ++ l) (map-append file_of (scripts_from 0 front) ((script_name i, text) ∷ []))
 
@@ -107,10 +102,6 @@ all_taken c i all = ap (λ l. text_nodes (record c { scripts = l })) (ap (λ n. 
     take_all : (xs : List (List ℕ)) → take (length xs) xs ≡ xs
     take_all [] = refl
     take_all (x ∷ xs) = ap (λ l. x ∷ l) (take_all xs)
-
--- below their number there is a text
-pub text_past : (texts : List (List ℕ)) (i : ℕ) → i < length texts → slice_get texts i ≡ None → ⊥
-text_past texts i inside none = let there = slice_get-get_or texts i [] inside in let both : None ≡ Some (get_or texts i []) = sym none ∙ there in cc
 
 -- the texts that are left are the rest of the list
 pub texts_split : (c : Case) (i : ℕ) → (left : List Mapped) × (text_nodes c ≡ text_nodes (scripts_to i c) ++ left)

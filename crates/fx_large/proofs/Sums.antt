@@ -1,5 +1,5 @@
 -- One more element in a count, and one more project in a sum.
-use Rattle.std.proofs.Common.{◌≡◌, ℕ, suc, ◌+◌, Bool, true, false, cond, List, ◌∷◌, [], take, Some, ◌+ℤ◌, pos, refl, sym, ap, ◌∙◌, arith, codes}
+use Rattle.std.proofs.Common.{◌≡◌, ℕ, suc, ◌+◌, Bool, cond, List, ◌∷◌, [], take, Some, ◌+ℤ◌, pos, refl, sym, ap, ◌∙◌, arith, codes}
 use Rattle.std.specs.Str.{is_utf8, chars}
 use Rattle.std.specs.List.{slice_get, count_by}
 use Rattle.std.specs.FinMap.{get}
@@ -7,9 +7,10 @@ use Rattle.std.proofs.lemmas.List.Sums.{sum_by_push}
 use Rattle.fx_store.specs.Names.{IsName, is_name}
 use Rattle.fx_store.specs.Whole.{Nodes}
 use Rattle.fx_gen.specs.Notes.{project}
-use Rattle.fx_report.proofs.Steps.{take_next}
 use mir.Val.{bool_byte}
 use lib.Utf8.{encode}
+use Rattle.fx_base.proofs.Booleans.{byte_is}
+use Rattle.fx_base.proofs.Lists.{take_next}
 use Rattle.fx_large.specs.Summary.{counted_at, logged_at, counted_to, logged_to}
 
 pub count_next : {X : Type 0} (p : X → Bool) (xs : List X) (i : ℕ) (x : X) → slice_get xs i ≡ Some x → count_by p (take (i + 1) xs) ≡ count_by p (take i xs) + cond (p x) 1 0
@@ -18,11 +19,7 @@ count_next p xs i x is = ap (count_by p) (take_next xs i x is) ∙ sum_by_push (
 -- a loop that counts goes on by one
 pub one_more : {X : Type 0} (p : X → Bool) (xs : List X) (i : ℕ) (x : X) (count byte : ℕ) (b : Bool) → slice_get xs i ≡ Some x → count ≡ count_by p (take i xs) → b ≡ p x → byte ≡ bool_byte b → count + byte ≡ count_by p (take (i + 1) xs)
 one_more p xs i x count byte b is was told one =
-    ap (λ n. n + byte) was ∙ ap (λ n. count_by p (take i xs) + n) (one ∙ as_cond b ∙ ap (λ c. cond c 1 0) told) ∙ sym (count_next p xs i x is)
-  where
-    as_cond : (c : Bool) → bool_byte c ≡ cond c 1 0
-    as_cond true = refl
-    as_cond false = refl
+    ap (λ n. n + byte) was ∙ ap (λ n. count_by p (take i xs) + n) (one ∙ byte_is b ∙ ap (λ c. cond c 1 0) told) ∙ sym (count_next p xs i x is)
 
 pub counted_none : (nodes : Nodes) → counted_to nodes 0 ≡ pos 0
 unfolding counted_to

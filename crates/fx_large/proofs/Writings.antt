@@ -1,5 +1,5 @@
 -- The steps of writing the texts of a case: what each leaves, and that the next may be made.
-use Rattle.std.proofs.Common.{◌≡◌, ◌⊎◌, inl, inr, ℕ, ◌+◌, ◌<◌, ◌≤◌, Bool, true, false, ◌&&◌, ◌||◌, cond, List, [], ◌∷◌, ◌++◌, length, is_none, Option, Some, None, IfSome, IfErr, IsSomeAnd, OnOk, OnErr, Result, Ok, Err, refl, sym, ◌∙◌, ap, subst, arith, append_assoc, append-nil, codes}
+use Rattle.std.proofs.Common.{◌≡◌, ◌⊎◌, inl, inr, ℕ, ◌+◌, ◌<◌, ◌≤◌, Bool, true, false, ◌||◌, cond, List, [], ◌∷◌, ◌++◌, length, Option, Some, None, IfSome, IfErr, IsSomeAnd, OnOk, OnErr, Result, Ok, Err, refl, sym, ◌∙◌, ap, subst, arith, append_assoc, append-nil, codes}
 use Rattle.std.specs.Prelude.{slice_get}
 use Rattle.std.specs.Option.{option_or}
 use Rattle.std.specs.Ordering.{is_eq, eq_by_cmp}
@@ -7,13 +7,14 @@ use Rattle.std.specs.Cmp.{tied_itself}
 use Rattle.std.specs.FinMap.{get, get-insert, insert, find}
 use Rattle.std.proofs.lemmas.Bool.{cases_Bool}
 use Rattle.std.proofs.lemmas.Option.{same_Some}
+use Rattle.fx_base.proofs.Names.{above_pushed, same_front, path_is}
 use Rattle.fx_store.specs.declared.node.Node.{Node}
 use Rattle.fx_store.specs.declared.node.Node.TheVariants.{File, Dir}
 use Rattle.fx_store.specs.Names.{IsName, path_cmp}
 use Rattle.fx_outside.specs.Host.{HostView, LetsIn, WritesIn}
 use Rattle.fx_outside.specs.Path.{Parts, parts, parts_cmp, is_fit, above}
 use Rattle.fx_outside.specs.Tree as tree
-use Rattle.fx_outside.specs.Tree.{Tree, Entry, file, folder, entry_at, has_folder, is_free, is_free_at}
+use Rattle.fx_outside.specs.Tree.{Tree, Entry, file, folder, entry_at, has_folder, is_free_at}
 use Rattle.fx_outside.proofs.Trees.{parts_total}
 use Rattle.fx_outside.proofs.Views.{writes_then, fault_in_back, fault_in_outer}
 use Rattle.fx_folder.specs.declared.fault.SaveFault.{SaveFault}
@@ -23,11 +24,11 @@ use Rattle.fx_folder.specs.Places.{host_entry}
 use Rattle.fx_folder.specs.Reads.{path_below}
 use Rattle.fx_folder.specs.Written.{with_folder, MadePart, IsOpen, with_entry, WrotePart, HasEntries}
 use Rattle.fx_table.proofs.Descents.{find_append}
-use Rattle.fx_folder.proofs.Filled.{above_pushed, opens}
-use Rattle.fx_table.proofs.Rests.{same_front, parts_is, no_rest}
-use Rattle.fx_folder.proofs.Fronts.{begins, adds, from_old, has_it}
+use Rattle.fx_folder.proofs.Filled.{opens}
+use Rattle.fx_table.proofs.Rests.{no_rest}
+use Rattle.fx_folder.proofs.Fronts.{begins, adds, from_old, has_it, free_place}
 use Rattle.fx_folder.proofs.Texts.{parts_below, fit_below, fit_alone, lets_inner}
-use Rattle.fx_folder.proofs.Writes.{told_then}
+use Rattle.fx_folder.proofs.Writes.{told_then, told_open, told_next}
 use Rattle.fx_large.specs.Case.{Case, script_name, case_entry, is_listed_before, IsWritten, IsPartOfCase, IsPartlyWritten}
 use Rattle.fx_large.specs.Wrote.{Mapped, text_nodes, scripts_to, IsBegun, WroteTexts}
 use Rattle.fx_large.proofs.CaseEntries.{inner, no_text, places, IsTextAmong, text_stands, text_before, first_before, texts_ordered, case_written, case_part}
@@ -40,21 +41,7 @@ told_map None b P Q p h = p
 told_map (Some t) None P Q p h = p
 told_map (Some t) (Some u) P Q p h = h t u p
 
-told_next : (a b : Option Tree) (P : Tree → Type 0) (Q : Tree → Tree → Type 0) (R : Tree → Type 0) → IfSome a P → IfTold a b Q → ((t u : Tree) → P t → Q t u → R u) → IfSome b R
-told_next None None P Q R p q h = tt
-told_next None (Some u) P Q R p q h = cc
-told_next (Some t) None P Q R p q h = tt
-told_next (Some t) (Some u) P Q R p q h = h t u p q
-
-told_open : (told : Option Tree) (P : Tree → Type 0) (Q : Tree → Tree → Type 0) → IfSome told P → ((t : Tree) → P t → Q t t) → IfTold told told Q
-told_open None P Q p h = refl
-told_open (Some t) P Q p h = h t p
-
 -- a name in the folder is free where none of the texts has it
-
-free_place : (u : Tree) (text : List ℕ) (p : Parts) → is_fit text ≡ true → parts text ≡ p → get u p ≡ None → has_folder u (above p) ≡ true → is_free_at u text ≡ true
-free_place u text p fit is none around =
-    ap (λ b. b && is_free u (parts text)) fit ∙ ap (is_free u) is ∙ ap (λ o. is_none o && has_folder u (above p)) none ∙ around
 
 free_name : (t u : Tree) (path name : List ℕ) (done : List Mapped) → is_fit path ≡ true → IsName name → HasEntries t u (parts path) (([], Dir []) ∷ done) → find path_cmp (name ∷ []) done ≡ None → is_free_at u (path_below path name) ≡ true
 free_name t u path name done fit named has none =
@@ -175,7 +162,7 @@ module _ (c : Case) (t u v : Tree) (at : Parts) where
     ];
     ordered = λ p b d w here order before. elim (cases_Bool (eq_by_cmp parts_cmp (at ++ p) (at ++ path))) [
       | inl same ↦
-          let at_it : p ≡ path = parts_is p path (sym (ap is_eq (same_front at p path)) ∙ same) in
+          let at_it : p ≡ path = path_is p path (sym (ap is_eq (same_front at p path)) ∙ same) in
           let last : is_listed_before (places ((path, node) ∷ rest)) b p ≡ false = ap (is_listed_before (places ((path, node) ∷ rest)) b) at_it ∙ none_listed b in
           earlier b w (text_before c done ((path, node) ∷ rest) b p w node split (ap (λ q. find path_cmp q (text_nodes c)) at_it ∙ the_text) (inr last) order before)
       | inr apart ↦ earlier b w (first_before c t u at done ((path, node) ∷ rest) split has p b d w (sym (other (at ++ p) apart) ∙ here) order before)
@@ -201,7 +188,7 @@ module _ (c : Case) (t u v : Tree) (at : Parts) where
       beside : (b : Parts) (y : Node) → find path_cmp b done ≡ Some y → eq_by_cmp parts_cmp (at ++ b) (at ++ path) ≡ false
       beside b y found = elim (cases_Bool (eq_by_cmp parts_cmp (at ++ b) (at ++ path))) [
         | inl same ↦
-            let none : find path_cmp b done ≡ None = ap (λ q. find path_cmp q done) (parts_is b path (sym (ap is_eq (same_front at b path)) ∙ same)) ∙ fresh in
+            let none : find path_cmp b done ≡ None = ap (λ q. find path_cmp q done) (path_is b path (sym (ap is_eq (same_front at b path)) ∙ same)) ∙ fresh in
             let both : None ≡ Some y = sym none ∙ found in
             cc
         | inr apart ↦ apart
@@ -214,7 +201,7 @@ module _ (c : Case) (t u v : Tree) (at : Parts) where
       at_path p d same here = (whole, ap (case_entry c) at_it ∙ stands, which front)
         where
           at_it : p ≡ path
-          at_it = parts_is p path (sym (ap is_eq (same_front at p path)) ∙ same)
+          at_it = path_is p path (sym (ap is_eq (same_front at p path)) ∙ same)
 
           the_entry : d ≡ e
           the_entry =

@@ -1,5 +1,5 @@
 //! The base of a number.
-ghost use Rattle.std.specs.Prelude.{◌≡◌, ◌+◌, ◌≤◌, ◌<◌, ℕ, IfOk, OnOk};
+ghost use Rattle.std.specs.Prelude.{◌≡◌, ◌+◌, ◌≤◌, ◌<◌, [], ℕ, IfOk, OnOk};
 ghost use Rattle.fx_spec.specs.Bases.{base_tree};
 ghost use Rattle.fx_gen.specs.Scripts.{description, script_of};
 ghost use Rattle.fx_gen_laws.specs.Trees.{description_tree, script_tree};
@@ -70,16 +70,20 @@ fn add_script(alloc: Global, plan: &mut Plan, texts: &Texts, k: u32) -> Result<(
         None => unreachable!(),
     };
     let script = script(alloc, text.as_slice(), TXNS * k)?;
-    match plan.push(alloc, script) {
-        Ok(()) => Ok(()),
-        Err((script, _)) => {
-            let_go(script);
-            Err(NoMemory)
-        }
-    }
+    plan.add(alloc, script)
 }
 
-fn let_go(_script: Script) {}
+/// Adds the scripts for which generated texts stand to an empty plan.
+fn add_scripts(alloc: Global, plan: &mut Plan, texts: &Texts) -> Result<(), NoMemory>
+    requires generated { AreGenerated texts.now }
+    requires none { plan.old ≡ [] }
+    ensures { OnOk result (IsPlanOf texts.now 8 plan.new) }
+{
+    'scripts: for k in 0..SCRIPTS {
+        add_script(alloc, plan, texts, k)?;
+    }
+    Ok(())
+}
 
 /// The plan for which generated texts stand.
 fn plan(alloc: Global, texts: &Texts) -> Result<Plan, NoMemory>
@@ -87,10 +91,13 @@ fn plan(alloc: Global, texts: &Texts) -> Result<Plan, NoMemory>
     ensures { IfOk result (IsPlanOf texts.now 8) }
 {
     let mut plan = Plan::new(alloc);
-    'scripts: for k in 0..SCRIPTS {
-        add_script(alloc, &mut plan, texts, k)?;
+    match add_scripts(alloc, &mut plan, texts) {
+        Ok(()) => Ok(plan),
+        Err(fault) => {
+            plan.let_go();
+            Err(fault)
+        }
     }
-    Ok(plan)
 }
 
 /// The description and the plan of a case.
@@ -101,19 +108,12 @@ fn read(alloc: Global, case: &Generated) -> Result<(Checked, Plan), NoMemory>
     ensures plan { IfOk result (λ r. IsPlanOf case.now.scripts 8 r.1) }
 {
     let description = description(alloc, case.description.as_slice())?;
-    let plan = plan(alloc, &case.scripts)?;
-    Ok((description, plan))
-}
-
-/// A description, a plan and the filestore of a case together.
-fn gathered(texts: (Checked, Plan), case: Generated) -> Base
-    ensures { result ≡ record { description = texts.0; plan = texts.1; loaded = case.store } }
-{
-    let (description, plan) = texts;
-    Base {
-        description,
-        plan,
-        loaded: case.store,
+    match plan(alloc, &case.scripts) {
+        Ok(plan) => Ok((description, plan)),
+        Err(fault) => {
+            description.let_go();
+            Err(fault)
+        }
     }
 }
 
@@ -122,6 +122,13 @@ pub(crate) fn base(alloc: Global, number: u32) -> Result<Arc<Base>, NoMemory>
     ensures { IfOk result (λ base. base_tree base.value ≡ generated_base number) }
 {
     let case = generate(alloc, number)?;
-    let texts = read(alloc, &case)?;
-    Ok(Arc::new(alloc, gathered(texts, case))?)
+    let texts = read(alloc, &case);
+    let store = case.into_store();
+    match texts {
+        Ok((description, plan)) => Base::shared(alloc, description, plan, store),
+        Err(fault) => {
+            store.let_go();
+            Err(fault)
+        }
+    }
 }

@@ -49,5 +49,7 @@ pub fn write_generated<H: Host, S: Sink>(
 {
     let there = ready_out(alloc, path, host)?;
     let case = generate(alloc, number)?;
-    write_and_print(alloc, number, path, there, &case, host, out)
+    let ended = write_and_print(alloc, number, path, there, &case, host, out);
+    case.let_go();
+    ended
 }

@@ -14,6 +14,7 @@ use crate::lines::summary;
 use fx_base::NoMemory;
 use fx_board::Board;
 use fx_command::{Status, ready_out, save_and_print};
+use fx_machine::let_go;
 use fx_outside::{Gate, Host, HostText, Sink};
 use fx_store::LongText;
 use fx_workers::run_all;
@@ -31,7 +32,8 @@ fn run<R: Threads + Wait + Sync, G: Gate + Sync>(
     ensures { IfOk result (IsRunOf number) }
 {
     let base = base(alloc, number)?;
-    let (board, _retries) = run_all(rt, alloc, base, gate)?;
+    let (board, retries) = run_all(rt, alloc, base, gate)?;
+    let_go(retries);
     Ok(board)
 }
 
@@ -75,6 +77,14 @@ pub fn run_generated<R: Threads + Wait + Sync, H: Host, S: Sink, G: Gate + Sync>
 {
     let there = ready_out(alloc, path, host)?;
     let board = run(rt, alloc, number, gate)?;
-    let output = summary(alloc, &board)?;
-    leave(alloc, number, path, there, &board, &output, host, out)
+    let output = match summary(alloc, &board) {
+        Ok(output) => output,
+        Err(_) => {
+            board.let_go();
+            return Err(Status::NoMemory);
+        }
+    };
+    let ended = leave(alloc, number, path, there, &board, &output, host, out);
+    board.let_go();
+    ended
 }

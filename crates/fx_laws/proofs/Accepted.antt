@@ -1,10 +1,10 @@
 -- On a whole filestore the store of what is fetched is accepted.
-use Rattle.std.proofs.Common.{◌≡◌, ℕ, ◌<◌, ◌≤◌, nat_lt, nat_le, Bool, true, false, cond, ◌&&◌, refl, ap, subst, sym, ◌∙◌, List, [], ◌∷◌, length, Some, Ok, Err, nat_eq, arith, lt-ltb, le-leb}
+use Rattle.std.proofs.Common.{◌≡◌, ℕ, ◌<◌, ◌≤◌, nat_lt, nat_le, Bool, true, false, cond, ◌&&◌, refl, ap, sym, ◌∙◌, List, [], ◌∷◌, length, Some, Ok, Err, nat_eq, arith, lt-ltb, le-leb}
 use Rattle.std.proofs.lemmas.Bool.{true≢false, leb-true, ltb-true, and_from}
 use Rattle.std.proofs.lemmas.List.Elements.{All-head, All-tail}
 use Rattle.std.specs.Cmp.Lexicographic.{pointwise}
 use Rattle.std.specs.List.{All, list_all}
-use Rattle.std.specs.Option.{IfSome}
+use Rattle.fx_base.proofs.Orders.{bytes_itself}
 use Rattle.fx_store.specs.declared.node.Node.{Node}
 use Rattle.fx_store.specs.declared.node.Node.TheVariants.{File, Dir, Link}
 use Rattle.fx_store.specs.declared.node.Landing.TheVariants.{At}
@@ -14,10 +14,10 @@ use Rattle.fx_store.specs.Names.{is_name, IsName, IsContent, IsNameSet, IsLinkTe
 use Rattle.fx_store.specs.Resolve.{lands}
 use Rattle.fx_store.specs.Rule.{Ask, answer}
 use Rattle.fx_store.specs.Whole.{Store, IsWhole, IsNode}
+use Rattle.fx_store.proofs.Stores.{node_at}
 use Rattle.fx_expr.specs.Sets.{set_of}
 use Rattle.fx_expr.specs.Tree.{Tree}
 use Rattle.fx_text.proofs.Canon.{ascending_set, has_set, same_sets}
-use Rattle.fx_text.proofs.Order.{same_text}
 use Rattle.fx_spec.specs.declared.refusal.Refusal.{Refusal}
 use Rattle.fx_spec.specs.SpecTree.{SpecTree}
 use Rattle.fx_spec.specs.Describe.{file_value, flag_value, dir_value, link_value}
@@ -33,7 +33,7 @@ each_passes P test h (x ∷ xs) all = and_from (test x) (list_all test xs) (h x 
 
 same_texts : (xs : List (List ℕ)) → pointwise (pointwise nat_eq) xs xs ≡ true
 same_texts [] = refl
-same_texts (x ∷ xs) = and_from (pointwise nat_eq x x) (pointwise (pointwise nat_eq) xs xs) (same_text x) (same_texts xs)
+same_texts (x ∷ xs) = and_from (pointwise nat_eq x x) (pointwise (pointwise nat_eq) xs xs) (bytes_itself x) (same_texts xs)
 
 -- content within its limits can be stored
 content_passes : (bytes : List ℕ) → length bytes ≤ 1048576 → All (λ b. b < 256) bytes → is_content bytes ≡ true
@@ -74,24 +74,20 @@ Accepts S at v = (q : List (List ℕ)) × (node : Node) × (S q ≡ Some node) �
 accepted : (S : Store) → IsWhole S → (at : PlaceTree) (v : Tree) (node : Node) (q : List (List ℕ)) → IsHeld S at v node q → Accepts S at v
 accepted S whole at v node q held = (q, node, held.stands, same_content_is_accepted S whole at v node q held)
 
--- the node at a path of a whole filestore is within its limits
-node_ok : (S : Store) → IsWhole S → (q : List (List ℕ)) (node : Node) → S q ≡ Some node → IsNode q node
-node_ok S whole q node e = subst (λ n. IfSome n (IsNode q)) e (whole.nodes q)
-
 by_form : (S : Store) → IsWhole S → (at : PlaceTree) (v : Tree) (spec : SpecTree) → at.spec ≡ spec → has_content spec ≡ true → answer S (fetched at.path at.env spec) ≡ Ok v → Accepts S at v
 by_form S whole at v SpecTree.file is form e =
     let c : (q : List (List ℕ)) × (lands S at.path true ≡ At q) × (file_value (S q) ≡ Some v) = content_there S file_value true at.path v e in
     let t : (bytes : List ℕ) × (exec : Bool) × (v ≡ Tree.str bytes) × (S c.0 ≡ Some (File bytes exec)) = file_there (S c.0) v c.2 in
-    accepted S whole at v (File t.0 t.1) c.0 (held_of S at v (Tree.str t.0) (File t.0 false) (File t.0 false) (File t.0 t.1) c.0 ((λ i. stored_node (is i) (t.2 i)) ∙ file_stored t.0 (node_ok S whole c.0 (File t.0 t.1) t.3)) refl t.2 refl c.1 t.3)
+    accepted S whole at v (File t.0 t.1) c.0 (held_of S at v (Tree.str t.0) (File t.0 false) (File t.0 false) (File t.0 t.1) c.0 ((λ i. stored_node (is i) (t.2 i)) ∙ file_stored t.0 (node_at S whole c.0 (File t.0 t.1) t.3)) refl t.2 refl c.1 t.3)
 by_form S whole at v SpecTree.dir is form e =
     let c : (q : List (List ℕ)) × (lands S at.path true ≡ At q) × (dir_value (S q) ≡ Some v) = content_there S dir_value true at.path v e in
     let t : (names : List (List ℕ)) × (v ≡ Tree.names names) × (S c.0 ≡ Some (Dir names)) = dir_there (S c.0) v c.2 in
-    let ok : IsNode c.0 (Dir t.0) = node_ok S whole c.0 (Dir t.0) t.2 in
+    let ok : IsNode c.0 (Dir t.0) = node_at S whole c.0 (Dir t.0) t.2 in
     accepted S whole at v (Dir t.0) c.0 (held_of S at v (Tree.names t.0) (Dir t.0) (Dir t.0) (Dir t.0) c.0 ((λ i. stored_node (is i) (t.1 i)) ∙ dir_stored t.0 ok.0) refl t.1 refl c.1 t.2)
 by_form S whole at v SpecTree.link is form e =
     let c : (q : List (List ℕ)) × (lands S at.path false ≡ At q) × (link_value (S q) ≡ Some v) = content_there S link_value false at.path v e in
     let t : (text : List ℕ) × (v ≡ Tree.str text) × (S c.0 ≡ Some (Link text)) = link_there (S c.0) v c.2 in
-    accepted S whole at v (Link t.0) c.0 (held_of S at v (Tree.str t.0) (Link t.0) (Link t.0) (Link t.0) c.0 ((λ i. stored_node (is i) (t.1 i)) ∙ link_stored t.0 (node_ok S whole c.0 (Link t.0) t.2)) refl t.1 refl c.1 t.2)
+    accepted S whole at v (Link t.0) c.0 (held_of S at v (Tree.str t.0) (Link t.0) (Link t.0) (Link t.0) c.0 ((λ i. stored_node (is i) (t.1 i)) ∙ link_stored t.0 (node_at S whole c.0 (Link t.0) t.2)) refl t.1 refl c.1 t.2)
 by_form S whole at v (SpecTree.focus t s) is form e = absurd (true≢false (sym form))
 by_form S whole at v (SpecTree.pair x a b) is form e = absurd (true≢false (sym form))
 by_form S whole at v (SpecTree.comp s x t) is form e = absurd (true≢false (sym form))

@@ -1,6 +1,8 @@
 -- The tokens of moves, edits, commands, transactions and scripts are read in one way.
 use Rattle.std.proofs.Common.{◌≡◌, ℕ, true, ◌&&◌, List, [], ◌∷◌, ◌++◌, refl, sym, ap, ◌∙◌, append_assoc}
 use Rattle.std.specs.List.{list_all}
+use Rattle.std.proofs.lemmas.Bool.{eqb-false}
+use Rattle.fx_base.proofs.Booleans.{first_true, second_true}
 use Rattle.fx_expr.specs.ExprTree.{ExprTree}
 use Rattle.fx_expr.specs.ShapeTree.{ShapeTree}
 use Rattle.fx_lex.specs.declared.token.Mark.{Mark}
@@ -14,7 +16,7 @@ use Rattle.fx_spec.specs.CommandTree.{ActTree, CommandTree, Block, block}
 use Rattle.fx_grammar.specs.Tokens.{Tokens, bracketed, braced, act_tokens, command_tokens, block_tokens, txn_tokens, script_tokens, act_names, command_names, block_names}
 use Rattle.fx_laws.specs.TokenLaws.{HasOneReading, BlocksHaveOneReading, txn_names, ScriptsDiffer}
 use Rattle.fx_laws.proofs.Parts.{expr_reading, shape_reading}
-use Rattle.fx_laws.proofs.Tokened.{tail_of, word_of, behind_two, behind_three, left_of, right_of, first, number, number_word, same_number, apart}
+use Rattle.fx_laws.proofs.Tokened.{tail_of, word_of, behind_two, behind_three, first, number, number_word, same_number}
 
 -- --------------------------------------------------------------------------------------------------- moves and edits
 
@@ -81,7 +83,7 @@ act_reading (ActTree.store e) (ActTree.store f) x y p q h = let one = bracket_re
 act_reading ActTree.create ActTree.create x y p q h = (refl, tail_of _ _ _ _ h)
 act_reading ActTree.remove ActTree.remove x y p q h = (refl, tail_of _ _ _ _ h)
 act_reading t u x y p q h =
-    absurd (apart (act_form t) (act_form u) refl (same_number act_keys no_marks (act_tokens t ++ x) (act_tokens u ++ y) (act_form t) (act_form u) (act_numbered t x) (act_numbered u y) h))
+    absurd (eqb-false (act_form t) (act_form u) refl (same_number act_keys no_marks (act_tokens t ++ x) (act_tokens u ++ y) (act_form t) (act_form u) (act_numbered t x) (act_numbered u y) h))
 
 -- ---------------------------------------------------------------------------------------------------- commands and blocks
 
@@ -150,17 +152,17 @@ numbered CommandTree.abort x = number_word keys no_marks keyword.Abort
 
 -- no command begins with a closing brace
 not_zero : (t : CommandTree) → 0 ≡ form t → ⊥
-not_zero (CommandTree.act a) e = apart 0 1 refl e
-not_zero (CommandTree.attempt v a) e = apart 0 2 refl e
-not_zero (CommandTree.bind v f) e = apart 0 3 refl e
-not_zero (CommandTree.assign v f) e = apart 0 4 refl e
-not_zero (CommandTree.fetch v s) e = apart 0 5 refl e
-not_zero (CommandTree.whole v s) e = apart 0 6 refl e
-not_zero (CommandTree.validate v) e = apart 0 7 refl e
-not_zero (CommandTree.print f) e = apart 0 8 refl e
-not_zero (CommandTree.branch f a b) e = apart 0 9 refl e
-not_zero (CommandTree.each v f a) e = apart 0 10 refl e
-not_zero CommandTree.abort e = apart 0 11 refl e
+not_zero (CommandTree.act a) e = eqb-false 0 1 refl e
+not_zero (CommandTree.attempt v a) e = eqb-false 0 2 refl e
+not_zero (CommandTree.bind v f) e = eqb-false 0 3 refl e
+not_zero (CommandTree.assign v f) e = eqb-false 0 4 refl e
+not_zero (CommandTree.fetch v s) e = eqb-false 0 5 refl e
+not_zero (CommandTree.whole v s) e = eqb-false 0 6 refl e
+not_zero (CommandTree.validate v) e = eqb-false 0 7 refl e
+not_zero (CommandTree.print f) e = eqb-false 0 8 refl e
+not_zero (CommandTree.branch f a b) e = eqb-false 0 9 refl e
+not_zero (CommandTree.each v f a) e = eqb-false 0 10 refl e
+not_zero CommandTree.abort e = eqb-false 0 11 refl e
 
 abbrev right_brace : Token
 right_brace = token.Mark mark.RightBrace
@@ -171,7 +173,7 @@ no_end t x y h = not_zero t (same_number keys no_marks (right_brace ∷ x) (comm
 -- a word and what follows a sign behind it
 named_expr : (v w : List ℕ) (s : Token) (e f : ExprTree) (x y : Tokens) → is_name v && has_names e ≡ true → is_name w && has_names f ≡ true → token.Word v ∷ s ∷ (expr_tokens e ++ x) ≡ token.Word w ∷ s ∷ (expr_tokens f ++ y) → (v ≡ w) × (e ≡ f) × (x ≡ y)
 named_expr v w s e f x y p q h =
-    let one = expr_reading e f x y (right_of (is_name v) (has_names e) p) (right_of (is_name w) (has_names f) q) (tail_of _ _ _ _ (tail_of _ _ _ _ h)) in
+    let one = expr_reading e f x y (second_true (is_name v) (has_names e) p) (second_true (is_name w) (has_names f) q) (tail_of _ _ _ _ (tail_of _ _ _ _ h)) in
     (word_of _ _ _ _ h, one.0, one.1)
 
 named_shape : (v w : List ℕ) (t : Token) (s r : ShapeTree) (x y : Tokens) → token.Word v ∷ t ∷ (shape_tokens s ++ x) ≡ token.Word w ∷ t ∷ (shape_tokens r ++ y) → (v ≡ w) × (s ≡ r) × (x ≡ y)
@@ -184,7 +186,7 @@ mutual
   command_reading (CommandTree.act a) (CommandTree.act b) x y p q h = let one = act_reading a b x y p q h in (ap CommandTree.act one.0, one.1)
   command_reading (CommandTree.attempt v a) (CommandTree.attempt w b) x y p q h =
       let words = tail_of _ _ _ _ h in
-      let one = act_reading a b x y (right_of (is_name v) (act_names a) p) (right_of (is_name w) (act_names b) q) (tail_of _ _ _ _ words) in
+      let one = act_reading a b x y (second_true (is_name v) (act_names a) p) (second_true (is_name w) (act_names b) q) (tail_of _ _ _ _ words) in
       (let name : v ≡ w = word_of _ _ _ _ words in let same : a ≡ b = one.0 in cc, one.1)
   command_reading (CommandTree.bind v e) (CommandTree.bind w f) x y p q h =
       let one = named_expr v w (token.Mark mark.Equal) e f x y p q (tail_of _ _ _ _ h) in
@@ -203,30 +205,30 @@ mutual
       (ap CommandTree.validate (word_of _ _ _ _ words), tail_of _ _ _ _ words)
   command_reading (CommandTree.print e) (CommandTree.print f) x y p q h = let one = bracket_reading e f x y p q (tail_of _ _ _ _ h) in (ap CommandTree.print one.0, one.1)
   command_reading (CommandTree.branch e a b) (CommandTree.branch f c d) x y p q h =
-      let p' = right_of (has_names e) (block_names a && block_names b) p in
-      let q' = right_of (has_names f) (block_names c && block_names d) q in
-      let one = bracket_reading e f _ _ (left_of (has_names e) (block_names a && block_names b) p) (left_of (has_names f) (block_names c && block_names d) q) (behind_three (bracketed (expr_tokens e)) (braced (block_tokens a)) (word keyword.Else ∷ braced (block_tokens b)) x (bracketed (expr_tokens f)) (braced (block_tokens c)) (word keyword.Else ∷ braced (block_tokens d)) y (tail_of _ _ _ _ h)) in
-      let two = block_reading a c _ _ (left_of (block_names a) (block_names b) p') (left_of (block_names c) (block_names d) q') (behind_two (block_tokens a) (right_brace ∷ []) ((word keyword.Else ∷ braced (block_tokens b)) ++ x) (block_tokens c) (right_brace ∷ []) ((word keyword.Else ∷ braced (block_tokens d)) ++ y) (tail_of _ _ _ _ one.1)) in
-      let three = block_reading b d x y (right_of (block_names a) (block_names b) p') (right_of (block_names c) (block_names d) q') (behind_two (block_tokens b) (right_brace ∷ []) x (block_tokens d) (right_brace ∷ []) y (tail_of _ _ _ _ (tail_of _ _ _ _ two.1))) in
+      let p' = second_true (has_names e) (block_names a && block_names b) p in
+      let q' = second_true (has_names f) (block_names c && block_names d) q in
+      let one = bracket_reading e f _ _ (first_true (has_names e) (block_names a && block_names b) p) (first_true (has_names f) (block_names c && block_names d) q) (behind_three (bracketed (expr_tokens e)) (braced (block_tokens a)) (word keyword.Else ∷ braced (block_tokens b)) x (bracketed (expr_tokens f)) (braced (block_tokens c)) (word keyword.Else ∷ braced (block_tokens d)) y (tail_of _ _ _ _ h)) in
+      let two = block_reading a c _ _ (first_true (block_names a) (block_names b) p') (first_true (block_names c) (block_names d) q') (behind_two (block_tokens a) (right_brace ∷ []) ((word keyword.Else ∷ braced (block_tokens b)) ++ x) (block_tokens c) (right_brace ∷ []) ((word keyword.Else ∷ braced (block_tokens d)) ++ y) (tail_of _ _ _ _ one.1)) in
+      let three = block_reading b d x y (second_true (block_names a) (block_names b) p') (second_true (block_names c) (block_names d) q') (behind_two (block_tokens b) (right_brace ∷ []) x (block_tokens d) (right_brace ∷ []) y (tail_of _ _ _ _ (tail_of _ _ _ _ two.1))) in
       (let test : e ≡ f = one.0 in let same : a ≡ c = two.0 in let rest : b ≡ d = three.0 in cc, three.1)
   command_reading (CommandTree.each v e a) (CommandTree.each w f b) x y p q h =
       let words = tail_of _ _ _ _ h in
-      let p' = right_of (is_name v) (has_names e && block_names a) p in
-      let q' = right_of (is_name w) (has_names f && block_names b) q in
-      let one = bracket_reading e f _ _ (left_of (has_names e) (block_names a) p') (left_of (has_names f) (block_names b) q') (behind_two (bracketed (expr_tokens e)) (braced (block_tokens a)) x (bracketed (expr_tokens f)) (braced (block_tokens b)) y (tail_of _ _ _ _ (tail_of _ _ _ _ words))) in
-      let two = block_reading a b x y (right_of (has_names e) (block_names a) p') (right_of (has_names f) (block_names b) q') (behind_two (block_tokens a) (right_brace ∷ []) x (block_tokens b) (right_brace ∷ []) y (tail_of _ _ _ _ one.1)) in
+      let p' = second_true (is_name v) (has_names e && block_names a) p in
+      let q' = second_true (is_name w) (has_names f && block_names b) q in
+      let one = bracket_reading e f _ _ (first_true (has_names e) (block_names a) p') (first_true (has_names f) (block_names b) q') (behind_two (bracketed (expr_tokens e)) (braced (block_tokens a)) x (bracketed (expr_tokens f)) (braced (block_tokens b)) y (tail_of _ _ _ _ (tail_of _ _ _ _ words))) in
+      let two = block_reading a b x y (second_true (has_names e) (block_names a) p') (second_true (has_names f) (block_names b) q') (behind_two (block_tokens a) (right_brace ∷ []) x (block_tokens b) (right_brace ∷ []) y (tail_of _ _ _ _ one.1)) in
       (let name : v ≡ w = word_of _ _ _ _ words in let set : e ≡ f = one.0 in let same : a ≡ b = two.0 in cc, two.1)
   command_reading CommandTree.abort CommandTree.abort x y p q h = (refl, tail_of _ _ _ _ h)
   command_reading t u x y p q h =
-      absurd (apart (form t) (form u) refl (same_number keys no_marks (command_tokens t ++ x) (command_tokens u ++ y) (form t) (form u) (numbered t x) (numbered u y) h))
+      absurd (eqb-false (form t) (form u) refl (same_number keys no_marks (command_tokens t ++ x) (command_tokens u ++ y) (form t) (form u) (numbered t x) (numbered u y) h))
 
   pub block_reading : BlocksHaveOneReading
   block_reading Block.none Block.none x y p q h = (refl, tail_of _ _ _ _ h)
   block_reading Block.none (Block.then d ds) x y p q h = absurd (no_end d x (block_tokens ds ++ right_brace ∷ y) (h ∙ append_assoc (command_tokens d) (block_tokens ds) (right_brace ∷ y)))
   block_reading (Block.then c cs) Block.none x y p q h = absurd (no_end c y (block_tokens cs ++ right_brace ∷ x) (sym h ∙ append_assoc (command_tokens c) (block_tokens cs) (right_brace ∷ x)))
   block_reading (Block.then c cs) (Block.then d ds) x y p q h =
-      let one = command_reading c d _ _ (left_of (command_names c) (block_names cs) p) (left_of (command_names d) (block_names ds) q) (behind_two (command_tokens c) (block_tokens cs) (right_brace ∷ x) (command_tokens d) (block_tokens ds) (right_brace ∷ y) h) in
-      let two = block_reading cs ds x y (right_of (command_names c) (block_names cs) p) (right_of (command_names d) (block_names ds) q) one.1 in
+      let one = command_reading c d _ _ (first_true (command_names c) (block_names cs) p) (first_true (command_names d) (block_names ds) q) (behind_two (command_tokens c) (block_tokens cs) (right_brace ∷ x) (command_tokens d) (block_tokens ds) (right_brace ∷ y) h) in
+      let two = block_reading cs ds x y (second_true (command_names c) (block_names cs) p) (second_true (command_names d) (block_names ds) q) one.1 in
       (let same : c ≡ d = one.0 in let rest : cs ≡ ds = two.0 in cc, two.1)
 
 -- ------------------------------------------------------------------------------------------------ transactions and scripts
@@ -250,7 +252,7 @@ scripts_differ [] [] p q h = refl
 scripts_differ [] (b ∷ others) p q h = cc
 scripts_differ (a ∷ txns) [] p q h = cc
 scripts_differ (a ∷ txns) (b ∷ others) p q h =
-    let one = txn_reading a b (script_tokens txns) (script_tokens others) (left_of (txn_names a) (list_all txn_names txns) p) (left_of (txn_names b) (list_all txn_names others) q) h in
-    let rest : txns ≡ others = scripts_differ txns others (right_of (txn_names a) (list_all txn_names txns) p) (right_of (txn_names b) (list_all txn_names others) q) one.1 in
+    let one = txn_reading a b (script_tokens txns) (script_tokens others) (first_true (txn_names a) (list_all txn_names txns) p) (first_true (txn_names b) (list_all txn_names others) q) h in
+    let rest : txns ≡ others = scripts_differ txns others (second_true (txn_names a) (list_all txn_names txns) p) (second_true (txn_names b) (list_all txn_names others) q) one.1 in
     let same : a ≡ b = one.0 in
     cc

@@ -6,6 +6,7 @@ use Rattle.std.specs.Cmp.Lexicographic.{texts_ties}
 use Rattle.std.specs.declared.cmp.Ordering.{Ordering}
 use Rattle.std.specs.declared.cmp.Ordering.TheVariants.{Less, Equal, Greater}
 use Rattle.std.specs.Ordering.{eq_by_cmp, match_ordering}
+use Rattle.fx_base.proofs.Names.{name_itself, path_itself}
 use Rattle.fx_store.specs.declared.node.Node.{Node}
 use Rattle.fx_store.specs.declared.node.Node.TheVariants.{Dir}
 use Rattle.fx_store.specs.declared.node.Landing.TheVariants.{At}
@@ -19,13 +20,13 @@ use Rattle.fx_store.specs.Rule.{answer, Answer, ◌>>=◌}
 use Rattle.fx_store.specs.Whole.{Store, IsWhole, lists, over}
 use Rattle.fx_store.proofs.Asks.{answer-bind}
 use Rattle.fx_store.proofs.Landings.{landings_are_true}
-use Rattle.fx_store.proofs.Relisted.{rest_at, rest_is, same_name}
+use Rattle.fx_store.proofs.PathLists.{rest_append, rest_is}
 use Rattle.fx_expr.specs.Sets.{with_text}
 use Rattle.fx_spec.specs.declared.refusal.Refusal.{Refusal}
 use Rattle.fx_spec.specs.Edit.{set_to, names_of, clear, bare_node, create_landed, create_at, last_name, without_name, remove_entry, remove_landed, remove_at}
 use Rattle.fx_spec.specs.Move.{unrefused, needed}
 use Rattle.fx_spec.proofs.EditLaws.{edits_keep_whole}
-use Rattle.fx_spec.proofs.EditsWhole.{path_itself, nothing_below}
+use Rattle.fx_spec.proofs.EditsWhole.{nothing_below}
 use Rattle.fx_laws.specs.Created.{IsRemovedAgain, CreationsAreUndone}
 use Rattle.fx_laws.specs.Edited.{IsWithin, IsWithout, IsMade}
 use Rattle.fx_laws.specs.Stored.{Same}
@@ -42,14 +43,14 @@ left_out n (x ∷ xs) e =
     ap (λ b. cond (not b) (x ∷ without_name n xs) (without_name n xs)) (texts_ties n x ∙ apart.0) ∙ ap (λ ys. x ∷ ys) (left_out n xs apart.1)
 
 put_and_left_out : (n : List ℕ) (xs : Path) → has xs n ≡ false → without_name n (with_text n xs) ≡ xs
-put_and_left_out n [] e = ap (λ b. cond (not b) (n ∷ []) []) (texts_ties n n ∙ same_name n)
+put_and_left_out n [] e = ap (λ b. cond (not b) (n ∷ []) []) (texts_ties n n ∙ name_itself n)
 put_and_left_out n (x ∷ xs) e = by (name_cmp n x) refl (put_and_left_out n xs apart.1)
   where
     apart : (eq_by_cmp name_cmp n x ≡ false) × (has xs n ≡ false)
     apart = or_parts (eq_by_cmp name_cmp n x) (has xs n) e
 
     by : (o : Ordering) → name_cmp n x ≡ o → without_name n (with_text n xs) ≡ xs → without_name n (match_ordering o (n ∷ x ∷ xs) (x ∷ xs) (x ∷ with_text n xs)) ≡ x ∷ xs
-    by Less is more = ap (λ b. cond (not b) (n ∷ without_name n (x ∷ xs)) (without_name n (x ∷ xs))) (texts_ties n n ∙ same_name n) ∙ left_out n (x ∷ xs) e
+    by Less is more = ap (λ b. cond (not b) (n ∷ without_name n (x ∷ xs)) (without_name n (x ∷ xs))) (texts_ties n n ∙ name_itself n) ∙ left_out n (x ∷ xs) e
     by Equal is more = left_out n (x ∷ xs) e
     by Greater is more = ap (λ b. cond (not b) (x ∷ without_name n (with_text n xs)) (without_name n (with_text n xs))) (texts_ties n x ∙ apart.0) ∙ ap (λ ys. x ∷ ys) more
 
@@ -95,7 +96,7 @@ module _ (S T U : Store) (whole : IsWhole S) (here : Path) (n : List ℕ) (node 
           apart same = true≢false (sym (path_itself here) ∙ (ap (λ r. eq_by_cmp path_cmp r here) (sym same) ∙ e))
 
           outside : IsWithin (here /ₚ n) p → ⊥
-          outside w = let found : rest_of (here /ₚ n) p ≡ Some w.0 = ap (rest_of (here /ₚ n)) w.1 ∙ rest_at (here /ₚ n) w.0 in cc
+          outside w = let found : rest_of (here /ₚ n) p ≡ Some w.0 = ap (rest_of (here /ₚ n)) w.1 ∙ rest_append (here /ₚ n) w.0 in cc
 
 pub creations_are_undone : CreationsAreUndone
 creations_are_undone S whole at is_path here n landing cs e = by (bare_node at.spec) refl

@@ -1,6 +1,8 @@
 -- The tokens of descriptions are read in one way.
 use Rattle.std.proofs.Common.{◌≡◌, ◌∙◌, ℕ, true, ◌&&◌, List, [], ◌∷◌, ◌++◌, append_assoc, refl, sym, ap}
 use Rattle.std.specs.List.{flat_map, list_all}
+use Rattle.std.proofs.lemmas.Bool.{eqb-false}
+use Rattle.fx_base.proofs.Booleans.{first_true, second_true}
 use Rattle.fx_expr.specs.ExprTree.{ExprTree}
 use Rattle.fx_expr.specs.ShapeTree.{ShapeTree}
 use Rattle.fx_lex.specs.declared.token.Mark.{Mark}
@@ -14,7 +16,7 @@ use Rattle.fx_grammar.specs.Tokens.{Tokens, listed, spec_tokens, param_tokens, d
 use Rattle.fx_laws.specs.TokenLaws.{HasOneReading}
 use Rattle.fx_laws.proofs.Parts.{expr_reading, shape_reading}
 use Rattle.fx_laws.proofs.Listed.{listed_reading}
-use Rattle.fx_laws.proofs.Tokened.{tail_of, word_of, behind_two, behind_three, left_of, right_of, and_then, first, number, number_word, number_name, same_number, apart}
+use Rattle.fx_laws.proofs.Tokened.{tail_of, word_of, behind_two, behind_three, and_then, first, number, number_word, number_name, same_number}
 
 -- each form has a number, which its first token shows
 abbrev form : WrittenTree → ℕ
@@ -51,7 +53,7 @@ numbered (WrittenTree.pair v a b) x p = refl
 numbered (WrittenTree.comp s v e) x p = refl
 numbered (WrittenTree.opt s) x p = number_word keys marks keyword.Opt
 numbered (WrittenTree.pred e) x p = number_word keys marks keyword.Pred
-numbered (WrittenTree.call f args) x p = number_name keys marks f (left_of (is_name f) (list_all has_names args) p)
+numbered (WrittenTree.call f args) x p = number_name keys marks f (first_true (is_name f) (list_all has_names args) p)
 
 -- an expression begins with no closing bracket
 expr_begins : (e : ExprTree) (x y : Tokens) → has_names e ≡ true → expr_tokens e ++ x ≡ closing ∷ y → ⊥
@@ -74,22 +76,22 @@ spec_reading WrittenTree.file WrittenTree.file x y p q h = (refl, tail_of _ _ _ 
 spec_reading WrittenTree.dir WrittenTree.dir x y p q h = (refl, tail_of _ _ _ _ h)
 spec_reading WrittenTree.link WrittenTree.link x y p q h = (refl, tail_of _ _ _ _ h)
 spec_reading (WrittenTree.focus e s) (WrittenTree.focus f r) x y p q h =
-    let one = expr_reading e f _ _ (left_of (has_names e) (spec_names s) p) (left_of (has_names f) (spec_names r) q) (behind_three (expr_tokens e) (token.Mark mark.ColonColon ∷ spec_tokens s) (closing ∷ []) x (expr_tokens f) (token.Mark mark.ColonColon ∷ spec_tokens r) (closing ∷ []) y (tail_of _ _ _ _ h)) in
-    let two = spec_reading s r (closing ∷ x) (closing ∷ y) (right_of (has_names e) (spec_names s) p) (right_of (has_names f) (spec_names r) q) (tail_of _ _ _ _ one.1) in
+    let one = expr_reading e f _ _ (first_true (has_names e) (spec_names s) p) (first_true (has_names f) (spec_names r) q) (behind_three (expr_tokens e) (token.Mark mark.ColonColon ∷ spec_tokens s) (closing ∷ []) x (expr_tokens f) (token.Mark mark.ColonColon ∷ spec_tokens r) (closing ∷ []) y (tail_of _ _ _ _ h)) in
+    let two = spec_reading s r (closing ∷ x) (closing ∷ y) (second_true (has_names e) (spec_names s) p) (second_true (has_names f) (spec_names r) q) (tail_of _ _ _ _ one.1) in
     (let same : e ≡ f = one.0 in let rest : s ≡ r = two.0 in cc, tail_of _ _ _ _ two.1)
 spec_reading (WrittenTree.pair v a b) (WrittenTree.pair w c d) x y p q h =
     let words = tail_of _ _ _ _ h in
-    let p' = right_of (is_name v) (spec_names a && spec_names b) p in
-    let q' = right_of (is_name w) (spec_names c && spec_names d) q in
-    let one = spec_reading a c _ _ (left_of (spec_names a) (spec_names b) p') (left_of (spec_names c) (spec_names d) q') (behind_three (spec_tokens a) (comma ∷ spec_tokens b) (token.Mark mark.RightAngle ∷ []) x (spec_tokens c) (comma ∷ spec_tokens d) (token.Mark mark.RightAngle ∷ []) y (tail_of _ _ _ _ (tail_of _ _ _ _ words))) in
-    let two = spec_reading b d (token.Mark mark.RightAngle ∷ x) (token.Mark mark.RightAngle ∷ y) (right_of (spec_names a) (spec_names b) p') (right_of (spec_names c) (spec_names d) q') (tail_of _ _ _ _ one.1) in
+    let p' = second_true (is_name v) (spec_names a && spec_names b) p in
+    let q' = second_true (is_name w) (spec_names c && spec_names d) q in
+    let one = spec_reading a c _ _ (first_true (spec_names a) (spec_names b) p') (first_true (spec_names c) (spec_names d) q') (behind_three (spec_tokens a) (comma ∷ spec_tokens b) (token.Mark mark.RightAngle ∷ []) x (spec_tokens c) (comma ∷ spec_tokens d) (token.Mark mark.RightAngle ∷ []) y (tail_of _ _ _ _ (tail_of _ _ _ _ words))) in
+    let two = spec_reading b d (token.Mark mark.RightAngle ∷ x) (token.Mark mark.RightAngle ∷ y) (second_true (spec_names a) (spec_names b) p') (second_true (spec_names c) (spec_names d) q') (tail_of _ _ _ _ one.1) in
     (let name : v ≡ w = word_of _ _ _ _ words in let same : a ≡ c = one.0 in let rest : b ≡ d = two.0 in cc, tail_of _ _ _ _ two.1)
 spec_reading (WrittenTree.comp s v e) (WrittenTree.comp r w f) x y p q h =
-    let p' = right_of (spec_names s) (is_name v && has_names e) p in
-    let q' = right_of (spec_names r) (is_name w && has_names f) q in
-    let one = spec_reading s r _ _ (left_of (spec_names s) (is_name v && has_names e) p) (left_of (spec_names r) (is_name w && has_names f) q) (behind_three (spec_tokens s) (token.Mark mark.Bar ∷ token.Word v ∷ word keyword.In ∷ expr_tokens e) (token.Mark mark.RightBrace ∷ []) x (spec_tokens r) (token.Mark mark.Bar ∷ token.Word w ∷ word keyword.In ∷ expr_tokens f) (token.Mark mark.RightBrace ∷ []) y (tail_of _ _ _ _ h)) in
+    let p' = second_true (spec_names s) (is_name v && has_names e) p in
+    let q' = second_true (spec_names r) (is_name w && has_names f) q in
+    let one = spec_reading s r _ _ (first_true (spec_names s) (is_name v && has_names e) p) (first_true (spec_names r) (is_name w && has_names f) q) (behind_three (spec_tokens s) (token.Mark mark.Bar ∷ token.Word v ∷ word keyword.In ∷ expr_tokens e) (token.Mark mark.RightBrace ∷ []) x (spec_tokens r) (token.Mark mark.Bar ∷ token.Word w ∷ word keyword.In ∷ expr_tokens f) (token.Mark mark.RightBrace ∷ []) y (tail_of _ _ _ _ h)) in
     let words = tail_of _ _ _ _ one.1 in
-    let two = expr_reading e f (token.Mark mark.RightBrace ∷ x) (token.Mark mark.RightBrace ∷ y) (right_of (is_name v) (has_names e) p') (right_of (is_name w) (has_names f) q') (tail_of _ _ _ _ (tail_of _ _ _ _ words)) in
+    let two = expr_reading e f (token.Mark mark.RightBrace ∷ x) (token.Mark mark.RightBrace ∷ y) (second_true (is_name v) (has_names e) p') (second_true (is_name w) (has_names f) q') (tail_of _ _ _ _ (tail_of _ _ _ _ words)) in
     (let same : s ≡ r = one.0 in let name : v ≡ w = word_of _ _ _ _ words in let rest : e ≡ f = two.0 in cc, tail_of _ _ _ _ two.1)
 spec_reading (WrittenTree.opt s) (WrittenTree.opt r) x y p q h =
     let one = spec_reading s r (closing ∷ x) (closing ∷ y) p q (behind_two (spec_tokens s) (closing ∷ []) x (spec_tokens r) (closing ∷ []) y (tail_of _ _ _ _ (tail_of _ _ _ _ h))) in
@@ -99,10 +101,10 @@ spec_reading (WrittenTree.pred e) (WrittenTree.pred f) x y p q h =
     (ap WrittenTree.pred one.0, tail_of _ _ _ _ one.1)
 spec_reading (WrittenTree.call f es) (WrittenTree.call g fs) x y p q h =
     let named = tail_of _ _ _ _ h in
-    let args = exprs_reading es fs x y (right_of (is_name f) (list_all has_names es) p) (right_of (is_name g) (list_all has_names fs) q)
+    let args = exprs_reading es fs x y (second_true (is_name f) (list_all has_names es) p) (second_true (is_name g) (list_all has_names fs) q)
     (behind_two (listed expr_tokens es) (closing ∷ []) x (listed expr_tokens fs) (closing ∷ []) y (tail_of _ _ _ _ named)) in
     (let name : f ≡ g = word_of _ _ _ _ h in let same : es ≡ fs = args.0 in cc, args.1)
-spec_reading t u x y p q h = absurd (apart (form t) (form u) refl (same_number keys marks (spec_tokens t ++ x) (spec_tokens u ++ y) (form t) (form u) (numbered t x p) (numbered u y q) h))
+spec_reading t u x y p q h = absurd (eqb-false (form t) (form u) refl (same_number keys marks (spec_tokens t ++ x) (spec_tokens u ++ y) (form t) (form u) (numbered t x p) (numbered u y q) h))
 
 -- ---- definitions and texts
 
@@ -117,13 +119,13 @@ param_begins p x y is h = cc
 pub def_reading : HasOneReading def_tokens def_names
 def_reading d e x y p q h =
     let name : d.name ≡ e.name = word_of _ _ _ _ (tail_of _ _ _ _ h) in
-    let p' = right_of (is_name d.name) (list_all param_names d.params && spec_names d.body) p in
-    let q' = right_of (is_name e.name) (list_all param_names e.params && spec_names e.body) q in
-    let params = listed_reading param_tokens param_names param_reading param_begins d.params e.params _ _ (left_of (list_all param_names d.params) (spec_names d.body) p')
-    (left_of (list_all param_names e.params) (spec_names e.body) q')
+    let p' = second_true (is_name d.name) (list_all param_names d.params && spec_names d.body) p in
+    let q' = second_true (is_name e.name) (list_all param_names e.params && spec_names e.body) q in
+    let params = listed_reading param_tokens param_names param_reading param_begins d.params e.params _ _ (first_true (list_all param_names d.params) (spec_names d.body) p')
+    (first_true (list_all param_names e.params) (spec_names e.body) q')
     (behind_three (listed param_tokens d.params) (closing ∷ []) (token.Mark mark.Equal ∷ spec_tokens d.body) x (listed param_tokens e.params) (closing ∷ []) (token.Mark mark.Equal ∷ spec_tokens e.body) y
     (tail_of _ _ _ _ (tail_of _ _ _ _ (tail_of _ _ _ _ h)))) in
-    let body = spec_reading d.body e.body x y (right_of (list_all param_names d.params) (spec_names d.body) p') (right_of (list_all param_names e.params) (spec_names e.body) q') (tail_of _ _ _ _ params.1) in
+    let body = spec_reading d.body e.body x y (second_true (list_all param_names d.params) (spec_names d.body) p') (second_true (list_all param_names e.params) (spec_names e.body) q') (tail_of _ _ _ _ params.1) in
     (let same : d.params ≡ e.params = params.0 in let rest : d.body ≡ e.body = body.0 in λ i. record { name = name i; params = same i; body = rest i }, body.1)
 
 -- what stands at the root is no definition

@@ -2,6 +2,8 @@
 use Rattle.std.proofs.Common.{◌≡◌, ◌≢◌, ℕ, ◌<◌, Bool, true, false, List, [], ◌∷◌, ◌++◌, map, length, Option, Some, None, Ok, refl, sym, subst, ap, ◌∙◌, append_assoc}
 use Rattle.std.proofs.lemmas.List.{append-nil}
 use Rattle.std.specs.Ordering.{eq_by_cmp}
+use Rattle.fx_base.proofs.Results.{same_Ok}
+use Rattle.fx_base.proofs.Names.{name_is}
 use Rattle.fx_store.specs.declared.node.Node.{Node}
 use Rattle.fx_store.specs.declared.node.Node.TheVariants.{File, Dir, Link}
 use Rattle.fx_store.specs.declared.node.Landing.{Landing}
@@ -16,7 +18,7 @@ use Rattle.fx_store.specs.Rule.{Ask, answer, look_all, ◌>>=◌}
 use Rattle.fx_store.specs.Whole.{Store, IsWhole, update, over}
 use Rattle.fx_store.proofs.Asks.{answer-bind}
 use Rattle.fx_store.proofs.Landings.{landings_are_true}
-use Rattle.fx_store.proofs.Relisted.{rest_at, rest_is, eq_names}
+use Rattle.fx_store.proofs.PathLists.{rest_append, rest_is}
 use Rattle.fx_expr.specs.Sets.{with_text}
 use Rattle.fx_spec.specs.Edit.{set_to, names_of, children, made, make, is_too_deep, create_landed, last_name, without_name, lacks_room, unless_deep, new_names, replaced, store_landed, follows_last, remove_landed, is_flag}
 use Rattle.fx_spec.specs.declared.refusal.Refusal.{Refusal}
@@ -33,10 +35,10 @@ Path = List (List ℕ)
 
 module _ (S : Store) (q old new : Path) (fresh : List ℕ → Node) where
   below_dir : (t : Path) → relisted S q old new fresh (q ++ t) ≡ relist_at S old new fresh (q ++ t) (Some t)
-  below_dir t = ap (relist_at S old new fresh (q ++ t)) (rest_at q t)
+  below_dir t = ap (relist_at S old new fresh (q ++ t)) (rest_append q t)
 
   at_dir : relisted S q old new fresh q ≡ Some (Dir new)
-  at_dir = ap (relist_at S old new fresh q) (ap (rest_of q) (sym (append-nil q)) ∙ rest_at q [])
+  at_dir = ap (relist_at S old new fresh q) (ap (rest_of q) (sym (append-nil q)) ∙ rest_append q [])
 
   away : (r : Path) → (IsWithin q r → ⊥) → relisted S q old new fresh r ≡ S r
   away r not_within = at (rest_of q r) refl
@@ -78,7 +80,7 @@ module _ (S T : Store) (q old : Path) (whole : IsWhole S) (some : 0 < length q) 
   others_stay r not_up not_within = is r ∙ at (rest_of up r) refl
     where
       stays : (m : List ℕ) (rest : Path) → r ≡ up ++ m ∷ rest → (b : Bool) → eq_by_cmp name_cmp m n ≡ b → relist_at S old new (λ n. File [] false) r (Some (m ∷ rest)) ≡ S r
-      stays m rest there true e = absurd (not_within (rest, there ∙ ap (λ k. up ++ k ∷ rest) (eq_names m n e) ∙ sym (split rest)))
+      stays m rest there true e = absurd (not_within (rest, there ∙ ap (λ k. up ++ k ∷ rest) (name_is m n e) ∙ sym (split rest)))
       stays m rest there false e =
           subst (λ p. relist_at S old new (λ n. File [] false) p (Some (m ∷ rest)) ≡ S p) (sym there)
           (sym (kept_target S up old new (λ n. File [] false) (can_remove S up n old whole dir) m rest (without_other n m old e)))
@@ -173,10 +175,7 @@ module _ (S : Store) (here : Path) (n : List ℕ) (names : Path) (node : Node) w
   made_by : (cs : List Change) → answer S (make here (n ∷ names) node) ≡ Ok cs → IsMade S (over S cs) here n names node
   made_by cs e =
       let is : answer S (make here (n ∷ names) node) ≡ Ok (listed_more ∷ made here n names node) = answer-look_all S (changed_paths (made here n names node)) _ in
-      subst (λ cs. IsMade S (over S cs) here n names node) (same (listed_more ∷ made here n names node) cs (sym is ∙ e)) is_made
-    where
-      same : (a b : List Change) → ◌≡◌ {A = Answered (List Change)} (Ok a) (Ok b) → a ≡ b
-      same a b e = cc
+      subst (λ cs. IsMade S (over S cs) here n names node) (same_Ok (listed_more ∷ made here n names node) cs (sym is ∙ e)) is_made
 
   made_unless_deep : (cs : List Change) → answer S (unless_deep (is_too_deep here (n ∷ names) node) (make here (n ∷ names) node)) ≡ Ok cs → IsMade S (over S cs) here n names node
   made_unless_deep cs e = made_by cs (unless-ok (is_too_deep here (n ∷ names) node) S (make here (n ∷ names) node) cs e).1

@@ -2,6 +2,7 @@
 use Rattle.std.proofs.Common.{◌≡◌, ◌≢◌, ℕ, Bool, true, false, cond, refl, ap, subst, sym, ◌∙◌, List, [], ◌∷◌, ◌++◌, Option, Some, None, Ok}
 use Rattle.std.proofs.lemmas.Bool.{true≢false}
 use Rattle.std.specs.Ordering.{eq_by_cmp}
+use Rattle.fx_base.proofs.Names.{path_itself}
 use Rattle.fx_store.specs.declared.node.Node.{Node}
 use Rattle.fx_store.specs.declared.node.Node.TheVariants.{File, Dir, Link}
 use Rattle.fx_store.specs.declared.node.Landing.TheVariants.{At, Absent}
@@ -23,7 +24,7 @@ use Rattle.fx_spec.specs.Edit.{set_to, replaced, stored_node, follows_last, is_f
 use Rattle.fx_spec.specs.Move.{unrefused, needed, fetch_at}
 use Rattle.fx_spec.specs.Place.{PlaceTree}
 use Rattle.fx_spec.proofs.EditLaws.{edits_keep_whole}
-use Rattle.fx_spec.proofs.EditsWhole.{path_itself, update_here, update_away}
+use Rattle.fx_spec.proofs.EditsWhole.{update_here, update_away}
 use Rattle.fx_laws.specs.Fetched.{IsFilePlace, IsFetched, FileStoresAreFetched, IsNewPlace, NewStoresAreFetched, LinkStoresAreFetched, DirectoryStoresAreFetched}
 use Rattle.fx_laws.specs.Edited.{IsMade}
 use Rattle.fx_laws.proofs.Among.{Path, Each}

@@ -2,6 +2,7 @@
 use Rattle.std.proofs.Common.{◌≡◌, ◌≢◌, ℕ, Bool, true, false, refl, ap, sym, subst, ◌∙◌, List, [], ◌∷◌, ◌++◌, map, Option, Some, None, IsSome, is_some, option_map, append_assoc}
 use Rattle.std.proofs.lemmas.Bool.{true≢false, false≢true}
 use Rattle.std.specs.Ordering.{eq_by_cmp}
+use Rattle.fx_base.proofs.Names.{path_itself}
 use Rattle.fx_store.specs.declared.node.Node.{Node}
 use Rattle.fx_store.specs.declared.node.Node.TheVariants.{File, Dir, Link}
 use Rattle.fx_store.specs.declared.node.Landing.{Landing}
@@ -11,10 +12,9 @@ use Rattle.fx_store.specs.Names.{path_cmp}
 use Rattle.fx_store.specs.Orders.{path_eq_same}
 use Rattle.fx_store.specs.Resolve.{Component, CurDir, ParentDir, Normal, ◌/ₚ◌, names_only, absent, missing, lands}
 use Rattle.fx_store.specs.Whole.{Store, IsWhole}
-use Rattle.fx_store.proofs.Landings.{lands_by_the_rules}
+use Rattle.fx_store.proofs.Landings.{lands_by_the_rules, listing_is_dir}
 use Rattle.fx_expr.specs.Sets.{with_text}
-use Rattle.fx_spec.proofs.EditsKeep.{listed_dir}
-use Rattle.fx_spec.proofs.EditsWhole.{path_itself, nothing_below}
+use Rattle.fx_spec.proofs.EditsWhole.{nothing_below}
 use Rattle.fx_laws.specs.Edited.{IsWithin, IsMade}
 use Rattle.fx_laws.proofs.Among.{Path}
 
@@ -70,7 +70,7 @@ module _ (T : Store) (whole : IsWhole T) (follow : Bool) where
       by None e =
           let none : T (p ++ m ∷ rest) ≡ None = ap T (sym (append_assoc p (m ∷ []) rest)) ∙ nothing_below T whole rest (p /ₚ m) e in
           absurd (false≢true (sym (ap is_some none) ∙ some))
-      by (Some x) e = listed_dir (T p) m (sym (whole.listed p m) ∙ ap is_some e)
+      by (Some x) e = listing_is_dir (T p) m (sym (whole.listed p m) ∙ ap is_some e)
 
   down : (links : ℕ) (names here : Path) (n : List ℕ) (node : Node) → T (here ++ n ∷ names) ≡ Some node → ((text : List ℕ) → node ≡ Link text → follow ≡ false) → Resolves T follow links here (Normal n ∷ map Normal names) (At (here ++ n ∷ names))
   down links [] here n (File bytes exec) is ends = ends_at_file is

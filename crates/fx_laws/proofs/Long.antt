@@ -1,6 +1,6 @@
 -- How long a complete order is.
-use Rattle.std.proofs.Common.{◌≡◌, ℕ, zero, suc, ◌+◌, ◌<◌, ◌≤◌, Bool, true, false, cond, nat_eq, List, [], ◌∷◌, take, get_or, length, Some, None, refl, sym, ap, ◌∙◌, arith, eq-eqb}
-use Rattle.std.specs.List.{All, cons_option, sum_by}
+use Rattle.std.proofs.Common.{◌≡◌, ℕ, zero, suc, ◌+◌, ◌<◌, ◌≤◌, true, false, List, [], ◌∷◌, take, get_or, length, refl, sym, ap, ◌∙◌, arith, eq-eqb}
+use Rattle.std.specs.List.{All, sum_by}
 use Rattle.std.proofs.Math.Seq.{take-length, take-suc}
 use Rattle.std.proofs.lemmas.Bool.{ne_eqb}
 use Rattle.std.proofs.lemmas.List.Elements.{All-head, All-tail}
@@ -8,15 +8,10 @@ use Rattle.std.proofs.lemmas.List.Sums.{sum_by_push}
 use Rattle.fx_spec.specs.CommandTree.{CommandTree}
 use Rattle.fx_spec.specs.Plans.{Turn, count_of}
 use Rattle.fx_spec.specs.Order.{numbers_of, first_numbers}
-use Rattle.fx_machine.proofs.Sums.{sum_same, sum_apart}
+use Rattle.fx_machine.proofs.Sums.{sum_same, sum_apart, more_of}
+use Rattle.fx_machine.proofs.Turns.{shells_within}
 use Rattle.fx_laws.specs.Swapped.{CompleteOrdersAreLong}
-use Rattle.fx_laws.proofs.Spelled.{shells_planned}
 use Rattle.fx_laws.proofs.Swapped.{all_there}
-
--- a turn adds one to its own shell's
-one_more : (turn : Turn) (o : List Turn) (k : ℕ) (b : Bool) → nat_eq turn.0 k ≡ b → length (numbers_of k (turn ∷ o)) ≡ cond b (suc (length (numbers_of k o))) (length (numbers_of k o))
-one_more turn o k true e = ap (λ b. length (cons_option (cond b (Some turn.1) None) (numbers_of k o))) e
-one_more turn o k false e = ap (λ b. length (cons_option (cond b (Some turn.1) None) (numbers_of k o))) e
 
 none_yet : (n : ℕ) → sum_by (λ k. length (numbers_of k [])) (first_numbers n) ≡ 0
 none_yet zero = refl
@@ -29,8 +24,8 @@ by_shells n (turn ∷ o) all =
     let rest : sum_by (λ k. length (numbers_of k o)) (first_numbers n) ≡ length o = by_shells n o (All-tail (λ (t : Turn). t.0 < n) turn o all) in
     let one : sum_by (λ k. length (numbers_of k (turn ∷ o))) (first_numbers n) ≡ sum_by (λ k. length (numbers_of k o)) (first_numbers n) + 1 =
     sum_apart (λ k. length (numbers_of k o)) (λ k. length (numbers_of k (turn ∷ o))) n turn.0 1 (All-head (λ (t : Turn). t.0 < n) turn o all)
-    (one_more turn o turn.0 true (eq-eqb turn.0 turn.0 refl) ∙ omega arith)
-    (λ k other. sym (one_more turn o k false (ne_eqb turn.0 k (λ e. other (sym e))))) in
+    (more_of turn o turn.0 true (eq-eqb turn.0 turn.0 refl) ∙ omega arith)
+    (λ k other. sym (more_of turn o k false (ne_eqb turn.0 k (λ e. other (sym e))))) in
     omega (arith, rest, one)
 
 -- and the plan as its scripts together
@@ -43,6 +38,6 @@ of_scripts plan (suc n) h =
 pub complete_orders_are_long : CompleteOrdersAreLong
 complete_orders_are_long base o complete =
     let n : ℕ = length base.plan in
-    sym (by_shells n o (shells_planned base o complete.legal))
+    sym (by_shells n o (shells_within base o complete.legal))
     ∙ sum_same (λ k. length (numbers_of k o)) (λ k. count_of base.plan k) n (λ k l. all_there base o k complete)
     ∙ of_scripts base.plan n (omega arith) ∙ ap (sum_by length) (take-length base.plan)

@@ -1,19 +1,16 @@
 -- Moves that are not refused lead to places, and are undone by others.
-use Rattle.std.proofs.Common.{◌≡◌, ℕ, zero, suc, Bool, true, false, cond, ◌||◌, refl, ap, sym, subst, ◌∙◌, List, [], ◌∷◌, Option, Some, None, Result, Ok, Err, is_some}
-use Rattle.std.proofs.lemmas.Bool.{or_left, or_right}
-use Rattle.std.specs.Prelude.{IsSome, nat_eq}
+use Rattle.std.proofs.Common.{◌≡◌, ℕ, zero, suc, Bool, true, false, cond, refl, ap, sym, subst, ◌∙◌, List, [], ◌∷◌, Option, Some, None, Result, Ok, Err, is_some}
+use Rattle.std.specs.Prelude.{IsSome}
 use Rattle.std.specs.Option.{option_map}
-use Rattle.std.specs.Ordering.{is_lt, nat_cmp}
-use Rattle.std.specs.Cmp.Lexicographic.{pointwise, slice_cmp}
 use Rattle.fx_store.specs.Rule.{Ask, Answer, answer, ◌>>=◌}
 use Rattle.fx_store.specs.Whole.{Store}
 use Rattle.fx_store.proofs.Asks.{answer-bind}
 use Rattle.fx_expr.specs.Bindings.{bind}
 use Rattle.fx_expr.specs.Eval.{Outcome, eval_of, names_in}
-use Rattle.fx_expr.specs.Sets.{has_text, least, least_above, greatest_below, later_or}
+use Rattle.fx_expr.specs.Sets.{has_text, least, least_above, greatest_below}
 use Rattle.fx_expr.specs.declared.fault.ExprFault.{ExprFault}
 use Rattle.fx_expr.specs.Tree.{Tree}
-use Rattle.fx_text.proofs.Order.{same_text}
+use Rattle.fx_text.proofs.Chosen.{has_least, has_above, has_below}
 use Rattle.fx_spec.specs.declared.refusal.Refusal.{Refusal}
 use Rattle.fx_spec.specs.SpecTree.{SpecTree}
 use Rattle.fx_spec.specs.Describe.{Bindings, with_some, exists, focus_path, arguments, argument_evals, behind, value}
@@ -41,27 +38,6 @@ data Descends (S : Store) (a : Address) (p : List (List ℕ)) (env : Bindings) (
   by_down : b ≡ Down ∷ a → IsSome (answer S (lead Down p env s)) → Descends S a p env s b
 
 -- ---- elements of sets
-
-least_in : (ts : List (List ℕ)) (t : List ℕ) → least ts ≡ Some t → has_text t ts ≡ true
-least_in [] t e = cc
-least_in (u ∷ us) t e = let same : u ≡ t = cc in or_left (pointwise nat_eq u t) (has_text t us) (subst (λ v. pointwise nat_eq u v ≡ true) same (same_text u))
-
-pub above_in : (t : List ℕ) (ts : List (List ℕ)) (u : List ℕ) → least_above t ts ≡ Some u → has_text u ts ≡ true
-above_in t [] u e = cc
-above_in t (x ∷ xs) u e = by (is_lt (slice_cmp nat_cmp t x)) e (λ k. above_in t xs u k)
-  where
-    by : (b : Bool) → cond b (Some x) (least_above t xs) ≡ Some u → (least_above t xs ≡ Some u → has_text u xs ≡ true) → (pointwise nat_eq x u || has_text u xs) ≡ true
-    by true e rest = let same : x ≡ u = cc in or_left (pointwise nat_eq x u) (has_text u xs) (subst (λ v. pointwise nat_eq x v ≡ true) same (same_text x))
-    by false e rest = or_right (pointwise nat_eq x u) (has_text u xs) (rest e)
-
-pub below_in : (t : List ℕ) (ts : List (List ℕ)) (u : List ℕ) → greatest_below t ts ≡ Some u → has_text u ts ≡ true
-below_in t [] u e = cc
-below_in t (x ∷ xs) u e = by (greatest_below t xs) (is_lt (slice_cmp nat_cmp x t)) e (λ k. below_in t xs u k)
-  where
-    by : (o : Option (List ℕ)) (b : Bool) → later_or o (cond b (Some x) None) ≡ Some u → (o ≡ Some u → has_text u xs ≡ true) → (pointwise nat_eq x u || has_text u xs) ≡ true
-    by (Some v) b e rest = or_right (pointwise nat_eq x u) (has_text u xs) (rest e)
-    by None true e rest = let same : x ≡ u = cc in or_left (pointwise nat_eq x u) (has_text u xs) (subst (λ v. pointwise nat_eq x v ≡ true) same (same_text x))
-    by None false e rest = cc
 
 this_in : (t u : List ℕ) (ts : List (List ℕ)) → this_if t (has_text t ts) ≡ Some u → has_text u ts ≡ true
 this_in t u ts e = by (has_text t ts) refl e
@@ -96,7 +72,7 @@ into_steps S a p env SpecTree.link b e = cc
 into_steps S a p env (SpecTree.focus x s) b e = cc
 into_steps S a p env (SpecTree.pred x) b e = cc
 into_steps S a p env (SpecTree.pair x s u) b e = let same : (First ∷ a) ≡ b = cc in by_step First (sym same) refl refl
-into_steps S a p env (SpecTree.comp s x set) b e = comp_steps S a p env s x set least (λ ts t h. least_in ts t h) b e
+into_steps S a p env (SpecTree.comp s x set) b e = comp_steps S a p env s x set least (λ ts t h. has_least ts t h) b e
 into_steps S a p env (SpecTree.opt s) b e = by (answer S (exists p)) refl (sym (answer-bind S (exists p) (λ there. Answer (cond there (Ok (Inside ∷ a)) (Err Refusal.Lacks)))) ∙ e)
   where
     by : (there : Bool) → answer S (exists p) ≡ there → answer S (Answer (cond there (Ok (Inside ∷ a)) (Err Refusal.Lacks))) ≡ Ok b → Steps S a p env (SpecTree.opt s) b
@@ -245,7 +221,7 @@ next_leads root S (First ∷ a) b e =
         let above = above_first S root a First at is in
         subst (λ b. IsSome (answer S (place root b))) same (second_leads S root a at above.0 above.1 is (ap is_some v))
 next_leads root S (Elem t ∷ a) b e =
-    placed_move S root (Elem t ∷ a) (λ at. at_place root a λ above. another a (least_above t) above.path above.env above.spec) b (λ at is h. another_leads S root a (least_above t) (λ ts u k. above_in t ts u k) b h) e
+    placed_move S root (Elem t ∷ a) (λ at. at_place root a λ above. another a (least_above t) above.path above.env above.spec) b (λ at is h. another_leads S root a (least_above t) (λ ts u k. has_above t ts u k) b h) e
 next_leads root S [] b e = absurd (no_step S root [] b e)
 next_leads root S (Second ∷ a) b e = absurd (no_step S root (Second ∷ a) b e)
 next_leads root S (Inside ∷ a) b e = absurd (no_step S root (Inside ∷ a) b e)
@@ -277,7 +253,7 @@ prev_leads root S (Second ∷ a) b e = placed_move S root (Second ∷ a) (λ at.
         let above = above_first S root a Second at is in
         subst (λ b. IsSome (answer S (place root b))) same (first_leads S root a at above.0 above.1 is)
 prev_leads root S (Elem t ∷ a) b e =
-    placed_move S root (Elem t ∷ a) (λ at. at_place root a λ above. another a (greatest_below t) above.path above.env above.spec) b (λ at is h. another_leads S root a (greatest_below t) (λ ts u k. below_in t ts u k) b h) e
+    placed_move S root (Elem t ∷ a) (λ at. at_place root a λ above. another a (greatest_below t) above.path above.env above.spec) b (λ at is h. another_leads S root a (greatest_below t) (λ ts u k. has_below t ts u k) b h) e
 prev_leads root S [] b e = absurd (no_step S root [] b e)
 prev_leads root S (First ∷ a) b e = absurd (no_step S root (First ∷ a) b e)
 prev_leads root S (Inside ∷ a) b e = absurd (no_step S root (Inside ∷ a) b e)

@@ -2,6 +2,7 @@
 use Rattle.std.proofs.Common.{◌≡◌, ℕ, Bool, true, false, cond, refl, ap, sym, subst, ◌∙◌, List, [], ◌∷◌, Option, Some, None, Ok, Err, is_some}
 use Rattle.std.specs.Prelude.{IfOk, IsSome}
 use Rattle.std.specs.Option.{option_map}
+use Rattle.fx_text.proofs.Chosen.{has_above, has_below}
 use Rattle.fx_store.specs.Rule.{Ask, Answer, answer, ◌>>=◌}
 use Rattle.fx_store.specs.Whole.{Store}
 use Rattle.fx_store.proofs.Asks.{answer-bind}
@@ -16,7 +17,7 @@ use Rattle.fx_spec.specs.Describe.{Bindings, value}
 use Rattle.fx_spec.specs.Move.{Answered, unrefused, needed, at_place, element, chosen, another, go_next, go_prev}
 use Rattle.fx_spec.specs.Place.{First, Second, Inside, Down, Body, Elem, Address, PlaceTree, placed, where_true, has_element, lead, place}
 use Rattle.fx_laws.specs.Moved.{HasAscendingSet, IsInAscending, NeighboursComeBack}
-use Rattle.fx_laws.proofs.Moved.{place_step, above_in, below_in, placed_move, above_first, second_leads, first_leads, no_step}
+use Rattle.fx_laws.proofs.Moved.{place_step, placed_move, above_first, second_leads, first_leads, no_step}
 use Rattle.fx_laws.proofs.Stepping.{above_then_below, below_then_above}
 
 -- ---- a rule at a place that is there
@@ -147,7 +148,7 @@ first_back S root a b e = placed_move S root (Second ∷ a) (λ at. Answer (Ok (
 next_back : (root : SpecTree) (S : Store) (a b : Address) → IsInAscending root S a → answer S (go_next root a) ≡ Ok b → answer S (go_prev root b) ≡ Ok a
 next_back root S (First ∷ a) b ascends e = second_back S root a b e
 next_back root S (Elem t ∷ a) b ascends e =
-    let w = elem_back least_above greatest_below above_then_below above_in S root a t b ascends e in
+    let w = elem_back least_above greatest_below above_then_below has_above S root a t b ascends e in
     subst (λ b. answer S (go_prev root b) ≡ Ok (Elem t ∷ a)) (sym w.1) w.2
 next_back root S [] b ascends e = absurd (no_step S root [] b e)
 next_back root S (Second ∷ a) b ascends e = absurd (no_step S root (Second ∷ a) b e)
@@ -158,7 +159,7 @@ next_back root S (Body ∷ a) b ascends e = absurd (no_step S root (Body ∷ a) 
 prev_back : (root : SpecTree) (S : Store) (a b : Address) → IsInAscending root S a → answer S (go_prev root a) ≡ Ok b → answer S (go_next root b) ≡ Ok a
 prev_back root S (Second ∷ a) b ascends e = first_back S root a b e
 prev_back root S (Elem t ∷ a) b ascends e =
-    let w = elem_back greatest_below least_above below_then_above below_in S root a t b ascends e in
+    let w = elem_back greatest_below least_above below_then_above has_below S root a t b ascends e in
     subst (λ b. answer S (go_next root b) ≡ Ok (Elem t ∷ a)) (sym w.1) w.2
 prev_back root S [] b ascends e = absurd (no_step S root [] b e)
 prev_back root S (First ∷ a) b ascends e = absurd (no_step S root (First ∷ a) b e)

@@ -1,6 +1,7 @@
 -- A second store at a file leaves nothing of the first.
 use Rattle.std.proofs.Common.{◌≡◌, ℕ, Bool, true, false, refl, ap, sym, ◌∙◌, List, [], ◌∷◌, Some, Ok}
 use Rattle.std.proofs.lemmas.Bool.{true≢false}
+use Rattle.fx_base.proofs.Results.{same_Ok}
 use Rattle.fx_store.specs.declared.node.Node.{Node}
 use Rattle.fx_store.specs.declared.node.Node.TheVariants.{File}
 use Rattle.fx_store.specs.declared.changes.Change.{Change}
@@ -9,7 +10,6 @@ use Rattle.fx_store.specs.Whole.{Store, over}
 use Rattle.fx_expr.specs.Tree.{Tree}
 use Rattle.fx_spec.specs.SpecTree.{SpecTree}
 use Rattle.fx_spec.specs.Edit.{set_to, replaced, stored_node, store_at}
-use Rattle.fx_spec.specs.Move.{Answered}
 use Rattle.fx_spec.specs.Place.{PlaceTree}
 use Rattle.fx_spec.proofs.EditsWhole.{overwritten, update_here}
 use Rattle.fx_laws.specs.Fetched.{IsFilePlace}
@@ -17,9 +17,6 @@ use Rattle.fx_laws.specs.Overwritten.{LeavesAlone, Overwrites, FileStoresOverwri
 use Rattle.fx_laws.proofs.Among.{Path}
 use Rattle.fx_laws.proofs.Fetched.{Replaced, flagged, filled, was_replaced, node_at, store_replaces, lands_at_file}
 use Rattle.fx_laws.proofs.Stored.{file_node, flag_node}
-
-same_changes : (a b : List Change) → ◌≡◌ {A = Answered (List Change)} (Ok a) (Ok b) → a ≡ b
-same_changes a b e = cc
 
 -- what two replacements of a node leave
 module _ (S : Store) (at : PlaceTree) (q : Path) (w : Tree) (a b : Node) (first second : List Change) where
@@ -46,7 +43,7 @@ bytes_overwrite S at q is v w first second e f =
         let at_once : answer S (store_at (Tree.str w) at) ≡ Ok (set_to q (File w was) ∷ []) =
         store_replaces S at q (Tree.str w) (File w false) is.landing again ∙ ap (λ n. answer S (replaced false q (File w false) n)) there in
         leaves_alone S at q (Tree.str w) (File v was) (File w was) first second given
-        (same_changes second (set_to q (File w was) ∷ []) (sym f ∙ (ap (λ cs. answer (over S cs) (store_at (Tree.str w) at)) given ∙ twice))) at_once
+        (same_Ok second (set_to q (File w was) ∷ []) (sym f ∙ (ap (λ cs. answer (over S cs) (store_at (Tree.str w) at)) given ∙ twice))) at_once
 
 pub flags_overwrite : (S : Store) (at : PlaceTree) (q : Path) → IsFilePlace S at q → (v w : Bool) → Overwrites S at (Tree.bool v) (Tree.bool w)
 flags_overwrite S at q is v w first second e f =
@@ -64,7 +61,7 @@ flags_overwrite S at q is v w first second e f =
         let at_once : answer S (store_at (Tree.bool w) at) ≡ Ok (set_to q (File old w) ∷ []) =
         store_replaces S at q (Tree.bool w) (File [] w) is.landing again ∙ ap (λ n. answer S (replaced true q (File [] w) n)) there in
         leaves_alone S at q (Tree.bool w) (File old v) (File old w) first second given
-        (same_changes second (set_to q (File old w) ∷ []) (sym f ∙ (ap (λ cs. answer (over S cs) (store_at (Tree.bool w) at)) given ∙ twice))) at_once
+        (same_Ok second (set_to q (File old w) ∷ []) (sym f ∙ (ap (λ cs. answer (over S cs) (store_at (Tree.bool w) at)) given ∙ twice))) at_once
 
 pub file_stores_overwrite : FileStoresOverwrite
 file_stores_overwrite = record { bytes = bytes_overwrite; flag = flags_overwrite }

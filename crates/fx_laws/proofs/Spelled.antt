@@ -1,11 +1,12 @@
 -- A printed report spells its commit order and its retries.
 use Rattle.std.proofs.Common.{◌≡◌, ◌≢◌, ℕ, zero, suc, ◌<◌, ◌≤◌, true, cond, List, [], ◌∷◌, map, length, get_or, Option, Some, None, refl, sym, ap, subst, ◌∙◌, arith, eq-eqb}
-use Rattle.std.specs.Prelude.{is_some, slice_get}
+use Rattle.std.specs.Prelude.{is_some}
 use Rattle.std.specs.FinMap.{get}
 use Rattle.std.specs.List.{All, cons_option, sum_by}
 use Rattle.std.proofs.lemmas.List.Elements.{All-nil, All-cons, All-head, All-tail, All-append, All-weaker}
 use Rattle.std.proofs.lemmas.List.Sums.{get_or-le-sum_by}
 use Rattle.std.proofs.lemmas.Option.{slice_get_within}
+use Rattle.fx_base.proofs.Lists.{All-at}
 use Rattle.fx_store.specs.declared.node.Node.{Node}
 use Rattle.fx_store.specs.Names.{IsPath}
 use Rattle.fx_store.specs.Whole.{Store, IsWhole}
@@ -16,6 +17,7 @@ use Rattle.fx_spec.proofs.Transactions.{states_are_whole}
 use Rattle.fx_machine.specs.declared.retry.Retry.{Retry}
 use Rattle.fx_machine.specs.Tried.{retry_tree}
 use Rattle.fx_machine.proofs.Sums.{order_fits}
+use Rattle.fx_machine.proofs.Turns.{shells_within}
 use Rattle.fx_report.specs.Entries.{entries_from, entries_of}
 use Rattle.fx_report.specs.Readable.{AreRetries, IsHeldRetry}
 use Rattle.fx_laws.specs.Spelled.{OrdersAreSpelled}
@@ -55,13 +57,6 @@ pub record IsSmall (t : Turn) : Type 0 where
   pub shell : t.0 < 64
   pub txn : t.1 < 100000
 
-pub shells_planned : (base : BaseTree) (o : List Turn) → IsLegal base o → All (λ (t : Turn). t.0 < length base.plan) o
-shells_planned base o legal =
-    All-weaker (λ (t : Turn). t.1 < count_of base.plan t.0) (λ (t : Turn). t.0 < length base.plan) (λ t h. in_plan base.plan t.0 (some t.1 (count_of base.plan t.0) h)) o (planned base o legal)
-  where
-    some : (k n : ℕ) → k < n → 0 < n
-    some k n h = omega arith
-
 small_turns : (base : BaseTree) (o : List Turn) → IsPlan base.plan → IsLegal base o → All IsSmall o
 small_turns base o plan legal =
     All-weaker (λ (t : Turn). t.1 < count_of base.plan t.0) IsSmall (λ t h. small t h) o (planned base o legal)
@@ -77,7 +72,7 @@ small_turns base o plan legal =
 short_order : (base : BaseTree) (o : List Turn) → IsPlan base.plan → IsLegal base o → length o ≤ 100000
 short_order base o plan legal =
     let few = plan.few in
-    let fits = order_fits base o legal (shells_planned base o legal) in
+    let fits = order_fits base o legal (shells_within base o legal) in
     omega (arith, few, fits)
 
 -- the entries of an order
@@ -111,14 +106,9 @@ changed_path S T path before after differ = go (S path) (T path) differ (before.
     go None (Some y) apart f g = g refl
     go (Some x) y apart f g = f refl
 
-element : {A : Type 0} (P : A → Type 0) (xs : List A) (k : ℕ) (x : A) → All P xs → slice_get xs k ≡ Some x → P x
-element P [] k x all e = absurd (cc)
-element P (y ∷ xs) zero x all e = let same : y ≡ x = cc in subst P same (All-head P y xs all)
-element P (y ∷ xs) (suc k) x all e = element P xs k x (All-tail P y xs all) e
-
 held_retry : (base : BaseTree) (o : List Turn) → IsPlan base.plan → IsWhole (get base.loaded) → IsLegal base o → (r : Retry) → IsRetry base o (retry_tree r) → IsHeldRetry r
 held_retry base o plan whole legal r is =
-    let turn = element IsSmall o is.place (r.shell, r.txn) (small_turns base o plan legal) is.stands in
+    let turn = All-at IsSmall o is.place (r.shell, r.txn) (small_turns base o plan legal) is.stands in
     let place = slice_get_within o is.place (r.shell, r.txn) is.stands in
     let short = short_order base o plan legal in
     let before = is.before in

@@ -7,8 +7,8 @@ use Rattle.std.specs.Option.{option_and_then}
 use Rattle.std.proofs.lemmas.Bool.{false≢true}
 use Rattle.std.proofs.lemmas.Cmp.{tied_itself}
 use Rattle.std.proofs.lemmas.Option.{slice_get_within, get_or_from_slice_get}
+use Rattle.fx_base.proofs.Orders.{nat_list_exact}
 use Rattle.fx_text.specs.Sets.{IsAscending, has_text, least_above, greatest_below, item_before}
-use Rattle.fx_text.proofs.Canon.{nat_list_exact}
 use Rattle.fx_text.proofs.Nearest.{above_found, below_found}
 use Rattle.fx_laws.specs.Stepping.{AboveThenBelow, BelowThenAbove, stepped, StepsReachEach}
 

@@ -6,6 +6,8 @@ use Rattle.std.specs.Cmp.Lexicographic.{pointwise}
 use Rattle.std.specs.List.{list_all}
 use Rattle.std.specs.Option.{IfSome, IsSome, unwrap_or}
 use Rattle.std.specs.Ordering.{eq_by_cmp}
+use Rattle.fx_base.proofs.Names.{name_itself}
+use Rattle.fx_base.proofs.Orders.{bytes_itself}
 use Rattle.fx_store.specs.declared.node.Node.{Node}
 use Rattle.fx_store.specs.declared.node.Node.TheVariants.{File, Dir, Link}
 use Rattle.fx_store.specs.declared.node.Landing.{Landing}
@@ -19,14 +21,12 @@ use Rattle.fx_store.specs.Resolve.{resolve, lands, ◌/ₚ◌}
 use Rattle.fx_store.specs.Rule.{Ask, Answer, Look, Tick, answer, ◌>>=◌}
 use Rattle.fx_store.specs.Whole.{Store, IsNode, over}
 use Rattle.fx_store.proofs.Asks.{answer-bind}
-use Rattle.fx_store.proofs.Relisted.{same_name}
 use Rattle.fx_expr.specs.Bindings.{bind, bound, newer_or}
 use Rattle.fx_expr.specs.Eval.{eval_of}
 use Rattle.fx_expr.specs.ExprTree.{ExprTree}
 use Rattle.fx_expr.specs.Sets.{set_of}
 use Rattle.fx_expr.specs.ShapeTree.{ShapeTree}
 use Rattle.fx_expr.specs.Tree.{Tree}
-use Rattle.fx_text.proofs.Order.{same_text}
 use Rattle.fx_spec.specs.declared.refusal.Refusal.{Refusal}
 use Rattle.fx_spec.specs.SpecTree.{SpecTree}
 use Rattle.fx_spec.specs.CommandTree.{ActTree, CommandTree, Block, block, count}
@@ -62,7 +62,7 @@ entries_none S q names [] h = refl
 entries_none S q names (n ∷ ns) h =
     answer-bind S (entry q names names n) (λ first. entries (entry q names names) ns >>= λ rest. Answer (first ++ rest))
     ∙ answer-bind S (entries (entry q names names) ns) (λ rest. Answer (answer S (entry q names names n) ++ rest))
-    ∙ (λ i. entry_none S q names n (h n (or_left (eq_by_cmp name_cmp n n) (has ns n) (same_name n))) i ++ entries_none S q names ns (λ m g. h m (or_right (eq_by_cmp name_cmp m n) (has ns m) g)) i)
+    ∙ (λ i. entry_none S q names n (h n (or_left (eq_by_cmp name_cmp n n) (has ns n) (name_itself n))) i ++ entries_none S q names ns (λ m g. h m (or_right (eq_by_cmp name_cmp m n) (has ns m) g)) i)
 
 same_names : (S : Store) (q names : List (List ℕ)) → answer S (new_names q names names) ≡ Ok (set_to q (Dir names) ∷ [])
 same_names S q names =
@@ -199,7 +199,7 @@ same_store_changes_nothing root e s S same i = store_leaves S root i e s same.va
 
 -- the newest binding of a word is its own
 bound_own : (env : Bindings) (x : List ℕ) (v : Tree) → bound (bind env x v) x ≡ Some v
-bound_own [] x v = ap (λ b. cond b (Some v) None) (same_text x)
+bound_own [] x v = ap (λ b. cond b (Some v) None) (bytes_itself x)
 bound_own (e ∷ env) x v = ap (λ o. newer_or o (cond (pointwise nat_eq e.0 x) (Some e.1) None)) (bound_own env x v)
 
 -- what is landed on holds the value

@@ -2,12 +2,13 @@
 use Rattle.std.proofs.Common.{◌≡◌, ◌≢◌, ℕ, suc, ◌+◌, ◌<◌, ◌≤◌, Bool, true, false, cond, nat_eq, refl, ap, sym, subst, ◌∙◌, List, [], ◌∷◌, map, take, length, Some, None, arith, ⊎_elim, eq-eqb}
 use Rattle.std.proofs.lemmas.Bool.{cases_eq, cases_lt}
 use Rattle.std.proofs.lemmas.List.{get_or_past}
-use Rattle.std.proofs.lemmas.List.Elements.{All-nil, All-cons, All-head, All-weaker, All-contains, All-contains_itself, Contains-append_right}
+use Rattle.std.proofs.lemmas.List.Elements.{All-nil, All-cons, All-weaker, All-contains}
 use Rattle.std.specs.FinMap.{get}
 use Rattle.std.specs.List.{All, Contains, cons_option}
 use Rattle.fx_store.specs.Whole.{Nodes, Store}
 use Rattle.fx_store.proofs.Stores.{same_nodes}
 use mathlib.Core.Path.{fun_ext}
+use Rattle.fx_base.proofs.Lists.{Contains-later, Contains-first}
 use Rattle.fx_spec.specs.SpecTree.{SpecTree}
 use Rattle.fx_spec.specs.CommandTree.{CommandTree}
 use Rattle.fx_spec.specs.Plans.{Turn, txn_of, count_of, script_of}
@@ -74,12 +75,6 @@ only_first ((k, j) ∷ o) none = ⊎_elim
 no_numbers : (ns : List ℕ) → length ns ≤ 0 → ns ≡ []
 no_numbers [] h = refl
 no_numbers (n ∷ ns) h = absurd (omega (arith, h))
-
-Contains-later : {X : Type 0} (y : X) (xs : List X) (x : X) → Contains xs x → Contains (y ∷ xs) x
-Contains-later y xs x h = Contains-append_right (y ∷ []) xs x h
-
-Contains-first : {X : Type 0} (x : X) (xs : List X) → Contains (x ∷ xs) x
-Contains-first x xs = All-head (Contains (x ∷ xs)) x xs (All-contains_itself (x ∷ xs))
 
 -- a shell's turn in an order has its number among the shell's
 pub turns_counted : (shell : ℕ) (o : List Turn) → All (λ (t : Turn). t.0 ≡ shell → Contains (numbers_of shell o) t.1) o

@@ -1,7 +1,6 @@
 -- Lists of tokens taken apart, and the numbers by which their first tokens are told apart.
-use Rattle.std.proofs.Common.{◌≡◌, ℕ, Bool, true, false, ◌&&◌, List, [], ◌∷◌, ◌++◌, Option, Some, None, refl, sym, ap, ◌∙◌, append_assoc, nat_eq, eq-eqb}
+use Rattle.std.proofs.Common.{◌≡◌, ℕ, Bool, true, false, ◌&&◌, List, [], ◌∷◌, ◌++◌, Option, Some, None, refl, sym, ap, ◌∙◌, append_assoc}
 use Rattle.std.specs.Prelude.{is_none}
-use Rattle.std.proofs.lemmas.Bool.{true≢false}
 use Rattle.fx_lex.specs.declared.token.Mark.{Mark}
 use Rattle.fx_lex.specs.declared.token.Token.{Token}
 use Rattle.fx_lex.specs.declared.token.Token.TheVariants as token
@@ -23,14 +22,6 @@ behind_two a b x c d y e = sym (append_assoc a b x) ∙ e ∙ append_assoc c d y
 
 pub behind_three : (a b m x c d n y : Tokens) → ((a ++ b) ++ m) ++ x ≡ ((c ++ d) ++ n) ++ y → a ++ (b ++ (m ++ x)) ≡ c ++ (d ++ (n ++ y))
 behind_three a b m x c d n y e = behind_two a b (m ++ x) c d (n ++ y) (behind_two (a ++ b) m x (c ++ d) n y e)
-
-pub left_of : (a b : Bool) → a && b ≡ true → a ≡ true
-left_of true b is = refl
-left_of false b is = cc
-
-pub right_of : (a b : Bool) → a && b ≡ true → b ≡ true
-right_of true b is = is
-right_of false b is = cc
 
 -- of three the first, and the other two
 pub and_then : (a b c : Bool) → (a && b) && c ≡ true → (a ≡ true) × (b && c ≡ true)
@@ -66,6 +57,3 @@ number_name keys marks w is = none_of (keyword_of w) is
 -- equal tokens have equal first numbers
 pub same_number : (keys : Keyword → ℕ) (marks : Mark → ℕ) (x y : Tokens) (m n : ℕ) → number keys marks (first x) ≡ m → number keys marks (first y) ≡ n → x ≡ y → m ≡ n
 same_number keys marks x y m n p q e = sym p ∙ ap (λ ts. number keys marks (first ts)) e ∙ q
-
-pub apart : (m n : ℕ) → nat_eq m n ≡ false → m ≡ n → ⊥
-apart m n differ e = true≢false (sym (eq-eqb m n e) ∙ differ)

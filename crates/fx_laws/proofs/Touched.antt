@@ -18,8 +18,9 @@ use Rattle.fx_spec.specs.Place.{Address, PlaceTree, place}
 use Rattle.fx_spec.specs.Move.{Answered, unrefused, evaluated, needed, at_place, go_next, go_prev, go_out, go_up, go_into, go_to, go_down, fetch_at, whole_at, validate_at}
 use Rattle.fx_spec.specs.Edit.{store_at, create_at, remove_at}
 use Rattle.fx_spec.specs.Task.{Task, Ends, Looks, Sets, consulted, written, asking, ◌>=>◌}
-use Rattle.fx_spec.specs.Transaction.{Effect, Moves, Changes, moves, edits, moving, editing, from_place, effect, Standing, Flow, On, Over, go_on, binding, assigning, or_stop, taking, tried, leaving, within, each_in, run, run_block, transaction}
+use Rattle.fx_spec.specs.Transaction.{Effect, Moves, Changes, edits, editing, from_place, effect, Standing, Flow, On, Over, go_on, binding, assigning, or_stop, taking, tried, leaving, within, each_in, run, run_block, transaction}
 use Rattle.fx_spec.proofs.EditLooks.{edits_look_at_changes}
+use Rattle.fx_spec.proofs.Transactions.{not_moving, edited}
 use Rattle.fx_laws.proofs.Among.{Path, is_among, Each, Among, each_itself, each_append}
 
 -- paths at which something is known of a filestore, and no own changes
@@ -84,17 +85,6 @@ module _ (ps : List Path) where
   stored_edits S root a (Ok v) cs h e = placed_edits S root a (store_at v) (λ at. looked_edits S (store_at v at) (edits_look_at_changes.store (known_among ps S) no_own v at)) cs h e
 
   -- ---- effects
-
-  no_move : (x : Answered Address) (cs : List Change) → moves x ≡ Ok (Changes cs) → ⊥
-  no_move (Ok a) cs e = cc
-  no_move (Err f) cs e = cc
-
-  not_moving : (S : Store) (rule : Ask (Answered Address)) (cs : List Change) → answer S (moving rule) ≡ Ok (Changes cs) → ⊥
-  not_moving S rule cs e = no_move (answer S rule) cs (sym (answer-bind S rule (λ a. Answer (moves a))) ∙ e)
-
-  edited : (x : Answered (List Change)) (cs : List Change) → edits x ≡ Ok (Changes cs) → x ≡ Ok cs
-  edited (Ok ds) cs e = cc
-  edited (Err f) cs e = cc
 
   editing_among : (S : Store) (rule : Ask (Answered (List Change))) → Edits S rule → (cs : List Change) → Each (Among ps) (asked S (editing rule)) → answer S (editing rule) ≡ Ok (Changes cs) → AreAmong cs
   editing_among S rule is cs h e =

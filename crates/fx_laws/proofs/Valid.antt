@@ -1,22 +1,13 @@
 -- `validate` and `value`.
-use Rattle.std.proofs.Common.{◌≡◌, true, ◌&&◌, refl, ap, sym, ◌∙◌, Option, Some, None, Ok, is_some}
+use Rattle.std.proofs.Common.{◌≡◌, true, refl, ap, sym, ◌∙◌, Option, Some, None, Ok, is_some}
 use Rattle.fx_store.specs.Rule.{Answer, answer, ◌>>=◌}
 use Rattle.fx_store.proofs.Asks.{answer-bind}
-use Rattle.fx_expr.specs.ShapeTree.{ShapeTree}
 use Rattle.fx_expr.specs.Tree.{Tree}
 use Rattle.fx_spec.specs.declared.refusal.Refusal.{Refusal}
 use Rattle.fx_spec.specs.Describe.{value}
-use Rattle.fx_spec.specs.Move.{Answered, needed, of_shape, same_shape, value_shape, whole_at, validate_at}
+use Rattle.fx_spec.specs.Move.{Answered, needed, of_shape, value_shape, whole_at, validate_at}
+use Rattle.fx_spec.proofs.Shaped.{shape_itself}
 use Rattle.fx_laws.specs.Valid.{ValidIsValued}
-
-shape_itself : (s : ShapeTree) → same_shape s s ≡ true
-shape_itself ShapeTree.str = refl
-shape_itself ShapeTree.int = refl
-shape_itself ShapeTree.bool = refl
-shape_itself ShapeTree.names = refl
-shape_itself (ShapeTree.pair a b) = (λ i. shape_itself a i && shape_itself b i)
-shape_itself (ShapeTree.opt a) = shape_itself a
-shape_itself (ShapeTree.table a) = shape_itself a
 
 pub valid_is_valued : ValidIsValued
 valid_is_valued S at = (there, back)

@@ -5,13 +5,13 @@ use Rattle.std.proofs.lemmas.List.{get_or_past, get_or_append_left, get_or_at, t
 use Rattle.std.proofs.lemmas.List.Elements.{All-nil, All-cons, All-head, All-tail, All-weaker, All-contains, All-contains_itself}
 use Rattle.std.specs.FinMap.{get}
 use Rattle.std.specs.List.{All, Contains}
+use Rattle.fx_machine.proofs.Turns.{shells_within}
 use Rattle.fx_store.specs.Whole.{Nodes}
 use Rattle.fx_spec.specs.CommandTree.{CommandTree}
 use Rattle.fx_spec.specs.Plans.{Turn, txn_of, count_of, script_of}
 use Rattle.fx_spec.specs.Order.{BaseTree, after_txn, after_all, state, numbers_of, IsLegal}
 use Rattle.fx_spec.specs.Transaction.{outputs, end}
 use Rattle.fx_report.specs.Entries.{commands_or_none, entry, entries_from, entries_of}
-use Rattle.fx_laws.proofs.Spelled.{shells_planned}
 use Rattle.fx_laws_above.specs.Viewed.{beside, put_in, as_entry, ViewsAreEntries}
 
 -- the entry of a turn that stands behind some
@@ -40,7 +40,7 @@ same_state : (base : BaseTree) (t : List CommandTree) (o : List Turn) (n : ℕ) 
 unfolding state
 same_state base t o n legal within =
     ap (after_all (beside base t) base.loaded) (take_at (take n o) ((length base.plan, 0) ∷ drop n o) n (length-take-le n o within))
-    ∙ same_after base t base.loaded (take n o) (all_take (λ (u : Turn). u.0 < length base.plan) n o (shells_planned base o legal))
+    ∙ same_after base t base.loaded (take n o) (all_take (λ (u : Turn). u.0 < length base.plan) n o (shells_within base o legal))
 
 its_txn : (base : BaseTree) (t : List CommandTree) → txn_of (beside base t).plan (length base.plan, 0) ≡ Some t
 its_txn base t = ap (λ script. slice_get script 0) (get_or_at base.plan (t ∷ []) [] [] (length base.plan) refl)

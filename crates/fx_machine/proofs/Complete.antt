@@ -7,6 +7,7 @@ use Rattle.std.proofs.lemmas.List.Concat.{flat_map-append}
 use Rattle.std.proofs.lemmas.List.Elements.{All-nil, All-cons, All-head, All-tail, All-push, All-append, All-weaker, filter_map-append}
 use Rattle.std.proofs.lemmas.Option.{slice_get-get_or, same_Some, none-some}
 use Rattle.std.specs.FinMap.{get}
+use Rattle.fx_base.proofs.Lists.{get_front, get_before}
 use Rattle.fx_spec.specs.Plans.{Turn}
 use Rattle.fx_spec.specs.Order.{BaseTree, Changes, number_in, numbers_of, first_numbers, IsComplete, RetryTree, IsRetry, Precedes, InOrder}
 use Rattle.fx_spec.proofs.Orders.{state-front}
@@ -22,22 +23,12 @@ use Rattle.fx_machine.proofs.Others.{other_entry}
 
 -- ---- lists
 
-pub slice_get_front : {X : Type 0} (xs ys : List X) (i : ℕ) (x : X) → slice_get xs i ≡ Some x → slice_get (xs ++ ys) i ≡ Some x
-slice_get_front [] ys i x e = absurd (none-some x e)
-slice_get_front (z ∷ zs) ys zero x e = e
-slice_get_front (z ∷ zs) ys (suc i) x e = slice_get_front zs ys i x e
-
-slice_get_before : {X : Type 0} (xs ys : List X) (i : ℕ) (x : X) → i < length xs → slice_get (xs ++ ys) i ≡ Some x → slice_get xs i ≡ Some x
-slice_get_before [] ys i x h e = absurd (omega arith)
-slice_get_before (z ∷ zs) ys zero x h e = e
-slice_get_before (z ∷ zs) ys (suc i) x h e = slice_get_before zs ys i x (omega arith) e
-
 pub below_first : (n : ℕ) → All (λ j. j < n) (first_numbers n)
 below_first zero = All-nil (λ j. j < 0)
 below_first (suc n) = All-push (λ j. j < suc n) (first_numbers n) n (All-weaker (λ j. j < n) (λ j. j < suc n) (λ j h. omega arith) (first_numbers n) (below_first n)) (omega arith)
 
 -- what holds of the numbers of a shell's transactions holds of each that stands in the order
-number_stands : (P : ℕ → Type 0) (o : List Turn) (shell place txn : ℕ) → All P (numbers_of shell o) → slice_get o place ≡ Some (shell, txn) → P txn
+pub number_stands : (P : ℕ → Type 0) (o : List Turn) (shell place txn : ℕ) → All P (numbers_of shell o) → slice_get o place ≡ Some (shell, txn) → P txn
 number_stands P [] shell place txn all e = absurd (none-some (shell, txn) e)
 number_stands P (turn ∷ o) shell zero txn all e =
     let same : turn ≡ (shell, txn) = same_Some turn (shell, txn) e in
@@ -126,12 +117,12 @@ conflict_retries base m m' shell entry path o more sound r complete grown =
       place = here.0;
       stands = stands;
       before = ⊎_elim
-          (λ (early : here.0 < length m.order). absurd (own here.0 (slice_get_before m.order more here.0 (shell, next_number m.order shell) early (subst (λ o. slice_get o here.0 ≡ Some (shell, next_number m.order shell)) grown stands))))
+          (λ (early : here.0 < length m.order). absurd (own here.0 (get_before m.order more here.0 (shell, next_number m.order shell) early (subst (λ o. slice_get o here.0 ≡ Some (shell, next_number m.order shell)) grown stands))))
           (λ (late : length m.order ≤ here.0). let h : entry < here.0 = omega arith in h) (cases_lt here.0 (length m.order));
       other = (
         (get_or m.order entry (0, 0)).0,
         (get_or m.order entry (0, 0)).1,
-        subst (λ o. slice_get o entry ≡ Some (get_or m.order entry (0, 0))) (sym grown) (slice_get_front m.order more entry (get_or m.order entry (0, 0)) at),
+        subst (λ o. slice_get o entry ≡ Some (get_or m.order entry (0, 0))) (sym grown) (get_front m.order more entry (get_or m.order entry (0, 0)) at),
         other_entry base m shell entry path sound r.stale (get_or m.order entry (0, 0)).0 (get_or m.order entry (0, 0)).1 at,
       );
       changed = subst (λ o. Changes base o entry path) (sym grown) (λ same. r.stale.4 (ap (λ nodes. get nodes path) (sym (state-front base m.order more entry (omega arith))) ∙ same ∙ ap (λ nodes. get nodes path) (state-front base m.order more (suc entry) within)));

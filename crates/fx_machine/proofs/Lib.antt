@@ -10,3 +10,5 @@ pub mod Lowering
 pub mod Settling
 pub mod Weight
 pub mod Crosses
+pub mod Stays
+pub mod Turns

@@ -42,7 +42,7 @@ set_looks P ls shell k x none here other =
     own e (inl h) = subst P (sym (get_or-set_same ls shell x [] h)) (here e)
     own e (inr h) = subst P (sym (get_or_past (set ls shell x) shell [] (omega (arith, length-set ls shell x)))) none
 
-none_looked : (n k : ℕ) → get_or (replicate n (let none : List Look = [] in none)) k [] ≡ []
+pub none_looked : (n k : ℕ) → get_or (replicate n (let none : List Look = [] in none)) k [] ≡ []
 none_looked zero k = refl
 none_looked (suc n) zero = refl
 none_looked (suc n) (suc k) = none_looked n k

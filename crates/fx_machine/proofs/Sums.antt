@@ -38,7 +38,7 @@ sum_lower f g n s h lower other =
 
 -- ---- orders
 
-more_of : (turn : Turn) (o : List Turn) (k : ℕ) (b : Bool) → nat_eq turn.0 k ≡ b → length (numbers_of k (turn ∷ o)) ≡ cond b (suc (length (numbers_of k o))) (length (numbers_of k o))
+pub more_of : (turn : Turn) (o : List Turn) (k : ℕ) (b : Bool) → nat_eq turn.0 k ≡ b → length (numbers_of k (turn ∷ o)) ≡ cond b (suc (length (numbers_of k o))) (length (numbers_of k o))
 more_of turn o k true e = ap (λ b. length (cons_option (cond b (Some turn.1) None) (numbers_of k o))) e
 more_of turn o k false e = ap (λ b. length (cons_option (cond b (Some turn.1) None) (numbers_of k o))) e
 

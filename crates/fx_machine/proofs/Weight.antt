@@ -31,7 +31,7 @@ weighed_lower count most a b s l (inr (e, inr (f, h))) =
     let same : (a.unsettled * suc count + a.stale) * suc (count * most) ≡ (b.unsettled * suc count + b.stale) * suc (count * most) = ap (λ x. x * suc (count * most)) upper in
     omega (arith, same, h)
 
-length_first : (n : ℕ) → length (first_numbers n) ≡ n
+pub length_first : (n : ℕ) → length (first_numbers n) ≡ n
 length_first zero = refl
 length_first (suc n) = length-append (first_numbers n) (n ∷ []) ∙ (let e = length_first n in let f : length (first_numbers n) + 1 ≡ suc n = omega (arith, e) in f)
 

@@ -10,4 +10,4 @@ mod retry;
 pub use attempt::Attempt;
 pub use entry::{Entry, Pair};
 pub use event::{Event, Events};
-pub use retry::{Retries, Retry};
+pub use retry::{Retries, Retry, let_go};

@@ -13,3 +13,6 @@ pub struct Retry {
 
 /// Retries, in the order in which they are reported.
 pub type Retries = Listed<Retry>;
+
+/// Lets go of retries.
+pub fn let_go(_: Retries) {}

@@ -3,3 +3,4 @@ pub mod Lists
 pub mod Trees
 pub mod Whole
 pub mod Views
+pub mod Pieces

@@ -10,10 +10,11 @@ use Rattle.std.specs.Map.{keys_of, lookup}
 use Rattle.std.specs.BTreeMap.{is_at}
 use Rattle.std.specs.FinMap.{FinMap, IsAntisymmetric, entries, empty, from_sorted, insert, find, put, is_sorted, entries-from_sorted, entries-insert, same_entries_map, empty_of_len, len-entries}
 use Rattle.std.specs.FinMap.Entries.{below_all}
-use Rattle.std.proofs.lemmas.Option.{same_Some}
+use Rattle.std.proofs.lemmas.Option.{same_Some, slice_get-get_or}
 use Rattle.std.proofs.lemmas.List.Sorted.{searchable_from_sorted}
 use Rattle.std.proofs.lemmas.Map.Entries.{lookup_from_place, lookup_at_gap}
 use Rattle.std.proofs.lemmas.Map.Keys.{IsDistinct-from_sorted, Less-from_sorted}
+use Rattle.fx_base.proofs.Lists.{length_keys}
 
 pub both : (a b : Bool) → T a → T b → T (a && b)
 both true b p q = q
@@ -46,11 +47,6 @@ split_last (x ∷ y ∷ ys) e is =
     let one : length (x ∷ y ∷ ys) - 1 ≡ suc (length (y ∷ ys) - 1) = omega arith in
     let below : slice_get (y ∷ ys) (length (y ∷ ys) - 1) ≡ Some e = subst (λ n. slice_get (x ∷ y ∷ ys) n ≡ Some e) one is in
     ap (λ l. x ∷ l) (split_last (y ∷ ys) e below) ∙ ap (λ n. take n (x ∷ y ∷ ys) ++ e ∷ []) (sym one)
-
-slice_get_or : {A : Type 0} (es : List A) (i : ℕ) (d : A) → i < length es → slice_get es i ≡ Some (get_or es i d)
-slice_get_or [] i d h = absurd (omega arith)
-slice_get_or (e ∷ es) zero d h = refl
-slice_get_or (e ∷ es) (suc i) d h = slice_get_or es i d (omega arith)
 
 module _ {K X : Type 0} (R : K → K → Ordering) where
   all_below : (k : K) (es : List (K × X)) → T (below_all R k es) → AllByRecursion (λ y. R k y ≡ Less) (keys_of es)
@@ -127,7 +123,7 @@ module _ {K X : Type 0} {R : K → K → Ordering} (o : IsTotalOrder R) where
   find_at same es i q d sorted lt tied =
       let key : (get_or es i d).0 ≡ q = same _ q tied in
       subst (λ k. find R k es ≡ Some (get_or es i d).1) key
-      (find_is_lookup R _ es ∙ lookup_from_place (eq_by_cmp_equiv o) es i (get_or es i d).0 (get_or es i d).1 (IsDistinct-from_sorted R (keys_of es) (strictly_sorted R es sorted)) (slice_get_or es i d lt))
+      (find_is_lookup R _ es ∙ lookup_from_place (eq_by_cmp_equiv o) es i (get_or es i d).0 (get_or es i d).1 (IsDistinct-from_sorted R (keys_of es) (strictly_sorted R es sorted)) (slice_get-get_or es i d lt))
 
   -- what it finds where the keys before are less and those from there on greater
   pub find_gap : (es : List (K × X)) (i : ℕ) (q : K) → T (is_sorted R es) → ((j : ℕ) (d : K × X) → j < i → R (get_or es j d).0 q ≡ Less) → ((j : ℕ) (d : K × X) → i ≤ j → j < length es → R (get_or es j d).0 q ≡ Greater) → find R q es ≡ None
@@ -156,10 +152,6 @@ get_or_keys : {K X : Type 0} (es : List (K × X)) (i : ℕ) (d : K × X) → get
 get_or_keys [] i d = refl
 get_or_keys (e ∷ es) zero d = refl
 get_or_keys (e ∷ es) (suc i) d = get_or_keys es i d
-
-length_keys : {K X : Type 0} (es : List (K × X)) → length (keys_of es) ≡ length es
-length_keys [] = refl
-length_keys (e ∷ es) = ap suc (length_keys es)
 
 -- the answers of a search for a key rise along such a list
 pub rises : {K X : Type 0} {R : K → K → Ordering} (o : IsTotalOrder R) (es : List (K × X)) (q : K) → T (is_sorted R es) → IsNonDecreasingBy (λ e. ordering_index (R e.0 q)) es

@@ -1,8 +1,8 @@
 -- The tree of a list of entries: what stands at a place, one more entry, and the names in a folder.
-use Rattle.std.proofs.Common.{◌≡◌, inl, inr, ℕ, suc, ◌-◌, true, cond, T, List, [], ◌∷◌, ◌++◌, length, take, Option, None, Some, option_map, refl, sym, ◌∙◌, ap, subst, arith, append_assoc}
+use Rattle.std.proofs.Common.{◌≡◌, inl, inr, ℕ, suc, ◌-◌, true, cond, T, List, [], ◌∷◌, ◌++◌, length, Option, None, Some, option_map, refl, sym, ◌∙◌, ap, subst, arith, append_assoc}
 use Rattle.std.specs.declared.cmp.Ordering.{Ordering}
 use Rattle.std.specs.declared.cmp.Ordering.TheVariants.{Less, Equal, Greater}
-use Rattle.std.specs.Ordering.{is_eq, is_lt, eq_by_cmp, ordering_then}
+use Rattle.std.specs.Ordering.{is_eq, is_lt, eq_by_cmp}
 use Rattle.std.specs.Cmp.{IsTotalOrder, eq_by_cmp_equiv, tied_itself}
 use Rattle.std.specs.Cmp.Lexicographic.{nat_list_cmp_total, lists_total, lists_ties, pointwise}
 use Rattle.std.specs.List.{slice_get}
@@ -11,6 +11,8 @@ use Rattle.std.specs.BTreeMap.{is_at}
 use Rattle.std.specs.FinMap.{IsAntisymmetric, get, insert, entries, find, is_sorted, same_map, get-insert, get-from_entries, get-entries, empty, entries-from_sorted, slice_cmp-IsAntisymmetric, nat_cmp-IsAntisymmetric}
 use Rattle.std.specs.FinMap.Entries.{below_all}
 use Rattle.std.proofs.lemmas.Bool.{cases_Bool}
+use Rattle.fx_base.proofs.Names.{same_front, above_pushed}
+use Rattle.fx_base.proofs.Orders.{then_equal}
 use Rattle.fx_outside.specs.declared.kind.HostKind.{HostKind}
 use Rattle.fx_outside.specs.Listing.{Names, name_cmp}
 use Rattle.fx_outside.specs.Path.{Parts, parts_cmp, above, name_in}
@@ -45,16 +47,6 @@ insert_tree old new names entry updates = same_map parts_total parts_same _ _ (�
 pub same_tree : (old new : List (Parts × Entry)) → new ≡ old → tree_of new ≡ tree_of old
 same_tree old new e = ap tree_of e
 
--- the order of places in one folder is that of their names
-same_front : (folder a b : Parts) → parts_cmp (folder ++ a) (folder ++ b) ≡ parts_cmp a b
-same_front [] a b = refl
-same_front (x ∷ folder) a b = ap (λ r. ordering_then r (parts_cmp (folder ++ a) (folder ++ b))) (tied_itself name_total x) ∙ same_front folder a b
-
-then_equal : (o : Ordering) → ordering_then o Equal ≡ o
-then_equal Less = refl
-then_equal Equal = refl
-then_equal Greater = refl
-
 pub in_folder_cmp : (folder : Parts) (m n : List ℕ) → parts_cmp (folder ++ m ∷ []) (folder ++ n ∷ []) ≡ name_cmp m n
 in_folder_cmp folder m n = same_front folder (m ∷ []) (n ∷ []) ∙ then_equal (name_cmp m n)
 
@@ -76,13 +68,6 @@ name_in_folder folder names name is =
 
 pointwise_same : (names : Parts) → true ≡ pointwise (eq_by_cmp name_cmp) names names
 pointwise_same names = ap is_eq (sym (tied_itself parts_total names)) ∙ sym (lists_ties name_cmp (λ x y. refl) names names)
-
-above_pushed : (folder : Parts) (name : List ℕ) → take (length (folder ++ name ∷ []) - 1) (folder ++ name ∷ []) ≡ folder
-above_pushed [] name = refl
-above_pushed (x ∷ []) name = refl
-above_pushed (x ∷ y ∷ folder) name =
-    let one : length (x ∷ y ∷ folder ++ name ∷ []) - 1 ≡ suc (length (y ∷ folder ++ name ∷ []) - 1) = omega arith in
-    ap (λ n. take n (x ∷ y ∷ folder ++ name ∷ [])) one ∙ ap (λ l. x ∷ l) (above_pushed (y ∷ folder) name)
 
 last_pushed : (folder : Parts) (name : List ℕ) → slice_get (folder ++ name ∷ []) (length (folder ++ name ∷ []) - 1) ≡ Some name
 last_pushed [] name = refl

@@ -4,32 +4,23 @@ use Rattle.std.specs.Option.{option_map_or}
 use Rattle.std.specs.List.{list_all, slice_split, onto_first}
 use Rattle.std.specs.Ordering.{eq_by_cmp}
 use Rattle.std.specs.FinMap.{get, insert, get-insert, get-empty}
-use Rattle.std.proofs.lemmas.Bool.{cases_Bool}
+use Rattle.std.proofs.lemmas.Bool.{cases_Bool, and_from}
 use Rattle.std.proofs.lemmas.Bool.Decides.{nat_tests}
 use Rattle.std.proofs.lemmas.Option.{same_Some}
 use Rattle.std.proofs.lemmas.List.Splits.{length-slice_split}
+use Rattle.fx_base.proofs.Booleans.{second_true, first_true}
+use Rattle.fx_base.proofs.Names.{path_is}
 use Rattle.fx_outside.specs.declared.kind.HostKind.{HostKind}
 use Rattle.fx_outside.specs.Path.{Parts, parts_cmp, parts, is_fit, fit_parts, is_fit_part, has_no_slash, above}
 use Rattle.fx_outside.specs.Tree.{Tree, Entry, IsWhole, has_folder, is_folder_kind, is_file_kind, is_placed, is_free, is_free_at}
 use Rattle.fx_outside.specs.Memory.{tree_of}
-use Rattle.fx_outside.proofs.Trees.{parts_total, parts_same, true_test}
+use Rattle.fx_outside.proofs.Trees.{parts_total}
 
 none_some : (entry : Entry) → None ≡ Some entry → ⊥
 none_some entry e = cc
 
 pub whole_empty : IsWhole (tree_of [])
 whole_empty = record { placed = λ names entry is. absurd (none_some entry (sym (get-empty parts_cmp names) ∙ is)) }
-
-pub all_true : (a b : Bool) → a ≡ true → b ≡ true → (a && b) ≡ true
-all_true a b p q = ap (λ x. x && b) p ∙ q
-
-left_true : (a b : Bool) → (a && b) ≡ true → a ≡ true
-left_true true b e = refl
-left_true false b e = cc
-
-pub right_true : (a b : Bool) → (a && b) ≡ true → b ≡ true
-right_true true b e = e
-right_true false b e = cc
 
 fourth : (a b c d d' r : Bool) → (d ≡ true → d' ≡ true) → (a && (b && (c && (d && r)))) ≡ true → (a && (b && (c && (d' && r)))) ≡ true
 fourth true true true true d' r up e = ap (λ x. x && r) (up refl) ∙ e
@@ -42,15 +33,12 @@ not_there : (o : Option Entry) → is_none o ≡ true → option_map_or (λ e. i
 not_there None e f = cc
 not_there (Some x) e f = cc
 
-same_place : (q names : Parts) → eq_by_cmp parts_cmp q names ≡ true → q ≡ names
-same_place q names e = parts_same q names (true_test _ (sym e))
-
 -- a folder that stands somewhere stays when something is added elsewhere
 folder_kept : (tree : Tree) (names : Parts) (entry : Entry) → is_none (get tree names) ≡ true → (place : Parts) → has_folder tree place ≡ true → has_folder (insert tree names entry) place ≡ true
 folder_kept tree names entry free [] there = refl
 folder_kept tree names entry free (n ∷ ns) there =
     elim (cases_Bool (eq_by_cmp parts_cmp (n ∷ ns) names)) [
-      | inl same ↦ absurd (not_there (get tree names) free (subst (λ p. option_map_or (λ e. is_folder_kind e.kind) (get tree p) false ≡ true) (same_place (n ∷ ns) names same) there))
+      | inl same ↦ absurd (not_there (get tree names) free (subst (λ p. option_map_or (λ e. is_folder_kind e.kind) (get tree p) false ≡ true) (path_is (n ∷ ns) names same) there))
       | inr apart ↦ ap (λ o. option_map_or (λ e. is_folder_kind e.kind) o false) (get-insert parts_total tree names entry (n ∷ ns) ∙ ap (λ b. cond b (Some entry) (get tree (n ∷ ns))) apart) ∙ there
     ]
 
@@ -61,7 +49,7 @@ whole_insert tree names entry whole free placed = record {
       let after = get-insert parts_total tree names entry q in
       elim (cases_Bool (eq_by_cmp parts_cmp q names)) [
         | inl same ↦
-            let here : q ≡ names = same_place q names same in
+            let here : q ≡ names = path_is q names same in
             let this : found ≡ entry = same_Some found entry (sym is ∙ after ∙ ap (λ b. cond b (Some entry) (get tree q)) same) in
             fourth (not (length q == 0)) (list_all is_fit_part q) (list_all has_no_slash q) (has_folder tree (above q)) (has_folder (insert tree names entry) (above q)) (is_file_kind found.kind || length found.bytes == 0) up
             (subst (λ e. is_placed tree q e ≡ true) (sym this) (subst (λ p. is_placed tree p entry ≡ true) (sym here) placed))
@@ -91,12 +79,12 @@ some_length n m e = let big : 0 < n = omega arith in positive n big
 -- a path of a free place is where an entry may stand
 pub whole_added : (tree : Tree) (path : List ℕ) (entry : Entry) → IsWhole tree → is_free_at tree path ≡ true → (is_file_kind entry.kind || length entry.bytes == 0) ≡ true → IsWhole (insert tree (parts path) entry)
 whole_added tree path entry whole free bytes =
-    let fit = left_true (is_fit path) _ free in
-    let rest = right_true (is_fit path) _ free in
-    let none = left_true (is_none (get tree (parts path))) _ rest in
-    let around = right_true (is_none (get tree (parts path))) _ rest in
+    let fit = first_true (is_fit path) _ free in
+    let rest = second_true (is_fit path) _ free in
+    let none = first_true (is_none (get tree (parts path))) _ rest in
+    let around = second_true (is_none (get tree (parts path))) _ rest in
     whole_insert tree (parts path) entry whole none
-    (all_true _ _ (some_length _ _ (length-slice_split (λ b. b == 47) path)) (all_true _ _ fit (all_true _ _ (no_slash path) (all_true _ _ around bytes))))
+    (and_from _ _ (some_length _ _ (length-slice_split (λ b. b == 47) path)) (and_from _ _ fit (and_from _ _ (no_slash path) (and_from _ _ around bytes))))
 
 cond_none : (b : Bool) (names found : Parts) → Some found ≡ cond b (Some names) None → record { holds : b ≡ true; same : found ≡ names }
 cond_none true names found e = record { holds = refl; same = same_Some found names e }
@@ -111,12 +99,12 @@ pub whole_after : {E : Type 0} (result : Result (Unit {0}) E) (old new : Tree) (
 whole_after (Ok done) old new path found entry whole is free bytes added same =
     let read = read_parts path found is in
     let here : is_free old (parts path) ≡ true = subst (λ n. is_free old n ≡ true) read.same free in
-    subst IsWhole (sym (added ∙ ap (λ n. insert old n entry) read.same)) (whole_added old path entry whole (all_true _ _ read.holds here) bytes)
+    subst IsWhole (sym (added ∙ ap (λ n. insert old n entry) read.same)) (whole_added old path entry whole (and_from _ _ read.holds here) bytes)
 whole_after (Err e) old new path found entry whole is free bytes added same = subst IsWhole (sym same) whole
 
 -- a free path has free parts
 pub free_parts : (tree : Tree) (path : List ℕ) (found : Parts) → Some found ≡ fit_parts path → is_free_at tree path ≡ true → is_free tree found ≡ true
-free_parts tree path found is free = subst (λ n. is_free tree n ≡ true) (sym (read_parts path found is).same) (right_true (is_fit path) _ free)
+free_parts tree path found is free = subst (λ n. is_free tree n ≡ true) (sym (read_parts path found is).same) (second_true (is_fit path) _ free)
 
 pub only_files : (kind : HostKind) (given stored : List ℕ) → stored ≡ given → (is_file_kind kind ≡ false → given ≡ []) → (is_file_kind kind || length stored == 0) ≡ true
 only_files kind given stored same none = elim (cases_Bool (is_file_kind kind)) [

@@ -3,7 +3,9 @@ use Rattle.std.proofs.Common.{◌≡◌, ℕ, suc, Bool, true, false, ◌⊎◌,
 use Rattle.std.specs.Prelude.{find, nat_eq, is_none}
 use Rattle.std.specs.Cmp.Lexicographic.{pointwise}
 use Rattle.std.proofs.lemmas.List.{append-nil}
-use Rattle.std.proofs.lemmas.Bool.{and_parts, and_from, eqb-true, cases_Bool, cond-true, cond-false}
+use Rattle.std.proofs.lemmas.Bool.{and_parts, and_from, cases_Bool, cond-true, cond-false}
+use Rattle.fx_base.proofs.Orders.{nat_list_exact}
+use Rattle.fx_base.proofs.Results.{none_is}
 use Rattle.fx_expr.specs.ExprTree.{ExprTree}
 use Rattle.fx_expr.specs.declared.expr.BinOp.{BinOp}
 use Rattle.fx_expr.specs.declared.expr.BinOp.TheVariants as binary
@@ -89,10 +91,6 @@ pub head_bool : (b : Bool) → head_of (word (bool_word b)) ≡ Leaf (ExprTree.b
 head_bool true = head_word keyword.True
 head_bool false = head_word keyword.False
 
-none_is : (o : Option Keyword) → is_none o ≡ true → o ≡ None
-none_is None e = refl
-none_is (Some k) e = absurd cc
-
 pub head_name : (w : List ℕ) → is_name w ≡ true → head_of (token.Word w) ≡ Leaf (ExprTree.var w)
 head_name w e = ap (word_head w) (none_is (keyword_of w) e)
 
@@ -164,16 +162,8 @@ found_passes p (x ∷ ks) k e = elim (cases_Bool (p x)) [
   | inr there ↦ found_passes p ks k (sym (cond-false (p x) (Some x) (find p ks) there) ∙ e)
 ]
 
-same_bytes : (a b : List ℕ) → pointwise nat_eq a b ≡ true → a ≡ b
-same_bytes [] [] e = refl
-same_bytes [] (y ∷ b) e = absurd cc
-same_bytes (x ∷ a) [] e = absurd cc
-same_bytes (x ∷ a) (y ∷ b) e =
-    let both = and_parts (nat_eq x y) (pointwise nat_eq a b) e in
-    ap (λ z. z ∷ a) (eqb-true x y both.0) ∙ ap (λ l. y ∷ l) (same_bytes a b both.1)
-
 pub keyword_spelled : (w : List ℕ) (k : Keyword) → keyword_of w ≡ Some k → token.Word w ≡ word k
-keyword_spelled w k e = ap token.Word (sym (same_bytes (keyword_bytes k) w (found_passes (λ k. pointwise nat_eq (keyword_bytes k) w) keywords k e)))
+keyword_spelled w k e = ap token.Word (sym (nat_list_exact (keyword_bytes k) w (found_passes (λ k. pointwise nat_eq (keyword_bytes k) w) keywords k e)))
 
 -- the tokens that begin so
 abbrev HeadSpells : Head → Token → Type 0

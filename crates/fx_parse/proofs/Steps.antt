@@ -36,3 +36,13 @@ on r go k end first rest = first ∙ same_then r go (λ a. k a >>= end) rest ∙
 -- a part whose tokens are read again, and then the others
 pub part_then : {A B : Type 0} (read : List Token → Result (A × List Token) Stuck) (a b c : List Token) (t : A) (k : A × List Token → Result B Stuck) → ((r : List Token) → read (a ++ r) ≡ Ok (t, r)) → (read ((a ++ b) ++ c) >>= k) ≡ k (t, b ++ c)
 part_then read a b c t k again = ap (λ ts. read ts >>= k) (append_assoc a b c) ∙ ap (λ r. r >>= k) (again (b ++ c))
+
+-- ---- chains of readings
+
+pub then_ok : {A B : Type 0} (r : Result A Stuck) (a : A) (k : A → Result B Stuck) → r ≡ Ok a → (r >>= k) ≡ k a
+then_ok r a k e = ap (λ r. r >>= k) e
+
+-- a reading that goes on only where it gives something
+pub on_ok : {A B C : Type 0} {start : Result C Stuck} (r : Result A Stuck) (go : A → Result C Stuck) (k : A → Result B Stuck) (end : B → Result C Stuck) → start ≡ (r >>= go) → ((a : A) → r ≡ Ok a → go a ≡ (k a >>= end)) → start ≡ ((r >>= k) >>= end)
+on_ok (Ok a) go k end first rest = first ∙ rest a refl
+on_ok (Err e) go k end first rest = first

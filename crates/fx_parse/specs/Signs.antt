@@ -1,5 +1,5 @@
 -- Tokens that stand for themselves in a form, and names.
-use Rattle.std.specs.Prelude.{ℕ, Bool, true, false, List, [], ◌∷◌, Result, Ok, Err, bytes_eq, if◌then◌else◌}
+use Rattle.std.specs.Prelude.{ℕ, Bool, true, false, List, [], ◌∷◌, Option, Some, None, Result, Ok, Err, bytes_eq, if◌then◌else◌}
 use Rattle.fx_lex.specs.declared.token.Token.{Token}
 use Rattle.fx_lex.specs.declared.token.Token.TheVariants as token
 use Rattle.fx_lex.specs.declared.token.Mark.TheVariants as mark
@@ -60,6 +60,15 @@ is_sign sign.Else t = is_word (keyword_bytes keyword.Else) t
 is_sign sign.Txn t = is_word (keyword_bytes keyword.Txn) t
 is_sign sign.Def token.Def = true
 is_sign sign.Def _ = false
+
+abbrev pub closed_by : Bool → List Token → Option (List Token)
+closed_by true ts = Some ts
+closed_by false ts = None
+
+-- behind the sign, where the tokens begin with it
+abbrev pub closed : Sign → List Token → Option (List Token)
+closed s [] = None
+closed s (x ∷ ts) = closed_by (is_sign s x) ts
 
 -- a name, and what follows
 abbrev pub name_at : List Token → Result (List ℕ × List Token) Stuck

@@ -1,12 +1,12 @@
 ghost use Rattle.std.specs.Prelude.{◌≡◌, ◌∷◌, [], MatchOption};
-ghost use Rattle.fx_parse.specs.Reader.{kinds, expect, is_opening, is_closing, is_comma, glob_at, middle_at};
+ghost use Rattle.fx_parse.specs.Reader.{kinds, glob_at, middle_at};
 ghost use Rattle.fx_parse.specs.Heads.{operator_middle};
 ghost use Rattle.fx_parse.specs.Stuck.{Gives};
 
 use crate::head::{Operator, operator_of};
 use crate::stop::Stop;
 use fx_expr::Text;
-use fx_lex::{Mark, Spanned, Token};
+use fx_lex::{Spanned, Token};
 use std::alloc::Global;
 
 /// The first token and those behind it; None exactly where there is none.
@@ -17,69 +17,6 @@ pub fn first_of<'a>(tokens: &'a [Spanned]) -> Option<(&'a Token, &'a [Spanned])>
     match tokens {
         [first, rest @ ..] => Some((&first.token, rest)),
         [] => None,
-    }
-}
-
-fn is_opening(token: &Token) -> bool
-    ensures { result ≡ is_opening token.now }
-{
-    matches!(token, Token::Mark(Mark::LeftParen))
-}
-
-fn is_closing(token: &Token) -> bool
-    ensures { result ≡ is_closing token.now }
-{
-    matches!(token, Token::Mark(Mark::RightParen))
-}
-
-fn is_comma(token: &Token) -> bool
-    ensures { result ≡ is_comma token.now }
-{
-    matches!(token, Token::Mark(Mark::Comma))
-}
-
-/// Behind `(`.
-pub(crate) fn opened(tokens: &[Spanned]) -> Result<&[Spanned], Stop>
-    ensures { Gives (λ r. kinds r.now) result (expect is_opening (kinds tokens.now)) }
-{
-    match first_of(tokens) {
-        Some((first, rest)) => {
-            if is_opening(first) {
-                return Ok(rest);
-            }
-            Err(Stop::Unexpected(tokens.len()))
-        }
-        None => Err(Stop::Unexpected(0)),
-    }
-}
-
-/// Behind `)`.
-pub(crate) fn closed(tokens: &[Spanned]) -> Result<&[Spanned], Stop>
-    ensures { Gives (λ r. kinds r.now) result (expect is_closing (kinds tokens.now)) }
-{
-    match first_of(tokens) {
-        Some((first, rest)) => {
-            if is_closing(first) {
-                return Ok(rest);
-            }
-            Err(Stop::Unexpected(tokens.len()))
-        }
-        None => Err(Stop::Unexpected(0)),
-    }
-}
-
-/// Behind `,`.
-pub(crate) fn parted(tokens: &[Spanned]) -> Result<&[Spanned], Stop>
-    ensures { Gives (λ r. kinds r.now) result (expect is_comma (kinds tokens.now)) }
-{
-    match first_of(tokens) {
-        Some((first, rest)) => {
-            if is_comma(first) {
-                return Ok(rest);
-            }
-            Err(Stop::Unexpected(tokens.len()))
-        }
-        None => Err(Stop::Unexpected(0)),
     }
 }
 

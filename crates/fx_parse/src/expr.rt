@@ -4,8 +4,9 @@ ghost use Rattle.fx_parse.specs.Reader.{kinds, read_expr, bracket_at, before_at,
 ghost use Rattle.fx_parse.specs.Heads.{start_head, operator_middle};
 ghost use Rattle.fx_parse.specs.Stuck.{Gives};
 
-use crate::cursor::{closed, first_of, glob_at, opened, operator_at, parted};
+use crate::cursor::{first_of, glob_at, operator_at};
 use crate::head::{Operator, Start, start_of};
+use crate::sign::{Sign, behind};
 use crate::stop::Stop;
 use fx_base::NoMemory;
 use fx_expr::{Expr, UnOp};
@@ -49,7 +50,7 @@ fn second_at(
     match operator {
         Operator::Binary(op) => {
             let (second, rest) = expr_at(alloc, left, tokens)?;
-            let rest = closed(rest)?;
+            let rest = behind(rest, Sign::RightParen)?;
             Ok((
                 Expr::Bin(op, boxed(alloc, first)?, boxed(alloc, second)?),
                 rest,
@@ -57,7 +58,7 @@ fn second_at(
         }
         Operator::Glob => {
             let (glob, rest) = glob_at(alloc, tokens)?;
-            let rest = closed(rest)?;
+            let rest = behind(rest, Sign::RightParen)?;
             Ok((Expr::Only(boxed(alloc, first)?, glob), rest))
         }
         Operator::Neither => Err(Stop::Unexpected(tokens.len())),
@@ -88,9 +89,9 @@ fn before_at(
     ensures { Gives (λ x. (expr_tree x.0, kinds x.1.now)) result
         (before_at (read_expr left) op (kinds tokens.now)) }
 {
-    let rest = opened(tokens)?;
+    let rest = behind(tokens, Sign::LeftParen)?;
     let (inner, rest) = expr_at(alloc, left, rest)?;
-    let rest = closed(rest)?;
+    let rest = behind(rest, Sign::RightParen)?;
     Ok((Expr::Un(op, boxed(alloc, inner)?), rest))
 }
 
@@ -101,13 +102,13 @@ fn choice_at(alloc: Global, left: u32, tokens: &[Spanned]) -> Result<(Expr, &[Sp
     ensures { Gives (λ x. (expr_tree x.0, kinds x.1.now)) result
         (choice_at (read_expr left) (kinds tokens.now)) }
 {
-    let rest = opened(tokens)?;
+    let rest = behind(tokens, Sign::LeftParen)?;
     let (test, rest) = expr_at(alloc, left, rest)?;
-    let rest = parted(rest)?;
+    let rest = behind(rest, Sign::Comma)?;
     let (first, rest) = expr_at(alloc, left, rest)?;
-    let rest = parted(rest)?;
+    let rest = behind(rest, Sign::Comma)?;
     let (second, rest) = expr_at(alloc, left, rest)?;
-    let rest = closed(rest)?;
+    let rest = behind(rest, Sign::RightParen)?;
     Ok((
         Expr::Choose(
             boxed(alloc, test)?,

@@ -1,4 +1,5 @@
-ghost use Rattle.std.specs.Prelude.{◌≡◌};
+ghost use Rattle.std.specs.Prelude.{◌≡◌, ◌∷◌, nat_eq};
+ghost use Rattle.std.specs.Cmp.Lexicographic.{pointwise};
 ghost use Rattle.fx_parse.specs.Keywords.{found_in, keyword_bytes, keyword_of};
 
 /// A word that the language keeps for itself, so that it names nothing.
@@ -259,6 +260,31 @@ pub fn keyword_of(word: &[u8]) -> Option<Keyword>
     }
 }
 
+// Whether the bytes are this word. Most words differ in the first byte, so that is compared before the rest.
+fn is_spelled(keyword: Keyword, word: &[u8]) -> bool
+    ensures { result ≡ pointwise nat_eq (keyword_bytes keyword) word.now }
+{
+    match keyword.bytes() {
+        [first, rest @ ..] => begins_and_ends(*first, rest, word),
+        [] => word.is_empty(),
+    }
+}
+
+// Whether the bytes are this one and those behind it.
+fn begins_and_ends(first: u8, rest: &[u8], word: &[u8]) -> bool
+    ensures { result ≡ pointwise nat_eq (first ∷ rest.now) word.now }
+{
+    match word {
+        [byte, behind @ ..] => {
+            if first != *byte {
+                return false;
+            }
+            rest == behind
+        }
+        [] => false,
+    }
+}
+
 // The one of these words that the bytes are.
 fn found(keywords: &[Keyword], word: &[u8]) -> Option<Keyword>
     ensures { result ≡ found_in keywords.now word.now }
@@ -266,5 +292,5 @@ fn found(keywords: &[Keyword], word: &[u8]) -> Option<Keyword>
     keywords
         .iter()
         .copied()
-        .find(|keyword| keyword.bytes() == word)
+        .find(|keyword| is_spelled(*keyword, word))
 }

@@ -20,5 +20,5 @@ pub use keyword::{KEYWORDS, Keyword, keyword_of};
 pub use laws::{one_place, one_reading};
 pub use parse::{LEVEL_LIMIT, fault_at, parse_expr, parse_shape};
 pub use shape::shape_at;
-pub use sign::{Sign, behind, name_at};
+pub use sign::{Sign, behind, closed, name_at};
 pub use stop::Stop;

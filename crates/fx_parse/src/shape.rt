@@ -4,8 +4,9 @@ ghost use Rattle.fx_parse.specs.Reader.{kinds};
 ghost use Rattle.fx_parse.specs.ShapeReader.{read_shape, pair_at, opt_at, table_at, shape_form_at};
 ghost use Rattle.fx_parse.specs.Stuck.{Gives};
 
-use crate::cursor::{closed, first_of, opened, parted};
+use crate::cursor::first_of;
 use crate::shape_head::{ShapeStart, is_no_shape, shape_of};
+use crate::sign::{Sign, behind};
 use crate::stop::Stop;
 use fx_base::NoMemory;
 use fx_expr::Shape;
@@ -25,11 +26,11 @@ fn pair_at(alloc: Global, left: u32, tokens: &[Spanned]) -> Result<(Shape, &[Spa
     ensures { Gives (λ x. (shape_tree x.0, kinds x.1.now)) result
         (pair_at (read_shape left) (kinds tokens.now)) }
 {
-    let rest = opened(tokens)?;
+    let rest = behind(tokens, Sign::LeftParen)?;
     let (first, rest) = shape_at(alloc, left, rest)?;
-    let rest = parted(rest)?;
+    let rest = behind(rest, Sign::Comma)?;
     let (second, rest) = shape_at(alloc, left, rest)?;
-    let rest = closed(rest)?;
+    let rest = behind(rest, Sign::RightParen)?;
     Ok((
         Shape::Pair(boxed_shape(alloc, first)?, boxed_shape(alloc, second)?),
         rest,
@@ -43,9 +44,9 @@ fn opt_at(alloc: Global, left: u32, tokens: &[Spanned]) -> Result<(Shape, &[Span
     ensures { Gives (λ x. (shape_tree x.0, kinds x.1.now)) result
         (opt_at (read_shape left) (kinds tokens.now)) }
 {
-    let rest = opened(tokens)?;
+    let rest = behind(tokens, Sign::LeftParen)?;
     let (inner, rest) = shape_at(alloc, left, rest)?;
-    let rest = closed(rest)?;
+    let rest = behind(rest, Sign::RightParen)?;
     Ok((Shape::Opt(boxed_shape(alloc, inner)?), rest))
 }
 
@@ -56,9 +57,9 @@ fn table_at(alloc: Global, left: u32, tokens: &[Spanned]) -> Result<(Shape, &[Sp
     ensures { Gives (λ x. (shape_tree x.0, kinds x.1.now)) result
         (table_at (read_shape left) (kinds tokens.now)) }
 {
-    let rest = opened(tokens)?;
+    let rest = behind(tokens, Sign::LeftParen)?;
     let (inner, rest) = shape_at(alloc, left, rest)?;
-    let rest = closed(rest)?;
+    let rest = behind(rest, Sign::RightParen)?;
     Ok((Shape::Table(boxed_shape(alloc, inner)?), rest))
 }
 

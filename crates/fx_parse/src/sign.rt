@@ -1,7 +1,8 @@
 ghost use Rattle.std.specs.Prelude.{◌≡◌};
+ghost use Rattle.std.specs.Option.{option_map};
 ghost use Rattle.fx_parse.specs.Reader.{kinds, expect};
 ghost use Rattle.fx_parse.specs.Grammars.{is_name};
-ghost use Rattle.fx_parse.specs.Signs.{is_word, is_sign, name_at};
+ghost use Rattle.fx_parse.specs.Signs.{is_word, is_sign, closed, name_at};
 ghost use Rattle.fx_parse.specs.Stuck.{Gives};
 
 use crate::cursor::first_of;
@@ -79,6 +80,21 @@ pub fn behind(tokens: &[Spanned], sign: Sign) -> Result<&[Spanned], Stop>
             Err(Stop::Unexpected(tokens.len()))
         }
         None => Err(Stop::Unexpected(0)),
+    }
+}
+
+/// What follows the sign; None exactly where the tokens don't begin with it.
+pub fn closed(tokens: &[Spanned], sign: Sign) -> Option<&[Spanned]>
+    ensures { option_map (λ r. kinds r.now) result ≡ closed sign (kinds tokens.now) }
+{
+    match first_of(tokens) {
+        Some((first, rest)) => {
+            if is_sign(first, sign) {
+                return Some(rest);
+            }
+            None
+        }
+        None => None,
     }
 }
 

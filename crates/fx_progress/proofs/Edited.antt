@@ -13,6 +13,8 @@ use Rattle.fx_store.specs.Names.{IsName, IsPath, has}
 use Rattle.fx_store.specs.Resolve.{resolve, ◌/ₚ◌, parent}
 use Rattle.fx_store.specs.Rule.{Ask, Answer, Look, look_all, ◌>>=◌}
 use Rattle.fx_store.specs.Whole.{IsNode}
+use Rattle.fx_store.proofs.PathLists.{length_below, path_below}
+use Rattle.fx_store.proofs.Placing.{IsNameSet-without}
 use Rattle.fx_expr.specs.Sets.{set_of, with_text}
 use Rattle.fx_expr.specs.Tree.{Tree}
 use Rattle.fx_spec.specs.declared.refusal.Refusal.{Refusal}
@@ -21,11 +23,11 @@ use Rattle.fx_spec.specs.Move.{Answered, unrefused, needed}
 use Rattle.fx_spec.specs.Place.{PlaceTree}
 use Rattle.fx_spec.proofs.EditsKeep.{empty_file, ends_in}
 use Rattle.fx_spec.proofs.EditsMake.{IsNameSet-with}
-use Rattle.fx_spec.proofs.EditLaws.{NodeOk, has_room, stored_node_ok}
+use Rattle.fx_spec.proofs.EditLaws.{NodeOk, has_room, stored_node_ok, renewed_node, not_too_deep, bare_node_ok}
 use Rattle.fx_progress.specs.Asks.{MayStand, AsksPaths, MaySet}
 use Rattle.fx_progress.proofs.Asking.{asks_then, IsLanding}
 use Rattle.fx_progress.proofs.Resolving.{IsPath-parent, resolve_asks}
-use Rattle.fx_progress.proofs.EditedNodes.{length_below, path_below, sets_none, sets_more, sets_both, names_found, set_of_names, names_without, dir_fits, renewed_fits, roomy_fits, not_too_deep, bare_node_ok, made_may}
+use Rattle.fx_progress.proofs.EditedNodes.{sets_none, sets_more, sets_both, names_found, set_of_names, dir_fits, roomy_fits, made_may}
 
 -- the changes of an edit that is not refused
 abbrev pub edit_sets : Answered (List Change) → Type 0
@@ -97,7 +99,7 @@ unless_deep_asks false rule given = given refl
 -- --------------------------------------------------------------------------------------------------------------- stores
 
 replaced_asks : (flag : Bool) (q : List (List ℕ)) (node : Node) (found : Option Node) → IsPath q → NodeOk node → MayStand q found → AsksPaths edit_sets (replaced flag q node found)
-replaced_asks flag q (File bytes exec) (Some (File old was)) path ok may = sets_more (set_to q (renewed flag (File bytes exec) (File old was))) [] path (renewed_fits flag q bytes old exec was ok may) sets_none
+replaced_asks flag q (File bytes exec) (Some (File old was)) path ok may = sets_more (set_to q (renewed flag (File bytes exec) (File old was))) [] path (renewed_node flag q bytes old exec was ok may) sets_none
 replaced_asks flag q (Link text) (Some (Link old)) path ok may = sets_more (set_to q (Link text)) [] path ok sets_none
 replaced_asks flag q (Dir names) (Some (Dir old)) path ok may =
     unless_deep_asks (lacks_room q (Dir names)) (new_names q old names) (λ room. new_names_ask q old names path may (ok, λ full. has_room q names room full))
@@ -151,7 +153,7 @@ remove_entry_asks (n ∷ names) path =
       above_path,
       λ above may.
           asks_then MaySet edit_sets (clear (n ∷ names)) (λ below. Answer (Ok (set_to (parent (n ∷ names)) (Dir (without_name (last_name (n ∷ names)) (names_of above))) ∷ below))) (clear_asks (n ∷ names) path) (λ below more.
-          sets_more (set_to (parent (n ∷ names)) (Dir (without_name (last_name (n ∷ names)) (names_of above)))) below above_path (dir_fits (parent (n ∷ names)) (without_name (last_name (n ∷ names)) (names_of above)) (names_without (last_name (n ∷ names)) (names_of above) (names_found (parent (n ∷ names)) above may)) short) more),
+          sets_more (set_to (parent (n ∷ names)) (Dir (without_name (last_name (n ∷ names)) (names_of above)))) below above_path (dir_fits (parent (n ∷ names)) (without_name (last_name (n ∷ names)) (names_of above)) (IsNameSet-without (last_name (n ∷ names)) (names_of above) (names_found (parent (n ∷ names)) above may)) short) more),
     )
 
 remove_landed_asks : (p : List (List ℕ)) (landing : Landing) → IsLanding landing → AsksPaths edit_sets (remove_landed p landing)

@@ -1,38 +1,28 @@
 -- Nodes that an edit sets are within their limits where they are set.
-use Rattle.std.proofs.Common.{◌≡◌, ℕ, suc, ◌+◌, ◌≤◌, ◌<◌, Bool, true, false, cond, not, refl, subst, sym, ◌∙◌, List, [], ◌∷◌, ◌++◌, map, length, Option, Some, None, Ok, nat_lt, arith, bytes_eq, length-append, append_assoc}
-use Rattle.std.proofs.lemmas.Bool.{true≢false, ltb-true, ltb-false}
-use Rattle.std.proofs.lemmas.List.Elements.{All-nil, All-cons, All-append, All-push, All-filter, All-head, All-tail}
-use Rattle.std.proofs.lemmas.List.Kept.{IsStrictlySortedBy-filter}
+use Rattle.std.proofs.Common.{◌≡◌, ℕ, suc, ◌+◌, ◌≤◌, ◌<◌, Bool, true, false, refl, subst, sym, ◌∙◌, List, [], ◌∷◌, ◌++◌, map, length, Option, Some, None, nat_lt, arith, append_assoc}
+use Rattle.std.proofs.lemmas.Bool.{ltb-true, ltb-false}
+use Rattle.std.proofs.lemmas.List.Elements.{All-nil, All-cons, All-append, All-head, All-tail}
 use Rattle.std.proofs.lemmas.Map.Views.{All-from_any}
 use Rattle.std.specs.Cmp.{eq_by_cmp_equiv}
 use Rattle.std.specs.List.{All}
 use Rattle.fx_store.specs.declared.node.Node.{Node}
 use Rattle.fx_store.specs.declared.node.Node.TheVariants.{File, Dir, Link}
 use Rattle.fx_store.specs.declared.changes.Change.{Change}
-use Rattle.fx_store.specs.Names.{name_cmp, IsName, IsPath, IsNameSet, IsContent}
+use Rattle.fx_store.specs.Names.{IsName, IsPath, IsNameSet}
 use Rattle.fx_store.specs.Orders.{name_total}
 use Rattle.fx_store.specs.Resolve.{◌/ₚ◌}
 use Rattle.fx_store.specs.Whole.{IsNode}
 use Rattle.fx_store.proofs.Relisted.{has-all}
+use Rattle.fx_store.proofs.PathLists.{length_below, path_below}
 use Rattle.fx_expr.specs.Sets.{set_of}
-use Rattle.fx_spec.specs.declared.refusal.Refusal.{Refusal}
-use Rattle.fx_spec.specs.Edit.{set_to, names_of, lacks_room, is_too_deep, renewed, children, made, bare_node, without_name}
-use Rattle.fx_spec.specs.Move.{needed}
-use Rattle.fx_spec.specs.SpecTree.{SpecTree}
+use Rattle.fx_spec.specs.Edit.{set_to, names_of, lacks_room, children, made}
 use Rattle.fx_spec.proofs.EditsClear.{has-set_of}
-use Rattle.fx_spec.proofs.EditsKeep.{same_ok, empty_file, empty_dir}
+use Rattle.fx_spec.proofs.EditsKeep.{empty_file, empty_dir}
 use Rattle.fx_spec.proofs.EditsMake.{IsNameSet-with}
 use Rattle.fx_spec.proofs.EditLaws.{NodeOk, has_room}
 use Rattle.fx_progress.specs.Asks.{MayStand, MaySet}
 
 -- ---------------------------------------------------------------------------------------------------------------- paths
-
-pub length_below : (q : List (List ℕ)) (n : List ℕ) → length (q /ₚ n) ≡ suc (length q)
-length_below q n = omega (arith, length-append q (n ∷ []))
-
--- a path with one more name, where there is room for it
-pub path_below : (q : List (List ℕ)) (n : List ℕ) → IsPath q → IsName n → length q < 64 → IsPath (q /ₚ n)
-path_below q n path name room = record { names = All-push IsName q n path.names name; short = omega (arith, room, length_below q n) }
 
 -- -------------------------------------------------------------------------------------------------------------- changes
 
@@ -64,10 +54,6 @@ names_found q (Some (Link text)) may = no_names
 pub set_of_names : (names : List (List ℕ)) → All IsName names → All IsName (set_of names)
 set_of_names names are = All-from_any (eq_by_cmp_equiv name_total) IsName (set_of names) (λ n h. has-all IsName names n are (sym (has-set_of names n) ∙ h))
 
--- a set of names without one
-pub names_without : (n : List ℕ) (names : List (List ℕ)) → IsNameSet names → IsNameSet (without_name n names)
-names_without n names set = record { names = All-filter (λ m. not (bytes_eq n m)) IsName names set.names; ascending = IsStrictlySortedBy-filter name_cmp (λ m. not (bytes_eq n m)) names set.ascending }
-
 -- ---------------------------------------------------------------------------------------------------------------- nodes
 
 -- a directory at a path of fewer than 64 names has room for any
@@ -85,32 +71,11 @@ has_room_below q n names path fits = at (nat_lt (length q) 64) refl
     at true e = ltb-true (length q) 64 e
     at false e = absurd (lists_none (fits.1 (omega (arith, path.short, ltb-false (length q) 64 e))))
 
--- a file of which the flag alone is replaced, or the bytes alone
-pub renewed_fits : (flag : Bool) (q : List (List ℕ)) (bytes old : List ℕ) (exec was : Bool) → IsContent bytes → IsContent old → IsNode q (renewed flag (File bytes exec) (File old was))
-renewed_fits true q bytes old exec was new found = found
-renewed_fits false q bytes old exec was new found = new
-
 -- a node that does not lack room
 pub roomy_fits : (q : List (List ℕ)) (node : Node) → NodeOk node → lacks_room q node ≡ false → IsNode q node
 roomy_fits q (File bytes exec) ok e = ok
 roomy_fits q (Dir names) ok e = (ok, λ full. has_room q names e full)
 roomy_fits q (Link text) ok e = ok
-
--- what is not too deep has few names, and room for those that it lists
-pub not_too_deep : (here names : List (List ℕ)) (node : Node) → is_too_deep here names node ≡ false → (length here + length names ≤ 64) × (lacks_room (here ++ names) node ≡ false)
-not_too_deep here names node e = at (nat_lt 64 (length here + length names)) refl e
-  where
-    at : (b : Bool) → nat_lt 64 (length here + length names) ≡ b → cond b true (lacks_room (here ++ names) node) ≡ false → (length here + length names ≤ 64) × (lacks_room (here ++ names) node ≡ false)
-    at true f h = absurd (true≢false h)
-    at false f h = (ltb-false 64 (length here + length names) f, h)
-
--- the empty node of a description
-pub bare_node_ok : (spec : SpecTree) (node : Node) → needed Refusal.NoDefault (bare_node spec) ≡ Ok node → NodeOk node
-bare_node_ok SpecTree.file node e = subst NodeOk (same_ok (File [] false) node e) (empty_file []).limits
-bare_node_ok SpecTree.dir node e = subst NodeOk (same_ok (Dir []) node e) no_names
-bare_node_ok (SpecTree.pair x a b) node e = bare_node_ok a node e
-bare_node_ok (SpecTree.opt s) node e = bare_node_ok s node e
-bare_node_ok _ node e = cc
 
 -- ------------------------------------------------------------------------------------------------------ nodes that are made
 

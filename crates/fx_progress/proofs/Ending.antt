@@ -8,6 +8,8 @@ use Rattle.std.proofs.lemmas.Bool.{cases_lt}
 use Rattle.std.proofs.lemmas.Bool.Decides.{nat_tests}
 use Rattle.std.proofs.lemmas.List.{get_or_past}
 use Rattle.std.proofs.lemmas.List.Elements.{Contains-append_cases}
+use Rattle.fx_base.proofs.Lists.{only_one}
+use Rattle.fx_base.proofs.Booleans.{never_both}
 use Rattle.fx_store.specs.Whole.{IsWhole}
 use Rattle.fx_spec.specs.Plans.{Turn}
 use Rattle.fx_spec.specs.Order.{BaseTree, IsComplete, first_numbers}
@@ -17,9 +19,10 @@ use Rattle.fx_machine.specs.Machine.{Machine, Run, Step, next_txn, shell_of, res
 use Rattle.fx_machine.specs.Measure.{has_left}
 use Rattle.fx_machine.specs.Turns.{TakesTurns, left_out, steps, a_round, over, is_settled_by, has_more}
 use Rattle.fx_machine.proofs.Weight.{weight, weight_falls}
+use Rattle.fx_machine.proofs.Turns.{first_contains}
 use Rattle.fx_progress.specs.Ends.{HasEvent, GoesOn, ComesToEnd}
 use Rattle.fx_progress.proofs.Turning.{TurnsLeft, turns_left, more_is_left, runs_on}
-use Rattle.fx_progress.proofs.Resting.{true_false, first_contains, at_rest, completed}
+use Rattle.fx_progress.proofs.Resting.{at_rest, completed}
 
 -- ---- shells with a transaction left
 
@@ -47,10 +50,6 @@ none_past base before k h =
 
 none_more : (base : BaseTree) (before : List Event) → NoneBelow (has_more base before) (length base.plan) → (k : ℕ) → has_more base before k ≡ false
 none_more base before none k = ⊎_elim (λ (h : k < length base.plan). none k h) (λ (h : length base.plan ≤ k). none_past base before k h) (cases_lt k (length base.plan))
-
-one_of : (x k : ℕ) → Contains (x ∷ []) k → x ≡ k
-one_of x k (zero, h, same) = same
-one_of x k (suc i, h, same) = absurd (omega (arith, h))
 
 -- some events that lead from the machine to its end, by these turns
 record Rest (base : BaseTree) (before : List Event) (turns : List ℕ) (m : Machine) : Type 0 where
@@ -104,7 +103,7 @@ module _ (goes_on : GoesOn) (base : BaseTree) (whole : IsWhole (get base.loaded)
       by : (b : Bool) → has_more base before x ≡ b → (Contains turns shell → Rest base before turns m) → Rest base before (x ∷ turns) m
       by true e rest = a_turn limit ends before m x turns run light e
       by false e rest = passed base before x turns m e (rest (⊎_elim
-          (λ (h : Contains (x ∷ []) shell). absurd (true_false (has_more base before shell) more (subst (λ k. has_more base before k ≡ false) (one_of x shell h) e)))
+          (λ (h : Contains (x ∷ []) shell). absurd (never_both (has_more base before shell) more (subst (λ k. has_more base before k ≡ false) (only_one x shell h) e)))
           (λ (h : Contains turns shell). h) (Contains-append_cases (x ∷ []) turns shell inside)))
 
   any_turns : (limit : ℕ) → EndsBelow base limit → (before : List Event) (m : Machine) (turns : List ℕ) → Run base (resting base []) before m → weight base m < suc limit → Rest base before turns m

@@ -5,6 +5,7 @@ use Rattle.std.specs.Option.{option_map}
 use Rattle.std.proofs.lemmas.Bool.{true≢false, ltb-false}
 use Rattle.std.proofs.lemmas.List.{length-take-le}
 use Rattle.std.proofs.lemmas.List.Elements.{All-nil, All-cons, All-append, All-head, All-tail, All-take}
+use Rattle.fx_base.proofs.Booleans.{third_true}
 use Rattle.fx_store.specs.declared.node.Node.{Node}
 use Rattle.fx_store.specs.declared.node.Node.TheVariants.{File, Dir, Link}
 use Rattle.fx_store.specs.declared.node.Landing.{Landing}
@@ -92,12 +93,7 @@ components_named (c ∷ parts) e = at (is_component c) refl e (components_named 
     at false f h rest = absurd (true≢false (sym h))
 
 link_named : (text : List ℕ) → IsLinkText text → AreNamed (components_of text)
-link_named text is = components_named (components text) (last_of (nat_lt 0 (length text)) (nat_le (length text) 4096) (list_all is_component (components text)) is.form)
-  where
-    last_of : (a b c : Bool) → (a && b && c) ≡ true → c ≡ true
-    last_of true true c e = e
-    last_of true false c e = absurd (true≢false (sym e))
-    last_of false b c e = absurd (true≢false (sym e))
+link_named text is = components_named (components text) (third_true (nat_lt 0 (length text)) (nat_le (length text) 4096) (list_all is_component (components text)) is.form)
 
 path_named : (p : List (List ℕ)) → All IsName p → AreNamed (map Normal p)
 path_named [] all = tt

@@ -1,28 +1,20 @@
 -- Where no shell has a transaction left, nothing is looked at any more, and the order is complete.
-use Rattle.std.proofs.Common.{◌≡◌, ⊎_elim, ℕ, zero, suc, ◌<◌, ◌≤◌, Bool, true, false, nat_eq, cond, List, [], ◌∷◌, ◌++◌, length, get_or, replicate, slice_get, Some, None, is_some, refl, sym, ap, subst, ◌∙◌, arith}
-use Rattle.std.specs.List.{Contains, cons_option}
-use Rattle.std.proofs.lemmas.Bool.{cases_lt, ne_eqb, eqb-true, ltb-false}
+use Rattle.std.proofs.Common.{◌≡◌, ℕ, ◌<◌, ◌≤◌, false, List, [], ◌∷◌, ◌++◌, length, replicate, slice_get, is_some, refl, sym, ap, subst, ◌∙◌, arith}
+use Rattle.std.specs.List.{Contains}
+use Rattle.std.proofs.lemmas.Bool.{ne_eqb, ltb-false}
 use Rattle.std.proofs.lemmas.List.{length-set, length-replicate, ext_get_or}
-use Rattle.std.proofs.lemmas.List.Elements.{Contains-append_left, Contains-append_right}
-use Rattle.fx_spec.specs.Plans.{Turn, script_of, count_of}
-use Rattle.fx_spec.specs.Order.{BaseTree, IsComplete, numbers_of, first_numbers}
+use Rattle.fx_base.proofs.Booleans.{never_both}
+use Rattle.fx_spec.specs.Plans.{script_of, count_of}
+use Rattle.fx_spec.specs.Order.{BaseTree, IsComplete, numbers_of}
 use Rattle.fx_spec.proofs.Orders.{numbers_other}
 use Rattle.fx_machine.specs.declared.event.Event.{Event}
 use Rattle.fx_machine.specs.declared.event.Event.TheVariants as event
 use Rattle.fx_machine.specs.Laws.{IsReached}
 use Rattle.fx_machine.specs.Machine.{Machine, Look, Looks, Settles, Restarts, Run, Step, looks_of, next_number, resting}
 use Rattle.fx_machine.specs.Measure.{has_left}
-use Rattle.fx_machine.proofs.Reached.{set_looks, reached_sound}
+use Rattle.fx_machine.proofs.Reached.{set_looks, reached_sound, none_looked}
+use Rattle.fx_machine.proofs.Turns.{first_contains, has_turn}
 use Rattle.fx_progress.proofs.Turning.{some_within}
-
-pub true_false : (b : Bool) → b ≡ true → b ≡ false → ⊥
-true_false b t f = absurd (cc)
-
-pub first_contains : (n k : ℕ) → k < n → Contains (first_numbers n) k
-first_contains zero k h = absurd (omega (arith, h))
-first_contains (suc n) k h =
-    ⊎_elim (λ (l : k < n). Contains-append_left (first_numbers n) (n ∷ []) k (first_contains n k l))
-    (λ (g : n ≤ k). let same : n ≡ k = omega (arith, h, g) in Contains-append_right (first_numbers n) (n ∷ []) k (subst (Contains (n ∷ [])) same (0, omega arith, refl))) (cases_lt k n)
 
 -- ---- a shell with no transaction left looks at nothing
 
@@ -33,16 +25,11 @@ record Tidy (base : BaseTree) (m : Machine) : Type 0 where
 abbrev IsNothing : List Look → Type 0
 IsNothing looks = looks ≡ []
 
-no_looks_at : (n k : ℕ) → get_or (replicate n (let none : List Look = [] in none)) k [] ≡ []
-no_looks_at zero k = refl
-no_looks_at (suc n) zero = refl
-no_looks_at (suc n) (suc k) = no_looks_at n k
-
 tidy_look : (base : BaseTree) (m m' : Machine) (shell : ℕ) (path : List (List ℕ)) (position : ℕ) → Tidy base m → Looks base m shell path position m' → Tidy base m'
 tidy_look base m m' shell path position t l = subst (Tidy base) (sym l.after) (record {
   count = length-set m.looks shell (looks_of m shell ++ (path, position) ∷ []) ∙ t.count;
   idle = λ k none. set_looks IsNothing m.looks shell k (looks_of m shell ++ (path, position) ∷ []) refl
-      (λ e. absurd (true_false (has_left base m shell) (ap is_some l.next) (subst (λ k. has_left base m k ≡ false) e none)))
+      (λ e. absurd (never_both (has_left base m shell) (ap is_some l.next) (subst (λ k. has_left base m k ≡ false) e none)))
       (λ n. t.idle k none);
 })
 
@@ -69,31 +56,17 @@ tidy_run base m [] m' t run = subst (Tidy base) run t
 tidy_run base m (e ∷ events) m' t run = tidy_run base run.0 events m' (tidy_step base m e run.0 t run.1) run.2
 
 tidy_start : (base : BaseTree) → Tidy base (resting base [])
-tidy_start base = record { count = length-replicate (length base.plan) []; idle = λ k none. no_looks_at (length base.plan) k }
+tidy_start base = record { count = length-replicate (length base.plan) []; idle = λ k none. none_looked (length base.plan) k }
 
 pub at_rest : (base : BaseTree) (m : Machine) → IsReached base m → ((k : ℕ) → has_left base m k ≡ false) → m ≡ resting base m.order
 at_rest base m reached none =
     let t : Tidy base m = tidy_run base (resting base []) reached.events m (tidy_start base) reached.run in
     let empty : m.looks ≡ replicate (length base.plan) [] =
-    ext_get_or [] m.looks (replicate (length base.plan) []) (t.count ∙ sym (length-replicate (length base.plan) [])) (λ k h. t.idle k (none k) ∙ sym (no_looks_at (length base.plan) k)) in
+    ext_get_or [] m.looks (replicate (length base.plan) []) (t.count ∙ sym (length-replicate (length base.plan) [])) (λ k h. t.idle k (none k) ∙ sym (none_looked (length base.plan) k)) in
     let with_looks : List (List Look) → Machine = λ looks. record { order = m.order; looks = looks } in
     ap with_looks empty
 
 -- ---- the order is complete
-
-there : (o : List Turn) (turn x : Turn) → Contains o x → Contains (turn ∷ o) x
-there o turn x h = (suc h.0, (let l = h.1 in omega (arith, l)), h.2)
-
-has_turn : (o : List Turn) (shell txn : ℕ) → Contains (numbers_of shell o) txn → Contains o (shell, txn)
-has_turn [] shell txn h = absurd (let l = h.1 in omega (arith, l))
-has_turn (turn ∷ o) shell txn h = by (nat_eq turn.0 shell) refl h (has_turn o shell txn)
-  where
-    by : (b : Bool) → nat_eq turn.0 shell ≡ b → Contains (cons_option (cond b (Some turn.1) None) (numbers_of shell o)) txn → (Contains (numbers_of shell o) txn → Contains o (shell, txn)) → Contains (turn ∷ o) (shell, txn)
-    by false e h rest = there o turn (shell, txn) (rest h)
-    by true e (zero, l, same) rest =
-        let whose : turn.0 ≡ shell = eqb-true turn.0 shell e in
-        (0, omega arith, ap (λ k. (k, turn.1)) whose ∙ ap (λ n. (shell, n)) same)
-    by true e (suc i, l, same) rest = there o turn (shell, txn) (rest (i, omega (arith, l), same))
 
 pub completed : (base : BaseTree) (m : Machine) → IsReached base m → ((k : ℕ) → has_left base m k ≡ false) → IsComplete base m.order
 completed base m reached none = record {

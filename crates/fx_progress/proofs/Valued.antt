@@ -1,9 +1,9 @@
 -- The rules of values, places, moves and questions look at paths alone, and each place has a path.
-use Rattle.std.proofs.Common.{◌≡◌, ℕ, zero, suc, Bool, true, false, cond, refl, List, [], ◌∷◌, ◌++◌, length, Option, Some, None, is_some, Result, Ok, Err, nat_lt, ◌&&◌, sym}
+use Rattle.std.proofs.Common.{◌≡◌, ℕ, zero, suc, Bool, true, false, cond, refl, List, [], ◌∷◌, ◌++◌, length, Option, Some, None, is_some, Result, Ok, Err, nat_lt}
 use Rattle.std.specs.List.{All, list_all, slice_split}
 use Rattle.std.specs.Option.{option_map}
-use Rattle.std.proofs.lemmas.Bool.{true≢false, ltb-false}
-use Rattle.std.proofs.lemmas.List.Elements.{All-nil, All-cons, All-append}
+use Rattle.std.proofs.lemmas.Bool.{ltb-false}
+use Rattle.std.proofs.lemmas.List.Elements.{All-append}
 use Rattle.fx_store.specs.declared.node.Node.{Node}
 use Rattle.fx_store.specs.declared.node.Landing.{Landing}
 use Rattle.fx_store.specs.declared.node.Landing.TheVariants.{At, Absent, Blocked, TooManyLinks}
@@ -13,6 +13,7 @@ use Rattle.fx_store.specs.Names.{is_slash, is_name, IsName, IsPath}
 use Rattle.fx_store.specs.Resolve.{resolve}
 use Rattle.fx_store.specs.Rule.{Ask, Answer, ◌>>=◌}
 use Rattle.fx_store.proofs.WholeStores.{IsPath-root}
+use Rattle.fx_store.proofs.PathLists.{all_names}
 use Rattle.fx_expr.specs.Bindings.{bind}
 use Rattle.fx_expr.specs.Eval.{Outcome, eval_of, text_in, names_in}
 use Rattle.fx_expr.specs.Sets.{least_above, greatest_below}
@@ -68,14 +69,6 @@ abbrev IsAnyPath : Result (List (List ℕ)) Refusal → Type 0
 IsAnyPath (Ok q) = IsPath q
 IsAnyPath (Err f) = Unit {0}
 
-all_pass : (names : List (List ℕ)) → list_all is_name names ≡ true → All IsName names
-all_pass [] e = All-nil IsName
-all_pass (n ∷ names) e = at (is_name n) refl e (all_pass names)
-  where
-    at : (b : Bool) → is_name n ≡ b → (b && list_all is_name names) ≡ true → (list_all is_name names ≡ true → All IsName names) → All IsName (n ∷ names)
-    at true f h rest = All-cons IsName n names f (rest h)
-    at false f h rest = absurd (true≢false (sym h))
-
 focus_is_path : (p : List (List ℕ)) (o : Outcome) → IsPath p → IsAnyPath (focus_path p o)
 focus_is_path p (Err f) is = tt
 focus_is_path p (Ok v) is = at (slice_split is_slash (text_in v)) (list_all is_name (slice_split is_slash (text_in v))) refl
@@ -85,7 +78,7 @@ focus_is_path p (Ok v) is = at (slice_split is_slash (text_in v)) (list_all is_n
     short q false f names = record { names = names; short = ltb-false 64 (length q) f }
 
     at : (more : List (List ℕ)) (b : Bool) → list_all is_name more ≡ b → IsAnyPath (extension (cond b (path_of (p ++ more)) (Err BadName)))
-    at more true f = short (p ++ more) (nat_lt 64 (length (p ++ more))) refl (All-append IsName p more is.names (all_pass more f))
+    at more true f = short (p ++ more) (nat_lt 64 (length (p ++ more))) refl (All-append IsName p more is.names (all_names more f))
     at more false f = tt
 
 at_focus_asks : (part : List (List ℕ) → Ask (Option Tree)) (x : Result (List (List ℕ)) Refusal) → IsAnyPath x → ((q : List (List ℕ)) → IsPath q → Asks (part q)) → Asks (at_focus part x)

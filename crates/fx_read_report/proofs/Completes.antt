@@ -1,6 +1,6 @@
 -- What was read can be completed to a report.
 use Rattle.std.proofs.Common.{◌≡◌, ℕ, zero, suc, ◌+◌, ◌-◌, ◌^◌, ◌<◌, true, nat_eq, nat_lt, List, [], ◌∷◌, ◌++◌, length, refl, sym, ap, ◌∙◌, append_assoc, append-nil, length-append, arith, lit<}
-use Rattle.std.proofs.lemmas.Bool.{lt-ltb, and_from}
+use Rattle.std.proofs.lemmas.Bool.{lt-ltb, and_from, eq-eqb}
 use Rattle.std.proofs.lemmas.List.Elements.{All-nil}
 use Rattle.fx_spec.specs.declared.refusal.End.TheVariants as end
 use Rattle.fx_machine.specs.declared.retry.Retry.{Retry}
@@ -12,7 +12,7 @@ use Rattle.fx_read_report.specs.Stages.{IsState, State, advanced, entered, lines
 use Rattle.fx_read_report.specs.declared.reading.Stage.{Stage}
 use Rattle.fx_read_report.specs.declared.reading.Stage.TheVariants as stage
 use Rattle.fx_read_report.proofs.Advances.{steps}
-use Rattle.fx_read_report.proofs.Running.{at, same_test}
+use Rattle.fx_read_report.proofs.Running.{at}
 
 -- a report that begins with the lines that were read
 pub record Completed (s : State) : Type 0 where
@@ -46,7 +46,7 @@ after_end es rs is =
     }
 
 after_retries : (k n : ℕ) (es : List PrintedEntry) (rs : List Retry) → length rs + k ≡ n → IsState (at (stage.Retries n) es rs) → Completed (at (stage.Retries n) es rs)
-after_retries zero n es rs e is = through (at (stage.Retries n) es rs) final is tt (same_test (length rs) n (omega (arith, e))) (λ next. after_end es rs next)
+after_retries zero n es rs e is = through (at (stage.Retries n) es rs) final is tt (eq-eqb (length rs) n (omega (arith, e))) (λ next. after_end es rs next)
 after_retries (suc k) n es rs e is =
     let size = length-append rs (blank_retry ∷ []) in
     through (at (stage.Retries n) es rs) (retry blank_retry) is (record { shell = lit< tt; txn = lit< tt; entry = lit< tt; path = root_path }) (lt-ltb (length rs) n (omega (arith, e)))
@@ -54,7 +54,7 @@ after_retries (suc k) n es rs e is =
 
 after_entries : (k n : ℕ) (es : List PrintedEntry) (rs : List Retry) → length es + k ≡ n → IsState (at (stage.Entries n) es rs) → Completed (at (stage.Entries n) es rs)
 after_entries zero n es rs e is =
-    through (at (stage.Entries n) es rs) (retries (length rs)) is (no_more rs is.fits.2) (same_test (length es) n (omega (arith, e))) (λ next. after_retries 0 (length rs) es rs (omega arith) next)
+    through (at (stage.Entries n) es rs) (retries (length rs)) is (no_more rs is.fits.2) (eq-eqb (length es) n (omega (arith, e))) (λ next. after_retries 0 (length rs) es rs (omega arith) next)
   where
     no_more : (rs : List Retry) → rs ≡ [] → length rs < 2 ^ 64
     no_more rs none = let size = ap length none in omega (arith, size)
@@ -62,7 +62,7 @@ after_entries (suc k) n es rs e is =
     let blank = entered 0 0 end.Done in
     let size = length-append es (blank ∷ []) in
     through (at (stage.Entries n) es rs) (entry (length es) 0 0 end.Done) is (omega (arith, e, is.fits.1), lit< tt, lit< tt, tt)
-    (and_from (nat_eq (length es) (length es)) (nat_lt (length es) n) (same_test (length es) (length es) refl) (lt-ltb (length es) n (omega (arith, e))))
+    (and_from (nat_eq (length es) (length es)) (nat_lt (length es) n) (eq-eqb (length es) (length es) refl) (lt-ltb (length es) n (omega (arith, e))))
     (λ next. after_entries k n (es ++ blank ∷ []) rs (omega (arith, e, size)) next)
 
 after_head : (es : List PrintedEntry) (rs : List Retry) → IsState (at stage.Headed es rs) → Completed (at stage.Headed es rs)

@@ -7,7 +7,7 @@ use Rattle.std.specs.Fmt.{decimal, signed_decimal}
 use Rattle.std.specs.Prelude.{bytes_eq}
 use Rattle.std.specs.Str.{IsUtf8}
 use Rattle.std.specs.Str.Parse.{digits_value, ParsesUnsigned}
-use Rattle.std.proofs.lemmas.Bool.{ltb-true, lt-ltb, and_parts}
+use Rattle.std.proofs.lemmas.Bool.{ltb-true, lt-ltb, and_parts, and_from}
 use Rattle.std.proofs.lemmas.Bool.Decides.{nat_tests}
 use Rattle.std.proofs.lemmas.Str.Parse.{IsNumeralModel, numerals_by_value}
 use Rattle.std.proofs.lemmas.Str.{IsUtf8-from_ascii}
@@ -25,16 +25,13 @@ after_is words bytes (Some x) h = ap Some h.1 ∙ ap (λ b. cond b (Some (drop (
 pub own : IsNumeralModel (λ ds. list_all is_digit ds ≡ true) (digits_value 10)
 own = numerals_by_value _ (search rules)
 
-both : (a b : Bool) → a ≡ true → b ≡ true → (a && b) ≡ true
-both a b e f = ap (λ x. x && b) e ∙ f
-
 pub digits_utf8 : (ds : List ℕ) → list_all is_digit ds ≡ true → IsUtf8 ds
 digits_utf8 ds digits = IsUtf8-from_ascii ds (IsAscii-from_digits ds (own.to ds digits))
 
 prefix_step : (b : Bool) (d : ℕ) (ds : List ℕ) → is_digit d ≡ b → list_all is_digit (take (prefix_len is_digit ds) ds) ≡ true → list_all is_digit (take (cond b (1 + prefix_len is_digit ds) 0) (d ∷ ds)) ≡ true
 prefix_step true d ds e h =
     let one : suc (prefix_len is_digit ds) ≡ 1 + prefix_len is_digit ds = omega arith in
-    subst (λ (k : ℕ). list_all is_digit (take k (d ∷ ds)) ≡ true) one (both _ _ e h)
+    subst (λ (k : ℕ). list_all is_digit (take k (d ∷ ds)) ≡ true) one (and_from _ _ e h)
 prefix_step false d ds e h = refl
 
 prefix_all : (ds : List ℕ) → list_all is_digit (take (prefix_len is_digit ds) ds) ≡ true

@@ -3,7 +3,6 @@ pub mod Digits
 pub mod ValueLaws
 pub mod ValueLoops
 pub mod ValueFits
-pub mod NameBytes
 pub mod PartLaws
 pub mod LineLaws
 pub mod Machine

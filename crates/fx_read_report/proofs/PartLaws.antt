@@ -1,17 +1,14 @@
 -- The parts of a line are read as they are spelled.
-use Rattle.std.proofs.Common.{◌≡◌, ℕ, ◌^◌, ◌<◌, ◌≤◌, cond, nat_lt, List, [], ◌∷◌, ◌++◌, length, All, Option, Some, None, Result, Ok, Err, codes, refl, sym, ap, subst, ◌∙◌, append_assoc, append-nil, arith, lit<}
+use Rattle.std.proofs.Common.{◌≡◌, ℕ, ◌^◌, ◌<◌, cond, nat_lt, List, [], ◌∷◌, ◌++◌, All, Option, Some, None, codes, refl, sym, ap, subst, ◌∙◌, append_assoc, append-nil, arith, lit<}
 use Rattle.std.specs.Fmt.{decimal}
 use Rattle.std.specs.List.{flat_map}
 use Rattle.std.specs.Option.{option_map, option_and_then}
 use Rattle.std.proofs.lemmas.Bool.{lt-ltb}
-use Rattle.std.proofs.lemmas.Bool.Decides.{nat_tests}
 use Rattle.std.proofs.lemmas.List.Elements.{All-head, All-tail}
 use Rattle.fx_expr.specs.declared.fault.ExprFault.TheVariants as fault
-use Rattle.fx_store.specs.declared.name.PathFault.{PathFault}
 use Rattle.fx_store.specs.declared.name.PathFault.TheVariants.{TooDeep}
-use Rattle.fx_store.specs.Faults.{read_path}
 use Rattle.fx_store.specs.Names.{IsName, IsPath, path_text}
-use Rattle.fx_store.proofs.SpellingLaws.{path_texts_read}
+use Rattle.fx_store.proofs.PathLists.{read_path_text, name_bytes}
 use Rattle.fx_spec.specs.Refusals.{refusal_number}
 use Rattle.fx_spec.specs.declared.refusal.Refusal.{Refusal}
 use Rattle.fx_spec.specs.declared.refusal.Refusal.TheVariants as refusal
@@ -24,7 +21,6 @@ use Rattle.fx_read_report.specs.Numbers.{EndsDigits, after, leading_number}
 use Rattle.fx_read_report.specs.Quotes.{unquoted}
 use Rattle.fx_read_report.proofs.Digits.{after_read, leading_read}
 use Rattle.fx_read_report.proofs.Scans.{quote_read}
-use Rattle.fx_read_report.proofs.NameBytes.{name_bytes}
 use Rattle.fx_read_report.specs.Form.{IsFormEnd, IsFormRefusal}
 use Rattle.fx_read_report.specs.Limits.{Limits, path_or_none, strict}
 use Rattle.fx_read_report.specs.Values.{alone}
@@ -62,19 +58,13 @@ path_bytes : (path : List (List ℕ)) → All IsName path → AreBytes (path_tex
 path_bytes [] all = (lit< tt, tt)
 path_bytes (n ∷ ns) all = names_bytes (n ∷ ns) all
 
-few : {A : Type 0} (n : ℕ) (x : Result A PathFault) (f : PathFault) → n ≤ 64 → cond (nat_lt 64 n) (Err f) x ≡ x
-few n x f h = grind (arith, nat_tests)
-
-path_text_read : (p : List (List ℕ)) → IsPath p → read_path (path_text p) ≡ Ok p
-path_text_read p path = (path_texts_read (path_text p) p).reads (record { names = path.names; spelled = refl }) ∙ few (length p) (Ok p) TooDeep path.short
-
 -- a path that a reader takes
 pub record IsPathIn (limits : Limits) (path : List (List ℕ)) : Type 0 where
   pub bytes : AreBytes (path_text path)
   pub taken : limits.path_of (path_text path) ≡ Some path
 
 pub strict_path : (p : List (List ℕ)) → IsPath p → IsPathIn strict p
-strict_path p is = record { bytes = path_bytes p is.names; taken = ap path_or_none (path_text_read p is) }
+strict_path p is = record { bytes = path_bytes p is.names; taken = ap path_or_none (read_path_text p is) }
 
 pub path_read : (m : Limits) (p : List (List ℕ)) → IsPathIn m p → path_at m (quote (path_text p)) ≡ Some p
 unfolding path_at

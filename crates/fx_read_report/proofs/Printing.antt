@@ -1,7 +1,8 @@
 -- What the steps of the program give.
-use Rattle.std.proofs.Common.{◌≡◌, ℕ, zero, suc, ◌+◌, ◌<◌, ◌≤◌, List, [], ◌∷◌, ◌++◌, length, take, drop, get_or, Bool, true, false, nat_eq, refl, sym, ap, subst, ◌∙◌, arith}
+use Rattle.std.proofs.Common.{◌≡◌, ℕ, ◌+◌, ◌<◌, ◌≤◌, List, [], ◌∷◌, ◌++◌, length, take, drop, get_or, Bool, true, false, nat_eq, refl, sym, ap, subst, ◌∙◌, arith}
 use Rattle.std.proofs.lemmas.Bool.{eqb-true}
-use Rattle.std.proofs.lemmas.List.{take_all}
+use Rattle.std.proofs.lemmas.List.{take_all, take_more}
+use Rattle.fx_base.proofs.Lists.{parts_at}
 use Rattle.fx_expr.specs.Tree.{Tree}
 use Rattle.fx_report.specs.declared.printed.PrintedEntry.{PrintedEntry}
 use Rattle.fx_read_report.specs.Feeds.{IsFeedAt}
@@ -22,16 +23,6 @@ printed_is old xs new e outputs v was is made =
 
 -- feeds
 
-take_at : (text : List ℕ) (i : ℕ) → i < length text → take (i + 1) text ≡ take i text ++ get_or text i 0 ∷ []
-take_at [] i lt = absurd (omega arith)
-take_at (b ∷ text) zero lt = refl
-take_at (b ∷ text) (suc i) lt = let one : suc i + 1 ≡ suc (i + 1) = omega arith in ap (λ n. take n (b ∷ text)) one ∙ ap (λ l. b ∷ l) (take_at text i (omega arith))
-
-drop_at : (text : List ℕ) (i : ℕ) → i < length text → text ≡ take i text ++ get_or text i 0 ∷ drop (i + 1) text
-drop_at [] i lt = absurd (omega arith)
-drop_at (b ∷ text) zero lt = refl
-drop_at (b ∷ text) (suc i) lt = let one : suc i + 1 ≡ suc (i + 1) = omega arith in ap (λ l. b ∷ l) (drop_at text i (omega arith)) ∙ ap (λ n. b ∷ (take i text ++ get_or text i 0 ∷ drop n (b ∷ text))) (sym one)
-
 lacks_push : (x : List ℕ) (b : ℕ) → LacksFeed x → (b ≡ 10 → ⊥) → LacksFeed (x ++ b ∷ [])
 lacks_push [] b p q = (q, tt)
 lacks_push (c ∷ x) b p q = (p.0, lacks_push x b p.1 q)
@@ -41,10 +32,10 @@ none_yet [] = tt
 none_yet (b ∷ text) = tt
 
 pub none_more : (text : List ℕ) (i : ℕ) → i < length text → (get_or text i 0 ≡ 10 → ⊥) → LacksFeed (take i text) → LacksFeed (take (i + 1) text)
-none_more text i lt other before = subst LacksFeed (sym (take_at text i lt)) (lacks_push (take i text) (get_or text i 0) before other)
+none_more text i lt other before = subst LacksFeed (sym (take_more text i 0 lt)) (lacks_push (take i text) (get_or text i 0) before other)
 
 pub feed_at : (text : List ℕ) (i : ℕ) → i < length text → get_or text i 0 ≡ 10 → LacksFeed (take i text) → IsFeedAt text i
-feed_at text i lt same before = record { within = lt; before = before; parts = drop_at text i lt ∙ ap (λ y. take i text ++ y ∷ drop (i + 1) text) same }
+feed_at text i lt same before = record { within = lt; before = before; parts = parts_at text i 0 lt ∙ ap (λ y. take i text ++ y ∷ drop (i + 1) text) same }
 
 pub none_at_all : (text : List ℕ) (i : ℕ) → length text ≤ i → LacksFeed (take i text) → LacksFeed text
 none_at_all text i h before = subst LacksFeed (take_all i text h) before

@@ -1,8 +1,7 @@
 -- The lines of what was read lead to what was read, and nothing else does.
-use Rattle.std.proofs.Common.{◌≡◌, ℕ, ◌+◌, ◌≤◌, Bool, true, false, cond, ◌&&◌, nat_eq, nat_lt, List, [], ◌∷◌, ◌++◌, length, map, Option, Some, None, refl, sym, ap, ◌∙◌, append_assoc, append-nil, length-append, arith}
+use Rattle.std.proofs.Common.{◌≡◌, ℕ, ◌+◌, ◌≤◌, true, false, cond, nat_eq, nat_lt, List, [], ◌∷◌, ◌++◌, length, map, Option, Some, None, refl, sym, ap, ◌∙◌, append_assoc, append-nil, length-append, arith}
 use Rattle.std.specs.Option.{option_and_then}
-use Rattle.std.proofs.lemmas.Bool.{lt-ltb}
-use Rattle.std.proofs.lemmas.Bool.Decides.{nat_tests}
+use Rattle.std.proofs.lemmas.Bool.{lt-ltb, and_from, eq-eqb}
 use Rattle.fx_expr.specs.Tree.{Tree}
 use Rattle.fx_machine.specs.declared.retry.Retry.{Retry}
 use Rattle.fx_report.specs.declared.printed.PrintedEntry.{PrintedEntry}
@@ -18,12 +17,6 @@ at g es rs = record { stage = g; entries = es; retries = rs }
 
 abbrev ran : State → List Line → Option State
 ran = run next
-
-both : (a b : Bool) → a ≡ true → b ≡ true → (a && b) ≡ true
-both a b e f = ap (λ x. x && b) e ∙ f
-
-pub same_test : (m n : ℕ) → m ≡ n → nat_eq m n ≡ true
-same_test m n e = grind (arith, nat_tests)
 
 -- the next line is taken
 goes : (s t : State) (l : Line) (ls : List Line) → allows s.stage (length s.entries) (length s.retries) l ≡ true → advanced s l ≡ t → ran s (l ∷ ls) ≡ ran t ls
@@ -50,7 +43,7 @@ entries_run n fs (d ∷ es) i ls e few =
     let first = entered d.shell d.txn d.end in
     let later = entry_lines (i + 1) es ++ ls in
     let size = length-append fs (d ∷ []) in
-    goes s (at (stage.Entries n) (fs ++ first ∷ []) []) (entry i d.shell d.txn d.end) ((map print d.outputs ++ entry_lines (i + 1) es) ++ ls) (both (nat_eq i (length fs)) (nat_lt (length fs) n) (same_test i (length fs) e) (lt-ltb (length fs) n (omega (arith, e, few)))) refl
+    goes s (at (stage.Entries n) (fs ++ first ∷ []) []) (entry i d.shell d.txn d.end) ((map print d.outputs ++ entry_lines (i + 1) es) ++ ls) (and_from (nat_eq i (length fs)) (nat_lt (length fs) n) (eq-eqb i (length fs) e) (lt-ltb (length fs) n (omega (arith, e, few)))) refl
     ∙ (ap (λ t. ran (at (stage.Entries n) (fs ++ first ∷ []) []) t) (append_assoc (map print d.outputs) (entry_lines (i + 1) es) ls)
     ∙ (prints_run n fs first [] d.outputs later
     ∙ (entries_run n (fs ++ d ∷ []) es (i + 1) ls (omega (arith, e, size)) (omega (arith, few))
@@ -69,7 +62,7 @@ counted : (es : List PrintedEntry) (m : ℕ) (ls : List Line) → ran start (hea
 counted es m ls =
     let n = length es in
     entries_run n [] es 0 (retries m ∷ ls) refl (omega arith)
-    ∙ goes (at (stage.Entries n) es []) (at (stage.Retries m) es []) (retries m) ls (same_test n n refl) refl
+    ∙ goes (at (stage.Entries n) es []) (at (stage.Retries m) es []) (retries m) ls (eq-eqb n n refl) refl
 
 -- what was read is no more than was announced
 abbrev Counted : Stage → List PrintedEntry → List Retry → Type 0
@@ -101,7 +94,7 @@ runs_at stage.Ended es rs c =
     let n = length rs in
     counted es n (map retry rs ++ final ∷ [])
     ∙ (retries_run n es [] rs (final ∷ []) (omega arith)
-    ∙ goes (at (stage.Retries n) es rs) (at stage.Ended es rs) final [] (same_test n n refl) refl)
+    ∙ goes (at (stage.Retries n) es rs) (at stage.Ended es rs) final [] (eq-eqb n n refl) refl)
 
 runs : (s : State) → IsState s → ran start (lines_in s) ≡ Some s
 runs s is = runs_at s.stage s.entries s.retries (fits_counted s.stage s.entries s.retries is.fits)

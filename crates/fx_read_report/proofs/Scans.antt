@@ -1,9 +1,10 @@
 -- Quotes are read as they are spelled.
-use Rattle.std.proofs.Common.{◌≡◌, ℕ, ◌+◌, ◌*◌, ◌/◌, ◌%◌, ◌<◌, Bool, true, false, nat_eq, List, [], ◌∷◌, ◌++◌, Option, Some, refl, sym, ap, subst, ◌∙◌, ◌⊎◌, inl, inr, arith, append_assoc}
+use Rattle.std.proofs.Common.{◌≡◌, ℕ, ◌+◌, ◌*◌, ◌/◌, ◌%◌, ◌<◌, false, nat_eq, List, [], ◌∷◌, ◌++◌, Option, Some, refl, sym, ap, subst, ◌∙◌, ◌⊎◌, inl, inr, arith, append_assoc}
 use Rattle.std.specs.Fmt.{digit_glyph}
 use Rattle.std.specs.List.{flat_map}
 use Rattle.std.specs.Option.{option_map}
 use Rattle.std.proofs.lemmas.Bool.Decides.{nat_tests}
+use Rattle.std.proofs.lemmas.Bool.{cases_Bool}
 use Rattle.fx_report.specs.Print.{is_printable, quote, spelled}
 use Rattle.fx_report.specs.Readable.{AreBytes}
 use Rattle.fx_read_report.specs.declared.quotes.Place.TheVariants.{Plain}
@@ -11,10 +12,6 @@ use Rattle.fx_read_report.specs.Quotes.{digit_value, onto, scan, unquoted}
 
 abbrev pub prepended : {A : Type 0} → List A → Option (List A × List ℕ) → Option (List A × List ℕ)
 prepended front read = option_map (λ r. (front ++ r.0, r.1)) read
-
-true_or_false : (b : Bool) → (b ≡ true) ⊎ (b ≡ false)
-true_or_false true = inl refl
-true_or_false false = inr refl
 
 same_or_not : (m n : ℕ) → (m ≡ n) ⊎ (nat_eq m n ≡ false)
 same_or_not m n = grind (arith, nat_tests)
@@ -30,7 +27,7 @@ printed_read c x byte not_quote not_slash not_feed =
     let high = digit_of (c / 16) (omega arith) in
     let low = digit_of (c % 16) (omega arith) in
     let whole : 16 * (c / 16) + c % 16 ≡ c = omega arith in
-    rw (not_quote, not_slash, not_feed) (elim (true_or_false (is_printable c)) [
+    rw (not_quote, not_slash, not_feed) (elim (cases_Bool (is_printable c)) [
       | inl e ↦ rw (e, not_quote, not_slash, e) refl
       | inr e ↦ rw (e, high, low, whole) refl
     ])

@@ -3,12 +3,12 @@ use Rattle.std.proofs.Common.{◌≡◌, ℕ, zero, suc, ◌+◌, ◌-◌, ◌<�
 use Rattle.std.specs.Option.{option_map, option_and_then}
 use Rattle.std.specs.List.{AllByRecursion, zip}
 use Rattle.std.specs.List.Sorted.{IsStrictlySortedBy}
-use Rattle.std.specs.declared.cmp.Ordering.{Ordering}
-use Rattle.std.specs.declared.cmp.Ordering.TheVariants.{Less, Equal, Greater}
+use Rattle.std.specs.declared.cmp.Ordering.TheVariants.{Less}
 use Rattle.std.specs.Ordering.{is_lt, nat_cmp}
 use Rattle.std.specs.Cmp.Lexicographic.{slice_cmp, nat_list_cmp_total}
 use Rattle.std.proofs.lemmas.Bool.{and_parts}
 use Rattle.std.proofs.lemmas.Bool.Decides.{nat_tests}
+use Rattle.fx_base.proofs.Orders.{is_less}
 use Rattle.fx_expr.specs.Sets.{IsAscending}
 use Rattle.fx_expr.specs.Tree.{Tree, table, rows}
 use Rattle.fx_expr.specs.Views.{tree_of, entry_tree}
@@ -126,11 +126,6 @@ ascends_short [] h = refl
 ascends_short (t ∷ []) h = refl
 ascends_short (t ∷ u ∷ ts) h = absurd (omega arith)
 
-less_than : (o : Ordering) → is_lt o ≡ true → o ≡ Less
-less_than Less e = refl
-less_than Equal e = absurd (cc)
-less_than Greater e = absurd (cc)
-
 all_above : (t u : List ℕ) (ts : List (List ℕ)) → slice_cmp nat_cmp t u ≡ Less → AllByRecursion (λ y. slice_cmp nat_cmp u y ≡ Less) ts → AllByRecursion (λ y. slice_cmp nat_cmp t y ≡ Less) ts
 all_above t u [] e p = tt
 all_above t u (y ∷ ts) e p = (nat_list_cmp_total.trans t u y e p.0, all_above t u ts e p.1)
@@ -141,7 +136,7 @@ ascends_is [] e = tt
 ascends_is (t ∷ []) e = (tt, tt)
 ascends_is (t ∷ u ∷ ts) e =
     let parts = and_parts (is_lt (slice_cmp nat_cmp t u)) (ascends (u ∷ ts)) e in
-    let less = less_than (slice_cmp nat_cmp t u) parts.0 in
+    let less = is_less (slice_cmp nat_cmp t u) parts.0 in
     let later = ascends_is (u ∷ ts) parts.1 in
     ((less, all_above t u ts less later.0), later)
 

@@ -1,9 +1,10 @@
 -- Legal orders, one transaction more at a time.
-use Rattle.std.proofs.Common.{◌≡◌, ℕ, zero, suc, ◌+◌, ◌<◌, ◌≤◌, Bool, true, false, nat_eq, List, [], ◌∷◌, ◌++◌, length, take, drop, get_or, set, map, replicate, slice_get, Some, refl, sym, ap, subst, ◌∙◌, arith, length-append}
+use Rattle.std.proofs.Common.{◌≡◌, ℕ, zero, suc, ◌+◌, ◌<◌, ◌≤◌, Bool, true, false, nat_eq, List, [], ◌∷◌, ◌++◌, length, take, drop, get_or, set, replicate, slice_get, Some, refl, sym, ap, subst, ◌∙◌, arith, length-append}
 use Rattle.std.specs.Prelude.{slice_index_or}
 use Rattle.std.proofs.lemmas.Bool.{eqb-true, eqb-false}
-use Rattle.std.proofs.lemmas.List.{length-map, map-append, get_or-set_same, get_or-set_other, length-set, take_at}
-use Rattle.std.proofs.lemmas.Option.{same_Some, none-some, slice_get_within, slice_get-get_or}
+use Rattle.std.proofs.lemmas.List.{length-map, map-append, get_or-set_same, get_or-set_other, length-set, take_at, take-map}
+use Rattle.std.proofs.lemmas.Option.{slice_get_within, slice_get-get_or}
+use Rattle.fx_base.proofs.Lists.{take_suc}
 use Rattle.fx_spec.specs.Plans.{Turn, count_of}
 use Rattle.fx_spec.specs.Order.{BaseTree, IsLegal, numbers_of}
 use Rattle.fx_spec.proofs.Orders.{legal-next, numbers_own, numbers_other}
@@ -16,17 +17,6 @@ use Rattle.fx_replay_log.proofs.Legal.{legal_turn}
 use Rattle.fx_recover_command.specs.Orders.{AreCounts}
 
 -- ---- lists
-
-take_suc : {X : Type 0} (xs : List X) (i : ℕ) (x : X) → slice_get xs i ≡ Some x → take (suc i) xs ≡ take i xs ++ x ∷ []
-take_suc [] i x e = absurd (none-some x e)
-take_suc (y ∷ xs) zero x e = ap (λ z. z ∷ []) (same_Some y x e)
-take_suc (y ∷ xs) (suc i) x e = ap (λ l. y ∷ l) (take_suc xs i x e)
-
-map_take : {X Y : Type 0} (f : X → Y) (xs : List X) (i : ℕ) → map f (take i xs) ≡ take i (map f xs)
-map_take f [] zero = refl
-map_take f [] (suc i) = refl
-map_take f (x ∷ xs) zero = refl
-map_take f (x ∷ xs) (suc i) = ap (λ l. f x ∷ l) (map_take f xs i)
 
 abbrev zeros : ℕ → List ℕ
 zeros n = replicate n 0
@@ -81,8 +71,8 @@ turns_more pairs i pair is =
 pub first_illegal_at : (base : BaseTree) (pairs : List Pair) (i : ℕ) (pair : Pair) (counts : List ℕ) → slice_get pairs i ≡ Some pair → AreCounts base (turns_of (take i pairs)) counts → (IsNextIn base (turns_of (take i pairs)) (turn_of pair) → ⊥) → IsFirstIllegal base (turns_of pairs) i
 first_illegal_at base pairs i pair counts is are isnt = record {
   inside = subst (λ n. i < n) (sym (length-map pairs turn_of)) (slice_get_within pairs i pair is);
-  before = subst (IsLegal base) (map_take turn_of pairs i) are.legal;
-  here = λ legal. isnt (legal_turn base (turns_of (take i pairs)) [] (turn_of pair) (subst (IsLegal base) (sym (map_take turn_of pairs (i + 1)) ∙ turns_more pairs i pair is) legal));
+  before = subst (IsLegal base) ((sym (take-map turn_of i pairs))) are.legal;
+  here = λ legal. isnt (legal_turn base (turns_of (take i pairs)) [] (turn_of pair) (subst (IsLegal base) (sym ((sym (take-map turn_of (i + 1) pairs))) ∙ turns_more pairs i pair is) legal));
 }
 
 -- the counts stand in the front of what holds them

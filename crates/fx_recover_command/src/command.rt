@@ -14,7 +14,7 @@ use crate::journal::read_order;
 use crate::replaying::replayed;
 use fx_command::{Status, ready_out, save_and_print};
 use fx_durable::{Disk, Pairs};
-use fx_inputs::{let_go, read_base};
+use fx_inputs::read_base;
 use fx_outside::{Host, Sink};
 use fx_spec::Base;
 use fx_words::RecoverJob;
@@ -37,7 +37,7 @@ fn leave<H: Host, S: Sink>(
 {
     let there = ready_out(alloc, job.out, host)?;
     let recovered = replayed(alloc, base, order)?;
-    save_and_print(
+    let ended = save_and_print(
         alloc,
         job.out,
         there,
@@ -45,7 +45,9 @@ fn leave<H: Host, S: Sink>(
         &recovered.line,
         host,
         out,
-    )
+    );
+    recovered.let_go();
+    ended
 }
 
 /// Reads the journal by the base that is read, and leaves the folder after its order at OUT.
@@ -85,6 +87,6 @@ pub fn recover<H: Host, S: Sink, D: Disk>(
 {
     let base = read_base(alloc, &job.inputs, host)?;
     let ended = restore(alloc, job, &base, host, out, disk);
-    let_go(base);
+    Base::let_go(base);
     ended
 }

@@ -14,10 +14,17 @@ use std::alloc::Global;
 use std::sync::Arc;
 
 /// The filestore after an order, and the line that tells its length.
-#[derive(Drop)]
 pub(crate) struct Recovered {
     pub store: Filestore,
     pub line: Vec<u8>,
+}
+
+impl Recovered {
+    /// Lets go of both.
+    pub(crate) fn let_go(self) {
+        let Recovered { store, line: _ } = self;
+        store.let_go();
+    }
 }
 
 /// The line that tells how many transactions there are.

@@ -7,35 +7,29 @@ use Rattle.std.proofs.lemmas.List.{map-append, take_all, take-append-le, take-ap
 use Rattle.std.proofs.lemmas.List.Elements.{filter_map-append}
 use Rattle.std.proofs.lemmas.Option.{same_Some}
 use Rattle.std.proofs.lemmas.Bool.{ltb-true, ltb-false}
+use Rattle.fx_base.proofs.Lists.{at_middle}
 use Rattle.fx_spec.specs.Plans.{Turn}
 use Rattle.fx_spec.specs.Order.{BaseTree, IsLegal, number_in, numbers_of, first_numbers}
 use Rattle.fx_machine.specs.declared.entry.Pair.{Pair}
+use Rattle.fx_machine.proofs.Weight.{length_first}
 use Rattle.fx_replay_log.specs.Legal.{IsNextIn}
 use Rattle.fx_replay_log.specs.Orders.{turn_of, turns_of}
-
-pub at_middle : {X : Type 0} (xs ys : List X) (x : X) → slice_get (xs ++ x ∷ ys) (length xs) ≡ Some x
-at_middle [] ys x = refl
-at_middle (z ∷ xs) ys x = at_middle xs ys x
 
 front_at : {X : Type 0} (xs ys : List X) (i : ℕ) → i < length xs → slice_get (xs ++ ys) i ≡ slice_get xs i
 front_at [] ys i h = absurd (omega (arith, h))
 front_at (x ∷ xs) ys zero h = refl
 front_at (x ∷ xs) ys (suc i) h = front_at xs ys i (omega (arith, h))
 
-first_length : (n : ℕ) → length (first_numbers n) ≡ n
-first_length zero = refl
-first_length (suc n) = let rest = first_length n in omega (arith, length-append (first_numbers n) (n ∷ []), rest)
-
 first_at : (n i : ℕ) → i < n → slice_get (first_numbers n) i ≡ Some i
 first_at zero i h = absurd (omega (arith, h))
 first_at (suc n) i h = at (nat_lt i n) refl (first_at n i)
   where
     at : (b : Bool) → nat_lt i n ≡ b → (i < n → slice_get (first_numbers n) i ≡ Some i) → slice_get (first_numbers (suc n)) i ≡ Some i
-    at true e rest = front_at (first_numbers n) (n ∷ []) i (omega (arith, ltb-true i n e, first_length n)) ∙ rest (ltb-true i n e)
+    at true e rest = front_at (first_numbers n) (n ∷ []) i (omega (arith, ltb-true i n e, length_first n)) ∙ rest (ltb-true i n e)
     at false e rest =
         let same : n ≡ i = omega (arith, h, ltb-false i n e) in
         subst (λ i. slice_get (first_numbers (suc n)) i ≡ Some i) same
-        (subst (λ k. slice_get (first_numbers n ++ n ∷ []) k ≡ Some n) (first_length n) (at_middle (first_numbers n) [] n))
+        (subst (λ k. slice_get (first_numbers n ++ n ∷ []) k ≡ Some n) (length_first n) (at_middle (first_numbers n) [] n))
 
 -- the numbers of a shell around one of its transactions
 numbers_around : (o more : List Turn) (turn : Turn) → numbers_of turn.0 (o ++ turn ∷ more) ≡ numbers_of turn.0 o ++ turn.1 ∷ numbers_of turn.0 more
@@ -64,10 +58,10 @@ take_first (suc n) m h = at (nat_lt n m) refl (take_first n m)
     at : (b : Bool) → nat_lt n m ≡ b → (m ≤ n → take m (first_numbers n) ≡ first_numbers m) → take m (first_numbers (suc n)) ≡ first_numbers m
     at true e rest =
         let same : suc n ≡ m = omega (arith, h, ltb-true n m e) in
-        subst (λ k. take k (first_numbers (suc n)) ≡ first_numbers k) same (take_all (suc n) (first_numbers (suc n)) (omega (arith, first_length (suc n))))
+        subst (λ k. take k (first_numbers (suc n)) ≡ first_numbers k) same (take_all (suc n) (first_numbers (suc n)) (omega (arith, length_first (suc n))))
     at false e rest =
         let few : m ≤ n = omega (arith, ltb-false n m e) in
-        take-append-le m (first_numbers n) (n ∷ []) (omega (arith, first_length n, few)) ∙ rest few
+        take-append-le m (first_numbers n) (n ∷ []) (omega (arith, length_first n, few)) ∙ rest few
 
 first_front : (xs ys : List ℕ) → xs ++ ys ≡ first_numbers (length (xs ++ ys)) → xs ≡ first_numbers (length xs)
 first_front xs ys e =

@@ -2,7 +2,6 @@
 ghost use Rattle.std.specs.Prelude.{◌≡◌, [], true, refl};
 ghost use Rattle.fx_replay_log.specs.Present.{AreNow};
 
-use fx_base::NoMemory;
 use fx_board::Board;
 use fx_store::{Node, Path};
 use fx_view::{Reader, Reads, Stop};
@@ -57,9 +56,7 @@ impl Reader for Present<'_> {
     }
 
     fn take_reads(&mut self, alloc: Global) -> Reads {
-        let mut taken = Reads::new(alloc);
-        std::mem::swap(&mut self.reads, &mut taken);
-        taken
+        self.reads.take(alloc)
     }
 
     ghost begins = { λ reader now. (refl, now) };

@@ -1,20 +1,16 @@
 -- One more element in a loop that goes over a list by its indices.
 use Rattle.std.proofs.Common.{◌≡◌, ℕ, ◌+◌, ◌<◌, List, [], ◌∷◌, ◌++◌, Some, None, length, take, refl, sym, ap, ◌∙◌, arith, append_assoc, append-nil, cond, eqb, false}
 use Rattle.std.specs.List.{slice_get, flat_map, join_by}
-use Rattle.std.proofs.lemmas.Option.{slice_get_within, get_or_from_slice_get, slice_get-get_or}
-use Rattle.std.proofs.lemmas.List.{take_more, length-take-le}
+use Rattle.std.proofs.lemmas.Option.{slice_get_within, slice_get-get_or}
+use Rattle.std.proofs.lemmas.List.{length-take-le}
 use Rattle.std.proofs.lemmas.Grind.{flat_map-append}
+use Rattle.fx_base.proofs.Lists.{take_next}
 use Rattle.fx_store.specs.Names.{path_text}
 use Rattle.fx_report.specs.Print.{spelled}
 use Rattle.fx_report.specs.Report.{entries_text, entry_text}
 use Rattle.fx_report.specs.Views.{view_text, view_texts}
 use Rattle.fx_report.specs.declared.printed.PrintedEntry.{PrintedEntry}
 use Rattle.fx_report.specs.declared.printed.View.{View}
-
--- the front of a list and its next element
-pub take_next : {X : Type 0} (xs : List X) (i : ℕ) (x : X) → slice_get xs i ≡ Some x → take (i + 1) xs ≡ take i xs ++ x ∷ []
-take_next xs i x e =
-    take_more xs i x (slice_get_within xs i x e) ∙ ap (λ y. take i xs ++ y ∷ []) (get_or_from_slice_get xs i x x e)
 
 -- no index below the length has no element
 pub next_is_there : {X : Type 0} (xs : List X) (i : ℕ) → i < length xs → slice_get xs i ≡ None → ⊥

@@ -1,6 +1,7 @@
 -- Commands one after another, and a block once for each text: what is left of them from one on.
 use Rattle.std.proofs.Common.{◌≡◌, ℕ, ◌+◌, ◌<◌, List, [], ◌∷◌, ◌++◌, length, take, drop, Some, Result, Ok, Err, refl, ap, ◌∙◌, sym, subst, arith, append_assoc}
 use Rattle.std.specs.Prelude.{slice_get, ◌^◌}
+use Rattle.fx_base.proofs.Lists.{drop_next}
 use Rattle.fx_expr.specs.Bindings.{bind}
 use Rattle.fx_expr.specs.ShapeTree.{ShapeTree}
 use Rattle.fx_expr.specs.Shapes.{BindingsHave}
@@ -13,7 +14,6 @@ use Rattle.fx_spec.specs.WellShaped.{Scope, IsBlock}
 use Rattle.fx_view.specs.Meaning.{Meaning}
 use Rattle.fx_view.specs.Follows.{GoesBy}
 use Rattle.fx_view.specs.Own.{no_own}
-use Rattle.fx_view.proofs.Lists.{drop_at}
 use Rattle.fx_view.specs.OwnList.{OwnList}
 use Rattle.fx_zip.specs.Trees.{ZipTree}
 use Rattle.fx_run.specs.declared.leave.Leave.{Leave}
@@ -84,16 +84,16 @@ module _ {R L : Type 0} {m : Meaning R} {begun : Work R L} {first : ℕ} {comman
       pub command_comes : HasBlock begun.variables (block commands) → HasCommand w.variables c
       command_comes shaped =
           let o = was.opens shaped.scope shaped.bindings shaped.shaped in
-          record { rest = block (drop (k + 1) commands); next = record { scope = shaped.scope ++ o.more; bindings = o.bindings; shaped = subst (λ cs. IsBlock (shaped.scope ++ o.more) (block cs)) (drop_at commands k c here) o.shaped } }
+          record { rest = block (drop (k + 1) commands); next = record { scope = shaped.scope ++ o.more; bindings = o.bindings; shaped = subst (λ cs. IsBlock (shaped.scope ++ o.more) (block cs)) (drop_next commands k c here) o.shaped } }
 
       counts : number + (count c + count_block (block (drop (k + 1) commands))) ≡ first + count_block (block commands)
-      counts = ap (λ cs. number + count_block (block cs)) (sym (drop_at commands k c here)) ∙ was.counted
+      counts = ap (λ cs. number + count_block (block cs)) (sym (drop_next commands k c here)) ∙ was.counted
 
       pub few_come : first + count_block (block commands) < 2 ^ 32 → number + count c < 2 ^ 32
       few_come few = let all = counts in omega (arith, few, all)
 
       first_of_rest : run_block (root_of begun) number (block (drop k commands)) (standing_of w) ≡ (run (root_of begun) number c (standing_of w) >=> go_on (λ s. run_block (root_of begun) (number + count c) (block (drop (k + 1) commands)) s))
-      first_of_rest = ap (λ cs. run_block (root_of begun) number (block cs) (standing_of w)) (drop_at commands k c here)
+      first_of_rest = ap (λ cs. run_block (root_of begun) number (block cs) (standing_of w)) (drop_next commands k c here)
 
       rooted : (mid : Work R L) (r : Result (Unit {0}) Leave) → Obeys m (run (root_of w) number c (standing_of w)) w mid r → Obeys m (run (root_of begun) number c (standing_of w)) w mid r
       rooted mid r = obeys_same (run (root_of w) number c (standing_of w)) (run (root_of begun) number c (standing_of w)) (ap (λ root. run root number c (standing_of w)) was.root)
@@ -109,7 +109,7 @@ module _ {R L : Type 0} {m : Meaning R} {begun : Work R L} {first : ℕ} {comman
         counted = let all = counts in omega (arith, all, next);
         opens = λ scope b is.
             let o = was.opens scope b is in
-            let p = scopes (scope ++ o.more) (block (drop (k + 1) commands)) o.bindings (subst (λ cs. IsBlock (scope ++ o.more) (block cs)) (drop_at commands k c here) o.shaped) in
+            let p = scopes (scope ++ o.more) (block (drop (k + 1) commands)) o.bindings (subst (λ cs. IsBlock (scope ++ o.more) (block cs)) (drop_next commands k c here) o.shaped) in
             record {
               more = o.more ++ p.more;
               bindings = subst (BindingsHave mid.variables) (append_assoc scope o.more p.more) p.bindings;
@@ -168,7 +168,7 @@ module _ {R L : Type 0} {m : Meaning R} {begun : Work R L} {first : ℕ} {b : Bl
 
     module _ (t : List ℕ) (here : slice_get texts k ≡ Some t) where
       first_turn : turns (root_of begun) first b x (drop k texts) (standing_of w) ≡ (turn (root_of begun) first b x t (standing_of w) >=> go_on (λ s. turns (root_of begun) first b x (drop (k + 1) texts) s))
-      first_turn = ap (λ ts. turns (root_of begun) first b x ts (standing_of w)) (drop_at texts k t here)
+      first_turn = ap (λ ts. turns (root_of begun) first b x ts (standing_of w)) (drop_next texts k t here)
 
       based : (mid : Work R L) (r : Result (Unit {0}) Leave) → Obeys m (turn (root_of w) first b x t (standing_of w)) w mid r → Obeys m (turn (root_of begun) first b x t (standing_of w)) w mid r
       based mid r = obeys_same (turn (root_of w) first b x t (standing_of w)) (turn (root_of begun) first b x t (standing_of w)) (ap (λ root. turn root first b x t (standing_of w)) was.root)

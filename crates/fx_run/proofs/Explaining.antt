@@ -11,6 +11,7 @@ use Rattle.fx_store.specs.Rule.{answer, seen, changed, follow, Found, Needs, fir
 use Rattle.fx_store.specs.Whole.{Store, Nodes, IsWhole, over, over_nodes}
 use Rattle.fx_store.proofs.Overlays.{over-change_at}
 use Rattle.fx_store.proofs.Stores.{same_nodes, get-over_nodes}
+use Rattle.fx_store.proofs.Asks.{all_known}
 use Rattle.fx_spec.specs.declared.refusal.End.{End}
 use Rattle.fx_spec.specs.SpecTree.{SpecTree}
 use Rattle.fx_spec.specs.CommandTree.{CommandTree}
@@ -33,7 +34,7 @@ use Rattle.fx_run.specs.Pursuing.{Came}
 use Rattle.fx_run.specs.Keeping.{AreKept}
 use Rattle.fx_run.specs.Running.{ReadsFit, IsNeeded}
 use Rattle.fx_run.proofs.Pursuits.{pursued_end, pursued_after, pursued_asked}
-use Rattle.fx_run.proofs.Ways.{once-within, within-once, first-once, all_known, read_among}
+use Rattle.fx_run.proofs.Ways.{once-within, within-once, first-once, read_among}
 use Rattle.fx_run.proofs.Stable.{stable_node}
 
 abbrev Path : Type 0

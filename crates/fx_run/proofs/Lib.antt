@@ -17,3 +17,4 @@ pub mod Explaining
 pub mod Foretelling
 pub mod Planned
 pub mod Attempts
+pub mod Unread

@@ -1,25 +1,19 @@
 -- Pursuing a task: one part and then the next, and what it comes to at a filestore that agrees with what is known.
-use Rattle.std.proofs.Common.{◌≡◌, Bool, true, false, cond, List, [], ◌∷◌, Option, Some, None, Result, Ok, Err, refl, ap, ◌∙◌, sym, subst, ℕ}
+use Rattle.std.proofs.Common.{◌≡◌, ◌∷◌, Option, Some, None, Result, Ok, Err, refl, ap, ◌∙◌, sym, subst}
 use mathlib.Core.Path.{fun_ext}
-use Rattle.std.specs.Ordering.{eq_by_cmp}
 use Rattle.fx_store.specs.declared.node.Node.{Node}
-use Rattle.fx_store.specs.declared.changes.Change.{Change}
-use Rattle.fx_store.specs.Names.{path_cmp}
 use Rattle.fx_store.specs.Rule.{Ask, Answer, Look, Tick, ◌>>=◌, answer, asked, Known, seen, if_known, follow, changed}
-use Rattle.fx_store.specs.Whole.{Store, update, over}
+use Rattle.fx_store.specs.Whole.{Store}
 use Rattle.fx_spec.specs.Task.{Task, Ends, Looks, Sets, result, after, consulted, asking, ◌>=>◌}
-use Rattle.fx_spec.proofs.Tasks.{eq_paths}
 use Rattle.fx_view.specs.OwnList.{OwnList}
-use Rattle.fx_view.specs.Own.{own_at, put_own, put_all, no_own}
+use Rattle.fx_view.specs.Own.{own_at, put_all, no_own}
 use Rattle.fx_view.specs.Meaning.{Meaning}
 use Rattle.fx_view.specs.Reads.{known_of}
 use Rattle.fx_view.specs.declared.reader.Stop.{Stop}
 use Rattle.fx_view.specs.declared.reader.Stop.TheVariants as stop
 use Rattle.fx_view.specs.Follows.{walked, walked_on, Went, GoesBy}
+use Rattle.fx_view.proofs.Owning.{changed-put_all}
 use Rattle.fx_run.specs.Pursuing.{Came, topped, pursuit}
-
-abbrev Path : Type 0
-Path = List (List ℕ)
 
 -- ---- a rule with own changes on top
 
@@ -66,43 +60,6 @@ pursuit-then {A} {B} own (Looks p t) next = ap (λ (f : Option Node → Ask (Cam
 pursuit-then own (Sets changes t) next = pursuit-then (put_all own changes) t next
 
 -- ---- own changes that are set
-
-apart : (p q r : Path) → eq_by_cmp path_cmp p q ≡ true → eq_by_cmp path_cmp p r ≡ true → eq_by_cmp path_cmp q r ≡ true
-apart p q r e f = subst (λ x. eq_by_cmp path_cmp x r ≡ true) (eq_paths p q e) f
-
-pub own_at-put : (own : OwnList) (q : Path) (n : Option Node) (p : Path) → own_at (put_own own q n) p ≡ cond (eq_by_cmp path_cmp p q) (Some n) (own_at own p)
-own_at-put [] q n p = refl
-own_at-put (e ∷ es) q n p = at (eq_by_cmp path_cmp q e.0) refl (own_at-put es q n p)
-  where
-    other : (a b : Bool) (x y : Option (Option Node)) → (a ≡ true → b ≡ true → ⊥) → cond b x (cond a (Some n) y) ≡ cond a (Some n) (cond b x y)
-    other true true x y never = absurd (never refl refl)
-    other true false x y never = refl
-    other false true x y never = refl
-    other false false x y never = refl
-
-    both : (a b : Bool) (x y : Option (Option Node)) → a ≡ b → cond b (Some n) y ≡ cond a (Some n) (cond b x y)
-    both true true x y is = refl
-    both true false x y is = cc
-    both false true x y is = cc
-    both false false x y is = refl
-
-    at : (c : Bool) → eq_by_cmp path_cmp q e.0 ≡ c → own_at (put_own es q n) p ≡ cond (eq_by_cmp path_cmp p q) (Some n) (own_at es p)
-        → own_at (cond c ((e.0, n) ∷ es) (e ∷ put_own es q n)) p ≡ cond (eq_by_cmp path_cmp p q) (Some n) (cond (eq_by_cmp path_cmp p e.0) (Some e.1) (own_at es p))
-    at true is rest = both (eq_by_cmp path_cmp p q) (eq_by_cmp path_cmp p e.0) (Some e.1) (own_at es p) (ap (eq_by_cmp path_cmp p) (eq_paths q e.0 is))
-    at false is rest =
-        ap (λ x. cond (eq_by_cmp path_cmp p e.0) (Some e.1) x) rest
-        ∙ other (eq_by_cmp path_cmp p q) (eq_by_cmp path_cmp p e.0) (Some e.1) (own_at es p) (λ a b. let no : false ≡ true = sym is ∙ apart p q e.0 a b in cc)
-
-changed-put : (S : Store) (own : OwnList) (c : Change) → changed (own_at (put_own own c.path c.node)) S ≡ update (changed (own_at own) S) c
-changed-put S own c = fun_ext (λ p. ap (λ o. seen o (S p)) (own_at-put own c.path c.node p) ∙ at (eq_by_cmp path_cmp p c.path) (own_at own p) (S p))
-  where
-    at : (b : Bool) (o : Option (Option Node)) (s : Option Node) → seen (cond b (Some c.node) o) s ≡ cond b c.node (seen o s)
-    at true o s = refl
-    at false o s = refl
-
-pub changed-put_all : (S : Store) (own : OwnList) (cs : List Change) → changed (own_at (put_all own cs)) S ≡ over (changed (own_at own) S) cs
-changed-put_all S own [] = refl
-changed-put_all S own (c ∷ cs) = changed-put_all S (put_own own c.path c.node) cs ∙ ap (λ T. over T cs) (changed-put S own c)
 
 -- ---- at a filestore
 

@@ -1,10 +1,10 @@
 -- Nodes that are not different are equal.
 use Rattle.std.proofs.Common.{◌≡◌, ◌≢◌, ℕ, Bool, true, false, List, [], ◌∷◌, Option, Some, None, refl, ap, ◌∙◌, sym}
 use Rattle.std.specs.Ordering.{eq_by_cmp}
+use Rattle.fx_base.proofs.Names.{path_itself}
 use Rattle.fx_store.specs.declared.node.Node.{Node}
 use Rattle.fx_store.specs.declared.node.Node.TheVariants.{File, Dir, Link}
 use Rattle.fx_store.specs.Names.{path_cmp}
-use Rattle.fx_store.proofs.Tables.{path_itself}
 use Rattle.fx_spec.proofs.Tasks.{eq_paths}
 
 abbrev Stable : {A : Type 0} → A → A → Type 0

@@ -3,9 +3,10 @@ use Rattle.std.proofs.Common.{◌≡◌, ℕ, Bool, true, false, cond, not, List
 use Rattle.std.specs.List.{filter}
 use Rattle.std.specs.Map.{keys_of}
 use Rattle.std.specs.Ordering.{eq_by_cmp}
-use Rattle.std.proofs.lemmas.List.Elements.{All-nil, All-cons, All-head, All-tail, All-weaker, All-filter, All-contains, All-contains_itself, Contains-append_right}
+use Rattle.std.proofs.lemmas.List.Elements.{All-nil, All-cons, All-head, All-tail, All-weaker, All-filter, All-contains, All-contains_itself}
+use Rattle.fx_base.proofs.Lists.{Contains-later, Contains-first}
 use Rattle.fx_store.specs.Names.{path_cmp}
-use Rattle.fx_store.specs.Rule.{Known, AllKnown, first_unknown}
+use Rattle.fx_store.specs.Rule.{Known, first_unknown}
 use Rattle.fx_spec.specs.Task.{once}
 use Rattle.fx_spec.proofs.Tasks.{eq_paths}
 use Rattle.fx_view.specs.ReadList.{ReadList}
@@ -13,12 +14,6 @@ use Rattle.fx_view.specs.Reads.{read_at, IsRead}
 
 abbrev Path : Type 0
 Path = List (List ℕ)
-
-Contains-later : {X : Type 0} (y : X) (xs : List X) (x : X) → Contains xs x → Contains (y ∷ xs) x
-Contains-later y xs x h = Contains-append_right (y ∷ []) xs x h
-
-Contains-first : {X : Type 0} (x : X) (xs : List X) → Contains (x ∷ xs) x
-Contains-first x xs = All-head (Contains (x ∷ xs)) x xs (All-contains_itself (x ∷ xs))
 
 -- ---- each at its first place
 
@@ -77,10 +72,6 @@ first-once known (p ∷ ps) = at (is_some (known p)) refl (first-once known ps)
     at false is rest = refl
 
 -- ---- what was read
-
-pub all_known : (known : Known) (ps : List Path) → AllKnown known ps → All (λ p. IsSome (known p)) ps
-all_known known [] h = All-nil (λ p. IsSome (known p))
-all_known known (p ∷ ps) h = All-cons (λ p. IsSome (known p)) p ps h.0 (all_known known ps h.1)
 
 -- a path that is read is one of those before, or of the later ones
 pub read_among : (reads more : ReadList) (p : Path) → IsRead (reads ++ more) p → IsRead reads p ⊎ Contains (keys_of more) p

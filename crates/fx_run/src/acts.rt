@@ -6,7 +6,7 @@ ghost use Rattle.fx_spec.specs.Views.{act_tree};
 ghost use Rattle.fx_zip.specs.Fresh.{IsFreshIn};
 ghost use Rattle.fx_run.specs.Acts.{Acts, HasAct};
 
-use crate::evaluating::{evaluated, into_text};
+use crate::evaluating::evaluated;
 use crate::walk::Walk;
 use fx_expr::{Env, Expr};
 use fx_session::Halt;
@@ -51,7 +51,7 @@ impl<'a, R: Reader, L: Ledger> Walk<'a, R, L> {
             (ActTree.to (expr_tree text.now))) result }
     {
         let value = evaluated(&mut self.session, text, variables)?;
-        let text = into_text(self.session.alloc, value);
+        let text = value.into_text(self.session.alloc);
         self.zip.go_to(&mut self.session, &text)
     }
 }

@@ -10,10 +10,9 @@ ghost use Rattle.fx_edit.specs.Values.{Tells};
 ghost use Rattle.fx_run.specs.Leaving.{OrStops, part};
 
 use crate::leave::{Leave, or_stop};
-use fx_expr::{Env, Expr, Text, TextSet, Value};
+use fx_expr::{Env, Expr, TextSet, Value};
 use fx_session::{Halt, Session};
 use fx_view::Reader;
-use std::alloc::Global;
 use std::sync::ledger::Ledger;
 
 /// The value of the expression.
@@ -57,7 +56,7 @@ pub(crate) fn truth_of<R: Reader, L: Ledger>(
         (part eval.truth_in (move.evaluated (eval_of variables.now (expr_tree expr.now)))) result }
     ensures tick { session.new ≡ ticked session.old }
 {
-    Ok(truth_in(value_of(session, number, expr, variables)?))
+    Ok(value_of(session, number, expr, variables)?.is_true())
 }
 
 /// The set that the expression gives.
@@ -73,38 +72,5 @@ pub(crate) fn names_of<R: Reader, L: Ledger>(
     ensures tick { session.new ≡ ticked session.old }
 {
     let value = value_of(session, number, expr, variables)?;
-    Ok(names_in(session.alloc, value))
-}
-
-/// The text that a value is.
-pub(crate) fn into_text(alloc: Global, value: Value) -> Text
-    ensures { result ≡ eval.text_in (tree_of value) }
-{
-    match value {
-        Value::Str(text) => text,
-        Value::Int(_) | Value::Bool(_) | Value::Names(_) => Text::new(alloc),
-        Value::Pair(_, _) | Value::Nothing | Value::Some(_) | Value::Table(_) => Text::new(alloc),
-    }
-}
-
-fn truth_in(value: Value) -> bool
-    ensures { result ≡ eval.truth_in (tree_of value) }
-{
-    match value {
-        Value::Bool(b) => b,
-        Value::Str(_) | Value::Int(_) | Value::Names(_) => false,
-        Value::Pair(_, _) | Value::Nothing | Value::Some(_) | Value::Table(_) => false,
-    }
-}
-
-fn names_in(alloc: Global, value: Value) -> TextSet
-    ensures { result ≡ eval.names_in (tree_of value) }
-{
-    match value {
-        Value::Names(names) => names,
-        Value::Str(_) | Value::Int(_) | Value::Bool(_) => TextSet::new(alloc),
-        Value::Pair(_, _) | Value::Nothing | Value::Some(_) | Value::Table(_) => TextSet::new(
-            alloc,
-        ),
-    }
+    Ok(value.into_names(session.alloc))
 }

@@ -37,8 +37,13 @@ fn begin<H: Host>(alloc: Global, job: &RunJob, host: &mut H) -> Result<(Arc<Base
         (H.view host.old) (H.view host.new)) }
 {
     let base = read_base(alloc, &job.inputs, host)?;
-    let there = ready_out(alloc, job.out, host)?;
-    Ok((base, there))
+    match ready_out(alloc, job.out, host) {
+        Ok(there) => Ok((base, there)),
+        Err(status) => {
+            Base::let_go(base);
+            Err(status)
+        }
+    }
 }
 
 /// Saves the last filestore, and then prints the output.
@@ -79,7 +84,9 @@ pub fn run<R: Threads + Wait + Sync, H: Host, S: Sink, G: Gate + Sync>(
 {
     let (base, there) = begin(alloc, job, host)?;
     let answer = run_base(rt, alloc, base, gate)?;
-    leave(alloc, job, there, &answer, host, out)
+    let ended = leave(alloc, job, there, &answer, host, out);
+    answer.let_go();
+    ended
 }
 
 /// Runs the scripts on the folder, by the description and the job's schedule, on one thread, and leaves the folder that they
@@ -98,5 +105,7 @@ pub fn trace<H: Host, S: Sink>(
 {
     let (base, there) = begin(alloc, job, host)?;
     let answer = trace_base(alloc, job, base)?;
-    leave(alloc, job, there, &answer, host, out)
+    let ended = leave(alloc, job, there, &answer, host, out);
+    answer.let_go();
+    ended
 }

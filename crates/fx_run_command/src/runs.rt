@@ -8,6 +8,7 @@ ghost use Rattle.fx_inputs.specs.Inputs.{HasEachScript};
 
 use fx_base::NoMemory;
 use fx_board::Board;
+use fx_machine::let_go;
 use fx_outside::Gate;
 use fx_report::{event_lines, report};
 use fx_sched::{Traced, run_schedule};
@@ -21,10 +22,17 @@ use std::sync::{Arc, Wait};
 use std::thread::Threads;
 
 /// A whole run: its log and its output.
-#[derive(Drop)]
 pub(crate) struct Answer {
     pub board: Board,
     pub output: LongText,
+}
+
+impl Answer {
+    /// Lets go of the run.
+    pub(crate) fn let_go(self) {
+        let Answer { board, output: _ } = self;
+        board.let_go();
+    }
 }
 
 /// Two texts, one after the other.
@@ -46,8 +54,15 @@ pub(crate) fn run_base<R: Threads + Wait + Sync, G: Gate + Sync>(
     ensures { IfOk result (λ a. IsRunFrom (base_tree base.value) Plain (last_of a) a.output) }
 {
     let (board, retries) = run_all(rt, alloc, base, gate)?;
-    let output = report(alloc, &board, &retries)?;
-    Ok(Answer { board, output })
+    let output = report(alloc, &board, &retries);
+    let_go(retries);
+    match output {
+        Ok(output) => Ok(Answer { board, output }),
+        Err(fault) => {
+            board.let_go();
+            Err(fault)
+        }
+    }
 }
 
 /// What is printed of a run by a schedule: its events, and then its report.
@@ -66,11 +81,15 @@ fn run_by(alloc: Global, base: Arc<Base>, schedule: &[u32]) -> Result<Answer, No
         IsRunFrom (base_tree base.value) (Scheduled schedule.now) (last_of a) a.output) }
 {
     let traced = run_schedule(alloc, base, schedule)?;
-    let output = traced_output(alloc, &traced)?;
-    Ok(Answer {
-        board: traced.board,
-        output,
-    })
+    let output = traced_output(alloc, &traced);
+    let board = traced.into_board();
+    match output {
+        Ok(output) => Ok(Answer { board, output }),
+        Err(fault) => {
+            board.let_go();
+            Err(fault)
+        }
+    }
 }
 
 /// Runs all scripts on one thread, by a schedule of shells, and watches whether the tree has a value.
@@ -79,11 +98,8 @@ fn run_watching(alloc: Global, base: Arc<Base>, schedule: &[u32]) -> Result<Answ
     ensures { IfOk result (λ a.
         IsRunFrom (base_tree base.value) (Watched schedule.now) (last_of a) a.output) }
 {
-    let watched = run_watched(alloc, base, schedule)?;
-    Ok(Answer {
-        board: watched.0,
-        output: watched.1,
-    })
+    let (board, output) = run_watched(alloc, base, schedule)?;
+    Ok(Answer { board, output })
 }
 
 /// Runs all scripts on one thread, by the job's schedule, watched or not.
@@ -94,15 +110,16 @@ pub(crate) fn trace_base(alloc: Global, job: &RunJob, base: Arc<Base>) -> Result
     ensures { IfOk result (λ a.
         IsRunFrom (base_tree base.value) (asked job.now).mode (last_of a) a.output) }
 {
+    let schedule = match job.shells(alloc) {
+        Ok(schedule) => schedule,
+        Err(fault) => {
+            Base::let_go(base);
+            return Err(fault);
+        }
+    };
     match job.mode {
         RunMode::Plain => unreachable!(),
-        RunMode::Scheduled(_) => {
-            let schedule = job.shells(alloc)?;
-            run_by(alloc, base, &schedule)
-        }
-        RunMode::Watched(_) => {
-            let schedule = job.shells(alloc)?;
-            run_watching(alloc, base, &schedule)
-        }
+        RunMode::Scheduled(_) => run_by(alloc, base, &schedule),
+        RunMode::Watched(_) => run_watching(alloc, base, &schedule),
     }
 }

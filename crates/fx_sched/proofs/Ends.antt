@@ -1,5 +1,5 @@
 -- The end of a recorded run: nothing is looked at any more, and its order is complete.
-use Rattle.std.proofs.Common.{◌≡◌, ⊎_elim, ℕ, zero, suc, ◌+◌, ◌<◌, ◌≤◌, false, List, [], ◌∷◌, ◌++◌, map, length, get_or, refl, sym, ap, subst, ◌∙◌, arith, length-append}
+use Rattle.std.proofs.Common.{◌≡◌, ⊎_elim, ℕ, zero, suc, ◌<◌, ◌≤◌, false, List, [], ◌∷◌, ◌++◌, map, length, get_or, sym, ap, subst, ◌∙◌, arith}
 use Rattle.std.proofs.lemmas.Bool.{cases_lt}
 use Rattle.std.proofs.lemmas.List.{append-nil, map-append, length-map, ext_get_or, get_or_append_left}
 use Rattle.std.proofs.lemmas.List.Folds.{flat_map-map}
@@ -12,6 +12,7 @@ use Rattle.fx_machine.specs.Measure.{has_left}
 use Rattle.fx_machine.specs.Tried.{conflicts_of, retries_of, retry_tree}
 use Rattle.fx_machine.specs.Turns.{TakesTurns}
 use Rattle.fx_machine.proofs.Complete.{complete_runs}
+use Rattle.fx_machine.proofs.Weight.{length_first}
 use Rattle.fx_progress.proofs.Resting.{at_rest, completed}
 use Rattle.fx_sched.specs.declared.schedule.Traced.{Traced}
 use Rattle.fx_sched.specs.Named.{NameConflicts}
@@ -19,10 +20,6 @@ use Rattle.fx_sched.specs.Recorded.{Play, joined, HadTurns, HadRounds}
 use Rattle.fx_sched.specs.Traced.{IsTraced}
 
 -- ---- the retries by shell
-
-length_first : (n : ℕ) → length (first_numbers n) ≡ n
-length_first zero = refl
-length_first (suc n) = length-append (first_numbers n) (n ∷ []) ∙ (let e = length_first n in let f : length (first_numbers n) + 1 ≡ suc n = omega (arith, e) in f)
 
 at_first : (f : ℕ → List Retry) (n k : ℕ) → k < n → get_or (map f (first_numbers n)) k [] ≡ f k
 at_first f zero k h = absurd (omega (arith, h))

@@ -11,7 +11,7 @@ use Rattle.std.proofs.lemmas.Map.Keys.{IsDistinct-push}
 use Rattle.std.proofs.lemmas.Option.{none-some, same_Some}
 use Rattle.fx_store.specs.declared.node.Node.{Node}
 use Rattle.fx_store.specs.Names.{path_cmp}
-use Rattle.fx_store.specs.Orders.{path_total, path_eq_same}
+use Rattle.fx_store.specs.Orders.{path_total}
 use Rattle.fx_store.specs.Rule.{Known, first_unknown}
 use Rattle.fx_store.specs.Whole.{Store, Nodes}
 use Rattle.fx_spec.specs.CommandTree.{CommandTree}
@@ -21,6 +21,7 @@ use Rattle.fx_spec.specs.Transaction.{way}
 use Rattle.fx_spec.proofs.Orders.{state-front}
 use Rattle.fx_view.specs.ReadList.{ReadList}
 use Rattle.fx_view.specs.Reads.{read_at, known_of, IsReads, Agrees}
+use Rattle.fx_view.proofs.Lists.{read_more_cases}
 use Rattle.fx_machine.specs.declared.attempt.Attempt.{Attempt}
 use Rattle.fx_machine.specs.Explained.{IsExplained, RunsAs}
 use Rattle.fx_machine.specs.Machine.{position_at, first_unseen, AgreesAt, HasSeenAll, ComesNext, IsStaleAt, IsFresh}
@@ -133,19 +134,6 @@ unread_key (e ∷ es) path none = go (eq_by_cmp path_cmp path e.0) none (unread_
 pub once_more : (reads : ReadList) (path : Path) (read : Read) → IsReads reads → read_at reads path ≡ None → IsReads (reads ++ (path, read) ∷ [])
 once_more reads path read once none =
     subst (IsDistinct (eq_by_cmp path_cmp)) (sym (map-append (λ (r : Path × Read). r.0) reads ((path, read) ∷ []))) (IsDistinct-push (eq_by_cmp_equiv path_total) (keys_of reads) path once (unread_key reads path none))
-
--- a read is one of those before, or the new one
-pub read_more_cases : (reads : ReadList) (path : Path) (read : Read) (q : Path) (r : Read) → read_at (reads ++ (path, read) ∷ []) q ≡ Some r → (read_at reads q ≡ Some r) ⊎ ((q ≡ path) × (read ≡ r))
-read_more_cases [] path read q r e = go (eq_by_cmp path_cmp q path) refl e
-  where
-    go : (b : Bool) → eq_by_cmp path_cmp q path ≡ b → cond b (Some read) None ≡ Some r → (read_at [] q ≡ Some r) ⊎ ((q ≡ path) × (read ≡ r))
-    go true is e = inr (path_eq_same q path is, same_Some read r e)
-    go false is e = absurd (none-some r e)
-read_more_cases (x ∷ xs) path read q r e = go (eq_by_cmp path_cmp q x.0) e (read_more_cases xs path read q r)
-  where
-    go : (b : Bool) → cond b (Some x.1) (read_at (xs ++ (path, read) ∷ []) q) ≡ Some r → (read_at (xs ++ (path, read) ∷ []) q ≡ Some r → (read_at xs q ≡ Some r) ⊎ ((q ≡ path) × (read ≡ r))) → (cond b (Some x.1) (read_at xs q) ≡ Some r) ⊎ ((q ≡ path) × (read ≡ r))
-    go true e rest = inl e
-    go false e rest = rest e
 
 pub true_more : (base : BaseTree) (o : List Turn) (reads : ReadList) (path : Path) → AreTrueReads base o reads → AreTrueReads base o (reads ++ (path, (get (state base o (length o)) path, length o)) ∷ [])
 true_more base o reads path true_reads q node position e =

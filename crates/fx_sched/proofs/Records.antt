@@ -1,9 +1,10 @@
 -- Recorded runs: how they begin, and how they go on by turns and rounds.
 use Rattle.std.proofs.Common.{◌≡◌, ⊎_elim, ℕ, zero, suc, ◌<◌, ◌≤◌, true, false, nat_lt, List, [], ◌∷◌, ◌++◌, length, get_or, replicate, slice_get, Some, None, is_some, refl, sym, ap, subst, ◌∙◌, arith, append_assoc}
-use Rattle.std.specs.List.{Contains}
 use Rattle.std.proofs.lemmas.Bool.{cases_lt}
 use Rattle.std.proofs.lemmas.List.{append-nil, length-set, length-replicate, get_or_past}
 use Rattle.std.proofs.lemmas.List.Elements.{Contains-append_cases}
+use Rattle.fx_base.proofs.Lists.{only_one}
+use Rattle.fx_base.proofs.Booleans.{never_both}
 use Rattle.fx_spec.specs.Plans.{script_of, count_of}
 use Rattle.fx_spec.specs.Order.{BaseTree, first_numbers}
 use Rattle.fx_machine.specs.declared.event.Event.{Event}
@@ -15,9 +16,9 @@ use Rattle.fx_machine.specs.Measure.{has_left}
 use Rattle.fx_machine.specs.Tried.{conflicts_of}
 use Rattle.fx_machine.specs.Turns.{TakesTurns, left_out, steps, a_round, over as all_over, BeginsTurns, leaves_out, goes, next_round, stops, has_more}
 use Rattle.fx_machine.proofs.Weight.{weight, weight_falls}
+use Rattle.fx_machine.proofs.Turns.{first_contains}
 use Rattle.fx_board.specs.Log.{Log}
 use Rattle.fx_progress.proofs.Turning.{settled_by, next_counts, some_within, more_is_left, runs_on}
-use Rattle.fx_progress.proofs.Resting.{first_contains, true_false}
 use Rattle.fx_sched.specs.declared.shell.Shell.{Shell}
 use Rattle.fx_sched.specs.Left.{SomeLeft}
 use Rattle.fx_sched.specs.Named.{NameConflicts}
@@ -105,10 +106,6 @@ stepped old new shell e is leads events =
           subst (λ k. BeginsTurns old.world.base old.events (k ∷ later) (e ∷ es)) leads.whose (goes has after);
     }
 
-one_of : (shell k : ℕ) → Contains (shell ∷ []) k → shell ≡ k
-one_of shell k (zero, h, e) = e
-one_of shell k (suc i, h, e) = absurd (omega (arith, h))
-
 -- a turn of a shell that has no transaction left
 pub idled : (old new : Play) (shell : ℕ) → IsRecording old → next_txn old.world.base old.world.machine.order shell ≡ None → new ≡ old → HadTurns old (shell ∷ []) new
 idled old new shell is none same = subst (HadTurns old (shell ∷ [])) (sym same) (record {
@@ -117,7 +114,7 @@ idled old new shell is none same = subst (HadTurns old (shell ∷ [])) (sym same
   more = [];
   events = sym (append-nil old.events);
   run = refl;
-  idle = λ e k inside. subst (λ k. has_left old.world.base old.world.machine k ≡ false) (one_of shell k inside) (ap is_some none);
+  idle = λ e k inside. subst (λ k. has_left old.world.base old.world.machine k ≡ false) (only_one shell k inside) (ap is_some none);
   takes = λ later es t. left_out (recorded_more old is shell ∙ ap is_some none) t;
   begins = λ later es t. leaves_out (recorded_more old is shell ∙ ap is_some none) t;
 })
@@ -137,7 +134,7 @@ runs_idled old new shell none same = subst (RunsBy old (shell ∷ [])) (sym same
   base = refl;
   more = [];
   run = refl;
-  idle = λ e k inside. subst (λ k. has_left old.base old.machine k ≡ false) (one_of shell k inside) (ap is_some none);
+  idle = λ e k inside. subst (λ k. has_left old.base old.machine k ≡ false) (only_one shell k inside) (ap is_some none);
 })
 
 pub runs_none : (r : Running) → RunsBy r [] r
@@ -218,7 +215,7 @@ pub round_falls : (old new : Running) → IsReached old.base old.machine → Som
 round_falls old new reached left runs =
     subst (λ b. weight b new.machine < weight old.base old.machine) (sym runs.base)
     (run_falls old.base old.machine runs.more new.machine reached
-    (λ none. true_false (has_left old.base old.machine left.shell) left.left (runs.idle none left.shell (first_contains (length old.base.plan) left.shell left.within))) runs.run)
+    (λ none. never_both (has_left old.base old.machine left.shell) left.left (runs.idle none left.shell (first_contains (length old.base.plan) left.shell left.within))) runs.run)
 
 -- some rounds so far
 pub record Rounds (old new : Play) : Type 0 where

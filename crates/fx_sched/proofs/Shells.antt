@@ -19,6 +19,7 @@ use Rattle.fx_view.specs.ReadList.{ReadList}
 use Rattle.fx_view.specs.Reads.{read_at, known_of, IsRead, IsReads, Agrees, placed, nodes_in}
 use Rattle.fx_view.proofs.Growing.{agrees_before, read_known}
 use Rattle.fx_view.proofs.Lookups.{placed_once}
+use Rattle.fx_view.proofs.Lists.{read_more_cases}
 use Rattle.fx_machine.specs.declared.attempt.Attempt.{Attempt}
 use Rattle.fx_machine.specs.Explained.{IsExplained, RunsAs}
 use Rattle.fx_machine.specs.declared.retry.Retry.{Retry}
@@ -36,7 +37,7 @@ use Rattle.fx_sched.specs.declared.shell.Shell.{Shell}
 use Rattle.fx_sched.specs.Present.{AreNow, IsNowIn}
 use Rattle.fx_sched.specs.Shells.{looked_in, attempt_of, IsPlan, IsShell, IsReady, HasLooksOf}
 use Rattle.fx_sched.specs.Moves.{AllRead, HasLooked, HasSettled, HasRestarted, Moved, retry_of}
-use Rattle.fx_sched.proofs.Looks.{all_read, read_more_cases, once_more, true_more}
+use Rattle.fx_sched.proofs.Looks.{all_read, once_more, true_more}
 
 abbrev Path : Type 0
 Path = List (List ℕ)

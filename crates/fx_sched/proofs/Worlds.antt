@@ -1,6 +1,5 @@
 -- A step of one shell is a step of its world.
-use Rattle.std.proofs.Common.{◌≡◌, ◌≢◌, ℕ, zero, suc, ◌<◌, ◌≤◌, List, [], ◌∷◌, ◌++◌, map, length, get_or, set, replicate, slice_get, Option, Some, None, IsSome, is_some, Result, Ok, Err, refl, sym, ap, subst, ◌∙◌, arith}
-use Rattle.std.specs.Prelude.{OnErr}
+use Rattle.std.proofs.Common.{◌≡◌, ◌≢◌, ℕ, zero, suc, ◌<◌, ◌≤◌, List, [], ◌∷◌, ◌++◌, map, length, get_or, set, replicate, slice_get, Option, Some, None, IsSome, is_some, refl, sym, ap, subst, ◌∙◌, arith}
 use Rattle.std.specs.FinMap.{get}
 use Rattle.std.proofs.lemmas.Bool.{ne_eqb}
 use Rattle.std.proofs.lemmas.List.{map-append, map-set, length-set, length-replicate}
@@ -289,7 +288,3 @@ started_over base read log shells count l s n r =
       ap (λ log. running_of log shells) l ∙ ap (running_of (started (base_tree base))) shells_are
           ∙ ap (λ m. with m (retries_in (replicate (length base.plan) new_shell))) (started_machine (base_tree base)) ∙ ap (with (resting (base_tree base) [])) (started_retries (length base.plan)),
     )
-
-pub on_err : {X E : Type 0} (r : Result X E) (P : Type 0) → P → OnErr r P
-on_err (Ok x) P p = tt
-on_err (Err e) P p = p

@@ -13,20 +13,21 @@ use Rattle.fx_parse.specs.Stuck.{Stuck, Unexpected, ◌>>=◌}
 use Rattle.fx_parse.specs.Grammars.{word, opening, closing, expr_tokens, expr_levels, shape_tokens, shape_levels, is_name, has_names}
 use Rattle.fx_parse.specs.Reader.{read_expr}
 use Rattle.fx_parse.specs.ShapeReader.{read_shape}
-use Rattle.fx_parse.specs.Signs.{is_sign}
+use Rattle.fx_parse.specs.Signs.{is_sign, closed_by}
 use Rattle.fx_parse.proofs.Machine.{at_most, Runs}
 use Rattle.fx_parse.proofs.ReaderPlaces.{Follows}
-use Rattle.fx_parse.proofs.ExprLink.{expr_again, front_low, rest_low, tail_low}
+use Rattle.fx_parse.proofs.ExprLink.{expr_again, front_low, rest_low}
 use Rattle.fx_parse.proofs.ShapeLink.{shape_reader}
 use Rattle.fx_parse.proofs.Signs.{name_then, sign_is}
-use Rattle.fx_parse.proofs.Steps.{part_then}
+use Rattle.fx_parse.proofs.Steps.{part_then, then_ok}
 use Rattle.fx_spec.specs.CommandTree.{ActTree, CommandTree, Block, block}
 use Rattle.fx_grammar.specs.Tokens.{act_tokens, command_tokens, block_tokens, txn_tokens, act_names, command_names, block_names, txn_names}
 use Rattle.fx_grammar.specs.TokenLevels.{act_rest_levels, command_token_levels, block_token_levels, txn_token_levels}
 use Rattle.fx_grammar.specs.Grammars.{transactions}
+use Rattle.fx_grammar.proofs.Deep.{Low, tail, front, rest}
 use Rattle.fx_script_parse.specs.declared.start.Start.{Start}
 use Rattle.fx_script_parse.specs.declared.start.Start.TheVariants as start
-use Rattle.fx_script_parse.specs.Reader.{start_of, act_start, is_nothing, Read, bracketed_at, valued_at, typed_at, to_at, store_at, act_form_at, act_found, act_at, do_at, try_at, let_at, set_at, fetch_at, value_at, validate_at, print_at, added_at, closed_by, closed, ended_or, items_at, many_at, braced_at, branch_at, each_at, form_at, read_command, read_txn}
+use Rattle.fx_script_parse.specs.Reader.{start_of, act_start, is_nothing, Read, bracketed_at, valued_at, typed_at, to_at, store_at, act_form_at, act_found, act_at, do_at, try_at, let_at, set_at, fetch_at, value_at, validate_at, print_at, added_at, closed, ended_or, items_at, many_at, braced_at, branch_at, each_at, form_at, read_command, read_txn}
 use Rattle.fx_script_parse.proofs.Machine.{Txn, Command, table, start_word, act_word, act_of, act_rest, act_parts, act_starts, brace, end_brace, branch_tokens, each_tokens, command_runs}
 use Rattle.fx_script_parse.proofs.Means.{txn_fits}
 use Rattle.fx_script_parse.proofs.Link.{txn_follows}
@@ -43,9 +44,6 @@ block_again (Block.then c cs) = ap (Block.then c) (block_again cs)
 pub list_again : (cs : List CommandTree) → list_of (block cs) ≡ cs
 list_again [] = refl
 list_again (c ∷ cs) = ap (λ l. c ∷ l) (list_again cs)
-
-then_ok : {A B : Type 0} (r : Result A Stuck) (a : A) (k : A → Result B Stuck) → r ≡ Ok a → (r >>= k) ≡ k a
-then_ok r a k e = ap (λ r. r >>= k) e
 
 -- what readers read again
 abbrev ExprAgain : Read ExprTree → ExprTree → Type 0
@@ -207,19 +205,6 @@ level_fits bound d (CommandTree.print e) h = leb-true d bound (and_parts _ _ h).
 level_fits bound d (CommandTree.branch e a b) h = leb-true d bound (and_parts _ _ h).0
 level_fits bound d (CommandTree.each x e a) h = leb-true d bound (and_parts _ _ h).0
 level_fits bound d CommandTree.abort h = leb-true d bound (and_parts _ _ h).0
-
--- no level is above a bound
-record Low (b : ℕ) (l : List ℕ) : Type 0 where
-  low : at_most b l ≡ true
-
-tail : {b d : ℕ} {l : List ℕ} → Low b (d ∷ l) → Low b l
-tail {b} {d} {l} h = record { low = tail_low b d l h.low }
-
-front : {b : ℕ} (k l : List ℕ) → Low b (k ++ l) → Low b k
-front {b} k l h = record { low = front_low b k l h.low }
-
-rest : {b : ℕ} (k l : List ℕ) → Low b (k ++ l) → Low b l
-rest {b} k l h = record { low = rest_low b k l h.low }
 
 -- the parts of a command of level d
 module _ (bound d n : ℕ) (next : n ≡ suc bound - suc d) where

@@ -11,7 +11,7 @@ use Rattle.fx_parse.specs.Stuck.{Stuck, Unexpected, TooNested, ◌>>=◌}
 use Rattle.fx_parse.specs.Grammars.{is_name}
 use Rattle.fx_parse.specs.Reader.{expect, read_expr}
 use Rattle.fx_parse.specs.ShapeReader.{read_shape}
-use Rattle.fx_parse.specs.Signs.{is_sign, name_at}
+use Rattle.fx_parse.specs.Signs.{is_sign, name_at, closed_by}
 use Rattle.fx_parse.proofs.Machine.{scan, scan_from, scan_says, Outcome, Empties, Runs}
 use Rattle.fx_parse.proofs.ExprMachine as inner
 use Rattle.fx_parse.proofs.ExprMachine.{Expr}
@@ -19,14 +19,14 @@ use Rattle.fx_parse.proofs.ExprLink.{expr_follows}
 use Rattle.fx_parse.proofs.ShapeMachine as shape
 use Rattle.fx_parse.proofs.ShapeMachine.{Shape}
 use Rattle.fx_parse.proofs.ShapeLink.{shape_reader}
-use Rattle.fx_parse.proofs.Steps.{from_passed, on}
+use Rattle.fx_parse.proofs.Steps.{from_passed, on, on_ok}
 use Rattle.fx_parse.proofs.Within.{goes_within}
 use Rattle.fx_spec.specs.CommandTree.{CommandTree}
 use Rattle.fx_script_parse.specs.declared.start.ActStart.{ActStart}
 use Rattle.fx_script_parse.specs.declared.start.ActStart.TheVariants as act
 use Rattle.fx_script_parse.specs.declared.start.Start.{Start}
 use Rattle.fx_script_parse.specs.declared.start.Start.TheVariants as start
-use Rattle.fx_script_parse.specs.Reader.{start_of, act_start, is_nothing, Read, bracketed_at, valued_at, typed_at, to_at, store_at, act_form_at, act_found, act_at, do_at, try_at, let_at, set_at, fetch_at, value_at, validate_at, print_at, added_at, closed_by, closed, ended_or, items_at, many_at, braced_at, branch_at, each_at, form_at, too_nested, read_command, read_txn}
+use Rattle.fx_script_parse.specs.Reader.{start_of, act_start, is_nothing, Read, bracketed_at, valued_at, typed_at, to_at, store_at, act_form_at, act_found, act_at, do_at, try_at, let_at, set_at, fetch_at, value_at, validate_at, print_at, added_at, closed, ended_or, items_at, many_at, braced_at, branch_at, each_at, form_at, too_nested, read_command, read_txn}
 use Rattle.fx_script_parse.proofs.Machine.{Sym, Txn, Command, Commands, Act, Part, Shaped, Name, Fixed, act_stack, found_stack, start_stack, items_stack, txn_stack, table, holds, shape_holds}
 
 abbrev pub go : List Sym → List Token → Result (List Token) Stuck
@@ -63,11 +63,6 @@ expr_goes left d e stack ts = goes_within inner.table table Part holds (read_exp
 
 shape_goes : (left d : ℕ) → left ≡ 65 - d → ShapeGoesAs d (read_shape left)
 shape_goes left d e stack ts = goes_within shape.table table Shaped shape_holds (read_shape left) (Shape d) (λ ts. shape_reader.follows left d e [] ts) stack ts
-
--- a reading that goes on only where it gives something
-on_ok : {A B C : Type 0} {start : Result C Stuck} (r : Result A Stuck) (go : A → Result C Stuck) (k : A → Result B Stuck) (end : B → Result C Stuck) → start ≡ (r >>= go) → ((a : A) → r ≡ Ok a → go a ≡ (k a >>= end)) → start ≡ ((r >>= k) >>= end)
-on_ok (Ok a) go k end first rest = first ∙ rest a refl
-on_ok (Err e) go k end first rest = first
 
 -- what a command leaves is shorter
 shorter : (d : ℕ) (ts rest : List Token) → Empties table (Command d ∷ []) ts rest → length rest < length ts

@@ -4,6 +4,7 @@ use Rattle.std.proofs.Math.ListN.{get_or-append}
 use Rattle.std.proofs.lemmas.List.{append-nil, get_or-append-add}
 use Rattle.std.proofs.lemmas.List.Folds.{list_all-append}
 use Rattle.std.proofs.lemmas.Bool.{and_parts, and_from}
+use Rattle.fx_base.proofs.Lists.{not_empty}
 use Rattle.fx_lex.specs.declared.token.Token.{Token}
 use Rattle.fx_parse.specs.Readable.{Stands, Begins, IsShallow, IsUnexpected, IsTooNested}
 use Rattle.fx_parse.proofs.Machine.{Runs, run_length, levels_at, shallow_at}
@@ -29,9 +30,6 @@ runs t h = (txn_runs 1 t [] h).runs
 
 sizes : (t : Commands) → txn_names t ≡ true → length (txn_token_levels 1 t) ≡ length (txn_tokens t)
 sizes t h = run_length table (txn_tokens t) (Txn 1 ∷ []) [] (txn_token_levels 1 t) (runs t h)
-
-not_empty : (x : Token) (more : List Token) → x ∷ more ≡ [] → ⊥
-not_empty x more e = cc
 
 same_head : (x y : Token) (a b : List Token) → x ∷ a ≡ y ∷ b → x ≡ y
 same_head x y a b e = cc

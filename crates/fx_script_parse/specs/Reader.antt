@@ -11,6 +11,7 @@ use Rattle.fx_parse.specs.Keywords.{keyword_of}
 use Rattle.fx_parse.specs.Stuck.{Stuck, Unexpected, TooNested, ◌>>=◌}
 use Rattle.fx_parse.specs.Reader.{unexpected, expect, read_expr}
 use Rattle.fx_parse.specs.ShapeReader.{read_shape}
+use Rattle.fx_parse.specs.Signs as signs
 use Rattle.fx_parse.specs.Signs.{is_sign, name_at}
 use Rattle.fx_spec.specs.CommandTree.{ActTree, CommandTree, block}
 use Rattle.fx_script_parse.specs.declared.start.Plain.{Plain}
@@ -192,14 +193,9 @@ added_at command done ts = do
   c ← command ts
   Ok (done ++ c.0 ∷ [], c.1)
 
-abbrev pub closed_by : Bool → List Token → Option (List Token)
-closed_by true ts = Some ts
-closed_by false ts = None
-
 -- behind `}`
 abbrev pub closed : List Token → Option (List Token)
-closed [] = None
-closed (x ∷ ts) = closed_by (is_sign sign.RightBrace x) ts
+closed ts = signs.closed sign.RightBrace ts
 
 abbrev pub ended_or : Option (List Token) → List CommandTree → Result (List CommandTree × List Token) Stuck → Result (List CommandTree × List Token) Stuck
 ended_or None done more = more

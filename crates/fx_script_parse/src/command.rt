@@ -5,30 +5,15 @@ ghost use Rattle.fx_parse.specs.Reader.{kinds, read_expr};
 ghost use Rattle.fx_parse.specs.ShapeReader.{read_shape};
 ghost use Rattle.fx_parse.specs.Stuck.{Gives};
 ghost use Rattle.fx_spec.specs.Views.{command_tree};
-ghost use Rattle.fx_script_parse.specs.Reader.{closed, added_at, many_at, braced_at, branch_at, each_at, form_at, read_command};
+ghost use Rattle.fx_script_parse.specs.Reader.{added_at, many_at, braced_at, branch_at, each_at, form_at, read_command};
 
 use crate::form::{do_at, fetch_at, let_at, print_at, set_at, try_at, validate_at, value_at};
 use crate::part::bracketed_at;
 use crate::start::{Start, is_nothing, start_of};
-use fx_lex::{Mark, Spanned, Token};
-use fx_parse::{Sign, Stop, behind, first_of, name_at};
+use fx_lex::Spanned;
+use fx_parse::{Sign, Stop, behind, closed, first_of, name_at};
 use fx_spec::{Command, Commands};
 use std::alloc::Global;
-
-/// What follows `}`; None exactly where no such token stands here.
-fn closed(tokens: &[Spanned]) -> Option<&[Spanned]>
-    ensures { option_map (λ r. kinds r.now) result ≡ closed (kinds tokens.now) }
-{
-    match first_of(tokens) {
-        Some((first, rest)) => {
-            if matches!(first, Token::Mark(Mark::RightBrace)) {
-                return Some(rest);
-            }
-            None
-        }
-        None => None,
-    }
-}
 
 /// Adds the command at the front, and gives what follows it. A refusal leaves the list.
 #[cycle(command)]
@@ -56,7 +41,7 @@ fn many_at(alloc: Global, left: u32, tokens: &[Spanned]) -> Result<(Commands, &[
     let mut commands = Commands::new(alloc);
     let mut rest = tokens;
     for _i in 0..tokens.len() {
-        if let Some(behind) = closed(rest) {
+        if let Some(behind) = closed(rest, Sign::RightBrace) {
             return Ok((commands, behind));
         }
         rest = added_at(alloc, left, &mut commands, rest)?;

@@ -8,9 +8,9 @@ use Rattle.fx_spec.specs.Order.{BaseTree}
 use Rattle.fx_machine.specs.declared.attempt.Attempt.{Attempt}
 use Rattle.fx_board.specs.declared.board.Settle.{Settle}
 use Rattle.fx_board.specs.declared.board.Settled.{Settled}
-use Rattle.fx_board.specs.declared.board.Settle.TheVariants.{Conflict, NoMemory}
 use Rattle.fx_board.specs.Board.{started, settled, RefusedAs}
 use Rattle.fx_board.specs.Log.{Log}
+use Rattle.fx_board.proofs.Refused.{left_as}
 use Rattle.fx_turn.specs.Histories.{Begins, own, count}
 use Rattle.fx_turn.specs.Places.{IsGiven}
 use Rattle.fx_turn.specs.Plays.{Fits}
@@ -51,10 +51,6 @@ module _ {T : Type 0} (base : T → BaseTree) (history : T → List Turn) (shell
   pub same_base : (v w : LogView) (old new : T) → w ≡ taking v (history old) → Fits base history shell v old → (log new).base ≡ (log old).base → w.base ≡ Some (base new)
   same_base v w old new e fits same =
       ap (λ (w : LogView). w.base) e ∙ (fits.base_is ∙ ap (λ b. Some b) (begun old ∙ (sym same ∙ sym (begun new))))
-
-  left_as : (old new : Log) (a : Attempt) (s : Settle) → RefusedAs old new a s → new ≡ old
-  left_as old new a (Conflict entry path back) r = r.1
-  left_as old new a (NoMemory back) r = r.1
 
   -- and its history, with one more entry or none
   pub is_given : (v w : LogView) (old new : T) (a : Attempt) (r : Result Settled Settle) → w ≡ taking v (history old) → v.number ≡ Some a.shell → OnOk r (log new ≡ settled (log old) a.shell a.txn) → IfErr r (RefusedAs (log old) (log new) a) → IsGiven shell w (history new)

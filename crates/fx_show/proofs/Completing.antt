@@ -1,12 +1,12 @@
 -- With a description and a folder that loads, and no fault of host or sink, `show` is done, or memory runs out.
-use Rattle.std.proofs.Common.{◌≡◌, ◌⊎◌, inl, inr, ℕ, Bool, true, false, List, Option, Some, Ok, Err, IfSome, IsSomeAnd, sym, ◌∙◌, subst}
+use Rattle.std.proofs.Common.{◌≡◌, ◌⊎◌, inl, inr, Option, Some, IfSome, IsSomeAnd, subst}
 use Rattle.fx_base.specs.Causes.{Rose}
+use Rattle.fx_base.proofs.Booleans.{never_both}
 use Rattle.fx_outside.specs.Host.{HostView}
 use Rattle.fx_outside.specs.Sink.{SinkView}
 use Rattle.fx_outside.specs.Tree.{Tree, is_file_at, is_folder_at}
-use Rattle.fx_folder.specs.Loads.{Loads, IsRefused}
-use Rattle.fx_table.specs.declared.fault.FolderCause.{FolderCause}
-use Rattle.fx_store.specs.Whole.{Nodes}
+use Rattle.fx_folder.specs.Loads.{IsRefused}
+use Rattle.fx_folder.proofs.Loaded.{not_both}
 use Rattle.fx_command.specs.declared.status.Status.{Status}
 use Rattle.fx_command.specs.declared.status.Status.TheVariants as status
 use Rattle.fx_command.proofs.Queries.{completes}
@@ -14,15 +14,9 @@ use Rattle.fx_show.specs.Rows.{show_query, ShowRow, ShowReadFault}
 use Rattle.fx_show.specs.Shows.{HasNoDescription, HasSomeDescription, CannotShow, IsProperShow}
 use Rattle.fx_words.specs.Job.{ShowJob}
 
-two : (b : Bool) → b ≡ true → b ≡ false → ⊥
-two b is isnt = let both : true ≡ false = sym is ∙ isnt in cc
-
-not_both : (t : Tree) (path : List ℕ) (nodes : Nodes) (cause : FolderCause) → Loads t path nodes → IsRefused t path cause → ⊥
-not_both t path nodes cause loads refused = let both : Ok nodes ≡ Err cause = sym loads.1 ∙ refused.1 in cc
-
 can_show : (t : Tree) (j : ShowJob) → IsProperShow t j → CannotShow t j → ⊥
-can_show t j proper (inl spec) = two (is_file_at t j.spec) proper.described.1.file spec
-can_show t j proper (inr (described, folder)) = two (is_folder_at t j.folder) proper.loaded.0 folder
+can_show t j proper (inl spec) = never_both (is_file_at t j.spec) proper.described.1.file spec
+can_show t j proper (inr (described, folder)) = never_both (is_folder_at t j.folder) proper.loaded.0 folder
 
 fault_rose : (j : ShowJob) (host host' : HostView) → ShowReadFault j host host' → Rose host.faults host'.faults
 fault_rose j host host' (inl fault) = fault.rose

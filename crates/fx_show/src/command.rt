@@ -63,8 +63,9 @@ fn output_by<H: Host>(
         (ShowEndsAs (asked_show job.now) (H.view host.old) (H.view host.new)) }
 {
     let store = read_folder(alloc, job, host)?;
-    let output = shown(alloc, spec, &store)?;
-    Ok(output)
+    let output = shown(alloc, spec, &store);
+    store.let_go();
+    Ok(output?)
 }
 
 /// What is shown of the folder by the description that is read.
@@ -78,11 +79,9 @@ fn output_of<H: Host>(alloc: Global, job: &ShowJob, host: &mut H) -> Result<Long
 {
     let spec = read_description(alloc, job, host)?;
     let output = output_by(alloc, job, &spec, host);
-    let_go(spec);
+    spec.let_go();
     output
 }
-
-fn let_go(_spec: Checked) {}
 
 /// Prints whether the folder has a value by the description, and which.
 pub fn show<H: Host, S: Sink>(

@@ -8,11 +8,13 @@ use Rattle.std.specs.List.Sorted.{IsStrictlySortedBy}
 use Rattle.std.proofs.Math.Seq.{take-suc}
 use Rattle.std.proofs.lemmas.List.{take_all}
 use Rattle.std.proofs.lemmas.List.Elements.{All-nil, All-head, All-tail, All-cons, All-push, All-weaker}
+use Rattle.fx_base.proofs.Names.{path_itself}
 use Rattle.fx_store.specs.declared.changes.Change.{Change}
 use Rattle.fx_store.specs.Changes.{IsChanges, changed_paths, change_at}
 use Rattle.fx_store.specs.Names.{path_cmp}
 use Rattle.fx_store.specs.Orders.{path_eq_same}
-use Rattle.fx_store.proofs.Tables.{path_itself, path_symm}
+use Rattle.fx_store.proofs.Tables.{path_symm}
+use Rattle.fx_store.proofs.Overlays.{none_above}
 use Rattle.fx_snap.specs.declared.versions.Version.{Version}
 use Rattle.fx_snap.specs.Versions.{version_of}
 use Rattle.fx_snap.specs.Tables.{Listed, Table, list_in, listed, versions_in, IsSpare, HasRoom, HaveRoom, IsRoomier, HasOneMore}
@@ -76,11 +78,6 @@ pub rooms_all : (table : Table) (cs : List Change) (i : ℕ) → length cs ≤ i
 rooms_all table cs i past room = subst (HaveRoom table) (take_all i cs past) room
 
 -- ---- one change made
-
--- no later change has the path
-none_above : (cs : List Change) (p : Path) → AllByRecursion (λ q. path_cmp p q ≡ Less) (changed_paths cs) → change_at cs p ≡ None
-none_above [] p above = refl
-none_above (c ∷ cs) p above = ap (λ r. cond (is_eq r) (Some c.node) (change_at cs p)) above.0 ∙ none_above cs p above.1
 
 module _ (old new : Table) (path : Path) (version : Version) (one : HasOneMore old new path version) where
   rooms_of : (cs : List Change) → AllByRecursion (λ q. path_cmp path q ≡ Less) (changed_paths cs) → HaveRoom old cs → HaveRoom new cs

@@ -19,9 +19,7 @@ use Rattle.fx_machine.specs.declared.attempt.Attempt.{Attempt}
 use Rattle.fx_machine.specs.Explained.{IsExplained}
 use Rattle.fx_machine.specs.Machine.{next_number}
 use Rattle.fx_machine.specs.Passes.{AreTrueReads}
-use Rattle.fx_board.specs.declared.board.Settle.{Settle}
-use Rattle.fx_board.specs.declared.board.Settle.TheVariants.{Conflict, NoMemory}
-use Rattle.fx_board.specs.Board.{IsLog, IsFreshReads, started, settled, RefusedAs}
+use Rattle.fx_board.specs.Board.{IsLog, IsFreshReads, started, settled}
 use Rattle.fx_board.specs.Log.{Log}
 use Rattle.fx_board.proofs.Settling.{agrees_now, next_state}
 use Rattle.fx_snap.specs.declared.versions.Version.{Version}
@@ -94,11 +92,6 @@ same_versions log old new has same = record {
   below = λ path. subst (All (IsBelow (length log.order))) (sym (same path)) (has.below path);
   ascend = λ path. subst AreAscending (sym (same path)) (has.ascend path);
 }
-
--- a refusal leaves the log
-pub left_as : (old new : Log) (a : Attempt) (refusal : Settle) → RefusedAs old new a refusal → new ≡ old
-left_as old new a (Conflict entry path back) r = r.1
-left_as old new a (NoMemory back) r = r.1
 
 module _ (log : Log) (old new : Table) (a : Attempt) (has : HasVersions log old) (is : IsLog log) (explained : IsExplained log.base a) (next : a.txn ≡ next_number log.order a.shell) (reads : AreTrueReads log.base log.order a.reads) (fresh : IsFreshReads log.base log.order a.reads) (up : IsChanges a.changes) (added : AreAdded old new a.changes (length log.order)) where
   abbrev n : ℕ

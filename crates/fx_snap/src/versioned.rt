@@ -62,6 +62,9 @@ impl Versioned {
         })
     }
 
+    /// Lets go of the log and of its versions.
+    pub fn let_go(self) {}
+
     /// The log alone.
     pub fn board(&self) -> &Board
         ensures { result.now ≡ self.now }

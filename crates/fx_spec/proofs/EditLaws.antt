@@ -2,9 +2,13 @@
 use Rattle.std.proofs.Common.{◌≡◌, ℕ, ◌<◌, get_or, nat_eq, suc, ◌+◌, ◌≤◌, Bool, true, false, cond, ◌||◌, ◌&&◌, refl, subst, sym, ◌∙◌, List, [], ◌∷◌, ◌++◌, map, length, Option, Some, None, Result, Ok, Err, nat_lt, nat_le, arith, bytes_eq, codes}
 use Rattle.std.proofs.lemmas.List.Elements.{All-nil, All-cons, All-append, All-head, All-tail}
 use Rattle.std.proofs.lemmas.Bool.{true≢false, ltb-true, ltb-false, leb-true, lt-ltb}
-use Rattle.std.specs.Cmp.Lexicographic.{pointwise, texts_ties}
+use Rattle.std.specs.Cmp.Lexicographic.{pointwise}
 use Rattle.std.specs.List.{All, list_all, slice_split}
 use Rattle.std.specs.Option.{option_map, IfSome}
+use Rattle.std.proofs.lemmas.Option.{same_Some}
+use Rattle.fx_base.proofs.Booleans.{second_true, first_true, third_true}
+use Rattle.fx_base.proofs.Orders.{texts_exact}
+use Rattle.fx_base.proofs.Lists.{all_pass}
 use Rattle.fx_store.specs.declared.node.Node.{Node}
 use Rattle.fx_store.specs.declared.node.Node.TheVariants.{File, Dir, Link}
 use Rattle.fx_store.specs.declared.node.Landing.{Landing}
@@ -19,7 +23,6 @@ use Rattle.fx_store.specs.Resolve.{Component, CurDir, ParentDir, Normal, compone
 use Rattle.fx_store.specs.Rule.{Ask, Answer, answer, ◌>>=◌}
 use Rattle.fx_store.specs.Whole.{Store, IsWhole, IsNode, lists, over}
 use Rattle.fx_store.proofs.Asks.{answer-bind}
-use Rattle.fx_store.proofs.Relisted.{eq_names}
 use Rattle.fx_store.proofs.Landings.{lands_by_the_rules, landings_are_true}
 use Rattle.fx_expr.specs.Bindings.{bind}
 use Rattle.fx_expr.specs.Eval.{Outcome, eval_of, text_in}
@@ -42,14 +45,6 @@ use Rattle.fx_spec.proofs.EditsMake.{CanMake, make_keeps}
 
 -- ------------------------------------------------------------------------------------------------------------- places
 
-all_pass : {A : Type 0} (test : A → Bool) (xs : List A) → list_all test xs ≡ true → All (λ x. test x ≡ true) xs
-all_pass test [] e = All-nil (λ x. test x ≡ true)
-all_pass test (x ∷ xs) e = at (test x) refl e (all_pass test xs)
-  where
-    at : (b : Bool) → test x ≡ b → (b && list_all test xs) ≡ true → (list_all test xs ≡ true → All (λ x. test x ≡ true) xs) → All (λ x. test x ≡ true) (x ∷ xs)
-    at true f h rest = All-cons (λ x. test x ≡ true) x xs f (rest h)
-    at false f h rest = absurd (true≢false (sym h))
-
 extended_path : (p : List (List ℕ)) (text : List ℕ) (q : List (List ℕ)) → IsPath p → extended p text ≡ Ok q → IsPath q
 extended_path p text q ok e = at (list_all is_name (slice_split is_slash text)) refl e
   where
@@ -63,14 +58,11 @@ extended_path p text q ok e = at (list_all is_name (slice_split is_slash text)) 
     at true f e = long (nat_lt 64 (length (p ++ slice_split is_slash text))) refl (all_pass is_name (slice_split is_slash text) f) e
     at false f e = cc
 
-some_same : {A : Type 0} (a b : A) → Some a ≡ Some b → a ≡ b
-some_same a b e = cc
-
 focus_has_path : (p : List (List ℕ)) (o : Outcome) (env : Bindings) (s : SpecTree) (at : PlaceTree) → IsPath p → at_path env s (focus_path p o) ≡ Some at → IsPath at.path
 focus_has_path p (Ok v) env s at ok e = by_extended (extended p (text_in v)) refl e
   where
     by_extended : (x : Result (List (List ℕ)) PathFault) → extended p (text_in v) ≡ x → at_path env s (extension x) ≡ Some at → IsPath at.path
-    by_extended (Ok q) f e = subst (λ (a : PlaceTree). IsPath a.path) (some_same (placed q env s) at e) (extended_path p (text_in v) q ok f)
+    by_extended (Ok q) f e = subst (λ (a : PlaceTree). IsPath a.path) (same_Some (placed q env s) at e) (extended_path p (text_in v) q ok f)
     by_extended (Err BadName) f e = cc
     by_extended (Err TooDeep) f e = cc
     by_extended (Err NoMemory) f e = cc
@@ -78,18 +70,18 @@ focus_has_path p (Err f) env s at ok e = cc
 
 option_path : (p : List (List ℕ)) (o : Option Tree) (place_of : Tree → PlaceTree) (at : PlaceTree) → ((v : Tree) → (place_of v).path ≡ p) → IsPath p → option_map place_of o ≡ Some at → IsPath at.path
 option_path p None place_of at same ok e = cc
-option_path p (Some v) place_of at same ok e = subst (λ (a : PlaceTree). IsPath a.path) (some_same (place_of v) at e) (subst IsPath (sym (same v)) ok)
+option_path p (Some v) place_of at same ok e = subst (λ (a : PlaceTree). IsPath a.path) (same_Some (place_of v) at e) (subst IsPath (sym (same v)) ok)
 
 true_path : (b : Bool) (here at : PlaceTree) → IsPath here.path → where_true b here ≡ Some at → IsPath at.path
-true_path true here at ok e = subst (λ (a : PlaceTree). IsPath a.path) (some_same here at e) ok
+true_path true here at ok e = subst (λ (a : PlaceTree). IsPath a.path) (same_Some here at e) ok
 true_path false here at ok e = cc
 
 body_path : (p : List (List ℕ)) (params : List (List ℕ × ShapeTree)) (s : SpecTree) (vs : Result (List Tree) ExprFault) (at : PlaceTree) → IsPath p → in_body p params s vs ≡ Some at → IsPath at.path
-body_path p params s (Ok vs) at ok e = subst (λ (a : PlaceTree). IsPath a.path) (some_same (placed p (with_values params vs) s) at e) ok
+body_path p params s (Ok vs) at ok e = subst (λ (a : PlaceTree). IsPath a.path) (same_Some (placed p (with_values params vs) s) at e) ok
 body_path p params s (Err f) at ok e = cc
 
 leads_to_path : (S : Store) (step : Step) (p : List (List ℕ)) (env : Bindings) (spec : SpecTree) (at : PlaceTree) → IsPath p → answer S (lead step p env spec) ≡ Some at → IsPath at.path
-leads_to_path S First p env (SpecTree.pair x a b) at ok e = subst (λ (a : PlaceTree). IsPath a.path) (some_same _ at e) ok
+leads_to_path S First p env (SpecTree.pair x a b) at ok e = subst (λ (a : PlaceTree). IsPath a.path) (same_Some _ at e) ok
 leads_to_path S Second p env (SpecTree.pair x a b) at ok e =
     option_path p (answer S (value p env a)) (λ v. placed p (bind env x v) b) at (λ v. refl) ok (sym (answer-bind S (value p env a) (λ v. Answer (option_map (λ v. placed p (bind env x v) b) v))) ∙ e)
 leads_to_path S (Elem t) p env (SpecTree.comp s x e) at ok h = true_path (has_element t (eval_of env e)) (placed p (bind env x (Tree.str t)) s) at ok h
@@ -105,7 +97,7 @@ root_path = record { names = All-nil IsName; short = omega arith }
 
 pub places_have_paths : PlacesHavePaths
 unfolding place
-places_have_paths S root [] at e = subst (λ (a : PlaceTree). IsPath a.path) (some_same (placed [] [] root) at e) root_path
+places_have_paths S root [] at e = subst (λ (a : PlaceTree). IsPath a.path) (same_Some (placed [] [] root) at e) root_path
 places_have_paths S root (step ∷ above) at e =
     go (answer S (place root above)) (λ up f. places_have_paths S root above up f) refl (sym (answer-bind S (place root above) (with_some λ at. lead step at.path at.env at.spec)) ∙ e)
   where
@@ -138,14 +130,14 @@ all-normal-append (ParentDir ∷ a) b x y = all-normal-append a b x y
 all-normal-append (Normal n ∷ a) b x y = (x.0, all-normal-append a b x.1 y)
 
 names_only_are : (rest : List Component) (names : List (List ℕ)) → AllNormal rest → names_only rest ≡ Some names → AllNames names
-names_only_are [] names ok e = subst AllNames (some_same [] names e) tt
+names_only_are [] names ok e = subst AllNames (same_Some [] names e) tt
 names_only_are (CurDir ∷ rest) names ok e = cc
 names_only_are (ParentDir ∷ rest) names ok e = cc
 names_only_are (Normal n ∷ rest) names ok e = at (names_only rest) refl e (λ more f. names_only_are rest more ok.1 f)
   where
     at : (o : Option (List (List ℕ))) → names_only rest ≡ o → option_map (λ ns. n ∷ ns) o ≡ Some names → ((more : List (List ℕ)) → names_only rest ≡ Some more → AllNames more) → AllNames names
     at None f e next = cc
-    at (Some more) f e next = subst AllNames (some_same (n ∷ more) names e) (ok.0, next more f)
+    at (Some more) f e next = subst AllNames (same_Some (n ∷ more) names e) (ok.0, next more f)
 
 missing_names : (here : List (List ℕ)) (rest : List Component) → AllNormal rest → HasNames (absent here (names_only rest))
 missing_names here rest ok = at (names_only rest) refl
@@ -176,12 +168,7 @@ components_normal (c ∷ parts) e = at (is_component c) refl e (components_norma
     at false f h rest = absurd (true≢false (sym h))
 
 link_normal : (text : List ℕ) → IsLinkText text → AllNormal (components_of text)
-link_normal text ok = components_normal (components text) (last_of (nat_lt 0 (length text)) (nat_le (length text) 4096) (list_all is_component (components text)) ok.form)
-  where
-    last_of : (a b c : Bool) → (a && b && c) ≡ true → c ≡ true
-    last_of true true c e = e
-    last_of true false c e = absurd (true≢false (sym e))
-    last_of false b c e = absurd (true≢false (sym e))
+link_normal text ok = components_normal (components text) (third_true (nat_lt 0 (length text)) (nat_le (length text) 4096) (list_all is_component (components text)) ok.form)
 
 resolved_names : (S : Store) → IsWhole S → (follow : Bool) {links : ℕ} {here : List (List ℕ)} {rest : List Component} {l : Landing} → Resolves S follow links here rest l → AllNormal rest → HasNames l
 resolved_names S whole follow arrived ok = tt
@@ -232,34 +219,13 @@ link_node_ok text content node e = at (has_link_form text) (nat_lt 64 (length (c
     at false b f g h = cc
 
 content_ok : (bytes : List ℕ) → is_content bytes ≡ true → IsContent bytes
-content_ok bytes e = record { short = leb-true (length bytes) 1048576 (first_of_two (nat_le (length bytes) 1048576) (list_all (λ b. nat_lt b 256) bytes) e); bytes = small bytes (second_of_two (nat_le (length bytes) 1048576) (list_all (λ b. nat_lt b 256) bytes) e) }
-  where
-    first_of_two : (a b : Bool) → (a && b) ≡ true → a ≡ true
-    first_of_two true b e = refl
-    first_of_two false b e = absurd (true≢false (sym e))
-
-    second_of_two : (a b : Bool) → (a && b) ≡ true → b ≡ true
-    second_of_two true b e = e
-    second_of_two false b e = absurd (true≢false (sym e))
+content_ok bytes e = record { short = leb-true (length bytes) 1048576 (first_true (nat_le (length bytes) 1048576) (list_all (λ b. nat_lt b 256) bytes) e); bytes = small bytes (second_true (nat_le (length bytes) 1048576) (list_all (λ b. nat_lt b 256) bytes) e) }
 
     small : (bytes : List ℕ) → list_all (λ b. nat_lt b 256) bytes ≡ true → All (λ b. b < 256) bytes
     small bytes e = λ k d l. ltb-true (get_or bytes k d) 256 (all_pass (λ b. nat_lt b 256) bytes e k d l)
 
-same_lists : (xs ys : List (List ℕ)) → pointwise (pointwise nat_eq) xs ys ≡ true → xs ≡ ys
-same_lists [] [] e = refl
-same_lists [] (y ∷ ys) e = absurd (true≢false (sym e))
-same_lists (x ∷ xs) [] e = absurd (true≢false (sym e))
-same_lists (x ∷ xs) (y ∷ ys) e = at (pointwise nat_eq x y) refl e (same_lists xs ys)
-  where
-    at : (b : Bool) → pointwise nat_eq x y ≡ b → (b && pointwise (pointwise nat_eq) xs ys) ≡ true → (pointwise (pointwise nat_eq) xs ys ≡ true → xs ≡ ys) → x ∷ xs ≡ y ∷ ys
-    at true f h rest =
-        let head : x ≡ y = eq_names x y (sym (texts_ties x y) ∙ f) in
-        let tail : xs ≡ ys = rest h in
-        cc
-    at false f h rest = absurd (true≢false (sym h))
-
 ascending_ok : (names : List (List ℕ)) → pointwise (pointwise nat_eq) (set_of names) names ≡ true → IsAscending names
-ascending_ok names e = subst IsAscending (same_lists (set_of names) names e) (ascending_set names)
+ascending_ok names e = subst IsAscending (texts_exact (set_of names) names e) (ascending_set names)
 
 form_node_ok : (spec : SpecTree) (v : Tree) → is_storable v ≡ true → (node : Node) → form_node spec v ≡ Ok node → NodeOk node
 form_node_ok SpecTree.file (Tree.str bytes) ok node e = subst NodeOk (same_ok (File bytes false) node e) (content_ok bytes ok)
@@ -294,7 +260,7 @@ renewed_ok : (flag : Bool) (bytes old : List ℕ) (exec was : Bool) → IsConten
 renewed_ok true bytes old exec was new h = h
 renewed_ok false bytes old exec was new h = new
 
-renewed_node : (flag : Bool) (q : List (List ℕ)) (bytes old : List ℕ) (exec was : Bool) → IsContent bytes → IsContent old → IsNode q (renewed flag (File bytes exec) (File old was))
+pub renewed_node : (flag : Bool) (q : List (List ℕ)) (bytes old : List ℕ) (exec was : Bool) → IsContent bytes → IsContent old → IsNode q (renewed flag (File bytes exec) (File old was))
 renewed_node true q bytes old exec was new h = h
 renewed_node false q bytes old exec was new h = new
 
@@ -326,7 +292,7 @@ can_make q (File bytes exec) ok e = ok
 can_make q (Dir names) ok e = (ok, λ full. has_room q names e full)
 can_make q (Link text) ok e = ok
 
-not_too_deep : (here names : List (List ℕ)) (node : Node) → is_too_deep here names node ≡ false → (length here + length names ≤ 64) × (lacks_room (here ++ names) node ≡ false)
+pub not_too_deep : (here names : List (List ℕ)) (node : Node) → is_too_deep here names node ≡ false → (length here + length names ≤ 64) × (lacks_room (here ++ names) node ≡ false)
 not_too_deep here names node e = at (nat_lt 64 (length here + length names)) refl e
   where
     at : (b : Bool) → nat_lt 64 (length here + length names) ≡ b → cond b true (lacks_room (here ++ names) node) ≡ false → (length here + length names ≤ 64) × (lacks_room (here ++ names) node ≡ false)
@@ -359,7 +325,7 @@ remove_landed_keeps S whole p (Absent here names) true_of cs e = cc
 remove_landed_keeps S whole p (Blocked q) true_of cs e = cc
 remove_landed_keeps S whole p TooManyLinks true_of cs e = cc
 
-bare_node_ok : (spec : SpecTree) (node : Node) → needed Refusal.NoDefault (bare_node spec) ≡ Ok node → NodeOk node
+pub bare_node_ok : (spec : SpecTree) (node : Node) → needed Refusal.NoDefault (bare_node spec) ≡ Ok node → NodeOk node
 bare_node_ok SpecTree.file node e = subst NodeOk (same_ok (File [] false) node e) (record { short = omega arith; bytes = All-nil _ })
 bare_node_ok SpecTree.dir node e = subst NodeOk (same_ok (Dir []) node e) (record { names = All-nil _; ascending = ascending_set [] })
 bare_node_ok (SpecTree.pair x a b) node e = bare_node_ok a node e

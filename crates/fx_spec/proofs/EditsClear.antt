@@ -1,26 +1,25 @@
 -- What a removal clears, and that a directory's new names and a removed entry leave a whole filestore whole.
-use Rattle.std.proofs.Common.{◌≡◌, ◌≢◌, ℕ, zero, suc, ◌-◌, ◌≤◌, ◌<◌, Bool, true, false, cond, ◌||◌, refl, ap, subst, sym, ◌∙◌, ◌⊎◌, inl, inr, List, [], ◌∷◌, ◌++◌, map, length, Option, Some, None, is_some, nat_eq, arith, length-append, append_assoc}
+use Rattle.std.proofs.Common.{◌≡◌, ◌≢◌, ℕ, zero, suc, ◌-◌, ◌≤◌, ◌<◌, Bool, true, false, cond, ◌||◌, refl, ap, subst, sym, ◌∙◌, ◌⊎◌, inl, inr, List, [], ◌∷◌, ◌++◌, map, length, Option, Some, None, is_some, arith, length-append, append_assoc}
 use Rattle.std.proofs.lemmas.List.{append-nil, map-append}
 use Rattle.std.proofs.lemmas.List.Folds.{list_any-append}
-use Rattle.std.proofs.lemmas.Bool.{true≢false}
-use Rattle.std.specs.Cmp.{eq_by_cmp_equiv}
-use Rattle.std.specs.Cmp.Lexicographic.{pointwise, texts_ties}
+use Rattle.std.proofs.lemmas.Bool.{true≢false, or_right}
 use Rattle.std.specs.Ordering.{eq_by_cmp}
+use Rattle.fx_base.proofs.Names.{name_is, path_itself}
 use Rattle.fx_store.specs.declared.node.Node.{Node}
 use Rattle.fx_store.specs.declared.node.Node.TheVariants.{File, Dir, Link}
 use Rattle.fx_store.specs.declared.changes.Change.{Change}
 use Rattle.fx_store.specs.Names.{path_cmp, name_cmp, has, has_path}
-use Rattle.fx_store.specs.Orders.{path_eq_same, name_total}
+use Rattle.fx_store.specs.Orders.{path_eq_same}
 use Rattle.fx_store.specs.Relisted.{relist_at, CanRelist}
 use Rattle.fx_store.specs.Resolve.{◌/ₚ◌}
 use Rattle.fx_store.specs.Rule.{Answer, answer, ◌>>=◌}
 use Rattle.fx_store.specs.Whole.{Store, IsWhole, lists, update, over}
 use Rattle.fx_store.proofs.Asks.{answer-bind}
-use Rattle.fx_store.proofs.Relisted.{eq_names}
-use Rattle.fx_expr.specs.Sets.{has_text, set_of}
+use Rattle.fx_store.proofs.PathLists.{has-text}
+use Rattle.fx_expr.specs.Sets.{set_of}
 use Rattle.fx_text.proofs.Canon.{has_set}
 use Rattle.fx_spec.specs.Edit.{removed, names_of, clear_all, cleared, clear_levels, clear}
-use Rattle.fx_spec.proofs.EditsWhole.{path_itself, or_right, nothing_below}
+use Rattle.fx_spec.proofs.EditsWhole.{nothing_below}
 
 -- ------------------------------------------------------------------------------------------------ the paths of a removal
 
@@ -79,7 +78,7 @@ in_each f [] n r h g = absurd (true≢false (sym h))
 in_each f (m ∷ names) n r h g = list_any-append (eq_by_cmp path_cmp r) (f m) (below_each f names) ∙ at (eq_by_cmp name_cmp n m) refl h (λ k. in_each f names n r k g)
   where
     at : (b : Bool) → eq_by_cmp name_cmp n m ≡ b → (b || has names n) ≡ true → (has names n ≡ true → has_path (below_each f names) r ≡ true) → (has_path (f m) r || has_path (below_each f names) r) ≡ true
-    at true e k next = ap (λ b. b || has_path (below_each f names) r) (subst (λ m. has_path (f m) r ≡ true) (eq_names n m e) g)
+    at true e k next = ap (λ b. b || has_path (below_each f names) r) (subst (λ m. has_path (f m) r ≡ true) (name_is n m e) g)
     at false e k next = or_right (has_path (f m) r) (has_path (below_each f names) r) (next k)
 
 listed_names : (x : Option Node) (n : List ℕ) → lists x n ≡ true → (node : Node) × (x ≡ Some node) × (has (names_of (Some node)) n ≡ true)
@@ -131,14 +130,6 @@ only_below (suc levels) S p r h = at (S p) h (λ q k. only_below levels S q r k)
         first false e k = among (names_of (Some node)) k next
 
 -- ---------------------------------------------------------------------------------------------- names of one entry or more
-
--- the two tests of a name among others agree
-has-text : (xs : List (List ℕ)) (n : List ℕ) → has xs n ≡ has_text n xs
-has-text [] n = refl
-has-text (x ∷ xs) n = λ i. tie i || has-text xs n i
-  where
-    tie : eq_by_cmp name_cmp n x ≡ pointwise nat_eq x n
-    tie = (eq_by_cmp_equiv name_total).symm n x ∙ sym (texts_ties x n)
 
 pub has-set_of : (xs : List (List ℕ)) (n : List ℕ) → has (set_of xs) n ≡ has xs n
 has-set_of xs n = has-text (set_of xs) n ∙ has_set n xs ∙ sym (has-text xs n)

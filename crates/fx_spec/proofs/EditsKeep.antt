@@ -1,5 +1,5 @@
 -- Each edit that is not refused leaves a whole filestore whole.
-use Rattle.std.proofs.Common.{◌≡◌, ◌≢◌, ℕ, suc, ◌-◌, ◌<◌, Bool, true, false, cond, not, ◌||◌, refl, ap, subst, sym, ◌∙◌, ◌⊎◌, inl, inr, List, [], ◌∷◌, ◌++◌, length, take, Option, Some, None, is_some, Ok, arith, bytes_eq}
+use Rattle.std.proofs.Common.{◌≡◌, ◌≢◌, ℕ, suc, ◌-◌, ◌<◌, Bool, true, false, cond, not, ◌||◌, refl, ap, subst, sym, ◌∙◌, ◌⊎◌, inl, inr, List, [], ◌∷◌, ◌++◌, length, take, Option, Some, is_some, Ok, arith, bytes_eq}
 use Rattle.std.proofs.Math.Seq.{take-length, take-suc}
 use Rattle.std.proofs.lemmas.List.{append-nil}
 use Rattle.std.proofs.lemmas.List.Folds.{list_any-append}
@@ -9,16 +9,17 @@ use Rattle.std.proofs.lemmas.Bool.{true≢false}
 use Rattle.std.specs.Cmp.Lexicographic.{texts_ties}
 use Rattle.std.specs.Option.{IfSome}
 use Rattle.std.specs.Ordering.{eq_by_cmp}
+use Rattle.fx_base.proofs.Names.{name_is}
 use Rattle.fx_store.specs.declared.node.Node.{Node}
-use Rattle.fx_store.specs.declared.node.Node.TheVariants.{File, Dir, Link}
+use Rattle.fx_store.specs.declared.node.Node.TheVariants.{File, Dir}
 use Rattle.fx_store.specs.declared.changes.Change.{Change}
 use Rattle.fx_store.specs.Names.{name_cmp, IsName, IsNameSet, has}
 use Rattle.fx_store.specs.Relisted.{relist_at, IsLeaf, CanRelist, rest_of, relisted}
 use Rattle.fx_store.specs.Resolve.{◌/ₚ◌, parent}
 use Rattle.fx_store.specs.Rule.{Ask, Answer, Look, answer, ◌>>=◌}
-use Rattle.fx_store.specs.Whole.{Store, IsWhole, IsNode, lists, over}
+use Rattle.fx_store.specs.Whole.{Store, IsWhole, IsNode, over}
 use Rattle.fx_store.proofs.Asks.{answer-bind}
-use Rattle.fx_store.proofs.Relisted.{eq_names}
+use Rattle.fx_store.proofs.Landings.{listing_is_dir}
 use Rattle.fx_expr.specs.Sets.{IsAscending, set_of}
 use Rattle.fx_text.proofs.Canon.{ascending_set}
 use Rattle.fx_spec.specs.Move.{Answered}
@@ -110,14 +111,14 @@ without_other n m [] e = refl
 without_other n m (x ∷ names) e = at (bytes_eq n x) refl (without_other n m names e)
   where
     at : (b : Bool) → bytes_eq n x ≡ b → has (without_name n names) m ≡ has names m → has (cond (not b) (x ∷ without_name n names) (without_name n names)) m ≡ (eq_by_cmp name_cmp m x || has names m)
-    at true f h = h ∙ sym (ap (λ b. b || has names m) (subst (λ k. eq_by_cmp name_cmp m k ≡ false) (eq_names n x (sym (not_same n x) ∙ f)) e))
+    at true f h = h ∙ sym (ap (λ b. b || has names m) (subst (λ k. eq_by_cmp name_cmp m k ≡ false) (name_is n x (sym (not_same n x) ∙ f)) e))
     at false f h = ap (λ t. eq_by_cmp name_cmp m x || t) h
 
 pub one_has : (n m : List ℕ) → has (n ∷ []) m ≡ true → m ≡ n
 one_has n m h = at (eq_by_cmp name_cmp m n) refl h
   where
     at : (b : Bool) → eq_by_cmp name_cmp m n ≡ b → (b || false) ≡ true → m ≡ n
-    at true e k = eq_names m n e
+    at true e k = name_is m n e
     at false e k = absurd (true≢false (sym k))
 
 pub one_lacks : (n m : List ℕ) → has (n ∷ []) m ≡ false → eq_by_cmp name_cmp m n ≡ false
@@ -166,17 +167,11 @@ module _ (S : Store) (up : List (List ℕ)) (n : List ℕ) (old : List (List ℕ
       ap (λ cs. over S (set_to up (Dir (without_name n old)) ∷ cs) r) (sym (append-nil (answer S (clear (up /ₚ n)))))
       ∙ relisting S up old (without_name n old) (λ m. File [] false) can_remove (λ m. answer S (clear (up /ₚ m))) (n ∷ []) removal_brings r (rest_of up r) refl
 
-pub listed_dir : (x : Option Node) (n : List ℕ) → lists x n ≡ true → (names : List (List ℕ)) × (x ≡ Some (Dir names))
-listed_dir None n h = absurd (true≢false (sym h))
-listed_dir (Some (File b exec)) n h = absurd (true≢false (sym h))
-listed_dir (Some (Dir names)) n h = (names, refl)
-listed_dir (Some (Link t)) n h = absurd (true≢false (sym h))
-
 -- what a removal changes, at a path that is not the root
 pub remove_is : (S : Store) → IsWhole S → (q : List (List ℕ)) → is_some (S q) ≡ true → (cs : List Change) → answer S (remove_entry q) ≡ Ok cs
     → (0 < length q) × ((old : List (List ℕ)) × ((S (parent q) ≡ Some (Dir old)) × (set_to (parent q) (Dir (without_name (last_name q) old)) ∷ answer S (clear (parent q /ₚ last_name q)) ≡ cs)))
 remove_is S whole [] there cs ok = cc
-remove_is S whole (m ∷ names) there cs ok = at (listed_dir (S (parent q)) (last_name q) (sym (whole.listed (parent q) (last_name q)) ∙ subst (λ r. is_some (S r) ≡ true) split there))
+remove_is S whole (m ∷ names) there cs ok = at (listing_is_dir (S (parent q)) (last_name q) (sym (whole.listed (parent q) (last_name q)) ∙ subst (λ r. is_some (S r) ≡ true) split there))
   where
     q : List (List ℕ)
     q = m ∷ names

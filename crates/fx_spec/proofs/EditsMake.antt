@@ -1,10 +1,11 @@
 -- The nodes that an edit makes at missing names leave a whole filestore whole.
-use Rattle.std.proofs.Common.{◌≡◌, ℕ, suc, ◌+◌, ◌≤◌, ◌<◌, Bool, true, false, ◌||◌, refl, ap, subst, sym, ◌∙◌, ◌⊎◌, List, [], ◌∷◌, ◌++◌, length, Some, None, is_some, Ok, arith, length-append, append_assoc}
+use Rattle.std.proofs.Common.{◌≡◌, ℕ, suc, ◌+◌, ◌≤◌, ◌<◌, Bool, true, false, ◌||◌, refl, ap, subst, sym, ◌∙◌, ◌⊎◌, List, [], ◌∷◌, ◌++◌, length, Some, None, is_some, Ok, arith, append_assoc}
 use Rattle.std.proofs.lemmas.List.Elements.{All-tail, All-head}
 use Rattle.std.proofs.lemmas.Map.Views.{All-from_any}
 use Rattle.std.specs.Cmp.{eq_by_cmp_equiv}
 use Rattle.std.specs.List.{All}
 use Rattle.std.specs.Ordering.{eq_by_cmp}
+use Rattle.fx_base.proofs.Names.{name_is}
 use Rattle.fx_store.specs.declared.node.Node.{Node}
 use Rattle.fx_store.specs.declared.node.Node.TheVariants.{File, Dir, Link}
 use Rattle.fx_store.specs.declared.changes.Change.{Change}
@@ -15,7 +16,8 @@ use Rattle.fx_store.specs.Relisted.{IsLeaf, CanRelist}
 use Rattle.fx_store.specs.Resolve.{◌/ₚ◌}
 use Rattle.fx_store.specs.Rule.{Answer, answer, look_all}
 use Rattle.fx_store.specs.Whole.{Store, IsWhole, lists, update, over}
-use Rattle.fx_store.proofs.Relisted.{eq_names, has-all}
+use Rattle.fx_store.proofs.Relisted.{has-all}
+use Rattle.fx_store.proofs.PathLists.{length_below}
 use Rattle.fx_expr.specs.Sets.{IsAscending, set_of, with_text}
 use Rattle.fx_text.proofs.Canon.{has_set, ascending_set, same_sets}
 use Rattle.fx_spec.specs.Edit.{set_to, names_of, children, made, make}
@@ -38,7 +40,7 @@ module _ (n : List ℕ) (old : List (List ℕ)) (set : IsNameSet old) where
   }
     where
       at : (m : List ℕ) (b : Bool) → eq_by_cmp name_cmp m n ≡ b → (b || has old m) ≡ true → IsName m
-      at m true e h = subst IsName (sym (eq_names m n e)) name
+      at m true e h = subst IsName (sym (name_is m n e)) name
       at m false e h = has-all IsName old m set.names h
 
 -- a node that lists nothing, at a name that the directory lacks
@@ -97,9 +99,6 @@ CanMake q (File bytes exec) = IsContent bytes
 CanMake q (Dir names) = IsNameSet names × (length q ≡ 64 → names ≡ [])
 CanMake q (Link text) = IsLinkText text
 
-length_more : (here : List (List ℕ)) (n : List ℕ) → length (here /ₚ n) ≡ suc (length here)
-length_more here n = omega (arith, length-append here (n ∷ []))
-
 pub made_keeps : (names : List (List ℕ)) (S : Store) (here : List (List ℕ)) (n : List ℕ) (old : List (List ℕ)) (node : Node) → IsWhole S → S here ≡ Some (Dir old) → has old n ≡ false → IsName n → All IsName names → length here + suc (length names) ≤ 64
     → CanMake (here ++ n ∷ names) node → IsWhole (over S (set_to here (Dir (with_text n old)) ∷ made here n names node))
 made_keeps [] S here n old (File bytes exec) whole dir lacks name names short can =
@@ -117,7 +116,7 @@ made_keeps (m ∷ names) S here n old node whole dir lacks name more short can =
     let there : over S (set_to here (Dir (with_text n old)) ∷ set_to (here /ₚ n) (Dir []) ∷ []) (here /ₚ n) ≡ Some (Dir []) = update_here (update S (set_to here (Dir (with_text n old)))) (set_to (here /ₚ n) (Dir [])) (here /ₚ n) refl in
     let can' : CanMake ((here /ₚ n) ++ m ∷ names) node = subst (λ q. CanMake q node) (sym (append_assoc here (n ∷ []) (m ∷ names))) can in
     subst IsWhole (overwritten (update S (set_to here (Dir (with_text n old)))) (here /ₚ n) (Some (Dir [])) (Some (Dir (m ∷ []))) (made (here /ₚ n) m names node)) (
-    made_keeps names (over S (set_to here (Dir (with_text n old)) ∷ set_to (here /ₚ n) (Dir []) ∷ [])) (here /ₚ n) m [] node first-whole there refl (All-head IsName m names more) (All-tail IsName m names more) (omega (arith, short, length_more here n)) can')
+    made_keeps names (over S (set_to here (Dir (with_text n old)) ∷ set_to (here /ₚ n) (Dir []) ∷ [])) (here /ₚ n) m [] node first-whole there refl (All-head IsName m names more) (All-tail IsName m names more) (omega (arith, short, length_below here n)) can')
 
 answer-look_all : {A : Type 0} (S : Store) (ps : List (List (List ℕ))) (a : A) → answer S (look_all ps (Answer a)) ≡ a
 answer-look_all S [] a = refl

@@ -2,25 +2,23 @@
 use Rattle.std.proofs.Common.{◌≡◌, ◌≢◌, ℕ, Bool, true, false, cond, ◌||◌, refl, ap, subst, sym, ◌∙◌, ◌⊎◌, inl, inr, List, [], ◌∷◌, ◌++◌, length, Option, Some, None, is_some, arith, length-append, append_assoc}
 use mathlib.Core.Path.{fun_ext}
 use Rattle.std.proofs.lemmas.List.{append-nil}
-use Rattle.std.proofs.lemmas.Bool.{true≢false}
+use Rattle.std.proofs.lemmas.Bool.{true≢false, or_right}
 use Rattle.std.specs.Ordering.{eq_by_cmp}
 use Rattle.std.specs.Option.{IfSome}
-use Rattle.std.specs.Cmp.{eq_by_cmp_equiv}
+use Rattle.fx_base.proofs.Names.{path_itself, name_is, name_itself}
+use Rattle.fx_base.proofs.Results.{none_of}
 use Rattle.fx_store.specs.declared.node.Node.{Node}
 use Rattle.fx_store.specs.declared.node.Node.TheVariants.{Dir}
 use Rattle.fx_store.specs.declared.changes.Change.{Change}
 use Rattle.fx_store.specs.Names.{path_cmp, name_cmp, has}
-use Rattle.fx_store.specs.Orders.{path_eq_same, path_total}
+use Rattle.fx_store.specs.Orders.{path_eq_same}
 use Rattle.fx_store.specs.Relisted.{rest_of, fresh_at, relist_at, IsLeaf, CanRelist}
 use Rattle.fx_store.specs.Resolve.{◌/ₚ◌}
 use Rattle.fx_store.specs.Whole.{Store, IsWhole, IsNode, lists, update, over}
-use Rattle.fx_store.proofs.Relisted.{IsWhole-relisted, rest_at, rest_is, eq_names, same_name}
+use Rattle.fx_store.proofs.Relisted.{IsWhole-relisted, has_old}
+use Rattle.fx_store.proofs.PathLists.{rest_append, rest_is}
 use Rattle.fx_spec.proofs.Tasks.{over-append}
 use Rattle.fx_spec.specs.Edit.{set_to}
-
--- paths that differ compare so
-pub path_itself : (p : List (List ℕ)) → eq_by_cmp path_cmp p p ≡ true
-path_itself p = (eq_by_cmp_equiv path_total).refl p
 
 pub path_apart : (p q : List (List ℕ)) → p ≢ q → eq_by_cmp path_cmp p q ≡ false
 path_apart p q differ = at (eq_by_cmp path_cmp p q) refl
@@ -43,14 +41,6 @@ overwritten S p a b cs = ap (λ T. over T cs) (fun_ext (λ r. at r (eq_by_cmp pa
     at r true = refl
     at r false = refl
 
-pub or_right : (a b : Bool) → b ≡ true → (a || b) ≡ true
-or_right true b e = refl
-or_right false b e = e
-
-pub none_of : {A : Type 0} (x : Option A) → is_some x ≡ false → x ≡ None
-none_of None e = refl
-none_of (Some a) e = absurd (true≢false e)
-
 -- nothing is below a path where nothing is
 pub nothing_below : (S : Store) → IsWhole S → (t q : List (List ℕ)) → S q ≡ None → S (q ++ t) ≡ None
 nothing_below S whole [] q e = rw (append-nil q) e
@@ -64,7 +54,7 @@ longer q t n e = omega (arith, ap length e, length-append q (n ∷ t))
 
 -- what the same path has behind a common front
 pub same_rest : (q a b : List (List ℕ)) → q ++ a ≡ q ++ b → a ≡ b
-same_rest q a b e = same_some (sym (rest_at q a) ∙ ap (rest_of q) e ∙ rest_at q b)
+same_rest q a b e = same_some (sym (rest_append q a) ∙ ap (rest_of q) e ∙ rest_append q b)
   where
     same_some : ◌≡◌ {A = Option (List (List ℕ))} (Some a) (Some b) → a ≡ b
     same_some e = cc
@@ -113,9 +103,6 @@ changes_of C [] = []
 changes_of C (n ∷ names) = C n ++ changes_of C names
 
 module _ (S : Store) (q old new : List (List ℕ)) (fresh : List ℕ → Node) (can : CanRelist S q old new fresh) where
-  pub has_old : (n : List ℕ) → is_some (S (q /ₚ n)) ≡ has old n
-  has_old n = can.whole.listed q n ∙ ap (λ x. lists x n) can.dir
-
   -- what is in the end at a path below the directory
   abbrev pub target : List ℕ → List (List ℕ) → Option Node
   target n rest = relist_at S old new fresh (q ++ n ∷ rest) (Some (n ∷ rest))
@@ -142,7 +129,7 @@ module _ (S : Store) (q old new : List (List ℕ)) (fresh : List ℕ → Node) (
         tail k h = inside k (or_right (eq_by_cmp name_cmp k m) (has names k) h)
 
         differ : eq_by_cmp name_cmp n m ≡ false → (more : List (List ℕ)) → q ++ n ∷ rest ≢ q ++ m ∷ more
-        differ e more f = true≢false (sym (same_name n) ∙ ap (λ k. eq_by_cmp name_cmp n k) (heads (same_rest q (n ∷ rest) (m ∷ more) f)) ∙ e)
+        differ e more f = true≢false (sym (name_itself n) ∙ ap (λ k. eq_by_cmp name_cmp n k) (heads (same_rest q (n ∷ rest) (m ∷ more) f)) ∙ e)
           where
             heads : n ∷ rest ≡ m ∷ more → n ≡ m
             heads g = cc
@@ -151,7 +138,7 @@ module _ (S : Store) (q old new : List (List ℕ)) (fresh : List ℕ → Node) (
             → ((V : Store) → (V (q ++ n ∷ rest) ≡ S (q ++ n ∷ rest)) ⊎ (V (q ++ n ∷ rest) ≡ target n rest) → over V (changes_of C names) (q ++ n ∷ rest) ≡ cond (has names n) (target n rest) (V (q ++ n ∷ rest)))
             → over (over U (C m)) (changes_of C names) (q ++ n ∷ rest) ≡ cond (b || has names n) (target n rest) (U (q ++ n ∷ rest))
         at true e next =
-            let same : n ≡ m = eq_names n m e in
+            let same : n ≡ m = name_is n m e in
             let here : has among n ≡ true = inside n (ap (λ b. b || has names n) e) in
             let own : over U (C m) (q ++ n ∷ rest) ≡ target n rest = subst (λ k. over U (C k) (q ++ n ∷ rest) ≡ target n rest) same (brings.own n rest U here ok) in
             next (over U (C m)) (inr own) ∙ ap (λ x. cond (has names n) (target n rest) x) own ∙ both (has names n)
@@ -173,13 +160,13 @@ module _ (S : Store) (q old new : List (List ℕ)) (fresh : List ℕ → Node) (
         untouched among r (update S (set_to q (Dir new))) away ∙ update_away S (set_to q (Dir new)) r not_q
       where
         away : (n : List ℕ) (rest : List (List ℕ)) → r ≢ q ++ n ∷ rest
-        away n rest f = absurd (none_some (sym e ∙ ap (rest_of q) f ∙ rest_at q (n ∷ rest)))
+        away n rest f = absurd (none_some (sym e ∙ ap (rest_of q) f ∙ rest_append q (n ∷ rest)))
           where
             none_some : ◌≡◌ {A = Option (List (List ℕ))} None (Some (n ∷ rest)) → ⊥
             none_some g = cc
 
         not_q : r ≢ q
-        not_q f = none_some (sym e ∙ ap (rest_of q) (f ∙ sym (append-nil q)) ∙ rest_at q [])
+        not_q f = none_some (sym e ∙ ap (rest_of q) (f ∙ sym (append-nil q)) ∙ rest_append q [])
           where
             none_some : ◌≡◌ {A = Option (List (List ℕ))} None (Some []) → ⊥
             none_some g = cc
@@ -204,7 +191,7 @@ module _ (S : Store) (q old new : List (List ℕ)) (fresh : List ℕ → Node) (
 
   -- an entry that was not there stays so below
   pub absent_below : (n : List ℕ) (rest : List (List ℕ)) → has old n ≡ false → S (q ++ n ∷ rest) ≡ None
-  absent_below n rest h = subst (λ r. S r ≡ None) (append_assoc q (n ∷ []) rest) (nothing_below S can.whole rest (q /ₚ n) (none_of (S (q /ₚ n)) (has_old n ∙ h)))
+  absent_below n rest h = subst (λ r. S r ≡ None) (append_assoc q (n ∷ []) rest) (nothing_below S can.whole rest (q /ₚ n) (none_of (S (q /ₚ n)) (has_old S q old new fresh can n ∙ h)))
 
   -- a kept entry
   pub kept_target : (n : List ℕ) (rest : List (List ℕ)) → has new n ≡ has old n → S (q ++ n ∷ rest) ≡ target n rest

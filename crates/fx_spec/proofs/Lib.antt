@@ -16,3 +16,4 @@ pub mod Namings
 pub mod Counted
 pub mod Asking
 pub mod Crosses
+pub mod Scoped

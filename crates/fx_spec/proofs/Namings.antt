@@ -6,8 +6,8 @@ use Rattle.std.specs.Cmp.Lexicographic.{pointwise, nat_list_eq_equiv}
 use Rattle.std.specs.Map.{lookup}
 use Rattle.indexmap.specs.IndexMap.{insert_entry}
 use Rattle.std.proofs.lemmas.Bool.{true≢false}
-use Rattle.fx_text.proofs.Canon.{nat_list_exact}
 use Rattle.std.proofs.lemmas.Option.{none-some}
+use Rattle.fx_base.proofs.Orders.{nat_list_exact}
 use Rattle.fx_spec.specs.Written.{DefTree, definition, place}
 use Rattle.fx_spec.specs.Naming.{Bytes, Table, is_named, place_of, IsTableOf}
 

@@ -49,7 +49,7 @@ pub state-front : (base : BaseTree) (o more : List Turn) (i : ℕ) → i ≤ len
 unfolding state
 state-front base o more i h = rw (take-append-le i o more h)
 
-after_all-append : (base : BaseTree) (nodes : Nodes) (o more : List Turn) → after_all base nodes (o ++ more) ≡ after_all base (after_all base nodes o) more
+pub after_all-append : (base : BaseTree) (nodes : Nodes) (o more : List Turn) → after_all base nodes (o ++ more) ≡ after_all base (after_all base nodes o) more
 after_all-append base nodes [] more = refl
 after_all-append base nodes (turn ∷ o) more = after_all-append base (after_txn base.description nodes (txn_of base.plan turn)) o more
 

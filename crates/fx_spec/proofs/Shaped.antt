@@ -1,6 +1,6 @@
 -- A value has the shape that its description says.
 use Rattle.std.proofs.Common.{◌≡◌, ℕ, Bool, true, false, cond, ◌&&◌, refl, ap, subst, sym, List, [], ◌∷◌, Option, Some, None, Result, Ok, Err, IfOk}
-use Rattle.std.proofs.lemmas.Bool.{true≢false}
+use Rattle.std.proofs.lemmas.Bool.{true≢false, and_parts}
 use Rattle.std.specs.Option.{IfSome, option_map}
 use Rattle.fx_store.specs.declared.node.Node.{Node}
 use Rattle.fx_store.specs.declared.node.Node.TheVariants.{File, Dir, Link}
@@ -26,14 +26,9 @@ use Rattle.fx_spec.specs.Place.{Step, First, Second, Inside, Down, Body, Elem, A
 use Rattle.fx_spec.specs.WellShaped.{Scope, AreArguments, IsDescription}
 use Rattle.fx_spec.proofs.Behind.{answer-behind}
 use Rattle.fx_spec.specs.Shaped.{IsDescribed, DescribedHaveShapes, RootsHaveShapes, FetchedHaveShapes, IsDescribedPlace, PlacesAreDescribed, FetchesHaveShapes, WholesHaveShapes}
+use Rattle.fx_spec.proofs.Scoped.{bind_has}
 
 -- ------------------------------------------------------------------------------------------------------------ bindings
-
-bind_has : (env : Bindings) (g : Scope) (x : List ℕ) (v : Tree) (s : ShapeTree) → BindingsHave env g → ValueHas v s → BindingsHave (bind env x v) (bind g x s)
-bind_has [] [] x v s b h = (refl, h, tt)
-bind_has [] (t ∷ g) x v s b h = absurd b
-bind_has (e ∷ env) [] x v s b h = absurd b
-bind_has (e ∷ env) (t ∷ g) x v s b h = (b.0, b.1, bind_has env g x v s b.2 h)
 
 -- ------------------------------------------------------------------------------------------------- values of descriptions
 
@@ -240,17 +235,13 @@ places_are_described root d S (step ∷ above) =
 
 -- ---------------------------------------------------------------------------------------------- the commands of fetching
 
-both_true : (a b : Bool) → (a && b) ≡ true → (a ≡ true) × (b ≡ true)
-both_true true b e = (refl, e)
-both_true false b e = absurd (true≢false (sym e))
-
 pub same_shapes : (s t : ShapeTree) → same_shape s t ≡ true → s ≡ t
 same_shapes ShapeTree.str ShapeTree.str e = refl
 same_shapes ShapeTree.int ShapeTree.int e = refl
 same_shapes ShapeTree.bool ShapeTree.bool e = refl
 same_shapes ShapeTree.names ShapeTree.names e = refl
 same_shapes (ShapeTree.pair a b) (ShapeTree.pair c d) e =
-    let both : (same_shape a c ≡ true) × (same_shape b d ≡ true) = both_true (same_shape a c) (same_shape b d) e in
+    let both : (same_shape a c ≡ true) × (same_shape b d ≡ true) = and_parts (same_shape a c) (same_shape b d) e in
     λ i. ShapeTree.pair (same_shapes a c both.0 i) (same_shapes b d both.1 i)
 same_shapes (ShapeTree.opt a) (ShapeTree.opt b) e = ap ShapeTree.opt (same_shapes a b e)
 same_shapes (ShapeTree.table a) (ShapeTree.table b) e = ap ShapeTree.table (same_shapes a b e)
@@ -299,3 +290,14 @@ wholes_have_shapes root d S a shape =
     (λ at h. of_shape_has S (same_shape (value_shape at.spec) shape) (value at.path at.env at.spec >>= λ v. Answer (needed Refusal.Lacks v)) shape
     (λ e. subst (λ s. Gets s (answer S (value at.path at.env at.spec >>= λ v. Answer (needed Refusal.Lacks v)))) (same_shapes (value_shape at.spec) shape e)
     (needed_value S (value at.path at.env at.spec) (value_shape at.spec) (value_has S at.spec h.0 at.env at.path h.1.shapes h.1.bindings))))
+
+-- ------------------------------------------------------------------------------------------------------- a shape and itself
+
+pub shape_itself : (s : ShapeTree) → same_shape s s ≡ true
+shape_itself ShapeTree.str = refl
+shape_itself ShapeTree.int = refl
+shape_itself ShapeTree.bool = refl
+shape_itself ShapeTree.names = refl
+shape_itself (ShapeTree.pair a b) = (λ i. shape_itself a i && shape_itself b i)
+shape_itself (ShapeTree.opt a) = shape_itself a
+shape_itself (ShapeTree.table a) = shape_itself a

@@ -46,14 +46,14 @@ safe-then (Looks p t) next S whole safe on = safe-then (t (S p)) next S whole sa
 safe-then (Sets cs t) next S whole safe on = (safe.0, safe-then t next (over S cs) safe.0 safe.1 on)
 
 -- no move changes the filestore
-no_move : (x : Answered Address) (cs : List Change) → moves x ≡ Ok (Changes cs) → ⊥
+pub no_move : (x : Answered Address) (cs : List Change) → moves x ≡ Ok (Changes cs) → ⊥
 no_move (Ok a) cs e = cc
 no_move (Err f) cs e = cc
 
-not_moving : (S : Store) (rule : Ask (Answered Address)) (cs : List Change) → answer S (moving rule) ≡ Ok (Changes cs) → ⊥
+pub not_moving : (S : Store) (rule : Ask (Answered Address)) (cs : List Change) → answer S (moving rule) ≡ Ok (Changes cs) → ⊥
 not_moving S rule cs e = no_move (answer S rule) cs (sym (answer-bind S rule (λ a. Answer (moves a))) ∙ e)
 
-edited : (x : Answered (List Change)) (cs : List Change) → edits x ≡ Ok (Changes cs) → x ≡ Ok cs
+pub edited : (x : Answered (List Change)) (cs : List Change) → edits x ≡ Ok (Changes cs) → x ≡ Ok cs
 edited (Ok ds) cs e = cc
 edited (Err f) cs e = cc
 

@@ -1,8 +1,8 @@
--- How the logic stores descriptions and commands: a number for the form, then its parts.
-use Rattle.std.proofs.Common.{◌≡◌, ℕ, List, refl, ap, arith}
-use Rattle.std.specs.Coded.{Coded, code_by, coded×, coded_list}
-use base.Stored.{Gv, gnil, gnum, gcons}
-use Rattle.fx_expr.specs.Codes.{head, tail, apart, coded_bytes, coded_expr, coded_shape}
+-- How the logic stores descriptions and commands: each is written as a term, and is read back from it.
+use Rattle.std.proofs.Common.{◌≡◌, ◌⊎◌, inl, inr, ℕ, List, [], ◌∷◌, get_or, refl}
+use Rattle.std.specs.Coded.{Coded, code_by, coded×, coded⊎, coded_list}
+use Rattle.fx_base.proofs.Terms.{Term, leaf, node, coded_term, text, text_of, form, form1, form2}
+use Rattle.fx_expr.specs.Codes.{coded_bytes, coded_expr, coded_shape}
 use Rattle.fx_expr.specs.ExprTree.{ExprTree}
 use Rattle.fx_expr.specs.ShapeTree.{ShapeTree}
 use Rattle.fx_spec.specs.SpecTree.{SpecTree}
@@ -15,219 +15,107 @@ coded_exprs = coded_list coded_expr
 abbrev pub coded_params : Coded (List (List ℕ × ShapeTree))
 coded_params = coded_list (coded× coded_bytes coded_shape)
 
-abbrev pub spec_code : SpecTree → Gv
-spec_code SpecTree.file = gcons (gnum 0) gnil
-spec_code SpecTree.dir = gcons (gnum 1) gnil
-spec_code SpecTree.link = gcons (gnum 2) gnil
-spec_code (SpecTree.focus a0 a1) = gcons (gnum 3) (gcons (coded_expr.code a0) (spec_code a1))
-spec_code (SpecTree.pair a0 a1 a2) = gcons (gnum 4) (gcons (coded_bytes.code a0) (gcons (spec_code a1) (spec_code a2)))
-spec_code (SpecTree.comp a0 a1 a2) = gcons (gnum 5) (gcons (spec_code a0) (gcons (coded_bytes.code a1) (coded_expr.code a2)))
-spec_code (SpecTree.opt a0) = gcons (gnum 6) (spec_code a0)
-spec_code (SpecTree.pred a0) = gcons (gnum 7) (coded_expr.code a0)
-spec_code (SpecTree.call a0 a1 a2) = gcons (gnum 8) (gcons (coded_exprs.code a0) (gcons (coded_params.code a1) (spec_code a2)))
-spec_code (SpecTree.last a0 a1) = gcons (gnum 9) (gcons (coded_exprs.code a0) (coded_params.code a1))
+-- ---- leaves: texts, expressions, arguments, parameters, shapes
 
-pub spec_inj : (x y : SpecTree) → spec_code x ≡ spec_code y → x ≡ y
-spec_inj SpecTree.file SpecTree.file p = refl
-spec_inj SpecTree.file SpecTree.dir p = absurd (apart 0 1 p (omega arith))
-spec_inj SpecTree.file SpecTree.link p = absurd (apart 0 2 p (omega arith))
-spec_inj SpecTree.file (SpecTree.focus b0 b1) p = absurd (apart 0 3 p (omega arith))
-spec_inj SpecTree.file (SpecTree.pair b0 b1 b2) p = absurd (apart 0 4 p (omega arith))
-spec_inj SpecTree.file (SpecTree.comp b0 b1 b2) p = absurd (apart 0 5 p (omega arith))
-spec_inj SpecTree.file (SpecTree.opt b0) p = absurd (apart 0 6 p (omega arith))
-spec_inj SpecTree.file (SpecTree.pred b0) p = absurd (apart 0 7 p (omega arith))
-spec_inj SpecTree.file (SpecTree.call b0 b1 b2) p = absurd (apart 0 8 p (omega arith))
-spec_inj SpecTree.file (SpecTree.last b0 b1) p = absurd (apart 0 9 p (omega arith))
-spec_inj SpecTree.dir SpecTree.file p = absurd (apart 1 0 p (omega arith))
-spec_inj SpecTree.dir SpecTree.dir p = refl
-spec_inj SpecTree.dir SpecTree.link p = absurd (apart 1 2 p (omega arith))
-spec_inj SpecTree.dir (SpecTree.focus b0 b1) p = absurd (apart 1 3 p (omega arith))
-spec_inj SpecTree.dir (SpecTree.pair b0 b1 b2) p = absurd (apart 1 4 p (omega arith))
-spec_inj SpecTree.dir (SpecTree.comp b0 b1 b2) p = absurd (apart 1 5 p (omega arith))
-spec_inj SpecTree.dir (SpecTree.opt b0) p = absurd (apart 1 6 p (omega arith))
-spec_inj SpecTree.dir (SpecTree.pred b0) p = absurd (apart 1 7 p (omega arith))
-spec_inj SpecTree.dir (SpecTree.call b0 b1 b2) p = absurd (apart 1 8 p (omega arith))
-spec_inj SpecTree.dir (SpecTree.last b0 b1) p = absurd (apart 1 9 p (omega arith))
-spec_inj SpecTree.link SpecTree.file p = absurd (apart 2 0 p (omega arith))
-spec_inj SpecTree.link SpecTree.dir p = absurd (apart 2 1 p (omega arith))
-spec_inj SpecTree.link SpecTree.link p = refl
-spec_inj SpecTree.link (SpecTree.focus b0 b1) p = absurd (apart 2 3 p (omega arith))
-spec_inj SpecTree.link (SpecTree.pair b0 b1 b2) p = absurd (apart 2 4 p (omega arith))
-spec_inj SpecTree.link (SpecTree.comp b0 b1 b2) p = absurd (apart 2 5 p (omega arith))
-spec_inj SpecTree.link (SpecTree.opt b0) p = absurd (apart 2 6 p (omega arith))
-spec_inj SpecTree.link (SpecTree.pred b0) p = absurd (apart 2 7 p (omega arith))
-spec_inj SpecTree.link (SpecTree.call b0 b1 b2) p = absurd (apart 2 8 p (omega arith))
-spec_inj SpecTree.link (SpecTree.last b0 b1) p = absurd (apart 2 9 p (omega arith))
-spec_inj (SpecTree.focus a0 a1) SpecTree.file p = absurd (apart 3 0 p (omega arith))
-spec_inj (SpecTree.focus a0 a1) SpecTree.dir p = absurd (apart 3 1 p (omega arith))
-spec_inj (SpecTree.focus a0 a1) SpecTree.link p = absurd (apart 3 2 p (omega arith))
-spec_inj (SpecTree.focus a0 a1) (SpecTree.focus b0 b1) p = λ i. SpecTree.focus (coded_expr.inj a0 b0 (ap (λ g. head (tail g)) p) i) (spec_inj a1 b1 (ap (λ g. tail (tail g)) p) i)
-spec_inj (SpecTree.focus a0 a1) (SpecTree.pair b0 b1 b2) p = absurd (apart 3 4 p (omega arith))
-spec_inj (SpecTree.focus a0 a1) (SpecTree.comp b0 b1 b2) p = absurd (apart 3 5 p (omega arith))
-spec_inj (SpecTree.focus a0 a1) (SpecTree.opt b0) p = absurd (apart 3 6 p (omega arith))
-spec_inj (SpecTree.focus a0 a1) (SpecTree.pred b0) p = absurd (apart 3 7 p (omega arith))
-spec_inj (SpecTree.focus a0 a1) (SpecTree.call b0 b1 b2) p = absurd (apart 3 8 p (omega arith))
-spec_inj (SpecTree.focus a0 a1) (SpecTree.last b0 b1) p = absurd (apart 3 9 p (omega arith))
-spec_inj (SpecTree.pair a0 a1 a2) SpecTree.file p = absurd (apart 4 0 p (omega arith))
-spec_inj (SpecTree.pair a0 a1 a2) SpecTree.dir p = absurd (apart 4 1 p (omega arith))
-spec_inj (SpecTree.pair a0 a1 a2) SpecTree.link p = absurd (apart 4 2 p (omega arith))
-spec_inj (SpecTree.pair a0 a1 a2) (SpecTree.focus b0 b1) p = absurd (apart 4 3 p (omega arith))
-spec_inj (SpecTree.pair a0 a1 a2) (SpecTree.pair b0 b1 b2) p = λ i. SpecTree.pair (coded_bytes.inj a0 b0 (ap (λ g. head (tail g)) p) i) (spec_inj a1 b1 (ap (λ g. head (tail (tail g))) p) i) (spec_inj a2 b2 (ap (λ g. tail (tail (tail g))) p) i)
-spec_inj (SpecTree.pair a0 a1 a2) (SpecTree.comp b0 b1 b2) p = absurd (apart 4 5 p (omega arith))
-spec_inj (SpecTree.pair a0 a1 a2) (SpecTree.opt b0) p = absurd (apart 4 6 p (omega arith))
-spec_inj (SpecTree.pair a0 a1 a2) (SpecTree.pred b0) p = absurd (apart 4 7 p (omega arith))
-spec_inj (SpecTree.pair a0 a1 a2) (SpecTree.call b0 b1 b2) p = absurd (apart 4 8 p (omega arith))
-spec_inj (SpecTree.pair a0 a1 a2) (SpecTree.last b0 b1) p = absurd (apart 4 9 p (omega arith))
-spec_inj (SpecTree.comp a0 a1 a2) SpecTree.file p = absurd (apart 5 0 p (omega arith))
-spec_inj (SpecTree.comp a0 a1 a2) SpecTree.dir p = absurd (apart 5 1 p (omega arith))
-spec_inj (SpecTree.comp a0 a1 a2) SpecTree.link p = absurd (apart 5 2 p (omega arith))
-spec_inj (SpecTree.comp a0 a1 a2) (SpecTree.focus b0 b1) p = absurd (apart 5 3 p (omega arith))
-spec_inj (SpecTree.comp a0 a1 a2) (SpecTree.pair b0 b1 b2) p = absurd (apart 5 4 p (omega arith))
-spec_inj (SpecTree.comp a0 a1 a2) (SpecTree.comp b0 b1 b2) p = λ i. SpecTree.comp (spec_inj a0 b0 (ap (λ g. head (tail g)) p) i) (coded_bytes.inj a1 b1 (ap (λ g. head (tail (tail g))) p) i) (coded_expr.inj a2 b2 (ap (λ g. tail (tail (tail g))) p) i)
-spec_inj (SpecTree.comp a0 a1 a2) (SpecTree.opt b0) p = absurd (apart 5 6 p (omega arith))
-spec_inj (SpecTree.comp a0 a1 a2) (SpecTree.pred b0) p = absurd (apart 5 7 p (omega arith))
-spec_inj (SpecTree.comp a0 a1 a2) (SpecTree.call b0 b1 b2) p = absurd (apart 5 8 p (omega arith))
-spec_inj (SpecTree.comp a0 a1 a2) (SpecTree.last b0 b1) p = absurd (apart 5 9 p (omega arith))
-spec_inj (SpecTree.opt a0) SpecTree.file p = absurd (apart 6 0 p (omega arith))
-spec_inj (SpecTree.opt a0) SpecTree.dir p = absurd (apart 6 1 p (omega arith))
-spec_inj (SpecTree.opt a0) SpecTree.link p = absurd (apart 6 2 p (omega arith))
-spec_inj (SpecTree.opt a0) (SpecTree.focus b0 b1) p = absurd (apart 6 3 p (omega arith))
-spec_inj (SpecTree.opt a0) (SpecTree.pair b0 b1 b2) p = absurd (apart 6 4 p (omega arith))
-spec_inj (SpecTree.opt a0) (SpecTree.comp b0 b1 b2) p = absurd (apart 6 5 p (omega arith))
-spec_inj (SpecTree.opt a0) (SpecTree.opt b0) p = λ i. SpecTree.opt (spec_inj a0 b0 (ap (λ g. tail g) p) i)
-spec_inj (SpecTree.opt a0) (SpecTree.pred b0) p = absurd (apart 6 7 p (omega arith))
-spec_inj (SpecTree.opt a0) (SpecTree.call b0 b1 b2) p = absurd (apart 6 8 p (omega arith))
-spec_inj (SpecTree.opt a0) (SpecTree.last b0 b1) p = absurd (apart 6 9 p (omega arith))
-spec_inj (SpecTree.pred a0) SpecTree.file p = absurd (apart 7 0 p (omega arith))
-spec_inj (SpecTree.pred a0) SpecTree.dir p = absurd (apart 7 1 p (omega arith))
-spec_inj (SpecTree.pred a0) SpecTree.link p = absurd (apart 7 2 p (omega arith))
-spec_inj (SpecTree.pred a0) (SpecTree.focus b0 b1) p = absurd (apart 7 3 p (omega arith))
-spec_inj (SpecTree.pred a0) (SpecTree.pair b0 b1 b2) p = absurd (apart 7 4 p (omega arith))
-spec_inj (SpecTree.pred a0) (SpecTree.comp b0 b1 b2) p = absurd (apart 7 5 p (omega arith))
-spec_inj (SpecTree.pred a0) (SpecTree.opt b0) p = absurd (apart 7 6 p (omega arith))
-spec_inj (SpecTree.pred a0) (SpecTree.pred b0) p = λ i. SpecTree.pred (coded_expr.inj a0 b0 (ap (λ g. tail g) p) i)
-spec_inj (SpecTree.pred a0) (SpecTree.call b0 b1 b2) p = absurd (apart 7 8 p (omega arith))
-spec_inj (SpecTree.pred a0) (SpecTree.last b0 b1) p = absurd (apart 7 9 p (omega arith))
-spec_inj (SpecTree.call a0 a1 a2) SpecTree.file p = absurd (apart 8 0 p (omega arith))
-spec_inj (SpecTree.call a0 a1 a2) SpecTree.dir p = absurd (apart 8 1 p (omega arith))
-spec_inj (SpecTree.call a0 a1 a2) SpecTree.link p = absurd (apart 8 2 p (omega arith))
-spec_inj (SpecTree.call a0 a1 a2) (SpecTree.focus b0 b1) p = absurd (apart 8 3 p (omega arith))
-spec_inj (SpecTree.call a0 a1 a2) (SpecTree.pair b0 b1 b2) p = absurd (apart 8 4 p (omega arith))
-spec_inj (SpecTree.call a0 a1 a2) (SpecTree.comp b0 b1 b2) p = absurd (apart 8 5 p (omega arith))
-spec_inj (SpecTree.call a0 a1 a2) (SpecTree.opt b0) p = absurd (apart 8 6 p (omega arith))
-spec_inj (SpecTree.call a0 a1 a2) (SpecTree.pred b0) p = absurd (apart 8 7 p (omega arith))
-spec_inj (SpecTree.call a0 a1 a2) (SpecTree.call b0 b1 b2) p = λ i. SpecTree.call (coded_exprs.inj a0 b0 (ap (λ g. head (tail g)) p) i) (coded_params.inj a1 b1 (ap (λ g. head (tail (tail g))) p) i) (spec_inj a2 b2 (ap (λ g. tail (tail (tail g))) p) i)
-spec_inj (SpecTree.call a0 a1 a2) (SpecTree.last b0 b1) p = absurd (apart 8 9 p (omega arith))
-spec_inj (SpecTree.last a0 a1) SpecTree.file p = absurd (apart 9 0 p (omega arith))
-spec_inj (SpecTree.last a0 a1) SpecTree.dir p = absurd (apart 9 1 p (omega arith))
-spec_inj (SpecTree.last a0 a1) SpecTree.link p = absurd (apart 9 2 p (omega arith))
-spec_inj (SpecTree.last a0 a1) (SpecTree.focus b0 b1) p = absurd (apart 9 3 p (omega arith))
-spec_inj (SpecTree.last a0 a1) (SpecTree.pair b0 b1 b2) p = absurd (apart 9 4 p (omega arith))
-spec_inj (SpecTree.last a0 a1) (SpecTree.comp b0 b1 b2) p = absurd (apart 9 5 p (omega arith))
-spec_inj (SpecTree.last a0 a1) (SpecTree.opt b0) p = absurd (apart 9 6 p (omega arith))
-spec_inj (SpecTree.last a0 a1) (SpecTree.pred b0) p = absurd (apart 9 7 p (omega arith))
-spec_inj (SpecTree.last a0 a1) (SpecTree.call b0 b1 b2) p = absurd (apart 9 8 p (omega arith))
-spec_inj (SpecTree.last a0 a1) (SpecTree.last b0 b1) p = λ i. SpecTree.last (coded_exprs.inj a0 b0 (ap (λ g. head (tail g)) p) i) (coded_params.inj a1 b1 (ap (λ g. tail (tail g)) p) i)
+abbrev pub Leaf : Type 0
+Leaf = List ℕ ⊎ (ExprTree ⊎ (List ExprTree ⊎ (List (List ℕ × ShapeTree) ⊎ ShapeTree)))
+
+abbrev pub coded_leaf : Coded Leaf
+coded_leaf = coded⊎ coded_bytes (coded⊎ coded_expr (coded⊎ coded_exprs (coded⊎ coded_params coded_shape)))
+
+abbrev pub expr : ExprTree → Term Leaf
+expr e = leaf (inr (inl e))
+
+abbrev pub expr_of : Term Leaf → ExprTree
+expr_of (leaf (inr (inl e))) = e
+expr_of _ = ExprTree.empty
+
+abbrev pub exprs : List ExprTree → Term Leaf
+exprs es = leaf (inr (inr (inl es)))
+
+abbrev pub exprs_of : Term Leaf → List ExprTree
+exprs_of (leaf (inr (inr (inl es)))) = es
+exprs_of _ = []
+
+abbrev pub params : List (List ℕ × ShapeTree) → Term Leaf
+params ps = leaf (inr (inr (inr (inl ps))))
+
+abbrev pub params_of : Term Leaf → List (List ℕ × ShapeTree)
+params_of (leaf (inr (inr (inr (inl ps))))) = ps
+params_of _ = []
+
+abbrev pub shape : ShapeTree → Term Leaf
+shape s = leaf (inr (inr (inr (inr s))))
+
+abbrev pub shape_of : Term Leaf → ShapeTree
+shape_of (leaf (inr (inr (inr (inr s))))) = s
+shape_of _ = ShapeTree.str
+
+-- ---- descriptions
+
+abbrev pub spec_term : SpecTree → Term Leaf
+spec_term SpecTree.file = form 0
+spec_term SpecTree.dir = form 1
+spec_term SpecTree.link = form 2
+spec_term (SpecTree.focus e s) = form2 3 (expr e) (spec_term s)
+spec_term (SpecTree.pair x s t) = node 4 (text x) (spec_term s) (spec_term t)
+spec_term (SpecTree.comp s x e) = node 5 (spec_term s) (text x) (expr e)
+spec_term (SpecTree.opt s) = form1 6 (spec_term s)
+spec_term (SpecTree.pred e) = form1 7 (expr e)
+spec_term (SpecTree.call es ps s) = node 8 (exprs es) (params ps) (spec_term s)
+spec_term (SpecTree.last es ps) = form2 9 (exprs es) (params ps)
+
+abbrev pub term_spec : Term Leaf → SpecTree
+term_spec (leaf _) = SpecTree.file
+term_spec (node n a b c) = get_or
+    (SpecTree.file ∷ SpecTree.dir ∷ SpecTree.link ∷ SpecTree.focus (expr_of a) (term_spec b) ∷
+    SpecTree.pair (text_of a) (term_spec b) (term_spec c) ∷ SpecTree.comp (term_spec a) (text_of b) (expr_of c) ∷
+    SpecTree.opt (term_spec a) ∷ SpecTree.pred (expr_of a) ∷
+    SpecTree.call (exprs_of a) (params_of b) (term_spec c) ∷ SpecTree.last (exprs_of a) (params_of b) ∷ [])
+    n SpecTree.file
+
+pub spec_back : (s : SpecTree) → term_spec (spec_term s) ≡ s
+spec_back (SpecTree.focus e s) = λ i. SpecTree.focus e (spec_back s i)
+spec_back (SpecTree.pair x s t) = λ i. SpecTree.pair x (spec_back s i) (spec_back t i)
+spec_back (SpecTree.comp s x e) = λ i. SpecTree.comp (spec_back s i) x e
+spec_back (SpecTree.opt s) = λ i. SpecTree.opt (spec_back s i)
+spec_back (SpecTree.call es ps s) = λ i. SpecTree.call es ps (spec_back s i)
+spec_back _ = refl
 
 abbrev pub coded_spec : Coded SpecTree
-coded_spec = record { code = spec_code; inj = spec_inj }
+coded_spec = code_by (Term Leaf) (coded_term coded_leaf) spec_term term_spec spec_back
 
-abbrev pub written_code : WrittenTree → Gv
-written_code WrittenTree.file = gcons (gnum 0) gnil
-written_code WrittenTree.dir = gcons (gnum 1) gnil
-written_code WrittenTree.link = gcons (gnum 2) gnil
-written_code (WrittenTree.focus a0 a1) = gcons (gnum 3) (gcons (coded_expr.code a0) (written_code a1))
-written_code (WrittenTree.pair a0 a1 a2) = gcons (gnum 4) (gcons (coded_bytes.code a0) (gcons (written_code a1) (written_code a2)))
-written_code (WrittenTree.comp a0 a1 a2) = gcons (gnum 5) (gcons (written_code a0) (gcons (coded_bytes.code a1) (coded_expr.code a2)))
-written_code (WrittenTree.opt a0) = gcons (gnum 6) (written_code a0)
-written_code (WrittenTree.pred a0) = gcons (gnum 7) (coded_expr.code a0)
-written_code (WrittenTree.call a0 a1) = gcons (gnum 8) (gcons (coded_bytes.code a0) (coded_exprs.code a1))
+-- ---- descriptions as they are written
 
-pub written_inj : (x y : WrittenTree) → written_code x ≡ written_code y → x ≡ y
-written_inj WrittenTree.file WrittenTree.file p = refl
-written_inj WrittenTree.file WrittenTree.dir p = absurd (apart 0 1 p (omega arith))
-written_inj WrittenTree.file WrittenTree.link p = absurd (apart 0 2 p (omega arith))
-written_inj WrittenTree.file (WrittenTree.focus b0 b1) p = absurd (apart 0 3 p (omega arith))
-written_inj WrittenTree.file (WrittenTree.pair b0 b1 b2) p = absurd (apart 0 4 p (omega arith))
-written_inj WrittenTree.file (WrittenTree.comp b0 b1 b2) p = absurd (apart 0 5 p (omega arith))
-written_inj WrittenTree.file (WrittenTree.opt b0) p = absurd (apart 0 6 p (omega arith))
-written_inj WrittenTree.file (WrittenTree.pred b0) p = absurd (apart 0 7 p (omega arith))
-written_inj WrittenTree.file (WrittenTree.call b0 b1) p = absurd (apart 0 8 p (omega arith))
-written_inj WrittenTree.dir WrittenTree.file p = absurd (apart 1 0 p (omega arith))
-written_inj WrittenTree.dir WrittenTree.dir p = refl
-written_inj WrittenTree.dir WrittenTree.link p = absurd (apart 1 2 p (omega arith))
-written_inj WrittenTree.dir (WrittenTree.focus b0 b1) p = absurd (apart 1 3 p (omega arith))
-written_inj WrittenTree.dir (WrittenTree.pair b0 b1 b2) p = absurd (apart 1 4 p (omega arith))
-written_inj WrittenTree.dir (WrittenTree.comp b0 b1 b2) p = absurd (apart 1 5 p (omega arith))
-written_inj WrittenTree.dir (WrittenTree.opt b0) p = absurd (apart 1 6 p (omega arith))
-written_inj WrittenTree.dir (WrittenTree.pred b0) p = absurd (apart 1 7 p (omega arith))
-written_inj WrittenTree.dir (WrittenTree.call b0 b1) p = absurd (apart 1 8 p (omega arith))
-written_inj WrittenTree.link WrittenTree.file p = absurd (apart 2 0 p (omega arith))
-written_inj WrittenTree.link WrittenTree.dir p = absurd (apart 2 1 p (omega arith))
-written_inj WrittenTree.link WrittenTree.link p = refl
-written_inj WrittenTree.link (WrittenTree.focus b0 b1) p = absurd (apart 2 3 p (omega arith))
-written_inj WrittenTree.link (WrittenTree.pair b0 b1 b2) p = absurd (apart 2 4 p (omega arith))
-written_inj WrittenTree.link (WrittenTree.comp b0 b1 b2) p = absurd (apart 2 5 p (omega arith))
-written_inj WrittenTree.link (WrittenTree.opt b0) p = absurd (apart 2 6 p (omega arith))
-written_inj WrittenTree.link (WrittenTree.pred b0) p = absurd (apart 2 7 p (omega arith))
-written_inj WrittenTree.link (WrittenTree.call b0 b1) p = absurd (apart 2 8 p (omega arith))
-written_inj (WrittenTree.focus a0 a1) WrittenTree.file p = absurd (apart 3 0 p (omega arith))
-written_inj (WrittenTree.focus a0 a1) WrittenTree.dir p = absurd (apart 3 1 p (omega arith))
-written_inj (WrittenTree.focus a0 a1) WrittenTree.link p = absurd (apart 3 2 p (omega arith))
-written_inj (WrittenTree.focus a0 a1) (WrittenTree.focus b0 b1) p = λ i. WrittenTree.focus (coded_expr.inj a0 b0 (ap (λ g. head (tail g)) p) i) (written_inj a1 b1 (ap (λ g. tail (tail g)) p) i)
-written_inj (WrittenTree.focus a0 a1) (WrittenTree.pair b0 b1 b2) p = absurd (apart 3 4 p (omega arith))
-written_inj (WrittenTree.focus a0 a1) (WrittenTree.comp b0 b1 b2) p = absurd (apart 3 5 p (omega arith))
-written_inj (WrittenTree.focus a0 a1) (WrittenTree.opt b0) p = absurd (apart 3 6 p (omega arith))
-written_inj (WrittenTree.focus a0 a1) (WrittenTree.pred b0) p = absurd (apart 3 7 p (omega arith))
-written_inj (WrittenTree.focus a0 a1) (WrittenTree.call b0 b1) p = absurd (apart 3 8 p (omega arith))
-written_inj (WrittenTree.pair a0 a1 a2) WrittenTree.file p = absurd (apart 4 0 p (omega arith))
-written_inj (WrittenTree.pair a0 a1 a2) WrittenTree.dir p = absurd (apart 4 1 p (omega arith))
-written_inj (WrittenTree.pair a0 a1 a2) WrittenTree.link p = absurd (apart 4 2 p (omega arith))
-written_inj (WrittenTree.pair a0 a1 a2) (WrittenTree.focus b0 b1) p = absurd (apart 4 3 p (omega arith))
-written_inj (WrittenTree.pair a0 a1 a2) (WrittenTree.pair b0 b1 b2) p = λ i. WrittenTree.pair (coded_bytes.inj a0 b0 (ap (λ g. head (tail g)) p) i) (written_inj a1 b1 (ap (λ g. head (tail (tail g))) p) i) (written_inj a2 b2 (ap (λ g. tail (tail (tail g))) p) i)
-written_inj (WrittenTree.pair a0 a1 a2) (WrittenTree.comp b0 b1 b2) p = absurd (apart 4 5 p (omega arith))
-written_inj (WrittenTree.pair a0 a1 a2) (WrittenTree.opt b0) p = absurd (apart 4 6 p (omega arith))
-written_inj (WrittenTree.pair a0 a1 a2) (WrittenTree.pred b0) p = absurd (apart 4 7 p (omega arith))
-written_inj (WrittenTree.pair a0 a1 a2) (WrittenTree.call b0 b1) p = absurd (apart 4 8 p (omega arith))
-written_inj (WrittenTree.comp a0 a1 a2) WrittenTree.file p = absurd (apart 5 0 p (omega arith))
-written_inj (WrittenTree.comp a0 a1 a2) WrittenTree.dir p = absurd (apart 5 1 p (omega arith))
-written_inj (WrittenTree.comp a0 a1 a2) WrittenTree.link p = absurd (apart 5 2 p (omega arith))
-written_inj (WrittenTree.comp a0 a1 a2) (WrittenTree.focus b0 b1) p = absurd (apart 5 3 p (omega arith))
-written_inj (WrittenTree.comp a0 a1 a2) (WrittenTree.pair b0 b1 b2) p = absurd (apart 5 4 p (omega arith))
-written_inj (WrittenTree.comp a0 a1 a2) (WrittenTree.comp b0 b1 b2) p = λ i. WrittenTree.comp (written_inj a0 b0 (ap (λ g. head (tail g)) p) i) (coded_bytes.inj a1 b1 (ap (λ g. head (tail (tail g))) p) i) (coded_expr.inj a2 b2 (ap (λ g. tail (tail (tail g))) p) i)
-written_inj (WrittenTree.comp a0 a1 a2) (WrittenTree.opt b0) p = absurd (apart 5 6 p (omega arith))
-written_inj (WrittenTree.comp a0 a1 a2) (WrittenTree.pred b0) p = absurd (apart 5 7 p (omega arith))
-written_inj (WrittenTree.comp a0 a1 a2) (WrittenTree.call b0 b1) p = absurd (apart 5 8 p (omega arith))
-written_inj (WrittenTree.opt a0) WrittenTree.file p = absurd (apart 6 0 p (omega arith))
-written_inj (WrittenTree.opt a0) WrittenTree.dir p = absurd (apart 6 1 p (omega arith))
-written_inj (WrittenTree.opt a0) WrittenTree.link p = absurd (apart 6 2 p (omega arith))
-written_inj (WrittenTree.opt a0) (WrittenTree.focus b0 b1) p = absurd (apart 6 3 p (omega arith))
-written_inj (WrittenTree.opt a0) (WrittenTree.pair b0 b1 b2) p = absurd (apart 6 4 p (omega arith))
-written_inj (WrittenTree.opt a0) (WrittenTree.comp b0 b1 b2) p = absurd (apart 6 5 p (omega arith))
-written_inj (WrittenTree.opt a0) (WrittenTree.opt b0) p = λ i. WrittenTree.opt (written_inj a0 b0 (ap (λ g. tail g) p) i)
-written_inj (WrittenTree.opt a0) (WrittenTree.pred b0) p = absurd (apart 6 7 p (omega arith))
-written_inj (WrittenTree.opt a0) (WrittenTree.call b0 b1) p = absurd (apart 6 8 p (omega arith))
-written_inj (WrittenTree.pred a0) WrittenTree.file p = absurd (apart 7 0 p (omega arith))
-written_inj (WrittenTree.pred a0) WrittenTree.dir p = absurd (apart 7 1 p (omega arith))
-written_inj (WrittenTree.pred a0) WrittenTree.link p = absurd (apart 7 2 p (omega arith))
-written_inj (WrittenTree.pred a0) (WrittenTree.focus b0 b1) p = absurd (apart 7 3 p (omega arith))
-written_inj (WrittenTree.pred a0) (WrittenTree.pair b0 b1 b2) p = absurd (apart 7 4 p (omega arith))
-written_inj (WrittenTree.pred a0) (WrittenTree.comp b0 b1 b2) p = absurd (apart 7 5 p (omega arith))
-written_inj (WrittenTree.pred a0) (WrittenTree.opt b0) p = absurd (apart 7 6 p (omega arith))
-written_inj (WrittenTree.pred a0) (WrittenTree.pred b0) p = λ i. WrittenTree.pred (coded_expr.inj a0 b0 (ap (λ g. tail g) p) i)
-written_inj (WrittenTree.pred a0) (WrittenTree.call b0 b1) p = absurd (apart 7 8 p (omega arith))
-written_inj (WrittenTree.call a0 a1) WrittenTree.file p = absurd (apart 8 0 p (omega arith))
-written_inj (WrittenTree.call a0 a1) WrittenTree.dir p = absurd (apart 8 1 p (omega arith))
-written_inj (WrittenTree.call a0 a1) WrittenTree.link p = absurd (apart 8 2 p (omega arith))
-written_inj (WrittenTree.call a0 a1) (WrittenTree.focus b0 b1) p = absurd (apart 8 3 p (omega arith))
-written_inj (WrittenTree.call a0 a1) (WrittenTree.pair b0 b1 b2) p = absurd (apart 8 4 p (omega arith))
-written_inj (WrittenTree.call a0 a1) (WrittenTree.comp b0 b1 b2) p = absurd (apart 8 5 p (omega arith))
-written_inj (WrittenTree.call a0 a1) (WrittenTree.opt b0) p = absurd (apart 8 6 p (omega arith))
-written_inj (WrittenTree.call a0 a1) (WrittenTree.pred b0) p = absurd (apart 8 7 p (omega arith))
-written_inj (WrittenTree.call a0 a1) (WrittenTree.call b0 b1) p = λ i. WrittenTree.call (coded_bytes.inj a0 b0 (ap (λ g. head (tail g)) p) i) (coded_exprs.inj a1 b1 (ap (λ g. tail (tail g)) p) i)
+abbrev pub written_term : WrittenTree → Term Leaf
+written_term WrittenTree.file = form 0
+written_term WrittenTree.dir = form 1
+written_term WrittenTree.link = form 2
+written_term (WrittenTree.focus e s) = form2 3 (expr e) (written_term s)
+written_term (WrittenTree.pair x s t) = node 4 (text x) (written_term s) (written_term t)
+written_term (WrittenTree.comp s x e) = node 5 (written_term s) (text x) (expr e)
+written_term (WrittenTree.opt s) = form1 6 (written_term s)
+written_term (WrittenTree.pred e) = form1 7 (expr e)
+written_term (WrittenTree.call f es) = form2 8 (text f) (exprs es)
+
+abbrev pub term_written : Term Leaf → WrittenTree
+term_written (leaf _) = WrittenTree.file
+term_written (node n a b c) = get_or
+    (WrittenTree.file ∷ WrittenTree.dir ∷ WrittenTree.link ∷ WrittenTree.focus (expr_of a) (term_written b) ∷
+    WrittenTree.pair (text_of a) (term_written b) (term_written c) ∷
+    WrittenTree.comp (term_written a) (text_of b) (expr_of c) ∷ WrittenTree.opt (term_written a) ∷
+    WrittenTree.pred (expr_of a) ∷ WrittenTree.call (text_of a) (exprs_of b) ∷ [])
+    n WrittenTree.file
+
+pub written_back : (s : WrittenTree) → term_written (written_term s) ≡ s
+written_back (WrittenTree.focus e s) = λ i. WrittenTree.focus e (written_back s i)
+written_back (WrittenTree.pair x s t) = λ i. WrittenTree.pair x (written_back s i) (written_back t i)
+written_back (WrittenTree.comp s x e) = λ i. WrittenTree.comp (written_back s i) x e
+written_back (WrittenTree.opt s) = λ i. WrittenTree.opt (written_back s i)
+written_back _ = refl
 
 abbrev pub coded_written : Coded WrittenTree
-coded_written = record { code = written_code; inj = written_inj }
+coded_written = code_by (Term Leaf) (coded_term coded_leaf) written_term term_written written_back
 
 abbrev pub coded_def : Coded DefTree
 coded_def =
@@ -237,295 +125,80 @@ coded_def =
 abbrev pub coded_defs : Coded (List DefTree)
 coded_defs = coded_list coded_def
 
-abbrev pub act_code : ActTree → Gv
-act_code ActTree.into = gcons (gnum 0) gnil
-act_code (ActTree.to a0) = gcons (gnum 1) (coded_expr.code a0)
-act_code ActTree.next = gcons (gnum 2) gnil
-act_code ActTree.prev = gcons (gnum 3) gnil
-act_code ActTree.out = gcons (gnum 4) gnil
-act_code ActTree.down = gcons (gnum 5) gnil
-act_code ActTree.up = gcons (gnum 6) gnil
-act_code ActTree.top = gcons (gnum 7) gnil
-act_code (ActTree.store a0) = gcons (gnum 8) (coded_expr.code a0)
-act_code ActTree.create = gcons (gnum 9) gnil
-act_code ActTree.remove = gcons (gnum 10) gnil
+-- ---- commands
 
-pub act_inj : (x y : ActTree) → act_code x ≡ act_code y → x ≡ y
-act_inj ActTree.into ActTree.into p = refl
-act_inj ActTree.into (ActTree.to b0) p = absurd (apart 0 1 p (omega arith))
-act_inj ActTree.into ActTree.next p = absurd (apart 0 2 p (omega arith))
-act_inj ActTree.into ActTree.prev p = absurd (apart 0 3 p (omega arith))
-act_inj ActTree.into ActTree.out p = absurd (apart 0 4 p (omega arith))
-act_inj ActTree.into ActTree.down p = absurd (apart 0 5 p (omega arith))
-act_inj ActTree.into ActTree.up p = absurd (apart 0 6 p (omega arith))
-act_inj ActTree.into ActTree.top p = absurd (apart 0 7 p (omega arith))
-act_inj ActTree.into (ActTree.store b0) p = absurd (apart 0 8 p (omega arith))
-act_inj ActTree.into ActTree.create p = absurd (apart 0 9 p (omega arith))
-act_inj ActTree.into ActTree.remove p = absurd (apart 0 10 p (omega arith))
-act_inj (ActTree.to a0) ActTree.into p = absurd (apart 1 0 p (omega arith))
-act_inj (ActTree.to a0) (ActTree.to b0) p = λ i. ActTree.to (coded_expr.inj a0 b0 (ap (λ g. tail g) p) i)
-act_inj (ActTree.to a0) ActTree.next p = absurd (apart 1 2 p (omega arith))
-act_inj (ActTree.to a0) ActTree.prev p = absurd (apart 1 3 p (omega arith))
-act_inj (ActTree.to a0) ActTree.out p = absurd (apart 1 4 p (omega arith))
-act_inj (ActTree.to a0) ActTree.down p = absurd (apart 1 5 p (omega arith))
-act_inj (ActTree.to a0) ActTree.up p = absurd (apart 1 6 p (omega arith))
-act_inj (ActTree.to a0) ActTree.top p = absurd (apart 1 7 p (omega arith))
-act_inj (ActTree.to a0) (ActTree.store b0) p = absurd (apart 1 8 p (omega arith))
-act_inj (ActTree.to a0) ActTree.create p = absurd (apart 1 9 p (omega arith))
-act_inj (ActTree.to a0) ActTree.remove p = absurd (apart 1 10 p (omega arith))
-act_inj ActTree.next ActTree.into p = absurd (apart 2 0 p (omega arith))
-act_inj ActTree.next (ActTree.to b0) p = absurd (apart 2 1 p (omega arith))
-act_inj ActTree.next ActTree.next p = refl
-act_inj ActTree.next ActTree.prev p = absurd (apart 2 3 p (omega arith))
-act_inj ActTree.next ActTree.out p = absurd (apart 2 4 p (omega arith))
-act_inj ActTree.next ActTree.down p = absurd (apart 2 5 p (omega arith))
-act_inj ActTree.next ActTree.up p = absurd (apart 2 6 p (omega arith))
-act_inj ActTree.next ActTree.top p = absurd (apart 2 7 p (omega arith))
-act_inj ActTree.next (ActTree.store b0) p = absurd (apart 2 8 p (omega arith))
-act_inj ActTree.next ActTree.create p = absurd (apart 2 9 p (omega arith))
-act_inj ActTree.next ActTree.remove p = absurd (apart 2 10 p (omega arith))
-act_inj ActTree.prev ActTree.into p = absurd (apart 3 0 p (omega arith))
-act_inj ActTree.prev (ActTree.to b0) p = absurd (apart 3 1 p (omega arith))
-act_inj ActTree.prev ActTree.next p = absurd (apart 3 2 p (omega arith))
-act_inj ActTree.prev ActTree.prev p = refl
-act_inj ActTree.prev ActTree.out p = absurd (apart 3 4 p (omega arith))
-act_inj ActTree.prev ActTree.down p = absurd (apart 3 5 p (omega arith))
-act_inj ActTree.prev ActTree.up p = absurd (apart 3 6 p (omega arith))
-act_inj ActTree.prev ActTree.top p = absurd (apart 3 7 p (omega arith))
-act_inj ActTree.prev (ActTree.store b0) p = absurd (apart 3 8 p (omega arith))
-act_inj ActTree.prev ActTree.create p = absurd (apart 3 9 p (omega arith))
-act_inj ActTree.prev ActTree.remove p = absurd (apart 3 10 p (omega arith))
-act_inj ActTree.out ActTree.into p = absurd (apart 4 0 p (omega arith))
-act_inj ActTree.out (ActTree.to b0) p = absurd (apart 4 1 p (omega arith))
-act_inj ActTree.out ActTree.next p = absurd (apart 4 2 p (omega arith))
-act_inj ActTree.out ActTree.prev p = absurd (apart 4 3 p (omega arith))
-act_inj ActTree.out ActTree.out p = refl
-act_inj ActTree.out ActTree.down p = absurd (apart 4 5 p (omega arith))
-act_inj ActTree.out ActTree.up p = absurd (apart 4 6 p (omega arith))
-act_inj ActTree.out ActTree.top p = absurd (apart 4 7 p (omega arith))
-act_inj ActTree.out (ActTree.store b0) p = absurd (apart 4 8 p (omega arith))
-act_inj ActTree.out ActTree.create p = absurd (apart 4 9 p (omega arith))
-act_inj ActTree.out ActTree.remove p = absurd (apart 4 10 p (omega arith))
-act_inj ActTree.down ActTree.into p = absurd (apart 5 0 p (omega arith))
-act_inj ActTree.down (ActTree.to b0) p = absurd (apart 5 1 p (omega arith))
-act_inj ActTree.down ActTree.next p = absurd (apart 5 2 p (omega arith))
-act_inj ActTree.down ActTree.prev p = absurd (apart 5 3 p (omega arith))
-act_inj ActTree.down ActTree.out p = absurd (apart 5 4 p (omega arith))
-act_inj ActTree.down ActTree.down p = refl
-act_inj ActTree.down ActTree.up p = absurd (apart 5 6 p (omega arith))
-act_inj ActTree.down ActTree.top p = absurd (apart 5 7 p (omega arith))
-act_inj ActTree.down (ActTree.store b0) p = absurd (apart 5 8 p (omega arith))
-act_inj ActTree.down ActTree.create p = absurd (apart 5 9 p (omega arith))
-act_inj ActTree.down ActTree.remove p = absurd (apart 5 10 p (omega arith))
-act_inj ActTree.up ActTree.into p = absurd (apart 6 0 p (omega arith))
-act_inj ActTree.up (ActTree.to b0) p = absurd (apart 6 1 p (omega arith))
-act_inj ActTree.up ActTree.next p = absurd (apart 6 2 p (omega arith))
-act_inj ActTree.up ActTree.prev p = absurd (apart 6 3 p (omega arith))
-act_inj ActTree.up ActTree.out p = absurd (apart 6 4 p (omega arith))
-act_inj ActTree.up ActTree.down p = absurd (apart 6 5 p (omega arith))
-act_inj ActTree.up ActTree.up p = refl
-act_inj ActTree.up ActTree.top p = absurd (apart 6 7 p (omega arith))
-act_inj ActTree.up (ActTree.store b0) p = absurd (apart 6 8 p (omega arith))
-act_inj ActTree.up ActTree.create p = absurd (apart 6 9 p (omega arith))
-act_inj ActTree.up ActTree.remove p = absurd (apart 6 10 p (omega arith))
-act_inj ActTree.top ActTree.into p = absurd (apart 7 0 p (omega arith))
-act_inj ActTree.top (ActTree.to b0) p = absurd (apart 7 1 p (omega arith))
-act_inj ActTree.top ActTree.next p = absurd (apart 7 2 p (omega arith))
-act_inj ActTree.top ActTree.prev p = absurd (apart 7 3 p (omega arith))
-act_inj ActTree.top ActTree.out p = absurd (apart 7 4 p (omega arith))
-act_inj ActTree.top ActTree.down p = absurd (apart 7 5 p (omega arith))
-act_inj ActTree.top ActTree.up p = absurd (apart 7 6 p (omega arith))
-act_inj ActTree.top ActTree.top p = refl
-act_inj ActTree.top (ActTree.store b0) p = absurd (apart 7 8 p (omega arith))
-act_inj ActTree.top ActTree.create p = absurd (apart 7 9 p (omega arith))
-act_inj ActTree.top ActTree.remove p = absurd (apart 7 10 p (omega arith))
-act_inj (ActTree.store a0) ActTree.into p = absurd (apart 8 0 p (omega arith))
-act_inj (ActTree.store a0) (ActTree.to b0) p = absurd (apart 8 1 p (omega arith))
-act_inj (ActTree.store a0) ActTree.next p = absurd (apart 8 2 p (omega arith))
-act_inj (ActTree.store a0) ActTree.prev p = absurd (apart 8 3 p (omega arith))
-act_inj (ActTree.store a0) ActTree.out p = absurd (apart 8 4 p (omega arith))
-act_inj (ActTree.store a0) ActTree.down p = absurd (apart 8 5 p (omega arith))
-act_inj (ActTree.store a0) ActTree.up p = absurd (apart 8 6 p (omega arith))
-act_inj (ActTree.store a0) ActTree.top p = absurd (apart 8 7 p (omega arith))
-act_inj (ActTree.store a0) (ActTree.store b0) p = λ i. ActTree.store (coded_expr.inj a0 b0 (ap (λ g. tail g) p) i)
-act_inj (ActTree.store a0) ActTree.create p = absurd (apart 8 9 p (omega arith))
-act_inj (ActTree.store a0) ActTree.remove p = absurd (apart 8 10 p (omega arith))
-act_inj ActTree.create ActTree.into p = absurd (apart 9 0 p (omega arith))
-act_inj ActTree.create (ActTree.to b0) p = absurd (apart 9 1 p (omega arith))
-act_inj ActTree.create ActTree.next p = absurd (apart 9 2 p (omega arith))
-act_inj ActTree.create ActTree.prev p = absurd (apart 9 3 p (omega arith))
-act_inj ActTree.create ActTree.out p = absurd (apart 9 4 p (omega arith))
-act_inj ActTree.create ActTree.down p = absurd (apart 9 5 p (omega arith))
-act_inj ActTree.create ActTree.up p = absurd (apart 9 6 p (omega arith))
-act_inj ActTree.create ActTree.top p = absurd (apart 9 7 p (omega arith))
-act_inj ActTree.create (ActTree.store b0) p = absurd (apart 9 8 p (omega arith))
-act_inj ActTree.create ActTree.create p = refl
-act_inj ActTree.create ActTree.remove p = absurd (apart 9 10 p (omega arith))
-act_inj ActTree.remove ActTree.into p = absurd (apart 10 0 p (omega arith))
-act_inj ActTree.remove (ActTree.to b0) p = absurd (apart 10 1 p (omega arith))
-act_inj ActTree.remove ActTree.next p = absurd (apart 10 2 p (omega arith))
-act_inj ActTree.remove ActTree.prev p = absurd (apart 10 3 p (omega arith))
-act_inj ActTree.remove ActTree.out p = absurd (apart 10 4 p (omega arith))
-act_inj ActTree.remove ActTree.down p = absurd (apart 10 5 p (omega arith))
-act_inj ActTree.remove ActTree.up p = absurd (apart 10 6 p (omega arith))
-act_inj ActTree.remove ActTree.top p = absurd (apart 10 7 p (omega arith))
-act_inj ActTree.remove (ActTree.store b0) p = absurd (apart 10 8 p (omega arith))
-act_inj ActTree.remove ActTree.create p = absurd (apart 10 9 p (omega arith))
-act_inj ActTree.remove ActTree.remove p = refl
+abbrev pub act_term : ActTree → Term Leaf
+act_term ActTree.into = form 0
+act_term (ActTree.to e) = form1 1 (expr e)
+act_term ActTree.next = form 2
+act_term ActTree.prev = form 3
+act_term ActTree.out = form 4
+act_term ActTree.down = form 5
+act_term ActTree.up = form 6
+act_term ActTree.top = form 7
+act_term (ActTree.store e) = form1 8 (expr e)
+act_term ActTree.create = form 9
+act_term ActTree.remove = form 10
 
-abbrev pub coded_act : Coded ActTree
-coded_act = record { code = act_code; inj = act_inj }
+abbrev pub term_act : Term Leaf → ActTree
+term_act (leaf _) = ActTree.into
+term_act (node n a b c) = get_or
+    (ActTree.into ∷ ActTree.to (expr_of a) ∷ ActTree.next ∷ ActTree.prev ∷ ActTree.out ∷ ActTree.down ∷ ActTree.up ∷
+    ActTree.top ∷ ActTree.store (expr_of a) ∷ ActTree.create ∷ ActTree.remove ∷ [])
+    n ActTree.into
+
+pub act_back : (a : ActTree) → term_act (act_term a) ≡ a
+act_back ActTree.into = refl
+act_back _ = refl
 
 abbrev mutual
-  pub command_code : CommandTree → Gv
-  command_code (CommandTree.act a0) = gcons (gnum 0) (coded_act.code a0)
-  command_code (CommandTree.attempt a0 a1) = gcons (gnum 1) (gcons (coded_bytes.code a0) (coded_act.code a1))
-  command_code (CommandTree.bind a0 a1) = gcons (gnum 2) (gcons (coded_bytes.code a0) (coded_expr.code a1))
-  command_code (CommandTree.assign a0 a1) = gcons (gnum 3) (gcons (coded_bytes.code a0) (coded_expr.code a1))
-  command_code (CommandTree.fetch a0 a1) = gcons (gnum 4) (gcons (coded_bytes.code a0) (coded_shape.code a1))
-  command_code (CommandTree.whole a0 a1) = gcons (gnum 5) (gcons (coded_bytes.code a0) (coded_shape.code a1))
-  command_code (CommandTree.validate a0) = gcons (gnum 6) (coded_bytes.code a0)
-  command_code (CommandTree.print a0) = gcons (gnum 7) (coded_expr.code a0)
-  command_code (CommandTree.branch a0 a1 a2) = gcons (gnum 8) (gcons (coded_expr.code a0) (gcons (block_code a1) (block_code a2)))
-  command_code (CommandTree.each a0 a1 a2) = gcons (gnum 9) (gcons (coded_bytes.code a0) (gcons (coded_expr.code a1) (block_code a2)))
-  command_code CommandTree.abort = gcons (gnum 10) gnil
+  pub command_term : CommandTree → Term Leaf
+  command_term (CommandTree.act a) = form1 0 (act_term a)
+  command_term (CommandTree.attempt x a) = form2 1 (text x) (act_term a)
+  command_term (CommandTree.bind x e) = form2 2 (text x) (expr e)
+  command_term (CommandTree.assign x e) = form2 3 (text x) (expr e)
+  command_term (CommandTree.fetch x s) = form2 4 (text x) (shape s)
+  command_term (CommandTree.whole x s) = form2 5 (text x) (shape s)
+  command_term (CommandTree.validate x) = form1 6 (text x)
+  command_term (CommandTree.print e) = form1 7 (expr e)
+  command_term (CommandTree.branch e s t) = node 8 (expr e) (block_term s) (block_term t)
+  command_term (CommandTree.each x e s) = node 9 (text x) (expr e) (block_term s)
+  command_term CommandTree.abort = form 10
 
-  pub block_code : Block → Gv
-  block_code Block.none = gcons (gnum 0) gnil
-  block_code (Block.then a0 a1) = gcons (gnum 1) (gcons (command_code a0) (block_code a1))
+  pub block_term : Block → Term Leaf
+  block_term Block.none = text []
+  block_term (Block.then c s) = form2 0 (command_term c) (block_term s)
+
+abbrev mutual
+  pub term_command : Term Leaf → CommandTree
+  term_command (leaf _) = CommandTree.abort
+  term_command (node n a b c) = get_or
+      (CommandTree.act (term_act a) ∷ CommandTree.attempt (text_of a) (term_act b) ∷
+      CommandTree.bind (text_of a) (expr_of b) ∷ CommandTree.assign (text_of a) (expr_of b) ∷
+      CommandTree.fetch (text_of a) (shape_of b) ∷ CommandTree.whole (text_of a) (shape_of b) ∷
+      CommandTree.validate (text_of a) ∷ CommandTree.print (expr_of a) ∷
+      CommandTree.branch (expr_of a) (term_block b) (term_block c) ∷
+      CommandTree.each (text_of a) (expr_of b) (term_block c) ∷ [])
+      n CommandTree.abort
+
+  pub term_block : Term Leaf → Block
+  term_block (leaf _) = Block.none
+  term_block (node _ a b c) = Block.then (term_command a) (term_block b)
 
 mutual
-  pub command_inj : (x y : CommandTree) → command_code x ≡ command_code y → x ≡ y
-  command_inj (CommandTree.act a0) (CommandTree.act b0) p = λ i. CommandTree.act (coded_act.inj a0 b0 (ap (λ g. tail g) p) i)
-  command_inj (CommandTree.act a0) (CommandTree.attempt b0 b1) p = absurd (apart 0 1 p (omega arith))
-  command_inj (CommandTree.act a0) (CommandTree.bind b0 b1) p = absurd (apart 0 2 p (omega arith))
-  command_inj (CommandTree.act a0) (CommandTree.assign b0 b1) p = absurd (apart 0 3 p (omega arith))
-  command_inj (CommandTree.act a0) (CommandTree.fetch b0 b1) p = absurd (apart 0 4 p (omega arith))
-  command_inj (CommandTree.act a0) (CommandTree.whole b0 b1) p = absurd (apart 0 5 p (omega arith))
-  command_inj (CommandTree.act a0) (CommandTree.validate b0) p = absurd (apart 0 6 p (omega arith))
-  command_inj (CommandTree.act a0) (CommandTree.print b0) p = absurd (apart 0 7 p (omega arith))
-  command_inj (CommandTree.act a0) (CommandTree.branch b0 b1 b2) p = absurd (apart 0 8 p (omega arith))
-  command_inj (CommandTree.act a0) (CommandTree.each b0 b1 b2) p = absurd (apart 0 9 p (omega arith))
-  command_inj (CommandTree.act a0) CommandTree.abort p = absurd (apart 0 10 p (omega arith))
-  command_inj (CommandTree.attempt a0 a1) (CommandTree.act b0) p = absurd (apart 1 0 p (omega arith))
-  command_inj (CommandTree.attempt a0 a1) (CommandTree.attempt b0 b1) p = λ i. CommandTree.attempt (coded_bytes.inj a0 b0 (ap (λ g. head (tail g)) p) i) (coded_act.inj a1 b1 (ap (λ g. tail (tail g)) p) i)
-  command_inj (CommandTree.attempt a0 a1) (CommandTree.bind b0 b1) p = absurd (apart 1 2 p (omega arith))
-  command_inj (CommandTree.attempt a0 a1) (CommandTree.assign b0 b1) p = absurd (apart 1 3 p (omega arith))
-  command_inj (CommandTree.attempt a0 a1) (CommandTree.fetch b0 b1) p = absurd (apart 1 4 p (omega arith))
-  command_inj (CommandTree.attempt a0 a1) (CommandTree.whole b0 b1) p = absurd (apart 1 5 p (omega arith))
-  command_inj (CommandTree.attempt a0 a1) (CommandTree.validate b0) p = absurd (apart 1 6 p (omega arith))
-  command_inj (CommandTree.attempt a0 a1) (CommandTree.print b0) p = absurd (apart 1 7 p (omega arith))
-  command_inj (CommandTree.attempt a0 a1) (CommandTree.branch b0 b1 b2) p = absurd (apart 1 8 p (omega arith))
-  command_inj (CommandTree.attempt a0 a1) (CommandTree.each b0 b1 b2) p = absurd (apart 1 9 p (omega arith))
-  command_inj (CommandTree.attempt a0 a1) CommandTree.abort p = absurd (apart 1 10 p (omega arith))
-  command_inj (CommandTree.bind a0 a1) (CommandTree.act b0) p = absurd (apart 2 0 p (omega arith))
-  command_inj (CommandTree.bind a0 a1) (CommandTree.attempt b0 b1) p = absurd (apart 2 1 p (omega arith))
-  command_inj (CommandTree.bind a0 a1) (CommandTree.bind b0 b1) p = λ i. CommandTree.bind (coded_bytes.inj a0 b0 (ap (λ g. head (tail g)) p) i) (coded_expr.inj a1 b1 (ap (λ g. tail (tail g)) p) i)
-  command_inj (CommandTree.bind a0 a1) (CommandTree.assign b0 b1) p = absurd (apart 2 3 p (omega arith))
-  command_inj (CommandTree.bind a0 a1) (CommandTree.fetch b0 b1) p = absurd (apart 2 4 p (omega arith))
-  command_inj (CommandTree.bind a0 a1) (CommandTree.whole b0 b1) p = absurd (apart 2 5 p (omega arith))
-  command_inj (CommandTree.bind a0 a1) (CommandTree.validate b0) p = absurd (apart 2 6 p (omega arith))
-  command_inj (CommandTree.bind a0 a1) (CommandTree.print b0) p = absurd (apart 2 7 p (omega arith))
-  command_inj (CommandTree.bind a0 a1) (CommandTree.branch b0 b1 b2) p = absurd (apart 2 8 p (omega arith))
-  command_inj (CommandTree.bind a0 a1) (CommandTree.each b0 b1 b2) p = absurd (apart 2 9 p (omega arith))
-  command_inj (CommandTree.bind a0 a1) CommandTree.abort p = absurd (apart 2 10 p (omega arith))
-  command_inj (CommandTree.assign a0 a1) (CommandTree.act b0) p = absurd (apart 3 0 p (omega arith))
-  command_inj (CommandTree.assign a0 a1) (CommandTree.attempt b0 b1) p = absurd (apart 3 1 p (omega arith))
-  command_inj (CommandTree.assign a0 a1) (CommandTree.bind b0 b1) p = absurd (apart 3 2 p (omega arith))
-  command_inj (CommandTree.assign a0 a1) (CommandTree.assign b0 b1) p = λ i. CommandTree.assign (coded_bytes.inj a0 b0 (ap (λ g. head (tail g)) p) i) (coded_expr.inj a1 b1 (ap (λ g. tail (tail g)) p) i)
-  command_inj (CommandTree.assign a0 a1) (CommandTree.fetch b0 b1) p = absurd (apart 3 4 p (omega arith))
-  command_inj (CommandTree.assign a0 a1) (CommandTree.whole b0 b1) p = absurd (apart 3 5 p (omega arith))
-  command_inj (CommandTree.assign a0 a1) (CommandTree.validate b0) p = absurd (apart 3 6 p (omega arith))
-  command_inj (CommandTree.assign a0 a1) (CommandTree.print b0) p = absurd (apart 3 7 p (omega arith))
-  command_inj (CommandTree.assign a0 a1) (CommandTree.branch b0 b1 b2) p = absurd (apart 3 8 p (omega arith))
-  command_inj (CommandTree.assign a0 a1) (CommandTree.each b0 b1 b2) p = absurd (apart 3 9 p (omega arith))
-  command_inj (CommandTree.assign a0 a1) CommandTree.abort p = absurd (apart 3 10 p (omega arith))
-  command_inj (CommandTree.fetch a0 a1) (CommandTree.act b0) p = absurd (apart 4 0 p (omega arith))
-  command_inj (CommandTree.fetch a0 a1) (CommandTree.attempt b0 b1) p = absurd (apart 4 1 p (omega arith))
-  command_inj (CommandTree.fetch a0 a1) (CommandTree.bind b0 b1) p = absurd (apart 4 2 p (omega arith))
-  command_inj (CommandTree.fetch a0 a1) (CommandTree.assign b0 b1) p = absurd (apart 4 3 p (omega arith))
-  command_inj (CommandTree.fetch a0 a1) (CommandTree.fetch b0 b1) p = λ i. CommandTree.fetch (coded_bytes.inj a0 b0 (ap (λ g. head (tail g)) p) i) (coded_shape.inj a1 b1 (ap (λ g. tail (tail g)) p) i)
-  command_inj (CommandTree.fetch a0 a1) (CommandTree.whole b0 b1) p = absurd (apart 4 5 p (omega arith))
-  command_inj (CommandTree.fetch a0 a1) (CommandTree.validate b0) p = absurd (apart 4 6 p (omega arith))
-  command_inj (CommandTree.fetch a0 a1) (CommandTree.print b0) p = absurd (apart 4 7 p (omega arith))
-  command_inj (CommandTree.fetch a0 a1) (CommandTree.branch b0 b1 b2) p = absurd (apart 4 8 p (omega arith))
-  command_inj (CommandTree.fetch a0 a1) (CommandTree.each b0 b1 b2) p = absurd (apart 4 9 p (omega arith))
-  command_inj (CommandTree.fetch a0 a1) CommandTree.abort p = absurd (apart 4 10 p (omega arith))
-  command_inj (CommandTree.whole a0 a1) (CommandTree.act b0) p = absurd (apart 5 0 p (omega arith))
-  command_inj (CommandTree.whole a0 a1) (CommandTree.attempt b0 b1) p = absurd (apart 5 1 p (omega arith))
-  command_inj (CommandTree.whole a0 a1) (CommandTree.bind b0 b1) p = absurd (apart 5 2 p (omega arith))
-  command_inj (CommandTree.whole a0 a1) (CommandTree.assign b0 b1) p = absurd (apart 5 3 p (omega arith))
-  command_inj (CommandTree.whole a0 a1) (CommandTree.fetch b0 b1) p = absurd (apart 5 4 p (omega arith))
-  command_inj (CommandTree.whole a0 a1) (CommandTree.whole b0 b1) p = λ i. CommandTree.whole (coded_bytes.inj a0 b0 (ap (λ g. head (tail g)) p) i) (coded_shape.inj a1 b1 (ap (λ g. tail (tail g)) p) i)
-  command_inj (CommandTree.whole a0 a1) (CommandTree.validate b0) p = absurd (apart 5 6 p (omega arith))
-  command_inj (CommandTree.whole a0 a1) (CommandTree.print b0) p = absurd (apart 5 7 p (omega arith))
-  command_inj (CommandTree.whole a0 a1) (CommandTree.branch b0 b1 b2) p = absurd (apart 5 8 p (omega arith))
-  command_inj (CommandTree.whole a0 a1) (CommandTree.each b0 b1 b2) p = absurd (apart 5 9 p (omega arith))
-  command_inj (CommandTree.whole a0 a1) CommandTree.abort p = absurd (apart 5 10 p (omega arith))
-  command_inj (CommandTree.validate a0) (CommandTree.act b0) p = absurd (apart 6 0 p (omega arith))
-  command_inj (CommandTree.validate a0) (CommandTree.attempt b0 b1) p = absurd (apart 6 1 p (omega arith))
-  command_inj (CommandTree.validate a0) (CommandTree.bind b0 b1) p = absurd (apart 6 2 p (omega arith))
-  command_inj (CommandTree.validate a0) (CommandTree.assign b0 b1) p = absurd (apart 6 3 p (omega arith))
-  command_inj (CommandTree.validate a0) (CommandTree.fetch b0 b1) p = absurd (apart 6 4 p (omega arith))
-  command_inj (CommandTree.validate a0) (CommandTree.whole b0 b1) p = absurd (apart 6 5 p (omega arith))
-  command_inj (CommandTree.validate a0) (CommandTree.validate b0) p = λ i. CommandTree.validate (coded_bytes.inj a0 b0 (ap (λ g. tail g) p) i)
-  command_inj (CommandTree.validate a0) (CommandTree.print b0) p = absurd (apart 6 7 p (omega arith))
-  command_inj (CommandTree.validate a0) (CommandTree.branch b0 b1 b2) p = absurd (apart 6 8 p (omega arith))
-  command_inj (CommandTree.validate a0) (CommandTree.each b0 b1 b2) p = absurd (apart 6 9 p (omega arith))
-  command_inj (CommandTree.validate a0) CommandTree.abort p = absurd (apart 6 10 p (omega arith))
-  command_inj (CommandTree.print a0) (CommandTree.act b0) p = absurd (apart 7 0 p (omega arith))
-  command_inj (CommandTree.print a0) (CommandTree.attempt b0 b1) p = absurd (apart 7 1 p (omega arith))
-  command_inj (CommandTree.print a0) (CommandTree.bind b0 b1) p = absurd (apart 7 2 p (omega arith))
-  command_inj (CommandTree.print a0) (CommandTree.assign b0 b1) p = absurd (apart 7 3 p (omega arith))
-  command_inj (CommandTree.print a0) (CommandTree.fetch b0 b1) p = absurd (apart 7 4 p (omega arith))
-  command_inj (CommandTree.print a0) (CommandTree.whole b0 b1) p = absurd (apart 7 5 p (omega arith))
-  command_inj (CommandTree.print a0) (CommandTree.validate b0) p = absurd (apart 7 6 p (omega arith))
-  command_inj (CommandTree.print a0) (CommandTree.print b0) p = λ i. CommandTree.print (coded_expr.inj a0 b0 (ap (λ g. tail g) p) i)
-  command_inj (CommandTree.print a0) (CommandTree.branch b0 b1 b2) p = absurd (apart 7 8 p (omega arith))
-  command_inj (CommandTree.print a0) (CommandTree.each b0 b1 b2) p = absurd (apart 7 9 p (omega arith))
-  command_inj (CommandTree.print a0) CommandTree.abort p = absurd (apart 7 10 p (omega arith))
-  command_inj (CommandTree.branch a0 a1 a2) (CommandTree.act b0) p = absurd (apart 8 0 p (omega arith))
-  command_inj (CommandTree.branch a0 a1 a2) (CommandTree.attempt b0 b1) p = absurd (apart 8 1 p (omega arith))
-  command_inj (CommandTree.branch a0 a1 a2) (CommandTree.bind b0 b1) p = absurd (apart 8 2 p (omega arith))
-  command_inj (CommandTree.branch a0 a1 a2) (CommandTree.assign b0 b1) p = absurd (apart 8 3 p (omega arith))
-  command_inj (CommandTree.branch a0 a1 a2) (CommandTree.fetch b0 b1) p = absurd (apart 8 4 p (omega arith))
-  command_inj (CommandTree.branch a0 a1 a2) (CommandTree.whole b0 b1) p = absurd (apart 8 5 p (omega arith))
-  command_inj (CommandTree.branch a0 a1 a2) (CommandTree.validate b0) p = absurd (apart 8 6 p (omega arith))
-  command_inj (CommandTree.branch a0 a1 a2) (CommandTree.print b0) p = absurd (apart 8 7 p (omega arith))
-  command_inj (CommandTree.branch a0 a1 a2) (CommandTree.branch b0 b1 b2) p = λ i. CommandTree.branch (coded_expr.inj a0 b0 (ap (λ g. head (tail g)) p) i) (block_inj a1 b1 (ap (λ g. head (tail (tail g))) p) i) (block_inj a2 b2 (ap (λ g. tail (tail (tail g))) p) i)
-  command_inj (CommandTree.branch a0 a1 a2) (CommandTree.each b0 b1 b2) p = absurd (apart 8 9 p (omega arith))
-  command_inj (CommandTree.branch a0 a1 a2) CommandTree.abort p = absurd (apart 8 10 p (omega arith))
-  command_inj (CommandTree.each a0 a1 a2) (CommandTree.act b0) p = absurd (apart 9 0 p (omega arith))
-  command_inj (CommandTree.each a0 a1 a2) (CommandTree.attempt b0 b1) p = absurd (apart 9 1 p (omega arith))
-  command_inj (CommandTree.each a0 a1 a2) (CommandTree.bind b0 b1) p = absurd (apart 9 2 p (omega arith))
-  command_inj (CommandTree.each a0 a1 a2) (CommandTree.assign b0 b1) p = absurd (apart 9 3 p (omega arith))
-  command_inj (CommandTree.each a0 a1 a2) (CommandTree.fetch b0 b1) p = absurd (apart 9 4 p (omega arith))
-  command_inj (CommandTree.each a0 a1 a2) (CommandTree.whole b0 b1) p = absurd (apart 9 5 p (omega arith))
-  command_inj (CommandTree.each a0 a1 a2) (CommandTree.validate b0) p = absurd (apart 9 6 p (omega arith))
-  command_inj (CommandTree.each a0 a1 a2) (CommandTree.print b0) p = absurd (apart 9 7 p (omega arith))
-  command_inj (CommandTree.each a0 a1 a2) (CommandTree.branch b0 b1 b2) p = absurd (apart 9 8 p (omega arith))
-  command_inj (CommandTree.each a0 a1 a2) (CommandTree.each b0 b1 b2) p = λ i. CommandTree.each (coded_bytes.inj a0 b0 (ap (λ g. head (tail g)) p) i) (coded_expr.inj a1 b1 (ap (λ g. head (tail (tail g))) p) i) (block_inj a2 b2 (ap (λ g. tail (tail (tail g))) p) i)
-  command_inj (CommandTree.each a0 a1 a2) CommandTree.abort p = absurd (apart 9 10 p (omega arith))
-  command_inj CommandTree.abort (CommandTree.act b0) p = absurd (apart 10 0 p (omega arith))
-  command_inj CommandTree.abort (CommandTree.attempt b0 b1) p = absurd (apart 10 1 p (omega arith))
-  command_inj CommandTree.abort (CommandTree.bind b0 b1) p = absurd (apart 10 2 p (omega arith))
-  command_inj CommandTree.abort (CommandTree.assign b0 b1) p = absurd (apart 10 3 p (omega arith))
-  command_inj CommandTree.abort (CommandTree.fetch b0 b1) p = absurd (apart 10 4 p (omega arith))
-  command_inj CommandTree.abort (CommandTree.whole b0 b1) p = absurd (apart 10 5 p (omega arith))
-  command_inj CommandTree.abort (CommandTree.validate b0) p = absurd (apart 10 6 p (omega arith))
-  command_inj CommandTree.abort (CommandTree.print b0) p = absurd (apart 10 7 p (omega arith))
-  command_inj CommandTree.abort (CommandTree.branch b0 b1 b2) p = absurd (apart 10 8 p (omega arith))
-  command_inj CommandTree.abort (CommandTree.each b0 b1 b2) p = absurd (apart 10 9 p (omega arith))
-  command_inj CommandTree.abort CommandTree.abort p = refl
+  pub command_back : (c : CommandTree) → term_command (command_term c) ≡ c
+  command_back (CommandTree.act a) = λ i. CommandTree.act (act_back a i)
+  command_back (CommandTree.attempt x a) = λ i. CommandTree.attempt x (act_back a i)
+  command_back (CommandTree.branch e s t) = λ i. CommandTree.branch e (block_back s i) (block_back t i)
+  command_back (CommandTree.each x e s) = λ i. CommandTree.each x e (block_back s i)
+  command_back _ = refl
 
-  pub block_inj : (x y : Block) → block_code x ≡ block_code y → x ≡ y
-  block_inj Block.none Block.none p = refl
-  block_inj Block.none (Block.then b0 b1) p = absurd (apart 0 1 p (omega arith))
-  block_inj (Block.then a0 a1) Block.none p = absurd (apart 1 0 p (omega arith))
-  block_inj (Block.then a0 a1) (Block.then b0 b1) p = λ i. Block.then (command_inj a0 b0 (ap (λ g. head (tail g)) p) i) (block_inj a1 b1 (ap (λ g. tail (tail g)) p) i)
+  pub block_back : (s : Block) → term_block (block_term s) ≡ s
+  block_back Block.none = refl
+  block_back (Block.then c s) = λ i. Block.then (command_back c i) (block_back s i)
 
 abbrev pub coded_command : Coded CommandTree
-coded_command = record { code = command_code; inj = command_inj }
+coded_command = code_by (Term Leaf) (coded_term coded_leaf) command_term term_command command_back
 
 abbrev pub coded_commands : Coded (List CommandTree)
 coded_commands = coded_list coded_command

@@ -61,6 +61,14 @@ impl Checked {
         &self.description.defs
     }
 
+    /// The root description and the definitions, as they are written: both of one text.
+    pub fn parts(&self) -> (&Spec, &Defs)
+        ensures text { text_tree (record { root = spec_tree result.0.now; defs = result.1.now })
+            ≡ self.now }
+    {
+        (&self.description.root, &self.description.defs)
+    }
+
     /// The root description, with its definitions.
     pub fn root(&self) -> Part<'_>
         ensures tree { part_of result ≡ self.now }

@@ -14,20 +14,20 @@ use Rattle.fx_parse.specs.Stuck.{Stuck, Unexpected, ◌>>=◌}
 use Rattle.fx_parse.specs.Grammars.{word, opening, closing, comma, expr_tokens, expr_levels, shape_tokens, shape_levels, is_name, has_names}
 use Rattle.fx_parse.specs.Reader.{ReadExpr, read_expr}
 use Rattle.fx_parse.specs.ShapeReader.{read_shape}
-use Rattle.fx_parse.specs.Signs.{is_sign}
+use Rattle.fx_parse.specs.Signs.{is_sign, closed_by}
 use Rattle.fx_parse.proofs.Machine.{at_most}
 use Rattle.fx_parse.proofs.ReaderPlaces.{Follows}
 use Rattle.fx_parse.proofs.ExprLink.{expr_again, front_low, rest_low, tail_low}
 use Rattle.fx_parse.proofs.ShapeLink.{shape_reader}
 use Rattle.fx_parse.proofs.Signs.{name_then, sign_is}
-use Rattle.fx_parse.proofs.Steps.{part_then}
+use Rattle.fx_parse.proofs.Steps.{part_then, then_ok}
 use Rattle.fx_spec.specs.Written.{WrittenTree, DefTree, TextTree}
 use Rattle.fx_grammar.specs.Tokens.{listed, spec_tokens, param_tokens, def_tokens, text_tokens, spec_names, param_names, def_names, text_names}
 use Rattle.fx_grammar.specs.TokenLevels.{listed_levels, spec_token_levels, param_token_levels, def_token_levels, text_token_levels}
 use Rattle.fx_grammar.specs.Grammars.{descriptions}
 use Rattle.fx_spec_parse.specs.declared.start.Start.{Start}
 use Rattle.fx_spec_parse.specs.declared.start.Start.TheVariants as start
-use Rattle.fx_spec_parse.specs.Lists.{Read, closed_by, closed, ended_or, added_at, another_at, others_at, rest_at, listed_at}
+use Rattle.fx_spec_parse.specs.Lists.{Read, closed, ended_or, added_at, another_at, others_at, rest_at, listed_at}
 use Rattle.fx_spec_parse.specs.Reader.{start_of, ReadSpec, focus_at, pair_at, comp_at, opt_at, pred_at, call_at, form_at, is_nothing, read_spec, param_at, def_at, read_def, begins_def, defs_from, defs_at, read_text}
 use Rattle.fx_spec_parse.proofs.Machine.{Text, table, start_word, start_name, focus_tokens, pair_tokens, comp_tokens, behind_def, def_parts}
 use Rattle.fx_spec_parse.proofs.Means.{text_fits}
@@ -49,9 +49,6 @@ pub opens : (n : ℕ) (x : Token) (ts : List Token) (h : Start) → start_of x �
 unfolding read_spec
 opens n x ts h e some =
     ap (λ k. cond (is_nothing k) (Err (Unexpected (suc (length ts)))) (form_at (read_expr n) (read_spec n) k ts)) e ∙ ap (λ b. cond b (Err (Unexpected (suc (length ts)))) (form_at (read_expr n) (read_spec n) h ts)) some
-
-then_ok : {A B : Type 0} (r : Result A Stuck) (a : A) (k : A → Result B Stuck) → r ≡ Ok a → (r >>= k) ≡ k a
-then_ok r a k e = ap (λ r. r >>= k) e
 
 -- parts with commas between them, each of which is read again
 module _ {X : Type 0} (part : Read X) (tokens : X → List Token) (levels : X → List ℕ) (right : X → Bool) (bound : ℕ) (again : (x : X) (r : List Token) → right x ≡ true → at_most bound (levels x) ≡ true → part (tokens x ++ r) ≡ Ok (x, r)) (at_bracket : (ts : List Token) (c : X × List Token) → part (closing ∷ ts) ≡ Ok c → ⊥) where

@@ -10,7 +10,7 @@ use Rattle.fx_parse.specs.Stuck.{Stuck, Unexpected, TooNested, ◌>>=◌}
 use Rattle.fx_parse.specs.Grammars.{is_name}
 use Rattle.fx_parse.specs.Reader.{expect, ReadExpr, read_expr}
 use Rattle.fx_parse.specs.ShapeReader.{read_shape}
-use Rattle.fx_parse.specs.Signs.{is_sign, name_at}
+use Rattle.fx_parse.specs.Signs.{is_sign, name_at, closed_by}
 use Rattle.fx_parse.proofs.Machine.{scan, scan_from, scan_says, Outcome, Empties, Runs}
 use Rattle.fx_parse.proofs.ExprMachine as inner
 use Rattle.fx_parse.proofs.ExprMachine.{Expr}
@@ -18,12 +18,12 @@ use Rattle.fx_parse.proofs.ExprLink.{expr_follows, then_then}
 use Rattle.fx_parse.proofs.ShapeMachine as shape
 use Rattle.fx_parse.proofs.ShapeMachine.{Shape}
 use Rattle.fx_parse.proofs.ShapeLink.{shape_reader}
-use Rattle.fx_parse.proofs.Steps.{passed, from_passed, on}
+use Rattle.fx_parse.proofs.Steps.{passed, from_passed, on, on_ok}
 use Rattle.fx_parse.proofs.Within.{goes_within}
 use Rattle.fx_spec.specs.Written.{DefTree, TextTree}
 use Rattle.fx_spec_parse.specs.declared.start.Start.{Start}
 use Rattle.fx_spec_parse.specs.declared.start.Start.TheVariants as start
-use Rattle.fx_spec_parse.specs.Lists.{Read, closed_by, closed, ended_or, added_at, another_at, others_at, rest_at, listed_at}
+use Rattle.fx_spec_parse.specs.Lists.{Read, closed, ended_or, added_at, another_at, others_at, rest_at, listed_at}
 use Rattle.fx_spec_parse.specs.Reader.{start_of, ReadSpec, focus_at, pair_at, comp_at, opt_at, pred_at, call_at, form_at, is_nothing, too_nested, read_spec, param_at, def_at, read_def, begins_def, defs_from, defs_at, read_text}
 use Rattle.fx_spec_parse.proofs.Machine.{Kind, Arg, Param, Sym, Text, Def, Spec, First, More, Part, Shaped, Name, Fixed, start_stack, part_top, part_after, top_stack, top_level, first_stack, more_stack, def_stack, text_stack, table, holds, shape_holds, top_expands, top_levels, regroup}
 
@@ -45,11 +45,6 @@ scan_name stack (token.Number n ∷ ts) = refl
 scan_name stack (token.Str v ∷ ts) = refl
 scan_name stack (token.Mark m ∷ ts) = refl
 scan_name stack (token.Def ∷ ts) = refl
-
--- a reading that goes on only where it gives something
-on_ok : {A B C : Type 0} {start : Result C Stuck} (r : Result A Stuck) (go : A → Result C Stuck) (k : A → Result B Stuck) (end : B → Result C Stuck) → start ≡ (r >>= go) → ((a : A) → r ≡ Ok a → go a ≡ (k a >>= end)) → start ≡ ((r >>= k) >>= end)
-on_ok (Ok a) go k end first rest = first ∙ rest a refl
-on_ok (Err e) go k end first rest = first
 
 -- what empties a stack with a symbol on it leaves fewer tokens
 shorter : (s : Sym) (stack : List Sym) (ts rest : List Token) → Empties table (s ∷ stack) ts rest → length rest < length ts

@@ -1,8 +1,8 @@
 -- The machine of descriptions and their definitions.
 use Rattle.std.proofs.Common.{◌≡◌, ℕ, suc, Bool, true, false, cond, ◌&&◌, Option, Some, None, List, [], ◌∷◌, ◌++◌, refl, sym, ap, ◌∙◌, subst, append_assoc}
-use Rattle.std.specs.Prelude.{is_none}
 use Rattle.std.specs.List.{flat_map, list_all}
 use Rattle.std.proofs.lemmas.Bool.{and_parts}
+use Rattle.fx_base.proofs.Results.{none_is}
 use Rattle.fx_expr.specs.ExprTree.{ExprTree}
 use Rattle.fx_expr.specs.ShapeTree.{ShapeTree}
 use Rattle.fx_lex.specs.declared.token.Token.{Token}
@@ -142,10 +142,6 @@ top_levels Param d x = refl
 
 pub start_word : (k : Keyword) → start_of (word k) ≡ keyword_start k
 start_word k = ap (word_start (keyword_bytes k)) (keyword_again k)
-
-none_is : (o : Option Keyword) → is_none o ≡ true → o ≡ None
-none_is None e = refl
-none_is (Some k) e = absurd cc
 
 pub start_name : (f : List ℕ) → is_name f ≡ true → start_of (token.Word f) ≡ start.Call f
 start_name f h = ap (word_start f) (none_is (keyword_of f) h)

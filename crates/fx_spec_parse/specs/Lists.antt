@@ -4,20 +4,15 @@ use Rattle.fx_lex.specs.declared.token.Token.{Token}
 use Rattle.fx_parse.specs.declared.sign.Sign.TheVariants as sign
 use Rattle.fx_parse.specs.Stuck.{Stuck, ◌>>=◌}
 use Rattle.fx_parse.specs.Reader.{unexpected, expect}
-use Rattle.fx_parse.specs.Signs.{is_sign}
+use Rattle.fx_parse.specs.Signs as signs
 
 -- a reader of something at the front
 abbrev pub Read : Type 0 → Type 0
 Read X = List Token → Result (X × List Token) Stuck
 
-abbrev pub closed_by : Bool → List Token → Option (List Token)
-closed_by true ts = Some ts
-closed_by false ts = None
-
 -- behind `)`
 abbrev pub closed : List Token → Option (List Token)
-closed [] = None
-closed (x ∷ ts) = closed_by (is_sign sign.RightParen x) ts
+closed ts = signs.closed sign.RightParen ts
 
 abbrev pub ended_or : {Part : Type 0} → Option (List Token) → List Part → Result (List Part × List Token) Stuck → Result (List Part × List Token) Stuck
 ended_or None done more = more

@@ -4,10 +4,9 @@ ghost use Rattle.fx_parse.specs.Reader.{kinds, read_expr};
 ghost use Rattle.fx_parse.specs.Stuck.{Gives};
 ghost use Rattle.fx_spec_parse.specs.Lists.{added_at, another_at, rest_at, listed_at};
 
-use crate::cursor::closed;
 use fx_expr::Formula;
 use fx_lex::Spanned;
-use fx_parse::{Sign, Stop, behind, expr_at};
+use fx_parse::{Sign, Stop, behind, closed, expr_at};
 use fx_spec::Exprs;
 use std::alloc::Global;
 
@@ -54,7 +53,7 @@ fn rest_at<'a>(
 {
     let mut rest = tokens;
     for _i in 0..tokens.len() {
-        if let Some(behind) = closed(rest) {
+        if let Some(behind) = closed(rest, Sign::RightParen) {
             return Ok(behind);
         }
         rest = another_at(alloc, left, args, rest)?;
@@ -72,7 +71,7 @@ pub(crate) fn args_at(
         (listed_at (read_expr left) (kinds tokens.now)) }
 {
     let mut args = Exprs::new(alloc);
-    if let Some(behind) = closed(tokens) {
+    if let Some(behind) = closed(tokens, Sign::RightParen) {
         return Ok((args, behind));
     }
     let rest = added_at(alloc, left, &mut args, tokens)?;

@@ -7,10 +7,9 @@ ghost use Rattle.fx_spec.specs.ParamViews.{param_tree};
 ghost use Rattle.fx_spec_parse.specs.Lists.{added_at, another_at, rest_at, listed_at};
 ghost use Rattle.fx_spec_parse.specs.Reader.{param_at};
 
-use crate::cursor::closed;
 use fx_expr::{Shape, Word};
 use fx_lex::Spanned;
-use fx_parse::{Sign, Stop, behind, name_at, shape_at};
+use fx_parse::{Sign, Stop, behind, closed, name_at, shape_at};
 use fx_spec::Params;
 use std::alloc::Global;
 
@@ -73,7 +72,7 @@ fn rest_at<'a>(
 {
     let mut rest = tokens;
     for _i in 0..tokens.len() {
-        if let Some(behind) = closed(rest) {
+        if let Some(behind) = closed(rest, Sign::RightParen) {
             return Ok(behind);
         }
         rest = another_at(alloc, left, params, rest)?;
@@ -91,7 +90,7 @@ pub(crate) fn params_at(
         (listed_at (param_at (read_shape left)) (kinds tokens.now)) }
 {
     let mut params = Params::new(alloc);
-    if let Some(behind) = closed(tokens) {
+    if let Some(behind) = closed(tokens, Sign::RightParen) {
         return Ok((params, behind));
     }
     let rest = added_at(alloc, left, &mut params, tokens)?;

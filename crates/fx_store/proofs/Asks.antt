@@ -1,9 +1,10 @@
 -- What a rule answers and consults depends on what it consulted alone; following it over what is known finds just that.
-use Rattle.std.proofs.Common.{◌≡◌, ℕ, ◌+◌, refl, sym, ap, zero-add, arith, List, ◌∷◌, Option, Some, None}
+use Rattle.std.proofs.Common.{◌≡◌, ℕ, ◌+◌, refl, sym, ap, zero-add, arith, List, ◌∷◌, Option, Some, None, [], IsSome, All}
+use Rattle.std.proofs.lemmas.List.Elements.{All-nil, All-cons}
 use mathlib.Core.Path.{fun_ext}
 use Rattle.fx_store.specs.declared.node.Node.{Node}
 use Rattle.fx_store.specs.Whole.{Store}
-use Rattle.fx_store.specs.Rule.{Known, Ask, Answer, Look, Tick, answer, ticks, ◌>>=◌, Outcome, Found, Needs, seen, if_known, follow, DependsOnAsked, AgreesWith, FollowedAt}
+use Rattle.fx_store.specs.Rule.{Known, Ask, Answer, Look, Tick, answer, ticks, ◌>>=◌, Outcome, Found, Needs, seen, if_known, follow, DependsOnAsked, AgreesWith, FollowedAt, AllKnown}
 
 pub depends : {A : Type 0} (rule : Ask A) → DependsOnAsked rule
 depends (Answer a) S T h = (refl, refl)
@@ -45,3 +46,8 @@ pub ask-bind-assoc : {A B C : Type 0} (rule : Ask A) (f : A → Ask B) (g : B �
 ask-bind-assoc (Answer a) f g = refl
 ask-bind-assoc (Tick rule) f g = ap Tick (ask-bind-assoc rule f g)
 ask-bind-assoc {A} {B} {C} (Look p next) f g = ap (λ (h : Option Node → Ask C). Look p h) (fun_ext (λ n. ask-bind-assoc (next n) f g))
+
+-- paths that are all known, one by one
+pub all_known : (known : Known) (ps : List (List (List ℕ))) → AllKnown known ps → All (λ p. IsSome (known p)) ps
+all_known known [] h = All-nil (λ p. IsSome (known p))
+all_known known (p ∷ ps) h = All-cons (λ p. IsSome (known p)) p ps h.0 (all_known known ps h.1)

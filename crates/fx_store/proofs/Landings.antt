@@ -38,7 +38,7 @@ not_full S whole here n node e = at (is_full here) refl
     at true f = let none : S (here /ₚ n) ≡ None = none_below_full S whole here n f in cc
 
 -- what lists a name is a directory
-listing_is_dir : (x : Option Node) (n : List ℕ) → lists x n ≡ true → (names : List (List ℕ)) × (x ≡ Some (Dir names))
+pub listing_is_dir : (x : Option Node) (n : List ℕ) → lists x n ≡ true → (names : List (List ℕ)) × (x ≡ Some (Dir names))
 listing_is_dir None n e = cc
 listing_is_dir (Some (File b exec)) n e = cc
 listing_is_dir (Some (Dir names)) n e = (names, refl)

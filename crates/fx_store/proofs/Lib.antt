@@ -4,14 +4,13 @@ pub mod Landings
 pub mod Examples
 mod NameTests
 pub mod Ascending
-mod Placing
+pub mod Placing
 mod Sets
-mod Texts
 pub mod Stores
 pub mod Tables
 pub mod WholeStores
 pub mod Relisted
 pub mod Overlays
-pub mod FlatStores
 pub mod SpellingLaws
 pub mod Crosses
+pub mod PathLists

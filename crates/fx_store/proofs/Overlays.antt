@@ -13,7 +13,7 @@ use Rattle.fx_store.specs.Changes.{IsChanges, changed_paths, change_at}
 use Rattle.fx_store.specs.Whole.{Store, update, over}
 
 -- no later change has the path of an earlier one
-none_above : (cs : List Change) (p : List (List ℕ)) → AllByRecursion (λ q. path_cmp p q ≡ Less) (changed_paths cs) → change_at cs p ≡ None
+pub none_above : (cs : List Change) (p : List (List ℕ)) → AllByRecursion (λ q. path_cmp p q ≡ Less) (changed_paths cs) → change_at cs p ≡ None
 none_above [] p above = refl
 none_above (c ∷ cs) p above =
     ap (λ r. cond (is_eq r) (Some c.node) (change_at cs p)) above.0 ∙ none_above cs p above.1

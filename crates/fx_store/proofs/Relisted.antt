@@ -3,40 +3,20 @@
 use Rattle.std.proofs.Common.{◌≡◌, ℕ, suc, ◌+◌, ◌<◌, Bool, true, false, cond, refl, ap, subst, sym, ◌∙◌, ◌||◌, ◌⊎◌, inl, inr, List, [], ◌∷◌, ◌++◌, length, Option, Some, None, is_some, IsSome, nat_lt, arith, length-append, append_assoc}
 use Rattle.std.proofs.lemmas.Bool.{ltb-true, ltb-false}
 use Rattle.std.proofs.lemmas.List.{append-nil}
-use Rattle.std.proofs.lemmas.List.Elements.{All-push}
 use Rattle.std.specs.Option.{IfSome}
 use Rattle.std.specs.Ordering.{eq_by_cmp}
-use Rattle.std.specs.Cmp.{Equal-is, eq_by_cmp_equiv}
 use Rattle.std.specs.List.{All}
+use Rattle.fx_base.proofs.Names.{name_is}
 use Rattle.fx_store.specs.declared.node.Node.{Node}
 use Rattle.fx_store.specs.declared.node.Node.TheVariants.{Dir}
 use Rattle.fx_store.specs.Names.{name_cmp, IsName, IsPath, has}
-use Rattle.fx_store.specs.Orders.{name_same, name_total}
 use Rattle.fx_store.specs.Whole.{Store, IsWhole, IsNode, lists}
 use Rattle.fx_store.specs.Resolve.{◌/ₚ◌}
 use Rattle.fx_store.specs.Relisted.{rest_of, fresh_at, relist_at, relisted, CanRelist}
-
-pub eq_names : (a b : List ℕ) → eq_by_cmp name_cmp a b ≡ true → a ≡ b
-eq_names a b e = name_same a b ((Equal-is (name_cmp a b)).0 e)
-
-pub same_name : (a : List ℕ) → eq_by_cmp name_cmp a a ≡ true
-same_name a = (eq_by_cmp_equiv name_total).refl a
-
-pub rest_at : (q t : List (List ℕ)) → rest_of q (q ++ t) ≡ Some t
-rest_at [] t = refl
-rest_at (a ∷ q) t = ap (λ b. cond b (rest_of q (q ++ t)) None) (same_name a) ∙ rest_at q t
-
-pub rest_is : (q r t : List (List ℕ)) → rest_of q r ≡ Some t → r ≡ q ++ t
-rest_is [] r t e = cc
-rest_is (a ∷ q) [] t e = cc
-rest_is (a ∷ q) (b ∷ r) t e = at (eq_by_cmp name_cmp a b) refl e (rest_is q r t)
-  where
-    at : (c : Bool) → eq_by_cmp name_cmp a b ≡ c → cond c (rest_of q r) None ≡ Some t → (rest_of q r ≡ Some t → r ≡ q ++ t) → b ∷ r ≡ a ∷ (q ++ t)
-    at true f h rest = let same : a ≡ b = eq_names a b f in let tail : r ≡ q ++ t = rest h in cc
-    at false f h rest = cc
+use Rattle.fx_store.proofs.PathLists.{rest_append, rest_is, path_below}
 
 pub rest_more : (q p t : List (List ℕ)) (n : List ℕ) → rest_of q p ≡ Some t → rest_of q (p /ₚ n) ≡ Some (t /ₚ n)
-rest_more q p t n e = rw (rest_is q p t e, append_assoc) (rest_at q (t /ₚ n))
+rest_more q p t n e = rw (rest_is q p t e, append_assoc) (rest_append q (t /ₚ n))
 
 none_either : (c : Bool) → ◌≡◌ {A = Option (List (List ℕ))} (cond c None None) None
 none_either true = refl
@@ -47,19 +27,15 @@ rest_none [] p n e = cc
 rest_none (a ∷ []) [] n e = at (eq_by_cmp name_cmp a n) refl
   where
     at : (c : Bool) → eq_by_cmp name_cmp a n ≡ c → (◌≡◌ {A = Option (List (List ℕ))} (cond c (Some []) None) None) ⊎ (n ∷ [] ≡ a ∷ [])
-    at true f = inr (ap (λ x. x ∷ []) (sym (eq_names a n f)))
+    at true f = inr (ap (λ x. x ∷ []) (sym (name_is a n f)))
     at false f = inl refl
 rest_none (a ∷ b ∷ q) [] n e = inl (none_either (eq_by_cmp name_cmp a n))
 rest_none (a ∷ q) (b ∷ p) n e = at (eq_by_cmp name_cmp a b) refl e (rest_none q p n)
   where
     at : (c : Bool) → eq_by_cmp name_cmp a b ≡ c → cond c (rest_of q p) None ≡ None → (rest_of q p ≡ None → (rest_of q (p /ₚ n) ≡ None) ⊎ (p /ₚ n ≡ q))
         → (cond c (rest_of q (p /ₚ n)) None ≡ None) ⊎ (b ∷ (p /ₚ n) ≡ a ∷ q)
-    at true f h rest = elim (rest h) [ inl g ↦ inl g | inr g ↦ inr (let same : a ≡ b = eq_names a b f in cc) ]
+    at true f h rest = elim (rest h) [ inl g ↦ inl g | inr g ↦ inr (let same : a ≡ b = name_is a b f in cc) ]
     at false f h rest = inl refl
-
--- a path with one more name
-pub path_more : (q : List (List ℕ)) (n : List ℕ) → IsPath q → IsName n → length q < 64 → IsPath (q /ₚ n)
-path_more q n ok name short = record { names = All-push IsName q n ok.names name; short = omega (arith, length-append q (n ∷ []), short) }
 
 -- what holds of all names holds of each one that is there
 pub has-all : (P : List ℕ → Type 0) (names : List (List ℕ)) (n : List ℕ) → All P names → has names n ≡ true → P n
@@ -67,11 +43,11 @@ has-all P [] n all h = cc
 has-all P (m ∷ names) n all h = at (eq_by_cmp name_cmp n m) refl h (has-all P names n (λ k d l. all (suc k) d (omega (arith, l))))
   where
     at : (b : Bool) → eq_by_cmp name_cmp n m ≡ b → (b || has names n) ≡ true → (has names n ≡ true → P n) → P n
-    at true e h rest = subst P (sym (eq_names n m e)) (all 0 m (omega arith))
+    at true e h rest = subst P (sym (name_is n m e)) (all 0 m (omega arith))
     at false e h rest = rest h
 
 module _ (S : Store) (q old new : List (List ℕ)) (fresh : List ℕ → Node) (can : CanRelist S q old new fresh) where
-  has_old : (n : List ℕ) → is_some (S (q /ₚ n)) ≡ has old n
+  pub has_old : (n : List ℕ) → is_some (S (q /ₚ n)) ≡ has old n
   has_old n = can.whole.listed q n ∙ ap (λ x. lists x n) can.dir
 
   abbrev At : List (List ℕ) → Option (List (List ℕ)) → Option Node
@@ -117,7 +93,7 @@ module _ (S : Store) (q old new : List (List ℕ)) (fresh : List ℕ → Node) (
       outside : (rest_of q (p /ₚ n) ≡ None) ⊎ (p /ₚ n ≡ q) → is_some (relisted S q old new fresh (p /ₚ n)) ≡ lists (S p) n
       outside (inl f) = ap (λ t. is_some (At (p /ₚ n) t)) f ∙ can.whole.listed p n
       outside (inr f) =
-          let here : rest_of q (p /ₚ n) ≡ Some [] = subst (λ r. rest_of q r ≡ Some []) (append-nil q ∙ sym f) (rest_at q []) in
+          let here : rest_of q (p /ₚ n) ≡ Some [] = subst (λ r. rest_of q r ≡ Some []) (append-nil q ∙ sym f) (rest_append q []) in
           ap (λ t. is_some (At (p /ₚ n) t)) here ∙ above_listed p n f
   listed_in p n (Some []) e =
       let same : p ≡ q = rest_is q p [] e ∙ append-nil q in
@@ -152,7 +128,7 @@ module _ (S : Store) (q old new : List (List ℕ)) (fresh : List ℕ → Node) (
   paths_in r (Some (m ∷ rest)) e h = at (has new m) refl h
     where
       fresh_path : (t : List (List ℕ)) → r ≡ q ++ m ∷ t → has new m ≡ true → is_some (fresh_at (fresh m) t) ≡ true → IsPath r
-      fresh_path [] f h i = rw f (path_more q m q_path (has-all IsName new m can.names.names h) (room_for m h))
+      fresh_path [] f h i = rw f (path_below q m q_path (has-all IsName new m can.names.names h) (room_for m h))
       fresh_path (k ∷ t) f h i = cc
 
       old_at : (b : Bool) → has new m ≡ true → is_some (cond b (S r) (fresh_at (fresh m) rest)) ≡ true → IsPath r

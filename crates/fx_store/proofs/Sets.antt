@@ -9,8 +9,7 @@ use Rattle.std.proofs.lemmas.List.Elements.{All-nil}
 use Rattle.std.proofs.lemmas.Option.{slice_get-map}
 use Rattle.std.specs.declared.cmp.Ordering.{Ordering}
 use Rattle.std.specs.Cmp.{IsTotalOrder}
-use Rattle.fx_store.specs.Names.{IsName, IsPath, IsNameSet, IsPathSet, IsContent, name_cmp, path_cmp}
-use Rattle.fx_store.specs.Flat.{IsFiles}
+use Rattle.fx_store.specs.Names.{IsName, IsPath, IsNameSet, IsPathSet, name_cmp, path_cmp}
 use Rattle.fx_store.specs.Changes.{IsChanges}
 use Rattle.fx_store.proofs.Ascending.{ascending_none, above_last, above_none, is_next}
 
@@ -34,6 +33,3 @@ module _ {X K : Type 0} {R : K → K → Ordering} (o : IsTotalOrder R) (key : X
 
     pub next_of_none : slice_get xs (length xs - 1) ≡ None → r ≡ true → (r ≡ true) ↔ IsStrictlySortedBy R (map key xs ++ k ∷ [])
     next_of_none at e = is_next o (map key xs) k r up (e ∙ sym (above_none R (map key xs) k (last_key xs ∙ ap (option_map key) at)))
-
-pub IsFiles-none : IsFiles []
-IsFiles-none = record { names = IsNameSet-none; contents = All-nil (λ (f : List ℕ × List ℕ). IsContent f.1) }

@@ -1,12 +1,14 @@
 -- Texts are read as what they spell.
-use Rattle.std.proofs.Common.{◌≡◌, ℕ, ◌<◌, Bool, true, false, cond, not, ◌&&◌, ◌||◌, List, [], ◌∷◌, ◌++◌, length, Result, Ok, Err, All, refl, sym, ap, subst, ◌∙◌, arith}
+use Rattle.std.proofs.Common.{◌≡◌, ℕ, ◌<◌, Bool, true, false, cond, ◌&&◌, List, [], ◌∷◌, ◌++◌, length, Ok, Err, All, refl, sym, ap, subst, ◌∙◌, arith}
 use Rattle.std.specs.Prelude.{nat_lt, is_ok}
 use Rattle.std.specs.List.{list_any, list_all, slice_split, join_with_byte}
-use Rattle.std.proofs.lemmas.Bool.{false≢true, eqb-true}
+use Rattle.std.proofs.lemmas.Bool.{false≢true, eqb-true, not-true, or_parts}
 use Rattle.std.proofs.lemmas.List.{append-nil}
 use Rattle.std.proofs.lemmas.List.Elements.{All-nil, All-cons, All-head, All-tail}
 use Rattle.std.proofs.lemmas.List.Splits.{slice_split_none, slice_split_at, length-slice_split, join_with_byte-slice_split}
-use Rattle.fx_store.specs.declared.name.PathFault.{PathFault}
+use Rattle.fx_base.proofs.Booleans.{second_true, first_true}
+use Rattle.fx_base.proofs.Lists.{all_pass}
+use Rattle.fx_base.proofs.Results.{chosen_ok}
 use Rattle.fx_store.specs.declared.name.PathFault.TheVariants.{BadName, TooDeep}
 use Rattle.fx_store.specs.Names.{is_slash, is_name, IsName, parts, path_text}
 use Rattle.fx_store.specs.Faults.{path_of, extended, read_path}
@@ -14,29 +16,9 @@ use Rattle.fx_store.specs.Spelling.{SpellsPath, SpellsNames, ReadsPathText, Exte
 
 -- ---- tests and lists
 
-first_of : (a b : Bool) → (a && b) ≡ true → a ≡ true
-first_of true b e = refl
-first_of false b e = e
-
-second_of : (a b : Bool) → (a && b) ≡ true → b ≡ true
-second_of true b e = e
-second_of false b e = absurd (false≢true e)
-
-not_true : (b : Bool) → not b ≡ true → b ≡ false
-not_true true e = absurd (false≢true e)
-not_true false e = refl
-
-neither : (a b : Bool) → (a || b) ≡ false → (a ≡ false) × (b ≡ false)
-neither true b e = absurd (false≢true (sym e))
-neither false b e = (refl, e)
-
 none_pass : {X : Type 0} (p : X → Bool) (xs : List X) → list_any p xs ≡ false → All (λ x. p x ≡ false) xs
 none_pass p [] e = All-nil (λ x. p x ≡ false)
-none_pass p (x ∷ xs) e = let both = neither (p x) (list_any p xs) e in All-cons (λ x. p x ≡ false) x xs both.0 (none_pass p xs both.1)
-
-all_pass : {X : Type 0} (p : X → Bool) (xs : List X) → list_all p xs ≡ true → All (λ x. p x ≡ true) xs
-all_pass p [] e = All-nil (λ x. p x ≡ true)
-all_pass p (x ∷ xs) e = All-cons (λ x. p x ≡ true) x xs (first_of (p x) (list_all p xs) e) (all_pass p xs (second_of (p x) (list_all p xs) e))
+none_pass p (x ∷ xs) e = let both = or_parts (p x) (list_any p xs) e in All-cons (λ x. p x ≡ false) x xs both.0 (none_pass p xs both.1)
 
 passes_all : {X : Type 0} (p : X → Bool) (xs : List X) → All (λ x. p x ≡ true) xs → list_all p xs ≡ true
 passes_all p [] all = refl
@@ -47,7 +29,7 @@ passes_all p (x ∷ xs) all = ap (λ b. b && list_all p xs) (All-head (λ x. p x
 -- what a name's test says of its parts, from left to right
 name_has_no_slash : (n : List ℕ) → IsName n → All (λ b. is_slash b ≡ false) n
 unfolding is_name
-name_has_no_slash n h = none_pass is_slash n (not_true _ (second_of _ _ (first_of _ _ (first_of _ _ (first_of _ _ h)))))
+name_has_no_slash n h = none_pass is_slash n (not-true _ (second_true _ _ (first_true _ _ (first_true _ _ (first_true _ _ h)))))
 
 no_empty_name : IsName [] → ⊥
 unfolding is_name
@@ -83,10 +65,6 @@ parts_joined (b ∷ bs) (m ∷ ns) all = split_joined (b ∷ bs) (m ∷ ns) all
 
 -- ---- answers
 
-chosen : {A : Type 0} (b : Bool) (x : Result A PathFault) (f : PathFault) (a : A) → cond b x (Err f) ≡ Ok a → (b ≡ true) × (x ≡ Ok a)
-chosen true x f a e = (refl, e)
-chosen false x f a e = absurd (false≢true (ap is_ok e))
-
 not_deep : {A : Type 0} (b : Bool) (x a : A) → cond b (Err TooDeep) (Ok x) ≡ Ok a → x ≡ a
 not_deep {A} true x a e = absurd (false≢true (ap is_ok e))
 not_deep {A} false x a e = cc
@@ -109,7 +87,7 @@ spelled_parts (b ∷ bs) = text_of_some (slice_split is_slash (b ∷ bs)) (split
 
 read_after : (bs : List ℕ) (path : List (List ℕ)) → cond (list_all is_name (parts bs)) (path_of (parts bs)) (Err BadName) ≡ Ok path → SpellsPath (47 ∷ bs) path
 read_after bs path e =
-    let both = chosen (list_all is_name (parts bs)) (path_of (parts bs)) BadName path e in
+    let both = chosen_ok (list_all is_name (parts bs)) (path_of (parts bs)) BadName path e in
     let same = path_of_ok (parts bs) path both.1 in
     record { names = subst (All IsName) same (all_pass is_name (parts bs) both.0); spelled = ap path_text (sym same) ∙ spelled_parts bs }
 
@@ -134,7 +112,7 @@ extended_spelled from text (n ∷ ns) s =
 extended_spells : (from : List (List ℕ)) (text : List ℕ) (path : List (List ℕ)) → extended from text ≡ Ok path → (names : List (List ℕ)) × (path ≡ from ++ names) × SpellsNames text names
 extended_spells from text path e =
     let ps = slice_split is_slash text in
-    let both = chosen (list_all is_name ps) (path_of (from ++ ps)) BadName path e in
+    let both = chosen_ok (list_all is_name ps) (path_of (from ++ ps)) BadName path e in
     (ps, sym (path_of_ok (from ++ ps) path both.1), record { valid = all_pass is_name ps both.0; some = split_some text; spelled = joined_split text })
 
 pub paths_go_on : (from : List (List ℕ)) (text : List ℕ) (path : List (List ℕ)) → ExtendsBySpelling from text path

@@ -1,12 +1,12 @@
 -- Filestores as data and as look-ups, under changes.
-use Rattle.std.proofs.Common.{◌≡◌, ℕ, cond, List, [], ◌∷◌, ◌++◌, Option, Some, None, refl, sym, ap, subst, ◌∙◌}
+use Rattle.std.proofs.Common.{◌≡◌, ℕ, cond, List, [], ◌∷◌, ◌++◌, Option, Some, None, refl, sym, ap, subst, ◌∙◌, IfSome}
 use Rattle.std.specs.Ordering.{eq_by_cmp}
 use Rattle.std.specs.FinMap.{get, get-insert, get-remove, same_map}
 use Rattle.fx_store.specs.declared.node.Node.{Node}
 use Rattle.fx_store.specs.declared.changes.Change.{Change}
 use Rattle.fx_store.specs.Names.{path_cmp}
 use Rattle.fx_store.specs.Orders.{path_total, path_same}
-use Rattle.fx_store.specs.Whole.{Store, Nodes, IsWhole, update, over, set_node, over_nodes}
+use Rattle.fx_store.specs.Whole.{Store, Nodes, IsWhole, update, over, set_node, over_nodes, IsNode}
 
 -- what a changed map gives
 pub get-set_node : (m : Nodes) (path q : List (List ℕ)) (node : Option Node) → get (set_node m path node) q ≡ cond (eq_by_cmp path_cmp q path) node (get m q)
@@ -39,3 +39,7 @@ IsWhole-same S U same whole = subst IsWhole (λ i q. same q i) whole
 -- the filestore that changes leave is whole where the changed look-up is
 pub IsWhole-over_nodes : (m : Nodes) (cs : List Change) → IsWhole (over (get m) cs) → IsWhole (get (over_nodes m cs))
 IsWhole-over_nodes m cs whole = IsWhole-same (over (get m) cs) (get (over_nodes m cs)) (λ q. sym (get-over_nodes m cs q)) whole
+
+-- what stands in a whole filestore is a node for its path
+pub node_at : (S : Store) → IsWhole S → (p : List (List ℕ)) (node : Node) → S p ≡ Some node → IsNode p node
+node_at S whole p node here = subst (λ o. IfSome o (IsNode p)) here (whole.nodes p)

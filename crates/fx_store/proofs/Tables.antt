@@ -11,6 +11,7 @@ use Rattle.std.proofs.lemmas.Map.Keys.{apart_from_distinct}
 use Rattle.std.proofs.lemmas.Option.{same_Some, none-some, slice_get_within, slice_get-map, get_or_from_slice_get}
 use Rattle.std.proofs.lemmas.List.{append-nil, append_assoc}
 use Rattle.std.proofs.lemmas.List.Elements.{All-more, All-weaker}
+use Rattle.fx_base.proofs.Names.{path_itself}
 use Rattle.fx_store.specs.declared.node.Node.{Node}
 use Rattle.fx_store.specs.declared.changes.Change.{Change}
 use Rattle.fx_store.specs.Names.{path_cmp, has_path}
@@ -24,9 +25,6 @@ Path = List (List ℕ)
 
 abbrev Entries : Type 0
 Entries = List (Path × Option Node)
-
-pub path_itself : (p : Path) → eq_by_cmp path_cmp p p ≡ true
-path_itself p = (eq_by_cmp_equiv path_total).refl p
 
 pub path_symm : (p q : Path) → eq_by_cmp path_cmp p q ≡ eq_by_cmp path_cmp q p
 path_symm p q = (eq_by_cmp_equiv path_total).symm p q

@@ -2,7 +2,6 @@ pub mod Changes
 pub mod Examples
 pub mod Faults
 pub mod Filestore
-pub mod Flat
 pub mod Landings
 pub mod Names
 pub mod Orders

@@ -45,24 +45,6 @@ impl Bytes {
         }
     }
 
-    /// The bytes of a content, which stays shared where it is; the caller keeps the limit.
-    pub fn of_content(content: Content) -> Bytes
-        requires { length content ≤ MAX_FILE_BYTES }
-        ensures { result ≡ content }
-    {
-        prove!(content.as_slice().len() <= MAX_FILE_BYTES);
-        Bytes { content }
-    }
-
-    /// The same bytes as a content, which stays shared where it is.
-    pub fn into_content(self) -> Content
-        ensures bytes { result ≡ self }
-        ensures content { IsContent self }
-    {
-        let Bytes { content } = self;
-        content
-    }
-
     /// The same bytes, which copies share from now on, where there are enough of them.
     pub fn share(self, alloc: Global) -> Result<Bytes, NoMemory>
         ensures { IfOk result (λ b. b ≡ self) }

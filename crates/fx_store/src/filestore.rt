@@ -6,11 +6,9 @@ ghost use Rattle.std.specs.Ordering.{eq_by_cmp};
 ghost use Rattle.indexmap.specs.IndexMap.{keys, IsUnique};
 ghost use Rattle.fx_store.specs.Names.{path_cmp, has_path};
 ghost use Rattle.fx_store.specs.Whole.{IsWhole, over, over_nodes, set_node};
-ghost use Rattle.fx_store.specs.Flat.{IsFiles, flat};
 ghost use Rattle.fx_store.specs.Filestore.{nodes_of, root_only, place_at, IsTable, HasEachOnce, HavePlaces, KeepsPlaces};
 
 use crate::changes::{Change, Changes};
-use crate::files::Files;
 use crate::names::Names;
 use crate::node::Node;
 use crate::path::Path;
@@ -52,18 +50,6 @@ impl Filestore {
 
     /// Lets go of the filestore.
     pub fn let_go(self) {}
-
-    /// The root with its files.
-    pub fn flat(alloc: Global, files: Files) -> Result<Filestore, NoMemory>
-        ensures nodes { IfOk result (λ s. s.nodes ≡ flat files) }
-        ensures files { IsFiles files }
-    {
-        let changes = files.into_changes(alloc)?;
-        let mut store = Filestore::new(alloc)?;
-        store.reserve(alloc, &changes)?;
-        store.apply(changes);
-        Ok(store)
-    }
 
     /// What stands at a path.
     pub fn get(&self, path: &Path) -> Option<&Node>

@@ -3,7 +3,6 @@
 
 mod bytes;
 mod changes;
-mod files;
 mod filestore;
 pub mod laws;
 pub mod limits;
@@ -19,7 +18,6 @@ pub mod spelling;
 
 pub use bytes::{Bytes, LongText};
 pub use changes::{Change, Changes};
-pub use files::Files;
 pub use filestore::Filestore;
 pub use link::LinkText;
 pub use name::{Name, PathFault};

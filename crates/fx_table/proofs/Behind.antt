@@ -7,9 +7,9 @@ use Rattle.fx_outside.specs.Path.{Parts, name_in}
 use Rattle.fx_outside.proofs.Trees.{name_in_folder, name_in_pushed}
 use Rattle.fx_outside.specs.Listing.{name_cmp}
 use Rattle.fx_store.specs.declared.changes.Change.{Change}
+use Rattle.fx_store.proofs.PathLists.{rest_append, rest_is}
 use Rattle.fx_table.specs.Places.{rest_of}
 use Rattle.fx_table.specs.Mapped.{mapped_of}
-use Rattle.fx_table.proofs.Rests.{rest_append, rest_is}
 
 no_name : (p q : Parts) → ((n : List ℕ) → q ≡ p ++ n ∷ [] → ⊥) → name_in p q ≡ None
 no_name p q never = by (name_in p q) refl
@@ -56,10 +56,6 @@ pub key_at : (found : List Change) (j : ℕ) (d : Change) → j < length found �
 key_at [] j d lt = absurd (omega arith)
 key_at (c ∷ found) zero d lt = refl
 key_at (c ∷ found) (suc j) d lt = key_at found j d (omega arith)
-
-mapped_len : (found : List Change) → length (mapped_of found) ≡ length found
-mapped_len [] = refl
-mapped_len (c ∷ found) = ap suc (mapped_len found)
 
 -- ---- name by name
 

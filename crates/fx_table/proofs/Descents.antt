@@ -1,5 +1,5 @@
 -- A walk over a filestore in the order of paths: what stands at a path and below, and what each step leaves.
-use Rattle.std.proofs.Common.{◌≡◌, inl, inr, ℕ, zero, suc, ◌+◌, ◌<◌, Bool, true, false, cond, ◌||◌, T, List, [], ◌∷◌, ◌++◌, length, length-append, drop, is_some, Option, Some, None, IfSome, IsSome, refl, sym, ◌∙◌, ap, subst, arith, append_assoc, append-nil}
+use Rattle.std.proofs.Common.{◌≡◌, inl, inr, ℕ, zero, suc, ◌+◌, ◌<◌, Bool, true, false, cond, ◌||◌, T, List, [], ◌∷◌, ◌++◌, length, length-append, drop, is_some, Option, Some, None, IsSome, refl, sym, ◌∙◌, ap, subst, arith, append_assoc, append-nil}
 use Rattle.std.specs.declared.cmp.Ordering.TheVariants.{Less}
 use Rattle.std.specs.Ordering.{is_eq, is_lt, eq_by_cmp, ordering_then}
 use Rattle.std.specs.Cmp.{eq_by_cmp_equiv, tied_itself}
@@ -8,18 +8,21 @@ use Rattle.std.specs.List.Sorted.{IsStrictlySortedBy}
 use Rattle.std.specs.Option.{option_and_then, option_or}
 use Rattle.std.specs.FinMap.{entries, entries_sorted, get, get-entries, find, is_sorted}
 use Rattle.std.specs.FinMap.Entries.{below_all, find-where_key, is_sorted-where_key, same_entries}
-use Rattle.std.proofs.lemmas.Bool.{cases_Bool}
+use Rattle.std.proofs.lemmas.Bool.{cases_Bool, or_right}
 use Rattle.std.proofs.lemmas.Option.{same_Some}
+use Rattle.fx_base.proofs.Names.{same_front}
 use Rattle.fx_store.specs.declared.node.Node.{Node}
 use Rattle.fx_store.specs.declared.node.Node.TheVariants.{File, Dir, Link}
 use Rattle.fx_store.specs.Names.{name_cmp, path_cmp, has}
 use Rattle.fx_store.specs.Whole.{Store, Nodes, IsWhole, IsNode, lists}
+use Rattle.fx_store.proofs.Stores.{node_at}
+use Rattle.fx_store.proofs.PathLists.{rest_is}
 use Rattle.fx_outside.proofs.Sorted.{both, first, second, less_test}
 use Rattle.fx_outside.proofs.Trees.{name_total, parts_total, parts_same}
 use Rattle.fx_table.specs.declared.descent.Level.{Level}
 use Rattle.fx_table.specs.Places.{rest_of}
 use Rattle.fx_table.specs.Remaining.{from_path, from_names, names_in, left_of, IsLevel, IsNextOf, Enters, ComesNext, IsLeftBelow}
-use Rattle.fx_table.proofs.Rests.{same_front, rest_is, longer, not_at}
+use Rattle.fx_table.proofs.Rests.{longer, not_at}
 
 abbrev Path : Type 0
 Path = List (List ℕ)
@@ -236,9 +239,6 @@ in_order p (File bytes exec) is = tt
 in_order p (Dir names) is = is.0.ascending
 in_order p (Link text) is = tt
 
-node_at : (S : Store) → IsWhole S → (p : Path) (node : Node) → S p ≡ Some node → IsNode p node
-node_at S whole p node here = subst (λ o. IfSome o (IsNode p)) here (whole.nodes p)
-
 pub at_path : (nodes : Nodes) → IsWhole (get nodes) → (p : Path) (node : Node) → get nodes p ≡ Some node → from_path nodes p ≡ (p, node) ∷ from_names nodes p (names_in (Some node))
 at_path nodes whole p node here =
     let below = from_names nodes p (names_in (Some node)) in
@@ -282,11 +282,7 @@ drop_next (m ∷ ms) (suc i) name at = drop_next ms i name at
 has_at : (names : List (List ℕ)) (i : ℕ) (name : List ℕ) → slice_get names i ≡ Some name → has names name ≡ true
 has_at [] i name at = cc
 has_at (m ∷ ms) zero name at = ap (λ b. b || has ms name) (ap (eq_by_cmp name_cmp name) (same_Some m name at) ∙ ap is_eq (tied_itself name_total name))
-has_at (m ∷ ms) (suc i) name at = some_or (eq_by_cmp name_cmp name m) (has ms name) (has_at ms i name at)
-  where
-    some_or : (a b : Bool) → b ≡ true → (a || b) ≡ true
-    some_or true b e = refl
-    some_or false b e = e
+has_at (m ∷ ms) (suc i) name at = or_right (eq_by_cmp name_cmp name m) (has ms name) (has_at ms i name at)
 
 some_node : (o : Option Node) → IsSome o → (node : Node) × (o ≡ Some node)
 some_node None is = cc

@@ -1,5 +1,5 @@
 -- What the lines of a table say is set among files and directories: flags, which leave all else as it is, and links.
-use Rattle.std.proofs.Common.{◌≡◌, ℕ, zero, suc, ◌+◌, ◌<◌, Bool, true, false, cond, ◌||◌, T, List, [], ◌∷◌, ◌++◌, map, take, drop, length, get_or, arith, Option, Some, None, is_some, IfSome, IsTrue, All, refl, sym, ◌∙◌, ap, subst}
+use Rattle.std.proofs.Common.{◌≡◌, ℕ, zero, suc, ◌+◌, ◌<◌, Bool, true, false, cond, T, List, [], ◌∷◌, ◌++◌, map, take, drop, length, get_or, arith, Option, Some, None, is_some, IfSome, IsTrue, All, refl, sym, ◌∙◌, ap, subst}
 use Rattle.std.specs.Prelude.{unwrap_or}
 use Rattle.std.specs.declared.cmp.Ordering.TheVariants.{Less}
 use Rattle.std.specs.Ordering.{eq_by_cmp}
@@ -9,6 +9,7 @@ use Rattle.std.specs.Map.{keys_of}
 use Rattle.std.specs.FinMap.{find, is_sorted}
 use Rattle.std.proofs.lemmas.Option.{same_Some}
 use Rattle.std.proofs.lemmas.List.Elements.{All-nil, All-cons, All-head, All-tail}
+use Rattle.std.proofs.lemmas.Bool.{or_right, or_left}
 use Rattle.fx_outside.proofs.Sorted.{strictly_sorted, sorted_test}
 use Rattle.fx_store.specs.declared.node.Node.{Node}
 use Rattle.fx_store.specs.declared.node.Node.TheVariants.{File, Dir, Link}
@@ -221,20 +222,12 @@ module _ (S : Store) (flags : Bool) (lines : List TableLine) (table : AreLinesOv
 
 -- ---- one line after another
 
-flag_or : (a b : Bool) → a ≡ true → (a || b) ≡ true
-flag_or true b e = refl
-flag_or false b e = let wrong : false ≡ true = e in cc
-
-or_true : (a b : Bool) → b ≡ true → (a || b) ≡ true
-or_true true b e = refl
-or_true false b e = e
-
 pub flag_within : (cs : List Change) (i : ℕ) (c : Change) → slice_get cs i ≡ Some c → is_flag (mark_in c.node) ≡ true → has_flags (lines_in cs) ≡ true
 flag_within [] i c is flag = cc
 flag_within (d ∷ cs) zero c is flag =
     let same : d ≡ c = same_Some d c is in
-    flag_or (is_flag (mark_in d.node)) (has_flags (lines_in cs)) (ap (λ (x : Change). is_flag (mark_in x.node)) same ∙ flag)
-flag_within (d ∷ cs) (suc i) c is flag = or_true (is_flag (mark_in d.node)) (has_flags (lines_in cs)) (flag_within cs i c is flag)
+    or_left (is_flag (mark_in d.node)) (has_flags (lines_in cs)) (ap (λ (x : Change). is_flag (mark_in x.node)) same ∙ flag)
+flag_within (d ∷ cs) (suc i) c is flag = or_right (is_flag (mark_in d.node)) (has_flags (lines_in cs)) (flag_within cs i c is flag)
 
 -- one change more has its flag
 pub flags_more : (f : Change → Change) (cs now : List Change) (i : ℕ) (c d : Change) → i < length cs → now ≡ map f (take i cs) ++ drop i cs → c ≡ get_or now i c → d ≡ f c → slice_set now i d ≡ map f (take (i + 1) cs) ++ drop (i + 1) cs

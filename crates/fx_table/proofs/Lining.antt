@@ -5,6 +5,7 @@ use Rattle.std.specs.declared.cmp.Ordering.TheVariants.{Less}
 use Rattle.std.specs.List.{AllByRecursion, slice_split}
 use Rattle.std.proofs.lemmas.List.Splits.{slice_split_none, slice_split_at, length-slice_split}
 use Rattle.fx_base.specs.declared.NoMemory.{NoMemory as Memory}
+use Rattle.fx_base.proofs.Lists.{parts_at, all_push, all_last}
 use Rattle.fx_table.specs.TableSpelling.{unspelled}
 use Rattle.fx_table.specs.Unspells.{GivesLink, GivesFlag}
 use Rattle.std.specs.List.Sorted.{IsStrictlySortedBy}
@@ -12,9 +13,12 @@ use Rattle.std.proofs.lemmas.Bool.Decides.{nat_tests}
 use Rattle.std.proofs.lemmas.List.Elements.{All-nil, All-head, All-tail, All-push, filter_map-append}
 use Rattle.std.proofs.lemmas.List.Sums.{sum_by-append}
 use Rattle.std.proofs.lemmas.Option.{same_Some}
+use Rattle.std.proofs.lemmas.Bool.{not-true, not-false}
+use Rattle.std.proofs.lemmas.List.{take_more}
 use Rattle.fx_store.specs.declared.changes.Change.{Change}
 use Rattle.fx_store.specs.Changes.{changed_paths}
 use Rattle.fx_store.specs.Names.{path_cmp}
+use Rattle.fx_store.proofs.PathLists.{root_first}
 use Rattle.fx_table.specs.declared.fault.FolderCause.TheVariants.{BadName, Strange, TooLarge, BadTable}
 use Rattle.fx_table.specs.declared.fault.LoadFault.{LoadFault}
 use Rattle.fx_table.specs.declared.fault.LoadFault.TheVariants.{Refused, ReadFault, NoMemory}
@@ -24,16 +28,6 @@ use Rattle.fx_table.specs.Lines.{mark_node, line_change, mark_in, line_in, lines
 use Rattle.fx_table.proofs.TableLines.{line_is, line_read, same_line, no_feed}
 
 -- ---- the first place of a byte
-
-take_at : (text : List ℕ) (i : ℕ) → i < length text → take (i + 1) text ≡ take i text ++ get_or text i 0 ∷ []
-take_at [] i lt = absurd (omega arith)
-take_at (b ∷ text) zero lt = refl
-take_at (b ∷ text) (suc i) lt = let one : suc i + 1 ≡ suc (i + 1) = omega arith in ap (λ n. take n (b ∷ text)) one ∙ ap (λ l. b ∷ l) (take_at text i (omega arith))
-
-drop_at : (text : List ℕ) (i : ℕ) → i < length text → text ≡ take i text ++ get_or text i 0 ∷ drop (i + 1) text
-drop_at [] i lt = absurd (omega arith)
-drop_at (b ∷ text) zero lt = refl
-drop_at (b ∷ text) (suc i) lt = let one : suc i + 1 ≡ suc (i + 1) = omega arith in ap (λ l. b ∷ l) (drop_at text i (omega arith)) ∙ ap (λ n. b ∷ (take i text ++ get_or text i 0 ∷ drop n (b ∷ text))) (sym one)
 
 pub absent_none : (byte : ℕ) (text : List ℕ) → IsAbsent byte (take 0 text)
 absent_none byte [] = All-nil (λ b. (b == byte) ≡ false)
@@ -50,10 +44,10 @@ apart x byte never = by (x == byte) refl
     by false e = e
 
 pub absent_more : (text : List ℕ) (byte i : ℕ) → i < length text → (get_or text i 0 ≡ byte → ⊥) → IsAbsent byte (take i text) → IsAbsent byte (take (i + 1) text)
-absent_more text byte i lt other before = subst (IsAbsent byte) (sym (take_at text i lt)) (All-push (λ b. (b == byte) ≡ false) (take i text) (get_or text i 0) before (apart (get_or text i 0) byte other))
+absent_more text byte i lt other before = subst (IsAbsent byte) (sym (take_more text i 0 lt)) (All-push (λ b. (b == byte) ≡ false) (take i text) (get_or text i 0) before (apart (get_or text i 0) byte other))
 
 pub first_at : (text : List ℕ) (byte i : ℕ) → i < length text → get_or text i 0 ≡ byte → IsAbsent byte (take i text) → IsFirstAt text byte i
-first_at text byte i lt same before = record { within = lt; before = before; parts = drop_at text i lt ∙ ap (λ y. take i text ++ y ∷ drop (i + 1) text) same }
+first_at text byte i lt same before = record { within = lt; before = before; parts = parts_at text i 0 lt ∙ ap (λ y. take i text ++ y ∷ drop (i + 1) text) same }
 
 pub all_absent : (text : List ℕ) (byte i : ℕ) → length text ≤ i → IsAbsent byte (take i text) → IsAbsent byte text
 all_absent text byte i le before = subst (IsAbsent byte) (whole text i le) before
@@ -65,21 +59,6 @@ all_absent text byte i le before = subst (IsAbsent byte) (whole text i le) befor
     whole (x ∷ xs) (suc n) h = ap (λ l. x ∷ l) (whole xs n (omega arith))
 
 -- ---- the parts of a line
-
-pub rest_is : (n : ℕ) (xs : List ℕ) → take (length xs - n) (drop n xs) ≡ drop n xs
-rest_is zero xs = all (length xs - 0) xs (omega arith)
-  where
-    all : (n : ℕ) (ys : List ℕ) → length ys ≤ n → take n ys ≡ ys
-    all zero [] h = refl
-    all (suc n) [] h = refl
-    all zero (y ∷ ys) h = absurd (omega arith)
-    all (suc n) (y ∷ ys) h = ap (λ l. y ∷ l) (all n ys (omega arith))
-rest_is (suc n) [] = none (length {A = ℕ} [] - suc n)
-  where
-    none : (k : ℕ) → ◌≡◌ {A = List ℕ} (take k []) []
-    none zero = refl
-    none (suc k) = refl
-rest_is (suc n) (x ∷ xs) = let one : length (x ∷ xs) - suc n ≡ length xs - n = omega arith in ap (λ k. take k (drop n xs)) one ∙ rest_is n xs
 
 -- a line of one part gives nothing
 pub no_space : (line : List ℕ) → IsAbsent 32 line → None ≡ read_line line
@@ -142,33 +121,17 @@ pub star_result : (r : Result (Option TableLine) Memory) (path star : List ℕ) 
 star_result (Ok said) path star is gives = gives ∙ sym (ap (λ b. cond b (flag_of (unspelled path)) None) is)
 star_result (Err e) path star is gives = tt
 
-not_true : (b : Bool) → not b ≡ true → b ≡ false
-not_true true e = cc
-not_true false e = refl
-
-not_false : (b : Bool) → not b ≡ false → b ≡ true
-not_false true e = refl
-not_false false e = cc
-
 pub differs : (a b text : List ℕ) (r : Bool) → b ≡ text → r ≡ not (bytes_eq a b) → r ≡ true → bytes_eq a text ≡ false
-differs a b text r same is holds = ap (bytes_eq a) (sym same) ∙ not_true (bytes_eq a b) (sym is ∙ holds)
+differs a b text r same is holds = ap (bytes_eq a) (sym same) ∙ not-true (bytes_eq a b) (sym is ∙ holds)
 
 pub agrees : (a b text : List ℕ) (r : Bool) → b ≡ text → r ≡ not (bytes_eq a b) → r ≡ false → bytes_eq a text ≡ true
-agrees a b text r same is fails = ap (bytes_eq a) (sym same) ∙ not_false (bytes_eq a b) (sym is ∙ fails)
+agrees a b text r same is fails = ap (bytes_eq a) (sym same) ∙ not-false (bytes_eq a b) (sym is ∙ fails)
 
 -- ---- one link more
 
 all_last : {A : Type 0} (P : A → Type 0) (xs : List A) (x : A) → All P (xs ++ x ∷ []) → P x
 all_last P [] x all = All-head P x [] all
 all_last P (y ∷ xs) x all = all_last P xs x (All-tail P y (xs ++ x ∷ []) all)
-
-each_last : {A : Type 0} (P : A → Type 0) (xs : List A) (x : A) → AllByRecursion P (xs ++ x ∷ []) → P x
-each_last P [] x all = all.0
-each_last P (y ∷ xs) x all = each_last P xs x all.1
-
-each_push : {A : Type 0} (P : A → Type 0) (xs : List A) (x : A) → AllByRecursion P xs → P x → AllByRecursion P (xs ++ x ∷ [])
-each_push P [] x all one = (one, tt)
-each_push P (y ∷ xs) x all one = (all.0, each_push P xs x all.1 one)
 
 paths_push : (old : List Change) (l : TableLine) → map (λ (k : TableLine). k.path) (lines_in old ++ l ∷ []) ≡ changed_paths old ++ l.path ∷ []
 paths_push [] l = refl
@@ -177,10 +140,6 @@ paths_push (c ∷ old) l = ap (λ ps. c.path ∷ ps) (paths_push old l)
 paths_in : (old : List Change) → map (λ (k : TableLine). k.path) (lines_in old) ≡ changed_paths old
 paths_in [] = refl
 paths_in (c ∷ old) = ap (λ ps. c.path ∷ ps) (paths_in old)
-
-above_root : (p : List (List ℕ)) → 0 < length p → path_cmp [] p ≡ Less
-above_root [] some = absurd (omega arith)
-above_root (n ∷ p) some = refl
 
 some_name : (p : List (List ℕ)) → path_cmp [] p ≡ Less → 0 < length p
 some_name [] e = cc
@@ -195,14 +154,14 @@ table_more S old l table link follow = record {
   valid = All-push IsLine (lines_in old) l table.valid link;
   stand = All-push (Stands S) (lines_in old) l table.stand follow.stands;
   ascending = subst (λ ps. IsStrictlySortedBy path_cmp ([] ∷ ps)) (sym (paths_push old l))
-      (each_push (λ q. path_cmp [] q ≡ Less) (changed_paths old) l.path (subst (AllByRecursion (λ q. path_cmp [] q ≡ Less)) (paths_in old) table.ascending.0) (above_root l.path follow.some), follow.ascending);
+      (all_push (λ q. path_cmp [] q ≡ Less) (changed_paths old) l.path (subst (AllByRecursion (λ q. path_cmp [] q ≡ Less)) (paths_in old) table.ascending.0) (root_first l.path follow.some), follow.ascending);
 }
 
 follow_of : (S : Setting) (old : List Change) (l : TableLine) → AreLinesOver S (lines_in old ++ l ∷ []) → CanFollow S old l
 unfolding IsStrictlySortedBy
 follow_of S old l table =
     let up = subst (λ ps. IsStrictlySortedBy path_cmp ([] ∷ ps)) (paths_push old l) table.ascending in
-    record { some = some_name l.path (each_last (λ q. path_cmp [] q ≡ Less) (changed_paths old) l.path up.0); ascending = up.1; stands = all_last (Stands S) (lines_in old) l table.stand }
+    record { some = some_name l.path (all_last (λ q. path_cmp [] q ≡ Less) (changed_paths old) l.path up.0); ascending = up.1; stands = all_last (Stands S) (lines_in old) l table.stand }
 
 -- ---- the first line
 
@@ -320,7 +279,7 @@ over_push room ls l few =
     ∙ (over_tests room.links room.bytes a b (count_of l.mark) (size_of l.mark) few
     ∙ (λ i. nat_lt room.links (sym (count_push ls l) i) || nat_lt room.bytes (sym (texts_push ls l) i)))
 
-minus : (a b c : ℕ) → a - b - c ≡ a - (b + c)
+pub minus : (a b c : ℕ) → a - b - c ≡ a - (b + c)
 minus a b c = omega arith
 
 nothing_off : (a : ℕ) → a ≡ a - 0

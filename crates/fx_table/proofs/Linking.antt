@@ -6,6 +6,8 @@ use Rattle.std.specs.FinMap.{put, find, is_sorted}
 use Rattle.std.specs.FinMap.Entries.{is_sorted-put, find-put}
 use Rattle.std.proofs.lemmas.Bool.{cases_Bool, false≢true}
 use Rattle.std.proofs.lemmas.List.Elements.{All-head, All-tail}
+use Rattle.fx_base.proofs.Booleans.{second_true, first_true}
+use Rattle.fx_base.proofs.Names.{above_pushed}
 use Rattle.fx_store.specs.declared.node.Node.{Node}
 use Rattle.fx_store.specs.declared.node.Node.TheVariants.{Link}
 use Rattle.fx_store.specs.Names.{path_cmp, IsPath}
@@ -14,7 +16,7 @@ use Rattle.fx_store.specs.Resolve.{parent}
 use Rattle.fx_store.specs.Whole.{Store}
 use Rattle.fx_table.specs.Table.{TableLink, IsLink, is_dir, can_stand}
 use Rattle.fx_table.specs.Listed.{Mapped, with_links}
-use Rattle.fx_table.proofs.Shapes.{found, IsShaped, IsLeaf, above_pushed}
+use Rattle.fx_table.proofs.Shapes.{found, IsShaped, IsLeaf}
 
 abbrev Paths : Type 0
 Paths = List (List ℕ)
@@ -32,21 +34,13 @@ record CanLink (S now : Store) (link : TableLink) : Type 0 where
   within : IsLink link
   stands : can_stand S link.path ≡ true
 
-and_left : (a b : Bool) → (a && b) ≡ true → a ≡ true
-and_left true b e = refl
-and_left false b e = absurd (false≢true e)
-
-and_right : (a b : Bool) → (a && b) ≡ true → b ≡ true
-and_right true b e = e
-and_right false b e = absurd (false≢true e)
-
 no_dir : (o : Option Node) → is_none o ≡ true → is_dir o ≡ false
 no_dir None e = refl
 no_dir (Some node) e = absurd (false≢true e)
 
 module _ (S now : Store) (link : TableLink) (can : CanLink S now link) where
   is_free : is_dir (S link.path) ≡ false
-  is_free = no_dir (S link.path) (and_right (is_dir (S (parent link.path))) (is_none (S link.path)) can.stands)
+  is_free = no_dir (S link.path) (second_true (is_dir (S (parent link.path))) (is_none (S link.path)) can.stands)
 
   dirs_stay : (q : Paths) → is_dir (linked_at now link q) ≡ is_dir (S q)
   dirs_stay q = elim (cases_Bool (eq_by_cmp path_cmp q link.path)) [
@@ -64,7 +58,7 @@ module _ (S now : Store) (link : TableLink) (can : CanLink S now link) where
     | inl same ↦
         let at : path ++ name ∷ [] ≡ link.path = path_eq_same (path ++ name ∷ []) link.path same in
         let around : path ≡ parent link.path = sym (above_pushed path name) ∙ ap parent at in
-        can.dirs path ∙ ap (λ p. is_dir (S p)) around ∙ and_left (is_dir (S (parent link.path))) (is_none (S link.path)) can.stands
+        can.dirs path ∙ ap (λ p. is_dir (S p)) around ∙ first_true (is_dir (S (parent link.path))) (is_none (S link.path)) can.stands
     | inr other ↦ shape.above path name (sym (ap (λ b. is_some (cond b (Some (Link link.text)) (now (path ++ name ∷ [])))) other) ∙ some)
   ])
 

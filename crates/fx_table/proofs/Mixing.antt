@@ -8,6 +8,7 @@ use Rattle.std.specs.List.Sorted.{IsStrictlySortedBy}
 use Rattle.std.specs.FinMap.{find, put}
 use Rattle.std.specs.FinMap.Entries.{by_order}
 use Rattle.std.proofs.lemmas.List.{reverse-append}
+use Rattle.fx_base.proofs.Lists.{all_front, all_end, all_both}
 use Rattle.fx_outside.proofs.Sorted.{greater_from_less}
 use Rattle.fx_store.specs.declared.node.Node.TheVariants.{Link}
 use Rattle.fx_store.specs.declared.changes.Change.{Change}
@@ -76,18 +77,6 @@ pending_push (d ∷ cs) c = ap (λ ls. ls ++ link_in d ∷ []) (pending_push cs 
 pending_reversed : (cs : List Change) → pending (reverse cs) ≡ links_in cs
 pending_reversed [] = refl
 pending_reversed (c ∷ cs) = ap pending (reverse-append (c ∷ []) cs) ∙ (pending_push (reverse cs) c ∙ ap (λ ls. link_in c ∷ ls) (pending_reversed cs))
-
-all_both : {X : Type 0} (P : X → Type 0) (xs ys : List X) → AllByRecursion P xs → AllByRecursion P ys → AllByRecursion P (xs ++ ys)
-all_both P [] ys all more = more
-all_both P (x ∷ xs) ys all more = (all.0, all_both P xs ys all.1 more)
-
-all_front : {X : Type 0} (P : X → Type 0) (xs ys : List X) → AllByRecursion P (xs ++ ys) → AllByRecursion P xs
-all_front P [] ys all = tt
-all_front P (x ∷ xs) ys all = (all.0, all_front P xs ys all.1)
-
-all_end : {X : Type 0} (P : X → Type 0) (xs ys : List X) → AllByRecursion P (xs ++ ys) → AllByRecursion P ys
-all_end P [] ys all = all
-all_end P (x ∷ xs) ys all = all_end P xs ys all.1
 
 pub made_reversed : (cs new : List Change) → new ≡ reverse cs → MakeLinks cs → MakeLinks new
 made_reversed cs new is made = subst MakeLinks (sym is) (go cs made)

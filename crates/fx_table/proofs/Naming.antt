@@ -5,6 +5,7 @@ use Rattle.std.specs.List.Sorted.{IsStrictlySortedBy}
 use Rattle.std.specs.Map.{keys_of}
 use Rattle.std.proofs.lemmas.Bool.{false≢true}
 use Rattle.std.proofs.lemmas.Option.{same_Some}
+use Rattle.fx_base.proofs.Lists.{length_keys, some_at, at_index}
 use Rattle.fx_outside.specs.Path.{Parts, name_in}
 use Rattle.fx_store.specs.declared.node.Node.{Node}
 use Rattle.fx_store.specs.declared.node.Node.TheVariants.{File, Dir, Link}
@@ -67,10 +68,6 @@ part_sets es i found is sets = subst (λ l. HaveNameSets (mapped_of l)) (sym is)
   sets = λ p. subst IsNameSet (sym (same_names (mapped_of (part_listed es i)) es p (part_keys es i))) (sets.sets p);
 })
 
-length_keys : {A B : Type 0} (es : List (A × B)) → length (keys_of es) ≡ length es
-length_keys [] = refl
-length_keys (e ∷ es) = ap suc (length_keys es)
-
 pub part_len : (es : List Mapped) (i : ℕ) (found : List Change) → found ≡ part_listed es i → length found ≡ length es
 part_len es i found is =
     ap length is ∙ (sym (mapped_len (part_listed es i)) ∙ (sym (length_keys (mapped_of (part_listed es i))) ∙ (ap length (part_keys es i) ∙ length_keys es)))
@@ -89,11 +86,6 @@ mixed_set es (x ∷ xs) (suc i) e is =
     let one : suc i + 1 ≡ suc (i + 1) = omega arith in
     ap (λ l. change_of (with_names es x) ∷ l) (mixed_set es xs i e is) ∙ ap (λ n. changes_of (mixed es (x ∷ xs) n)) (sym one)
 
-some_at : {A : Type 0} (xs : List A) (i : ℕ) → i < length xs → (x : A) × (slice_get xs i ≡ Some x)
-some_at [] i lt = absurd (omega arith)
-some_at (x ∷ xs) zero lt = (x, refl)
-some_at (x ∷ xs) (suc i) lt = some_at xs i (omega arith)
-
 pub part_more : (es : List Mapped) (i : ℕ) (old new : List Change) → i < length old → old ≡ part_listed es i → ListsAt old i new → new ≡ part_listed es (i + 1)
 part_more es i old new lt is lists =
     let e = some_at es i (omega (arith, lt, part_len es i old is)) in
@@ -110,11 +102,6 @@ all_taken (suc n) (x ∷ xs) le = let rest = all_taken n xs (omega arith) in (ap
 
 -- ---- at one index
 
-pub there : {A : Type 0} (xs : List A) (i : ℕ) (x : A) → i < length xs → x ≡ get_or xs i x → slice_get xs i ≡ Some x
-there [] i x lt is = absurd (omega arith)
-there (y ∷ xs) zero x lt is = ap Some (sym is)
-there (y ∷ xs) (suc i) x lt is = there xs i x (omega arith) is
-
 pub key_of : (found : List Change) (i : ℕ) (x : Change) → slice_get found i ≡ Some x → slice_get (keys_of (mapped_of found)) i ≡ Some x.path
 key_of [] i x is = cc
 key_of (c ∷ found) zero x is = ap (option_map (λ (d : Change). d.path)) is
@@ -122,7 +109,7 @@ key_of (c ∷ found) (suc i) x is = key_of found i x is
 
 -- one index, one change
 pub one_path : (found : List Change) (i : ℕ) (x y : Change) → i < length found → x ≡ get_or found i x → y ≡ get_or found i y → x.path ≡ y.path
-one_path found i x y lt a b = ap (λ (c : Change). c.path) (same_Some x y (sym (there found i x lt a) ∙ there found i y lt b))
+one_path found i x y lt a b = ap (λ (c : Change). c.path) (same_Some x y (sym (at_index found i x lt a) ∙ at_index found i y lt b))
 
 set_same : {A : Type 0} (xs : List A) (i : ℕ) (x : A) → slice_get xs i ≡ Some x → xs ≡ set xs i x
 set_same [] i x is = refl

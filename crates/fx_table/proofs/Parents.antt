@@ -1,10 +1,9 @@
 -- The names that stand directly below each of some paths, as one path more is come to.
 use Rattle.std.proofs.Common.{◌≡◌, ℕ, zero, suc, ◌+◌, ◌-◌, ◌<◌, ◌≤◌, Bool, true, false, cond, List, [], ◌∷◌, ◌++◌, map, take, drop, length, set, get_or, Option, Some, None, option_map, is_some, refl, sym, ◌∙◌, ap, subst, arith, append-nil, length-append, replicate, inl, inr, Vec}
-use Rattle.std.specs.declared.cmp.Ordering.TheVariants.{Less, Equal}
+use Rattle.std.specs.declared.cmp.Ordering.TheVariants.{Less}
 use Rattle.std.specs.List.{AllByRecursion, cons_option, slice_get}
 use Rattle.std.specs.List.Sorted.{IsStrictlySortedBy}
 use Rattle.std.specs.Ordering.{eq_by_cmp}
-use Rattle.std.specs.Cmp.{tied_itself}
 use Rattle.std.specs.Cmp.Lexicographic.{pointwise}
 use Rattle.std.proofs.lemmas.List.{take_all, length-map, map-set, get_or-map}
 use Rattle.std.proofs.lemmas.Option.{slice_get_within, slice_get-map, same_Some}
@@ -12,8 +11,9 @@ use Rattle.std.proofs.lemmas.Bool.{cases_lt}
 use Rattle.std.proofs.Math.Seq.{take-append_seam}
 use mathlib.Core.Path.{fun_ext}
 use Rattle.std.specs.Map.{keys_of}
+use Rattle.fx_base.proofs.Names.{not_before_itself}
 use Rattle.fx_outside.specs.Path.{Parts, above, name_in}
-use Rattle.fx_outside.proofs.Trees.{name_in_folder, parts_total}
+use Rattle.fx_outside.proofs.Trees.{name_in_folder}
 use Rattle.fx_store.specs.Names.{name_cmp, path_cmp}
 use Rattle.fx_store.specs.declared.changes.Change.{Change}
 use Rattle.fx_table.specs.Mapped.{mapped_of}
@@ -33,9 +33,6 @@ one_folder p r q m n a b =
     let e : p ++ m ∷ [] ≡ r ++ n ∷ [] = sym (name_in_folder p q m a) ∙ name_in_folder r q n b in
     let long : length p ≡ length r = omega (arith, ap length e, length-append p (m ∷ []), length-append r (n ∷ [])) in
     sym (take-append_seam p (m ∷ [])) ∙ (λ i. take (long i) (e i)) ∙ take-append_seam r (n ∷ [])
-
-not_less : (p : Parts) → path_cmp p p ≡ Less → ⊥
-not_less p e = let wrong : Equal ≡ Less = sym (tied_itself parts_total p) ∙ e in cc
 
 less_at : (ks : List Parts) (j : ℕ) (r q : Parts) → AllByRecursion (λ k. path_cmp q k ≡ Less) ks → slice_get ks j ≡ Some r → path_cmp q r ≡ Less
 less_at [] j r q all is = cc
@@ -59,7 +56,7 @@ module _ (f : Parts → List (List ℕ)) (q : Parts) where
     where
       by : (o : Option (List ℕ)) → name_in k q ≡ o → o ≡ None
       by None e = refl
-      by (Some m) e = let same : p ≡ k = one_folder p k q n m is e in absurd (not_less p (subst (λ x. path_cmp p x ≡ Less) (sym same) all.0))
+      by (Some m) e = let same : p ≡ k = one_folder p k q n m is e in absurd (not_before_itself p (subst (λ x. path_cmp p x ≡ Less) (sym same) all.0))
 
   pub one_more : (ks : List Parts) (i : ℕ) (p : Parts) (n : List ℕ) → IsStrictlySortedBy path_cmp ks → slice_get ks i ≡ Some p → name_in p q ≡ Some n → map more ks ≡ set (map f ks) i (get_or (map f ks) i [] ++ n ∷ [])
   unfolding IsStrictlySortedBy
@@ -74,7 +71,7 @@ module _ (f : Parts → List (List ℕ)) (q : Parts) where
     where
       by : (o : Option (List ℕ)) → name_in k q ≡ o → path_cmp k p ≡ Less → o ≡ None
       by None e less = refl
-      by (Some m) e less = let same : k ≡ p = one_folder k p q m n e is in absurd (not_less k (subst (λ x. path_cmp k x ≡ Less) (sym same) less))
+      by (Some m) e less = let same : k ≡ p = one_folder k p q m n e is in absurd (not_before_itself k (subst (λ x. path_cmp k x ≡ Less) (sym same) less))
 
 cons_append : (o : Option (List ℕ)) (xs ys : List (List ℕ)) → cons_option o xs ++ ys ≡ cons_option o (xs ++ ys)
 cons_append None xs ys = refl

@@ -5,7 +5,7 @@ use Rattle.std.specs.Fmt.{digit_glyph}
 use Rattle.std.proofs.lemmas.List.Sums.{sum_by-cons}
 use Rattle.std.specs.declared.cmp.Ordering.{Ordering}
 use Rattle.std.specs.declared.cmp.Ordering.TheVariants.{Less, Equal, Greater}
-use Rattle.std.specs.Ordering.{is_eq, eq_by_cmp}
+use Rattle.std.specs.Ordering.{eq_by_cmp}
 use Rattle.std.specs.List.{AllByRecursion, cons_option}
 use Rattle.std.specs.List.Sorted.{IsStrictlySortedBy}
 use Rattle.std.specs.Map.{keys_of}
@@ -24,7 +24,7 @@ use Rattle.fx_store.specs.Changes.{IsChanges, changed_paths, change_at}
 use Rattle.fx_store.specs.Names.{path_cmp, path_text, IsNameSet}
 use Rattle.fx_store.specs.Orders.{path_total, path_eq_same}
 use Rattle.fx_store.specs.Whole.{Nodes, IsWhole, IsNode, lists, over, over_nodes}
-use Rattle.fx_store.proofs.Overlays.{over-change_at}
+use Rattle.fx_store.proofs.Overlays.{over-change_at, none_above}
 use Rattle.fx_store.proofs.Stores.{get-over_nodes, same_nodes}
 use Rattle.fx_table.specs.declared.fault.FolderCause.TheVariants.{BadName, Strange, TooLarge, BadTable}
 use Rattle.fx_table.specs.declared.fault.LoadFault.{LoadFault}
@@ -117,10 +117,6 @@ keep : Parts → Option Node → Option (Option Node) → Option (Option Node)
 keep q there None = None
 keep q there (Some node) = option_map (λ (c : Change). c.node) (kept_change q there node)
 
-none_above : (cs : List Change) (p : Parts) → AllByRecursion (λ q. path_cmp p q ≡ Less) (changed_paths cs) → change_at cs p ≡ None
-none_above [] p above = refl
-none_above (c ∷ cs) p above = ap (λ r. cond (is_eq r) (Some c.node) (change_at cs p)) above.0 ∙ none_above cs p above.1
-
 -- what is kept stands at the same path
 flag_path : (p : Parts) (exec : Bool) (there : Option Node) (d : Change) → flag_change p exec there ≡ Some d → d.path ≡ p
 flag_path p exec None d e = cc
@@ -183,6 +179,14 @@ kept_push nodes cs kept new c is keeps =
 
 -- ---- a whole filestore has a shape
 
+pub bytes_linked : (fs : List Mapped) (links : List TableLink) → AreOfBytes (found fs) → AreOfBytes (found (with_links fs links))
+bytes_linked fs [] held = held
+bytes_linked fs (k ∷ links) held = bytes_linked (put path_cmp k.path (Link k.text) fs) links (λ q. subst (λ o. IfSome o IsOfBytes) (sym (find_linked fs k q)) (by (eq_by_cmp path_cmp q k.path) q))
+  where
+    by : (b : Bool) (q : Parts) → IfSome (cond b (Some (Link k.text)) (found fs q)) IsOfBytes
+    by true q = tt
+    by false q = held q
+
 module _ (nodes : Nodes) (whole : IsWhole (get nodes)) where
   abbrev es : List Mapped
   es = entries nodes
@@ -237,14 +241,6 @@ module _ (nodes : Nodes) (whole : IsWhole (get nodes)) where
 
     made : IsLinked (get nodes) E
     made = lines_made (get nodes) true ls are.table es linked
-
-    bytes_linked : (fs : List Mapped) (links : List TableLink) → AreOfBytes (found fs) → AreOfBytes (found (with_links fs links))
-    bytes_linked fs [] held = held
-    bytes_linked fs (k ∷ links) held = bytes_linked (put path_cmp k.path (Link k.text) fs) links (λ q. subst (λ o. IfSome o IsOfBytes) (sym (find_linked fs k q)) (by (eq_by_cmp path_cmp q k.path) q))
-      where
-        by : (b : Bool) (q : Parts) → IfSome (cond b (Some (Link k.text)) (found fs q)) IsOfBytes
-        by true q = tt
-        by false q = held q
 
     bytes : AreOfBytes (found E)
     bytes = bytes_linked (with_flags es ls) ks (bytes_flags es ls (λ q. subst (λ o. IfSome o IsOfBytes) (at q) (bytes_of q (get nodes q) (whole.nodes q))))

@@ -1,9 +1,8 @@
 -- A search among changes in the order of their paths, and the path above another.
-use Rattle.std.proofs.Common.{◌≡◌, ℕ, zero, suc, ◌+◌, ◌-◌, ◌<◌, ◌≤◌, cond, T, List, [], ◌∷◌, ◌++◌, map, length, take, get_or, Option, Some, None, refl, sym, ◌∙◌, ap, subst, arith, length-take}
+use Rattle.std.proofs.Common.{◌≡◌, ℕ, zero, suc, ◌-◌, ◌<◌, ◌≤◌, cond, T, List, [], ◌∷◌, map, length, take, get_or, Option, Some, None, refl, sym, ◌∙◌, ap, subst, arith, length-take}
 use Rattle.std.specs.Prelude.{unwrap_or}
 use Rattle.std.specs.declared.cmp.Ordering.TheVariants.{Less, Equal, Greater}
 use Rattle.std.specs.Ordering.{eq_by_cmp, ordering_index}
-use Rattle.std.specs.List.{slice_get}
 use Rattle.std.specs.List.Sorted.{IsStrictlySortedBy, IsNonDecreasingBy}
 use Rattle.std.specs.Map.{keys_of}
 use Rattle.std.specs.FinMap.{find, is_sorted}
@@ -77,11 +76,6 @@ absent_in changes cs i q same up before after = absent_change cs i q (subst IsCh
 pub text_none : (p : Paths) (text : List ℕ) → text ≡ [] → text ≡ place_of (take 0 p)
 text_none [] text none = none
 text_none (n ∷ p) text none = none
-
-take_at : (xs : Paths) (i : ℕ) (x : List ℕ) → slice_get xs i ≡ Some x → take (i + 1) xs ≡ take i xs ++ x ∷ []
-take_at [] i x is = cc
-take_at (y ∷ xs) zero x is = let same : y ≡ x = cc in ap (λ z. z ∷ []) same
-take_at (y ∷ xs) (suc i) x is = let one : suc i + 1 ≡ suc (i + 1) = omega arith in ap (λ n. take n (y ∷ xs)) one ∙ ap (λ l. y ∷ l) (take_at xs i x is)
 
 front : (p : Paths) (k : ℕ) → IsPath p → IsPath (take k p)
 front p k path = record { names = λ i d lt. names i d lt; short = omega (arith, length-take k p, path.short) }

@@ -1,23 +1,23 @@
 -- Paths with nodes, whose directories are given the names that stand in them, are a whole filestore.
-use Rattle.std.proofs.Common.{◌≡◌, inl, inr, ℕ, suc, ◌-◌, Bool, true, false, cond, ◌||◌, List, [], ◌∷◌, ◌++◌, map, length, take, Option, Some, None, is_some, IfSome, All, refl, sym, ◌∙◌, ap, subst, arith, length-append}
+use Rattle.std.proofs.Common.{◌≡◌, inl, inr, ℕ, Bool, true, false, cond, ◌||◌, List, [], ◌∷◌, ◌++◌, map, Option, Some, None, is_some, IfSome, All, refl, sym, ◌∙◌, ap, subst, arith, length-append}
 use Rattle.std.specs.declared.cmp.Ordering.TheVariants.{Less}
 use Rattle.std.specs.Ordering.{is_eq, eq_by_cmp}
-use Rattle.std.specs.Cmp.{tied_itself}
 use Rattle.std.specs.Option.{option_map}
 use Rattle.std.specs.List.{AllByRecursion, cons_option}
 use Rattle.std.specs.List.Sorted.{IsStrictlySortedBy}
 use Rattle.std.specs.Map.{keys_of}
 use Rattle.std.specs.FinMap.{find}
-use Rattle.std.proofs.lemmas.Bool.{cases_Bool, false≢true}
+use Rattle.std.proofs.lemmas.Bool.{cases_Bool, false≢true, or_right}
 use Rattle.std.proofs.lemmas.List.Elements.{All-nil, All-cons, All-head, All-tail}
 use Rattle.fx_outside.specs.Path.{name_in}
 use Rattle.fx_outside.proofs.Trees.{parts_same, true_test, in_folder_cmp, name_in_folder, name_in_pushed}
 use Rattle.fx_store.specs.declared.node.Node.{Node}
 use Rattle.fx_store.specs.declared.node.Node.TheVariants.{File, Dir, Link}
 use Rattle.fx_store.specs.Names.{name_cmp, path_cmp, has, IsName, IsPath}
-use Rattle.fx_store.specs.Orders.{name_total, path_eq_same}
+use Rattle.fx_store.specs.Orders.{path_eq_same}
 use Rattle.fx_store.specs.Whole.{Store, IsWhole, IsNode, lists}
 use Rattle.fx_store.proofs.Stores.{IsWhole-same}
+use Rattle.fx_store.proofs.PathLists.{has_first}
 use Rattle.fx_table.specs.Table.{is_dir}
 use Rattle.fx_table.specs.Listed.{Mapped, names_below, with_names, listed}
 use Rattle.fx_table.specs.Shaped.{IsOfBytes, AreOfBytes}
@@ -29,14 +29,6 @@ Paths = List (List ℕ)
 -- what stands at each path of a list
 abbrev pub found : List Mapped → Store
 found es path = find path_cmp path es
-
--- the path above one with a name more
-pub above_pushed : (path : Paths) (name : List ℕ) → take (length (path ++ name ∷ []) - 1) (path ++ name ∷ []) ≡ path
-above_pushed [] name = refl
-above_pushed (x ∷ []) name = refl
-above_pushed (x ∷ y ∷ path) name =
-    let one : length (x ∷ y ∷ path ++ name ∷ []) - 1 ≡ suc (length (y ∷ path ++ name ∷ []) - 1) = omega arith in
-    ap (λ n. take n (x ∷ y ∷ path ++ name ∷ [])) one ∙ ap (λ l. x ∷ l) (above_pushed (y ∷ path) name)
 
 -- ---- the names below a directory
 
@@ -84,16 +76,9 @@ names_ascend path (e ∷ es) up =
       | Some name ↦ λ is. (names_after path name es (subst (λ p. AllByRecursion (λ q. path_cmp p q ≡ Less) (keys_of es)) (name_in_folder path e.0 name is) up.0), rest)
     ] refl
 
-or_true : (a b : Bool) → b ≡ true → (a || b) ≡ true
-or_true true b e = refl
-or_true false b e = e
-
-has_first : (n : List ℕ) (ns : List (List ℕ)) → has (n ∷ ns) n ≡ true
-has_first n ns = ap (λ b. b || has ns n) (ap is_eq (tied_itself name_total n))
-
 all_names : (ns : List (List ℕ)) → ((n : List ℕ) → has ns n ≡ true → IsName n) → All IsName ns
 all_names [] each = All-nil IsName
-all_names (n ∷ ns) each = All-cons IsName n ns (each n (has_first n ns)) (all_names ns (λ m h. each m (or_true (eq_by_cmp name_cmp m n) (has ns m) h)))
+all_names (n ∷ ns) each = All-cons IsName n ns (each n (has_first n ns)) (all_names ns (λ m h. each m (or_right (eq_by_cmp name_cmp m n) (has ns m) h)))
 
 no_names : (ns : List (List ℕ)) → ((n : List ℕ) → has ns n ≡ true → ⊥) → ns ≡ []
 no_names [] never = refl

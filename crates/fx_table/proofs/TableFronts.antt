@@ -1,12 +1,11 @@
 -- Two tables at the front of one text: one is a front of the other.
 use Rattle.std.proofs.Common.{◌≡◌, ◌⊎◌, inl, inr, ℕ, suc, ◌+◌, ◌-◌, List, [], ◌∷◌, ◌++◌, map, length, take, flat_map, All, IsTrue, Result, Ok, Err, refl, sym, ◌∙◌, ap, subst, arith, append_assoc, append-nil, length-append}
-use Rattle.std.specs.declared.cmp.Ordering.{Ordering}
-use Rattle.std.specs.declared.cmp.Ordering.TheVariants.{Less}
-use Rattle.std.specs.List.{AllByRecursion, slice_split}
+use Rattle.std.specs.List.{slice_split}
 use Rattle.std.specs.List.Sorted.{IsStrictlySortedBy}
 use Rattle.std.proofs.lemmas.List.{append_cancel_left}
 use Rattle.std.proofs.lemmas.List.Elements.{All-nil, All-cons, All-head, All-tail}
 use Rattle.std.proofs.lemmas.Option.{same_Some}
+use Rattle.fx_base.proofs.Lists.{ascending_front, same_heads}
 use Rattle.fx_store.specs.Names.{path_cmp}
 use Rattle.fx_table.specs.Table.{TableLine, IsLine, Setting, AreLinesOver, has_place, line_of, lines_text, is_feed, read_line, read_from, lines_or_none}
 use Rattle.fx_table.specs.TableLaws.{IsFirstBadOf}
@@ -21,15 +20,6 @@ all_front : {A : Type 0} (P : A → Type 0) (xs ys : List A) → All P (xs ++ ys
 all_front P [] ys all = All-nil P
 all_front P (x ∷ xs) ys all = All-cons P x xs (All-head P x (xs ++ ys) all) (all_front P xs ys (All-tail P x (xs ++ ys) all))
 
-each_front : {A : Type 0} (P : A → Type 0) (xs ys : List A) → AllByRecursion P (xs ++ ys) → AllByRecursion P xs
-each_front P [] ys all = tt
-each_front P (x ∷ xs) ys all = (all.0, each_front P xs ys all.1)
-
-sorted_front : {A : Type 0} (R : A → A → Ordering) (xs ys : List A) → IsStrictlySortedBy R (xs ++ ys) → IsStrictlySortedBy R xs
-unfolding IsStrictlySortedBy
-sorted_front R [] ys up = tt
-sorted_front R (x ∷ xs) ys up = (each_front (λ y. R x y ≡ Less) xs ys up.0, sorted_front R xs ys up.1)
-
 abbrev paths_of : List TableLine → List (List (List ℕ))
 paths_of ls = map (λ (l : TableLine). l.path) ls
 
@@ -41,7 +31,7 @@ table_front : (S : Setting) (ms ns : List TableLine) → AreLinesOver S (ms ++ n
 table_front S ms ns table = record {
   valid = all_front IsLine ms ns table.valid;
   stand = all_front (Stands S) ms ns table.stand;
-  ascending = sorted_front path_cmp ([] ∷ paths_of ms) (paths_of ns) (subst (λ l. IsStrictlySortedBy path_cmp ([] ∷ l)) (paths_append ms ns) table.ascending);
+  ascending = ascending_front path_cmp ([] ∷ paths_of ms) (paths_of ns) (subst (λ l. IsStrictlySortedBy path_cmp ([] ∷ l)) (paths_append ms ns) table.ascending);
 }
 
 -- ---- one of two tables is a front of the other
@@ -51,9 +41,6 @@ pub record IsLonger (ms ns : List TableLine) (r s : List ℕ) : Type 0 where
   pub more : List TableLine
   pub links : ns ≡ ms ++ more
   pub rest : r ≡ lines_text more ++ s
-
-same_heads : {A : Type 0} (x y : A) (xs ys : List A) → x ∷ xs ≡ y ∷ ys → x ≡ y
-same_heads x y xs ys e = cc
 
 first_is : (a b : TableLine) (u v : List ℕ) → IsLine a → IsLine b → (line_of a ++ 10 ∷ []) ++ u ≡ (line_of b ++ 10 ∷ []) ++ v → (a ≡ b) × (u ≡ v)
 first_is a b u v valid valid' e =

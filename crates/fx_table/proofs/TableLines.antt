@@ -1,46 +1,35 @@
 -- The lines of a table are read back, and no other text is read.
-use Rattle.std.proofs.Common.{◌≡◌, ℕ, ◌+◌, ◌/◌, ◌%◌, ◌<◌, ◌≤◌, inl, inr, ltb, Bool, true, false, cond, ◌&&◌, IsTrue, List, [], ◌∷◌, ◌++◌, length, length-append, codes, map, refl, sym, ap, subst, ◌∙◌, arith, Option, Some, None, Result, Ok, Err, append_assoc, All}
+use Rattle.std.proofs.Common.{◌≡◌, ℕ, ◌+◌, ◌<◌, ◌≤◌, ltb, Bool, true, false, cond, ◌&&◌, IsTrue, List, [], ◌∷◌, ◌++◌, length, length-append, codes, map, refl, sym, ap, subst, ◌∙◌, arith, Option, Some, None, Result, Ok, Err, append_assoc, All}
 use Rattle.std.specs.Prelude.{bytes_eq, is_ok, is_some, nat_lt}
-use Rattle.std.specs.Str.{is_utf8}
 use Rattle.std.specs.Ordering.{is_lt}
-use Rattle.std.specs.declared.cmp.Ordering.{Ordering}
-use Rattle.std.specs.declared.cmp.Ordering.TheVariants.{Less, Equal, Greater}
-use Rattle.std.specs.List.{flat_map, filter_map, slice_split, join_with_byte, AllByRecursion, cons_option, onto_first}
+use Rattle.std.specs.declared.cmp.Ordering.TheVariants.{Less}
+use Rattle.std.specs.List.{filter_map, slice_split, join_with_byte, AllByRecursion, cons_option, onto_first}
 use Rattle.std.specs.List.Sorted.{IsStrictlySortedBy}
-use Rattle.std.proofs.lemmas.Bool.{false≢true}
+use Rattle.std.proofs.lemmas.Bool.{false≢true, and_from}
 use Rattle.std.proofs.lemmas.Bool.Decides.{nat_tests}
 use Rattle.std.proofs.lemmas.Slice.Eq.{bytes_eq-Decides}
 use Rattle.std.proofs.lemmas.Option.{same_Some}
-use Rattle.std.proofs.lemmas.Str.{IsUtf8-from_is_utf8}
 use Rattle.std.proofs.lemmas.List.Elements.{All-nil, All-cons, All-head, All-tail, All-append, All-weaker}
 use Rattle.std.proofs.lemmas.List.Splits.{slice_split_none, slice_split_at, length-slice_split, join_with_byte-slice_split}
-use lib.Utf8.{scalar, scalars, scalar_cases, encode, encodes}
+use Rattle.fx_base.proofs.Booleans.{second_true, first_true}
+use Rattle.fx_base.proofs.Orders.{is_less}
+use Rattle.fx_base.proofs.Results.{chosen_some, chosen_ok}
 use Rattle.fx_store.specs.declared.name.PathFault.{PathFault}
 use Rattle.fx_store.specs.declared.name.PathFault.TheVariants.{BadName, TooDeep}
-use Rattle.fx_store.specs.Names.{is_name, IsName, IsPath, IsLinkText, path_cmp, path_text, has_link_form, components}
+use Rattle.fx_store.specs.Names.{IsPath, IsLinkText, path_cmp, path_text, has_link_form, components}
 use Rattle.fx_store.specs.Orders.{path_total}
 use Rattle.fx_store.specs.Faults.{read_path, read_link}
 use Rattle.fx_store.proofs.SpellingLaws.{path_texts_read}
+use Rattle.fx_store.proofs.PathLists.{read_path_text, path_bytes}
 use Rattle.fx_table.specs.TableSpelling.{spelling, unspelled}
 use Rattle.fx_table.specs.Table.{Mark, Target, Executable, TableLine, mark_text, line_of, lines_text, linked, link_of, flagged, flag_of, read_parts, is_space, read_line, Setting, has_place, next_line, with_first, read_on, read_lines, is_feed, read_from, IsMark, IsLine, IsTableBehind, AreLinesOver}
 use Rattle.fx_table.specs.TableLaws.{IsFirstBadOf}
-use Rattle.fx_table.proofs.TableSpelling.{true_or_false, spelling_read, read_spelling, spelling_visible}
+use Rattle.fx_table.proofs.TableSpelling.{spelling_read, read_spelling, spelling_visible}
 
 -- ---- the bytes of names
 
 abbrev IsByte : ℕ → Type 0
 IsByte b = b < 256
-
-pub first_passes : (a b : Bool) → (a && b) ≡ true → a ≡ true
-first_passes true b e = refl
-first_passes false b e = e
-
-pub second_passes : (a b : Bool) → (a && b) ≡ true → b ≡ true
-second_passes true b e = e
-second_passes false b e = absurd (false≢true e)
-
-small : (c : ℕ) → scalar c ≡ true → c < 1114112
-small c h = elim (scalar_cases c h) [ inl low ↦ omega arith | inr high ↦ omega arith ]
 
 below : (c n : ℕ) → ltb c n ≡ true → c < n
 below c n h = grind (arith, nat_tests)
@@ -51,58 +40,12 @@ one a p = All-cons IsByte a [] p (All-nil IsByte)
 two : (a b : ℕ) → a < 256 → b < 256 → All IsByte (a ∷ b ∷ [])
 two a b p q = All-cons IsByte a (b ∷ []) p (one b q)
 
-encode_bytes : (c : ℕ) → scalar c ≡ true → All IsByte (encode c)
-unfolding encode
-encode_bytes c h = elim (true_or_false (ltb c 128)) [
-  | inl e ↦ let low : c < 256 = omega (arith, below c 128 e) in rw e (one c low)
-  | inr e ↦ elim (true_or_false (ltb c 2048)) [
-    | inl f ↦ let low : 192 + c / 64 < 256 = omega (arith, below c 2048 f) in rw (e, f) (two (192 + c / 64) (128 + c % 64) low (omega arith))
-    | inr f ↦ elim (true_or_false (ltb c 65536)) [
-      | inl g ↦
-          let low : 224 + c / 4096 < 256 = omega (arith, below c 65536 g) in
-          rw (e, f, g) (All-cons IsByte (224 + c / 4096) ((128 + c / 64 % 64) ∷ (128 + c % 64) ∷ []) low (two (128 + c / 64 % 64) (128 + c % 64) (omega arith) (omega arith)))
-      | inr g ↦
-          let low : 240 + c / 262144 < 256 = omega (arith, small c h) in
-          rw (e, f, g)
-          (All-append IsByte ((240 + c / 262144) ∷ (128 + c / 4096 % 64) ∷ []) ((128 + c / 64 % 64) ∷ (128 + c % 64) ∷ [])
-          (two (240 + c / 262144) (128 + c / 4096 % 64) low (omega arith)) (two (128 + c / 64 % 64) (128 + c % 64) (omega arith) (omega arith)))
-    ]
-  ]
 ]
-
-encodes_bytes : (cs : List ℕ) → scalars cs ≡ true → All IsByte (encodes cs)
-encodes_bytes [] h = All-nil IsByte
-encodes_bytes (c ∷ cs) h =
-    All-append IsByte (encode c) (encodes cs) (encode_bytes c (first_passes (scalar c) (scalars cs) h)) (encodes_bytes cs (second_passes (scalar c) (scalars cs) h))
-
-utf8_bytes : (bs : List ℕ) → is_utf8 bs ≡ true → All IsByte bs
-utf8_bytes bs h = let text = IsUtf8-from_is_utf8 bs h in subst (All IsByte) text.1.1 (encodes_bytes text.0 text.1.0)
-
-name_bytes : (n : List ℕ) → IsName n → All IsByte n
-unfolding is_name
-name_bytes n h = utf8_bytes n (second_passes _ (is_utf8 n) h)
-
-names_bytes : (ns : List (List ℕ)) → All IsName ns → All IsByte (flat_map (λ n. 47 ∷ n) ns)
-names_bytes [] all = All-nil IsByte
-names_bytes (n ∷ ns) all =
-    All-cons IsByte 47 (n ++ flat_map (λ n. 47 ∷ n) ns) (omega arith)
-    (All-append IsByte n (flat_map (λ n. 47 ∷ n) ns) (name_bytes n (All-head IsName n ns all)) (names_bytes ns (All-tail IsName n ns all)))
-
-path_bytes : (p : List (List ℕ)) → All IsName p → All IsByte (path_text p)
-path_bytes [] all = All-cons IsByte 47 [] (omega arith) (All-nil IsByte)
-path_bytes (n ∷ ns) all = names_bytes (n ∷ ns) all
 
 -- ---- paths and link texts
 
 few : {A : Type 0} (n : ℕ) (x : Result A PathFault) (f : PathFault) → n ≤ 64 → cond (nat_lt 64 n) (Err f) x ≡ x
 few n x f h = grind (arith, nat_tests)
-
-pub read_path_text : (p : List (List ℕ)) → IsPath p → read_path (path_text p) ≡ Ok p
-read_path_text p path = (path_texts_read (path_text p) p).reads (record { names = path.names; spelled = refl }) ∙ few (length p) (Ok p) TooDeep path.short
-
-chosen_ok : {A : Type 0} (b : Bool) (x : Result A PathFault) (f : PathFault) (a : A) → cond b x (Err f) ≡ Ok a → (b ≡ true) × (x ≡ Ok a)
-chosen_ok true x f a e = (refl, e)
-chosen_ok false x f a e = absurd (false≢true (ap is_ok e))
 
 spared_ok : {A : Type 0} (b : Bool) (x : A) (f : PathFault) (a : A) → cond b (Err f) (Ok x) ≡ Ok a → (b ≡ false) × (x ≡ a)
 spared_ok true x f a e = absurd (false≢true (ap is_ok e))
@@ -209,10 +152,6 @@ flag_of_is : (a : List ℕ) (p : Option (List ℕ)) (l : TableLine) → unspelle
 flag_of_is a (Some p) l e is = let path = read_spelling a p e in flagged_is a p (read_path p) l path.spelled refl is
 flag_of_is a None l e is = absurd (false≢true (ap is_some is))
 
-chosen_some : {A : Type 0} (b : Bool) (x : Option A) (a : A) → cond b x None ≡ Some a → (b ≡ true) × (x ≡ Some a)
-chosen_some true x a e = (refl, e)
-chosen_some false x a e = absurd (false≢true (ap is_some e))
-
 parts_are : (parts : List (List ℕ)) (l : TableLine) → read_parts parts ≡ Some l → IsLineOf (join_with_byte 32 parts) l
 parts_are [] l is = absurd (false≢true (ap is_some is))
 parts_are (a ∷ []) l is = absurd (false≢true (ap is_some is))
@@ -265,15 +204,12 @@ read_more S before number line [] some = absurd (omega arith)
 read_more S before number [] (next ∷ lines) some = refl
 read_more S before number (b ∷ line) (next ∷ lines) some = refl
 
-both_pass : (a b : Bool) → a ≡ true → b ≡ true → (a && b) ≡ true
-both_pass a b e f = rw (e, f) refl
-
 -- the first link of a table and the others
 first_stands : (S : Setting) (before : List (List ℕ)) (l : TableLine) (ls : List TableLine) → IsTableBehind S before (l ∷ ls) → next_line S before (Some l) ≡ Some l
 unfolding IsStrictlySortedBy
 first_stands S before l ls t =
     ap (λ b. cond b (Some l) None)
-    (both_pass (is_lt (path_cmp before l.path)) (has_place S l) (ap is_lt t.ascending.0.0) (All-head (λ (l : TableLine). IsTrue (has_place S l)) l ls t.stand))
+    (and_from (is_lt (path_cmp before l.path)) (has_place S l) (ap is_lt t.ascending.0.0) (All-head (λ (l : TableLine). IsTrue (has_place S l)) l ls t.stand))
 
 others_stand : (S : Setting) (before : List (List ℕ)) (l : TableLine) (ls : List TableLine) → IsTableBehind S before (l ∷ ls) → IsTableBehind S l.path ls
 unfolding IsStrictlySortedBy
@@ -294,11 +230,6 @@ lines_are_read S first lines t = table_read S [] first lines t
 
 -- ---- a text that is read
 
-less : (r : Ordering) → is_lt r ≡ true → r ≡ Less
-less Less e = refl
-less Equal e = absurd (false≢true e)
-less Greater e = absurd (false≢true e)
-
 -- the link follows the line of a path
 record Follows (S : Setting) (before : List (List ℕ)) (o : Option TableLine) (l : TableLine) : Type 0 where
   was : o ≡ Some l
@@ -313,8 +244,8 @@ next_is S before (Some k) l e =
     subst (Follows S before (Some k)) same
     (record {
       was = refl;
-      above = less (path_cmp before k.path) (first_passes (is_lt (path_cmp before k.path)) (has_place S k) both.0);
-      stands = second_passes (is_lt (path_cmp before k.path)) (has_place S k) both.0;
+      above = is_less (path_cmp before k.path) (first_true (is_lt (path_cmp before k.path)) (has_place S k) both.0);
+      stands = second_true (is_lt (path_cmp before k.path)) (has_place S k) both.0;
     })
 
 -- a path below the first of an ascending list is below all of it

@@ -18,6 +18,7 @@ use Rattle.fx_store.specs.Names.{path_cmp, IsPath}
 use Rattle.fx_store.specs.Orders.{path_total}
 use Rattle.fx_store.specs.Resolve.{parent}
 use Rattle.fx_store.specs.Whole.{Store, Nodes, IsWhole, IsNode, lists}
+use Rattle.fx_store.proofs.PathLists.{root_first}
 use Rattle.fx_table.specs.Table.{Target, Executable, TableLine, line_at, lines_of, is_dir, is_file, can_stand, over, has_place, IsMark, IsLine, IsTable}
 use Rattle.fx_table.specs.TableLaws.{but_no_link, unlinked}
 
@@ -104,10 +105,6 @@ sorted_kept ((p, Link text) ∷ es) up = (all_kept (λ q. path_cmp p q ≡ Less)
 
 abbrev HasPlace : Store → TableLine → Type 0
 HasPlace S l = IsTrue (has_place (over (unlinked S) true) l)
-
-root_first : (p : Paths) → 0 < length p → path_cmp [] p ≡ Less
-root_first [] some = absurd (omega arith)
-root_first (n ∷ p) some = refl
 
 -- what holds of each line of the entries
 record AreLines (S : Store) (ls : List TableLine) : Type 0 where

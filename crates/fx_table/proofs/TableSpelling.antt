@@ -1,15 +1,11 @@
 -- A spelled text is read back, and no other spelling of its bytes is.
-use Rattle.std.proofs.Common.{◌≡◌, ℕ, ◌+◌, ◌*◌, ◌/◌, ◌%◌, ◌<◌, ◌≤◌, Bool, true, false, cond, eqb, List, [], ◌∷◌, ◌++◌, refl, sym, ap, subst, ◌∙◌, arith, Option, Some, None, inl, inr, ◌⊎◌, All}
+use Rattle.std.proofs.Common.{◌≡◌, ℕ, ◌+◌, ◌*◌, ◌/◌, ◌%◌, ◌<◌, ◌≤◌, Bool, true, false, cond, eqb, List, [], ◌∷◌, ◌++◌, refl, sym, ap, subst, ◌∙◌, arith, Option, Some, None, inl, inr, All}
 use Rattle.std.specs.Prelude.{is_some}
 use Rattle.std.specs.Fmt.{digit_glyph}
-use Rattle.std.proofs.lemmas.Bool.{false≢true, eqb-true}
+use Rattle.std.proofs.lemmas.Bool.{false≢true, eqb-true, cases_Bool}
 use Rattle.std.proofs.lemmas.Bool.Decides.{nat_tests}
 use Rattle.std.proofs.lemmas.List.Elements.{All-nil, All-cons, All-head, All-tail, All-append}
 use Rattle.fx_table.specs.TableSpelling.{is_plain, spelled, spelling, plain_byte, digit_value, escaped, onto, unspelled}
-
-pub true_or_false : (b : Bool) → (b ≡ true) ⊎ (b ≡ false)
-true_or_false true = inl refl
-true_or_false false = inr refl
 
 -- ---- digits
 
@@ -32,7 +28,7 @@ plain_read c (d ∷ e ∷ text) h =
     ∙ ap (λ b. onto (cond b (Some c) None) (unspelled (d ∷ e ∷ text))) h
 
 byte_read : (b : ℕ) (text : List ℕ) → b < 256 → unspelled (spelled b ++ text) ≡ onto (Some b) (unspelled text)
-byte_read b text byte = elim (true_or_false (is_plain b)) [
+byte_read b text byte = elim (cases_Bool (is_plain b)) [
   | inl h ↦ rw h (plain_read b text h)
   | inr h ↦
       let high = digit_read (b / 16) (omega arith) in
@@ -129,7 +125,7 @@ digit_visible : (d : ℕ) → 33 ≤ digit_glyph true d
 digit_visible d = grind (arith, nat_tests)
 
 spelled_visible : (b : ℕ) → All (λ c. 33 ≤ c) (spelled b)
-spelled_visible b = elim (true_or_false (is_plain b)) [
+spelled_visible b = elim (cases_Bool (is_plain b)) [
   | inl h ↦ rw h (All-cons (λ c. 33 ≤ c) b [] (grind (arith, nat_tests, h)) (All-nil (λ c. 33 ≤ c)))
   | inr h ↦
       rw h

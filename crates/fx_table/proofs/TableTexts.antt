@@ -1,7 +1,7 @@
 -- The text of a table, while a walk writes it.
-use Rattle.std.proofs.Common.{◌≡◌, ℕ, ◌+◌, ◌<◌, Bool, true, false, ◌||◌, refl, sym, append_assoc, List, [], ◌∷◌, ◌++◌, length, Some, None, ◌∙◌, ap, arith}
-use Rattle.std.specs.List.{filter_map, slice_get}
-use Rattle.std.proofs.lemmas.Option.{same_Some, slice_get-get_or}
+use Rattle.std.proofs.Common.{◌≡◌, ℕ, ◌+◌, Bool, true, false, ◌||◌, refl, sym, append_assoc, List, [], ◌∷◌, ◌++◌, Some, ◌∙◌, ap}
+use Rattle.std.specs.List.{filter_map}
+use Rattle.std.proofs.lemmas.Option.{same_Some}
 use Rattle.fx_store.specs.declared.node.Node.{Node}
 use Rattle.fx_store.specs.declared.node.Node.TheVariants.{File, Dir, Link}
 use Rattle.fx_store.specs.Whole.{Nodes}
@@ -70,7 +70,3 @@ listing_more nodes text new levels levels' e was are comes adds =
     }
 
 -- the front of a path and its next name
-
-pub next_is_there : (xs : List (List ℕ)) (i : ℕ) → i < length xs → slice_get xs i ≡ None → ⊥
-next_is_there [] i h e = omega arith
-next_is_there (x ∷ xs) i h e = let p = slice_get-get_or (x ∷ xs) i x h in cc

@@ -1,7 +1,7 @@
 -- Tables of both versions: the text of one is read as its lines, and no other text is.
 use Rattle.std.proofs.Common.{◌≡◌, inl, inr, ℕ, zero, suc, Bool, true, false, cond, not, ◌&&◌, ◌||◌, IsTrue, List, [], ◌∷◌, ◌++◌, take, drop, refl, sym, ap, subst, ◌∙◌, Result, Ok, Err, append-nil, All}
 use Rattle.std.specs.Prelude.{is_ok}
-use Rattle.std.proofs.lemmas.Bool.{false≢true}
+use Rattle.std.proofs.lemmas.Bool.{false≢true, not-false, or_parts}
 use Rattle.std.proofs.lemmas.Slice.Eq.{bytes_eq-Decides}
 use Rattle.std.proofs.lemmas.List.Elements.{All-nil, All-cons, All-head, All-tail}
 use Rattle.fx_store.specs.Whole.{Store}
@@ -64,17 +64,13 @@ no_mark : (S : Store) (path : List (List ℕ)) (mark : Mark) → can_mark (over 
 no_mark S path (Target text) can = refl
 no_mark S path Executable can = absurd (false≢true can)
 
-neither : (a b : Bool) → (a || b) ≡ false → (a ≡ false) × (b ≡ false)
-neither true b e = absurd (false≢true (sym e))
-neither false b e = (refl, e)
-
 abbrev Stands : Setting → TableLine → Type 0
 Stands S l = IsTrue (has_place S l)
 
 stand_without : (S : Store) (lines : List TableLine) → has_flags lines ≡ false → All (Stands (over S true)) lines → All (Stands (over S false)) lines
 stand_without S [] none all = All-nil (Stands (over S false))
 stand_without S (l ∷ lines) none all =
-    let both = neither (is_flag l.mark) (has_flags lines) none in
+    let both = or_parts (is_flag l.mark) (has_flags lines) none in
     All-cons (Stands (over S false)) l lines (marks_without S l.path l.mark both.0 (All-head (Stands (over S true)) l lines all)) (stand_without S lines both.1 (All-tail (Stands (over S true)) l lines all))
 
 stand_with : (S : Store) (flags : Bool) (lines : List TableLine) → All (Stands (over S flags)) lines → All (Stands (over S true)) lines
@@ -96,11 +92,7 @@ over_all S lines b t = record { valid = t.valid; stand = stand_with S b lines t.
 
 -- lines that do not lack flags have them where they may
 flags_by : (S : Store) (lines : List TableLine) (b : Bool) → AreLinesOver (over S b) lines → (b && not (has_flags lines)) ≡ false → has_flags lines ≡ b
-flags_by S lines true t lacks = not_not (has_flags lines) lacks
-  where
-    not_not : (a : Bool) → not a ≡ false → a ≡ true
-    not_not true e = refl
-    not_not false e = absurd (false≢true (sym e))
+flags_by S lines true t lacks = not-false (has_flags lines) lacks
 flags_by S lines false t lacks = none_flagged S lines t.stand
 
 -- ---- a table is read

@@ -61,21 +61,11 @@ pub(crate) fn node_in<'a>(changes: &'a Changes, path: &Path) -> Option<&'a Node>
 fn is_dir(node: Option<&Node>) -> bool
     ensures { result ≡ is_dir (option_copied node.entry) }
 {
-    match node {
-        Some(Node::Dir(_)) => true,
-        Some(Node::File { .. }) => false,
-        Some(Node::Link(_)) => false,
-        None => false,
-    }
+    matches!(node, Some(Node::Dir(_)))
 }
 
 fn is_file(node: Option<&Node>) -> bool
     ensures { result ≡ is_file (option_copied node.entry) }
 {
-    match node {
-        Some(Node::File { .. }) => true,
-        Some(Node::Dir(_)) => false,
-        Some(Node::Link(_)) => false,
-        None => false,
-    }
+    matches!(node, Some(Node::File { .. }))
 }

@@ -66,12 +66,7 @@ fn list_out(alloc: Global, lists: &mut Vec<Vec<Name>>, i: usize) -> Vec<Name>
 fn is_dir(change: &Change) -> bool
     ensures { result ≡ is_dir change.now.node }
 {
-    match &change.node {
-        Some(Node::Dir(_)) => true,
-        Some(Node::File { .. }) => false,
-        Some(Node::Link(_)) => false,
-        None => false,
-    }
+    matches!(&change.node, Some(Node::Dir(_)))
 }
 
 fn let_go(_node: Option<Node>) {}

@@ -86,12 +86,7 @@ fn keep_link(links: &mut Vec<Change>, line: Change) -> Result<(), NoMemory>
 fn is_link(change: &Change) -> bool
     ensures { result ≡ is_link change.now.node }
 {
-    match &change.node {
-        Some(Node::Link(_)) => true,
-        Some(Node::File { .. }) => false,
-        Some(Node::Dir(_)) => false,
-        None => false,
-    }
+    matches!(&change.node, Some(Node::Link(_)))
 }
 
 /// What was found and the links, in order of path. The links stand where nothing was found.

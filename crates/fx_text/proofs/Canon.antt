@@ -2,7 +2,7 @@
 use Rattle.std.proofs.Common.{◌≡◌, ℕ, suc, Bool, true, false, ◌||◌, List, [], ◌∷◌, Some, nat_eq, refl, ap, sym, subst, ◌∙◌, arith}
 use Rattle.std.specs.declared.cmp.Ordering.{Ordering}
 use Rattle.std.specs.declared.cmp.Ordering.TheVariants.{Less, Equal, Greater}
-use Rattle.std.specs.Ordering.{nat_cmp, is_eq, match_ordering}
+use Rattle.std.specs.Ordering.{nat_cmp, match_ordering}
 use Rattle.std.specs.Cmp.Lexicographic.{pointwise, slice_cmp, texts_ties, nat_list_cmp_total, nat_list_eq_equiv}
 use Rattle.std.specs.List.{AllByRecursion, Contains, dedup}
 use Rattle.std.specs.List.Sorted.{IsStrictlySortedBy, IsPermutation, IsSorted}
@@ -12,8 +12,10 @@ use Rattle.std.proofs.lemmas.Map.Keys.{any_passes_from_place}
 use Rattle.std.proofs.lemmas.Map.Lookups.{exact_bytes}
 use Rattle.std.proofs.lemmas.Option.{slice_get-get_or}
 use Rattle.fx_base.proofs.Placing.{flipped, flipped_less, all_below, ascending_with}
+use Rattle.fx_base.proofs.Orders.{nat_list_exact, bytes_itself}
+use Rattle.fx_base.proofs.Booleans.{same_test}
 use Rattle.fx_text.specs.Sets.{IsAscending, has_text, with_text, set_of}
-use Rattle.fx_text.proofs.Order.{same_text, other_greater}
+use Rattle.fx_text.proofs.Order.{other_greater}
 
 pub ascending_set : (xs : List (List ℕ)) → IsAscending (set_of xs)
 unfolding IsStrictlySortedBy
@@ -51,19 +53,11 @@ none_above x [] a = refl
 none_above x (y ∷ ys) a = (λ i. other_greater y x (flipped_less x y a.0) i || has_text x ys) ∙ none_above x ys a.1
 
 has_first : (x : List ℕ) (xs : List (List ℕ)) → has_text x (x ∷ xs) ≡ true
-has_first x xs = ap (λ b. b || has_text x xs) (same_text x)
+has_first x xs = ap (λ b. b || has_text x xs) (bytes_itself x)
 
 first_differs : (x y : List ℕ) (ys : List (List ℕ)) → IsAscending (y ∷ ys) → slice_cmp nat_cmp x y ≡ Less → has_text x (y ∷ ys) ≡ false
 unfolding IsStrictlySortedBy
 first_differs x y ys up e = none_above x (y ∷ ys) (e, all_below x y ys e up.0)
-
-tied : (x z : List ℕ) → pointwise nat_eq x z ≡ true → (o : Ordering) → slice_cmp nat_cmp x z ≡ o → x ≡ z
-tied x z e Less f = absurd (let g : true ≡ false = sym e ∙ texts_ties x z ∙ ap is_eq f in cc)
-tied x z e Equal f = exact_bytes x z f
-tied x z e Greater f = absurd (let g : true ≡ false = sym e ∙ texts_ties x z ∙ ap is_eq f in cc)
-
-pub nat_list_exact : (x z : List ℕ) → pointwise nat_eq x z ≡ true → x ≡ z
-nat_list_exact x z e = tied x z e (slice_cmp nat_cmp x z) refl
 
 rest_same : (x : List ℕ) (xs ys : List (List ℕ)) → IsAscending (x ∷ xs) → IsAscending (x ∷ ys) → ((z : List ℕ) → has_text z (x ∷ xs) ≡ has_text z (x ∷ ys)) → (z : List ℕ) → (b : Bool) → pointwise nat_eq x z ≡ b → has_text z xs ≡ has_text z ys
 unfolding IsStrictlySortedBy
@@ -94,13 +88,7 @@ has_contains z (x ∷ xs) e = by (pointwise nat_eq x z) refl (has_contains z xs)
     by false f more = let c = more (sym (ap (λ b. b || has_text z xs) f) ∙ e) in (suc c.0, omega arith, c.2)
 
 contains_has : (z : List ℕ) (xs : List (List ℕ)) → Contains xs z → has_text z xs ≡ true
-contains_has z xs c = any_passes_from_place (λ y. pointwise nat_eq y z) xs c.0 z (slice_get-get_or xs c.0 z c.1 ∙ ap Some c.2) (same_text z)
-
-same_test : (a b : Bool) → (a ≡ true → b ≡ true) → (b ≡ true → a ≡ true) → a ≡ b
-same_test true true f g = refl
-same_test true false f g = sym (f refl)
-same_test false true f g = g refl
-same_test false false f g = refl
+contains_has z xs c = any_passes_from_place (λ y. pointwise nat_eq y z) xs c.0 z (slice_get-get_or xs c.0 z c.1 ∙ ap Some c.2) (bytes_itself z)
 
 -- what a sort and a `dedup` make of some texts is their set
 pub sorted_is_set : (xs ys zs : List (List ℕ)) → IsPermutation xs ys → IsSorted (slice_cmp nat_cmp) ys → zs ≡ dedup (pointwise nat_eq) ys → zs ≡ set_of xs

@@ -5,3 +5,4 @@ pub mod Order
 pub mod Putting
 pub mod Weights
 pub mod Crosses
+pub mod Chosen

@@ -1,16 +1,18 @@
 -- With fit inputs and no fault of host, sink or disk a command is done, or memory runs out.
-use Rattle.std.proofs.Common.{◌≡◌, ◌⊎◌, inl, inr, Option, Some, None, IfSome, refl, arith}
+use Rattle.std.proofs.Common.{◌≡◌, ◌⊎◌, inl, inr, Option, Some, None, IfSome, refl}
 use Rattle.fx_base.specs.Causes.{Rose}
-use Rattle.fx_outside.specs.Host.{HostView, ReadsOnly}
+use Rattle.fx_outside.specs.Host.{HostView}
 use Rattle.fx_outside.specs.Sink.{SinkView}
 use Rattle.fx_outside.specs.Tree.{Tree}
+use Rattle.fx_outside.proofs.Views.{reads_none}
 use Rattle.fx_audit_command.proofs.Completing.{audit_completes}
 use Rattle.fx_command.specs.declared.status.Status.{Status}
 use Rattle.fx_command.specs.declared.status.Status.TheVariants as status
 use Rattle.fx_command.proofs.Told.{if_some_map, same, some_unit}
 use Rattle.fx_durable.specs.Disk.{DiskView}
 use Rattle.fx_large.specs.GenRows.{gen_making}
-use Rattle.fx_journal_command.proofs.Completing.{journal_completes, journal_no_memory, journal_not_begun}
+use Rattle.fx_journal_command.proofs.Completing.{journal_completes, journal_no_memory}
+use Rattle.fx_journal_command.proofs.Keeping.{unbegun_keeps}
 use Rattle.fx_large.specs.LargeRows.{large_making}
 use Rattle.fx_command.specs.Table.{making_only}
 use Rattle.fx_command.proofs.Readings.{nothing_refused}
@@ -47,18 +49,15 @@ completes j host host' sink sink' disk disk' st row = by host.told refl
 
 -- ---- words that want of memory keeps from being read
 
-still : (host : HostView) → ReadsOnly host host
-still host = record { same = refl; later = omega arith }
-
 pub unread_row : (j : Job) (host : HostView) (sink : SinkView) (disk : DiskView) → Row j host host sink sink disk disk status.NoMemory
-unread_row (Run j) host sink disk = no_memory j host host (still host) sink
-unread_row (Show j) host sink disk = same host host sink (still host)
-unread_row (Gen j) host sink disk = tables.no_memory (making_only (gen_making j.number j.out)) host host (still host) sink
-unread_row (Large j) host sink disk = tables.no_memory (making_only (large_making j.number j.out)) host host (still host) sink
-unread_row (Audit j) host sink disk = same host host sink (still host)
+unread_row (Run j) host sink disk = no_memory j host host (reads_none host) sink
+unread_row (Show j) host sink disk = same host host sink (reads_none host)
+unread_row (Gen j) host sink disk = tables.no_memory (making_only (gen_making j.number j.out)) host host (reads_none host) sink
+unread_row (Large j) host sink disk = tables.no_memory (making_only (large_making j.number j.out)) host host (reads_none host) sink
+unread_row (Audit j) host sink disk = same host host sink (reads_none host)
 unread_row (Journal j) host sink disk = journal_no_memory j host sink disk
-unread_row (Recover j) host sink disk = (refl, λ _. refl, inl refl, recovering.no_memory j disk disk host host (still host) sink)
-unread_row (Views j) host sink disk = viewing.no_memory j host host (still host) sink
+unread_row (Recover j) host sink disk = (refl, λ _. refl, inl refl, recovering.no_memory j disk disk host host (reads_none host) sink)
+unread_row (Views j) host sink disk = viewing.no_memory j host host (reads_none host) sink
 
 pub unread_fit : (j : Job) (host : HostView) → AsksInside j host host
 unread_fit (Run j) host = λ fit. refl
@@ -86,7 +85,7 @@ unread_order (Show j) host sink disk = tt
 unread_order (Gen j) host sink disk = tt
 unread_order (Large j) host sink disk = tt
 unread_order (Audit j) host sink disk = tt
-unread_order (Journal j) host sink disk = journal_not_begun j host sink disk
+unread_order (Journal j) host sink disk = unbegun_keeps j host sink disk
 unread_order (Recover j) host sink disk = tt
 unread_order (Views j) host sink disk = tt
 

@@ -1,11 +1,11 @@
 -- What is known grows with the reads: what was read at a path stays.
 use Rattle.std.proofs.Common.{◌≡◌, ℕ, Bool, true, false, cond, List, [], ◌∷◌, ◌++◌, Option, Some, None, IsSome, refl, ap, ◌∙◌, option_map}
 use Rattle.std.specs.Ordering.{eq_by_cmp}
+use Rattle.fx_base.proofs.Names.{path_itself}
 use Rattle.fx_store.specs.declared.node.Node.{Node}
 use Rattle.fx_store.specs.Names.{path_cmp}
 use Rattle.fx_store.specs.Rule.{Known}
 use Rattle.fx_store.specs.Whole.{Store}
-use Rattle.fx_store.proofs.Tables.{path_itself}
 use Rattle.fx_view.specs.ReadList.{ReadList}
 use Rattle.fx_view.specs.Reads.{read_at, known_of, IsRead, Agrees}
 

@@ -4,6 +4,7 @@ use Rattle.std.specs.Prelude.{bytes_eq, unwrap_or}
 use Rattle.std.specs.Ordering.{eq_by_cmp}
 use Rattle.std.specs.Cmp.Lexicographic.{bytes_decides}
 use Rattle.std.proofs.lemmas.Bool.{false≢true}
+use Rattle.fx_base.proofs.Names.{path_itself}
 use Rattle.fx_store.specs.declared.node.Node.{Node}
 use Rattle.fx_store.specs.declared.node.Node.TheVariants.{File, Dir, Link}
 use Rattle.fx_store.specs.declared.changes.Change.{Change}
@@ -13,7 +14,6 @@ use Rattle.fx_store.specs.Orders.{path_eq_same}
 use Rattle.fx_store.specs.Rule.{seen, changed}
 use Rattle.fx_store.specs.Whole.{Store, over}
 use Rattle.fx_store.proofs.Overlays.{over-change_at}
-use Rattle.fx_store.proofs.Tables.{path_itself}
 use Rattle.fx_view.specs.OwnList.{OwnList}
 use Rattle.fx_view.specs.ReadList.{ReadList}
 use Rattle.fx_view.specs.Reads.{known_of, read_at, Agrees}

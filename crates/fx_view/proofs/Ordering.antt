@@ -1,6 +1,7 @@
 -- Reads in the order in which paths are consulted: none, one more, and one row after another.
-use Rattle.std.proofs.Common.{◌≡◌, ℕ, Bool, true, false, cond, List, [], ◌∷◌, ◌++◌, Option, Some, None, is_some, IsSome, refl, ap, ◌∙◌, sym, subst, append_assoc}
+use Rattle.std.proofs.Common.{◌≡◌, ℕ, Bool, true, false, cond, List, [], ◌∷◌, ◌++◌, Option, Some, None, is_some, refl, ap, ◌∙◌, sym, subst, append_assoc}
 use Rattle.std.proofs.lemmas.List.{append-nil}
+use Rattle.fx_base.proofs.Results.{still_some}
 use Rattle.fx_store.specs.declared.node.Node.{Node}
 use Rattle.fx_store.specs.Rule.{Known, AllKnown, first_unknown}
 use Rattle.fx_view.specs.ReadList.{ReadList}
@@ -24,10 +25,6 @@ first_unknown-front known (x ∷ ps) qs p e = at (is_some (known x)) e (first_un
 pub first_unknown-known : (known : Known) (ps qs : List Path) → AllKnown known ps → first_unknown known (ps ++ qs) ≡ first_unknown known qs
 first_unknown-known known [] qs all = refl
 first_unknown-known known (x ∷ ps) qs all = ap (λ b. cond b (first_unknown known (ps ++ qs)) (Some x)) all.0 ∙ first_unknown-known known ps qs all.1
-
-still_some : (o o' : Option (Option Node)) → ((n : Option Node) → o ≡ Some n → o' ≡ Some n) → IsSome o → IsSome o'
-still_some None o' keeps is = cc
-still_some (Some n) o' keeps is = ap is_some (keeps n refl)
 
 pub AllKnown-grows : (known more : Known) (ps : List Path) → Grows known more → AllKnown known ps → AllKnown more ps
 AllKnown-grows known more [] grows all = tt

@@ -2,13 +2,15 @@
 use Rattle.std.proofs.Common.{◌≡◌, ℕ, Bool, true, false, cond, List, [], ◌∷◌, ◌++◌, Option, Some, None, is_some, IsSome, refl, sym, ap, subst, ◌∙◌}
 use Rattle.std.specs.Ordering.{eq_by_cmp}
 use Rattle.std.proofs.lemmas.Bool.{true≢false, false≢true}
+use mathlib.Core.Path.{fun_ext}
+use Rattle.fx_base.proofs.Names.{path_itself}
 use Rattle.fx_store.specs.declared.node.Node.{Node}
 use Rattle.fx_store.specs.declared.changes.Change.{Change}
 use Rattle.fx_store.specs.Changes.{changed_paths}
 use Rattle.fx_store.specs.Names.{path_cmp}
-use Rattle.fx_store.specs.Rule.{AllKnown}
+use Rattle.fx_store.specs.Rule.{AllKnown, changed, seen}
 use Rattle.fx_store.specs.Orders.{path_eq_same}
-use Rattle.fx_store.proofs.Tables.{path_itself}
+use Rattle.fx_store.specs.Whole.{Store, update, over}
 use Rattle.fx_view.specs.OwnList.{OwnList}
 use Rattle.fx_view.specs.ReadList.{ReadList}
 use Rattle.fx_view.specs.Reads.{read_at, known_of, IsRead}
@@ -70,3 +72,16 @@ read_more own old new more kept read = subst (AreRead own) (sym kept) (AreRead-m
 pub read_put : (own : OwnList) (reads : ReadList) (cs : List Change) → AllKnown (known_of reads) (changed_paths cs) → AreRead own reads → AreRead (put_all own cs) reads
 read_put own reads [] known read = read
 read_put own reads (c ∷ cs) known read = read_put (put_own own c.path c.node) reads cs known.1 (AreRead-put own reads c.path c.node read (read_known reads c.path known.0))
+
+-- ---- own changes over a filestore
+
+pub changed-put : (S : Store) (own : OwnList) (c : Change) → changed (own_at (put_own own c.path c.node)) S ≡ update (changed (own_at own) S) c
+changed-put S own c = fun_ext (λ p. ap (λ o. seen o (S p)) (own_at-put own c.path c.node p) ∙ at (eq_by_cmp path_cmp p c.path) (own_at own p) (S p))
+  where
+    at : (b : Bool) (o : Option (Option Node)) (s : Option Node) → seen (cond b (Some c.node) o) s ≡ cond b c.node (seen o s)
+    at true o s = refl
+    at false o s = refl
+
+pub changed-put_all : (S : Store) (own : OwnList) (cs : List Change) → changed (own_at (put_all own cs)) S ≡ over (changed (own_at own) S) cs
+changed-put_all S own [] = refl
+changed-put_all S own (c ∷ cs) = changed-put_all S (put_own own c.path c.node) cs ∙ ap (λ T. over T cs) (changed-put S own c)

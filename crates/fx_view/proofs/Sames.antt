@@ -4,19 +4,15 @@ use Rattle.std.specs.Prelude.{◌↔◌, bytes_eq, is_some}
 use Rattle.std.specs.Borrow.{Bor}
 use Rattle.std.specs.Cmp.Lexicographic.{bytes_decides}
 use Rattle.std.specs.Iterator.{YieldsFirstRef}
-use Rattle.std.proofs.lemmas.Bool.{true≢false}
+use Rattle.std.proofs.lemmas.Bool.{true≢false, not-false}
 
 -- behind two equal names
 pub same_behind : (x y : List ℕ) (xs ys left others : List (List ℕ)) (differ : Bool) → left ≡ x ∷ xs → others ≡ y ∷ ys → differ ≡ not (bytes_eq x y) → differ ≡ false → (xs ≡ ys) ↔ (left ≡ others)
 same_behind x y xs ys left others differ first second tested equal =
     (λ h. first ∙ ((λ k. same k ∷ h k) ∙ sym second), λ h. let e : x ∷ xs ≡ y ∷ ys = sym first ∙ (h ∙ second) in cc)
-  where
-    so : (b : Bool) → not b ≡ false → b ≡ true
-    so true h = refl
-    so false h = absurd (true≢false h)
 
     same : x ≡ y
-    same = (bytes_decides x y).0 (so (bytes_eq x y) (sym tested ∙ equal))
+    same = (bytes_decides x y).0 (not-false (bytes_eq x y) (sym tested ∙ equal))
 
 -- there is no further name exactly where none is left
 pub none_further : (others rest : List (List ℕ)) (next : Option (Bor (List ℕ))) (none : Bool) → YieldsFirstRef (λ names. names) others next rest → is_some next ≡ not none → (none ≡ true) ↔ (others ≡ [])

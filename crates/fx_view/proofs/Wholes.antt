@@ -1,5 +1,6 @@
 -- Readers of a whole filestore: their reads agree with it, so that a call over them answers what the rule answers there.
-use Rattle.std.proofs.Common.{◌≡◌, ℕ, Bool, true, false, cond, List, [], ◌∷◌, ◌++◌, Option, Some, None, Result, Ok, Err, ◌⊎◌, inl, inr, refl, ap, ◌∙◌, sym}
+use Rattle.std.proofs.Common.{◌≡◌, ℕ, Bool, true, false, cond, List, [], ◌∷◌, ◌++◌, Option, Some, None, Result, Ok, Err, ◌⊎◌, inl, inr, refl, ap, ◌∙◌, sym, subst}
+use Rattle.std.specs.Prelude.{OnOk, OnErr}
 use Rattle.std.specs.Option.{option_map}
 use Rattle.std.specs.Ordering.{eq_by_cmp}
 use Rattle.std.proofs.lemmas.Bool.{true≢false}
@@ -16,6 +17,7 @@ use Rattle.fx_view.specs.Meaning.{Meaning}
 use Rattle.fx_view.specs.Own.{no_own}
 use Rattle.fx_view.specs.ReadList.{ReadList}
 use Rattle.fx_view.specs.Reads.{read_at, known_of, Agrees}
+use Rattle.fx_view.specs.Wholes.{AreOf}
 use Rattle.fx_view.proofs.Calls.{went_by}
 use Rattle.fx_view.proofs.Rules.{found_answer}
 
@@ -25,29 +27,42 @@ Path = List (List ℕ)
 abbrev Read : Type 0
 Read = Option Node × ℕ
 
--- what is known is what was known before, or the new read
-known_more : (reads : ReadList) (path : Path) (n : Option Node) (position : ℕ) (q : Path) (m : Option Node) → known_of (reads ++ (path, (n, position)) ∷ []) q ≡ Some m → (known_of reads q ≡ Some m) ⊎ ((q ≡ path) × (n ≡ m))
-known_more [] path n position q m e = go (eq_by_cmp path_cmp q path) refl e
+-- a read is one of those before, or the new one
+pub read_more_cases : (reads : ReadList) (path : Path) (read : Read) (q : Path) (r : Read) → read_at (reads ++ (path, read) ∷ []) q ≡ Some r → (read_at reads q ≡ Some r) ⊎ ((q ≡ path) × (read ≡ r))
+read_more_cases [] path read q r e = go (eq_by_cmp path_cmp q path) refl e
   where
-    go : (b : Bool) → eq_by_cmp path_cmp q path ≡ b → option_map (λ (r : Read). r.0) (cond b (Some (n, position)) None) ≡ Some m → (known_of [] q ≡ Some m) ⊎ ((q ≡ path) × (n ≡ m))
-    go true is e = inr (path_eq_same q path is, same_Some n m e)
-    go false is e = absurd (none-some m e)
-known_more (x ∷ xs) path n position q m e = go (eq_by_cmp path_cmp q x.0) e (known_more xs path n position q m)
+    go : (b : Bool) → eq_by_cmp path_cmp q path ≡ b → cond b (Some read) None ≡ Some r → (read_at [] q ≡ Some r) ⊎ ((q ≡ path) × (read ≡ r))
+    go true is e = inr (path_eq_same q path is, same_Some read r e)
+    go false is e = absurd (none-some r e)
+read_more_cases (x ∷ xs) path read q r e = go (eq_by_cmp path_cmp q x.0) e (read_more_cases xs path read q r)
   where
-    go : (b : Bool) → option_map (λ (r : Read). r.0) (cond b (Some x.1) (read_at (xs ++ (path, (n, position)) ∷ []) q)) ≡ Some m → (known_of (xs ++ (path, (n, position)) ∷ []) q ≡ Some m → (known_of xs q ≡ Some m) ⊎ ((q ≡ path) × (n ≡ m))) → (option_map (λ (r : Read). r.0) (cond b (Some x.1) (read_at xs q)) ≡ Some m) ⊎ ((q ≡ path) × (n ≡ m))
+    go : (b : Bool) → cond b (Some x.1) (read_at (xs ++ (path, read) ∷ []) q) ≡ Some r → (read_at (xs ++ (path, read) ∷ []) q ≡ Some r → (read_at xs q ≡ Some r) ⊎ ((q ≡ path) × (read ≡ r))) → (cond b (Some x.1) (read_at xs q) ≡ Some r) ⊎ ((q ≡ path) × (read ≡ r))
     go true e rest = inl e
     go false e rest = rest e
 
--- a filestore that agrees with reads agrees with one more of its own nodes
-pub agrees_more : (reads : ReadList) (path : Path) (S : Store) (n : Option Node) (position : ℕ) → S path ≡ n → Agrees reads S → Agrees (reads ++ (path, (n, position)) ∷ []) S
-agrees_more reads path S n position there agrees q m e = by (known_more reads path n position q m e)
-  where
-    by : (known_of reads q ≡ Some m) ⊎ ((q ≡ path) × (n ≡ m)) → S q ≡ m
-    by (inl h) = agrees q m h
-    by (inr h) = ap S h.0 ∙ there ∙ h.1
+pub of_none : (S : Store) → AreOf S []
+of_none S path found position e = absurd (none-some (found, position) e)
 
-pub agrees_none : (S : Store) → Agrees [] S
-agrees_none S q m e = absurd (none-some m e)
+-- one more read of a node of the filestore
+pub of_more : (reads : ReadList) (path : Path) (S : Store) (n : Option Node) → S path ≡ n → AreOf S reads → AreOf S (reads ++ (path, (n, 0)) ∷ [])
+of_more reads path S n there of q m position e = by (read_more_cases reads path (n, 0) q (m, position) e)
+  where
+    by : (read_at reads q ≡ Some (m, position)) ⊎ ((q ≡ path) × (◌≡◌ {A = Read} (n, 0) (m, position))) → (S q ≡ m) × (position ≡ 0)
+    by (inl h) = of q m position h
+    by (inr h) = (ap S h.0 ∙ there ∙ ap (λ (r : Read). r.0) h.1, sym (ap (λ (r : Read). r.1) h.1))
+
+-- after a call that adds such a read, or leaves the reads
+pub of_added : {X E : Type 0} (old new : ReadList) (path : Path) (S : Store) (n : Option Node) (result : Result X E) → OnOk result (new ≡ old ++ (path, (n, 0)) ∷ []) → OnErr result (new ≡ old) → S path ≡ n → AreOf S old → AreOf S new
+of_added old new path S n (Ok x) ok err there of = subst (AreOf S) (sym ok) (of_more old path S n there of)
+of_added old new path S n (Err e) ok err there of = subst (AreOf S) (sym err) of
+
+-- a filestore agrees with reads of its own nodes
+pub of_agrees : (S : Store) (reads : ReadList) → AreOf S reads → Agrees reads S
+of_agrees S reads of q m e = at (read_at reads q) refl e
+  where
+    at : (found : Option Read) → read_at reads q ≡ found → option_map (λ (r : Read). r.0) found ≡ Some m → S q ≡ m
+    at None is known = absurd (none-some m known)
+    at (Some r) is known = (of q r.0 r.1 is).0 ∙ same_Some r.0 m known
 
 module _ {R A X : Type 0} (m : Meaning R) (view : X → A) (old new : R × ℕ) (rule : Ask A) where
   -- what a reader has vouched for it still vouches for

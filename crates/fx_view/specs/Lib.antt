@@ -9,3 +9,4 @@ pub mod Ways
 pub mod Walks
 pub mod Steps
 pub mod Net
+pub mod Wholes

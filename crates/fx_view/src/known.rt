@@ -47,9 +47,7 @@ impl Reader for Known {
     }
 
     fn take_reads(&mut self, alloc: Global) -> Reads {
-        let mut taken = Reads::new(alloc);
-        std::mem::swap(&mut self.reads, &mut taken);
-        taken
+        self.reads.take(alloc)
     }
 
     ghost begins = { λ reader. refl };

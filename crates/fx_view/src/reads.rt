@@ -132,6 +132,16 @@ impl Reads {
 
     /// Lets go of the reads.
     pub fn let_go(self) {}
+
+    /// The reads, which are then none.
+    pub fn take(&mut self, alloc: Global) -> Reads
+        ensures taken { result ≡ self.old }
+        ensures none { self.new ≡ [] }
+    {
+        let mut taken = Reads::new(alloc);
+        std::mem::swap(self, &mut taken);
+        taken
+    }
 }
 
 fn count_before_in(table: &IndexMap<Path, (Option<Node>, u64)>, path: &Path) -> u64

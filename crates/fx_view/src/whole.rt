@@ -1,7 +1,7 @@
 //! A reader of a whole filestore.
 ghost use Rattle.std.specs.Prelude.{◌≡◌, [], true, IfOk, refl};
 ghost use Rattle.std.specs.FinMap.{get};
-ghost use Rattle.fx_view.specs.Reads.{Agrees};
+ghost use Rattle.fx_view.specs.Wholes.{AreOf, AreOf-prop};
 
 use crate::reader::{Reader, Stop};
 use crate::reads::Reads;
@@ -9,12 +9,14 @@ use fx_base::NoMemory;
 use fx_store::{Filestore, Node, Path};
 use std::alloc::Global;
 
-/// A reader that reads every path, each at position 0. It vouches that its reads agree with the filestore, where they did so at
-/// the start.
+/// A reader that reads every path of a filestore, each at position 0.
+///
+/// It vouches that the filestore is the one from the start, and that its reads agree with it, each at position 0.
 #[derive(Drop)]
 pub struct Whole<'a> {
-    pub store: &'a Filestore,
-    pub reads: Reads,
+    store: &'a Filestore,
+    reads: Reads,
+    ghost of_store: { AreOf (get store.now.nodes) reads } by { AreOf-prop (get store.now.nodes) reads },
 }
 
 impl<'a> Whole<'a> {
@@ -35,8 +37,8 @@ impl Reader for Whole<'_> {
     ghost meaning = { record {
       reads = λ w. w.reads;
       complete = λ _. true;
-      vouches = λ start now reads. Agrees start.reads (get start.store.now.nodes) →
-          (now.store.now.nodes ≡ start.store.now.nodes) × Agrees reads (get now.store.now.nodes);
+      vouches = λ start now reads. (now.store.now ≡ start.store.now)
+          × AreOf (get start.store.now.nodes) reads;
     } };
 
     fn read(&mut self, alloc: Global, path: &Path) -> Result<Option<Node>, Stop> {
@@ -54,12 +56,10 @@ impl Reader for Whole<'_> {
     }
 
     fn take_reads(&mut self, alloc: Global) -> Reads {
-        let mut taken = Reads::new(alloc);
-        std::mem::swap(&mut self.reads, &mut taken);
-        taken
+        self.reads.take(alloc)
     }
 
-    ghost begins = { λ reader agree. (refl, agree) };
+    ghost begins = { λ reader. (refl, reader.of_store) };
 }
 
 /// A copy of what stands at a path.

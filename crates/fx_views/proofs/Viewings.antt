@@ -1,8 +1,8 @@
 -- What the worker of the views has answered, view by view.
-use Rattle.std.proofs.Common.{◌≡◌, ℕ, zero, suc, ◌+◌, ◌<◌, ◌≤◌, List, [], ◌∷◌, ◌++◌, length, take, Some, refl, sym, ap, subst, ◌∙◌, arith}
+use Rattle.std.proofs.Common.{◌≡◌, ℕ, ◌+◌, ◌<◌, ◌≤◌, List, [], ◌∷◌, ◌++◌, length, take, Some, refl, sym, ap, subst, ◌∙◌, arith}
 use Rattle.std.specs.FinMap.{get}
-use Rattle.std.specs.List.{slice_get}
 use Rattle.std.proofs.lemmas.Option.{same_Some}
+use Rattle.fx_base.proofs.Lists.{take_next, some_at}
 use Rattle.fx_store.specs.Whole.{Nodes, IsWhole}
 use Rattle.fx_spec.specs.CommandTree.{CommandTree}
 use Rattle.fx_spec.specs.SpecTree.{SpecTree}
@@ -65,22 +65,10 @@ views_push base o o' least [] (w ∷ vs) t v b low up is are = absurd are
 views_push base o o' least (u ∷ ts) [] t v b low up is are = absurd are
 views_push base o o' least (u ∷ ts) (w ∷ vs) t v b low up is are = (are.0, view_later base u o o' w b are.1, views_push base o o' w.position ts vs t v b are.1.within up is are.2)
 
-take_next : {X : Type 0} (xs : List X) (i : ℕ) (x : X) → slice_get xs i ≡ Some x → take (i + 1) xs ≡ take i xs ++ x ∷ []
-take_next [] i x e = cc
-take_next (y ∷ ys) zero x e = let same : y ≡ x = cc in ap (λ z. z ∷ []) same
-take_next (y ∷ ys) (suc i) x e =
-    let next : suc i + 1 ≡ suc (i + 1) = omega arith in
-    ap (λ n. take n (y ∷ ys)) next ∙ ap (λ zs. y ∷ zs) (take_next ys i x e)
-
-there : {X : Type 0} (xs : List X) (i : ℕ) → i < length xs → (x : X) × (slice_get xs i ≡ Some x)
-there [] i h = absurd (omega (arith, h))
-there (x ∷ xs) zero h = (x, refl)
-there (x ∷ xs) (suc i) h = there xs i (omega (arith, h))
-
 -- the next view is answered
 pub views_next : (base views : BaseTree) (txn : ℕ) (o : List Turn) (now : LogView) (vs all : List View) (v : View) → txn < length (script_of views.plan 0) → Begins o now.seen → length o ≤ v.position → IsViewSeen base views txn now v → AreViews base (take txn (script_of views.plan 0)) o vs → all ≡ vs ++ v ∷ [] → AreViews base (take (txn + 1) (script_of views.plan 0)) now.seen all
 views_next base views txn o now vs all v inside b up is are pushed =
-    let t = there (script_of views.plan 0) txn inside in
+    let t = some_at (script_of views.plan 0) txn inside in
     let more = views_push base o now.seen 0 (take txn (script_of views.plan 0)) vs t.0 v b (omega arith) up (is t.0 t.1) are in
     subst (AreViews base (take (txn + 1) (script_of views.plan 0)) now.seen) (sym pushed) (subst (λ ts. AreViews base ts now.seen (vs ++ v ∷ [])) (sym (take_next (script_of views.plan 0) txn t.0 t.1)) more)
 

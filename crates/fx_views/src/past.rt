@@ -140,9 +140,7 @@ impl<R: Wait, G: Gate> Reader for Past<'_, R, G> {
     }
 
     fn take_reads(&mut self, alloc: Global) -> Reads {
-        let mut taken = Reads::new(alloc);
-        std::mem::swap(&mut self.reads, &mut taken);
-        taken
+        self.reads.take(alloc)
     }
 
     ghost begins = { λ reader. (

@@ -51,7 +51,15 @@ pub fn views<R: Threads + Wait + Sync, H: Host, S: Sink, G: Gate + Sync>(
     ensures fit { ViewsAsk (asked_views job.now) (H.view host.old) (H.view host.new) }
 {
     let bases = read_bases(alloc, job, host)?;
-    let there = ready_out(alloc, job.out, host)?;
+    let there = match ready_out(alloc, job.out, host) {
+        Ok(there) => there,
+        Err(status) => {
+            bases.let_go();
+            return Err(status);
+        }
+    };
     let answer = run_bases(rt, alloc, bases, gate)?;
-    leave(alloc, job, there, &answer, host, out)
+    let ended = leave(alloc, job, there, &answer, host, out);
+    answer.let_go();
+    ended
 }

@@ -21,10 +21,17 @@ use std::sync::Wait;
 use std::thread::Threads;
 
 /// A whole run with views: its log and its output.
-#[derive(Drop)]
 pub(crate) struct Answer {
     pub log: Versioned,
     pub output: LongText,
+}
+
+impl Answer {
+    /// Lets go of the run.
+    pub(crate) fn let_go(self) {
+        let Answer { log, output: _ } = self;
+        log.let_go();
+    }
 }
 
 /// What is printed: the report of the run, and then the views.
@@ -57,6 +64,14 @@ pub(crate) fn run_bases<R: Threads + Wait + Sync, G: Gate + Sync>(
         (script_of bases.views.value.plan 0) (last_of a) a.output) }
 {
     let (log, retries, viewed) = run_views(rt, alloc, bases.scripts, bases.views, gate)?;
-    let output = printed(alloc, log.board(), &retries, &viewed)?;
-    Ok(Answer { log, output })
+    let output = printed(alloc, log.board(), &retries, &viewed);
+    fx_machine::let_go(retries);
+    fx_report::let_go(viewed);
+    match output {
+        Ok(output) => Ok(Answer { log, output }),
+        Err(fault) => {
+            log.let_go();
+            Err(fault)
+        }
+    }
 }

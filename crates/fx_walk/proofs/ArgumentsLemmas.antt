@@ -1,5 +1,5 @@
 -- The arguments of a call, one after another.
-use Rattle.std.proofs.Common.{◌≡◌, ℕ, ◌+◌, ◌≤◌, List, [], ◌∷◌, ◌++◌, length, Result, Ok, Err, refl, sym, ap, subst, ◌∙◌, arith, append_assoc, append-nil}
+use Rattle.std.proofs.Common.{◌≡◌, ℕ, ◌+◌, ◌≤◌, List, [], ◌∷◌, ◌++◌, Result, Ok, Err, refl, sym, ap, subst, ◌∙◌, arith, append_assoc, append-nil}
 use Rattle.std.specs.Prelude.{IsErrAnd, IfOk}
 use Rattle.fx_base.proofs.Errors.{err_of}
 use Rattle.fx_expr.specs.declared.fault.EvalFault.{EvalFault}
@@ -40,10 +40,6 @@ fault_given given fault f is gives = subst (λ (fault : EvalFault). GivesNames (
 
 abbrev Params : Type 0
 Params = List (List ℕ × ShapeTree)
-
-pub none_of : {X : Type 0} (xs : List X) → length xs ≡ 0 → xs ≡ []
-none_of [] h = refl
-none_of (x ∷ xs) h = absurd (omega (arith, h))
 
 -- names in front of others, or the fault
 abbrev before : Bindings → Result Bindings ExprFault → Result Bindings ExprFault

@@ -1,5 +1,5 @@
 -- Parts of well-shaped descriptions.
-use Rattle.std.proofs.Common.{◌≡◌, ℕ, List, [], ◌∷◌, Option, Some, None, Ok, refl, ap, subst}
+use Rattle.std.proofs.Common.{◌≡◌, ℕ, List, Option, Some, None, Ok, refl, ap, subst}
 use Rattle.std.specs.Option.{IfSome, option_map, unwrap_or}
 use Rattle.fx_store.specs.declared.node.Node.{Node}
 use Rattle.fx_store.specs.Rule.{Known, AgreesWith, answer, changed}
@@ -17,6 +17,7 @@ use Rattle.fx_spec.specs.Shaped.{IsDescribed}
 use Rattle.fx_spec.specs.SpecTree.{SpecTree}
 use Rattle.fx_spec.specs.WellShaped.{Scope, IsDescription}
 use Rattle.fx_spec.proofs.Shaped.{described_have_shapes}
+use Rattle.fx_spec.proofs.Scoped.{bind_has}
 use Rattle.fx_view.specs.Meaning.{Meaning}
 use Rattle.fx_view.specs.Reads.{known_of}
 use Rattle.fx_view.specs.Own.{own_at}
@@ -26,13 +27,6 @@ use Rattle.fx_session.specs.Implements.{Implements}
 use Rattle.fx_walk.specs.Arguments.{HaveShapes, inner_names}
 use Rattle.fx_walk.specs.Scopes.{HasScope, HasTextScope}
 use Rattle.fx_walk.proofs.ArgumentsLemmas.{names_have}
-
--- one name more, with a value of its shape
-bind_has : (env : Bindings) (g : Scope) (x : List ℕ) (v : Tree) (s : ShapeTree) → BindingsHave env g → ValueHas v s → BindingsHave (bind env x v) (bind g x s)
-bind_has [] [] x v s b h = (refl, h, tt)
-bind_has [] (t ∷ g) x v s b h = absurd b
-bind_has (e ∷ env) [] x v s b h = absurd b
-bind_has (e ∷ env) (t ∷ g) x v s b h = (b.0, b.1, bind_has env g x v s b.2 h)
 
 of_scope : (scope : Scope) (env : Bindings) (spec : SpecTree) → IsDescription scope spec → BindingsHave env scope → HasScope env spec
 of_scope scope env spec d b = record { scope = scope; described = record { shapes = d; bindings = b } }

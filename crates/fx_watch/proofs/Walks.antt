@@ -9,9 +9,9 @@ use Rattle.std.proofs.lemmas.Bool.{false≢true}
 use Rattle.std.proofs.lemmas.List.Elements.{All-contains, All-head, All-tail, All-nil, All-cons, All-contains_itself, Contains-append_right}
 use Rattle.fx_store.specs.Names.{path_cmp}
 use Rattle.fx_store.specs.Orders.{path_eq_same}
-use Rattle.fx_store.specs.Rule.{Ask, Answer, Look, Tick, Known, asked, ticks, ◌>>=◌, changed, SameOn, AllKnown}
+use Rattle.fx_store.specs.Rule.{Ask, Answer, Look, Tick, asked, ticks, ◌>>=◌, changed, SameOn}
 use Rattle.fx_store.specs.Whole.{Store}
-use Rattle.fx_store.proofs.Asks.{depends, answer-bind}
+use Rattle.fx_store.proofs.Asks.{depends, answer-bind, all_known}
 use Rattle.fx_expr.specs.Tree.{Tree}
 use Rattle.fx_spec.specs.SpecTree.{SpecTree}
 use Rattle.fx_view.specs.Follows.{walked, Follows}
@@ -29,10 +29,6 @@ use Rattle.fx_watch.specs.WatchView.{WatchView, AnswersFor}
 
 abbrev Path : Type 0
 Path = List (List ℕ)
-
-all_known : (known : Known) (ps : List Path) → AllKnown known ps → All (λ p. IsSome (known p)) ps
-all_known known [] h = All-nil (λ p. IsSome (known p))
-all_known known (p ∷ ps) h = All-cons (λ p. IsSome (known p)) p ps h.0 (all_known known ps h.1)
 
 -- what was read has its key
 read_key : (reads : ReadList) (path : Path) → IsRead reads path → Contains (keys_of reads) path

@@ -1,8 +1,9 @@
 -- The arguments of a command, read at their places.
-use Rattle.std.proofs.Common.{◌≡◌, ℕ, suc, ◌+◌, ◌-◌, ◌<◌, ◌≤◌, Bool, true, false, cond, ◌&&◌, List, [], ◌∷◌, length, drop, Option, Some, None, refl, sym, ap, ap₂, ◌∙◌, arith, length-drop}
+use Rattle.std.proofs.Common.{◌≡◌, ℕ, suc, ◌+◌, ◌-◌, ◌<◌, ◌≤◌, Bool, true, false, cond, List, [], ◌∷◌, length, drop, Option, Some, None, refl, sym, ap, ap₂, ◌∙◌, arith, length-drop}
 use Rattle.std.specs.Prelude.{is_some, slice_get}
 use Rattle.std.specs.Option.{option_map, option_map_or, option_and_then, unwrap_or}
 use Rattle.std.proofs.lemmas.Bool.Decides.{nat_tests}
+use Rattle.std.proofs.lemmas.Bool.{and_parts}
 use Rattle.fx_words.specs.declared.form.CommandName.{CommandName}
 use Rattle.fx_words.specs.Forms.{has_form, is_within, least_of, most_of, takes, word_of}
 use Rattle.fx_words.proofs.Names.{named_so}
@@ -166,10 +167,6 @@ show_is ws spec folder e f n = ap show_job (pair ws spec folder e f n)
 
 -- ---- by the form that was read
 
-both : (a b : Bool) → (a && b) ≡ true → (a ≡ true) × (b ≡ true)
-both true b e = (refl, e)
-both false b e = cc
-
 taken : (name : CommandName) (args ws : List Text) → word_of name ∷ args ≡ ws → has_form ws ≡ true → takes name (length args) ≡ true
 taken name args ws is form =
     sym (ap (λ o. option_map_or (λ c. takes c (length args)) o false) (named_so name)) ∙ ap has_form is ∙ form
@@ -185,7 +182,7 @@ long name args ws is form =
 
 pub job_is : (name : CommandName) (args ws : List Text) → word_of name ∷ args ≡ ws → are_plain ws ≡ true → job_of ws ≡ command_job name (drop 1 ws)
 job_is name args ws is plain =
-    let rest = (both (is_plain (word_of name)) (are_plain args) (ap are_plain is ∙ plain)).1 in
+    let rest = (and_parts (is_plain (word_of name)) (are_plain args) (ap are_plain is ∙ plain)).1 in
     sym (ap job_of is)
     ∙ ap (λ b. cond b (named_job (word_of name) args) None) rest
     ∙ ap (λ o. option_and_then (λ c. command_job c args) o) (named_so name)

@@ -1,5 +1,5 @@
 -- The shells of a schedule are below the number of scripts.
-use Rattle.std.proofs.Common.{◌≡◌, ℕ, zero, suc, ◌+◌, ◌<◌, Bool, true, false, cond, List, [], ◌∷◌, length, Option, Some, None, refl, subst, arith}
+use Rattle.std.proofs.Common.{◌≡◌, ℕ, zero, suc, ◌+◌, ◌<◌, Bool, true, false, cond, List, [], ◌∷◌, length, Option, Some, None, refl, subst, arith, sym}
 use Rattle.std.specs.Prelude.{All, is_some, codes}
 use Rattle.std.specs.Fmt.{decimal}
 use Rattle.std.specs.List.{slice_split}
@@ -57,3 +57,7 @@ mode_below count (by.Watched text) is = read_below count text.now (schedule_of c
 -- the shells that a job asks for are below its number of scripts
 pub job_below : (j : code.RunJob) → IsJob j → All (λ k. k < length (scripts_in j.inputs)) (shells_of (asked j))
 job_below j is = mode_below (length (scripts_in j.inputs)) j.mode is.mode
+
+-- and of those that a schedule names
+pub shells_below : (job : code.RunJob) (shells : List ℕ) (count : ℕ) → IsJob job → count ≡ length (asked job).inputs.scripts → shells_of (asked job) ≡ shells → All (λ k. k < count) shells
+shells_below job shells count is each same = subst (λ n. All (λ k. k < n) shells) (sym each) (subst (λ ks. All (λ k. k < length (asked job).inputs.scripts) ks) same (job_below job is))

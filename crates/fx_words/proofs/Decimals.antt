@@ -4,24 +4,17 @@ use Rattle.std.specs.Str.{bytes_eq}
 use Rattle.std.specs.Fmt.{decimal, digits}
 use Rattle.std.proofs.lemmas.Bool.Decides.{eqb_tells, nat_tests}
 use Rattle.std.proofs.lemmas.Slice.Eq.{bytes_eq-Decides}
+use Rattle.fx_base.proofs.Booleans.{first_true, second_true}
 
 abbrev all_below : ℕ → (ℕ → Bool) → Bool
 all_below zero f = true
 all_below (suc n) f = f n && all_below n f
 
-first_of : (a b : Bool) → a && b ≡ true → a ≡ true
-first_of true b e = refl
-first_of false b e = cc
-
-second_of : (a b : Bool) → a && b ≡ true → b ≡ true
-second_of true b e = e
-second_of false b e = cc
-
 below : (n : ℕ) (f : ℕ → Bool) → all_below n f ≡ true → (k : ℕ) → k < n → f k ≡ true
 below zero f e k h = absurd (omega arith)
 below (suc n) f e k h =
-    ⊎_elim (λ same. subst (λ m. f m ≡ true) (sym same.1) (first_of (f n) (all_below n f) e))
-    (λ other. let ne : (k ≡ n → ⊥) = other.1 in let lower : k < n = omega arith in below n f (second_of (f n) (all_below n f) e) k lower) (eqb_tells k n)
+    ⊎_elim (λ same. subst (λ m. f m ≡ true) (sym same.1) (first_true (f n) (all_below n f) e))
+    (λ other. let ne : (k ≡ n → ⊥) = other.1 in let lower : k < n = omega arith in below n f (second_true (f n) (all_below n f) e) k lower) (eqb_tells k n)
 
 -- the digits of a number below 100
 abbrev pub two_digits : ℕ → List ℕ

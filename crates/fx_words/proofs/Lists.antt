@@ -1,5 +1,5 @@
 -- A list from a place on, and shells that texts name.
-use Rattle.std.proofs.Common.{◌≡◌, ℕ, zero, suc, ◌+◌, ◌<◌, Bool, true, false, cond, ◌&&◌, List, [], ◌∷◌, ◌++◌, length, drop, map, get_or, Option, Some, None, refl, sym, ap, ◌∙◌, arith}
+use Rattle.std.proofs.Common.{◌≡◌, ℕ, zero, suc, ◌+◌, true, false, cond, ◌&&◌, List, [], ◌∷◌, ◌++◌, drop, map, Option, Some, None, refl, sym, ap, ◌∙◌, arith}
 use Rattle.std.specs.Prelude.{is_some, codes}
 use Rattle.std.specs.List.{slice_get, list_all, slice_split}
 use Rattle.std.specs.Option.{option_map, option_and_then}
@@ -41,20 +41,6 @@ named_push count (t ∷ texts) ks text k e f = at (shell_named count t) (shells_
     at (Some j) (Some rest) e on =
         let same : j ∷ rest ≡ ks = cc in
         ap (option_map (λ ks. j ∷ ks)) (on rest refl) ∙ ap (λ xs. Some (xs ++ k ∷ [])) same
-
--- where each element passes, so does the one that was read
-first_passes : (a b : Bool) → a && b ≡ true → a ≡ true
-first_passes true b e = refl
-first_passes false b e = cc
-
-second_passes : (a b : Bool) → a && b ≡ true → b ≡ true
-second_passes true b e = e
-second_passes false b e = cc
-
-pub passes_at : {X : Type 0} (p : X → Bool) (xs : List X) (i : ℕ) (x : X) → list_all p xs ≡ true → (i < length xs) × (x ≡ get_or xs i x) → p x ≡ true
-passes_at p [] i x all at = absurd (omega (arith, at.0))
-passes_at p (y ∷ ys) zero x all at = rw at.1 (first_passes (p y) (list_all p ys) all)
-passes_at p (y ∷ ys) (suc i) x all at = passes_at p ys i x (second_passes (p y) (list_all p ys) all) (omega (arith, at.0), at.1)
 
 pub not_none : {X : Type 0} (o : Option X) → is_some o ≡ true → None ≡ o → ⊥
 not_none None e h = cc

@@ -5,14 +5,10 @@ use Rattle.std.specs.Fmt.{decimal}
 use Rattle.std.specs.Str.{bytes_eq}
 use Rattle.std.specs.Result.{result_ok}
 use Rattle.std.specs.Str.Parse.{digits_value, ParsesUnsigned}
-use Rattle.std.proofs.lemmas.Bool.{ltb-true, lt-ltb}
+use Rattle.std.proofs.lemmas.Bool.{ltb-true, lt-ltb, and_parts}
 use Rattle.std.proofs.lemmas.Fmt.{decimal_is_IsNumeral, parse-decimal}
 use Rattle.std.proofs.lemmas.Slice.Eq.{bytes_eq-Decides}
 use Rattle.fx_words.specs.Job.{number_of}
-
-both : (a b : Bool) → (a && b) ≡ true → (a ≡ true) × (b ≡ true)
-both true b e = (refl, e)
-both false b e = cc
 
 -- a number of that text is the one
 pub number_is : (text : List ℕ) (n : ℕ) → n < 2 ^ 32 → decimal n ≡ text → number_of text ≡ Some n
@@ -28,7 +24,7 @@ no_number text none = at (digits_value 10 text) (bytes_eq (decimal (digits_value
     at : (n : ℕ) (b : Bool) → bytes_eq (decimal n) text && nat_lt n (2 ^ 32) ≡ b → cond b (Some n) None ≡ None
     at n false e = refl
     at n true e =
-        let parts = both (bytes_eq (decimal n) text) (nat_lt n (2 ^ 32)) e in
+        let parts = and_parts (bytes_eq (decimal n) text) (nat_lt n (2 ^ 32)) e in
         absurd (none n (ltb-true n (2 ^ 32) parts.1) ((bytes_eq-Decides (decimal n) text).0 parts.0))
 
 -- what `parse` cannot read is no number's text

@@ -1,22 +1,15 @@
 -- Plain words at a command without subcommands: each goes to the positional whose turn it is.
-use Rattle.std.proofs.Common.{◌≡◌, ℕ, Bool, true, false, cond, not, ◌&&◌, ◌==◌, List, [], ◌∷◌, Option, Some, None, refl, ap, ap₂, ◌∙◌}
+use Rattle.std.proofs.Common.{◌≡◌, ℕ, Bool, true, false, cond, ◌&&◌, ◌==◌, List, [], ◌∷◌, Option, Some, None, refl, ap, ap₂, ◌∙◌}
 use Rattle.std.specs.List.{fold, list_all}
 use Rattle.std.specs.Option.{option_and_then, option_map_or}
 use Rattle.std.specs.Str.{bytes_eq}
+use Rattle.std.proofs.lemmas.Bool.{and_parts, not-true}
 use Rattle.clap.specs.Lexer.{long_of, long_of_rest, short_of, short_of_rest, strip_byte}
 use Rattle.clap.specs.Kinds.{Kinds, or_else}
 use Rattle.clap.specs.Walk.{Held, Names, Row, Rule, Step, Text, Waiting, Walk, idle, option, positional, value, after_step, arg_by_index, finished, is_multiple, long_or_other, plain_word, short_or_plain, subcommand_or_other, trailing, nothing_held, rows_after, settled, subcommand_met, to_positional, walk_from, walked, walked_from, word_met}
 use Rattle.clap.specs.Simple.{Shape}
 use Rattle.clap.specs.Faults.{check_fault, defaults_fault, bundle_fault, flag_word_fault, level_fault, other_fault, settle_fault, step_fault, turn_fault, walk_fault, word_fault}
 use Rattle.fx_words.specs.Forms.{is_plain}
-
-not_false : (b : Bool) → not b ≡ true → b ≡ false
-not_false true e = cc
-not_false false e = refl
-
-pub both : (a b : Bool) → (a && b) ≡ true → (a ≡ true) × (b ≡ true)
-both true b e = (refl, e)
-both false b e = cc
 
 -- nothing waits for the value of an option
 abbrev pub is_free : Waiting → Bool
@@ -48,7 +41,7 @@ pub plain_met : (c : List Rule) (names : Names) (is_trailing : Bool) (waiting : 
 plain_met c names true waiting position word h plain free none = refl
 plain_met c names false waiting position [] h plain free none = cc
 plain_met c names false waiting position (b ∷ rest) h plain free none =
-    let isnt : (b == 45) ≡ false = not_false (b == 45) plain in
+    let isnt : (b == 45) ≡ false = not-true (b == 45) plain in
     ap (λ o. subcommand_or_other c o waiting position (b ∷ rest) h) none
     ∙ ap (λ t. cond t (h, trailing position) (long_or_other c waiting (b ∷ rest) (long_of (b ∷ rest)) h)) (no_dashes b rest isnt)
     ∙ ap (λ l. long_or_other c waiting (b ∷ rest) l h) (no_long b rest isnt)
@@ -61,7 +54,7 @@ pub plain_fault : (s : Shape) (names : Names) (is_trailing : Bool) (waiting : Wa
 plain_fault s names true waiting word h plain none = refl
 plain_fault s names false waiting [] h plain none = cc
 plain_fault s names false waiting (b ∷ rest) h plain none =
-    let isnt : (b == 45) ≡ false = not_false (b == 45) plain in
+    let isnt : (b == 45) ≡ false = not-true (b == 45) plain in
     ap (λ o. other_fault s o (b ∷ rest) h) none
     ∙ ap (λ t. cond t [] (flag_word_fault s.rules s.args_override_self (long_of (b ∷ rest)) (b ∷ rest) h)) (no_dashes b rest isnt)
     ∙ ap (λ l. flag_word_fault s.rules s.args_override_self l (b ∷ rest) h) (no_long b rest isnt)
@@ -101,7 +94,7 @@ ready_on c w word ready = ready_to c (arg_by_index c w.position) word w ready
 pub steps_are : (c : List Rule) (w : Walk) (words : List Text) → list_all is_plain words ≡ true → Ready w → fold (walked c []) w words ≡ fold (step c) w words
 steps_are c w [] plain ready = refl
 steps_are c w (x ∷ xs) plain ready =
-    let parts = both (is_plain x) (list_all is_plain xs) plain in
+    let parts = and_parts (is_plain x) (list_all is_plain xs) plain in
     ap (λ v. fold (walked c []) v xs) (step_is c [] w x parts.0 ready (none_met w.waiting x))
     ∙ steps_are c (step c w x) xs parts.1 (ready_on c w x ready)
 
@@ -113,7 +106,7 @@ pub faults_are : (s : Shape) (w : Walk) (words : List Text) → list_all is_plai
 unfolding walk_fault
 faults_are s w [] plain ready = refl
 faults_are s w (x ∷ xs) plain ready =
-    let parts = both (is_plain x) (list_all is_plain xs) plain in
+    let parts = and_parts (is_plain x) (list_all is_plain xs) plain in
     ap₂ or_else (turn_is s [] w x parts.0 ready (none_met w.waiting x))
     (ap (λ v. walk_fault s [] v xs) (step_is s.rules [] w x parts.0 ready (none_met w.waiting x))
     ∙ faults_are s (step s.rules w x) xs parts.1 (ready_on s.rules w x ready))

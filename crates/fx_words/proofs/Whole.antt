@@ -3,6 +3,7 @@ use Rattle.std.proofs.Common.{◌≡◌, Bool, true, false, List, [], ◌∷◌,
 use Rattle.std.specs.Prelude.{find, is_some}
 use Rattle.std.specs.List.{fold, list_all}
 use Rattle.std.specs.Option.{option_map, option_map_or, option_and_then}
+use Rattle.std.proofs.lemmas.Bool.{and_parts}
 use Rattle.clap.specs.Kinds.{Kinds, or_else}
 use Rattle.clap.specs.Walk.{Names, Text, Walk, answers_to, finished, idle, is_empty, nothing_held, rows_after, settled, subcommand_met, walked}
 use Rattle.clap.specs.Simple.{Shape, built, entered, label_of, names_of, rows_at, subcommand_of}
@@ -14,7 +15,7 @@ use Rattle.fx_words.specs.declared.form.CommandName.TheVariants.{Run, Trace, Sho
 use Rattle.fx_words.specs.Forms.{command_named, commands, has_form, is_plain, takes, word_of}
 use Rattle.fx_words.specs.Matched.{command_in, words_in}
 use Rattle.fx_words.specs.Parser.{program}
-use Rattle.fx_words.proofs.Walks.{both, level_is, rows_are, start, turn_is}
+use Rattle.fx_words.proofs.Walks.{level_is, rows_are, start, turn_is}
 use Rattle.fx_words.proofs.Leaves.{command_says, command_takes, ready}
 use Rattle.fx_words.proofs.Names.{command_is, named_so, unfound}
 
@@ -132,9 +133,9 @@ program_takes [] plain = refl
 program_takes (w ∷ words) plain = at (command_named w) refl
   where
     at : (o : Option CommandName) → command_named w ≡ o → is_empty (fault_of program (w ∷ words)) ≡ form_by words (command_named w)
-    at None none = unnamed_fails w words (both (is_plain w) (list_all is_plain words) plain).0 none ∙ ap (form_by words) (sym none)
+    at None none = unnamed_fails w words (and_parts (is_plain w) (list_all is_plain words) plain).0 none ∙ ap (form_by words) (sym none)
     at (Some name) is =
-        let rest = (both (is_plain w) (list_all is_plain words) plain).1 in
+        let rest = (and_parts (is_plain w) (list_all is_plain words) plain).1 in
         ap (λ v. is_empty (fault_of program (v ∷ words))) (sym (command_is w name is)) ∙ named_takes name words rest ∙ ap (form_by words) (sym is)
 
 -- ---- and its matches say these words
@@ -152,5 +153,5 @@ program_reads (w ∷ words) plain form = at (command_named w) refl form
     at : (o : Option CommandName) → command_named w ≡ o → form_by words o ≡ true → words_in (subcommand_of program (w ∷ words)) ≡ Some (w ∷ words)
     at None none e = cc
     at (Some name) is e =
-        let rest = (both (is_plain w) (list_all is_plain words) plain).1 in
+        let rest = (and_parts (is_plain w) (list_all is_plain words) plain).1 in
         subst (λ v. words_in (subcommand_of program (v ∷ words)) ≡ Some (v ∷ words)) (command_is w name is) (named_says name words rest e)

@@ -1,21 +1,15 @@
 -- What an attempt over live looks says.
-use Rattle.std.proofs.Common.{◌≡◌, ℕ, [], length, refl, sym, subst}
-use Rattle.std.proofs.lemmas.Bool.{false≢true}
+use Rattle.std.proofs.Common.{◌≡◌, ℕ, [], length, refl, subst}
 use Rattle.fx_view.specs.ReadList.{ReadList}
-use Rattle.fx_spec.specs.Plans.{Turn}
 use Rattle.fx_spec.specs.Order.{BaseTree}
 use Rattle.fx_machine.specs.declared.attempt.Attempt.{Attempt}
 use Rattle.fx_machine.specs.Explained.{IsExplained}
-use Rattle.fx_run.specs.Running.{ReadsFit, Foretells}
+use Rattle.fx_run.specs.Running.{Foretells}
 use Rattle.fx_shared.specs.Passes.{LogView}
 use Rattle.fx_shared.proofs.Truths.{begins_short}
 use Rattle.fx_diary.proofs.Positions.{in_turn_from}
 use Rattle.fx_workers.specs.Live.{Vouches}
 use Rattle.fx_workers.specs.Working.{HasTried}
-
--- no reads fit every transaction
-pub none_fit : (base : BaseTree) (turn : Turn) (reads : ReadList) → reads ≡ [] → ReadsFit base turn reads
-none_fit base turn reads none = subst (ReadsFit base turn) (sym none) (λ t planned nodes whole agrees path read. absurd (false≢true read))
 
 pub tried_by : (base : BaseTree) (shell txn : ℕ) (start now v w : LogView) (before : ReadList) (a : Attempt) → v ≡ start → w ≡ now → before ≡ [] → a.shell ≡ shell → a.txn ≡ txn → IsExplained base a → Foretells base (shell, txn) before a.reads → Vouches v w before a.reads → HasTried base shell txn start now a
 tried_by base shell txn start now v w before a first last none whose number explained foretold vouches =

@@ -1,15 +1,14 @@
 -- What a live reader goes on to vouch for.
-use Rattle.std.proofs.Common.{◌≡◌, ◌⊎◌, inl, inr, ℕ, ◌≤◌, Bool, true, false, cond, List, [], ◌∷◌, ◌++◌, length, Option, Some, None, is_some, Result, Ok, Err, refl, sym, ap, subst, ◌∙◌, arith}
+use Rattle.std.proofs.Common.{◌≡◌, ◌⊎◌, inl, inr, ℕ, ◌≤◌, true, false, List, [], ◌∷◌, ◌++◌, length, Option, Some, None, is_some, Result, Ok, Err, refl, sym, ap, subst, ◌∙◌, arith}
 use Rattle.std.specs.Prelude.{OnOk, OnErr}
 use Rattle.std.specs.FinMap.{get}
-use Rattle.std.specs.Ordering.{eq_by_cmp}
 use Rattle.std.proofs.lemmas.Bool.{false≢true}
-use Rattle.std.proofs.lemmas.Option.{same_Some, none-some}
+use Rattle.std.proofs.lemmas.Option.{same_Some}
 use Rattle.fx_store.specs.declared.node.Node.{Node}
-use Rattle.fx_store.specs.Names.{IsPath, path_cmp}
-use Rattle.fx_store.specs.Orders.{path_eq_same}
+use Rattle.fx_store.specs.Names.{IsPath}
 use Rattle.fx_view.specs.ReadList.{ReadList}
 use Rattle.fx_view.specs.Reads.{read_at}
+use Rattle.fx_view.proofs.Lists.{read_more_cases}
 use Rattle.fx_spec.specs.Plans.{Turn}
 use Rattle.fx_spec.specs.Order.{BaseTree, state}
 use Rattle.fx_turn.specs.declared.kept.Kept.{Ghosts}
@@ -29,19 +28,6 @@ Path = List (List ℕ)
 
 abbrev Read : Type 0
 Read = Option Node × ℕ
-
--- a read is one of those before, or the new one
-read_more_cases : (reads : ReadList) (path : Path) (read : Read) (q : Path) (r : Read) → read_at (reads ++ (path, read) ∷ []) q ≡ Some r → (read_at reads q ≡ Some r) ⊎ ((q ≡ path) × (read ≡ r))
-read_more_cases [] path read q r e = go (eq_by_cmp path_cmp q path) refl e
-  where
-    go : (b : Bool) → eq_by_cmp path_cmp q path ≡ b → cond b (Some read) None ≡ Some r → (read_at [] q ≡ Some r) ⊎ ((q ≡ path) × (read ≡ r))
-    go true is e = inr (path_eq_same q path is, same_Some read r e)
-    go false is e = absurd (none-some r e)
-read_more_cases (x ∷ xs) path read q r e = go (eq_by_cmp path_cmp q x.0) e (read_more_cases xs path read q r)
-  where
-    go : (b : Bool) → cond b (Some x.1) (read_at (xs ++ (path, read) ∷ []) q) ≡ Some r → (read_at (xs ++ (path, read) ∷ []) q ≡ Some r → (read_at xs q ≡ Some r) ⊎ ((q ≡ path) × (read ≡ r))) → (cond b (Some x.1) (read_at xs q) ≡ Some r) ⊎ ((q ≡ path) × (read ≡ r))
-    go true e rest = inl e
-    go false e rest = rest e
 
 -- true reads are true for the pass when it has seen more
 pub stand_on : (v w : LogView) (reads : ReadList) → HasSeenMore v w → AreTrueOver v reads → AreTrueOver w reads

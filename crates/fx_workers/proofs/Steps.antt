@@ -3,6 +3,7 @@ use Rattle.std.proofs.Common.{◌≡◌, ◌⊎◌, inl, inr, ℕ, suc, zero, �
 use Rattle.std.specs.List.{sum_by}
 use Rattle.std.proofs.lemmas.List.{take_all, take-append-le}
 use Rattle.std.proofs.lemmas.Option.{same_Some}
+use Rattle.fx_base.proofs.Lists.{at_middle}
 use Rattle.fx_spec.specs.CommandTree.{CommandTree}
 use Rattle.fx_spec.specs.Plans.{Turn, count_of, txn_of}
 use Rattle.fx_spec.specs.Order.{BaseTree, IsLegal}
@@ -45,10 +46,6 @@ legal_on base v e h = subst (λ b. IsLegal b v.seen) (same_Some h.0 base (sym h.
 
 take_front : (xs ys : List Turn) → take (length xs) (xs ++ ys) ≡ xs
 take_front xs ys = take-append-le (length xs) xs ys (omega arith) ∙ take_all (length xs) xs (omega arith)
-
-get_last : (xs : List Turn) (x : Turn) → slice_get (xs ++ x ∷ []) (length xs) ≡ Some x
-get_last [] x = refl
-get_last (y ∷ ys) x = get_last ys x
 
 -- the pass has seen no entry
 idle : (base : BaseTree) (o : List Turn) (shell : ℕ) → next_number o shell ≡ 0 → Diary base o shell (length o) [] []
@@ -108,7 +105,7 @@ module _ (base : BaseTree) (shell txn : ℕ) (start now new : LogView) (a : Atte
       let longer : length new.seen ≡ last + 1 = ap length s.seen ∙ size in
       let on : new.base ≡ Some base = s.base ∙ (has.seen.base ∙ based) in
       let is_next : txn + 1 ≡ new.mine = (let m = s.mine in let n = has.seen.mine in omega (arith, m, n, next)) in
-      let at : slice_get o last ≡ Some turn = get_last s.before turn in
+      let at : slice_get o last ≡ Some turn = at_middle s.before [] turn in
       let front : take last o ≡ s.before = take_front s.before (turn ∷ []) in
       let one : next_number (take (suc last) o) shell ≡ suc (next_number (take last o) shell) = own_counts o shell last turn at has.whose in
       let whole : next_number (take (suc last) o) shell ≡ new.mine = ap (λ o. next_number o shell) (take_all (suc last) o (omega (arith, size)) ∙ sym s.seen) ∙ counted_new in

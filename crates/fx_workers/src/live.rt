@@ -132,9 +132,7 @@ impl<D: Desk> Reader for DeskReader<D> {
     }
 
     fn take_reads(&mut self, alloc: Global) -> Reads {
-        let mut taken = Reads::new(alloc);
-        std::mem::swap(&mut self.reads, &mut taken);
-        taken
+        self.reads.take(alloc)
     }
 
     ghost begins = { λ reader.

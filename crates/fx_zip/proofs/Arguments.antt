@@ -18,8 +18,8 @@ use Rattle.fx_spec.specs.Place.{placed, in_body}
 use Rattle.fx_spec.specs.SpecTree.{SpecTree}
 use Rattle.fx_spec.specs.WellShaped.{AreArguments}
 use Rattle.fx_view.specs.declared.reader.Stop.TheVariants as stop
-use Rattle.fx_view.proofs.Lists.{drop_at}
 use Rattle.fx_base.proofs.Errors.{err_of}
+use Rattle.fx_base.proofs.Lists.{drop_next}
 use Rattle.fx_session.specs.declared.halt.Halt.{Halt}
 use Rattle.fx_session.specs.declared.halt.Halt.TheVariants as halt
 use Rattle.fx_session.specs.Answering.{answered}
@@ -126,7 +126,7 @@ module _ (env : Bindings) (args : List ExprTree) (first steps i : ℕ) (at : IsT
 
   module _ (e : ExprTree) (here : slice_get args i ≡ Some e) (now : ℕ) (one : now ≡ steps + 1) where
     ahead : drop i args ≡ e ∷ drop (i + 1) args
-    ahead = drop_at args i e here
+    ahead = drop_next args i e here
 
     count_ahead : argument_evals env (drop i args) ≡ 1 + unless_fault (eval_of env e) (argument_evals env (drop (i + 1) args))
     count_ahead = ap (argument_evals env) ahead

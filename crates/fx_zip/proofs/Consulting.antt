@@ -1,13 +1,11 @@
 -- Steps that consult the filestore: inside an entry, and to a second part.
-use Rattle.std.proofs.Common.{◌≡◌, ℕ, Bool, true, false, cond, List, [], ◌∷◌, length, ◌||◌, Option, Some, None, option_map, Result, Ok, Err, refl, sym, ap, ◌∙◌, subst}
-use Rattle.std.specs.Prelude.{IsErrAnd, IfOk, nat_eq}
-use Rattle.std.specs.Cmp.Lexicographic.{pointwise}
+use Rattle.std.proofs.Common.{◌≡◌, ℕ, Bool, true, false, cond, List, ◌∷◌, length, Option, Some, None, option_map, Result, Ok, Err, refl, sym, ap, ◌∙◌, subst}
+use Rattle.std.specs.Prelude.{IsErrAnd, IfOk}
 use Rattle.std.specs.Option.{IfSome}
 use Rattle.fx_store.specs.Rule.{Ask, Answer, ◌>>=◌}
 use Rattle.fx_expr.specs.Bindings.{bind}
-use Rattle.fx_expr.specs.Sets.{has_text, least}
+use Rattle.fx_expr.specs.Sets.{has_text}
 use Rattle.fx_expr.specs.Tree.{Tree}
-use Rattle.fx_text.proofs.Order.{same_text}
 use Rattle.fx_spec.specs.declared.refusal.Refusal.{Refusal}
 use Rattle.fx_spec.specs.Describe.{Bindings, exists, value}
 use Rattle.fx_spec.specs.Move.{Answered, go_into, this_if}
@@ -35,10 +33,6 @@ use Rattle.fx_view.specs.Own.{own_at}
 use Rattle.fx_zip.proofs.Sessions.{found_by}
 
 -- ---- elements that are chosen are elements
-
-pub has_least : (set : List (List ℕ)) (t : List ℕ) → least set ≡ Some t → has_text t set ≡ true
-has_least [] t e = absurd (cc)
-has_least (u ∷ us) t e = let same : u ≡ t = cc in ap (λ b. b || has_text t us) (ap (λ v. pointwise nat_eq u v) (sym same) ∙ same_text u)
 
 pub has_asked : (text : List ℕ) (set : List (List ℕ)) (t : List ℕ) → this_if text (has_text text set) ≡ Some t → has_text t set ≡ true
 has_asked text set t e = at (has_text text set) refl e

@@ -2,6 +2,9 @@
 use Rattle.std.proofs.Common.{◌≡◌, ℕ, zero, suc, ◌+◌, ◌-◌, ◌≤◌, ◌<◌, Bool, true, false, ◌&&◌, List, [], ◌∷◌, ◌++◌, length, take, drop, Option, Some, None, IsSome, is_some, refl, sym, ap, ◌∙◌, subst, arith, append_assoc, length-append}
 use Rattle.std.specs.Prelude.{nat_le, slice_get}
 use Rattle.std.proofs.lemmas.Bool.Decides.{nat_tests}
+use Rattle.std.proofs.lemmas.Bool.{and_from}
+use Rattle.fx_base.proofs.Booleans.{first_true, second_true}
+use Rattle.fx_base.proofs.Results.{still_some}
 use Rattle.fx_store.specs.declared.node.Node.{Node}
 use Rattle.fx_store.specs.Rule.{Known, Ask, Answer, Look, Tick, follow, if_known, seen}
 use Rattle.fx_spec.specs.Describe.{Bindings}
@@ -42,25 +45,13 @@ more_within (suc k) zero reads few = absurd (omega (arith, few))
 more_within (suc k) (suc n) [] few = ([], refl)
 more_within (suc k) (suc n) (r ∷ reads) few = let more = more_within k n reads (omega (arith, few)) in (more.0, ap (λ rs. r ∷ rs) more.1)
 
-some_kept : (o more : Option (Option Node)) → ((n : Option Node) → o ≡ Some n → more ≡ Some n) → IsSome o → IsSome more
-some_kept None more kept some = absurd (cc)
-some_kept (Some n) more kept some = ap is_some (kept n refl)
-
 same_within : (k n : ℕ) (reads : ReadList) (own now : Known) → k ≤ n → SameOver (take n reads) own now → SameOver (take k reads) own now
 same_within k n reads own now few same p some =
     let more = more_within k n reads few in
     let grows : Grows (known_of (take k reads)) (known_of (take n reads)) = subst (λ rs. Grows (known_of (take k reads)) (known_of rs)) (sym more.1) (Grows-reads (take k reads) more.0) in
-    same p (some_kept (known_of (take k reads) p) (known_of (take n reads) p) (grows.keeps p) some)
+    same p (still_some (known_of (take k reads) p) (known_of (take n reads) p) (grows.keeps p) some)
 
 -- ---- frames
-
-first_true : (a b : Bool) → a && b ≡ true → a ≡ true
-first_true true b e = refl
-first_true false b e = e
-
-then_true : (a b : Bool) → a && b ≡ true → b ≡ true
-then_true true b e = e
-then_true false b e = absurd (cc)
 
 is_within : (k n : ℕ) → nat_le k n ≡ true → k ≤ n
 is_within k n e = grind (arith, nat_tests)
@@ -73,7 +64,7 @@ module _ (n : ℕ) (reads : ReadList) (own now : Known) (same : SameOver (take n
   found_lasts (step ∷ a) (f ∷ fs) env told h = (
     sym (follow_over (known_of (take f.reads reads)) own now (same_within f.reads n reads own now (is_within f.reads n (first_true (nat_le f.reads n) (are_told n fs) told)) same) (lead step (path_of fs) (around step f.caller env) (part root a))) ∙ h.0,
     h.1,
-    found_lasts a fs (around step f.caller env) (then_true (nat_le f.reads n) (are_told n fs) told) h.2,
+    found_lasts a fs (around step f.caller env) (second_true (nat_le f.reads n) (are_told n fs) told) h.2,
   )
 
 pub fresh_lasts : (n : ℕ) (reads : ReadList) (own now : Known) (z : ZipTree) → SameOver (take n reads) own now → are_told n z.frames ≡ true → IsFresh reads own z → IsFresh reads now z
@@ -145,10 +136,6 @@ told_append n (f ∷ fs) gs = at (nat_le f.reads n) (told_append n fs gs)
     at true rest = rest
     at false rest = refl
 
-both_told : (a b : Bool) → a ≡ true → b ≡ true → a && b ≡ true
-both_told true b e f = f
-both_told false b e f = absurd (cc)
-
 within_is : (k n : ℕ) → k ≤ n → nat_le k n ≡ true
 within_is k n e = grind (arith, nat_tests)
 
@@ -173,4 +160,4 @@ not_told n frames i f at more =
 -- one more that these tell
 pub told_more : (n : ℕ) (frames next : List Frame) (f : Frame) → next ≡ frames ++ f ∷ [] → f.reads ≤ n → are_told n (turned (λ f. f) frames) ≡ true → are_told n (turned (λ f. f) next) ≡ true
 told_more n frames next f is few told =
-    ap (are_told n) (ap (turned (λ f. f)) is ∙ turned-last (λ f. f) frames f) ∙ both_told (nat_le f.reads n) (are_told n (turned (λ f. f) frames)) (within_is f.reads n few) told
+    ap (are_told n) (ap (turned (λ f. f)) is ∙ turned-last (λ f. f) frames f) ∙ and_from (nat_le f.reads n) (are_told n (turned (λ f. f) frames)) (within_is f.reads n few) told

@@ -11,7 +11,6 @@ pub mod Places
 pub mod Beside
 pub mod Consulting
 pub mod Finding
-pub mod Chosen
 pub mod Around
 pub mod Questions
 pub mod Worked

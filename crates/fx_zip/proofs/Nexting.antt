@@ -1,10 +1,10 @@
 -- The first step that has no frame, and the zipper with one frame more.
 use Rattle.fx_view.specs.ReadList.{ReadList}
 use Rattle.std.proofs.Common.{◌≡◌, ℕ, ◌<◌, Bool, true, false, List, [], ◌∷◌, ◌++◌, length, take, get_or, Option, Some, None, Result, Ok, Err, refl, sym, ap, ◌∙◌, subst, arith, append_assoc, length-append}
-use Rattle.std.specs.Prelude.{slice_get, IsErrAnd, nat_eq}
+use Rattle.std.specs.Prelude.{slice_get, IsErrAnd}
 use Rattle.std.proofs.lemmas.Option.{slice_get_read}
 use Rattle.fx_zip.specs.declared.frame.Frame.{Frame}
-use Rattle.std.proofs.lemmas.Bool.Decides.{nat_tests}
+use Rattle.std.proofs.lemmas.Bool.{eqb-false}
 use Rattle.fx_store.specs.Rule.{Known}
 use Rattle.fx_spec.specs.Describe.{Bindings}
 use Rattle.fx_spec.specs.SpecTree.{SpecTree}
@@ -28,9 +28,6 @@ use Rattle.fx_zip.proofs.Turning.{length-turned, same_ends}
 use Rattle.fx_session.specs.declared.session.Session.{Session}
 use Rattle.fx_view.specs.Own.{own_at}
 
-is_apart : (m n : ℕ) → nat_eq m n ≡ false → m ≡ n → ⊥
-is_apart m n e same = grind (arith, nat_tests)
-
 module _ (known : ReadList) (own : Known) (z : ZipTree) (fresh : IsFresh known own z) where
   frames_kept : length z.frames ≡ length fresh.kept
   frames_kept = found_length known own z.root fresh.kept z.frames z.env fresh.found
@@ -41,7 +38,7 @@ module _ (known : ReadList) (own : Known) (z : ZipTree) (fresh : IsFresh known o
       let all = ap length fresh.whole in
       let both = length-append fresh.ahead fresh.kept in
       let kept = frames_kept in
-      let apart = is_apart (length z.frames) (length z.address) unsettled in
+      let apart = eqb-false (length z.frames) (length z.address) unsettled in
       omega (arith, all, both, kept, apart)
 
   module _ (unsettled : is_settled z ≡ false) (steps : List Step) (frames : List Frame) (whole : turned step_tree steps ≡ z.address) (kept : turned (λ f. f) frames ≡ z.frames) (n : ℕ) (long : n ≡ length frames) where

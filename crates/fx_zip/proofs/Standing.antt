@@ -5,6 +5,7 @@ use Rattle.std.specs.Prelude.{nat_eq}
 use Rattle.std.specs.Option.{IfSome, unwrap_or}
 use Rattle.std.proofs.lemmas.Bool.Decides.{nat_tests}
 use Rattle.std.proofs.lemmas.List.{append-nil}
+use Rattle.std.proofs.lemmas.Bool.{eq-eqb}
 use Rattle.fx_store.specs.declared.node.Node.{Node}
 use Rattle.fx_store.specs.Rule.{Known, Found, follow, AgreesWith, answer, changed}
 use Rattle.fx_store.specs.Whole.{Store}
@@ -49,9 +50,6 @@ first_grows k reads more grows =
     subst (λ rs. Grows (known_of (take k reads)) (known_of (take k rs))) (sym grows.1)
     (subst (λ rs. Grows (known_of (take k reads)) (known_of rs)) (sym front.1) (Grows-reads (take k reads) front.0))
 
-pub is_true : (m n : ℕ) → m ≡ n → nat_eq m n ≡ true
-is_true m n e = grind (arith, nat_tests)
-
 module _ (known : ReadList) (own : Known) (root : SpecTree) where
   pub found_length : (a : Address) (fs : List Frame) (env : Bindings) → AreFound known own root a fs env → length fs ≡ length a
   found_length [] [] env h = refl
@@ -95,7 +93,7 @@ module _ (known : ReadList) (own : Known) (root : SpecTree) where
 
 module _ (known : ReadList) (own : Known) (z : ZipTree) where
   pub stands_settled : Stands known own z → IsSettled z
-  stands_settled h = is_true (length z.frames) (length z.address) (found_length known own z.root z.address z.frames z.env h.found)
+  stands_settled h = eq-eqb (length z.frames) (length z.address) (found_length known own z.root z.address z.frames z.env h.found)
 
   pub stands_fresh : Stands known own z → IsFresh known own z
   stands_fresh h = record { ahead = []; kept = z.address; whole = refl; found = h.found; set = h.set }
@@ -206,7 +204,7 @@ as_long (step ∷ a) (f ∷ fs) e = omega (arith, e)
 pub left_kept : (z : ZipTree) → IsSettled z → IsSettled (left z)
 left_kept z e =
     let same : length z.frames ≡ length z.address = grind (arith, nat_tests) in
-    subst IsSettled (sym (left_settled z e)) (is_true (length (drop 1 z.frames)) (length (drop 1 z.address)) (as_long z.address z.frames same))
+    subst IsSettled (sym (left_settled z e)) (eq-eqb (length (drop 1 z.frames)) (length (drop 1 z.address)) (as_long z.address z.frames same))
 
 -- without frames, nothing is kept
 pub fresh_none : (known : ReadList) (own : Known) (z : ZipTree) → z.frames ≡ [] → z.env ≡ [] → z.set ≡ None → IsFresh known own z

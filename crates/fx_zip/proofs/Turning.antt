@@ -6,7 +6,7 @@ use Rattle.fx_zip.specs.declared.frame.Frame.{Frame}
 use Rattle.fx_zip.specs.Fresh.{last_set, last_caller}
 use Rattle.std.specs.Option.{option_to_list}
 use Rattle.std.proofs.lemmas.List.{take-append-drop}
-use Rattle.fx_view.proofs.Lists.{drop_at}
+use Rattle.fx_base.proofs.Lists.{drop_next}
 use Rattle.fx_zip.specs.Steps.{turned_onto, turned}
 
 module _ {A B : Type 0} (f : A → B) where
@@ -37,7 +37,7 @@ module _ {A B : Type 0} (f : A → B) where
   turned_at xs n x is =
       ap (turned f) (sym (take-append-drop n xs))
       ∙ onto-append [] (take n xs) (drop n xs)
-      ∙ ap (turned_onto f (turned f (take n xs))) (drop_at xs n x is)
+      ∙ ap (turned_onto f (turned f (take n xs))) (drop_next xs n x is)
       ∙ onto-front (f x ∷ turned f (take n xs)) (drop (n + 1) xs)
       ∙ sym (append_assoc (turned f (drop (n + 1) xs)) (f x ∷ []) (turned f (take n xs)))
 

@@ -49,7 +49,7 @@ pub(crate) fn set_of<R: Reader, L: Ledger>(
     ensures tick { session.new ≡ ticked session.old }
 {
     let value = session.work_out(formula, env)?;
-    Ok(into_names(session.alloc, value))
+    Ok(value.into_names(session.alloc))
 }
 
 /// The set of a comprehension: the one that is kept, or else its expression's value.
@@ -94,7 +94,7 @@ fn extended(alloc: Global, path: &Path, value: &Value) -> Result<Path, Halt>
     ensures { Says (answered (λ q. q)) (Some (describe.extension
         (paths.extended path.now (eval.text_in (tree_of value.now))))) (split result) }
 {
-    Ok(path.extend(alloc, text_in(value))?)
+    Ok(path.extend(alloc, value.text_bytes())?)
 }
 
 /// The names in a call's body: its parameters, with the values of the arguments.
@@ -152,28 +152,6 @@ pub(crate) fn if_given<T: Drop>(answer: Result<T, Halt>) -> Result<Option<T>, St
         Ok(value) => Ok(Some(value)),
         Err(Halt::Refused(_)) => Ok(None),
         Err(Halt::Stopped(stop)) => Err(stop),
-    }
-}
-
-fn text_in(value: &Value) -> &[u8]
-    ensures { result.now ≡ eval.text_in (tree_of value.now) }
-{
-    match value {
-        Value::Str(text) => text.as_slice(),
-        Value::Int(_) | Value::Bool(_) | Value::Names(_) => &[],
-        Value::Pair(_, _) | Value::Nothing | Value::Some(_) | Value::Table(_) => &[],
-    }
-}
-
-fn into_names(alloc: Global, value: Value) -> TextSet
-    ensures { result ≡ eval.names_in (tree_of value) }
-{
-    match value {
-        Value::Names(names) => names,
-        Value::Str(_) | Value::Int(_) | Value::Bool(_) => TextSet::new(alloc),
-        Value::Pair(_, _) | Value::Nothing | Value::Some(_) | Value::Table(_) => TextSet::new(
-            alloc,
-        ),
     }
 }
 

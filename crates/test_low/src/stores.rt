@@ -1,7 +1,6 @@
 use fx_base::NoMemory;
 use fx_store::{
-    Bytes, Change, Changes, Files, Filestore, LinkText, LongText, Name, NameList, Names, Node,
-    Path, Paths,
+    Bytes, Change, Changes, Filestore, LinkText, LongText, Name, NameList, Names, Node, Path, Paths,
 };
 use std::alloc::Global;
 
@@ -111,26 +110,6 @@ fn paths_and_changes_are_added(rt: HostRuntime) {
     assert_eq!(rt; changes_told(rt.alloc()), Ok(1));
 }
 
-fn some_files(alloc: Global) -> Result<Files, NoMemory> {
-    let bytes = some_bytes(alloc)?;
-    let name = some_name(alloc)?;
-    let mut files = Files::new(alloc);
-    if files.is_next(&name) {
-        files.add(alloc, name, bytes)?;
-    }
-    Ok(files)
-}
-
-fn one_file(alloc: Global) -> Result<Filestore, NoMemory> {
-    let files = some_files(alloc)?;
-    Filestore::flat(alloc, files)
-}
-
-fn copied_store(alloc: Global) -> Result<Filestore, NoMemory> {
-    let store = one_file(alloc)?;
-    store.copy(alloc)
-}
-
 fn some_path(alloc: Global) -> Result<Path, NoMemory> {
     match Path::read(alloc, b"/a") {
         Ok(path) => Ok(path),
@@ -146,27 +125,26 @@ fn size_of(node: Option<&Node>) -> u64 {
     }
 }
 
-/// How many places there are, the sizes of what stands at two paths, and whether there is a second place and a third.
-fn counts(store: &Filestore, root: &Path, path: &Path) -> (u64, u64, u64, bool, bool) {
+/// How many places there are, the size of what stands at the root, and whether there is a node at the first place and at the
+/// second.
+fn counts(store: &Filestore, root: &Path) -> (u64, u64, bool, bool) {
     (
         store.places(),
         size_of(store.get(root)),
-        size_of(store.get(path)),
+        store.at(0).is_some(),
         store.at(1).is_some(),
-        store.at(2).is_some(),
     )
 }
 
-fn store_told(alloc: Global) -> Result<(u64, u64, u64, bool, bool), NoMemory> {
-    let path = some_path(alloc)?;
+fn store_told(alloc: Global) -> Result<(u64, u64, bool, bool), NoMemory> {
     let root = Path::root(alloc);
-    let store = copied_store(alloc)?;
-    Ok(counts(&store, &root, &path))
+    let store = Filestore::new(alloc)?;
+    Ok(counts(&store.copy(alloc)?, &root))
 }
 
 #[test]
 fn a_filestore_is_made_and_copied(rt: HostRuntime) {
-    assert_eq!(rt; store_told(rt.alloc()), Ok((2, 1, 1, true, false)));
+    assert_eq!(rt; store_told(rt.alloc()), Ok((1, 0, true, false)));
 }
 
 fn reserved(alloc: Global, changes: &Changes) -> Result<Filestore, NoMemory> {

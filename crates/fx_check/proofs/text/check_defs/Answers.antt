@@ -1,8 +1,9 @@
 use Rattle.std.proofs.Common.{◌<◌, length, map, ap, arith}
 use Rattle.std.specs.Slice.Iter.{iter_rest}
+use Rattle.std.proofs.lemmas.List.{nil_from_length}
 use Rattle.fx_spec.specs.DefViews.{def_tree}
 use Rattle.fx_check.proofs.Checking.{handed}
-use Rattle.fx_check.proofs.Rests.{next_def, one_within, wrong_def, no_defs, none_of, all_left}
+use Rattle.fx_check.proofs.Rests.{next_def, one_within, wrong_def, no_defs, all_left}
 use Rattle.fx_check.proofs.text.check_defs.Goals as goal
 
 pub loop-before-init : goal.loop-before-init
@@ -23,4 +24,4 @@ loop-before-preserved c =
     next_def c.loop-before.invariant (def_tree c.in-Some.def.now) (map def_tree (iter_rest c.next.new.self)) (ap (map def_tree) c.in-Some.ensures.steps) _ c.in_ok-check_def.ensures
 
 pub returns : goal.returns
-returns c = no_defs c.loop-before.invariant (ap (map def_tree) (none_of _ c.in-None.ensures.steps.0))
+returns c = no_defs c.loop-before.invariant (ap (map def_tree) (nil_from_length _ c.in-None.ensures.steps.0))

@@ -1,7 +1,8 @@
 use Rattle.std.proofs.Common.{◌≡◌, Err, refl, ap, arith, length}
 use Rattle.fx_outside.specs.Tree.{is_file_at}
+use Rattle.fx_outside.proofs.Pieces.{take_front}
 use Rattle.fx_base.proofs.Errors.{err_of}
-use Rattle.fx_command.proofs.Pieces.{cut, cut_to, take_front, suited}
+use Rattle.fx_command.proofs.Pieces.{cut, cut_to, suited}
 use Rattle.fx_command.proofs.texts.read_piece.Goals as goal
 
 pub returns-in_err-count-clause-failed : goal.returns-in_err-count-clause-failed

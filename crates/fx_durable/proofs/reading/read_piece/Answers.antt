@@ -1,5 +1,6 @@
 use Rattle.std.proofs.Common.{◌≡◌, length, arith}
-use Rattle.fx_durable.proofs.Pieces.{cut, take_front}
+use Rattle.fx_outside.proofs.Pieces.{take_front}
+use Rattle.fx_durable.proofs.Pieces.{cut}
 use Rattle.fx_durable.proofs.reading.read_piece.Goals as goal
 
 pub returns-clause-piece : goal.returns-clause-piece

@@ -1,8 +1,9 @@
 use Rattle.std.proofs.Common.{◌≡◌, ap, sym, subst, ◌∙◌, ◌<◌, length, map, List, ℕ}
+use Rattle.fx_base.proofs.Orders.{texts_exact}
 use Rattle.fx_expr.specs.declared.value.Value.{Value}
 use Rattle.fx_expr.specs.Rows.{keys_of}
 use Rattle.fx_expr.specs.Views.{tree_of}
-use Rattle.fx_expr.proofs.Sameness.{texts_exact, texts_same, table_same, keys_same, values_same, item_same}
+use Rattle.fx_expr.proofs.Sameness.{texts_same, table_same, keys_same, values_same, item_same}
 use Rattle.fx_expr.proofs.value.+same.Goals as goal
 
 pub Value::is_same-returns-then-eq : goal.Value::is_same-returns-then-eq

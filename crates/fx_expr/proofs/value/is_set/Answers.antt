@@ -1,8 +1,9 @@
 use Rattle.std.proofs.Common.{◌≡◌, ap, sym, ◌∙◌}
+use Rattle.fx_base.proofs.Orders.{texts_exact}
 use Rattle.fx_expr.specs.Eval.{names_in}
 use Rattle.fx_expr.specs.Tree.{Tree}
 use Rattle.fx_expr.specs.Views.{tree_of}
-use Rattle.fx_expr.proofs.Sameness.{texts_exact, texts_same, names_tree}
+use Rattle.fx_expr.proofs.Sameness.{texts_same, names_tree}
 use Rattle.fx_expr.proofs.value.is_set.Goals as goal
 
 pub returns-in-Names : goal.returns-in-Names

@@ -1,9 +1,10 @@
-use Rattle.fx_folder.proofs.Writes.{err_holds, opened, free_for_table, saved_all, stopped_in_table, stopped_in_front, stopped_at_folder}
+use Rattle.fx_base.proofs.Results.{OnErr-from}
+use Rattle.fx_folder.proofs.Writes.{opened, free_for_table, saved_all, stopped_in_table, stopped_in_front, stopped_at_folder}
 use Rattle.fx_folder.proofs.saving.save.Goals as goal
 
 pub returns-in_err-make_folder-clause-part : goal.returns-in_err-make_folder-clause-part
 returns-in_err-make_folder-clause-part g c =
-    err_holds _ _ (stopped_at_folder (g.H.Host.view c.args.host.now).told _ c.args.folder.now c.args.there c.args.store.now.nodes (record { whole = g.met.H.Host.whole c.args.host.now; ready = c.requires.ready; stored = c.in_ok-descent.ensures.whole }) c.in_err-make_folder.ensures.partly)
+    OnErr-from _ _ (stopped_at_folder (g.H.Host.view c.args.host.now).told _ c.args.folder.now c.args.there c.args.store.now.nodes (record { whole = g.met.H.Host.whole c.args.host.now; ready = c.requires.ready; stored = c.in_ok-descent.ensures.whole }) c.in_err-make_folder.ensures.partly)
 
 pub write_entries-requires-clause-open : goal.write_entries-requires-clause-open
 write_entries-requires-clause-open g c =
@@ -11,7 +12,7 @@ write_entries-requires-clause-open g c =
 
 pub returns-in_err-table-clause-part : goal.returns-in_err-table-clause-part
 returns-in_err-table-clause-part g c =
-    err_holds _ _ (stopped_in_front (g.H.Host.view c.args.host.now).told _ _ c.args.folder.now c.args.there c.args.store.now.nodes c.in_ok-descent.ensures.whole c.in_ok-make_folder.ensures.made c.in_err-table.ensures.partly)
+    OnErr-from _ _ (stopped_in_front (g.H.Host.view c.args.host.now).told _ _ c.args.folder.now c.args.there c.args.store.now.nodes c.in_ok-descent.ensures.whole c.in_ok-make_folder.ensures.made c.in_err-table.ensures.partly)
 
 pub add_table-requires : goal.add_table-requires
 add_table-requires g c =

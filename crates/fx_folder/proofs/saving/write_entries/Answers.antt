@@ -1,7 +1,8 @@
 use Rattle.std.proofs.Common.{◌++◌}
+use Rattle.fx_base.proofs.Results.{OnErr-from}
 use Rattle.fx_outside.specs.Path.{parts}
 use Rattle.fx_table.proofs.TableTexts.{listing_starts, listing_more}
-use Rattle.fx_folder.proofs.Writes.{err_holds, starts_writing, stops_before, stops_in, is_free, goes_on, wrote_there, part_there}
+use Rattle.fx_folder.proofs.Writes.{starts_writing, stops_before, stops_in, is_free, goes_on, wrote_there, part_there}
 use Rattle.fx_folder.proofs.saving.write_entries.Goals as goal
 
 pub writing-init : goal.writing-init
@@ -11,7 +12,7 @@ writing-init g c = (
 )
 
 pub returns-in_err-entry-clause-partly : goal.returns-in_err-entry-clause-partly
-returns-in_err-entry-clause-partly g c = err_holds _ _ (stops_before (g.H.Host.view c.args.host.now) (g.H.Host.view c.writing.host) c.args.folder.now c.args.store.now.nodes _ (c.writing.invariant).0)
+returns-in_err-entry-clause-partly g c = OnErr-from _ _ (stops_before (g.H.Host.view c.args.host.now) (g.H.Host.view c.writing.host) c.args.folder.now c.args.store.now.nodes _ (c.writing.invariant).0)
 
 pub write_entry-requires : goal.write_entry-requires
 write_entry-requires g c =
@@ -21,13 +22,13 @@ write_entry-requires g c =
 pub returns-in_err-write_entry-clause-partly : goal.returns-in_err-write_entry-clause-partly
 returns-in_err-write_entry-clause-partly g c =
     let entry = rw c.in-Some.is at c.in_ok-entry.ensures.next in
-    err_holds _ _ (stops_in (g.H.Host.view c.args.host.now) (g.H.Host.view c.writing.host) (g.H.Host.view c.write_entry.new.host) c.args.folder.now c.args.store.now.nodes _ _ c.in-Some.entry.path (c.writing.invariant).0 entry.next
+    OnErr-from _ _ (stops_in (g.H.Host.view c.args.host.now) (g.H.Host.view c.writing.host) (g.H.Host.view c.write_entry.new.host) c.args.folder.now c.args.store.now.nodes _ _ c.in-Some.entry.path (c.writing.invariant).0 entry.next
     (part_there _ _ (parts c.args.folder.now ++ c.in-Some.entry.path) c.args.store.now.nodes c.in-Some.entry.path c.in-Some.entry.node.now entry.node c.in_err-write_entry.ensures.partly))
 
 pub returns-in_err-add-clause-partly : goal.returns-in_err-add-clause-partly
 returns-in_err-add-clause-partly g c =
     let entry = rw c.in-Some.is at c.in_ok-entry.ensures.next in
-    err_holds _ _ (stops_before (g.H.Host.view c.args.host.now) (g.H.Host.view c.write_entry.new.host) c.args.folder.now c.args.store.now.nodes _
+    OnErr-from _ _ (stops_before (g.H.Host.view c.args.host.now) (g.H.Host.view c.write_entry.new.host) c.args.folder.now c.args.store.now.nodes _
     (goes_on (g.H.Host.view c.args.host.now) (g.H.Host.view c.writing.host) (g.H.Host.view c.write_entry.new.host) c.args.folder.now c.args.store.now.nodes _ _ c.in-Some.entry.path (c.writing.invariant).0 entry.next c.write_entry.ensures.later c.write_entry.ensures.fit
     (wrote_there _ _ (parts c.args.folder.now ++ c.in-Some.entry.path) c.args.store.now.nodes c.in-Some.entry.path c.in-Some.entry.node.now entry.node c.in_ok-write_entry.ensures.written)))
 
@@ -40,4 +41,4 @@ writing-preserved g c =
     )
 
 pub returns-in_err-into_text-clause-partly : goal.returns-in_err-into_text-clause-partly
-returns-in_err-into_text-clause-partly g c = err_holds _ _ (stops_before (g.H.Host.view c.args.host.now) (g.H.Host.view c.writing.host) c.args.folder.now c.args.store.now.nodes _ (c.writing.invariant).0)
+returns-in_err-into_text-clause-partly g c = OnErr-from _ _ (stops_before (g.H.Host.view c.args.host.now) (g.H.Host.view c.writing.host) c.args.folder.now c.args.store.now.nodes _ (c.writing.invariant).0)

@@ -17,15 +17,13 @@ pub read_views-requires : goal.read_views-requires
 read_views-requires g c =
     some_spec (asked_views c.args.job.now).inputs c.in_ok-description.description (g.H.Host.view c.args.host.now) (g.H.Host.view c.read_description.new.host) c.in_ok-description.ensures.same c.in_ok-description.ensures.read
 
-pub returns-in_err-plan-clause-ends : goal.returns-in_err-plan-clause-ends
-returns-in_err-plan-clause-ends g c =
+pub returns-in-Err-clause-ends : goal.returns-in-Err-clause-ends
+returns-in-Err-clause-ends g c =
     let j = asked_views c.args.job.now in
     let a = g.H.Host.view c.args.host.now in
     let b = g.H.Host.view c.read_description.new.host in
     let d = g.H.Host.view c.read_views.new.host in
-    let status = c.in_err-plan.field-0.0 in
-    if_err_of (ViewsReadRow j a d) c.from_residual-in_err-plan.result status c.from_residual-in_err-plan.ensures.1
-    (views_row_back j a b d status c.in_ok-description.ensures.same c.in_err-plan.ensures.ends)
+    views_row_back j a b d c.in-Err.status c.in_ok-description.ensures.same c.in-Err.ensures.ends
 
 pub read_rest-requires-clause-spec : goal.read_rest-requires-clause-spec
 read_rest-requires-clause-spec g c =
@@ -33,39 +31,37 @@ read_rest-requires-clause-spec g c =
     let a = g.H.Host.view c.args.host.now in
     let b = g.H.Host.view c.read_description.new.host in
     let d = g.H.Host.view c.read_views.new.host in
-    then_told (λ t. HasSpec t j.inputs c.in_ok-description.description) a d (reads_then a b d c.in_ok-description.ensures.same c.in_ok-plan.ensures.same) c.in_ok-description.ensures.read
+    then_told (λ t. HasSpec t j.inputs c.in_ok-description.description) a d (reads_then a b d c.in_ok-description.ensures.same c.in-Ok.ensures.same) c.in_ok-description.ensures.read
 
-pub returns-in_err-scripts-clause-ends : goal.returns-in_err-scripts-clause-ends
-returns-in_err-scripts-clause-ends g c =
+pub returns-in-Err-read_rest-clause-ends : goal.returns-in-Err-read_rest-clause-ends
+returns-in-Err-read_rest-clause-ends g c =
     let j = asked_views c.args.job.now in
     let a = g.H.Host.view c.args.host.now in
     let b = g.H.Host.view c.read_description.new.host in
     let d = g.H.Host.view c.read_views.new.host in
     let e = g.H.Host.view c.read_rest.new.host in
-    let status = c.in_err-scripts.field-0.0 in
-    let views = some_views j c.in_ok-description.description c.in_ok-plan.plan a b d c.in_ok-description.ensures.same c.in_ok-plan.ensures.same c.in_ok-description.ensures.read c.in_ok-plan.ensures.read in
-    if_err_of (ViewsReadRow j a e) c.from_residual-in_err-scripts.result status c.from_residual-in_err-scripts.ensures.1
-    (views_row_back j a d e status (reads_then a b d c.in_ok-description.ensures.same c.in_ok-plan.ensures.same) (after_views j d e status views c.in_err-scripts.ensures.ends))
+    let views = some_views j c.in_ok-description.description c.in-Ok.plan a b d c.in_ok-description.ensures.same c.in-Ok.ensures.same c.in_ok-description.ensures.read c.in-Ok.ensures.read in
+    views_row_back j a d e c.in-Err-read_rest.status (reads_then a b d c.in_ok-description.ensures.same c.in-Ok.ensures.same) (after_views j d e c.in-Err-read_rest.status views c.in-Err-read_rest.ensures.ends)
 
-pub returns-clause-read : goal.returns-clause-read
-returns-clause-read g c =
+pub returns-in-Ok-beside-clause-read : goal.returns-in-Ok-beside-clause-read
+returns-in-Ok-beside-clause-read g c =
     let a = g.H.Host.view c.args.host.now in
     let b = g.H.Host.view c.read_description.new.host in
     let d = g.H.Host.view c.read_views.new.host in
-    whole_bases (asked_views c.args.job.now) (base_tree c.in_ok-scripts.scripts.value) (base_tree c.in_ok-views.views.value) c.in_ok-plan.plan a b d c.in_ok-description.ensures.same c.in_ok-plan.ensures.same
-    c.in_ok-views.ensures.plan c.in_ok-plan.ensures.read c.in_ok-scripts.ensures.read
+    whole_bases (asked_views c.args.job.now) (base_tree c.in-Ok-read_rest.scripts.value) (base_tree c.in-Ok-beside.views.value) c.in-Ok.plan a b d c.in_ok-description.ensures.same c.in-Ok.ensures.same
+    c.in-Ok-beside.ensures.plan c.in-Ok.ensures.read c.in-Ok-read_rest.ensures.read
 
 pub beside-requires : goal.beside-requires
 beside-requires g c =
-    subst (Describes c.deref.result.now) (sym c.in_ok-scripts.ensures.described) (subst (λ x. Describes x c.in_ok-description.description) (sym c.deref.ensures.value) c.in_ok-description.ensures.text)
+    subst (Describes c.deref.result.now) (sym c.in-Ok-read_rest.ensures.described) (subst (λ x. Describes x c.in_ok-description.description) (sym c.deref.ensures.value) c.in_ok-description.ensures.text)
 
-pub returns-in_err-scripts-clause-fit : goal.returns-in_err-scripts-clause-fit
-returns-in_err-scripts-clause-fit g c =
+pub returns-in-Err-read_rest-clause-fit : goal.returns-in-Err-read_rest-clause-fit
+returns-in-Err-read_rest-clause-fit g c =
     let Lets : Guard → Type 0 = λ guard. LetsViews guard.may_read (asked_views c.args.job.now) in
     let a = g.H.Host.view c.args.host.now in
     let b = g.H.Host.view c.read_description.new.host in
     let d = g.H.Host.view c.read_views.new.host in
-    asks_both Lets a b (g.H.Host.view c.read_rest.new.host) c.in_ok-description.ensures.fit (asks_both Lets b d (g.H.Host.view c.read_rest.new.host) c.in_ok-plan.ensures.fit (λ lets. c.in_err-scripts.ensures.fit lets.inputs))
+    asks_both Lets a b (g.H.Host.view c.read_rest.new.host) c.in_ok-description.ensures.fit (asks_both Lets b d (g.H.Host.view c.read_rest.new.host) c.in-Ok.ensures.fit (λ lets. c.in-Err-read_rest.ensures.fit lets.inputs))
 
 pub returns-clause-fit : goal.returns-clause-fit
 returns-clause-fit g c =
@@ -73,4 +69,4 @@ returns-clause-fit g c =
     let a = g.H.Host.view c.args.host.now in
     let b = g.H.Host.view c.read_description.new.host in
     let d = g.H.Host.view c.read_views.new.host in
-    asks_both Lets a b (g.H.Host.view c.read_rest.new.host) c.in_ok-description.ensures.fit (asks_both Lets b d (g.H.Host.view c.read_rest.new.host) c.in_ok-plan.ensures.fit (λ lets. c.in_ok-scripts.ensures.fit lets.inputs))
+    asks_both Lets a b (g.H.Host.view c.read_rest.new.host) c.in_ok-description.ensures.fit (asks_both Lets b d (g.H.Host.view c.read_rest.new.host) c.in-Ok.ensures.fit (λ lets. c.in-Ok-read_rest.ensures.fit lets.inputs))

@@ -29,46 +29,44 @@ returns-in_err-base-clause-row g c =
 pub returns-in_err-base-clause-keeps : goal.returns-in_err-base-clause-keeps
 returns-in_err-base-clause-keeps g c = unbegun_keeps (asked_journal c.args.job.now) (g.H.Host.view c.args.host.now) (g.S.Sink.view c.args.out.now) (g.D.Disk.view c.args.disk.now)
 
-pub returns-in_err-there-clause-row : goal.returns-in_err-there-clause-row
-returns-in_err-there-clause-row g c =
+pub returns-in-Err-clause-row : goal.returns-in-Err-clause-row
+returns-in-Err-clause-row g c =
     let j = asked_journal c.args.job.now in
     let a = g.H.Host.view c.args.host.now in
     let b = g.H.Host.view c.read_base.new.host in
     let d = g.H.Host.view c.ready_out.new.host in
     let sink = g.S.Sink.view c.args.out.now in
     let disk = g.D.Disk.view c.args.disk.now in
-    let st = c.in_err-there.field-0.0 in
-    let is = err_of c.from_residual-in_err-there.result st c.from_residual-in_err-there.ensures.1 in
     let inputs = inputs_read j.run.inputs (base_tree c.in_ok-base.base.value) a b c.in_ok-base.ensures.same c.in_ok-base.ensures.read in
-    (λ _. refl, subst (λ r. JournalEnd j a d sink sink disk disk (status_of r)) (sym is) (end_back j a b d sink sink disk disk st c.in_ok-base.ensures.same (out_unready j b d sink disk st c.in_err-there.ensures.same inputs c.in_err-there.ensures.unready)))
+    (λ _. refl, end_back j a b d sink sink disk disk c.in-Err.status c.in_ok-base.ensures.same (out_unready j b d sink disk c.in-Err.status c.in-Err.ensures.same inputs c.in-Err.ensures.unready))
 
-pub returns-in_err-there-clause-keeps : goal.returns-in_err-there-clause-keeps
-returns-in_err-there-clause-keeps g c = unbegun_keeps (asked_journal c.args.job.now) (g.H.Host.view c.args.host.now) (g.S.Sink.view c.args.out.now) (g.D.Disk.view c.args.disk.now)
+pub returns-in-Err-clause-keeps : goal.returns-in-Err-clause-keeps
+returns-in-Err-clause-keeps g c = unbegun_keeps (asked_journal c.args.job.now) (g.H.Host.view c.args.host.now) (g.S.Sink.view c.args.out.now) (g.D.Disk.view c.args.disk.now)
 
 pub keep-requires-clause-begins : goal.keep-requires-clause-begins
 keep-requires-clause-begins g c =
     let a = g.H.Host.view c.args.host.now in
     let b = g.H.Host.view c.read_base.new.host in
     let d = g.H.Host.view c.ready_out.new.host in
-    then_told (λ t. HasBase t (asked c.args.job.now.run).inputs (base_tree c.in_ok-base.base.value)) a d (reads_then a b d c.in_ok-base.ensures.same c.in_ok-there.ensures.same) c.in_ok-base.ensures.read
+    then_told (λ t. HasBase t (asked c.args.job.now.run).inputs (base_tree c.in_ok-base.base.value)) a d (reads_then a b d c.in_ok-base.ensures.same c.in-Ok.ensures.same) c.in_ok-base.ensures.read
 
 pub keep-requires-clause-free : goal.keep-requires-clause-free
 keep-requires-clause-free g c =
-    then_told (λ t. IsReady t (asked c.args.job.now.run).out c.in_ok-there.there) (g.H.Host.view c.read_base.new.host) (g.H.Host.view c.ready_out.new.host) c.in_ok-there.ensures.same c.in_ok-there.ensures.ready
+    then_told (λ t. IsReady t (asked c.args.job.now.run).out c.in-Ok.there) (g.H.Host.view c.read_base.new.host) (g.H.Host.view c.ready_out.new.host) c.in-Ok.ensures.same c.in-Ok.ensures.ready
 
 pub returns-clause-row : goal.returns-clause-row
 returns-clause-row g c =
     let a = g.H.Host.view c.args.host.now in
     let b = g.H.Host.view c.read_base.new.host in
     let d = g.H.Host.view c.ready_out.new.host in
-    (c.keep.ensures.others, end_back (asked_journal c.args.job.now) a d (g.H.Host.view c.keep.new.host) (g.S.Sink.view c.args.out.now) (g.S.Sink.view c.keep.new.out) (g.D.Disk.view c.args.disk.now) (g.D.Disk.view c.keep.new.disk) (status_of c.keep.result) (reads_then a b d c.in_ok-base.ensures.same c.in_ok-there.ensures.same) c.keep.ensures.end)
+    (c.keep.ensures.others, end_back (asked_journal c.args.job.now) a d (g.H.Host.view c.keep.new.host) (g.S.Sink.view c.args.out.now) (g.S.Sink.view c.keep.new.out) (g.D.Disk.view c.args.disk.now) (g.D.Disk.view c.keep.new.disk) (status_of c.keep.result) (reads_then a b d c.in_ok-base.ensures.same c.in-Ok.ensures.same) c.keep.ensures.end)
 
 pub returns-clause-keeps : goal.returns-clause-keeps
 returns-clause-keeps g c =
     let a = g.H.Host.view c.args.host.now in
     let b = g.H.Host.view c.read_base.new.host in
     let d = g.H.Host.view c.ready_out.new.host in
-    keeps_back (asked_journal c.args.job.now) a d (g.S.Sink.view c.args.out.now) (g.S.Sink.view c.keep.new.out) (g.D.Disk.view c.args.disk.now) (g.D.Disk.view c.keep.new.disk) (reads_then a b d c.in_ok-base.ensures.same c.in_ok-there.ensures.same) c.keep.ensures.keeps
+    keeps_back (asked_journal c.args.job.now) a d (g.S.Sink.view c.args.out.now) (g.S.Sink.view c.keep.new.out) (g.D.Disk.view c.args.disk.now) (g.D.Disk.view c.keep.new.disk) (reads_then a b d c.in_ok-base.ensures.same c.in-Ok.ensures.same) c.keep.ensures.keeps
 
 pub returns-clause-fit : goal.returns-clause-fit
 returns-clause-fit g c =
@@ -77,4 +75,4 @@ returns-clause-fit g c =
     let d = g.H.Host.view c.ready_out.new.host in
     let e = g.H.Host.view c.keep.new.host in
     let Lets : Guard → Type 0 = λ guard. LetsRun guard (asked c.args.job.now.run) in
-    asks_both Lets a b e (λ lets. c.in_ok-base.ensures.fit lets.inputs) (asks_both Lets b d e (λ lets. c.in_ok-there.ensures.fit lets.out.ready) (λ lets. c.keep.ensures.fit lets.out.written))
+    asks_both Lets a b e (λ lets. c.in_ok-base.ensures.fit lets.inputs) (asks_both Lets b d e (λ lets. c.in-Ok.ensures.fit lets.out.ready) (λ lets. c.keep.ensures.fit lets.out.written))

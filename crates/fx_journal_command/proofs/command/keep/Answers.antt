@@ -11,21 +11,18 @@ use Rattle.fx_journal_command.proofs.Ending.{not_started, not_recorded, finished
 use Rattle.fx_journal_command.proofs.Keeping.{unstarted_keeps, broken_keeps, finished_keeps}
 use Rattle.fx_journal_command.proofs.command.keep.Goals as goal
 
-pub returns-in_err-journal-clause-end : goal.returns-in_err-journal-clause-end
-returns-in_err-journal-clause-end g c =
+pub returns-in-Err-clause-end : goal.returns-in-Err-clause-end
+returns-in-Err-clause-end g c =
     let j = asked_journal c.args.job.now in
     let host = g.H.Host.view c.args.host.now in
     let sink = g.S.Sink.view c.args.out.now in
     let disk = g.D.Disk.view c.args.disk.now in
     let started = g.D.Disk.view c.start.new.disk in
-    let st = c.in_err-journal.field-0.0 in
-    let is = err_of c.from_residual.result st c.from_residual.ensures.1 in
-    subst (λ r. JournalEnd j host host sink sink disk started (status_of r)) (sym is)
-    (not_started j (base_tree c.args.base.value) c.args.there host sink disk started st c.requires.begins c.requires.free c.in_err-journal.ensures.cause)
+    not_started j (base_tree c.args.base.value) c.args.there host sink disk started c.in-Err.status c.requires.begins c.requires.free c.in-Err.ensures.cause
 
-pub returns-in_err-journal-clause-keeps : goal.returns-in_err-journal-clause-keeps
-returns-in_err-journal-clause-keeps g c =
-    unstarted_keeps (asked_journal c.args.job.now) (g.H.Host.view c.args.host.now) (g.S.Sink.view c.args.out.now) (g.D.Disk.view c.args.disk.now) (g.D.Disk.view c.start.new.disk) c.in_err-journal.ensures.unstarted
+pub returns-in-Err-clause-keeps : goal.returns-in-Err-clause-keeps
+returns-in-Err-clause-keeps g c =
+    unstarted_keeps (asked_journal c.args.job.now) (g.H.Host.view c.args.host.now) (g.S.Sink.view c.args.out.now) (g.D.Disk.view c.args.disk.now) (g.D.Disk.view c.start.new.disk) c.in-Err.ensures.unstarted
 
 pub returns-in_err-recorded-clause-end : goal.returns-in_err-recorded-clause-end
 returns-in_err-recorded-clause-end g c =
@@ -37,30 +34,30 @@ returns-in_err-recorded-clause-end g c =
     let started = g.D.Disk.view c.start.new.disk in
     let disk' = g.D.Disk.view c.run_on.new.disk in
     let st = c.in_err-recorded.field-0.0 in
-    let is = err_of c.from_residual-in_err-recorded.result st c.from_residual-in_err-recorded.ensures.1 in
+    let is = err_of c.from_residual.result st c.from_residual.ensures.1 in
     let whole : IsWhole (get c.args.base.value.loaded.nodes) = subst (λ (b : Base). IsWhole (get b.loaded.nodes)) c.deref.ensures c.places-whole.ensures.table.whole in
     subst (λ r. JournalEnd j host host sink sink' disk disk' (status_of r)) (sym is)
-    (not_recorded j (base_tree c.args.base.value) whole c.args.there host sink sink' disk started disk' c.requires.begins c.requires.free c.in_ok-journal.ensures.empty c.in_ok-journal.ensures.calm st c.in_err-recorded.ensures.broken)
+    (not_recorded j (base_tree c.args.base.value) whole c.args.there host sink sink' disk started disk' c.requires.begins c.requires.free c.in-Ok.ensures.empty c.in-Ok.ensures.calm st c.in_err-recorded.ensures.broken)
 
 pub returns-in_err-recorded-clause-keeps : goal.returns-in_err-recorded-clause-keeps
 returns-in_err-recorded-clause-keeps g c =
     broken_keeps (asked_journal c.args.job.now) (base_tree c.args.base.value) (g.H.Host.view c.args.host.now) (g.S.Sink.view c.args.out.now) (g.S.Sink.view c.run_on.new.out) (g.D.Disk.view c.args.disk.now) (g.D.Disk.view c.start.new.disk) (g.D.Disk.view c.run_on.new.disk) c.in_err-recorded.field-0.0
-    c.requires.begins c.in_ok-journal.ensures.empty c.in_ok-journal.ensures.goes_on c.in_ok-journal.ensures.gate c.in_err-recorded.ensures.broken
+    c.requires.begins c.in-Ok.ensures.empty c.in-Ok.ensures.goes_on c.in-Ok.ensures.gate c.in_err-recorded.ensures.broken
 
 pub returns-in_err-recorded-clause-others : goal.returns-in_err-recorded-clause-others
-returns-in_err-recorded-clause-others g c = λ at. c.in_err-recorded.ensures.broken.broken.others ∙ c.in_ok-journal.ensures.others at
+returns-in_err-recorded-clause-others g c = λ at. c.in_err-recorded.ensures.broken.broken.others ∙ c.in-Ok.ensures.others at
 
 pub returns-clause-others : goal.returns-clause-others
-returns-clause-others g c = λ at. c.in_ok-recorded.ensures.done.others ∙ c.in_ok-journal.ensures.others at
+returns-clause-others g c = λ at. c.in_ok-recorded.ensures.done.others ∙ c.in-Ok.ensures.others at
 
 pub returns-clause-end : goal.returns-clause-end
 returns-clause-end g c =
     let r = c.in_ok-recorded.recorded in
-    finished (asked_journal c.args.job.now) (base_tree c.args.base.value) c.args.there (g.H.Host.view c.args.host.now) (g.H.Host.view c.finish.new.host) (g.S.Sink.view c.args.out.now) (g.S.Sink.view c.run_on.new.out) (g.S.Sink.view c.finish.new.out) (g.D.Disk.view c.args.disk.now) (g.D.Disk.view c.start.new.disk) (g.D.Disk.view c.run_on.new.disk) r.board r.retries
-    c.requires.job.scheduled c.in_ok-journal.ensures.empty c.in_ok-journal.ensures.calm c.requires.begins c.requires.free c.in_ok-recorded.ensures.done (status_of c.finish.result) c.finish.ensures.end
+    finished (asked_journal c.args.job.now) (base_tree c.args.base.value) c.args.there (g.H.Host.view c.args.host.now) (g.H.Host.view c.finish-ended.new.host) (g.S.Sink.view c.args.out.now) (g.S.Sink.view c.run_on.new.out) (g.S.Sink.view c.finish-ended.new.out) (g.D.Disk.view c.args.disk.now) (g.D.Disk.view c.start.new.disk) (g.D.Disk.view c.run_on.new.disk) r.board r.retries
+    c.requires.job.scheduled c.in-Ok.ensures.empty c.in-Ok.ensures.calm c.requires.begins c.requires.free c.in_ok-recorded.ensures.done (status_of c.finish-ended.result) c.finish-ended.ensures.end
 
 pub returns-clause-keeps : goal.returns-clause-keeps
 returns-clause-keeps g c =
     let r = c.in_ok-recorded.recorded in
-    finished_keeps (asked_journal c.args.job.now) (base_tree c.args.base.value) c.args.there (g.H.Host.view c.args.host.now) (g.H.Host.view c.finish.new.host) (g.S.Sink.view c.args.out.now) (g.S.Sink.view c.run_on.new.out) (g.S.Sink.view c.finish.new.out) (g.D.Disk.view c.args.disk.now) (g.D.Disk.view c.start.new.disk) (g.D.Disk.view c.run_on.new.disk) r.board r.retries (status_of c.finish.result)
-    c.requires.begins c.in_ok-journal.ensures.empty c.in_ok-journal.ensures.goes_on c.in_ok-journal.ensures.gate c.in_ok-recorded.ensures.done c.finish.ensures.end
+    finished_keeps (asked_journal c.args.job.now) (base_tree c.args.base.value) c.args.there (g.H.Host.view c.args.host.now) (g.H.Host.view c.finish-ended.new.host) (g.S.Sink.view c.args.out.now) (g.S.Sink.view c.run_on.new.out) (g.S.Sink.view c.finish-ended.new.out) (g.D.Disk.view c.args.disk.now) (g.D.Disk.view c.start.new.disk) (g.D.Disk.view c.run_on.new.disk) r.board r.retries (status_of c.finish-ended.result)
+    c.requires.begins c.in-Ok.ensures.empty c.in-Ok.ensures.goes_on c.in-Ok.ensures.gate c.in_ok-recorded.ensures.done c.finish-ended.ensures.end

@@ -1,26 +1,19 @@
-use Rattle.std.proofs.Common.{◌≡◌, ◌<◌, ℕ, List, length, sym, ◌∙◌, subst}
-use Rattle.std.specs.Prelude.{All}
+use Rattle.std.proofs.Common.{length, sym, ◌∙◌}
 use Rattle.fx_spec.specs.Bases.{base_tree}
 use Rattle.fx_words.specs.declared.job.RunJob as code
 use Rattle.fx_words.specs.Job.{shells_of}
-use Rattle.fx_words.specs.JobOf.{asked, IsJob}
-use Rattle.fx_words.proofs.Below.{job_below}
-use Rattle.fx_command.specs.declared.status.Status.TheVariants as status
-use Rattle.fx_base.proofs.Errors.{if_err_of}
-use Rattle.fx_journal_command.specs.Stages.{RecordCause}
+use Rattle.fx_words.specs.JobOf.{asked}
+use Rattle.fx_words.proofs.Below.{shells_below}
 use Rattle.fx_journal_command.proofs.Keeping.{unread}
 use Rattle.fx_journal_command.proofs.command.run_on.Goals as goal
 
-below : (job : code.RunJob) (shells : List ℕ) (count : ℕ) → IsJob job → count ≡ length (asked job).inputs.scripts → shells_of (asked job) ≡ shells → All (λ k. k < count) shells
-below job shells count is each same = subst (λ n. All (λ k. k < n) shells) (sym each) (subst (λ ks. All (λ k. k < length (asked job).inputs.scripts) ks) same (job_below job is))
-
-pub returns-in_err-schedule-clause-broken : goal.returns-in_err-schedule-clause-broken
-returns-in_err-schedule-clause-broken g c =
+pub returns-in-Err-clause-broken : goal.returns-in-Err-clause-broken
+returns-in-Err-clause-broken g c =
     let base = base_tree c.args.base.value in
     let shells = shells_of (asked c.args.job.now) in
     let disk = g.D.Disk.view c.args.disk.now in
     let sink = g.S.Sink.view c.args.out.now in
-    if_err_of (RecordCause base shells disk disk sink sink) c.from_residual.result status.NoMemory c.from_residual.ensures.1 (unread base shells disk sink c.args.journal c.requires.started)
+    unread base shells disk sink c.args.journal c.requires.started
 
 pub record-requires-clause-shells : goal.record-requires-clause-shells
-record-requires-clause-shells g c = below c.args.job.now c.deref.result.now (length c.args.base.value.plan) c.requires.job c.requires.count (sym c.in_ok-schedule.ensures ∙ sym c.deref.ensures.value)
+record-requires-clause-shells g c = shells_below c.args.job.now c.deref.result.now (length c.args.base.value.plan) c.requires.job c.requires.count (sym c.in-Ok.ensures ∙ sym c.deref.ensures.value)

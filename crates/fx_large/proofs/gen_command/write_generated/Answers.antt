@@ -31,4 +31,4 @@ returns-in_err-case-clause-row g c =
 pub returns-clause-row : goal.returns-clause-row
 returns-clause-row g c =
     let m = making_only (gen_making c.args.number c.args.path.now) in
-    row_back m nothing_steady (g.H.Host.view c.args.host.now) (g.H.Host.view c.ready_out.new.host) (g.H.Host.view c.write_and_print.new.host) (g.S.Sink.view c.args.out.now) (g.S.Sink.view c.write_and_print.new.out) (status_of c.write_and_print.result) c.in_ok-there.ensures.same c.write_and_print.ensures.row
+    row_back m nothing_steady (g.H.Host.view c.args.host.now) (g.H.Host.view c.ready_out.new.host) (g.H.Host.view c.write_and_print-ended.new.host) (g.S.Sink.view c.args.out.now) (g.S.Sink.view c.write_and_print-ended.new.out) (status_of c.write_and_print-ended.result) c.in_ok-there.ensures.same c.write_and_print-ended.ensures.row

@@ -28,16 +28,15 @@ returns-in_err-board-clause-row g c =
     let is = err_of c.from_residual-in_err-board.result status.NoMemory c.from_residual-in_err-board.ensures.1 in
     subst (λ r. CommandRow m a b sink sink (status_of r)) (sym is) (no_memory m a b c.in_ok-there.ensures.same sink)
 
-pub returns-in_err-output-clause-row : goal.returns-in_err-output-clause-row
-returns-in_err-output-clause-row g c =
+pub returns-in-Err-clause-row : goal.returns-in-Err-clause-row
+returns-in-Err-clause-row g c =
     let m = making_only (large_making c.args.number c.args.path.now) in
     let a = g.H.Host.view c.args.host.now in
     let b = g.H.Host.view c.ready_out.new.host in
     let sink = g.S.Sink.view c.args.out.now in
-    let is = err_of c.from_residual-in_err-output.result status.NoMemory c.from_residual-in_err-output.ensures.1 in
-    subst (λ r. CommandRow m a b sink sink (status_of r)) (sym is) (no_memory m a b c.in_ok-there.ensures.same sink)
+    no_memory m a b c.in_ok-there.ensures.same sink
 
 pub returns-clause-row : goal.returns-clause-row
 returns-clause-row g c =
     let m = making_only (large_making c.args.number c.args.path.now) in
-    row_back m nothing_steady (g.H.Host.view c.args.host.now) (g.H.Host.view c.ready_out.new.host) (g.H.Host.view c.leave.new.host) (g.S.Sink.view c.args.out.now) (g.S.Sink.view c.leave.new.out) (status_of c.leave.result) c.in_ok-there.ensures.same c.leave.ensures.row
+    row_back m nothing_steady (g.H.Host.view c.args.host.now) (g.H.Host.view c.ready_out.new.host) (g.H.Host.view c.leave-ended.new.host) (g.S.Sink.view c.args.out.now) (g.S.Sink.view c.leave-ended.new.out) (status_of c.leave-ended.result) c.in_ok-there.ensures.same c.leave-ended.ensures.row

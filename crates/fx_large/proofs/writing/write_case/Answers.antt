@@ -1,6 +1,7 @@
 use Rattle.std.proofs.Common.{false, IfSome, sym, subst, arith}
+use Rattle.fx_base.proofs.Results.{OnErr-from}
 use Rattle.fx_folder.specs.Folder.{IsReady}
-use Rattle.fx_folder.proofs.Writes.{err_holds, opened}
+use Rattle.fx_folder.proofs.Writes.{opened}
 use Rattle.fx_large.specs.Case.{case_in}
 use Rattle.fx_large.proofs.Writings.{folder_part, stopped_in_texts, stopped_before_filestore, inner_ready, case_all, case_stopped, inner_cause, inner_fit}
 use Rattle.fx_outside.specs.Host.{LetsIn}
@@ -9,7 +10,7 @@ use Rattle.fx_large.proofs.writing.write_case.Goals as goal
 
 pub returns-in_err-make_folder-clause-part : goal.returns-in_err-make_folder-clause-part
 returns-in_err-make_folder-clause-part g c =
-    err_holds _ _ (folder_part (g.H.Host.view c.args.host.now).told (g.H.Host.view c.make_folder.new.host).told c.args.path.now c.args.there (case_in c.args.case.now) (g.met.H.Host.whole c.args.host.now) c.requires.ready c.in_err-make_folder.ensures.partly)
+    OnErr-from _ _ (folder_part (g.H.Host.view c.args.host.now).told (g.H.Host.view c.make_folder.new.host).told c.args.path.now c.args.there (case_in c.args.case.now) (g.met.H.Host.whole c.args.host.now) c.requires.ready c.in_err-make_folder.ensures.partly)
 
 pub write_texts-requires-clause-open : goal.write_texts-requires-clause-open
 write_texts-requires-clause-open g c =
@@ -17,11 +18,11 @@ write_texts-requires-clause-open g c =
 
 pub returns-in_err-write_texts-clause-part : goal.returns-in_err-write_texts-clause-part
 returns-in_err-write_texts-clause-part g c =
-    err_holds _ _ (stopped_in_texts (g.H.Host.view c.args.host.now).told (g.H.Host.view c.make_folder.new.host).told (g.H.Host.view c.write_texts.new.host).told c.args.path.now c.args.there (case_in c.args.case.now) c.in_ok-make_folder.ensures.made c.in_err-write_texts.ensures.partly)
+    OnErr-from _ _ (stopped_in_texts (g.H.Host.view c.args.host.now).told (g.H.Host.view c.make_folder.new.host).told (g.H.Host.view c.write_texts.new.host).told c.args.path.now c.args.there (case_in c.args.case.now) c.in_ok-make_folder.ensures.made c.in_err-write_texts.ensures.partly)
 
 pub returns-in_err-inside-clause-part : goal.returns-in_err-inside-clause-part
 returns-in_err-inside-clause-part g c =
-    err_holds _ _ (stopped_before_filestore (g.H.Host.view c.args.host.now).told (g.H.Host.view c.make_folder.new.host).told (g.H.Host.view c.write_texts.new.host).told c.args.path.now c.args.there (case_in c.args.case.now) c.in_ok-make_folder.ensures.made c.in_ok-write_texts.ensures.written)
+    OnErr-from _ _ (stopped_before_filestore (g.H.Host.view c.args.host.now).told (g.H.Host.view c.make_folder.new.host).told (g.H.Host.view c.write_texts.new.host).told c.args.path.now c.args.there (case_in c.args.case.now) c.in_ok-make_folder.ensures.made c.in_ok-write_texts.ensures.written)
 
 pub save-requires : goal.save-requires
 save-requires g c = record {

@@ -29,8 +29,8 @@ returns-in_err-answer-clause-row g c =
     let is = err_of c.from_residual-in_err-answer.result status.NoMemory c.from_residual-in_err-answer.ensures.1 in
     subst (λ r. RunRow j a b sink sink (status_of r)) (sym is) (no_memory j a b c.in_ok-base.ensures.same sink)
 
-pub leave-requires : goal.leave-requires
-leave-requires g c =
+pub leave-ended-requires : goal.leave-ended-requires
+leave-ended-requires g c =
     let j = asked c.args.job.now in
     can_leave j (base_tree c.in_ok-base.base.value) (last_of c.in_ok-answer.answer) c.in_ok-answer.answer.output c.in_ok-base.there (g.H.Host.view c.args.host.now) (g.H.Host.view c.begin.new.host)
     c.in_ok-base.ensures.same c.in_ok-base.ensures.read c.in_ok-base.ensures.ready
@@ -40,9 +40,9 @@ pub returns-clause-row : goal.returns-clause-row
 returns-clause-row g c =
     let a = g.H.Host.view c.args.host.now in
     let b = g.H.Host.view c.begin.new.host in
-    row_back (asked c.args.job.now) a b (g.H.Host.view c.leave.new.host) (g.S.Sink.view c.args.out.now) (g.S.Sink.view c.leave.new.out) (status_of c.leave.result) c.in_ok-base.ensures.same c.leave.ensures.row
+    row_back (asked c.args.job.now) a b (g.H.Host.view c.leave-ended.new.host) (g.S.Sink.view c.args.out.now) (g.S.Sink.view c.leave-ended.new.out) (status_of c.leave-ended.result) c.in_ok-base.ensures.same c.leave-ended.ensures.row
 
 pub returns-clause-fit : goal.returns-clause-fit
 returns-clause-fit g c =
-    asks_both (λ guard. LetsRun guard (asked c.args.job.now)) (g.H.Host.view c.args.host.now) (g.H.Host.view c.begin.new.host) (g.H.Host.view c.leave.new.host)
-    c.in_ok-base.ensures.fit c.leave.ensures.fit
+    asks_both (λ guard. LetsRun guard (asked c.args.job.now)) (g.H.Host.view c.args.host.now) (g.H.Host.view c.begin.new.host) (g.H.Host.view c.leave-ended.new.host)
+    c.in_ok-base.ensures.fit c.leave-ended.ensures.fit

@@ -1,8 +1,9 @@
 use Rattle.std.proofs.Common.{◌≡◌, ap, arith, slice_get, set, Some, IsSome, get_or}
 use Rattle.std.proofs.lemmas.List.{set-get_or}
+use Rattle.fx_base.proofs.Results.{OnErr-from}
 use Rattle.fx_spec.specs.Plans.{count_of, txn_of}
 use Rattle.fx_sched.specs.World.{running_of}
-use Rattle.fx_sched.proofs.Worlds.{leads, moved_world, refused_world, refused_running, shell_at, count_is, has_txn, no_txn, lowers, on_err}
+use Rattle.fx_sched.proofs.Worlds.{leads, moved_world, refused_world, refused_running, shell_at, count_is, has_txn, no_txn, lowers}
 use Rattle.fx_sched.proofs.world.step_shell.Goals as goal
 
 pub returns-then-count-slot-clause-event : goal.returns-then-count-slot-clause-event
@@ -31,7 +32,7 @@ returns-in_err-event-clause-world c =
 pub returns-in_err-event-clause-err : goal.returns-in_err-event-clause-err
 returns-in_err-event-clause-err c =
     let at : slice_get c.args.shells.now c.args.shell ≡ Some (get_or c.args.shells.now c.args.shell c.index-shells-shell.result) = shell_at c.args.board.now c.args.shells.now c.args.shell c.index-shells-shell.result c.requires.world c.requires.shell in
-    on_err c.from_residual.result (running_of c.advance.new.board (set c.args.shells.now c.args.shell c.advance.new.shell) ≡ running_of c.args.board.now c.args.shells.now)
+    OnErr-from c.from_residual.result (running_of c.advance.new.board (set c.args.shells.now c.args.shell c.advance.new.shell) ≡ running_of c.args.board.now c.args.shells.now)
     (refused_running c.args.board.now c.advance.new.board c.args.shells.now c.args.shell (get_or c.args.shells.now c.args.shell c.index-shells-shell.result) c.advance.new.shell at c.in_err-event.ensures.log c.in_err-event.ensures.looks)
 
 pub returns-clause-world : goal.returns-clause-world

@@ -1,19 +1,15 @@
-use Rattle.std.proofs.Common.{◌≡◌, false, Option, Some, None, is_some, [], ◌∷◌, ◌++◌, sym, ap, ◌∙◌, refl}
-use Rattle.std.proofs.lemmas.Bool.{true≢false}
+use Rattle.std.proofs.Common.{◌≡◌, None, [], ◌∷◌, ◌++◌, sym, ap, ◌∙◌}
 use Rattle.indexmap.specs.IndexMap.{get}
 use Rattle.std.specs.Ordering.{eq_by_cmp}
+use Rattle.fx_base.proofs.Results.{none_of}
 use Rattle.indexmap.proofs.CallerLemmas.{insert_entry-new}
 use Rattle.fx_store.specs.Names.{path_cmp}
 use Rattle.fx_store.proofs.Tables.{is_some-lookup, keys_new, has_path_last, nodes_of_new}
 use Rattle.fx_store.proofs.filestore.make_place.Goals as goal
 
-none_from : {X : Type 0} (r : Option X) → is_some r ≡ false → r ≡ None
-none_from None e = refl
-none_from (Some x) e = absurd (true≢false e)
-
 added : (c : goal.After-let_go) → c.insert.new.self.entries ≡ c.args.table.now.entries ++ (c.in_ok-place.place, None) ∷ []
 added c =
-    c.in_ok-insert.ensures.entries ∙ insert_entry-new (eq_by_cmp path_cmp) c.args.table.now c.in_ok-place.place None (ap (λ p. get (eq_by_cmp path_cmp) c.args.table.now p) c.in_ok-place.ensures.copied ∙ none_from _ (sym c.if-contains_key.ensures))
+    c.in_ok-insert.ensures.entries ∙ insert_entry-new (eq_by_cmp path_cmp) c.args.table.now c.in_ok-place.place None (ap (λ p. get (eq_by_cmp path_cmp) c.args.table.now p) c.in_ok-place.ensures.copied ∙ none_of _ (sym c.if-contains_key.ensures))
 
 pub returns-then-contains_key-clause-place : goal.returns-then-contains_key-clause-place
 returns-then-contains_key-clause-place c = λ _. sym (is_some-lookup (eq_by_cmp path_cmp c.args.change.now.path) _) ∙ sym c.if-contains_key.ensures

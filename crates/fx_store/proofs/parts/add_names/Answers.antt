@@ -4,8 +4,8 @@ use Rattle.std.specs.List.{slice_split}
 use Rattle.std.specs.Slice.Iter.{split_rest, split_done, split_callee}
 use Rattle.std.proofs.lemmas.Iterator.Consumers.{YieldsList-turn, YieldsList-end}
 use Rattle.std.proofs.lemmas.Iterator.Splits.{YieldsList-from_slice_split}
+use Rattle.fx_base.proofs.Lists.{passes_at}
 use Rattle.fx_store.specs.Names.{is_name, is_slash}
-use Rattle.fx_store.proofs.NameTests.{passes_at}
 use Rattle.fx_store.proofs.parts.add_names.Goals as goal
 
 pub of-requires : goal.of-requires

@@ -7,7 +7,7 @@ use Rattle.std.proofs.lemmas.Iterator.Splits.{YieldsList-from_slice_split}
 use Rattle.fx_store.specs.Names.{is_component, is_slash}
 use Rattle.fx_store.specs.Resolve.{component_of}
 use Rattle.std.proofs.Common.{map}
-use Rattle.fx_view.proofs.Components.{passes_at}
+use Rattle.fx_base.proofs.Lists.{passes_at}
 use Rattle.fx_view.proofs.component.parts.Goals as goal
 
 pub read_component-requires : goal.read_component-requires

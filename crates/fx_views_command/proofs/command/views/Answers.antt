@@ -19,31 +19,29 @@ returns-in_err-bases-clause-row g c =
     let is = err_of c.from_residual.result c.in_err-bases.field-0.0 c.from_residual.ensures.1 in
     subst (λ r. ViewsRow (asked_views c.args.job.now) a b sink sink (status_of r)) (sym is) (not_read (asked_views c.args.job.now) a b c.in_err-bases.field-0.0 c.in_err-bases.ensures.same c.in_err-bases.ensures.ends sink)
 
-pub returns-in_err-there-clause-row : goal.returns-in_err-there-clause-row
-returns-in_err-there-clause-row g c =
+pub returns-in-Err-clause-row : goal.returns-in-Err-clause-row
+returns-in-Err-clause-row g c =
     let j = asked_views c.args.job.now in
     let a = g.H.Host.view c.args.host.now in
     let b = g.H.Host.view c.read_bases.new.host in
     let d = g.H.Host.view c.ready_out.new.host in
     let sink = g.S.Sink.view c.args.out.now in
-    let status = c.in_err-there.field-0.0 in
-    let is = err_of c.from_residual-in_err-there.result status c.from_residual-in_err-there.ensures.1 in
     let inputs = inputs_read j (base_tree c.in_ok-bases.bases.scripts.value) (base_tree c.in_ok-bases.bases.views.value) a b c.in_ok-bases.ensures.same c.in_ok-bases.ensures.read in
-    subst (λ r. ViewsRow j a d sink sink (status_of r)) (sym is) (not_ready j a b d status c.in_ok-bases.ensures.same c.in_err-there.ensures.same inputs c.in_err-there.ensures.unready sink)
+    not_ready j a b d c.in-Err.status c.in_ok-bases.ensures.same c.in-Err.ensures.same inputs c.in-Err.ensures.unready sink
 
-pub leave-requires : goal.leave-requires
-leave-requires g c =
-    can_leave (asked_views c.args.job.now) (base_tree c.in_ok-bases.bases.scripts.value) (base_tree c.in_ok-bases.bases.views.value) (last_of c.in_ok-answer.answer) c.in_ok-answer.answer.output c.in_ok-there.there (g.H.Host.view c.args.host.now) (g.H.Host.view c.read_bases.new.host) (g.H.Host.view c.ready_out.new.host)
-    c.in_ok-bases.ensures.same c.in_ok-there.ensures.same c.in_ok-bases.ensures.read c.in_ok-there.ensures.ready c.in_ok-answer.ensures
+pub leave-ended-requires : goal.leave-ended-requires
+leave-ended-requires g c =
+    can_leave (asked_views c.args.job.now) (base_tree c.in_ok-bases.bases.scripts.value) (base_tree c.in_ok-bases.bases.views.value) (last_of c.in_ok-answer.answer) c.in_ok-answer.answer.output c.in-Ok.there (g.H.Host.view c.args.host.now) (g.H.Host.view c.read_bases.new.host) (g.H.Host.view c.ready_out.new.host)
+    c.in_ok-bases.ensures.same c.in-Ok.ensures.same c.in_ok-bases.ensures.read c.in-Ok.ensures.ready c.in_ok-answer.ensures
 
 pub returns-clause-fit : goal.returns-clause-fit
 returns-clause-fit g c =
     let a = g.H.Host.view c.args.host.now in
     let b = g.H.Host.view c.read_bases.new.host in
     let d = g.H.Host.view c.ready_out.new.host in
-    let e = g.H.Host.view c.leave.new.host in
+    let e = g.H.Host.view c.leave-ended.new.host in
     let Lets : Guard → Type 0 = λ guard. LetsViewsRun guard (asked_views c.args.job.now) in
-    asks_both Lets a b e (λ lets. c.in_ok-bases.ensures.fit lets.inputs) (asks_both Lets b d e (λ lets. c.in_ok-there.ensures.fit lets.out.ready) c.leave.ensures.fit)
+    asks_both Lets a b e (λ lets. c.in_ok-bases.ensures.fit lets.inputs) (asks_both Lets b d e (λ lets. c.in-Ok.ensures.fit lets.out.ready) c.leave-ended.ensures.fit)
 
 pub run_bases-requires-clause-few : goal.run_bases-requires-clause-few
 run_bases-requires-clause-few g c = omega (arith, c.in_ok-bases.ensures.count, c.requires.beside)
@@ -53,5 +51,5 @@ returns-clause-row g c =
     let a = g.H.Host.view c.args.host.now in
     let b = g.H.Host.view c.read_bases.new.host in
     let d = g.H.Host.view c.ready_out.new.host in
-    row_back (asked_views c.args.job.now) a d (g.H.Host.view c.leave.new.host) (g.S.Sink.view c.args.out.now) (g.S.Sink.view c.leave.new.out) (status_of c.leave.result)
-    (reads_then a b d c.in_ok-bases.ensures.same c.in_ok-there.ensures.same) c.leave.ensures.row
+    row_back (asked_views c.args.job.now) a d (g.H.Host.view c.leave-ended.new.host) (g.S.Sink.view c.args.out.now) (g.S.Sink.view c.leave-ended.new.out) (status_of c.leave-ended.result)
+    (reads_then a b d c.in_ok-bases.ensures.same c.in-Ok.ensures.same) c.leave-ended.ensures.row

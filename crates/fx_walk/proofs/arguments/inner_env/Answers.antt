@@ -1,12 +1,13 @@
 use Rattle.std.proofs.Common.{◌∙◌, map, ap}
 use Rattle.std.specs.Slice.Iter.{iter_rest}
+use Rattle.std.proofs.lemmas.List.{nil_from_length}
 use Rattle.fx_expr.specs.Views.{tree_of}
 use Rattle.fx_spec.specs.ParamViews.{param_tree}
-use Rattle.fx_walk.proofs.ArgumentsLemmas.{argument_shaped, first_argument, steps_so_far, last_steps, last_names, refused_names, refused_steps, few_steps, next_argument, none_of, some_parameter}
+use Rattle.fx_walk.proofs.ArgumentsLemmas.{argument_shaped, first_argument, steps_so_far, last_steps, last_names, refused_names, refused_steps, few_steps, next_argument, some_parameter}
 use Rattle.fx_walk.proofs.arguments.inner_env.Goals as goal
 
 pub unreachable-requires : goal.unreachable-requires
-unreachable-requires g c = some_parameter c.loop-arg.invariant c.in-Some.ensures.steps (ap (map param_tree) (none_of _ c.in_default.ensures.steps.0))
+unreachable-requires g c = some_parameter c.loop-arg.invariant c.in-Some.ensures.steps (ap (map param_tree) (nil_from_length _ c.in_default.ensures.steps.0))
 
 pub work_out-requires : goal.work_out-requires
 work_out-requires g c = argument_shaped c.loop-arg.invariant c.in-Some.ensures.steps (ap (map param_tree) c.in-Some-next.ensures.steps)
@@ -37,10 +38,10 @@ loop-arg-init g c =
     first_argument _ _ c.new-inner.result c.requires c.iter-left.ensures.rest (ap iter_rest c.into_iter-arg-iterator.ensures.into_iter_gives ∙ c.iter-arg-items.ensures.rest) c.new-inner.ensures
 
 pub returns-clause-names : goal.returns-clause-names
-returns-clause-names g c = last_names c.loop-arg.invariant (none_of _ c.in-None.ensures.steps.0)
+returns-clause-names g c = last_names c.loop-arg.invariant (nil_from_length _ c.in-None.ensures.steps.0)
 
 pub returns-clause-steps : goal.returns-clause-steps
-returns-clause-steps g c = last_steps c.loop-arg.invariant (none_of _ c.in-None.ensures.steps.0)
+returns-clause-steps g c = last_steps c.loop-arg.invariant (nil_from_length _ c.in-None.ensures.steps.0)
 
 pub returns-clause-most : goal.returns-clause-most
 returns-clause-most g c = steps_so_far c.loop-arg.invariant

@@ -5,8 +5,9 @@ use Rattle.std.specs.List.{slice_split}
 use Rattle.std.specs.Slice.Iter.{split_rest, split_done, split_callee}
 use Rattle.std.proofs.lemmas.Iterator.Consumers.{YieldsList-turn, YieldsList-end}
 use Rattle.std.proofs.lemmas.Iterator.Splits.{YieldsList-from_slice_split}
+use Rattle.fx_base.proofs.Lists.{passes_at}
 use Rattle.fx_words.specs.Job.{shell_named, is_comma}
-use Rattle.fx_words.proofs.Lists.{passes_at, not_none, named_more}
+use Rattle.fx_words.proofs.Lists.{not_none, named_more}
 use Rattle.fx_words.proofs.schedule.shells_of.Goals as goal
 
 pub unreachable-requires : goal.unreachable-requires

@@ -1,7 +1,7 @@
 use Rattle.std.proofs.Common.{◌≡◌, Some, List, ap, subst, get_or, length, arith}
 use Rattle.std.specs.Prelude.{slice_get}
+use Rattle.fx_base.proofs.Lists.{at_index}
 use Rattle.fx_store.specs.declared.changes.Change.{Change}
-use Rattle.fx_view.proofs.Lists.{at_index}
 use Rattle.fx_edit.proofs.Looks.{looking_first, looking_next, looking_stops, looking_ends}
 use Rattle.fx_edit.proofs.edits.Edits.look_at_rest.Goals as goal
 

@@ -1,9 +1,8 @@
 use Rattle.std.proofs.Common.{◌≡◌, ◌∙◌, ap, sym, take, min, Some, rules}
 use Rattle.std.specs.Prelude.{slice_get}
+use Rattle.fx_base.proofs.Lists.{at_index, take_next}
 use Rattle.fx_store.specs.Changes.{changed_paths}
 use Rattle.fx_view.specs.Reads.{count_before}
-use Rattle.fx_view.proofs.Lists.{at_index}
-use Rattle.fx_walk.proofs.Rows.{take_next}
 use Rattle.fx_edit.proofs.Untouched.{count_push}
 use Rattle.fx_edit.proofs.edits.Edits.untouched.Goals as goal
 

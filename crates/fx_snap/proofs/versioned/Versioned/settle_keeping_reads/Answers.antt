@@ -5,9 +5,10 @@ use Rattle.fx_machine.specs.Machine.{next_number}
 use Rattle.fx_machine.specs.Passes.{AreTrueReads}
 use Rattle.fx_board.specs.Board.{IsFreshReads}
 use Rattle.fx_board.specs.Log.{Log}
+use Rattle.fx_board.proofs.Refused.{left_as}
 use Rattle.fx_snap.specs.Tables.{AreAdded}
 use Rattle.fx_snap.specs.Kept.{HasVersions}
-use Rattle.fx_snap.proofs.Versionings.{same_versions, left_as, has_more}
+use Rattle.fx_snap.proofs.Versionings.{same_versions, has_more}
 use Rattle.fx_snap.proofs.versioned.Versioned.settle_keeping_reads.Goals as goal
 
 pub invariant_of-self : goal.invariant_of-self

@@ -1,13 +1,12 @@
--- The bytes of names.
-use Rattle.std.proofs.Common.{◌≡◌, ℕ, ◌+◌, ◌/◌, ◌%◌, ◌<◌, true, List, [], ◌∷◌, subst, arith, ⊎_elim}
+-- The bytes of UTF-8 text are below 256.
+use Rattle.std.proofs.Common.{◌≡◌, ℕ, ◌+◌, ◌/◌, ◌%◌, ◌<◌, Bool, true, List, [], ◌∷◌, subst, arith, ⊎_elim}
 use Rattle.std.specs.List.{All}
 use Rattle.std.specs.Prelude.{nat_lt}
-use Rattle.std.specs.Str.{IsUtf8}
+use Rattle.std.specs.Str.{IsUtf8, is_utf8}
 use Rattle.std.proofs.lemmas.Bool.{and_parts, ltb-true, cond_both}
 use Rattle.std.proofs.lemmas.List.Elements.{All-nil, All-cons, All-append}
 use Rattle.std.proofs.lemmas.Str.{IsUtf8-from_is_utf8}
 use lib.Utf8.{scalar, scalars, encode, encodes, scalar_cases}
-use Rattle.fx_store.specs.Names.{is_name, IsName}
 
 two : (a b : ℕ) → a < 256 → b < 256 → All (λ b. b < 256) (a ∷ b ∷ [])
 two a b h k = All-cons (λ b. b < 256) a (b ∷ []) h (All-cons (λ b. b < 256) b [] k (All-nil (λ b. b < 256)))
@@ -21,7 +20,7 @@ encode_bytes c h =
     (λ e. let small : c < 2048 = ltb-true c 2048 e in two (192 + c / 64) (128 + c % 64) (omega arith) (omega arith))
     (λ e. cond_both (nat_lt c 65536) ((224 + c / 4096) ∷ (128 + (c / 64) % 64) ∷ (128 + c % 64) ∷ []) _ (All (λ b. b < 256))
     (λ e. let small : c < 65536 = ltb-true c 65536 e in All-cons (λ b. b < 256) (224 + c / 4096) ((128 + (c / 64) % 64) ∷ (128 + c % 64) ∷ []) (omega arith) (two (128 + (c / 64) % 64) (128 + c % 64) (omega arith) (omega arith)))
-    (λ e. All-cons (λ b. b < 256) (240 + c / 262144) ((128 + (c / 4096) % 64) ∷ (128 + (c / 64) % 64) ∷ (128 + c % 64) ∷ []) (omega arith) (All-cons (λ b. b < 256) (128 + (c / 4096) % 64) ((128 + (c / 64) % 64) ∷ (128 + c % 64) ∷ []) (omega arith) (two (128 + (c / 64) % 64) (128 + c % 64) (omega arith) (omega arith))))))
+    (λ e. All-append (λ b. b < 256) ((240 + c / 262144) ∷ (128 + (c / 4096) % 64) ∷ []) ((128 + (c / 64) % 64) ∷ (128 + c % 64) ∷ []) (two (240 + c / 262144) (128 + (c / 4096) % 64) (omega arith) (omega arith)) (two (128 + (c / 64) % 64) (128 + c % 64) (omega arith) (omega arith)))))
 
 scalar_below : (c : ℕ) → scalar c ≡ true → c < 1114112
 scalar_below c e = ⊎_elim (λ h. let low : c < 55296 = h in omega arith) (λ h. h.1) (scalar_cases c e)
@@ -32,9 +31,5 @@ encodes_bytes (c ∷ cs) e =
     let both = and_parts (scalar c) (scalars cs) e in
     All-append (λ b. b < 256) (encode c) (encodes cs) (encode_bytes c (scalar_below c both.0)) (encodes_bytes cs both.1)
 
-utf8_bytes : (bs : List ℕ) → IsUtf8 bs → All (λ b. b < 256) bs
-utf8_bytes bs u = subst (All (λ b. b < 256)) u.1.1 (encodes_bytes u.0 u.1.0)
-
-pub name_bytes : (name : List ℕ) → IsName name → All (λ b. b < 256) name
-unfolding is_name
-name_bytes name is = utf8_bytes name (IsUtf8-from_is_utf8 name (and_parts _ _ is).1)
+pub utf8_bytes : (text : List ℕ) → is_utf8 text ≡ true → All (λ b. b < 256) text
+utf8_bytes text is = let u = IsUtf8-from_is_utf8 text is in subst (All (λ b. b < 256)) u.1.1 (encodes_bytes u.0 u.1.0)

@@ -1,17 +1,20 @@
--- The elements beside one are elements of its set.
-use Rattle.std.proofs.Common.{◌≡◌, ℕ, Bool, true, false, cond, List, [], ◌∷◌, Option, Some, None, refl, sym, ap, ◌∙◌}
-use Rattle.std.specs.Prelude.{◌||◌, nat_eq}
+-- The texts that are chosen of a set are texts of it.
+use Rattle.std.proofs.Common.{◌≡◌, ℕ, Bool, true, false, cond, ◌||◌, List, [], ◌∷◌, Option, Some, None, nat_eq, sym, ap, subst, ◌∙◌}
 use Rattle.std.specs.Cmp.Lexicographic.{pointwise, slice_cmp}
 use Rattle.std.specs.Ordering.{is_lt, nat_cmp}
-use Rattle.std.proofs.Math.Bool.{or-true}
-use Rattle.fx_expr.specs.Sets.{has_text, least_above, greatest_below, later_or}
-use Rattle.fx_zip.proofs.Consulting.{has_least}
-
-has_later : (u v : List ℕ) (us : List (List ℕ)) → has_text u us ≡ true → has_text u (v ∷ us) ≡ true
-has_later u v us h = ap (λ b. pointwise nat_eq v u || b) h ∙ or-true (pointwise nat_eq v u)
+use Rattle.std.proofs.lemmas.Bool.{or_right}
+use Rattle.fx_base.proofs.Orders.{bytes_itself}
+use Rattle.fx_text.specs.Sets.{has_text, least, least_above, greatest_below, later_or}
 
 has_this : (u v : List ℕ) (us : List (List ℕ)) → v ≡ u → has_text u (v ∷ us) ≡ true
-has_this u v us same = ap (λ w. has_text w (v ∷ us)) (sym same) ∙ has_least (v ∷ us) v refl
+has_this u v us same = ap (λ b. b || has_text u us) (ap (λ w. pointwise nat_eq v w) (sym same) ∙ bytes_itself v)
+
+has_later : (u v : List ℕ) (us : List (List ℕ)) → has_text u us ≡ true → has_text u (v ∷ us) ≡ true
+has_later u v us h = or_right (pointwise nat_eq v u) (has_text u us) h
+
+pub has_least : (set : List (List ℕ)) (t : List ℕ) → least set ≡ Some t → has_text t set ≡ true
+has_least [] t e = absurd (cc)
+has_least (u ∷ us) t e = has_this t u us (cc)
 
 above_or : (b : Bool) (u v : List ℕ) (us : List (List ℕ)) (rest : Option (List ℕ)) → (rest ≡ Some u → has_text u us ≡ true) → cond b (Some v) rest ≡ Some u → has_text u (v ∷ us) ≡ true
 above_or true u v us rest later e = let same : v ≡ u = cc in has_this u v us same

@@ -1,10 +1,10 @@
 use Rattle.std.proofs.Common.{◌≡◌, arith, ap, subst}
 use Rattle.fx_large.specs.Base.{IsPlanOf}
 use Rattle.fx_large.proofs.Standing.{begins}
-use Rattle.fx_large.proofs.base.plan.Goals as goal
+use Rattle.fx_large.proofs.base.add_scripts.Goals as goal
 
 pub scripts-init : goal.scripts-init
-scripts-init c = begins c.args.texts.now _ c.new-plan.ensures
+scripts-init c = begins c.args.texts.now _ c.requires.none
 
 pub returns : goal.returns
 returns c =
