@@ -21,13 +21,28 @@ use std::sync::Arc;
 
 /// The log of a run. Contracts see its base and its order: the outputs, the end and the changed paths of each entry are those
 /// of its transaction, run whole on the state before it, and the filestore is the state after all.
-#[derive(Drop)]
 pub struct Board {
     base: Arc<Base>,
     entries: Vec<Entry>,
     /// The filestore after all entries, once one of them has changed something; until then it is the loaded one.
     own: Option<Filestore>,
     index: IndexMap<Path, u64>,
+}
+
+/// It is written out, so that its parts are dropped in this crate alone.
+impl Drop for Board {
+    fn drop(self) {
+        let Board {
+            base,
+            entries: _entries,
+            own,
+            index: _index,
+        } = self;
+        Base::let_go(base);
+        if let Some(store) = own {
+            store.let_go();
+        }
+    }
 }
 
 impl Model for Board {
@@ -92,18 +107,7 @@ impl Board {
     }
 
     /// Lets go of the log.
-    pub fn let_go(self) {
-        let Board {
-            base,
-            entries,
-            own,
-            index,
-        } = self;
-        Base::let_go(base);
-        drop(entries);
-        drop(own);
-        drop(index);
-    }
+    pub fn let_go(self) {}
 
     /// The base: the description, the scripts and the loaded filestore.
     pub fn base(&self) -> &Base

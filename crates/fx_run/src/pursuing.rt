@@ -64,7 +64,7 @@ pub(crate) fn pursue<R: Reader, L: Ledger>(
         ..
     } = session;
     let _reader = &mut *reader;
-    drop(zip);
+    zip.let_go();
     drop(variables);
     drop(steps);
     Ok(Ran {

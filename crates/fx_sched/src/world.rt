@@ -65,14 +65,8 @@ impl World {
 
     /// Lets go of the log and the shells.
     pub fn let_go(self) {
-        let World {
-            board,
-            shells,
-            room,
-        } = self;
+        let World { board, .. } = self;
         board.let_go();
-        drop(shells);
-        drop(room);
     }
 
     /// The log.

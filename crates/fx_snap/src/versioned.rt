@@ -21,10 +21,19 @@ use std::marker::Model;
 use std::sync::Arc;
 
 /// A log, and what each of its entries has left at each path that it changed. Contracts see the log.
-#[derive(Drop)]
 pub struct Versioned {
     board: Board,
     versions: Table,
+}
+
+/// It is written out, so that its parts are dropped in this crate alone.
+impl Drop for Versioned {
+    fn drop(self) {
+        let Versioned {
+            board: _board,
+            versions: _versions,
+        } = self;
+    }
 }
 
 impl Model for Versioned {

@@ -48,7 +48,7 @@ at_more v position reads path found i stand was = λ base is.
     agrees_more reads path (get (state base v.seen position)) found i (sym (subst (λ b. found ≡ get (state b v.seen position) path) same was.2)) (stand base is)
 
 -- a look is noted, or it is not
-pub at_noted : {E : Type 0} (v : LogView) (position : ℕ) (old new : ReadList) (path : Path) (found : Option Node) (i : ℕ) (r : Result (Unit {0}) E) → AreAt v position old → WasAt v position path found → OnOk r (new ≡ old ++ (path, (found, i)) ∷ []) → OnErr r (new ≡ old) → AreAt v position new
+pub at_noted : {X E : Type 0} (v : LogView) (position : ℕ) (old new : ReadList) (path : Path) (found : Option Node) (i : ℕ) (r : Result X E) → AreAt v position old → WasAt v position path found → OnOk r (new ≡ old ++ (path, (found, i)) ∷ []) → OnErr r (new ≡ old) → AreAt v position new
 at_noted v position old new path found i (Ok u) stand was ok err = subst (AreAt v position) (sym ok) (at_more v position old path found i stand was)
 at_noted v position old new path found i (Err e) stand was ok err = subst (AreAt v position) (sym err) stand
 

@@ -62,9 +62,8 @@ impl Watch {
 
     /// Lets go of the watch.
     pub fn let_go(self) {
-        let Watch { base, found } = self;
+        let Watch { base, .. } = self;
         Base::let_go(base);
-        drop(found);
     }
 
     /// Whether the description has a value on the filestore that was told last.

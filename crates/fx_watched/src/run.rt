@@ -39,7 +39,8 @@ fn begin<B: Based>(alloc: Global, base: &Arc<Base>) -> Result<Watching<B>, NoMem
     requires { base_tree base.now.value ≡ B.base }
     ensures { IfOk result (λ w. HasWatched B.base w.watch w.output.items [] (began B.base)) }
 {
-    let watch = watch_by::<Brand>(alloc, Arc::try_clone(base)?, Blank::new(1))?;
+    let base = Arc::try_clone(base)?;
+    let watch = watch_by::<Brand>(alloc, base, Blank::new(1))?;
     let mut output = Vec::new(alloc);
     match add_valid(&mut output, watch.valid()) {
         Ok(()) => Ok(Watching {

@@ -108,11 +108,11 @@ module _ {T : Type 0} {g : Ghosts T BaseTree Turn} where
   some_base shares pass ready = is_based (view pass).base ready.based.0 ready.based.1
 
 -- a look is noted, or it is not
-pub stand_noted : {E : Type 0} (v : LogView) (old new : ReadList) (path : Path) (read : Read) (r : Result (Unit {0}) E) → AreTrueOver v old → IsLook v path read → OnOk r (new ≡ old ++ (path, read) ∷ []) → OnErr r (new ≡ old) → AreTrueOver v new
+pub stand_noted : {X E : Type 0} (v : LogView) (old new : ReadList) (path : Path) (read : Read) (r : Result X E) → AreTrueOver v old → IsLook v path read → OnOk r (new ≡ old ++ (path, read) ∷ []) → OnErr r (new ≡ old) → AreTrueOver v new
 stand_noted v old new path read (Ok u) stand look ok err = subst (AreTrueOver v) (sym ok) (stand_more v old path read.0 read.1 stand look)
 stand_noted v old new path read (Err e) stand look ok err = subst (AreTrueOver v) (sym err) stand
 
-pub turns_noted : {E : Type 0} (v : LogView) (old new : ReadList) (path : Path) (read : Read) (r : Result (Unit {0}) E) → AreInTurn v old → IsLook v path read → OnOk r (IsPath path) → OnOk r (new ≡ old ++ (path, read) ∷ []) → OnErr r (new ≡ old) → AreInTurn v new
+pub turns_noted : {X E : Type 0} (v : LogView) (old new : ReadList) (path : Path) (read : Read) (r : Result X E) → AreInTurn v old → IsLook v path read → OnOk r (IsPath path) → OnOk r (new ≡ old ++ (path, read) ∷ []) → OnErr r (new ≡ old) → AreInTurn v new
 turns_noted v old new path read (Ok u) turns look valid ok err = subst (AreInTurn v) (sym ok) (turns_more v old path read turns valid look)
 turns_noted v old new path read (Err e) turns look valid ok err = subst (AreInTurn v) (sym err) turns
 

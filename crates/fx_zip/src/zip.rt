@@ -82,6 +82,12 @@ impl Zip {
         }
     }
 
+    /// Lets go of the zipper.
+    pub fn let_go(self) {
+        let Zip { base, .. } = self;
+        Base::let_go(base);
+    }
+
     /// Back to the root description.
     pub fn go_top(&mut self)
         ensures root { self.new.root ≡ self.old.root }

@@ -42,9 +42,8 @@ pub fn text_of(printed: &LongText) -> &str {
 impl Ran {
     /// Lets go of the log and of what is printed.
     pub fn let_go(self) {
-        let Ran { board, printed } = self;
+        let Ran { board, .. } = self;
         board.let_go();
-        drop(printed);
     }
 
     pub fn printed(&self) -> &str {
