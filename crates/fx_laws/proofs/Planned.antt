@@ -1,9 +1,7 @@
 -- Each entry of a legal order has its transaction.
-use Rattle.std.proofs.Common.{ℕ, ◌<◌, List, length, get_or, [], Some}
-use Rattle.std.specs.List.{All}
+use Rattle.std.proofs.Common.{◌<◌, get_or, []}
 use Rattle.std.proofs.lemmas.List.Elements.{All-weaker}
 use Rattle.std.proofs.lemmas.Option.{slice_get-get_or}
-use Rattle.fx_spec.specs.Order.{BaseTree}
 use Rattle.fx_spec.specs.Plans.{Turn, script_of, count_of}
 use Rattle.fx_laws.specs.Swapped.{HasTransaction, EntriesAreOfThePlan}
 use Rattle.fx_laws.proofs.Spelled.{planned}

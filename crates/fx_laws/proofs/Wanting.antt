@@ -1,5 +1,5 @@
 -- No rule wants memory.
-use Rattle.std.proofs.Common.{◌≡◌, ℕ, Bool, true, false, cond, nat_lt, List, ◌++◌, length, Ok, Err}
+use Rattle.std.proofs.Common.{◌≡◌, Bool, true, false, cond, nat_lt, ◌++◌, length, Ok, Err}
 use Rattle.std.specs.Prelude.{Result}
 use Rattle.std.specs.List.{list_all, slice_split}
 use Rattle.fx_store.specs.declared.limits.TheConstants.{MAX_PATH_NAMES, MAX_LINK_COMPONENTS}

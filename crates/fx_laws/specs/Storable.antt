@@ -1,5 +1,5 @@
 -- Values that can be stored: texts of bytes within the limit of a file, integers of 64 bits, and sets of such texts in order.
-use Rattle.std.specs.Prelude.{◌≡◌, ◌<◌, ◌^◌, ℕ, Bool, true, List, [], ◌∷◌, map, length, All, Some, Ok}
+use Rattle.std.specs.Prelude.{◌≡◌, ◌<◌, ◌^◌, ℕ, true, List, map, length, All, Some, Ok}
 use Rattle.fx_store.specs.declared.node.Node.TheVariants.{Dir}
 use Rattle.fx_store.specs.Names.{IsContent}
 use Rattle.fx_store.specs.Rule.{answer}
@@ -62,8 +62,8 @@ ListsFew S = (path names : List (List ℕ)) → S path ≡ Some (Dir names) → 
 abbrev pub AreGood : Bindings → Type 0
 AreGood env = All (λ (b : List ℕ × Tree). IsWithin b.1) env
 
--- where the variables hold such values, an expression gives one; so does a fetch from a whole filestore, at a place whose names
--- hold such; and each can be stored, if the form takes its shape
+-- Where the variables hold such values, an expression gives one. So does a fetch from a whole filestore, at a place whose
+-- names hold such. Each can be stored, if the form takes its shape.
 pub record ValuesAreStorable : Type 0 where
   pub evaluated : (env : Bindings) (e : ExprTree) (v : Tree) → AreGood env → HasWithin e → eval_of env e ≡ Ok v → IsWithin v
   pub fetched : (S : Store) → IsWhole S → ListsFew S → (at : PlaceTree) → AreGood at.env → HeadHasWithin at.spec → (shape : ShapeTree) (v : Tree) → answer S (fetch_at shape at) ≡ Ok v → IsWithin v

@@ -1,11 +1,10 @@
 -- A folder that is saved in a whole tree has stood in a folder before.
-use Rattle.std.proofs.Common.{◌≡◌, ℕ, suc, ◌-◌, ◌≤◌, Bool, true, false, not, ◌&&◌, ◌==◌, List, [], ◌∷◌, ◌++◌, length, Option, Some, None, IsTrue, refl, sym, ap, subst, ◌∙◌, arith, length-append}
+use Rattle.std.proofs.Common.{◌≡◌, ℕ, ◌-◌, Bool, true, false, not, ◌&&◌, ◌==◌, List, [], ◌∷◌, ◌++◌, length, Option, Some, None, refl, sym, ap, ◌∙◌, arith, length-append}
 use Rattle.std.specs.List.{list_all}
 use Rattle.std.specs.FinMap.{get}
 use Rattle.std.specs.Option.{option_map_or}
 use Rattle.std.proofs.lemmas.Bool.{true≢false}
 use Rattle.std.proofs.lemmas.List.{append-nil, length-take-le}
-use Rattle.fx_store.specs.declared.node.Node.{Node}
 use Rattle.fx_store.specs.Whole as store
 use Rattle.fx_store.specs.Whole.{Nodes}
 use Rattle.fx_outside.specs.Path.{Parts, above, is_fit_part, has_no_slash}

@@ -1,15 +1,14 @@
 -- A directory that lists one name more.
-use Rattle.std.proofs.Common.{◌≡◌, ℕ, ◌+◌, ◌≤◌, Bool, true, false, cond, ◌||◌, List, [], ◌∷◌, ◌++◌, length, Ok, Err, refl, sym, ap, subst, ◌∙◌, arith, codes}
-use Rattle.std.specs.Prelude.{nat_le}
+use Rattle.std.proofs.Common.{◌≡◌, ℕ, ◌+◌, ◌≤◌, Bool, true, false, cond, ◌||◌, List, [], ◌∷◌, ◌++◌, length, Ok, Err, refl, sym, ap, ◌∙◌, arith}
 use Rattle.std.specs.declared.cmp.Ordering.{Ordering}
 use Rattle.std.specs.declared.cmp.Ordering.TheVariants.{Less, Equal, Greater}
 use Rattle.std.specs.Ordering.{eq_by_cmp, is_eq, match_ordering}
 use Rattle.std.proofs.lemmas.Bool.{true≢false, or_left, or_right, le-leb}
 use Rattle.fx_store.specs.declared.changes.Change.{Change}
 use Rattle.fx_store.specs.declared.node.Node.TheVariants.{File, Dir}
-use Rattle.fx_store.specs.Names.{name_cmp, IsName, IsNameSet, has}
+use Rattle.fx_store.specs.Names.{name_cmp, IsNameSet, has}
 use Rattle.fx_store.specs.Resolve.{◌/ₚ◌}
-use Rattle.fx_store.specs.Rule.{Ask, Answer, Look, answer, ◌>>=◌}
+use Rattle.fx_store.specs.Rule.{Ask, Answer, answer, ◌>>=◌}
 use Rattle.fx_store.specs.Whole.{Store}
 use Rattle.fx_store.proofs.Asks.{answer-bind}
 use Rattle.fx_base.proofs.Names.{name_itself}
@@ -20,7 +19,7 @@ use Rattle.fx_text.proofs.Putting.{set_again, set_turned, put_in}
 use Rattle.fx_expr.specs.declared.fault.ExprFault.TheVariants.{TooLong}
 use Rattle.fx_expr.specs.Eval.{united}
 use Rattle.fx_expr.specs.Tree.{Tree}
-use Rattle.fx_spec.specs.Edit.{set_to, clear, entry, entries, new_names}
+use Rattle.fx_spec.specs.Edit.{set_to, entry, entries, new_names}
 use Rattle.fx_spec.proofs.EditsMake.{has-with}
 
 abbrev Path : Type 0

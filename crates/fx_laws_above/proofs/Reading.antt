@@ -1,16 +1,16 @@
 -- The count of a project is read as a number, and the next number is written.
-use Rattle.std.proofs.Common.{◌≡◌, ℕ, ◌+◌, ◌-◌, ◌^◌, ◌<◌, ◌≤◌, Bool, true, false, cond, ◌&&◌, eqb, nat_eq, nat_lt, List, [], ◌∷◌, length, get_or, take, drop, Ok, Err, pos, neg_ℤ, refl, sym, ap, ◌∙◌, arith, codes}
+use Rattle.std.proofs.Common.{◌≡◌, ℕ, ◌+◌, ◌-◌, ◌^◌, ◌<◌, true, false, cond, ◌&&◌, nat_lt, List, [], ◌∷◌, length, take, drop, Ok, Err, pos, neg_ℤ, ap, ◌∙◌, arith, codes}
 use Rattle.std.specs.Prelude.{slice_index}
 use Rattle.std.specs.Fmt.{decimal}
 use Rattle.std.specs.Str.{all_ascii_digits}
 use Rattle.std.specs.Str.Parse.{digits_value, starts_with_minus}
 use Rattle.std.proofs.lemmas.Bool.{ne_eqb, lt-ltb, and_from}
-use Rattle.std.proofs.lemmas.Fmt.{digits_decimal, digits_value-decimal, decimal_nonempty, length-decimal-le}
+use Rattle.std.proofs.lemmas.Fmt.{digits_decimal, digits_value-decimal, decimal_nonempty}
 use Rattle.std.proofs.lemmas.Str.Parse.{IsNumeralModel, numerals_by_value, tells_all_ascii_digits, not_in_digits}
 use Rattle.fx_expr.specs.declared.expr.BinOp.{BinOp}
 use Rattle.fx_expr.specs.declared.expr.UnOp.{UnOp}
 use Rattle.fx_expr.specs.declared.fault.ExprFault.TheVariants.{NotNumber, Overflow}
-use Rattle.fx_expr.specs.Eval.{Outcome, read_integer, without_line_feed, digits_in, is_numeral, numeral_value, spells_64, fits_64, then_on, unless, two, one, eval_of}
+use Rattle.fx_expr.specs.Eval.{Outcome, read_integer, without_line_feed, digits_in, is_numeral, numeral_value, spells_64, fits_64, then_on, two, one, eval_of}
 use Rattle.fx_expr.specs.ExprTree.{ExprTree}
 use Rattle.fx_expr.specs.Tree.{Tree}
 

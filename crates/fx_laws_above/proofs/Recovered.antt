@@ -1,5 +1,5 @@
 -- The order that `recover` reads is the one that the journal kept.
-use Rattle.std.proofs.Common.{◌≡◌, ◌⊎◌, inl, inr, ℕ, List, ◌++◌, length, Some, IfSome, refl, sym, ap, subst, ◌∙◌}
+use Rattle.std.proofs.Common.{◌≡◌, ◌⊎◌, inl, inr, ℕ, List, length, Some, IfSome, refl, sym, ap, subst, ◌∙◌}
 use Rattle.std.proofs.lemmas.Option.{same_Some}
 use Rattle.fx_store.specs.Whole.{Nodes}
 use Rattle.fx_outside.specs.Tree.{Tree}
@@ -9,9 +9,9 @@ use Rattle.fx_words.specs.Job.{RecoverJob}
 use Rattle.fx_inputs.specs.Inputs.{HasBase}
 use Rattle.fx_durable.specs.Disk.{File, DiskView}
 use Rattle.fx_durable.specs.Journal.{Spells}
-use Rattle.fx_journaling.specs.Kept.{SpellsLegal, SpellsFront, KeepsOrder, HasAtMostOneMore}
+use Rattle.fx_journaling.specs.Kept.{SpellsLegal, SpellsFront}
 use Rattle.fx_recover_command.specs.Recovered.{IsOutcome, recovered_line}
-use Rattle.fx_laws_above.specs.Recovering.{IsAfter, GivesTold, GivesFront, RecoversTold, RecoversFront}
+use Rattle.fx_laws_above.specs.Recovering.{IsAfter, GivesTold, RecoversTold, RecoversFront}
 
 -- the outcome of a file that spells this order of this base is that after the order
 after : (t : Tree) (j : RecoverJob) (disk : DiskView) (base : BaseTree) (order : List Turn) (file : File) (nodes : Nodes) (output : List ℕ) → HasBase t j.inputs base → disk.told ≡ Some file → Spells order file.seen → IsOutcome t j disk nodes output → IsAfter base order nodes output

@@ -1,48 +1,44 @@
 -- What a generated transaction does on a filestore that has its project.
-use Rattle.std.proofs.Common.{◌≡◌, ℕ, ◌+◌, ◌^◌, ◌<◌, ◌≤◌, Bool, true, false, cond, List, [], ◌∷◌, ◌++◌, length, Option, Some, Ok, Err, refl, sym, ap, subst, ◌∙◌, arith, codes}
+use Rattle.std.proofs.Common.{◌≡◌, ℕ, ◌+◌, ◌^◌, ◌<◌, ◌≤◌, Bool, true, false, cond, List, [], ◌∷◌, ◌++◌, Some, Ok, refl, sym, ap, subst, ◌∙◌, arith, codes}
 use mathlib.Core.Path.{fun_ext}
-use Rattle.std.specs.Str.{is_utf8, chars}
-use lib.Utf8.{encode}
 use Rattle.std.specs.Fmt.{decimal}
 use Rattle.std.specs.Ordering.{eq_by_cmp}
-use Rattle.std.specs.List.{All}
 use Rattle.std.proofs.lemmas.Fmt.{length-decimal-le, decimal_is_IsNumeral}
 use Rattle.std.proofs.lemmas.Grind.{get_or_default_zero}
 use Rattle.std.proofs.lemmas.Str.Parse.{digit_at}
 use Rattle.fx_store.specs.declared.node.Node.{Node}
 use Rattle.fx_store.specs.declared.node.Node.TheVariants.{File, Dir}
 use Rattle.fx_store.specs.declared.changes.Change.{Change}
-use Rattle.fx_store.specs.Names.{path_cmp, is_name, IsName, IsNameSet, IsContent, has}
+use Rattle.fx_store.specs.Names.{path_cmp, IsName, IsNameSet, IsContent, has}
 use Rattle.fx_store.specs.Resolve.{◌/ₚ◌, resolve}
-use Rattle.fx_store.specs.Rule.{Ask, answer, ◌>>=◌}
+use Rattle.fx_store.specs.Rule.{answer, ◌>>=◌}
 use Rattle.fx_store.specs.Whole.{Store, update, over}
 use Rattle.fx_text.specs.declared.set.TheConstants.{UNION_LIMIT}
 use Rattle.fx_text.specs.Sets.{set_of, with_text, weight}
-use Rattle.fx_expr.specs.Eval.{Outcome, eval_of}
+use Rattle.fx_expr.specs.Eval.{eval_of}
 use Rattle.fx_expr.specs.declared.expr.BinOp.{BinOp}
 use Rattle.fx_expr.specs.declared.expr.UnOp.{UnOp}
 use Rattle.fx_expr.specs.ExprTree.{ExprTree}
 use Rattle.fx_expr.specs.Tree.{Tree}
 use Rattle.fx_spec.specs.declared.refusal.End.{End}
 use Rattle.fx_spec.specs.SpecTree.{SpecTree}
-use Rattle.fx_spec.specs.CommandTree.{ActTree, CommandTree, Block, block, count}
-use Rattle.fx_spec.specs.Describe.{value}
-use Rattle.fx_spec.specs.Edit.{set_to, stored_node, store_landed, follows_last, is_flag, store_at, new_names}
-use Rattle.fx_spec.specs.Move.{Answered, unrefused}
+use Rattle.fx_spec.specs.CommandTree.{ActTree, CommandTree, Block, count}
+use Rattle.fx_spec.specs.Edit.{set_to, store_landed, follows_last, store_at, new_names}
+use Rattle.fx_spec.specs.Move.{unrefused}
 use Rattle.fx_spec.specs.Place.{PlaceTree, place, placed}
 use Rattle.fx_spec.specs.Task.{result, after}
-use Rattle.fx_spec.specs.Transaction.{Standing, Flow, On, go_on, or_stop, taking, edits, effect, run, run_block, transaction, flow_end, is_done, end, left}
+use Rattle.fx_spec.specs.Transaction.{Standing, On, go_on, or_stop, taking, edits, effect, run, run_block, transaction, flow_end, is_done, end, left}
 use Rattle.fx_spec.proofs.EditsMake.{IsNameSet-with}
 use Rattle.fx_spec.proofs.Tasks.{eq_paths}
 use Rattle.fx_gen.specs.Notes.{project, part_names, config}
 use Rattle.fx_gen.specs.Scripts.{tag}
-use Rattle.fx_gen_laws.specs.Trees.{description_tree, act, count_tree, log_tree}
+use Rattle.fx_gen_laws.specs.Trees.{description_tree, count_tree, log_tree}
 use Rattle.fx_laws_above.proofs.Adding.{adds, united_with}
 use Rattle.fx_laws.proofs.Accepted.{file_stored, dir_stored}
 use Rattle.fx_laws.proofs.Stored.{after-asking, result-asking, after-then, result-then, store_effect}
 use Rattle.fx_laws_above.proofs.Reading.{one_more, count_more}
 use Rattle.fx_laws_above.proofs.Sixteen.{each_of_16}
-use Rattle.fx_laws_above.proofs.Walks.{count_path, log_path, on_count, on_log, counting, logging, of_project, at_count, at_log, Counts, Logs, counts, logs}
+use Rattle.fx_laws_above.proofs.Walks.{count_path, log_path, on_count, on_log, counting, logging, of_project, Counts, Logs, counts, logs}
 
 -- ---- a filestore with what stands there is the same
 

@@ -1,15 +1,14 @@
 -- A view is an entry of the order with its transaction put in.
-use Rattle.std.proofs.Common.{◌≡◌, ℕ, zero, suc, ◌+◌, ◌<◌, ◌≤◌, refl, ap, subst, ◌∙◌, List, [], ◌∷◌, ◌++◌, take, drop, length, slice_get, Some, arith, ⊎_elim}
-use Rattle.std.proofs.lemmas.Bool.{cases_lt}
-use Rattle.std.proofs.lemmas.List.{get_or_past, get_or_append_left, get_or_at, take_at, length-take-le}
-use Rattle.std.proofs.lemmas.List.Elements.{All-nil, All-cons, All-head, All-tail, All-weaker, All-contains, All-contains_itself}
+use Rattle.std.proofs.Common.{◌≡◌, ℕ, zero, suc, ◌+◌, ◌<◌, ◌≤◌, refl, ap, subst, ◌∙◌, List, [], ◌∷◌, ◌++◌, take, drop, length, slice_get, Some, arith}
+use Rattle.std.proofs.lemmas.List.{get_or_append_left, get_or_at, take_at, length-take-le}
+use Rattle.std.proofs.lemmas.List.Elements.{All-nil, All-cons, All-head, All-tail}
 use Rattle.std.specs.FinMap.{get}
-use Rattle.std.specs.List.{All, Contains}
+use Rattle.std.specs.List.{All}
 use Rattle.fx_machine.proofs.Turns.{shells_within}
 use Rattle.fx_store.specs.Whole.{Nodes}
 use Rattle.fx_spec.specs.CommandTree.{CommandTree}
-use Rattle.fx_spec.specs.Plans.{Turn, txn_of, count_of, script_of}
-use Rattle.fx_spec.specs.Order.{BaseTree, after_txn, after_all, state, numbers_of, IsLegal}
+use Rattle.fx_spec.specs.Plans.{Turn, txn_of}
+use Rattle.fx_spec.specs.Order.{BaseTree, after_txn, after_all, state, IsLegal}
 use Rattle.fx_spec.specs.Transaction.{outputs, end}
 use Rattle.fx_report.specs.Entries.{commands_or_none, entry, entries_from, entries_of}
 use Rattle.fx_laws_above.specs.Viewed.{beside, put_in, as_entry, ViewsAreEntries}

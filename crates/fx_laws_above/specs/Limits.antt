@@ -1,5 +1,5 @@
 -- The numbers of the limits that definitions cite by name.
-use Rattle.std.specs.Prelude.{◌≡◌, ℕ}
+use Rattle.std.specs.Prelude.{◌≡◌}
 use Rattle.fx_base.specs.declared.limits.TheConstants.{SOURCE_LIMIT, SHELL_LIMIT, TXN_LIMIT}
 use Rattle.fx_store.specs.declared.limits.TheConstants.{MAX_NAME_BYTES, MAX_PATH_NAMES, MAX_FILE_BYTES, MAX_LINK_BYTES, MAX_LINK_COMPONENTS}
 use Rattle.fx_text.specs.declared.set.TheConstants.{UNION_LIMIT}

@@ -2,7 +2,7 @@
 use Rattle.std.specs.Prelude.{◌≡◌, ℕ, ◌+◌, pos, List, ◌++◌, codes, length}
 use Rattle.std.specs.Fmt.{decimal}
 use Rattle.fx_store.specs.Whole.{Nodes}
-use Rattle.fx_spec.specs.Order.{BaseTree, IsComplete, state}
+use Rattle.fx_spec.specs.Order.{IsComplete, state}
 use Rattle.fx_spec.specs.Plans.{Turn}
 use Rattle.fx_gen.specs.Scripts.{counting_of, logging_of}
 use Rattle.fx_large.specs.Base.{generated_base}
@@ -15,8 +15,8 @@ counts number = counting_of number 1600
 abbrev pub logs : ℕ → ℕ
 logs number = logging_of number 1600
 
--- the five lines: all transactions are done, each that counts has added one to a count and each that logs a name to a log, and
--- the filestore has its first 195 nodes and one for each of those names
+-- The five lines. All transactions are done. Each that counts has added one to a count. Each that logs has added a name to a
+-- log, which is one node more than the first 195.
 abbrev pub five_lines : ℕ → List ℕ
 five_lines number =
     codes "transactions 1600\ndone 1600\ncounted " ++ decimal (counts number) ++ codes "\nlogged " ++ decimal (logs number) ++ codes "\nnodes " ++ decimal (195 + logs number) ++ codes "\n"
