@@ -1,18 +1,20 @@
 -- What is evaluated over values that can be stored can be stored.
-use Rattle.std.proofs.Common.{◌≡◌, ℕ, suc, ◌+◌, ◌<◌, ◌≤◌, ◌^◌, ℤ, ◌+ℤ◌, ◌-ℤ◌, Bool, true, false, cond, not, ◌&&◌, nat_le, nat_lt, nat_eq, List, [], ◌∷◌, ◌++◌, map, length, Option, Some, None, Ok, Err, refl, sym, ap, subst, ◌∙◌, arith, length-append}
+use Rattle.std.proofs.Common.{◌≡◌, ℕ, zero, suc, ◌+◌, ◌<◌, ◌≤◌, ◌^◌, ℤ, pos, ◌+ℤ◌, ◌-ℤ◌, Bool, true, false, cond, not, nat_le, nat_lt, nat_eq, List, [], ◌∷◌, ◌++◌, map, length, Option, Some, None, Ok, Err, refl, sym, ap, subst, ◌∙◌, arith, length-append}
+use Rattle.std.specs.declared.cmp.Ordering.{Ordering}
 use Rattle.std.specs.declared.cmp.Ordering.TheVariants.{Less, Equal, Greater}
 use Rattle.std.specs.Cmp.Lexicographic.{pointwise, slice_cmp}
 use Rattle.std.specs.Fmt.{signed_decimal}
 use Rattle.std.specs.List.{All, filter, list_all, slice_split, onto_first}
 use Rattle.std.specs.Option.{unwrap_or}
 use Rattle.std.specs.Ordering.{nat_cmp, match_ordering}
-use Rattle.std.proofs.lemmas.Bool.{true≢false, leb-true, lt-ltb, and_parts}
+use Rattle.std.proofs.lemmas.Bool.{leb-true, lt-ltb, and_parts}
 use Rattle.std.proofs.lemmas.Fmt.{IsAscii-signed}
 use Rattle.std.proofs.lemmas.Grind.{get_or_default_zero}
 use Rattle.std.proofs.lemmas.List.Elements.{All-nil, All-cons, All-head, All-tail, All-append, All-filter, All-weaker}
 use Rattle.std.proofs.lemmas.List.Kept.{IsStrictlySortedBy-filter}
 use Rattle.std.proofs.lemmas.List.Sums.{length-filter, count_by-le-length, sum_by-cons}
 use Rattle.std.specs.Option.{IfSome}
+use Rattle.fx_base.proofs.Booleans.{second_true}
 use Rattle.fx_store.specs.declared.node.Node.{Node}
 use Rattle.fx_store.specs.declared.node.Node.TheVariants.{File, Dir, Link}
 use Rattle.fx_store.specs.Names.{is_name, IsName, IsContent, is_component, components}
@@ -22,7 +24,7 @@ use Rattle.fx_store.proofs.Asks.{answer-bind}
 use Rattle.fx_store.proofs.PathLists.{name_bytes}
 use Rattle.fx_text.specs.declared.set.TheConstants.{UNION_LIMIT}
 use Rattle.fx_text.specs.declared.text.TheConstants.{TEXT_LIMIT}
-use Rattle.fx_text.specs.Sets.{has_text, with_text, set_of, weight}
+use Rattle.fx_text.specs.Sets.{IsAscending, has_text, with_text, set_of, without, weight}
 use Rattle.fx_text.proofs.Canon.{ascending_set}
 use Rattle.fx_text.proofs.Order.{ascending_one, ascending_none}
 use Rattle.fx_text.proofs.Putting.{set_again}
@@ -33,7 +35,7 @@ use Rattle.fx_expr.specs.Bindings.{bound, newer_or}
 use Rattle.fx_expr.specs.Eval.{Outcome, text_in, integer_in, truth_in, names_in, first_in, second_in, entries_in, size_in, joined, fits_64, in_range, united, pieces, without_line_feed, is_numeral, numeral_value, spells_64, read_integer, decided, two, one, then_on, unless, eval_of}
 use Rattle.fx_expr.specs.ExprTree.{ExprTree}
 use Rattle.fx_expr.specs.Globs.{glob_matches}
-use Rattle.fx_expr.specs.Tree.{Tree}
+use Rattle.fx_expr.specs.Tree.{Tree, TreeRows, no_rows, row, entries}
 use Rattle.fx_expr.proofs.Numerals.{fits_back, decimal_short}
 use Rattle.fx_expr.specs.ShapeTree.{ShapeTree}
 use Rattle.fx_spec.specs.declared.refusal.Refusal.{Refusal}
@@ -225,10 +227,6 @@ united_gives a b h k = by (nat_le (weight (set_of (a ++ b))) UNION_LIMIT) refl
     }
     by false e = tt
 
-second_true : (a b : Bool) → (a && b) ≡ true → b ≡ true
-second_true true b e = e
-second_true false b e = absurd (true≢false (sym e))
-
 read_gives : (text : List ℕ) → Gives (read_integer text)
 read_gives text = by (spells_64 (without_line_feed text)) refl
   where
@@ -361,12 +359,12 @@ storable_within (Tree.table rows) h = refl
 
 -- ---- fetches
 
-name_short : (n : List ℕ) → IsName n → length n ≤ 255
-unfolding is_name
-name_short n h = leb-true (length n) 255 (and_parts _ _ (and_parts _ _ (and_parts _ _ (and_parts _ _ (and_parts _ _ h).0).0).0).0).1
-
 name_within : (n : List ℕ) → IsName n → IsContent n
-name_within n h = record { short = let few = name_short n h in omega (arith, few); bytes = name_bytes n h }
+unfolding is_name
+name_within n h = record {
+  short = let l : length n ≤ 255 = leb-true (length n) 255 (and_parts _ _ (and_parts _ _ (and_parts _ _ (and_parts _ _ (and_parts _ _ h).0).0).0).0).1 in omega (arith, l);
+  bytes = name_bytes n h;
+}
 
 evaluated_within : (o : Outcome) (v : Tree) → Gives o → evaluated o ≡ Ok v → IsWithin v
 evaluated_within (Ok w) v h e = let same : w ≡ v = cc in subst IsWithin same h

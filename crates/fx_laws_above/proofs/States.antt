@@ -1,24 +1,26 @@
 -- What stands in each state of a run of the case, and that each of its transactions is done there.
-use Rattle.std.proofs.Common.{◌≡◌, ℕ, ◌+◌, ◌*◌, ◌/◌, ◌%◌, ◌^◌, ◌<◌, ◌≤◌, Bool, true, false, cond, not, ◌||◌, ◌==◌, nat_eq, List, [], ◌∷◌, ◌++◌, length, get_or, Option, Some, None, refl, sym, ap, subst, ◌∙◌, arith, codes, length-append, eq-eqb}
+use Rattle.std.proofs.Common.{◌≡◌, ◌≢◌, inl, inr, ℕ, zero, suc, ◌+◌, ◌*◌, ◌/◌, ◌%◌, ◌^◌, ◌<◌, ◌≤◌, Bool, true, false, cond, not, ◌||◌, ◌==◌, nat_eq, List, [], ◌∷◌, ◌++◌, length, get_or, Option, Some, None, refl, sym, ap, subst, ◌∙◌, arith, codes, length-append, eq-eqb}
 use Rattle.std.specs.Prelude.{is_some}
 use mathlib.Core.Path.{fun_ext}
 use Rattle.std.specs.Fmt.{decimal}
-use Rattle.std.specs.FinMap.{get, len, len-insert, same_map, insert}
+use Rattle.std.specs.FinMap.{get, len, len-insert, same_map, insert, contains_key}
 use Rattle.std.specs.List.{count_by, sum_by}
 use Rattle.std.specs.Ordering.{eq_by_cmp}
-use Rattle.std.proofs.lemmas.Bool.{true≢false, ne_eqb, eqb-true, eqb-false, and_from}
-use Rattle.std.proofs.lemmas.List.Sums.{sum_by_push}
+use Rattle.std.proofs.lemmas.Bool.{cases_eq, cases_Bool, ne_eqb, eqb-true, eqb-false, and_from}
+use Rattle.std.proofs.lemmas.List.Sums.{sum_by_push, sum_by-cons}
 use Rattle.fx_store.specs.declared.node.Node.{Node}
 use Rattle.fx_store.specs.declared.node.Node.TheVariants.{File, Dir}
 use Rattle.fx_store.specs.declared.changes.Change.{Change}
-use Rattle.fx_store.specs.Names.{name_cmp, IsNameSet, has}
+use Rattle.fx_store.specs.Names.{path_cmp, name_cmp, IsNameSet, has}
 use Rattle.fx_store.specs.Orders.{path_total, path_same}
 use Rattle.fx_store.specs.Resolve.{◌/ₚ◌}
 use Rattle.fx_store.specs.Whole.{Nodes, IsWhole, over, over_nodes, update, lists}
 use Rattle.fx_base.proofs.Names.{name_is}
+use Rattle.fx_base.proofs.Results.{none_of}
 use Rattle.fx_text.specs.declared.set.TheConstants.{UNION_LIMIT}
-use Rattle.fx_text.specs.Sets.{set_of, with_text, weight}
+use Rattle.fx_text.specs.Sets.{set_of, with_text, weight, IsWeighed}
 use Rattle.fx_text.proofs.Order.{ascending_one}
+use Rattle.fx_text.proofs.Putting.{set_turned, set_again}
 use Rattle.fx_text.proofs.Weights.{union_fits}
 use Rattle.fx_spec.specs.declared.refusal.End.{End}
 use Rattle.fx_spec.specs.CommandTree.{CommandTree}
@@ -26,19 +28,19 @@ use Rattle.fx_spec.specs.Edit.{set_to}
 use Rattle.fx_spec.specs.Laws.{is_turn}
 use Rattle.fx_spec.specs.Order.{first_numbers}
 use Rattle.fx_spec.specs.Plans.{Turn}
-use Rattle.fx_spec.specs.Transaction.{end, left_nodes}
+use Rattle.fx_spec.specs.Transaction.{end, left, left_nodes}
 use Rattle.fx_spec.proofs.EditsKeep.{dir_node}
 use Rattle.fx_spec.proofs.EditsMake.{has-with}
 use Rattle.fx_spec.proofs.EditsWhole.{update_here, update_away}
 use Rattle.fx_spec.proofs.Tasks.{get-set_node, get-over_nodes, leaves_as_data}
 use Rattle.fx_spec.proofs.Transactions.{transactions_keep_whole}
-use Rattle.fx_machine.proofs.Sums.{sum_apart}
+use Rattle.fx_machine.proofs.Sums.{sum_same, sum_apart}
 use Rattle.fx_gen.specs.Draws.{draw}
 use Rattle.fx_gen.specs.Notes.{project, part_names, config}
 use Rattle.fx_gen.specs.Scripts.{tag, kind_of, project_of}
 use Rattle.fx_gen_laws.specs.Trees.{description_tree, count_tree, log_tree, txn_tree}
 use Rattle.fx_laws_above.proofs.Adding.{length-with, union_is}
-use Rattle.fx_laws_above.proofs.Counting.{number_of}
+use Rattle.fx_laws_above.proofs.Counting.{IsOne, number_of}
 use Rattle.fx_laws_above.proofs.Steps.{Does, HasCount, count_does, log_does}
 use Rattle.fx_laws_above.proofs.Tags.{tag_short, tag_tells, tag_named}
 use Rattle.fx_laws_above.proofs.Walks.{count_path, log_path}
@@ -117,6 +119,11 @@ one_longer n m h = omega (arith, h)
 
 -- ---- one transaction more
 
+-- a count of what fails is one of what passes, the other way round
+pub either : (b : Bool) → ◌≡◌ {A = ℕ} (cond (not b) 1 0) (cond b 0 1)
+either true = refl
+either false = refl
+
 module _ (number k j : ℕ) (done : List Turn) (nodes : Nodes) (s : Stands number done nodes) (script : k < 8) (place : j < 200) (absent : count_by (is_turn k j) done ≡ 0) (room : length done < 1600) where
   abbrev turn : Turn
   turn = (k, j)
@@ -150,10 +157,6 @@ module _ (number k j : ℕ) (done : List Turn) (nodes : Nodes) (s : Stands numbe
 
   counts_one : (b : Bool) → logs_at number (200 * k + j) ≡ b → count_by (is_counting number) more ≡ count_by (is_counting number) done + cond b 0 1
   counts_one b e = sum_by_push (λ u. cond (is_counting number u) 1 0) done turn ∙ ap (λ n. count_by (is_counting number) done + n) (ap (λ c. cond (not c) 1 0) e ∙ either b)
-    where
-      either : (b : Bool) → ◌≡◌ {A = ℕ} (cond (not b) 1 0) (cond b 0 1)
-      either true = refl
-      either false = refl
 
   logs_one : (b : Bool) → logs_at number (200 * k + j) ≡ b → count_by (is_logging number) more ≡ count_by (is_logging number) done + cond b 1 0
   logs_one b e = sum_by_push (λ u. cond (is_logging number u) 1 0) done turn ∙ ap (λ c. count_by (is_logging number) done + cond c 1 0) e
@@ -331,10 +334,6 @@ module _ (number k j : ℕ) (done : List Turn) (nodes : Nodes) (s : Stands numbe
 
     nothing_there : get nodes (log_path p /ₚ t) ≡ None
     nothing_there = none_of (get nodes (log_path p /ₚ t)) (s.whole.listed (log_path p) t ∙ ap (λ (o : Option Node). lists o t) (s.log p inside) ∙ fresh)
-      where
-        none_of : (o : Option Node) → is_some o ≡ false → o ≡ None
-        none_of None e = refl
-        none_of (Some n) e = absurd (true≢false e)
 
     size'' : len nodes'' ≡ len nodes + 1
     size'' =
