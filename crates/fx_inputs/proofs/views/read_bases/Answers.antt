@@ -1,11 +1,9 @@
 use Rattle.std.proofs.Common.{sym, subst}
-use Rattle.fx_base.proofs.Errors.{if_err_of}
 use Rattle.fx_outside.proofs.Views.{reads_then}
 use Rattle.fx_spec.specs.Bases.{base_tree}
 use Rattle.fx_words.specs.JobOf.{asked_views}
 use Rattle.fx_show.specs.Described.{Describes}
 use Rattle.fx_inputs.specs.Inputs.{HasSpec}
-use Rattle.fx_inputs.specs.Views.{ViewsReadRow}
 use Rattle.fx_inputs.proofs.Stages.{some_spec, then_told}
 use Rattle.fx_inputs.proofs.ViewsRows.{after_views, some_views, views_row_back, whole_bases}
 use Rattle.fx_outside.specs.Host.{Guard}
@@ -65,14 +63,6 @@ returns-in-Err-read_rest-clause-fit g c =
 
 pub returns-in-Ok-beside-clause-fit : goal.returns-in-Ok-beside-clause-fit
 returns-in-Ok-beside-clause-fit g c =
-    let Lets : Guard → Type 0 = λ guard. LetsViews guard.may_read (asked_views c.args.job.now) in
-    let a = g.H.Host.view c.args.host.now in
-    let b = g.H.Host.view c.read_description.new.host in
-    let d = g.H.Host.view c.read_views.new.host in
-    asks_both Lets a b (g.H.Host.view c.read_rest.new.host) c.in_ok-description.ensures.fit (asks_both Lets b d (g.H.Host.view c.read_rest.new.host) c.in-Ok.ensures.fit (λ lets. c.in-Ok-read_rest.ensures.fit lets.inputs))
-
-pub returns-in-Err-beside-clause-fit : goal.returns-in-Err-beside-clause-fit
-returns-in-Err-beside-clause-fit g c =
     let Lets : Guard → Type 0 = λ guard. LetsViews guard.may_read (asked_views c.args.job.now) in
     let a = g.H.Host.view c.args.host.now in
     let b = g.H.Host.view c.read_description.new.host in
