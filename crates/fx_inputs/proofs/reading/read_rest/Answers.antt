@@ -3,8 +3,7 @@ use Rattle.fx_outside.proofs.Views.{reads_none, asks_both}
 use Rattle.fx_spec.specs.Bases.{base_tree}
 use Rattle.fx_words.specs.JobOf.{asked_inputs}
 use Rattle.fx_inputs.specs.Inputs.{AreOnlyScripts}
-use Rattle.fx_inputs.specs.Reads.{ReadRow, LetsInputs}
-use Rattle.fx_base.proofs.Errors.{if_err_of}
+use Rattle.fx_inputs.specs.Reads.{LetsInputs}
 use Rattle.fx_inputs.proofs.ReadRows.{read_row_back}
 use Rattle.fx_inputs.proofs.Stages.{whole_base}
 use Rattle.fx_inputs.proofs.reading.read_rest.Goals as goal

@@ -1,4 +1,4 @@
-use Rattle.std.proofs.Common.{◌≡◌, arith, ap, subst}
+use Rattle.std.proofs.Common.{◌≡◌, arith, subst}
 use Rattle.fx_large.specs.Base.{IsPlanOf}
 use Rattle.fx_large.proofs.Standing.{begins}
 use Rattle.fx_large.proofs.base.add_scripts.Goals as goal

@@ -1,5 +1,4 @@
-use Rattle.std.proofs.Common.{IfErr, sym, subst, ◌∙◌}
-use Rattle.fx_outside.proofs.Views.{reads_then, asks_both}
+use Rattle.fx_outside.proofs.Views.{asks_both}
 use Rattle.fx_spec.specs.Bases.{base_tree}
 use Rattle.fx_folder.specs.Folder.{IsReady}
 use Rattle.fx_words.specs.JobOf.{asked}
