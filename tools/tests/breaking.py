@@ -48,13 +48,12 @@ class Watched(Calls):
     """Calls of which each is told before and behind it: `at(number, name, behind)`."""
 
     def __init__(self, names: list[str]) -> None:
-        self.names = names
         self.count = 0
+        for name in names:
+            setattr(self, name, self.told(name, getattr(self, name)))
 
-    def __getattribute__(self, name: str) -> Any:
-        method = object.__getattribute__(self, name)
-        if name not in COUNTED or name not in self.names:
-            return method
+    def told(self, name: str, method: Callable[..., Any]) -> Callable[..., Any]:
+        """A call that is told."""
 
         def call(*words: Any) -> Any:
             self.count += 1

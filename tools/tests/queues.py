@@ -64,8 +64,8 @@ def lead(tree: Tree, asked: Request, ident: str | None = None) -> Answer:
     """Does a job, with those that wait: what txforest-apply does with the lock."""
     ident = ident or new_ident()
 
-    def put(attempt, changes, answers):  # type: ignore[no-untyped-def]
-        return attempt.commit(changes, answers)
+    def put(attempt, changes, answers, looks):  # type: ignore[no-untyped-def]
+        return attempt.commit(changes, answers, looks=looks)
 
     batch = Batch(tree, lock(tree.path), None, put)
     queue = queue_of(tree)

@@ -175,13 +175,15 @@ class Exports(Trees):
         self.new_tree()
         write(f"{self.tree}/n", "0")
         loop = (
-            "for i in 1 2; do while :; do rm -rf {0}; ./txforest-import {1} {0} > /dev/null ||"
-            " continue; echo $(($(cat {0}/n) + 1)) > {0}/n; ./txforest-export --replace {0} {1}"
+            "for i in 1 2; do while :; do rm -rf {0}; {2} ./txforest-import {1} {0} > /dev/null ||"
+            " continue; read n < {0}/n; echo $((n + 1)) > {0}/n;"
+            " {2} ./txforest-export --replace {0} {1}"
             " > /dev/null; s=$?; [ $s = 0 ] && break; [ $s = 12 ] || exit $s; done; done"
         )
+        python = f"{sys.executable} -IS"
         jobs = [
             subprocess.Popen(
-                ["bash", "-c", loop.format(f"{self.top}/f{n}", self.tree)],
+                ["bash", "-c", loop.format(f"{self.top}/f{n}", self.tree, python)],
                 cwd=TOOLS,
                 stderr=subprocess.DEVNULL,
             )

@@ -27,11 +27,12 @@ from .terminal import Given, Words, many, no_output, shown, tell
 
 TYPE_CHECKING = False
 if TYPE_CHECKING:
-    from collections.abc import Sequence
+    from collections.abc import Mapping, Sequence
 
     from .data import Datum
     from .differences import Change
     from .only import Only
+    from .touched import Looks
 
 USAGE = """txforest-apply [OPTION..] TREE SPEC SCRIPT..
        txforest-apply --settle TREE
@@ -334,13 +335,17 @@ def list_left_out(job: Job) -> int:
 
 
 def put(
-    job: Job, attempt: Attempt, changes: Sequence[Change], answers: dict[str, bytes]
+    job: Job,
+    attempt: Attempt,
+    changes: Sequence[Change],
+    answers: dict[str, bytes],
+    looks: Mapping[str, Looks] | None,
 ) -> Committed:
     """Puts changes in place. Behind that no signal turns the status any more."""
     before = hold_signals()
     try:
         if not (job.exchange or job.link):
-            return attempt.commit(changes, answers)
+            return attempt.commit(changes, answers, looks=looks)
         from .exchange import put_whole
 
         how = b"link" if job.link else b"exchange"

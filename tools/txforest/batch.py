@@ -9,14 +9,16 @@ alone, behind those before it:
 - The state behind each job has a value. A job behind which there is none is taken out and run
   alone: so it gets 10, also where a later one mends what it broke.
 - What stops several at once (no room, somebody in the way) is done again in halves, down to the one
-  that it is due to.
+  that it is due to. If somebody keeps changing a path, the jobs that looked there are done apart.
+- A path that somebody changed behind the commit is told to the jobs that looked there, and to no
+  other.
 """
 
 from __future__ import annotations
 
 import os
 
-from .attempt import Attempt, attempts
+from .attempt import Attempt, KeepsChanging, attempts
 from .commit import hold_signals, let_signals
 from .looked import Looker
 from .parts import Part, parted, report_in
@@ -27,7 +29,7 @@ from .terminal import many, shown
 
 TYPE_CHECKING = False
 if TYPE_CHECKING:
-    from collections.abc import Callable, Sequence
+    from collections.abc import Callable, Mapping, Sequence
 
     from .commit import Committed
     from .differences import Change
@@ -36,8 +38,10 @@ if TYPE_CHECKING:
     from .program import Answer as Run
     from .queue import Taken
     from .survey import Survey
+    from .touched import Looks
 
-    Put = Callable[[Attempt, Sequence[Change], dict[str, bytes]], Committed]
+    Given = Mapping[str, Looks] | None
+    Put = Callable[[Attempt, Sequence[Change], dict[str, bytes], Given], Committed]
 
 SHELLS = 64
 LARGE = 20_000  # entries of a tree times transactions, from which on fewer states are looked at
@@ -89,7 +93,8 @@ class Batch:
     """Jobs of one description on one tree, whose lock is held."""
 
     def __init__(self, tree: Tree, held: int, only: Only | None, put: Put) -> None:
-        """`put` commits changes with answers, and holds signals from then on."""
+        """`put` commits changes with answers and the looks of their jobs, and holds signals from
+        then on."""
         self.tree = tree
         self.held = held
         self.only = only
@@ -139,6 +144,10 @@ class Batch:
             if failed.status == Status.UNFINISHED:
                 self.standing = group
                 raise
+            if isinstance(failed, KeepsChanging):
+                groups = self.apart(group, failed.path)
+                if groups:
+                    return groups
             answer = Answer(failed.status, b"", failed.lines)
         except OSError as error:
             where = f"{shown(error.filename)}: " if isinstance(error.filename, (str, bytes)) else ""
@@ -148,8 +157,39 @@ class Batch:
         self.answered(group[0], answer)
         return []
 
+    def apart(self, group: list[Member], path: str) -> list[list[Member]]:
+        """A group as those that did not look at a path, together, and each of the others alone; no
+        groups, if that parts nothing or is not known."""
+        looks = self.looks_of(group)
+        if looks is None:
+            return []
+        at = os.fsencode(path)
+        own = [looks[f"job-{member.ident}"].touches(at, None) for member in group]
+        rest = [member for member, touched in zip(group, own) if not touched]
+        alone = [[member] for member, touched in zip(group, own) if touched]
+        return [rest, *alone] if rest and alone else []
+
+    def looks_of(self, group: list[Member]) -> dict[str, Looks] | None:
+        """At what the jobs of a group looked in the last run, by the names of their answers.
+        Nothing if there is one alone, or if that is not known."""
+        shells = None if self.looker is None else self.looker.shells
+        if shells is None or len(group) == 1:
+            return None
+        from .touched import Looks
+
+        found: dict[str, Looks] = {}
+        first = 0
+        for member in group:
+            behind = first + len(member.request.scripts)
+            paths = set[bytes]().union(*(shells.get(it, ()) for it in range(first, behind)))
+            first = behind
+            for kind in ("job", "log"):
+                found[f"{kind}-{member.ident}"] = Looks(paths)
+        return found
+
     def attempted(self, attempt: Attempt, group: list[Member]) -> list[list[Member]]:
         """One attempt at a group. Answers the groups that are still to be done."""
+        self.looker = None
         self.surveyed(attempt.found)
         answer = self.ran(attempt, group)
         if answer.status:
@@ -247,9 +287,9 @@ class Batch:
         if not changes:
             # Nothing is to be kept across a stop: an answer that is lost is come to again.
             carried = {name: it for name, it in carried.items() if name.startswith("keep-")}
-        committed = self.put(attempt, changes, carried)
+        committed = self.put(attempt, changes, carried, self.looks_of(group))
         for member, answer in zip(group, answers):
-            answer = answer.with_conflicts(committed.conflicts)
+            answer = answer.with_conflicts(committed.told_to(f"job-{member.ident}"))
             if member.taken is None:
                 answer.lines[:0] = committed.told
             if changes:
