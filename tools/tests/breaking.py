@@ -630,6 +630,22 @@ class Meddling(Watched):
             self.turns[number]()
 
 
+class Edited(Calls):
+    """Somebody without the lock edits the tree between a commit and its operations, and the process
+    may end there."""
+
+    def __init__(self, edit: Callable[[], None], ends: bool = False) -> None:
+        self.edit = edit
+        self.ends = ends
+
+    def rename(self, a: bytes, a_fd: int, b: bytes, b_fd: int) -> None:
+        super().rename(a, a_fd, b, b_fd)
+        if b == b"intent":
+            self.edit()
+            if self.ends:
+                os._exit(77)
+
+
 def over(path: str, text: str) -> None:
     """He writes beside, and renames over the target."""
     write(f"{os.path.dirname(path)}/.his", text)

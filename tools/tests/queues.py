@@ -9,6 +9,7 @@ import os
 import random
 import shutil
 from collections.abc import Callable
+from contextlib import AbstractContextManager
 from typing import NamedTuple
 
 from txforest import calls
@@ -60,7 +61,12 @@ def left(tree: Tree, asked: Request) -> Waiting:
     return waiting
 
 
-def lead(tree: Tree, asked: Request, ident: str | None = None) -> Answer:
+def lead(
+    tree: Tree,
+    asked: Request,
+    ident: str | None = None,
+    program: Callable[[], AbstractContextManager[None]] = pretended.program,
+) -> Answer:
     """Does a job, with those that wait: what txforest-apply does with the lock."""
     ident = ident or new_ident()
 
@@ -71,7 +77,7 @@ def lead(tree: Tree, asked: Request, ident: str | None = None) -> Answer:
     queue = queue_of(tree)
     others = take(queue, asked, ident, 63, 255) if queue else []
     try:
-        with pretended.program():
+        with program():
             return batch.do(Member(ident, asked), others)
     finally:
         batch.close()

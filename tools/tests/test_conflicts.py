@@ -9,7 +9,7 @@ from unittest import mock
 
 from tests.rooms import Room as TestRoom
 from txforest import calls
-from txforest.calls import Calls
+from txforest.batch import Batch, Member
 from txforest.copies import Changes, Looked
 from txforest.intent import Operation
 from txforest.jobs import DONE, Answer, Clerk, Prepared, answer_of, looks_of
@@ -24,7 +24,7 @@ from txforest.touched import Looks, read_touched, touched_by, write_touched
 from txforest.waiting import Room
 
 from . import queues
-from .breaking import child, using
+from .breaking import Edited, child, using
 from .queues import left, request
 from .trees import read, strays, work_folder, write
 
@@ -40,22 +40,6 @@ AT = 'txn { into next into next to("%s") down '
 COUNT_MAYBE = AT + "into fetch n : str store(text((int(n) + 1))) }"
 CREATE, REMOVE = AT + "create }", AT + "remove }"
 SIZE = 'txn { into next into fetch d : names next to("c") down into store(text(size(d))) }'
-
-
-class Edited(Calls):
-    """Somebody without the lock edits the tree between the commit and its operations, and the
-    process may end there."""
-
-    def __init__(self, edit: Callable[[], None], ends: bool = False) -> None:
-        self.edit = edit
-        self.ends = ends
-
-    def rename(self, a: bytes, a_fd: int, b: bytes, b_fd: int) -> None:
-        super().rename(a, a_fd, b, b_fd)
-        if b == b"intent":
-            self.edit()
-            if self.ends:
-                os._exit(77)
 
 
 class Queued(unittest.TestCase):
@@ -146,14 +130,14 @@ class Queued(unittest.TestCase):
         asked = [self.asked(COUNT % name) for name in "bca"]
         waiting = [left(self.tree, it) for it in asked]
         groups: list[int] = []
-        attempts = queues.Batch.done
+        work = Batch.done
 
-        def done(batch: queues.Batch, group: list[queues.Member]) -> list[list[queues.Member]]:
+        def done(batch: Batch, group: list[Member]) -> list[list[Member]]:
             groups.append(len(group))
-            return attempts(batch, group)
+            return work(batch, group)
 
         with open(f"{self.tree.path}/b", "a"), mock.patch("txforest.attempt.tell"):
-            with mock.patch.object(queues.Batch, "done", done):
+            with mock.patch.object(Batch, "done", done):
                 answers = [queues.lead(self.tree, self.asked(COUNT % "a"))]
                 self.assertEqual([it.answer() is None for it in waiting], [True, False, False])
                 for it, job in zip(waiting, asked):
