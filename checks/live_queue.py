@@ -23,6 +23,7 @@ sys.path.insert(0, os.path.join(TOP, "tools"))
 
 from tests import breaking, queues  # noqa: E402
 from txforest.place import Tree  # noqa: E402
+from txforest.queue import Answer  # noqa: E402
 
 SPEC = '{(k :: file) | k in (one("log") union one("n"))}\n'
 JOB = (
@@ -267,7 +268,7 @@ def a_conflict_is_told_to_its_own_jobs(room: str, number: int) -> str:
             waiting = [queues.left(tree, it) for it in asked[1:]]
             with breaking.using(breaking.Edited(lambda: write(f"{top}/f/{edited}", "100"))):
                 answers = [queues.lead(tree, asked[0], program=nullcontext)]
-            answers += [it.answer() or queues.Answer(-1) for it in waiting]
+            answers += [it.answer() or Answer(-1) for it in waiting]
             for it in waiting:
                 it.remove()
         statuses = [it.status for it in answers]

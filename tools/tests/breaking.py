@@ -100,8 +100,8 @@ class Killed(Watched):
             os._exit(77)
 
 
-def child(work: Callable[[], object]) -> int:
-    """The status of a child that works."""
+def forked(work: Callable[[], object]) -> int:
+    """A child that works, by its number."""
     pid = os.fork()
     if not pid:
         status = 1
@@ -110,7 +110,17 @@ def child(work: Callable[[], object]) -> int:
             status = 0
         finally:
             os._exit(status)
+    return pid
+
+
+def ended(pid: int) -> int:
+    """The status of a child, once it ends."""
     return os.waitstatus_to_exitcode(os.waitpid(pid, 0)[1])
+
+
+def child(work: Callable[[], object]) -> int:
+    """The status of a child that works."""
+    return ended(forked(work))
 
 
 def kills(number: int, seed: int = 1) -> str:

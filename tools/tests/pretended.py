@@ -12,11 +12,7 @@ from unittest import mock
 from txforest import model
 from txforest.program import Answer
 
-
-def text_of(word: Any) -> bytes:
-    """The text that a word names."""
-    with open(word, "rb") as it:
-        return it.read()
+from .stand_in import description_of, script_of
 
 
 def write_folder(store: Any, out: Any) -> None:
@@ -43,10 +39,10 @@ def call(
     schedule = more.pop(0) if command in ("trace", "watch") else "none"
     word = spec
     try:
-        root = model.read_description(text_of(spec))
+        root = description_of(word)
         plan: list[Any] = []
         for word in more:
-            plan.append(model.read_script(text_of(word), sum(map(len, plan))))
+            plan.append(script_of(word, sum(map(len, plan))))
     except model.Refused as refused:
         return Answer(3, b"", f"txforest: {word}: {refused}\n".encode())
     store = model.load(folder)
