@@ -10,6 +10,7 @@ import time
 import unittest
 from collections.abc import Callable
 from contextlib import redirect_stdout
+from functools import partial
 from io import StringIO
 from typing import Any
 from unittest import mock
@@ -173,7 +174,7 @@ class Exports(Trees):
         self.new_tree()
         write(f"{self.tree}/n", "0")
         folders = [f"{self.top}/f{n}" for n in range(2)]
-        children = [forked(lambda folder=folder: self.loop(folder)) for folder in folders]
+        children = [forked(partial(self.loop, folder)) for folder in folders]
         self.assertEqual([ended(it) for it in children], [0, 0])
         self.assertEqual(read(f"{self.tree}/n"), "4\n")
 
@@ -328,8 +329,11 @@ class Imports(Trees):
     def test_killed_imports_leave_nothing_for_long(self) -> None:
         self.new_tree()
 
+        def end(_fd: int) -> None:
+            os._exit(9)
+
         def dies() -> None:
-            with mock.patch("txforest.imports.sync_all", lambda fd: os._exit(9)):
+            with mock.patch("txforest.imports.sync_all", end):
                 self.run_tool(imports.tool, self.tree, self.folder)
 
         self.assertEqual(child(dies), 9)
