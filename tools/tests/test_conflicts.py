@@ -257,7 +257,8 @@ class Texts(unittest.TestCase):
             write_touched(place, made)
             text = read(f"{top}/touched")
             self.assertEqual(read_touched(place).numbers, made.numbers)
-            for bad in ("", text[:-1], text.replace("end 2", "end 1"), text.replace("a", "a x")):
+            long = text.replace("log-a", "log-a " + "9" * 5000)
+            for bad in ("", text[:-1], long, text.replace("end 2", "end 1"), text + "\n"):
                 write(f"{top}/touched", bad)
                 self.assertEqual(read_touched(place).numbers, {}, bad)
             os.close(place)

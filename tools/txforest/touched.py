@@ -29,6 +29,7 @@ if TYPE_CHECKING:
 FILE = b"touched"
 MAGIC = b"txforest touched 1"
 LIMIT = 64 << 20  # bytes of the file
+DIGITS = 9  # of the number of an operation, at most
 
 
 class Looks:
@@ -129,7 +130,7 @@ def read_touched(place: int) -> Touched:
     numbers: dict[str, set[int]] = {}
     for line in lines[1:-2]:
         name, *words = line.split(b" ")
-        if not all(map(bytes.isdigit, words)):
+        if not all(it.isdigit() and len(it) <= DIGITS for it in words):
             return Touched({})
         numbers[name.decode(errors="replace")] = set(map(int, words))
     return Touched(numbers)
