@@ -18,7 +18,9 @@ from txforest.lock import lock
 from txforest.place import Tree
 from txforest.queue import (
     Answer,
+    Queue,
     Request,
+    Taken,
     Waiting,
     enqueue,
     new_ident,
@@ -73,18 +75,24 @@ def lead(
     def put(attempt, changes, answers, looks):  # type: ignore[no-untyped-def]
         return attempt.commit(changes, answers, looks=looks)
 
-    batch = Batch(tree, lock(tree.path), None, put)
-    queue = queue_of(tree)
-    others = take(queue, asked, ident, 63, 255) if queue else []
+    taken: list[Taken] = []
+    queues: list[Queue] = []
+
+    def come(shells: int, transactions: int) -> list[Taken]:
+        queue = queue_of(tree)
+        if queue is not None:
+            queues.append(queue)
+            taken.extend(take(queue, asked, ident, shells, transactions))
+        return taken
+
+    batch = Batch(tree, lock(tree.path), None, put, come)
     try:
         with program():
-            return batch.do(Member(ident, asked), others)
+            return batch.do(Member(ident, asked))
     finally:
         batch.close()
-        for it in others:
+        for it in (*taken, *queues):
             it.close()
-        if queue:
-            queue.close()
 
 
 def finish(path: str, waiting: Waiting, asked: Request) -> Answer:

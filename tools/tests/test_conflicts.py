@@ -133,8 +133,9 @@ class Queued(unittest.TestCase):
         work = Batch.done
 
         def done(batch: Batch, group: list[Member]) -> list[list[Member]]:
+            left = work(batch, group)
             groups.append(len(group))
-            return work(batch, group)
+            return left
 
         with open(f"{self.tree.path}/b", "a"), mock.patch("txforest.attempt.tell"):
             with mock.patch.object(Batch, "done", done):

@@ -12,7 +12,7 @@ import os
 import sys
 
 from .attempt import Attempt
-from .batch import SHELLS, STATES, Batch, Member, terms_of, text_of
+from .batch import Batch, Member, terms_of, text_of
 from .commit import Committed, hold_signals, let_signals
 from .lock import lock
 from .place import Tree
@@ -32,6 +32,7 @@ if TYPE_CHECKING:
     from .data import Datum
     from .differences import Change
     from .only import Only
+    from .queue import Queue, Taken
     from .touched import Looks
 
 USAGE = """txforest-apply [OPTION..] TREE SPEC SCRIPT..
@@ -260,25 +261,29 @@ def had(job: Job, tree: Tree, request: Request, ident: str) -> tuple[int, Waitin
 
 def lead(job: Job, tree: Tree, held: int, request: Request, ident: str) -> Answer:
     """Does the job on a tree whose lock is held, with those that wait for the same."""
-    batch = job.batch = Batch(tree, held, job.only, lambda *given: put(job, *given))
     seen: list[Survey] = []
+    taken: list[Taken] = []
+    queues: list[Queue] = []
 
     def surveyed(found: Survey) -> None:
         if not seen:
             tell_left_out(job, found)
         seen.append(found)
 
-    batch.surveyed = surveyed
-    queue = None if job.exchange or job.link else queue_of(tree)
-    shells, transactions = SHELLS - len(request.scripts), STATES - request.transactions
-    others = take(queue, request, ident, shells, transactions) if queue is not None else []
-    try:
-        return batch.do(Member(ident, request), others)
-    finally:
-        for it in others:
-            it.close()
+    def come(shells: int, transactions: int) -> list[Taken]:
+        queue = None if job.exchange or job.link else queue_of(tree)
         if queue is not None:
-            queue.close()
+            queues.append(queue)
+            taken.extend(take(queue, request, ident, shells, transactions))
+        return taken
+
+    batch = job.batch = Batch(tree, held, job.only, lambda *given: put(job, *given), come)
+    batch.surveyed = surveyed
+    try:
+        return batch.do(Member(ident, request))
+    finally:
+        for it in (*taken, *queues):
+            it.close()
 
 
 def leave(tree: Tree, request: Request, ident: str, status: int) -> None:

@@ -42,6 +42,7 @@ if TYPE_CHECKING:
 
     Given = Mapping[str, Looks] | None
     Put = Callable[[Attempt, Sequence[Change], dict[str, bytes], Given], Committed]
+    Come = Callable[[int, int], Sequence[Taken]]
 
 SHELLS = 64
 LARGE = 20_000  # entries of a tree times transactions, from which on fewer states are looked at
@@ -92,24 +93,28 @@ def text_of(source: Source) -> Text:
 class Batch:
     """Jobs of one description on one tree, whose lock is held."""
 
-    def __init__(self, tree: Tree, held: int, only: Only | None, put: Put) -> None:
+    def __init__(
+        self, tree: Tree, held: int, only: Only | None, put: Put, come: Come = lambda *_: ()
+    ) -> None:
         """`put` commits changes with answers and the looks of their jobs, and holds signals from
-        then on."""
+        then on. `come` takes jobs that wait, so many scripts and transactions at most."""
         self.tree = tree
         self.held = held
         self.only = only
         self.put = put
+        self.come: Come | None = come  # until it was asked
+        self.members: list[Member] = []
         self.surveyed: Callable[[Survey], None] = lambda found: None  # told of each survey
         self.rooms: list[Attempt] = []  # what is to be closed behind the answers
         self.looker: Looker | None = None  # of the last run
         self.known: list[Change] | None = None  # what the last run changes, if that was asked
         self.standing: list[Member] = []  # whose answers stand in a place, for whoever settles it
 
-    def do(self, own: Member, taken: Sequence[Taken]) -> Answer:
+    def do(self, own: Member) -> Answer:
         """Does one's own job, and those of the queue as far as they are done with it. The others
         wait again. Raises Failed with UNFINISHED if a commit stands and something of it waits."""
-        members = [own, *(Member(it.ident, it.request, it) for it in taken)]
-        groups = [sorted(members, key=lambda it: it.ident)]
+        self.members = [own]
+        groups = [[own]]
         signals = hold_signals()
         let_signals(signals)
         try:
@@ -119,7 +124,7 @@ class Batch:
                     let_signals(signals)
             return own.answer
         finally:
-            for member in members:
+            for member in self.members:
                 if member.taken is not None and member.answer is None:
                     if member not in self.standing:
                         member.taken.put_back()
@@ -191,6 +196,7 @@ class Batch:
         """One attempt at a group. Answers the groups that are still to be done."""
         self.looker = None
         self.surveyed(attempt.found)
+        self.take_along(group)
         answer = self.ran(attempt, group)
         if answer.status:
             attempt.look_again()
@@ -214,6 +220,20 @@ class Batch:
         ]
         self.commit(attempt, group, answers, answer.printed)
         return []
+
+    def take_along(self, group: list[Member]) -> None:
+        """Takes the jobs that wait into the first group, once. The tree is surveyed by then, which
+        may have taken long, so that others came meanwhile. It is looked at once more in the end, so
+        they are done on what they found too."""
+        come, self.come = self.come, None
+        if come is None:
+            return
+        shells = SHELLS - sum(len(it.request.scripts) for it in group)
+        transactions = STATES - sum(it.request.transactions for it in group)
+        new = [Member(it.ident, it.request, it) for it in come(shells, transactions)]
+        self.members += new
+        group += new
+        group.sort(key=lambda it: it.ident)
 
     def ran(self, attempt: Attempt, group: list[Member]) -> Run:
         """The run of a group. That of several is watched, so that each state is known to have a
