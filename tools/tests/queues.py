@@ -70,7 +70,7 @@ def lead(
     program: Callable[[], AbstractContextManager[None]] = pretended.program,
 ) -> Answer:
     """Does a job, with those that wait: what txforest-apply does with the lock."""
-    ident = ident or new_ident()
+    own = ident or new_ident()
 
     def put(attempt, changes, answers, looks):  # type: ignore[no-untyped-def]
         return attempt.commit(changes, answers, looks=looks)
@@ -82,17 +82,19 @@ def lead(
         queue = queue_of(tree)
         if queue is not None:
             queues.append(queue)
-            taken.extend(take(queue, asked, ident, shells, transactions))
+            taken.extend(take(queue, asked, own, shells, transactions))
         return taken
 
     batch = Batch(tree, lock(tree.path), None, put, come)
     try:
         with program():
-            return batch.do(Member(ident, asked))
+            return batch.do(Member(own, asked))
     finally:
         batch.close()
-        for it in (*taken, *queues):
+        for it in taken:
             it.close()
+        for queue in queues:
+            queue.close()
 
 
 def finish(path: str, waiting: Waiting, asked: Request) -> Answer:

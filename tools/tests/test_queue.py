@@ -19,6 +19,7 @@ from txforest.queue import (
     Answer,
     Request,
     Text,
+    Waiting,
     answer_text,
     enqueue,
     hand_out,
@@ -363,7 +364,7 @@ class Waits(unittest.TestCase):
         waiting.remove()
 
     def test_who_comes_while_the_tree_is_surveyed_is_done_too(self) -> None:
-        waiting = []
+        waiting: list[Waiting] = []
 
         def surveyed(*given: Any) -> Any:
             found = settled_survey(*given)

@@ -282,8 +282,10 @@ def lead(job: Job, tree: Tree, held: int, request: Request, ident: str) -> Answe
     try:
         return batch.do(Member(ident, request))
     finally:
-        for it in (*taken, *queues):
+        for it in taken:
             it.close()
+        for queue in queues:
+            queue.close()
 
 
 def leave(tree: Tree, request: Request, ident: str, status: int) -> None:
