@@ -17,7 +17,7 @@ from txforest.attempt import Attempt  # noqa: E402
 from txforest.calls import DIR  # noqa: E402
 from txforest.differences import differences_at  # noqa: E402
 from txforest.lock import lock  # noqa: E402
-from txforest.looked import Looker, events_in, looks_of  # noqa: E402
+from txforest.looked import Looker, all_of, events_in, looks_of  # noqa: E402
 from txforest.place import Tree  # noqa: E402
 from txforest.sources import Source  # noqa: E402
 from txforest.statuses import Failed  # noqa: E402
@@ -76,7 +76,8 @@ def traced(room: str, spec: str, scripts: list[Source], draw: random.Random) -> 
     turns = ",".join(map(str, steps)) or "none"
     words = [os.environ["TXFOREST"], "trace", "spec", "in", "out", turns, *names]
     ran = subprocess.run(words, cwd=room, stdout=subprocess.PIPE, stderr=subprocess.DEVNULL)
-    return looks_of(events_in(ran.stdout)) if ran.returncode == 0 else None
+    looks = looks_of(events_in(ran.stdout)) if ran.returncode == 0 else None
+    return None if looks is None else all_of(looks)
 
 
 def looks_name_all_that_changes(room: str, number: int) -> str:

@@ -14,13 +14,16 @@ import sys
 import tempfile
 import time
 from collections import Counter
-from collections.abc import Callable, Iterator
+from collections.abc import Callable, Iterable, Iterator
+from contextlib import nullcontext
 
 TOP = os.path.dirname(os.path.dirname(os.path.abspath(__file__)))
 TOOLS = os.environ.get("TOOLS", os.path.join(TOP, "tools"))
 sys.path.insert(0, os.path.join(TOP, "tools"))
 
-from tests import queues  # noqa: E402
+from tests import breaking, queues  # noqa: E402
+from txforest.place import Tree  # noqa: E402
+from txforest.queue import Answer  # noqa: E402
 
 SPEC = '{(k :: file) | k in (one("log") union one("n"))}\n'
 JOB = (
@@ -241,6 +244,55 @@ def kept_jobs_can_be_audited(room: str, number: int) -> str:
     return f"audit says yes of what was kept of {number} jobs, done in one go"
 
 
+# ---- whom a conflict touches
+
+NAMES = "abcdef"
+ADD = 'to("%s") down fetch n : str store(text((int(n) + 1)))'
+SUM = 'to("%s") down fetch m : str top to("%s") down fetch n : str store(text((int(m) + int(n))))'
+
+
+def a_conflict_is_told_to_its_own_jobs(room: str, number: int) -> str:
+    """Jobs done in one go, by the program; somebody edits a file behind their commit. That is told
+    to the jobs that read or change this file, and to no other."""
+    draw = random.Random(number)
+    told = others = 0
+    for turn in range(number or 100):
+        top = f"{room}/c{turn}"
+        os.makedirs(f"{top}/f")
+        for name in NAMES:
+            write(f"{top}/f/{name}", "1")
+        paths = [draw.sample(NAMES, draw.choice([1, 1, 2])) for _ in range(draw.randrange(2, 9))]
+        edited = draw.choice(paths)[-1]  # one that is changed
+        with Tree(f"{top}/f") as tree:
+            asked = [queues.request(body(own), spec=FILES) for own in paths]
+            waiting = [queues.left(tree, it) for it in asked[1:]]
+            with breaking.using(breaking.Edited(lambda: write(f"{top}/f/{edited}", "100"))):
+                answers = [queues.lead(tree, asked[0], program=nullcontext)]
+            answers += [it.answer() or Answer(-1) for it in waiting]
+            for it in waiting:
+                it.remove()
+        statuses = [it.status for it in answers]
+        assert statuses == [13 if edited in own else 0 for own in paths], (turn, paths, statuses)
+        told += statuses.count(13)
+        others += statuses.count(0)
+        assert read(f"{top}/f/{edited}") == "100", (turn, "somebody's edit is lost")
+        assert os.path.exists(f"{top}/f/{edited}.txforest-new"), turn
+        shutil.rmtree(top)
+    return (
+        f"{told + others} jobs in {number or 100} commits under which a file was edited: {told}"
+        f" that had read or changed it were told, {others} others were done"
+    )
+
+
+def body(own: list[str]) -> str:
+    """A script that adds to a file, or adds one file to another."""
+    return "txn { " + (ADD % own[0] if len(own) == 1 else SUM % tuple(own)) + " }"
+
+
+ALL = "".join(f'(one("{name}") union ' for name in NAMES[:-1]) + f'one("{NAMES[-1]}")'
+FILES = f"{{(k :: file) | k in {ALL}{')' * (len(NAMES) - 1)}}}".encode()
+
+
 # ---- costs
 
 WIDE = "<d : dir, {(k :: <e : dir, {(f :: file) | f in e}>) | k in d}>\n"
@@ -320,9 +372,10 @@ def with_sqlite(base: str, folders: list[str]) -> list[list[str]]:
 WAYS: dict[str, Commands] = {
     "txforest-apply": with_apply,
     "flock and a shell": with_flock,
-    "git, commit, rebase, push": with_git,
     "SQLite": with_sqlite,
+    "git: a clone, commit, rebase, push": with_git,  # last: it makes the tree a repository
 }
+JOBS = (1, 8, 64)
 
 
 def measured(words: list[list[str]]) -> tuple[float, float]:
@@ -360,9 +413,7 @@ def costs_of_many(room: str, number: int) -> str:
             continue
         base = tempfile.mkdtemp(dir="/dev/shm" if os.access("/dev/shm", os.W_OK) else room)
         try:
-            for line in costs_on(base, files):
-                print(line, file=sys.stderr, flush=True)  # the whole may take long
-                lines.append(line)
+            lines += costs_on(base, files)
         finally:
             shutil.rmtree(base)
     return "\n".join([*lines, machine()])
@@ -380,43 +431,58 @@ def machine() -> str:
 
 
 def costs_on(base: str, files: int) -> Iterator[str]:
-    """The rows of one tree."""
-    many_files(f"{base}/tree", files)
+    """The rows of one tree, which all ways change in turn."""
+    many_files(f"{base}/t", files)
     write(f"{base}/spec", WIDE)
     run = run_alone(base, TURNS[files])
     yield f"| {files:,} | 1 | `txforest run` | {run:.3f} s | 1.0 | |"
-    words = [sys.executable, "-IS", "-c", BARE, f"{base}/tree"]
+    words = [sys.executable, "-IS", "-c", BARE, f"{base}/t"]
     bare = run + min(measured([words])[0] for _ in range(TURNS[files]))
     told = "the run, and two bare looks at each entry"
     yield f"| {files:,} | 1 | {told} | {bare:.3f} s | {bare / run:.1f} | |"
-    for jobs in (1, 8, 64):
-        for way in WAYS:
-            if way.startswith("git") and (not shutil.which("git") or jobs * files > WORK_TREES):
+    rows: dict[int, list[str]] = {jobs: [] for jobs in JOBS}
+    for way in WAYS:
+        if way.startswith("git") and not shutil.which("git"):
+            continue
+        folders = [f"d{i * (folders_of(files) // max(JOBS)):04d}" for i in range(max(JOBS))]
+        words_of = dict(zip(folders, WAYS[way](base, folders)))
+        for jobs in JOBS:
+            if way.startswith("git") and jobs * files > WORK_TREES:
                 continue
             turns = 1 if way.startswith("git") and jobs > 8 else TURNS[files]
-            went = [turn(base, files, jobs, way) for _ in range(turns)]
+            own = folders[:: max(JOBS) // jobs]
+            went = [turn(base, way, {name: words_of[name] for name in own}) for _ in range(turns)]
             used, clock = min(it[0] for it in went), min(it[1] for it in went)
             row = f"{used:.3f} s | {used / run:.1f} | {clock:.2f} s |"
-            yield f"| {files:,} | {jobs} | {way} | {row}"
+            rows[jobs].append(f"| {files:,} | {jobs} | {way} | {row}")
+            print(rows[jobs][-1], file=sys.stderr, flush=True)  # the whole may take long
+    for jobs in JOBS:
+        yield from rows[jobs]
 
 
-def turn(base: str, files: int, jobs: int, way: str) -> tuple[float, float]:
-    """The processor time and the time of so many jobs at once, each of which has to count."""
-    shutil.copytree(f"{base}/tree", f"{base}/t")
-    folders = [f"d{i * (folders_of(files) // jobs):04d}" for i in range(jobs)]
-    used = measured(WAYS[way](base, folders))
-    if way == "SQLite":
-        total = sum_of_rows(f"{base}/data")
-    else:
-        head = "git -C {0}/t checkout -qf main" if way.startswith("git") else "true"
-        subprocess.run(["bash", "-c", head.format(base)], check=True)
-        total = sum(int(read(f"{base}/t/{name}/count")) for name in set(folders))
-    assert total == jobs, (way, jobs, total)
-    for name in sorted(os.listdir(base)):
-        if name not in ("tree", "spec"):
-            path = f"{base}/{name}"
-            shutil.rmtree(path) if os.path.isdir(path) else os.unlink(path)
+def turn(base: str, way: str, words_of: dict[str, list[str]]) -> tuple[float, float]:
+    """The processor time and the time of jobs at once, each of which has to count in its folder."""
+    before = counts(base, way, words_of)
+    used = measured(list(words_of.values()))
+    after = counts(base, way, words_of)
+    assert after == [number + 1 for number in before], (way, before, after)
+    for name in os.listdir(base):
+        if name.startswith("w"):  # a clone
+            shutil.rmtree(f"{base}/{name}")
     return used
+
+
+def counts(base: str, way: str, folders: Iterable[str]) -> list[int]:
+    """What the jobs of some folders have counted."""
+    if way == "SQLite":
+        data = sqlite3.connect(f"{base}/data")
+        rows = dict(data.execute("select path, body from f where path like '%/count'"))
+        data.close()
+        return [int(rows[f"{name}/count"]) for name in folders]
+    if way.startswith("git"):
+        show = ["git", "-C", f"{base}/t", "show"]
+        return [int(subprocess.check_output([*show, f"main:{it}/count"])) for it in folders]
+    return [int(read(f"{base}/t/{name}/count")) for name in folders]
 
 
 def run_alone(base: str, turns: int) -> float:
@@ -424,23 +490,15 @@ def run_alone(base: str, turns: int) -> float:
     with_apply(base, ["d0000"])
     used = []
     for _ in range(turns):
-        words = ["run", f"{base}/spec", f"{base}/tree", f"{base}/out", f"{base}/j0"]
+        words = ["run", f"{base}/spec", f"{base}/t", f"{base}/out", f"{base}/j0"]
         used.append(measured([[os.environ["TXFOREST"], *words]])[0])
         shutil.rmtree(f"{base}/out")
     return min(used)
 
 
-def sum_of_rows(path: str) -> int:
-    """What a database has counted."""
-    data = sqlite3.connect(path)
-    rows = data.execute("select body from f where path like '%/count'")
-    total = sum(int(body) for (body,) in rows)
-    data.close()
-    return total
-
-
 PARTS = [
     each_gets_its_own,
+    a_conflict_is_told_to_its_own_jobs,
     kept_jobs_can_be_audited,
     jobs_are_killed,
     leaders_are_killed,

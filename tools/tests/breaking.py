@@ -48,13 +48,12 @@ class Watched(Calls):
     """Calls of which each is told before and behind it: `at(number, name, behind)`."""
 
     def __init__(self, names: list[str]) -> None:
-        self.names = names
         self.count = 0
+        for name in names:
+            setattr(self, name, self.told(name, getattr(self, name)))
 
-    def __getattribute__(self, name: str) -> Any:
-        method = object.__getattribute__(self, name)
-        if name not in COUNTED or name not in self.names:
-            return method
+    def told(self, name: str, method: Callable[..., Any]) -> Callable[..., Any]:
+        """A call that is told."""
 
         def call(*words: Any) -> Any:
             self.count += 1
@@ -101,8 +100,8 @@ class Killed(Watched):
             os._exit(77)
 
 
-def child(work: Callable[[], object]) -> int:
-    """The status of a child that works."""
+def forked(work: Callable[[], object]) -> int:
+    """A child that works, by its number."""
     pid = os.fork()
     if not pid:
         status = 1
@@ -111,7 +110,17 @@ def child(work: Callable[[], object]) -> int:
             status = 0
         finally:
             os._exit(status)
+    return pid
+
+
+def ended(pid: int) -> int:
+    """The status of a child, once it ends."""
     return os.waitstatus_to_exitcode(os.waitpid(pid, 0)[1])
+
+
+def child(work: Callable[[], object]) -> int:
+    """The status of a child that works."""
+    return ended(forked(work))
 
 
 def kills(number: int, seed: int = 1) -> str:
@@ -629,6 +638,22 @@ class Meddling(Watched):
         if not behind and number in self.turns:
             self.hit += 1
             self.turns[number]()
+
+
+class Edited(Calls):
+    """Somebody without the lock edits the tree between a commit and its operations, and the process
+    may end there."""
+
+    def __init__(self, edit: Callable[[], None], ends: bool = False) -> None:
+        self.edit = edit
+        self.ends = ends
+
+    def rename(self, a: bytes, a_fd: int, b: bytes, b_fd: int) -> None:
+        super().rename(a, a_fd, b, b_fd)
+        if b == b"intent":
+            self.edit()
+            if self.ends:
+                os._exit(77)
 
 
 def over(path: str, text: str) -> None:

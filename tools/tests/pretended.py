@@ -5,17 +5,14 @@ from __future__ import annotations
 import os
 from collections.abc import Iterator, Sequence
 from contextlib import contextmanager
+from functools import cache
 from typing import Any
 from unittest import mock
 
 from txforest import model
 from txforest.program import Answer
 
-
-def text_of(word: Any) -> bytes:
-    """The text that a word names."""
-    with open(word, "rb") as it:
-        return it.read()
+from .stand_in import description_of, script_of
 
 
 def write_folder(store: Any, out: Any) -> None:
@@ -42,21 +39,22 @@ def call(
     schedule = more.pop(0) if command in ("trace", "watch") else "none"
     word = spec
     try:
-        root = model.read_description(text_of(spec))
+        root = description_of(word)
         plan: list[Any] = []
         for word in more:
-            plan.append(model.read_script(text_of(word), sum(map(len, plan))))
+            plan.append(script_of(word, sum(map(len, plan))))
     except model.Refused as refused:
         return Answer(3, b"", f"txforest: {word}: {refused}\n".encode())
     store = model.load(folder)
     if command == "show":
         return Answer(0, model.valid_line(root, store).encode() + b"\n", b"")
-    steps = [] if schedule == "none" else [int(step) for step in schedule.split(",")]
+    most = 60 * max(1, max((len(txns) for txns in plan), default=1))
+    steps = steps_of(schedule, most)
     lines: list[str] = []
     if command == "watch":
-        lines, order, retries, after = model.watch(root, plan, store, short(steps, plan))
+        lines, order, retries, after = model.watch(root, plan, store, steps)
     elif command == "trace":
-        lines, order, retries, after = model.trace(root, plan, store, short(steps, plan))
+        lines, order, retries, after = model.trace(root, plan, store, steps)
     else:
         _, order, retries, after = model.trace(root, plan, store, [])
     write_folder(after, out)
@@ -64,15 +62,15 @@ def call(
     return Answer(0, (events + model.report(order, retries)).encode(), b"")
 
 
-def short(steps: list[int], plan: list[Any]) -> list[int]:
-    """A schedule without the steps that are none, as far as that is easily seen."""
-    most = 60 * max(1, max((len(txns) for txns in plan), default=1))
+@cache
+def steps_of(schedule: str, most: int) -> list[int]:
+    """The steps of a schedule, of each shell so many at most: the others are none."""
     kept: list[int] = []
-    count = dict.fromkeys(range(len(plan)), 0)
-    for step in steps:
-        count[step] += 1
-        if count[step] <= most:
-            kept.append(step)
+    count: dict[str, int] = {}
+    for word in schedule.split(",") if schedule != "none" else ():
+        count[word] = count.get(word, 0) + 1
+        if count[word] <= most:
+            kept.append(int(word))
     return kept
 
 
@@ -83,7 +81,8 @@ def is_valid(spec: Any, folder: Any, _fds: Sequence[int] = ()) -> bool:
 
 @contextmanager
 def program() -> Iterator[None]:
-    """The stand-in in place of the program."""
+    """The stand-in in place of the program; schedules are short."""
     with mock.patch("txforest.attempt.call", call), mock.patch("txforest.looked.call", call):
         with mock.patch("txforest.attempt.is_valid", is_valid):
-            yield
+            with mock.patch("txforest.parts.LONGEST", 2000):
+                yield

@@ -9,6 +9,7 @@ import os
 import random
 import shutil
 from collections.abc import Callable
+from contextlib import AbstractContextManager
 from typing import NamedTuple
 
 from txforest import calls
@@ -17,7 +18,9 @@ from txforest.lock import lock
 from txforest.place import Tree
 from txforest.queue import (
     Answer,
+    Queue,
     Request,
+    Taken,
     Waiting,
     enqueue,
     new_ident,
@@ -60,24 +63,37 @@ def left(tree: Tree, asked: Request) -> Waiting:
     return waiting
 
 
-def lead(tree: Tree, asked: Request, ident: str | None = None) -> Answer:
+def lead(
+    tree: Tree,
+    asked: Request,
+    ident: str | None = None,
+    program: Callable[[], AbstractContextManager[None]] = pretended.program,
+) -> Answer:
     """Does a job, with those that wait: what txforest-apply does with the lock."""
-    ident = ident or new_ident()
+    own = ident or new_ident()
 
-    def put(attempt, changes, answers):  # type: ignore[no-untyped-def]
-        return attempt.commit(changes, answers)
+    def put(attempt, changes, answers, looks):  # type: ignore[no-untyped-def]
+        return attempt.commit(changes, answers, looks=looks)
 
-    batch = Batch(tree, lock(tree.path), None, put)
-    queue = queue_of(tree)
-    others = take(queue, asked, ident, 63, 255) if queue else []
+    taken: list[Taken] = []
+    queues: list[Queue] = []
+
+    def come(shells: int, transactions: int) -> list[Taken]:
+        queue = queue_of(tree)
+        if queue is not None:
+            queues.append(queue)
+            taken.extend(take(queue, asked, own, shells, transactions))
+        return taken
+
+    batch = Batch(tree, lock(tree.path), None, put, come)
     try:
-        with pretended.program():
-            return batch.do(Member(ident, asked), others)
+        with program():
+            return batch.do(Member(own, asked))
     finally:
         batch.close()
-        for it in others:
+        for it in taken:
             it.close()
-        if queue:
+        for queue in queues:
             queue.close()
 
 

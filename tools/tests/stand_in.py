@@ -7,6 +7,7 @@ from __future__ import annotations
 
 import os
 from collections.abc import Sequence
+from functools import cache
 
 from txforest import model
 from txforest.program import Answer
@@ -22,8 +23,8 @@ def call(
     if name == "trace":
         rest = rest[1:]
     try:
-        root = model.read_description(text_of(spec))
-        plan = [model.read_script(text_of(word), 0) for word in rest]
+        root = description_of(spec)
+        plan = [script_of(word) for word in rest]
         store = model.load(os.fsencode(folder))
     except model.Refused as refused:
         return Answer(3, b"", str(refused).encode() + b"\n")
@@ -49,6 +50,19 @@ def called(words: Sequence[str | bytes], pass_fds: Sequence[int] = ()) -> bytes:
     if answer.status:
         raise Failed(answer.status, answer.told())
     return answer.printed
+
+
+def description_of(path: str | bytes) -> model.Description:
+    """The description of a file."""
+    return read_description(text_of(path))
+
+
+def script_of(path: str | bytes, before: int = 0) -> list[model.Txn]:
+    """The script of a file, before which so many transactions stand."""
+    return read_script(text_of(path), before)
+
+
+read_description, read_script = cache(model.read_description), cache(model.read_script)
 
 
 def text_of(path: str | bytes) -> bytes:

@@ -6,12 +6,11 @@ import os
 import random
 import shutil
 import stat
-import subprocess
-import sys
 import time
 import unittest
 from collections.abc import Callable
 from contextlib import redirect_stdout
+from functools import partial
 from io import StringIO
 from typing import Any
 from unittest import mock
@@ -20,9 +19,9 @@ from txforest import exports, imports, view
 from txforest.attributes import Kept, Left, Record, read_record
 from txforest.statuses import Failed, Status
 
+from .breaking import child, ended, forked
 from .trees import picture, read, work_folder, write
 
-TOOLS = os.path.dirname(os.path.dirname(os.path.abspath(__file__)))
 NOBODY = 65534
 
 
@@ -174,21 +173,22 @@ class Exports(Trees):
     def test_two_loops_count(self) -> None:
         self.new_tree()
         write(f"{self.tree}/n", "0")
-        loop = (
-            "for i in 1 2; do while :; do rm -rf {0}; ./txforest-import {1} {0} > /dev/null ||"
-            " continue; echo $(($(cat {0}/n) + 1)) > {0}/n; ./txforest-export --replace {0} {1}"
-            " > /dev/null; s=$?; [ $s = 0 ] && break; [ $s = 12 ] || exit $s; done; done"
-        )
-        jobs = [
-            subprocess.Popen(
-                ["bash", "-c", loop.format(f"{self.top}/f{n}", self.tree)],
-                cwd=TOOLS,
-                stderr=subprocess.DEVNULL,
-            )
-            for n in range(2)
-        ]
-        self.assertEqual([job.wait(60) for job in jobs], [0, 0])
+        folders = [f"{self.top}/f{n}" for n in range(2)]
+        children = [forked(partial(self.loop, folder)) for folder in folders]
+        self.assertEqual([ended(it) for it in children], [0, 0])
         self.assertEqual(read(f"{self.tree}/n"), "4\n")
+
+    def loop(self, folder: str) -> None:
+        """Counts twice, by import and export, beside somebody who does so too."""
+        count = 0
+        while count < 2:
+            shutil.rmtree(folder, ignore_errors=True)
+            if self.run_tool(imports.tool, self.tree, folder):
+                continue
+            write(f"{folder}/n", f"{int(read(f'{folder}/n')) + 1}\n")
+            status = self.run_tool(exports.tool, "--replace", folder, self.tree)
+            self.assertIn(status, (0, Status.CHANGING))
+            count += not status
 
     def test_rights_go_with_another_content(self) -> None:
         self.new_tree()
@@ -328,10 +328,15 @@ class Imports(Trees):
 
     def test_killed_imports_leave_nothing_for_long(self) -> None:
         self.new_tree()
-        code = "import os, sys; sys.path.insert(0, sys.argv[1]); from txforest import imports;"
-        code += "imports.sync_all = lambda fd: os._exit(9); sys.argv = sys.argv[1:]; imports.tool()"
-        words = [sys.executable, "-c", code, TOOLS, self.tree, self.folder]
-        self.assertEqual(subprocess.run(words).returncode, 9)
+
+        def end(_fd: int) -> None:
+            os._exit(9)
+
+        def dies() -> None:
+            with mock.patch("txforest.imports.sync_all", end):
+                self.run_tool(imports.tool, self.tree, self.folder)
+
+        self.assertEqual(child(dies), 9)
         self.assertEqual(len(os.listdir(self.top)), 2)
         self.take()
         self.assertEqual(sorted(os.listdir(self.top)), ["f", "f.attributes", "out", "t"])

@@ -12,7 +12,7 @@ from unittest import mock
 from txforest.attempt import Attempt
 from txforest.differences import Change, InTheWay
 from txforest.lock import lock
-from txforest.looked import Looker, before_last, looks_of, without_question
+from txforest.looked import Looker, all_of, before_last, looks_of, without_question
 from txforest.place import Tree
 from txforest.sources import Source
 from txforest.statuses import Failed
@@ -105,8 +105,8 @@ class Looks(unittest.TestCase):
         """So the looks have to name all: this is what the test above would find."""
         script = 'txn { to("p") down into next to("b") down store("x") }'
 
-        def blind(events: bytes) -> set[str]:
-            return {path for path in looks_of(events) or set() if path != "p/b"}
+        def blind(events: bytes) -> dict[int, set[bytes]]:
+            return {it: own - {b"p/b"} for it, own in (looks_of(events) or {}).items()}
 
         with mock.patch("txforest.looked.looks_of", blind):
             few, whole, _ = self.both([script])
@@ -138,8 +138,10 @@ class Looks(unittest.TestCase):
 class Texts(unittest.TestCase):
     def test_looks(self) -> None:
         events = b'look 0 "/" 0\nlook 1 "/a b/\\"\\\\\\xff\\n" 12\nsettled 0 0\nconflict 1 0 "/c"\n'
-        self.assertEqual(looks_of(events + b"valid yes\n"), {"", 'a b/"\\\udcff\n'})
-        self.assertEqual(looks_of(b""), set())
+        looks = looks_of(events + b"valid yes\n") or {}
+        self.assertEqual(looks, {0: {b""}, 1: {b'a b/"\\\xff\n'}})
+        self.assertEqual(all_of(looks), {"", 'a b/"\\\udcff\n'})
+        self.assertEqual(looks_of(b""), {})
         self.assertIsNone(looks_of(events + b"saw 0\n"))
         self.assertEqual(before_last(events), b"")
         self.assertEqual(before_last(events + b'look 1 "/x" 1\nsettled 1 1\n'), events[:41])

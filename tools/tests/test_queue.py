@@ -12,12 +12,14 @@ from unittest import mock
 
 from txforest import model
 from txforest.blind import are_blind
+from txforest.commit import Unfinished
 from txforest.parts import one_by_one, parted
 from txforest.place import Tree
 from txforest.queue import (
     Answer,
     Request,
     Text,
+    Waiting,
     answer_text,
     enqueue,
     hand_out,
@@ -30,6 +32,7 @@ from txforest.queue import (
 )
 from txforest.report import read_report
 from txforest.statuses import Failed, Status
+from txforest.survey import settled_survey
 
 from . import pretended, queues
 from .queues import JOB, SPEC, left, new_tree, request
@@ -354,12 +357,30 @@ class Waits(unittest.TestCase):
         self.assertTrue(waiting.withdraw())
         waiting.remove()
         waiting = left(self.tree, request(JOB % "w"))
-        failed = Failed(Status.UNFINISHED, "committed")
-        with mock.patch("txforest.batch.attempts", side_effect=failed):
+        with mock.patch("txforest.attempt.commit", side_effect=Unfinished("committed")):
             self.assertRaises(Failed, queues.lead, self.tree, request(JOB % "a"))
         # Its answer stands in a place: it can't be given up any more.
         self.assertFalse(waiting.withdraw())
         waiting.remove()
+
+    def test_who_comes_while_the_tree_is_surveyed_is_done_too(self) -> None:
+        waiting: list[Waiting] = []
+
+        def surveyed(*given: Any) -> Any:
+            found = settled_survey(*given)
+            waiting.append(left(self.tree, request(JOB % f"w{len(waiting)}")))
+            return found
+
+        with mock.patch("txforest.attempt.settled_survey", surveyed):
+            with mock.patch("txforest.attempt.changed", side_effect=["n", None]):
+                with mock.patch("txforest.attempt.tell"):
+                    answer = queues.lead(self.tree, request(JOB % "a"))
+        self.assertEqual(answer.status, 0)
+        # The second one came behind the first survey, so it waits for the next who has the lock.
+        self.assertEqual([it.answer() is None for it in waiting], [False, True])
+        self.assertEqual(self.done(), ["a", "w0"])
+        for it in waiting:
+            it.remove()
 
     def test_kills(self) -> None:
         self.assertEqual(queues.kills(6).stops, 6)

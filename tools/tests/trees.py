@@ -16,6 +16,7 @@ from txforest.differences import Change
 from txforest.place import Tree
 from txforest.settle import Settled, settle
 from txforest.survey import survey
+from txforest.touched import Looks
 
 Picture = dict[str, tuple[object, ...]]
 FIELDS = ("st_mode", "st_uid", "st_gid")
@@ -103,24 +104,51 @@ def some_changes() -> list[Change]:
 def picture(path: str) -> Picture:
     """All of a tree: kinds, modes, owners, contents."""
     found: Picture = {}
-    for above, folders, files in os.walk(path):
-        for name in folders + files:
-            at = os.path.join(above, name)
-            it = os.lstat(at)
-            what: object = None
-            if stat.S_ISLNK(it.st_mode):
-                what = os.readlink(at)
-            elif stat.S_ISREG(it.st_mode):
-                with open(at, "rb") as opened:
-                    what = opened.read()
-            found[os.path.relpath(at, path)] = (oct(it.st_mode), it.st_uid, it.st_gid, what)
+    left = [""]
+    while left:
+        front = left.pop()
+        with os.scandir(f"{path}/{front}") as entries:
+            for entry in entries:
+                it = entry.stat(follow_symlinks=False)
+                what: object = None
+                if stat.S_ISLNK(it.st_mode):
+                    what = os.readlink(entry.path)
+                elif stat.S_ISREG(it.st_mode):
+                    what = content(entry.path)
+                elif stat.S_ISDIR(it.st_mode):
+                    left.append(f"{front}{entry.name}/")
+                found[front + entry.name] = (oct(it.st_mode), it.st_uid, it.st_gid, what)
     return found
 
 
+def content(path: str) -> bytes:
+    """The bytes of a file."""
+    with open(path, "rb", 0) as it:
+        return it.read()
+
+
 def copy(source: str, target: str) -> str:
-    """A copy of a tree."""
-    shutil.copytree(source, target, symlinks=True)
+    """A copy of a tree, with modes and times."""
+    os.mkdir(target)
+    with os.scandir(source) as entries:
+        for entry in entries:
+            to = f"{target}/{entry.name}"
+            if entry.is_symlink():
+                os.symlink(os.readlink(entry.path), to)
+            elif entry.is_dir():
+                copy(entry.path, to)
+            else:
+                with open(to, "xb", 0) as made:
+                    made.write(content(entry.path))
+                like(to, entry.stat())
+    like(target, os.stat(source))
     return target
+
+
+def like(path: str, it: os.stat_result) -> None:
+    """Gives a file or directory the mode and the times of another one."""
+    os.chmod(path, stat.S_IMODE(it.st_mode))
+    os.utime(path, ns=(it.st_atime_ns, it.st_mtime_ns))
 
 
 class Inbox:
@@ -158,11 +186,12 @@ def job(
     with Tree(path) as tree:
         found = survey(tree.root)
         answers = {"id": b"answer"} if inbox else None
+        looks = {"id": Looks({b"a"})} if inbox else None
         hand_out = inbox.hand_out if inbox else None
-        made = commit(tree, changes, found, answers, last_look, hand_out)
+        made = commit(tree, changes, found, answers, last_look, hand_out, looks)
     if told is not None:
         told += made.told
-    return made.conflicts
+    return list(made.conflicts)
 
 
 def mop(path: str, inbox: Inbox | None = None) -> Settled:

@@ -12,7 +12,7 @@ import os
 import sys
 
 from .attempt import Attempt
-from .batch import SHELLS, STATES, Batch, Member, terms_of, text_of
+from .batch import Batch, Member, terms_of, text_of
 from .commit import Committed, hold_signals, let_signals
 from .lock import lock
 from .place import Tree
@@ -27,11 +27,13 @@ from .terminal import Given, Words, many, no_output, shown, tell
 
 TYPE_CHECKING = False
 if TYPE_CHECKING:
-    from collections.abc import Sequence
+    from collections.abc import Mapping, Sequence
 
     from .data import Datum
     from .differences import Change
     from .only import Only
+    from .queue import Queue, Taken
+    from .touched import Looks
 
 USAGE = """txforest-apply [OPTION..] TREE SPEC SCRIPT..
        txforest-apply --settle TREE
@@ -259,24 +261,30 @@ def had(job: Job, tree: Tree, request: Request, ident: str) -> tuple[int, Waitin
 
 def lead(job: Job, tree: Tree, held: int, request: Request, ident: str) -> Answer:
     """Does the job on a tree whose lock is held, with those that wait for the same."""
-    batch = job.batch = Batch(tree, held, job.only, lambda *given: put(job, *given))
     seen: list[Survey] = []
+    taken: list[Taken] = []
+    queues: list[Queue] = []
 
     def surveyed(found: Survey) -> None:
         if not seen:
             tell_left_out(job, found)
         seen.append(found)
 
-    batch.surveyed = surveyed
-    queue = None if job.exchange or job.link else queue_of(tree)
-    shells, transactions = SHELLS - len(request.scripts), STATES - request.transactions
-    others = take(queue, request, ident, shells, transactions) if queue is not None else []
-    try:
-        return batch.do(Member(ident, request), others)
-    finally:
-        for it in others:
-            it.close()
+    def come(shells: int, transactions: int) -> list[Taken]:
+        queue = None if job.exchange or job.link else queue_of(tree)
         if queue is not None:
+            queues.append(queue)
+            taken.extend(take(queue, request, ident, shells, transactions))
+        return taken
+
+    batch = job.batch = Batch(tree, held, job.only, lambda *given: put(job, *given), come)
+    batch.surveyed = surveyed
+    try:
+        return batch.do(Member(ident, request))
+    finally:
+        for it in taken:
+            it.close()
+        for queue in queues:
             queue.close()
 
 
@@ -334,13 +342,17 @@ def list_left_out(job: Job) -> int:
 
 
 def put(
-    job: Job, attempt: Attempt, changes: Sequence[Change], answers: dict[str, bytes]
+    job: Job,
+    attempt: Attempt,
+    changes: Sequence[Change],
+    answers: dict[str, bytes],
+    looks: Mapping[str, Looks] | None,
 ) -> Committed:
     """Puts changes in place. Behind that no signal turns the status any more."""
     before = hold_signals()
     try:
         if not (job.exchange or job.link):
-            return attempt.commit(changes, answers)
+            return attempt.commit(changes, answers, looks=looks)
         from .exchange import put_whole
 
         how = b"link" if job.link else b"exchange"

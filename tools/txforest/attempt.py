@@ -24,10 +24,19 @@ if TYPE_CHECKING:
 
     from .commit import HandOut
     from .only import Only
+    from .touched import Looks
 
     T = TypeVar("T")
 
 QUESTION = b"\ntxn { validate v print(v) }\n"  # asks whether the last state has a value
+
+
+class KeepsChanging(Failed):
+    """Somebody who takes no lock keeps changing the tree, last at this path."""
+
+    def __init__(self, path: str, line: str) -> None:
+        super().__init__(Status.CHANGING, line)
+        self.path = path
 
 
 class Attempt:
@@ -201,13 +210,17 @@ class Attempt:
         changes: Sequence[Change],
         answers: Mapping[str, bytes] | None = None,
         hand_out: HandOut | None = None,
+        looks: Mapping[str, Looks] | None = None,
     ) -> Committed:
         """Puts changes in place by files; looks again last before the commit. With neither
-        changes nor answers nothing is done but that look. Raises as commit.commit does."""
+        changes nor answers nothing is done but that look. Takes and raises what commit.commit
+        does."""
         if not changes and not answers:
             self.look_again()
             return Committed([], [])
-        return commit(self.tree, changes, self.found, answers, self.look_again, hand_out)
+        return commit(
+            self.tree, changes, self.found, answers, self.look_again, hand_out, looks
+        )
 
 
 def without_question(report: bytes) -> tuple[bytes, bool] | None:
@@ -256,10 +269,10 @@ def attempts(
     With `kept` the attempt that was answered is left there for the caller to close: to remove its
     OUT takes time, for which nobody has to wait.
 
-    Raises Failed: CHANGING behind the last try, USAGE if a change is refused, UNFINISHED if a
+    Raises Failed: KeepsChanging behind the last try, USAGE if a change is refused, UNFINISHED if a
     commit stands and something of it waits.
     """
-    where = ""
+    where = last = ""
     for again in range(tries):
         if again:
             tell(f"somebody who takes no lock changed {where}; the job begins again")
@@ -274,11 +287,12 @@ def attempts(
                 if kept is None or it not in kept:
                     it.close()
         except Changed as at:
-            where = shown(f"/{at}")
+            last = str(at)
+            where = shown(f"/{last}")
         except Refused as why:
             raise Failed(Status.USAGE, f"{why}, so nothing was changed") from None
         except Unfinished as why:
             line = "the change is committed, and the next job puts the rest of it in place"
             raise Failed(Status.UNFINISHED, f"{why}; {line}") from None
     line = f"somebody who takes no lock keeps changing the tree, last {where}"
-    raise Failed(Status.CHANGING, f"{line}; nothing was changed after {tries} tries")
+    raise KeepsChanging(last, f"{line}; nothing was changed after {tries} tries")

@@ -9,14 +9,16 @@ alone, behind those before it:
 - The state behind each job has a value. A job behind which there is none is taken out and run
   alone: so it gets 10, also where a later one mends what it broke.
 - What stops several at once (no room, somebody in the way) is done again in halves, down to the one
-  that it is due to.
+  that it is due to. If somebody keeps changing a path, the jobs that looked there are done apart.
+- A path that somebody changed behind the commit is told to the jobs that looked there, and to no
+  other.
 """
 
 from __future__ import annotations
 
 import os
 
-from .attempt import Attempt, attempts
+from .attempt import Attempt, KeepsChanging, attempts
 from .commit import hold_signals, let_signals
 from .looked import Looker
 from .parts import Part, parted, report_in
@@ -27,7 +29,7 @@ from .terminal import many, shown
 
 TYPE_CHECKING = False
 if TYPE_CHECKING:
-    from collections.abc import Callable, Sequence
+    from collections.abc import Callable, Mapping, Sequence
 
     from .commit import Committed
     from .differences import Change
@@ -36,8 +38,11 @@ if TYPE_CHECKING:
     from .program import Answer as Run
     from .queue import Taken
     from .survey import Survey
+    from .touched import Looks
 
-    Put = Callable[[Attempt, Sequence[Change], dict[str, bytes]], Committed]
+    Given = Mapping[str, Looks] | None
+    Put = Callable[[Attempt, Sequence[Change], dict[str, bytes], Given], Committed]
+    Come = Callable[[int, int], Sequence[Taken]]
 
 SHELLS = 64
 LARGE = 20_000  # entries of a tree times transactions, from which on fewer states are looked at
@@ -88,23 +93,28 @@ def text_of(source: Source) -> Text:
 class Batch:
     """Jobs of one description on one tree, whose lock is held."""
 
-    def __init__(self, tree: Tree, held: int, only: Only | None, put: Put) -> None:
-        """`put` commits changes with answers, and holds signals from then on."""
+    def __init__(
+        self, tree: Tree, held: int, only: Only | None, put: Put, come: Come = lambda *_: ()
+    ) -> None:
+        """`put` commits changes with answers and the looks of their jobs, and holds signals from
+        then on. `come` takes jobs that wait, so many scripts and transactions at most."""
         self.tree = tree
         self.held = held
         self.only = only
         self.put = put
+        self.come: Come | None = come  # until it was asked
+        self.members: list[Member] = []
         self.surveyed: Callable[[Survey], None] = lambda found: None  # told of each survey
         self.rooms: list[Attempt] = []  # what is to be closed behind the answers
         self.looker: Looker | None = None  # of the last run
         self.known: list[Change] | None = None  # what the last run changes, if that was asked
         self.standing: list[Member] = []  # whose answers stand in a place, for whoever settles it
 
-    def do(self, own: Member, taken: Sequence[Taken]) -> Answer:
+    def do(self, own: Member) -> Answer:
         """Does one's own job, and those of the queue as far as they are done with it. The others
         wait again. Raises Failed with UNFINISHED if a commit stands and something of it waits."""
-        members = [own, *(Member(it.ident, it.request, it) for it in taken)]
-        groups = [sorted(members, key=lambda it: it.ident)]
+        self.members = [own]
+        groups = [[own]]
         signals = hold_signals()
         let_signals(signals)
         try:
@@ -114,7 +124,7 @@ class Batch:
                     let_signals(signals)
             return own.answer
         finally:
-            for member in members:
+            for member in self.members:
                 if member.taken is not None and member.answer is None:
                     if member not in self.standing:
                         member.taken.put_back()
@@ -139,6 +149,10 @@ class Batch:
             if failed.status == Status.UNFINISHED:
                 self.standing = group
                 raise
+            if isinstance(failed, KeepsChanging):
+                groups = self.apart(group, failed.path)
+                if groups:
+                    return groups
             answer = Answer(failed.status, b"", failed.lines)
         except OSError as error:
             where = f"{shown(error.filename)}: " if isinstance(error.filename, (str, bytes)) else ""
@@ -148,9 +162,41 @@ class Batch:
         self.answered(group[0], answer)
         return []
 
+    def apart(self, group: list[Member], path: str) -> list[list[Member]]:
+        """A group as those that did not look at a path, together, and each of the others alone; no
+        groups, if that parts nothing or is not known."""
+        looks = self.looks_of(group)
+        if looks is None:
+            return []
+        at = os.fsencode(path)
+        own = [looks[f"job-{member.ident}"].touches(at, None) for member in group]
+        rest = [member for member, touched in zip(group, own) if not touched]
+        alone = [[member] for member, touched in zip(group, own) if touched]
+        return [rest, *alone] if rest and alone else []
+
+    def looks_of(self, group: list[Member]) -> dict[str, Looks] | None:
+        """At what the jobs of a group looked in the last run, by the names of their answers.
+        Nothing if there is one alone, or if that is not known."""
+        shells = None if self.looker is None else self.looker.shells
+        if shells is None or len(group) == 1:
+            return None
+        from .touched import Looks
+
+        found: dict[str, Looks] = {}
+        first = 0
+        for member in group:
+            behind = first + len(member.request.scripts)
+            paths = set[bytes]().union(*(shells.get(it, ()) for it in range(first, behind)))
+            first = behind
+            for kind in ("job", "log"):
+                found[f"{kind}-{member.ident}"] = Looks(paths)
+        return found
+
     def attempted(self, attempt: Attempt, group: list[Member]) -> list[list[Member]]:
         """One attempt at a group. Answers the groups that are still to be done."""
+        self.looker = None
         self.surveyed(attempt.found)
+        self.take_along(group)
         answer = self.ran(attempt, group)
         if answer.status:
             attempt.look_again()
@@ -174,6 +220,20 @@ class Batch:
         ]
         self.commit(attempt, group, answers, answer.printed)
         return []
+
+    def take_along(self, group: list[Member]) -> None:
+        """Takes the jobs that wait into the first group, once. The tree is surveyed by then, which
+        may have taken long, so that others came meanwhile. It is looked at once more in the end, so
+        they are done on what they found too."""
+        come, self.come = self.come, None
+        if come is None:
+            return
+        shells = SHELLS - sum(len(it.request.scripts) for it in group)
+        transactions = STATES - sum(it.request.transactions for it in group)
+        new = [Member(it.ident, it.request, it) for it in come(shells, transactions)]
+        self.members += new
+        group += new
+        group.sort(key=lambda it: it.ident)
 
     def ran(self, attempt: Attempt, group: list[Member]) -> Run:
         """The run of a group. That of several is watched, so that each state is known to have a
@@ -247,9 +307,9 @@ class Batch:
         if not changes:
             # Nothing is to be kept across a stop: an answer that is lost is come to again.
             carried = {name: it for name, it in carried.items() if name.startswith("keep-")}
-        committed = self.put(attempt, changes, carried)
+        committed = self.put(attempt, changes, carried, self.looks_of(group))
         for member, answer in zip(group, answers):
-            answer = answer.with_conflicts(committed.conflicts)
+            answer = answer.with_conflicts(committed.told_to(f"job-{member.ident}"))
             if member.taken is None:
                 answer.lines[:0] = committed.told
             if changes:

@@ -7,6 +7,7 @@ In a place, a directory of one's own beside the tree (in it, if the tree is a mo
     m0, l0, ..   during an operation: what is exchanged with a target; behind that, what stood there
     r0, r1, ..   during an operation: what was removed
     answer-..    answers that are handed out to those who wait, behind the commit
+    touched      which operations touch which answers, if they are of several jobs
     intent       what is to be done; its name, synced, is the commit
 
 The syncs, and what a power cut can do without each:
@@ -33,7 +34,7 @@ import os
 from . import calls
 from .calls import NEW
 from .intent import Operation, intent_text
-from .operations import perform
+from .operations import Conflict, perform
 from .place import Place, Tree, new_place
 from .stage import Refused, staged
 from .survey import Changed, Survey
@@ -44,9 +45,10 @@ if TYPE_CHECKING:
     from collections.abc import Callable, Mapping, Sequence
 
     from .differences import Change
+    from .touched import Looks, Touched
 
     # Moves answers from a place (a descriptor) to those who wait: that of NAME is the place's file
-    # `answer-NAME`. It is told the conflicts too, which turn a status. It may be called again for
+    # `answer-NAME`. It is told their conflicts too, which turn a status. It may be called again for
     # the same ones if it was stopped; it leaves none.
     HandOut = Callable[[Tree, int, Sequence[str], Sequence[str]], None]
 
@@ -62,11 +64,20 @@ class Committed:
     """What became of a commit: the conflicts (paths that somebody else changed meanwhile, which
     were not written over), and what else is to be told, a line each."""
 
-    __slots__ = ("conflicts", "told")
+    __slots__ = ("conflicts", "told", "touched")
 
-    def __init__(self, conflicts: list[str], told: list[str]) -> None:
+    def __init__(
+        self, conflicts: list[Conflict], told: list[str], touched: Touched | None = None
+    ) -> None:
         self.conflicts = conflicts
         self.told = told
+        self.touched = touched
+
+    def told_to(self, name: str) -> list[str]:
+        """The conflicts that are told to the job of an answer."""
+        if self.touched is None:
+            return [str(it) for it in self.conflicts]
+        return self.touched.told_to(name, self.conflicts)
 
 
 def commit(
@@ -76,21 +87,29 @@ def commit(
     answers: Mapping[str, bytes] | None = None,
     last_look: Callable[[], None] = lambda: None,
     hand_out: HandOut | None = None,
+    looks: Mapping[str, Looks] | None = None,
 ) -> Committed:
     """Makes changes in a tree, of which `found` is the survey; the lock is held.
 
     `last_look` is called last before the commit, and may raise Changed. `answers` are put into the
     place before the commit and handed out behind it, by `hand_out` here or by whoever settles the
-    place: each exactly once. Raises Refused, Changed or OSError with nothing changed; Unfinished
-    behind the commit. Behind the commit nothing else is raised.
+    place: each exactly once. `looks` says of answers at what their jobs looked: these are told the
+    conflicts that touch them alone. Raises Refused, Changed or OSError with nothing changed;
+    Unfinished behind the commit. Behind the commit nothing else is raised.
     """
     told: list[str] = []
+    touched: Touched | None = None
     stands = False
     place = new_place(tree.home, tree.front)
     before = hold_signals()
     try:
         operations = staged(tree, place.fd, changes, found, told)
         write_answers(place.fd, answers or {})
+        if looks:
+            from .touched import touched_by, write_touched
+
+            touched = touched_by(operations, looks)
+            write_touched(place.fd, touched)
         umask = os.umask(0)
         os.umask(umask)
         write_intent(tree, place, umask, operations)
@@ -101,7 +120,7 @@ def commit(
         conflicts = perform(tree, place.fd, operations, umask)
         give_answers(tree, place.fd, hand_out, conflicts)
         place.clear(told)
-        return Committed(conflicts, told)
+        return Committed(conflicts, told, touched)
     except OSError as error:
         if stands:
             raise Unfinished(f"{shown(place.name)}: {error.strerror or error}") from error
@@ -155,17 +174,24 @@ def write_answers(place: int, answers: Mapping[str, bytes]) -> None:
 
 
 def give_answers(
-    tree: Tree, place: int, hand_out: HandOut | None, conflicts: Sequence[str] = ()
+    tree: Tree, place: int, hand_out: HandOut | None, conflicts: Sequence[Conflict] = ()
 ) -> None:
-    """Hands out the answers that stand in a place, if there are any; `conflicts` are those of its
-    operations."""
+    """Hands out the answers that stand in a place, if there are any, each with those of the
+    conflicts of its operations that touch it."""
     names = answers_in(place)
-    if names and hand_out is not None:
-        hand_out(tree, place, names, conflicts)
-    elif names:
+    if not names:
+        return
+    if hand_out is None:
         from . import queue
 
-        queue.hand_out(tree, place, names, conflicts)
+        hand_out = queue.hand_out
+    if not conflicts:
+        hand_out(tree, place, names, [])
+        return
+    from .touched import read_touched
+
+    for group, told in read_touched(place).parted(names, conflicts):
+        hand_out(tree, place, group, told)
 
 
 def answers_in(place: int) -> list[str]:

@@ -47,6 +47,7 @@ if TYPE_CHECKING:
     from .place import Tree
     from .program import Answer as ProgramAnswer
     from .states import Made, Path, Seen
+    from .touched import Looks
 
 DONE, CONFLICT, NO_VALUE = b"done", b"conflict", b"no value"
 MADE = (b"put", b"make", b"gone", b"clear", b"mode", b"owner", b"plain", b"attribute")
@@ -471,14 +472,31 @@ class Leader:
             give_answers(self.tree, texts)
             return
         texts.update((f"log-{it.name}", it.log) for it in logs)
+        looks = looks_of(group, order) if len(group) > 1 else None
         try:
-            done = commit(self.tree, changes, found, texts, held.look_again)
-            answers[0].conflicts = list(done.conflicts)
+            done = commit(self.tree, changes, found, texts, held.look_again, looks=looks)
+            answers[0].conflicts = done.told_to(group[0].name)
             self.clerk.told += done.told
         except Unfinished as error:
             answers[0].conflicts = [f"it is kept, but not all of it is in place: {error}"]
         except Refused as why:
             raise Failed(Status.SYSTEM, f"{why}; nothing was changed") from None
+
+
+def looks_of(group: Sequence[Prepared], done: Sequence[int]) -> dict[str, Looks]:
+    """At what the jobs of a group that are done looked and what they change, by the names of their
+    answers; of the others nothing."""
+    from .touched import Looks
+
+    found = {it.name: Looks() for it in group}
+    for number in done:
+        it = group[number]
+        made, reads = it.changes, it.looked.reads
+        paths = map(b"/".join, {*reads, *made.writes, *made.modes, *made.owners})
+        names = {b"/".join(path) for path, seen in reads.items() if isinstance(seen, frozenset)}
+        looks = Looks(set(paths), names, it.looked.total is not None)
+        found[it.name] = found[f"log-{it.name}"] = looks
+    return found
 
 
 def log_line(it: Prepared) -> None:

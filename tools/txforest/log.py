@@ -138,8 +138,8 @@ def last_number(fd: int, ident: bytes) -> tuple[int | None, bool]:
 def kept(
     attempt: Attempt, ident: str, folder: str, scripts: Sequence[Source], report: bytes
 ) -> bytes:
-    """Keeps the inputs of an attempt's run and its report, not yet under their name, and waits until
-    they are on the device; answers what the place carries for it. Raises OSError."""
+    """Keeps the inputs of an attempt's run and its report, not yet under their name, and waits
+    until they are on the device; answers what the place carries for it. Raises OSError."""
     from .view import copied, table_text, write_new
 
     os.makedirs(folder, exist_ok=True)

@@ -34,12 +34,14 @@ FEW = 4  # a look at one of so many entries: with more, all of OUT is compared
 class Looker:
     """The runs of an attempt, whose looks are known.
 
-    looks  the paths at which the last run looked, as in surveys; nothing if they are not known
+    looks   the paths at which the last run looked, as in surveys; nothing if they are not known
+    shells  the same of each of its shells, as bytes
     """
 
     def __init__(self, attempt: Attempt) -> None:
         self.attempt = attempt
         self.looks: set[str] | None = None
+        self.shells: dict[int, set[bytes]] | None = None
 
     def run(self, spec: Source, scripts: Sequence[Source]) -> Answer:
         """Runs scripts one behind the other into a fresh OUT; the answer is their report alone.
@@ -54,11 +56,11 @@ class Looker:
 
     def watch(self, spec: Source, scripts: Sequence[Source]) -> Answer:
         """The same, watched: the events are told before the report."""
-        self.looks = None
+        self.looks = self.shells = None
         answer = self.attempt.run(spec, scripts, schedule_of(scripts))
         if answer.status == 0:
             events = events_in(answer.printed)
-            self.looks = looks_of(events)
+            self.looked(events)
             *_, self.attempt.valid = states_of(events)
         return answer
 
@@ -79,10 +81,15 @@ class Looker:
         found = without_question(report_in(answer.printed), len(scripts) - 1)
         if found is None:
             return None
-        self.looks = looks_of(before_last(events_in(answer.printed)))
+        self.looked(before_last(events_in(answer.printed)))
         answer.printed, attempt.valid = found
         attempt.spec = spec
         return answer
+
+    def looked(self, events: bytes) -> None:
+        """Takes the looks of a run."""
+        self.shells = looks_of(events)
+        self.looks = None if self.shells is None else all_of(self.shells)
 
     def changes(self) -> list[Change]:
         """What the OUT of the last run changes in the tree. Raises as `Attempt.changes` does."""
@@ -108,21 +115,28 @@ def events_in(printed: bytes) -> bytes:
     return printed[: len(printed) - len(report_in(printed))]
 
 
-def looks_of(events: bytes) -> set[str] | None:
-    """The paths at which the shells of some events looked; nothing if a line is no event."""
-    found: set[bytes] = set()
+def looks_of(events: bytes) -> dict[int, set[bytes]] | None:
+    """The paths at which each shell of some events looked; nothing if a line is no event."""
+    found: dict[bytes, set[bytes]] = {}
     for line in events.split(b"\n"):
         if line.startswith(b"look "):
-            quoted = line[line.index(b'"') : line.rindex(b'"') + 1]
-            if b"\\" in quoted:
+            shell, path = line[5:].split(b" ", 1)
+            path = path[: path.rindex(b'"') + 1]
+            if b"\\" in path:
                 from .values import unquote
 
-                found.add(unquote(quoted)[1:])
-            else:
-                found.add(quoted[2:-1])
+                path = b'"' + unquote(path) + b'"'
+            if shell not in found:
+                found[shell] = set()
+            found[shell].add(path[2:-1])
         elif line and not line.startswith((b"settled ", b"conflict ", b"valid ")):
             return None
-    return set(map(os.fsdecode, found))
+    return {int(shell): paths for shell, paths in found.items()}
+
+
+def all_of(shells: dict[int, set[bytes]]) -> set[str]:
+    """All paths at which some shells looked, as in surveys."""
+    return set(map(os.fsdecode, set[bytes]().union(*shells.values())))
 
 
 def before_last(events: bytes) -> bytes:

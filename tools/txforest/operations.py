@@ -35,12 +35,24 @@ NAME_LIMIT = 255
 TRIES = 3  # how often a target is tried that somebody changes all the time
 
 
+class Conflict(str):
+    """A conflict as it is told; `number` is that of the operation that met it."""
+
+    number: int
+
+    def __new__(cls, line: str, number: int) -> Conflict:
+        """The line of an operation."""
+        it = super().__new__(cls, line)
+        it.number = number
+        return it
+
+
 def perform(
     tree: Tree, place: int, operations: Sequence[Operation], umask: int = 0o022
-) -> list[str]:
+) -> list[Conflict]:
     """Does operations that may have been done before, in part too, and syncs the directories.
 
-    Answers the conflicts as lines. Raises OSError if the system refuses one for now.
+    Answers the conflicts. Raises OSError if the system refuses one for now.
     """
     doing = Doing(tree, place, umask)
     at: list[bytes] | None = None
@@ -87,7 +99,7 @@ class Doing:
         self.tree = tree
         self.place = place
         self.umask = umask
-        self.conflicts: list[str] = []
+        self.conflicts: list[Conflict] = []
         self.touched: set[tuple[bytes, ...]] = set()
 
     def one(self, it: Operation, fd: int) -> None:
@@ -101,7 +113,7 @@ class Doing:
             else:
                 line = f"{told(it.path)}: {it.kind} was refused: {why}"
         if line:
-            self.conflicts.append(line)
+            self.tell(it, line)
         self.touched.add(tuple(it.path[:-1]))
 
     def lost(self, it: Operation, error: OSError) -> None:
@@ -112,7 +124,11 @@ class Doing:
         elif it.kind in ("mkdir", "mode") or error.errno not in (errno.ENOENT, errno.ENOTDIR):
             line = f"{told(it.path)}: {it.kind} was refused: {why}"
         if line:
-            self.conflicts.append(line)
+            self.tell(it, line)
+
+    def tell(self, it: Operation, line: str) -> None:
+        """An operation met a conflict."""
+        self.conflicts.append(Conflict(line, it.number))
 
     def keep_strangers(self, operations: Sequence[Operation]) -> None:
         """What came out of the tree, and is not what was expected to, goes beside the tree if it
@@ -127,7 +143,7 @@ class Doing:
                     continue
                 free = self.moved(spare, self.tree.home, self.tree.name, OLD)
                 calls.S.fsync(self.tree.home)
-                self.conflicts.append(f"{told(it.path)}: what stood there is at {shown(free)}")
+                self.tell(it, f"{told(it.path)}: what stood there is at {shown(free)}")
 
     def sync(self) -> None:
         """Waits until the names of all touched directories are on the device."""
@@ -251,7 +267,7 @@ class Doing:
         """Somebody's own came out, and something else stands at the target by now: it stays
         beside."""
         free = self.moved(spare, fd, it.path[-1], OLD)
-        self.conflicts.append(f"{told(it.path)}: an older one stands at {shown(free)}")
+        self.tell(it, f"{told(it.path)}: an older one stands at {shown(free)}")
 
     def beside(self, fd: int, it: Operation, why: str) -> str | None:
         """The target is somebody else's now: what is new goes beside it."""
@@ -447,7 +463,7 @@ class Doing:
             try:
                 calls.S.chown_at(name, fd, *owner, mark)
             except PermissionError:
-                self.conflicts.append(f"{told(it.path)}: its owner or group can't be given")
+                self.tell(it, f"{told(it.path)}: its owner or group can't be given")
             there = calls.S.look(name, fd)
             mark = b"-" if there is None else calls.S.mark(there)
         if not calls.S.chmod_at(name, fd, wanted, mark):

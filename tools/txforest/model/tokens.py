@@ -21,7 +21,8 @@ KEPT_OF_DESCRIPTIONS = KEPT | {"def"}
 MARKS = ["::", "==", "++", "(", ")", "{", "}", "<", ">", ",", ":", "|", "=", "+", "-"]
 """The marks; one that begins with another stands before it."""
 
-SPACE = b" \t\r\n"
+MARK = re.compile("|".join(map(re.escape, MARKS)).encode())
+SPACE = re.compile(rb"[ \t\r\n]+")
 WORD = re.compile(rb"[A-Za-z_][A-Za-z_0-9]*")
 WORD_LIMIT = 64
 DIGITS = re.compile(rb"[0-9]+")
@@ -49,8 +50,8 @@ def lex(text: bytes) -> list[Token]:
     i = 0
     while i < len(text):
         c = text[i : i + 1]
-        if c in SPACE:
-            i += 1
+        if space := SPACE.match(text, i):
+            i = space.end()
         elif c == b"#":
             end = text.find(b"\n", i)
             i = end if end >= 0 else len(text)
@@ -68,12 +69,11 @@ def lex(text: bytes) -> list[Token]:
             value, end = string_at(text, i)
             found.append(Token("string", value, i))
             i = end
+        elif mark := MARK.match(text, i):
+            found.append(Token("mark", mark[0].decode(), i))
+            i = mark.end()
         else:
-            mark = next((m for m in MARKS if text.startswith(m.encode(), i)), None)
-            if mark is None:
-                raise Refused(f"BadToken {i}")
-            found.append(Token("mark", mark, i))
-            i += len(mark)
+            raise Refused(f"BadToken {i}")
     found.append(Token("end", None, len(text)))
     return found
 
