@@ -9,6 +9,7 @@ it printed is an answer.
 
 from __future__ import annotations
 
+import importlib
 import os
 import random
 import shutil
@@ -24,6 +25,18 @@ SPEC = '<a : ("a" :: file), <b : ("b" :: file), pred(((int(a) + int(b)) < 8))>>\
 KINDS = ("traced", "whole", "plain", "only", "python")
 FAULTS = ("no reads", "no absent paths", "no listings")
 FAILED, NO_VALUE = 3, 122
+USED = (
+    "calls", "commit", "copies", "declared", "differences", "do", "folders", "intent", "interface",
+    "jobs", "lines", "links", "lock", "log", "mounts", "only", "operations", "place", "program",
+    "queue", "room", "settle", "signals", "spelling", "stage", "staged", "states", "statuses",
+    "survey", "terminal", "traced", "valued", "view", "waiting", "whole",
+)  # fmt: skip
+
+
+def load() -> None:
+    """Loads the modules that jobs use: each job is a fork, and need not read them anew."""
+    for name in USED:
+        importlib.import_module(f"txforest.{name}")
 
 
 def script_of(r: random.Random, label: str) -> str:
@@ -430,6 +443,7 @@ def plant(fault: str | None, looked: Any) -> None:
 
 def histories(kind: str, count: int, first: int, fault: str | None, top: str) -> tuple[int, str]:
     """Runs so many histories: the number of the first that is wrong, or -1, and what is told."""
+    load()
     jobs = tries = groups = 0
     for number in range(first, first + count):
         room = os.path.join(top, f"history{number}")
