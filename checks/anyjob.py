@@ -10,6 +10,7 @@ from __future__ import annotations
 
 import fcntl
 import os
+import shlex
 import shutil
 import stat
 import struct
@@ -215,6 +216,40 @@ def streams(room: str) -> str:
     if read(f"{room}/tree/d") != "late\n":
         raise Wrong("what a command starts and does not wait for is lost")
     return "the same input at each try, held output once, what stays is told and ended"
+
+
+def meanwhile(room: str) -> str:
+    """Jobs that change something and change it back while a command runs: what it saw of that is
+    never kept."""
+    write(f"{room}/spec", "dir\n")
+    cases = [
+        ("cat a", "rm a", "cat a", "echo 1 > a"),
+        ("ls d/x", "rm -r d", "cat d/x", "mkdir d; echo 1 > d/x"),
+        ("test -d d", "rm -r d", "ls d", "mkdir d; echo 1 > d/x"),
+        ("test -d d", "rm -r d; ln -s a d", "ls d", "rm d; mkdir d; echo 1 > d/x"),
+        ("test -e a", "rm a", "echo 2 >> a", "echo 1 > a"),
+        (":", "echo 1 > new", "! test -e new", "rm new"),
+        (":", "mkdir d/new", "! ls d | grep -q new", "rmdir d/new"),
+    ]
+    again = 0
+    for option in "--trace", "--whole", "--only=*", "--plain":
+        env = {**os.environ, "TXFOREST_FUSE": f"{room}/no-device"} if option == "--plain" else None
+        options = [option] if env is None else []
+        for looks, change, look, back in cases:
+            shutil.rmtree(f"{room}/tree", ignore_errors=True)
+            write(f"{room}/tree/a", "1\n")
+            write(f"{room}/tree/d/x", "1\n")
+            job = f"{DO} {room}/tree {room}/spec -- sh -c"
+            script = f"[ -e {room}/once ] || first=yes; : > {room}/once; {looks}\n"
+            script += f"[ ! $first ] || {job} {shlex.quote(change)}\n"
+            script += f"{look} || echo odd > saw\n"
+            script += f"[ ! $first ] || {job} {shlex.quote(back)}; rm -f saw.tmp"
+            told = sh(room, script, *options, env=env)
+            os.unlink(f"{room}/once")
+            if os.path.exists(f"{room}/tree/saw"):
+                raise Wrong(f"{option} {change}: what was seen meanwhile is kept: {told}")
+            again += "run again" in told
+    return f"{4 * len(cases)} jobs among others that change back: nothing of it is kept, {again} again"
 
 
 def access_list(default: bool = False) -> bytes:
@@ -505,6 +540,7 @@ def together(room: str, *pairs: str) -> str:
 PARTS: dict[str, Callable[..., str]] = {
     "statuses": statuses,
     "streams": streams,
+    "meanwhile": meanwhile,
     "attributes": attributes,
     "rota": rota,
     "counts": counts,

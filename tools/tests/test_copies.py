@@ -173,6 +173,31 @@ class Copies(Room):
         copy, _ = self.copied(declared(["a"]), "")
         self.assertIsNone(copy.looked().spoiled)
 
+    def test_what_comes_and_goes_while_it_is_copied(self) -> None:
+        """A copy that has what was there for a while, or lacks what was gone, never commits."""
+        self.write("a", "a")
+        os.mkdir(os.path.join(self.top, "d"))
+
+        filling = Plain.fill
+
+        def here(copy: Plain) -> None:
+            where = self.write("new")
+            filling(copy)
+            os.unlink(where)
+
+        def gone(copy: Plain) -> None:
+            os.rename(os.path.join(self.top, "d"), os.path.join(self.room, "d"))
+            filling(copy)
+            os.rename(os.path.join(self.room, "d"), os.path.join(self.top, "d"))
+
+        for torn, path in (here, (b"new",)), (gone, (b"d",)):
+            with mock.patch.object(Plain, "fill", torn):
+                copy, _ = self.copied(Plain, "")
+            self.assertEqual(copy.looked().total, digest_of(copy.root))
+            self.assertEqual(copy.looked().spoiled, path)
+        copy, _ = self.copied(Plain, "")
+        self.assertIsNone(copy.looked().spoiled)
+
     def test_what_no_tree_has(self) -> None:
         _, made = self.copied(Plain, "mkfifo p")
         with self.assertRaises(Failed):
@@ -249,6 +274,28 @@ class Tracing(Room):
         with open(os.path.join(self.top, "a"), "w", encoding="utf-8") as file:
             file.write("longer")
         self.assertEqual(it.looked().spoiled, (b"a",))
+
+    def test_what_was_gone_for_a_while_spoils_the_job(self) -> None:
+        """A look that meets nothing where something was found has seen another moment."""
+        where, away = os.path.join(self.top, "d"), os.path.join(self.room, "away")
+        listing, attribute = struct.pack("=QQI", 0, 0, 64), struct.pack("=II", 64, 0)
+        for path, code, body in (
+            ("x", traced.OPEN, b""),
+            ("", traced.READDIR, listing),
+            ("x", traced.LISTXATTR, attribute),
+            ("x", traced.GETXATTR, attribute + b"user.x\0"),
+        ):
+            it = Asked(-1, self.root())
+            node = it.look(1, b"d")
+            if path:
+                node = it.look(node, b"x")
+                it.content(node)
+            it.reader.close()
+            os.rename(where, away)
+            self.assertNotEqual(it.ask(code, node, body)[0], 0)
+            os.rename(away, where)
+            self.assertIsNotNone(it.looked().spoiled, code)
+            it.reader.close()
 
     def test_attributes_are_shown(self) -> None:
         it = self.server

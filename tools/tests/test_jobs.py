@@ -7,7 +7,7 @@ from typing import TYPE_CHECKING
 from unittest import mock
 
 from tests.rooms import Room as TestRoom
-from txforest.copies import Changes, Looked
+from txforest.copies import Changes, Looked, digest_of
 from txforest.jobs import (
     CONFLICT,
     DONE,
@@ -231,6 +231,15 @@ class Jobs(TestRoom):
                     looked.reads = {(b"n%d" % number,): None for number in range(10)}
                     answer = self.clerk.submit(one, looked, made)
                 self.assertEqual((answer.what, answer.at), (what, (b"n5",) if path else None))
+
+    def test_what_was_there_for_a_while_is_a_conflict(self) -> None:
+        """Where all of the tree counts as read, what was looked at is compared besides."""
+        total = digest_of(self.tree.root)
+        for seen, what in ((b"f 0644 0 0 x", CONFLICT), (None, DONE)):
+            with Room(self.tree) as one:
+                looked, made = self.job(one, "b", "2", False)
+                looked.total, looked.reads = total, {(b"new",): seen}
+                self.assertEqual(self.clerk.submit(one, looked, made).what, what)
 
     def test_sum_touches_what_was_read(self) -> None:
         total = sum_of({(b"a",): None, (b"d",): frozenset()}, self.tree.root)

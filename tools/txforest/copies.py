@@ -33,6 +33,7 @@ FICLONE = 0x40049409
 SYSTEMS_OWN = ("user.overlay.", "trusted.overlay.", "security.", "system.nfs4")  # attributes
 CAPABILITY = "security.capability"
 DEFAULT, ACCESS = "system.posix_acl_default", "system.posix_acl_access"
+COPIED = (stat.S_IFREG, stat.S_IFDIR, stat.S_IFLNK)
 NO_CLONE = (errno.EOPNOTSUPP, errno.EINVAL, errno.EXDEV, errno.ENOTTY, errno.EPERM)
 
 
@@ -114,6 +115,7 @@ class Copy:
 
     name = "copy"  # how it is told
     word = "copy"  # and in a log
+    spoiled: Path | None = None  # what changed while it was made, so that no command is to see it
 
     def __init__(self, room: str, root: int) -> None:
         """`room` is a directory of the job's own, `root` a descriptor of the tree."""
@@ -168,6 +170,7 @@ class Plain(Copy):
 
     def __init__(self, room: str, root: int) -> None:
         super().__init__(room, root)
+        self.kinds: dict[Path, int] = {}  # what stood in the tree before it was copied
         self.total = self.first_look()
         self.fill()
         self.marks: dict[Path, tuple[int, int, int, int]] = {}
@@ -176,6 +179,7 @@ class Plain(Copy):
             self.marks[path] = mark(found)
             if stat.S_ISDIR(found.st_mode):
                 self.folders[path] = attributes_of(self.inside(path))
+        self.compare_kinds()
         wait_for_clock()
 
     def inside(self, path: Path) -> bytes:
@@ -184,14 +188,23 @@ class Plain(Copy):
 
     def first_look(self) -> bytes | None:
         """The digest of the tree before it is copied."""
-        return digest_of(self.root, is_first=True)
+        return digest_of(self.root, is_first=True, kinds=self.kinds)
 
     def fill(self) -> None:
         """Copies the tree."""
         copy_tree(self.root, os.open(self.tree, DIRECTORY_FLAGS))
 
+    def compare_kinds(self) -> None:
+        """Looks whether the copy has what the tree had: something may come, or go, for as long as
+        it is copied. The digest tells any other change."""
+        made = {path: stat.S_IFMT(mode) for path, (_, _, _, mode) in self.marks.items()}
+        wanted = {path: kind for path, kind in self.kinds.items() if kind in COPIED}
+        odd = {path for path in made.keys() | wanted if made.get(path) != wanted.get(path)}
+        if odd:
+            self.spoiled = min(odd)
+
     def looked(self) -> Looked:
-        return Looked(total=self.total)
+        return Looked(total=self.total, spoiled=self.spoiled)
 
     def changes(self, looked: Looked) -> Changes:
         made, now = Changes(), set()
@@ -275,10 +288,7 @@ def copy_tree(source: int, target: int) -> None:
         with os.scandir(source) as found:
             here = list(found)
         for entry in here:
-            try:
-                copy_entry(entry.name, source, target)
-            except FileNotFoundError:  # it went meanwhile, which shows in the tree's digest
-                continue
+            copy_entry(entry.name, source, target)
         copy_attributes(source, target)
         give(target, os.fstat(source))
     finally:
@@ -286,8 +296,24 @@ def copy_tree(source: int, target: int) -> None:
 
 
 def copy_entry(name: str, source: int, target: int) -> None:
-    """Copies one entry of a directory, a directory with all below it."""
-    found = os.stat(name, dir_fd=source, follow_symlinks=False)
+    """Copies one entry of a directory, a directory with all below it.
+
+    Of one that goes meanwhile, or becomes another, there is no copy; that shows at the end.
+    """
+    try:
+        found = os.stat(name, dir_fd=source, follow_symlinks=False)
+        try:
+            copy_found(name, found, source, target)
+        except OSError:
+            now = os.stat(name, dir_fd=source, follow_symlinks=False)
+            if stat.S_IFMT(now.st_mode) == stat.S_IFMT(found.st_mode):
+                raise
+    except FileNotFoundError:
+        return
+
+
+def copy_found(name: str, found: os.stat_result, source: int, target: int) -> None:
+    """Copies an entry of the kind that was found."""
     if stat.S_ISDIR(found.st_mode):
         os.mkdir(name, 0o700, dir_fd=target)
         inside = os.open(name, DIRECTORY_FLAGS, dir_fd=source)
@@ -397,16 +423,24 @@ def kept_attributes(reader: Reader, path: Path) -> dict[str, bytes]:
 # ---- all of a tree as one text
 
 
-def digest_of(root: int, skip: frozenset[bytes] = frozenset(), is_first: bool = False) -> bytes:
+def digest_of(
+    root: int,
+    skip: frozenset[bytes] = frozenset(),
+    is_first: bool = False,
+    kinds: dict[Path, int] | None = None,
+) -> bytes:
     """One text for all that stands in a tree: paths, kinds, modes, owners, inodes, sizes, times.
 
     `skip` are names at its root that are passed over. With `is_first` it waits until any later
-    change would show in a time. No content is read; of directories the times don't count.
+    change would show in a time. No content is read; of directories the times don't count. `kinds`
+    is told the kind of each entry.
     """
     import time
 
+    told: dict[Path, int] = {} if kinds is None else kinds
     for _ in range(20):
         made, young = new_digest(), 0
+        told.clear()
         reader = Reader(root)
         work: list[Path] = [()]
         while work:
@@ -420,6 +454,7 @@ def digest_of(root: int, skip: frozenset[bytes] = frozenset(), is_first: bool = 
                     if not path and inside[0] in skip:
                         continue
                     it = os.stat(entry.name, dir_fd=fd, follow_symlinks=False)
+                    told[inside] = stat.S_IFMT(it.st_mode)
                     line = b"%o %d %d %d" % (it.st_mode, it.st_ino, it.st_uid, it.st_gid)
                     if stat.S_ISDIR(it.st_mode):
                         work.append(inside)

@@ -146,8 +146,12 @@ class Prepared:
         job = Job(self.name, self.looked.reads, self.changes.writes, self.changes.before)
         total = self.looked.total
         if total is not None:
-            now = lambda: digest_of(tree.root, skipped(tree))  # noqa: E731
-            job.total = Sum(total, now, lambda path: True)
+            looks = sum_of(job.reads, tree.root)  # of what was there for a while
+
+            def now() -> bytes:
+                return digest_of(tree.root, skipped(tree)) + looks.now()
+
+            job.total = Sum(total + looks.seen, now, lambda path: True)
             job.reads = {}
         elif job.weight() > NODES // 2:
             job.total = sum_of(job.reads, tree.root)
@@ -423,8 +427,6 @@ class Leader:
 
     def other_path(self, it: Prepared) -> Path | None:
         """A path that is not as a job has seen it, if it told no path but a sum."""
-        if it.looked.total is not None:
-            return None
         reader = Reader(self.tree.root)
         try:
             for path, seen in it.looked.reads.items():

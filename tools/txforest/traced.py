@@ -31,6 +31,7 @@ from .copies import (
 from .lines import path_of, path_words, read_lines, seen_line, seen_of, written_lines
 from .mounts import NODEV, NOSUID, READ_ONLY, mount, own_mounts
 from .states import (
+    FILE_FLAGS,
     LINK,
     Kind,
     Reader,
@@ -50,6 +51,7 @@ if TYPE_CHECKING:
 LOOKUP, FORGET, GETATTR, READLINK, OPEN, READ, STATFS, RELEASE = 1, 2, 3, 5, 14, 15, 17, 18
 GETXATTR, LISTXATTR, FLUSH, INIT, OPENDIR, READDIR, RELEASEDIR = 22, 23, 25, 26, 27, 28, 29
 ACCESS, INTERRUPT, DESTROY, BATCH_FORGET = 34, 36, 38, 42
+CLOSED = (errno.EACCES, errno.EPERM)  # what is not for this user, as it is at any moment
 SILENT = (FORGET, BATCH_FORGET, INTERRUPT)
 EVER = 1 << 30
 KEEP_CACHE, CACHE_DIR = 2, 8
@@ -229,20 +231,26 @@ class Server:
     def open(self, path: Path, body: bytes) -> bytes:
         """Opens a file for reading, if it is still the one that was looked up."""
         known = self.known[path]
-        found, content = self.reader.content(path)
-        if known.found is None or identity(found) != identity(known.found):
-            self.spoil(path)
-            raise OSError(errno.ESTALE, "")
-        self.opened += 1
+        try:
+            found, content = self.reader.content(path)
+            if known.found is None or identity(found) != identity(known.found):
+                raise OSError(errno.ESTALE, "")
+            held: bytes | int = self.large(path) if content is None else content
+        except OSError as error:
+            if known.state is not None or error.errno not in CLOSED:
+                self.spoil(path)
+            raise
         if content is None:
             known.state = token_of_large(found)
-            fd = os.open(path[-1], os.O_RDONLY, dir_fd=self.reader.directory(path[:-1]))
-            self.files[self.opened] = fd
-        else:
-            if known.state is None:
-                known.state = token_of_bytes(found, content)
-            self.files[self.opened] = content
+        elif known.state is None:
+            known.state = token_of_bytes(found, content)
+        self.opened += 1
+        self.files[self.opened] = held
         return struct.pack("=QII", self.opened, KEEP_CACHE, 0)
+
+    def large(self, path: Path) -> int:
+        """A descriptor of a file that is too large to be held."""
+        return os.open(path[-1], os.O_RDONLY, dir_fd=self.reader.directory(path[:-1]))
 
     def read(self, path: Path, body: bytes) -> bytes:
         """A part of an open file."""
@@ -267,8 +275,13 @@ class Server:
         """Names of a directory from a place on, as many as are asked for."""
         _, offset, size = struct.unpack_from("=QQI", body)
         if path not in self.names:
-            with os.scandir(self.reader.directory(path)) as found:
-                self.names[path] = [(e.inode(), os.fsencode(e.name), kind(e)) for e in found]
+            try:
+                with os.scandir(self.reader.directory(path)) as found:
+                    self.names[path] = [(e.inode(), os.fsencode(e.name), kind(e)) for e in found]
+            except OSError as error:
+                if error.errno not in CLOSED:
+                    self.spoil(path)
+                raise
         made, length = [], 0
         names = self.names[path]
         for place in range(offset, len(names)):
@@ -320,8 +333,12 @@ class Server:
         known = self.known[path].found
         if known is None or not (stat.S_ISREG(known.st_mode) or stat.S_ISDIR(known.st_mode)):
             raise OSError(errno.ENODATA, "")
-        flags = os.O_RDONLY | os.O_NOFOLLOW | os.O_NONBLOCK | os.O_CLOEXEC
-        return os.open(path[-1], flags, dir_fd=self.reader.directory(path[:-1]))
+        try:
+            return os.open(path[-1], FILE_FLAGS, dir_fd=self.reader.directory(path[:-1]))
+        except OSError as error:
+            if error.errno not in CLOSED:
+                self.spoil(path)
+            raise
 
     # ---- the account
 
