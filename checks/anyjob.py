@@ -249,6 +249,11 @@ def meanwhile(room: str) -> str:
             if os.path.exists(f"{room}/tree/saw"):
                 raise Wrong(f"{option} {change}: what was seen meanwhile is kept: {told}")
             again += "run again" in told
+    write(f"{room}/tree/a", "1\n")
+    change = f"{DO} {room}/tree {room}/spec -- sh -c 'rm a; ln -s d/x a'"
+    told = sh(room, f"find . -type f > found; [ -e {room}/once ] || {change}; : > {room}/once")
+    if "./a\n" in read(f"{room}/tree/found"):
+        raise Wrong(f"a name whose kind was another is kept as a file: {told}")
     return f"{4 * len(cases)} jobs among others that change back: nothing of it is kept, {again} again"
 
 
@@ -349,6 +354,7 @@ def attributes(room: str, *options: str) -> str:
                 raise Wrong(f"{option} {change}: is refused, and the tree is another: {told}")
             carried, refused = carried + is_carried, refused + (not is_carried)
         modes(room, option)
+        attributes_of_two(room, option)
     as_plain = "are carried as plain commands make them"
     return f"{carried} changes of rights alone {as_plain}, {refused} refused"
 
@@ -360,6 +366,23 @@ def modes(room: str, option: str) -> None:
         sh(room, f"echo 3 > d/x; chmod {mode:o} {now}", option)
         if os.stat(now).st_mode & 0o777 != mode:
             raise Wrong(f"{option}: another job's mode of a directory is undone")
+
+
+def attributes_of_two(room: str, option: str) -> None:
+    """Two jobs at once that change attributes of a file, or one of them its content: both stay."""
+    now = f"{room}/tree/a"
+    for what, change in (
+        ("user.one", "os.setxattr('a', 'user.one', b'1')"),
+        ("more", "open('a', 'a').write('more')"),
+    ):
+        first = f"os.path.exists('{room}/{what}') or os.mknod('{room}/{what}') or"
+        other = f"os.setxattr('{now}', 'user.not-{what}', b'2')"
+        python = f"import os; {change}; {first} {other}"
+        run([DO, option, "tree", "spec", "--", sys.executable, "-c", python], room)
+        found = [*os.listxattr(now), read(now)]
+        if f"user.not-{what}" not in found or not any(it.endswith(what) for it in found):
+            raise Wrong(f"{option} {change}: {found}")
+        os.unlink(f"{room}/{what}")
 
 
 def counts(room: str, count: str = "400", processes: str = "8") -> str:

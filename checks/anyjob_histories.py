@@ -76,6 +76,7 @@ def step_of(r: random.Random, label: str) -> str:
         f" elif [ -d k ]; then ls k; rm -r k; echo {label} > k; else rm -f k; ln -s a k; fi;"
         f" echo k",
         "test -e nothere && echo odd",
+        "if [ -L cur ]; then mv cur old; else mv old cur; fi; ls; readlink old || echo none",
         f"echo {label} > blind; true",
         f"sed -i 's/$/{label}/' w; cat w",
     ]
@@ -432,6 +433,8 @@ class History:
 def plant(fault: str | None, looked: Any) -> None:
     """Breaks what a job says it has read, to see that the histories show it."""
     reads = looked.reads
+    if fault in ("no reads", "no listings"):
+        looked.kinds.clear()
     if fault == "no reads":
         reads.clear()
     for path in list(reads):

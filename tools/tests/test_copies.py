@@ -309,6 +309,11 @@ class Tracing(Room):
         self.assertEqual(it.ask(traced.LISTXATTR, node, struct.pack("=II", 64, 0))[1], b"user.x\0")
         body = struct.pack("=II", 1, 0) + b"user.x\0"
         self.assertNotEqual(it.ask(traced.GETXATTR, node, body)[0], 0)
+        os.setxattr(os.path.join(self.top, "a"), "user.y", b"later")
+        self.assertEqual(it.ask(traced.LISTXATTR, node, struct.pack("=II", 64, 0))[1], b"user.x\0")
+        self.assertEqual(it.looked().attributes, {(b"a",): {"user.x": b"value"}})
+        size = struct.pack("=II", 0, 0)
+        self.assertEqual(it.ask(traced.LISTXATTR, it.look(1, b"l"), size), (0, size))
 
     def test_unknown_requests(self) -> None:
         self.assertNotEqual(self.server.ask(99, 1)[0], 0)

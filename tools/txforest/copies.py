@@ -22,12 +22,13 @@ from .terminal import below
 
 TYPE_CHECKING = False
 if TYPE_CHECKING:
-    from collections.abc import Iterator, Mapping
+    from collections.abc import Iterator
     from typing import NoReturn
 
     from .states import Made, Path, Seen
 
     Rights = tuple[int, int, int]
+    Attributes = dict[str, bytes]
 
 FICLONE = 0x40049409
 SYSTEMS_OWN = ("user.overlay.", "trusted.overlay.", "security.", "system.nfs4")  # attributes
@@ -44,9 +45,10 @@ class CannotEnter(Exception):
 class Looked:
     """What a command has read: of each path what it saw there.
 
-    `total` is a digest of the whole tree if all of it counts as read. `spoiled` is a path that
+    `kinds` tell of directories whose names it has read which kinds these had (states.py). `total` is a digest of the whole tree if all of it counts as read. `spoiled` is a path that
     changed while the command ran, so that it may have seen two moments; it has to run again.
-    `rights` are the modes and owners of directories as it has seen them; they are not compared.
+    `rights` are the modes and owners of directories as it has seen them, and `attributes` extended
+    attributes of files and directories; they are not compared.
     """
 
     def __init__(
@@ -55,11 +57,14 @@ class Looked:
         total: bytes | None = None,
         spoiled: Path | None = None,
         rights: dict[Path, Rights] | None = None,
+        attributes: dict[Path, Attributes] | None = None,
     ) -> None:
         self.reads = reads or {}
         self.total = total
         self.spoiled = spoiled
         self.rights = rights or {}
+        self.attributes = attributes or {}
+        self.kinds: dict[Path, bytes] = {}
 
 
 class Changes:
@@ -70,7 +75,7 @@ class Changes:
     before      of each of these paths what stood there
     modes       the modes of directories that were there before and have another one now
     owners      the owners of such directories, user and group, if root has given another one
-    attributes  the extended attributes of files that have other ones now
+    attributes  the extended attributes of files that are others now; nothing for one that is gone
     """
 
     def __init__(self) -> None:
@@ -79,7 +84,7 @@ class Changes:
         self.before: dict[Path, Seen] = {}
         self.modes: dict[Path, int] = {}
         self.owners: dict[Path, tuple[int, int]] = {}
-        self.attributes: dict[Path, dict[str, bytes]] = {}
+        self.attributes: dict[Path, dict[str, bytes | None]] = {}
 
     def __bool__(self) -> bool:
         return bool(self.writes or self.modes or self.owners or self.attributes)
@@ -99,6 +104,15 @@ class Changes:
             self.modes[path] = mode
         if os.geteuid() == 0 and (user, group) != before[1:]:
             self.owners[path] = user, group
+
+    def take_attributes(self, path: Path, before: Attributes, now: Attributes) -> None:
+        """Takes the extended attributes of a file that are others than before."""
+        made: dict[str, bytes | None] = {
+            name: value for name, value in now.items() if before.get(name) != value
+        }
+        made.update((name, None) for name in before.keys() - now.keys())
+        if made:
+            self.attributes[path] = made
 
     def check(self) -> None:
         """Refuses what no tree of the tools can have."""
@@ -174,11 +188,11 @@ class Plain(Copy):
         self.total = self.first_look()
         self.fill()
         self.marks: dict[Path, tuple[int, int, int, int]] = {}
-        self.folders: dict[Path, dict[str, bytes]] = {}  # the attributes of directories
+        self.attributes: dict[Path, Attributes] = {}  # as far as there are any
         for path, found in entries(self.tree):
             self.marks[path] = mark(found)
-            if stat.S_ISDIR(found.st_mode):
-                self.folders[path] = attributes_of(self.inside(path))
+            if attributes := attributes_of(self.inside(path)):
+                self.attributes[path] = attributes
         self.compare_kinds()
         wait_for_clock()
 
@@ -226,7 +240,10 @@ class Plain(Copy):
     def refuse_folder(self, path: Path) -> None:
         """Refuses a directory whose attributes are none that it had, or has from the one above."""
         found = attributes_of(self.inside(path))
-        if found != self.folders.get(path, inherited(self.inside(path[:-1]), found)):
+        before = self.attributes.get(path, {})
+        if path not in self.marks:
+            before = inherited(self.inside(path[:-1]), found)
+        if found != before:
             refuse_attributes(path)
 
     def compare(self, made: Changes, path: Path, found: os.stat_result, reader: Reader) -> None:
@@ -239,9 +256,7 @@ class Plain(Copy):
             made.take_rights(path, rights, found)
             return
         if stat.S_ISREG(found.st_mode):
-            attributes = attributes_of(where)
-            if attributes != kept_attributes(reader, path):
-                made.attributes[path] = attributes
+            made.take_attributes(path, self.attributes.get(path, {}), attributes_of(where))
         if new != before or path in made.attributes:
             made.put(path, before, new, where)
 
@@ -381,17 +396,25 @@ def give(fd: int, found: os.stat_result) -> None:
 # ---- extended attributes
 
 
-def attributes_of(where: bytes | str | int) -> dict[str, bytes]:
+def is_kept(name: str) -> bool:
+    """Whether a tree keeps an extended attribute: it is not the system's own."""
+    return not name.startswith(SYSTEMS_OWN) or name == CAPABILITY and os.geteuid() == 0
+
+
+def attributes_of(where: bytes | str | int) -> Attributes:
     """The extended attributes of a file or directory that a tree keeps, access lists among them."""
-    found: dict[str, bytes] = {}
+    return {name: value for name, value in all_attributes(where).items() if is_kept(name)}
+
+
+def all_attributes(where: bytes | str | int) -> Attributes:
+    """All extended attributes of a file or directory that this user may read."""
+    found: Attributes = {}
     follow = isinstance(where, int)
     try:
         names = os.listxattr(where, follow_symlinks=follow)
     except OSError:
         return found
     for name in names:
-        if name.startswith(SYSTEMS_OWN) and (name != CAPABILITY or os.geteuid() != 0):
-            continue
         try:
             found[name] = os.getxattr(where, name, follow_symlinks=follow)
         except OSError:
@@ -399,7 +422,7 @@ def attributes_of(where: bytes | str | int) -> dict[str, bytes]:
     return found
 
 
-def inherited(above: bytes, found: Mapping[str, bytes]) -> Mapping[str, bytes]:
+def inherited(above: bytes, found: Attributes) -> Attributes:
     """The attributes that a new directory has if nobody gave it any: with a default access list of
     the directory above its own lists are what that makes of them."""
     default = attributes_of(above).get(DEFAULT)
@@ -408,7 +431,7 @@ def inherited(above: bytes, found: Mapping[str, bytes]) -> Mapping[str, bytes]:
     return {DEFAULT: default, **({ACCESS: found[ACCESS]} if ACCESS in found else {})}
 
 
-def kept_attributes(reader: Reader, path: Path) -> dict[str, bytes]:
+def kept_attributes(reader: Reader, path: Path) -> Attributes:
     """The extended attributes of a file of a tree."""
     try:
         fd = os.open(path[-1], FILE_FLAGS, dir_fd=reader.directory(path[:-1]))
