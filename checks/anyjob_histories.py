@@ -394,9 +394,9 @@ class History:
             self.line(" ".join(["group", *(group[number].name for number in order)]))
 
         def ended(transaction: Any, room: Any, copy: Any, status: Any, held: Any) -> Any:
-            rooms = len(self.told())
             found = settled(transaction, room, copy, status, held)
-            if held is not None and found == status and len(self.told()) == rooms:
+            is_submitted = f"room {room.name} {k}\n" in self.told()
+            if held is not None and found == status and not is_submitted:
                 self.line(f"alone {k}")
             return found
 
