@@ -25,7 +25,7 @@ from txforest.place import Tree
 from txforest.staged import Job
 from txforest.states import LINK, Kind, Reader, token_of
 from txforest.statuses import Failed
-from txforest.waiting import BETWEEN, Room, clear_left, give_answer, hand_out, rooms, take
+from txforest.waiting import BETWEEN, NEW, Room, clear_left, give_answer, hand_out, rooms, take
 
 if TYPE_CHECKING:
     from txforest.states import Seen
@@ -188,6 +188,17 @@ class Jobs(TestRoom):
             self.assertEqual(self.clerk.submit(two, *self.job(two, "c", "2", False)).what, DONE)
             self.assertIsNone(one.answer())
         self.assertEqual(self.read("b"), "outside")
+
+    def test_a_room_found_by_its_first_name_is_not_taken(self) -> None:
+        """Its job may be prepared by the time it is opened. Whoever took it then could give it no
+        answer, and it would be done twice."""
+        with Room(self.tree) as one, Room(self.tree) as two:
+            self.prepared(two, "b", "2", False)
+            first = os.path.join(os.path.dirname(two.path), f"{NEW}{two.name}")
+            os.rename(two.path, first)
+            self.assertEqual(self.clerk.submit(one, *self.job(one, "a", "2")).what, DONE)
+            os.rename(first, two.path)
+            self.assertTrue(two.withdraw())
 
     def test_answered_is_withdrawn(self) -> None:
         """A room loses its files one by one, the answer perhaps before the job."""

@@ -32,7 +32,18 @@ from .differences import Change
 from .lines import path_of, path_words, read_lines, seen_line, seen_of, written_lines
 from .lock import lock
 from .program import call, called
-from .waiting import BETWEEN, JOB, TAKEN, Room, clear_left, give_answers, put_back, rooms, take
+from .waiting import (
+    BETWEEN,
+    JOB,
+    NEW,
+    TAKEN,
+    Room,
+    clear_left,
+    give_answers,
+    put_back,
+    rooms,
+    take,
+)
 from .settle import settle
 from .staged import JOBS, NODES, Decision, Job, Sum, decide
 from .states import LINK, Kind, Reader, identity, new_digest, token_of
@@ -347,7 +358,8 @@ class Leader:
         found: list[tuple[int, Prepared]] = []
         if self.room.is_shared:
             for name, fd, used in rooms(self.tree):
-                if not used or name == self.room.name or not take(fd):
+                is_named = not name.startswith(NEW)  # else it has another name by now
+                if not used or name == self.room.name or not is_named or not take(fd):
                     continue
                 come = os.stat(TAKEN, dir_fd=fd).st_mtime_ns
                 other = prepared_in(fd, name, os.path.join(os.path.dirname(self.room.path), name))
