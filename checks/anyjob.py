@@ -521,6 +521,12 @@ def systems(room: str) -> str:
             found.append(f"{name} {on_system(at)}")
         finally:
             run(["umount", at], room)
+    at = f"{room}/mounted"
+    run(["sh", "-ec", f"mkdir -p {at}/tree; mount -t tmpfs none {at}/tree"], room)
+    try:
+        found.append(f"a mount {on_system(at)}")
+    finally:
+        run(["umount", f"{at}/tree"], room)
     return ", ".join(found)
 
 
@@ -530,6 +536,7 @@ def on_system(at: str) -> str:
     write(f"{at}/tree/a", "0\n")
     write(f"{at}/tree/d/e/f", "0\n")
     script = "v=$(cat a); echo $((v + 1)) > a; rm -r d; mkdir -p d/g; echo $v > d/g/h; ln -sfn d l"
+    script += "; ls -a > names"
     words = [DO, "--log", "log", "tree", "spec", "--", "sh", "-c", script]
     jobs = [subprocess.Popen(words, cwd=at, stderr=subprocess.DEVNULL) for _ in range(3)]
     if any([job.wait() for job in jobs]):
@@ -538,6 +545,8 @@ def on_system(at: str) -> str:
         sh(at, script, option)
     if read(f"{at}/tree/a") != "5\n" or os.listdir(f"{at}/tree/d/g") != ["h"]:
         raise Wrong(f"{at}: {read(f'{at}/tree/a')}")
+    if read(f"{at}/tree/names").split() != [".", "..", "a", "d", "l", "names"]:
+        raise Wrong(f"{at}: {read(f'{at}/tree/names')}")
     return read(f"{at}/log").split()[6].split(":")[1]
 
 

@@ -58,9 +58,31 @@ class States(Room):
             file.write("y")
         second = digest_of(root)
         self.assertNotEqual(second, first)
-        self.write("skipped")
-        self.assertEqual(digest_of(root, frozenset([b"skipped"])), second)
+        self.write(".txforest-0123456789ab/x")
+        self.assertEqual(digest_of(root), second)
+        self.write("other")
         self.assertNotEqual(digest_of(root), second)
+
+    def test_places_in_the_tree_are_passed_over(self) -> None:
+        """They stand there for a while where the tree is a mount."""
+        self.write("d/.txforest-0123456789ab")
+        reader = Reader(self.root())
+        self.addCleanup(reader.close)
+        kinds = reader.kinds(())
+        self.write(".txforest-0123456789ab/x")
+        self.write(".txforest-other")
+        self.assertEqual(sorted(reader.names(())), [b".txforest-other", b"d"])
+        self.assertEqual(reader.names((b"d",)), [b".txforest-0123456789ab"])
+        self.assertNotIn((b".txforest-0123456789ab",), reader.below(()))
+        os.unlink(os.path.join(self.top, ".txforest-other"))
+        self.assertEqual(reader.kinds(()), kinds)
+        it = Asked(-1, self.root())
+        self.addCleanup(it.reader.close)
+        self.assertEqual(it.listing(1), [b"d"])
+        room = os.path.join(self.room, "copy")
+        os.mkdir(room)
+        copy = Plain(room, self.root())
+        self.assertEqual((os.listdir(copy.tree), copy.spoiled), (["d"], None))
 
 
 class Copies(Room):

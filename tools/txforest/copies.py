@@ -16,6 +16,7 @@ import os
 import stat
 
 from .calls import PLAIN
+from .place import is_place
 from .states import DIRECTORY_FLAGS, FILE_FLAGS, Kind, Reader, new_digest, token_of
 from .statuses import Failed, Status
 from .terminal import below
@@ -206,7 +207,7 @@ class Plain(Copy):
 
     def fill(self) -> None:
         """Copies the tree."""
-        copy_tree(self.root, os.open(self.tree, DIRECTORY_FLAGS))
+        copy_tree(self.root, os.open(self.tree, DIRECTORY_FLAGS), True)
 
     def compare_kinds(self) -> None:
         """Looks whether the copy has what the tree had: something may come, or go, for as long as
@@ -297,13 +298,13 @@ def entries(top: str | bytes, path: Path = ()) -> Iterator[tuple[Path, os.stat_r
             yield from entries(top, inside)
 
 
-def copy_tree(source: int, target: int) -> None:
-    """Copies what stands in one directory into another; closes the second. No link is followed."""
+def copy_tree(source: int, target: int, is_root: bool = False) -> None:
+    """Copies what stands in one directory into another; closes the second. No link is followed. Of
+    a tree's root the places are left out."""
     try:
-        with os.scandir(source) as found:
-            here = list(found)
-        for entry in here:
-            copy_entry(entry.name, source, target)
+        for name in os.listdir(source):
+            if not is_root or not is_place(os.fsencode(name)):
+                copy_entry(name, source, target)
         copy_attributes(source, target)
         give(target, os.fstat(source))
     finally:
@@ -447,16 +448,12 @@ def kept_attributes(reader: Reader, path: Path) -> Attributes:
 
 
 def digest_of(
-    root: int,
-    skip: frozenset[bytes] = frozenset(),
-    is_first: bool = False,
-    kinds: dict[Path, int] | None = None,
+    root: int, is_first: bool = False, kinds: dict[Path, int] | None = None
 ) -> bytes:
     """One text for all that stands in a tree: paths, kinds, modes, owners, inodes, sizes, times.
 
-    `skip` are names at its root that are passed over. With `is_first` it waits until any later
-    change would show in a time. No content is read; of directories the times don't count. `kinds`
-    is told the kind of each entry.
+    With `is_first` it waits until any later change would show in a time. No content is read; of
+    directories the times don't count. `kinds` is told the kind of each entry.
     """
     import time
 
@@ -474,7 +471,7 @@ def digest_of(
                     here = sorted(found, key=lambda entry: entry.name)
                 for entry in here:
                     inside = (*path, os.fsencode(entry.name))
-                    if not path and inside[0] in skip:
+                    if not path and is_place(inside[0]):
                         continue
                     it = os.stat(entry.name, dir_fd=fd, follow_symlinks=False)
                     told[inside] = stat.S_IFMT(it.st_mode)

@@ -161,7 +161,7 @@ class Prepared:
         job = Job(self.name, self.looked.reads, self.changes.writes, self.changes.before)
         total, sums = self.looked.total, []
         if total is not None:
-            sums = [Sum(total, lambda: digest_of(tree.root, skipped(tree)), lambda other: True)]
+            sums = [Sum(total, lambda: digest_of(tree.root), lambda other: True)]
         if total is not None or job.weight() > NODES // 2:
             sums.append(sum_of(job.reads, tree.root))
             job.reads = {}
@@ -289,11 +289,6 @@ def digest_of_states(states: dict[Path, Seen]) -> bytes:
         for word in seen_line(path, states[path]):
             made.update(b"%d " % len(word) + word)
     return b"sum " + made.hexdigest().encode()
-
-
-def skipped(tree: Tree) -> frozenset[bytes]:
-    """What a look at the whole tree passes over."""
-    return frozenset(map(os.fsencode, tree.skip()))
 
 
 # ---- the tree while its lock is held

@@ -22,6 +22,8 @@ import os
 import stat
 import time
 
+from .place import is_place
+
 TYPE_CHECKING = False
 if TYPE_CHECKING:
     from collections.abc import Iterable
@@ -259,14 +261,16 @@ class Reader:
         return content_of(path[-1], self.directory(path[:-1]))
 
     def names(self, path: Path) -> list[bytes]:
-        """The names in a directory, in no order."""
-        return [os.fsencode(name) for name in os.listdir(self.directory(path))]
+        """The names in a directory, in no order; at the root without those of places."""
+        names = map(os.fsencode, os.listdir(self.directory(path)))
+        return list(names) if path else [name for name in names if not is_place(name)]
 
     def kinds(self, path: Path) -> bytes:
         """The text of the names in a directory with their kinds; empty if there is none."""
         try:
             with os.scandir(self.directory(path)) as found:
-                return text_of_kinds((os.fsencode(it.name), kind_of_entry(it)) for it in found)
+                kinds = ((os.fsencode(it.name), kind_of_entry(it)) for it in found)
+                return text_of_kinds(it for it in kinds if path or not is_place(it[0]))
         except OSError as error:
             if error.errno in NOTHING:
                 return b""
@@ -279,6 +283,8 @@ class Reader:
         with os.scandir(self.directory(path)) as entries:
             for entry in entries:
                 inside = (*path, os.fsencode(entry.name))
+                if not path and is_place(inside[0]):
+                    continue
                 if entry.is_dir(follow_symlinks=False):
                     inner.append(inside)
                 else:

@@ -32,6 +32,7 @@ from .copies import (
 )
 from .lines import path_of, path_words, read_lines, seen_line, seen_of, written_lines
 from .mounts import NODEV, NOSUID, READ_ONLY, mount, own_mounts
+from .place import is_place
 from .states import (
     FILE_FLAGS,
     LINK,
@@ -284,7 +285,9 @@ class Server:
             try:
                 with os.scandir(self.reader.directory(path)) as found:
                     self.names[path] = [
-                        (it.inode(), os.fsencode(it.name), kind_of_entry(it)) for it in found
+                        (it.inode(), os.fsencode(it.name), kind_of_entry(it))
+                        for it in found
+                        if path or not is_place(os.fsencode(it.name))
                     ]
             except OSError as error:
                 if error.errno not in CLOSED:
