@@ -254,7 +254,8 @@ def meanwhile(room: str) -> str:
     told = sh(room, f"find . -type f > found; [ -e {room}/once ] || {change}; : > {room}/once")
     if "./a\n" in read(f"{room}/tree/found"):
         raise Wrong(f"a name whose kind was another is kept as a file: {told}")
-    return f"{4 * len(cases)} jobs among others that change back: nothing of it is kept, {again} again"
+    count = 4 * len(cases)
+    return f"{count} jobs among others that change back: nothing of it is kept, {again} again"
 
 
 def access_list(default: bool = False) -> bytes:

@@ -254,7 +254,7 @@ class Jobs(TestRoom):
             self.assertIsNone(two.answer())
 
     def test_kinds_of_names_are_compared(self) -> None:
-        """A directory's names tell their kinds: another kind is a conflict, another file is none."""
+        """A directory's names tell their kinds: another kind is a conflict, another text is not."""
         reader = Reader(self.tree.root)
         self.addCleanup(reader.close)
         names, text = {(b"d",): frozenset([b"x"])}, reader.kinds((b"d",))

@@ -46,10 +46,11 @@ class CannotEnter(Exception):
 class Looked:
     """What a command has read: of each path what it saw there.
 
-    `kinds` tell of directories whose names it has read which kinds these had (states.py). `total` is a digest of the whole tree if all of it counts as read. `spoiled` is a path that
-    changed while the command ran, so that it may have seen two moments; it has to run again.
-    `rights` are the modes and owners of directories as it has seen them, and `attributes` extended
-    attributes of files and directories; they are not compared.
+    `kinds` has of each directory whose names it has read which kinds they had. `total` is a digest
+    of the whole tree if all of it counts as read. `spoiled` is a path that changed while the
+    command ran, so that it may have seen two moments; it has to run again. `rights` are the modes
+    and owners of directories as it has seen them, and `attributes` those of files and directories
+    that are extended ones; they are not compared.
     """
 
     def __init__(

@@ -460,7 +460,7 @@ class Traced(Copy):
         for path, rights in looked.rights.items():
             lines.append([b"rights", *path_words(path), *(b"%d" % number for number in rights)])
         for path, attributes in looked.attributes.items():
-            words = (word for name, value in attributes.items() for word in (os.fsencode(name), value))
+            words = [word for it in attributes.items() for word in (os.fsencode(it[0]), it[1])]
             lines.append([b"attributes", *path_words(path), *words])
         written_lines(self.account, b"looked", lines)
         return 0
