@@ -28,7 +28,7 @@ from txforest.statuses import Failed
 from txforest.waiting import BETWEEN, NEW, Room, clear_left, give_answer, hand_out, rooms, take
 
 if TYPE_CHECKING:
-    from txforest.states import Seen
+    from txforest.states import Path, Seen
 
 ODD = (b"a b", b"\xff%", b"d\n")
 
@@ -257,7 +257,8 @@ class Jobs(TestRoom):
         """A directory's names tell their kinds: another kind is a conflict, another text is not."""
         reader = Reader(self.tree.root)
         self.addCleanup(reader.close)
-        names, text = {(b"d",): frozenset([b"x"])}, reader.kinds((b"d",))
+        names: dict[Path, Seen] = {(b"d",): frozenset([b"x"])}
+        text = reader.kinds((b"d",))
         for number, (change, what) in enumerate((("file", DONE), ("link", CONFLICT))):
             with Room(self.tree) as one, Room(self.tree) as two:
                 looked, made = self.job(two, f"n{number}", "new", False)
