@@ -10,6 +10,7 @@ from __future__ import annotations
 
 import fcntl
 import os
+import shlex
 import shutil
 import stat
 import struct
@@ -217,6 +218,46 @@ def streams(room: str) -> str:
     return "the same input at each try, held output once, what stays is told and ended"
 
 
+def meanwhile(room: str) -> str:
+    """Jobs that change something and change it back while a command runs: what it saw of that is
+    never kept."""
+    write(f"{room}/spec", "dir\n")
+    cases = [
+        ("cat a", "rm a", "cat a", "echo 1 > a"),
+        ("ls d/x", "rm -r d", "cat d/x", "mkdir d; echo 1 > d/x"),
+        ("test -d d", "rm -r d", "ls d", "mkdir d; echo 1 > d/x"),
+        ("test -d d", "rm -r d; ln -s a d", "ls d", "rm d; mkdir d; echo 1 > d/x"),
+        ("test -e a", "rm a", "echo 2 >> a", "echo 1 > a"),
+        (":", "echo 1 > new", "! test -e new", "rm new"),
+        (":", "mkdir d/new", "! ls d | grep -q new", "rmdir d/new"),
+    ]
+    again = 0
+    for option in "--trace", "--whole", "--only=*", "--plain":
+        env = {**os.environ, "TXFOREST_FUSE": f"{room}/no-device"} if option == "--plain" else None
+        options = [option] if env is None else []
+        for looks, change, look, back in cases:
+            shutil.rmtree(f"{room}/tree", ignore_errors=True)
+            write(f"{room}/tree/a", "1\n")
+            write(f"{room}/tree/d/x", "1\n")
+            job = f"{DO} {room}/tree {room}/spec -- sh -c"
+            script = f"[ -e {room}/once ] || first=yes; : > {room}/once; {looks}\n"
+            script += f"[ ! $first ] || {job} {shlex.quote(change)}\n"
+            script += f"{look} || echo odd > saw\n"
+            script += f"[ ! $first ] || {job} {shlex.quote(back)}; rm -f saw.tmp"
+            told = sh(room, script, *options, env=env)
+            os.unlink(f"{room}/once")
+            if os.path.exists(f"{room}/tree/saw"):
+                raise Wrong(f"{option} {change}: what was seen meanwhile is kept: {told}")
+            again += "run again" in told
+    write(f"{room}/tree/a", "1\n")
+    change = f"{DO} {room}/tree {room}/spec -- sh -c 'rm a; ln -s d/x a'"
+    told = sh(room, f"find . -type f > found; [ -e {room}/once ] || {change}; : > {room}/once")
+    if "./a\n" in read(f"{room}/tree/found"):
+        raise Wrong(f"a name whose kind was another is kept as a file: {told}")
+    count = 4 * len(cases)
+    return f"{count} jobs among others that change back: nothing of it is kept, {again} again"
+
+
 def access_list(default: bool = False) -> bytes:
     """An access list as the kernel has it: the group 4711 may read, besides what 0640 gives."""
     entries = [(1, 6, -1), (4, 4, -1), (8, 4, 4711), (16, 4, -1), (32, 5 if default else 0, -1)]
@@ -314,6 +355,7 @@ def attributes(room: str, *options: str) -> str:
                 raise Wrong(f"{option} {change}: is refused, and the tree is another: {told}")
             carried, refused = carried + is_carried, refused + (not is_carried)
         modes(room, option)
+        attributes_of_two(room, option)
     as_plain = "are carried as plain commands make them"
     return f"{carried} changes of rights alone {as_plain}, {refused} refused"
 
@@ -325,6 +367,23 @@ def modes(room: str, option: str) -> None:
         sh(room, f"echo 3 > d/x; chmod {mode:o} {now}", option)
         if os.stat(now).st_mode & 0o777 != mode:
             raise Wrong(f"{option}: another job's mode of a directory is undone")
+
+
+def attributes_of_two(room: str, option: str) -> None:
+    """Two jobs at once that change attributes of a file, or one of them its content: both stay."""
+    now = f"{room}/tree/a"
+    for what, change in (
+        ("user.one", "os.setxattr('a', 'user.one', b'1')"),
+        ("more", "open('a', 'a').write('more')"),
+    ):
+        first = f"os.path.exists('{room}/{what}') or os.mknod('{room}/{what}') or"
+        other = f"os.setxattr('{now}', 'user.not-{what}', b'2')"
+        python = f"import os; {change}; {first} {other}"
+        run([DO, option, "tree", "spec", "--", sys.executable, "-c", python], room)
+        found = [*os.listxattr(now), read(now)]
+        if f"user.not-{what}" not in found or not any(it.endswith(what) for it in found):
+            raise Wrong(f"{option} {change}: {found}")
+        os.unlink(f"{room}/{what}")
 
 
 def counts(room: str, count: str = "400", processes: str = "8") -> str:
@@ -463,6 +522,12 @@ def systems(room: str) -> str:
             found.append(f"{name} {on_system(at)}")
         finally:
             run(["umount", at], room)
+    at = f"{room}/mounted"
+    run(["sh", "-ec", f"mkdir -p {at}/tree; mount -t tmpfs none {at}/tree"], room)
+    try:
+        found.append(f"a mount {on_system(at)}")
+    finally:
+        run(["umount", f"{at}/tree"], room)
     return ", ".join(found)
 
 
@@ -472,6 +537,7 @@ def on_system(at: str) -> str:
     write(f"{at}/tree/a", "0\n")
     write(f"{at}/tree/d/e/f", "0\n")
     script = "v=$(cat a); echo $((v + 1)) > a; rm -r d; mkdir -p d/g; echo $v > d/g/h; ln -sfn d l"
+    script += "; ls -a > names"
     words = [DO, "--log", "log", "tree", "spec", "--", "sh", "-c", script]
     jobs = [subprocess.Popen(words, cwd=at, stderr=subprocess.DEVNULL) for _ in range(3)]
     if any([job.wait() for job in jobs]):
@@ -480,6 +546,8 @@ def on_system(at: str) -> str:
         sh(at, script, option)
     if read(f"{at}/tree/a") != "5\n" or os.listdir(f"{at}/tree/d/g") != ["h"]:
         raise Wrong(f"{at}: {read(f'{at}/tree/a')}")
+    if read(f"{at}/tree/names").split() != [".", "..", "a", "d", "l", "names"]:
+        raise Wrong(f"{at}: {read(f'{at}/tree/names')}")
     return read(f"{at}/log").split()[6].split(":")[1]
 
 
@@ -505,6 +573,7 @@ def together(room: str, *pairs: str) -> str:
 PARTS: dict[str, Callable[..., str]] = {
     "statuses": statuses,
     "streams": streams,
+    "meanwhile": meanwhile,
     "attributes": attributes,
     "rota": rota,
     "counts": counts,

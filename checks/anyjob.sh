@@ -10,5 +10,5 @@ export TXFOREST
 if [ $# -gt 0 ]; then exec python3 -B "$top/checks/anyjob.py" "$@"; fi
 for kind in traced python; do python3 -B "$top/checks/anyjob.py" histories $kind 800; done
 for kind in whole plain only; do python3 -B "$top/checks/anyjob.py" histories $kind 150; done
-python3 -B "$top/checks/anyjob.py" statuses streams attributes rota 40 counts 10000 users systems
+python3 -B "$top/checks/anyjob.py" statuses streams meanwhile attributes rota 40 counts 10000 users systems
 python3 -B "$top/checks/anyjob.py" faults kills 1 moments 100 costs together

@@ -9,6 +9,8 @@ it printed is an answer.
 
 from __future__ import annotations
 
+import gc
+import importlib
 import os
 import random
 import shutil
@@ -24,6 +26,18 @@ SPEC = '<a : ("a" :: file), <b : ("b" :: file), pred(((int(a) + int(b)) < 8))>>\
 KINDS = ("traced", "whole", "plain", "only", "python")
 FAULTS = ("no reads", "no absent paths", "no listings")
 FAILED, NO_VALUE = 3, 122
+USED = (
+    "calls", "commit", "copies", "declared", "differences", "do", "folders", "intent", "interface",
+    "jobs", "lines", "links", "lock", "log", "mounts", "only", "operations", "place", "program",
+    "queue", "room", "settle", "signals", "spelling", "stage", "staged", "states", "statuses",
+    "survey", "terminal", "traced", "valued", "view", "waiting", "whole",
+)  # fmt: skip
+
+
+def load() -> None:
+    """Loads the modules that jobs use: each job is a fork, and need not read them anew."""
+    for name in USED:
+        importlib.import_module(f"txforest.{name}")
 
 
 def script_of(r: random.Random, label: str) -> str:
@@ -63,6 +77,7 @@ def step_of(r: random.Random, label: str) -> str:
         f" elif [ -d k ]; then ls k; rm -r k; echo {label} > k; else rm -f k; ln -s a k; fi;"
         f" echo k",
         "test -e nothere && echo odd",
+        "if [ -L cur ]; then mv cur old; else mv old cur; fi; ls; readlink old || echo none",
         f"echo {label} > blind; true",
         f"sed -i 's/$/{label}/' w; cat w",
     ]
@@ -321,6 +336,7 @@ class History:
 
     def job(self, k: int, work: Any) -> int:
         """One job, in a process of its own: its status."""
+        gc.disable()  # as the tool does
         for number, name in ((1, "out"), (2, "err")):
             where = os.path.join(self.room, f"{name}{k}")
             os.dup2(os.open(where, os.O_WRONLY | os.O_CREAT | os.O_APPEND, 0o644), number)
@@ -380,9 +396,9 @@ class History:
             self.line(" ".join(["group", *(group[number].name for number in order)]))
 
         def ended(transaction: Any, room: Any, copy: Any, status: Any, held: Any) -> Any:
-            rooms = len(self.told())
             found = settled(transaction, room, copy, status, held)
-            if held is not None and found == status and len(self.told()) == rooms:
+            is_submitted = f"room {room.name} {k}\n" in self.told()
+            if held is not None and found == status and not is_submitted:
                 self.line(f"alone {k}")
             return found
 
@@ -419,6 +435,8 @@ class History:
 def plant(fault: str | None, looked: Any) -> None:
     """Breaks what a job says it has read, to see that the histories show it."""
     reads = looked.reads
+    if fault in ("no reads", "no listings"):
+        looked.kinds.clear()
     if fault == "no reads":
         reads.clear()
     for path in list(reads):
@@ -430,6 +448,7 @@ def plant(fault: str | None, looked: Any) -> None:
 
 def histories(kind: str, count: int, first: int, fault: str | None, top: str) -> tuple[int, str]:
     """Runs so many histories: the number of the first that is wrong, or -1, and what is told."""
+    load()
     jobs = tries = groups = 0
     for number in range(first, first + count):
         room = os.path.join(top, f"history{number}")

@@ -11,6 +11,8 @@ import time
 import traceback
 from collections.abc import Callable
 
+from anyjob_histories import load
+
 SPEC = 'dir\n'
 STEPS = ("begun", "ran", "prepared", "locked", "gathered", "decided", "valued", "put", "told")
 EARLY = ("begun", "ran", "prepared")
@@ -181,6 +183,7 @@ def one(
 
 def kills(top: str, part: int) -> tuple[str, str]:
     """Kills a leader at each step, and at each `part`-th call; what is told and what is wrong."""
+    load()
     kept = 0
     for follows, steps in ((False, STEPS), (True, FOLLOWED)):
         for step in steps:
@@ -213,6 +216,7 @@ def kills(top: str, part: int) -> tuple[str, str]:
 
 def at_random(top: str, count: int) -> tuple[str, str]:
     """Kills jobs at random moments, one after another."""
+    load()
     r = random.Random(5)
     it = Jobs(os.path.join(top, "random"))
     expected, kept = "0\n", 0

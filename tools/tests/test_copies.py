@@ -58,9 +58,31 @@ class States(Room):
             file.write("y")
         second = digest_of(root)
         self.assertNotEqual(second, first)
-        self.write("skipped")
-        self.assertEqual(digest_of(root, frozenset([b"skipped"])), second)
+        self.write(".txforest-0123456789ab/x")
+        self.assertEqual(digest_of(root), second)
+        self.write("other")
         self.assertNotEqual(digest_of(root), second)
+
+    def test_places_in_the_tree_are_passed_over(self) -> None:
+        """They stand there for a while where the tree is a mount."""
+        self.write("d/.txforest-0123456789ab")
+        reader = Reader(self.root())
+        self.addCleanup(reader.close)
+        kinds = reader.kinds(())
+        self.write(".txforest-0123456789ab/x")
+        self.write(".txforest-other")
+        self.assertEqual(sorted(reader.names(())), [b".txforest-other", b"d"])
+        self.assertEqual(reader.names((b"d",)), [b".txforest-0123456789ab"])
+        self.assertNotIn((b".txforest-0123456789ab",), reader.below(()))
+        os.unlink(os.path.join(self.top, ".txforest-other"))
+        self.assertEqual(reader.kinds(()), kinds)
+        it = Asked(-1, self.root())
+        self.addCleanup(it.reader.close)
+        self.assertEqual(it.listing(1), [b"d"])
+        room = os.path.join(self.room, "copy")
+        os.mkdir(room)
+        copy = Plain(room, self.root())
+        self.assertEqual((os.listdir(copy.tree), copy.spoiled), (["d"], None))
 
 
 class Copies(Room):
@@ -173,6 +195,31 @@ class Copies(Room):
         copy, _ = self.copied(declared(["a"]), "")
         self.assertIsNone(copy.looked().spoiled)
 
+    def test_what_comes_and_goes_while_it_is_copied(self) -> None:
+        """A copy that has what was there for a while, or lacks what was gone, never commits."""
+        self.write("a", "a")
+        os.mkdir(os.path.join(self.top, "d"))
+
+        filling = Plain.fill
+
+        def here(copy: Plain) -> None:
+            where = self.write("new")
+            filling(copy)
+            os.unlink(where)
+
+        def gone(copy: Plain) -> None:
+            os.rename(os.path.join(self.top, "d"), os.path.join(self.room, "d"))
+            filling(copy)
+            os.rename(os.path.join(self.room, "d"), os.path.join(self.top, "d"))
+
+        for torn, path in (here, (b"new",)), (gone, (b"d",)):
+            with mock.patch.object(Plain, "fill", torn):
+                copy, _ = self.copied(Plain, "")
+            self.assertEqual(copy.looked().total, digest_of(copy.root))
+            self.assertEqual(copy.looked().spoiled, path)
+        copy, _ = self.copied(Plain, "")
+        self.assertIsNone(copy.looked().spoiled)
+
     def test_what_no_tree_has(self) -> None:
         _, made = self.copied(Plain, "mkfifo p")
         with self.assertRaises(Failed):
@@ -250,6 +297,28 @@ class Tracing(Room):
             file.write("longer")
         self.assertEqual(it.looked().spoiled, (b"a",))
 
+    def test_what_was_gone_for_a_while_spoils_the_job(self) -> None:
+        """A look that meets nothing where something was found has seen another moment."""
+        where, away = os.path.join(self.top, "d"), os.path.join(self.room, "away")
+        listing, attribute = struct.pack("=QQI", 0, 0, 64), struct.pack("=II", 64, 0)
+        for path, code, body in (
+            ("x", traced.OPEN, b""),
+            ("", traced.READDIR, listing),
+            ("x", traced.LISTXATTR, attribute),
+            ("x", traced.GETXATTR, attribute + b"user.x\0"),
+        ):
+            it = Asked(-1, self.root())
+            node = it.look(1, b"d")
+            if path:
+                node = it.look(node, b"x")
+                it.content(node)
+            it.reader.close()
+            os.rename(where, away)
+            self.assertNotEqual(it.ask(code, node, body)[0], 0)
+            os.rename(away, where)
+            self.assertIsNotNone(it.looked().spoiled, code)
+            it.reader.close()
+
     def test_attributes_are_shown(self) -> None:
         it = self.server
         try:
@@ -262,6 +331,11 @@ class Tracing(Room):
         self.assertEqual(it.ask(traced.LISTXATTR, node, struct.pack("=II", 64, 0))[1], b"user.x\0")
         body = struct.pack("=II", 1, 0) + b"user.x\0"
         self.assertNotEqual(it.ask(traced.GETXATTR, node, body)[0], 0)
+        os.setxattr(os.path.join(self.top, "a"), "user.y", b"later")
+        self.assertEqual(it.ask(traced.LISTXATTR, node, struct.pack("=II", 64, 0))[1], b"user.x\0")
+        self.assertEqual(it.looked().attributes, {(b"a",): {"user.x": b"value"}})
+        size = struct.pack("=II", 0, 0)
+        self.assertEqual(it.ask(traced.LISTXATTR, it.look(1, b"l"), size), (0, size))
 
     def test_unknown_requests(self) -> None:
         self.assertNotEqual(self.server.ask(99, 1)[0], 0)

@@ -7,7 +7,7 @@ from typing import TYPE_CHECKING
 from unittest import mock
 
 from tests.rooms import Room as TestRoom
-from txforest.copies import Changes, Looked
+from txforest.copies import Changes, Looked, digest_of
 from txforest.jobs import (
     CONFLICT,
     DONE,
@@ -22,12 +22,13 @@ from txforest.jobs import (
 )
 from txforest.lines import path_of, read_lines, seen_line, seen_of, written_lines
 from txforest.place import Tree
+from txforest.staged import Job
 from txforest.states import LINK, Kind, Reader, token_of
 from txforest.statuses import Failed
-from txforest.waiting import BETWEEN, Room, clear_left, give_answer, hand_out, rooms, take
+from txforest.waiting import BETWEEN, NEW, Room, clear_left, give_answer, hand_out, rooms, take
 
 if TYPE_CHECKING:
-    from txforest.states import Seen
+    from txforest.states import Path, Seen
 
 ODD = (b"a b", b"\xff%", b"d\n")
 
@@ -100,6 +101,7 @@ class Jobs(TestRoom):
     def test_text_there_and_back(self) -> None:
         with Room(self.tree) as room:
             looked = Looked({(b"a",): b"f 0644 0 0 1", (): frozenset(ODD), ODD: None}, b"total")
+            looked.kinds = {(): b"kinds"}
             made = Changes()
             made.writes = {(b"n",): b"f 0644 0 0 new", (b"d",): LINK + b"a"}
             made.writes[(b"e",)] = Kind.DIRECTORY
@@ -108,13 +110,14 @@ class Jobs(TestRoom):
             made.files = {(b"n",): room.inside("new file")}
             made.modes = {ODD: 0o750}
             made.owners = {ODD: (12, 34)}
-            made.attributes = {(b"n",): {"user.x": b"\0\xff"}, (b"d",): {}}
+            made.attributes = {(b"n",): {"user.x": b"\0\xff", "user.y": None}}
             Prepared(room.name, b"text\n", looked, made, room.path).write()
             self.assertTrue(take(room.fd))
             found = prepared_in(room.fd, room.name, room.path)
         assert found is not None
         self.assertEqual(found.description, b"text\n")
         self.assertEqual((found.looked.reads, found.looked.total), (looked.reads, b"total"))
+        self.assertEqual(found.looked.kinds, looked.kinds)
         self.assertEqual(found.changes.writes, made.writes)
         self.assertEqual(found.changes.files, made.files)
         self.assertEqual(found.changes.modes, made.modes)
@@ -139,6 +142,24 @@ class Jobs(TestRoom):
             self.assertEqual((other.what, other.where()), (CONFLICT, "/a"))
         self.assertEqual((self.read("a"), self.read("b")), ("2", "2"))
         self.assertEqual(self.left(), [])
+
+    def test_attributes_of_several_jobs(self) -> None:
+        """Each job of a group gives a file the attributes that it has changed, and no others."""
+        try:
+            os.setxattr(os.path.join(self.top, "a"), "user.old", b"old")
+            os.setxattr(os.path.join(self.top, "a"), "user.kept", b"kept")
+        except OSError:
+            self.skipTest("no extended attributes here")
+        with Room(self.tree) as one, Room(self.tree) as two:
+            looked, made = self.job(two, "a", "1")
+            made.attributes = {(b"a",): {"user.two": b"2", "user.old": None}}
+            Prepared(two.name, self.clerk.text, looked, made, two.path).write()
+            looked, made = self.job(one, "a", "1")
+            made.attributes = {(b"a",): {"user.one": b"1"}}
+            self.assertEqual(self.clerk.submit(one, looked, made).what, DONE)
+            self.assertEqual(answer_of(two.answer() or b"").what, DONE)
+        found = os.listxattr(os.path.join(self.top, "a"))
+        self.assertEqual(sorted(found), ["user.kept", "user.one", "user.two"])
 
     def test_each_state_has_a_value(self) -> None:
         self.write("d/y", "y")
@@ -167,6 +188,17 @@ class Jobs(TestRoom):
             self.assertEqual(self.clerk.submit(two, *self.job(two, "c", "2", False)).what, DONE)
             self.assertIsNone(one.answer())
         self.assertEqual(self.read("b"), "outside")
+
+    def test_a_room_found_by_its_first_name_is_not_taken(self) -> None:
+        """Its job may be prepared by the time it is opened. Whoever took it then could give it no
+        answer, and it would be done twice."""
+        with Room(self.tree) as one, Room(self.tree) as two:
+            self.prepared(two, "b", "2", False)
+            first = os.path.join(os.path.dirname(two.path), f"{NEW}{two.name}")
+            os.rename(two.path, first)
+            self.assertEqual(self.clerk.submit(one, *self.job(one, "a", "2")).what, DONE)
+            os.rename(first, two.path)
+            self.assertTrue(two.withdraw())
 
     def test_answered_is_withdrawn(self) -> None:
         """A room loses its files one by one, the answer perhaps before the job."""
@@ -221,6 +253,30 @@ class Jobs(TestRoom):
             self.assertEqual(self.clerk.submit(one, *self.job(one, "a", "2")).what, DONE)
             self.assertIsNone(two.answer())
 
+    def test_kinds_of_names_are_compared(self) -> None:
+        """A directory's names tell their kinds: another kind is a conflict, another text is not."""
+        reader = Reader(self.tree.root)
+        self.addCleanup(reader.close)
+        names: dict[Path, Seen] = {(b"d",): frozenset([b"x"])}
+        text = reader.kinds((b"d",))
+        for number, (change, what) in enumerate((("file", DONE), ("link", CONFLICT))):
+            with Room(self.tree) as one, Room(self.tree) as two:
+                looked, made = self.job(two, f"n{number}", "new", False)
+                looked.reads.update(names)
+                looked.kinds[(b"d",)] = text
+                Prepared(two.name, self.clerk.text, looked, made, two.path).write()
+                looked, made = self.job(one, "d/x", change, False)
+                if change == "link":
+                    made.writes[b"d", b"x"] = LINK + b"y"
+                self.assertEqual(self.clerk.submit(one, looked, made).what, DONE)
+                self.assertEqual(answer_of(two.answer() or b"").what, what)
+        with Room(self.tree) as one:
+            looked, made = self.job(one, "n3", "new", False)
+            looked.reads.update(names)
+            looked.kinds[(b"d",)] = text
+            answer = self.clerk.submit(one, looked, made)
+            self.assertEqual((answer.what, answer.where()), (CONFLICT, "/d"))
+
     def test_very_many_reads_are_one_sum(self) -> None:
         with mock.patch("txforest.jobs.NODES", 20):
             for path, what in ((None, DONE), ("n5", CONFLICT)):
@@ -232,10 +288,19 @@ class Jobs(TestRoom):
                     answer = self.clerk.submit(one, looked, made)
                 self.assertEqual((answer.what, answer.at), (what, (b"n5",) if path else None))
 
+    def test_what_was_there_for_a_while_is_a_conflict(self) -> None:
+        """Where all of the tree counts as read, what was looked at is compared besides."""
+        total = digest_of(self.tree.root)
+        for seen, what in ((b"f 0644 0 0 x", CONFLICT), (None, DONE)):
+            with Room(self.tree) as one:
+                looked, made = self.job(one, "b", "2", False)
+                looked.total, looked.reads = total, {(b"new",): seen}
+                self.assertEqual(self.clerk.submit(one, looked, made).what, what)
+
     def test_sum_touches_what_was_read(self) -> None:
         total = sum_of({(b"a",): None, (b"d",): frozenset()}, self.tree.root)
         for path, touches in (((b"a",), True), ((b"d", b"n"), True), ((b"e",), False)):
-            self.assertEqual(total.touches(path), touches)
+            self.assertEqual(total.touches(Job("other", {}, {path: None})), touches)
         self.assertNotEqual(total.seen, total.now())
         self.assertNotEqual(digest_of_states({(b"a",): None}), digest_of_states({(b"b",): None}))
 

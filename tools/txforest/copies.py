@@ -16,23 +16,26 @@ import os
 import stat
 
 from .calls import PLAIN
+from .place import is_place
 from .states import DIRECTORY_FLAGS, FILE_FLAGS, Kind, Reader, new_digest, token_of
 from .statuses import Failed, Status
 from .terminal import below
 
 TYPE_CHECKING = False
 if TYPE_CHECKING:
-    from collections.abc import Iterator, Mapping
+    from collections.abc import Iterator
     from typing import NoReturn
 
     from .states import Made, Path, Seen
 
     Rights = tuple[int, int, int]
+    Attributes = dict[str, bytes]
 
 FICLONE = 0x40049409
 SYSTEMS_OWN = ("user.overlay.", "trusted.overlay.", "security.", "system.nfs4")  # attributes
 CAPABILITY = "security.capability"
 DEFAULT, ACCESS = "system.posix_acl_default", "system.posix_acl_access"
+COPIED = (stat.S_IFREG, stat.S_IFDIR, stat.S_IFLNK)
 NO_CLONE = (errno.EOPNOTSUPP, errno.EINVAL, errno.EXDEV, errno.ENOTTY, errno.EPERM)
 
 
@@ -43,9 +46,11 @@ class CannotEnter(Exception):
 class Looked:
     """What a command has read: of each path what it saw there.
 
-    `total` is a digest of the whole tree if all of it counts as read. `spoiled` is a path that
-    changed while the command ran, so that it may have seen two moments; it has to run again.
-    `rights` are the modes and owners of directories as it has seen them; they are not compared.
+    `kinds` has of each directory whose names it has read which kinds they had. `total` is a digest
+    of the whole tree if all of it counts as read. `spoiled` is a path that changed while the
+    command ran, so that it may have seen two moments; it has to run again. `rights` are the modes
+    and owners of directories as it has seen them, and `attributes` those of files and directories
+    that are extended ones; they are not compared.
     """
 
     def __init__(
@@ -54,11 +59,14 @@ class Looked:
         total: bytes | None = None,
         spoiled: Path | None = None,
         rights: dict[Path, Rights] | None = None,
+        attributes: dict[Path, Attributes] | None = None,
     ) -> None:
         self.reads = reads or {}
         self.total = total
         self.spoiled = spoiled
         self.rights = rights or {}
+        self.attributes = attributes or {}
+        self.kinds: dict[Path, bytes] = {}
 
 
 class Changes:
@@ -69,7 +77,7 @@ class Changes:
     before      of each of these paths what stood there
     modes       the modes of directories that were there before and have another one now
     owners      the owners of such directories, user and group, if root has given another one
-    attributes  the extended attributes of files that have other ones now
+    attributes  the extended attributes of files that are others now; nothing for one that is gone
     """
 
     def __init__(self) -> None:
@@ -78,7 +86,7 @@ class Changes:
         self.before: dict[Path, Seen] = {}
         self.modes: dict[Path, int] = {}
         self.owners: dict[Path, tuple[int, int]] = {}
-        self.attributes: dict[Path, dict[str, bytes]] = {}
+        self.attributes: dict[Path, dict[str, bytes | None]] = {}
 
     def __bool__(self) -> bool:
         return bool(self.writes or self.modes or self.owners or self.attributes)
@@ -99,6 +107,15 @@ class Changes:
         if os.geteuid() == 0 and (user, group) != before[1:]:
             self.owners[path] = user, group
 
+    def take_attributes(self, path: Path, before: Attributes, now: Attributes) -> None:
+        """Takes the extended attributes of a file that are others than before."""
+        made: dict[str, bytes | None] = {
+            name: value for name, value in now.items() if before.get(name) != value
+        }
+        made.update((name, None) for name in before.keys() - now.keys())
+        if made:
+            self.attributes[path] = made
+
     def check(self) -> None:
         """Refuses what no tree of the tools can have."""
         for path, new in self.writes.items():
@@ -114,6 +131,7 @@ class Copy:
 
     name = "copy"  # how it is told
     word = "copy"  # and in a log
+    spoiled: Path | None = None  # what changed while it was made, so that no command is to see it
 
     def __init__(self, room: str, root: int) -> None:
         """`room` is a directory of the job's own, `root` a descriptor of the tree."""
@@ -168,14 +186,16 @@ class Plain(Copy):
 
     def __init__(self, room: str, root: int) -> None:
         super().__init__(room, root)
+        self.kinds: dict[Path, int] = {}  # what stood in the tree before it was copied
         self.total = self.first_look()
         self.fill()
         self.marks: dict[Path, tuple[int, int, int, int]] = {}
-        self.folders: dict[Path, dict[str, bytes]] = {}  # the attributes of directories
+        self.attributes: dict[Path, Attributes] = {}  # as far as there are any
         for path, found in entries(self.tree):
             self.marks[path] = mark(found)
-            if stat.S_ISDIR(found.st_mode):
-                self.folders[path] = attributes_of(self.inside(path))
+            if attributes := attributes_of(self.inside(path)):
+                self.attributes[path] = attributes
+        self.compare_kinds()
         wait_for_clock()
 
     def inside(self, path: Path) -> bytes:
@@ -184,14 +204,23 @@ class Plain(Copy):
 
     def first_look(self) -> bytes | None:
         """The digest of the tree before it is copied."""
-        return digest_of(self.root, is_first=True)
+        return digest_of(self.root, is_first=True, kinds=self.kinds)
 
     def fill(self) -> None:
         """Copies the tree."""
-        copy_tree(self.root, os.open(self.tree, DIRECTORY_FLAGS))
+        copy_tree(self.root, os.open(self.tree, DIRECTORY_FLAGS), True)
+
+    def compare_kinds(self) -> None:
+        """Looks whether the copy has what the tree had: something may come, or go, for as long as
+        it is copied. The digest tells any other change."""
+        made = {path: stat.S_IFMT(mode) for path, (_, _, _, mode) in self.marks.items()}
+        wanted = {path: kind for path, kind in self.kinds.items() if kind in COPIED}
+        odd = {path for path in made.keys() | wanted if made.get(path) != wanted.get(path)}
+        if odd:
+            self.spoiled = min(odd)
 
     def looked(self) -> Looked:
-        return Looked(total=self.total)
+        return Looked(total=self.total, spoiled=self.spoiled)
 
     def changes(self, looked: Looked) -> Changes:
         made, now = Changes(), set()
@@ -213,7 +242,10 @@ class Plain(Copy):
     def refuse_folder(self, path: Path) -> None:
         """Refuses a directory whose attributes are none that it had, or has from the one above."""
         found = attributes_of(self.inside(path))
-        if found != self.folders.get(path, inherited(self.inside(path[:-1]), found)):
+        before = self.attributes.get(path, {})
+        if path not in self.marks:
+            before = inherited(self.inside(path[:-1]), found)
+        if found != before:
             refuse_attributes(path)
 
     def compare(self, made: Changes, path: Path, found: os.stat_result, reader: Reader) -> None:
@@ -226,9 +258,7 @@ class Plain(Copy):
             made.take_rights(path, rights, found)
             return
         if stat.S_ISREG(found.st_mode):
-            attributes = attributes_of(where)
-            if attributes != kept_attributes(reader, path):
-                made.attributes[path] = attributes
+            made.take_attributes(path, self.attributes.get(path, {}), attributes_of(where))
         if new != before or path in made.attributes:
             made.put(path, before, new, where)
 
@@ -269,16 +299,13 @@ def entries(top: str | bytes, path: Path = ()) -> Iterator[tuple[Path, os.stat_r
             yield from entries(top, inside)
 
 
-def copy_tree(source: int, target: int) -> None:
-    """Copies what stands in one directory into another; closes the second. No link is followed."""
+def copy_tree(source: int, target: int, is_root: bool = False) -> None:
+    """Copies what stands in one directory into another; closes the second. No link is followed. Of
+    a tree's root the places are left out."""
     try:
-        with os.scandir(source) as found:
-            here = list(found)
-        for entry in here:
-            try:
-                copy_entry(entry.name, source, target)
-            except FileNotFoundError:  # it went meanwhile, which shows in the tree's digest
-                continue
+        for name in os.listdir(source):
+            if not is_root or not is_place(os.fsencode(name)):
+                copy_entry(name, source, target)
         copy_attributes(source, target)
         give(target, os.fstat(source))
     finally:
@@ -286,8 +313,24 @@ def copy_tree(source: int, target: int) -> None:
 
 
 def copy_entry(name: str, source: int, target: int) -> None:
-    """Copies one entry of a directory, a directory with all below it."""
-    found = os.stat(name, dir_fd=source, follow_symlinks=False)
+    """Copies one entry of a directory, a directory with all below it.
+
+    Of one that goes meanwhile, or becomes another, there is no copy; that shows at the end.
+    """
+    try:
+        found = os.stat(name, dir_fd=source, follow_symlinks=False)
+        try:
+            copy_found(name, found, source, target)
+        except OSError:
+            now = os.stat(name, dir_fd=source, follow_symlinks=False)
+            if stat.S_IFMT(now.st_mode) == stat.S_IFMT(found.st_mode):
+                raise
+    except FileNotFoundError:
+        return
+
+
+def copy_found(name: str, found: os.stat_result, source: int, target: int) -> None:
+    """Copies an entry of the kind that was found."""
     if stat.S_ISDIR(found.st_mode):
         os.mkdir(name, 0o700, dir_fd=target)
         inside = os.open(name, DIRECTORY_FLAGS, dir_fd=source)
@@ -355,17 +398,25 @@ def give(fd: int, found: os.stat_result) -> None:
 # ---- extended attributes
 
 
-def attributes_of(where: bytes | str | int) -> dict[str, bytes]:
+def is_kept(name: str) -> bool:
+    """Whether a tree keeps an extended attribute: it is not the system's own."""
+    return not name.startswith(SYSTEMS_OWN) or name == CAPABILITY and os.geteuid() == 0
+
+
+def attributes_of(where: bytes | str | int) -> Attributes:
     """The extended attributes of a file or directory that a tree keeps, access lists among them."""
-    found: dict[str, bytes] = {}
+    return {name: value for name, value in all_attributes(where).items() if is_kept(name)}
+
+
+def all_attributes(where: bytes | str | int) -> Attributes:
+    """All extended attributes of a file or directory that this user may read."""
+    found: Attributes = {}
     follow = isinstance(where, int)
     try:
         names = os.listxattr(where, follow_symlinks=follow)
     except OSError:
         return found
     for name in names:
-        if name.startswith(SYSTEMS_OWN) and (name != CAPABILITY or os.geteuid() != 0):
-            continue
         try:
             found[name] = os.getxattr(where, name, follow_symlinks=follow)
         except OSError:
@@ -373,7 +424,7 @@ def attributes_of(where: bytes | str | int) -> dict[str, bytes]:
     return found
 
 
-def inherited(above: bytes, found: Mapping[str, bytes]) -> Mapping[str, bytes]:
+def inherited(above: bytes, found: Attributes) -> Attributes:
     """The attributes that a new directory has if nobody gave it any: with a default access list of
     the directory above its own lists are what that makes of them."""
     default = attributes_of(above).get(DEFAULT)
@@ -382,7 +433,7 @@ def inherited(above: bytes, found: Mapping[str, bytes]) -> Mapping[str, bytes]:
     return {DEFAULT: default, **({ACCESS: found[ACCESS]} if ACCESS in found else {})}
 
 
-def kept_attributes(reader: Reader, path: Path) -> dict[str, bytes]:
+def kept_attributes(reader: Reader, path: Path) -> Attributes:
     """The extended attributes of a file of a tree."""
     try:
         fd = os.open(path[-1], FILE_FLAGS, dir_fd=reader.directory(path[:-1]))
@@ -397,16 +448,20 @@ def kept_attributes(reader: Reader, path: Path) -> dict[str, bytes]:
 # ---- all of a tree as one text
 
 
-def digest_of(root: int, skip: frozenset[bytes] = frozenset(), is_first: bool = False) -> bytes:
+def digest_of(
+    root: int, is_first: bool = False, kinds: dict[Path, int] | None = None
+) -> bytes:
     """One text for all that stands in a tree: paths, kinds, modes, owners, inodes, sizes, times.
 
-    `skip` are names at its root that are passed over. With `is_first` it waits until any later
-    change would show in a time. No content is read; of directories the times don't count.
+    With `is_first` it waits until any later change would show in a time. No content is read; of
+    directories the times don't count. `kinds` is told the kind of each entry.
     """
     import time
 
+    told: dict[Path, int] = {} if kinds is None else kinds
     for _ in range(20):
         made, young = new_digest(), 0
+        told.clear()
         reader = Reader(root)
         work: list[Path] = [()]
         while work:
@@ -417,9 +472,10 @@ def digest_of(root: int, skip: frozenset[bytes] = frozenset(), is_first: bool = 
                     here = sorted(found, key=lambda entry: entry.name)
                 for entry in here:
                     inside = (*path, os.fsencode(entry.name))
-                    if not path and inside[0] in skip:
+                    if not path and is_place(inside[0]):
                         continue
                     it = os.stat(entry.name, dir_fd=fd, follow_symlinks=False)
+                    told[inside] = stat.S_IFMT(it.st_mode)
                     line = b"%o %d %d %d" % (it.st_mode, it.st_ino, it.st_uid, it.st_gid)
                     if stat.S_ISDIR(it.st_mode):
                         work.append(inside)

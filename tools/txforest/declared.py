@@ -7,7 +7,7 @@ import os
 
 from .copies import Copy, Changes, Looked, Plain, copy_attributes, copy_file, give
 from .only import Only
-from .states import DIRECTORY_FLAGS, LINK, Kind, Reader, same_content, token_of
+from .states import DIRECTORY_FLAGS, LINK, NOTHING, Kind, Reader, same_content, token_of
 from .statuses import Failed, Status
 from .terminal import below
 
@@ -44,12 +44,15 @@ class Declared(Plain):
 
     def fill(self) -> None:
         self.reads: dict[Path, Seen] = {}
-        self.spoiled: Path | None = None
         reader = Reader(self.root)
         try:
             self.expand(reader, (), self.only.start())
             self.copy(reader)
             self.compare_all(reader)
+        except OSError as error:
+            if error.errno not in NOTHING:
+                raise
+            self.spoiled = ()  # a directory went meanwhile
         finally:
             reader.close()
 
@@ -131,6 +134,9 @@ class Declared(Plain):
                 is_same = isinstance(made, bytes) and same_content(made, state)
             if not is_same:
                 self.spoiled = path
+
+    def compare_kinds(self) -> None:
+        """Nothing else is to be compared: the copy is made of what was read."""
 
     def looked(self) -> Looked:
         return Looked(dict(self.reads), spoiled=self.spoiled)

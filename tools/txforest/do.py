@@ -422,6 +422,7 @@ class Transaction:
     def attempt(self, held: int | None) -> int | Answer:
         """Runs the command once: the status of the whole, or an answer that makes it run again."""
         from .copies import CannotEnter
+        from .jobs import CONFLICT, Answer
         from .waiting import Room
 
         while True:
@@ -432,6 +433,8 @@ class Transaction:
                 self.clerk.reached("begun")
                 copy = self.kinds[0](room.path, self.tree.root)
                 self.verbose(f"try {self.tried}: {copy.name}")
+                if copy.spoiled is not None:
+                    return Answer(CONFLICT, copy.spoiled)
                 self.command.ready()
                 status = self.command.run(copy)
                 self.clerk.reached("ran")

@@ -10,14 +10,15 @@ The text of a prepared job, the file `job` of its room, is one of lines.py, with
     description TEXT            what the description was when the job was called
     log TEXT                    what the place of the commit carries for the job's log (log.py)
     total DIGEST                all of the tree was read
+    kinds PATH TEXT             which kinds the names of a directory had, as states.py tells them
     put PATH TOKEN SOURCE       a file or link is to stand there; SOURCE is below the room
     make PATH SOURCE            a directory
     gone PATH                   nothing
     clear PATH                  what stands there goes first, being of another kind
     mode PATH MODE              a directory that was there gets this mode
     owner PATH USER GROUP       and this owner
-    attribute PATH NAME VALUE   the file has this extended attribute, and no others but those told
-    plain PATH                  the file has no extended attributes
+    attribute PATH NAME VALUE   the file gets this extended attribute
+    without PATH NAME           the file has this one no longer
 """
 
 from __future__ import annotations
@@ -26,12 +27,23 @@ import os
 import stat
 
 from .commit import Changed, Refused, Unfinished, commit, hold_signals, let_signals
-from .copies import Changes, Looked, digest_of
+from .copies import Changes, Looked, digest_of, kept_attributes
 from .differences import Change
 from .lines import path_of, path_words, read_lines, seen_line, seen_of, written_lines
 from .lock import lock
 from .program import call, called
-from .waiting import BETWEEN, JOB, TAKEN, Room, clear_left, give_answers, put_back, rooms, take
+from .waiting import (
+    BETWEEN,
+    JOB,
+    NEW,
+    TAKEN,
+    Room,
+    clear_left,
+    give_answers,
+    put_back,
+    rooms,
+    take,
+)
 from .settle import settle
 from .staged import JOBS, NODES, Decision, Job, Sum, decide
 from .states import LINK, Kind, Reader, identity, new_digest, token_of
@@ -44,13 +56,14 @@ TYPE_CHECKING = False
 if TYPE_CHECKING:
     from collections.abc import Iterator, Sequence
 
+    from .copies import Attributes
     from .place import Tree
     from .program import Answer as ProgramAnswer
     from .states import Made, Path, Seen
     from .touched import Looks
 
 DONE, CONFLICT, NO_VALUE = b"done", b"conflict", b"no value"
-MADE = (b"put", b"make", b"gone", b"clear", b"mode", b"owner", b"plain", b"attribute")
+MADE = (b"put", b"make", b"gone", b"clear", b"mode", b"owner", b"attribute", b"without")
 AGAIN = 3  # how often a leader begins again if somebody without the lock changes the tree
 
 
@@ -118,6 +131,8 @@ class Prepared:
             yield [b"total", self.looked.total]
         for path, seen in self.looked.reads.items():
             yield seen_line(path, seen)
+        for path, text in self.looked.kinds.items():
+            yield [b"kinds", *path_words(path), text]
         made = self.changes
         job = Job(self.name, {}, made.writes, made.before)
         for path, new in made.writes.items():
@@ -138,21 +153,23 @@ class Prepared:
         for path, (user, group) in made.owners.items():
             yield [b"owner", *path_words(path), b"%d" % user, b"%d" % group]
         for path, attributes in made.attributes.items():
-            yield [b"plain", *path_words(path)]
             for name, value in attributes.items():
-                yield [b"attribute", *path_words(path), os.fsencode(name), value]
+                words = [*path_words(path), os.fsencode(name)]
+                yield [b"without", *words] if value is None else [b"attribute", *words, value]
 
     def job(self, tree: Tree) -> Job:
         """The job as the program is asked about it. Of very many reads one sum is made."""
         job = Job(self.name, self.looked.reads, self.changes.writes, self.changes.before)
-        total = self.looked.total
+        total, sums = self.looked.total, []
         if total is not None:
-            now = lambda: digest_of(tree.root, skipped(tree))  # noqa: E731
-            job.total = Sum(total, now, lambda path: True)
+            sums = [Sum(total, lambda: digest_of(tree.root), lambda other: True)]
+        if total is not None or job.weight() > NODES // 2:
+            sums.append(sum_of(job.reads, tree.root))
             job.reads = {}
-        elif job.weight() > NODES // 2:
-            job.total = sum_of(job.reads, tree.root)
-            job.reads = {}
+        if self.looked.kinds:
+            sums.append(sum_of_kinds(self.looked.kinds, tree.root))
+        if sums:
+            job.total = added(sums)
         return job
 
 
@@ -168,6 +185,9 @@ def prepared_in(room: int, name: str, path: str) -> Prepared | None:
                 log = line[1]
             elif line[0] == b"total":
                 looked.total = line[1]
+            elif line[0] == b"kinds":
+                at, rest = path_of(line[1:])
+                looked.kinds[at] = rest[0]
             elif line[0] in MADE:
                 take_line(made, line, path)
             else:
@@ -197,10 +217,9 @@ def take_line(made: Changes, line: list[bytes], room: str) -> None:
         made.modes[path] = int(rest[0], 8)
     elif line[0] == b"owner":
         made.owners[path] = int(rest[0]), int(rest[1])
-    elif line[0] == b"plain":
-        made.attributes[path] = {}
     else:
-        made.attributes[path][os.fsdecode(rest[0])] = rest[1]
+        value = rest[1] if line[0] == b"attribute" else None
+        made.attributes.setdefault(path, {})[os.fsdecode(rest[0])] = value
 
 
 def source_in(room: str, source: bytes) -> str:
@@ -221,10 +240,37 @@ def sum_of(reads: dict[Path, Seen], root: int) -> Sum:
         finally:
             reader.close()
 
-    def touches(path: Path) -> bool:
-        return path in reads or path[:-1] in listings
+    def touches(other: Job) -> bool:
+        return any(path in reads or path[:-1] in listings for path in other.writes)
 
     return Sum(digest_of_states(reads), now, touches)
+
+
+def sum_of_kinds(kinds: dict[Path, bytes], root: int) -> Sum:
+    """The kinds of the names of directories as one. Who changes one clears what stood there."""
+
+    def now() -> bytes:
+        reader = Reader(root)
+        try:
+            return digest_of_states({path: reader.kinds(path) for path in kinds})
+        finally:
+            reader.close()
+
+    def touches(other: Job) -> bool:
+        return any(path[:-1] in kinds for path in other.removes)
+
+    return Sum(digest_of_states(dict(kinds)), now, touches)
+
+
+def added(sums: list[Sum]) -> Sum:
+    """Several sums as one."""
+    if len(sums) == 1:
+        return sums[0]
+    return Sum(
+        b" ".join(it.seen for it in sums),
+        lambda: b" ".join(it.now() for it in sums),
+        lambda other: any(it.touches(other) for it in sums),
+    )
 
 
 def again(reader: Reader, path: Path, seen: Seen) -> Seen:
@@ -244,11 +290,6 @@ def digest_of_states(states: dict[Path, Seen]) -> bytes:
         for word in seen_line(path, states[path]):
             made.update(b"%d " % len(word) + word)
     return b"sum " + made.hexdigest().encode()
-
-
-def skipped(tree: Tree) -> frozenset[bytes]:
-    """What a look at the whole tree passes over."""
-    return frozenset(map(os.fsencode, tree.skip()))
 
 
 # ---- the tree while its lock is held
@@ -313,7 +354,8 @@ class Leader:
         found: list[tuple[int, Prepared]] = []
         if self.room.is_shared:
             for name, fd, used in rooms(self.tree):
-                if not used or name == self.room.name or not take(fd):
+                is_named = not name.startswith(NEW)  # else it has another name by now
+                if not used or name == self.room.name or not is_named or not take(fd):
                     continue
                 come = os.stat(TAKEN, dir_fd=fd).st_mtime_ns
                 other = prepared_in(fd, name, os.path.join(os.path.dirname(self.room.path), name))
@@ -390,7 +432,8 @@ class Leader:
         jobs = [group[number].job(self.tree) for number in left]
         decision = decide(self.run, self.fresh("decided"), jobs, held)
         for number, path in decision.refused.items():
-            at = path or self.other_path(group[left[number]])
+            done = [jobs[other] for other in decision.done]
+            at = path or self.other_path(group[left[number]], done)
             answers[left[number]] = Answer(CONFLICT, at)
         totals = [jobs[number].total for number in decision.done]
         held.sums = [total for total in totals if total is not None]
@@ -422,14 +465,18 @@ class Leader:
         answer.line = answer.line.replace(own, os.fsencode(self.clerk.description))
         return answer
 
-    def other_path(self, it: Prepared) -> Path | None:
+    def other_path(self, it: Prepared, done: Sequence[Job]) -> Path | None:
         """A path that is not as a job has seen it, if it told no path but a sum."""
-        if it.looked.total is not None:
-            return None
+        for path in (path for other in done for path in other.removes):
+            if path[:-1] in it.looked.kinds:
+                return path
         reader = Reader(self.tree.root)
         try:
             for path, seen in it.looked.reads.items():
                 if again(reader, path, seen) != seen:
+                    return path
+            for path, text in it.looked.kinds.items():
+                if reader.kinds(path) != text:
                     return path
         finally:
             reader.close()
@@ -525,7 +572,7 @@ def changes_of(
         name = os.fsdecode(b"/".join(path))
         if old is not None:
             found.taken[name] = old
-        attributes = it.changes.attributes.get(path)
+        attributes = attributes_at(path, done, held)
         if new == held.state(path) and attributes is None:
             continue
         for turn, change in change_of(name, new, old, source, attributes):
@@ -547,6 +594,22 @@ def changes_of(
     return [*room, *turns["new"], *turns["other"], *gone]
 
 
+def attributes_at(path: Path, done: Sequence[Prepared], held: Watched) -> Attributes | None:
+    """The extended attributes that a file is to have: those that it has now, with what the done
+    jobs change of them. Nothing if they change none."""
+    changed = [it.changes.attributes[path] for it in done if path in it.changes.attributes]
+    if not changed:
+        return None
+    found = kept_attributes(held, path)
+    for attributes in changed:
+        for name, value in attributes.items():
+            if value is None:
+                found.pop(name, None)
+            else:
+                found[name] = value
+    return found
+
+
 def is_source(new: Made, source: str | None) -> bool:
     """Whether a file has what is to stand at a path; its owner may be another."""
     if not isinstance(new, bytes) or new.startswith(LINK):
@@ -563,7 +626,7 @@ def change_of(
     new: Made,
     old: os.stat_result | None,
     source: str | None,
-    attributes: dict[str, bytes] | None,
+    attributes: Attributes | None,
 ) -> Iterator[tuple[str, Change]]:
     """The changes at one path, each with its turn."""
     was_directory = old is not None and stat.S_ISDIR(old.st_mode)

@@ -13,6 +13,7 @@ from .terminal import shown
 
 DIGITS = frozenset(b"0123456789abcdef")
 IDENT = 12
+INSIDE = b".txforest-"  # with what the name of a place begins that stands in the tree itself
 
 
 class Tree:
@@ -56,7 +57,7 @@ class Tree:
             or found.st_dev != os.fstat(self.above).st_dev
         )
         self.home = self.root if self.inside else self.above
-        self.front = b".txforest-" if self.inside else beside_front(self.name)
+        self.front = INSIDE if self.inside else beside_front(self.name)
 
     def close(self) -> None:
         """Closes its descriptors."""
@@ -89,12 +90,14 @@ def beside_front(name: bytes) -> bytes:
 
 def place_names(home: int, front: bytes) -> list[bytes]:
     """The names of a directory that a front and the digits of a place's number make up."""
-    length = len(front) + IDENT
-    return [
-        name
-        for name in map(os.fsencode, os.listdir(home))
-        if len(name) == length and name.startswith(front) and DIGITS.issuperset(name[len(front) :])
-    ]
+    return [name for name in map(os.fsencode, os.listdir(home)) if is_place(name, front)]
+
+
+def is_place(name: bytes, front: bytes = INSIDE) -> bool:
+    """Whether a name is made of a front and the digits of a place's number. At the root of a tree
+    one that begins as those inside do is passed over by jobs of any program."""
+    digits = name[len(front) :]
+    return name.startswith(front) and len(digits) == IDENT and DIGITS.issuperset(digits)
 
 
 class Place:

@@ -155,13 +155,13 @@ def script(number: int) -> str:
 
 
 class Sum:
-    """Many reads as one: of what was seen one digest, and which changes are changes of it.
+    """Many reads as one: of what was seen one digest, and which jobs make changes of it.
 
     `seen` is the digest that the job has found, `now` computes it anew from the tree as it stands.
     """
 
     def __init__(
-        self, seen: bytes, now: Callable[[], bytes], touches: Callable[[Path], bool]
+        self, seen: bytes, now: Callable[[], bytes], touches: Callable[[Job], bool]
     ) -> None:
         self.seen = seen
         self.now = now
@@ -309,11 +309,11 @@ class Staged:
         for inside in (own, (*own, b"at"), (*own, b"as")):
             self.folder.mkdir(inside)
         entries = Entries(self.folder, own)
+        for path, seen in job.reads.items():
+            self.read(entries, path, seen)
         if job.total:
             self.folder.put(self.sum(number), job.total.now())
             entries.add("f", self.sum(number), job.total.seen)
-        for path, seen in job.reads.items():
-            self.read(entries, path, seen)
         for path in sorted(job.removes, reverse=True):
             entries.add("r", spelled(path))
         stored = sorted(job.writes.items())
@@ -371,7 +371,7 @@ class Entries:
 
 def touched(total: Sum | None, job: Job) -> bool:
     """Whether a job makes a change that is one of what a sum stands for."""
-    return total is not None and any(map(total.touches, job.writes))
+    return total is not None and bool(job.writes) and total.touches(job)
 
 
 # ---- the decision

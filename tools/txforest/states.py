@@ -22,8 +22,11 @@ import os
 import stat
 import time
 
+from .place import is_place
+
 TYPE_CHECKING = False
 if TYPE_CHECKING:
+    from collections.abc import Iterable
     from typing import ClassVar, Protocol, Union
 
     class Digest(Protocol):
@@ -180,6 +183,21 @@ def token_of(name: bytes | str, dir_fd: int) -> Made:
     return token_of_large(found) if content is None else token_of_bytes(found, content)
 
 
+def kind_of_entry(entry: os.DirEntry[str]) -> int:
+    """The kind of an entry of a directory, as a stat has it; of what is odd that of a file."""
+    if entry.is_dir(follow_symlinks=False):
+        return stat.S_IFDIR
+    return stat.S_IFLNK if entry.is_symlink() else stat.S_IFREG
+
+
+def text_of_kinds(kinds: Iterable[tuple[bytes, int]]) -> bytes:
+    """One text for the names in a directory with their kinds."""
+    made = new_digest()
+    for name, kind in sorted(kinds):
+        made.update(b"%d %d " % (kind, len(name)) + name)
+    return made.hexdigest().encode()
+
+
 class Reader:
     """A tree that is read below the descriptor of its root: no link is followed on the way."""
 
@@ -243,8 +261,20 @@ class Reader:
         return content_of(path[-1], self.directory(path[:-1]))
 
     def names(self, path: Path) -> list[bytes]:
-        """The names in a directory, in no order."""
-        return [os.fsencode(name) for name in os.listdir(self.directory(path))]
+        """The names in a directory, in no order; at the root without those of places."""
+        names = map(os.fsencode, os.listdir(self.directory(path)))
+        return list(names) if path else [name for name in names if not is_place(name)]
+
+    def kinds(self, path: Path) -> bytes:
+        """The text of the names in a directory with their kinds; empty if there is none."""
+        try:
+            with os.scandir(self.directory(path)) as found:
+                kinds = ((os.fsencode(it.name), kind_of_entry(it)) for it in found)
+                return text_of_kinds(it for it in kinds if path or not is_place(it[0]))
+        except OSError as error:
+            if error.errno in NOTHING:
+                return b""
+            raise
 
     def below(self, path: Path) -> list[Path]:
         """All paths below a directory, each directory before what stands in it."""
@@ -253,6 +283,8 @@ class Reader:
         with os.scandir(self.directory(path)) as entries:
             for entry in entries:
                 inside = (*path, os.fsencode(entry.name))
+                if not path and is_place(inside[0]):
+                    continue
                 if entry.is_dir(follow_symlinks=False):
                     inner.append(inside)
                 else:

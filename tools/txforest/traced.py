@@ -21,20 +21,26 @@ from .copies import (
     Changes,
     Copy,
     Looked,
+    all_attributes,
     attributes_of,
     digest_of,
     inherited,
+    is_kept,
     kept_attributes,
     refuse_attributes,
     rights_of,
 )
 from .lines import path_of, path_words, read_lines, seen_line, seen_of, written_lines
 from .mounts import NODEV, NOSUID, READ_ONLY, mount, own_mounts
+from .place import is_place
 from .states import (
+    FILE_FLAGS,
     LINK,
     Kind,
     Reader,
     identity,
+    kind_of_entry,
+    text_of_kinds,
     token_of,
     token_of_bytes,
     token_of_large,
@@ -45,11 +51,13 @@ TYPE_CHECKING = False
 if TYPE_CHECKING:
     from _socket import socket
 
+    from .copies import Attributes
     from .states import Made, Path, Seen
 
 LOOKUP, FORGET, GETATTR, READLINK, OPEN, READ, STATFS, RELEASE = 1, 2, 3, 5, 14, 15, 17, 18
 GETXATTR, LISTXATTR, FLUSH, INIT, OPENDIR, READDIR, RELEASEDIR = 22, 23, 25, 26, 27, 28, 29
 ACCESS, INTERRUPT, DESTROY, BATCH_FORGET = 34, 36, 38, 42
+CLOSED = (errno.EACCES, errno.EPERM)  # what is not for this user, as it is at any moment
 SILENT = (FORGET, BATCH_FORGET, INTERRUPT)
 EVER = 1 << 30
 KEEP_CACHE, CACHE_DIR = 2, 8
@@ -79,6 +87,7 @@ class Server:
         self.paths: dict[int, Path] = {1: ()}
         self.known: dict[Path, Known] = {(): Known(os.fstat(root), 1)}
         self.names: dict[Path, list[tuple[int, bytes, int]]] = {}
+        self.extended: dict[Path, Attributes] = {}  # the extended attributes
         self.files: dict[int, bytes | int] = {}  # open files: the content, or a descriptor
         self.opened = 0
         self.calls = 0
@@ -229,20 +238,26 @@ class Server:
     def open(self, path: Path, body: bytes) -> bytes:
         """Opens a file for reading, if it is still the one that was looked up."""
         known = self.known[path]
-        found, content = self.reader.content(path)
-        if known.found is None or identity(found) != identity(known.found):
-            self.spoil(path)
-            raise OSError(errno.ESTALE, "")
-        self.opened += 1
+        try:
+            found, content = self.reader.content(path)
+            if known.found is None or identity(found) != identity(known.found):
+                raise OSError(errno.ESTALE, "")
+            held: bytes | int = self.large(path) if content is None else content
+        except OSError as error:
+            if known.state is not None or error.errno not in CLOSED:
+                self.spoil(path)
+            raise
         if content is None:
             known.state = token_of_large(found)
-            fd = os.open(path[-1], os.O_RDONLY, dir_fd=self.reader.directory(path[:-1]))
-            self.files[self.opened] = fd
-        else:
-            if known.state is None:
-                known.state = token_of_bytes(found, content)
-            self.files[self.opened] = content
+        elif known.state is None:
+            known.state = token_of_bytes(found, content)
+        self.opened += 1
+        self.files[self.opened] = held
         return struct.pack("=QII", self.opened, KEEP_CACHE, 0)
+
+    def large(self, path: Path) -> int:
+        """A descriptor of a file that is too large to be held."""
+        return os.open(path[-1], os.O_RDONLY, dir_fd=self.reader.directory(path[:-1]))
 
     def read(self, path: Path, body: bytes) -> bytes:
         """A part of an open file."""
@@ -267,8 +282,17 @@ class Server:
         """Names of a directory from a place on, as many as are asked for."""
         _, offset, size = struct.unpack_from("=QQI", body)
         if path not in self.names:
-            with os.scandir(self.reader.directory(path)) as found:
-                self.names[path] = [(e.inode(), os.fsencode(e.name), kind(e)) for e in found]
+            try:
+                with os.scandir(self.reader.directory(path)) as found:
+                    self.names[path] = [
+                        (it.inode(), os.fsencode(it.name), kind_of_entry(it))
+                        for it in found
+                        if path or not is_place(os.fsencode(it.name))
+                    ]
+            except OSError as error:
+                if error.errno not in CLOSED:
+                    self.spoil(path)
+                raise
         made, length = [], 0
         names = self.names[path]
         for place in range(offset, len(names)):
@@ -293,35 +317,42 @@ class Server:
         name = body[8:-1]
         if b"overlay." in name or not path and name.startswith(b"system.posix_acl"):
             raise OSError(errno.ENODATA, "")
-        return sized(self.attribute(path, name), size)
-
-    def attribute(self, path: Path, name: bytes) -> bytes:
-        """An extended attribute as the tree has it."""
-        fd = self.held(path)
-        try:
-            return os.getxattr(fd, name)
-        finally:
-            os.close(fd)
+        value = self.all_extended(path).get(os.fsdecode(name))
+        if value is None:
+            raise OSError(errno.ENODATA, "")
+        return sized(value, size)
 
     def listxattr(self, path: Path, body: bytes) -> bytes:
         """The names of all extended attributes, or their size."""
-        fd = self.held(path)
-        try:
-            names = [os.fsencode(name) for name in os.listxattr(fd)]
-        finally:
-            os.close(fd)
+        names = [os.fsencode(name) for name in self.all_extended(path)]
         shown = [name + b"\0" for name in names if b"overlay." not in name]
         return sized(b"".join(shown), struct.unpack_from("=I", body)[0])
 
-    def held(self, path: Path) -> int:
-        """A descriptor of a file or directory, for its extended attributes."""
+    def all_extended(self, path: Path) -> Attributes:
+        """The extended attributes that stood at a path when one was first asked for."""
+        if path not in self.extended:
+            fd = self.held(path)
+            try:
+                self.extended[path] = {} if fd is None else all_attributes(fd)
+            finally:
+                if fd is not None:
+                    os.close(fd)
+        return self.extended[path]
+
+    def held(self, path: Path) -> int | None:
+        """A descriptor of a file or directory, for its extended attributes; nothing of a link, of
+        which no attributes are kept."""
         if not path:
             return os.dup(self.reader.root)
         known = self.known[path].found
         if known is None or not (stat.S_ISREG(known.st_mode) or stat.S_ISDIR(known.st_mode)):
-            raise OSError(errno.ENODATA, "")
-        flags = os.O_RDONLY | os.O_NOFOLLOW | os.O_NONBLOCK | os.O_CLOEXEC
-        return os.open(path[-1], flags, dir_fd=self.reader.directory(path[:-1]))
+            return None
+        try:
+            return os.open(path[-1], FILE_FLAGS, dir_fd=self.reader.directory(path[:-1]))
+        except OSError as error:
+            if error.errno not in CLOSED:
+                self.spoil(path)
+            raise
 
     # ---- the account
 
@@ -343,7 +374,14 @@ class Server:
             for path, known in self.known.items()
             if known.found is not None and stat.S_ISDIR(known.found.st_mode)
         }
-        return Looked(reads, spoiled=self.spoiled, rights=folders)
+        attributes = {
+            path: {name: value for name, value in found.items() if is_kept(name)}
+            for path, found in self.extended.items()
+        }
+        looked = Looked(reads, spoiled=self.spoiled, rights=folders, attributes=attributes)
+        for path, names in self.names.items():
+            looked.kinds[path] = text_of_kinds((name, kind) for _, name, kind in names)
+        return looked
 
     def state(self, path: Path, known: Known) -> Seen:
         """What a path was when it was looked up. A file that nobody opened is read now."""
@@ -354,13 +392,6 @@ class Server:
         if now is None or identity(now) != identity(known.found):
             self.spoil(path)
         return state
-
-
-def kind(entry: os.DirEntry[str]) -> int:
-    """The kind of an entry, as a stat has it; of what is odd that of a file."""
-    if entry.is_dir(follow_symlinks=False):
-        return stat.S_IFDIR
-    return stat.S_IFLNK if entry.is_symlink() else stat.S_IFREG
 
 
 def sized(value: bytes, size: int) -> bytes:
@@ -423,10 +454,14 @@ class Traced(Copy):
         it.serve()
         looked = it.looked()
         lines = [seen_line(path, seen) for path, seen in looked.reads.items()]
+        lines += [[b"kinds", *path_words(path), text] for path, text in looked.kinds.items()]
         if looked.spoiled is not None:
             lines.append([b"spoiled", *looked.spoiled])
         for path, rights in looked.rights.items():
             lines.append([b"rights", *path_words(path), *(b"%d" % number for number in rights)])
+        for path, attributes in looked.attributes.items():
+            words = [word for it in attributes.items() for word in (os.fsencode(it[0]), it[1])]
+            lines.append([b"attributes", *path_words(path), *words])
         written_lines(self.account, b"looked", lines)
         return 0
 
@@ -473,6 +508,12 @@ class Traced(Copy):
                 path, numbers = path_of(line[1:])
                 mode, user, group = map(int, numbers)
                 found.rights[path] = mode, user, group
+            elif line[0] == b"kinds":
+                path, words = path_of(line[1:])
+                found.kinds[path] = words[0]
+            elif line[0] == b"attributes":
+                path, words = path_of(line[1:])
+                found.attributes[path] = dict(zip(map(os.fsdecode, words[::2]), words[1::2]))
             else:
                 path, seen = seen_of(line)
                 found.reads[path] = seen
@@ -588,8 +629,11 @@ class Walk:
         self.into(path, False, is_other)
 
     def attributes(self, path: Path) -> dict[str, bytes]:
-        """The attributes of an entry as the command could see them."""
-        found = kept_attributes(self.reader, path) if path else {}
+        """The attributes of an entry as the command could see them, or as they are if it did not
+        look."""
+        found = self.looked.attributes.get(path)
+        if found is None:
+            found = kept_attributes(self.reader, path) if path else {}
         if not self.is_root:  # in a user's name space the kernel shows no access lists
             found = {name: value for name, value in found.items() if name.startswith("user.")}
         return found
@@ -600,9 +644,8 @@ class Walk:
         if before is Kind.DIRECTORY:
             self.gone(path, before)
         if stat.S_ISREG(it.st_mode):
-            attributes = attributes_of(where)
-            if attributes != (self.attributes(path) if isinstance(before, bytes) else {}):
-                self.made.attributes[path] = attributes
+            were = self.attributes(path) if isinstance(before, bytes) else {}
+            self.made.take_attributes(path, were, attributes_of(where))
         if new != before or path in self.made.attributes:
             self.made.put(path, before, new, where)
 
