@@ -68,11 +68,3 @@ returns-in-Ok-beside-clause-fit g c =
     let b = g.H.Host.view c.read_description.new.host in
     let d = g.H.Host.view c.read_views.new.host in
     asks_both Lets a b (g.H.Host.view c.read_rest.new.host) c.in_ok-description.ensures.fit (asks_both Lets b d (g.H.Host.view c.read_rest.new.host) c.in-Ok.ensures.fit (λ lets. c.in-Ok-read_rest.ensures.fit lets.inputs))
-
-pub returns-in-Err-beside-clause-fit : goal.returns-in-Err-beside-clause-fit
-returns-in-Err-beside-clause-fit g c =
-    let Lets : Guard → Type 0 = λ guard. LetsViews guard.may_read (asked_views c.args.job.now) in
-    let a = g.H.Host.view c.args.host.now in
-    let b = g.H.Host.view c.read_description.new.host in
-    let d = g.H.Host.view c.read_views.new.host in
-    asks_both Lets a b (g.H.Host.view c.read_rest.new.host) c.in_ok-description.ensures.fit (asks_both Lets b d (g.H.Host.view c.read_rest.new.host) c.in-Ok.ensures.fit (λ lets. c.in-Ok-read_rest.ensures.fit lets.inputs))
