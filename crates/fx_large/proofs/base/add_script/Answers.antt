@@ -23,6 +23,6 @@ add-requires c =
 pub returns : goal.returns
 returns c =
     let here : slice_get c.args.texts.now c.args.k ≡ Some c.in-Some.text.now = search rules in
-    on_ok_weaker c.add.result _ _
+    on_ok_weaker c.add.result
     (λ added. goes_on c.args.texts.now c.args.k c.args.plan.now c.add.new.self c.in-Some.text.now c.in_ok-script.script c.requires.generated c.requires.small here c.requires.before added c.in_ok-script.ensures.shaped
     (λ number k small is. c.in_ok-script.ensures.script number k small (c.as_slice.ensures.value ∙ is))) c.add.ensures.ok
