@@ -208,7 +208,7 @@ SECTIONS = (
         "Texts: shapes and meaning",
         "These definitions say which trees are well shaped, and which description a text with"
         " definitions means.",
-        ("fx_show.Described.Describes", "fx_scripts.Scripted.Scripts"),
+        ("fx_source.Described.Describes", "fx_source.Scripted.Scripts"),
         (
             "fx_spec.Written.meant",
             "fx_spec.Written.names_in",
@@ -281,7 +281,7 @@ SECTIONS = (
         "Statuses 3 and 4: first faults",
         "These definitions say which texts and folders are refused, and for what.",
         ("fx_inputs.Inputs.IsFirstRefused", "fx_folder.Loads.IsRefused"),
-        ("fx_show.Described.IsRefusedFor",),
+        ("fx_source.Described.IsRefusedFor",),
     ),
     Section(
         "The other statuses of `run`",

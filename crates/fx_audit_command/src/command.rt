@@ -16,6 +16,7 @@ use fx_spec::Base;
 use fx_words::AuditJob;
 use std::alloc::Global;
 use std::sync::Arc;
+use std::thread::Threads;
 
 /// The line that tells the verdict on the report, for a base that is read.
 fn line_by<H: Host>(
@@ -46,7 +47,12 @@ fn line_by<H: Host>(
 }
 
 /// The line that tells the verdict on the report.
-fn line_of<H: Host>(alloc: Global, job: &AuditJob, host: &mut H) -> Result<Vec<u8>, Status>
+fn line_of<R: Threads, H: Host>(
+    rt: &R,
+    alloc: Global,
+    job: &AuditJob,
+    host: &mut H,
+) -> Result<Vec<u8>, Status>
     requires { AreInputs job.now.inputs }
     ensures said { IfOk result (λ line. IfSome (H.view host.old).told
         (λ t. IsAuditing t (asked_audit job.now) line.items)) }
@@ -55,13 +61,14 @@ fn line_of<H: Host>(alloc: Global, job: &AuditJob, host: &mut H) -> Result<Vec<u
     ensures ends { IfErr result
         (AuditEndsAs (asked_audit job.now) (H.view host.old) (H.view host.new)) }
 {
-    let base = read_base(alloc, &job.inputs, host)?;
+    let base = read_base(rt, alloc, &job.inputs, host)?;
     line_by(alloc, job, base, host)
 }
 
 /// Prints the verdict on the text at REPORT, as the report of a run of what SPEC, FOLDER and the scripts stand for. It ends
 /// alike for every verdict.
-pub fn audit<H: Host, S: Sink>(
+pub fn audit<R: Threads, H: Host, S: Sink>(
+    rt: &R,
     alloc: Global,
     job: &AuditJob,
     host: &mut H,
@@ -72,7 +79,7 @@ pub fn audit<H: Host, S: Sink>(
         (S.view out.old) (S.view out.new) (status_of result) }
     ensures fit { AuditAsks (asked_audit job.now) (H.view host.old) (H.view host.new) }
 {
-    let line = line_of(alloc, job, host)?;
+    let line = line_of(rt, alloc, job, host)?;
     print_all(out, &line)?;
     Ok(())
 }

@@ -1,7 +1,9 @@
 pub mod AllRead
 pub mod OneScript
+pub mod PlanOfTexts
 pub mod Plans
 pub mod ReadRows
+pub mod ReadTexts
 pub mod Readings
 pub mod Stages
 pub mod ViewsRows

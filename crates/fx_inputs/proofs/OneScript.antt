@@ -1,21 +1,20 @@
 -- A script, read from the host and checked.
 use Rattle.std.proofs.Common.{◌≡◌, ℕ, ◌≤◌, ◌<◌, List, length, Option, IfSome, refl, sym, subst, arith}
-use Rattle.fx_outside.specs.declared.kind.HostFault.{HostFault}
-use Rattle.fx_outside.specs.declared.kind.HostFault.TheVariants as fails
-use Rattle.fx_outside.specs.Host.{HostView, FaultAt, HasFailed}
-use Rattle.fx_outside.specs.Tree.{Tree, is_file_at, bytes_at}
+use Rattle.fx_outside.specs.Host.{HostView}
+use Rattle.fx_outside.specs.Tree.{Tree, bytes_at}
 use Rattle.fx_spec.specs.CommandTree.{CommandTree}
 use Rattle.fx_command.specs.declared.status.TextFault.{TextFault}
 use Rattle.fx_command.specs.declared.status.TextFault.TheVariants as fault
 use Rattle.fx_base.specs.Limits.{source_limit}
+use Rattle.fx_command.specs.Reading.{ReadEnds}
 use Rattle.fx_command.specs.Texts.{IsReadAt}
 use Rattle.fx_command.proofs.Told.{if_some_map}
-use Rattle.fx_scripts.specs.declared.fault.ScriptFault.{ScriptFault}
-use Rattle.fx_scripts.specs.declared.fault.ScriptFault.TheVariants as refusal
-use Rattle.fx_scripts.specs.Scripted.{Scripts, IsNoScriptFor, IsUnscripted}
-use Rattle.fx_inputs.specs.Causes.{ScriptCause}
+use Rattle.fx_source.specs.declared.fault.SourceFault.{SourceFault}
+use Rattle.fx_source.specs.declared.fault.SourceFault.TheVariants as source
+use Rattle.fx_source.specs.Faults.{status_at}
+use Rattle.fx_source.specs.Scripted.{Scripts, IsNoScriptFor, IsUnscripted}
+use Rattle.fx_inputs.specs.Causes.{script_reading}
 use Rattle.fx_inputs.specs.Inputs.{HasNoScript, GoesOn}
-use Rattle.fx_inputs.specs.Unread.{of_host, of_script}
 
 abbrev Txns : Type 0
 Txns = List (List CommandTree)
@@ -55,11 +54,10 @@ refused_whole t path text before fault.TooMany read is = whole t path text befor
 no_script : (t : Tree) (path text : List ℕ) (before : ℕ) (cause : TextFault) → IsReadAt t path source_limit text → IsNoScriptFor text before cause → HasNoScript cause t path before
 no_script t path text before cause read is = record { file = read.file; refused = refused_whole t path text before cause read is }
 
-pub script_refused : (path text : List ℕ) (before : ℕ) (host host' : HostView) (refused : ScriptFault) → IfSome host.told (λ t. IsReadAt t path source_limit text) → IsUnscripted text before refused → ScriptCause path before host host' (of_script refused)
-script_refused path text before host host' (refusal.Refused cause) read is =
-    if_some_map (λ t. IsReadAt t path source_limit text) (λ t. HasNoScript cause t path before) host.told (λ t read. no_script t path text before cause read is) read
-script_refused path text before host host' refusal.NoMemory read is = tt
+pub script_refused : (told : Option Tree) (path text : List ℕ) (before : ℕ) (cause : TextFault) → IfSome told (λ t. IsReadAt t path source_limit text) → IsNoScriptFor text before cause → IfSome told (λ t. HasNoScript cause t path before)
+script_refused told path text before cause read is =
+    if_some_map (λ t. IsReadAt t path source_limit text) (λ t. HasNoScript cause t path before) told (λ t read. no_script t path text before cause read is) read
 
-pub script_unread : (path : List ℕ) (before : ℕ) (host host' : HostView) (fault : HostFault) → (fault ≡ fails.Failed → HasFailed (FaultAt path) (λ t. is_file_at t path) host host') → ScriptCause path before host host' (of_host fault)
-script_unread path before host host' fails.Failed failed = failed refl
-script_unread path before host host' fails.NoMemory failed = tt
+pub script_unread : (path text : List ℕ) (word before : ℕ) (host host' : HostView) (refused : SourceFault) → IfSome host.told (λ t. IsReadAt t path source_limit text) → IsUnscripted text before refused → ReadEnds (script_reading word path before) host host' (status_at word refused)
+script_unread path text word before host host' (source.Refused cause) read is = (refl, script_refused host.told path text before cause read is)
+script_unread path text word before host host' source.NoMemory read is = tt

@@ -1,31 +1,25 @@
--- The scripts of a run, read one after another.
-use Rattle.std.proofs.Common.{◌≡◌, ◌⊎◌, inl, inr, ℕ, zero, suc, ◌+◌, ◌≤◌, ◌<◌, Bool, true, false, List, [], ◌∷◌, ◌++◌, length, drop, Option, Some, None, IfSome, IsSomeAnd, refl, sym, ap, ◌∙◌, subst, append_assoc, arith, length-append}
+-- The scripts of a run, one after another.
+use Rattle.std.proofs.Common.{◌≡◌, ◌⊎◌, inl, inr, ℕ, ◌+◌, ◌≤◌, ◌<◌, false, List, [], ◌∷◌, ◌++◌, length, drop, Option, Some, None, IfSome, IsSomeAnd, refl, sym, ap, ◌∙◌, subst, append_assoc, arith, length-append}
 use Rattle.std.specs.Prelude.{slice_get}
-use Rattle.std.specs.List.{list_all, sum_by}
+use Rattle.std.specs.List.{sum_by}
 use Rattle.std.proofs.Math.ListN.{get_or}
 use Rattle.std.proofs.Math.Seq.{get_or-append_seam}
 use Rattle.std.proofs.lemmas.List.{append-nil}
 use Rattle.std.proofs.lemmas.List.Elements.{All-append, All-cons, All-nil}
 use Rattle.std.proofs.lemmas.List.Sums.{sum_by_push}
-use Rattle.fx_base.proofs.Booleans.{second_true, first_true}
 use Rattle.fx_base.proofs.Lists.{drop_next}
-use Rattle.fx_outside.specs.Host.{HostView, ReadsOnly, AsksAt, FaultAt, HasFailed}
+use Rattle.fx_outside.specs.Host.{HostView, FaultAt, HasFailed}
 use Rattle.fx_outside.specs.Tree.{Tree, is_file_at}
-use Rattle.fx_outside.proofs.Views.{reads_none, reads_then, fault_back}
 use Rattle.fx_spec.specs.CommandTree.{CommandTree}
 use Rattle.fx_spec.specs.WellShaped.{IsScript}
 use Rattle.fx_spec.specs.Plans.{IsPlan, count_of}
 use Rattle.fx_command.specs.declared.status.TextFault.{TextFault}
-use Rattle.fx_command.proofs.Told.{if_some_map}
-use Rattle.fx_words.specs.Job.{Inputs, place_of}
-use Rattle.fx_inputs.specs.declared.scripts.ScriptUnread.{ScriptUnread}
-use Rattle.fx_inputs.specs.declared.scripts.ScriptUnread.TheVariants as script
-use Rattle.fx_inputs.specs.Causes.{ScriptCause, UnreadCause}
-use Rattle.fx_inputs.specs.Unread.{unread_at}
+use Rattle.fx_command.proofs.Told.{if_some_map, if_some_both, some_and}
+use Rattle.fx_words.specs.Job.{Inputs}
 use Rattle.fx_inputs.specs.Inputs.{HasScripts, AreOnlyScripts, StopsAtScript, IsReached, GoesOn, HasNoScript, LacksFile}
 use Rattle.fx_inputs.specs.Reads.{FailsAtScript}
 
-abbrev Plan : Type 0
+abbrev pub Plan : Type 0
 Plan = List (List (List CommandTree))
 
 abbrev Paths : Type 0
@@ -86,10 +80,8 @@ front_more t paths plan i before path txns at goes was =
     }
 
 -- between two scripts
-pub record IsReading (old now : HostView) (paths : Paths) (plan : Plan) (i before : ℕ) : Type 0 where
-  pub reads : ReadsOnly old now
-  pub fit : list_all old.guard.may_read paths ≡ true → now.guard ≡ old.guard
-  pub front : IfSome old.told (λ t. IsFront t paths plan i before)
+pub record IsReading (told : Option Tree) (paths : Paths) (plan : Plan) (i before : ℕ) : Type 0 where
+  pub front : IfSome told (λ t. IsFront t paths plan i before)
   pub count : length plan ≡ i
   pub sum : sum_by length plan ≡ before
   pub planned : IsPlan plan
@@ -98,11 +90,9 @@ front_begins : (told : Option Tree) (paths : Paths) → IfSome told (λ t. IsFro
 front_begins None paths = tt
 front_begins (Some t) paths = front_empty t paths
 
-pub begins : (host : HostView) (paths : Paths) (plan : Plan) → plan ≡ [] → IsReading host host paths plan 0 0
-begins host paths plan none = subst (λ plan. IsReading host host paths plan 0 0) (sym none) (record {
-  reads = reads_none host;
-  fit = λ _. refl;
-  front = front_begins host.told paths;
+pub begins : (told : Option Tree) (paths : Paths) (plan : Plan) → plan ≡ [] → IsReading told paths plan 0 0
+begins told paths plan none = subst (λ plan. IsReading told paths plan 0 0) (sym none) (record {
+  front = front_begins told paths;
   count = refl;
   sum = refl;
   planned = record { scripts = All-nil IsScript; shells = omega arith; few = omega arith };
@@ -121,24 +111,14 @@ pub fits_alone : (plan : Plan) (script : List (List CommandTree)) → plan ≡ [
 fits_alone plan script none is few =
     subst (λ p. IsPlan (p ++ script ∷ [])) (sym none) (fits [] script 0 (record { scripts = All-nil IsScript; shells = omega arith; few = omega arith }) refl is (omega arith) (omega (arith, few)))
 
-front_goes_on : (told told' : Option Tree) (paths : Paths) (plan : Plan) (i before : ℕ) (path : List ℕ) (script : List (List CommandTree)) → told' ≡ told → slice_get paths i ≡ Some path → IfSome told (λ t. IsFront t paths plan i before) → IfSome told' (λ t. GoesOn t path before script) → IfSome told (λ t. IsFront t paths (plan ++ script ∷ []) (i + 1) (before + length script))
-front_goes_on None told' paths plan i before path script same at was goes = tt
-front_goes_on (Some t) told' paths plan i before path script same at was goes = front_more t paths plan i before path script at (subst (λ o. IfSome o (λ t. GoesOn t path before script)) same goes) was
+front_goes_on : (told : Option Tree) (paths : Paths) (plan : Plan) (i before : ℕ) (path : List ℕ) (script : List (List CommandTree)) → slice_get paths i ≡ Some path → IfSome told (λ t. IsFront t paths plan i before) → IfSome told (λ t. GoesOn t path before script) → IfSome told (λ t. IsFront t paths (plan ++ script ∷ []) (i + 1) (before + length script))
+front_goes_on told paths plan i before path script at =
+    if_some_both (λ t. IsFront t paths plan i before) (λ t. GoesOn t path before script) (λ t. IsFront t paths (plan ++ script ∷ []) (i + 1) (before + length script)) told
+    (λ t was goes. front_more t paths plan i before path script at goes was)
 
--- each of the paths that a fence lets through
-let_at : (may : List ℕ → Bool) (paths : Paths) (i : ℕ) (path : List ℕ) → slice_get paths i ≡ Some path → list_all may paths ≡ true → may path ≡ true
-let_at may [] i path at all = cc
-let_at may (p ∷ paths) zero path at all = let same : p ≡ path = cc in subst (λ x. may x ≡ true) same (first_true (may p) (list_all may paths) all)
-let_at may (p ∷ paths) (suc i) path at all = let_at may paths i path at (second_true (may p) (list_all may paths) all)
-
-lets_on : (old now : HostView) (paths : Paths) (i : ℕ) (path : List ℕ) → slice_get paths i ≡ Some path → now.guard ≡ old.guard → list_all old.guard.may_read paths ≡ true → now.guard.may_read path ≡ true
-lets_on old now paths i path at same all = subst (λ g. g.may_read path ≡ true) (sym same) (let_at old.guard.may_read paths i path at all)
-
-reads_one : (old now then : HostView) (paths : Paths) (plan : Plan) (i before : ℕ) (path : List ℕ) (script : List (List CommandTree)) → IsReading old now paths plan i before → slice_get paths i ≡ Some path → ReadsOnly now then → AsksAt path now then → IfSome now.told (λ t. GoesOn t path before script) → IsPlan (plan ++ script ∷ []) → IsReading old then paths (plan ++ script ∷ []) (i + 1) (before + length script)
-reads_one old now then paths plan i before path script was at reads fit goes planned = record {
-  reads = reads_then old now then was.reads reads;
-  fit = λ all. fit (lets_on old now paths i path at (was.fit all) all) ∙ was.fit all;
-  front = front_goes_on old.told now.told paths plan i before path script was.reads.same at was.front goes;
+reads_one : (told : Option Tree) (paths : Paths) (plan : Plan) (i before : ℕ) (path : List ℕ) (script : List (List CommandTree)) → IsReading told paths plan i before → slice_get paths i ≡ Some path → IfSome told (λ t. GoesOn t path before script) → IsPlan (plan ++ script ∷ []) → IsReading told paths (plan ++ script ∷ []) (i + 1) (before + length script)
+reads_one told paths plan i before path script was at goes planned = record {
+  front = front_goes_on told paths plan i before path script at was.front goes;
   count = length-append plan (script ∷ []) ∙ ap (λ n. n + 1) was.count;
   sum = sum_by_push length plan script ∙ ap (λ n. n + length script) was.sum;
   planned = planned;
@@ -149,15 +129,11 @@ count_pushed : (plan : Plan) (i : ℕ) (script : List (List CommandTree)) → le
 count_pushed plan i script is =
     ap (λ n. length (get_or (plan ++ script ∷ []) n [])) (sym is) ∙ ap (λ s. length s) (get_or-append_seam plan script [] [])
 
-pub reads_on : (old now then : HostView) (paths : Paths) (plan plan' : Plan) (i before count : ℕ) (path : List ℕ) (script : List (List CommandTree)) → IsReading old now paths plan i before → slice_get paths i ≡ Some path → plan' ≡ plan ++ script ∷ [] → count ≡ count_of plan' i → IsScript script → ReadsOnly now then → AsksAt path now then → IfSome now.told (λ t. GoesOn t path before script) → before + length script ≤ 100000 → length plan < 64 → IsReading old then paths plan' (i + 1) (before + count)
-reads_on old now then paths plan plan' i before count path script was at pushed counted is reads fit goes few room =
-    let one = reads_one old now then paths plan i before path script was at reads fit goes (fits plan script before was.planned was.sum is room few) in
+pub reads_on : (told : Option Tree) (paths : Paths) (plan plan' : Plan) (i before count : ℕ) (path : List ℕ) (script : List (List CommandTree)) → IsReading told paths plan i before → slice_get paths i ≡ Some path → plan' ≡ plan ++ script ∷ [] → count ≡ count_of plan' i → IsScript script → IfSome told (λ t. GoesOn t path before script) → before + length script ≤ 100000 → length plan < 64 → IsReading told paths plan' (i + 1) (before + count)
+reads_on told paths plan plan' i before count path script was at pushed counted is goes few room =
+    let one = reads_one told paths plan i before path script was at goes (fits plan script before was.planned was.sum is room few) in
     let adds : length script ≡ count = sym (count_pushed plan i script was.count) ∙ ap (λ p. count_of p i) (sym pushed) ∙ sym counted in
-    subst (λ p. IsReading old then paths p (i + 1) (before + count)) (sym pushed) (subst (λ n. IsReading old then paths (plan ++ script ∷ []) (i + 1) (before + n)) adds one)
-
--- where reading stops, nothing else was asked either
-pub fit_stop : (old now then : HostView) (paths : Paths) (plan : Plan) (i before : ℕ) (path : List ℕ) → IsReading old now paths plan i before → slice_get paths i ≡ Some path → AsksAt path now then → list_all old.guard.may_read paths ≡ true → then.guard ≡ old.guard
-fit_stop old now then paths plan i before path was at fit all = fit (lets_on old now paths i path at (was.fit all) all) ∙ was.fit all
+    subst (λ p. IsReading told paths p (i + 1) (before + count)) (sym pushed) (subst (λ n. IsReading told paths (plan ++ script ∷ []) (i + 1) (before + n)) adds one)
 
 -- at the end the plan is that of all the scripts
 whole : (t : Tree) (paths : Paths) (plan : Plan) (i before : ℕ) → i ≡ length paths → IsFront t paths plan i before → HasScripts t 0 paths plan
@@ -203,28 +179,23 @@ reached : (told : Option Tree) (paths : Paths) (plan : Plan) (i before : ℕ) (p
 reached told paths plan i before path at front =
     if_some_map (λ t. IsFront t paths plan i before) (λ t. StopsAtScript IsReached t 0 paths i) told (λ t front. reached_at t paths plan i before path at front) front
 
-refuses : (told now : Option Tree) (cause : TextFault) (paths : Paths) (plan : Plan) (i before : ℕ) (path : List ℕ) (word : ℕ) (place : ℕ → ℕ) → now ≡ told → word ≡ place i → slice_get paths i ≡ Some path → IfSome told (λ t. IsFront t paths plan i before) → IfSome now (λ t. HasNoScript cause t path before) → IfSome told (λ t. (i : ℕ) × (word ≡ place i) × StopsAtScript (HasNoScript cause) t 0 paths i)
-refuses None now cause paths plan i before path word place same is at front none = tt
-refuses (Some t) now cause paths plan i before path word place same is at front none =
-    (i, is, refused_at t cause paths plan i before path at front (subst (λ o. IfSome o (λ t. HasNoScript cause t path before)) same none))
+-- the script of number `i` is refused, or is not read
+pub refuses : (told : Option Tree) (cause : TextFault) (paths : Paths) (plan : Plan) (i before : ℕ) (path : List ℕ) (word : ℕ) (place : ℕ → ℕ) → word ≡ place i → slice_get paths i ≡ Some path → IfSome told (λ t. IsFront t paths plan i before) → IfSome told (λ t. HasNoScript cause t path before) → IfSome told (λ t. (i : ℕ) × (word ≡ place i) × StopsAtScript (HasNoScript cause) t 0 paths i)
+refuses told cause paths plan i before path word place is at =
+    if_some_both (λ t. IsFront t paths plan i before) (λ t. HasNoScript cause t path before) (λ t. (i : ℕ) × (word ≡ place i) × StopsAtScript (HasNoScript cause) t 0 paths i) told
+    (λ t front none. (i, is, refused_at t cause paths plan i before path at front none))
 
-lacks : (told now : Option Tree) (paths : Paths) (plan : Plan) (i before : ℕ) (path : List ℕ) → now ≡ told → slice_get paths i ≡ Some path → IfSome told (λ t. IsFront t paths plan i before) → IsSomeAnd now (λ t. is_file_at t path ≡ false) → IsSomeAnd told (λ t. (i : ℕ) × StopsAtScript LacksFile t 0 paths i)
-lacks None now paths plan i before path same at front none = let no = subst (λ o. IsSomeAnd o (λ t. is_file_at t path ≡ false)) same none in absurd no
-lacks (Some t) now paths plan i before path same at front none = (i, lacking_at t paths plan i before path at front (subst (λ o. IsSomeAnd o (λ t. is_file_at t path ≡ false)) same none))
+lacks : (told : Option Tree) (paths : Paths) (plan : Plan) (i before : ℕ) (path : List ℕ) → slice_get paths i ≡ Some path → IfSome told (λ t. IsFront t paths plan i before) → IsSomeAnd told (λ t. is_file_at t path ≡ false) → IsSomeAnd told (λ t. (i : ℕ) × StopsAtScript LacksFile t 0 paths i)
+lacks told paths plan i before path at =
+    some_and (λ t. IsFront t paths plan i before) (λ t. is_file_at t path ≡ false) (λ t. (i : ℕ) × StopsAtScript LacksFile t 0 paths i) told
+    (λ t front none. (i, lacking_at t paths plan i before path at front none))
 
-fails : (old now then : HostView) (paths : Paths) (plan : Plan) (i before : ℕ) (path : List ℕ) → IsReading old now paths plan i before → slice_get paths i ≡ Some path → HasFailed (FaultAt path) (λ t. is_file_at t path) now then → FailsAtScript paths old then ⊎ IsSomeAnd old.told (λ t. (i : ℕ) × StopsAtScript LacksFile t 0 paths i)
-fails old now then paths plan i before path was at (inl fault) = inl (record {
+pub fails : (host host' : HostView) (paths : Paths) (plan : Plan) (i before : ℕ) (path : List ℕ) → IsReading host.told paths plan i before → slice_get paths i ≡ Some path → HasFailed (FaultAt path) (λ t. is_file_at t path) host host' → FailsAtScript paths host host' ⊎ IsSomeAnd host.told (λ t. (i : ℕ) × StopsAtScript LacksFile t 0 paths i)
+fails host host' paths plan i before path was at (inl fault) = inl (record {
   number = i;
   path = path;
   script = at;
-  fault = fault_back path old now then was.reads.later fault;
-  before = reached old.told paths plan i before path at was.front;
+  fault = fault;
+  before = reached host.told paths plan i before path at was.front;
 })
-fails old now then paths plan i before path was at (inr none) = inr (lacks old.told now.told paths plan i before path was.reads.same at was.front none)
-
--- the script of number `i` is not read
-pub unread_here : (inputs : Inputs) (old now then : HostView) (plan : Plan) (i before : ℕ) (path : List ℕ) (word : ℕ) (fault : ScriptUnread) → IsReading old now inputs.scripts plan i before → slice_get inputs.scripts i ≡ Some path → word ≡ place_of inputs i → ScriptCause path before now then fault → UnreadCause inputs old then (unread_at word fault)
-unread_here inputs old now then plan i before path word (script.Refused cause) was at is none =
-    refuses old.told now.told cause inputs.scripts plan i before path word (λ i. place_of inputs i) was.reads.same is at was.front none
-unread_here inputs old now then plan i before path word script.ReadFault was at is failed = fails old now then inputs.scripts plan i before path was at failed
-unread_here inputs old now then plan i before path word script.NoMemory was at is none = tt
+fails host host' paths plan i before path was at (inr none) = inr (lacks host.told paths plan i before path at was.front none)

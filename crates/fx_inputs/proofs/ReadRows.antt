@@ -1,54 +1,58 @@
 -- How the stages that read end, from what each of them asks.
-use Rattle.std.proofs.Common.{◌≡◌, inl, inr, ℕ, Bool, false, List, IfSome, refl, sym, subst}
+use Rattle.std.proofs.Common.{◌≡◌, ◌⊎◌, inl, inr, ℕ, false, List, IfSome, IsSomeAnd}
 use Rattle.fx_base.specs.Causes.{Rose}
-use Rattle.fx_outside.specs.declared.kind.HostFault.{HostFault}
-use Rattle.fx_outside.specs.declared.kind.HostFault.TheVariants as fails
 use Rattle.fx_outside.specs.Host.{HostView, ReadsOnly, FaultAt, HasFailed}
 use Rattle.fx_outside.specs.Tree.{Tree, is_file_at}
 use Rattle.fx_outside.proofs.Views.{fault_back, fault_in_back}
-use Rattle.fx_table.specs.declared.fault.LoadFault.TheVariants as load
 use Rattle.fx_command.specs.declared.status.Status.{Status}
 use Rattle.fx_command.specs.declared.status.Status.TheVariants as status
 use Rattle.fx_command.specs.declared.status.TextFault.{TextFault}
-use Rattle.fx_command.specs.StatusOf.{read_status}
-use Rattle.fx_base.specs.Limits.{source_limit}
-use Rattle.fx_command.specs.Texts.{IsReadAt}
-use Rattle.fx_command.proofs.Told.{if_some_map, some_and, some_unit, cause_back, some_back}
-use Rattle.fx_show.specs.Described.{Describes, IsRefusedFor, IsUndescribed}
-use Rattle.fx_show.specs.Faults.{status_of_fault}
-use Rattle.fx_show.specs.declared.fault.DescriptionFault.{DescriptionFault}
-use Rattle.fx_show.specs.declared.fault.DescriptionFault.TheVariants as description
-use Rattle.fx_show.proofs.Showing.{refused_whole}
-use Rattle.fx_spec.specs.SpecTree.{SpecTree}
-use Rattle.fx_inputs.specs.declared.scripts.Unread.TheVariants as unread
-use Rattle.fx_inputs.specs.Inputs.{IsOnlySpec, HasNoSpec, HasSomeSpec, HasTexts, CannotRead, IsFirstRefused}
-use Rattle.fx_inputs.specs.Reads.{FailsAtScript, HasReadFault, ReadRow}
-use Rattle.fx_words.specs.Job.{Inputs}
-
--- a read that failed, after what came before
-read_failed : (inputs : Inputs) (Fault : HostView → HostView → Type 0) (suits : Tree → Bool) (P : Tree → Type 0) (host host' : HostView) → (Fault host host' → HasReadFault inputs host host') → ((t : Tree) → P t → suits t ≡ false → CannotRead t inputs) → IfSome host.told P → HasFailed Fault suits host host' → ReadRow inputs host host' status.ReadFault
-read_failed inputs Fault suits P host host' place why before (inl fault) = inl (place fault)
-read_failed inputs Fault suits P host host' place why before (inr none) = inr (some_and P (λ t. suits t ≡ false) (λ t. CannotRead t inputs) host.told why before none)
+use Rattle.fx_command.specs.Reading.{ReadEnds}
+use Rattle.fx_command.proofs.Readings.{IsNarrower, ends_within}
+use Rattle.fx_command.proofs.Told.{if_some_map, if_some_both, some_and, some_unit, cause_back, some_back}
+use Rattle.fx_source.specs.Files.{description_reading}
+use Rattle.fx_source.specs.declared.reading.TheConstants.{SPEC_WORD}
+use Rattle.fx_inputs.specs.Causes.{scripts_reading}
+use Rattle.fx_inputs.specs.Inputs.{HasNoSpec, HasSomeSpec, HasTexts, CannotRead, IsFirstRefused, HasNoScript, StopsAtScript, LacksFile}
+use Rattle.fx_inputs.specs.Reads.{FailsAtScript, HasReadFault, ReadRow, inputs_reading}
+use Rattle.fx_words.specs.Job.{Inputs, place_of}
 
 -- the description is not read, or refused
-pub spec_unread : (inputs : Inputs) (host host' : HostView) (fault : HostFault) → (fault ≡ fails.Failed → HasFailed (FaultAt inputs.spec) (λ t. is_file_at t inputs.spec) host host') → ReadRow inputs host host' (read_status fault)
-spec_unread inputs host host' fails.Failed failed =
-    read_failed inputs (FaultAt inputs.spec) (λ t. is_file_at t inputs.spec) (λ _. Unit {0}) host host' (λ fault. inl fault) (λ t _ none. inl none) (some_unit host.told) (failed refl)
-spec_unread inputs host host' fails.NoMemory failed = tt
+pub spec_unread : (inputs : Inputs) (host host' : HostView) (st : Status) → ReadEnds (description_reading inputs.spec) host host' st → ReadRow inputs host host' st
+spec_unread inputs host host' st ends = ends_within (description_reading inputs.spec) (inputs_reading inputs) host host' st narrower ends
+  where
+    refused : (word : ℕ) (cause : TextFault) → (word ≡ SPEC_WORD) × IfSome host.told (λ t. HasNoSpec t inputs cause) → IfSome host.told (λ t. IsFirstRefused t inputs word cause)
+    refused word cause why = if_some_map (λ t. HasNoSpec t inputs cause) (λ t. IsFirstRefused t inputs word cause) host.told (λ t none. inl (why.0, none)) why.1
 
-pub spec_refused_for : (inputs : Inputs) (text : List ℕ) (cause : TextFault) (t : Tree) → IsReadAt t inputs.spec source_limit text → IsRefusedFor text cause → HasNoSpec t inputs cause
-spec_refused_for inputs text cause t read is = record { file = read.file; refused = refused_whole t inputs.spec text cause read is }
+    failed : HasFailed (FaultAt inputs.spec) (λ t. is_file_at t inputs.spec) host host' → HasReadFault inputs host host' ⊎ IsSomeAnd host.told (λ t. CannotRead t inputs)
+    failed (inl fault) = inl (inl fault)
+    failed (inr none) = inr (some_and (λ _. Unit {0}) (λ t. is_file_at t inputs.spec ≡ false) (λ t. CannotRead t inputs) host.told (λ t _ none. inl none) (some_unit host.told) none)
 
-pub spec_refused : (inputs : Inputs) (host host' : HostView) (text : List ℕ) (refusal : DescriptionFault) → IfSome host.told (λ t. IsReadAt t inputs.spec source_limit text) → IsUndescribed text refusal → ReadRow inputs host host' (status_of_fault refusal)
-spec_refused inputs host host' text (description.Refused cause) read is =
-    if_some_map (λ t. IsReadAt t inputs.spec source_limit text) (λ t. IsFirstRefused t inputs 1 cause) host.told (λ t read. inl (refl, spec_refused_for inputs text cause t read is)) read
-spec_refused inputs host host' text description.NoMemory read is = tt
+    narrower : IsNarrower (description_reading inputs.spec) (inputs_reading inputs) host host'
+    narrower = record { refused = refused; unloaded = λ cause why. absurd why; failed = failed; bad = λ place why. why }
 
-spec_alone : (inputs : Inputs) (text : List ℕ) (spec : SpecTree) (t : Tree) → IsReadAt t inputs.spec source_limit text → Describes text spec → ((other : SpecTree) → Describes text other → other ≡ spec) → IsOnlySpec t inputs spec
-spec_alone inputs text spec t read is only other has = only other (subst (λ x. Describes x other) (sym (read.whole is.read.short)) has.describes)
+-- the scripts are not read, or refused, once the description is read
+pub scripts_unread : (inputs : Inputs) (host host' : HostView) (st : Status) → IfSome host.told (λ t. HasSomeSpec t inputs) → ReadEnds (scripts_reading inputs) host host' st → ReadRow inputs host host' st
+scripts_unread inputs host host' st spec ends = ends_within (scripts_reading inputs) (inputs_reading inputs) host host' st narrower ends
+  where
+    Refused : ℕ → TextFault → Tree → Type 0
+    Refused word cause t = (i : ℕ) × (word ≡ place_of inputs i) × StopsAtScript (HasNoScript cause) t 0 inputs.scripts i
 
-pub spec_only : (inputs : Inputs) (host : HostView) (text : List ℕ) (spec : SpecTree) → IfSome host.told (λ t. IsReadAt t inputs.spec source_limit text) → Describes text spec → ((other : SpecTree) → Describes text other → other ≡ spec) → IfSome host.told (λ t. IsOnlySpec t inputs spec)
-spec_only inputs host text spec read is only = if_some_map (λ t. IsReadAt t inputs.spec source_limit text) (λ t. IsOnlySpec t inputs spec) host.told (λ t read. spec_alone inputs text spec t read is only) read
+    Lacking : Tree → Type 0
+    Lacking t = (i : ℕ) × StopsAtScript LacksFile t 0 inputs.scripts i
+
+    failed : FailsAtScript inputs.scripts host host' ⊎ IsSomeAnd host.told Lacking → HasReadFault inputs host host' ⊎ IsSomeAnd host.told (λ t. CannotRead t inputs)
+    failed (inl fault) = inl (inr (inl (fault, spec)))
+    failed (inr lacks) = inr (some_and (λ t. HasSomeSpec t inputs) Lacking (λ t. CannotRead t inputs) host.told (λ t spec lacks. inr (inl (spec, lacks))) spec lacks)
+
+    narrower : IsNarrower (scripts_reading inputs) (inputs_reading inputs) host host'
+    narrower = record {
+      refused = λ word cause why.
+          if_some_both (λ t. HasSomeSpec t inputs) (Refused word cause) (λ t. IsFirstRefused t inputs word cause) host.told (λ t spec stops. inr (spec, stops)) spec why;
+      unloaded = λ cause why. absurd why;
+      failed = failed;
+      bad = λ place why. why;
+    }
 
 -- ---- a row from a later moment on is one from an earlier moment on, where only reads lie between
 

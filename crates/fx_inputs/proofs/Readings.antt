@@ -1,12 +1,11 @@
 -- What is read of a run's inputs, for the tables of statuses.
-use Rattle.std.proofs.Common.{◌≡◌, ◌⊎◌, inl, inr, ℕ, Some, IfSome, IsSomeAnd, subst}
+use Rattle.std.proofs.Common.{◌≡◌, ◌⊎◌, inl, inr, Some, IfSome, IsSomeAnd, subst}
 use Rattle.fx_base.specs.Causes.{Rose}
 use Rattle.fx_outside.specs.Host.{HostView}
 use Rattle.fx_outside.specs.Tree.{Tree}
 use Rattle.fx_folder.specs.Loads.{IsRefused}
 use Rattle.fx_folder.proofs.Loaded.{not_both}
 use Rattle.fx_command.specs.declared.status.Status.{Status}
-use Rattle.fx_command.specs.declared.status.Status.TheVariants as status
 use Rattle.fx_command.specs.Reading.{ReadEnds}
 use Rattle.fx_command.proofs.Readings.{IsSteady, CannotBeRefused}
 use Rattle.fx_command.proofs.Told.{cause_back, some_back}
@@ -20,15 +19,7 @@ use Rattle.fx_inputs.proofs.ReadRows.{read_fault_back, read_fault_rose}
 use Rattle.fx_inputs.proofs.ViewsRows.{views_fault_back, views_fault_rose}
 
 pub inputs_unread : (inputs : Inputs) (host host' : HostView) (st : Status) → ReadRow inputs host host' st → ReadEnds (inputs_reading inputs) host host' st
-inputs_unread inputs host host' status.Done row = row
-inputs_unread inputs host host' status.Usage row = row
-inputs_unread inputs host host' (status.TextRefused word cause) row = row
-inputs_unread inputs host host' (status.FolderRefused cause) row = row
-inputs_unread inputs host host' status.ReadFault row = row
-inputs_unread inputs host host' status.NotEmpty row = row
-inputs_unread inputs host host' status.WriteFault row = row
-inputs_unread inputs host host' status.NoMemory row = row
-inputs_unread inputs host host' (status.BadJournal place) row = row
+inputs_unread inputs host host' st row = row
 
 pub inputs_steady : (inputs : Inputs) → IsSteady (inputs_reading inputs)
 inputs_steady inputs = record {
@@ -53,15 +44,7 @@ inputs_all_read inputs t host host' is has none = record {
 -- ---- with views
 
 pub views_inputs_unread : (j : ViewsJob) (host host' : HostView) (st : Status) → ViewsReadRow j host host' st → ReadEnds (views_reading j) host host' st
-views_inputs_unread j host host' status.Done row = row
-views_inputs_unread j host host' status.Usage row = row
-views_inputs_unread j host host' (status.TextRefused word cause) row = row
-views_inputs_unread j host host' (status.FolderRefused cause) row = row
-views_inputs_unread j host host' status.ReadFault row = row
-views_inputs_unread j host host' status.NotEmpty row = row
-views_inputs_unread j host host' status.WriteFault row = row
-views_inputs_unread j host host' status.NoMemory row = row
-views_inputs_unread j host host' (status.BadJournal place) row = row
+views_inputs_unread j host host' st row = row
 
 pub views_steady : (j : ViewsJob) → IsSteady (views_reading j)
 views_steady j = record {

@@ -1,9 +1,6 @@
 -- How the stages of a run with views end that read, from what each of them asks.
-use Rattle.std.proofs.Common.{◌≡◌, inl, inr, ℕ, false, List, [], ◌∷◌, IfSome, refl, sym, subst}
+use Rattle.std.proofs.Common.{◌≡◌, ◌⊎◌, inl, inr, ℕ, false, List, [], ◌∷◌, IfSome, IsSomeAnd, sym, subst}
 use Rattle.fx_base.specs.Causes.{Rose}
-use Rattle.fx_base.specs.Limits.{source_limit}
-use Rattle.fx_outside.specs.declared.kind.HostFault.{HostFault}
-use Rattle.fx_outside.specs.declared.kind.HostFault.TheVariants as fails
 use Rattle.fx_outside.specs.Host.{HostView, ReadsOnly, FaultAt, HasFailed}
 use Rattle.fx_spec.specs.CommandTree.{CommandTree}
 use Rattle.fx_spec.specs.SpecTree.{SpecTree}
@@ -13,48 +10,50 @@ use Rattle.fx_outside.specs.Tree.{is_file_at}
 use Rattle.fx_outside.proofs.Views.{fault_back}
 use Rattle.fx_command.specs.declared.status.Status.{Status}
 use Rattle.fx_command.specs.declared.status.Status.TheVariants as status
-use Rattle.fx_command.specs.StatusOf.{read_status}
-use Rattle.fx_command.specs.Texts.{IsReadAt}
+use Rattle.fx_command.specs.declared.status.TextFault.{TextFault}
+use Rattle.fx_command.specs.Reading.{ReadEnds}
+use Rattle.fx_command.proofs.Readings.{IsNarrower, ends_within}
 use Rattle.fx_command.proofs.Told.{if_some_map, if_some_both, some_and, some_unit, cause_back, some_back}
-use Rattle.fx_show.specs.Described.{IsUndescribed}
-use Rattle.fx_show.specs.Faults.{status_of_fault}
-use Rattle.fx_show.specs.declared.fault.DescriptionFault.{DescriptionFault}
-use Rattle.fx_show.specs.declared.fault.DescriptionFault.TheVariants as description
-use Rattle.fx_inputs.specs.declared.scripts.ScriptUnread.{ScriptUnread}
-use Rattle.fx_inputs.specs.declared.scripts.ScriptUnread.TheVariants as script
+use Rattle.fx_source.specs.Files.{description_reading}
+use Rattle.fx_source.specs.declared.reading.TheConstants.{SPEC_WORD}
 use Rattle.fx_inputs.specs.declared.views.TheConstants.{VIEWS_WORD}
-use Rattle.fx_inputs.specs.Causes.{ScriptCause}
-use Rattle.fx_inputs.specs.Inputs.{HasBase, HasScript, HasSpec, HasSomeSpec, HasNoScript, CannotRead, GoesOn, IsFirstRefused}
+use Rattle.fx_inputs.specs.Causes.{script_reading}
+use Rattle.fx_inputs.specs.Inputs.{HasBase, HasScript, HasSpec, HasNoSpec, HasSomeSpec, HasNoScript, CannotRead, GoesOn, IsFirstRefused}
 use Rattle.fx_inputs.specs.Reads.{ReadRow}
-use Rattle.fx_inputs.specs.Unread.{unread_at, unread_status}
-use Rattle.fx_inputs.specs.Views.{CannotReadViews, HasBases, HasSomeViews, HasViewsAlone, HasViewsReadFault, ViewsFirstRefused, ViewsReadRow}
-use Rattle.fx_inputs.proofs.ReadRows.{read_fault_back, read_fault_rose, spec_refused_for}
+use Rattle.fx_inputs.specs.Views.{CannotReadViews, HasBases, HasSomeViews, HasViewsAlone, HasViewsReadFault, ViewsFirstRefused, ViewsReadRow, views_reading}
+use Rattle.fx_inputs.proofs.ReadRows.{read_fault_back, read_fault_rose}
 use Rattle.fx_words.specs.Job.{ViewsJob}
 
 -- ---- the description is not read, or refused
 
-pub spec_unread : (j : ViewsJob) (host host' : HostView) (fault : HostFault) → (fault ≡ fails.Failed → HasFailed (FaultAt j.inputs.spec) (λ t. is_file_at t j.inputs.spec) host host') → ViewsReadRow j host host' (read_status fault)
-spec_unread j host host' fails.Failed failed = by (failed refl)
+pub spec_unread : (j : ViewsJob) (host host' : HostView) (st : Status) → ReadEnds (description_reading j.inputs.spec) host host' st → ViewsReadRow j host host' st
+spec_unread j host host' st ends = ends_within (description_reading j.inputs.spec) (views_reading j) host host' st narrower ends
   where
-    by : HasFailed (FaultAt j.inputs.spec) (λ t. is_file_at t j.inputs.spec) host host' → ViewsReadRow j host host' status.ReadFault
-    by (inl fault) = inl (inl fault)
-    by (inr none) = inr (some_and (λ _. Unit {0}) (λ t. is_file_at t j.inputs.spec ≡ false) (λ t. CannotReadViews t j) host.told (λ t _ none. inl none) (some_unit host.told) none)
-spec_unread j host host' fails.NoMemory failed = tt
+    refused : (word : ℕ) (cause : TextFault) → (word ≡ SPEC_WORD) × IfSome host.told (λ t. HasNoSpec t j.inputs cause) → IfSome host.told (λ t. ViewsFirstRefused t j word cause)
+    refused word cause why = if_some_map (λ t. HasNoSpec t j.inputs cause) (λ t. ViewsFirstRefused t j word cause) host.told (λ t none. inl (why.0, none)) why.1
 
-pub spec_refused : (j : ViewsJob) (host host' : HostView) (text : List ℕ) (refusal : DescriptionFault) → IfSome host.told (λ t. IsReadAt t j.inputs.spec source_limit text) → IsUndescribed text refusal → ViewsReadRow j host host' (status_of_fault refusal)
-spec_refused j host host' text (description.Refused cause) read is =
-    if_some_map (λ t. IsReadAt t j.inputs.spec source_limit text) (λ t. ViewsFirstRefused t j 1 cause) host.told (λ t read. inl (refl, spec_refused_for j.inputs text cause t read is)) read
-spec_refused j host host' text description.NoMemory read is = tt
+    failed : HasFailed (FaultAt j.inputs.spec) (λ t. is_file_at t j.inputs.spec) host host' → HasViewsReadFault j host host' ⊎ IsSomeAnd host.told (λ t. CannotReadViews t j)
+    failed (inl fault) = inl (inl fault)
+    failed (inr none) = inr (some_and (λ _. Unit {0}) (λ t. is_file_at t j.inputs.spec ≡ false) (λ t. CannotReadViews t j) host.told (λ t _ none. inl none) (some_unit host.told) none)
+
+    narrower : IsNarrower (description_reading j.inputs.spec) (views_reading j) host host'
+    narrower = record { refused = refused; unloaded = λ cause why. absurd why; failed = failed; bad = λ place why. why }
 
 -- ---- the views are not read, or refused
 
-pub views_unread : (j : ViewsJob) (host host' : HostView) (fault : ScriptUnread) → IfSome host.told (λ t. HasSomeSpec t j.inputs) → ScriptCause j.views 0 host host' fault → ViewsReadRow j host host' (unread_status (unread_at VIEWS_WORD fault))
-views_unread j host host' (script.Refused cause) spec refused =
-    if_some_both (λ t. HasSomeSpec t j.inputs) (λ t. HasNoScript cause t j.views 0) (λ t. ViewsFirstRefused t j VIEWS_WORD cause) host.told (λ t spec none. inr (inl (refl, spec, none))) spec refused
-views_unread j host host' script.ReadFault spec (inl fault) = inl (inr (inl (fault, spec)))
-views_unread j host host' script.ReadFault spec (inr none) =
-    inr (some_and (λ t. HasSomeSpec t j.inputs) (λ t. is_file_at t j.views ≡ false) (λ t. CannotReadViews t j) host.told (λ t spec none. inr (inl (spec, none))) spec none)
-views_unread j host host' script.NoMemory spec none = tt
+pub views_unread : (j : ViewsJob) (host host' : HostView) (st : Status) → IfSome host.told (λ t. HasSomeSpec t j.inputs) → ReadEnds (script_reading VIEWS_WORD j.views 0) host host' st → ViewsReadRow j host host' st
+views_unread j host host' st spec ends = ends_within (script_reading VIEWS_WORD j.views 0) (views_reading j) host host' st narrower ends
+  where
+    refused : (word : ℕ) (cause : TextFault) → (word ≡ VIEWS_WORD) × IfSome host.told (λ t. HasNoScript cause t j.views 0) → IfSome host.told (λ t. ViewsFirstRefused t j word cause)
+    refused word cause why =
+        if_some_both (λ t. HasSomeSpec t j.inputs) (λ t. HasNoScript cause t j.views 0) (λ t. ViewsFirstRefused t j word cause) host.told (λ t spec none. inr (inl (why.0, spec, none))) spec why.1
+
+    failed : HasFailed (FaultAt j.views) (λ t. is_file_at t j.views) host host' → HasViewsReadFault j host host' ⊎ IsSomeAnd host.told (λ t. CannotReadViews t j)
+    failed (inl fault) = inl (inr (inl (fault, spec)))
+    failed (inr none) = inr (some_and (λ t. HasSomeSpec t j.inputs) (λ t. is_file_at t j.views ≡ false) (λ t. CannotReadViews t j) host.told (λ t spec none. inr (inl (spec, none))) spec none)
+
+    narrower : IsNarrower (script_reading VIEWS_WORD j.views 0) (views_reading j) host host'
+    narrower = record { refused = refused; unloaded = λ cause why. absurd why; failed = failed; bad = λ place why. why }
 
 -- ---- they are read
 

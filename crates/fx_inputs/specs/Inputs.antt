@@ -7,18 +7,16 @@ use Rattle.fx_spec.specs.SpecTree.{SpecTree}
 use Rattle.fx_spec.specs.CommandTree.{CommandTree}
 use Rattle.fx_spec.specs.Order.{BaseTree}
 use Rattle.fx_command.specs.declared.status.TextFault.{TextFault}
-use Rattle.fx_show.specs.Described.{Describes, IsRefusedFor}
-use Rattle.fx_scripts.specs.Scripted.{Scripts, IsNoScriptFor}
+use Rattle.fx_source.specs.Files.{IsDescriptionAt, IsNoDescriptionAt}
+use Rattle.fx_source.specs.Scripted.{Scripts, IsNoScriptFor}
 use Rattle.fx_words.specs.Job.{Inputs, place_of}
 
 -- the file at SPEC describes this; or its text is refused, first for this cause
-pub record HasSpec (t : Tree) (inputs : Inputs) (spec : SpecTree) : Type 0 where
-  pub file : is_file_at t inputs.spec ≡ true
-  pub describes : Describes (bytes_at t inputs.spec) spec
+abbrev pub HasSpec : Tree → Inputs → SpecTree → Type 0
+HasSpec t inputs spec = IsDescriptionAt t inputs.spec spec
 
-pub record HasNoSpec (t : Tree) (inputs : Inputs) (cause : TextFault) : Type 0 where
-  pub file : is_file_at t inputs.spec ≡ true
-  pub refused : IsRefusedFor (bytes_at t inputs.spec) cause
+abbrev pub HasNoSpec : Tree → Inputs → TextFault → Type 0
+HasNoSpec t inputs cause = IsNoDescriptionAt t inputs.spec cause
 
 -- the file at a path stands for a script that follows so many transactions; or its text is refused, first for this cause
 pub record HasScript (t : Tree) (path : List ℕ) (before : ℕ) (txns : List (List CommandTree)) : Type 0 where

@@ -1,6 +1,6 @@
 pub mod Causes
 pub mod Inputs
+pub mod ReadTexts
 pub mod Readings
 pub mod Reads
-pub mod Unread
 pub mod Views

@@ -1,10 +1,10 @@
 -- How a command ends whose inputs are not read, and which paths reading asks.
-use Rattle.std.specs.Prelude.{◌≡◌, ◌⊎◌, ℕ, Bool, true, List, slice_get, Some, IfSome, IsSomeAnd, ⊤}
+use Rattle.std.specs.Prelude.{◌≡◌, ◌⊎◌, ℕ, Bool, true, List, slice_get, Some, IfSome, IsSomeAnd}
 use Rattle.std.specs.List.{list_all}
 use Rattle.fx_outside.specs.Host.{HostView, LetsIn, FaultAt, FaultIn}
 use Rattle.fx_folder.specs.Loads.{IsRefused}
 use Rattle.fx_command.specs.declared.status.Status.{Status}
-use Rattle.fx_command.specs.declared.status.Status.TheVariants as status
+use Rattle.fx_command.specs.Reading.{Reading, ReadEnds}
 use Rattle.fx_words.specs.Job.{Inputs}
 use Rattle.fx_inputs.specs.Inputs.{StopsAtScript, IsReached, HasSomeSpec, HasTexts, CannotRead, IsFirstRefused}
 
@@ -21,17 +21,18 @@ abbrev pub HasReadFault : Inputs → HostView → HostView → Type 0
 HasReadFault inputs host host' =
     FaultAt inputs.spec host host' ⊎ ((FailsAtScript inputs.scripts host host' × IfSome host.told (λ t. HasSomeSpec t inputs)) ⊎ (FaultIn inputs.folder host host' × IfSome host.told (λ t. HasTexts t inputs)))
 
+-- what a command reads that runs scripts on a folder, by its refusals
+abbrev pub inputs_reading : Inputs → Reading
+inputs_reading inputs = record {
+  refused = λ host word cause. IfSome host.told (λ t. IsFirstRefused t inputs word cause);
+  unloaded = λ host cause. IfSome host.told (λ t. HasTexts t inputs × IsRefused t inputs.folder cause);
+  failed = λ host host'. HasReadFault inputs host host' ⊎ IsSomeAnd host.told (λ t. CannotRead t inputs);
+  bad = λ host place. ⊥;
+}
+
 -- a command ends so where an input is not read or is refused, or memory runs out, and in no other way
 abbrev pub ReadRow : Inputs → HostView → HostView → Status → Type 0
-ReadRow inputs host host' status.Done = ⊥
-ReadRow inputs host host' status.Usage = ⊥
-ReadRow inputs host host' (status.TextRefused word cause) = IfSome host.told (λ t. IsFirstRefused t inputs word cause)
-ReadRow inputs host host' (status.FolderRefused cause) = IfSome host.told (λ t. HasTexts t inputs × IsRefused t inputs.folder cause)
-ReadRow inputs host host' status.ReadFault = HasReadFault inputs host host' ⊎ IsSomeAnd host.told (λ t. CannotRead t inputs)
-ReadRow inputs host host' status.NotEmpty = ⊥
-ReadRow inputs host host' status.WriteFault = ⊥
-ReadRow inputs host host' status.NoMemory = ⊤
-ReadRow inputs host host' (status.BadJournal place) = ⊥
+ReadRow inputs = ReadEnds (inputs_reading inputs)
 
 -- nothing is asked but at these paths
 abbrev pub AsksAtAll : List (List ℕ) → HostView → HostView → Type 0

@@ -1,5 +1,5 @@
 -- What a run with views reads: the texts of the description, of the views and of the scripts, and the folder.
-use Rattle.std.specs.Prelude.{◌≡◌, ◌⊎◌, ℕ, Bool, true, false, List, length, IfSome, IsSomeAnd, ⊤}
+use Rattle.std.specs.Prelude.{◌≡◌, ◌⊎◌, ℕ, Bool, true, false, List, length, IfSome, IsSomeAnd}
 use Rattle.fx_outside.specs.Host.{HostView, FaultAt}
 use Rattle.fx_outside.specs.Tree.{Tree, is_file_at}
 use Rattle.fx_folder.specs.Loads.{IsRefused}
@@ -7,7 +7,7 @@ use Rattle.fx_spec.specs.CommandTree.{CommandTree}
 use Rattle.fx_spec.specs.Order.{BaseTree}
 use Rattle.fx_spec.specs.Plans.{script_of}
 use Rattle.fx_command.specs.declared.status.Status.{Status}
-use Rattle.fx_command.specs.declared.status.Status.TheVariants as status
+use Rattle.fx_command.specs.Reading.{Reading, ReadEnds}
 use Rattle.fx_command.specs.declared.status.TextFault.{TextFault}
 use Rattle.fx_words.specs.Job.{ViewsJob}
 use Rattle.fx_inputs.specs.declared.views.TheConstants.{VIEWS_WORD}
@@ -55,17 +55,18 @@ abbrev pub HasViewsReadFault : ViewsJob → HostView → HostView → Type 0
 HasViewsReadFault j host host' =
     FaultAt j.inputs.spec host host' ⊎ ((FaultAt j.views host host' × IfSome host.told (λ t. HasSomeSpec t j.inputs)) ⊎ (HasReadFault j.inputs host host' × IfSome host.told (λ t. HasSomeViews t j)))
 
+-- what a command reads that runs scripts on a folder with views, by its refusals
+abbrev pub views_reading : ViewsJob → Reading
+views_reading j = record {
+  refused = λ host word cause. IfSome host.told (λ t. ViewsFirstRefused t j word cause);
+  unloaded = λ host cause. IfSome host.told (λ t. HasViewsTexts t j × IsRefused t j.inputs.folder cause);
+  failed = λ host host'. HasViewsReadFault j host host' ⊎ IsSomeAnd host.told (λ t. CannotReadViews t j);
+  bad = λ host place. ⊥;
+}
+
 -- a command ends so where an input is not read or is refused, or memory runs out, and in no other way
 abbrev pub ViewsReadRow : ViewsJob → HostView → HostView → Status → Type 0
-ViewsReadRow j host host' status.Done = ⊥
-ViewsReadRow j host host' status.Usage = ⊥
-ViewsReadRow j host host' (status.TextRefused word cause) = IfSome host.told (λ t. ViewsFirstRefused t j word cause)
-ViewsReadRow j host host' (status.FolderRefused cause) = IfSome host.told (λ t. HasViewsTexts t j × IsRefused t j.inputs.folder cause)
-ViewsReadRow j host host' status.ReadFault = HasViewsReadFault j host host' ⊎ IsSomeAnd host.told (λ t. CannotReadViews t j)
-ViewsReadRow j host host' status.NotEmpty = ⊥
-ViewsReadRow j host host' status.WriteFault = ⊥
-ViewsReadRow j host host' status.NoMemory = ⊤
-ViewsReadRow j host host' (status.BadJournal place) = ⊥
+ViewsReadRow j = ReadEnds (views_reading j)
 
 -- a fence lets through the texts that are read and the folder
 pub record LetsViews (may : List ℕ → Bool) (j : ViewsJob) : Type 0 where

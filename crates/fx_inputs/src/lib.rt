@@ -2,10 +2,11 @@
 //! and the folder.
 #![tactic(auto)]
 
+mod ahead;
 mod reading;
 mod scripts;
+mod sources;
 mod views;
 
 pub use reading::read_base;
-pub use scripts::{ScriptUnread, Unread};
 pub use views::{Bases, VIEWS_WORD, read_bases};

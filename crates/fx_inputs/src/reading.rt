@@ -4,43 +4,28 @@ ghost use Rattle.fx_outside.specs.Host.{ReadsOnly};
 ghost use Rattle.fx_folder.specs.Loads.{Loads};
 ghost use Rattle.fx_spec.specs.Bases.{base_tree};
 ghost use Rattle.fx_words.specs.JobOf.{asked_inputs, AreInputs};
-ghost use Rattle.fx_inputs.specs.Inputs.{HasSpec, IsOnlySpec, HasScripts, AreOnlyScripts, HasSomeSpec, HasTexts, HasBase, IsOnlyBase, HasEachScript};
+ghost use Rattle.fx_inputs.specs.Inputs.{HasSpec, HasScripts, AreOnlyScripts, HasSomeSpec, HasTexts, HasBase, IsOnlyBase, HasEachScript};
 ghost use Rattle.fx_inputs.specs.Reads.{ReadRow, InputsAsk};
 
 use crate::scripts::read_plan;
-use fx_base::SOURCE_LIMIT;
-use fx_command::{Status, read_text};
+use fx_command::Status;
 use fx_folder::load;
 use fx_outside::Host;
-use fx_show::description_of;
+use fx_source::read_description;
 use fx_spec::{Base, Checked, Plan};
 use fx_store::Filestore;
 use fx_words::Inputs;
 use std::alloc::Global;
 use std::sync::Arc;
+use std::thread::Threads;
 
-/// Reads the description.
-fn read_description<H: Host>(
+/// Reads the scripts, after the description.
+fn read_scripts<R: Threads, H: Host>(
+    rt: &R,
     alloc: Global,
     inputs: &Inputs,
     host: &mut H,
-) -> Result<Checked, Status>
-    ensures read { IfOk result (λ spec.
-        IfSome (H.view host.old).told (λ t. HasSpec t (asked_inputs inputs.now) spec)) }
-    ensures only { IfOk result (λ spec.
-        IfSome (H.view host.old).told (λ t. IsOnlySpec t (asked_inputs inputs.now) spec)) }
-    ensures same { ReadsOnly (H.view host.old) (H.view host.new) }
-    ensures fit { InputsAsk (asked_inputs inputs.now) (H.view host.old) (H.view host.new) }
-    ensures ends { IfErr result
-        (ReadRow (asked_inputs inputs.now) (H.view host.old) (H.view host.new)) }
-{
-    let text = read_text(alloc, host, inputs.spec, SOURCE_LIMIT as u64)?;
-    let spec = description_of(alloc, &text)?;
-    Ok(spec)
-}
-
-/// Reads the scripts, after the description.
-fn read_scripts<H: Host>(alloc: Global, inputs: &Inputs, host: &mut H) -> Result<Plan, Status>
+) -> Result<Plan, Status>
     requires inputs { AreInputs inputs.now }
     requires spec { IfSome (H.view host.old).told (λ t. HasSomeSpec t (asked_inputs inputs.now)) }
     ensures read { IfOk result (λ plan. IfSome (H.view host.old).told
@@ -54,7 +39,7 @@ fn read_scripts<H: Host>(alloc: Global, inputs: &Inputs, host: &mut H) -> Result
     ensures ends { IfErr result
         (ReadRow (asked_inputs inputs.now) (H.view host.old) (H.view host.new)) }
 {
-    let plan = read_plan(alloc, inputs, host)?;
+    let plan = read_plan(rt, alloc, inputs, host)?;
     Ok(plan)
 }
 
@@ -73,7 +58,8 @@ fn read_folder<H: Host>(alloc: Global, inputs: &Inputs, host: &mut H) -> Result<
 }
 
 /// Reads what a run begins with besides its description: the scripts in order, and the folder.
-pub(crate) fn read_rest<H: Host>(
+pub(crate) fn read_rest<R: Threads, H: Host>(
+    rt: &R,
     alloc: Global,
     inputs: &Inputs,
     description: Checked,
@@ -94,7 +80,7 @@ pub(crate) fn read_rest<H: Host>(
     ensures ends { IfErr result
         (ReadRow (asked_inputs inputs.now) (H.view host.old) (H.view host.new)) }
 {
-    let plan = match read_scripts(alloc, inputs, host) {
+    let plan = match read_scripts(rt, alloc, inputs, host) {
         Ok(plan) => plan,
         Err(status) => {
             description.let_go();
@@ -115,7 +101,12 @@ pub(crate) fn read_rest<H: Host>(
 
 /// Reads what a run begins with: the description, the scripts in order, and the folder. The tree that the host tells is as
 /// it was, and the call fails for no other cause than that one of these is not read or is refused, or that memory runs out.
-pub fn read_base<H: Host>(alloc: Global, inputs: &Inputs, host: &mut H) -> Result<Arc<Base>, Status>
+pub fn read_base<R: Threads, H: Host>(
+    rt: &R,
+    alloc: Global,
+    inputs: &Inputs,
+    host: &mut H,
+) -> Result<Arc<Base>, Status>
     requires { AreInputs inputs.now }
     ensures read { IfOk result (λ base. IfSome (H.view host.old).told
         (λ t. HasBase t (asked_inputs inputs.now) (base_tree base.value))) }
@@ -128,7 +119,7 @@ pub fn read_base<H: Host>(alloc: Global, inputs: &Inputs, host: &mut H) -> Resul
     ensures ends { IfErr result
         (ReadRow (asked_inputs inputs.now) (H.view host.old) (H.view host.new)) }
 {
-    let description = read_description(alloc, inputs, host)?;
-    let base = read_rest(alloc, inputs, description, host)?;
+    let description = read_description(alloc, inputs.spec, host)?;
+    let base = read_rest(rt, alloc, inputs, description, host)?;
     Ok(base)
 }

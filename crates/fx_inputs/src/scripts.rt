@@ -1,88 +1,33 @@
-//! The scripts, read from the host.
+//! The scripts of a run: their texts are read from the host in order, and are then looked at side by side.
 ghost use Rattle.std.specs.Prelude.{◌≡◌, ◌+◌, ◌≤◌, [], IfOk, IfErr, OnOk, IfSome, length};
 ghost use Rattle.fx_base.specs.Limits.{txn_limit};
 ghost use Rattle.fx_outside.specs.Host.{ReadsOnly, AsksAt};
 ghost use Rattle.fx_spec.specs.WellShaped.{IsScript};
+ghost use Rattle.fx_command.specs.Reading.{ReadEnds};
 ghost use Rattle.fx_words.specs.JobOf.{asked_inputs, AreInputs};
 ghost use Rattle.fx_inputs.specs.Inputs.{GoesOn, HasScripts, AreOnlyScripts};
-ghost use Rattle.fx_inputs.specs.Causes.{ScriptCause, UnreadCause};
+ghost use Rattle.fx_inputs.specs.Causes.{script_reading, scripts_reading};
 ghost use Rattle.fx_inputs.specs.Reads.{AsksAtAll};
-ghost use Rattle.fx_inputs.specs.Unread.{unread_at};
 
+use crate::ahead::read_ahead;
+use crate::sources::{Sources, read_sources};
 use fx_base::SOURCE_LIMIT;
-use fx_command::{Status, TextFault, read_text};
-use fx_outside::{Host, HostFault, HostText};
-use fx_scripts::{ScriptFault, script_of};
+use fx_command::{Status, read_text};
+use fx_outside::{Host, HostText};
+use fx_source::script_of;
 use fx_spec::{Plan, Script};
 use fx_words::Inputs;
 use std::alloc::Global;
+use std::thread::Threads;
 
-/// Why a script is not read.
-#[derive(Drop)]
-pub enum ScriptUnread {
-    /// Its text is refused for this cause.
-    Refused(TextFault),
-    ReadFault,
-    NoMemory,
-}
-
-impl From<HostFault> for ScriptUnread {
-    ghost use Rattle.std.specs.Prelude.{◌≡◌};
-    ghost use Rattle.fx_inputs.specs.Unread.{of_host};
-
-    ghost from_gives = { λ fault unread. unread ≡ of_host fault };
-
-    fn from(fault: HostFault) -> ScriptUnread {
-        match fault {
-            HostFault::Failed => ScriptUnread::ReadFault,
-            HostFault::NoMemory => ScriptUnread::NoMemory,
-        }
-    }
-}
-
-impl From<ScriptFault> for ScriptUnread {
-    ghost use Rattle.std.specs.Prelude.{◌≡◌};
-    ghost use Rattle.fx_inputs.specs.Unread.{of_script};
-
-    ghost from_gives = { λ fault unread. unread ≡ of_script fault };
-
-    fn from(fault: ScriptFault) -> ScriptUnread {
-        match fault {
-            ScriptFault::Refused(cause) => ScriptUnread::Refused(cause),
-            ScriptFault::NoMemory => ScriptUnread::NoMemory,
-        }
-    }
-}
-
-/// Why the scripts of a run are not read.
-#[derive(Drop)]
-pub enum Unread {
-    /// The text of this word is refused for this cause.
-    Refused(u32, TextFault),
-    ReadFault,
-    NoMemory,
-}
-
-impl ScriptUnread {
-    /// Why the scripts of a run are not read, where this word names the script.
-    pub(crate) fn at(self, word: u32) -> Unread
-        ensures { result ≡ unread_at word self }
-    {
-        match self {
-            ScriptUnread::Refused(cause) => Unread::Refused(word, cause),
-            ScriptUnread::ReadFault => Unread::ReadFault,
-            ScriptUnread::NoMemory => Unread::NoMemory,
-        }
-    }
-}
-
-/// The script at a path, after so many transactions.
+/// The script at the path that a word names, after so many transactions.
 pub(crate) fn read_script_at<H: Host>(
     alloc: Global,
     host: &mut H,
     path: &HostText,
+    word: u32,
     before: u32,
-) -> Result<Script, ScriptUnread>
+) -> Result<Script, Status>
     requires { before ≤ txn_limit }
     ensures read { IfOk result (λ script.
         IfSome (H.view host.old).told (λ t. GoesOn t path.now before script)) }
@@ -90,21 +35,25 @@ pub(crate) fn read_script_at<H: Host>(
     ensures shaped { IfOk result IsScript }
     ensures same { ReadsOnly (H.view host.old) (H.view host.new) }
     ensures fit { AsksAt path.now (H.view host.old) (H.view host.new) }
-    ensures unread { IfErr result
-        (ScriptCause path.now before (H.view host.old) (H.view host.new)) }
+    ensures ends { IfErr result (ReadEnds (script_reading word path.now before)
+        (H.view host.old) (H.view host.new)) }
 {
     let text = read_text(alloc, host, path, SOURCE_LIMIT as u64)?;
-    let script = script_of(alloc, &text, before)?;
+    let script = match script_of(alloc, &text, before) {
+        Ok(script) => script,
+        Err(fault) => return Err(fault.at(word)),
+    };
     Ok(script)
 }
 
 /// Adds the scripts, in order, to an empty plan.
-fn add_scripts<H: Host>(
+fn add_scripts<R: Threads, H: Host>(
+    rt: &R,
     alloc: Global,
     inputs: &Inputs,
     host: &mut H,
     plan: &mut Plan,
-) -> Result<(), Unread>
+) -> Result<(), Status>
     requires inputs { AreInputs inputs.now }
     requires none { plan.old ≡ [] }
     ensures read { OnOk result (IfSome (H.view host.old).told
@@ -116,34 +65,37 @@ fn add_scripts<H: Host>(
     ensures same { ReadsOnly (H.view host.old) (H.view host.new) }
     ensures fit { AsksAtAll (asked_inputs inputs.now).scripts
         (H.view host.old) (H.view host.new) }
-    ensures unread { IfErr result
-        (UnreadCause (asked_inputs inputs.now) (H.view host.old) (H.view host.new)) }
+    ensures ends { IfErr result (ReadEnds (scripts_reading (asked_inputs inputs.now))
+        (H.view host.old) (H.view host.new)) }
 {
+    let Sources { mut texts, stop } = read_sources(alloc, inputs, host);
+    read_ahead(rt, alloc, &mut texts);
     let mut before = 0;
-    'scripts: for i in 0..inputs.scripts() {
-        let path = match inputs.script(i) {
-            Some(path) => path,
-            None => unreachable!(),
-        };
-        let script = match read_script_at(alloc, host, path, before) {
+    'scripts: for text in texts {
+        let i = plan.len();
+        let script = match text.into_script(alloc, before) {
             Ok(script) => script,
-            Err(unread) => return Err(unread.at(inputs.place(i))),
+            Err(fault) => return Err(fault.at(inputs.place(i))),
         };
         match plan.add(alloc, script) {
             Ok(()) => {}
-            Err(_) => return Err(Unread::NoMemory),
+            Err(_) => return Err(Status::NoMemory),
         }
         before += plan.count(i);
     }
-    Ok(())
+    match stop {
+        None => Ok(()),
+        Some(fault) => Err(Status::from(fault)),
+    }
 }
 
 /// The scripts, in order, as a plan.
-pub(crate) fn read_plan<H: Host>(
+pub(crate) fn read_plan<R: Threads, H: Host>(
+    rt: &R,
     alloc: Global,
     inputs: &Inputs,
     host: &mut H,
-) -> Result<Plan, Unread>
+) -> Result<Plan, Status>
     requires { AreInputs inputs.now }
     ensures read { IfOk result (λ plan. IfSome (H.view host.old).told
         (λ t. HasScripts t 0 (asked_inputs inputs.now).scripts plan)) }
@@ -154,30 +106,15 @@ pub(crate) fn read_plan<H: Host>(
     ensures same { ReadsOnly (H.view host.old) (H.view host.new) }
     ensures fit { AsksAtAll (asked_inputs inputs.now).scripts
         (H.view host.old) (H.view host.new) }
-    ensures unread { IfErr result
-        (UnreadCause (asked_inputs inputs.now) (H.view host.old) (H.view host.new)) }
+    ensures ends { IfErr result (ReadEnds (scripts_reading (asked_inputs inputs.now))
+        (H.view host.old) (H.view host.new)) }
 {
     let mut plan = Plan::new(alloc);
-    match add_scripts(alloc, inputs, host, &mut plan) {
+    match add_scripts(rt, alloc, inputs, host, &mut plan) {
         Ok(()) => Ok(plan),
-        Err(unread) => {
+        Err(status) => {
             plan.let_go();
-            Err(unread)
-        }
-    }
-}
-
-impl From<Unread> for Status {
-    ghost use Rattle.std.specs.Prelude.{◌≡◌};
-    ghost use Rattle.fx_inputs.specs.Unread.{unread_status};
-
-    ghost from_gives = { λ unread status. status ≡ unread_status unread };
-
-    fn from(unread: Unread) -> Status {
-        match unread {
-            Unread::Refused(word, cause) => Status::TextRefused { word, cause },
-            Unread::ReadFault => Status::ReadFault,
-            Unread::NoMemory => Status::NoMemory,
+            Err(status)
         }
     }
 }

@@ -5,20 +5,21 @@ ghost use Rattle.fx_outside.specs.Host.{ReadsOnly};
 ghost use Rattle.fx_spec.specs.Bases.{base_tree};
 ghost use Rattle.fx_spec.specs.WellShaped.{IsScript};
 ghost use Rattle.fx_words.specs.JobOf.{asked_views, IsViewsJob};
-ghost use Rattle.fx_show.specs.Described.{Describes};
+ghost use Rattle.fx_source.specs.Described.{Describes};
 ghost use Rattle.fx_inputs.specs.Inputs.{HasSpec, HasSomeSpec, HasEachScript};
 ghost use Rattle.fx_inputs.specs.Views.{HasBases, HasViewsAlone, IsBeside, ViewsInputsAsk, ViewsReadRow};
 
 use crate::reading::read_rest;
-use crate::scripts::{ScriptUnread, read_script_at};
+use crate::scripts::read_script_at;
 use fx_base::{NoMemory, SOURCE_LIMIT};
 use fx_command::{Status, read_text};
 use fx_outside::Host;
-use fx_show::{DescriptionFault, description_of};
+use fx_source::{SPEC_WORD, SourceFault, description_of};
 use fx_spec::{Base, Checked, Plan, Script};
 use fx_words::ViewsJob;
 use std::alloc::Global;
 use std::sync::Arc;
+use std::thread::Threads;
 
 /// The place of VIEWS among the words, the command being 0.
 pub const VIEWS_WORD: u32 = 4;
@@ -54,8 +55,10 @@ fn read_description<H: Host>(
         (ViewsReadRow (asked_views job.now) (H.view host.old) (H.view host.new)) }
 {
     let text = read_text(alloc, host, job.inputs.spec, SOURCE_LIMIT as u64)?;
-    let spec = description_of(alloc, &text)?;
-    Ok((spec, text))
+    match description_of(alloc, &text) {
+        Ok(spec) => Ok((spec, text)),
+        Err(fault) => Err(fault.at(SPEC_WORD)),
+    }
 }
 
 /// The plan of one script.
@@ -85,10 +88,7 @@ fn read_views<H: Host>(alloc: Global, job: &ViewsJob, host: &mut H) -> Result<Pl
     ensures ends { IfErr result
         (ViewsReadRow (asked_views job.now) (H.view host.old) (H.view host.new)) }
 {
-    let script = match read_script_at(alloc, host, job.views, 0) {
-        Ok(script) => script,
-        Err(unread) => return Err(Status::from(unread.at(VIEWS_WORD))),
-    };
+    let script = read_script_at(alloc, host, job.views, VIEWS_WORD, 0)?;
     let plan = plan_of(alloc, script)?;
     Ok(plan)
 }
@@ -100,8 +100,8 @@ fn description_again(alloc: Global, scripts: &Arc<Base>, text: &[u8]) -> Result<
 {
     match description_of(alloc, text) {
         Ok(spec) => Ok(spec),
-        Err(DescriptionFault::Refused(_)) => unreachable!(),
-        Err(DescriptionFault::NoMemory) => Err(NoMemory),
+        Err(SourceFault::Refused(_)) => unreachable!(),
+        Err(SourceFault::NoMemory) => Err(NoMemory),
     }
 }
 
@@ -138,7 +138,12 @@ fn beside(
 /// Reads what a run with views begins with: the description, the views, the scripts in order, and the folder. The tree that
 /// the host tells is as it was, and the call fails for no other cause than that one of these is not read or is refused, or
 /// that memory runs out.
-pub fn read_bases<H: Host>(alloc: Global, job: &ViewsJob, host: &mut H) -> Result<Bases, Status>
+pub fn read_bases<R: Threads, H: Host>(
+    rt: &R,
+    alloc: Global,
+    job: &ViewsJob,
+    host: &mut H,
+) -> Result<Bases, Status>
     requires { IsViewsJob job.now }
     ensures read { IfOk result (λ bases. IfSome (H.view host.old).told
         (λ t. HasBases t (asked_views job.now)
@@ -160,7 +165,7 @@ pub fn read_bases<H: Host>(alloc: Global, job: &ViewsJob, host: &mut H) -> Resul
             return Err(status);
         }
     };
-    let scripts = match read_rest(alloc, &job.inputs, description, host) {
+    let scripts = match read_rest(rt, alloc, &job.inputs, description, host) {
         Ok(scripts) => scripts,
         Err(status) => {
             plan.let_go();

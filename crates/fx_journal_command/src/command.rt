@@ -24,6 +24,7 @@ use fx_spec::Base;
 use fx_words::{JournalJob, RunJob};
 use std::alloc::Global;
 use std::sync::Arc;
+use std::thread::Threads;
 
 /// Starts the journal on an empty file.
 fn start<D: Disk>(path: &HostText, disk: &mut D) -> Result<Journal, Status>
@@ -133,7 +134,8 @@ fn keep<H: Host, S: Sink, D: Disk>(
 
 /// Runs the scripts on the folder by a schedule, keeps each commit in the journal before its line is written, and leaves the
 /// folder that they make at OUT.
-pub fn journal<H: Host, S: Sink, D: Disk>(
+pub fn journal<R: Threads, H: Host, S: Sink, D: Disk>(
+    rt: &R,
     alloc: Global,
     job: &JournalJob,
     host: &mut H,
@@ -147,7 +149,7 @@ pub fn journal<H: Host, S: Sink, D: Disk>(
         (S.view out.old) (S.view out.new) (D.view disk.old) (D.view disk.new) }
     ensures fit { JournalAsks (asked_journal job.now) (H.view host.old) (H.view host.new) }
 {
-    let base = read_base(alloc, &job.run.inputs, host)?;
+    let base = read_base(rt, alloc, &job.run.inputs, host)?;
     let there = match ready_out(alloc, job.run.out, host) {
         Ok(there) => there,
         Err(status) => {

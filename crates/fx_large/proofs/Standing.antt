@@ -19,20 +19,18 @@ use Rattle.fx_gen.proofs.Ranges.{map_more}
 use Rattle.fx_gen_laws.specs.Trees.{description_text, description_tree, script_tree}
 use Rattle.fx_gen_laws.proofs.Described.{description_stands}
 use Rattle.fx_gen_laws.proofs.Scripted.{scripts_stand}
-use Rattle.fx_show.specs.declared.fault.DescriptionFault.{DescriptionFault}
-use Rattle.fx_show.specs.declared.fault.DescriptionFault.TheVariants as description
-use Rattle.fx_show.specs.Described.{Describes, IsUndescribed}
-use Rattle.fx_scripts.specs.declared.fault.ScriptFault.{ScriptFault}
-use Rattle.fx_scripts.specs.declared.fault.ScriptFault.TheVariants as script
-use Rattle.fx_scripts.specs.Scripted.{Scripts, IsUnscripted}
+use Rattle.fx_source.specs.declared.fault.SourceFault.{SourceFault}
+use Rattle.fx_source.specs.declared.fault.SourceFault.TheVariants as source
+use Rattle.fx_source.specs.Described.{Describes, IsUndescribed}
+use Rattle.fx_source.specs.Scripted.{Scripts, IsUnscripted}
 use Rattle.fx_large.specs.Base.{generated_base, plan_to, AreGenerated, IsPlanOf, IsReading}
 
 pub described : (text : List ℕ) → text ≡ gen.description → Describes text description_tree
 described text is = subst (λ t. Describes t description_tree) (sym is) (record { written = description_text; read = description_stands.text; shapes = description_stands.shapes; means = refl })
 
-pub undescribed_is : (text : List ℕ) (fault : DescriptionFault) → text ≡ gen.description → IsUndescribed text fault → fault ≡ description.NoMemory
-undescribed_is text (description.Refused cause) is refused = absurd (refused.none description_tree (described text is))
-undescribed_is text description.NoMemory is refused = refl
+pub undescribed_is : (text : List ℕ) (fault : SourceFault) → text ≡ gen.description → IsUndescribed text fault → fault ≡ source.NoMemory
+undescribed_is text (source.Refused cause) is refused = absurd (refused.none description_tree (described text is))
+undescribed_is text source.NoMemory is refused = refl
 
 blocks_of : (txns : List (List CommandTree)) → IsScript txns → All (λ t. IsBlock [] (block t)) txns
 blocks_of [] all = All-nil (λ t. IsBlock [] (block t))
@@ -45,9 +43,9 @@ scripted text number k before small few is =
     subst (λ t. Scripts t before (script_tree number k)) (sym is)
     (record { read = stands.stands; shapes = blocks_of (script_tree number k) stands.shapes; few = omega (arith, few, stands.count) })
 
-pub unscripted_is : (text : List ℕ) (number k before : ℕ) (fault : ScriptFault) → k < 8 → before ≤ 1400 → text ≡ gen.script_of number k → IsUnscripted text before fault → fault ≡ script.NoMemory
-unscripted_is text number k before (script.Refused cause) small few is refused = absurd (refused.none (script_tree number k) (scripted text number k before small few is))
-unscripted_is text number k before script.NoMemory small few is refused = refl
+pub unscripted_is : (text : List ℕ) (number k before : ℕ) (fault : SourceFault) → k < 8 → before ≤ 1400 → text ≡ gen.script_of number k → IsUnscripted text before fault → fault ≡ source.NoMemory
+unscripted_is text number k before (source.Refused cause) small few is refused = absurd (refused.none (script_tree number k) (scripted text number k before small few is))
+unscripted_is text number k before source.NoMemory small few is refused = refl
 
 -- the text of a number's script
 pub text_at : (texts : List (List ℕ)) (number k : ℕ) → texts ≡ scripts number → k < 8 → slice_get texts k ≡ Some (gen.script_of number k)

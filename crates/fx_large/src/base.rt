@@ -9,8 +9,7 @@ ghost use Rattle.fx_spec.specs.WellShaped.{IsScript};
 use fx_base::NoMemory;
 use fx_expr::Texts;
 use fx_gen::{Generated, generate};
-use fx_scripts::{ScriptFault, script_of};
-use fx_show::{DescriptionFault, description_of};
+use fx_source::{SourceFault, description_of, script_of};
 use fx_spec::{Base, Checked, Plan, Script};
 use std::alloc::Global;
 use std::sync::Arc;
@@ -32,8 +31,8 @@ fn description(alloc: Global, text: &[u8]) -> Result<Checked, NoMemory>
 }
 
 /// What is left of a fault where the text is refused for no cause.
-fn no_memory(fault: DescriptionFault) -> NoMemory
-    requires { fault ≡ DescriptionFault.NoMemory }
+fn no_memory(fault: SourceFault) -> NoMemory
+    requires { fault ≡ SourceFault.NoMemory }
 {
     NoMemory
 }
@@ -48,14 +47,8 @@ fn script(alloc: Global, text: &[u8], before: u32) -> Result<Script, NoMemory>
 {
     match script_of(alloc, text, before) {
         Ok(script) => Ok(script),
-        Err(fault) => Err(no_memory_for(fault)),
+        Err(fault) => Err(no_memory(fault)),
     }
-}
-
-fn no_memory_for(fault: ScriptFault) -> NoMemory
-    requires { fault ≡ ScriptFault.NoMemory }
-{
-    NoMemory
 }
 
 /// Adds the script of a number to a plan that has those before it.

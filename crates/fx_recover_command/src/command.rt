@@ -20,6 +20,7 @@ use fx_spec::Base;
 use fx_words::RecoverJob;
 use std::alloc::Global;
 use std::sync::Arc;
+use std::thread::Threads;
 
 /// Leaves the folder after a legal order at OUT, and prints how many transactions it has.
 fn leave<H: Host, S: Sink>(
@@ -73,7 +74,8 @@ fn restore<H: Host, S: Sink, D: Disk>(
 
 /// Leaves at OUT the folder after the commits that the journal keeps, and prints how many they are. A journal that breaks, or
 /// that spells an order which is not legal, is refused with the number of its first such record.
-pub fn recover<H: Host, S: Sink, D: Disk>(
+pub fn recover<R: Threads, H: Host, S: Sink, D: Disk>(
+    rt: &R,
     alloc: Global,
     job: &RecoverJob,
     host: &mut H,
@@ -85,7 +87,7 @@ pub fn recover<H: Host, S: Sink, D: Disk>(
         (S.view out.old) (S.view out.new) (D.view disk.old) (D.view disk.new) (status_of result) }
     ensures fit { RecoverAsks (asked_recover job.now) (H.view host.old) (H.view host.new) }
 {
-    let base = read_base(alloc, &job.inputs, host)?;
+    let base = read_base(rt, alloc, &job.inputs, host)?;
     let ended = restore(alloc, job, &base, host, out, disk);
     Base::let_go(base);
     ended

@@ -23,7 +23,12 @@ use std::sync::{Arc, Wait};
 use std::thread::Threads;
 
 /// Reads what a run begins with, and then sees that OUT can be written: whether an empty folder stands there already.
-fn begin<H: Host>(alloc: Global, job: &RunJob, host: &mut H) -> Result<(Arc<Base>, bool), Status>
+fn begin<R: Threads, H: Host>(
+    rt: &R,
+    alloc: Global,
+    job: &RunJob,
+    host: &mut H,
+) -> Result<(Arc<Base>, bool), Status>
     requires { IsJob job.now }
     ensures read { IfOk result (λ r. IfSome (H.view host.old).told
         (λ t. HasBase t (asked job.now).inputs (base_tree r.0.value))) }
@@ -36,7 +41,7 @@ fn begin<H: Host>(alloc: Global, job: &RunJob, host: &mut H) -> Result<(Arc<Base
     ensures ends { IfErr result (CommandEndsAs (run_command (asked job.now))
         (H.view host.old) (H.view host.new)) }
 {
-    let base = read_base(alloc, &job.inputs, host)?;
+    let base = read_base(rt, alloc, &job.inputs, host)?;
     match ready_out(alloc, job.out, host) {
         Ok(there) => Ok((base, there)),
         Err(status) => {
@@ -82,7 +87,7 @@ pub fn run<R: Threads + Wait + Sync, H: Host, S: Sink, G: Gate + Sync>(
         (S.view out.old) (S.view out.new) (status_of result) }
     ensures fit { RunAsks (asked job.now) (H.view host.old) (H.view host.new) }
 {
-    let (base, there) = begin(alloc, job, host)?;
+    let (base, there) = begin(rt, alloc, job, host)?;
     let answer = run_base(rt, alloc, base, gate)?;
     let ended = leave(alloc, job, there, &answer, host, out);
     answer.let_go();
@@ -90,8 +95,9 @@ pub fn run<R: Threads + Wait + Sync, H: Host, S: Sink, G: Gate + Sync>(
 }
 
 /// Runs the scripts on the folder, by the description and the job's schedule, on one thread, and leaves the folder that they
-/// make at OUT.
-pub fn trace<H: Host, S: Sink>(
+/// make at OUT. Their texts may be looked at on others before.
+pub fn trace<R: Threads, H: Host, S: Sink>(
+    rt: &R,
     alloc: Global,
     job: &RunJob,
     host: &mut H,
@@ -103,7 +109,7 @@ pub fn trace<H: Host, S: Sink>(
         (S.view out.old) (S.view out.new) (status_of result) }
     ensures fit { RunAsks (asked job.now) (H.view host.old) (H.view host.new) }
 {
-    let (base, there) = begin(alloc, job, host)?;
+    let (base, there) = begin(rt, alloc, job, host)?;
     let answer = trace_base(alloc, job, base)?;
     let ended = leave(alloc, job, there, &answer, host, out);
     answer.let_go();

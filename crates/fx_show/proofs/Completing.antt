@@ -1,5 +1,5 @@
 -- With a description and a folder that loads, and no fault of host or sink, `show` is done, or memory runs out.
-use Rattle.std.proofs.Common.{◌≡◌, ◌⊎◌, inl, inr, Option, Some, IfSome, IsSomeAnd, subst}
+use Rattle.std.proofs.Common.{◌≡◌, ◌⊎◌, inl, inr, Some, IfSome, IsSomeAnd, subst}
 use Rattle.fx_base.specs.Causes.{Rose}
 use Rattle.fx_base.proofs.Booleans.{never_both}
 use Rattle.fx_outside.specs.Host.{HostView}

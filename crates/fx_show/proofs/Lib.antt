@@ -1,4 +1,3 @@
 pub mod Alone
-pub mod Causes
 pub mod Completing
 pub mod Showing

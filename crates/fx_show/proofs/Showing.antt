@@ -1,70 +1,38 @@
 -- The rows of the table of statuses for `show`, from what its stages ensure.
-use Rattle.std.proofs.Common.{◌≡◌, ◌⊎◌, inl, inr, ℕ, ◌≤◌, ◌<◌, List, ◌++◌, length, Some, Result, Ok, Err, IfOk, IfErr, IfSome, refl, ◌∙◌, subst, arith}
+use Rattle.std.proofs.Common.{◌≡◌, ◌⊎◌, inl, inr, ℕ, false, List, ◌++◌, Some, Result, Ok, Err, IfOk, IfErr, IfSome, IsSomeAnd}
 use Rattle.std.specs.FinMap.{get}
 use Rattle.fx_base.specs.Causes.{Rose}
 use Rattle.fx_store.specs.Whole.{Nodes}
-use Rattle.fx_outside.specs.declared.kind.HostFault.TheVariants as fails
-use Rattle.fx_outside.specs.Host.{HostView, ReadsOnly}
+use Rattle.fx_outside.specs.Host.{HostView, ReadsOnly, FaultAt, HasFailed}
 use Rattle.fx_outside.specs.Sink.{SinkView}
-use Rattle.fx_outside.specs.Tree.{Tree, bytes_at}
+use Rattle.fx_outside.specs.Tree.{is_file_at}
 use Rattle.fx_outside.proofs.Views.{fault_back, fault_in_back}
 use Rattle.fx_folder.specs.Loads.{Loads, IsRefused}
-use Rattle.fx_table.specs.declared.fault.LoadFault.TheVariants as load
-use Rattle.fx_grammar.specs.Texts as texts
 use Rattle.fx_spec.specs.SpecTree.{SpecTree}
-use Rattle.fx_show.specs.declared.fault.DescriptionFault.{DescriptionFault}
-use Rattle.fx_show.specs.declared.fault.DescriptionFault.TheVariants as description
-use Rattle.fx_command.specs.declared.status.TextFault.{TextFault}
-use Rattle.fx_command.specs.declared.status.TextFault.TheVariants as fault
-use Rattle.fx_show.specs.Described.{Describes, IsRefusedFor, IsUndescribed}
 use Rattle.fx_show.specs.Shown.{root_value, shown}
 use Rattle.fx_command.specs.declared.status.Status.{Status}
 use Rattle.fx_command.specs.declared.status.Status.TheVariants as status
 use Rattle.fx_show.specs.Rows.{ShowReadFault, show_query, ShowRow, ShowEndsAs}
 use Rattle.fx_show.specs.Shows.{HasDescription, HasNoDescription, HasSomeDescription, IsShowing, CannotShow}
-use Rattle.fx_show.specs.Faults.{status_of_fault}
-use Rattle.fx_base.specs.Limits.{source_limit}
+use Rattle.fx_source.specs.Files.{description_reading}
+use Rattle.fx_command.specs.Reading.{ReadEnds}
 use Rattle.fx_command.specs.Saved.{PrintsPart}
-use Rattle.fx_command.specs.Texts.{IsReadAt}
-use Rattle.fx_command.proofs.Queries.{row_back, done, not_printed}
-use Rattle.fx_command.proofs.Readings.{IsSteady}
-use Rattle.fx_command.proofs.Told.{if_some_map, if_some_both, same, cause_back, some_back}
+use Rattle.fx_command.proofs.Queries.{row_back, done, not_printed, not_read}
+use Rattle.fx_command.proofs.Readings.{IsNarrower, IsSteady, ends_within}
+use Rattle.fx_command.proofs.Told.{if_some_both, some_and, some_unit, cause_back, some_back}
 use Rattle.fx_words.specs.Job.{ShowJob}
 
--- ---- the text
+-- ---- the description is not read, or refused
 
-described : (t : Tree) (j : ShowJob) (text : List ℕ) (spec : SpecTree) → Describes text spec → IsReadAt t j.spec source_limit text → HasDescription t j spec
-described t j text spec is read = record { file = read.file; describes = subst (λ x. Describes x spec) (read.whole is.read.short) is }
+pub not_described : (j : ShowJob) (host host' : HostView) (st : Status) → ReadsOnly host host' → ReadEnds (description_reading j.spec) host host' st → ShowEndsAs j host host' st
+not_described j host host' st reads ends = not_read (show_query j) host host' st reads (ends_within (description_reading j.spec) (show_query j).reads host host' st within ends)
+  where
+    failed : HasFailed (FaultAt j.spec) (λ t. is_file_at t j.spec) host host' → ShowReadFault j host host' ⊎ IsSomeAnd host.told (λ t. CannotShow t j)
+    failed (inl fault) = inl (inl fault)
+    failed (inr none) = inr (some_and (λ _. Unit {0}) (λ t. is_file_at t j.spec ≡ false) (λ t. CannotShow t j) host.told (λ t _ none. inl none) (some_unit host.told) none)
 
--- a text that is within its limit was read whole; else so many bytes were read that it is none
-whole : (t : Tree) (path text : List ℕ) (cause : TextFault) → IsReadAt t path source_limit text → length text ≤ 65536 → IsRefusedFor text cause → IsRefusedFor (bytes_at t path) cause
-whole t path text cause read short is = subst (λ x. IsRefusedFor x cause) (read.whole short) is
-
-too_large : (t : Tree) (path text : List ℕ) → IsReadAt t path source_limit text → 65536 < length text → IsRefusedFor (bytes_at t path) fault.TooLarge
-too_large t path text read large = record {
-  none = λ spec is. absurd (omega (arith, large, read.within, is.read.short));
-  cause = omega (arith, large, read.within);
-}
-
-pub refused_whole : (t : Tree) (path text : List ℕ) (cause : TextFault) → IsReadAt t path source_limit text → IsRefusedFor text cause → IsRefusedFor (bytes_at t path) cause
-refused_whole t path text fault.TooLarge read is = too_large t path text read is.cause
-refused_whole t path text (fault.BadToken n) read is = whole t path text (fault.BadToken n) read is.cause.0 is
-refused_whole t path text (fault.Unexpected n) read is = whole t path text (fault.Unexpected n) read is.cause.short is
-refused_whole t path text (fault.TooNested n) read is = whole t path text (fault.TooNested n) read is.cause.short is
-refused_whole t path text (fault.Unknown w) read is = whole t path text (fault.Unknown w) read is.cause.read.short is
-refused_whole t path text (fault.TypeDiffers a b) read is = whole t path text (fault.TypeDiffers a b) read is.cause.read.short is
-refused_whole t path text (fault.Repeated w) read is = whole t path text (fault.Repeated w) read is.cause.read.short is
-refused_whole t path text fault.TooMany read is = whole t path text fault.TooMany read is.cause.read.short is
-
--- ---- stages that only read
-
-show_no_memory : (j : ShowJob) (host host' : HostView) → ReadsOnly host host' → ShowEndsAs j host host' status.NoMemory
-show_no_memory j host host' reads sink = same host host' sink reads
-
-pub text_refused : (j : ShowJob) (host host' : HostView) (text : List ℕ) (refusal : DescriptionFault) → ReadsOnly host host' → IfSome host.told (λ t. IsReadAt t j.spec source_limit text) → IsUndescribed text refusal → ShowEndsAs j host host' (status_of_fault refusal)
-text_refused j host host' text (description.Refused cause) reads read is sink =
-    (same host host' sink reads, (refl, if_some_map (λ t. IsReadAt t j.spec source_limit text) (λ t. HasNoDescription t j cause) host.told (λ t read. record { file = read.file; refused = refused_whole t j.spec text cause read is }) read))
-text_refused j host host' text description.NoMemory reads read is sink = show_no_memory j host host' reads sink
+    within : IsNarrower (description_reading j.spec) (show_query j).reads host host'
+    within = record { refused = λ word cause why. why; unloaded = λ cause why. absurd why; failed = failed; bad = λ place why. why }
 
 -- ---- from one stage to the next
 

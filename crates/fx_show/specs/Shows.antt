@@ -1,23 +1,21 @@
 -- What `show` reads, and what it prints.
-use Rattle.std.specs.Prelude.{◌≡◌, ◌⊎◌, ℕ, true, false, List}
+use Rattle.std.specs.Prelude.{◌≡◌, ◌⊎◌, ℕ, false, List}
 use Rattle.std.specs.FinMap.{get}
 use Rattle.fx_store.specs.Whole.{Nodes}
-use Rattle.fx_outside.specs.Tree.{Tree, is_file_at, bytes_at, is_folder_at}
+use Rattle.fx_outside.specs.Tree.{Tree, is_file_at, is_folder_at}
 use Rattle.fx_folder.specs.Loads.{Loads}
 use Rattle.fx_spec.specs.SpecTree.{SpecTree}
 use Rattle.fx_command.specs.declared.status.TextFault.{TextFault}
-use Rattle.fx_show.specs.Described.{Describes, IsRefusedFor}
+use Rattle.fx_source.specs.Files.{IsDescriptionAt, IsNoDescriptionAt}
 use Rattle.fx_show.specs.Shown.{root_value, shown}
 use Rattle.fx_words.specs.Job.{ShowJob}
 
 -- the file at SPEC describes this; or its text is refused, first for this cause
-pub record HasDescription (t : Tree) (j : ShowJob) (spec : SpecTree) : Type 0 where
-  pub file : is_file_at t j.spec ≡ true
-  pub describes : Describes (bytes_at t j.spec) spec
+abbrev pub HasDescription : Tree → ShowJob → SpecTree → Type 0
+HasDescription t j spec = IsDescriptionAt t j.spec spec
 
-pub record HasNoDescription (t : Tree) (j : ShowJob) (cause : TextFault) : Type 0 where
-  pub file : is_file_at t j.spec ≡ true
-  pub refused : IsRefusedFor (bytes_at t j.spec) cause
+abbrev pub HasNoDescription : Tree → ShowJob → TextFault → Type 0
+HasNoDescription t j cause = IsNoDescriptionAt t j.spec cause
 
 abbrev pub HasSomeDescription : Tree → ShowJob → Type 0
 HasSomeDescription t j = (spec : SpecTree) × HasDescription t j spec

@@ -7,30 +7,15 @@ ghost use Rattle.fx_show.specs.Rows.{ShowRow, ShowEndsAs, ShowAsks};
 ghost use Rattle.fx_show.specs.Shows.{HasDescription, HasSomeDescription, IsShowing};
 ghost use Rattle.fx_command.specs.StatusOf.{status_of};
 
-use crate::described::description_of;
 use crate::values::shown;
-use fx_base::SOURCE_LIMIT;
-use fx_command::{Status, print_all, read_text};
+use fx_command::{Status, print_all};
 use fx_folder::load;
 use fx_outside::{Host, Sink};
+use fx_source::read_description;
 use fx_spec::Checked;
 use fx_store::{Filestore, LongText};
 use fx_words::ShowJob;
 use std::alloc::Global;
-
-/// Reads the description.
-fn read_description<H: Host>(alloc: Global, job: &ShowJob, host: &mut H) -> Result<Checked, Status>
-    ensures read { IfOk result (λ spec.
-        IfSome (H.view host.old).told (λ t. HasDescription t (asked_show job.now) spec)) }
-    ensures same { ReadsOnly (H.view host.old) (H.view host.new) }
-    ensures fit { ShowAsks (asked_show job.now) (H.view host.old) (H.view host.new) }
-    ensures ends { IfErr result
-        (ShowEndsAs (asked_show job.now) (H.view host.old) (H.view host.new)) }
-{
-    let text = read_text(alloc, host, job.spec, SOURCE_LIMIT as u64)?;
-    let spec = description_of(alloc, &text)?;
-    Ok(spec)
-}
 
 /// Loads the folder, after the description.
 fn read_folder<H: Host>(alloc: Global, job: &ShowJob, host: &mut H) -> Result<Filestore, Status>
@@ -77,7 +62,7 @@ fn output_of<H: Host>(alloc: Global, job: &ShowJob, host: &mut H) -> Result<Long
     ensures ends { IfErr result
         (ShowEndsAs (asked_show job.now) (H.view host.old) (H.view host.new)) }
 {
-    let spec = read_description(alloc, job, host)?;
+    let spec = read_description(alloc, job.spec, host)?;
     let output = output_by(alloc, job, &spec, host);
     spec.let_go();
     output

@@ -22,8 +22,9 @@ use std::alloc::Global;
 use std::sync::Wait;
 use std::thread::Threads;
 
-/// Does what a command asks for that runs no threads. It returns.
-fn still<H: Host, S: Sink, D: Disk>(
+/// Does what a command asks for whose transactions run on one thread. It returns.
+fn still<R: Threads, H: Host, S: Sink, D: Disk>(
+    rt: &R,
     alloc: Global,
     job: &Job,
     host: &mut H,
@@ -40,12 +41,12 @@ fn still<H: Host, S: Sink, D: Disk>(
         (S.view out.old) (S.view out.new) (D.view disk.old) (D.view disk.new) }
 {
     match job {
-        Job::Run(job) => trace(alloc, job, host, out),
+        Job::Run(job) => trace(rt, alloc, job, host, out),
         Job::Show(job) => show(alloc, job, host, out),
         Job::Gen(job) => write_generated(alloc, job.number, job.out, host, out),
-        Job::Audit(job) => audit(alloc, job, host, out),
-        Job::Journal(job) => journal(alloc, job, host, out, disk),
-        Job::Recover(job) => recover(alloc, job, host, out, disk),
+        Job::Audit(job) => audit(rt, alloc, job, host, out),
+        Job::Journal(job) => journal(rt, alloc, job, host, out, disk),
+        Job::Recover(job) => recover(rt, alloc, job, host, out, disk),
         Job::Large(_) => unreachable!(),
         Job::Views(_) => unreachable!(),
     }
@@ -72,12 +73,12 @@ fn run_job<R: Threads + Wait + Sync, H: Host, S: Sink, G: Gate + Sync, D: Disk>(
     match job {
         Job::Run(run_as) => match run_as.mode {
             RunMode::Plain => run(rt, alloc, run_as, host, out, gate),
-            RunMode::Scheduled(_) | RunMode::Watched(_) => still(alloc, job, host, out, disk),
+            RunMode::Scheduled(_) | RunMode::Watched(_) => still(rt, alloc, job, host, out, disk),
         },
         Job::Large(job) => run_generated(rt, alloc, job.number, job.out, host, out, gate),
         Job::Views(job) => views(rt, alloc, job, host, out, gate),
         Job::Show(_) | Job::Gen(_) | Job::Audit(_) | Job::Journal(_) | Job::Recover(_) => {
-            still(alloc, job, host, out, disk)
+            still(rt, alloc, job, host, out, disk)
         }
     }
 }

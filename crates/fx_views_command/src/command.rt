@@ -50,7 +50,7 @@ pub fn views<R: Threads + Wait + Sync, H: Host, S: Sink, G: Gate + Sync>(
         (S.view out.old) (S.view out.new) (status_of result) }
     ensures fit { ViewsAsk (asked_views job.now) (H.view host.old) (H.view host.new) }
 {
-    let bases = read_bases(alloc, job, host)?;
+    let bases = read_bases(rt, alloc, job, host)?;
     let there = match ready_out(alloc, job.out, host) {
         Ok(there) => there,
         Err(status) => {

@@ -5,8 +5,7 @@ use fx_command::{Message, Status, TextFault};
 use fx_lex::{LexFault, Spanned, Token, Tokens, lex};
 use fx_outside::{HostText, Words};
 use fx_parse::{ParseFault, parse_expr, parse_shape};
-use fx_scripts::{ScriptFault, script_of};
-use fx_show::{DescriptionFault, description_of};
+use fx_source::{SourceFault, description_of, script_of};
 use std::alloc::Global;
 use std::fmt::Write;
 use test_stage::{add_bytes, tell, unescaped};
@@ -159,8 +158,8 @@ fn tell_message(alloc: Global, status: &Status, out: &mut String) -> Result<(), 
 fn description_cause(alloc: Global, bytes: &[u8]) -> Result<Option<TextFault>, NoMemory> {
     match description_of(alloc, bytes) {
         Ok(_) => Ok(None),
-        Err(DescriptionFault::Refused(cause)) => Ok(Some(cause)),
-        Err(DescriptionFault::NoMemory) => Err(NoMemory),
+        Err(SourceFault::Refused(cause)) => Ok(Some(cause)),
+        Err(SourceFault::NoMemory) => Err(NoMemory),
     }
 }
 
@@ -168,8 +167,8 @@ fn description_cause(alloc: Global, bytes: &[u8]) -> Result<Option<TextFault>, N
 fn script_cause(alloc: Global, before: u32, bytes: &[u8]) -> Result<Option<TextFault>, NoMemory> {
     match script_of(alloc, bytes, before.min(TXN_LIMIT as u32)) {
         Ok(_) => Ok(None),
-        Err(ScriptFault::Refused(cause)) => Ok(Some(cause)),
-        Err(ScriptFault::NoMemory) => Err(NoMemory),
+        Err(SourceFault::Refused(cause)) => Ok(Some(cause)),
+        Err(SourceFault::NoMemory) => Err(NoMemory),
     }
 }
 

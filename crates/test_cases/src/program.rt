@@ -61,7 +61,7 @@ impl<R: Threads + Wait + Sync> Program for Top<'_, R> {
     fn base(&self, alloc: Global, stage: &mut Stage, scripts: &str) -> Result<Arc<Base>, Status> {
         let words = run_words(alloc, scripts)?;
         match job_of(alloc, &words) {
-            Ok(Job::Run(job)) => read_base(alloc, &job.inputs, &mut stage.host),
+            Ok(Job::Run(job)) => read_base(&self.handles, alloc, &job.inputs, &mut stage.host),
             _ => Err(Status::Usage),
         }
     }

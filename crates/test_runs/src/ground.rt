@@ -5,7 +5,7 @@ use fx_base::{NoMemory, SHELL_LIMIT};
 use fx_check::check;
 use fx_folder::load;
 use fx_outside::{HostKind, HostText, MemoryHost};
-use fx_scripts::{ScriptFault, script_of};
+use fx_source::{SourceFault, script_of};
 use fx_spec::{Base, Checked, Defs, Description, Plan, Spec};
 use fx_spec_parse::parse;
 use fx_store::Filestore;
@@ -86,7 +86,7 @@ fn description_of(alloc: Global, text: &str) -> Checked {
 }
 
 /// Adds the scripts of some texts to an empty plan, up to the most that a run may have.
-fn add_scripts(alloc: Global, plan: &mut Plan, texts: &[&str]) -> Result<(), ScriptFault>
+fn add_scripts(alloc: Global, plan: &mut Plan, texts: &[&str]) -> Result<(), SourceFault>
     requires { plan.old ≡ [] }
 {
     for text in texts {
@@ -100,7 +100,7 @@ fn add_scripts(alloc: Global, plan: &mut Plan, texts: &[&str]) -> Result<(), Scr
 }
 
 /// The scripts of some texts, up to the most that a run may have.
-fn plan_of(alloc: Global, texts: &[&str]) -> Result<Plan, ScriptFault> {
+fn plan_of(alloc: Global, texts: &[&str]) -> Result<Plan, SourceFault> {
     let mut plan = Plan::new(alloc);
     match add_scripts(alloc, &mut plan, texts) {
         Ok(()) => Ok(plan),
@@ -127,7 +127,7 @@ fn gathered(alloc: Global, ground: &Ground, plan: Plan) -> Result<Arc<Base>, NoM
 
 /// What a run of scripts begins with. A script that is refused refuses the whole; a description that is refused stands for
 /// that of a file, and a folder that can't be loaded for an empty one.
-pub fn base_of(alloc: Global, ground: &Ground, scripts: &[&str]) -> Result<Arc<Base>, ScriptFault> {
+pub fn base_of(alloc: Global, ground: &Ground, scripts: &[&str]) -> Result<Arc<Base>, SourceFault> {
     let plan = plan_of(alloc, scripts)?;
     Ok(gathered(alloc, ground, plan)?)
 }

@@ -1,5 +1,5 @@
 use Rattle.std.proofs.Common.{sym, subst}
-use Rattle.fx_show.specs.Described.{IsUndescribed}
+use Rattle.fx_source.specs.Described.{IsUndescribed}
 use Rattle.fx_inputs.proofs.views.description_again.Goals as goal
 
 pub returns-in-Ok : goal.returns-in-Ok

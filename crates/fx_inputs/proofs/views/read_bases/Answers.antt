@@ -2,7 +2,7 @@ use Rattle.std.proofs.Common.{sym, subst}
 use Rattle.fx_outside.proofs.Views.{reads_then}
 use Rattle.fx_spec.specs.Bases.{base_tree}
 use Rattle.fx_words.specs.JobOf.{asked_views}
-use Rattle.fx_show.specs.Described.{Describes}
+use Rattle.fx_source.specs.Described.{Describes}
 use Rattle.fx_inputs.specs.Inputs.{HasSpec}
 use Rattle.fx_inputs.proofs.Stages.{some_spec, then_told}
 use Rattle.fx_inputs.proofs.ViewsRows.{after_views, some_views, views_row_back, whole_bases}

@@ -3,8 +3,8 @@ use Rattle.fx_gen_laws.specs.Trees.{script_tree}
 use Rattle.fx_large.proofs.Standing.{scripted, unscripted_is}
 use Rattle.fx_large.proofs.base.script.Goals as goal
 
-pub no_memory_for-requires : goal.no_memory_for-requires
-no_memory_for-requires c =
+pub no_memory-requires : goal.no_memory-requires
+no_memory-requires c =
     let t = c.requires.text in
     unscripted_is c.args.text.now t.0 t.1 c.args.before c.in-Err.fault t.2 c.requires.few t.3 c.in-Err.ensures.refused
 

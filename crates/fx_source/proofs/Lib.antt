@@ -1,0 +1,4 @@
+pub mod Ahead
+pub mod DescriptionCauses
+pub mod Files
+pub mod ScriptCauses

@@ -1,0 +1,50 @@
+-- What a text describes, and why it describes nothing.
+use Rattle.std.specs.Prelude.{◌≡◌, ℕ, List, Err}
+use Rattle.fx_check.specs.Checked.{checked_text}
+use Rattle.fx_check.specs.Faults.{Fault}
+use Rattle.fx_expr.specs.Views.{shape_tree}
+use Rattle.fx_grammar.specs.Refused.{IsRefusedDescription}
+use Rattle.fx_grammar.specs.Texts as texts
+use Rattle.fx_parse.specs.declared.fault.ParseFault.TheVariants as parse
+use Rattle.fx_spec.specs.SpecTree.{SpecTree}
+use Rattle.fx_spec.specs.WellShaped.{IsChecked}
+use Rattle.fx_spec.specs.Written.{TextTree, text_tree}
+use Rattle.fx_source.specs.declared.fault.SourceFault.{SourceFault}
+use Rattle.fx_source.specs.declared.fault.SourceFault.TheVariants as refusal
+use Rattle.fx_command.specs.declared.status.TextFault.{TextFault}
+use Rattle.fx_command.specs.declared.status.TextFault.TheVariants as fault
+
+-- the text stands for a description, whose names and shapes fit and which means this
+pub record Describes (text : List ℕ) (spec : SpecTree) : Type 0 where
+  pub written : TextTree
+  pub read : texts.IsDescription text written
+  pub shapes : IsChecked written
+  pub means : spec ≡ text_tree written
+
+-- the text stands for a description, whose first fault of names and shapes is this one
+pub record HasFault (text : List ℕ) (first : Fault) : Type 0 where
+  pub written : TextTree
+  pub read : texts.IsDescription text written
+  pub found : checked_text written ≡ Err first
+
+-- the first cause for which the text is refused: its length comes first, then its tokens, then its form, then names and
+-- shapes
+abbrev pub HasCause : List ℕ → TextFault → Type 0
+HasCause text fault.TooLarge = IsRefusedDescription text parse.TooLarge
+HasCause text (fault.BadToken place) = IsRefusedDescription text (parse.BadToken place)
+HasCause text (fault.Unexpected place) = IsRefusedDescription text (parse.Unexpected place)
+HasCause text (fault.TooNested place) = IsRefusedDescription text (parse.TooNested place)
+HasCause text (fault.Unknown word) = HasFault text (Fault.unknown word)
+HasCause text (fault.TypeDiffers expected found) = HasFault text (Fault.differs (shape_tree expected) (shape_tree found))
+HasCause text (fault.Repeated word) = HasFault text (Fault.repeated word)
+HasCause text fault.TooMany = HasFault text Fault.too_many
+
+-- the text describes nothing, for this cause
+pub record IsRefusedFor (text : List ℕ) (first : TextFault) : Type 0 where
+  pub none : (spec : SpecTree) → Describes text spec → ⊥
+  pub cause : HasCause text first
+
+-- the text describes nothing; or memory ran out
+abbrev pub IsUndescribed : List ℕ → SourceFault → Type 0
+IsUndescribed text (refusal.Refused cause) = IsRefusedFor text cause
+IsUndescribed text refusal.NoMemory = Unit {0}

@@ -1,0 +1,5 @@
+pub mod Ahead
+pub mod Described
+pub mod Faults
+pub mod Files
+pub mod Scripted
