@@ -16,9 +16,16 @@ use std::marker::Model;
 use std::slice;
 
 /// The parameters of a definition, with their shapes.
-#[derive(Debug, Drop)]
+#[derive(Debug)]
 pub struct Params {
     items: Vec<(Word, Shape)>,
+}
+
+/// It is written out, so that its parts are dropped in this crate alone.
+impl Drop for Params {
+    fn drop(self) {
+        let Params { items: _items } = self;
+    }
 }
 
 impl Model for Params {
@@ -36,18 +43,39 @@ impl Model for Params {
 }
 
 /// A named description with parameters.
-#[derive(Debug, Drop)]
+#[derive(Debug)]
 pub struct Def {
     pub name: Word,
     pub params: Params,
     pub body: Spec,
 }
 
+/// It is written out, so that its parts are dropped in this crate alone.
+impl Drop for Def {
+    fn drop(self) {
+        let Def {
+            name: _name,
+            params: _params,
+            body: _body,
+        } = self;
+    }
+}
+
 /// The definitions of a text, in its order. Each name's first one is found by a table.
-#[derive(Debug, Drop)]
+#[derive(Debug)]
 pub struct Defs {
     items: Vec<Def>,
     places: IndexMap<Vec<u8>, usize>,
+}
+
+/// It is written out, so that its parts are dropped in this crate alone.
+impl Drop for Defs {
+    fn drop(self) {
+        let Defs {
+            items: _items,
+            places: _places,
+        } = self;
+    }
 }
 
 impl Model for Defs {
@@ -69,10 +97,20 @@ impl Model for Defs {
 }
 
 /// A text's definitions, and what it describes.
-#[derive(Debug, Drop)]
+#[derive(Debug)]
 pub struct Description {
     pub defs: Defs,
     pub root: Spec,
+}
+
+/// It is written out, so that its parts are dropped in this crate alone.
+impl Drop for Description {
+    fn drop(self) {
+        let Description {
+            defs: _defs,
+            root: _root,
+        } = self;
+    }
 }
 
 impl Params {

@@ -9,15 +9,29 @@ use std::marker::Model;
 use std::slice;
 
 /// A transaction: its commands, in order.
-#[derive(Drop)]
 pub struct Txn {
     pub commands: Commands,
 }
 
+/// It is written out, so that its parts are dropped in this crate alone.
+impl Drop for Txn {
+    fn drop(self) {
+        let Txn {
+            commands: _commands,
+        } = self;
+    }
+}
+
 /// A list of transactions. Contracts see the list of their commands.
-#[derive(Drop)]
 pub struct Txns {
     items: Vec<Txn>,
+}
+
+/// It is written out, so that its parts are dropped in this crate alone.
+impl Drop for Txns {
+    fn drop(self) {
+        let Txns { items: _items } = self;
+    }
 }
 
 impl Model for Txns {

@@ -10,12 +10,22 @@ use std::marker::Model;
 use std::slice;
 
 /// What stands at a path from now on: a node, or nothing.
-#[derive(Debug, Drop)]
+#[derive(Debug)]
 pub struct Change {
     /// The path that is changed.
     pub path: Path,
     /// What stands there from now on.
     pub node: Option<Node>,
+}
+
+/// It is written out, so that its parts are dropped in this crate alone.
+impl Drop for Change {
+    fn drop(self) {
+        let Change {
+            path: _path,
+            node: _node,
+        } = self;
+    }
 }
 
 impl Change {
@@ -42,9 +52,16 @@ impl Clone for Change {
 }
 
 /// Changes in ascending order of path, at most one of each path.
-#[derive(Debug, Drop)]
+#[derive(Debug)]
 pub struct Changes {
     changes: Vec<Change>,
+}
+
+/// It is written out, so that its parts are dropped in this crate alone.
+impl Drop for Changes {
+    fn drop(self) {
+        let Changes { changes: _changes } = self;
+    }
 }
 
 impl Model for Changes {

@@ -19,9 +19,15 @@ use std::marker::Model;
 
 /// A map from path to node, which is always whole: the root is a directory, and a longer path is mapped exactly
 /// where its parent is a directory that lists its last name. Its table may have places without a node.
-#[derive(Drop)]
 pub struct Filestore {
     table: IndexMap<Path, Option<Node>>,
+}
+
+/// It is written out, so that its parts are dropped in this crate alone.
+impl Drop for Filestore {
+    fn drop(self) {
+        let Filestore { table: _table } = self;
+    }
 }
 
 impl Model for Filestore {

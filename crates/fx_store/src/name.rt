@@ -62,9 +62,16 @@ impl From<NoMemory> for PathFault {
 
 /// The name of an entry of a directory: UTF-8 of 1 to 255 bytes without `/` and NUL, and not `.`, `..` or
 /// `.forest-links`. Names are ordered by bytes. A copy shares the bytes, and takes no memory for them.
-#[derive(Debug, Drop)]
+#[derive(Debug)]
 pub struct Name {
     bytes: ArcSlice<u8>,
+}
+
+/// It is written out, so that its parts are dropped in this crate alone.
+impl Drop for Name {
+    fn drop(self) {
+        let Name { bytes: _bytes } = self;
+    }
 }
 
 impl Model for Name {
