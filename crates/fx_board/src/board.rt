@@ -62,6 +62,7 @@ impl Model for Board {
 }
 
 /// Why an attempt is not settled. Both refusals leave the log as it is, and hand the attempt back.
+#[derive(Drop)]
 pub enum Settle {
     /// The least path that was changed at or after the attempt's look at it, with the last entry that changed it.
     Conflict {
@@ -70,20 +71,6 @@ pub enum Settle {
         attempt: Attempt,
     },
     NoMemory(Attempt),
-}
-
-/// It is written out, so that its parts are dropped in this crate alone.
-impl Drop for Settle {
-    fn drop(self) {
-        match self {
-            Settle::Conflict {
-                entry: _entry,
-                path: _path,
-                attempt: _attempt,
-            } => {}
-            Settle::NoMemory(_first) => {}
-        }
-    }
 }
 
 /// Lets go of an attempt.
@@ -98,19 +85,10 @@ pub fn answer_of(attempt: Attempt) -> (Values, End)
 }
 
 /// A settled attempt: the number of its entry, and what it had read.
+#[derive(Drop)]
 pub struct Settled {
     pub entry: u64,
     pub reads: Reads,
-}
-
-/// It is written out, so that its parts are dropped in this crate alone.
-impl Drop for Settled {
-    fn drop(self) {
-        let Settled {
-            entry: _entry,
-            reads: _reads,
-        } = self;
-    }
 }
 
 impl Board {

@@ -14,37 +14,18 @@ use std::alloc::Global;
 
 /// The changes of an attempt whose entry was added, and the keys for the index: the paths that they change; and what the
 /// attempt had read.
+#[derive(Drop)]
 pub(crate) struct Grown {
     pub changes: Changes,
     pub keys: Vec<Path>,
     pub reads: Reads,
 }
 
-/// It is written out, so that its parts are dropped in this crate alone.
-impl Drop for Grown {
-    fn drop(self) {
-        let Grown {
-            changes: _changes,
-            keys: _keys,
-            reads: _reads,
-        } = self;
-    }
-}
-
 /// The paths that changes change, for an entry and for the index.
+#[derive(Drop)]
 struct Changed {
     paths: Paths,
     keys: Vec<Path>,
-}
-
-/// It is written out, so that its parts are dropped in this crate alone.
-impl Drop for Changed {
-    fn drop(self) {
-        let Changed {
-            paths: _paths,
-            keys: _keys,
-        } = self;
-    }
 }
 
 /// Adds the attempt's entry, and makes room for its changes in the log's filestore and in the index. The changes are handed

@@ -32,20 +32,10 @@ impl ExprFault {
 }
 
 /// Why `eval` answers no value.
-#[derive(Clone, Copy, Debug, PartialEq, Eq)]
+#[derive(Clone, Copy, Debug, PartialEq, Eq, Drop)]
 pub enum EvalFault {
     Fault(ExprFault),
     NoMemory,
-}
-
-/// It is written out, so that its parts are dropped in this crate alone.
-impl Drop for EvalFault {
-    fn drop(self) {
-        match self {
-            EvalFault::Fault(_first) => {}
-            EvalFault::NoMemory => {}
-        }
-    }
 }
 
 impl fmt::Display for ExprFault {

@@ -5,7 +5,7 @@ use fx_base::NoMemory;
 use std::alloc::Global;
 
 /// What kind of value an expression or a description has.
-#[derive(Debug, PartialEq)]
+#[derive(Debug, PartialEq, Drop)]
 pub enum Shape {
     Str,
     Int,
@@ -14,18 +14,6 @@ pub enum Shape {
     Pair(Box<Shape>, Box<Shape>),
     Opt(Box<Shape>),
     Table(Box<Shape>),
-}
-
-/// It is written out, so that its parts are dropped in this crate alone.
-impl Drop for Shape {
-    fn drop(self) {
-        match self {
-            Shape::Pair(_first, _second) => {}
-            Shape::Opt(_first) => {}
-            Shape::Table(_first) => {}
-            Shape::Str | Shape::Int | Shape::Bool | Shape::Names => {}
-        }
-    }
 }
 
 impl Shape {

@@ -8,7 +8,7 @@ use fx_text::{Text, TextSet};
 use std::alloc::Global;
 
 /// A value of the language.
-#[derive(Debug)]
+#[derive(Debug, Drop)]
 pub enum Value {
     Str(Text),
     Int(i64),
@@ -18,22 +18,6 @@ pub enum Value {
     Nothing,
     Some(Box<Value>),
     Table(Rows),
-}
-
-/// It is written out, so that its parts are dropped in this crate alone.
-impl Drop for Value {
-    fn drop(self) {
-        match self {
-            Value::Str(_first) => {}
-            Value::Int(_first) => {}
-            Value::Bool(_first) => {}
-            Value::Names(_first) => {}
-            Value::Pair(_first, _second) => {}
-            Value::Some(_first) => {}
-            Value::Table(_first) => {}
-            Value::Nothing => {}
-        }
-    }
 }
 
 /// The rows of a table: a value for each text, in strictly ascending order of text.

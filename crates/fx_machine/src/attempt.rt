@@ -5,6 +5,7 @@ use fx_view::Reads;
 
 /// A transaction that was run against a log and is not settled yet: whose it is, by numbers from 0, what it read, what it
 /// changes, what it printed, and how it ended.
+#[derive(Drop)]
 pub struct Attempt {
     pub shell: u32,
     pub txn: u32,
@@ -12,18 +13,4 @@ pub struct Attempt {
     pub changes: Changes,
     pub outputs: Values,
     pub end: End,
-}
-
-/// It is written out, so that its parts are dropped in this crate alone.
-impl Drop for Attempt {
-    fn drop(self) {
-        let Attempt {
-            shell: _shell,
-            txn: _txn,
-            reads: _reads,
-            changes: _changes,
-            outputs: _outputs,
-            end: _end,
-        } = self;
-    }
 }

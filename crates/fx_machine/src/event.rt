@@ -2,7 +2,7 @@ use fx_base::Listed;
 use fx_store::Path;
 
 /// One step of a shell: a look at a path, or the settling of its attempt.
-#[derive(Debug)]
+#[derive(Debug, Drop)]
 pub enum Event {
     /// The path was looked at when the log had so many entries.
     Look {
@@ -21,28 +21,6 @@ pub enum Event {
         entry: u64,
         path: Path,
     },
-}
-
-/// It is written out, so that its parts are dropped in this crate alone.
-impl Drop for Event {
-    fn drop(self) {
-        match self {
-            Event::Look {
-                shell: _shell,
-                path: _path,
-                position: _position,
-            } => {}
-            Event::Settled {
-                shell: _shell,
-                entry: _entry,
-            } => {}
-            Event::Conflict {
-                shell: _shell,
-                entry: _entry,
-                path: _path,
-            } => {}
-        }
-    }
 }
 
 /// Events, in their order.

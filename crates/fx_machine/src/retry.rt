@@ -3,24 +3,12 @@ use fx_store::Path;
 
 /// An attempt that had to start again: whose it was, the number of the entry that stood in its way, and a path that it
 /// had looked at and that this entry changed.
-#[derive(Debug)]
+#[derive(Debug, Drop)]
 pub struct Retry {
     pub shell: u32,
     pub txn: u32,
     pub entry: u64,
     pub path: Path,
-}
-
-/// It is written out, so that its parts are dropped in this crate alone.
-impl Drop for Retry {
-    fn drop(self) {
-        let Retry {
-            shell: _shell,
-            txn: _txn,
-            entry: _entry,
-            path: _path,
-        } = self;
-    }
 }
 
 /// Retries, in the order in which they are reported.

@@ -25,7 +25,12 @@ pub struct MemoryHost {
 /// It is written out, so that its parts are dropped in this crate alone.
 impl Drop for MemoryHost {
     fn drop(self) {
-        let MemoryHost { tree: _tree, calls: _calls, last_fault: _last_fault, strays: _strays, ghost whole: _ghost whole } = self;
+        let MemoryHost {
+            tree: _tree,
+            calls: _calls,
+            last_fault: _last_fault,
+            strays: _strays,
+        } = self;
     }
 }
 

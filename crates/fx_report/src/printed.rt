@@ -3,6 +3,7 @@ use fx_expr::Values;
 use fx_spec::End;
 
 /// A transaction as the report tells it: whose it was, by numbers from 0, what it printed, and how it ended.
+#[derive(Drop)]
 pub struct PrintedEntry {
     pub shell: u32,
     pub txn: u32,
@@ -10,34 +11,12 @@ pub struct PrintedEntry {
     pub end: End,
 }
 
-/// It is written out, so that its parts are dropped in this crate alone.
-impl Drop for PrintedEntry {
-    fn drop(self) {
-        let PrintedEntry {
-            shell: _shell,
-            txn: _txn,
-            outputs: _outputs,
-            end: _end,
-        } = self;
-    }
-}
-
 /// A transaction that only looked: after how many entries of the run, what it printed, and how it ended.
+#[derive(Drop)]
 pub struct View {
     pub position: u64,
     pub outputs: Values,
     pub end: End,
-}
-
-/// It is written out, so that its parts are dropped in this crate alone.
-impl Drop for View {
-    fn drop(self) {
-        let View {
-            position: _position,
-            outputs: _outputs,
-            end: _end,
-        } = self;
-    }
 }
 
 /// Views, in the order in which they looked.

@@ -10,7 +10,7 @@ use std::marker::Model;
 use std::slice;
 
 /// A move of a transaction's position, or an edit at it.
-#[derive(Debug)]
+#[derive(Debug, Drop)]
 pub enum Act {
     Into,
     To(Expr),
@@ -25,26 +25,8 @@ pub enum Act {
     Remove,
 }
 
-/// It is written out, so that its parts are dropped in this crate alone.
-impl Drop for Act {
-    fn drop(self) {
-        match self {
-            Act::To(_first) => {}
-            Act::Store(_first) => {}
-            Act::Into
-            | Act::Next
-            | Act::Prev
-            | Act::Out
-            | Act::Down
-            | Act::Up
-            | Act::Top
-            | Act::Create
-            | Act::Remove => {}
-        }
-    }
-}
-
 /// A command of a transaction.
+#[derive(Drop)]
 #[cycle(command)]
 pub enum Command {
     Do(Act),
@@ -63,36 +45,11 @@ pub enum Command {
     Abort,
 }
 
-/// It is written out, so that its parts are dropped in this crate alone.
-impl Drop for Command {
-    fn drop(self) {
-        match self {
-            Command::Do(_first) => {}
-            Command::Attempt(_first, _second) => {}
-            Command::Bind(_first, _second) => {}
-            Command::Assign(_first, _second) => {}
-            Command::Fetch(_first, _second) => {}
-            Command::Whole(_first, _second) => {}
-            Command::Validate(_first) => {}
-            Command::Print(_first) => {}
-            Command::Branch(_first, _second, _third) => {}
-            Command::Each(_first, _second, _third) => {}
-            Command::Abort => {}
-        }
-    }
-}
-
 /// A list of commands. Contracts see the list of their trees.
+#[derive(Drop)]
 #[cycle(command)]
 pub struct Commands {
     items: Vec<Command>,
-}
-
-/// It is written out, so that its parts are dropped in this crate alone.
-impl Drop for Commands {
-    fn drop(self) {
-        let Commands { items: _items } = self;
-    }
 }
 
 impl Model for Commands {

@@ -43,22 +43,11 @@ impl Model for Params {
 }
 
 /// A named description with parameters.
-#[derive(Debug)]
+#[derive(Debug, Drop)]
 pub struct Def {
     pub name: Word,
     pub params: Params,
     pub body: Spec,
-}
-
-/// It is written out, so that its parts are dropped in this crate alone.
-impl Drop for Def {
-    fn drop(self) {
-        let Def {
-            name: _name,
-            params: _params,
-            body: _body,
-        } = self;
-    }
 }
 
 /// The definitions of a text, in its order. Each name's first one is found by a table.
@@ -97,20 +86,10 @@ impl Model for Defs {
 }
 
 /// A text's definitions, and what it describes.
-#[derive(Debug)]
+#[derive(Debug, Drop)]
 pub struct Description {
     pub defs: Defs,
     pub root: Spec,
-}
-
-/// It is written out, so that its parts are dropped in this crate alone.
-impl Drop for Description {
-    fn drop(self) {
-        let Description {
-            defs: _defs,
-            root: _root,
-        } = self;
-    }
 }
 
 impl Params {

@@ -2,7 +2,7 @@ use crate::exprs::Exprs;
 use fx_expr::{Formula, Word};
 
 /// A description of what stands at a path.
-#[derive(Debug)]
+#[derive(Debug, Drop)]
 pub enum Spec {
     File,
     Dir,
@@ -19,19 +19,4 @@ pub enum Spec {
     Pred(Formula),
     /// A named description, with the values of its parameters.
     Call(Word, Exprs),
-}
-
-/// It is written out, so that its parts are dropped in this crate alone.
-impl Drop for Spec {
-    fn drop(self) {
-        match self {
-            Spec::Focus(_first, _second) => {}
-            Spec::Pair(_first, _second, _third) => {}
-            Spec::Comp(_first, _second, _third) => {}
-            Spec::Opt(_first) => {}
-            Spec::Pred(_first) => {}
-            Spec::Call(_first, _second) => {}
-            Spec::File | Spec::Dir | Spec::Link => {}
-        }
-    }
 }

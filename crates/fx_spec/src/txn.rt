@@ -9,17 +9,9 @@ use std::marker::Model;
 use std::slice;
 
 /// A transaction: its commands, in order.
+#[derive(Drop)]
 pub struct Txn {
     pub commands: Commands,
-}
-
-/// It is written out, so that its parts are dropped in this crate alone.
-impl Drop for Txn {
-    fn drop(self) {
-        let Txn {
-            commands: _commands,
-        } = self;
-    }
 }
 
 /// A list of transactions. Contracts see the list of their commands.

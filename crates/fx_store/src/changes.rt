@@ -10,22 +10,12 @@ use std::marker::Model;
 use std::slice;
 
 /// What stands at a path from now on: a node, or nothing.
-#[derive(Debug)]
+#[derive(Debug, Drop)]
 pub struct Change {
     /// The path that is changed.
     pub path: Path,
     /// What stands there from now on.
     pub node: Option<Node>,
-}
-
-/// It is written out, so that its parts are dropped in this crate alone.
-impl Drop for Change {
-    fn drop(self) {
-        let Change {
-            path: _path,
-            node: _node,
-        } = self;
-    }
 }
 
 impl Change {

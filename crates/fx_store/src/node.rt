@@ -9,26 +9,12 @@ use fx_base::NoMemory;
 use std::alloc::{AllocError, Global};
 
 /// What stands at a path: a file with its bytes and a flag, a directory with its names, or a link with its text.
-#[derive(Debug)]
+#[derive(Debug, Drop)]
 pub enum Node {
     /// With its bytes, and whether it is to be run.
     File { bytes: Bytes, exec: bool },
     Dir(Names),
     Link(LinkText),
-}
-
-/// It is written out, so that its parts are dropped in this crate alone.
-impl Drop for Node {
-    fn drop(self) {
-        match self {
-            Node::File {
-                bytes: _bytes,
-                exec: _exec,
-            } => {}
-            Node::Dir(_first) => {}
-            Node::Link(_first) => {}
-        }
-    }
 }
 
 impl Node {
@@ -63,7 +49,7 @@ impl Clone for Node {
 }
 
 /// Where a path leads once its links are followed.
-#[derive(Debug)]
+#[derive(Debug, Drop)]
 pub enum Landing {
     /// A node stands at this path.
     At(Path),
@@ -72,16 +58,4 @@ pub enum Landing {
     /// The way goes on through this path, which is no directory.
     Blocked(Path),
     TooManyLinks,
-}
-
-/// It is written out, so that its parts are dropped in this crate alone.
-impl Drop for Landing {
-    fn drop(self) {
-        match self {
-            Landing::At(_first) => {}
-            Landing::Absent(_first, _second) => {}
-            Landing::Blocked(_first) => {}
-            Landing::TooManyLinks => {}
-        }
-    }
 }

@@ -12,20 +12,11 @@ use std::alloc::Global;
 use std::collections::VecDeque;
 
 /// A component of a way: the directory itself, the one above, or an entry.
+#[derive(Drop)]
 pub(crate) enum Component {
     CurDir,
     ParentDir,
     Normal(Name),
-}
-
-/// It is written out, so that its parts are dropped in this crate alone.
-impl Drop for Component {
-    fn drop(self) {
-        match self {
-            Component::Normal(_first) => {}
-            Component::CurDir | Component::ParentDir => {}
-        }
-    }
 }
 
 /// The names of a path, one after another.

@@ -14,6 +14,7 @@ use std::collections::VecDeque;
 /// The most links that are followed.
 const MAX_LINKS: u32 = 40;
 
+#[derive(Drop)]
 pub(crate) struct Walk {
     here: Path,
     rest: VecDeque<Component>,
@@ -21,35 +22,13 @@ pub(crate) struct Walk {
     follow: bool,
 }
 
-/// It is written out, so that its parts are dropped in this crate alone.
-impl Drop for Walk {
-    fn drop(self) {
-        let Walk {
-            here: _here,
-            rest: _rest,
-            links: _links,
-            follow: _follow,
-        } = self;
-    }
-}
-
 /// How a walk goes on before it looks again.
+#[derive(Drop)]
 pub(crate) enum Next {
     Lands(Landing),
     Goes,
     /// It looks at an entry of the directory where it is: its name and its path.
     Looks(Name, Path),
-}
-
-/// It is written out, so that its parts are dropped in this crate alone.
-impl Drop for Next {
-    fn drop(self) {
-        match self {
-            Next::Lands(_first) => {}
-            Next::Looks(_first, _second) => {}
-            Next::Goes => {}
-        }
-    }
 }
 
 /// The walk of a path from the root.
