@@ -43,7 +43,7 @@ pub enum RunMode<'a> {
     Plain,
     /// One thread, by a schedule of shells.
     Scheduled(&'a HostText),
-    /// The same, and each commit is followed by whether the tree has a value.
+    /// One thread, by a schedule of shells. Each commit is followed by whether the tree has a value.
     Watched(&'a HostText),
 }
 
