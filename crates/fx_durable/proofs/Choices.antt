@@ -1,10 +1,10 @@
 -- How calls on a disk go on where a file is chosen.
-use Rattle.std.proofs.Common.{◌≡◌, true, ◌∙◌, ap}
-use Rattle.fx_durable.specs.Disk.{Choice, DiskView, CountsEarly, AsksChosen}
+use Rattle.std.proofs.Common.{◌≡◌, true, ℕ, List, refl, ◌∙◌, ap}
+use Rattle.fx_durable.specs.Disk.{Choice, DiskView, AsksChosen, ChoosesFirst}
 
--- one call for the bytes of a file
-pub asks_once : (old new : DiskView) → CountsEarly old new → AsksChosen old new
-asks_once old new counts chosen = λ i. record { chosen = counts.chosen i; early = counts.after chosen i }
+-- no call
+pub unasked : (path : List ℕ) (disk : DiskView) → ChoosesFirst path disk disk
+unasked path disk = record { others = λ _. refl; early = refl }
 
 -- some calls, and then some more
 pub asks_over : (old mid new : DiskView) → AsksChosen old mid → AsksChosen mid new → AsksChosen old new

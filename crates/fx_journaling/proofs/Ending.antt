@@ -69,6 +69,7 @@ module _ (base : BaseTree) (schedule : List ℕ) (disk disk' : DiskView) (sink s
       keeps = keeps events running.machine running.machine.order (inl refl) (inl refl) (held_leaves running.machine.order running.machine.order taken.held.told);
       cause = tt;
       others = taken.held.others;
+      asks = taken.held.asks;
       calm = λ _. taken.held.calm;
       at_disk = λ is. absurd (not_disk is);
     }
@@ -83,6 +84,7 @@ module _ (base : BaseTree) (schedule : List ℕ) (disk disk' : DiskView) (sink s
           later = taken.later;
           calm = taken.held.calm;
           others = taken.held.others;
+          asks = taken.held.asks;
           keeps = subst (λ m. IfFile (KeepsRun base schedule events m) disk.told disk'.told) same (keeps events running.machine running.machine.order (inl refl) (inl refl) (held_leaves running.machine.order running.machine.order taken.held.told));
         }
 
@@ -101,6 +103,7 @@ module _ (base : BaseTree) (schedule : List ℕ) (disk disk' : DiskView) (sink s
       keeps = keeps events refused.before running.machine.order (step_more base refused.before e running.machine refused.step) (inr (record { next = e; after = running.machine; step = refused.step; turns = begins; is = refl })) leaves;
       cause = refused.cause;
       others = refused.others;
+      asks = refused.asks;
       calm = calm;
       at_disk = at_disk;
     }
@@ -138,6 +141,7 @@ module _ (base : BaseTree) (schedule : List ℕ) (disk disk' : DiskView) (sink s
           keeps = keeps (events ++ e ∷ []) running.machine running.machine.order (inl refl) (inl refl) (held_leaves running.machine.order running.machine.order held.holds);
           cause = refused.cause;
           others = refused.others;
+          asks = refused.asks;
           calm = λ _. held.calm;
           at_disk = λ is. absurd (held.not_at_disk is);
         }
@@ -176,7 +180,7 @@ pub begun : (base : BaseTree) (disk : DiskView) (sink : SinkView) (disk_name sin
 begun base disk sink disk_name sink_name journal started = record {
   base = refl;
   run = refl;
-  held = record { count = started.count; good = started.good; calm = refl; others = refl; told = held_none base disk.told started.rests };
+  held = record { count = started.count; good = started.good; calm = refl; others = refl; asks = λ _. refl; told = held_none base disk.told started.rests };
   printed = grown_none sink;
   later = omega arith;
 }
