@@ -2,7 +2,7 @@
 ghost use Rattle.std.specs.Prelude.{◌≡◌, ◌<◌, ◌≤◌, length, drop, true, None, IfOk, OnOk, IfErr, IfSome};
 ghost use Rattle.fx_base.specs.Causes.{Rose};
 ghost use Rattle.fx_outside.specs.Host.{ReadsAt};
-ghost use Rattle.fx_durable.specs.Disk.{IsAsTold, ChoosesTold};
+ghost use Rattle.fx_durable.specs.Disk.{IsAsTold, ChoosesTold, AsksChosen};
 ghost use Rattle.fx_durable.specs.Journal.{is_open, turn_of, turn_in, IsRead, IsUnread, Reads, HasReadFault, IsCalm};
 ghost use Rattle.fx_durable.specs.declared.journal_fault.JournalFault.TheVariants.{Failed};
 
@@ -38,6 +38,7 @@ fn read_piece<D: Disk>(alloc: Global, disk: &mut D, from: u64) -> Result<Vec<u8>
     ensures later { (D.view disk.old).faults ≤ (D.view disk.new).faults }
     ensures calm { OnOk result ((D.view disk.new).faults ≡ (D.view disk.old).faults) }
     ensures others { (D.view disk.new).others ≡ (D.view disk.old).others }
+    ensures early { AsksChosen (D.view disk.old) (D.view disk.new) }
     ensures unread { IfErr result IsUnread }
     ensures failed { IfErr result (λ fault. fault ≡ Failed
         → Rose (D.view disk.old).faults (D.view disk.new).faults) }
@@ -56,6 +57,7 @@ fn read_bytes<D: Disk>(alloc: Global, disk: &mut D) -> Result<Vec<u8>, JournalFa
     ensures later { (D.view disk.old).faults ≤ (D.view disk.new).faults }
     ensures calm { OnOk result ((D.view disk.new).faults ≡ (D.view disk.old).faults) }
     ensures others { (D.view disk.new).others ≡ (D.view disk.old).others }
+    ensures early { AsksChosen (D.view disk.old) (D.view disk.new) }
     ensures unread { IfErr result IsUnread }
     ensures failed { IfErr result (λ fault. fault ≡ Failed
         → Rose (D.view disk.old).faults (D.view disk.new).faults) }
@@ -128,6 +130,7 @@ pub fn read_journal<D: Disk>(
     ensures later { (D.view disk.old).faults ≤ (D.view disk.new).faults }
     ensures calm { IsCalm (D.view disk.old) (D.view disk.new) result }
     ensures others { ChoosesTold path.now (D.view disk.old) (D.view disk.new) }
+    ensures early { (D.view disk.new).choice.early ≡ (D.view disk.old).choice.early }
     ensures cause { HasReadFault path.now (D.view disk.old) (D.view disk.new) result }
 {
     disk.choose(path)?;

@@ -24,6 +24,7 @@ use Rattle.fx_durable.specs.Disk.{Step, wrote, File, DiskView, MayLeave, GoesOn,
 use Rattle.fx_durable.specs.Journal.{JournalView}
 use Rattle.fx_durable.proofs.Moments.{goes_over, stays}
 use Rattle.fx_sched.specs.World as World
+use Rattle.fx_sched.proofs.Named.{names_none}
 use Rattle.fx_journaling.specs.declared.fault.RecordFault.TheVariants as fault
 use Rattle.fx_journaling.specs.Kept.{IfFile}
 use Rattle.fx_journaling.specs.Recorded.{IsStarted, KeepsRun, HasRecorded}
@@ -110,7 +111,7 @@ broken_keeps j base host sink sink' disk mid disk' st begins empty continues gat
 -- a run that has not begun, as its schedule was not read
 pub unread : (base : BaseTree) (schedule : List ℕ) (disk : DiskView) (sink : SinkView) (journal : JournalView) → IsStarted journal disk → RecordCause base schedule disk disk sink sink status.NoMemory
 unread base schedule disk sink journal started =
-    record { stop = fault.NoMemory; is = refl; broken = paused base schedule disk disk sink sink 0 0 [] (World.began base) journal (begun base disk sink 0 0 journal started) stops }
+    record { stop = fault.NoMemory; is = refl; broken = paused base schedule disk disk sink sink 0 0 [] (World.began base) journal (begun base disk sink 0 0 journal started) stops (names_none base (resting base [])) }
 
 -- ---- a whole run
 
@@ -145,7 +146,7 @@ module _ (base : BaseTree) (schedule : List ℕ) (disk disk' : DiskView) (sink m
   text_same = λ i. report (had.traced.begun i) board.order (had.traced.conflicts i)
 
   abbrev pub report_of : (n : ℕ) → HasWrittenReport base schedule (resting base board.order) (bytes_of n)
-  report_of n = record { events = had.events; order = board.order; over = refl; run = had.traced.run; complete = had.traced.complete; turns = had.traced.turns; count = n; printed = refl }
+  report_of n = record { events = had.events; order = board.order; over = refl; run = had.traced.run; complete = had.traced.complete; turns = had.traced.turns; named = had.traced.named; count = n; printed = refl }
 
   pub grown_by : (n : ℕ) (sink' : SinkView) → HasGrown (take n text) mid sink' → HasGrown (bytes_of n) sink sink'
   grown_by n sink' grown = grown_more (lines had.events) (take n text_by_events) sink mid sink' had.printed (grown_as (take n text) (take n text_by_events) mid sink' (ap (λ l. take n l) text_same) grown)

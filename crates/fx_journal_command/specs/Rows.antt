@@ -17,7 +17,7 @@ use Rattle.fx_command.specs.Table.{IsDone, CannotSave}
 use Rattle.fx_inputs.specs.Inputs.{HasInputs, HasBase}
 use Rattle.fx_inputs.specs.Readings.{inputs_reading}
 use Rattle.fx_run_command.specs.Rows.{run_making, run_command, IsProperRun, RunAsks}
-use Rattle.fx_durable.specs.Disk.{File, DiskView, LeftSince, GoesOn, IsUnstarted, IsAsTold, TellsLength, FailsAt, TellsAt, ChoosesTold, moment}
+use Rattle.fx_durable.specs.Disk.{File, DiskView, LeftSince, GoesOn, IsUnstarted, IsAsTold, TellsLength, FailsAt, TellsAt, ChoosesFirst, moment}
 use Rattle.fx_journaling.specs.Kept.{IfFile}
 use Rattle.fx_journaling.specs.Recorded.{KeepsRun}
 use Rattle.fx_journaling.specs.Written.{HasWritten, events_written, HasWrittenEvents, HasWrittenReport, IsBeforeSettled, IsFrontOfOutput}
@@ -132,9 +132,10 @@ JournalEnd j host host' sink sink' disk disk' status.WriteFault = IsUnbegun j ho
 JournalEnd j host host' sink sink' disk disk' status.NoMemory = HasNoMemory j host host' sink sink' disk disk'
 JournalEnd j host host' sink sink' disk disk' (status.BadJournal place) = ⊥
 
--- the table for `journal`: however it ends, no path but JOURNAL is chosen on a disk whose told file is there
+-- the table for `journal`: however it ends, a file is chosen before anything is asked of the disk, and no path but JOURNAL on a
+-- disk whose told file is there
 abbrev pub JournalRow : JournalJob → HostView → HostView → SinkView → SinkView → DiskView → DiskView → Status → Type 0
-JournalRow j host host' sink sink' disk disk' st = ChoosesTold j.journal disk disk' × JournalEnd j host host' sink sink' disk disk' st
+JournalRow j host host' sink sink' disk disk' st = ChoosesFirst j.journal disk disk' × JournalEnd j host host' sink sink' disk disk' st
 
 -- The file was at JOURNAL and empty. The journal was started in it at a moment of this call, and from then on keeps the order of
 -- the settled lines that were written, maybe with the entry of the event that comes next.

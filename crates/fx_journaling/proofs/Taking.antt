@@ -128,6 +128,7 @@ module _ (began : Beginning) (events : List Event) (e : Event) (before after : R
     printed = grown_as (lines events) (lines events ++ []) began.sink sink (sym (append-nil (lines events))) taken.printed;
     told = inl (record { at_disk = refl; settled = settled; none = refl; leaves = subst (λ b. IfFile (LeavesEither b before.machine.order after.machine.order) began.disk.told disk'.told) taken.base lost.told });
     others = lost.others;
+    asks = lost.asks;
     cause = lost.rose;
   }
 
@@ -152,6 +153,7 @@ module _ (began : Beginning) (events : List Event) (e : Event) (before after : R
           holds = subst (λ b. IfFile (HoldsOrder b after.machine.order) began.disk.told disk'.told) taken.base held.told;
         });
         others = held.others;
+        asks = held.asks;
         cause = cause_from stop disk' sink' cause;
       }
 

@@ -5,7 +5,7 @@ use Rattle.fx_base.specs.Causes.{Rose}
 use Rattle.fx_base.specs.Limits.{txn_limit}
 use Rattle.fx_spec.specs.Plans.{Turn}
 use Rattle.fx_spec.specs.Order.{BaseTree, IsLegal}
-use Rattle.fx_durable.specs.Disk.{File, DiskView, MayLeave, LeftSince, GoesOn, moment}
+use Rattle.fx_durable.specs.Disk.{File, DiskView, MayLeave, LeftSince, GoesOn, AsksChosen, moment}
 use Rattle.fx_durable.specs.Journal.{JournalView, RestsAt, Spells, spelled}
 
 -- the image spells this order, which is legal
@@ -49,18 +49,20 @@ abbrev pub IfFile : (File → File → Type 0) → Option File → Option File �
 IfFile P None told' = told' ≡ None
 IfFile P (Some file) told' = IsSomeAnd told' (P file)
 
--- the journal on the disk has this order, and no append has failed, nor the disk; no path was chosen
+-- the journal on the disk has this order, and no append has failed, nor the disk; no path was chosen, and no call was early
 pub record IsHeld (base : BaseTree) (order : List Turn) (began : DiskView) (journal : JournalView) (disk : DiskView) : Type 0 where
   pub count : journal.count ≡ length order
   pub good : journal.good ≡ true
   pub calm : disk.faults ≡ began.faults
   pub others : disk.others ≡ began.others
+  pub asks : AsksChosen began disk
   pub told : IfFile (HoldsOrder base order) began.told disk.told
 
--- an append to this order, to make the longer one of it, has failed; no path was chosen
+-- an append to this order, to make the longer one of it, has failed; no path was chosen, and no call was early
 pub record IsLost (base : BaseTree) (order longer : List Turn) (began disk : DiskView) : Type 0 where
   pub rose : Rose began.faults disk.faults
   pub others : disk.others ≡ began.others
+  pub asks : AsksChosen began disk
   pub told : IfFile (LeavesEither base order longer) began.told disk.told
 
 -- the order may have this entry next: it is legal with it, and the journal has room

@@ -9,7 +9,7 @@ use Rattle.fx_spec.specs.Order.{BaseTree}
 use Rattle.fx_machine.specs.declared.event.Event.{Event}
 use Rattle.fx_machine.specs.declared.event.Event.TheVariants as event
 use Rattle.fx_machine.specs.Machine.{Machine, Step, Run, resting}
-use Rattle.fx_durable.specs.Disk.{DiskView}
+use Rattle.fx_durable.specs.Disk.{DiskView, AsksChosen, unchosen}
 use Rattle.fx_durable.specs.Journal.{JournalView}
 use Rattle.fx_report.specs.Events.{event_line, lines}
 use Rattle.fx_sched.specs.Running.{Running}
@@ -32,7 +32,7 @@ beginning base disk sink disk_name sink_name = record { base = base; disk = disk
 abbrev pub no_beginning : Beginning
 no_beginning = record {
   base = record { description = file; plan = []; loaded = empty };
-  disk = record { told = None; faults = 0; others = 0 };
+  disk = record { told = None; faults = 0; others = 0; choice = unchosen };
   sink = record { written = None; faults = 0 };
   disk_name = 0;
   sink_name = 0;
@@ -78,7 +78,8 @@ pub record IsUntold (began : Beginning) (stop : RecordFault) (order : List Turn)
   pub calm : disk.faults ≡ began.disk.faults
   pub holds : IfFile (HoldsOrder began.base order) began.disk.told disk.told
 
--- one event more has come, of whose line so many bytes are written: none, where its entry is not surely kept; no path was chosen
+-- one event more has come, of whose line so many bytes are written: none, where its entry is not surely kept; no path was
+-- chosen, and no call was early
 pub record HasRefused (began : Beginning) (stop : RecordFault) (events : List Event) (event : Event) (running : Running) (disk : DiskView) (sink : SinkView) : Type 0 where
   pub before : Machine
   pub run : Run began.base (resting began.base []) events before
@@ -87,6 +88,7 @@ pub record HasRefused (began : Beginning) (stop : RecordFault) (events : List Ev
   pub printed : HasGrown (lines events ++ take count (event_line event)) began.sink sink
   pub told : IsUnkept began stop event before.order running.machine.order count disk ⊎ IsUntold began stop running.machine.order disk
   pub others : disk.others ≡ began.disk.others
+  pub asks : AsksChosen began.disk disk
   pub cause : FaultCause stop began.disk disk began.sink sink
 
 -- what keeps a line from being written

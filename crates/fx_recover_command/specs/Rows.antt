@@ -15,7 +15,7 @@ use Rattle.fx_inputs.specs.Reads.{HasReadFault, LetsInputs}
 use Rattle.fx_inputs.specs.Readings.{inputs_reading}
 use Rattle.fx_spec.specs.Plans.{Turn}
 use Rattle.fx_spec.specs.Order.{BaseTree, IsLegal}
-use Rattle.fx_durable.specs.Disk.{DiskView, File, IsAsTold, FailsAt, ChoosesTold}
+use Rattle.fx_durable.specs.Disk.{DiskView, File, IsAsTold, FailsAt, ChoosesFirst}
 use Rattle.fx_durable.specs.Journal.{Spells}
 use Rattle.fx_recover_command.specs.Recovered.{HasSomeOrder, IsOutcome, IsBad}
 
@@ -46,9 +46,10 @@ RecoverEnd j host host' sink sink' disk disk' = CommandRow (recover_command j di
 abbrev pub StaysCalm : DiskView → DiskView → Status → Type 0
 StaysCalm disk disk' st = (disk'.faults ≡ disk.faults) ⊎ ((st ≡ status.ReadFault) ⊎ (st ≡ status.NoMemory))
 
--- the table for `recover`: however it ends, the file of the disk is as it was, and where it is at JOURNAL no other path is chosen
+-- the table for `recover`: however it ends, the file of the disk is as it was; a file is chosen before anything is asked of the
+-- disk, and no path but JOURNAL on a disk whose told file is there
 abbrev pub RecoverRow : RecoverJob → HostView → HostView → SinkView → SinkView → DiskView → DiskView → Status → Type 0
-RecoverRow j host host' sink sink' disk disk' st = IsAsTold disk disk' × ChoosesTold j.journal disk disk' × StaysCalm disk disk' st × RecoverEnd j host host' sink sink' disk disk' st
+RecoverRow j host host' sink sink' disk disk' st = IsAsTold disk disk' × ChoosesFirst j.journal disk disk' × StaysCalm disk disk' st × RecoverEnd j host host' sink sink' disk disk' st
 
 -- the fences let the description, the scripts and the folder be read, and OUT be written
 pub record LetsRecover (guard : Guard) (j : RecoverJob) : Type 0 where

@@ -38,6 +38,7 @@ pub(crate) fn read_order<D: Disk>(
     ensures legal { IfOk result (λ order. IsLegal (base_tree base.now) (turns_of order)) }
     ensures same { IsAsTold (D.view disk.old) (D.view disk.new) }
     ensures others { ChoosesTold path.now (D.view disk.old) (D.view disk.new) }
+    ensures early { (D.view disk.new).choice.early ≡ (D.view disk.old).choice.early }
     ensures calm { OnOk result ((D.view disk.new).faults ≡ (D.view disk.old).faults) }
     ensures calm_err { IfErr result (StaysCalm (D.view disk.old) (D.view disk.new)) }
     ensures cause { IfErr result
