@@ -74,7 +74,7 @@ plan_after plan (Ok a) = with_call plan
 plan_after plan (Err e) = with_fault (with_call plan)
 
 -- a call with this result was made: it is counted, path, room and limit stay, and no other path was chosen
-pub record IsCall {A E : Type 0} (old new : MemoryDisk) (result : Result A E) : Type 0 where
+pub record IsCountedCall {A E : Type 0} (old new : MemoryDisk) (result : Result A E) : Type 0 where
   pub room : IsSameRoom old new
   pub plan : disk_plan new ≡ plan_after (disk_plan old) result
 

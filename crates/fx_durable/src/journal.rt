@@ -2,7 +2,7 @@
 //! closed on the disk before anything is written behind it, and is opened by a write of its own.
 ghost use Rattle.std.specs.Prelude.{◌≡◌, ◌≤◌, ◌<◌, ◌+◌, ◌∷◌, ◌++◌, [], length, is_ok, true, IfOk, OnOk, OnErr, IfSome, Err};
 ghost use Rattle.fx_base.specs.Limits.{txn_limit};
-ghost use Rattle.fx_durable.specs.Disk.{Continues, StaysUnstarted, IsAsTold, FailsAt, TellsAt, TellsLength, HasFault, ChoosesTold, AsksChosen};
+ghost use Rattle.fx_durable.specs.Disk.{Continues, StaysUnstarted, IsAsTold, FailsAt, TellsAt, TellsLength, CountsDiskFaults, ChoosesTold, AsksChosen};
 ghost use Rattle.fx_durable.specs.Journal.{payload, RestsAt, Rests, LeavesOrder, AddsTurn};
 ghost use Rattle.fx_durable.specs.declared.journal.StartFault.TheVariants.{NotEmpty, Failed};
 
@@ -114,7 +114,7 @@ impl Journal {
         ensures count { OnOk result (self.new.count ≡ self.old.count + 1) }
         ensures same { OnErr result (self.new.count ≡ self.old.count) }
         ensures good { self.new.good ≡ is_ok result }
-        ensures cause { HasFault (D.view disk.old) (D.view disk.new) result }
+        ensures cause { CountsDiskFaults (D.view disk.old) (D.view disk.new) result }
         ensures early { AsksChosen (D.view disk.old) (D.view disk.new) }
     {
         self.good = false;

@@ -3,7 +3,7 @@ ghost use Rattle.std.specs.Prelude.{◌≡◌, ◌⊎◌, ◌≤◌, ◌<◌, �
 ghost use Rattle.fx_outside.specs.Calls.{no_calls, with_failing, with_call, with_fault};
 ghost use Rattle.fx_durable.specs.Disk.{unchosen, with_bytes, written, synced};
 ghost use Rattle.fx_durable.specs.Replay.{no_file, replay, spent, IsIdle};
-ghost use Rattle.fx_durable.specs.Placed.{is_placed};
+ghost use Rattle.fx_durable.specs.Placed.{are_writes_placed};
 
 use crate::{Disk, DiskCall, DiskFailed, early_after};
 use fx_base::NoMemory;
@@ -27,7 +27,7 @@ pub struct MemoryDisk {
     early: u64,
     ghost spent: { spent made.items ≡ length taken.items },
     ghost seen: { (replay (no_file path) made.items taken.items).seen ≡ bytes.items },
-    ghost placed: { is_placed (no_file path) made.items taken.items ≡ true },
+    ghost placed: { are_writes_placed (no_file path) made.items taken.items ≡ true },
     ghost long: { length bytes.items ≤ length taken.items },
     ghost within: { length taken.items ≤ room },
     ghost recorded: { length made.items ≤ limit },
@@ -228,8 +228,8 @@ fn put(bytes: &mut Vec<u8>, from: usize, piece: &[u8])
 
 impl Disk for MemoryDisk {
     ghost use Rattle.std.specs.Prelude.{◌≡◌, ◌<◌, ◌≤◌, length, IfOk, OnOk, OnErr, IfSome, Some};
-    ghost use Rattle.fx_durable.specs.Disk.{IsAsTold, Writes, MayTear, Syncs, TellsLength, TellsBytes, HasFault, HasOpenFault, Chooses, CountsEarly};
-    ghost use Rattle.fx_durable.specs.MemoryDisk.{disk_path, disk_taken, disk_view, fails_next, fails_write, taken_after, FailsWhere, IsCall, IsUntouched, Records, CountsAsWritten, file_image};
+    ghost use Rattle.fx_durable.specs.Disk.{IsAsTold, WritesBytes, MayTear, Syncs, TellsLength, TellsFileBytes, CountsDiskFaults, HasOpenFault, Chooses, CountsEarly};
+    ghost use Rattle.fx_durable.specs.MemoryDisk.{disk_path, disk_taken, disk_view, fails_next, fails_write, taken_after, FailsWhere, IsCountedCall, IsUntouched, Records, CountsAsWritten, file_image};
     ghost use Rattle.fx_durable.specs.declared.disk_call.DiskCall.TheVariants.{Choose, Read, Wrote, Tore, Synced, Unsynced};
 
     ghost view = { disk_view };
@@ -243,7 +243,7 @@ impl Disk for MemoryDisk {
         ensures early { Chooses (disk_view self.old) (disk_view self.new) result }
         ensures fails { path.now ≡ disk_path self.old → FailsWhere (fails_next self.old) result }
         ensures record { path.now ≡ disk_path self.old → Records Choose self.old self.new }
-        ensures call { path.now ≡ disk_path self.old → IsCall self.old self.new result }
+        ensures call { path.now ≡ disk_path self.old → IsCountedCall self.old self.new result }
         ensures no_call { (path.now ≡ disk_path self.old → ⊥) → IsUntouched self.old self.new }
         ensures taken { disk_taken self.new ≡ disk_taken self.old }
     {
@@ -263,13 +263,13 @@ impl Disk for MemoryDisk {
     fn read(&mut self, from: u64, buf: &mut [u8]) -> Result<usize, DiskFailed>
         requires { 0 < length buf.old }
         ensures bound { IfOk result (λ n. n ≤ length buf.new) }
-        ensures answer { IfOk result (TellsBytes (disk_view self.old) from buf.new) }
+        ensures answer { IfOk result (TellsFileBytes (disk_view self.old) from buf.new) }
         ensures same { IsAsTold (disk_view self.old) (disk_view self.new) }
-        ensures cause { HasFault (disk_view self.old) (disk_view self.new) result }
+        ensures cause { CountsDiskFaults (disk_view self.old) (disk_view self.new) result }
         ensures early { CountsEarly (disk_view self.old) (disk_view self.new) }
         ensures fails { FailsWhere (fails_next self.old) result }
         ensures record { Records Read self.old self.new }
-        ensures call { IsCall self.old self.new result }
+        ensures call { IsCountedCall self.old self.new result }
         ensures taken { disk_taken self.new ≡ disk_taken self.old }
     {
         self.early = early_after(self.chosen, self.early);
@@ -288,17 +288,17 @@ impl Disk for MemoryDisk {
     fn write(&mut self, from: u64, bytes: &[u8]) -> Result<(), DiskFailed>
         requires { IfSome (disk_view self.old).told (λ file. from ≤ length file.seen) }
         ensures written { OnOk result
-            (Writes from bytes.now (disk_view self.old) (disk_view self.new)) }
+            (WritesBytes from bytes.now (disk_view self.old) (disk_view self.new)) }
         ensures failed { OnErr result
             (MayTear from (length bytes.now) (disk_view self.old) (disk_view self.new)) }
-        ensures cause { HasFault (disk_view self.old) (disk_view self.new) result }
+        ensures cause { CountsDiskFaults (disk_view self.old) (disk_view self.new) result }
         ensures early { CountsEarly (disk_view self.old) (disk_view self.new) }
         ensures fails { FailsWhere (fails_write self.old (length bytes.now)) result }
         ensures record { OnOk result (Records (Wrote from (length bytes.now)) self.old self.new) }
         ensures tore { OnErr result (Records (Tore from (length bytes.now)) self.old self.new) }
         ensures counts { OnErr result
             (CountsAsWritten from (length bytes.now) self.old self.new) }
-        ensures call { IsCall self.old self.new result }
+        ensures call { IsCountedCall self.old self.new result }
         ensures taken { disk_taken self.new ≡ taken_after (disk_taken self.old) bytes.now result }
     {
         self.early = early_after(self.chosen, self.early);
@@ -315,12 +315,12 @@ impl Disk for MemoryDisk {
     fn sync(&mut self) -> Result<(), DiskFailed>
         ensures kept { OnOk result (Syncs (disk_view self.old) (disk_view self.new)) }
         ensures same { OnErr result (IsAsTold (disk_view self.old) (disk_view self.new)) }
-        ensures cause { HasFault (disk_view self.old) (disk_view self.new) result }
+        ensures cause { CountsDiskFaults (disk_view self.old) (disk_view self.new) result }
         ensures early { CountsEarly (disk_view self.old) (disk_view self.new) }
         ensures fails { FailsWhere (fails_next self.old) result }
         ensures record { OnOk result (Records Synced self.old self.new) }
         ensures unsynced { OnErr result (Records Unsynced self.old self.new) }
-        ensures call { IsCall self.old self.new result }
+        ensures call { IsCountedCall self.old self.new result }
         ensures taken { disk_taken self.new ≡ disk_taken self.old }
     {
         self.early = early_after(self.chosen, self.early);

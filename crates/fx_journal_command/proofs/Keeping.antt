@@ -33,7 +33,7 @@ use Rattle.fx_journaling.specs.Written.{HasWritten, events_written, HasWrittenRe
 use Rattle.fx_journaling.proofs.Ending.{begun, paused}
 use Rattle.fx_journaling.proofs.Holding.{at_present, if_file_map}
 use Rattle.fx_journaling.proofs.Taking.{grown_none, grown_as, grown_more, count_of}
-use Rattle.fx_journal_command.specs.Rows.{HasEmptyJournal, KeepsJournal, HasNothing, IsKept}
+use Rattle.fx_journal_command.specs.Rows.{HasEmptyJournal, KeepsJournal, HasNothing, IsKeptRun}
 use Rattle.fx_command.specs.Saved.{SaveEnd, done, unmade, unsaved, unprinted}
 use Rattle.fx_journal_command.specs.Stages.{MayLeaveGate, RecordCause}
 
@@ -51,7 +51,7 @@ nothing_at j sink old new unstarted = record { unstarted = unstarted; unwritten 
 
 pub unbegun_keeps : (j : JournalJob) (host : HostView) (sink : SinkView) (disk : DiskView) → KeepsJournal j host sink sink disk disk
 unbegun_keeps j host sink disk =
-    told_untouched (λ old new. GoesOn old new × (HasNothing j sink sink old new ⊎ IsKept j host sink sink old new)) (λ file. (goes_none file, inl (nothing_at j sink file file (record { path = refl; done = inl (record { seen = refl; steps = refl }) })))) disk.told
+    told_untouched (λ old new. GoesOn old new × (HasNothing j sink sink old new ⊎ IsKeptRun j host sink sink old new)) (λ file. (goes_none file, inl (nothing_at j sink file file (record { path = refl; done = inl (record { seen = refl; steps = refl }) })))) disk.told
 
 goes_unstarted : (path : List ℕ) (old new : File) → IsUnstarted path old new → GoesOn old new
 goes_unstarted path old new unstarted = record { path = unstarted.path; steps = by unstarted.done }
@@ -66,7 +66,7 @@ told_unstarted path P each (Some file) o' stays = IsSomeAnd-weaker o' (IsUnstart
 
 pub unstarted_keeps : (j : JournalJob) (host : HostView) (sink : SinkView) (disk disk' : DiskView) → StaysUnstarted j.journal disk.told disk'.told → KeepsJournal j host sink sink disk disk'
 unstarted_keeps j host sink disk disk' stays =
-    told_unstarted j.journal (λ old new. GoesOn old new × (HasNothing j sink sink old new ⊎ IsKept j host sink sink old new)) (λ old new unstarted. (goes_unstarted j.journal old new unstarted, inl (nothing_at j sink old new unstarted))) disk.told disk'.told stays
+    told_unstarted j.journal (λ old new. GoesOn old new × (HasNothing j sink sink old new ⊎ IsKeptRun j host sink sink old new)) (λ old new unstarted. (goes_unstarted j.journal old new unstarted, inl (nothing_at j sink old new unstarted))) disk.told disk'.told stays
 
 -- ---- once it was started
 
@@ -78,7 +78,7 @@ module _ (j : JournalJob) (base : BaseTree) (host : HostView) (sink sink' : Sink
   abbrev pub Keeps : File → File → Type 0
   Keeps = KeepsRun base (shells_of j.run) (events_written base (shells_of j.run) machine bytes written) machine
 
-  kept_at : (old started new : File) → (old.path ≡ j.journal) × (0 ≡ length old.seen) → GoesOn old started → MayLeave started.steps (0 ∷ []) → Keeps started new → IsKept j host sink sink' old new
+  kept_at : (old started new : File) → (old.path ≡ j.journal) × (0 ≡ length old.seen) → GoesOn old started → MayLeave started.steps (0 ∷ []) → Keeps started new → IsKeptRun j host sink sink' old new
   kept_at old started new empty later gate keeps = record {
     base = base;
     begins = begins;
@@ -95,7 +95,7 @@ module _ (j : JournalJob) (base : BaseTree) (host : HostView) (sink sink' : Sink
   }
 
   abbrev pub Kept : File → File → Type 0
-  Kept old new = GoesOn old new × (HasNothing j sink sink' old new ⊎ IsKept j host sink sink' old new)
+  Kept old new = GoesOn old new × (HasNothing j sink sink' old new ⊎ IsKeptRun j host sink sink' old new)
 
   pub told_kept : (a b c : Option File) → IfSome a (λ file. (file.path ≡ j.journal) × (0 ≡ length file.seen)) → StaysTold a b → IfSome b (λ file. MayLeave file.steps (0 ∷ [])) → IfFile Keeps b c → IfFile Kept a c
   told_kept None b c empty told gate keeps = subst (λ o. IfFile Keeps o c) told keeps
@@ -162,9 +162,9 @@ finished_keeps j base there host host' sink mid sink' disk started disk' board r
 
 pub keeps_back : (j : JournalJob) (a b : HostView) (sink sink' : SinkView) (disk disk' : DiskView) → ReadsOnly a b → KeepsJournal j b sink sink' disk disk' → KeepsJournal j a sink sink' disk disk'
 keeps_back j a b sink sink' disk disk' reads keeps =
-    if_file_map (λ old new. GoesOn old new × (HasNothing j sink sink' old new ⊎ IsKept j b sink sink' old new)) (λ old new. GoesOn old new × (HasNothing j sink sink' old new ⊎ IsKept j a sink sink' old new))
+    if_file_map (λ old new. GoesOn old new × (HasNothing j sink sink' old new ⊎ IsKeptRun j b sink sink' old new)) (λ old new. GoesOn old new × (HasNothing j sink sink' old new ⊎ IsKeptRun j a sink sink' old new))
     (λ old new is. (is.0, back old new is.1)) disk.told disk'.told keeps
   where
-    back : (old new : File) → HasNothing j sink sink' old new ⊎ IsKept j b sink sink' old new → HasNothing j sink sink' old new ⊎ IsKept j a sink sink' old new
+    back : (old new : File) → HasNothing j sink sink' old new ⊎ IsKeptRun j b sink sink' old new → HasNothing j sink sink' old new ⊎ IsKeptRun j a sink sink' old new
     back old new (inl none) = inl none
     back old new (inr kept) = inr (record { base = kept.base; begins = some_back (λ t. HasBase t j.run.inputs kept.base) a b reads kept.begins; at_path = kept.at_path; empty = kept.empty; started = kept.started; later = kept.later; gate = kept.gate; machine = kept.machine; bytes = kept.bytes; written = kept.written; printed = kept.printed; keeps = kept.keeps })

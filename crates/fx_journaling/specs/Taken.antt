@@ -15,7 +15,7 @@ use Rattle.fx_report.specs.Events.{event_line, lines}
 use Rattle.fx_sched.specs.Running.{Running}
 use Rattle.fx_journaling.specs.declared.fault.RecordFault.{RecordFault}
 use Rattle.fx_journaling.specs.declared.fault.RecordFault.TheVariants as fault
-use Rattle.fx_journaling.specs.Kept.{IfFile, HoldsOrder, LeavesEither, IsHeld, MayAdd}
+use Rattle.fx_journaling.specs.Kept.{IfFile, HoldsOrder, LeavesEither, IsHeld, MayJoinOrder}
 
 -- where a recording begins: the base of its run, and the disk and the sink, as they are then and by the names of their loans
 pub record Beginning : Type 0 where
@@ -41,7 +41,7 @@ no_beginning = record {
 -- the order after an event: with its entry, if it has one
 abbrev pub Extends : BaseTree → List Turn → Option Turn → List Turn → Type 0
 Extends base order None order' = order' ≡ order
-Extends base order (Some turn) order' = (order' ≡ order ++ turn ∷ []) × MayAdd base order turn
+Extends base order (Some turn) order' = (order' ≡ order ++ turn ∷ []) × MayJoinOrder base order turn
 
 -- a sink that tells what was written to it has these bytes more
 abbrev pub HasGrown : List ℕ → SinkView → SinkView → Type 0
@@ -62,13 +62,13 @@ pub record HasTaken (began : Beginning) (events : List Event) (running : Running
   pub later : began.sink.faults ≤ sink.faults
 
 -- the event has settled an attempt
-abbrev pub HasSettled : Event → Type 0
-HasSettled e = (shell : ℕ) × (entry : ℕ) × (e ≡ event.Settled shell entry)
+abbrev pub IsSettledEvent : Event → Type 0
+IsSettledEvent e = (shell : ℕ) × (entry : ℕ) × (e ≡ event.Settled shell entry)
 
 -- the disk failed, so that the entry of an attempt that was settled is not surely kept, and no byte of its line is written
 pub record IsUnkept (began : Beginning) (stop : RecordFault) (e : Event) (order longer : List Turn) (count : ℕ) (disk : DiskView) : Type 0 where
   pub at_disk : stop ≡ fault.DiskFailed
-  pub settled : HasSettled e
+  pub settled : IsSettledEvent e
   pub none : count ≡ 0
   pub leaves : IfFile (LeavesEither began.base order longer) began.disk.told disk.told
 

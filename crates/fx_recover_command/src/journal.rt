@@ -6,7 +6,7 @@ ghost use Rattle.fx_durable.specs.Disk.{IsAsTold, ChoosesTold};
 ghost use Rattle.fx_durable.specs.Journal.{turns_of, Spells};
 ghost use Rattle.fx_recover_command.specs.Recovered.{HasImage};
 ghost use Rattle.fx_recover_command.specs.Rows.{StaysCalm};
-ghost use Rattle.fx_recover_command.specs.Unread.{unread_status, OrderCause};
+ghost use Rattle.fx_recover_command.specs.Unread.{journal_status, OrderCause};
 
 use crate::order::first_illegal;
 use fx_command::Status;
@@ -17,7 +17,7 @@ use std::alloc::Global;
 
 /// How the command ends where no order was read.
 fn unread(fault: JournalFault) -> Status
-    ensures { result ≡ unread_status fault }
+    ensures { result ≡ journal_status fault }
 {
     match fault {
         JournalFault::Broken(place) => Status::BadJournal { place },
