@@ -10,9 +10,16 @@ use std::sync::Arc;
 
 /// Bytes in their order, which contracts see as the list of them. From `share` on a copy shares them and goes through
 /// none of them; it takes room for as many beside them, so that `into_vec` never needs memory.
-#[derive(Debug, Drop)]
+#[derive(Debug)]
 pub struct Content {
     held: Held,
+}
+
+/// It is written out, so that its parts are dropped in this crate alone.
+impl Drop for Content {
+    fn drop(self) {
+        let Content { held: _held } = self;
+    }
 }
 
 /// Bytes by themselves, or bytes that others may hold too, with room for a copy of them.

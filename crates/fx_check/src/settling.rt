@@ -10,7 +10,7 @@ use fx_base::NoMemory;
 use fx_spec::{Def, Defs, Spec};
 use std::alloc::Global;
 
-/// The same description, in which the value of each expression without names stands beside it.
+/// An equal description, in which the value of each expression without names stands beside it.
 #[cycle(settled)]
 pub(crate) fn settled(alloc: Global, spec: Spec) -> Result<Spec, NoMemory>
     requires { (defs : List DefTree) × (scope : Scope) × IsWritten defs scope (spec_tree spec) }
@@ -57,7 +57,7 @@ fn settled_def(alloc: Global, def: Def) -> Result<Def, NoMemory>
     Ok(Def { name, params, body })
 }
 
-/// The same definitions, each with its body settled.
+/// Equal definitions, each with its body settled.
 pub(crate) fn settled_defs(alloc: Global, defs: Defs) -> Result<Defs, NoMemory>
     requires { All IsFitting defs }
     ensures { IfOk result (λ settled. settled ≡ defs) }

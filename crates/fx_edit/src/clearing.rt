@@ -33,7 +33,7 @@ pub(crate) fn clear<R: Reader, L: Ledger>(
     }
 }
 
-/// The same of each entry of these names.
+/// Adds the removal of each entry of these names and of all below them.
 #[cycle(clear)]
 fn clear_names<R: Reader, L: Ledger>(
     session: &mut Session<'_, R, L>,
@@ -50,7 +50,7 @@ fn clear_names<R: Reader, L: Ledger>(
     Ok(())
 }
 
-/// The same of the entry of one name. Nothing is below a path of 64 names.
+/// Adds the removal of the entry of one name and of all below it. Nothing is below a path of 64 names.
 #[cycle(clear)]
 pub(crate) fn clear_entry<R: Reader, L: Ledger>(
     session: &mut Session<'_, R, L>,

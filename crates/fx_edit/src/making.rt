@@ -69,7 +69,7 @@ fn lists_some(node: &Node) -> bool
     }
 }
 
-/// The same at a first name, with room for all.
+/// The changes that make a node at a first name, with room for all.
 fn make_in<R: Reader, L: Ledger>(
     session: &mut Session<'_, R, L>,
     here: &Path,

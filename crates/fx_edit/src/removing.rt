@@ -80,7 +80,8 @@ fn remove_entry<R: Reader, L: Ledger>(
     }
 }
 
-/// The same, where the path has this last name: the directory above without the name, and then the entry and all below it.
+/// The changes of the removal of an entry with this last name. The directory above is without the name, and then the
+/// entry and all below it go.
 fn remove_named<R: Reader, L: Ledger>(
     session: &mut Session<'_, R, L>,
     path: &Path,

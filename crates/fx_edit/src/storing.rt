@@ -147,7 +147,7 @@ fn replace<R: Reader, L: Ledger>(
     replaced(session, path, flag, node, found)
 }
 
-/// The same, where this was found: a node of the same kind alone is replaced.
+/// The changes of a store where this was found: a node of the same kind alone is replaced.
 fn replaced<R: Reader, L: Ledger>(
     session: &mut Session<'_, R, L>,
     path: Path,

@@ -14,9 +14,18 @@ use std::slice;
 
 /// Words bound to values, the newest binding last. Where a word is bound twice, the newer binding counts. Contracts see
 /// the list of the words with the trees of their values.
-#[derive(Debug, Drop)]
+#[derive(Debug)]
 pub struct Env {
     bindings: Vec<(Word, Value)>,
+}
+
+/// It is written out, so that its parts are dropped in this crate alone.
+impl Drop for Env {
+    fn drop(self) {
+        let Env {
+            bindings: _bindings,
+        } = self;
+    }
 }
 
 impl Model for Env {

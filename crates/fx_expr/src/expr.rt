@@ -52,7 +52,7 @@ pub enum UnOp {
 }
 
 /// An expression.
-#[derive(Debug, PartialEq, Drop)]
+#[derive(Debug, PartialEq)]
 pub enum Expr {
     Str(Text),
     Int(i64),
@@ -67,6 +67,23 @@ pub enum Expr {
     Choose(Box<Expr>, Box<Expr>, Box<Expr>),
     /// The elements of a set that match a glob.
     Only(Box<Expr>, Text),
+}
+
+/// It is written out, so that its parts are dropped in this crate alone.
+impl Drop for Expr {
+    fn drop(self) {
+        match self {
+            Expr::Str(_first) => {}
+            Expr::Int(_first) => {}
+            Expr::Bool(_first) => {}
+            Expr::Var(_first) => {}
+            Expr::Bin(_first, _second, _third) => {}
+            Expr::Un(_first, _second) => {}
+            Expr::Choose(_first, _second, _third) => {}
+            Expr::Only(_first, _second) => {}
+            Expr::Empty => {}
+        }
+    }
 }
 
 impl Expr {

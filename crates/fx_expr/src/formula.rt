@@ -20,10 +20,20 @@ use std::sync::ledger::Ledger;
 
 /// An expression that is evaluated often, as a description's. Where no name stands in it, its value may be kept beside
 /// it. Contracts see the expression's tree.
-#[derive(Debug, Drop)]
+#[derive(Debug)]
 pub struct Formula {
     expr: Expr,
     value: Option<Value>,
+}
+
+/// It is written out, so that its parts are dropped in this crate alone.
+impl Drop for Formula {
+    fn drop(self) {
+        let Formula {
+            expr: _expr,
+            value: _value,
+        } = self;
+    }
 }
 
 impl Model for Formula {

@@ -11,9 +11,16 @@ use std::marker::Model;
 use std::slice;
 
 /// A list of values. Contracts see the list of their trees.
-#[derive(Debug, Drop)]
+#[derive(Debug)]
 pub struct Values {
     items: Vec<Value>,
+}
+
+/// It is written out, so that its parts are dropped in this crate alone.
+impl Drop for Values {
+    fn drop(self) {
+        let Values { items: _items } = self;
+    }
 }
 
 impl Model for Values {
@@ -88,9 +95,16 @@ impl Values {
 }
 
 /// A list of texts.
-#[derive(Debug, Drop)]
+#[derive(Debug)]
 pub struct Texts {
     items: Vec<Text>,
+}
+
+/// It is written out, so that its parts are dropped in this crate alone.
+impl Drop for Texts {
+    fn drop(self) {
+        let Texts { items: _items } = self;
+    }
 }
 
 impl Model for Texts {

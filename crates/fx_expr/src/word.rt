@@ -12,9 +12,16 @@ pub const WORD_LIMIT: usize = 64;
 
 /// A word of the language: a letter of ASCII or `_`, then letters, digits or `_`, at most [`WORD_LIMIT`] bytes in all.
 /// Contracts see the list of its bytes.
-#[derive(Debug, Drop)]
+#[derive(Debug)]
 pub struct Word {
     bytes: Vec<u8>,
+}
+
+/// It is written out, so that its parts are dropped in this crate alone.
+impl Drop for Word {
+    fn drop(self) {
+        let Word { bytes: _bytes } = self;
+    }
 }
 
 impl Model for Word {

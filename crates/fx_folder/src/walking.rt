@@ -7,7 +7,7 @@ ghost use Rattle.fx_outside.specs.Host.{ReadsOnly, AsksAt, AsksIn, FaultIn};
 ghost use Rattle.fx_store.specs.Names.{IsPath};
 ghost use Rattle.fx_table.specs.declared.fault.LoadFault.TheVariants.{ReadFault};
 ghost use Rattle.fx_table.specs.Places.{place_of};
-ghost use Rattle.fx_folder.specs.Grown.{IsFoundNode, AreFound, IsGrown, Finds};
+ghost use Rattle.fx_folder.specs.Grown.{IsFoundNode, AreFoundChanges, IsGrown, FindsItem};
 ghost use Rattle.fx_folder.specs.Walks.{item_path, items_of, in_table, held_of, AnswersEntry, IsThere, IsEntered, IsOnWay, AnswersWalk, WalkCause, IsNoRefusal, AddsItems, PassesPath, AnswersFile, size_of};
 ghost use Rattle.fx_folder.specs.Reads.{path_below};
 
@@ -48,7 +48,7 @@ pub(crate) fn walk<H: Host>(
         (is_folder_at tree folder.now ≡ true) × Lists tree (parts folder.now) names.now) }
     ensures answer { IfSome (H.view host.old).told
         (λ tree. AnswersWalk tree (parts folder.now) result) }
-    ensures found { IfOk result (λ walked. AreFound walked.found.items) }
+    ensures found { IfOk result (λ walked. AreFoundChanges walked.found.items) }
     ensures fault { result ≡ Err ReadFault
         → FaultIn folder.now (H.view host.old) (H.view host.new) }
     ensures same { ReadsOnly (H.view host.old) (H.view host.new) }
@@ -80,7 +80,7 @@ fn walk_items<H: Host>(
     requires grown { IsGrown found.old.items todo.old.items }
     ensures way { IfOk result (λ left. IfSome (H.view host.old).told (λ tree.
         IsOnWay tree (parts folder.now) found.new.items left [])) }
-    ensures grown { OnOk result (AreFound found.new.items) }
+    ensures grown { OnOk result (AreFoundChanges found.new.items) }
     ensures cause { IfErr result (λ fault. IfSome (H.view host.old).told (λ tree.
         WalkCause tree (parts folder.now) fault)) }
     ensures fault { result ≡ Err ReadFault
@@ -149,7 +149,7 @@ fn enter<H: Host>(
         AnswersEntry nodes left (held_of tree (parts folder.now) item.now) result) }
     ensures entered { OnOk result (IfSome (H.view host.old).told (λ tree.
         IsEntered tree (parts folder.now) (item_path item.now) todo.old.items todo.new.items)) }
-    ensures found { IfOk result (Finds item.now todo.old.items todo.new.items) }
+    ensures found { IfOk result (FindsItem item.now todo.old.items todo.new.items) }
     ensures size { IfOk result (λ change. size_of change ≤ left) }
     ensures few { OnOk result (nodes < MAX_NODES) }
     ensures fault { result ≡ Err ReadFault

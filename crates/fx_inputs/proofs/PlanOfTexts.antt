@@ -18,8 +18,8 @@ use Rattle.fx_source.specs.Scripted.{IsUnscripted}
 use Rattle.fx_inputs.proofs.OneScript.{script_refused}
 use Rattle.fx_inputs.proofs.Plans.{Plan, IsReading, refuses, fails as not_there}
 use Rattle.fx_inputs.specs.Causes.{scripts_reading}
-use Rattle.fx_inputs.specs.ReadTexts.{AreTexts, StopsFor}
-use Rattle.fx_words.specs.Job.{Inputs, place_of}
+use Rattle.fx_inputs.specs.ReadTexts.{AreScriptTexts, StopsFor}
+use Rattle.fx_words.specs.Job.{Inputs, script_place}
 
 abbrev Texts : Type 0
 Texts = List (List ℕ)
@@ -37,7 +37,7 @@ pub record IsTextAt (paths : Texts) (a : HostView) (k : ℕ) (text : List ℕ) :
   pub within : k < length paths
   pub read : IfSome a.told (λ t. IsReadAt t path source_limit text)
 
-pub text_at : (paths : Texts) (a b : HostView) (texts items : Texts) (k : ℕ) (text : List ℕ) (stop : Option HostFault) → items ≡ texts → IfSome a.told (λ t. AreTexts t paths texts) → StopsFor paths a b (length texts) stop → k < length items → text ≡ get_or items k text → IsTextAt paths a k text
+pub text_at : (paths : Texts) (a b : HostView) (texts items : Texts) (k : ℕ) (text : List ℕ) (stop : Option HostFault) → items ≡ texts → IfSome a.told (λ t. AreScriptTexts t paths texts) → StopsFor paths a b (length texts) stop → k < length items → text ≡ get_or items k text → IsTextAt paths a k text
 text_at paths a b texts items k text stop same were stops below is =
     let few = few_texts paths a b (length texts) stop stops in
     let len : length items ≡ length texts = ap (λ x. length x) same in
@@ -48,7 +48,7 @@ text_at paths a b texts items k text stop same were stops below is =
       path = get_or paths k [];
       is = at;
       within = within;
-      read = if_some_map (λ t. AreTexts t paths texts) (λ t. IsReadAt t (get_or paths k []) source_limit text) a.told (λ t were. were k (get_or paths k []) text at there) were;
+      read = if_some_map (λ t. AreScriptTexts t paths texts) (λ t. IsReadAt t (get_or paths k []) source_limit text) a.told (λ t were. were k (get_or paths k []) text at there) were;
     }
 
 -- behind the last text
@@ -57,9 +57,9 @@ all_read paths a b texts items k stop end same all is stops =
     subst (λ s. StopsFor paths a b k s) is (subst (λ n. StopsFor paths a b n stop) (sym (all ∙ ap (λ x. length x) same)) stops)
 
 -- a text of the scripts is refused
-pub refused : (inputs : Inputs) (a b : HostView) (plan : Plan) (k before : ℕ) (path text : List ℕ) (word : ℕ) (fault : SourceFault) → IsReading a.told inputs.scripts plan k before → slice_get inputs.scripts k ≡ Some path → word ≡ place_of inputs k → IfSome a.told (λ t. IsReadAt t path source_limit text) → IsUnscripted text before fault → ReadEnds (scripts_reading inputs) a b (status_at word fault)
+pub refused : (inputs : Inputs) (a b : HostView) (plan : Plan) (k before : ℕ) (path text : List ℕ) (word : ℕ) (fault : SourceFault) → IsReading a.told inputs.scripts plan k before → slice_get inputs.scripts k ≡ Some path → word ≡ script_place inputs k → IfSome a.told (λ t. IsReadAt t path source_limit text) → IsUnscripted text before fault → ReadEnds (scripts_reading inputs) a b (status_at word fault)
 refused inputs a b plan k before path text word (source.Refused cause) was at is read unscripted =
-    refuses a.told cause inputs.scripts plan k before path word (λ i. place_of inputs i) is at was.front (script_refused a.told path text before cause read unscripted)
+    refuses a.told cause inputs.scripts plan k before path word (λ i. script_place inputs i) is at was.front (script_refused a.told path text before cause read unscripted)
 refused inputs a b plan k before path text word source.NoMemory was at is read unscripted = tt
 
 -- reading stops behind the last text

@@ -16,7 +16,7 @@ use Rattle.fx_spec.specs.Plans.{IsPlan, count_of}
 use Rattle.fx_command.specs.declared.status.TextFault.{TextFault}
 use Rattle.fx_command.proofs.Told.{if_some_map, if_some_both, some_and}
 use Rattle.fx_words.specs.Job.{Inputs}
-use Rattle.fx_inputs.specs.Inputs.{HasScripts, AreOnlyScripts, StopsAtScript, IsReached, GoesOn, HasNoScript, LacksFile}
+use Rattle.fx_inputs.specs.Inputs.{HasScripts, AreOnlyScripts, StopsAtScript, IsScriptReached, HasMoreScripts, HasNoScript, LacksFile}
 use Rattle.fx_inputs.specs.Reads.{FailsAtScript}
 
 abbrev pub Plan : Type 0
@@ -41,7 +41,7 @@ pub record IsFront (t : Tree) (paths : Paths) (plan : Plan) (i before : ℕ) : T
   pub only : (others : Plan) → HasScripts t 0 paths others → BeginsWith t paths plan i before others
   pub refused : (cause : TextFault) (k : ℕ) → StopsAtScript (HasNoScript cause) t before (drop i paths) k → StopsAtScript (HasNoScript cause) t 0 paths (i + k)
   pub lacking : (k : ℕ) → StopsAtScript LacksFile t before (drop i paths) k → StopsAtScript LacksFile t 0 paths (i + k)
-  pub reached : (k : ℕ) → StopsAtScript IsReached t before (drop i paths) k → StopsAtScript IsReached t 0 paths (i + k)
+  pub reached : (k : ℕ) → StopsAtScript IsScriptReached t before (drop i paths) k → StopsAtScript IsScriptReached t 0 paths (i + k)
 
 front_empty : (t : Tree) (paths : Paths) → IsFront t paths [] 0 0
 front_empty t paths = record {
@@ -49,15 +49,15 @@ front_empty t paths = record {
   only = λ others has. record { more = others; is = refl; follow = has };
   refused = λ cause k stops. subst (λ n. StopsAtScript (HasNoScript cause) t 0 paths n) (omega arith) stops;
   lacking = λ k stops. subst (λ n. StopsAtScript LacksFile t 0 paths n) (omega arith) stops;
-  reached = λ k stops. subst (λ n. StopsAtScript IsReached t 0 paths n) (omega arith) stops;
+  reached = λ k stops. subst (λ n. StopsAtScript IsScriptReached t 0 paths n) (omega arith) stops;
 }
 
 -- a stop behind one more script that is read
-stop_later : (S : Tree → List ℕ → ℕ → Type 0) (t : Tree) (path : List ℕ) (before k : ℕ) (txns : List (List CommandTree)) (left paths : Paths) → left ≡ path ∷ paths → GoesOn t path before txns → StopsAtScript S t (before + length txns) paths k → StopsAtScript S t before left (k + 1)
+stop_later : (S : Tree → List ℕ → ℕ → Type 0) (t : Tree) (path : List ℕ) (before k : ℕ) (txns : List (List CommandTree)) (left paths : Paths) → left ≡ path ∷ paths → HasMoreScripts t path before txns → StopsAtScript S t (before + length txns) paths k → StopsAtScript S t before left (k + 1)
 stop_later S t path before k txns left paths is goes stops = subst (λ ps. StopsAtScript S t before ps (k + 1)) (sym is) (inr (k, refl, txns, goes, stops))
 
 -- one script more that they begin with
-begins_on : (t : Tree) (paths left : Paths) (plan others : Plan) (i before : ℕ) (path : List ℕ) (txns : List (List CommandTree)) (more : Plan) → left ≡ path ∷ drop (i + 1) paths → GoesOn t path before txns → others ≡ plan ++ more → HasScripts t before left more → BeginsWith t paths (plan ++ txns ∷ []) (i + 1) (before + length txns) others
+begins_on : (t : Tree) (paths left : Paths) (plan others : Plan) (i before : ℕ) (path : List ℕ) (txns : List (List CommandTree)) (more : Plan) → left ≡ path ∷ drop (i + 1) paths → HasMoreScripts t path before txns → others ≡ plan ++ more → HasScripts t before left more → BeginsWith t paths (plan ++ txns ∷ []) (i + 1) (before + length txns) others
 begins_on t paths left plan others i before path txns [] is goes same has = absurd (subst (λ ps. HasScripts t before ps []) is has)
 begins_on t paths left plan others i before path txns (first ∷ more) is goes same has =
     let both = subst (λ ps. HasScripts t before ps (first ∷ more)) is has in
@@ -68,7 +68,7 @@ begins_on t paths left plan others i before path txns (first ∷ more) is goes s
       follow = subst (λ x. HasScripts t (before + length x) (drop (i + 1) paths) more) one both.1;
     }
 
-front_more : (t : Tree) (paths : Paths) (plan : Plan) (i before : ℕ) (path : List ℕ) (txns : List (List CommandTree)) → slice_get paths i ≡ Some path → GoesOn t path before txns → IsFront t paths plan i before → IsFront t paths (plan ++ txns ∷ []) (i + 1) (before + length txns)
+front_more : (t : Tree) (paths : Paths) (plan : Plan) (i before : ℕ) (path : List ℕ) (txns : List (List CommandTree)) → slice_get paths i ≡ Some path → HasMoreScripts t path before txns → IsFront t paths plan i before → IsFront t paths (plan ++ txns ∷ []) (i + 1) (before + length txns)
 front_more t paths plan i before path txns at goes was =
     let left = drop_next paths i path at in
     record {
@@ -76,7 +76,7 @@ front_more t paths plan i before path txns at goes was =
       only = λ others has. let first = was.only others has in begins_on t paths (drop i paths) plan others i before path txns first.more left goes first.is first.follow;
       refused = λ cause k stops. subst (λ n. StopsAtScript (HasNoScript cause) t 0 paths n) (omega arith) (was.refused cause (k + 1) (stop_later (HasNoScript cause) t path before k txns (drop i paths) (drop (i + 1) paths) left goes stops));
       lacking = λ k stops. subst (λ n. StopsAtScript LacksFile t 0 paths n) (omega arith) (was.lacking (k + 1) (stop_later LacksFile t path before k txns (drop i paths) (drop (i + 1) paths) left goes stops));
-      reached = λ k stops. subst (λ n. StopsAtScript IsReached t 0 paths n) (omega arith) (was.reached (k + 1) (stop_later IsReached t path before k txns (drop i paths) (drop (i + 1) paths) left goes stops));
+      reached = λ k stops. subst (λ n. StopsAtScript IsScriptReached t 0 paths n) (omega arith) (was.reached (k + 1) (stop_later IsScriptReached t path before k txns (drop i paths) (drop (i + 1) paths) left goes stops));
     }
 
 -- between two scripts
@@ -111,12 +111,12 @@ pub fits_alone : (plan : Plan) (script : List (List CommandTree)) → plan ≡ [
 fits_alone plan script none is few =
     subst (λ p. IsPlan (p ++ script ∷ [])) (sym none) (fits [] script 0 (record { scripts = All-nil IsScript; shells = omega arith; few = omega arith }) refl is (omega arith) (omega (arith, few)))
 
-front_goes_on : (told : Option Tree) (paths : Paths) (plan : Plan) (i before : ℕ) (path : List ℕ) (script : List (List CommandTree)) → slice_get paths i ≡ Some path → IfSome told (λ t. IsFront t paths plan i before) → IfSome told (λ t. GoesOn t path before script) → IfSome told (λ t. IsFront t paths (plan ++ script ∷ []) (i + 1) (before + length script))
+front_goes_on : (told : Option Tree) (paths : Paths) (plan : Plan) (i before : ℕ) (path : List ℕ) (script : List (List CommandTree)) → slice_get paths i ≡ Some path → IfSome told (λ t. IsFront t paths plan i before) → IfSome told (λ t. HasMoreScripts t path before script) → IfSome told (λ t. IsFront t paths (plan ++ script ∷ []) (i + 1) (before + length script))
 front_goes_on told paths plan i before path script at =
-    if_some_both (λ t. IsFront t paths plan i before) (λ t. GoesOn t path before script) (λ t. IsFront t paths (plan ++ script ∷ []) (i + 1) (before + length script)) told
+    if_some_both (λ t. IsFront t paths plan i before) (λ t. HasMoreScripts t path before script) (λ t. IsFront t paths (plan ++ script ∷ []) (i + 1) (before + length script)) told
     (λ t was goes. front_more t paths plan i before path script at goes was)
 
-reads_one : (told : Option Tree) (paths : Paths) (plan : Plan) (i before : ℕ) (path : List ℕ) (script : List (List CommandTree)) → IsReading told paths plan i before → slice_get paths i ≡ Some path → IfSome told (λ t. GoesOn t path before script) → IsPlan (plan ++ script ∷ []) → IsReading told paths (plan ++ script ∷ []) (i + 1) (before + length script)
+reads_one : (told : Option Tree) (paths : Paths) (plan : Plan) (i before : ℕ) (path : List ℕ) (script : List (List CommandTree)) → IsReading told paths plan i before → slice_get paths i ≡ Some path → IfSome told (λ t. HasMoreScripts t path before script) → IsPlan (plan ++ script ∷ []) → IsReading told paths (plan ++ script ∷ []) (i + 1) (before + length script)
 reads_one told paths plan i before path script was at goes planned = record {
   front = front_goes_on told paths plan i before path script at was.front goes;
   count = length-append plan (script ∷ []) ∙ ap (λ n. n + 1) was.count;
@@ -129,7 +129,7 @@ count_pushed : (plan : Plan) (i : ℕ) (script : List (List CommandTree)) → le
 count_pushed plan i script is =
     ap (λ n. length (get_or (plan ++ script ∷ []) n [])) (sym is) ∙ ap (λ s. length s) (get_or-append_seam plan script [] [])
 
-pub reads_on : (told : Option Tree) (paths : Paths) (plan plan' : Plan) (i before count : ℕ) (path : List ℕ) (script : List (List CommandTree)) → IsReading told paths plan i before → slice_get paths i ≡ Some path → plan' ≡ plan ++ script ∷ [] → count ≡ count_of plan' i → IsScript script → IfSome told (λ t. GoesOn t path before script) → before + length script ≤ 100000 → length plan < 64 → IsReading told paths plan' (i + 1) (before + count)
+pub reads_on : (told : Option Tree) (paths : Paths) (plan plan' : Plan) (i before count : ℕ) (path : List ℕ) (script : List (List CommandTree)) → IsReading told paths plan i before → slice_get paths i ≡ Some path → plan' ≡ plan ++ script ∷ [] → count ≡ count_of plan' i → IsScript script → IfSome told (λ t. HasMoreScripts t path before script) → before + length script ≤ 100000 → length plan < 64 → IsReading told paths plan' (i + 1) (before + count)
 reads_on told paths plan plan' i before count path script was at pushed counted is goes few room =
     let one = reads_one told paths plan i before path script was at goes (fits plan script before was.planned was.sum is room few) in
     let adds : length script ≡ count = sym (count_pushed plan i script was.count) ∙ ap (λ p. count_of p i) (sym pushed) ∙ sym counted in
@@ -171,13 +171,13 @@ lacking_at : (t : Tree) (paths : Paths) (plan : Plan) (i before : ℕ) (path : L
 lacking_at t paths plan i before path at front none =
     subst (λ n. StopsAtScript LacksFile t 0 paths n) (omega arith) (front.lacking 0 (stop_here LacksFile t path before (drop i paths) (drop (i + 1) paths) (drop_next paths i path at) none))
 
-reached_at : (t : Tree) (paths : Paths) (plan : Plan) (i before : ℕ) (path : List ℕ) → slice_get paths i ≡ Some path → IsFront t paths plan i before → StopsAtScript IsReached t 0 paths i
+reached_at : (t : Tree) (paths : Paths) (plan : Plan) (i before : ℕ) (path : List ℕ) → slice_get paths i ≡ Some path → IsFront t paths plan i before → StopsAtScript IsScriptReached t 0 paths i
 reached_at t paths plan i before path at front =
-    subst (λ n. StopsAtScript IsReached t 0 paths n) (omega arith) (front.reached 0 (stop_here IsReached t path before (drop i paths) (drop (i + 1) paths) (drop_next paths i path at) tt))
+    subst (λ n. StopsAtScript IsScriptReached t 0 paths n) (omega arith) (front.reached 0 (stop_here IsScriptReached t path before (drop i paths) (drop (i + 1) paths) (drop_next paths i path at) tt))
 
-reached : (told : Option Tree) (paths : Paths) (plan : Plan) (i before : ℕ) (path : List ℕ) → slice_get paths i ≡ Some path → IfSome told (λ t. IsFront t paths plan i before) → IfSome told (λ t. StopsAtScript IsReached t 0 paths i)
+reached : (told : Option Tree) (paths : Paths) (plan : Plan) (i before : ℕ) (path : List ℕ) → slice_get paths i ≡ Some path → IfSome told (λ t. IsFront t paths plan i before) → IfSome told (λ t. StopsAtScript IsScriptReached t 0 paths i)
 reached told paths plan i before path at front =
-    if_some_map (λ t. IsFront t paths plan i before) (λ t. StopsAtScript IsReached t 0 paths i) told (λ t front. reached_at t paths plan i before path at front) front
+    if_some_map (λ t. IsFront t paths plan i before) (λ t. StopsAtScript IsScriptReached t 0 paths i) told (λ t front. reached_at t paths plan i before path at front) front
 
 -- the script of number `i` is refused, or is not read
 pub refuses : (told : Option Tree) (cause : TextFault) (paths : Paths) (plan : Plan) (i before : ℕ) (path : List ℕ) (word : ℕ) (place : ℕ → ℕ) → word ≡ place i → slice_get paths i ≡ Some path → IfSome told (λ t. IsFront t paths plan i before) → IfSome told (λ t. HasNoScript cause t path before) → IfSome told (λ t. (i : ℕ) × (word ≡ place i) × StopsAtScript (HasNoScript cause) t 0 paths i)

@@ -15,7 +15,7 @@ use Rattle.fx_source.specs.declared.reading.TheConstants.{SPEC_WORD}
 use Rattle.fx_inputs.specs.Causes.{scripts_reading}
 use Rattle.fx_inputs.specs.Inputs.{HasNoSpec, HasSomeSpec, HasTexts, CannotRead, IsFirstRefused, HasNoScript, StopsAtScript, LacksFile}
 use Rattle.fx_inputs.specs.Reads.{FailsAtScript, HasReadFault, ReadRow, inputs_reading}
-use Rattle.fx_words.specs.Job.{Inputs, place_of}
+use Rattle.fx_words.specs.Job.{Inputs, script_place}
 
 -- the description is not read, or refused
 pub spec_unread : (inputs : Inputs) (host host' : HostView) (st : Status) → ReadEnds (description_reading inputs.spec) host host' st → ReadRow inputs host host' st
@@ -36,7 +36,7 @@ pub scripts_unread : (inputs : Inputs) (host host' : HostView) (st : Status) →
 scripts_unread inputs host host' st spec ends = ends_within (scripts_reading inputs) (inputs_reading inputs) host host' st narrower ends
   where
     Refused : ℕ → TextFault → Tree → Type 0
-    Refused word cause t = (i : ℕ) × (word ≡ place_of inputs i) × StopsAtScript (HasNoScript cause) t 0 inputs.scripts i
+    Refused word cause t = (i : ℕ) × (word ≡ script_place inputs i) × StopsAtScript (HasNoScript cause) t 0 inputs.scripts i
 
     Lacking : Tree → Type 0
     Lacking t = (i : ℕ) × StopsAtScript LacksFile t 0 inputs.scripts i

@@ -11,7 +11,7 @@ use Rattle.fx_outside.specs.declared.kind.HostFault.TheVariants as fails
 use Rattle.fx_outside.specs.Host.{HostView, ReadsOnly, AsksAt, FaultAt, HasFailed}
 use Rattle.fx_outside.specs.Tree.{Tree, is_file_at}
 use Rattle.fx_outside.proofs.Views.{reads_none, reads_then, failed_at_back}
-use Rattle.fx_inputs.specs.ReadTexts.{AreTexts, StopsFor}
+use Rattle.fx_inputs.specs.ReadTexts.{AreScriptTexts, StopsFor}
 
 abbrev Texts : Type 0
 Texts = List (List ℕ)
@@ -29,10 +29,10 @@ lets_on old now paths i path at same all = subst (λ g. g.may_read path ≡ true
 pub record HasRead (old now : HostView) (paths texts : Texts) (i : ℕ) : Type 0 where
   pub reads : ReadsOnly old now
   pub fit : list_all old.guard.may_read paths ≡ true → now.guard ≡ old.guard
-  pub told : IfSome old.told (λ t. AreTexts t paths texts)
+  pub told : IfSome old.told (λ t. AreScriptTexts t paths texts)
   pub count : length texts ≡ i
 
-none_read : (told : Option Tree) (paths : Texts) → IfSome told (λ t. AreTexts t paths [])
+none_read : (told : Option Tree) (paths : Texts) → IfSome told (λ t. AreScriptTexts t paths [])
 none_read None paths = tt
 none_read (Some t) paths = λ k path text at there. cc
 
@@ -49,7 +49,7 @@ pub fit_stop : (old now then : HostView) (paths texts : Texts) (i : ℕ) (path :
 fit_stop old now then paths texts i path was at fit all = fit (lets_on old now paths i path at (was.fit all) all) ∙ was.fit all
 
 -- a text of more: one of those before, or the last
-more_at : (t : Tree) (paths texts : Texts) (path text : List ℕ) → AreTexts t paths texts → slice_get paths (length texts) ≡ Some path → IsReadAt t path source_limit text → AreTexts t paths (texts ++ text ∷ [])
+more_at : (t : Tree) (paths texts : Texts) (path text : List ℕ) → AreScriptTexts t paths texts → slice_get paths (length texts) ≡ Some path → IsReadAt t path source_limit text → AreScriptTexts t paths (texts ++ text ∷ [])
 more_at t [] texts path text were at read k path' text' at' there = cc
 more_at t (p ∷ paths) [] path text were at read zero path' text' at' there =
     let one : path ≡ path' = cc in let two : text ≡ text' = cc in
@@ -59,7 +59,7 @@ more_at t (p ∷ paths) (x ∷ texts) path text were at read zero path' text' at
 more_at t (p ∷ paths) (x ∷ texts) path text were at read (suc k) path' text' at' there =
     more_at t paths texts path text (λ k. were (suc k)) at read k path' text' at' there
 
-more_told : (told told' : Option Tree) (paths texts : Texts) (path text : List ℕ) → told' ≡ told → IfSome told (λ t. AreTexts t paths texts) → slice_get paths (length texts) ≡ Some path → IfSome told' (λ t. IsReadAt t path source_limit text) → IfSome told (λ t. AreTexts t paths (texts ++ text ∷ []))
+more_told : (told told' : Option Tree) (paths texts : Texts) (path text : List ℕ) → told' ≡ told → IfSome told (λ t. AreScriptTexts t paths texts) → slice_get paths (length texts) ≡ Some path → IfSome told' (λ t. IsReadAt t path source_limit text) → IfSome told (λ t. AreScriptTexts t paths (texts ++ text ∷ []))
 more_told None told' paths texts path text same were at read = tt
 more_told (Some t) told' paths texts path text same were at read = more_at t paths texts path text were at (subst (λ o. IfSome o (λ t. IsReadAt t path source_limit text)) same read)
 

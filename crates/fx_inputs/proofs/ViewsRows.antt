@@ -18,7 +18,7 @@ use Rattle.fx_source.specs.Files.{description_reading}
 use Rattle.fx_source.specs.declared.reading.TheConstants.{SPEC_WORD}
 use Rattle.fx_inputs.specs.declared.views.TheConstants.{VIEWS_WORD}
 use Rattle.fx_inputs.specs.Causes.{script_reading}
-use Rattle.fx_inputs.specs.Inputs.{HasBase, HasScript, HasSpec, HasNoSpec, HasSomeSpec, HasNoScript, CannotRead, GoesOn, IsFirstRefused}
+use Rattle.fx_inputs.specs.Inputs.{HasBase, HasScript, HasSpec, HasNoSpec, HasSomeSpec, HasNoScript, CannotRead, HasMoreScripts, IsFirstRefused}
 use Rattle.fx_inputs.specs.Reads.{ReadRow}
 use Rattle.fx_inputs.specs.Views.{CannotReadViews, HasBases, HasSomeViews, HasViewsAlone, HasViewsReadFault, ViewsFirstRefused, ViewsReadRow, views_reading}
 use Rattle.fx_inputs.proofs.ReadRows.{read_fault_back, read_fault_rose}
@@ -60,9 +60,9 @@ views_unread j host host' st spec ends = ends_within (script_reading VIEWS_WORD 
 abbrev Plan : Type 0
 Plan = List (List (List CommandTree))
 
-pub views_alone : (j : ViewsJob) (host : HostView) (script : List (List CommandTree)) (plan : Plan) → plan ≡ script ∷ [] → IfSome host.told (λ t. GoesOn t j.views 0 script) → IfSome host.told (λ t. HasViewsAlone t j plan)
+pub views_alone : (j : ViewsJob) (host : HostView) (script : List (List CommandTree)) (plan : Plan) → plan ≡ script ∷ [] → IfSome host.told (λ t. HasMoreScripts t j.views 0 script) → IfSome host.told (λ t. HasViewsAlone t j plan)
 views_alone j host script plan is goes =
-    if_some_map (λ t. GoesOn t j.views 0 script) (λ t. HasViewsAlone t j plan) host.told (λ t goes. subst (λ p. HasScript t j.views 0 (script_of p 0)) (sym is) goes.script) goes
+    if_some_map (λ t. HasMoreScripts t j.views 0 script) (λ t. HasViewsAlone t j plan) host.told (λ t goes. subst (λ p. HasScript t j.views 0 (script_of p 0)) (sym is) goes.script) goes
 
 pub some_views : (j : ViewsJob) (spec : SpecTree) (plan : Plan) (a b c : HostView) → ReadsOnly a b → ReadsOnly b c → IfSome a.told (λ t. HasSpec t j.inputs spec) → IfSome b.told (λ t. HasViewsAlone t j plan) → IfSome c.told (λ t. HasSomeViews t j)
 some_views j spec plan a b c first then has alone =

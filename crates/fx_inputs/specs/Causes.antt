@@ -3,7 +3,7 @@ use Rattle.std.specs.Prelude.{◌≡◌, ◌⊎◌, ℕ, List, IfSome, IsSomeAnd
 use Rattle.fx_outside.specs.Host.{FaultAt, HasFailed}
 use Rattle.fx_outside.specs.Tree.{is_file_at}
 use Rattle.fx_command.specs.Reading.{Reading}
-use Rattle.fx_words.specs.Job.{Inputs, place_of}
+use Rattle.fx_words.specs.Job.{Inputs, script_place}
 use Rattle.fx_inputs.specs.Inputs.{HasNoScript, StopsAtScript, LacksFile}
 use Rattle.fx_inputs.specs.Reads.{FailsAtScript}
 
@@ -19,7 +19,7 @@ script_reading word path before = record {
 -- of all of them
 abbrev pub scripts_reading : Inputs → Reading
 scripts_reading inputs = record {
-  refused = λ host word cause. IfSome host.told (λ t. (i : ℕ) × (word ≡ place_of inputs i) × StopsAtScript (HasNoScript cause) t 0 inputs.scripts i);
+  refused = λ host word cause. IfSome host.told (λ t. (i : ℕ) × (word ≡ script_place inputs i) × StopsAtScript (HasNoScript cause) t 0 inputs.scripts i);
   unloaded = λ host cause. ⊥;
   failed = λ host host'. FailsAtScript inputs.scripts host host' ⊎ IsSomeAnd host.told (λ t. (i : ℕ) × StopsAtScript LacksFile t 0 inputs.scripts i);
   bad = λ host place. ⊥;

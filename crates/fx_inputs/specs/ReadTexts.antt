@@ -8,8 +8,8 @@ use Rattle.fx_outside.specs.Host.{HostView, FaultAt, HasFailed}
 use Rattle.fx_outside.specs.Tree.{Tree, is_file_at}
 
 -- each text is that of the file at its path
-abbrev pub AreTexts : Tree → List (List ℕ) → List (List ℕ) → Type 0
-AreTexts t paths texts = (k : ℕ) (path text : List ℕ) → slice_get paths k ≡ Some path → slice_get texts k ≡ Some text → IsReadAt t path source_limit text
+abbrev pub AreScriptTexts : Tree → List (List ℕ) → List (List ℕ) → Type 0
+AreScriptTexts t paths texts = (k : ℕ) (path text : List ℕ) → slice_get paths k ≡ Some path → slice_get texts k ≡ Some text → IsReadAt t path source_limit text
 
 -- the file behind so many texts is not read
 pub record IsUnreadAt (paths : List (List ℕ)) (n : ℕ) (host host' : HostView) : Type 0 where

@@ -3,7 +3,7 @@ ghost use Rattle.std.specs.Prelude.{IfSome, length};
 ghost use Rattle.fx_outside.specs.Host.{ReadsOnly};
 ghost use Rattle.fx_words.specs.JobOf.{asked_inputs, AreInputs};
 ghost use Rattle.fx_inputs.specs.Reads.{AsksAtAll};
-ghost use Rattle.fx_inputs.specs.ReadTexts.{AreTexts, StopsFor};
+ghost use Rattle.fx_inputs.specs.ReadTexts.{AreScriptTexts, StopsFor};
 
 use fx_base::SOURCE_LIMIT;
 use fx_command::read_text;
@@ -23,7 +23,7 @@ pub(crate) struct Sources {
 pub(crate) fn read_sources<H: Host>(alloc: Global, inputs: &Inputs, host: &mut H) -> Sources
     requires { AreInputs inputs.now }
     ensures texts { IfSome (H.view host.old).told
-        (λ t. AreTexts t (asked_inputs inputs.now).scripts result.texts.items) }
+        (λ t. AreScriptTexts t (asked_inputs inputs.now).scripts result.texts.items) }
     ensures stop { StopsFor (asked_inputs inputs.now).scripts
         (H.view host.old) (H.view host.new) (length result.texts.items) result.stop }
     ensures same { ReadsOnly (H.view host.old) (H.view host.new) }

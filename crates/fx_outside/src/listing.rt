@@ -11,9 +11,16 @@ use std::cmp::Ordering;
 use std::marker::Model;
 
 /// The names in a folder with their kinds, in strictly ascending order of name.
-#[derive(Debug, Drop)]
+#[derive(Debug)]
 pub struct Listing {
     items: Vec<(HostText, HostKind)>,
+}
+
+/// It is written out, so that its parts are dropped in this crate alone.
+impl Drop for Listing {
+    fn drop(self) {
+        let Listing { items: _items } = self;
+    }
 }
 
 impl Model for Listing {

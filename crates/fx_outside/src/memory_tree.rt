@@ -13,10 +13,20 @@ use std::collections::BTreeMap;
 use std::marker::Model;
 
 /// An entry; only a file has bytes.
-#[derive(Debug, Drop)]
+#[derive(Debug)]
 pub struct Stored {
     pub kind: HostKind,
     pub bytes: Vec<u8>,
+}
+
+/// It is written out, so that its parts are dropped in this crate alone.
+impl Drop for Stored {
+    fn drop(self) {
+        let Stored {
+            kind: _kind,
+            bytes: _bytes,
+        } = self;
+    }
 }
 
 impl Model for Stored {

@@ -12,9 +12,16 @@ use std::marker::Model;
 use std::slice;
 
 /// A text of the command line, or a host path: the word as it was given, then `/` and a name per level below it.
-#[derive(Debug, Drop)]
+#[derive(Debug)]
 pub struct HostText {
     text: String,
+}
+
+/// It is written out, so that its parts are dropped in this crate alone.
+impl Drop for HostText {
+    fn drop(self) {
+        let HostText { text: _text } = self;
+    }
 }
 
 impl Model for HostText {
@@ -120,9 +127,16 @@ impl Ord for HostText {
 }
 
 /// The words of a command line.
-#[derive(Debug, Drop)]
+#[derive(Debug)]
 pub struct Words {
     items: Vec<HostText>,
+}
+
+/// It is written out, so that its parts are dropped in this crate alone.
+impl Drop for Words {
+    fn drop(self) {
+        let Words { items: _items } = self;
+    }
 }
 
 impl Model for Words {

@@ -8,11 +8,21 @@ use std::alloc::Global;
 use std::sync::Arc;
 
 /// What a run begins with: a description, the scripts of its shells, and the loaded filestore.
-#[derive(Drop)]
 pub struct Base {
     pub description: Checked,
     pub plan: Plan,
     pub loaded: Filestore,
+}
+
+/// It is written out, so that its parts are dropped in this crate alone.
+impl Drop for Base {
+    fn drop(self) {
+        let Base {
+            description: _description,
+            plan: _plan,
+            loaded: _loaded,
+        } = self;
+    }
 }
 
 impl Base {

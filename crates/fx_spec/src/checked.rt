@@ -13,9 +13,17 @@ use crate::txn::Txns;
 use std::marker::Model;
 
 /// A well-shaped description, nested at most 64 deep. Contracts see what it means.
-#[derive(Drop)]
 pub struct Checked {
     description: Description,
+}
+
+/// It is written out, so that its parts are dropped in this crate alone.
+impl Drop for Checked {
+    fn drop(self) {
+        let Checked {
+            description: _description,
+        } = self;
+    }
 }
 
 impl Model for Checked {
@@ -84,9 +92,15 @@ impl Checked {
 }
 
 /// A list of well-shaped transactions. Contracts see the list of their commands.
-#[derive(Drop)]
 pub struct Script {
     txns: Txns,
+}
+
+/// It is written out, so that its parts are dropped in this crate alone.
+impl Drop for Script {
+    fn drop(self) {
+        let Script { txns: _txns } = self;
+    }
 }
 
 impl Model for Script {

@@ -16,9 +16,16 @@ use std::marker::Model;
 use std::slice;
 
 /// The parameters of a definition, with their shapes.
-#[derive(Debug, Drop)]
+#[derive(Debug)]
 pub struct Params {
     items: Vec<(Word, Shape)>,
+}
+
+/// It is written out, so that its parts are dropped in this crate alone.
+impl Drop for Params {
+    fn drop(self) {
+        let Params { items: _items } = self;
+    }
 }
 
 impl Model for Params {
@@ -44,10 +51,20 @@ pub struct Def {
 }
 
 /// The definitions of a text, in its order. Each name's first one is found by a table.
-#[derive(Debug, Drop)]
+#[derive(Debug)]
 pub struct Defs {
     items: Vec<Def>,
     places: IndexMap<Vec<u8>, usize>,
+}
+
+/// It is written out, so that its parts are dropped in this crate alone.
+impl Drop for Defs {
+    fn drop(self) {
+        let Defs {
+            items: _items,
+            places: _places,
+        } = self;
+    }
 }
 
 impl Model for Defs {

@@ -10,9 +10,16 @@ use std::marker::Model;
 use std::slice;
 
 /// The arguments of a call. Contracts see the list of their trees.
-#[derive(Debug, Drop)]
+#[derive(Debug)]
 pub struct Exprs {
     items: Vec<Formula>,
+}
+
+/// It is written out, so that its parts are dropped in this crate alone.
+impl Drop for Exprs {
+    fn drop(self) {
+        let Exprs { items: _items } = self;
+    }
 }
 
 impl Model for Exprs {

@@ -10,9 +10,15 @@ use std::marker::Model;
 
 /// The scripts of a run, one for each shell: at most 64, with at most 100,000 transactions together. Contracts see the list
 /// of scripts, each as the list of its transactions' commands.
-#[derive(Drop)]
 pub struct Plan {
     scripts: Vec<Script>,
+}
+
+/// It is written out, so that its parts are dropped in this crate alone.
+impl Drop for Plan {
+    fn drop(self) {
+        let Plan { scripts: _scripts } = self;
+    }
 }
 
 impl Model for Plan {

@@ -15,9 +15,15 @@ pub struct Txn {
 }
 
 /// A list of transactions. Contracts see the list of their commands.
-#[derive(Drop)]
 pub struct Txns {
     items: Vec<Txn>,
+}
+
+/// It is written out, so that its parts are dropped in this crate alone.
+impl Drop for Txns {
+    fn drop(self) {
+        let Txns { items: _items } = self;
+    }
 }
 
 impl Model for Txns {

@@ -45,7 +45,7 @@ fn added_at<'a>(
     Ok(rest)
 }
 
-/// The same behind a comma.
+/// Adds the parameter behind a comma at the front, and gives what follows it.
 #[tactic(auto, unfolding(crate::specs::Lists::another_at))]
 fn another_at<'a>(
     alloc: Global,

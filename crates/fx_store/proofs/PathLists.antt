@@ -1,9 +1,7 @@
 -- Names and paths: what stands behind a path, what a name and a path's text are made of, and what a directory lists. The crate below has more, in its page Names.
-use Rattle.std.proofs.Common.{◌≡◌, ℕ, suc, ◌<◌, ◌≤◌, Bool, true, false, cond, ◌&&◌, ◌||◌, nat_eq, List, [], ◌∷◌, ◌++◌, length, Option, Some, None, Result, Ok, Err, All, refl, sym, ap, subst, ◌∙◌, arith, length-append}
-use Rattle.std.specs.Prelude.{nat_lt}
+use Rattle.std.proofs.Common.{◌≡◌, ℕ, suc, ◌<◌, ◌≤◌, Bool, true, false, cond, ◌||◌, List, [], ◌∷◌, ◌++◌, length, Some, None, Ok, Err, All, refl, ap, ◌∙◌, arith, length-append}
 use Rattle.std.specs.declared.cmp.Ordering.TheVariants.{Less}
 use Rattle.std.specs.Ordering.{eq_by_cmp}
-use Rattle.std.specs.Cmp.Lexicographic.{pointwise}
 use Rattle.std.specs.List.{list_all, flat_map}
 use Rattle.std.specs.Str.{is_utf8}
 use Rattle.std.proofs.lemmas.Bool.{le-ltb}
@@ -15,7 +13,6 @@ use Rattle.fx_base.proofs.Names.{name_itself, name_is}
 use Rattle.fx_base.proofs.Orders.{bytes_tie}
 use Rattle.fx_base.proofs.TextBytes.{utf8_bytes}
 use Rattle.fx_text.specs.Sets.{has_text}
-use Rattle.fx_store.specs.declared.name.PathFault.{PathFault}
 use Rattle.fx_store.specs.declared.name.PathFault.TheVariants.{TooDeep}
 use Rattle.fx_store.specs.Faults.{read_path}
 use Rattle.fx_store.specs.Names.{name_cmp, path_cmp, is_name, IsName, IsPath, has, path_text}

@@ -11,9 +11,16 @@ use std::marker::Model;
 use std::slice;
 
 /// What a file holds: at most [`MAX_FILE_BYTES`] bytes. A copy of what `share` gave goes through no byte.
-#[derive(Debug, Drop)]
+#[derive(Debug)]
 pub struct Bytes {
     content: Content,
+}
+
+/// It is written out, so that its parts are dropped in this crate alone.
+impl Drop for Bytes {
+    fn drop(self) {
+        let Bytes { content: _content } = self;
+    }
 }
 
 impl Model for Bytes {
@@ -125,9 +132,16 @@ impl Clone for Bytes {
 }
 
 /// Bytes of any number, as a whole printed report.
-#[derive(Debug, Drop)]
+#[derive(Debug)]
 pub struct LongText {
     bytes: Vec<u8>,
+}
+
+/// It is written out, so that its parts are dropped in this crate alone.
+impl Drop for LongText {
+    fn drop(self) {
+        let LongText { bytes: _bytes } = self;
+    }
 }
 
 impl Model for LongText {

@@ -42,9 +42,16 @@ impl Clone for Change {
 }
 
 /// Changes in ascending order of path, at most one of each path.
-#[derive(Debug, Drop)]
+#[derive(Debug)]
 pub struct Changes {
     changes: Vec<Change>,
+}
+
+/// It is written out, so that its parts are dropped in this crate alone.
+impl Drop for Changes {
+    fn drop(self) {
+        let Changes { changes: _changes } = self;
+    }
 }
 
 impl Model for Changes {

@@ -19,9 +19,15 @@ use std::marker::Model;
 
 /// A map from path to node, which is always whole: the root is a directory, and a longer path is mapped exactly
 /// where its parent is a directory that lists its last name. Its table may have places without a node.
-#[derive(Drop)]
 pub struct Filestore {
     table: IndexMap<Path, Option<Node>>,
+}
+
+/// It is written out, so that its parts are dropped in this crate alone.
+impl Drop for Filestore {
+    fn drop(self) {
+        let Filestore { table: _table } = self;
+    }
 }
 
 impl Model for Filestore {
@@ -45,6 +51,18 @@ impl Filestore {
         let mut table = IndexMap::new(alloc);
         let root = Some(Node::Dir(Names::new(alloc)));
         let_go(table.insert(Path::root(alloc), root)?);
+        Ok(Filestore { table })
+    }
+
+    /// The filestore that changes make of a root alone, which needs a whole result. Each change takes one look-up.
+    pub fn from_changes(alloc: Global, changes: Changes) -> Result<Filestore, NoMemory>
+        requires { IsWhole (over (get root_only) changes) }
+        ensures { IfOk result (λ s. s.nodes ≡ over_nodes root_only changes) }
+    {
+        let mut table = IndexMap::new(alloc);
+        let root = Some(Node::Dir(Names::new(alloc)));
+        let_go(table.insert(Path::root(alloc), root)?);
+        set_all(&mut table, changes.into_vec())?;
         Ok(Filestore { table })
     }
 
@@ -149,6 +167,31 @@ fn make_place(
     }
     let place = change.path.copy(alloc)?;
     let_go(table.insert(place, None)?);
+    Ok(())
+}
+
+/// Sets what stands at each path of the changes.
+fn set_all(table: &mut IndexMap<Path, Option<Node>>, changes: Vec<Change>) -> Result<(), NoMemory>
+    ensures nodes { OnOk result (nodes_of table.new.entries
+        ≡ over_nodes (nodes_of table.old.entries) changes.items) }
+    ensures unique { IsUnique (eq_by_cmp path_cmp) table.old
+        → IsUnique (eq_by_cmp path_cmp) table.new }
+{
+    for change in changes {
+        set(table, change)?;
+    }
+    Ok(())
+}
+
+/// Sets what stands at a path, which gets a place.
+fn set(table: &mut IndexMap<Path, Option<Node>>, change: Change) -> Result<(), NoMemory>
+    ensures nodes { OnOk result (nodes_of table.new.entries
+        ≡ set_node (nodes_of table.old.entries) change.path change.node) }
+    ensures unique { IsUnique (eq_by_cmp path_cmp) table.old
+        → IsUnique (eq_by_cmp path_cmp) table.new }
+{
+    let Change { path, node } = change;
+    let_go(table.insert(path, node)?);
     Ok(())
 }
 

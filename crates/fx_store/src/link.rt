@@ -11,9 +11,16 @@ use std::marker::Model;
 
 /// Where a link leads: `/`, or components with one `/` between each two and an optional leading `/`, in 1 to 4,096
 /// bytes. A component is a name, `.` or `..`, and there are at most 64.
-#[derive(Debug, Drop)]
+#[derive(Debug)]
 pub struct LinkText {
     bytes: Vec<u8>,
+}
+
+/// It is written out, so that its parts are dropped in this crate alone.
+impl Drop for LinkText {
+    fn drop(self) {
+        let LinkText { bytes: _bytes } = self;
+    }
 }
 
 impl Model for LinkText {

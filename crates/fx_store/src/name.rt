@@ -1,14 +1,12 @@
 //! Names of entries, and why the bytes of a name, a path or a link text are refused.
-ghost use Rattle.std.specs.Prelude.{◌≡◌, ℕ, List, IfOk, bytes_eq, refl};
+ghost use Rattle.std.specs.Prelude.{◌≡◌, ℕ, List, [], ◌∷◌, IfOk, bytes_eq, refl};
 ghost use Rattle.std.specs.Cmp.{partial_equiv_from_equiv};
 ghost use Rattle.std.specs.Cmp.Lexicographic.{nat_list_eq_equiv, texts_po, texts_ties};
 ghost use Rattle.std.specs.Ordering.{as_partial_cmp};
-ghost use Rattle.std.specs.Hash as fed;
-ghost use Rattle.std.specs.Hash.{items_Alike, same_Alike};
-ghost use Rattle.std.specs.Cmp.{unsigned_Decides};
 ghost use Rattle.std.specs.Str.{is_utf8};
+ghost use Rattle.std.proofs.Common.{ap};
 ghost use Rattle.fx_store.specs.Names.{is_name, is_reserved, IsName, name_cmp};
-ghost use Rattle.fx_store.specs.Orders.{name_total};
+ghost use Rattle.fx_store.specs.Orders.{name_total, name_eq_same};
 
 use crate::limits::MAX_NAME_BYTES;
 use fx_base::NoMemory;
@@ -62,9 +60,16 @@ impl From<NoMemory> for PathFault {
 
 /// The name of an entry of a directory: UTF-8 of 1 to 255 bytes without `/` and NUL, and not `.`, `..` or
 /// `.forest-links`. Names are ordered by bytes. A copy shares the bytes, and takes no memory for them.
-#[derive(Debug, Drop)]
+#[derive(Debug)]
 pub struct Name {
     bytes: ArcSlice<u8>,
+}
+
+/// It is written out, so that its parts are dropped in this crate alone.
+impl Drop for Name {
+    fn drop(self) {
+        let Name { bytes: _bytes } = self;
+    }
 }
 
 impl Model for Name {
@@ -212,11 +217,11 @@ impl Ord for Name {
 }
 
 impl Hash for Name {
-    ghost hash_input = { fed.slice fed.u8 };
+    ghost hash_input = { λ n. n ∷ [] };
 
-    ghost respects_eq = { (items_Alike (same_Alike fed.u8 unsigned_Decides)).fed };
+    ghost respects_eq = { λ x y e. ap (λ n. n ∷ []) (name_eq_same x y e) };
 
     fn hash<H: Hasher>(&self, state: &mut H) {
-        self.bytes.hash(state);
+        state.write(self.as_slice());
     }
 }

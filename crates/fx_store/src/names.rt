@@ -12,10 +12,20 @@ use std::marker::Model;
 
 /// The names of a directory, each once, in ascending order. A copy shares them, and takes no memory for them. The set of them
 /// as texts is kept beside them and shares their bytes, so that it is the value of the directory at no cost.
-#[derive(Debug, Drop)]
+#[derive(Debug)]
 pub struct Names {
     names: Chunks<Name>,
     texts: TextSet,
+}
+
+/// It is written out, so that its parts are dropped in this crate alone.
+impl Drop for Names {
+    fn drop(self) {
+        let Names {
+            names: _names,
+            texts: _texts,
+        } = self;
+    }
 }
 
 impl Model for Names {
@@ -218,9 +228,16 @@ impl Clone for Names {
 }
 
 /// Names in any order.
-#[derive(Debug, Drop)]
+#[derive(Debug)]
 pub struct NameList {
     names: Vec<Name>,
+}
+
+/// It is written out, so that its parts are dropped in this crate alone.
+impl Drop for NameList {
+    fn drop(self) {
+        let NameList { names: _names } = self;
+    }
 }
 
 impl Model for NameList {

@@ -3,7 +3,7 @@ ghost use Rattle.std.specs.Prelude.{◌≡◌, ◌-◌, ◌<◌, ℕ, List, [], 
 ghost use Rattle.std.specs.Slice.Iter.{iter_rest};
 ghost use Rattle.std.specs.Cmp.{partial_equiv_from_equiv, partial_order_from_total, eq_by_cmp_equiv};
 ghost use Rattle.std.specs.Ordering.{as_partial_cmp, eq_by_cmp};
-ghost use Rattle.std.specs.Hash as fed;
+ghost use Rattle.std.specs.List.{flat_map};
 ghost use Rattle.std.proofs.Common.{ap};
 ghost use Rattle.fx_store.specs.Names.{IsPath, path_cmp};
 ghost use Rattle.fx_store.specs.Orders.{path_total, path_eq_same};
@@ -22,9 +22,16 @@ use std::slice;
 
 /// A path of at most 64 names, the first below the root. The root has none. Paths are ordered name by name, so a
 /// directory comes just before all that is below it.
-#[derive(Debug, Drop)]
+#[derive(Debug)]
 pub struct Path {
     names: Vec<Name>,
+}
+
+/// It is written out, so that its parts are dropped in this crate alone.
+impl Drop for Path {
+    fn drop(self) {
+        let Path { names: _names } = self;
+    }
 }
 
 impl Model for Path {
@@ -221,11 +228,11 @@ impl Ord for Path {
 }
 
 impl Hash for Path {
-    ghost hash_input = { fed.slice (fed.slice fed.u8) };
+    ghost hash_input = { flat_map (λ n. n ∷ []) };
 
-    ghost respects_eq = { λ x y e. ap (fed.slice (fed.slice fed.u8)) (path_eq_same x y e) };
+    ghost respects_eq = { λ x y e. ap (flat_map (λ n. n ∷ [])) (path_eq_same x y e) };
 
     fn hash<H: Hasher>(&self, state: &mut H) {
-        self.names.hash(state);
+        Name::hash_slice(&self.names, state);
     }
 }

@@ -13,9 +13,16 @@ use std::marker::Model;
 use std::slice;
 
 /// Paths, each once, in ascending order.
-#[derive(Debug, Drop)]
+#[derive(Debug)]
 pub struct Paths {
     paths: Vec<Path>,
+}
+
+/// It is written out, so that its parts are dropped in this crate alone.
+impl Drop for Paths {
+    fn drop(self) {
+        let Paths { paths: _paths } = self;
+    }
 }
 
 impl Model for Paths {

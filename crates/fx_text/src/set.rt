@@ -19,10 +19,20 @@ pub const UNION_LIMIT: u64 = 33_554_432;
 const FEW: u64 = 256;
 
 /// A set of texts, of which a copy takes no time. Contracts see its elements in strictly ascending order of bytes.
-#[derive(Debug, Drop)]
+#[derive(Debug)]
 pub struct TextSet {
     texts: Chunks<Text>,
     weight: u64,
+}
+
+/// It is written out, so that its parts are dropped in this crate alone.
+impl Drop for TextSet {
+    fn drop(self) {
+        let TextSet {
+            texts: _texts,
+            weight: _weight,
+        } = self;
+    }
 }
 
 impl Model for TextSet {

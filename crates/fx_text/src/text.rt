@@ -20,9 +20,16 @@ pub const TEXT_LIMIT: usize = 1_048_576;
 
 /// A text value: at most [`TEXT_LIMIT`] bytes of any kind, UTF-8 or not. Contracts see the list of its bytes.
 /// A copy of one that was made from shared bytes shares them.
-#[derive(Debug, Drop)]
+#[derive(Debug)]
 pub struct Text {
     held: Held,
+}
+
+/// It is written out, so that its parts are dropped in this crate alone.
+impl Drop for Text {
+    fn drop(self) {
+        let Text { held: _held } = self;
+    }
 }
 
 /// Bytes by themselves, or bytes that others may hold too.

@@ -15,9 +15,15 @@ use std::marker::Model;
 
 /// An attempt's own changes: at some paths a node from now on, or nothing. Contracts see the paths in the order in which
 /// they were first changed.
-#[derive(Drop)]
 pub struct Overlay {
     table: IndexMap<Path, Option<Node>>,
+}
+
+/// It is written out, so that its parts are dropped in this crate alone.
+impl Drop for Overlay {
+    fn drop(self) {
+        let Overlay { table: _table } = self;
+    }
 }
 
 impl Model for Overlay {

@@ -43,7 +43,7 @@ pub enum RunMode<'a> {
     Plain,
     /// One thread, by a schedule of shells.
     Scheduled(&'a HostText),
-    /// The same, and each commit is followed by whether the tree has a value.
+    /// One thread, by a schedule of shells. Each commit is followed by whether the tree has a value.
     Watched(&'a HostText),
 }
 
@@ -357,7 +357,7 @@ impl<'a> Inputs<'a> {
     pub fn place(&self, i: u32) -> u32
         requires inputs { AreInputs self.now }
         requires script { i < length (asked_inputs self.now).scripts }
-        ensures { result ≡ job.place_of (asked_inputs self.now) i }
+        ensures { result ≡ job.script_place (asked_inputs self.now) i }
     {
         self.first as u32 + i
     }

@@ -3,7 +3,7 @@ use Rattle.std.proofs.lemmas.Iterator.Adapters.{YieldsList-from_vec}
 use Rattle.std.proofs.lemmas.Iterator.Consumers.{YieldsList-turn, YieldsList-end}
 use Rattle.fx_command.specs.Reading.{ReadEnds}
 use Rattle.fx_spec.specs.Plans.{count_of}
-use Rattle.fx_words.specs.Job.{place_of}
+use Rattle.fx_words.specs.Job.{script_place}
 use Rattle.fx_words.specs.JobOf.{asked_inputs}
 use Rattle.fx_inputs.specs.Causes.{scripts_reading}
 use Rattle.fx_inputs.proofs.OneScript.{script_read}
@@ -27,7 +27,7 @@ returns-in-Err-clause-ends g c =
     let yields = YieldsList-from_vec {s = c.into_iter-text-iterator.result} items (gives.0 ∙ written_back items texts c.read_sources-texts.result.texts.len same c.read_sources-texts.result.texts.ok.0) (gives.1 ∙ c.read_sources-texts.result.texts.ok.0 ∙ ap (λ x. length x) (sym same)) in
     let turn = YieldsList-turn yields c.scripts.yielded c.scripts.text-iterator c.scripts.yielded_by c.next.result c.next.new.self c.in-Some.text c.in-Some.is c.next.ensures.steps in
     let here = text_at inputs.scripts a b texts items k c.in-Some.text c.read_sources-texts.result.stop same c.read_sources-texts.ensures.texts c.read_sources-texts.ensures.stop turn.0 turn.1 in
-    let word : c.place.result ≡ place_of inputs k = c.place.ensures ∙ ap (λ n. place_of inputs n) (c.len-i.ensures.len ∙ c.scripts.invariant.count) in
+    let word : c.place.result ≡ script_place inputs k = c.place.ensures ∙ ap (λ n. script_place inputs n) (c.len-i.ensures.len ∙ c.scripts.invariant.count) in
     subst (ReadEnds (scripts_reading inputs) a b) (sym c.at.ensures)
     (refused inputs a b c.scripts.plan k c.scripts.before here.path c.in-Some.text c.place.result c.in-Err.fault c.scripts.invariant here.is word here.read c.in-Err.ensures.refused)
 

@@ -1,7 +1,7 @@
 use Rattle.std.proofs.Common.{rules, ◌≡◌, ◌++◌, ◌∷◌, [], ◌∙◌, Some, IfSome, ap, sym, subst}
 use Rattle.std.specs.Prelude.{slice_get}
 use Rattle.fx_words.specs.JobOf.{asked_inputs}
-use Rattle.fx_inputs.specs.ReadTexts.{AreTexts}
+use Rattle.fx_inputs.specs.ReadTexts.{AreScriptTexts}
 use Rattle.fx_inputs.proofs.ReadTexts.{none_yet, one_more, fit_stop, stops_here}
 use Rattle.fx_inputs.proofs.sources.read_sources.Goals as goal
 
@@ -20,7 +20,7 @@ returns-in-Err-clause-fit g c =
 
 pub returns-in-Err-push-clause-texts : goal.returns-in-Err-push-clause-texts
 returns-in-Err-push-clause-texts g c =
-    subst (λ x. IfSome (g.H.Host.view c.args.host.now).told (λ t. AreTexts t (asked_inputs c.args.inputs.now).scripts x)) (sym c.in-Err-push.ensures.items) c.scripts.invariant.told
+    subst (λ x. IfSome (g.H.Host.view c.args.host.now).told (λ t. AreScriptTexts t (asked_inputs c.args.inputs.now).scripts x)) (sym c.in-Err-push.ensures.items) c.scripts.invariant.told
 
 pub returns-in-Err-push-clause-fit : goal.returns-in-Err-push-clause-fit
 returns-in-Err-push-clause-fit g c =
